@@ -1,0 +1,270 @@
+//! Times of reading and writing Netpbm files of 4096 x 4096 samples in memory, in one thread, beside plain copies.
+//!
+//! It measures only when it is given the word `measure`, and else ends at once: times differ from run to run. Each line
+//! has the best of five runs, how often a copy of the file's bytes and one of the unpacked samples fit into it, and the
+//! time for a sample.
+#![tactic(auto)]
+
+ghost use Rattle.std.specs.Prelude.{◌≡◌, ◌*◌, vec_len, IfOk};
+
+use mw_netpbm::{NoMemory, ReadFault, read, write};
+use std::alloc::{AllocError, AllocFailed, Global};
+use std::rt::Clock;
+use std::time::Instant;
+use std::{env, io};
+
+const SAMPLES: usize = 4096 * 4096;
+
+const ROUNDS: u32 = 5;
+
+/// Why no time was taken.
+#[derive(Debug, Drop)]
+enum Fault {
+    Memory,
+    File,
+    System(io::Error),
+}
+
+impl From<NoMemory> for Fault {
+    fn from(_error: NoMemory) -> Fault {
+        Fault::Memory
+    }
+}
+
+impl From<AllocError> for Fault {
+    fn from(_error: AllocError) -> Fault {
+        Fault::Memory
+    }
+}
+
+impl<T: Drop> From<AllocFailed<T>> for Fault {
+    fn from(_error: AllocFailed<T>) -> Fault {
+        Fault::Memory
+    }
+}
+
+impl From<ReadFault> for Fault {
+    fn from(error: ReadFault) -> Fault {
+        match error {
+            ReadFault::NoMemory => Fault::Memory,
+            _ => Fault::File,
+        }
+    }
+}
+
+impl From<io::Error> for Fault {
+    fn from(error: io::Error) -> Fault {
+        Fault::System(error)
+    }
+}
+
+/// Bytes without a pattern.
+fn noise(alloc: Global, count: usize) -> Result<Vec<u8>, Fault>
+    ensures { IfOk result (λ v. vec_len v ≡ count) }
+{
+    let mut bytes = Vec::with_capacity(alloc, count)?;
+    let mut state = 1u32;
+    for i in 0..count {
+        state = state.wrapping_mul(1664525).wrapping_add(1013904223);
+        bytes.push((state >> 24) as u8)?;
+    }
+    Ok(bytes)
+}
+
+/// The bytes of a raw file.
+fn raw_file(alloc: Global, head: &str, raster: &[u8]) -> Result<Vec<u8>, Fault> {
+    let mut file = Vec::from_slice(alloc, head.as_bytes())?;
+    file.extend_from_slice(raster)?;
+    Ok(file)
+}
+
+/// A plain file of a set, with 64 pixels a line: the low bits of the samples.
+fn plain_set(alloc: Global, samples: &[u8]) -> Result<Vec<u8>, Fault> {
+    let mut file = Vec::from_slice(alloc, b"P1\n4096 4096\n".as_slice())?;
+    for i in 0..samples.len() {
+        file.push(b'0' + samples[i] % 2)?;
+        if i % 64 == 63 {
+            file.push(b'\n')?;
+        }
+    }
+    Ok(file)
+}
+
+/// A plain file of a picture, with 16 samples a line.
+fn plain_grey(alloc: Global, samples: &[u8]) -> Result<Vec<u8>, Fault> {
+    let mut file = Vec::from_slice(alloc, b"P2\n4096 4096\n255\n".as_slice())?;
+    for i in 0..samples.len() {
+        let s = samples[i];
+        if s >= 100 {
+            file.push(b'0' + s / 100)?;
+        }
+        if s >= 10 {
+            file.push(b'0' + s / 10 % 10)?;
+        }
+        file.push(b'0' + s % 10)?;
+        file.push(if i % 16 == 15 { b'\n' } else { b' ' })?;
+    }
+    Ok(file)
+}
+
+/// The microseconds since then.
+fn micros<R: Clock>(rt: &R, start: Instant) -> Result<u64, Fault> {
+    Ok(u64::try_from(start.elapsed(rt)?.as_micros()).unwrap_or(u64::MAX))
+}
+
+fn time_copy<R: Clock>(rt: &R, alloc: Global, bytes: &[u8]) -> Result<u64, Fault> {
+    let mut best = u64::MAX;
+    for _ in 0..ROUNDS {
+        let start = Instant::now(rt)?;
+        let copied = Vec::from_slice(alloc, bytes)?;
+        best = best.min(micros(rt, start)?);
+        if copied.last() != bytes.last() {
+            return Err(Fault::File);
+        }
+    }
+    Ok(best)
+}
+
+fn time_read<R: Clock>(rt: &R, alloc: Global, file: &[u8]) -> Result<u64, Fault> {
+    let mut best = u64::MAX;
+    for _ in 0..ROUNDS {
+        let start = Instant::now(rt)?;
+        let image = read(alloc, file)?;
+        best = best.min(micros(rt, start)?);
+        if image.width() != 4096 {
+            return Err(Fault::File);
+        }
+    }
+    Ok(best)
+}
+
+fn time_write<R: Clock>(rt: &R, alloc: Global, file: &[u8]) -> Result<u64, Fault> {
+    let image = read(alloc, file)?;
+    let mut best = u64::MAX;
+    for _ in 0..ROUNDS {
+        let start = Instant::now(rt)?;
+        let written = write(alloc, &image)?;
+        best = best.min(micros(rt, start)?);
+        if written.len() != file.len() {
+            return Err(Fault::File);
+        }
+    }
+    Ok(best)
+}
+
+/// The times of copies: of a file's bytes, and of its samples as they lie in memory.
+#[derive(Clone, Copy)]
+struct Copies {
+    file: u64,
+    samples: u64,
+}
+
+fn print_line<R: Print>(rt: &R, name: &str, time: u64, copies: Copies) -> Result<(), Fault> {
+    let file = time.saturating_mul(100) / copies.file.max(1);
+    let samples = time.saturating_mul(100) / copies.samples.max(1);
+    let each = time.saturating_mul(10_000) / SAMPLES as u64;
+    println!(rt;
+        "| {name:<19} | {:>4}.{} | {:>4}.{:02} | {:>4}.{:02} | {:>3}.{} |",
+        time / 1000,
+        time / 100 % 10,
+        file / 100,
+        file % 100,
+        samples / 100,
+        samples % 100,
+        each / 10,
+        each % 10
+    )?;
+    Ok(())
+}
+
+/// Reads a file, and prints the time beside those of copies.
+fn show_read<R: Clock + Print>(
+    rt: &R,
+    alloc: Global,
+    name: &str,
+    file: &[u8],
+    samples: &[u8],
+) -> Result<Copies, Fault> {
+    let copies = Copies {
+        file: time_copy(rt, alloc, file)?,
+        samples: time_copy(rt, alloc, samples)?,
+    };
+    print_line(rt, name, time_read(rt, alloc, file)?, copies)?;
+    Ok(copies)
+}
+
+/// Reads and writes a raw file, and prints the times beside those of copies.
+fn show_raw<R: Clock + Print>(
+    rt: &R,
+    alloc: Global,
+    names: (&str, &str),
+    file: &[u8],
+    samples: &[u8],
+) -> Result<(), Fault> {
+    let copies = show_read(rt, alloc, names.0, file, samples)?;
+    print_line(rt, names.1, time_write(rt, alloc, file)?, copies)
+}
+
+fn measure<R: Clock + Print>(rt: &R, alloc: Global) -> Result<(), Fault> {
+    let words = noise(alloc, 2 * SAMPLES)?;
+    let (bytes, _) = words.split_at(SAMPLES);
+    let (packed, _) = words.split_at(SAMPLES / 8);
+    println!(rt;
+        "| {:<19} | {:>6} | {:>7} | {:>7} | {:>5} |",
+        "4096 x 4096", "ms", "file", "samples", "ns"
+    )?;
+    let file = raw_file(alloc, "P5\n4096 4096\n255\n", bytes)?;
+    show_raw(
+        rt,
+        alloc,
+        ("raw 8 bits, read", "raw 8 bits, write"),
+        &file,
+        bytes,
+    )?;
+    let file = raw_file(alloc, "P5\n4096 4096\n65535\n", &words)?;
+    show_raw(
+        rt,
+        alloc,
+        ("raw 16 bits, read", "raw 16 bits, write"),
+        &file,
+        &words,
+    )?;
+    let file = raw_file(alloc, "P4\n4096 4096\n", packed)?;
+    show_raw(
+        rt,
+        alloc,
+        ("packed bits, read", "packed bits, write"),
+        &file,
+        bytes,
+    )?;
+    show_read(
+        rt,
+        alloc,
+        "plain bits, read",
+        &plain_set(alloc, bytes)?,
+        bytes,
+    )?;
+    show_read(
+        rt,
+        alloc,
+        "plain 8 bits, read",
+        &plain_grey(alloc, bytes)?,
+        bytes,
+    )?;
+    Ok(())
+}
+
+/// Whether the program's first word asks for times.
+fn is_asked(rt: &HostRuntime) -> Result<bool, Fault> {
+    match env::args(rt)?.nth(1) {
+        None => Ok(false),
+        Some(word) => Ok(word.as_str() == "measure"),
+    }
+}
+
+fn main(rt: HostRuntime) -> Result<(), Fault> {
+    if is_asked(&rt)? {
+        measure(&rt, rt.alloc())?;
+    }
+    Ok(())
+}

@@ -1,0 +1,78 @@
+-- The command line of the program (own): what clap is to read of it, and which job its words ask for.
+use Rattle.std.specs.Prelude.{◌≡◌, ◌≤◌, ◌<◌, ◌^◌, ◌%◌, ℕ, Bool, true, false, if◌then◌else◌, List, [], ◌∷◌, Option, Some, None, codes, option_and_then, pos}
+use Rattle.std.specs.Str.Parse.{IsNumeral, digits_value, without_leading_plus}
+use Rattle.clap.specs.Words.{App, IsAmong, Row, Rule, Text, fault_of, kind_of, new_app, new_rule, one_of, subcommand_of, with_rule, with_subcommand}
+use Rattle.clap.specs.Simple.{on_top}
+use Rattle.clap.specs.declared.builder.value_parser.ValueParser.TheVariants as parser
+use Rattle.clap.specs.declared.error.kind.ErrorKind.{ErrorKind}
+use Rattle.clap.specs.declared.error.kind.ErrorKind.TheVariants as kind
+use Rattle.mw_cli.specs.declared.line.Job.{Job}
+use Rattle.mw_cli.specs.declared.line.Job.TheVariants as job
+use Rattle.mw_cli.specs.declared.fault.LineFault.{LineFault}
+use Rattle.mw_cli.specs.declared.fault.LineFault.TheVariants as fault
+
+-- `--tile S`: a number of 32 bits, 128 where it is left out
+abbrev pub tile_option : Rule
+tile_option = record (new_rule (codes "tile")) {
+  long = Some (codes "tile");
+  defaults = codes "128" ∷ [];
+  parser = Some (parser.Signed (pos 0) (pos 4294967295));
+  value_names = 1;
+}
+
+-- `batch [--tile S]`
+abbrev pub batch_words : App
+batch_words = with_rule (new_app (codes "batch")) tile_option
+
+-- `morphd`, and then one of its jobs
+abbrev pub program_words : App
+program_words = with_subcommand (on_top (λ s. record s { subcommand_required = true }) (new_app (codes "morphd"))) batch_words.top
+
+-- clap takes the words
+abbrev pub AreTaken : List Text → Type 0
+AreTaken words = fault_of program_words words ≡ []
+
+-- the text of `--tile` in a job's rows
+abbrev pub tile_in : Option (Text × List Row) → Option Text
+tile_in = option_and_then (λ p. one_of (codes "tile") p.1)
+
+-- the text that the words give as the side of the tiles
+abbrev pub side_text : List Text → Option Text
+side_text words = tile_in (subcommand_of program_words words)
+
+-- there is a text, and it writes this number of 32 bits
+abbrev pub Writes : Option Text → ℕ → Type 0
+Writes None n = ⊥
+Writes (Some text) n =
+    let digits = without_leading_plus text in
+    IsNumeral 10 digits × (digits_value 10 digits < 2 ^ 32) × (n ≡ digits_value 10 digits)
+
+-- tiles may have this side
+abbrev pub IsTileSide : ℕ → Type 0
+IsTileSide side = (64 ≤ side) × (side ≤ 1024) × (side % 64 ≡ 0)
+
+-- the text writes no side of tiles
+abbrev pub WritesNoSide : Option Text → Type 0
+WritesNoSide text = (side : ℕ) → Writes text side → IsTileSide side → ⊥
+
+-- the words ask for this job
+abbrev pub IsAsked : List Text → Job → Type 0
+IsAsked words (job.Batch side) = AreTaken words × Writes (side_text words) side × IsTileSide side
+
+-- the words are refused so; memory may be refused for any words
+abbrev pub IsRefused : List Text → LineFault → Type 0
+IsRefused words (fault.Line e) = IsAmong (kind_of e) (fault_of program_words words)
+IsRefused words fault.Tile = AreTaken words × WritesNoSide (side_text words)
+IsRefused words fault.NoMemory = Unit {0}
+
+-- the kinds of what was asked for, and not refused
+abbrev pub is_text : ErrorKind → Bool
+is_text kind.DisplayHelp = true
+is_text kind.DisplayVersion = true
+is_text k = false
+
+-- the exit status of words that ask for no job
+abbrev pub fault_status : LineFault → ℕ
+fault_status (fault.Line e) = if is_text (kind_of e) then 0 else 2
+fault_status fault.Tile = 2
+fault_status fault.NoMemory = 1

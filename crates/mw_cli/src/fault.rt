@@ -1,0 +1,39 @@
+//! Why a command line asks for no job.
+
+ghost use Rattle.std.specs.Prelude.{◌≡◌};
+ghost use Rattle.mw_cli.specs.CommandLine.{fault_status};
+
+use std::io;
+use std::io::{Eprint, Print};
+
+/// Clap refuses the words or answers them by a text, or the side of the tiles is none, or there is
+/// no memory.
+#[derive(Drop)]
+pub enum LineFault {
+    Line(clap::Error),
+    Tile,
+    NoMemory,
+}
+
+impl LineFault {
+    /// The exit status: 0 where help was asked for, 2 for words that are refused, 1 for want of
+    /// memory.
+    pub fn status(&self) -> u8
+        ensures { result ≡ fault_status self.now }
+    {
+        match self {
+            LineFault::Line(error) => { if error.use_stderr() { 2 } else { 0 } }
+            LineFault::Tile => 2,
+            LineFault::NoMemory => 1,
+        }
+    }
+
+    /// Prints help to standard output, and a fault to standard error.
+    pub fn print<R: Print + Eprint>(&self, rt: &R) -> io::Result<()> {
+        match self {
+            LineFault::Line(error) => error.print(rt),
+            LineFault::Tile => eprintln!(rt; "error: tile must be a multiple of 64"),
+            LineFault::NoMemory => eprintln!(rt; "error: memory"),
+        }
+    }
+}

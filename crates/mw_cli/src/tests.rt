@@ -1,0 +1,89 @@
+//! The command line, and its help.
+
+use crate::{Job, LineFault, options, words};
+use clap::error::ErrorKind;
+use std::alloc::Global;
+use std::process::Abort;
+
+/// The words of this command line.
+fn split(rt: &impl Abort, alloc: Global, line: &str) -> Vec<String> {
+    let mut words = Vec::new(alloc);
+    for word in line.split(' ') {
+        let word = String::from_str(alloc, word).expect(rt, "memory");
+        words.push(word).expect(rt, "memory");
+    }
+    words
+}
+
+#[test]
+fn side_of_tiles(rt: HostRuntime) {
+    let given = split(&rt, rt.alloc(), "morphd batch");
+    assert!(rt; matches!(options(rt.alloc(), given.as_slice()), Ok(Job::Batch(128))));
+    let given = split(&rt, rt.alloc(), "morphd batch --tile 64");
+    assert!(rt; matches!(options(rt.alloc(), given.as_slice()), Ok(Job::Batch(64))));
+    let given = split(&rt, rt.alloc(), "morphd batch --tile=1024");
+    assert!(rt; matches!(options(rt.alloc(), given.as_slice()), Ok(Job::Batch(1024))));
+    let given = split(&rt, rt.alloc(), "morphd batch --tile 100");
+    assert!(rt; matches!(options(rt.alloc(), given.as_slice()), Err(LineFault::Tile)));
+    let given = split(&rt, rt.alloc(), "morphd batch --tile 0");
+    assert!(rt; matches!(options(rt.alloc(), given.as_slice()), Err(LineFault::Tile)));
+}
+
+#[test]
+fn words_of_the_process(rt: HostRuntime) {
+    let Ok(given) = words(&rt) else {
+        panic!(rt; "no memory");
+    };
+    assert!(rt; !given.is_empty());
+}
+
+#[test]
+fn statuses(rt: HostRuntime) {
+    let given = split(&rt, rt.alloc(), "morphd batch --help");
+    assert!(rt; matches!(options(rt.alloc(), given.as_slice()), Err(fault) if fault.status() == 0));
+    let given = split(&rt, rt.alloc(), "morphd listen");
+    assert!(rt; matches!(options(rt.alloc(), given.as_slice()), Err(fault) if fault.status() == 2));
+    let given = split(&rt, rt.alloc(), "morphd batch --tile 65");
+    assert!(rt; matches!(options(rt.alloc(), given.as_slice()), Err(fault) if fault.status() == 2));
+    assert!(rt; LineFault::NoMemory.status() == 1);
+}
+
+/// The kind of error that clap has for a command line.
+fn kind(rt: &impl Abort, alloc: Global, line: &str) -> Option<ErrorKind> {
+    let given = split(rt, alloc, line);
+    match options(alloc, given.as_slice()) {
+        Err(LineFault::Line(error)) => Some(error.kind()),
+        _ => None,
+    }
+}
+
+#[test]
+fn words_that_clap_refuses(rt: HostRuntime) {
+    assert!(rt; kind(&rt, rt.alloc(), "morphd") == Some(ErrorKind::MissingSubcommand));
+    assert!(rt; kind(&rt, rt.alloc(), "morphd batch --tile x") == Some(ErrorKind::ValueValidation));
+    assert!(rt;
+        kind(&rt, rt.alloc(), "morphd batch --tile 4294967296") == Some(ErrorKind::ValueValidation)
+    );
+    assert!(rt;
+        kind(&rt, rt.alloc(), "morphd batch --tiles 64") == Some(ErrorKind::UnknownArgument)
+    );
+    assert!(rt;
+        kind(&rt, rt.alloc(), "morphd batch --tile 64 --tile 64")
+            == Some(ErrorKind::ArgumentConflict)
+    );
+}
+
+#[test]
+fn help_shows_a_session(rt: HostRuntime) {
+    let given = split(&rt, rt.alloc(), "morphd --help");
+    let Err(LineFault::Line(error)) = options(rt.alloc(), given.as_slice()) else {
+        panic!(rt; "help is asked for");
+    };
+    assert!(rt; error.kind() == ErrorKind::DisplayHelp && !error.use_stderr());
+    let text = format!(in rt.alloc(); "{error}").expect(&rt, "memory");
+    assert!(rt;
+        text.as_str()
+            .contains("LOAD f 19\n  P2\n  5 1\n  9\n  3 1 4 1 5\n")
+    );
+    assert!(rt; text.as_str().contains("FETCH e"));
+}

@@ -1,0 +1,119 @@
+-- What a FETCH hands out is the value of the ticket.
+use Rattle.std.proofs.Common.{◌≡◌, ◌≢◌, ℕ, ◌<◌, Bool, true, false, not, List, [], ◌∷◌, Option, Some, None, IsSome, length, refl, sym, ap, ◌∙◌, subst}
+use Rattle.std.specs.Prelude.{option_map, is_some, ◌||◌, ◌&&◌}
+use Rattle.mw_model.specs.declared.names.Name.{Name}
+use Rattle.mw_model.specs.declared.shapes.Shape.{Shape}
+use Rattle.mw_model.specs.declared.shapes.Shape.TheVariants as shape
+use Rattle.mw_model.specs.declared.codes.Code.{Code}
+use Rattle.mw_model.specs.declared.codes.Code.TheVariants as code
+use Rattle.mw_model.specs.declared.calls.Outcome.{Outcome}
+use Rattle.mw_model.specs.declared.calls.Outcome.TheVariants as outcome
+use Rattle.mw_model.specs.declared.calls.Call.TheVariants as call
+use Rattle.mw_model.specs.declared.calls.Reply.{Reply}
+use Rattle.mw_model.specs.declared.calls.Reply.TheVariants as reply
+use Rattle.mw_model.specs.Values.{Value, ImageValue, ElementValue, CurveValue, image_of, value_at, shape_of_figure}
+use Rattle.mw_model.specs.Refusals.{Table, ticket, ticket_of, outcome_at, shape_at, is_element, is_done, is_released, is_there, when, refusal}
+use Rattle.mw_model.specs.Machine.{Machine, values, answer, fetch_reply, refused_or, reply_to, reply_from}
+use Rattle.mw_model.specs.Stands.{Seen, StandsFor, Agrees, is_wanted}
+use Rattle.mw_laws.specs.MachineLaws.{IsSound, shape_of_value}
+use Rattle.mw_laws.proofs.RunTables.{is_known, ticket_is, ticket_within, when_so}
+use Rattle.mw_core.specs.Events.{handed_out}
+use Rattle.mw_core.specs.Fetches.{IsShown, IsPlateOf, shown_value}
+use Rattle.mw_core.specs.declared.answers.Shown.{Shown}
+use Rattle.mw_core.proofs.RefusalLemmas.{some-same}
+use Rattle.mw_core.proofs.StandsLemmas.{stands-sound, stands-reply}
+
+-- a value is shown only where the entry is done
+shows-done : (t u : ℕ) (s : Shape) (o : Outcome) → fetch_reply t s o ≡ reply.Shown u → (o ≡ outcome.Done) × (t ≡ u)
+shows-done t u s outcome.Pending h = absurd cc
+shows-done t u s outcome.Done h = (refl, cc)
+shows-done t u s outcome.Cancelled h = absurd cc
+shows-done t u s outcome.Memory h = absurd cc
+shows-done t u s (outcome.Input i) h = absurd cc
+shows-done t u s outcome.Released h = absurd cc
+
+-- a reply that is no refusal was not refused
+not-refused : (r : Option Code) (a : Reply) (t : ℕ) → refused_or r a ≡ reply.Shown t → (r ≡ None) × (a ≡ reply.Shown t)
+not-refused None a t h = (refl, h)
+not-refused (Some c) a t h = absurd cc
+
+-- the ticket that is shown is that of a done entry, and no element
+record IsDoneTicket (w : Table) (t : ℕ) : Type 0 where
+  within : t < length w.names
+  done : outcome_at w.outcomes t ≡ outcome.Done
+  shape : is_element (shape_at w.submissions t) ≡ false
+
+shown-ticket : (m : Machine) (n : Name) (t : ℕ) → reply_to m (call.Fetch n) ≡ reply.Shown t → IsDoneTicket m.table t
+shown-ticket m n t h =
+    let w = m.table in
+    let parts = not-refused (refusal w m.payloads (call.Fetch n)) (answer w (call.Fetch n)) t h in
+    let known = is_known (ticket_of w.names n) (λ u. when (is_element (shape_at w.submissions u)) code.Kind) parts.0 in
+    let u = known.0 in
+    let at : ticket w n ≡ u = ticket_is w n u known.1 in
+    let shown = shows-done (ticket w n) t (shape_at w.submissions (ticket w n)) (outcome_at w.outcomes (ticket w n)) parts.1 in
+    let same : u ≡ t = sym at ∙ shown.1 in
+    let P : ℕ → Type 0 = λ x. IsDoneTicket w x in
+    subst P same (record {
+      within = ticket_within w n u known.1;
+      done = ap (outcome_at w.outcomes) (sym at) ∙ shown.0;
+      shape = when_so (is_element (shape_at w.submissions u)) code.Kind known.2;
+    })
+
+-- a value that is no element and no curve is an image
+must-be-image : (v : Option Value) (s : Shape) → option_map shape_of_value v ≡ Some s → is_element s ≡ false → ((volumes : List ℕ) → v ≢ Some (CurveValue volumes)) → option_map ImageValue (image_of v) ≡ v
+must-be-image None s h e n = refl
+must-be-image (Some (ImageValue f)) s h e n = refl
+must-be-image (Some (ElementValue b)) s h e n = let is : shape_of_figure b ≡ s = cc in let f = ap is_element is in absurd cc
+must-be-image (Some (CurveValue v)) s h e n = absurd (n v refl)
+
+shown-value : (c : Seen) (m : Machine) (n : Name) (t : ℕ) (v : Shown) → StandsFor c m → reply_to m (call.Fetch n) ≡ reply.Shown t → IsPlateOf c t v → shown_value v ≡ value_at (values m) t
+shown-value c m n t v s told plate =
+    let done = shown-ticket m n t told in
+    let sound = stands-sound c m s in
+    let there = s.agrees.done t done.within done.done in
+    let same : value_at (values m) t ≡ value_at c.kept t = some-same (value_at c.kept t) (value_at (values m) t) there (λ x e. s.agrees.own t x e) in
+    let shaped = ap (option_map shape_of_value) (sym same) ∙ sound.shapes t done.within in
+    plate.value ∙ must-be-image (value_at c.kept t) (shape_at m.table.submissions t) shaped done.shape plate.no_curve ∙ sym same
+
+by-reply : (c : Seen) (m : Machine) (n : Name) (r : Reply) (v : Shown) → StandsFor c m → r ≡ reply_to m (call.Fetch n) → IsShown c r v → shown_value v ≡ handed_out m r
+by-reply c m n (reply.Accepted t) v s told is = is
+by-reply c m n (reply.Refused x) v s told is = is
+by-reply c m n (reply.Pending t) v s told is = is
+by-reply c m n (reply.Done t x) v s told is = is
+by-reply c m n (reply.Cancelled t) v s told is = is
+by-reply c m n (reply.OutOfMemory t) v s told is = is
+by-reply c m n (reply.BadInput t i) v s told is = is
+by-reply c m n (reply.Released t) v s told is = is
+by-reply c m n (reply.Shown t) v s told is = shown-value c m n t v s (sym told) is
+
+pub fetched-value : (c : Seen) (m : Machine) (n : Name) (r : Reply) (v : Shown) → StandsFor c m → r ≡ reply_from c.table c.kept (call.Fetch n) → IsShown c r v → shown_value v ≡ handed_out m r
+fetched-value c m n r v s told is = by-reply c m n r v s (told ∙ stands-reply c m (call.Fetch n) s) is
+
+-- ---- what is kept
+
+some-true : (x : Option Value) → IsSome x → is_some x ≡ true
+some-true None h = absurd cc
+some-true (Some v) h = refl
+
+keeps-by : (x : Option Value) (o : Outcome) (wanted : Bool) → ((v : Value) → x ≡ Some v → is_there o ≡ true) → (o ≡ outcome.Done → IsSome x) → (o ≡ outcome.Released → (IsSome x → wanted ≡ true) × (wanted ≡ true → IsSome x))
+    → is_some x ≡ (is_done o || (is_released o && wanted))
+keeps-by None outcome.Pending wanted there done released = refl
+keeps-by None outcome.Done wanted there done released = absurd (let e = done refl in cc)
+keeps-by None outcome.Cancelled wanted there done released = refl
+keeps-by None outcome.Memory wanted there done released = refl
+keeps-by None (outcome.Input i) wanted there done released = refl
+keeps-by None outcome.Released true there done released = absurd (let e = (released refl).1 refl in cc)
+keeps-by None outcome.Released false there done released = refl
+keeps-by (Some v) outcome.Pending wanted there done released = absurd (let e = there v refl in cc)
+keeps-by (Some v) outcome.Done wanted there done released = refl
+keeps-by (Some v) outcome.Cancelled wanted there done released = absurd (let e = there v refl in cc)
+keeps-by (Some v) outcome.Memory wanted there done released = absurd (let e = there v refl in cc)
+keeps-by (Some v) (outcome.Input i) wanted there done released = absurd (let e = there v refl in cc)
+keeps-by (Some v) outcome.Released wanted there done released = sym ((released refl).0 refl)
+
+pub keeps-wanted : (c : Seen) (m : Machine) (t : ℕ) → StandsFor c m → t < length c.table.names
+    → is_some (value_at c.kept t) ≡ (is_done (outcome_at m.table.outcomes t) || (is_released (outcome_at m.table.outcomes t) && is_wanted m.table t))
+keeps-wanted c m t s within =
+    let Named : Table → Type 0 = λ w. t < length w.names in
+    let named = subst Named s.table within in
+    keeps-by (value_at c.kept t) (outcome_at m.table.outcomes t) (is_wanted m.table t) (s.agrees.there t) (s.agrees.done t named) (s.agrees.released t named)

@@ -1,0 +1,16 @@
+use Rattle.std.proofs.Common.{rules, arith}
+use Rattle.std.proofs.lemmas.Grind.{common_steps}
+use Rattle.mw_core.proofs.EventLemmas.{happens-push}
+use Rattle.mw_core.proofs.events.serve_all.Goals as goal
+
+pub loop-event-preserved : goal.loop-event-preserved
+loop-event-preserved c = (
+  first_of (search rules, grind (arith, common_steps)),
+  λ m s.
+      let before = c.loop-event.invariant.1 m s in
+      let step = c.serve.ensures before.0 before.2 in (
+        step.0,
+        rw c.in_ok-push.ensures.items (happens-push m before.0 step.0 c.loop-event.yielded c.loop-event.answers.items c.in-Some.event c.serve.result before.1 step.1),
+        step.2,
+      ),
+)

@@ -1,0 +1,10 @@
+use Rattle.std.specs.List.{AllByRecursion}
+use Rattle.mw_model.specs.Machine.{Machine}
+use Rattle.mw_model.specs.Stands.{StandsFor}
+use Rattle.mw_core.specs.Happenings.{IsServable, HappensAll}
+use Rattle.mw_core.proofs.events.serve_all.Given as goal
+
+abbrev pub invariant-loop-event : goal.invariant-loop-event
+invariant-loop-event l =
+    AllByRecursion IsServable l.event-iterator.rest.items
+    × ((m : Machine) → StandsFor l.fn.core m → (n : Machine) × HappensAll m l.yielded l.answers.items n × StandsFor l.core n)

@@ -1,0 +1,160 @@
+//! Session calls: each is one event.
+
+ghost use Rattle.std.specs.Prelude.{◌≡◌, ◌≢◌, ◌++◌, ◌∷◌, [], ℕ, true, OnErr, IfOk, IsOk, Ok, None};
+
+use crate::machine::Core;
+use crate::{checks, plans};
+use mw_element::Element;
+use mw_model::{Call, Code, Given, LogItem, Name, NoMemory, Op, Outcome, Reply};
+use mw_pixel::Image;
+use mw_store::{Entry, Store};
+use std::alloc::Global;
+
+impl Core {
+    ghost use Rattle.std.specs.Result.{ForOk};
+    ghost use Rattle.mw_model.specs.Pictures.{IsImage};
+    ghost use Rattle.mw_model.specs.Machine.{Machine, start_state};
+    ghost use Rattle.mw_model.specs.Refusals.{refusal};
+    ghost use Rattle.mw_model.specs.Stands.{StandsFor};
+    ghost use Rattle.mw_core.specs.Served.{is_served};
+    ghost use Rattle.mw_core.specs.Payloads.{given_image, image_payload, given_element, element_payload};
+    ghost use Rattle.mw_core.specs.Faults.{IsFault};
+    ghost use Rattle.mw_core.specs.Events.{Serves, IsFresh};
+
+    /// A core that has accepted nothing yet. The side is that of the tiles, in pixels.
+    pub fn new(alloc: Global, side: u32) -> Result<Self, NoMemory>
+        ensures { IfOk result (λ c. StandsFor c start_state) }
+    {
+        Ok(Core {
+            store: Store::new(alloc, side)?,
+            work: Vec::with_capacity(alloc, 16)?,
+            log: Vec::with_capacity(alloc, 16)?,
+            alloc,
+        })
+    }
+
+    /// A payload that holds nothing.
+    fn fault(&mut self, call: Call, name: Name, code: Code) -> Result<Reply, NoMemory>
+        ensures told { IfOk result (λ r. IsFault self.old.table name code r) }
+        ensures ok { IfOk result (λ r. self.new ≡ record self.old { log = self.old.log ++ LogItem.Call call r ∷ [] }) }
+        ensures err { OnErr result (self.new ≡ self.old) }
+    {
+        match checks::of_given(&self.store, name, Given::Bad(code)) {
+            Err(Code::Memory) => Err(NoMemory),
+            Err(code) => self.note(call, Reply::Refused(code)),
+            Ok(()) => unreachable!(),
+        }
+    }
+
+    fn load_image(&mut self, name: Name, image: Image) -> Result<Reply, NoMemory>
+        requires { IsImage image }
+        ensures served { IfOk result (Serves self.old (Call.Load name (given_image (Ok image))) (image_payload (Ok image)) self.new) }
+        ensures memory { IfOk result (λ r. r ≢ Reply.Refused Code.Memory) }
+        ensures err { OnErr result (self.new ≡ self.old) }
+    {
+        let given = Given::Good(image.shape());
+        let call = Call::Load(name, given);
+        match checks::of_given(&self.store, name, given) {
+            Err(code) => self.note(call, Reply::Refused(code)),
+            Ok(()) => self.accept(call, name, Entry::Image(image), None),
+        }
+    }
+
+    /// LOAD. An image whose memory was refused is answered so only where nothing else refuses the call.
+    pub fn load(&mut self, name: Name, image: Result<Image, Code>) -> Result<Reply, NoMemory>
+        requires { ForOk image IsImage }
+        ensures served { IfOk result (Serves self.old (Call.Load name (given_image image)) (image_payload image) self.new) }
+        ensures memory { IfOk result (λ r. r ≢ Reply.Refused Code.Memory) }
+        ensures err { OnErr result (self.new ≡ self.old) }
+    {
+        match image {
+            Ok(image) => self.load_image(name, image),
+            Err(code) => self.fault(Call::Load(name, Given::Bad(code)), name, code),
+        }
+    }
+
+    fn load_element(&mut self, name: Name, element: Element) -> Result<Reply, NoMemory>
+        ensures served { IfOk result (Serves self.old (Call.Element name (given_element (Ok element))) (element_payload (Ok element)) self.new) }
+        ensures memory { IfOk result (λ r. r ≢ Reply.Refused Code.Memory) }
+        ensures err { OnErr result (self.new ≡ self.old) }
+    {
+        let _offsets = element.offsets();
+        let given = Given::Good(element.shape());
+        let call = Call::Element(name, given);
+        match checks::of_given(&self.store, name, given) {
+            Err(code) => self.note(call, Reply::Refused(code)),
+            Ok(()) => self.accept(call, name, Entry::Element(element), None),
+        }
+    }
+
+    /// ELEMENT. An element whose memory was refused is answered so only where nothing else refuses the call.
+    pub fn element(&mut self, name: Name, element: Result<Element, Code>) -> Result<Reply, NoMemory>
+        ensures served { IfOk result (Serves self.old (Call.Element name (given_element element)) (element_payload element) self.new) }
+        ensures memory { IfOk result (λ r. r ≢ Reply.Refused Code.Memory) }
+        ensures err { OnErr result (self.new ≡ self.old) }
+    {
+        match element {
+            Ok(element) => self.load_element(name, element),
+            Err(code) => self.fault(Call::Element(name, Given::Bad(code)), name, code),
+        }
+    }
+
+    /// RUN, of an operation that is served.
+    pub fn run(&mut self, name: Name, op: Op) -> Result<Reply, NoMemory>
+        requires { is_served op ≡ true }
+        ensures served { IfOk result (Serves self.old (Call.Run name op) None self.new) }
+        ensures fresh { (t : ℕ) → IfOk result (λ r. r ≡ Reply.Accepted t → IsFresh self.new t) }
+        ensures err { OnErr result (self.new ≡ self.old) }
+    {
+        let call = Call::Run(name, op);
+        match checks::of_run(&self.store, name, op) {
+            Err(code) => self.note(call, Reply::Refused(code)),
+            Ok(submission) => {
+                let work = plans::underway(&self.store, op, submission)?;
+                self.accept(call, name, Entry::Run(submission), Some(work))
+            }
+        }
+    }
+
+    /// STATUS.
+    pub fn status(&mut self, name: Name) -> Result<Reply, NoMemory>
+        ensures served { IfOk result (Serves self.old (Call.Status name) None self.new) }
+        ensures err { OnErr result (self.new ≡ self.old) }
+    {
+        let reply = checks::status_reply(&self.store, name);
+        self.note(Call::Status(name), reply)
+    }
+
+    /// CANCEL. That of a pending name takes no memory.
+    pub fn cancel(&mut self, name: Name) -> Result<Reply, NoMemory>
+        ensures served { IfOk result (Serves self.old (Call.Cancel name) None self.new) }
+        ensures err { OnErr result (self.new ≡ self.old) }
+        ensures succeeds { (m : Machine) → StandsFor self.old m → refusal m.table m.payloads (Call.Cancel name) ≡ None → IsOk result }
+    {
+        let call = Call::Cancel(name);
+        match checks::of_cancel(&self.store, name) {
+            Err(code) => self.note(call, Reply::Refused(code)),
+            Ok(t) => {
+                let reply = Reply::Accepted(t);
+                self.end(t, Outcome::Cancelled, LogItem::Call(call, reply));
+                Ok(reply)
+            }
+        }
+    }
+
+    /// RELEASE.
+    pub fn release(&mut self, name: Name) -> Result<Reply, NoMemory>
+        ensures served { IfOk result (Serves self.old (Call.Release name) None self.new) }
+        ensures err { OnErr result (self.new ≡ self.old) }
+    {
+        let call = Call::Release(name);
+        match checks::of_release(&self.store, name) {
+            Err(code) => self.note(call, Reply::Refused(code)),
+            Ok(t) => {
+                let reply = Reply::Accepted(t);
+                self.let_go(t, LogItem::Call(call, reply))?;
+                Ok(reply)
+            }
+        }
+    }
+}

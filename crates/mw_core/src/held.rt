@@ -1,0 +1,35 @@
+//! A core under a lock: whenever the lock is free, it stands for some state of the machine.
+
+ghost use Rattle.mw_model.specs.Machine.{Machine};
+ghost use Rattle.mw_model.specs.Stands.{StandsFor};
+
+use crate::Core;
+use crate::events::{Answer, Event, serve};
+use mw_model::NoMemory;
+use std::alloc::Global;
+
+/// A core that stands for some state of the machine. Each hold of the lock is one event.
+#[derive(Drop)]
+pub struct Held {
+    pub core: Core,
+    pub ghost stands: { ∥ ((m : Machine) × StandsFor core m) ∥₁ },
+}
+
+impl Held {
+    ghost use Rattle.mw_core.specs.Happenings.{IsServable, Happens};
+
+    /// A core that has accepted nothing yet.
+    pub fn new(alloc: Global, side: u32) -> Result<Self, NoMemory> {
+        Ok(Held {
+            core: Core::new(alloc, side)?,
+        })
+    }
+
+    /// One event.
+    pub fn serve(&mut self, event: Event) -> Answer
+        requires { IsServable event }
+        ensures { (m : Machine) → StandsFor self.old.core m → (n : Machine) × Happens m event result n × StandsFor self.new.core n }
+    {
+        serve(&mut self.core, event)
+    }
+}

@@ -1,0 +1,41 @@
+//! Looking at the core.
+
+ghost use Rattle.std.specs.Prelude.{◌≡◌, ◌<◌, ◌&&◌, ◌||◌, Some, is_some, length, slice_get};
+
+use crate::machine::Core;
+use mw_model::LogItem;
+
+impl Core {
+    ghost use Rattle.mw_model.specs.Values.{value_at};
+    ghost use Rattle.mw_model.specs.Refusals.{outcome_at, is_done, is_released};
+    ghost use Rattle.mw_model.specs.Machine.{Machine};
+    ghost use Rattle.mw_model.specs.Stands.{StandsFor, is_wanted};
+
+    /// Whether the value of a ticket is kept: that of each done entry, and of a released one exactly while a pending
+    /// entry has it as an input.
+    pub fn keeps(&self, t: u32) -> bool
+        ensures value { result ≡ is_some (value_at self.now.kept t) }
+        ensures wanted { (m : Machine) → StandsFor self.now m → t < length self.now.table.names
+            → result ≡ (is_done (outcome_at m.table.outcomes t) || (is_released (outcome_at m.table.outcomes t) && is_wanted m.table t)) }
+    {
+        if t >= self.store.len() {
+            return false;
+        }
+        self.store.keeps(t)
+    }
+
+    /// How many items the log has.
+    pub fn log_len(&self) -> usize
+        ensures { result ≡ length self.now.log }
+    {
+        self.log.len()
+    }
+
+    /// An item of the log.
+    pub fn log_at(&self, i: usize) -> LogItem
+        requires { i < length self.now.log }
+        ensures { slice_get self.now.log i ≡ Some result }
+    {
+        self.log[i]
+    }
+}

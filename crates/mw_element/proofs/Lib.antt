@@ -1,0 +1,6 @@
+pub mod Lists
+pub mod Rows
+pub mod Boxes
+pub mod Found
+pub mod Exclusive
+pub mod Few

@@ -1,0 +1,6 @@
+use Rattle.std.proofs.Common.{◌≡◌}
+use Rattle.mw_element.proofs.Rows.{rows_part}
+use Rattle.mw_element.proofs.parsing.offsets.Given as goal
+
+abbrev pub invariant-rows : goal.invariant-rows
+invariant-rows l = l.out.items ≡ rows_part l.bitmap l.ox l.oy 0 l.y

@@ -1,0 +1,6 @@
+use Rattle.std.proofs.Common.{◌≡◌, ◌++◌}
+use Rattle.mw_element.proofs.Rows.{row_part}
+use Rattle.mw_element.proofs.parsing.push_row.Given as goal
+
+abbrev pub invariant-columns : goal.invariant-columns
+invariant-columns l = l.out.items ≡ l.fn.out.items ++ row_part l.bitmap l.ox l.oy l.y 0 l.x

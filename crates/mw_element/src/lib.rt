@@ -1,0 +1,22 @@
+//! Structuring elements: an element exactly where the bytes are a plain bitmap with its origin inside, else the one
+//! refusal; and what kernels and plans ask of an element.
+//!
+//! ```text
+//! let cross = Element::parse(alloc, b"P1\n3 3\n010\n111\n010\n", 1, 1)?;
+//! let turned = cross.reflect(alloc)?;
+//! let offsets = turned.offsets();
+//! ```
+#![tactic(auto)]
+
+mod element;
+mod fault;
+pub mod laws;
+mod offsets;
+mod parsing;
+
+pub use element::Element;
+pub use fault::ElementFault;
+pub use mw_model::{NoMemory, Offset, OffsetBox, Reach};
+
+#[cfg(test)]
+mod tests;

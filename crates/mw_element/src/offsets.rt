@@ -1,0 +1,182 @@
+//! Lists of offsets.
+
+ghost use Rattle.std.specs.Prelude.{◌≡◌, ◌↔◌, ◌+◌, ◌<◌, ◌≤◌, ◌+ℤ◌, ◌≤ℤ◌, pos, max, neg_ℤ, length, IsTrue, IfOk, IfSome, IfNone};
+ghost use Rattle.std.specs.List.{AllByRecursion, IsDistinct, list_any};
+ghost use Rattle.mw_model.specs.declared.places.OffsetBox.{OffsetBox};
+ghost use Rattle.mw_model.specs.Elements.{FillsBox, InBox, IsNear, holds_origin, overlaps, reach_of, same_offset, steps};
+ghost use Rattle.mw_model.specs.Flat.{negated};
+ghost use Rattle.mw_model.specs.Places.{WithinReach};
+ghost use Rattle.mw_element.specs.Figures.{LiesIn, grown, turned};
+
+use mw_model::{NoMemory, Offset, OffsetBox, Reach};
+use std::alloc::Global;
+
+fn is_same(a: Offset, b: Offset) -> bool
+    ensures { result ≡ same_offset a b }
+{
+    a.dx == b.dx && a.dy == b.dy
+}
+
+fn turn_one(b: Offset) -> Offset
+    requires { IsNear b }
+    ensures { result ≡ turned b }
+{
+    Offset {
+        dx: -b.dx,
+        dy: -b.dy,
+    }
+}
+
+/// Each offset turned round.
+pub(crate) fn turn(alloc: Global, offsets: &[Offset]) -> Result<Vec<Offset>, NoMemory>
+    requires { AllByRecursion IsNear offsets.now }
+    ensures { IfOk result (λ v. v.items ≡ negated offsets.now) }
+{
+    let mut all = Vec::with_capacity(alloc, offsets.len())?;
+    'offsets: for b in offsets {
+        all.push(turn_one(*b))?;
+    }
+    Ok(all)
+}
+
+pub(crate) fn hold_origin(offsets: &[Offset]) -> bool
+    ensures { result ≡ holds_origin offsets.now }
+{
+    offsets.iter().any(|b| b.dx == 0 && b.dy == 0)
+}
+
+pub(crate) fn same(first: &[Offset], second: &[Offset]) -> bool
+    ensures { IsTrue result ↔ (first.now ≡ second.now) }
+{
+    if first.len() != second.len() {
+        return false;
+    }
+    'offsets: for i in 0..first.len() {
+        if !is_same(first[i], second[i]) {
+            return false;
+        }
+    }
+    true
+}
+
+fn has(offsets: &[Offset], a: Offset) -> bool
+    ensures { result ≡ list_any (same_offset a) offsets.now }
+{
+    offsets.iter().any(|b| is_same(a, *b))
+}
+
+pub(crate) fn overlap(first: &[Offset], second: &[Offset]) -> bool
+    ensures { result ≡ overlaps first.now second.now }
+{
+    first.iter().any(|a| has(second, *a))
+}
+
+/// A distance in the direction that counts, or 0.
+fn distance(along: i32) -> u32
+    ensures { result ≡ steps along }
+{
+    if along > 0 { along as u32 } else { 0 }
+}
+
+/// The reach that goes as far as the offset too.
+fn grow(reach: Reach, b: Offset) -> Reach
+    ensures { result ≡ grown reach b }
+{
+    let dx = i32::from(b.dx);
+    let dy = i32::from(b.dy);
+    Reach {
+        left: reach.left.max(distance(-dx)),
+        right: reach.right.max(distance(dx)),
+        up: reach.up.max(distance(-dy)),
+        down: reach.down.max(distance(dy)),
+    }
+}
+
+pub(crate) fn reach(offsets: &[Offset]) -> Reach
+    ensures value { result ≡ reach_of offsets.now }
+    ensures within { WithinReach result offsets.now }
+{
+    let mut reach = Reach {
+        left: 0,
+        right: 0,
+        up: 0,
+        down: 0,
+    };
+    'offsets: for b in offsets {
+        reach = grow(reach, *b);
+    }
+    reach
+}
+
+/// The box of one offset.
+fn box_of(b: Offset) -> OffsetBox
+    ensures inside { InBox result b }
+    ensures least { (box : OffsetBox) → InBox box b → LiesIn result box }
+{
+    let dx = i32::from(b.dx);
+    let dy = i32::from(b.dy);
+    OffsetBox {
+        x0: dx,
+        x1: dx,
+        y0: dy,
+        y1: dy,
+    }
+}
+
+/// The least box that has what a box has, and the offset too.
+fn stretch(bounds: OffsetBox, b: Offset) -> OffsetBox
+    ensures inside { InBox result b }
+    ensures outer { LiesIn bounds result }
+    ensures least { (box : OffsetBox) → LiesIn bounds box → InBox box b → LiesIn result box }
+{
+    let dx = i32::from(b.dx);
+    let dy = i32::from(b.dy);
+    OffsetBox {
+        x0: bounds.x0.min(dx),
+        x1: bounds.x1.max(dx),
+        y0: bounds.y0.min(dy),
+        y1: bounds.y1.max(dy),
+    }
+}
+
+/// The least box that has all offsets.
+fn bounds(offsets: &[Offset]) -> OffsetBox
+    requires { 0 < length offsets.now }
+    ensures inside { AllByRecursion (λ b. InBox result b) offsets.now }
+    ensures least { (box : OffsetBox) → AllByRecursion (λ b. InBox box b) offsets.now → LiesIn result box }
+{
+    let mut bounds = box_of(offsets[0]);
+    'offsets: for b in offsets {
+        bounds = stretch(bounds, *b);
+    }
+    bounds
+}
+
+/// How many numbers a range has, both ends included.
+fn count_between(low: i32, high: i32) -> usize
+    requires near { (neg_ℤ (pos 254)) ≤ℤ low }
+    requires ordered { low ≤ℤ high }
+    requires far { high ≤ℤ pos 254 }
+    ensures value { low +ℤ pos result ≡ high +ℤ pos 1 }
+    ensures small { result ≤ 509 }
+{
+    (high - low + 1) as usize
+}
+
+/// The box whose offsets these exactly are: the least one, where it has as many.
+pub(crate) fn as_box(offsets: &[Offset]) -> Option<OffsetBox>
+    requires some { 0 < length offsets.now }
+    requires near { AllByRecursion IsNear offsets.now }
+    requires distinct { IsDistinct same_offset offsets.now }
+    ensures some { IfSome result (λ box. FillsBox box offsets.now) }
+    ensures none { IfNone result ((box : OffsetBox) → FillsBox box offsets.now → ⊥) }
+{
+    let bounds = bounds(offsets);
+    let columns = count_between(bounds.x0, bounds.x1);
+    let rows = count_between(bounds.y0, bounds.y1);
+    if rows * columns == offsets.len() {
+        Some(bounds)
+    } else {
+        None
+    }
+}

@@ -1,0 +1,5 @@
+pub mod Front
+mod Splits
+mod Fields
+mod LineLaws
+mod SaidLines

@@ -1,0 +1,33 @@
+-- A block of a row, merged with the samples further on.
+use Rattle.std.proofs.Common.{◌≡◌, ℕ, ◌+◌, ◌-◌, ◌<◌, ◌≤◌, List, ◌++◌, length, take, drop, get_or, ap, arith, ◌∙◌, length-take, length-drop}
+use Rattle.std.proofs.lemmas.List.{get_or_append_left, get_or-append_right, get_or-take, get_or-drop}
+use Rattle.std.proofs.lemmas.Simd.{get_or-zip2, length-zip2}
+use borrow.Rule.Slice.PartMut.{put_mid, post_of}
+use lib.Lanes.{zip2}
+
+pub put_mid_at : {A : Type 0} (a k : ℕ) (xs ys : List A) (i : ℕ) (d : A) → a ≤ length xs → a ≤ i → i < a + length ys → get_or (put_mid a k xs ys) i d ≡ get_or ys (i - a) d
+put_mid_at a k xs ys i d le from to = get_or-append_right (take a xs) (ys ++ post_of a k xs) a i d (omega (arith, length-take a xs)) from ∙ get_or_append_left ys (post_of a k xs) d (i - a) (omega arith)
+
+pub put_mid_below : {A : Type 0} (a k : ℕ) (xs ys : List A) (i : ℕ) (d : A) → a ≤ length xs → i < a → get_or (put_mid a k xs ys) i d ≡ get_or xs i d
+put_mid_below a k xs ys i d le lt = get_or_append_left (take a xs) (ys ++ post_of a k xs) d i (omega (arith, length-take a xs)) ∙ get_or-take a xs i d lt
+
+part_at : {A : Type 0} (a m i : ℕ) (xs : List A) (d : A) → i < m → get_or (take m (drop a xs)) i d ≡ get_or xs (a + i) d
+part_at a m i xs d lt = get_or-take m (drop a xs) i d lt ∙ get_or-drop a xs i d
+
+pub merged_ahead : {A : Type 0} (f : A → A → A) (row ahead made : List A) (at shift m k p : ℕ) (d : A) → at + shift + 64 ≤ length row → m ≡ 64 → k ≡ 64
+    → ahead ≡ take k (drop (at + shift) row) → made ≡ zip2 f (take m (drop at row)) ahead → at ≤ p → p < at + 64
+    → get_or (put_mid at m row made) p d ≡ f (get_or row p d) (get_or row (p + shift) d)
+merged_ahead f row ahead made at shift m k p d room m-is k-is ahead-is made-is from to =
+    let here = take m (drop at row) in
+    let there = take k (drop (at + shift) row) in
+    let here_len : length here ≡ 64 = omega (arith, length-take m (drop at row), length-drop at row) in
+    let there_len : length there ≡ 64 = omega (arith, length-take k (drop (at + shift) row), length-drop (at + shift) row) in
+    let whole : made ≡ zip2 f here there = made-is ∙ ap (zip2 f here) ahead-is in
+    let len : length made ≡ 64 = ap length whole ∙ length-zip2 f here there (omega arith) ∙ here_len in
+    let near : at + (p - at) ≡ p = omega arith in
+    let far : at + shift + (p - at) ≡ p + shift = omega arith in
+    put_mid_at at m row made p d (omega arith) from (omega arith)
+    ∙ ap (λ (t : List _). get_or t (p - at) d) whole
+    ∙ get_or-zip2 f here there (p - at) d d d (omega arith) (omega arith)
+    ∙ ap (λ (t : _). f t (get_or there (p - at) d)) (part_at at m (p - at) row d (omega arith) ∙ ap (λ (t : ℕ). get_or row t d) near)
+    ∙ ap (λ (t : _). f (get_or row p d) t) (part_at (at + shift) k (p - at) row d (omega arith) ∙ ap (λ (t : ℕ). get_or row t d) far)

@@ -1,0 +1,50 @@
+//! Rows of 16-bit samples.
+ghost use Rattle.std.specs.Prelude.{◌≡◌, ℕ, ◌-◌, length};
+ghost use lib.Lanes.{zip2};
+
+use super::Lanes;
+use std::simd::Simd;
+use std::simd::prelude::*;
+
+/// The first sample of each pair less the second, stopping at 0.
+#[inline(always)]
+fn differences(a: &[u16], b: &[u16]) -> Simd<u16, 64>
+    requires first { length a.now ≡ 64 }
+    requires second { length b.now ≡ 64 }
+    ensures { result ≡ zip2 (λ (x y : ℕ). x - y) a.now b.now }
+{
+    let first = Simd::<u16, 64>::from_slice(a);
+    let second = Simd::<u16, 64>::from_slice(b);
+    first.simd_max(second) - second
+}
+
+impl Lanes for u16 {
+    ghost use Rattle.std.specs.Prelude.{◌-◌};
+    ghost use Rattle.std.proofs.Common.{refl};
+
+    ghost difference = { λ a b. a - b };
+
+    ghost level_of_difference = { λ a b. refl };
+
+    #[inline(always)]
+    fn subtract(a: u16, b: u16) -> u16 {
+        a.saturating_sub(b)
+    }
+
+    #[inline(always)]
+    fn is_same(a: u16, b: u16) -> bool {
+        a == b
+    }
+
+    #[inline(always)]
+    fn subtract_block(acc: &mut [u16], other: &[u16]) {
+        differences(acc, other).copy_to_slice(acc);
+    }
+
+    #[inline(always)]
+    fn equal_block(a: &[u16], b: &[u16]) -> bool {
+        let first = Simd::<u16, 64>::from_slice(a);
+        let second = Simd::<u16, 64>::from_slice(b);
+        first.simd_ne(second).to_bitmask() == 0
+    }
+}

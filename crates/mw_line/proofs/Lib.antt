@@ -1,0 +1,10 @@
+pub mod Folds
+pub mod Padded
+pub mod Joined
+pub mod Over
+pub mod Seen
+pub mod Rows
+pub mod Boxes
+pub mod Spans
+pub mod Tiles
+pub mod Levels

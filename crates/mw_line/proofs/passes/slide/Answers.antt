@@ -1,0 +1,37 @@
+use Rattle.std.proofs.Common.{◌≡◌, ◌+◌, ◌-◌, ◌*◌, ◌≤◌, ◌<◌, length-take, length-drop, take, drop, length, arith, ◌∙◌, inl, inr}
+use Rattle.std.proofs.lemmas.Bool.{cases_lt}
+use Rattle.std.proofs.lemmas.List.{take_rest}
+use Rattle.mw_lane.proofs.Blocks.{put_mid_below, put_mid_at}
+use Rattle.mw_line.proofs.Folds.{IsExtremum, window_done, length-put_mid}
+use borrow.Rule.Slice.PartMut.{put_mid}
+use Rattle.mw_line.proofs.passes.slide.Goals as goal
+use Rattle.mw_line.proofs.passes.slide.Goals.{then-k-room, else-k-room}
+
+pub chunks-preserved : goal.chunks-preserved
+chunks-preserved g c =
+    let f = g.C.Counted.merge in
+    let n = c.args.neutral in
+    let padded = c.args.padded.now in
+    let at = c.chunks.at in
+    let k = c.args.k in
+    let m = c.if-k-room.m in
+    let laws : IsExtremum f = record { commutes = g.met.C.Counted.commutes; associates = g.met.C.Counted.associates; is_idempotent = g.met.C.Counted.is_idempotent } in
+    let short : m ≤ k = elim c.if-k-room.branch [ then-k-room w ↦ omega arith | else-k-room w ↦ omega arith ] in
+    let fits : at + m ≤ length c.chunks.out = elim c.if-k-room.branch [ then-k-room w ↦ omega arith | else-k-room w ↦ omega arith ] in
+    let full : at + m < length c.chunks.out → m ≡ k = elim c.if-k-room.branch [ then-k-room w ↦ λ h. omega arith | else-k-room w ↦ λ h. omega arith ] in
+    let counted_back = c.backward.ensures.counted in
+    let counted_on = c.forward.ensures.counted in
+    let going = c.chunks.invariant.going c.chunks-test.true in
+    let written : length c.forward.new.out ≡ m = omega (arith, c.forward.auto.out, length-take (at + m - at) (drop at c.chunks.out), length-drop at c.chunks.out) in
+    let same : length (put_mid at (at + m - at) c.chunks.out c.forward.new.out) ≡ length c.chunks.out = length-put_mid at (at + m - at) c.chunks.out c.forward.new.out (omega arith) (omega arith) in
+    let steps : g.C.Counted.count c.forward.new.counter ≤ g.C.Counted.count c.args.counter.now + (3 * at + (k + 2 * m)) = omega (arith, counted_back, counted_on, going, length-take (at + k - at) (drop at padded), length-drop at padded, length-take (at + m - at) (drop at c.chunks.out), length-drop at c.chunks.out) in
+    record {
+      within = omega arith;
+      going = λ lt. let whole = full (omega arith) in omega arith;
+      cost = omega arith;
+      done = λ i lt. elim (cases_lt i at) [
+        | inl before ↦ put_mid_below at (at + m - at) c.chunks.out c.forward.new.out i n (omega arith) before ∙ c.chunks.invariant.done i before
+        | inr from ↦ put_mid_at at (at + m - at) c.chunks.out c.forward.new.out i n (omega arith) from (omega arith)
+            ∙ window_done f laws n padded (take (length padded - (at + k)) (drop (at + k) padded)) c.backward.new.tail c.forward.new.out at k (at + k - at) m i (omega arith) (take_rest padded (at + k)) short (omega arith) c.backward.ensures.value (λ r less. c.forward.ensures.value r (omega (arith, length-take (at + m - at) (drop at c.chunks.out), length-drop at c.chunks.out))) from lt
+      ];
+    }

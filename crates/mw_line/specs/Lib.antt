@@ -1,0 +1,3 @@
+pub mod Line
+pub mod Sides
+pub mod Extrema

@@ -1,0 +1,34 @@
+//! Sliding extrema: along a line, with a count of its combines, and over rectangles on a window.
+//!
+//! Both give the extremum of the neutral sample and the samples that exist, for every length, origin and direction. Lines
+//! go by forward and backward passes over blocks (van Herk 1992, Gil and Werman 1993), in at most 3n + 4k combines;
+//! rectangles go by doubling with shifted rows, which vector code does faster.
+//!
+//! ```text
+//! line::<u8, Min>(alloc, &row, -7, 7, maxval, &mut out, &mut steps)?;   // out[i] = min of row[i - 7 ..= i + 7]
+//! let eroded = rectangle::<u8, Min>(alloc, &window, offsets, maxval, tile)?;
+//! let dilated = rectangle::<u8, Max>(alloc, &window, offsets, 0, tile)?;
+//! ```
+#![tactic(auto)]
+
+mod doubling;
+mod laws;
+mod padding;
+mod passes;
+mod rectangles;
+mod sides;
+mod sliding;
+mod steps;
+mod window_rows;
+
+pub use doubling::slide_by;
+pub use laws::{sliding_maximum_is_dilation, sliding_minimum_is_erosion};
+pub use mw_model::NoMemory;
+pub use padding::filled;
+pub use rectangles::rectangle;
+pub use sliding::line;
+pub use steps::Steps;
+pub use window_rows::combine_window_row;
+
+#[cfg(test)]
+mod tests;

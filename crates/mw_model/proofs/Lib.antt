@@ -1,0 +1,15 @@
+pub mod ImagePlaces
+pub mod Covers
+pub mod ImageOrder
+pub mod Extrema
+pub mod Iterated
+pub mod SkeletonLaws
+pub mod ImageLaws
+pub mod Positions
+pub mod Spellings
+pub mod RisingOrder
+pub mod CurveLaws
+pub mod PlainLoops
+pub mod PlainRanks
+pub mod PlainIterates
+pub mod PlainCurves

@@ -1,0 +1,125 @@
+-- A sample is found by counting those below it.
+use Rattle.std.proofs.Common.{◌≡◌, ℕ, zero, suc, ◌+◌, ◌-◌, ◌<◌, ◌≤◌, List, [], ◌∷◌, length, get_or, min, max, pos, ◌+ℤ◌, Some, None, refl, ap, sym, subst, arith, ◌∙◌, inl, inr, cond, Bool, length-append}
+use Rattle.std.specs.Prelude.{nat_lt, nat_le, count_by}
+use Rattle.std.specs.List.{Contains}
+use Rattle.std.proofs.lemmas.Bool.{cases_lt, cases_order, lt-ltb, le-ltb, le-leb, lt-leb}
+use Rattle.std.proofs.lemmas.List.Elements.{Contains-append_cases}
+use Rattle.std.proofs.lemmas.List.Sums.{sum_by-cons}
+use Rattle.mw_model.specs.declared.places.Offset.{Offset}
+use Rattle.mw_model.specs.Pictures.{Picture, sample_at, IsPicture}
+use Rattle.mw_model.specs.Flat.{under, rank, in_rising_order}
+use Rattle.mw_model.proofs.ImagePlaces.{sample-redrawn, sample_bounded}
+use Rattle.mw_model.proofs.ImageLaws.{rank_picture}
+use Rattle.mw_model.proofs.RisingOrder.{chosen_among, few_below, enough_up_to}
+use Rattle.mw_model.proofs.PlainLoops.{under_first, one_offset_more, all_samples, first_within}
+
+abbrev pub count_under : ℕ → List ℕ → ℕ
+count_under limit ns = count_by (λ s. nat_lt s limit) ns
+
+-- fewer than n numbers are below s, and n or more are not above it
+abbrev pub IsNth : List ℕ → ℕ → ℕ → Type 0
+IsNth found n s = (count_under s found < n) × (n ≤ count_under (s + 1) found)
+
+one_if_lt : (s a b : ℕ) → a ≤ b → cond (nat_lt s a) 1 0 ≤ cond (nat_lt s b) 1 0
+one_if_lt s a b le =
+    elim (cases_lt s a) [
+      | inl low ↦ rw (lt-ltb s a low, lt-ltb s b (omega arith)) (omega arith)
+      | inr high ↦ rw (le-ltb s a high) (omega arith)
+    ]
+
+count_rises : (a b : ℕ) (ns : List ℕ) → a ≤ b → count_under a ns ≤ count_under b ns
+count_rises a b [] le = omega arith
+count_rises a b (n ∷ ns) le =
+    omega (arith, sum_by-cons (λ s. cond (nat_lt s a) 1 0) n ns, sum_by-cons (λ s. cond (nat_lt s b) 1 0) n ns, one_if_lt n a b le, count_rises a b ns le)
+
+le_or_lt : (s r : ℕ) → nat_le s r ≡ nat_lt s (r + 1)
+le_or_lt s r =
+    elim (cases_lt r s) [
+      | inl high ↦ lt-leb s r high ∙ sym (le-ltb s (r + 1) (omega arith))
+      | inr low ↦ le-leb s r low ∙ sym (lt-ltb s (r + 1) (omega arith))
+    ]
+
+count_up_to : (r : ℕ) (ns : List ℕ) → count_by (λ s. nat_le s r) ns ≡ count_under (r + 1) ns
+count_up_to r [] = refl
+count_up_to r (n ∷ ns) =
+    let here : cond (nat_le n r) 1 0 ≡ cond (nat_lt n (r + 1)) 1 0 = ap (λ (t : Bool). one t) (le_or_lt n r) in
+    omega (arith, sum_by-cons (λ s. cond (nat_le s r) 1 0) n ns, sum_by-cons (λ s. cond (nat_lt s (r + 1)) 1 0) n ns, here, count_up_to r ns)
+  where
+    one : Bool → ℕ
+    one t = cond t 1 0
+
+unique : (found : List ℕ) (n r s : ℕ) → IsNth found n r → IsNth found n s → r ≡ s
+unique found n r s (low, high) (low', high') =
+    elim (cases_order r s) [
+      | inl same ↦ same
+      | inr (inl less) ↦ absurd (let rise = count_rises (r + 1) s found (omega arith) in omega arith)
+      | inr (inr more) ↦ absurd (let rise = count_rises (s + 1) r found (omega arith) in omega arith)
+    ]
+
+none_found : (limit : ℕ) (found : List ℕ) → length found ≡ 0 → count_under limit found ≡ 0
+none_found limit [] e = refl
+none_found limit (n ∷ ns) e = absurd (omega arith)
+
+-- number min(k, m) of m numbers in rising order
+abbrev pub nth_of : List ℕ → ℕ → ℕ
+nth_of found k = get_or (in_rising_order found) (min k (length found) - 1) 0
+
+pub nth_is : (found : List ℕ) (k n : ℕ) → n ≡ max 1 (min k (length found)) → 0 < length found → IsNth found n (nth_of found k)
+nth_is found k n is some =
+    let place = min k (length found) - 1 in
+    let within : place < length found = omega arith in
+    (omega (arith, few_below found place within), omega (arith, enough_up_to found place within, count_up_to (nth_of found k) found))
+
+pub nth_from : (found : List ℕ) (k n s : ℕ) → n ≡ max 1 (min k (length found)) → IsNth found n s → s ≡ nth_of found k
+nth_from found k n s is nth =
+    elim (cases_lt 0 (length found)) [
+      | inl some ↦ unique found n s (nth_of found k) nth (nth_is found k n is some)
+      | inr none ↦ absurd (let zero_is = none_found (s + 1) found (omega arith) in omega arith)
+    ]
+
+-- number k has not been met under the first offsets
+abbrev pub NotYet : Picture → List Offset → ℕ → ℕ → ℕ → ℕ → Type 0
+NotYet f bs k i x y = Contains (under_first f bs i x y) (nth_of (under f bs x y) k) → ⊥
+
+pub not_at_first : (f : Picture) (bs : List Offset) (k x y : ℕ) → NotYet f bs k 0 x y
+not_at_first f bs k x y (j, lt, e) = omega arith
+
+pub not_by_none : (f : Picture) (bs : List Offset) (k i x y : ℕ) (d : Offset) → i < length bs → None ≡ sample_at f (pos x +ℤ (get_or bs i d).dx) (pos y +ℤ (get_or bs i d).dy)
+    → NotYet f bs k i x y → NotYet f bs k (i + 1) x y
+not_by_none f bs k i x y d lt is before found =
+    let now = subst (λ (t : List ℕ). Contains t (nth_of (under f bs x y) k)) (one_offset_more f bs i x y d None lt is) found in
+    elim (Contains-append_cases (under_first f bs i x y) [] (nth_of (under f bs x y) k) now) [
+      | inl old ↦ before old
+      | inr (j, less, e) ↦ omega arith
+    ]
+
+pub not_by_other : (f : Picture) (bs : List Offset) (k n i x y s : ℕ) (d : Offset) → i < length bs → Some s ≡ sample_at f (pos x +ℤ (get_or bs i d).dx) (pos y +ℤ (get_or bs i d).dy)
+    → n ≡ max 1 (min k (length (under f bs x y))) → (IsNth (under f bs x y) n s → ⊥) → NotYet f bs k i x y → NotYet f bs k (i + 1) x y
+not_by_other f bs k n i x y s d lt is n-is other before found =
+    let r = nth_of (under f bs x y) k in
+    let whole = one_offset_more f bs i x y d (Some s) lt is in
+    let now = subst (λ (t : List ℕ). Contains t r) whole found in
+    elim (Contains-append_cases (under_first f bs i x y) (s ∷ []) r now) [
+      | inl old ↦ before old
+      | inr here ↦
+          let some : 0 < length (under f bs x y) =
+          omega (arith, ap (λ (t : List ℕ). length t) whole, length-append (under_first f bs i x y) (s ∷ []), first_within f bs (i + 1) x y) in
+          other (subst (IsNth (under f bs x y) n) (sym (only s r here)) (nth_is (under f bs x y) k n n-is some))
+    ]
+  where
+    only : (s r : ℕ) → Contains (s ∷ []) r → s ≡ r
+    only s r (zero, less, e) = e
+    only s r (suc j, less, e) = absurd (omega arith)
+
+-- where number k has not been met under any offset, there is no sample
+pub never : (f : Picture) (bs : List Offset) (k i x y : ℕ) → length bs ≤ i → NotYet f bs k i x y → 0 ≡ nth_of (under f bs x y) k
+never f bs k i x y le not_yet = none (under f bs x y) (λ c. not_yet (subst (λ (t : List ℕ). Contains t (nth_of (under f bs x y) k)) (sym (all_samples f bs i x y le)) c))
+  where
+    none : (found : List ℕ) → (Contains found (nth_of found k) → ⊥) → 0 ≡ nth_of found k
+    none [] not = refl
+    none (n ∷ ns) not = absurd (not (chosen_among (n ∷ ns) (min k (length (n ∷ ns)) - 1) (omega arith)))
+
+-- no sample of a rank filter is above the maxval
+pub nth_bounded : (f : Picture) (bs : List Offset) (k : ℕ) → IsPicture f → (x y : ℕ) → x < f.width → y < f.height → nth_of (under f bs x y) k ≤ f.maxval
+nth_bounded f bs k picture x y p q =
+    omega (arith, sample_bounded (rank bs k f) (rank_picture bs k f picture) x y p q, sample-redrawn f (λ x y. nth_of (under f bs x y) k) x y p q)

@@ -1,0 +1,27 @@
+-- What the laws say.
+use Rattle.std.specs.Prelude.{◌≡◌, ℕ, ◌<◌, ◌≤◌, List, All, Contains, pos}
+use Rattle.mw_model.specs.declared.places.Offset.{Offset}
+use Rattle.mw_model.specs.Pictures.{Picture, sample}
+
+-- no sample of f is above that of g in its place
+abbrev pub Below : Picture → Picture → Type 0
+Below f g = (x y : ℕ) → x < f.width → y < f.height → sample f x y ≤ sample g x y
+
+-- the two images have one kind, size and maxval
+pub record SameShape (f g : Picture) : Type 0 where
+  pub kind : f.kind ≡ g.kind
+  pub width : f.width ≡ g.width
+  pub height : f.height ≡ g.height
+  pub maxval : f.maxval ≡ g.maxval
+
+-- the number is above no number of the list
+abbrev pub BelowAll : ℕ → List ℕ → Type 0
+BelowAll n ns = All (λ m. n ≤ m) ns
+
+-- the number is below no number of the list
+abbrev pub AboveAll : ℕ → List ℕ → Type 0
+AboveAll n ns = All (λ m. m ≤ n) ns
+
+-- the element holds its origin
+abbrev pub HoldsOrigin : List Offset → Type 0
+HoldsOrigin element = Contains element (record { dx = pos 0; dy = pos 0 })

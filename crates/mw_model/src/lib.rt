@@ -1,0 +1,30 @@
+//! What morphd means: the words that contracts share, and in `specs/` the definitions that every crate above is
+//! proved against. Read `specs/Lib.antt` from top to bottom.
+#![tactic(auto)]
+
+mod calls;
+mod codes;
+mod formats;
+mod memory;
+mod names;
+mod operations;
+mod places;
+pub mod plain;
+mod receipts;
+mod requests;
+mod shapes;
+mod submissions;
+mod tasks;
+
+pub use calls::{Call, Given, LogItem, Outcome, Reply};
+pub use codes::Code;
+pub use formats::{Format, Header};
+pub use memory::NoMemory;
+pub use names::Name;
+pub use operations::{FlatOp, GranOp, Op};
+pub use places::{Offset, OffsetBox, Reach, Rect};
+pub use receipts::Receipt;
+pub use requests::{Ask, Awaited, End, Head, Next, Request};
+pub use shapes::{Kind, Shape};
+pub use submissions::{Command, Inputs, Submission};
+pub use tasks::TaskId;

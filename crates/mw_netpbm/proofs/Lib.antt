@@ -1,0 +1,15 @@
+pub mod Rows
+pub mod PlainLoop
+pub mod Faults
+pub mod Sides
+pub mod Whole
+pub mod Blanks
+pub mod Headers
+pub mod Rasters
+pub mod Files
+pub mod Written
+pub mod Refused
+pub mod Packing
+pub mod Exclusive
+pub mod Bitmaps
+pub mod Made

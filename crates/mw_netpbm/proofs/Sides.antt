@@ -1,0 +1,158 @@
+-- What is read has as many samples as was asked for, none over the maxval.
+use Rattle.std.proofs.Common.{◌≡◌, ℕ, zero, suc, ◌+◌, ◌-◌, ◌*◌, ◌/◌, ◌%◌, ◌≤◌, Bool, true, false, cond, ltb, List, [], ◌∷◌, ◌++◌, length, take, drop, Result, Ok, Err, min, max, fold, refl, sym, ap, subst, ◌∙◌, arith, length-append, length-drop}
+use Rattle.std.specs.List.{AllByRecursion}
+use Rattle.std.proofs.lemmas.Bool.{ltb-false}
+use Rattle.std.proofs.lemmas.List.{length-take, take_all}
+use Rattle.mw_netpbm.specs.declared.fault.ReadFault.{ReadFault}
+use Rattle.mw_netpbm.specs.declared.fault.ReadFault.TheVariants.{Short, Sample, Trailing}
+use Rattle.mw_netpbm.specs.Reading.{◌>>=◌}
+use Rattle.mw_model.specs.NetpbmGrammar.{is_white}
+use Rattle.mw_model.specs.NetpbmGrammar.{bits_of}
+use Rattle.mw_netpbm.specs.Rasters.{grey8_at, grey16_at, words_of, row_bits, rows_bits, bits_at}
+use Rattle.mw_netpbm.specs.Plain.{plain_at, tail_at}
+
+-- the value of a step that did not fail
+pub bind_ok : {A B : Type 0} (r : Result A ReadFault) (f : A → Result B ReadFault) (y : B) → (r >>= f) ≡ Ok y → (x : A) × (r ≡ Ok x) × (f x ≡ Ok y)
+bind_ok (Ok x) f y e = (x, refl, e)
+bind_ok (Err d) f y e = absurd cc
+
+-- a test that did not fail
+pub guard_ok : {A : Type 0} (b : Bool) (d : ReadFault) (r : Result A ReadFault) (y : A) → cond b (Err d) r ≡ Ok y → (b ≡ false) × (r ≡ Ok y)
+guard_ok true d r y e = absurd cc
+guard_ok false d r y e = (refl, e)
+
+abbrev done : {A : Type 0} → A → Result A ReadFault
+done x = Ok x
+
+pub ok_is : {A : Type 0} (x y : A) → done x ≡ done y → x ≡ y
+ok_is x y e = cc
+
+abbrev pub Within : ℕ → List ℕ → Type 0
+Within m xs = AllByRecursion (λ s. s ≤ m) xs
+
+pub fold_bound : (xs : List ℕ) (a m : ℕ) → fold max a xs ≤ m → (a ≤ m) × Within m xs
+fold_bound [] a m h = (h, tt)
+fold_bound (x ∷ xs) a m h = let ih = fold_bound xs (max a x) m h in (omega (arith, ih.0), (omega (arith, ih.0), ih.1))
+
+pub grey8_ok : (count m : ℕ) (bytes xs : List ℕ) → grey8_at count m bytes ≡ Ok xs → (bytes ≡ xs) × (length xs ≡ count) × Within m xs
+unfolding grey8_at
+grey8_ok count m bytes xs e =
+    let a = guard_ok (ltb (length bytes) count) Short (cond (ltb m (fold max 0 (take count bytes))) (Err Sample) (cond (ltb count (length bytes)) (Err Trailing) (Ok (take count bytes)))) xs e in
+    let b = guard_ok (ltb m (fold max 0 (take count bytes))) Sample (cond (ltb count (length bytes)) (Err Trailing) (Ok (take count bytes))) xs a.1 in
+    let c = guard_ok (ltb count (length bytes)) Trailing (Ok (take count bytes)) xs b.1 in
+    let same = ok_is (take count bytes) xs c.1 in
+    let l1 : count ≤ length bytes = ltb-false _ _ a.0 in
+    let l2 : length bytes ≤ count = ltb-false _ _ c.0 in
+    let low : fold max 0 (take count bytes) ≤ m = ltb-false _ _ b.0 in
+    let all : take count bytes ≡ bytes = take_all count bytes l2 in
+    (sym all ∙ same, omega (arith, ap length same, length-take count bytes), subst (λ ys. Within m ys) same (fold_bound (take count bytes) 0 m low).1)
+
+pub words_length : (n : ℕ) (bytes : List ℕ) → length bytes ≡ n + n → length (words_of bytes) ≡ n
+unfolding words_of
+words_length zero [] e = refl
+words_length zero (b ∷ bs) e = absurd (omega (arith, e))
+words_length (suc n) [] e = absurd (omega (arith, e))
+words_length (suc n) (b ∷ []) e = absurd (omega (arith, e))
+words_length (suc n) (a ∷ b ∷ bs) e = ap suc (words_length n bs (omega (arith, e)))
+
+Within-append : (m : ℕ) (xs ys : List ℕ) → Within m xs → Within m ys → Within m (xs ++ ys)
+Within-append m [] ys p q = q
+Within-append m (x ∷ xs) ys p q = (p.0, Within-append m xs ys p.1 q)
+
+Within-take : (m n : ℕ) (xs : List ℕ) → Within m xs → Within m (take n xs)
+Within-take m zero xs p = tt
+Within-take m (suc n) [] p = tt
+Within-take m (suc n) (x ∷ xs) p = (p.0, Within-take m n xs p.1)
+
+bit_within : (n : ℕ) → n % 2 ≤ 1
+bit_within n = omega arith
+
+bits_within : (b : ℕ) → Within 1 (bits_of b)
+unfolding bits_of
+bits_within b = (bit_within (b / 128), (bit_within (b / 64), (bit_within (b / 32), (bit_within (b / 16), (bit_within (b / 8), (bit_within (b / 4), (bit_within (b / 2), (bit_within b, tt))))))))
+
+row_within : (left : ℕ) (bytes : List ℕ) → Within 1 (row_bits left bytes)
+unfolding row_bits
+row_within left [] = tt
+row_within left (b ∷ bs) = Within-append 1 (take (min left 8) (bits_of b)) (row_bits (left - 8) bs) (Within-take 1 (min left 8) (bits_of b) (bits_within b)) (row_within (left - 8) bs)
+
+bits_length : (b : ℕ) → length (bits_of b) ≡ 8
+unfolding bits_of
+bits_length b = refl
+
+pub row_length : (left : ℕ) (bytes : List ℕ) → left ≤ 8 * length bytes → length (row_bits left bytes) ≡ left
+unfolding row_bits
+row_length left [] h = omega (arith, h)
+row_length left (b ∷ bs) h =
+    let ih = row_length (left - 8) bs (omega (arith, h)) in
+    omega (arith, ih, length-append (take (min left 8) (bits_of b)) (row_bits (left - 8) bs), length-take (min left 8) (bits_of b), bits_length b)
+
+pub rows_within : (width height : ℕ) (bytes : List ℕ) → Within 1 (rows_bits width height bytes)
+unfolding rows_bits
+rows_within width zero bytes = tt
+rows_within width (suc height) bytes = Within-append 1 (row_bits width (take ((width + 7) / 8) bytes)) (rows_bits width height (drop ((width + 7) / 8) bytes)) (row_within width (take ((width + 7) / 8) bytes)) (rows_within width height (drop ((width + 7) / 8) bytes))
+
+pub rows_length : (width height : ℕ) (bytes : List ℕ) → height * ((width + 7) / 8) ≤ length bytes → length (rows_bits width height bytes) ≡ height * width
+unfolding rows_bits
+rows_length width zero bytes h = omega arith
+rows_length width (suc height) bytes h =
+    let stride = (width + 7) / 8 in
+    let front : length (take stride bytes) ≡ stride = omega (arith, length-take stride bytes, h) in
+    let row = row_length width (take stride bytes) (omega (arith, front)) in
+    let ih = rows_length width height (drop stride bytes) (omega (arith, length-drop stride bytes, h)) in
+    omega (arith, row, ih, length-append (row_bits width (take stride bytes)) (rows_bits width height (drop stride bytes)))
+
+pub grey16_ok : (count m : ℕ) (bytes xs : List ℕ) → grey16_at count m bytes ≡ Ok xs → (length bytes ≡ 2 * count) × (words_of bytes ≡ xs) × (length xs ≡ count) × Within m xs
+unfolding grey16_at
+grey16_ok count m bytes xs e =
+    let n : ℕ = 2 * count in
+    let a = guard_ok (ltb (length bytes) n) Short (cond (ltb m (fold max 0 (words_of (take n bytes)))) (Err Sample) (cond (ltb n (length bytes)) (Err Trailing) (Ok (words_of (take n bytes))))) xs e in
+    let b = guard_ok (ltb m (fold max 0 (words_of (take n bytes)))) Sample (cond (ltb n (length bytes)) (Err Trailing) (Ok (words_of (take n bytes)))) xs a.1 in
+    let c = guard_ok (ltb n (length bytes)) Trailing (Ok (words_of (take n bytes))) xs b.1 in
+    let same = ok_is (words_of (take n bytes)) xs c.1 in
+    let l1 : n ≤ length bytes = ltb-false _ _ a.0 in
+    let l2 : length bytes ≤ n = ltb-false _ _ c.0 in
+    let low : fold max 0 (words_of (take n bytes)) ≤ m = ltb-false _ _ b.0 in
+    let all : words_of (take n bytes) ≡ words_of bytes = ap words_of (take_all n bytes l2) in
+    let long : length bytes ≡ count + count = omega arith in
+    let whole : words_of bytes ≡ xs = sym all ∙ same in
+    (omega arith, whole, ap length (sym whole) ∙ words_length count bytes long, subst (λ ys. Within m ys) same (fold_bound (words_of (take n bytes)) 0 m low).1)
+
+pub bits_ok : (width height : ℕ) (bytes xs : List ℕ) → bits_at width height bytes ≡ Ok xs → (length bytes ≡ height * ((width + 7) / 8)) × (rows_bits width height bytes ≡ xs) × (length xs ≡ height * width) × Within 1 xs
+unfolding bits_at
+bits_ok width height bytes xs e =
+    let n : ℕ = height * ((width + 7) / 8) in
+    let a = guard_ok (ltb (length bytes) n) Short (cond (ltb n (length bytes)) (Err Trailing) (Ok (rows_bits width height bytes))) xs e in
+    let c = guard_ok (ltb n (length bytes)) Trailing (Ok (rows_bits width height bytes)) xs a.1 in
+    let same = ok_is (rows_bits width height bytes) xs c.1 in
+    let l1 : n ≤ length bytes = ltb-false _ _ a.0 in
+    let l2 : length bytes ≤ n = ltb-false _ _ c.0 in
+    (omega arith, same, ap length (sym same) ∙ rows_length width height bytes l1, subst (λ ys. Within 1 ys) same (rows_within width height bytes))
+
+-- ---- plain
+
+tail_ends : (w : Bool) (xs : List ℕ) → cond w (Ok []) (Err Trailing) ≡ Ok xs → [] ≡ xs
+tail_ends true xs e = ok_is [] xs e
+tail_ends false xs e = absurd cc
+
+pub tail_nil : (bytes xs : List ℕ) → tail_at bytes ≡ Ok xs → [] ≡ xs
+unfolding tail_at
+tail_nil [] xs e = ok_is [] xs e
+tail_nil (b ∷ bs) xs e = tail_ends (is_white b) xs e
+
+pub plain_length : (place : ℕ → List ℕ → Result (ℕ × List ℕ) ReadFault) (n : ℕ) (bytes xs : List ℕ) → plain_at place n bytes ≡ Ok xs → length xs ≡ n
+unfolding plain_at
+plain_length place zero bytes xs e = ap length (sym (tail_nil bytes xs e))
+plain_length place (suc n) bytes xs e =
+    let a = bind_ok (place n bytes) (λ first. plain_at place n first.1 >>= λ others. Ok (first.0 ∷ others)) xs e in
+    let b = bind_ok (plain_at place n a.0.1) (λ others. Ok (a.0.0 ∷ others)) xs a.2 in
+    ap length (sym (ok_is (a.0.0 ∷ b.0) xs b.2)) ∙ ap suc (plain_length place n a.0.1 b.0 b.1)
+
+pub plain_within : (place : ℕ → List ℕ → Result (ℕ × List ℕ) ReadFault) (m : ℕ) → ((left : ℕ) (bytes : List ℕ) (x : ℕ × List ℕ) → place left bytes ≡ Ok x → x.0 ≤ m)
+    → (n : ℕ) (bytes xs : List ℕ) → plain_at place n bytes ≡ Ok xs → Within m xs
+unfolding plain_at
+plain_within place m each zero bytes xs e = subst (λ ys. Within m ys) (tail_nil bytes xs e) tt
+plain_within place m each (suc n) bytes xs e =
+    let a = bind_ok (place n bytes) (λ first. plain_at place n first.1 >>= λ others. Ok (first.0 ∷ others)) xs e in
+    let b = bind_ok (plain_at place n a.0.1) (λ others. Ok (a.0.0 ∷ others)) xs a.2 in
+    subst (λ ys. Within m ys) (ok_is (a.0.0 ∷ b.0) xs b.2) (each n bytes a.0 a.1, plain_within place m each n a.0.1 b.0 b.1)

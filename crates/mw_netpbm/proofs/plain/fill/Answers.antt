@@ -1,0 +1,13 @@
+use Rattle.std.proofs.Common.{◌-◌, map, sym, ◌∙◌, ap}
+use Rattle.mw_netpbm.specs.Places.{place_at}
+use Rattle.mw_netpbm.specs.Plain.{plain_at}
+use Rattle.mw_netpbm.proofs.PlainLoop.{with_front, one_filled}
+use Rattle.mw_netpbm.proofs.plain.fill.Goals as goal
+
+pub places-preserved : goal.places-preserved
+places-preserved g c =
+    let level = g.P.Pixel.level in
+    let place = place_at c.args.places in
+    let total = plain_at place c.args.count c.args.bytes.now in
+    let pushed = one_filled level place c.places.left c.places.rest.now c.in-Ok.after.now c.places.out.items c.in-Some.p c.in-Ok.s total c.places-test.true (sym c.in-Ok.ensures.value) c.in-Some.ensures.level c.places.invariant in
+    ap (λ xs. with_front (map level xs) (plain_at place (c.places.left - 1) c.in-Ok.after.now)) c.in_ok-push.ensures.items ∙ pushed

@@ -1,0 +1,9 @@
+use Rattle.std.proofs.Common.{◌≡◌, ◌≤◌, ◌++◌, ◌-◌, ◌*◌, length}
+use Rattle.mw_model.specs.NetpbmWriting.{packed_rows}
+use Rattle.mw_netpbm.proofs.writer.push_rows.Given as goal
+
+abbrev pub invariant-rows : goal.invariant-rows
+invariant-rows l = record {
+  made : l.out.items ++ packed_rows l.width (l.height - l.y) l.rest ≡ l.fn.out.items ++ packed_rows l.width l.height l.fn.samples;
+  long : (l.height - l.y) * l.width ≤ length l.rest;
+}

@@ -1,0 +1,153 @@
+//! Plain rasters.
+
+ghost use Rattle.std.specs.Prelude.{◌≡◌, ◌≤◌, ◌==◌, if◌then◌else◌, IfOk, Ok, None, map};
+ghost use Rattle.mw_netpbm.specs.Reading.{seen, Gives, fault_of};
+ghost use Rattle.mw_netpbm.specs.Places.{ones_of, place_at, top_of};
+ghost use Rattle.mw_netpbm.specs.Plain.{tail_at, plain_at, bit_at, pixel_at, apart, level_at, sample_at};
+
+use crate::fault::ReadFault;
+use crate::words::{is_white, number, skip};
+use mw_pixel::Pixel;
+use std::alloc::{AllocError, Global};
+
+#[tactic(auto, unfolding(crate::specs::Plain::tail_at))]
+fn tail(bytes: &[u8]) -> Result<(), ReadFault>
+    ensures { fault_of result ≡ fault_of (tail_at bytes.now) }
+{
+    match bytes {
+        [] => Ok(()),
+        [b, ..] if is_white(*b) => Ok(()),
+        _ => Err(ReadFault::Trailing),
+    }
+}
+
+#[tactic(auto, unfolding(crate::specs::Plain::bit_at, crate::specs::Plain::pixel_at))]
+fn pixel(left: usize, bytes: &[u8]) -> Result<(u16, &[u8]), ReadFault>
+    ensures value { seen (λ x. (x.0, x.1.now)) result ≡ pixel_at left bytes.now }
+    ensures small { IfOk result (λ x. x.0 ≤ 1) }
+{
+    match skip(bytes) {
+        [] => Err(ReadFault::Short),
+        [b @ (b'0' | b'1'), after @ ..] => Ok((u16::from(*b - b'0'), after)),
+        _ => Err(ReadFault::Sample),
+    }
+}
+
+#[tactic(auto, unfolding(crate::specs::Plain::level_at, crate::specs::Plain::apart, crate::specs::Plain::sample_at, crate::specs::Reading::number_at))]
+fn sample(maxval: u16, left: usize, bytes: &[u8]) -> Result<(u16, &[u8]), ReadFault>
+    ensures value { seen (λ x. (x.0, x.1.now)) result ≡ sample_at maxval left bytes.now }
+    ensures small { IfOk result (λ x. x.0 ≤ maxval) }
+{
+    let bytes = skip(bytes);
+    if bytes.is_empty() {
+        return Err(ReadFault::Short);
+    }
+    match number(bytes) {
+        Err(_) => Err(ReadFault::Sample),
+        Ok((n, after)) => {
+            if n > u64::from(maxval) {
+                return Err(ReadFault::Sample);
+            }
+            if left == 0 {
+                return Ok((n as u16, after));
+            }
+            match after {
+                [] => Ok((n as u16, after)),
+                [b, ..] if is_white(*b) => Ok((n as u16, after)),
+                _ => Err(ReadFault::Sample),
+            }
+        }
+    }
+}
+
+/// What stands at the places of a plain raster.
+#[derive(Clone, Copy)]
+pub(crate) enum Places {
+    /// Pixels, 0 or 1.
+    Pixels,
+    /// Samples up to a maxval.
+    Samples(u16),
+}
+
+fn place(places: Places, left: usize, bytes: &[u8]) -> Result<(u16, &[u8]), ReadFault>
+    ensures value { seen (λ x. (x.0, x.1.now)) result ≡ place_at places left bytes.now }
+    ensures small { IfOk result (λ x. x.0 ≤ top_of places) }
+{
+    match places {
+        Places::Pixels => pixel(left, bytes),
+        Places::Samples(maxval) => sample(maxval, left, bytes),
+    }
+}
+
+/// 1 for a 1, else 0.
+fn one(s: u16) -> u64
+    ensures { result ≡ if s == 1 then 1 else 0 }
+{
+    if s == 1 { 1 } else { 0 }
+}
+
+/// How many places have a 1, or the first fault, without memory.
+pub(crate) fn count_ones(places: Places, count: usize, bytes: &[u8]) -> Result<u64, ReadFault>
+    ensures { seen (λ n. n) result ≡ ones_of (plain_at (place_at places) count bytes.now) }
+{
+    let mut ones = 0;
+    let mut left = count;
+    let mut rest = bytes;
+    'places: while left > 0 {
+        left -= 1;
+        match place(places, left, rest) {
+            Ok((s, after)) => {
+                ones += one(s);
+                rest = after;
+            }
+            Err(fault) => return Err(fault),
+        }
+    }
+    if let Err(fault) = tail(rest) {
+        return Err(fault);
+    }
+    Ok(ones)
+}
+
+#[tactic(auto, using(crate::proofs::PlainLoop::no_fault, crate::proofs::PlainLoop::one_more, crate::proofs::PlainLoop::all_read))]
+fn fill<P: Pixel>(
+    alloc: Global,
+    places: Places,
+    count: usize,
+    bytes: &[u8],
+) -> Result<Vec<P>, AllocError>
+    requires fits { top_of places ≤ P.top_level }
+    requires sound { fault_of (plain_at (place_at places) count bytes.now) ≡ None }
+    ensures { IfOk result (λ v. plain_at (place_at places) count bytes.now ≡ Ok (map P.level v.items)) }
+{
+    let mut out = Vec::with_capacity(alloc, count)?;
+    let mut left = count;
+    let mut rest = bytes;
+    'places: while left > 0 {
+        left -= 1;
+        let Ok((s, after)) = place(places, left, rest) else {
+            unreachable!()
+        };
+        let Some(p) = P::of(s) else { unreachable!() };
+        out.push(p)?;
+        rest = after;
+    }
+    Ok(out)
+}
+
+/// What the places hold: a pass that checks without memory, and one that fills.
+#[tactic(auto, using(crate::proofs::Faults::Fails_fault))]
+pub(crate) fn samples<P: Pixel>(
+    alloc: Global,
+    places: Places,
+    count: usize,
+    bytes: &[u8],
+) -> Result<Vec<P>, ReadFault>
+    requires fits { top_of places ≤ P.top_level }
+    ensures { Gives (λ v. map P.level v.items) result (plain_at (place_at places) count bytes.now) }
+{
+    if let Err(fault) = count_ones(places, count, bytes) {
+        return Err(fault);
+    }
+    Ok(fill(alloc, places, count, bytes)?)
+}

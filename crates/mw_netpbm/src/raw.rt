@@ -1,0 +1,166 @@
+//! Raw rasters.
+
+ghost use Rattle.std.specs.Prelude.{◌≡◌, ℕ, ◌≤◌, ◌<◌, ◌*◌, ◌+◌, ◌/◌, ◌++◌, ◌^◌, List, length, IfOk, OnOk, fold, max, take, vec_len};
+ghost use Rattle.mw_netpbm.specs.Reading.{Gives};
+ghost use Rattle.mw_model.specs.NetpbmGrammar.{bits_of};
+ghost use Rattle.mw_netpbm.specs.Rasters.{words_of, row_bits, rows_bits, grey8_at, grey16_at, bits_at};
+
+use crate::fault::ReadFault;
+use mw_pixel::Bit;
+use std::alloc::{AllocError, Global};
+
+fn greatest8(samples: &[u8]) -> u8
+    ensures { result ≡ fold max 0 samples.now }
+{
+    let mut most = 0;
+    'samples: for s in samples {
+        most = most.max(*s);
+    }
+    most
+}
+
+/// One byte for each sample.
+#[tactic(auto, unfolding(crate::specs::Rasters::grey8_at))]
+pub(crate) fn grey8(
+    alloc: Global,
+    count: usize,
+    maxval: u8,
+    raster: &[u8],
+) -> Result<Vec<u8>, ReadFault>
+    ensures { Gives (λ v. v.items) result (grey8_at count maxval raster.now) }
+{
+    if raster.len() < count {
+        return Err(ReadFault::Short);
+    }
+    let (samples, rest) = raster.split_at(count);
+    if greatest8(samples) > maxval {
+        return Err(ReadFault::Sample);
+    }
+    if !rest.is_empty() {
+        return Err(ReadFault::Trailing);
+    }
+    Ok(Vec::from_slice(alloc, samples)?)
+}
+
+#[tactic(auto, unfolding(crate::specs::Rasters::words_of))]
+fn greatest16(bytes: &[u8]) -> u16
+    ensures { result ≡ fold max 0 (words_of bytes.now) }
+{
+    let mut most = 0;
+    let mut rest = bytes;
+    'words: while let [high, low, after @ ..] = rest {
+        most = most.max(u16::from(*high) * 256 + u16::from(*low));
+        rest = after;
+    }
+    most
+}
+
+#[tactic(auto, unfolding(crate::specs::Rasters::words_of))]
+fn words(alloc: Global, count: usize, bytes: &[u8]) -> Result<Vec<u16>, AllocError>
+    ensures { IfOk result (λ v. v.items ≡ words_of bytes.now) }
+{
+    let mut out = Vec::with_capacity(alloc, count)?;
+    let mut rest = bytes;
+    'words: while let [high, low, after @ ..] = rest {
+        out.push(u16::from(*high) * 256 + u16::from(*low))?;
+        rest = after;
+    }
+    Ok(out)
+}
+
+/// Two bytes for each sample, the higher first.
+#[tactic(auto, unfolding(crate::specs::Rasters::grey16_at))]
+pub(crate) fn grey16(
+    alloc: Global,
+    count: usize,
+    maxval: u16,
+    raster: &[u8],
+) -> Result<Vec<u16>, ReadFault>
+    requires { count ≤ 2 ^ 24 }
+    ensures { Gives (λ v. v.items) result (grey16_at count maxval raster.now) }
+{
+    if raster.len() < 2 * count {
+        return Err(ReadFault::Short);
+    }
+    let (samples, rest) = raster.split_at(2 * count);
+    if greatest16(samples) > maxval {
+        return Err(ReadFault::Sample);
+    }
+    if !rest.is_empty() {
+        return Err(ReadFault::Trailing);
+    }
+    Ok(words(alloc, count, samples)?)
+}
+
+#[tactic(auto, unfolding(mw_model::specs::NetpbmGrammar::bits_of), using(crate::proofs::Packing::bit_is))]
+fn push_bits(out: &mut Vec<Bit>, byte: u8, count: usize) -> Result<(), AllocError>
+    requires { count ≤ 8 }
+    ensures { OnOk result (out.new.items ≡ out.old.items ++ take count (bits_of byte)) }
+{
+    let bits = [
+        Bit::new(byte / 128 % 2 == 1),
+        Bit::new(byte / 64 % 2 == 1),
+        Bit::new(byte / 32 % 2 == 1),
+        Bit::new(byte / 16 % 2 == 1),
+        Bit::new(byte / 8 % 2 == 1),
+        Bit::new(byte / 4 % 2 == 1),
+        Bit::new(byte / 2 % 2 == 1),
+        Bit::new(byte % 2 == 1),
+    ];
+    out.extend_from_slice(&bits[..count])?;
+    Ok(())
+}
+
+#[tactic(auto, unfolding(crate::specs::Rasters::row_bits))]
+fn push_row(out: &mut Vec<Bit>, width: usize, row: &[u8]) -> Result<(), AllocError>
+    ensures { OnOk result (out.new.items ≡ out.old.items ++ row_bits width row.now) }
+{
+    let mut left = width;
+    let mut rest = row;
+    'row: while let [byte, after @ ..] = rest {
+        push_bits(out, *byte, left.min(8))?;
+        left = left.saturating_sub(8);
+        rest = after;
+    }
+    Ok(())
+}
+
+#[tactic(auto, unfolding(crate::specs::Rasters::rows_bits))]
+fn rows(alloc: Global, width: usize, height: usize, raster: &[u8]) -> Result<Vec<Bit>, AllocError>
+    requires wide { width ≤ 8192 }
+    requires high { height ≤ 8192 }
+    requires long { height * ((width + 7) / 8) ≤ length raster.now }
+    ensures { IfOk result (λ v. v.items ≡ rows_bits width height raster.now) }
+{
+    let mut out = Vec::with_capacity(alloc, height * width)?;
+    let stride = (width + 7) / 8;
+    let mut rest = raster;
+    'rows: for y in 0..height {
+        let (row, after) = rest.split_at(stride);
+        push_row(&mut out, width, row)?;
+        rest = after;
+    }
+    Ok(out)
+}
+
+/// Eight pixels to a byte.
+#[tactic(auto, unfolding(crate::specs::Rasters::bits_at))]
+pub(crate) fn bits(
+    alloc: Global,
+    width: usize,
+    height: usize,
+    raster: &[u8],
+) -> Result<Vec<Bit>, ReadFault>
+    requires wide { width ≤ 8192 }
+    requires high { height ≤ 8192 }
+    ensures { Gives (λ v. v.items) result (bits_at width height raster.now) }
+{
+    let count = height * ((width + 7) / 8);
+    if raster.len() < count {
+        return Err(ReadFault::Short);
+    }
+    if raster.len() > count {
+        return Err(ReadFault::Trailing);
+    }
+    Ok(rows(alloc, width, height, raster)?)
+}

@@ -1,0 +1,140 @@
+//! Reading a whole file.
+
+ghost use Rattle.std.specs.Prelude.{◌≡◌, ℕ, ◌≤◌, ◌<◌, ◌*◌, ◌^◌, List, length, ◌≢◌, IfOk, IfErr, Ok, Err, true, nat_lt, MatchResult};
+ghost use Rattle.mw_netpbm.specs.Reading.{seen, Gives};
+ghost use Rattle.mw_netpbm.specs.Heading.{head_at, limits};
+ghost use Rattle.mw_netpbm.specs.Whole.{IsFit, set_from, grey_from, image_at, reading};
+ghost use Rattle.mw_netpbm.specs.Faults.{code_of};
+ghost use Rattle.mw_model.specs.NetpbmGrammar.{IsFile};
+ghost use Rattle.mw_model.specs.NetpbmRefusals.{Refuses};
+ghost use Rattle.mw_model.specs.Pictures.{Picture, IsImage};
+
+use crate::fault::ReadFault;
+use crate::head::{check_limits, read_head};
+use crate::plain::{self, Places};
+use crate::raw;
+use mw_model::{Format, Header};
+use mw_pixel::{Bit, Image, Plane};
+use std::alloc::Global;
+
+/// The set of these pixels.
+fn set_image(
+    width: u32,
+    height: u32,
+    found: Result<Vec<Bit>, ReadFault>,
+) -> Result<Image, ReadFault>
+    requires { IfOk found (λ v. IsFit (height * width) 1 v.items) }
+    ensures { result ≡ set_from width height (seen (λ v. v.items) found) }
+{
+    match found {
+        Err(fault) => Err(fault),
+        Ok(samples) => Ok(Image::bits(Plane::new(width, height, samples))),
+    }
+}
+
+/// The picture of these samples, of one byte each.
+fn grey8_image(
+    width: u32,
+    height: u32,
+    maxval: u8,
+    found: Result<Vec<u8>, ReadFault>,
+) -> Result<Image, ReadFault>
+    requires some { 1 ≤ maxval }
+    requires fit { IfOk found (λ v. IsFit (height * width) maxval v.items) }
+    ensures { result ≡ grey_from width height maxval (seen (λ v. v.items) found) }
+{
+    match found {
+        Err(fault) => Err(fault),
+        Ok(samples) => Ok(Image::grey8(Plane::new(width, height, samples), maxval)),
+    }
+}
+
+/// The picture of these samples, of two bytes each.
+fn grey16_image(
+    width: u32,
+    height: u32,
+    maxval: u16,
+    found: Result<Vec<u16>, ReadFault>,
+) -> Result<Image, ReadFault>
+    requires deep { 256 ≤ maxval }
+    requires fit { IfOk found (λ v. IsFit (height * width) maxval v.items) }
+    ensures { result ≡ grey_from width height maxval (seen (λ v. v.items) found) }
+{
+    match found {
+        Err(fault) => Err(fault),
+        Ok(samples) => Ok(Image::grey16(Plane::new(width, height, samples), maxval)),
+    }
+}
+
+/// The image in the raster under a header.
+#[tactic(auto, unfolding(crate::specs::Whole::raster_as))]
+fn raster(alloc: Global, head: &Header, raster: &[u8]) -> Result<Image, ReadFault>
+    requires width { head.now.width ≤ 8192 }
+    requires height { head.now.height ≤ 8192 }
+    requires area { head.now.height * head.now.width ≤ 2 ^ 24 }
+    requires some { 1 ≤ head.now.maxval }
+    requires maxval { head.now.maxval ≤ 65535 }
+    ensures { Gives (λ i. i) result (image_at head.now raster.now) }
+{
+    let width = head.width as u32;
+    let height = head.height as u32;
+    let maxval = head.maxval as u16;
+    let count = height as usize * width as usize;
+    match head.format {
+        Format::PlainBits => {
+            let found = plain::samples(alloc, Places::Pixels, count, raster);
+            set_image(width, height, found)
+        }
+        Format::RawBits => {
+            let found = raw::bits(alloc, width as usize, height as usize, raster);
+            set_image(width, height, found)
+        }
+        Format::PlainGrey if maxval < 256 => {
+            let found = plain::samples(alloc, Places::Samples(maxval), count, raster);
+            grey8_image(width, height, maxval as u8, found)
+        }
+        Format::PlainGrey => {
+            let found = plain::samples(alloc, Places::Samples(maxval), count, raster);
+            grey16_image(width, height, maxval, found)
+        }
+        Format::RawGrey if maxval < 256 => {
+            let found = raw::grey8(alloc, count, maxval as u8, raster);
+            grey8_image(width, height, maxval as u8, found)
+        }
+        Format::RawGrey => {
+            let found = raw::grey16(alloc, count, maxval, raster);
+            grey16_image(width, height, maxval, found)
+        }
+    }
+}
+
+/// The image that the bytes hold.
+#[tactic(auto, unfolding(crate::specs::Whole::reading), using(crate::proofs::Faults::Fails_from))]
+fn whole(alloc: Global, bytes: &[u8]) -> Result<Image, ReadFault>
+    ensures { Gives (λ i. i) result (reading bytes.now) }
+{
+    match read_head(bytes) {
+        Err(fault) => Err(fault),
+        Ok((head, rest)) => {
+            if let Err(fault) = check_limits(&head) {
+                return Err(fault);
+            }
+            raster(alloc, &head, rest)
+        }
+    }
+}
+
+/// The image that the bytes are a file of, or the first case by which they are none.
+pub fn read(alloc: Global, bytes: &[u8]) -> Result<Image, ReadFault>
+    // What is read is what the file shows.
+    ensures found { IfOk result (λ i. IsFile bytes.now i) }
+    ensures writable { IfOk result (λ i. IsImage i) }
+    // A file is read, unless memory runs out.
+    ensures only { (i : Picture) → IsFile bytes.now i → MatchResult result (λ j. j ≡ i) (λ e. e ≡ ReadFault.NoMemory) }
+    // Any other fault is the first case that holds of the bytes.
+    ensures refused { IfErr result (λ e. e ≢ ReadFault.NoMemory → Refuses bytes.now (code_of e)) }
+    // Memory is wanting only where the bytes are a file.
+    ensures memory { result ≡ Err ReadFault.NoMemory → (i : Picture) × IsFile bytes.now i }
+{
+    whole(alloc, bytes)
+}

@@ -1,0 +1,138 @@
+//! Writing an image.
+
+ghost use Rattle.std.specs.Prelude.{◌≡◌, ℕ, ◌≤◌, ◌<◌, ◌*◌, ◌^◌, ◌++◌, List, length, IfOk, OnOk, Ok, true, nat_lt, string_bytes, slice_index, ◌+◌, ◌-◌, ◌/◌};
+ghost use Rattle.mw_model.specs.NetpbmWriting.{two_bytes, grey_raster, grey_header, byte_of, packed, packed_rows, set_header, text_of};
+ghost use Rattle.mw_pixel.specs.Images.{grey_of, set_of};
+ghost use Rattle.std.specs.List.{flat_map};
+ghost use Rattle.mw_model.specs.Rasters.{Raster};
+
+use mw_model::NoMemory;
+use mw_pixel::{Bit, Image, Plane, View};
+use std::alloc::{AllocError, Global};
+
+fn grey_head(alloc: Global, width: u32, height: u32, maxval: u16) -> Result<String, AllocError>
+    ensures { IfOk result (λ s. string_bytes s ≡ grey_header width height maxval) }
+{
+    format!(in alloc; "P5\n{width} {height}\n{maxval}\n")
+}
+
+fn push_words(out: &mut Vec<u8>, samples: &[u16]) -> Result<(), AllocError>
+    ensures { OnOk result (out.new.items ≡ out.old.items ++ flat_map two_bytes samples.now) }
+{
+    'samples: for s in samples {
+        out.extend_from_slice(&[(*s / 256) as u8, (*s % 256) as u8])?;
+    }
+    Ok(())
+}
+
+fn grey8(alloc: Global, plane: &Plane<u8>, maxval: u8) -> Result<Vec<u8>, AllocError>
+    ensures { IfOk result (λ v. v.items ≡ text_of (grey_of plane.now maxval)) }
+{
+    let head = grey_head(alloc, plane.width(), plane.height(), u16::from(maxval))?;
+    let mut out = head.into_bytes();
+    out.extend_from_slice(plane.samples())?;
+    Ok(out)
+}
+
+fn grey16(alloc: Global, plane: &Plane<u16>, maxval: u16) -> Result<Vec<u8>, AllocError>
+    requires { 256 ≤ maxval }
+    ensures { IfOk result (λ v. v.items ≡ text_of (grey_of plane.now maxval)) }
+{
+    let head = grey_head(alloc, plane.width(), plane.height(), maxval)?;
+    let mut out = head.into_bytes();
+    push_words(&mut out, plane.samples())?;
+    Ok(out)
+}
+
+fn bit(bits: &[Bit], i: usize) -> u8
+    ensures value { result ≡ slice_index bits.now i }
+    ensures small { result ≤ 1 }
+{
+    if i < bits.len() { bits[i].number() } else { 0 }
+}
+
+fn byte(bits: &[Bit]) -> u8
+    ensures { result ≡ byte_of bits.now }
+{
+    128 * bit(bits, 0)
+        + 64 * bit(bits, 1)
+        + 32 * bit(bits, 2)
+        + 16 * bit(bits, 3)
+        + 8 * bit(bits, 4)
+        + 4 * bit(bits, 5)
+        + 2 * bit(bits, 6)
+        + bit(bits, 7)
+}
+
+#[tactic(auto, using(crate::proofs::Packing::one_byte, crate::proofs::Packing::all_bytes))]
+fn push_packed(out: &mut Vec<u8>, count: usize, bits: &[Bit]) -> Result<(), AllocError>
+    ensures { OnOk result (out.new.items ≡ out.old.items ++ packed count bits.now) }
+{
+    let mut left = count;
+    let mut rest = bits;
+    'bytes: while left > 0 {
+        left -= 1;
+        out.push(byte(rest))?;
+        let (_, after) = rest.split_at(rest.len().min(8));
+        rest = after;
+    }
+    Ok(())
+}
+
+#[tactic(auto, using(crate::proofs::Packing::all_rows))]
+fn push_rows(
+    out: &mut Vec<u8>,
+    width: usize,
+    height: usize,
+    samples: &[Bit],
+) -> Result<(), AllocError>
+    requires small { (width ≤ 2 ^ 32) × (height ≤ 2 ^ 32) }
+    requires area { height * width ≤ length samples.now }
+    ensures { OnOk result (out.new.items ≡ out.old.items ++ packed_rows width height samples.now) }
+{
+    let mut rest = samples;
+    'rows: for y in 0..height {
+        let (row, after) = rest.split_at(width);
+        push_packed(out, (width + 7) / 8, row)?;
+        rest = after;
+    }
+    Ok(())
+}
+
+fn set_head(alloc: Global, width: u32, height: u32) -> Result<String, AllocError>
+    ensures { IfOk result (λ s. string_bytes s ≡ set_header width height) }
+{
+    format!(in alloc; "P4\n{width} {height}\n")
+}
+
+fn bits(alloc: Global, plane: &Plane<Bit>) -> Result<Vec<u8>, AllocError>
+    ensures { IfOk result (λ v. v.items ≡ text_of (set_of plane.now)) }
+{
+    let head = set_head(alloc, plane.width(), plane.height())?;
+    let mut out = head.into_bytes();
+    push_rows(
+        &mut out,
+        plane.width() as usize,
+        plane.height() as usize,
+        plane.samples(),
+    )?;
+    Ok(out)
+}
+
+fn text(alloc: Global, image: &Image) -> Result<Vec<u8>, AllocError>
+    ensures { IfOk result (λ v. v.items ≡ text_of image.now) }
+{
+    match image.view() {
+        View::Bits(plane) => bits(alloc, plane),
+        View::Grey8(plane, maxval) => grey8(alloc, plane, maxval),
+        View::Grey16(plane, maxval) => grey16(alloc, plane, maxval),
+    }
+}
+
+/// The one text of an image.
+pub fn write(alloc: Global, image: &Image) -> Result<Vec<u8>, NoMemory>
+    ensures { IfOk result (λ v. v.items ≡ text_of image.now) }
+{
+    let bytes = text(alloc, image)?;
+    Ok(bytes)
+}

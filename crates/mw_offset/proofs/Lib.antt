@@ -1,0 +1,5 @@
+pub mod Merges
+pub mod RunLists
+pub mod Rooms
+pub mod Gathers
+pub mod Seens

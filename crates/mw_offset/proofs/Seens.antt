@@ -1,0 +1,101 @@
+-- What is seen under runs.
+use Rattle.std.proofs.Common.{◌≡◌, ℕ, suc, ◌+◌, ◌-◌, ◌*◌, ◌<◌, ◌≤◌, ℤ, pos, ◌+ℤ◌, ◌-ℤ◌, List, [], ◌∷◌, length, get_or, flat_map, fold, refl, ap, sym, arith, ◌∙◌}
+use Rattle.std.specs.List.{range_with_len, filter_map, AllByRecursion}
+use Rattle.std.proofs.Math.Nat.{mul-le-mul_left}
+use Rattle.std.proofs.lemmas.Int.{ints}
+use Rattle.std.proofs.lemmas.List.Elements.{filter_map-append}
+use Rattle.std.proofs.lemmas.List.Folds.{flat_map-map}
+use Rattle.mw_model.specs.declared.places.Offset.{Offset}
+use Rattle.mw_model.specs.declared.places.Rect.{Rect}
+use Rattle.mw_model.specs.Places.{nonnegative}
+use Rattle.mw_model.specs.Rasters.{raster, cell_at, Sight, seen_under}
+use Rattle.mw_model.specs.Windows.{View, seen_at}
+use Rattle.mw_lane.specs.Shifted.{merge_at}
+use Rattle.mw_line.specs.Extrema.{strided, over}
+use Rattle.mw_line.proofs.Folds.{IsExtremum, fold_both}
+use Rattle.mw_line.proofs.Over.{over_same, over_strided, fold_flat, those, fold_those, filter_map-flat}
+use Rattle.mw_line.proofs.Padded.{nonnegative_is}
+use Rattle.mw_offset.specs.declared.runs.Run.{Run}
+use Rattle.mw_offset.specs.declared.runs.Extent.{Extent}
+use Rattle.mw_offset.specs.Runs.{run_offsets, start_of, IsInside, HasRoom, gather}
+use Rattle.mw_offset.proofs.RunLists.{all_weaker}
+use Rattle.mw_offset.proofs.Rooms.{one_less}
+
+-- the rows that the code lays out for a tile and an extent
+pub record IsLaid {A : Type 0} (f : A → A → A) (n : A) (w : View A) (tile : Rect) (e : Extent) (wide high : ℕ) (column row : ℤ) (cells : List A) : Type 0 where
+  pub wide_is : wide ≡ tile.width + nonnegative (e.right -ℤ e.left)
+  pub high_is : high ≡ tile.height + nonnegative (e.bottom -ℤ e.top)
+  pub column_is : column ≡ pos tile.x +ℤ e.left -ℤ pos w.place.x
+  pub row_is : row ≡ pos tile.y +ℤ e.top -ℤ pos w.place.y
+  pub size : length cells ≡ high * wide
+  pub cells_are : (x y : ℕ) → x < wide → y < high → get_or cells (y * wide + x) n ≡ merge_at f n (cell_at (raster w.place.width w.place.height w.cells) (column +ℤ pos x) (row +ℤ pos y))
+
+run_room : (tile_width tile_height wide high : ℕ) (e : Extent) → 0 < tile_height → wide ≡ tile_width + nonnegative (e.right -ℤ e.left) → high ≡ tile_height + nonnegative (e.bottom -ℤ e.top)
+    → (r : Run) → IsInside e r → start_of e wide r + (r.count - 1) + ((tile_height - 1) * wide + tile_width) ≤ high * wide
+run_room tile_width tile_height wide high e some wide-is high-is r inside =
+    let dy = nonnegative (r.dy -ℤ e.top) in
+    let dx = nonnegative (r.dx -ℤ e.left) in
+    let dy-is = nonnegative_is (r.dy -ℤ e.top) in
+    let dx-is = nonnegative_is (r.dx -ℤ e.left) in
+    let across = nonnegative_is (e.right -ℤ e.left) in
+    let down = nonnegative_is (e.bottom -ℤ e.top) in
+    let rows : dy + tile_height ≤ high = omega (arith, ints, dy-is, down, high-is, inside.top, inside.bottom) in
+    let columns : dx + (r.count - 1) + tile_width ≤ wide = omega (arith, ints, dx-is, across, wide-is, inside.left, inside.right, inside.run.some) in
+    let most = mul-le-mul_left wide rows in
+    let one : (tile_height - 1) * wide + wide ≡ tile_height * wide = one_less tile_height wide some in
+    omega (arith, most, columns, one)
+
+pub all_room : (tile_width tile_height wide high count cells : ℕ) (e : Extent) (runs : List Run) → 0 < tile_height → wide ≡ tile_width + nonnegative (e.right -ℤ e.left) → high ≡ tile_height + nonnegative (e.bottom -ℤ e.top)
+    → count ≡ (tile_height - 1) * wide + tile_width → cells ≡ high * wide → AllByRecursion (IsInside e) runs → AllByRecursion (HasRoom e wide count cells) runs
+all_room tile_width tile_height wide high count cells e runs some wide-is high-is count-is cells-is all =
+    all_weaker (IsInside e) (HasRoom e wide count cells) runs (λ r inside. record { inside = inside; room = rw (count-is, cells-is) (run_room tile_width tile_height wide high e some wide-is high-is r inside) }) all
+
+-- what a run sees, place by place
+seen_run : {A : Type 0} (f : A → A → A) → IsExtremum f → (n : A) (sight : Sight A) (r : Run) (x y : ℕ) → 0 < r.count
+    → fold f n (seen_under sight (run_offsets r) x y) ≡ over f (λ i. merge_at f n (sight (pos x +ℤ (r.dx +ℤ pos i)) (pos y +ℤ r.dy))) 0 (r.count - 1)
+seen_run f laws n sight r x y some =
+    let look = λ (b : Offset). sight (pos x +ℤ b.dx) (pos y +ℤ b.dy) in
+    let place = λ (i : ℕ). let b : Offset = record { dx = r.dx +ℤ pos i; dy = r.dy } in b in
+    let whole : r.count ≡ suc (r.count - 1) = omega arith in
+    ap (fold f n) (filter_map-flat look (run_offsets r) ∙ flat_map-map (λ (b : Offset). those (look b)) place (range_with_len 0 r.count))
+    ∙ ap (λ (t : ℕ). fold f n (flat_map (λ i. those (look (place i))) (range_with_len 0 t))) whole
+    ∙ fold_flat f laws n (λ i. those (look (place i))) 0 (r.count - 1)
+    ∙ over_same f (λ i. fold f n (those (look (place i)))) (λ i. merge_at f n (look (place i))) 0 (r.count - 1) (λ i from to. fold_those f n (look (place i)))
+
+-- the value of a run, as the rows have it
+run_value : {A : Type 0} (f : A → A → A) → IsExtremum f → (n : A) (w : View A) (tile : Rect) (e : Extent) (wide high : ℕ) (column row : ℤ) (cells : List A) → IsLaid f n w tile e wide high column row cells
+    → (r : Run) → IsInside e r → (x y : ℕ) → x < tile.width → y < tile.height
+    → strided f cells n 1 (r.count - 1) (start_of e wide r + (y * wide + x)) ≡ fold f n (seen_under (seen_at w) (run_offsets r) (tile.x + x) (tile.y + y))
+run_value f laws n w tile e wide high column row cells laid r inside x y less row_less =
+    let dy = nonnegative (r.dy -ℤ e.top) in
+    let dx = nonnegative (r.dx -ℤ e.left) in
+    let dy-is = nonnegative_is (r.dy -ℤ e.top) in
+    let dx-is = nonnegative_is (r.dx -ℤ e.left) in
+    let across = nonnegative_is (e.right -ℤ e.left) in
+    let down = nonnegative_is (e.bottom -ℤ e.top) in
+    let rows : y + dy < high = omega (arith, ints, dy-is, down, laid.high_is, inside.top, inside.bottom) in
+    let columns : x + dx + (r.count - 1) < wide = omega (arith, ints, dx-is, across, laid.wide_is, inside.left, inside.right, inside.run.some) in
+    let start = start_of e wide r + (y * wide + x) in
+    let at = λ (p q : ℤ). merge_at f n (cell_at (raster w.place.width w.place.height w.cells) p q) in
+    over_strided f cells n 1 start 0 (r.count - 1) start (omega arith)
+    ∙ over_same f (λ i. get_or cells (start + i * 1) n) (λ i. at (pos (tile.x + x) +ℤ (r.dx +ℤ pos i) -ℤ pos w.place.x) (pos (tile.y + y) +ℤ r.dy -ℤ pos w.place.y)) 0 (r.count - 1) (λ i from to.
+    let here : start + i * 1 ≡ (y + dy) * wide + (x + dx + i) = omega arith in
+    let same_column : column +ℤ pos (x + dx + i) ≡ pos (tile.x + x) +ℤ (r.dx +ℤ pos i) -ℤ pos w.place.x = omega (arith, ints, laid.column_is, dx-is, inside.left) in
+    let same_row : row +ℤ pos (y + dy) ≡ pos (tile.y + y) +ℤ r.dy -ℤ pos w.place.y = omega (arith, ints, laid.row_is, dy-is, inside.top) in
+    ap (λ (t : ℕ). get_or cells t n) here
+    ∙ laid.cells_are (x + dx + i) (y + dy) (omega arith) rows
+    ∙ ap (λ (t : ℤ). at t (row +ℤ pos (y + dy))) same_column
+    ∙ ap (at (pos (tile.x + x) +ℤ (r.dx +ℤ pos i) -ℤ pos w.place.x)) same_row)
+    ∙ sym (seen_run f laws n (seen_at w) r (tile.x + x) (tile.y + y) inside.run.some)
+
+-- what all runs see
+pub gather_seen : {A : Type 0} (f : A → A → A) → IsExtremum f → (n : A) (w : View A) (tile : Rect) (e : Extent) (wide high : ℕ) (column row : ℤ) (cells : List A) → IsLaid f n w tile e wide high column row cells
+    → (runs : List Run) → AllByRecursion (IsInside e) runs → (x y : ℕ) → x < tile.width → y < tile.height
+    → gather f n (λ r. strided f cells n 1 (r.count - 1) (start_of e wide r + (y * wide + x))) runs ≡ fold f n (seen_under (seen_at w) (flat_map run_offsets runs) (tile.x + x) (tile.y + y))
+gather_seen f laws n w tile e wide high column row cells laid [] all x y less row_less = refl
+gather_seen f laws n w tile e wide high column row cells laid (r ∷ rs) all x y less row_less =
+    let look = λ (b : Offset). seen_at w (pos (tile.x + x) +ℤ b.dx) (pos (tile.y + y) +ℤ b.dy) in
+    ap (λ (t : _). f t (gather f n (λ r. strided f cells n 1 (r.count - 1) (start_of e wide r + (y * wide + x))) rs)) (run_value f laws n w tile e wide high column row cells laid r all.0 x y less row_less)
+    ∙ ap (f (fold f n (filter_map look (run_offsets r)))) (gather_seen f laws n w tile e wide high column row cells laid rs all.1 x y less row_less)
+    ∙ fold_both f laws n (filter_map look (run_offsets r)) (filter_map look (flat_map run_offsets rs))
+    ∙ ap (fold f n) (sym (filter_map-append look (run_offsets r) (flat_map run_offsets rs)))

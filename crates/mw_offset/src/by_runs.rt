@@ -1,0 +1,193 @@
+//! The extremum over horizontal runs. The window is spread over rows of one length, which are doubled: a row merged with
+//! itself, shifted by 1, 2, 4 .. places. A run of k samples is then its first 2^j and its last 2^j samples, so that it
+//! takes two merges; and since all rows are equally long, each merge takes all rows of the tile at once.
+ghost use Rattle.std.specs.Prelude.{◌≡◌, ℕ, ◌+◌, ◌-◌, ◌*◌, ◌/◌, ◌<◌, ◌≤◌, ◌^◌, ℤ, pos, negsuc, ◌+ℤ◌, ◌-ℤ◌, ◌≤ℤ◌, length, fold, flat_map, replicate, slice_index_or, vec_len, IfOk};
+ghost use Rattle.std.specs.List.{AllByRecursion};
+ghost use Rattle.mw_model.specs.Places.{nonnegative};
+ghost use Rattle.mw_model.specs.Rasters.{seen_under};
+ghost use Rattle.mw_model.specs.Windows.{seen_at};
+ghost use Rattle.mw_line.specs.Extrema.{strided};
+ghost use Rattle.mw_offset.specs.declared.runs.Run.{Run};
+ghost use Rattle.mw_offset.specs.Runs.{run_offsets, start_of, IsInside, HasRoom, sized, two_parts, gather};
+
+use crate::runs::{Extent, Run};
+use crate::spread::{narrowed, spread};
+use mw_lane::{combine_ahead, combine_rows};
+use mw_line::filled;
+use mw_model::{NoMemory, Rect};
+use mw_pixel::{Extremum, Pixel};
+use mw_tile::Window;
+use std::alloc::Global;
+
+/// Merges the samples from two places on into the row.
+fn combine_two<P: Pixel, E: Extremum<P>>(cells: &[P], start: usize, extra: usize, out: &mut [P])
+    requires { start + extra + length out.old ≤ length cells.now }
+    ensures { (q : ℕ) (d : P) → q < length out.old → slice_index_or out.new q d ≡ E.merge (E.merge (slice_index_or out.old q d) (slice_index_or cells.now (start + q) d)) (slice_index_or cells.now (start + extra + q) d) }
+{
+    let count = out.len();
+    combine_rows::<P, E>(out, &cells[start..start + count]);
+    if extra > 0 {
+        combine_rows::<P, E>(out, &cells[start + extra..start + extra + count]);
+    }
+}
+
+/// How many places there are from the first to that one.
+fn places_from(first: i32, place: i16) -> usize
+    requires { first ≤ℤ place }
+    ensures { result ≡ nonnegative (place -ℤ first) }
+{
+    (i64::from(place) - i64::from(first)) as usize
+}
+
+/// Where a run begins in rows of `wide` places.
+fn start_of_run(run: Run, extent: Extent, wide: usize) -> usize
+    requires inside { IsInside extent run }
+    requires fits { start_of extent wide run < 2 ^ 64 }
+    ensures { result ≡ start_of extent wide run }
+{
+    let down = places_from(extent.top, run.dy);
+    let across = places_from(extent.left, run.dx);
+    down * wide + across
+}
+
+/// Merges the runs of `size` to `2 * size - 1` samples, where each cell is the extremum of `size` samples.
+fn combine_sized<P: Pixel, E: Extremum<P>>(
+    runs: &[Run],
+    extent: Extent,
+    wide: usize,
+    size: usize,
+    cells: &[P],
+    out: &mut [P],
+)
+    requires room { AllByRecursion (HasRoom extent wide (length out.old) (length cells.now)) runs.now }
+    requires some { 0 < size }
+    requires few { size ≤ 2 ^ 40 }
+    ensures { (q : ℕ) (d : P) → q < length out.old → slice_index_or out.new q d ≡ fold (sized size (two_parts E.merge cells.now d extent wide size q)) (slice_index_or out.old q d) runs.now }
+{
+    for i in 0..runs.len() {
+        let run = runs[i];
+        let count = run.count as usize;
+        if size <= count && count < 2 * size {
+            let start = start_of_run(run, extent, wide);
+            combine_two::<P, E>(cells, start, count - size, out);
+        }
+    }
+}
+
+/// The longest run's length.
+fn longest_of(runs: &[Run]) -> usize
+    ensures all { AllByRecursion (λ (r : Run). r.count ≤ result) runs.now }
+    ensures small { result < 2 ^ 32 }
+{
+    let mut longest = 0u32;
+    for i in 0..runs.len() {
+        longest = longest.max(runs[i].count);
+    }
+    longest as usize
+}
+
+/// Merges each run into the row, and doubles the cells.
+fn combine_runs<P: Pixel, E: Extremum<P>>(
+    runs: &[Run],
+    extent: Extent,
+    wide: usize,
+    cells: &mut [P],
+    out: &mut [P],
+)
+    requires { AllByRecursion (HasRoom extent wide (length out.old) (length cells.old)) runs.now }
+    ensures { (n : P) → out.old ≡ replicate (length out.old) n → (q : ℕ) → q < length out.old → slice_index_or out.new q n ≡ gather E.merge n (λ r. strided E.merge cells.old n 1 (r.count - 1) (start_of extent wide r + q)) runs.now }
+{
+    let longest = longest_of(runs);
+    let mut size = 1usize;
+    combine_sized::<P, E>(runs, extent, wide, size, cells, out);
+    'sizes: while size <= longest / 2 && size <= cells.len() / 2 {
+        let left = cells.len() - 2 * size + 1;
+        combine_ahead::<P, E>(cells, size, left);
+        size *= 2;
+        combine_sized::<P, E>(runs, extent, wide, size, cells, out);
+    }
+}
+
+/// Where the first place that is looked at from a tile lies in the window, along one axis.
+fn first_looked(tile: u32, offset: i32, first: u32) -> i64
+    ensures value { result ≡ pos tile +ℤ offset -ℤ pos first }
+    ensures low { negsuc (2 ^ 40) ≤ℤ result }
+    ensures high { result ≤ℤ pos (2 ^ 40) }
+{
+    i64::from(tile) + i64::from(offset) - i64::from(first)
+}
+
+/// How many places come after the first one.
+fn places_after(first: i32, last: i32) -> usize
+    requires { first ≤ℤ last }
+    ensures value { result ≡ nonnegative (last -ℤ first) }
+    ensures small { result ≤ 2 ^ 32 }
+{
+    (i64::from(last) - i64::from(first)) as usize
+}
+
+/// How many columns an extent has after its first.
+fn columns_after(extent: Extent) -> usize
+    requires { extent.left ≤ℤ extent.right }
+    ensures value { result ≡ nonnegative (extent.right -ℤ extent.left) }
+    ensures small { result ≤ 2 ^ 32 }
+{
+    places_after(extent.left, extent.right)
+}
+
+/// How many rows an extent has after its first.
+fn rows_after(extent: Extent) -> usize
+    requires { extent.top ≤ℤ extent.bottom }
+    ensures value { result ≡ nonnegative (extent.bottom -ℤ extent.top) }
+    ensures small { result ≤ 2 ^ 32 }
+{
+    places_after(extent.top, extent.bottom)
+}
+
+/// The column of the window at which the tile begins to look.
+fn first_column(tile: Rect, extent: Extent, place: Rect) -> i64
+    ensures value { result ≡ pos tile.x +ℤ extent.left -ℤ pos place.x }
+    ensures low { negsuc (2 ^ 40) ≤ℤ result }
+    ensures high { result ≤ℤ pos (2 ^ 40) }
+{
+    first_looked(tile.x, extent.left, place.x)
+}
+
+/// The row of the window at which the tile begins to look.
+fn first_row(tile: Rect, extent: Extent, place: Rect) -> i64
+    ensures value { result ≡ pos tile.y +ℤ extent.top -ℤ pos place.y }
+    ensures low { negsuc (2 ^ 40) ≤ℤ result }
+    ensures high { result ≤ℤ pos (2 ^ 40) }
+{
+    first_looked(tile.y, extent.top, place.y)
+}
+
+/// The extremum of the neutral sample and what the window has under the runs, at each place of the tile.
+pub(crate) fn extremum_by_runs<P: Pixel, E: Extremum<P>>(
+    alloc: Global,
+    window: &Window<P>,
+    runs: &[Run],
+    extent: Extent,
+    neutral: P,
+    tile: Rect,
+) -> Result<Vec<P>, NoMemory>
+    requires inside { AllByRecursion (IsInside extent) runs.now }
+    requires some { (0 < tile.width) × (0 < tile.height) }
+    requires wide { extent.left ≤ℤ extent.right }
+    requires high { extent.top ≤ℤ extent.bottom }
+    ensures size { IfOk result (λ v. vec_len v ≡ tile.height * tile.width) }
+    ensures cells { IfOk result (λ v. (x y : ℕ) → x < tile.width → y < tile.height → slice_index_or v.items (y * tile.width + x) neutral ≡ fold E.merge neutral (seen_under (seen_at window.now) (flat_map run_offsets runs.now) (tile.x + x) (tile.y + y))) }
+{
+    let place = window.place();
+    let width = tile.width as usize;
+    let height = tile.height as usize;
+    let wide = width + columns_after(extent);
+    let high = height + rows_after(extent);
+    let column = first_column(tile, extent, place);
+    let row = first_row(tile, extent, place);
+    let mut cells = spread::<P, E>(alloc, window, column, row, wide, high, neutral)?;
+    let mut out = filled(alloc, (height - 1) * wide + width, neutral)?;
+    combine_runs::<P, E>(runs, extent, wide, cells.as_mut_slice(), out.as_mut_slice());
+    let samples = narrowed(alloc, out.as_slice(), wide, width, height)?;
+    Ok(samples)
+}

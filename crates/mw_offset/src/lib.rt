@@ -1,0 +1,18 @@
+//! Extrema over any list of offsets, on a window: erosions and dilations by elements of any shape.
+//!
+//! ```text
+//! let eroded = extremum::<u8, Min>(alloc, &window, element.offsets(), maxval, tile)?;
+//! let dilated = extremum::<u8, Max>(alloc, &window, element.offsets(), 0, tile)?;
+//! ```
+#![tactic(auto)]
+
+mod by_runs;
+mod offsets;
+mod runs;
+mod spread;
+
+pub use mw_model::NoMemory;
+pub use offsets::extremum;
+
+#[cfg(test)]
+mod tests;

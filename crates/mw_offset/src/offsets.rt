@@ -1,0 +1,159 @@
+//! The extremum over a list of offsets: by horizontal runs, or, where these lie too far apart to be laid out around the
+//! tile, one row of the tile after another and in it one offset after another, each as a row of the window that is merged
+//! by vector code, shifted. What lies outside the window is no sample.
+ghost use Rattle.std.specs.Prelude.{◌≡◌, ℕ, ◌+◌, ◌*◌, ◌<◌, ◌≤◌, ◌^◌, pos, negsuc, ◌+ℤ◌, ◌-ℤ◌, ◌≤ℤ◌, length, slice_index_or, fold, vec_len, IfOk, IsTrue};
+ghost use Rattle.mw_model.specs.Rasters.{Raster, cell_at, seen_under};
+ghost use Rattle.mw_model.specs.Windows.{seen_at, IsWindow};
+ghost use Rattle.mw_lane.specs.Shifted.{merge_at};
+ghost use Rattle.mw_line.specs.Extrema.{IsSlidingExtremum};
+
+use crate::by_runs::extremum_by_runs;
+use crate::runs::{Extent, extent_of, runs_of};
+use mw_line::{combine_window_row, filled};
+use mw_model::{NoMemory, Offset, Rect};
+use mw_pixel::{Extremum, Pixel, Plane};
+use mw_tile::Window;
+use std::alloc::Global;
+
+/// The place of a step from `from`, counted from `first`.
+fn place_of(from: u64, step: i16, first: u32) -> i64
+    requires { from ≤ 2 ^ 40 }
+    ensures { result ≡ pos from +ℤ step -ℤ pos first }
+{
+    (from as i64) + i64::from(step) - i64::from(first)
+}
+
+/// Merges into each sample of a row of the frame, from `column` on, the sample at an offset from there.
+fn combine_offset<P: Pixel, E: Extremum<P>>(
+    window: &Window<P>,
+    offset: Offset,
+    column: u64,
+    row: u64,
+    out: &mut [P],
+)
+    requires near { column ≤ 2 ^ 40 }
+    requires high { row ≤ 2 ^ 40 }
+    ensures { (x : ℕ) (d : P) → x < length out.old → slice_index_or out.new x d ≡ merge_at E.merge (slice_index_or out.old x d) (seen_at window.now (pos (column + x) +ℤ offset.dx) (pos row +ℤ offset.dy)) }
+{
+    let place = window.place();
+    let from_column = place_of(column, offset.dx, place.x);
+    let from_row = place_of(row, offset.dy, place.y);
+    combine_window_row::<P, E>(window, from_column, from_row, out);
+}
+
+/// Merges into each sample of a row of the frame, from `column` on, what is seen under the element there.
+fn combine_offsets<P: Pixel, E: Extremum<P>>(
+    window: &Window<P>,
+    offsets: &[Offset],
+    column: u64,
+    row: u64,
+    out: &mut [P],
+)
+    requires near { column ≤ 2 ^ 40 }
+    requires high { row ≤ 2 ^ 40 }
+    ensures { (x : ℕ) (d : P) → x < length out.old → slice_index_or out.new x d ≡ fold E.merge (slice_index_or out.old x d) (seen_under (seen_at window.now) offsets.now (column + x) row) }
+{
+    for offset in offsets {
+        combine_offset::<P, E>(window, *offset, column, row, out);
+    }
+}
+
+/// Merges into each sample of the tile what is seen under the element there.
+fn combine_tile<P: Pixel, E: Extremum<P>>(
+    window: &Window<P>,
+    offsets: &[Offset],
+    tile: Rect,
+    out: &mut [P],
+)
+    requires { length out.old ≡ tile.height * tile.width }
+    ensures { (x y : ℕ) (d : P) → x < tile.width → y < tile.height → slice_index_or out.new (y * tile.width + x) d ≡ fold E.merge (slice_index_or out.old (y * tile.width + x) d) (seen_under (seen_at window.now) offsets.now (tile.x + x) (tile.y + y)) }
+{
+    let width = tile.width as usize;
+    for y in 0..tile.height {
+        let start = y as usize * width;
+        combine_offsets::<P, E>(
+            window,
+            offsets,
+            u64::from(tile.x),
+            u64::from(tile.y) + u64::from(y),
+            &mut out[start..start + width],
+        );
+    }
+}
+
+/// Whether there are at most 1024 places from the first to the last.
+fn are_few(first: i32, last: i32) -> bool
+    ensures { IsTrue result → first ≤ℤ last }
+{
+    first <= last && i64::from(last) - i64::from(first) < 1024
+}
+
+/// Whether the columns and rows of an element are few enough to be laid out around a tile.
+fn is_near(extent: Extent) -> bool
+    ensures { IsTrue result → (extent.left ≤ℤ extent.right) × (extent.top ≤ℤ extent.bottom) }
+{
+    are_few(extent.left, extent.right) && are_few(extent.top, extent.bottom)
+}
+
+/// The samples of the tile, one offset after another.
+fn extremum_by_offsets<P: Pixel, E: Extremum<P>>(
+    alloc: Global,
+    window: &Window<P>,
+    offsets: &[Offset],
+    neutral: P,
+    tile: Rect,
+) -> Result<Vec<P>, NoMemory>
+    ensures size { IfOk result (λ v. vec_len v ≡ tile.height * tile.width) }
+    ensures cells { IfOk result (λ v. (x y : ℕ) → x < tile.width → y < tile.height → slice_index_or v.items (y * tile.width + x) neutral ≡ fold E.merge neutral (seen_under (seen_at window.now) offsets.now (tile.x + x) (tile.y + y))) }
+{
+    let mut samples = filled(alloc, tile.height as usize * tile.width as usize, neutral)?;
+    combine_tile::<P, E>(window, offsets, tile, samples.as_mut_slice());
+    Ok(samples)
+}
+
+/// The samples of the tile, by horizontal runs where these can be laid out around it.
+fn extremum_samples<P: Pixel, E: Extremum<P>>(
+    alloc: Global,
+    window: &Window<P>,
+    offsets: &[Offset],
+    neutral: P,
+    tile: Rect,
+) -> Result<Vec<P>, NoMemory>
+    ensures size { IfOk result (λ v. vec_len v ≡ tile.height * tile.width) }
+    ensures cells { IfOk result (λ v. (x y : ℕ) → x < tile.width → y < tile.height → slice_index_or v.items (y * tile.width + x) neutral ≡ fold E.merge neutral (seen_under (seen_at window.now) offsets.now (tile.x + x) (tile.y + y))) }
+{
+    let runs = runs_of(alloc, offsets)?;
+    if tile.width > 0 && tile.height > 0 {
+        if let Some(extent) = extent_of(runs.as_slice()) {
+            if is_near(extent) {
+                let samples = extremum_by_runs::<P, E>(
+                    alloc,
+                    window,
+                    runs.as_slice(),
+                    extent,
+                    neutral,
+                    tile,
+                )?;
+                return Ok(samples);
+            }
+        }
+    }
+    let samples = extremum_by_offsets::<P, E>(alloc, window, offsets, neutral, tile)?;
+    Ok(samples)
+}
+
+/// The extremum of the neutral sample and what the window has under the element, at each place of the tile. Where the
+/// window has all that the frame has there, this is the extremum over the frame.
+pub fn extremum<P: Pixel, E: Extremum<P>>(
+    alloc: Global,
+    window: &Window<P>,
+    offsets: &[Offset],
+    neutral: P,
+    tile: Rect,
+) -> Result<Plane<P>, NoMemory>
+    ensures over_window { IfOk result (λ r. IsSlidingExtremum E.merge neutral (seen_at window.now) offsets.now tile r) }
+    ensures over_frame { IfOk result (λ r. (f : Raster P) → IsWindow window.now f offsets.now tile → IsSlidingExtremum E.merge neutral (cell_at f) offsets.now tile r) }
+{
+    let samples = extremum_samples::<P, E>(alloc, window, offsets, neutral, tile)?;
+    Ok(Plane::new(tile.width, tile.height, samples))
+}

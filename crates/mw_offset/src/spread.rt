@@ -1,0 +1,78 @@
+//! Samples of a window in rows of one length, with neutral samples around them, and rows cut to a part.
+ghost use Rattle.std.specs.Prelude.{◌≡◌, ℕ, ◌+◌, ◌-◌, ◌*◌, ◌<◌, ◌≤◌, ◌^◌, pos, ◌+ℤ◌, ◌≤ℤ◌, length, slice_index_or, vec_len, IfOk};
+ghost use Rattle.mw_model.specs.Rasters.{raster, cell_at};
+ghost use Rattle.mw_lane.specs.Shifted.{merge_at};
+
+use mw_line::{combine_window_row, filled};
+use mw_model::NoMemory;
+use mw_pixel::{Extremum, Pixel};
+use mw_tile::Window;
+use std::alloc::Global;
+
+/// Merges into each of `high` rows what the window has there, from that column and row of the window on.
+fn spread_rows<P: Pixel, E: Extremum<P>>(
+    window: &Window<P>,
+    column: i64,
+    row: i64,
+    wide: usize,
+    high: usize,
+    out: &mut [P],
+)
+    requires size { length out.old ≡ high * wide }
+    requires few { high ≤ 2 ^ 40 }
+    requires near { row ≤ℤ pos (2 ^ 40) }
+    ensures { (x y : ℕ) (d : P) → x < wide → y < high → slice_index_or out.new (y * wide + x) d ≡ merge_at E.merge (slice_index_or out.old (y * wide + x) d) (cell_at (raster window.now.place.width window.now.place.height window.now.cells) (column +ℤ pos x) (row +ℤ pos y)) }
+{
+    for y in 0..high {
+        let start = y * wide;
+        combine_window_row::<P, E>(
+            window,
+            column,
+            row + y as i64,
+            &mut out[start..start + wide],
+        );
+    }
+}
+
+/// The neutral sample at each place of `high` rows, merged with what the window has there.
+pub(crate) fn spread<P: Pixel, E: Extremum<P>>(
+    alloc: Global,
+    window: &Window<P>,
+    column: i64,
+    row: i64,
+    wide: usize,
+    high: usize,
+    neutral: P,
+) -> Result<Vec<P>, NoMemory>
+    requires few { high ≤ 2 ^ 40 }
+    requires near { row ≤ℤ pos (2 ^ 40) }
+    ensures size { IfOk result (λ v. vec_len v ≡ high * wide) }
+    ensures cells { IfOk result (λ v. (x y : ℕ) → x < wide → y < high → slice_index_or v.items (y * wide + x) neutral ≡ merge_at E.merge neutral (cell_at (raster window.now.place.width window.now.place.height window.now.cells) (column +ℤ pos x) (row +ℤ pos y))) }
+{
+    let count = high.checked_mul(wide).ok_or(NoMemory)?;
+    let mut cells = filled(alloc, count, neutral)?;
+    spread_rows::<P, E>(window, column, row, wide, high, cells.as_mut_slice());
+    Ok(cells)
+}
+
+/// The first `width` samples of each of `high` rows of `wide` samples.
+pub(crate) fn narrowed<P: Pixel>(
+    alloc: Global,
+    cells: &[P],
+    wide: usize,
+    width: usize,
+    high: usize,
+) -> Result<Vec<P>, NoMemory>
+    requires narrow { width ≤ wide }
+    requires size { (high - 1) * wide + width ≤ length cells.now }
+    requires few { high * width < 2 ^ 64 }
+    ensures size { IfOk result (λ v. vec_len v ≡ high * width) }
+    ensures cells { IfOk result (λ v. (x y : ℕ) (d : P) → x < width → y < high → slice_index_or v.items (y * width + x) d ≡ slice_index_or cells.now (y * wide + x) d) }
+{
+    let mut narrow = Vec::with_capacity(alloc, high * width)?;
+    for y in 0..high {
+        let start = y * wide;
+        narrow.extend_from_slice(&cells[start..start + width])?;
+    }
+    Ok(narrow)
+}

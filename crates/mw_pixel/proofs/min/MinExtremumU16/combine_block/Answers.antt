@@ -1,0 +1,6 @@
+use Rattle.std.specs.Int.{w16}
+use Rattle.mw_pixel.proofs.Lanes.{min_block}
+use Rattle.mw_pixel.proofs.min.MinExtremumU16.combine_block.Goals as goal
+
+pub returns : goal.returns
+returns c = min_block w16 c.args.acc.now c.args.other.now c.requires.whole c.requires.paired

@@ -1,0 +1,170 @@
+-- Counting levels.
+use Rattle.std.proofs.Common.{◌≡◌, ℕ, ◌+◌, ◌-◌, ◌<◌, ◌≤◌, List, [], ◌∷◌, ◌++◌, length, get_or, set, refl, ap, sym, arith, ◌∙◌, inl, inr, cond, Bool, length-set, subst, get_or-set_same, get_or-set_other}
+use Rattle.std.specs.Prelude.{nat_lt, min, max}
+use Rattle.std.proofs.lemmas.Bool.{cases_lt, cases_order, lt-ltb, le-ltb}
+use Rattle.std.proofs.lemmas.List.Sums.{sum_by-cons, sum_by-append, count_by-le-length}
+use Rattle.std.proofs.lemmas.List.{get_or_default}
+use Rattle.mw_model.specs.PlanSteps.{ranked}
+use Rattle.mw_model.proofs.PlainRanks.{nth_from}
+use Rattle.mw_rank.specs.declared.histogram.Histogram.{Histogram}
+use Rattle.mw_rank.specs.Tallies.{count_under, Tallies}
+
+pub count-cons : (limit n : ℕ) (ns : List ℕ) → count_under limit (n ∷ ns) ≡ cond (nat_lt n limit) 1 0 + count_under limit ns
+count-cons limit n ns = sum_by-cons (λ s. cond (nat_lt s limit) 1 0) n ns
+
+pub count-append : (limit : ℕ) (ns ms : List ℕ) → count_under limit (ns ++ ms) ≡ count_under limit ns + count_under limit ms
+count-append limit ns ms = sum_by-append (λ s. cond (nat_lt s limit) 1 0) ns ms
+
+pub count_within : (limit : ℕ) (ns : List ℕ) → count_under limit ns ≤ length ns
+count_within limit ns = count_by-le-length (λ s. nat_lt s limit) ns
+
+abbrev pub one_if : Bool → ℕ
+one_if b = cond b 1 0
+
+pub one-lt : (s v : ℕ) → s < v → one_if (nat_lt s v) ≡ 1
+one-lt s v lt = rw (lt-ltb s v lt) refl
+
+pub one-le : (s v : ℕ) → v ≤ s → one_if (nat_lt s v) ≡ 0
+one-le s v le = rw (le-ltb s v le) refl
+
+pub count-zero : (ns : List ℕ) → count_under 0 ns ≡ 0
+count-zero [] = refl
+count-zero (n ∷ ns) = omega (arith, count-cons 0 n ns, one-le n 0 (omega arith), count-zero ns)
+
+-- two lists count alike
+pub record Same (ns ms : List ℕ) : Type 0 where
+  pub counts : (v : ℕ) → count_under v ns ≡ count_under v ms
+  pub size : length ns ≡ length ms
+
+pub tallies_same : (top : ℕ) (h : Histogram) (ns ms : List ℕ) → Same ns ms → Tallies top h ns → Tallies top h ms
+tallies_same top h ns ms same t = record {
+  short = t.short;
+  size = t.size;
+  each = λ v. omega (arith, same.counts (v + 1), same.counts v, t.each v);
+  all = omega (arith, same.counts (top + 1), same.size, t.all);
+  below = omega (arith, same.counts h.level, t.below);
+  held = omega (arith, same.size, t.held);
+  level = t.level;
+}
+
+-- a counter counts no more than all levels
+pub counter_within : (top : ℕ) (h : Histogram) (ns : List ℕ) (s : ℕ) → Tallies top h ns → get_or h.counts.items s 0 ≤ length ns
+counter_within top h ns s t = omega (arith, t.each s, count_within (s + 1) ns)
+
+pub below_within : (top : ℕ) (h : Histogram) (ns : List ℕ) → Tallies top h ns → h.below ≤ length ns
+below_within top h ns t = omega (arith, t.below, count_within h.level ns)
+
+pub counter_is : (items : List ℕ) (s d : ℕ) → s < length items → d ≡ get_or items s d → d ≡ get_or items s 0
+counter_is items s d lt e = e ∙ get_or_default items s d 0 lt
+
+-- the counter of a level and those of the others, where one is added
+put_more : (items : List ℕ) (s v : ℕ) → s < length items → cond (nat_lt s (v + 1)) 1 0 + get_or items v 0 ≡ get_or (set items s (get_or items s 0 + 1)) v 0 + cond (nat_lt s v) 1 0
+put_more items s v within = elim (cases_order s v) [
+  | inl same ↦
+      let here : get_or (set items s (get_or items s 0 + 1)) v 0 ≡ get_or items s 0 + 1 = ap (λ (t : ℕ). get_or (set items s (get_or items s 0 + 1)) t 0) (sym same) ∙ get_or-set_same items s (get_or items s 0 + 1) 0 within in
+      let there : get_or items v 0 ≡ get_or items s 0 = ap (λ (t : ℕ). get_or items t 0) (sym same) in
+      omega (arith, here, there, one-lt s (v + 1) (omega arith), one-le s v (omega arith))
+  | inr (inl less) ↦ omega (arith, get_or-set_other items s v (get_or items s 0 + 1) 0 (omega arith), one-lt s (v + 1) (omega arith), one-lt s v less)
+  | inr (inr more) ↦ omega (arith, get_or-set_other items s v (get_or items s 0 + 1) 0 (omega arith), one-le s (v + 1) (omega arith), one-le s v (omega arith))
+]
+
+put_less : (items : List ℕ) (s v : ℕ) → s < length items → 1 ≤ get_or items s 0 → get_or items v 0 + cond (nat_lt s v) 1 0 ≡ cond (nat_lt s (v + 1)) 1 0 + get_or (set items s (get_or items s 0 - 1)) v 0
+put_less items s v within some = elim (cases_order s v) [
+  | inl same ↦
+      let here : get_or (set items s (get_or items s 0 - 1)) v 0 ≡ get_or items s 0 - 1 = ap (λ (t : ℕ). get_or (set items s (get_or items s 0 - 1)) t 0) (sym same) ∙ get_or-set_same items s (get_or items s 0 - 1) 0 within in
+      let there : get_or items v 0 ≡ get_or items s 0 = ap (λ (t : ℕ). get_or items t 0) (sym same) in
+      omega (arith, here, there, one-lt s (v + 1) (omega arith), one-le s v (omega arith))
+  | inr (inl less) ↦ omega (arith, get_or-set_other items s v (get_or items s 0 - 1) 0 (omega arith), one-lt s (v + 1) (omega arith), one-lt s v less)
+  | inr (inr more) ↦ omega (arith, get_or-set_other items s v (get_or items s 0 - 1) 0 (omega arith), one-le s (v + 1) (omega arith), one-le s v (omega arith))
+]
+
+-- the histogram with one more of a level
+pub tallies_added : (top s : ℕ) (h g : Histogram) (ns : List ℕ) → s ≤ top → g.counts.items ≡ set h.counts.items s (get_or h.counts.items s 0 + 1) → g.level ≡ h.level → g.held ≡ h.held + 1
+    → g.below ≡ h.below + cond (nat_lt s h.level) 1 0 → Tallies top h ns → Tallies top g (s ∷ ns)
+tallies_added top s h g ns le counts-is level-is held-is below-is t = record {
+  short = t.short;
+  size = ap length counts-is ∙ length-set h.counts.items s (get_or h.counts.items s 0 + 1) ∙ t.size;
+  each = λ v.
+      let counter = ap (λ (items : List ℕ). get_or items v 0) counts-is in
+      omega (arith, count-cons (v + 1) s ns, count-cons v s ns, counter, t.each v, put_more h.counts.items s v (omega (arith, t.size)));
+  all = omega (arith, count-cons (top + 1) s ns, one-lt s (top + 1) (omega arith), t.all);
+  below = let same = ap (λ (v : ℕ). count_under v (s ∷ ns)) level-is in omega (arith, same, count-cons h.level s ns, below-is, t.below);
+  held = omega (arith, held-is, t.held);
+  level = omega (arith, level-is, t.level);
+}
+
+pub known : (top s : ℕ) (h : Histogram) (ns : List ℕ) → Tallies top h (s ∷ ns) → s ≤ top
+known top s h ns t = elim (cases_lt top s) [
+  | inr low ↦ low
+  | inl high ↦ absurd (omega (arith, count-cons (top + 1) s ns, one-le s (top + 1) (omega arith), t.all, count_within (top + 1) ns))
+]
+
+count_rises : (s : ℕ) (ns : List ℕ) → count_under s ns ≤ count_under (s + 1) ns
+count_rises s [] = omega arith
+count_rises s (n ∷ ns) = elim (cases_lt n s) [
+  | inl low ↦ omega (arith, count-cons s n ns, count-cons (s + 1) n ns, one-lt n s low, one-lt n (s + 1) (omega arith), count_rises s ns)
+  | inr high ↦ omega (arith, count-cons s n ns, count-cons (s + 1) n ns, one-le n s high, count_rises s ns)
+]
+
+-- a level that was counted has a counter above 0
+pub counted : (top s : ℕ) (h : Histogram) (ns : List ℕ) → Tallies top h (s ∷ ns) → 1 ≤ get_or h.counts.items s 0
+counted top s h ns t = omega (arith, t.each s, count-cons (s + 1) s ns, count-cons s s ns, one-lt s (s + 1) (omega arith), one-le s s (omega arith), count_rises s ns)
+
+pub counted_below : (top s : ℕ) (h : Histogram) (ns : List ℕ) → Tallies top h (s ∷ ns) → s < h.level → 1 ≤ h.below
+counted_below top s h ns t lt = omega (arith, t.below, count-cons h.level s ns, one-lt s h.level lt)
+
+-- the histogram with one less of a level
+pub tallies_removed : (top s : ℕ) (h g : Histogram) (ns : List ℕ) → g.counts.items ≡ set h.counts.items s (get_or h.counts.items s 0 - 1) → g.level ≡ h.level → g.held + 1 ≡ h.held
+    → g.below + cond (nat_lt s h.level) 1 0 ≡ h.below → Tallies top h (s ∷ ns) → Tallies top g ns
+tallies_removed top s h g ns counts-is level-is held-is below-is t =
+    let low = known top s h ns t in
+    record {
+      short = t.short;
+      size = ap length counts-is ∙ length-set h.counts.items s (get_or h.counts.items s 0 - 1) ∙ t.size;
+      each = λ v.
+          let counter = ap (λ (items : List ℕ). get_or items v 0) counts-is in
+          omega (arith, count-cons (v + 1) s ns, count-cons v s ns, counter, t.each v, put_less h.counts.items s v (omega (arith, t.size)) (counted top s h ns t));
+      all = omega (arith, count-cons (top + 1) s ns, one-lt s (top + 1) (omega arith), t.all);
+      below = let same = ap (λ (v : ℕ). count_under v ns) level-is in omega (arith, same, count-cons h.level s ns, below-is, t.below);
+      held = omega (arith, held-is, t.held);
+      level = omega (arith, level-is, t.level);
+    }
+
+-- where some levels are below, the present level is not the lowest
+pub not_lowest : (top : ℕ) (h : Histogram) (ns : List ℕ) → Tallies top h ns → 1 ≤ h.below → 1 ≤ h.level
+not_lowest top h ns t some = elim (cases_lt 0 h.level) [
+  | inl high ↦ high
+  | inr low ↦ absurd (let e : count_under h.level ns ≡ count_under 0 ns = ap (λ (v : ℕ). count_under v ns) (let z : h.level ≡ 0 = omega arith in z) in omega (arith, e, count-zero ns, t.below))
+]
+
+pub next_below : (top : ℕ) (h : Histogram) (ns : List ℕ) → Tallies top h ns → 1 ≤ h.level → h.below ≡ get_or h.counts.items (h.level - 1) 0 + count_under (h.level - 1) ns
+next_below top h ns t some =
+    let e : count_under (h.level - 1 + 1) ns ≡ count_under h.level ns = ap (λ (v : ℕ). count_under v ns) (let z : h.level - 1 + 1 ≡ h.level = omega arith in z) in
+    omega (arith, e, t.each (h.level - 1), t.below)
+
+-- where the levels up to the present one are not all, it is not the top
+pub not_top : (top n : ℕ) (h : Histogram) (ns : List ℕ) → Tallies top h ns → n ≤ h.held → h.below + get_or h.counts.items h.level 0 < n → h.level < top
+not_top top n h ns t all few = elim (cases_lt h.level top) [
+  | inl low ↦ low
+  | inr high ↦ absurd (let e : count_under (h.level + 1) ns ≡ count_under (top + 1) ns = ap (λ (v : ℕ). count_under (v + 1) ns) (let z : h.level ≡ top = omega (arith, t.level) in z) in omega (arith, e, t.all, t.held, t.below, t.each h.level))
+]
+
+-- what was counted, with another spelling of one level
+pub entered : (top : ℕ) (h : Histogram) (s : ℕ) (ns l : List ℕ) → s ∷ [] ≡ l → Tallies top h (s ∷ ns) → Tallies top h (l ++ ns)
+entered top h s ns l e t = subst (λ (m : List ℕ). Tallies top h (m ++ ns)) e t
+
+-- the histogram with another present level
+pub tallies_moved : (top : ℕ) (h g : Histogram) (ns : List ℕ) → g.counts.items ≡ h.counts.items → g.held ≡ h.held → g.level ≤ top → g.below ≡ count_under g.level ns → Tallies top h ns → Tallies top g ns
+tallies_moved top h g ns counts-is held-is level below t = record {
+  short = t.short;
+  size = ap length counts-is ∙ t.size;
+  each = λ v. let counter = ap (λ (items : List ℕ). get_or items v 0) counts-is in omega (arith, counter, t.each v);
+  all = t.all;
+  below = below;
+  held = omega (arith, held-is, t.held);
+  level = level;
+}
+
+-- the level at which the count passes n is number n
+pub selected : (top k n : ℕ) (h : Histogram) (ns : List ℕ) → n ≡ max 1 (min k h.held) → h.below < n → n ≤ count_under (h.level + 1) ns → Tallies top h ns → h.level ≡ ranked k ns
+selected top k n h ns n-is few enough t = nth_from ns k n h.level (omega (arith, n-is, t.held)) (omega (arith, few, t.below), enough)

@@ -1,0 +1,4 @@
+pub mod Counts
+pub mod Sights
+pub mod Moves
+pub mod Rows

@@ -1,0 +1,31 @@
+use Rattle.std.proofs.Common.{arith}
+use Rattle.mw_rank.proofs.Counts.{selected}
+use Rattle.mw_rank.proofs.histogram.Histogram.select.Goals as goal
+
+pub raise-requires-clause-within : goal.raise-requires-clause-within
+raise-requires-clause-within c = omega (arith, c.lower.ensures.held)
+
+pub raise-requires-clause-held : goal.raise-requires-clause-held
+raise-requires-clause-held c =
+    let r = c.requires.1 in
+    (c.requires.0, record { others = r.others; tallies = c.lower.ensures.tallies c.requires.0 r.others r.tallies; few = r.few })
+
+pub overflow_cast-result : goal.overflow_cast-result
+overflow_cast-result c =
+    let r = c.requires.1 in
+    let t = c.raise.ensures.tallies c.requires.0 r.others (c.lower.ensures.tallies c.requires.0 r.others r.tallies) in
+    omega (arith, t.level, t.short)
+
+pub returns-clause-tallies : goal.returns-clause-tallies
+returns-clause-tallies c = λ top ns t. c.raise.ensures.tallies top ns (c.lower.ensures.tallies top ns t)
+
+pub returns-clause-level : goal.returns-clause-level
+returns-clause-level c = λ top ns t.
+    let s = c.lower.ensures.tallies top ns t in
+    let u = c.raise.ensures.tallies top ns s in
+    selected top c.args.k _ c.raise.new.self ns (omega (arith, u.held, s.held, t.held)) c.raise.ensures.few (c.raise.ensures.enough top ns s) u
+
+pub returns-clause-small : goal.returns-clause-small
+returns-clause-small c = λ top ns t.
+    let u = c.raise.ensures.tallies top ns (c.lower.ensures.tallies top ns t) in
+    omega (arith, u.level)

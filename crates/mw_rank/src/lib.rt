@@ -1,0 +1,18 @@
+//! The rank filter.
+//!
+//! ```text
+//! let median = rank(alloc, &window, offsets, (offsets.len() as u32 + 1) / 2, tile)?;
+//! ```
+#![tactic(auto)]
+
+mod histogram;
+mod laws;
+mod moving;
+mod runs;
+
+pub use laws::ranks_are_rank_filter;
+pub use moving::rank;
+pub use mw_model::NoMemory;
+
+#[cfg(test)]
+mod tests;

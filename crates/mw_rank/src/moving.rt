@@ -1,0 +1,250 @@
+//! The rank filter by a moving histogram (Huang, Yang and Tang 1979): from one place to the next only the samples at
+//! the ends of the element's horizontal runs leave and enter, and the rank is looked for from its last level. Measured on
+//! a 4096 by 4096 plane of random bytes under 15 by 15 offsets: 1.0 s, on a machine that was busy with other work.
+ghost use Rattle.std.specs.Prelude.{◌≡◌, ℕ, ◌+◌, ◌*◌, ◌<◌, ◌≤◌, ◌^◌, pos, ◌+ℤ◌, ◌-ℤ◌, List, [], ◌++◌, map, length, IfOk, IfSome, OnOk};
+ghost use Rattle.std.specs.Option.{option_to_list};
+ghost use Rattle.mw_model.specs.PlanSteps.{ranked};
+ghost use Rattle.mw_model.specs.Rasters.{Raster, raster, cell_at};
+ghost use Rattle.mw_model.specs.Windows.{seen_at, IsWindow};
+ghost use Rattle.mw_rank.specs.Ranks.{levels_under, levels_at, IsRank, GainsRow, HasRows};
+ghost use Rattle.mw_rank.specs.Runs.{element_of};
+ghost use Rattle.mw_rank.specs.Tallies.{Tallies, HasRoom, Holds};
+
+use crate::histogram::Histogram;
+use crate::runs::{Run, runs_of};
+use mw_model::{NoMemory, Offset, Rect};
+use mw_pixel::{Pixel, Plane};
+use mw_tile::Window;
+use std::alloc::Global;
+
+/// The place of a step from `from`, counted from `first`.
+#[inline(always)]
+fn place_of(from: u64, step: i16, first: u32) -> i64
+    requires { from ≤ 2 ^ 40 }
+    ensures { result ≡ pos from +ℤ step -ℤ pos first }
+{
+    (from as i64) + i64::from(step) - i64::from(first)
+}
+
+/// The level that a window has in that row and column, both counted from its first place.
+#[inline(always)]
+fn level_in<P: Pixel>(window: &Window<P>, column: i64, row: i64) -> Option<u16>
+    ensures levels { option_to_list result ≡ map P.level (option_to_list (cell_at (raster window.now.place.width window.now.place.height window.now.cells) column row)) }
+    ensures small { IfSome result (λ s. s ≤ P.top_level) }
+{
+    let place = window.place();
+    if column < 0 || row < 0 || column >= i64::from(place.width) || row >= i64::from(place.height) {
+        return None;
+    }
+    let at = row as usize * place.width as usize + column as usize;
+    Some(window.samples()[at].value())
+}
+
+/// The level that is seen at an offset from column x of row y of the frame.
+#[inline(always)]
+fn level_at<P: Pixel>(window: &Window<P>, offset: Offset, x: u64, y: u64) -> Option<u16>
+    requires near { x ≤ 2 ^ 40 }
+    requires high { y ≤ 2 ^ 40 }
+    ensures levels { option_to_list result ≡ levels_at P.level (seen_at window.now) offset x y }
+    ensures small { IfSome result (λ s. s ≤ P.top_level) }
+{
+    let place = window.place();
+    let column = place_of(x, offset.dx, place.x);
+    let row = place_of(y, offset.dy, place.y);
+    level_in(window, column, row)
+}
+
+/// Counts what is seen at an offset.
+#[inline(always)]
+fn enter<P: Pixel>(histogram: &mut Histogram, window: &Window<P>, offset: Offset, x: u64, y: u64)
+    requires near { x ≤ 2 ^ 40 }
+    requires high { y ≤ 2 ^ 40 }
+    requires room { HasRoom P.top_level histogram.old }
+    ensures { (ns : List ℕ) → Tallies P.top_level histogram.old ns → Tallies P.top_level histogram.new (levels_at P.level (seen_at window.now) offset x y ++ ns) }
+{
+    if let Some(s) = level_at(window, offset, x, y) {
+        histogram.add(s);
+    }
+}
+
+/// Takes back what is seen at an offset.
+#[inline(always)]
+fn leave<P: Pixel>(histogram: &mut Histogram, window: &Window<P>, offset: Offset, x: u64, y: u64)
+    requires near { x ≤ 2 ^ 40 }
+    requires high { y ≤ 2 ^ 40 }
+    requires held { Holds P.top_level histogram.old (levels_at P.level (seen_at window.now) offset x y) }
+    ensures { (ns : List ℕ) → Tallies P.top_level histogram.old (levels_at P.level (seen_at window.now) offset x y ++ ns) → Tallies P.top_level histogram.new ns }
+{
+    if let Some(s) = level_at(window, offset, x, y) {
+        histogram.remove(s);
+    }
+}
+
+/// Counts what is seen under the element.
+fn enter_all<P: Pixel>(
+    histogram: &mut Histogram,
+    window: &Window<P>,
+    offsets: &[Offset],
+    x: u64,
+    y: u64,
+)
+    requires near { x ≤ 2 ^ 40 }
+    requires high { y ≤ 2 ^ 40 }
+    requires few { length offsets.now < 2 ^ 16 }
+    requires empty { Tallies P.top_level histogram.old [] }
+    ensures { Tallies P.top_level histogram.new (levels_under P.level (seen_at window.now) offsets.now x y) }
+{
+    for offset in offsets {
+        enter(histogram, window, *offset, x, y);
+    }
+}
+
+/// Takes back what is seen under the element.
+fn leave_all<P: Pixel>(
+    histogram: &mut Histogram,
+    window: &Window<P>,
+    offsets: &[Offset],
+    x: u64,
+    y: u64,
+)
+    requires near { x ≤ 2 ^ 40 }
+    requires high { y ≤ 2 ^ 40 }
+    requires few { length offsets.now < 2 ^ 16 }
+    requires held { Tallies P.top_level histogram.old (levels_under P.level (seen_at window.now) offsets.now x y) }
+    ensures { Tallies P.top_level histogram.new [] }
+{
+    for offset in offsets {
+        leave(histogram, window, *offset, x, y);
+    }
+}
+
+/// Moves the element one column on.
+fn advance<P: Pixel>(histogram: &mut Histogram, window: &Window<P>, runs: &[Run], x: u64, y: u64)
+    requires near { x ≤ 2 ^ 39 }
+    requires high { y ≤ 2 ^ 40 }
+    requires few { length (element_of runs.now) < 2 ^ 16 }
+    requires held { Tallies P.top_level histogram.old (levels_under P.level (seen_at window.now) (element_of runs.now) x y) }
+    ensures { Tallies P.top_level histogram.new (levels_under P.level (seen_at window.now) (element_of runs.now) (x + 1) y) }
+{
+    for run in runs {
+        leave(histogram, window, run.start, x, y);
+        enter(histogram, window, run.start, x + 1 + u64::from(run.more), y);
+    }
+}
+
+/// The sample of a level.
+#[inline(always)]
+fn sample_of<P: Pixel>(level: u16) -> P
+    requires { level ≤ P.top_level }
+    ensures { P.level result ≡ level }
+{
+    match P::of(level) {
+        Some(sample) => sample,
+        None => unreachable!(),
+    }
+}
+
+/// Adds the ranks of one row of the tile, from column x on.
+fn push_row<P: Pixel>(
+    out: &mut Vec<P>,
+    histogram: &mut Histogram,
+    window: &Window<P>,
+    runs: &[Run],
+    k: u32,
+    x: u32,
+    y: u64,
+    width: u32,
+) -> Result<(), NoMemory>
+    requires high { y ≤ 2 ^ 40 }
+    requires few { length (element_of runs.now) < 2 ^ 16 }
+    requires held { Tallies P.top_level histogram.old (levels_under P.level (seen_at window.now) (element_of runs.now) x y) }
+    ensures row { OnOk result (GainsRow P.level (λ i. ranked k (levels_under P.level (seen_at window.now) (element_of runs.now) (x + i) y)) width out.old.items out.new.items) }
+    ensures moved { OnOk result (Tallies P.top_level histogram.new (levels_under P.level (seen_at window.now) (element_of runs.now) (x + width) y)) }
+{
+    for i in 0..width {
+        let sample = sample_of::<P>(histogram.select(k));
+        out.push(sample)?;
+        advance(histogram, window, runs, u64::from(x) + u64::from(i), y);
+    }
+    Ok(())
+}
+
+/// Adds the ranks of the row y of the frame, from column x on.
+fn push_whole_row<P: Pixel>(
+    out: &mut Vec<P>,
+    histogram: &mut Histogram,
+    window: &Window<P>,
+    offsets: &[Offset],
+    runs: &[Run],
+    k: u32,
+    x: u32,
+    y: u64,
+    width: u32,
+) -> Result<(), NoMemory>
+    requires high { y ≤ 2 ^ 40 }
+    requires few { length offsets.now < 2 ^ 16 }
+    requires runs { element_of runs.now ≡ offsets.now }
+    requires empty { Tallies P.top_level histogram.old [] }
+    ensures row { OnOk result (GainsRow P.level (λ i. ranked k (levels_under P.level (seen_at window.now) offsets.now (x + i) y)) width out.old.items out.new.items) }
+    ensures empty { OnOk result (Tallies P.top_level histogram.new []) }
+{
+    enter_all(histogram, window, offsets, u64::from(x), y);
+    push_row(out, histogram, window, runs, k, x, y, width)?;
+    leave_all(
+        histogram,
+        window,
+        offsets,
+        u64::from(x) + u64::from(width),
+        y,
+    );
+    Ok(())
+}
+
+/// The ranks of a tile, by rows.
+fn rank_samples<P: Pixel>(
+    alloc: Global,
+    window: &Window<P>,
+    offsets: &[Offset],
+    k: u32,
+    tile: Rect,
+) -> Result<Vec<P>, NoMemory>
+    requires few { length offsets.now < 2 ^ 16 }
+    ensures { IfOk result (λ v. HasRows P.level (λ x y. ranked k (levels_under P.level (seen_at window.now) offsets.now (tile.x + x) (tile.y + y))) tile.width tile.height v.items) }
+{
+    let runs = runs_of(alloc, offsets)?;
+    let mut histogram = Histogram::empty::<P>(alloc)?;
+    let mut out = Vec::with_capacity(alloc, tile.height as usize * tile.width as usize)?;
+    for j in 0..tile.height {
+        let y = u64::from(tile.y) + u64::from(j);
+        push_whole_row(
+            &mut out,
+            &mut histogram,
+            window,
+            offsets,
+            &runs,
+            k,
+            tile.x,
+            y,
+            tile.width,
+        )?;
+    }
+    Ok(out)
+}
+
+/// At each place of the tile, of the samples that the window has under the element in rising order, number k, counted
+/// from 1, or the last where there are fewer; 0 where there is none. Where the window has all that the frame has there,
+/// this is the rank filter of the frame.
+pub fn rank<P: Pixel>(
+    alloc: Global,
+    window: &Window<P>,
+    offsets: &[Offset],
+    k: u32,
+    tile: Rect,
+) -> Result<Plane<P>, NoMemory>
+    requires { length offsets.now < 2 ^ 16 }
+    ensures over_window { IfOk result (λ r. IsRank P.level k (seen_at window.now) offsets.now tile r) }
+    ensures over_frame { IfOk result (λ r. (f : Raster P) → IsWindow window.now f offsets.now tile → IsRank P.level k (cell_at f) offsets.now tile r) }
+{
+    let samples = rank_samples(alloc, window, offsets, k, tile)?;
+    Ok(Plane::new(tile.width, tile.height, samples))
+}

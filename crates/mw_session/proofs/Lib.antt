@@ -1,0 +1,5 @@
+pub mod Turns
+pub mod Working
+pub mod Finishing
+pub mod Readings
+pub mod Writing

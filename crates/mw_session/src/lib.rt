@@ -1,0 +1,28 @@
+//! Sessions: the texts of replies, and a reader and a writer that remember whether they failed.
+//!
+//! ```
+//! let mut sink = Sink::new(writer);
+//! let line = reply_line(Reply::Accepted(0));
+//! send(&mut sink, line.as_bytes())?; // OK 0
+//! ```
+#![tactic(auto)]
+
+mod fault;
+mod laws;
+mod line;
+mod pieces;
+mod reply;
+mod saying;
+mod stream;
+
+pub use fault::SessionFault;
+pub use laws::{one_output, work_in_any_order, work_is_lawful, written_text_stays};
+pub use line::ReplyLine;
+pub use mw_model::{End, NoMemory};
+pub use pieces::{Piece, take_piece};
+pub use reply::{curve_line, image_line, refusal_line, reply_line};
+pub use saying::{end_by, say, say_curve, say_image};
+pub use stream::{Sink, Source, receive, send};
+
+#[cfg(test)]
+mod tests;

@@ -1,0 +1,66 @@
+//! Writing replies, and the refusal that ends a session.
+
+ghost use Rattle.std.specs.Prelude.{◌≡◌, ◌++◌, OnOk, OnErr, Err, true};
+ghost use Rattle.mw_model.specs.Replies.{reply_text, refusal_text, handed_text, NoValue, ImageBytes, CurveText};
+ghost use Rattle.mw_session.specs.Writes.{Wrote, EndsBy};
+
+use crate::fault::SessionFault;
+use crate::line::ReplyLine;
+use crate::reply::{curve_line, image_line, refusal_line, reply_line};
+use crate::stream::{Sink, send};
+use mw_model::{Code, End, Reply};
+use std::io::Write;
+
+/// Writes a reply that hands out no value. At `Err` a front of its text was written.
+pub fn say<W: Write>(sink: &mut Sink<W>, reply: Reply) -> Result<(), SessionFault>
+    ensures wrote { Wrote (W.contents sink.old.inner) (W.contents sink.new.inner) (reply_text reply NoValue) result }
+    ensures kept { OnOk result (sink.new.failed ≡ sink.old.failed) }
+    ensures flag { OnErr result ((result ≡ Err SessionFault.Write) × (sink.new.failed ≡ true)) }
+{
+    send(sink, reply_line(reply).as_bytes())
+}
+
+/// Writes the reply that hands out an image, and the bytes of the image.
+pub fn say_image<W: Write>(sink: &mut Sink<W>, t: u32, bytes: &[u8]) -> Result<(), SessionFault>
+    ensures wrote { Wrote (W.contents sink.old.inner) (W.contents sink.new.inner) (handed_text t (ImageBytes bytes.now)) result }
+    ensures kept { OnOk result (sink.new.failed ≡ sink.old.failed) }
+    ensures flag { OnErr result ((result ≡ Err SessionFault.Write) × (sink.new.failed ≡ true)) }
+{
+    send_both(sink, &image_line(t, bytes.len()), bytes)
+}
+
+/// Writes the reply that hands out a curve, and the text of the curve.
+pub fn say_curve<W: Write>(sink: &mut Sink<W>, t: u32, text: &[u8]) -> Result<(), SessionFault>
+    ensures wrote { Wrote (W.contents sink.old.inner) (W.contents sink.new.inner) (handed_text t (CurveText text.now)) result }
+    ensures kept { OnOk result (sink.new.failed ≡ sink.old.failed) }
+    ensures flag { OnErr result ((result ≡ Err SessionFault.Write) × (sink.new.failed ≡ true)) }
+{
+    send_both(sink, &curve_line(t, text.len()), text)
+}
+
+fn send_both<W: Write>(
+    sink: &mut Sink<W>,
+    line: &ReplyLine,
+    bytes: &[u8],
+) -> Result<(), SessionFault>
+    ensures wrote { Wrote (W.contents sink.old.inner) (W.contents sink.new.inner) (line.now ++ bytes.now) result }
+    ensures kept { OnOk result (sink.new.failed ≡ sink.old.failed) }
+    ensures flag { OnErr result ((result ≡ Err SessionFault.Write) × (sink.new.failed ≡ true)) }
+{
+    match send(sink, line.as_bytes()) {
+        Err(fault) => Err(fault),
+        Ok(()) => send(sink, bytes),
+    }
+}
+
+/// Writes the refusal that ends a session.
+pub fn end_by<W: Write>(sink: &mut Sink<W>, code: Code) -> Result<End, SessionFault>
+    ensures wrote { EndsBy (W.contents sink.old.inner) (W.contents sink.new.inner) code result }
+    ensures kept { OnOk result (sink.new.failed ≡ sink.old.failed) }
+    ensures flag { OnErr result ((result ≡ Err SessionFault.Write) × (sink.new.failed ≡ true)) }
+{
+    match send(sink, refusal_line(code).as_bytes()) {
+        Ok(()) => Ok(End::Ended(code)),
+        Err(fault) => Err(fault),
+    }
+}

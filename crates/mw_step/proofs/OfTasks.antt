@@ -1,0 +1,53 @@
+-- What is made of the windows of a task is what its step makes.
+use Rattle.std.proofs.Common.{◌≡◌, ℕ, ◌+◌, ◌-◌, ◌≤◌, min, List, [], ◌∷◌, false, refl, ap, sym, arith, ◌∙◌}
+use Rattle.std.specs.Prelude.{sum}
+use Rattle.mw_model.specs.declared.places.Offset.{Offset}
+use Rattle.mw_model.specs.declared.places.Rect.{Rect}
+use Rattle.mw_model.specs.Places.{rect, grown, IsWithin}
+use Rattle.mw_model.specs.Elements.{reach_of}
+use Rattle.mw_model.specs.Windows.{seen_at}
+use Rattle.mw_model.specs.Plans.{is_sum}
+use Rattle.mw_model.specs.PlanSteps.{PlanStep, Sum, origin, looks_at, here}
+use Rattle.mw_model.specs.Tasks.{SourceWindow, cells_in, place_read, made_of_windows}
+use Rattle.mw_step.specs.WindowTasks.{WindowTask, window_at, IsRead}
+use Rattle.mw_step.specs.Products.{HoldsImage, IsMade}
+use Rattle.mw_step.specs.declared.made.Made.{Made}
+use Rattle.mw_step.specs.declared.made.Made.TheVariants.{Number}
+use Rattle.mw_step.proofs.Images.{tile_by, tile_is, made_image}
+use Rattle.mw_step.proofs.PlaceByPlace.{Fills, three_cells}
+
+-- a step that looks at the place itself reads the tile
+place_is_tile : (s : PlanStep) (m n : ℕ) (tile : Rect) → looks_at s ≡ origin → IsWithin tile m n → place_read s m n tile ≡ tile
+place_is_tile s m n tile at within =
+    ap (λ (e : List Offset). grown m n (reach_of e) tile) at
+    ∙ ap (λ (t : ℕ). rect t (tile.y - 0) (min (tile.x + tile.width + 0) m - (tile.x - 0)) (min (tile.y + tile.height + 0) n - (tile.y - 0))) (all tile.x)
+    ∙ ap (λ (t : ℕ). rect tile.x t (min (tile.x + tile.width + 0) m - (tile.x - 0)) (min (tile.y + tile.height + 0) n - (tile.y - 0))) (all tile.y)
+    ∙ ap (λ (t : ℕ). rect tile.x tile.y t (min (tile.y + tile.height + 0) n - (tile.y - 0))) (part tile.x tile.width m within.across)
+    ∙ ap (λ (t : ℕ). rect tile.x tile.y tile.width t) (part tile.y tile.height n within.down)
+  where
+    all : (x : ℕ) → x - 0 ≡ x
+    all x = omega arith
+
+    part : (x w m : ℕ) → x + w ≤ m → min (x + w + 0) m - (x - 0) ≡ w
+    part x w m le = omega arith
+
+pub window_place : (t : WindowTask) (s : PlanStep) (m n : ℕ) (u : SourceWindow) → looks_at s ≡ origin → t.step ≡ s → IsRead t.step t.rect m n u → u.view.place ≡ t.rect
+window_place t s m n u at step read = read.place ∙ place_is_tile t.step m n t.rect (ap looks_at step ∙ at) read.within
+
+pub made_of_here : (t : WindowTask) (s : PlanStep) (u v w : SourceWindow) (m n : ℕ) (made : Made) → is_sum s ≡ false → looks_at s ≡ origin → t.step ≡ s → u ≡ window_at t.windows 0 → v ≡ window_at t.windows 1 → w ≡ window_at t.windows 2
+    → IsRead t.step t.rect m n u → HoldsImage (tile_by s u v w u.view.place) made → IsMade t made
+made_of_here t s u v w m n made not at step first second third read holds =
+    made_image t (tile_by s u v w u.view.place) made (ap is_sum step ∙ not)
+    (tile_is t s u v w step (sym first) (sym second) (sym third) ∙ ap (λ (r : Rect). tile_by s u v w r) (sym (window_place t s m n u at step read))) holds
+
+pub sum_of_here : (t : WindowTask) (u : SourceWindow) (m n total : ℕ) → t.step ≡ Sum → u ≡ window_at t.windows 0 → IsRead t.step t.rect m n u → Fills u.view.place u.view → total ≡ sum u.view.cells → IsMade t (Number total)
+sum_of_here t u m n total step first read fills total-is =
+    let seen = seen_at u.view in
+    let whole : cells_in u.view.place (here seen) ≡ u.view.cells = three_cells (λ k _ _. k) u.view u.view u.view u.view.cells refl refl fills fills fills fills (λ k lt. refl) in (
+      ap is_sum step,
+      ap (λ (s : PlanStep). made_of_windows s t.windows t.rect) step
+          ∙ ap (λ (r : SourceWindow). sum (cells_in t.rect (here (seen_at r.view))) ∷ []) (sym first)
+          ∙ ap (λ (r : Rect). sum (cells_in r (here seen)) ∷ []) (sym (window_place t Sum m n u refl step read))
+          ∙ ap (λ (ns : List ℕ). sum ns ∷ []) whole
+          ∙ ap (λ (k : ℕ). k ∷ []) (sym total-is),
+    )

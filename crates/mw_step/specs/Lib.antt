@@ -1,0 +1,4 @@
+pub mod Meanings
+pub mod WindowTasks
+pub mod Products
+pub mod Sources

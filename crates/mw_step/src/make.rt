@@ -1,0 +1,54 @@
+//! What each step makes of its windows.
+
+ghost use Rattle.std.specs.Prelude.{◌≡◌, ◌+◌, ◌<◌, ◌^◌, IfOk};
+ghost use Rattle.mw_model.specs.Places.{IsWithin};
+ghost use Rattle.mw_tile.specs.AnyWindows.{shown, IsSized};
+ghost use Rattle.mw_step.specs.WindowTasks.{source_count, window_at, IsRead, KindsFit};
+ghost use Rattle.mw_step.specs.Products.{IsMade};
+
+use crate::flat::{dilate, dilate_box, erode, erode_box, rank_filter};
+use crate::marking::{mark, mark_last};
+use crate::pairs::{join, meet, minus};
+use crate::singles::{at_least, blank, equal, invert, sum_up};
+use crate::{Made, Step, Work};
+use mw_model::NoMemory;
+use mw_tile::AnyWindow;
+use std::alloc::Global;
+
+/// The window of a source of the task.
+fn source(work: &Work, k: usize) -> &AnyWindow
+    requires { k < source_count work.now.step }
+    ensures window { shown result.now ≡ window_at work.now.windows k }
+    ensures sized { IsSized result.now }
+    ensures read { IsRead work.now.step work.now.rect (window_at work.now.windows 0).view.frame_width (window_at work.now.windows 0).view.frame_height (shown result.now) }
+    ensures kinds { KindsFit work.now.step work.now.windows }
+{
+    &work.windows()[k]
+}
+
+/// What the step makes of the windows in the tile.
+pub(crate) fn make(alloc: Global, work: &Work) -> Result<Made, NoMemory>
+    ensures { IfOk result (IsMade work.now) }
+{
+    let tile = work.rect();
+    match work.step() {
+        Step::Erode(element) => erode(alloc, source(work, 0), element, tile),
+        Step::Dilate(element) => dilate(alloc, source(work, 0), element, tile),
+        Step::ErodeBox(offsets) => erode_box(alloc, source(work, 0), *offsets, tile),
+        Step::DilateBox(offsets) => dilate_box(alloc, source(work, 0), *offsets, tile),
+        Step::Rank(element, k) => rank_filter(alloc, source(work, 0), element, *k, tile),
+        Step::Minus => minus(alloc, source(work, 0), source(work, 1)),
+        Step::AtLeast(k) => at_least(alloc, *k, source(work, 0)),
+        Step::Invert => invert(alloc, source(work, 0)),
+        Step::Meet => meet(alloc, source(work, 0), source(work, 1)),
+        Step::Join => join(alloc, source(work, 0), source(work, 1)),
+        Step::Blank(maxval) => {
+            let _fits = work.windows();
+            blank(alloc, *maxval, tile)
+        }
+        Step::Mark(v) => mark(alloc, *v, source(work, 0), source(work, 1), source(work, 2)),
+        Step::MarkLast(v) => mark_last(alloc, *v, source(work, 0), source(work, 1)),
+        Step::Equal(v) => equal(alloc, *v, source(work, 0)),
+        Step::Sum => Ok(Made::Number(sum_up(source(work, 0)))),
+    }
+}

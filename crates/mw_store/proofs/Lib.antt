@@ -1,0 +1,4 @@
+pub mod RangeLemmas
+pub mod CascadeLemmas
+pub mod AddLemmas
+pub mod WholeWindows

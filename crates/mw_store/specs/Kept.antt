@@ -1,0 +1,23 @@
+-- The values that a store keeps.
+use Rattle.std.specs.Prelude.{Option, Some, None, option_map}
+use Rattle.std.specs.Arc.{arc_value}
+use Rattle.mw_model.specs.Pictures.{Picture}
+use Rattle.mw_model.specs.Elements.{Figure}
+use Rattle.mw_model.specs.Values.{Value, ImageValue, ElementValue, CurveValue}
+use Rattle.mw_store.specs.declared.kept.Kept.{Kept}
+use Rattle.mw_store.specs.declared.kept.Kept.TheVariants as kept
+
+-- the value that is kept so
+abbrev pub kept_value : Kept → Value
+kept_value (kept.Image f) = ImageValue f
+kept_value (kept.Shared f) = ImageValue (arc_value f)
+kept_value (kept.Element b) = ElementValue (arc_value b)
+
+-- the value that stands in the place of what is kept
+abbrev pub one_kept : Kept → Option Value
+one_kept k = Some (kept_value k)
+
+-- the element in the place of a value, if one stands there
+abbrev pub figure_in : Option Value → Option Figure
+figure_in (Some (ElementValue b)) = Some b
+figure_in v = None

@@ -1,0 +1,24 @@
+//! What the machine keeps: names, submissions, outcomes and values, all by ticket.
+//!
+//! The ticket of an entry is its place in the order of acceptance. An image is shared when it is first handed out, so
+//! that no sample is copied. What takes memory answers `NoMemory`, and the store is then as before.
+//!
+//! ```text
+//! let mut store = Store::new(alloc, 128)?;
+//! let ticket = store.add(name, Entry::Image(image))?;
+//! let outcome = store.outcome(ticket);
+//! ```
+#![tactic(auto)]
+
+mod cascade;
+mod columns;
+mod kept;
+mod outcomes;
+mod wanted;
+mod windows;
+
+pub use columns::Store;
+pub use kept::{Entry, Kept, Plate};
+pub use mw_model::NoMemory;
+pub use outcomes::{is_dead, is_done, is_pending, is_released, is_there};
+pub use windows::{is_whole, whole_window};

@@ -1,0 +1,78 @@
+//! Windows of the images that are kept.
+
+ghost use Rattle.std.specs.Prelude.{◌≡◌, ◌↔◌, ◌≤◌, IsTrue, IfOk};
+ghost use Rattle.mw_tile.specs.AnyWindows.{shown, IsSized};
+ghost use Rattle.mw_store.specs.Frames.{whole_view};
+ghost use Rattle.mw_store.specs.Frames as frames;
+
+use mw_lane::{Lanes, equal_rows};
+use mw_model::{NoMemory, Rect};
+use mw_pixel::{Image, Pixel, Plane, View};
+use mw_tile::{AnyWindow, Window};
+use std::alloc::Global;
+
+/// The rectangle of a frame of this width and height.
+fn frame(width: u32, height: u32) -> Rect
+    ensures { result ≡ record { x = 0; y = 0; width = width; height = height } }
+{
+    Rect {
+        x: 0,
+        y: 0,
+        width,
+        height,
+    }
+}
+
+fn whole<P: Pixel>(alloc: Global, plane: &Plane<P>) -> Result<Window<P>, NoMemory>
+    ensures { IfOk result (λ w. w ≡ whole_view plane.now) }
+{
+    let (width, height) = (plane.width(), plane.height());
+    let mut samples = Vec::new(alloc);
+    samples.extend_from_slice(plane.samples())?;
+    Ok(Window::new(width, height, frame(width, height), samples))
+}
+
+fn has_whole<P: Lanes>(window: &Window<P>, plane: &Plane<P>) -> bool
+    ensures { IsTrue result ↔ (window.now ≡ whole_view plane.now) }
+{
+    window.frame_width() == plane.width()
+        && window.frame_height() == plane.height()
+        && window.place() == frame(plane.width(), plane.height())
+        && equal_rows(window.samples(), plane.samples())
+}
+
+/// A maxval of one byte is none that wants two.
+fn in_two_bytes(maxval: u8) -> u16
+    ensures value { result ≡ maxval }
+    ensures small { result ≤ 255 }
+{
+    u16::from(maxval)
+}
+
+/// The window that has the whole of an image, with samples of its own.
+pub fn whole_window(alloc: Global, image: &Image) -> Result<AnyWindow, NoMemory>
+    ensures window { IfOk result (λ w. shown w ≡ frames.whole_window image.now) }
+    ensures sized { IfOk result IsSized }
+{
+    match image.view() {
+        View::Bits(plane) => Ok(AnyWindow::Bits(whole(alloc, plane)?)),
+        View::Grey8(plane, maxval) => Ok(AnyWindow::Grey8(whole(alloc, plane)?, maxval)),
+        View::Grey16(plane, maxval) => Ok(AnyWindow::Grey16(whole(alloc, plane)?, maxval)),
+    }
+}
+
+/// Whether a window is that of the whole of an image.
+pub fn is_whole(window: &AnyWindow, image: &Image) -> bool
+    requires { IsSized window.now }
+    ensures { IsTrue result ↔ (shown window.now ≡ frames.whole_window image.now) }
+{
+    match (window, image.view()) {
+        (AnyWindow::Bits(w), View::Bits(p)) => has_whole(w, p),
+        (AnyWindow::Grey8(w, m), View::Grey8(p, n)) => *m == n && has_whole(w, p),
+        (AnyWindow::Grey16(w, m), View::Grey16(p, n)) => *m == n && has_whole(w, p),
+        (AnyWindow::Grey8(_, m), View::Grey16(_, n)) => in_two_bytes(*m) == n,
+        (AnyWindow::Grey16(_, _), View::Grey8(_, _)) => false,
+        (AnyWindow::Bits(_), _) => false,
+        (_, View::Bits(_)) => false,
+    }
+}

@@ -1,0 +1,102 @@
+//! Images and elements that the tests are given.
+
+ghost use Rattle.std.specs.Prelude.{◌≤◌, ◌↔◌, IsTrue, All};
+
+use mw_element::Element;
+use mw_model::plain::PlainImage;
+use mw_model::{Kind, Offset};
+use mw_pixel::{Pixel, Plane};
+use std::alloc::Global;
+use std::process::Abort;
+use std::test::Fail;
+
+pub(crate) const BAR: [Offset; 3] = [
+    Offset { dx: -1, dy: 0 },
+    Offset { dx: 0, dy: 0 },
+    Offset { dx: 1, dy: 0 },
+];
+
+fn are_at_most(samples: &[u16], maxval: u16) -> bool
+    ensures { IsTrue result ↔ All (λ s. s ≤ maxval) samples.now }
+{
+    samples.iter().all(|s| *s <= maxval)
+}
+
+/// An image with these samples, by rows.
+pub(crate) fn image(
+    rt: &impl Abort,
+    alloc: Global,
+    kind: Kind,
+    width: u32,
+    height: u32,
+    maxval: u16,
+    samples: &[u16],
+) -> Result<PlainImage, Fail> {
+    assert!(rt; width <= 8192 && height <= 8192);
+    assert_eq!(rt; samples.len(), height as usize * width as usize);
+    assert!(rt; are_at_most(samples, maxval));
+    let samples = samples.to_vec(alloc)?;
+    Ok(PlainImage::new(kind, width, height, maxval, samples))
+}
+
+pub(crate) fn grey_row(
+    rt: &impl Abort,
+    alloc: Global,
+    maxval: u16,
+    samples: &[u16],
+) -> Result<PlainImage, Fail> {
+    assert!(rt; samples.len() <= 8192);
+    image(
+        rt,
+        alloc,
+        Kind::Grey,
+        samples.len() as u32,
+        1,
+        maxval,
+        samples,
+    )
+}
+
+pub(crate) fn bit_row(rt: &impl Abort, alloc: Global, samples: &[u16]) -> Result<PlainImage, Fail> {
+    assert!(rt; samples.len() <= 8192);
+    image(rt, alloc, Kind::Bit, samples.len() as u32, 1, 1, samples)
+}
+
+/// An image without a pattern, the same at each run.
+pub(crate) fn noise(
+    rt: &impl Abort,
+    alloc: Global,
+    kind: Kind,
+    width: u32,
+    height: u32,
+    maxval: u16,
+) -> Result<PlainImage, Fail> {
+    assert!(rt; maxval < u16::MAX);
+    let mut samples = Vec::new(alloc);
+    let mut state = u32::from(maxval);
+    for _ in 0..u64::from(width) * u64::from(height) {
+        state = state.wrapping_mul(1664525).wrapping_add(1013904223);
+        samples.push((state >> 16) as u16 % (maxval + 1))?;
+    }
+    image(rt, alloc, kind, width, height, maxval, &samples)
+}
+
+/// The samples of an image, in a type that has its levels.
+pub(crate) fn plane_of<P: Pixel>(
+    rt: &impl Abort,
+    alloc: Global,
+    image: &PlainImage,
+) -> Result<Plane<P>, Fail> {
+    let mut samples = Vec::new(alloc);
+    for s in image.samples() {
+        samples.push(P::of(*s).ok_or("a level of the type")?)?;
+    }
+    let (width, height) = (image.width(), image.height());
+    assert_eq!(rt; samples.len(), height as usize * width as usize);
+    Ok(Plane::new(width, height, samples))
+}
+
+pub(crate) fn element(alloc: Global, bytes: &[u8], ox: u32, oy: u32) -> Result<Element, Fail> {
+    let found = Element::parse(alloc, bytes, ox, oy);
+    Ok(found.ok().ok_or("the bytes are an element")?)
+}

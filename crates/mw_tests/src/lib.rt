@@ -1,0 +1,18 @@
+//! Tests across crates: what the proofs leave open, by values from outside. The plain program gives the worked rows,
+//! and the kernels give on each tile what the plain program gives on the whole frame.
+//!
+//! ```text
+//! rt test     // in this folder
+//! ```
+#![tactic(auto)]
+
+#[cfg(test)]
+mod files;
+#[cfg(test)]
+mod images;
+#[cfg(test)]
+mod kernels;
+#[cfg(test)]
+mod plain_rows;
+#[cfg(test)]
+mod seams;

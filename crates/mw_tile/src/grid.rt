@@ -1,0 +1,144 @@
+//! A frame that is cut into squares, and the windows that a step reads.
+
+ghost use Rattle.std.specs.Prelude.{◌≡◌, ◌↔◌, ◌+◌, ◌%◌, ◌<◌, ◌≤◌, IsTrue};
+
+use mw_model::{Reach, Rect};
+use std::marker::Model;
+
+/// A frame of at most 8192 by 8192 pixels, cut into squares of one side.
+#[derive(Clone, Copy)]
+pub struct Grid {
+    width: u32,
+    height: u32,
+    side: u32,
+}
+
+impl Model for Grid {
+    ghost use Rattle.mw_model.specs.Places.{Tiling};
+    ghost use Rattle.mw_tile.specs.Grids.{tiling, IsTiling};
+
+    ghost Value = { Tiling };
+
+    ghost view = { λ a. tiling a.width a.height a.side };
+
+    ghost invariant = { λ a. IsTiling (tiling a.width a.height a.side) };
+
+    ghost inverse = { λ g. record { width = g.width; height = g.height; side = g.side } };
+}
+
+/// Whether tiles may have this side: a multiple of 64 from 64 to 1024.
+pub fn side_ok(side: u32) -> bool
+    ensures { IsTrue result ↔ ((64 ≤ side) × (side ≤ 1024) × (side % 64 ≡ 0)) }
+{
+    side >= 64 && side <= 1024 && side % 64 == 0
+}
+
+impl Grid {
+    ghost use Rattle.std.specs.Prelude.{◌≡◌, ◌+◌, ◌%◌, ◌<◌, ◌≤◌};
+    ghost use Rattle.mw_model.specs.Places.{columns_of, rows_of, tile_count, tile_at, grown, IsWithin};
+    ghost use Rattle.mw_tile.specs.Grids.{tiling};
+
+    pub fn new(width: u32, height: u32, side: u32) -> Grid
+        requires width { (1 ≤ width) × (width ≤ 8192) }
+        requires height { (1 ≤ height) × (height ≤ 8192) }
+        requires side { (64 ≤ side) × (side ≤ 1024) × (side % 64 ≡ 0) }
+        ensures { result ≡ tiling width height side }
+    {
+        Grid {
+            width,
+            height,
+            side,
+        }
+    }
+
+    pub fn width(self) -> u32
+        ensures value { result ≡ self.width }
+        ensures some { 1 ≤ result }
+        ensures small { result ≤ 8192 }
+    {
+        self.width
+    }
+
+    pub fn height(self) -> u32
+        ensures value { result ≡ self.height }
+        ensures some { 1 ≤ result }
+        ensures small { result ≤ 8192 }
+    {
+        self.height
+    }
+
+    pub fn side(self) -> u32
+        ensures value { result ≡ self.side }
+        ensures some { 64 ≤ result }
+        ensures small { result ≤ 1024 }
+    {
+        self.side
+    }
+
+    /// The number of tiles in a row.
+    pub fn columns(self) -> u32
+        ensures value { result ≡ columns_of self }
+        ensures some { 1 ≤ result }
+        ensures small { result ≤ 128 }
+    {
+        (self.width - 1) / self.side + 1
+    }
+
+    /// The number of tiles in a column.
+    pub fn rows(self) -> u32
+        ensures value { result ≡ rows_of self }
+        ensures some { 1 ≤ result }
+        ensures small { result ≤ 128 }
+    {
+        (self.height - 1) / self.side + 1
+    }
+
+    /// The number of tiles.
+    pub fn len(self) -> u32
+        ensures value { result ≡ tile_count self }
+        ensures some { 1 ≤ result }
+        ensures small { result ≤ 16384 }
+    {
+        self.rows() * self.columns()
+    }
+
+    /// The tile of a number; tiles are counted by rows.
+    pub fn rect(self, i: u32) -> Rect
+        requires { i < tile_count self }
+        ensures value { result ≡ tile_at self i }
+        ensures within { IsWithin result self.width self.height }
+    {
+        let columns = self.columns();
+        let x = i % columns * self.side;
+        let y = i / columns * self.side;
+        Rect {
+            x,
+            y,
+            width: self.side.min(self.width - x),
+            height: self.side.min(self.height - y),
+        }
+    }
+
+    /// The tile grown by the reach and cut to the frame.
+    pub fn window(self, i: u32, reach: Reach) -> Rect
+        requires { i < tile_count self }
+        ensures value { result ≡ grown self.width self.height reach (tile_at self i) }
+        ensures within { IsWithin result self.width self.height }
+    {
+        let tile = self.rect(i);
+        let x = tile.x.saturating_sub(reach.left);
+        let y = tile.y.saturating_sub(reach.up);
+        let right = (tile.x + tile.width)
+            .saturating_add(reach.right)
+            .min(self.width);
+        let bottom = (tile.y + tile.height)
+            .saturating_add(reach.down)
+            .min(self.height);
+        Rect {
+            x,
+            y,
+            width: right - x,
+            height: bottom - y,
+        }
+    }
+}

@@ -1,0 +1,72 @@
+//! What tiles and windows are for.
+
+ghost use Rattle.std.specs.Prelude.{◌≡◌, ℕ, ◌+◌, ◌<◌};
+ghost use Rattle.mw_model.specs.declared.places.Rect.{Rect};
+ghost use Rattle.mw_model.specs.Places.{tile_count, tile_at, tiles_of, grown, IsWithin, ReachesAll, WithinReach, CoverOnce};
+ghost use Rattle.mw_model.specs.Pictures.{Picture, IsPicture};
+ghost use Rattle.mw_model.specs.Flat.{under};
+ghost use Rattle.mw_model.specs.Rasters.{Raster, cell_at, seen_under};
+ghost use Rattle.mw_model.specs.Windows.{IsCut, IsWindow, seen_at};
+ghost use Rattle.mw_pixel.specs.Images.{raster_of};
+ghost use Rattle.mw_tile.specs.AnyWindows.{levels_of};
+
+use crate::{AnyWindow, Grid, Window};
+use mw_model::{Offset, Reach};
+use mw_pixel::Pixel;
+
+/// The tiles lie in the frame, and each of its pixels is in exactly one of them.
+pub fn tiles_cover_once(grid: Grid)
+    ensures { CoverOnce (tiles_of grid) grid.width grid.height }
+{
+    let _width = grid.width();
+    let _height = grid.height();
+    let _side = grid.side();
+}
+
+/// A tile's window has each place of the frame to which the element leads from the tile.
+pub fn window_reaches(grid: Grid, i: u32, reach: Reach, element: &[Offset])
+    requires tile { i < tile_count grid }
+    requires reach { WithinReach reach element.now }
+    ensures reaches { ReachesAll (grown grid.width grid.height reach (tile_at grid i)) grid.width grid.height element.now (tile_at grid i) }
+    ensures within { IsWithin (grown grid.width grid.height reach (tile_at grid i)) grid.width grid.height }
+{
+    let _width = grid.width();
+    let _height = grid.height();
+    let _side = grid.side();
+    let _size = element.len();
+}
+
+/// At each place of the tile a window shows under the element what the whole frame has there.
+pub fn window_shows_frame<P: Pixel>(window: &Window<P>, element: &[Offset])
+    ensures { (f : Raster P) (tile : Rect) → IsWindow window.now f element.now tile → (x y : ℕ) → x < tile.width → y < tile.height → seen_under (seen_at window.now) element.now (tile.x + x) (tile.y + y) ≡ seen_under (cell_at f) element.now (tile.x + x) (tile.y + y) }
+{
+    let _place = window.place();
+    let _size = element.len();
+}
+
+/// At each place of the tile a window shows under the element what stands there in the whole image.
+pub fn window_shows_picture(window: &AnyWindow, element: &[Offset])
+    ensures { (f : Picture) (tile : Rect) → IsPicture f → IsWindow (levels_of window.now) (raster_of f) element.now tile → (x y : ℕ) → x < tile.width → y < tile.height → seen_under (seen_at (levels_of window.now)) element.now (tile.x + x) (tile.y + y) ≡ under f element.now (tile.x + x) (tile.y + y) }
+{
+    let _place = window.place();
+    let _size = element.len();
+}
+
+/// What was cut at a tile that is grown by the reach is a window for that tile.
+pub fn cut_is_window<P: Pixel>(
+    window: &Window<P>,
+    grid: Grid,
+    i: u32,
+    reach: Reach,
+    element: &[Offset],
+)
+    requires place { window.now.place ≡ grown grid.width grid.height reach (tile_at grid i) }
+    requires reach { WithinReach reach element.now }
+    ensures { (f : Raster P) → f.width ≡ grid.width → f.height ≡ grid.height → IsCut window.now f → IsWindow window.now f element.now (tile_at grid i) }
+{
+    let _place = window.place();
+    let _width = grid.width();
+    let _left = reach.left;
+    let _i = i;
+    let _size = element.len();
+}

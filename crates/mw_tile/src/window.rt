@@ -1,0 +1,114 @@
+//! Samples of a rectangle of a frame.
+
+ghost use Rattle.std.specs.Prelude.{◌≡◌, ◌+◌, ◌*◌, ◌<◌, ◌≤◌, length, slice_range, vec_len, IfOk};
+ghost use Rattle.mw_model.specs.Places.{IsWithin};
+ghost use Rattle.mw_model.specs.Windows.{IsCut};
+ghost use Rattle.mw_tile.specs.Cuts.{view_of, whole_of};
+
+use crate::cuts::cut_samples;
+use mw_model::{NoMemory, Rect};
+use mw_pixel::{Pixel, Plane};
+use std::alloc::Global;
+use std::marker::Model;
+
+/// The samples of a rectangle of a frame, with the sides of that frame. They stand by rows.
+#[derive(Drop)]
+pub struct Window<P: Pixel> {
+    frame_width: u32,
+    frame_height: u32,
+    place: Rect,
+    samples: Vec<P>,
+}
+
+impl<P: Pixel> Model for Window<P> {
+    ghost use Rattle.std.specs.Prelude.{◌≡◌, ◌*◌, length};
+    ghost use Rattle.mw_model.specs.Places.{IsWithin};
+    ghost use Rattle.mw_model.specs.Windows.{View};
+    ghost use Rattle.mw_tile.specs.Cuts.{view_of};
+
+    ghost Value = { View P };
+
+    ghost view = { λ a. view_of a.frame_width a.frame_height a.place a.samples.items };
+
+    ghost invariant = { λ a. (length a.samples.items ≡ a.place.height * a.place.width) × IsWithin a.place a.frame_width a.frame_height };
+}
+
+impl<P: Pixel> Window<P> {
+    /// A window with samples of its own.
+    pub fn new(frame_width: u32, frame_height: u32, place: Rect, samples: Vec<P>) -> Window<P>
+        requires within { IsWithin place frame_width frame_height }
+        requires size { vec_len samples ≡ place.height * place.width }
+        ensures { result ≡ view_of frame_width frame_height place samples.items }
+    {
+        Window {
+            frame_width,
+            frame_height,
+            place,
+            samples,
+        }
+    }
+
+    /// The window of a rectangle of the plane.
+    pub fn cut(alloc: Global, plane: &Plane<P>, place: Rect) -> Result<Window<P>, NoMemory>
+        requires { IsWithin place plane.now.width plane.now.height }
+        ensures place { IfOk result (λ w. w.place ≡ place) }
+        ensures cut { IfOk result (λ w. IsCut w plane.now) }
+    {
+        let samples = cut_samples(alloc, plane, place)?;
+        Ok(Window::new(plane.width(), plane.height(), place, samples))
+    }
+
+    /// The window that has the whole plane.
+    pub fn whole(plane: Plane<P>) -> Window<P>
+        ensures place { result.place ≡ whole_of plane }
+        ensures cut { IsCut result plane }
+    {
+        let width = plane.width();
+        let height = plane.height();
+        let place = Rect {
+            x: 0,
+            y: 0,
+            width,
+            height,
+        };
+        Window::new(width, height, place, plane.into_samples())
+    }
+
+    pub fn frame_width(&self) -> u32
+        ensures { result ≡ self.now.frame_width }
+    {
+        self.frame_width
+    }
+
+    pub fn frame_height(&self) -> u32
+        ensures { result ≡ self.now.frame_height }
+    {
+        self.frame_height
+    }
+
+    /// The rectangle of the frame that the window has.
+    pub fn place(&self) -> Rect
+        ensures value { result ≡ self.now.place }
+        ensures within { IsWithin result self.now.frame_width self.now.frame_height }
+    {
+        self.place
+    }
+
+    /// All samples, by rows.
+    pub fn samples(&self) -> &[P]
+        ensures value { result.now ≡ self.now.cells }
+        ensures size { length self.now.cells ≡ self.now.place.height * self.now.place.width }
+    {
+        &self.samples
+    }
+
+    /// The samples of a row, counted from the window's first.
+    pub fn row(&self, y: u32) -> &[P]
+        requires { y < self.now.place.height }
+        ensures value { result.now ≡ slice_range self.now.cells (y * self.now.place.width) (y * self.now.place.width + self.now.place.width) }
+        ensures length { length result.now ≡ self.now.place.width }
+    {
+        let start = y as usize * self.place.width as usize;
+        &self.samples[start..start + self.place.width as usize]
+    }
+}
