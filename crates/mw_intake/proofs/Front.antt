@@ -1,12 +1,18 @@
 -- Laws of the front of a byte list.
-use Rattle.std.proofs.Common.{◌≡◌, ℕ, ◌+◌, ◌<◌, ◌≤◌, List, [], ◌∷◌, ◌++◌, length, take, drop, refl, sym, ap, subst, ◌∙◌, arith, Option, None, Some, inl, inr, min, length-take, take-take, length-drop, drop-drop, take-append-drop, length-append, append_assoc}
+use Rattle.std.proofs.Common.{true, ◌≡◌, ℕ, ◌+◌, ◌<◌, ◌≤◌, List, [], ◌∷◌, ◌++◌, length, take, drop, refl, sym, ap, subst, ◌∙◌, arith, Option, None, Some, inl, inr, min, length-take, take-take, length-drop, drop-drop, take-append-drop, length-append, append_assoc}
 use Rattle.std.proofs.lemmas.Bool.{lt-ltb, le-ltb, cases_lt}
 use Rattle.std.proofs.Math.Nat.{le_of_lt}
 use Rattle.std.proofs.lemmas.List.{take-append-le, drop-append-le, take_at, drop_at, append-nil, drop_all}
 use Rattle.std.specs.List.{position_or_len}
 use Rattle.mw_model.proofs.Positions.{position_length, position_kept, position_grows, position_take}
 use Rattle.mw_intake.specs.Intake.{IsPayloadLine}
-use Rattle.mw_model.specs.Lines.{is_line_end, front, Found, Partial, Fault, Asked, asked_with, after_head, with_payload, head_of, Begins}
+use Rattle.mw_model.specs.declared.names.Name.{Name}
+use Rattle.mw_model.specs.declared.operations.Op.{Op}
+use Rattle.mw_model.specs.declared.requests.Ask.{Ask}
+use Rattle.mw_model.specs.declared.requests.Ask.TheVariants as ask
+use Rattle.mw_model.specs.declared.requests.Awaited.TheVariants as awaited
+use Rattle.mw_intake.proofs.LineLaws.{run_is_served}
+use Rattle.mw_model.specs.Lines.{is_line_end, front, Found, Partial, Fault, Asked, AskRun, is_served, asked_alone, asked_with, after_head, with_payload, head_of, Begins}
 use Rattle.mw_model.specs.declared.requests.Awaited.{Awaited}
 use Rattle.mw_model.specs.declared.requests.Head.{Head}
 use Rattle.mw_model.specs.declared.requests.Head.TheVariants.{Payload, Alone}
@@ -211,3 +217,43 @@ Begins_prefix (r ∷ rs) (q ∷ qs) xs rest end b d h =
     let rec = Begins_prefix rs qs b.0 rest end b.2 (subst (λ l. Begins l qs end) (sym mid) d.2) (omega arith) in
     let tail = rec.1 in
     (rec.0, cc, rec.2)
+
+no_run : (what : Awaited) (payload behind left : List ℕ) (name : Name) (op : Op) → Found (asked_with what payload) behind ≡ Found (AskRun name op) left → ⊥
+no_run (awaited.Image n) payload behind left name op e = let bad = found_asked e in cc
+no_run (awaited.Element n ox oy) payload behind left name op e = let bad = found_asked e in cc
+
+alone_run : (a : Ask) (name : Name) (op : Op) → asked_alone a ≡ AskRun name op → a ≡ ask.Run name op
+alone_run (ask.Run n o) name op e = cc
+alone_run (ask.Cancel n) name op e = cc
+alone_run (ask.Release n) name op e = cc
+alone_run (ask.Status n) name op e = cc
+alone_run (ask.Fetch n) name op e = cc
+alone_run (ask.Wait n) name op e = cc
+alone_run ask.Quit name op e = cc
+
+-- a request to compute was read from its line
+payload_asks : (what : Awaited) (n : ℕ) (behind left : List ℕ) (name : Name) (op : Op) → with_payload what n behind ≡ Found (AskRun name op) left → ⊥
+payload_asks what n behind left name op e = elim (cases_lt 134217728 n) [
+  | inl h ↦ let bad = payload_long what n behind h in cc
+  | inr h ↦ elim (cases_lt (length behind) n) [
+    | inl k ↦ let bad = payload_partial what n behind h k in cc
+    | inr k ↦ no_run what (take n behind) (drop n behind) left name op (sym (payload_whole what n behind h k) ∙ e)
+  ]
+]
+
+after_run : (h : Option Head) (behind left : List ℕ) (name : Name) (op : Op) → after_head h behind ≡ Found (AskRun name op) left → h ≡ Some (Alone (ask.Run name op))
+after_run None behind left name op e = cc
+after_run (Some (Payload what n)) behind left name op e = absurd (payload_asks what n behind left name op e)
+after_run (Some (Alone a)) behind left name op e = ap (λ b. Some (Alone b)) (alone_run a name op (found_asked e))
+
+-- a request to compute asks for an operation that is served
+pub front_served : (xs rest : List ℕ) (name : Name) (op : Op) → front xs ≡ Found (AskRun name op) rest → is_served op ≡ true
+front_served xs rest name op e = elim (cases_lt 200 (position_or_len is_line_end xs)) [
+  | inl h ↦ let bad = front_long xs h in cc
+  | inr h ↦ elim (cases_lt (position_or_len is_line_end xs) (length xs)) [
+    | inl k ↦
+        let line = take (position_or_len is_line_end xs) xs in
+        run_is_served line name op (after_run (head_of line) (drop (position_or_len is_line_end xs + 1) xs) rest name op (sym (front_line xs h k) ∙ e))
+    | inr k ↦ let bad = front_open xs h k in cc
+  ]
+]

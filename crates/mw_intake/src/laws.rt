@@ -1,13 +1,20 @@
 //! Laws of the grammar, over every byte list and every cutting.
 
-ghost use Rattle.std.specs.Prelude.{◌≡◌, ◌++◌, ◌≤◌, ◌↔◌, List, ℕ, length};
-ghost use Rattle.mw_model.specs.Lines.{Asked, Found, Fault, front, Begins, head_of, line_of, IsSayable};
+ghost use Rattle.std.specs.Prelude.{◌≡◌, ◌++◌, ◌≤◌, ◌↔◌, List, ℕ, length, true};
+ghost use Rattle.mw_model.specs.Lines.{Asked, AskRun, Found, Fault, front, Begins, head_of, line_of, IsSayable, is_served};
+ghost use Rattle.mw_model.specs.declared.names.Name.{Name};
+ghost use Rattle.mw_model.specs.declared.operations.Op.{Op};
 ghost use Rattle.mw_model.specs.declared.codes.Code.{Code};
 ghost use Rattle.mw_model.specs.declared.requests.Head.{Head};
 
 /// A line is read exactly where it is the line of what is read: its words, with exactly one blank between two.
 pub fn lines_say_one_thing()
     ensures { (line : List ℕ) (h : Head) → (head_of line ≡ Some h) ↔ ((line ≡ line_of h) × IsSayable h) }
+{}
+
+/// A request to compute asks for an operation that is served.
+pub fn runs_are_served()
+    ensures { (xs rest : List ℕ) (name : Name) (op : Op) → front xs ≡ Found (AskRun name op) rest → is_served op ≡ true }
 {}
 
 /// What is cut off stays cut off, whatever bytes follow.

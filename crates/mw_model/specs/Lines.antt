@@ -1,5 +1,5 @@
 -- The lines of the protocol, and what they ask for (own).
-use Rattle.std.specs.Prelude.{◌<◌, map, decimal, ◌≡◌, ℕ, ◌+◌, ◌-◌, ◌*◌, Bool, true, ◌&&◌, ◌==◌, if◌then◌else◌, nat_lt, nat_le, List, [], ◌∷◌, length, take, drop, Option, None, Some, codes, fold, slice_index}
+use Rattle.std.specs.Prelude.{◌<◌, map, decimal, ◌≡◌, ℕ, ◌+◌, ◌-◌, ◌*◌, Bool, true, false, ◌&&◌, ◌==◌, if◌then◌else◌, nat_lt, nat_le, List, [], ◌∷◌, length, take, drop, Option, None, Some, codes, fold, slice_index}
 use Rattle.std.specs.List.{list_all, position_or_len, slice_split, join_with_byte, AllByRecursion}
 use Rattle.std.specs.Str.{bytes_eq}
 use Rattle.mw_model.specs.declared.names.Name.{Name}
@@ -74,9 +74,20 @@ words_of (Alone ask.Quit) = Fixed (codes "QUIT") ∷ []
 abbrev pub line_of : Head → List ℕ
 line_of head = join_with_byte 32 (map spelled (words_of head))
 
--- its names are names, and its numbers have at most nine digits
+-- the operations that are served
+abbrev pub is_served : Op → Bool
+is_served (Flat (Erode f b)) = true
+is_served (Flat (Dilate f b)) = true
+is_served op = false
+
+-- what it is to compute is served
+abbrev pub AsksServed : Head → Type 0
+AsksServed (Alone (ask.Run name op)) = is_served op ≡ true
+AsksServed head = Unit {0}
+
+-- its names are names, its numbers have at most nine digits, and its operation is served
 abbrev pub IsSayable : Head → Type 0
-IsSayable head = AllByRecursion Fits (words_of head)
+IsSayable head = AllByRecursion Fits (words_of head) × AsksServed head
 
 -- ---- reading a line
 
@@ -202,12 +213,17 @@ op_with word ws =
     else (if bytes_eq word (codes "SPECTRUM") then two_names_and_number ws >>= (λ a. Some (Gran (Spectrum a.0 a.1 a.2)))
     else two_names ws >>= (λ a. window_op word a.0 a.1 >>= (λ op. Some (Flat op))))))))
 
+-- the operation, where it is served
+abbrev pub served : Op → Option Op
+served op = if is_served op then Some op else None
+
 -- a RUN: the name of the result, and what is computed
 abbrev pub run_in : List (List ℕ) → Option Ask
 run_in ws = do
   name ← name_in ws
   word ← word_in (rest ws)
-  op ← op_with word (rest (rest ws))
+  read ← op_with word (rest (rest ws))
+  op ← served read
   Some (ask.Run name op)
 
 -- a request without a payload, but RUN: its word, and a name
