@@ -15,7 +15,8 @@ use Rattle.mw_model.specs.declared.requests.Awaited.TheVariants as awaited
 use Rattle.mw_model.specs.declared.requests.Head.{Head}
 use Rattle.mw_model.specs.declared.requests.Head.TheVariants.{Payload, Alone}
 use Rattle.mw_model.specs.Names.{spelling}
-use Rattle.mw_model.specs.Lines.{Word, Fixed, ForName, ForNumber, Fits, IsName, spelled, op_words, words_of, line_of, AsksServed, is_served, served, IsSayable, words, word_in, name_in, number_in, rest, at_end, one_name, two_names, three_names, name_and_number, two_names_and_number, name_and_three_numbers, window_op, op_with, run_in, ask_with, head_with, head_of, ◌>>=◌}
+use Rattle.mw_model.specs.Lines.{Word, Fixed, ForName, ForNumber, Fits, IsName, spelled, op_words, words_of, line_of, AsksServed, is_served, IsSayable}
+use Rattle.mw_intake.specs.Reading.{served, words, word_in, name_in, number_in, rest, at_end, one_name, two_names, three_names, name_and_number, two_names_and_number, name_and_three_numbers, window_op, op_with, run_in, ask_with, head_with, head_of, ◌>>=◌}
 use Rattle.mw_intake.proofs.Fields.{if_some, bind_some, text_is, end_some, name_first, number_first}
 
 -- these words are those, and each of them may stand there

@@ -14,7 +14,8 @@ use Rattle.mw_model.specs.declared.requests.Head.{Head}
 use Rattle.mw_model.specs.declared.requests.Head.TheVariants.{Payload, Alone}
 use Rattle.mw_model.specs.Names.{spelling, is_name_byte}
 use Rattle.mw_model.proofs.Spellings.{spelling_of}
-use Rattle.mw_model.specs.Lines.{Word, Fixed, ForName, ForNumber, Fits, IsName, spelled, op_words, words_of, line_of, is_served, IsSayable, words, is_blank, is_digit, one_name, two_names, three_names, name_and_number, two_names_and_number, name_and_three_numbers, window_op, op_with, run_in, ask_with, head_with, head_of, word_in, rest, ◌>>=◌}
+use Rattle.mw_model.specs.Lines.{Word, Fixed, ForName, ForNumber, Fits, IsName, spelled, op_words, words_of, line_of, is_served, IsSayable}
+use Rattle.mw_intake.specs.Reading.{words, is_blank, is_digit, one_name, two_names, three_names, name_and_number, two_names_and_number, name_and_three_numbers, window_op, op_with, run_in, ask_with, head_with, head_of, word_in, rest, ◌>>=◌}
 use Rattle.mw_intake.proofs.Fields.{own, name_spelled, number_spelled}
 
 -- no blank stands in the word
