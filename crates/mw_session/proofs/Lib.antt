@@ -3,3 +3,4 @@ pub mod Working
 pub mod Finishing
 pub mod Readings
 pub mod Writing
+pub mod Sessions

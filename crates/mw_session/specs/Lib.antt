@@ -1,3 +1,5 @@
 pub mod Writes
 pub mod Reads
+pub mod Work
 pub mod Runs
+pub mod Answering

@@ -13,6 +13,7 @@ mod line;
 mod pieces;
 mod reply;
 mod saying;
+mod script;
 mod stream;
 
 pub use fault::SessionFault;
@@ -22,6 +23,7 @@ pub use mw_model::{End, NoMemory};
 pub use pieces::{Piece, take_piece};
 pub use reply::{curve_line, image_line, refusal_line, reply_line};
 pub use saying::{end_by, say, say_curve, say_image};
+pub use script::{Pick, run_script};
 pub use stream::{Sink, Source, receive, send};
 
 #[cfg(test)]
