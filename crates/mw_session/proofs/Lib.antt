@@ -4,3 +4,7 @@ pub mod Finishing
 pub mod Readings
 pub mod Writing
 pub mod Sessions
+pub mod Totals
+pub mod Idle
+pub mod Advancing
+pub mod Answering

@@ -1,17 +1,22 @@
 -- What the loops of a session keep, and what they end with.
-use Rattle.std.proofs.Common.{◌≡◌, ◌≢◌, ℕ, List, [], ◌++◌, take, Option, Some, None, Result, Ok, Err, refl, sym, ap, ◌∙◌, subst, inl, inr}
+use Rattle.std.proofs.Common.{Bool, true, false, ◌≡◌, ◌≢◌, ℕ, List, [], ◌∷◌, ◌++◌, take, Option, Some, None, Result, Ok, Err, refl, sym, ap, ◌∙◌, subst, inl, inr}
 use Rattle.std.proofs.lemmas.List.{append-nil}
 use Rattle.std.specs.Io.KnownBytes.{Appends, Consumes, IsAtEnd}
-use Rattle.std.proofs.KnownBytes.{Appends-nil}
+use Rattle.std.proofs.KnownBytes.{Appends-nil, Consumes-trans}
+use Rattle.std.specs.Prelude.{OnOk, OnErr}
 use Rattle.mw_model.specs.declared.codes.Code.{Code}
 use Rattle.mw_model.specs.declared.codes.Code.TheVariants as code
 use Rattle.mw_model.specs.declared.requests.End.{End}
 use Rattle.mw_model.specs.declared.requests.End.TheVariants as end
 use Rattle.mw_model.specs.Machine.{Machine}
 use Rattle.mw_model.specs.Stands.{Seen, StandsFor, running_count}
-use Rattle.mw_model.specs.Lines.{Asked, AskQuit, front, Found, Partial}
+use Rattle.mw_model.specs.declared.names.Name.{Name}
+use Rattle.mw_model.specs.declared.operations.Op.{Op}
+use Rattle.mw_core.specs.Served.{is_served}
+use Rattle.mw_model.specs.Lines.{Asked, AskRun, AskQuit, front, Found, Partial}
 use Rattle.mw_model.specs.Scripts.{Ends}
 use Rattle.mw_session.specs.declared.fault.SessionFault.{SessionFault}
+use Rattle.mw_session.specs.declared.fault.SessionFault.TheVariants as fault
 use Rattle.mw_session.specs.Writes.{EndsBy}
 use Rattle.mw_session.specs.Runs.{Answered, SessionRan}
 use Rattle.mw_session.specs.Answering.{EndedBy, Drove}
@@ -129,3 +134,31 @@ ran-ended m old now had left bytes rest x y z c (Err f) read h ends w =
 pub ran-out : (m : Machine) (old now : Seen) (had left : Option (List ℕ)) (bytes : List ℕ) (x y z : Option (List ℕ)) → Consumes had left bytes → Serving m old now bytes [] x y → IsAtEnd left → Appends y z [] → SessionRan m old now had left x z (Ok end.Quit)
 ran-out m old now had left bytes x y z read h whole w =
     record { taken = bytes; state = h.state; read = read; stands = h.stands; idle = h.idle; ran = Finished_by left bytes [] m h.state old.log now.log x y z end.Quit h.progress (inl (refl, whole)) w }
+
+-- ---- ends
+
+-- the input ended, between requests or in the middle of one
+pub ran-to-end : (m : Machine) (old now : Seen) (had mid left : Option (List ℕ)) (bytes rest behind : List ℕ) (x y z : Option (List ℕ)) (r : Result End SessionFault) → Consumes had mid bytes → Consumes mid left [] → IsAtEnd left → behind ≡ rest
+    → Serving m old now bytes rest x y → front rest ≡ Partial → (behind ≡ [] → (r ≡ Ok end.Quit) × Appends y z []) → (behind ≢ [] → EndsBy y z code.Cut r) → SessionRan m old now had left x z r
+ran-to-end m old now had mid left bytes [] behind x y z r read none whole same h waits quit cut =
+    let q = quit same in
+    let all = rw append-nil at (Consumes-trans _ _ _ bytes [] read none) in
+    let P : Result End SessionFault → Type 0 = λ o. SessionRan m old now had left x z o in
+    subst P (sym q.0) (ran-out m old now had left bytes x y z all h whole q.1)
+ran-to-end m old now had mid left bytes (b ∷ rest) behind x y z r read none whole same h waits quit cut =
+    let all = rw append-nil at (Consumes-trans _ _ _ bytes [] read none) in
+    let some : b ∷ rest ≢ [] = λ e. cc in
+    ran-ended m old now had left bytes (b ∷ rest) x y z code.Cut r all h (inr (inl (refl, waits, some, whole))) (cut (λ e. some (sym same ∙ e)))
+
+-- a writer that failed is told
+pub write-failed : {X : Type 0} → (r : Result X SessionFault) (new old : Bool) → old ≡ false → OnOk r (new ≡ old) → OnErr r ((r ≡ Err fault.Write) × (new ≡ true)) → new ≡ true → r ≡ Err fault.Write
+write-failed (Ok x) new old clear kept flag failed = cc
+write-failed (Err f) new old clear kept flag failed = flag.0
+
+-- no request stands in no bytes
+pub front_none : front [] ≡ Partial
+unfolding front
+front_none = refl
+
+pub front_served : (xs rest : List ℕ) (name : Name) (op : Op) → front xs ≡ Found (AskRun name op) rest → is_served op ≡ true
+front_served xs rest name op e = ?
