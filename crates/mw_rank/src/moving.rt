@@ -5,7 +5,8 @@ ghost use Rattle.std.specs.Prelude.{◌≡◌, ℕ, ◌+◌, ◌*◌, ◌<◌, �
 ghost use Rattle.std.specs.Option.{option_to_list};
 ghost use Rattle.mw_model.specs.PlanSteps.{ranked};
 ghost use Rattle.mw_model.specs.Rasters.{Raster, raster, cell_at};
-ghost use Rattle.mw_model.specs.Windows.{seen_at, IsWindow};
+ghost use Rattle.mw_model.specs.Windows.{seen_at};
+ghost use Rattle.mw_tile.specs.Windows.{IsWindow};
 ghost use Rattle.mw_rank.specs.Ranks.{levels_under, levels_at, IsRank, GainsRow, HasRows};
 ghost use Rattle.mw_rank.specs.Runs.{element_of};
 ghost use Rattle.mw_rank.specs.Tallies.{Tallies, HasRoom, Holds};

@@ -26,7 +26,7 @@ use Rattle.mw_core.specs.declared.answers.Finish.{Finish}
 use Rattle.mw_core.specs.declared.answers.Finish.TheVariants as finish
 use Rattle.mw_core.specs.declared.answers.Refusal.{Refusal}
 use Rattle.mw_core.specs.declared.answers.Refusal.TheVariants as refusal
-use Rattle.mw_model.specs.Scripts.{NonePending}
+use Rattle.mw_session.specs.Marks.{NonePending}
 use Rattle.mw_laws.proofs.RunReplay.{run_join}
 use Rattle.mw_session.specs.Work.{tasks_left, Worked, AllWorked}
 use Rattle.mw_session.proofs.Totals.{total, total-at, total-le, total-falls, total-grows, total-bounded, total-zero, count-some, count-falls, count-grows}
@@ -252,15 +252,15 @@ placed-turn old c new m w b e =
     let ends : flag q.finished n ≡ true = ap (λ fs. flag fs n) e.finished ∙ get_or-set_same p.finished n true false (omega (arith, work.finished, e.result.within)) in
     let as_before : (k : ℕ) → k ≢ n → flag q.finished k ≡ flag p.finished k = λ k d. ap (λ fs. flag fs k) e.finished ∙ get_or-set_other p.finished n k true false d in
     let one_done : remaining_tasks q + 1 ≤ remaining_tasks p = omega (
-    arith,
-    ap (λ k. count_by (λ i. not (flag q.finished i)) (range_with_len 0 k)) count,
-    count-falls (λ k. not (flag q.finished k)) (λ k. not (flag p.finished k)) (task_count p) n e.result.within (rw ends refl) (rw unfinished refl) (λ k d. ap not (as_before k d)),
+      arith,
+      ap (λ k. count_by (λ i. not (flag q.finished i)) (range_with_len 0 k)) count,
+      count-falls (λ k. not (flag q.finished k)) (λ k. not (flag p.finished k)) (task_count p) n e.result.within (rw ends refl) (rw unfinished refl) (λ k d. ap not (as_before k d)),
     ) in
     let one_rests : running_tasks q + 1 ≤ running_tasks p = omega (
-    arith,
-    ap (λ k. count_by (is_running q) (range_with_len 0 k)) count,
-    count-falls (is_running q) (is_running p) (task_count p) n e.result.within (none_runs (flag q.started n) (flag q.finished n) ends) e.result.running
-    (λ k d. ap (λ x. x && not (flag q.finished k)) (ap (λ fs. flag fs k) e.started) ∙ ap (λ x. flag p.started k && not x) (as_before k d)),
+      arith,
+      ap (λ k. count_by (is_running q) (range_with_len 0 k)) count,
+      count-falls (is_running q) (is_running p) (task_count p) n e.result.within (none_runs (flag q.started n) (flag q.finished n) ends) e.result.running
+          (λ k d. ap (λ x. x && not (flag q.finished k)) (ap (λ fs. flag fs k) e.started) ∙ ap (λ x. flag p.started k && not x) (as_before k d)),
     ) in
     let tables : new.table ≡ c.table = e.stands.table ∙ sym s.table in
     let names : length new.table.names ≡ length c.table.names = ap (λ (x : Table). length x.names) tables in

@@ -27,9 +27,11 @@ use Rattle.mw_model.specs.Refusals.{Table, outcome_at, is_pending, first_of, nam
 use Rattle.mw_model.specs.Machine.{Machine, values, status_reply, answer, refused_or, reply_to, changed, unless_refused, table_after, with_entry, killed, after}
 use Rattle.mw_model.specs.Tasks.{Progress, running_tasks}
 use Rattle.mw_model.specs.Stands.{Seen, StandsFor, progress_at, running_count}
-use Rattle.mw_model.specs.Lines.{Asked, AskLoad, AskElement, AskRun, AskCancel, AskRelease, AskStatus, AskFetch, AskWait}
+use Rattle.mw_model.specs.declared.requests.Ask.TheVariants as ask
+use Rattle.mw_model.specs.Lines.{Asked, AskLoad, AskElement, AskAlone}
 use Rattle.mw_model.specs.Replies.{Handed, reply_text, refusal_text, NoValue, ImageBytes}
-use Rattle.mw_model.specs.Scripts.{Turn, Answers, unread, called, Works, Replies, IsTurn, IsCallOf, ImageGiven, ElementGiven, runs_work, refused_unread, handed, answer_text, killed_in, kills_of}
+use Rattle.mw_model.specs.Scripts.{Turn, Answers, unread, called, Works, Replies, IsTurn, IsCallOf, ImageGiven, ElementGiven, runs_work, refused_unread, handed, answer_text}
+use Rattle.mw_session.specs.Marks.{killed_in}
 use Rattle.mw_laws.specs.MachineLaws.{IsSound, IsKilled}
 use Rattle.mw_laws.proofs.RunStates.{reached}
 use Rattle.mw_laws.proofs.RunTables.{push_last}
@@ -206,9 +208,9 @@ pub calm-run : (old new : Seen) (name : Name) (op : Op) (r : Reply) (m : Machine
 calm-run old new name op r m s h fresh none =
     let c = call.Run name op in
     calm-more old new c None r m name _ outcome.Pending s h none refl (λ free u last.
-      let told : r ≡ reply.Accepted (length m.table.names) = h.reply m s ∙ ap (λ x. refused_or x (answer m.table c)) free in
-      let f = fresh (length m.table.names) told in
-      rw last (count-under running_tasks new (length m.table.names) f.progress f.work ∙ f.idle))
+    let told : r ≡ reply.Accepted (length m.table.names) = h.reply m s ∙ ap (λ x. refused_or x (answer m.table c)) free in
+    let f = fresh (length m.table.names) told in
+    rw last (count-under running_tasks new (length m.table.names) f.progress f.work ∙ f.idle))
 
 pub calm-cancel : (old new : Seen) (name : Name) (r : Reply) (m : Machine) → StandsFor old m → Serves old (call.Cancel name) None new r → running_count old ≡ 0 → running_count new ≡ 0
 unfolding killed
@@ -281,18 +283,18 @@ pub called-plain : (m : Machine) (q : Asked) (c : Call) (p : Option Value) (r : 
 called-plain m q c p r is plain told = called c p is (plain-text m c r plain told) refl
 
 -- a FETCH was answered
-pub answered-fetch : (m : Machine) (name : Name) (old mid new : Seen) (h : Ready m (AskFetch name) old mid) (r : Reply) (v : Shown) (text : List ℕ) (x y : Option (List ℕ)) (res : Result (Unit {0}) SessionFault)
-    → Serves mid (call.Fetch name) None new r → shown_value v ≡ handed_out h.state r → SaysFetched r v text → Wrote x y text res → Answered m (AskFetch name) old new x y res
+pub answered-fetch : (m : Machine) (name : Name) (old mid new : Seen) (h : Ready m (AskAlone (ask.Fetch name)) old mid) (r : Reply) (v : Shown) (text : List ℕ) (x y : Option (List ℕ)) (res : Result (Unit {0}) SessionFault)
+    → Serves mid (call.Fetch name) None new r → shown_value v ≡ handed_out h.state r → SaysFetched r v text → Wrote x y text res → Answered m (AskAlone (ask.Fetch name)) old new x y res
 answered-fetch m name old mid new h r v text x y res served value (inl says) wrote =
     let c = call.Fetch name in
     let told = served.reply h.state h.stands in
     let same : text ≡ answer_text h.state c = says ∙ fetched-text h.state r v value ∙ ap (λ z. reply_text z (handed h.state z)) told in
-    answered m (AskFetch name) old mid new h false text (after h.state c None) (item.Call c r ∷ []) x y res (called c None (refl, refl) same refl)
+    answered m (AskAlone (ask.Fetch name)) old mid new h false text (after h.state c None) (item.Call c r ∷ []) x y res (called c None (refl, refl) same refl)
     (served.stands h.state h.stands) (calm-fetch mid new name r h.state h.stands served h.idle) served.log refl wrote
 answered-fetch m name old mid new h r v text x y res served value (inr says) wrote =
     let c = call.Fetch name in
     let P : Machine → Type 0 = λ n. StandsFor new n in
-    answered m (AskFetch name) old mid new h true text h.state (item.Call c r ∷ []) x y res (says, refl)
+    answered m (AskAlone (ask.Fetch name)) old mid new h true text h.state (item.Call c r ∷ []) x y res (says, refl)
     (subst P (fetch_leaves h.state name None) (served.stands h.state h.stands)) (calm-fetch mid new name r h.state h.stands served h.idle) served.log refl wrote
 
 -- it found no memory
@@ -328,29 +330,29 @@ answered-element {E} m name ox oy bytes element old new told x y res s none read
 
 pub answered-run : {E : Type 0} → (m : Machine) (name : Name) (op : Op) (old new : Seen) (told : Result Reply E) (x y : Option (List ℕ)) (res : Result (Unit {0}) SessionFault)
     → StandsFor old m → running_count old ≡ 0 → IfOk told (Serves old (call.Run name op) None new) → ((t : ℕ) → IfOk told (λ r. r ≡ reply.Accepted t → IsFresh new t)) → OnErr told (new ≡ old)
-    → Wrote x y (told_text told) res → Answered m (AskRun name op) old new x y res
+    → Wrote x y (told_text told) res → Answered m (AskAlone (ask.Run name op)) old new x y res
 unfolding ready-at-once
 answered-run {E} m name op old new told x y res s none served fresh failed wrote =
-    let q = AskRun name op in
+    let q = AskAlone (ask.Run name op) in
     let c = call.Run name op in
     let P : ℕ → Result Reply E → Type 0 = λ t r. IfOk r (λ a. a ≡ reply.Accepted t → IsFresh new t) in
     answered-told m q old old new (ready-at-once m q old s none refl) c None told x y res served failed
     (λ r is h. (called-plain m q c None r (refl, refl) tt (h.reply m s), calm-run old new name op r m s h (λ t. subst (P t) is (fresh t)) none)) wrote
 
 pub answered-cancel : {E : Type 0} → (m : Machine) (name : Name) (old new : Seen) (told : Result Reply E) (x y : Option (List ℕ)) (res : Result (Unit {0}) SessionFault)
-    → StandsFor old m → running_count old ≡ 0 → IfOk told (Serves old (call.Cancel name) None new) → OnErr told (new ≡ old) → Wrote x y (told_text told) res → Answered m (AskCancel name) old new x y res
+    → StandsFor old m → running_count old ≡ 0 → IfOk told (Serves old (call.Cancel name) None new) → OnErr told (new ≡ old) → Wrote x y (told_text told) res → Answered m (AskAlone (ask.Cancel name)) old new x y res
 unfolding ready-at-once
 answered-cancel m name old new told x y res s none served failed wrote =
-    let q = AskCancel name in
+    let q = AskAlone (ask.Cancel name) in
     let c = call.Cancel name in
     answered-told m q old old new (ready-at-once m q old s none refl) c None told x y res served failed
     (λ r is h. (called-plain m q c None r (refl, refl) tt (h.reply m s), calm-cancel old new name r m s h none)) wrote
 
 pub answered-release : {E : Type 0} → (m : Machine) (name : Name) (old new : Seen) (told : Result Reply E) (x y : Option (List ℕ)) (res : Result (Unit {0}) SessionFault)
-    → StandsFor old m → running_count old ≡ 0 → IfOk told (Serves old (call.Release name) None new) → OnErr told (new ≡ old) → Wrote x y (told_text told) res → Answered m (AskRelease name) old new x y res
+    → StandsFor old m → running_count old ≡ 0 → IfOk told (Serves old (call.Release name) None new) → OnErr told (new ≡ old) → Wrote x y (told_text told) res → Answered m (AskAlone (ask.Release name)) old new x y res
 unfolding ready-at-once
 answered-release m name old new told x y res s none served failed wrote =
-    let q = AskRelease name in
+    let q = AskAlone (ask.Release name) in
     let c = call.Release name in
     answered-told m q old old new (ready-at-once m q old s none refl) c None told x y res served failed
     (λ r is h. (called-plain m q c None r (refl, refl) tt (h.reply m s), calm-release old new name r m s h none)) wrote

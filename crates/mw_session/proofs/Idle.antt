@@ -13,7 +13,7 @@ use Rattle.mw_model.specs.Machine.{Machine}
 use Rattle.mw_model.specs.Plans.{Source, FromInput, FromStep, IsSourceAt, images_of}
 use Rattle.mw_model.specs.Tasks.{Progress, task_count, flag, step_number, planned_of, is_step, reads, tasks_below, is_ready, is_running, ready_tasks, running_tasks, remaining_tasks}
 use Rattle.mw_model.specs.Stands.{Seen, IsWork, StandsFor, progress_at, inputs_of, input_values, inputs_there, may_run, ready_under, ready_count, running_count}
-use Rattle.mw_model.specs.Scripts.{NonePending}
+use Rattle.mw_session.specs.Marks.{NonePending}
 use Rattle.mw_laws.specs.MachineLaws.{IsSound}
 use Rattle.mw_laws.proofs.RunCascade.{strongly}
 use Rattle.mw_laws.proofs.RunStates.{reached}
@@ -70,24 +70,24 @@ some_tiles n a (suc l) h = omega arith
 all_finished : (m : Machine) (t : ℕ) (p : Progress) → IsWork m t p → running_tasks p ≡ 0 → ready_tasks p ≡ 0 → (n : ℕ) → n < task_count p → flag p.finished n ≡ true
 all_finished m t p w running ready n l =
     strongly (λ i. i < task_count p → flag p.finished i ≡ true) (λ i before k.
-      elim (cases_Bool (flag p.finished i)) [
-        | inl f ↦ f
-        | inr f ↦ elim (cases_Bool (flag p.started i)) [
-          | inl s ↦ let one = count-some (is_running p) (task_count p) i k (rw (s, f) refl) in absurd (omega (arith, one, running))
-          | inr s ↦
-              let done : (u : ℕ) → u < task_count p → (not (reads p i u) || flag p.finished u) ≡ true = λ u b.
-                elim (cases_Bool (reads p i u)) [
-                  | inl r ↦
-                      let from : list_any (is_step (step_number p u)) (planned_of p i).sources ≡ true = both_left _ _ r in
-                      let step : step_number p u < step_number p i = earlier (length (images_of (input_values m t))) (step_number p i) (step_number p u) (planned_of p i).sources (w.sources (step_number p i)) from in
-                      let ahead = below_by_steps u i (length p.tiles) (some_tiles i (length p.plan) (length p.tiles) k) step in
-                      rw r (before u ahead b)
-                  | inr r ↦ rw r refl
-                ] in
-              let one = count-some (is_ready p) (task_count p) i k (rw s (all_range (λ u. not (reads p i u) || flag p.finished u) 0 (task_count p) (λ u a b. done u (omega arith)))) in
-              absurd (omega (arith, one, ready))
-        ]
-      ]) n l
+    elim (cases_Bool (flag p.finished i)) [
+      | inl f ↦ f
+      | inr f ↦ elim (cases_Bool (flag p.started i)) [
+        | inl s ↦ let one = count-some (is_running p) (task_count p) i k (rw (s, f) refl) in absurd (omega (arith, one, running))
+        | inr s ↦
+            let done : (u : ℕ) → u < task_count p → (not (reads p i u) || flag p.finished u) ≡ true = λ u b.
+            elim (cases_Bool (reads p i u)) [
+              | inl r ↦
+                  let from : list_any (is_step (step_number p u)) (planned_of p i).sources ≡ true = both_left _ _ r in
+                  let step : step_number p u < step_number p i = earlier (length (images_of (input_values m t))) (step_number p i) (step_number p u) (planned_of p i).sources (w.sources (step_number p i)) from in
+                  let ahead = below_by_steps u i (length p.tiles) (some_tiles i (length p.plan) (length p.tiles) k) step in
+                  rw r (before u ahead b)
+              | inr r ↦ rw r refl
+            ] in
+            let one = count-some (is_ready p) (task_count p) i k (rw s (all_range (λ u. not (reads p i u) || flag p.finished u) 0 (task_count p) (λ u a b. done u (omega arith)))) in
+            absurd (omega (arith, one, ready))
+      ]
+    ]) n l
 
 idle-at : (c : Seen) (m : Machine) → StandsFor c m → running_count c ≡ 0 → ready_count c ≡ 0 → IsSound m → (t : ℕ) → ((u : ℕ) → u < t → u < length m.table.names → outcome_at m.table.outcomes u ≢ outcome.Pending) → t < length m.table.names → outcome_at m.table.outcomes t ≢ outcome.Pending
 idle-at c m s running ready sound t before l e =

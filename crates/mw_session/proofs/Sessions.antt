@@ -10,10 +10,10 @@ use Rattle.mw_model.specs.declared.requests.End.{End}
 use Rattle.mw_model.specs.declared.requests.End.TheVariants as end
 use Rattle.mw_model.specs.Machine.{Machine}
 use Rattle.mw_model.specs.Stands.{Seen, StandsFor, running_count}
-use Rattle.mw_model.specs.declared.names.Name.{Name}
-use Rattle.mw_model.specs.declared.operations.Op.{Op}
-use Rattle.mw_core.specs.Served.{is_served}
-use Rattle.mw_model.specs.Lines.{Asked, AskRun, AskQuit, front, Found, Partial}
+use Rattle.mw_model.specs.declared.requests.Ask.TheVariants as ask
+use Rattle.mw_model.specs.Lines.{Asked, AskAlone, Found, Partial}
+use Rattle.mw_intake.specs.Reading.{front}
+use Rattle.mw_intake.proofs.Front.{is_front}
 use Rattle.mw_model.specs.Scripts.{Ends}
 use Rattle.mw_session.specs.declared.fault.SessionFault.{SessionFault}
 use Rattle.mw_session.specs.declared.fault.SessionFault.TheVariants as fault
@@ -46,12 +46,12 @@ drove-partial left m old now bytes rest x y h parts = record {
   drains = record { turns = h.progress.turns; text = h.progress.text; serves = h.progress.serves; open_still = parts; kills = h.progress.kills; wrote = h.progress.wrote };
 }
 
-pub drove-quit : (left : Option (List ℕ)) (m : Machine) (old now : Seen) (bytes rest more after : List ℕ) (x y : Option (List ℕ)) → Serving m old now bytes rest x y → front rest ≡ Found AskQuit more → Drove left bytes after m old now x y (Ok (Some end.Quit))
+pub drove-quit : (left : Option (List ℕ)) (m : Machine) (old now : Seen) (bytes rest more after : List ℕ) (x y : Option (List ℕ)) → Serving m old now bytes rest x y → front rest ≡ Found (AskAlone ask.Quit) more → Drove left bytes after m old now x y (Ok (Some end.Quit))
 drove-quit left m old now bytes rest more after x y h found = record {
   state = h.state;
   stands = h.stands;
   idle = h.idle;
-  drains = Finished_by left bytes rest m h.state old.log now.log x y y end.Quit h.progress (inr (more, found)) (Appends-nil y);
+  drains = Finished_by left bytes rest m h.state old.log now.log x y y end.Quit h.progress (inr (more, is_front rest (Found (AskAlone ask.Quit) more) found)) (Appends-nil y);
 }
 
 pub drove-ended : (left : Option (List ℕ)) (m : Machine) (old now : Seen) (bytes rest after : List ℕ) (x y z : Option (List ℕ)) (c : Code) (r : Result (Option End) SessionFault) → Serving m old now bytes rest x y → Ends (IsAtEnd left) rest (end.Ended c) → EndedBy y z c r → Drove left bytes after m old now x z r
@@ -70,7 +70,7 @@ drove-ended left m old now bytes rest after x y z c (Err f) h ends w = record {
   drains = Broken_by left bytes rest m h.state old.log now.log x y z (end.Ended c) w.0 h.progress ends w.1;
 }
 
-pub serving-answered : (m : Machine) (old mid now : Seen) (bytes rest after : List ℕ) (x y z : Option (List ℕ)) (q : Asked) (v : Unit {0}) → (h : Serving m old mid bytes rest x y) → front rest ≡ Found q after → q ≢ AskQuit
+pub serving-answered : (m : Machine) (old mid now : Seen) (bytes rest after : List ℕ) (x y z : Option (List ℕ)) (q : Asked) (v : Unit {0}) → (h : Serving m old mid bytes rest x y) → front rest ≡ Found q after → q ≢ AskAlone ask.Quit
     → Answered h.state q mid now y z (Ok v) → Serving m old now bytes after x z
 serving-answered m old mid now bytes rest after x y z q v h found asks a = record {
   state = a.state;
@@ -79,7 +79,7 @@ serving-answered m old mid now bytes rest after x y z q v h found asks a = recor
   progress = Progress_answered bytes rest after m h.state old.log mid now x y z q v h.progress found asks a;
 }
 
-pub drove-broken : (left : Option (List ℕ)) (m : Machine) (old mid now : Seen) (bytes rest after behind : List ℕ) (x y z : Option (List ℕ)) (q : Asked) (f : SessionFault) → (h : Serving m old mid bytes rest x y) → front rest ≡ Found q after → q ≢ AskQuit
+pub drove-broken : (left : Option (List ℕ)) (m : Machine) (old mid now : Seen) (bytes rest after behind : List ℕ) (x y z : Option (List ℕ)) (q : Asked) (f : SessionFault) → (h : Serving m old mid bytes rest x y) → front rest ≡ Found q after → q ≢ AskAlone ask.Quit
     → Answered h.state q mid now y z (Err f) → Drove left bytes behind m old now x z (Err f)
 drove-broken left m old mid now bytes rest after behind x y z q f h found asks a = record {
   state = a.state;
@@ -148,7 +148,7 @@ ran-to-end m old now had mid left bytes [] behind x y z r read none whole same h
 ran-to-end m old now had mid left bytes (b ∷ rest) behind x y z r read none whole same h waits quit cut =
     let all = rw append-nil at (Consumes-trans _ _ _ bytes [] read none) in
     let some : b ∷ rest ≢ [] = λ e. cc in
-    ran-ended m old now had left bytes (b ∷ rest) x y z code.Cut r all h (inr (inl (refl, waits, some, whole))) (cut (λ e. some (sym same ∙ e)))
+    ran-ended m old now had left bytes (b ∷ rest) x y z code.Cut r all h (inr (inl (refl, is_front (b ∷ rest) Partial waits, some, whole))) (cut (λ e. some (sym same ∙ e)))
 
 -- a writer that failed is told
 pub write-failed : {X : Type 0} → (r : Result X SessionFault) (new old : Bool) → old ≡ false → OnOk r (new ≡ old) → OnErr r ((r ≡ Err fault.Write) × (new ≡ true)) → new ≡ true → r ≡ Err fault.Write
@@ -159,6 +159,3 @@ write-failed (Err f) new old clear kept flag failed = flag.0
 pub front_none : front [] ≡ Partial
 unfolding front
 front_none = refl
-
-pub front_served : (xs rest : List ℕ) (name : Name) (op : Op) → front xs ≡ Found (AskRun name op) rest → is_served op ≡ true
-front_served xs rest name op e = ?

@@ -1,3 +1,4 @@
+pub mod Marks
 pub mod Writes
 pub mod Reads
 pub mod Work

@@ -5,8 +5,10 @@ use Rattle.mw_model.specs.declared.calls.LogItem.{LogItem}
 use Rattle.mw_model.specs.declared.requests.End.{End}
 use Rattle.mw_model.specs.Machine.{Machine}
 use Rattle.mw_model.specs.Stands.{Seen, StandsFor, running_count}
-use Rattle.mw_model.specs.Lines.{Asked, front, Partial}
-use Rattle.mw_model.specs.Scripts.{Turn, IsTurn, Serves, IsScript, IsBroken, kills_of, killed_in}
+use Rattle.mw_model.specs.Lines.{Asked, Partial}
+use Rattle.mw_intake.specs.Reading.{front}
+use Rattle.mw_model.specs.Scripts.{Turn, IsTurn, Serves, IsScript, IsBroken}
+use Rattle.mw_session.specs.Marks.{kills_of, killed_in}
 use Rattle.mw_session.specs.Writes.{Wrote}
 use Rattle.mw_session.specs.declared.fault.SessionFault.{SessionFault}
 

@@ -6,7 +6,8 @@ use Rattle.mw_model.specs.declared.calls.LogItem.{LogItem}
 use Rattle.mw_model.specs.Machine.{Machine, Run}
 use Rattle.mw_model.specs.Tasks.{remaining_tasks}
 use Rattle.mw_model.specs.Stands.{Seen, StandsFor, progress_at, running_count}
-use Rattle.mw_model.specs.Scripts.{OnlyWork, NonePending, Works, killed_in}
+use Rattle.mw_model.specs.Scripts.{Works}
+use Rattle.mw_session.specs.Marks.{OnlyWork, NonePending, killed_in}
 
 -- how many tasks are not finished
 abbrev pub tasks_left : Seen → ℕ

@@ -3,13 +3,13 @@
 ghost use Rattle.std.specs.Prelude.{◌≡◌, ◌≢◌, ℕ, List, OnOk, OnErr, Err, true};
 ghost use Rattle.mw_model.specs.declared.names.Name.{Name};
 ghost use Rattle.mw_model.specs.declared.operations.Op.{Op};
-ghost use Rattle.mw_model.specs.Lines.{AskLoad, AskElement, AskRun, AskCancel, AskRelease, AskStatus, AskFetch, AskWait, AskQuit};
+ghost use Rattle.mw_model.specs.declared.requests.Ask.TheVariants as Ask;
+ghost use Rattle.mw_model.specs.Lines.{AskLoad, AskElement, AskAlone, is_served};
 ghost use Rattle.mw_model.specs.Machine.{Machine};
 ghost use Rattle.mw_model.specs.Replies.{handed_text, reply_text, refusal_text, ImageBytes};
 ghost use Rattle.mw_model.specs.NetpbmWriting.{text_of};
 ghost use Rattle.mw_model.specs.Stands.{StandsFor, running_count};
 ghost use Rattle.mw_intake.specs.Intake.{asked};
-ghost use Rattle.mw_core.specs.Served.{is_served};
 ghost use Rattle.mw_session.specs.Answering.{told_text, SaysFetched};
 ghost use Rattle.mw_session.specs.Runs.{Answered};
 ghost use Rattle.mw_session.specs.Writes.{Wrote};
@@ -84,7 +84,7 @@ fn run<W: Write>(
 ) -> Result<(), SessionFault>
     requires { is_served op ≡ true }
     ensures answered { (m : Machine) → StandsFor core.old m → running_count core.old ≡ 0
-        → Answered m (AskRun name op) core.old core.new (W.contents sink.old.inner) (W.contents sink.new.inner) result }
+        → Answered m (AskAlone (Ask.Run name op)) core.old core.new (W.contents sink.old.inner) (W.contents sink.new.inner) result }
     ensures kept { OnOk result (sink.new.failed ≡ sink.old.failed) }
     ensures flag { OnErr result ((result ≡ Err SessionFault.Write) × (sink.new.failed ≡ true)) }
 {
@@ -92,13 +92,9 @@ fn run<W: Write>(
     say_told(sink, reply)
 }
 
-fn cancel<W: Write>(
-    sink: &mut Sink<W>,
-    core: &mut Core,
-    name: Name,
-) -> Result<(), SessionFault>
+fn cancel<W: Write>(sink: &mut Sink<W>, core: &mut Core, name: Name) -> Result<(), SessionFault>
     ensures answered { (m : Machine) → StandsFor core.old m → running_count core.old ≡ 0
-        → Answered m (AskCancel name) core.old core.new (W.contents sink.old.inner) (W.contents sink.new.inner) result }
+        → Answered m (AskAlone (Ask.Cancel name)) core.old core.new (W.contents sink.old.inner) (W.contents sink.new.inner) result }
     ensures kept { OnOk result (sink.new.failed ≡ sink.old.failed) }
     ensures flag { OnErr result ((result ≡ Err SessionFault.Write) × (sink.new.failed ≡ true)) }
 {
@@ -106,13 +102,9 @@ fn cancel<W: Write>(
     say_told(sink, reply)
 }
 
-fn release<W: Write>(
-    sink: &mut Sink<W>,
-    core: &mut Core,
-    name: Name,
-) -> Result<(), SessionFault>
+fn release<W: Write>(sink: &mut Sink<W>, core: &mut Core, name: Name) -> Result<(), SessionFault>
     ensures answered { (m : Machine) → StandsFor core.old m → running_count core.old ≡ 0
-        → Answered m (AskRelease name) core.old core.new (W.contents sink.old.inner) (W.contents sink.new.inner) result }
+        → Answered m (AskAlone (Ask.Release name)) core.old core.new (W.contents sink.old.inner) (W.contents sink.new.inner) result }
     ensures kept { OnOk result (sink.new.failed ≡ sink.old.failed) }
     ensures flag { OnErr result ((result ≡ Err SessionFault.Write) × (sink.new.failed ≡ true)) }
 {
@@ -129,9 +121,9 @@ fn status<W: Write, P: Pick>(
     name: Name,
 ) -> Result<(), SessionFault>
     ensures status { (m : Machine) → StandsFor core.old m → running_count core.old ≡ 0
-        → Answered m (AskStatus name) core.old core.new (W.contents sink.old.inner) (W.contents sink.new.inner) result }
+        → Answered m (AskAlone (Ask.Status name)) core.old core.new (W.contents sink.old.inner) (W.contents sink.new.inner) result }
     ensures wait { (m : Machine) → StandsFor core.old m → running_count core.old ≡ 0
-        → Answered m (AskWait name) core.old core.new (W.contents sink.old.inner) (W.contents sink.new.inner) result }
+        → Answered m (AskAlone (Ask.Wait name)) core.old core.new (W.contents sink.old.inner) (W.contents sink.new.inner) result }
     ensures kept { OnOk result (sink.new.failed ≡ sink.old.failed) }
     ensures flag { OnErr result ((result ≡ Err SessionFault.Write) × (sink.new.failed ≡ true)) }
 {
@@ -184,7 +176,7 @@ fn fetch<W: Write, P: Pick>(
     name: Name,
 ) -> Result<(), SessionFault>
     ensures answered { (m : Machine) → StandsFor core.old m → running_count core.old ≡ 0
-        → Answered m (AskFetch name) core.old core.new (W.contents sink.old.inner) (W.contents sink.new.inner) result }
+        → Answered m (AskAlone (Ask.Fetch name)) core.old core.new (W.contents sink.old.inner) (W.contents sink.new.inner) result }
     ensures kept { OnOk result (sink.new.failed ≡ sink.old.failed) }
     ensures flag { OnErr result ((result ≡ Err SessionFault.Write) × (sink.new.failed ≡ true)) }
 {
@@ -203,8 +195,8 @@ pub(crate) fn answer<W: Write, P: Pick>(
     pick: &mut P,
     request: Request,
 ) -> Result<(), SessionFault>
-    requires served { (name : Name) (op : Op) → asked request ≡ AskRun name op → is_served op ≡ true }
-    requires open { asked request ≢ AskQuit }
+    requires served { (name : Name) (op : Op) → asked request ≡ AskAlone (Ask.Run name op) → is_served op ≡ true }
+    requires open { asked request ≢ AskAlone Ask.Quit }
     ensures answered { (m : Machine) → StandsFor core.old m → running_count core.old ≡ 0
         → Answered m (asked request) core.old core.new (W.contents sink.old.inner) (W.contents sink.new.inner) result }
     ensures kept { OnOk result (sink.new.failed ≡ sink.old.failed) }

@@ -2,7 +2,8 @@
 
 ghost use Rattle.std.specs.Prelude.{◌≡◌, ◌≢◌, ◌≤◌, ◌⊎◌, ◌↔◌, [], ℕ, List, Option, OnOk, OnErr, Ok, Err, IsTrue, false, true};
 ghost use Rattle.std.specs.Io.KnownBytes.{Appends};
-ghost use Rattle.mw_model.specs.Lines.{AskQuit};
+ghost use Rattle.mw_model.specs.declared.requests.Ask.TheVariants as Ask;
+ghost use Rattle.mw_model.specs.Lines.{AskAlone};
 ghost use Rattle.mw_model.specs.Machine.{Machine};
 ghost use Rattle.mw_model.specs.Stands.{StandsFor, running_count};
 ghost use Rattle.mw_intake.specs.Intake.{asked};
@@ -29,7 +30,7 @@ const READ_LIMIT: u32 = u32::MAX;
 const PIECE: usize = 65536;
 
 fn is_quit(request: &Request) -> bool
-    ensures { IsTrue result ↔ (asked request.now ≡ AskQuit) }
+    ensures { IsTrue result ↔ (asked request.now ≡ AskAlone Ask.Quit) }
 {
     matches!(request, Request::Quit)
 }

@@ -1,7 +1,8 @@
 use Rattle.std.proofs.Common.{◌≡◌, ℕ, List, [], ◌++◌, Option, None, Some, Ok, ◌∙◌, refl, inl, inr, sym, subst, min, arith}
 use Rattle.std.proofs.KnownBytes.{Consumes-nil, Consumes-trans, Consumes-kept}
 use Rattle.mw_model.specs.declared.codes.Code.TheVariants.{Memory}
-use Rattle.mw_model.specs.Lines.{front, Partial}
+use Rattle.mw_model.specs.Lines.{Partial}
+use Rattle.mw_intake.specs.Reading.{front}
 use Rattle.mw_session.proofs.Sessions.{Serving, serving-start, serving-more, serving-drained, ran-finished, ran-broken, ran-stopped, ran-ended, ran-to-end, write-failed, front_none}
 use Rattle.mw_session.proofs.script.run_script.Goals as goal
 

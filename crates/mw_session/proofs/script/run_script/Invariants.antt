@@ -2,7 +2,8 @@ use Rattle.std.proofs.Common.{◌≡◌, ℕ, List, false, vec_len}
 use Rattle.std.specs.Io.KnownBytes.{Consumes}
 use Rattle.mw_model.specs.Machine.{Machine}
 use Rattle.mw_model.specs.Stands.{StandsFor, running_count}
-use Rattle.mw_model.specs.Lines.{front, Partial}
+use Rattle.mw_model.specs.Lines.{Partial}
+use Rattle.mw_intake.specs.Reading.{front}
 use Rattle.mw_session.proofs.Sessions.{Serving}
 use Rattle.mw_session.proofs.script.run_script.Given as goal
 
