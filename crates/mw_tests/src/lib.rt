@@ -16,3 +16,9 @@ mod kernels;
 mod plain_rows;
 #[cfg(test)]
 mod seams;
+#[cfg(test)]
+mod served;
+#[cfg(test)]
+mod session_ends;
+#[cfg(test)]
+mod sessions;
