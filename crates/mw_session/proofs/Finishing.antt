@@ -35,7 +35,7 @@ record FinishesTo (k : ℕ) (m : Machine) : Type 0 where
   kills : killed_in items ≡ []
   done : DoneTo k m state
 
-only_append : (xs ys : List LogItem) → OnlyWork xs → OnlyWork ys → OnlyWork (xs ++ ys)
+pub only_append : (xs ys : List LogItem) → OnlyWork xs → OnlyWork ys → OnlyWork (xs ++ ys)
 only_append [] ys h k = k
 only_append (item.Call c r ∷ xs) ys h k = absurd h
 only_append (item.Finished t ∷ xs) ys h k = only_append xs ys h k
