@@ -26,7 +26,7 @@ use Rattle.mw_session.specs.Marks.{NonePending}
 use Rattle.mw_laws.proofs.RunReplay.{run_join}
 use Rattle.mw_session.specs.Work.{tasks_left, Worked, AllWorked}
 use Rattle.mw_session.proofs.Totals.{total, total-at, total-falls, total-grows, total-bounded, total-zero, count-some, count-falls, count-grows}
-use Rattle.mw_session.proofs.Idle.{idle-law}
+use Rattle.mw_session.proofs.Idle.{idle-law, both_left, both_right}
 use Rattle.mw_session.proofs.Working.{works_any_order}
 use Rattle.mw_session.proofs.Finishing.{only_append}
 
@@ -97,14 +97,6 @@ has-place work t p e = elim (cases_lt t (length work)) [
   | inl l ↦ l
   | inr past ↦ let none : progress_at work t ≡ None = get_or_past work t None past in absurd cc
 ]
-
-both_left : (a b : Bool) → (a && b) ≡ true → a ≡ true
-both_left true b h = refl
-both_left false b h = h
-
-both_right : (a b : Bool) → (a && b) ≡ true → b ≡ true
-both_right true b h = h
-both_right false b h = cc
 
 not_true : (a : Bool) → not a ≡ true → a ≡ false
 not_true true h = cc

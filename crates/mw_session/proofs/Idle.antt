@@ -48,9 +48,13 @@ earlier inputs k j (FromStep i ∷ more) h e = elim (cases_Bool (nat_eq i j)) [
   | inr n ↦ let rest : list_any (is_step j) more ≡ true = rw n at e in earlier inputs k j more h.1 rest
 ]
 
-both_left : (a b : Bool) → (a && b) ≡ true → a ≡ true
+pub both_left : (a b : Bool) → (a && b) ≡ true → a ≡ true
 both_left true b h = refl
 both_left false b h = h
+
+pub both_right : (a b : Bool) → (a && b) ≡ true → b ≡ true
+both_right true b h = h
+both_right false b h = cc
 
 -- a task of an earlier step has a smaller number
 below_by_steps : (u n l : ℕ) → 0 < l → u / l < n / l → u < n
