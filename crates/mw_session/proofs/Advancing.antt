@@ -1,27 +1,23 @@
 -- One turn of work: what the machine, the log and the counts of tasks come to.
-use Rattle.std.proofs.Common.{◌≡◌, ◌≢◌, ℕ, ◌+◌, ◌*◌, ◌<◌, ◌≤◌, Bool, true, false, cond, ◌⊎◌, inl, inr, List, [], ◌∷◌, ◌++◌, length, set, get_or, Option, Some, None, refl, sym, ap, ◌∙◌, subst, arith, append_assoc}
+use Rattle.std.proofs.Common.{◌≡◌, ◌≢◌, ℕ, ◌+◌, ◌*◌, ◌<◌, ◌≤◌, Bool, true, false, ◌⊎◌, inl, inr, List, [], ◌∷◌, ◌++◌, length, set, Option, Some, None, refl, sym, ap, ◌∙◌, subst, arith, append_assoc}
 use Rattle.std.specs.Prelude.{◌&&◌, not, nat_lt}
 use Rattle.std.specs.Option.{option_map_or}
 use Rattle.std.specs.List.{range_with_len, count_by}
-use Rattle.std.proofs.lemmas.Bool.{cases_lt, cases_eq, cases_Bool}
+use Rattle.std.proofs.lemmas.Bool.{cases_lt, cases_Bool}
 use Rattle.std.proofs.lemmas.List.{append-nil, get_or-set_same, get_or-set_other, get_or_past}
 use Rattle.std.proofs.lemmas.List.Sums.{count_by-le-length}
 use Rattle.std.proofs.lemmas.List.FromFn.{length-range_with_len}
 use Rattle.mw_model.specs.declared.calls.Outcome.TheVariants as outcome
-use Rattle.mw_model.specs.declared.calls.LogItem.{LogItem}
 use Rattle.mw_model.specs.declared.calls.LogItem.TheVariants as item
-use Rattle.mw_model.specs.declared.tasks.TaskId.{TaskId}
 use Rattle.mw_model.specs.Refusals.{Table, outcome_at, is_pending}
-use Rattle.mw_model.specs.Machine.{Machine, Run, with_table, killed, settled}
-use Rattle.mw_model.specs.Tasks.{Progress, task_count, flag, reads, tasks_below, is_ready, is_running, running_tasks, remaining_tasks, step_number, tile_number}
-use Rattle.mw_model.specs.Stands.{Seen, IsWork, StandsFor, progress_at, may_run, is_ready_at, ready_count, running_count}
-use Rattle.mw_laws.specs.MachineLaws.{IsSound, IsKilled}
+use Rattle.mw_model.specs.Machine.{Machine, with_table, killed, settled}
+use Rattle.mw_model.specs.Tasks.{Progress, task_count, flag, tasks_below, is_ready, is_running, running_tasks, remaining_tasks}
+use Rattle.mw_model.specs.Stands.{Seen, IsWork, StandsFor, progress_at, may_run, ready_count, running_count}
 use Rattle.mw_laws.proofs.RunCascade.{is_killed}
 use Rattle.mw_laws.proofs.RunStates.{reached}
 use Rattle.mw_step.specs.WindowTasks.{WindowTask}
 use Rattle.mw_core.specs.Events.{WorkStays}
-use Rattle.mw_core.specs.Sources.{true_task}
-use Rattle.mw_core.specs.TaskEvents.{Kills, Begins, IsResult, Settles, Places, IsUnderway, IsSettled, Starts, Finishes, Refuses}
+use Rattle.mw_core.specs.TaskEvents.{Kills, Begins, IsResult, Settles, Places, IsSettled, Finishes, Refuses}
 use Rattle.mw_core.specs.declared.answers.Finish.{Finish}
 use Rattle.mw_core.specs.declared.answers.Finish.TheVariants as finish
 use Rattle.mw_core.specs.declared.answers.Refusal.{Refusal}
@@ -29,8 +25,8 @@ use Rattle.mw_core.specs.declared.answers.Refusal.TheVariants as refusal
 use Rattle.mw_session.specs.Marks.{NonePending}
 use Rattle.mw_laws.proofs.RunReplay.{run_join}
 use Rattle.mw_session.specs.Work.{tasks_left, Worked, AllWorked}
-use Rattle.mw_session.proofs.Totals.{total, total-at, total-le, total-falls, total-grows, total-bounded, total-zero, count-some, count-falls, count-grows}
-use Rattle.mw_session.proofs.Idle.{idle-law}
+use Rattle.mw_session.proofs.Totals.{total, total-at, total-falls, total-grows, total-bounded, total-zero, count-some, count-falls, count-grows}
+use Rattle.mw_session.proofs.Idle.{idle-law, both_left, both_right}
 use Rattle.mw_session.proofs.Working.{works_any_order}
 use Rattle.mw_session.proofs.Finishing.{only_append}
 
@@ -101,14 +97,6 @@ has-place work t p e = elim (cases_lt t (length work)) [
   | inl l ↦ l
   | inr past ↦ let none : progress_at work t ≡ None = get_or_past work t None past in absurd cc
 ]
-
-both_left : (a b : Bool) → (a && b) ≡ true → a ≡ true
-both_left true b h = refl
-both_left false b h = h
-
-both_right : (a b : Bool) → (a && b) ≡ true → b ≡ true
-both_right true b h = h
-both_right false b h = cc
 
 not_true : (a : Bool) → not a ≡ true → a ≡ false
 not_true true h = cc

@@ -1,5 +1,5 @@
 -- How the answers to requests are turns of a script.
-use Rattle.std.proofs.Common.{◌≡◌, ◌≢◌, ℕ, ◌+◌, ◌<◌, ◌≤◌, Bool, true, false, ◌⊎◌, inl, inr, List, [], ◌∷◌, ◌++◌, length, Option, Some, None, Result, Ok, Err, refl, sym, ap, ◌∙◌, subst, arith, append_assoc, length-append}
+use Rattle.std.proofs.Common.{◌≡◌, ◌≢◌, ℕ, Bool, true, false, ◌⊎◌, inl, inr, List, [], ◌∷◌, ◌++◌, length, Option, Some, None, Result, Ok, Err, refl, sym, ap, ◌∙◌, subst, arith, append_assoc, length-append}
 use Rattle.std.specs.Prelude.{IfOk, OnErr}
 use Rattle.std.proofs.lemmas.List.{append-nil}
 use Rattle.mw_model.specs.declared.names.Name.{Name}
@@ -17,25 +17,21 @@ use Rattle.mw_model.specs.declared.calls.Reply.{Reply}
 use Rattle.mw_model.specs.declared.calls.Reply.TheVariants as reply
 use Rattle.mw_model.specs.declared.calls.LogItem.{LogItem}
 use Rattle.mw_model.specs.declared.calls.LogItem.TheVariants as item
-use Rattle.mw_model.specs.Pictures.{Picture, IsImage}
-use Rattle.mw_model.specs.Elements.{Figure, IsElement, ElementRefuses}
-use Rattle.mw_model.specs.NetpbmGrammar.{IsFile}
-use Rattle.mw_model.specs.NetpbmRefusals.{Refuses}
-use Rattle.mw_model.specs.NetpbmWriting.{text_of}
-use Rattle.mw_model.specs.Values.{Value, ImageValue, ElementValue, CurveValue, value_at, shape_of_picture, shape_of_figure}
+use Rattle.mw_model.specs.Pictures.{Picture}
+use Rattle.mw_model.specs.Elements.{Figure}
+use Rattle.mw_model.specs.Values.{Value, ImageValue, ElementValue, shape_of_picture, shape_of_figure}
 use Rattle.mw_model.specs.Refusals.{Table, outcome_at, is_pending, first_of, name_taken, no_room, refusal}
-use Rattle.mw_model.specs.Machine.{Machine, values, status_reply, answer, refused_or, reply_to, changed, unless_refused, table_after, with_entry, killed, after}
-use Rattle.mw_model.specs.Tasks.{Progress, running_tasks}
-use Rattle.mw_model.specs.Stands.{Seen, StandsFor, progress_at, running_count}
+use Rattle.mw_model.specs.Machine.{Machine, status_reply, answer, refused_or, reply_to, changed, unless_refused, with_entry, killed, after}
+use Rattle.mw_model.specs.Tasks.{running_tasks}
+use Rattle.mw_model.specs.Stands.{Seen, StandsFor, running_count}
 use Rattle.mw_model.specs.declared.requests.Ask.TheVariants as ask
 use Rattle.mw_model.specs.Lines.{Asked, AskLoad, AskElement, AskAlone}
-use Rattle.mw_model.specs.Replies.{Handed, reply_text, refusal_text, NoValue, ImageBytes}
-use Rattle.mw_model.specs.Scripts.{Turn, Answers, unread, called, Works, Replies, IsTurn, IsCallOf, ImageGiven, ElementGiven, runs_work, refused_unread, handed, answer_text}
+use Rattle.mw_model.specs.Replies.{Handed, reply_text, refusal_text, NoValue}
+use Rattle.mw_model.specs.Scripts.{Answers, unread, called, Works, Replies, IsCallOf, runs_work, refused_unread, handed, answer_text}
 use Rattle.mw_session.specs.Marks.{killed_in}
-use Rattle.mw_laws.specs.MachineLaws.{IsSound, IsKilled}
 use Rattle.mw_laws.proofs.RunStates.{reached}
 use Rattle.mw_laws.proofs.RunTables.{push_last}
-use Rattle.mw_laws.proofs.RunReplay.{refusal_told, refused_leaves, fetch_leaves}
+use Rattle.mw_laws.proofs.RunReplay.{refused_leaves, fetch_leaves}
 use Rattle.mw_core.specs.Payloads.{given_image, image_payload, given_element, element_payload}
 use Rattle.mw_core.specs.Events.{Serves, IsFresh, handed_out}
 use Rattle.mw_core.specs.Fetches.{shown_value}
@@ -44,7 +40,7 @@ use Rattle.mw_core.specs.declared.answers.Shown.TheVariants as shown
 use Rattle.mw_session.specs.declared.fault.SessionFault.{SessionFault}
 use Rattle.mw_session.specs.Writes.{Wrote}
 use Rattle.mw_session.specs.Work.{AllWorked}
-use Rattle.mw_session.specs.Runs.{Answered, ShowsKills}
+use Rattle.mw_session.specs.Runs.{Answered}
 use Rattle.mw_session.specs.Answering.{ReadsImage, ReadsElement, told_text, fetch_text, SaysFetched}
 use Rattle.mw_session.proofs.Turns.{killed_append}
 use Rattle.mw_session.proofs.Advancing.{under, none-under, count-under, calm}

@@ -1,23 +1,23 @@
 -- Where no task is ready and none is running, nothing is pending.
-use Rattle.std.proofs.Common.{◌≡◌, ◌≢◌, ℕ, zero, suc, ◌+◌, ◌*◌, ◌/◌, ◌<◌, ◌≤◌, Bool, true, false, cond, List, [], ◌∷◌, length, map, sum, Some, inl, inr, refl, sym, ap, ◌∙◌, subst, arith}
-use Rattle.std.specs.Prelude.{◌&&◌, ◌||◌, not, nat_lt, nat_eq}
+use Rattle.std.proofs.Common.{◌≡◌, ◌≢◌, ℕ, zero, suc, ◌+◌, ◌*◌, ◌/◌, ◌<◌, ◌≤◌, Bool, true, false, List, [], ◌∷◌, length, inl, inr, refl, ap, ◌∙◌, arith}
+use Rattle.std.specs.Prelude.{◌&&◌, ◌||◌, not, nat_eq}
 use Rattle.std.specs.Option.{option_map_or}
-use Rattle.std.specs.List.{AllByRecursion, list_all, list_any, range_with_len, count_by}
+use Rattle.std.specs.List.{AllByRecursion, list_all, list_any, range_with_len}
 use Rattle.std.proofs.lemmas.Bool.{cases_lt, cases_Bool}
 use Rattle.std.proofs.Math.Nat.{div-mul-le_self}
 use Rattle.std.proofs.lemmas.Nat.{le-div}
 use Rattle.mw_model.specs.declared.calls.Outcome.{Outcome}
 use Rattle.mw_model.specs.declared.calls.Outcome.TheVariants as outcome
-use Rattle.mw_model.specs.Refusals.{Table, outcome_at, is_pending, is_dead, is_there}
+use Rattle.mw_model.specs.Refusals.{Table, outcome_at, is_dead, is_there}
 use Rattle.mw_model.specs.Machine.{Machine}
 use Rattle.mw_model.specs.Plans.{Source, FromInput, FromStep, IsSourceAt, images_of}
-use Rattle.mw_model.specs.Tasks.{Progress, task_count, flag, step_number, planned_of, is_step, reads, tasks_below, is_ready, is_running, ready_tasks, running_tasks, remaining_tasks}
+use Rattle.mw_model.specs.Tasks.{Progress, task_count, flag, step_number, planned_of, is_step, reads, is_ready, is_running, ready_tasks, running_tasks, remaining_tasks}
 use Rattle.mw_model.specs.Stands.{Seen, IsWork, StandsFor, progress_at, inputs_of, input_values, inputs_there, may_run, ready_under, ready_count, running_count}
 use Rattle.mw_session.specs.Marks.{NonePending}
 use Rattle.mw_laws.specs.MachineLaws.{IsSound}
 use Rattle.mw_laws.proofs.RunCascade.{strongly}
 use Rattle.mw_laws.proofs.RunStates.{reached}
-use Rattle.mw_session.proofs.Totals.{total, total-at, count-some, count-none}
+use Rattle.mw_session.proofs.Totals.{total-at, count-some, count-none}
 
 all_from : (p : ℕ → Bool) (xs : List ℕ) → AllByRecursion (λ x. p x ≡ true) xs → list_all p xs ≡ true
 all_from p [] h = refl
@@ -48,9 +48,13 @@ earlier inputs k j (FromStep i ∷ more) h e = elim (cases_Bool (nat_eq i j)) [
   | inr n ↦ let rest : list_any (is_step j) more ≡ true = rw n at e in earlier inputs k j more h.1 rest
 ]
 
-both_left : (a b : Bool) → (a && b) ≡ true → a ≡ true
+pub both_left : (a b : Bool) → (a && b) ≡ true → a ≡ true
 both_left true b h = refl
 both_left false b h = h
+
+pub both_right : (a b : Bool) → (a && b) ≡ true → b ≡ true
+both_right true b h = h
+both_right false b h = cc
 
 -- a task of an earlier step has a smaller number
 below_by_steps : (u n l : ℕ) → 0 < l → u / l < n / l → u < n

@@ -8,3 +8,4 @@ pub mod Totals
 pub mod Idle
 pub mod Advancing
 pub mod Answering
+pub mod Fronts

@@ -1,5 +1,5 @@
 -- What the loops of a session keep, and what they end with.
-use Rattle.std.proofs.Common.{Bool, true, false, ◌≡◌, ◌≢◌, ℕ, List, [], ◌∷◌, ◌++◌, take, Option, Some, None, Result, Ok, Err, refl, sym, ap, ◌∙◌, subst, inl, inr}
+use Rattle.std.proofs.Common.{Bool, true, false, ◌≡◌, ◌≢◌, ℕ, List, [], ◌∷◌, ◌++◌, Option, Some, None, Result, Ok, Err, refl, sym, ◌∙◌, subst, inl, inr}
 use Rattle.std.proofs.lemmas.List.{append-nil}
 use Rattle.std.specs.Io.KnownBytes.{Appends, Consumes, IsAtEnd}
 use Rattle.std.proofs.KnownBytes.{Appends-nil, Consumes-trans}
@@ -35,6 +35,12 @@ serving-start m c bytes x s none = record { state = m; stands = s; idle = none; 
 pub serving-more : (m : Machine) (old now : Seen) (bytes rest piece : List ℕ) (x y : Option (List ℕ)) → Serving m old now bytes rest x y → Serving m old now (bytes ++ piece) (rest ++ piece) x y
 serving-more m old now bytes rest piece x y h =
     record { state = h.state; stands = h.stands; idle = h.idle; progress = Progress_more bytes piece rest m h.state old.log now.log x y h.progress }
+
+-- a piece was read and fed
+pub serving-fed : (m : Machine) (old now : Seen) (bytes rest piece after : List ℕ) (x y : Option (List ℕ)) → after ≡ rest ++ piece → Serving m old now bytes rest x y → Serving m old now (bytes ++ piece) after x y
+serving-fed m old now bytes rest piece after x y e h =
+    let P : List ℕ → Type 0 = λ l. Serving m old now (bytes ++ piece) l x y in
+    subst P (sym e) (serving-more m old now bytes rest piece x y h)
 
 -- ---- serving what waits
 
@@ -154,8 +160,3 @@ ran-to-end m old now had mid left bytes (b ∷ rest) behind x y z r read none wh
 pub write-failed : {X : Type 0} → (r : Result X SessionFault) (new old : Bool) → old ≡ false → OnOk r (new ≡ old) → OnErr r ((r ≡ Err fault.Write) × (new ≡ true)) → new ≡ true → r ≡ Err fault.Write
 write-failed (Ok x) new old clear kept flag failed = cc
 write-failed (Err f) new old clear kept flag failed = flag.0
-
--- no request stands in no bytes
-pub front_none : front [] ≡ Partial
-unfolding front
-front_none = refl

@@ -1,22 +1,16 @@
 -- Sums over the first numbers.
-use Rattle.std.proofs.Common.{◌≡◌, ◌≢◌, ℕ, zero, suc, ◌+◌, ◌*◌, ◌<◌, ◌≤◌, Bool, true, false, cond, List, [], ◌∷◌, ◌++◌, map, sum, inl, inr, refl, sym, ap, ◌∙◌, arith}
+use Rattle.std.proofs.Common.{◌≡◌, ◌≢◌, ℕ, zero, suc, ◌+◌, ◌*◌, ◌<◌, ◌≤◌, Bool, true, false, cond, map, sum, inl, inr, refl, sym, ap, ◌∙◌, arith}
 use Rattle.std.specs.List.{range_with_len, count_by}
-use Rattle.std.proofs.lemmas.Bool.{cases_lt, cases_eq, cases_Bool}
-use Rattle.std.proofs.lemmas.Grind.{common_steps}
-use Rattle.std.proofs.lemmas.List.FromFn.{map-range_with_len_more}
-use Rattle.std.proofs.lemmas.List.Sums.{sum-map, sum_by-append, sum_by-cons}
+use Rattle.std.proofs.lemmas.Bool.{cases_lt, cases_eq}
+use Rattle.std.proofs.lemmas.List.Sums.{sum-map}
+use Rattle.mw_core.proofs.CountLemmas.{sum-more}
 
 -- the sum of f over the first n numbers
 abbrev pub total : (ℕ → ℕ) → ℕ → ℕ
 total f n = sum (map f (range_with_len 0 n))
 
-sum-push : (xs : List ℕ) (x : ℕ) → sum (xs ++ x ∷ []) ≡ sum xs + x
-sum-push xs x = grind (arith, common_steps, sum_by-append, sum_by-cons)
-
 pub total-suc : (f : ℕ → ℕ) (n : ℕ) → total f (suc n) ≡ total f n + f n
-total-suc f n =
-    let on : suc n ≡ n + 1 = omega arith in
-    ap (total f) on ∙ ap sum (map-range_with_len_more f 0 n n (omega arith)) ∙ sum-push (map f (range_with_len 0 n)) (f n)
+total-suc f n = let on : suc n ≡ n + 1 = omega arith in ap (total f) on ∙ sum-more f n
 
 -- a term is within the sum
 pub total-at : (f : ℕ → ℕ) (n t : ℕ) → t < n → f t ≤ total f n

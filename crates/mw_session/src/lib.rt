@@ -20,7 +20,10 @@ mod stream;
 mod work;
 
 pub use fault::SessionFault;
-pub use laws::{one_output, work_in_any_order, work_is_lawful, written_text_stays};
+pub use laws::{
+    marks_are_seen, one_output, work_in_any_order, work_is_lawful, written_is_a_front,
+    written_text_stays,
+};
 pub use line::ReplyLine;
 pub use mw_model::{End, NoMemory};
 pub use pieces::{Piece, take_piece};

@@ -1,9 +1,10 @@
-use Rattle.std.proofs.Common.{◌≡◌, ℕ, List, [], ◌++◌, Option, None, Some, Ok, ◌∙◌, refl, inl, inr, sym, subst, min, arith}
+use Rattle.std.proofs.Common.{◌≡◌, ℕ, List, [], ◌++◌, ◌∙◌, refl, inr, sym, subst, arith}
 use Rattle.std.proofs.KnownBytes.{Consumes-nil, Consumes-trans, Consumes-kept}
 use Rattle.mw_model.specs.declared.codes.Code.TheVariants.{Memory}
 use Rattle.mw_model.specs.Lines.{Partial}
 use Rattle.mw_intake.specs.Reading.{front}
-use Rattle.mw_session.proofs.Sessions.{Serving, serving-start, serving-more, serving-drained, ran-finished, ran-broken, ran-stopped, ran-ended, ran-to-end, write-failed, front_none}
+use Rattle.mw_session.proofs.Sessions.{Serving, serving-start, serving-more, serving-fed, serving-drained, ran-finished, ran-broken, ran-stopped, ran-ended, ran-to-end, write-failed}
+use Rattle.mw_session.proofs.Readings.{front_empty}
 use Rattle.mw_session.proofs.script.run_script.Goals as goal
 
 pub returns-in-Err-clause-ran : goal.returns-in-Err-clause-ran
@@ -22,7 +23,7 @@ reads-init g c =
       read = Consumes-nil (g.R.Read.remaining c.args.source.now.inner);
       serving = λ m s none.
           let P : List ℕ → Type 0 = λ l. Serving m core core [] l x x × (front l ≡ Partial) in
-          subst P (sym c.new-intake.ensures) (serving-start m core [] x s none, front_none);
+          subst P (sym c.new-intake.ensures) (serving-start m core [] x s none, front_empty);
       source_clear = c.requires.source_clear;
       sink_clear = c.requires.sink_clear;
       reads = c.requires.unread;
@@ -67,8 +68,7 @@ returns-in-Err-drain-clause-ran g c = λ m s none.
     let x = g.W.Write.contents c.args.sink.now.inner in
     let y = g.W.Write.contents c.reads.sink.inner in
     let left = g.R.Read.remaining c.take_piece.new.source.inner in
-    let P : List ℕ → Type 0 = λ l. Serving m core c.reads.core (i.taken ++ took.0) l x y in
-    let h = subst P (sym took.3) (serving-more m core c.reads.core i.taken c.reads.intake took.0 x y (i.serving m s none).0) in
+    let h = serving-fed m core c.reads.core i.taken c.reads.intake took.0 c.take_piece.new.intake x y took.3 (i.serving m s none).0 in
     ran-broken m core c.reads.core c.drain.new.core (g.R.Read.remaining c.args.source.now.inner) left (i.taken ++ took.0) c.take_piece.new.intake c.drain.new.intake x y (g.W.Write.contents c.drain.new.sink.inner) c.in-Err-drain.fault
     (Consumes-trans _ _ _ i.taken took.0 i.read took.2) h (c.in-Err-drain.ensures.ran left h.state h.stands h.idle)
 
@@ -80,8 +80,7 @@ returns-in-Ok-Some-clause-ran g c = λ m s none.
     let x = g.W.Write.contents c.args.sink.now.inner in
     let y = g.W.Write.contents c.reads.sink.inner in
     let left = g.R.Read.remaining c.take_piece.new.source.inner in
-    let P : List ℕ → Type 0 = λ l. Serving m core c.reads.core (i.taken ++ took.0) l x y in
-    let h = subst P (sym took.3) (serving-more m core c.reads.core i.taken c.reads.intake took.0 x y (i.serving m s none).0) in
+    let h = serving-fed m core c.reads.core i.taken c.reads.intake took.0 c.take_piece.new.intake x y took.3 (i.serving m s none).0 in
     ran-finished m core c.reads.core c.drain.new.core (g.R.Read.remaining c.args.source.now.inner) left (i.taken ++ took.0) c.take_piece.new.intake c.drain.new.intake x y (g.W.Write.contents c.drain.new.sink.inner) c.in-Ok-Some.end
     (Consumes-trans _ _ _ i.taken took.0 i.read took.2) h (rw c.in-Ok-Some.field-0-is at (c.in-Ok-Some.ensures.ran left h.state h.stands h.idle))
 
@@ -97,8 +96,7 @@ reads-preserved g c =
       taken = i.taken ++ took.0;
       read = Consumes-trans _ _ _ i.taken took.0 i.read took.2;
       serving = λ m s none.
-          let P : List ℕ → Type 0 = λ l. Serving m core c.reads.core (i.taken ++ took.0) l x y in
-          let h = subst P (sym took.3) (serving-more m core c.reads.core i.taken c.reads.intake took.0 x y (i.serving m s none).0) in
+          let h = serving-fed m core c.reads.core i.taken c.reads.intake took.0 c.take_piece.new.intake x y took.3 (i.serving m s none).0 in
           serving-drained left m core c.reads.core c.drain.new.core (i.taken ++ took.0) c.take_piece.new.intake c.drain.new.intake x y (g.W.Write.contents c.drain.new.sink.inner) h
           (rw c.in-Ok-None.field-0-is at (c.in-Ok-None.ensures.ran left h.state h.stands h.idle));
       source_clear = c.in-Ok-Fed.ensures.kept ∙ i.source_clear;

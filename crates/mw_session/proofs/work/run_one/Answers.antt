@@ -1,4 +1,4 @@
-use Rattle.std.proofs.Common.{sym, subst}
+use Rattle.std.proofs.Common.{subst}
 use Rattle.mw_model.specs.declared.tasks.TaskId.{TaskId}
 use Rattle.mw_step.specs.WindowTasks.{WindowTask}
 use Rattle.mw_core.specs.TaskEvents.{Finishes, Refuses}
