@@ -1,5 +1,5 @@
 -- What a FETCH hands out is the value of the ticket.
-use Rattle.std.proofs.Common.{◌≡◌, ◌≢◌, ℕ, ◌<◌, Bool, true, false, not, List, [], ◌∷◌, Option, Some, None, IsSome, length, refl, sym, ap, ◌∙◌, subst}
+use Rattle.std.proofs.Common.{◌≡◌, ◌≢◌, ◌↔◌, ℕ, ◌<◌, Bool, true, false, not, List, [], ◌∷◌, Option, Some, None, IsSome, length, refl, sym, ap, ◌∙◌, subst}
 use Rattle.std.specs.Prelude.{option_map, is_some, ◌||◌, ◌&&◌}
 use Rattle.mw_model.specs.declared.names.Name.{Name}
 use Rattle.mw_model.specs.declared.shapes.Shape.{Shape}
@@ -18,7 +18,7 @@ use Rattle.mw_model.specs.Stands.{Seen, StandsFor, Agrees, is_wanted}
 use Rattle.mw_laws.specs.MachineLaws.{IsSound, shape_of_value}
 use Rattle.mw_laws.proofs.RunTables.{is_known, ticket_is, ticket_within, when_so}
 use Rattle.mw_core.specs.Events.{handed_out}
-use Rattle.mw_core.specs.Fetches.{IsShown, IsPlateOf, shown_value}
+use Rattle.mw_core.specs.Fetches.{IsShown, IsPlateOf, ShowsSome, shown_value}
 use Rattle.mw_core.specs.declared.answers.Shown.{Shown}
 use Rattle.mw_core.proofs.RefusalLemmas.{some-same}
 use Rattle.mw_core.proofs.StandsLemmas.{stands-sound, stands-reply}
@@ -88,6 +88,35 @@ by-reply c m n (reply.Shown t) v s told is = shown-value c m n t v s (sym told) 
 
 pub fetched-value : (c : Seen) (m : Machine) (n : Name) (r : Reply) (v : Shown) → StandsFor c m → r ≡ reply_from c.table c.kept (call.Fetch n) → IsShown c r v → shown_value v ≡ handed_out m r
 fetched-value c m n r v s told is = by-reply c m n r v s (told ∙ stands-reply c m (call.Fetch n) s) is
+
+-- ---- whether something is handed out
+
+nothing-shown : (r : Reply) (v : Shown) → shown_value v ≡ None → (ShowsSome r → ⊥) → IsSome (shown_value v) ↔ ShowsSome r
+nothing-shown r v none other = (λ some. let P : Option Value → Type 0 = IsSome in let f = subst P none some in absurd cc, λ s. absurd (other s))
+
+with-shape : (x : Option Value) (s : Shape) → option_map shape_of_value x ≡ Some s → IsSome x
+with-shape None s h = absurd cc
+with-shape (Some v) s h = refl
+
+something-shown : (c : Seen) (m : Machine) (n : Name) (t : ℕ) (v : Shown) → StandsFor c m → reply_to m (call.Fetch n) ≡ reply.Shown t → IsPlateOf c t v → IsSome (shown_value v)
+something-shown c m n t v s told plate =
+    let P : Option Value → Type 0 = IsSome in
+    subst P (sym (shown-value c m n t v s told plate)) (with-shape (value_at (values m) t) (shape_at m.table.submissions t) ((stands-sound c m s).shapes t (shown-ticket m n t told).within))
+
+shown-by-reply : (c : Seen) (m : Machine) (n : Name) (r : Reply) (v : Shown) → StandsFor c m → r ≡ reply_to m (call.Fetch n) → IsShown c r v → IsSome (shown_value v) ↔ ShowsSome r
+shown-by-reply c m n (reply.Accepted t) v s told is = nothing-shown (reply.Accepted t) v is (λ h. let e = h.1 in cc)
+shown-by-reply c m n (reply.Refused x) v s told is = nothing-shown (reply.Refused x) v is (λ h. let e = h.1 in cc)
+shown-by-reply c m n (reply.Pending t) v s told is = nothing-shown (reply.Pending t) v is (λ h. let e = h.1 in cc)
+shown-by-reply c m n (reply.Done t x) v s told is = nothing-shown (reply.Done t x) v is (λ h. let e = h.1 in cc)
+shown-by-reply c m n (reply.Cancelled t) v s told is = nothing-shown (reply.Cancelled t) v is (λ h. let e = h.1 in cc)
+shown-by-reply c m n (reply.OutOfMemory t) v s told is = nothing-shown (reply.OutOfMemory t) v is (λ h. let e = h.1 in cc)
+shown-by-reply c m n (reply.BadInput t i) v s told is = nothing-shown (reply.BadInput t i) v is (λ h. let e = h.1 in cc)
+shown-by-reply c m n (reply.Released t) v s told is = nothing-shown (reply.Released t) v is (λ h. let e = h.1 in cc)
+shown-by-reply c m n (reply.Shown t) v s told is = (λ some. (t, refl), λ h. something-shown c m n t v s (sym told) is)
+
+-- a value is handed out exactly where the reply shows a ticket
+pub fetched-shown : (c : Seen) (m : Machine) (n : Name) (r : Reply) (v : Shown) → StandsFor c m → r ≡ reply_from c.table c.kept (call.Fetch n) → IsShown c r v → IsSome (shown_value v) ↔ ShowsSome r
+fetched-shown c m n r v s told is = shown-by-reply c m n r v s (told ∙ stands-reply c m (call.Fetch n) s) is
 
 -- ---- what is kept
 

@@ -16,4 +16,5 @@ pub mod SourceLemmas
 pub mod OneTaskLemmas
 pub mod TaskLemmas
 pub mod FetchLemmas
+pub mod IdleLemmas
 pub mod EventLemmas

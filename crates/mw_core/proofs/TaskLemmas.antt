@@ -1,5 +1,6 @@
 -- Events on tasks, for each machine that the core stands for.
-use Rattle.std.proofs.Common.{◌≡◌, ◌≢◌, ℕ, zero, ◌+◌, ◌<◌, ◌≤◌, Bool, true, false, ◌&&◌, ◌⊎◌, inl, inr, List, [], ◌∷◌, ◌++◌, length, set, get_or, slice_get, Option, Some, None, IsSome, refl, sym, ap, ◌∙◌, subst, arith}
+use Rattle.std.specs.Prelude.{option_map}
+use Rattle.std.proofs.Common.{◌≡◌, ◌≢◌, ◌↔◌, ℕ, zero, ◌+◌, ◌<◌, ◌≤◌, Bool, true, false, ◌&&◌, ◌⊎◌, inl, inr, List, [], ◌∷◌, ◌++◌, length, set, get_or, slice_get, Option, Some, None, IsSome, refl, sym, ap, ◌∙◌, subst, arith}
 use Rattle.std.specs.List.{AllByRecursion}
 use Rattle.std.proofs.lemmas.List.{get_or-set_same, get_or-set_other, get_or_past}
 use Rattle.std.proofs.lemmas.Bool.{cases_lt, cases_eq}
@@ -15,7 +16,7 @@ use Rattle.mw_model.specs.Machine.{Machine, values, CanFinish, CanDie, with_tabl
 use Rattle.mw_model.specs.PlanSteps.{PlanStep}
 use Rattle.mw_model.specs.Plans.{IsSourceAt, images_of, plane_of}
 use Rattle.mw_model.specs.Tasks.{Progress, flag, task_count, nothing_planned, planned_of, step_number, tile_number, is_running, remaining_tasks}
-use Rattle.mw_model.specs.Stands.{Seen, StandsFor, IsWork, progress_at, inputs_of, inputs_there, input_values, may_run, is_ready_at, ready_under, ready_count}
+use Rattle.mw_model.specs.Stands.{Seen, StandsFor, IsWork, progress_at, inputs_of, inputs_there, input_values, may_run, is_ready_at, ready_under, ready_count, remaining_of}
 use Rattle.mw_laws.proofs.RunCascade.{pending_is}
 use Rattle.mw_step.specs.WindowTasks.{WindowTask, FitsStep, tile_made}
 use Rattle.mw_store.specs.Frames.{whole_window}
@@ -99,6 +100,23 @@ work-within c t p complete work =
       | inl l ↦ l
       | inr past ↦ let none : progress_at c.work t ≡ None = get_or_past c.work t None (omega (arith, complete.work)) in absurd cc
     ]
+
+-- a ticket has work exactly where it is pending
+pub remaining-pending : (c : Seen) (m : Machine) (t : ℕ) → StandsFor c m → IsComplete c → IsSome (remaining_of c t) ↔ ((t < length m.table.names) × (is_pending (outcome_at m.table.outcomes t) ≡ true))
+remaining-pending c m t s complete =
+    let Named : Table → Type 0 = λ w. t < length w.names in (
+      λ some.
+          let found = work-there (progress_at c.work t) some in
+          (subst Named s.table (work-within c t found.0 complete found.1), ap is_pending (s.idle t found.0 found.1)),
+      λ h.
+          let has = s.work t h.0 (pending_is (outcome_at m.table.outcomes t) h.1) in
+          let P : Option Progress → Type 0 = λ x. IsSome (option_map remaining_tasks x) in
+          subst P (sym has.1) refl,
+    )
+  where
+    work-there : (x : Option Progress) → IsSome (option_map remaining_tasks x) → (p : Progress) × (x ≡ Some p)
+    work-there None h = absurd cc
+    work-there (Some p) h = (p, refl)
 
 -- ---- start
 

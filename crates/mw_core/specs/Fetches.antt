@@ -21,3 +21,7 @@ pub record IsPlateOf (c : Seen) (t : ℕ) (v : Shown) : Type 0 where
 abbrev pub IsShown : Seen → Reply → Shown → Type 0
 IsShown c (reply.Shown t) v = IsPlateOf c t v
 IsShown c r v = shown_value v ≡ None
+
+-- the reply shows a ticket
+abbrev pub ShowsSome : Reply → Type 0
+ShowsSome r = (t : ℕ) × (r ≡ reply.Shown t)

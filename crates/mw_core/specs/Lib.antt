@@ -10,5 +10,6 @@ pub mod Changes
 pub mod Counts
 pub mod Events
 pub mod TaskEvents
+pub mod Turns
 pub mod Fetches
 pub mod Happenings

@@ -1,5 +1,5 @@
 -- What START, a finished task and a refused task do (own).
-use Rattle.std.specs.Prelude.{ℕ, ◌≡◌, ◌<◌, ◌≤◌, ◌++◌, ◌∷◌, [], ◌⊎◌, true, false, length, slice_set, Option, Some}
+use Rattle.std.specs.Prelude.{ℕ, ◌≡◌, ◌<◌, ◌≤◌, ◌+◌, ◌++◌, ◌∷◌, [], ◌⊎◌, true, false, length, slice_set, Option, Some}
 use Rattle.mw_model.specs.declared.calls.Outcome.TheVariants as outcome
 use Rattle.mw_model.specs.declared.calls.LogItem.TheVariants as item
 use Rattle.mw_model.specs.declared.tasks.TaskId.{TaskId}
@@ -69,11 +69,14 @@ pub record Places (old : Seen) (m : Machine) (d : WindowTask) (new : Seen) : Typ
   pub result : IsResult old m d
   pub left : 2 ≤ remaining_tasks result.progress
   pub after : Progress
+  pub lowered : remaining_tasks after + 1 ≡ remaining_tasks result.progress
   pub work : new.work ≡ slice_set old.work d.task.ticket (Some after)
   pub finished : after.finished ≡ slice_set result.progress.finished result.number true
   pub started : after.started ≡ result.progress.started
   pub plan : after.plan ≡ result.progress.plan
   pub tiles : after.tiles ≡ result.progress.tiles
+  pub width : after.width ≡ result.progress.width
+  pub height : after.height ≡ result.progress.height
   pub log : new.log ≡ old.log
   pub stands : StandsFor new m
 

@@ -1,6 +1,6 @@
 //! Any list of events, one after another.
 
-ghost use Rattle.std.specs.Prelude.{◌≡◌, IfOk};
+ghost use Rattle.std.specs.Prelude.{◌≡◌, IfOk, OnErr};
 ghost use Rattle.std.specs.List.{AllByRecursion};
 ghost use Rattle.mw_model.specs.Machine.{Machine};
 ghost use Rattle.mw_model.specs.Stands.{StandsFor};
@@ -76,19 +76,21 @@ pub fn serve(core: &mut Core, event: Event) -> Answer
     }
 }
 
-/// Any list of events, in any order, is a run of the machine of one thread, which gives the same answers.
+/// Any list of events, in any order, is a run of the machine of one thread, which gives the same answers. Only room
+/// for the answers may be wanting, and then nothing happens.
 pub fn serve_all(
     core: &mut Core,
     alloc: Global,
     events: Vec<Event>,
 ) -> Result<Vec<Answer>, NoMemory>
     requires { AllByRecursion IsServable events.items }
-    ensures { (m : Machine) → StandsFor core.old m
+    ensures ok { (m : Machine) → StandsFor core.old m
         → IfOk result (λ answers. (n : Machine) × HappensAll m events.items answers.items n × StandsFor core.new n) }
+    ensures err { OnErr result (core.new ≡ core.old) }
 {
     let mut answers = Vec::with_capacity(alloc, events.len())?;
     for event in events {
-        answers.push(serve(core, event))?;
+        answers.push_reserved(serve(core, event));
     }
     Ok(answers)
 }

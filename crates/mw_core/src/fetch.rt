@@ -1,6 +1,6 @@
 //! FETCH: a session call that hands out a value.
 
-ghost use Rattle.std.specs.Prelude.{◌≡◌, ◌<◌, ℕ, length, OnErr, IfOk, None};
+ghost use Rattle.std.specs.Prelude.{◌≡◌, ◌↔◌, IsSome, ◌<◌, ℕ, length, OnErr, IfOk, None};
 
 use crate::answers::{Fetched, Shown};
 use crate::checks;
@@ -11,7 +11,7 @@ impl Core {
     ghost use Rattle.mw_model.specs.Machine.{Machine};
     ghost use Rattle.mw_model.specs.Stands.{StandsFor};
     ghost use Rattle.mw_core.specs.Events.{Serves, handed_out};
-    ghost use Rattle.mw_core.specs.Fetches.{IsShown, shown_value};
+    ghost use Rattle.mw_core.specs.Fetches.{IsShown, ShowsSome, shown_value};
 
     /// The value that goes with a reply.
     fn shown(&mut self, reply: Reply) -> Result<Shown, NoMemory>
@@ -32,6 +32,7 @@ impl Core {
     pub fn fetch(&mut self, name: Name) -> Result<Fetched, NoMemory>
         ensures served { IfOk result (λ f. Serves self.old (Call.Fetch name) None self.new f.reply) }
         ensures value { (m : Machine) → StandsFor self.old m → IfOk result (λ f. shown_value f.value ≡ handed_out m f.reply) }
+        ensures shown { (m : Machine) → StandsFor self.old m → IfOk result (λ f. IsSome (shown_value f.value) ↔ ShowsSome f.reply) }
         ensures err { OnErr result (self.new ≡ self.old) }
     {
         let reply = checks::fetch_reply(&self.store, name);

@@ -1,6 +1,7 @@
 //! A core under a lock: whenever the lock is free, it stands for some state of the machine.
 
-ghost use Rattle.mw_model.specs.Machine.{Machine};
+ghost use Rattle.std.specs.Prelude.{IfOk};
+ghost use Rattle.mw_model.specs.Machine.{Machine, start_state};
 ghost use Rattle.mw_model.specs.Stands.{StandsFor};
 
 use crate::Core;
@@ -19,7 +20,9 @@ impl Held {
     ghost use Rattle.mw_core.specs.Happenings.{IsServable, Happens};
 
     /// A core that has accepted nothing yet.
-    pub fn new(alloc: Global, side: u32) -> Result<Self, NoMemory> {
+    pub fn new(alloc: Global, side: u32) -> Result<Self, NoMemory>
+        ensures { IfOk result (λ h. StandsFor h.core start_state) }
+    {
         Ok(Held {
             core: Core::new(alloc, side)?,
         })

@@ -1,6 +1,6 @@
 //! Which tasks are ready, running and left.
 
-ghost use Rattle.std.specs.Prelude.{◌≡◌, ◌<◌, ◌≤◌, ◌+◌, ◌-◌, length, IfSome, IfNone, option_map};
+ghost use Rattle.std.specs.Prelude.{true, ◌≡◌, ◌<◌, ◌≤◌, ◌+◌, ◌-◌, length, IfSome, IfNone, option_map};
 ghost use Rattle.std.specs.List.{AllByRecursion, list_all};
 ghost use Rattle.mw_model.specs.Values.{tickets, option_list};
 ghost use Rattle.mw_model.specs.Refusals.{is_there, outcome_at};
@@ -30,7 +30,12 @@ fn has_inputs(store: &Store, t: u32) -> bool
 }
 
 impl Core {
-    ghost use Rattle.mw_model.specs.Stands.{ready_under, ready_count, running_count, remaining_of};
+    ghost use Rattle.std.specs.Prelude.{◌↔◌, IsSome};
+    ghost use Rattle.mw_model.specs.Machine.{Machine};
+    ghost use Rattle.mw_model.specs.Refusals.{is_pending};
+    ghost use Rattle.mw_model.specs.Scripts.{NonePending};
+    ghost use Rattle.mw_model.specs.Stands.{StandsFor, ready_under, ready_count, running_count, remaining_of};
+    ghost use Rattle.mw_core.specs.Turns.{IsAt};
     ghost use Rattle.mw_core.specs.Counts.{running_under};
     ghost use Rattle.mw_core.specs.Facts.{IsComplete};
 
@@ -71,9 +76,10 @@ impl Core {
         }
     }
 
-    /// How many tasks of pending tickets are running.
+    /// How many tasks of pending tickets are running. Where none is, and none is ready, nothing is pending.
     pub fn running(&self) -> u64
-        ensures { result ≡ running_count self.now }
+        ensures value { result ≡ running_count self.now }
+        ensures rest { (m : Machine) → StandsFor self.now m → result ≡ 0 → ready_count self.now ≡ 0 → NonePending m.table }
     {
         let mut count = 0u64;
         for t in 0..self.store.len() {
@@ -82,11 +88,12 @@ impl Core {
         count
     }
 
-    /// How many tasks of a pending ticket are not finished; of any other, `None`.
-    pub fn remaining(&self, t: u32) -> Option<u64>
-        ensures { result ≡ remaining_of self.now t }
+    fn remaining_under(&self, t: u32) -> Option<u64>
+        ensures value { result ≡ remaining_of self.now t }
+        ensures bounded { IfSome result (λ n. (1 ≤ n) × (n ≤ 4194304)) }
+        ensures complete { IsComplete self.now }
     {
-        if t as usize >= self.work.len() {
+        if t >= self.store.len() {
             return None;
         }
         match &self.work[t as usize] {
@@ -95,10 +102,20 @@ impl Core {
         }
     }
 
+    /// How many tasks of a pending ticket are not finished, from 1 to 4,194,304; of any other, `None`.
+    pub fn remaining(&self, t: u32) -> Option<u64>
+        ensures value { result ≡ remaining_of self.now t }
+        ensures pending { (m : Machine) → StandsFor self.now m → IsSome result ↔ ((t < length m.table.names) × (is_pending (outcome_at m.table.outcomes t) ≡ true)) }
+        ensures bounded { IfSome result (λ n. (1 ≤ n) × (n ≤ 4194304)) }
+    {
+        self.remaining_under(t)
+    }
+
     /// The ticket of a ready task; tasks are counted in ticket order.
     pub(crate) fn ready_ticket(&self, place: u64) -> Option<u32>
         ensures within { IfSome result (λ t. t < length self.now.table.names) }
         ensures ready { IfSome result (λ t. 1 ≤ ready_under self.now t) }
+        ensures turn { IfSome result (IsAt self.now place) }
         ensures none { IfNone result (ready_count self.now ≤ place) }
         ensures complete { IsComplete self.now }
     {

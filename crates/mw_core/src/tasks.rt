@@ -21,10 +21,11 @@ impl Core {
     ghost use Rattle.mw_model.specs.Machine.{Machine};
     ghost use Rattle.mw_model.specs.Refusals.{outcome_at};
     ghost use Rattle.mw_model.specs.Tasks.{Progress};
-    ghost use Rattle.mw_model.specs.Stands.{StandsFor, progress_at};
+    ghost use Rattle.mw_model.specs.Stands.{StandsFor, progress_at, ready_count};
     ghost use Rattle.mw_core.specs.Facts.{IsComplete};
     ghost use Rattle.mw_core.specs.KeptTasks.{IsKeptResult, IsKeptRunning, IsKeptWork, IsOneTask, IsPlain, with_started};
     ghost use Rattle.mw_core.specs.TaskEvents.{Starts, Finishes, Refuses, IsOpen, IsSettled};
+    ghost use Rattle.mw_core.specs.Turns.{IsTurn};
 
     /// The only task under a ticket, with the window that it reads.
     fn only_work(&self, t: u32) -> Result<Option<Work>, NoMemory>
@@ -60,9 +61,12 @@ impl Core {
         }
     }
 
-    /// A worker takes the ready task of this place, counted from 0 and round again where there are fewer.
+    /// A worker takes the ready task of this place. Places are counted from 0 in ticket order, and round again where
+    /// there are fewer. `Idle` is answered exactly where no task is ready.
     pub fn start(&mut self, place: u64) -> Started
-        ensures { (m : Machine) → StandsFor self.old m → Starts self.old m result self.new }
+        ensures task { (m : Machine) → StandsFor self.old m → Starts self.old m result self.new }
+        ensures idle { (m : Machine) → StandsFor self.old m → (result ≡ Started.Idle) ↔ (ready_count self.old ≡ 0) }
+        ensures turn { IsTurn self.old place result }
     {
         let count = self.ready_count();
         if count == 0 {

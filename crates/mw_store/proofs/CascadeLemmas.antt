@@ -50,7 +50,8 @@ by-find f outcome.Memory = lit≤ tt
 by-find f (outcome.Input s) = lit≤ tt
 by-find f outcome.Released = lit≤ tt
 
-count-push : (xs : List Outcome) (x : Outcome) → count_by is_pending (xs ++ x ∷ []) ≡ count_by is_pending xs + cond (is_pending x) 1 0
+-- one outcome more
+pub count-push : (xs : List Outcome) (x : Outcome) → count_by is_pending (xs ++ x ∷ []) ≡ count_by is_pending xs + cond (is_pending x) 1 0
 count-push xs x = grind (arith, sum_by-append, sum_by-cons)
 
 -- nothing becomes pending

@@ -1,5 +1,8 @@
 -- What a new entry is in the table of the machine.
 use Rattle.std.specs.Prelude.{Option, Some, None}
+use Rattle.mw_model.specs.declared.operations.Op.{Op}
+use Rattle.mw_model.specs.declared.submissions.Command.{Command}
+use Rattle.mw_model.specs.declared.submissions.Command.TheVariants as command
 use Rattle.mw_model.specs.declared.submissions.Submission.{Submission}
 use Rattle.mw_model.specs.declared.calls.Outcome.{Outcome}
 use Rattle.mw_model.specs.declared.calls.Outcome.TheVariants as outcome
@@ -25,3 +28,8 @@ abbrev pub payload_in : Entry → Option Value
 payload_in (entry.Image f) = Some (ImageValue f)
 payload_in (entry.Element b) = Some (ElementValue b)
 payload_in (entry.Run s) = None
+
+-- the operation of a RUN
+abbrev pub op_of : Command → Option Op
+op_of (command.Run o) = Some o
+op_of command.Given = None

@@ -4,8 +4,8 @@ ghost use Rattle.std.specs.Prelude.{count_by, true, false, ◌≡◌, ◌↔◌,
 
 use crate::cascade::fail_dependents;
 use crate::kept::{Entry, Kept, Plate, share};
-use crate::outcomes::is_pending;
-use crate::wanted;
+use crate::outcomes::{count_pending, one_if_pending};
+use crate::wanted::drop_spent;
 use indexmap::IndexSet;
 use mw_element::Element;
 use mw_model::{Command, Given, Inputs, Name, NoMemory, Op, Outcome, Shape, Submission};
@@ -21,12 +21,16 @@ pub struct Store {
     submissions: Vec<Submission>,
     outcomes: Vec<Outcome>,
     kept: Vec<Option<Kept>>,
+    // A place for each ticket, in which those that are wanted are marked: to drop values takes no memory.
+    marks: Vec<bool>,
+    pending: usize,
     alloc: Global,
     side: u32,
 }
 
 impl Model for Store {
-    ghost use Rattle.std.specs.Prelude.{length, map, option_map};
+    ghost use Rattle.std.specs.Prelude.{◌≡◌, count_by, length, map, option_map, vec_len};
+    ghost use Rattle.mw_model.specs.Refusals.{is_pending};
     ghost use Rattle.mw_store.specs.Kept.{kept_value};
     ghost use Rattle.mw_store.specs.Stored.{Stored, IsWhole};
 
@@ -49,7 +53,9 @@ impl Model for Store {
             outcomes = s.outcomes.items;
           };
           kept = map (option_map kept_value) s.kept.items;
-        }) };
+        })
+        × (vec_len s.marks ≡ length s.names.keys)
+        × (s.pending ≡ count_by is_pending s.outcomes.items) };
 }
 
 impl Store {
@@ -60,8 +66,7 @@ impl Store {
     ghost use Rattle.mw_model.specs.Values.{CurveValue, image_of, tickets, value_at};
     ghost use Rattle.mw_model.specs.Refusals.{is_pending, ticket_of, outcome_at, submission_at, shape_at};
     ghost use Rattle.mw_model.specs.Machine.{killed, settled, with_entry};
-    ghost use Rattle.mw_model.specs.Stands.{is_wanted};
-    ghost use Rattle.mw_store.specs.Entries.{submission_of, outcome_of, payload_in};
+    ghost use Rattle.mw_store.specs.Entries.{op_of, submission_of, outcome_of, payload_in};
     ghost use Rattle.mw_store.specs.Kept.{kept_value, figure_in};
     ghost use Rattle.mw_store.specs.Stored.{IsWhole, DropsSpent};
 
@@ -77,14 +82,11 @@ impl Store {
             submissions: Vec::with_capacity(alloc, 16)?,
             outcomes: Vec::with_capacity(alloc, 16)?,
             kept: Vec::with_capacity(alloc, 16)?,
+            marks: Vec::with_capacity(alloc, 16)?,
+            pending: 0,
             alloc,
             side,
         })
-    }
-
-    /// The side of a tile, in pixels.
-    pub fn side(&self) -> u32 {
-        self.side
     }
 
     /// How many entries there are.
@@ -135,7 +137,7 @@ impl Store {
     /// The operation of a RUN.
     pub fn op(&self, t: u32) -> Option<Op>
         requires { t < length self.now.table.names }
-        ensures { IfSome result (λ o. (submission_at self.now.table.submissions t).command ≡ Command.Run o) }
+        ensures { result ≡ op_of (submission_at self.now.table.submissions t).command }
     {
         match self.submissions[t as usize].command {
             Command::Run(op) => Some(op),
@@ -149,14 +151,7 @@ impl Store {
         ensures whole { IsWhole self.now }
         ensures small { result ≤ 65536 }
     {
-        self.outcomes.iter().filter(|o| is_pending(**o)).count()
-    }
-
-    /// A pending entry has the ticket as an input.
-    pub fn is_wanted(&self, t: u32) -> bool
-        ensures { result ≡ is_wanted self.now.table t }
-    {
-        wanted::is_wanted(&self.submissions, &self.outcomes, t)
+        self.pending
     }
 
     /// The value that is kept of an entry.
@@ -223,6 +218,7 @@ impl Store {
     {
         self.outcomes[t as usize] = cause;
         fail_dependents(&self.submissions, &mut self.outcomes);
+        self.pending = count_pending(&self.outcomes);
     }
 
     /// Gives an entry its outcome.
@@ -236,6 +232,7 @@ impl Store {
             → count_by is_pending self.new.table.outcomes ≡ count_by is_pending self.old.table.outcomes }
     {
         self.outcomes[t as usize] = outcome;
+        self.pending = count_pending(&self.outcomes);
     }
 
     /// Lets a done entry go. Its value stays until it is forgotten.
@@ -273,7 +270,12 @@ impl Store {
         ensures kept { DropsSpent self.old.table self.old.kept self.new.kept }
         ensures length { length self.new.kept ≡ length self.old.kept }
     {
-        wanted::drop_spent(&self.submissions, &self.outcomes, &mut self.kept);
+        drop_spent(
+            &self.submissions,
+            &self.outcomes,
+            &mut self.marks,
+            &mut self.kept,
+        );
     }
 
     fn push(
@@ -295,10 +297,13 @@ impl Store {
         self.submissions.reserve(1)?;
         self.outcomes.reserve(1)?;
         self.kept.reserve(1)?;
+        self.marks.reserve(1)?;
         self.names.insert(name)?;
         self.submissions.push_reserved(submission);
         self.outcomes.push_reserved(outcome);
         self.kept.push_reserved(value);
+        self.marks.push_reserved(false);
+        self.pending += one_if_pending(outcome);
         Ok(t)
     }
 

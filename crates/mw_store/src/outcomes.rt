@@ -1,6 +1,6 @@
 //! Questions about how an entry stands.
 
-ghost use Rattle.std.specs.Prelude.{◌≡◌};
+ghost use Rattle.std.specs.Prelude.{◌≡◌, count_by, if◌then◌else◌};
 ghost use Rattle.mw_model.specs.Refusals as words;
 
 use mw_model::Outcome;
@@ -41,4 +41,18 @@ pub fn is_there(outcome: Outcome) -> bool
     ensures { result ≡ words.is_there outcome }
 {
     is_done(outcome) || is_released(outcome)
+}
+
+/// How many of them are pending.
+pub fn count_pending(outcomes: &[Outcome]) -> usize
+    ensures { result ≡ count_by words.is_pending outcomes.now }
+{
+    outcomes.iter().filter(|o| is_pending(**o)).count()
+}
+
+/// What one more entry adds to the count.
+pub fn one_if_pending(outcome: Outcome) -> usize
+    ensures { result ≡ (if words.is_pending outcome then 1 else 0) }
+{
+    if is_pending(outcome) { 1 } else { 0 }
 }

@@ -13,6 +13,8 @@ mod images;
 #[cfg(test)]
 mod kernels;
 #[cfg(test)]
+mod machine;
+#[cfg(test)]
 mod plain_rows;
 #[cfg(test)]
 mod seams;

@@ -1,3 +1,5 @@
+use Rattle.std.proofs.Common.{◌≡◌, ◌+◌, ◌≤◌, length}
+use Rattle.std.specs.Prelude.{vec_capacity}
 use Rattle.std.specs.List.{AllByRecursion}
 use Rattle.mw_model.specs.Machine.{Machine}
 use Rattle.mw_model.specs.Stands.{StandsFor}
@@ -8,3 +10,4 @@ abbrev pub invariant-loop-event : goal.invariant-loop-event
 invariant-loop-event l =
     AllByRecursion IsServable l.event-iterator.rest.items
     × ((m : Machine) → StandsFor l.fn.core m → (n : Machine) × HappensAll m l.yielded l.answers.items n × StandsFor l.core n)
+    × (length l.answers.items + length l.event-iterator.rest.items ≤ vec_capacity l.answers)

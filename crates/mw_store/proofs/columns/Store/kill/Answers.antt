@@ -38,7 +38,7 @@ returns-clause-pending c = λ was is.
     let v = c.self.view_is in
     let t = c.args.t in
     let named : t < length c.self.inside.names.keys = let R : Stored → Type 0 = λ s. t < length s.table.names in subst R (sym v) c.requires in
-    let within : t < length os = omega (arith, c.self.invariant.outcomes) in
+    let within : t < length os = omega (arith, c.self.invariant.0.outcomes) in
     let was' : is_pending (outcome_at os t) ≡ true = let W : Stored → Type 0 = λ s. is_pending (outcome_at s.table.outcomes t) ≡ true in subst W (sym v) was in
     rw (front c.fail_dependents.new.outcomes _ c.self.inside.outcomes.len (omega arith), a, b, d, ← v)
     (omega (

@@ -11,7 +11,7 @@ returns-clause-same c =
     let xs = c.self.inside.kept.items in
     let t = c.args.t in
     let named : t < length c.self.inside.names.keys = let R : Stored → Type 0 = λ s. t < length s.table.names in subst R (sym c.self.view_is) c.requires in
-    let within : t < length xs = omega (arith, c.self.invariant.kept, length-map xs (option_map kept_value)) in
+    let within : t < length xs = omega (arith, c.self.invariant.0.kept, length-map xs (option_map kept_value)) in
     let here = get_or_read xs t c.index_mut.result.now within c.index_mut.ensures.value None in
     let was : Some c.in-Some.kept ≡ get_or xs t None = sym c.in-Some.is ∙ c.take.ensures.value ∙ here in
     let value : option_map kept_value (Some c.share-kept.result.0) ≡ option_map kept_value (get_or xs t None) = ap Some c.share-kept.ensures.kept ∙ ap (option_map kept_value) was in
