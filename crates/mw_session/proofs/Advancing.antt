@@ -22,13 +22,20 @@ use Rattle.mw_core.specs.declared.answers.Finish.{Finish}
 use Rattle.mw_core.specs.declared.answers.Finish.TheVariants as finish
 use Rattle.mw_core.specs.declared.answers.Refusal.{Refusal}
 use Rattle.mw_core.specs.declared.answers.Refusal.TheVariants as refusal
-use Rattle.mw_session.specs.Marks.{NonePending}
+use Rattle.mw_core.specs.Counts.{NonePending}
 use Rattle.mw_laws.proofs.RunReplay.{run_join}
 use Rattle.mw_session.specs.Work.{tasks_left, Worked, AllWorked}
 use Rattle.mw_session.proofs.Totals.{total, total-at, total-falls, total-grows, total-bounded, total-zero, count-some, count-falls, count-grows}
-use Rattle.mw_session.proofs.Idle.{idle-law, both_left, both_right}
 use Rattle.mw_session.proofs.Working.{works_any_order}
 use Rattle.mw_session.proofs.Finishing.{only_append}
+
+both_left : (a b : Bool) → (a && b) ≡ true → a ≡ true
+both_left true b h = refl
+both_left false b h = h
+
+both_right : (a b : Bool) → (a && b) ≡ true → b ≡ true
+both_right true b h = h
+both_right false b h = cc
 
 -- ---- counts under tickets
 
@@ -304,9 +311,6 @@ refused-turn old c new m w refusal.Stranger b e =
     }))
 
 -- ---- the turns
-
-pub idle-turn : (c : Seen) (m : Machine) → StandsFor c m → running_count c ≡ 0 → ready_count c ≡ 0 → NonePending m.table
-idle-turn c m s running ready = idle-law c m s running ready
 
 pub death-turn : (c new : Seen) (m : Machine) (t : ℕ) → StandsFor c m → running_count c ≡ 0 → Kills c m t new → Worked m c new 1
 death-turn c new m t s none k = killed-turn c c new m t s refl (omega arith) (omega (arith, none)) k

@@ -5,7 +5,6 @@ pub mod Readings
 pub mod Writing
 pub mod Sessions
 pub mod Totals
-pub mod Idle
 pub mod Advancing
 pub mod Answering
 pub mod Fronts

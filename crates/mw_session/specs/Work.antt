@@ -7,7 +7,8 @@ use Rattle.mw_model.specs.Machine.{Machine, Run}
 use Rattle.mw_model.specs.Tasks.{remaining_tasks}
 use Rattle.mw_model.specs.Stands.{Seen, StandsFor, progress_at, running_count}
 use Rattle.mw_model.specs.Scripts.{Works}
-use Rattle.mw_session.specs.Marks.{OnlyWork, NonePending, killed_in}
+use Rattle.mw_core.specs.Counts.{NonePending}
+use Rattle.mw_session.specs.Marks.{OnlyWork, killed_in}
 
 -- how many tasks are not finished
 abbrev pub tasks_left : Seen → ℕ

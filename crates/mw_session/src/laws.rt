@@ -8,7 +8,8 @@ ghost use Rattle.mw_model.specs.declared.requests.End.{End};
 ghost use Rattle.mw_model.specs.Machine.{Machine, Run};
 ghost use Rattle.mw_laws.specs.MachineLaws.{IsSound};
 ghost use Rattle.mw_model.specs.Scripts.{Turn, AreTurns, IsScript, IsBroken, Works};
-ghost use Rattle.mw_session.specs.Marks.{killed_in, kills_of, EndsInMemory, NoMarks, NoneSaysMemory, OnlyWork, NonePending};
+ghost use Rattle.mw_session.specs.Marks.{killed_in, kills_of, EndsInMemory, NoMarks, NoneSaysMemory, OnlyWork};
+ghost use Rattle.mw_core.specs.Counts.{NonePending};
 
 /// Without marks of memory the bytes and the state tell all: the text, the end, and the state that is left.
 pub fn one_output()
