@@ -1,6 +1,6 @@
 //! Running work.
 
-ghost use Rattle.std.specs.Prelude.{◌≡◌};
+ghost use Rattle.std.specs.Prelude.{◌≡◌, ◌<◌};
 ghost use Rattle.mw_model.specs.Machine.{Machine};
 ghost use Rattle.mw_model.specs.Stands.{StandsFor, running_count};
 ghost use Rattle.mw_session.specs.Work.{Turned, AllWorked};
@@ -11,14 +11,19 @@ use std::alloc::Global;
 /// Which ready task is taken next.
 pub trait Pick {
     /// A place among so many ready tasks, counted from 0 and round again where there are fewer. Any answer is right.
-    fn pick(&mut self, count: u64) -> u64;
+    fn pick(&mut self, count: u64) -> u64
+        requires { 0 < count };
 }
 
 /// Takes a task, runs it and brings its result. Says whether one was ready.
 fn run_one<P: Pick>(alloc: Global, core: &mut Core, pick: &mut P) -> bool
     ensures { (m : Machine) → StandsFor core.old m → running_count core.old ≡ 0 → Turned m core.old core.new result }
 {
-    let place = pick.pick(core.ready_count());
+    let count = core.ready_count();
+    if count == 0 {
+        return false;
+    }
+    let place = pick.pick(count);
     match core.start(place) {
         Started::Idle => false,
         Started::Refused(_) => true,

@@ -1,10 +1,13 @@
-use Rattle.std.proofs.Common.{subst}
+use Rattle.std.proofs.Common.{◌∙◌, refl, sym, subst}
 use Rattle.mw_model.specs.declared.tasks.TaskId.{TaskId}
 use Rattle.mw_step.specs.WindowTasks.{WindowTask}
 use Rattle.mw_core.specs.TaskEvents.{Finishes, Refuses}
 use Rattle.mw_core.proofs.IdleLemmas.{nothing-pending}
 use Rattle.mw_session.proofs.Advancing.{death-turn, finish-turn, refuse-turn}
 use Rattle.mw_session.proofs.work.run_one.Goals as goal
+
+pub returns-then-count-eq0 : goal.returns-then-count-eq0
+returns-then-count-eq0 g c = λ m s none. (refl, idle-turn c.args.core.now m s none (sym c.ready_count-count.ensures ∙ c.if-count-eq0.true))
 
 pub returns-in-Idle : goal.returns-in-Idle
 returns-in-Idle g c = λ m s none.
