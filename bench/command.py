@@ -31,6 +31,7 @@ def main():
             file.write(b"LOAD f %d\n%sELEMENT b 7 7 %d\n%sRUN e ERODE f b\nFETCH e\n" % (len(image), image, len(square), square))
         commands = {
             "morphd, files": f"{program} batch < session > replies",
+            "morphd, files, large pages": f"GLIBC_TUNABLES=glibc.malloc.hugetlb=1 {program} batch < session > replies",
             "morphd, pipes": f"cat session | {program} batch | cat > /dev/null",
             "load and fetch alone, files": f"{program} batch < copy > replies",
             "cat, files": "cat < session > replies",
