@@ -1,5 +1,8 @@
-# `make demo` builds morphd and shows it at work; `make test` is the gate; `make bench` takes times.
-.PHONY: demo test bench toolchain
+# `make demo` builds morphd and shows it at work; `make test` is the gate; `make memory` refuses each allocation in turn;
+# `make bench` takes times.
+.PHONY: demo morphd test memory bench toolchain
+
+MORPHD = crates/morphd/out/morphd
 
 toolchain:
 	@command -v rt >/dev/null || { \
@@ -8,16 +11,26 @@ toolchain:
 test: toolchain
 	rt ci
 
-demo: toolchain
-	@echo "a picture of grains, and the same opened by a ball of five pixels:"
-	@cd crates/demo && rt run < ../../examples/grains.pgm
+# Proves and builds the program, and runs it once on its stored session.
+morphd: toolchain
+	@cd crates/morphd && rt run -- batch < stdin > /dev/null
+
+demo: morphd
+	@echo "a picture of grains:"
+	@python3 examples/show.py examples/grains.pgm
+	@echo "the same, opened by a ball of five pixels: $(MORPHD) batch < examples/grains.session | python3 examples/show.py -"
+	@$(MORPHD) batch < examples/grains.session | python3 examples/show.py -
+
+memory: morphd
+	@python3 checks/refused_memory.py $(MORPHD)
 
 # Best on a machine that does nothing else: each line is the best of five runs in one thread. The C library is told to
 # keep what is freed, so that copies, reads and writes alike find memory that the system has given already. `rt run`
 # proves and builds; without the word `measure` the programs end at once.
 KEEP = MALLOC_MMAP_MAX_=0 MALLOC_TRIM_THRESHOLD_=17179869184
 
-bench: toolchain
+bench: morphd
 	cd crates/bench_files && rt run && $(KEEP) out/bench_files measure
 	cd crates/bench_kernels && rt run && $(KEEP) out/bench_kernels measure
+	python3 bench/command.py $(MORPHD)
 	@/usr/bin/python3 bench/peers.py || echo "the peers were not measured" >&2

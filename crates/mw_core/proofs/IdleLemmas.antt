@@ -14,7 +14,7 @@ use Rattle.mw_model.specs.Machine.{Machine}
 use Rattle.mw_model.specs.Plans.{Source, FromInput, FromStep, IsSourceAt, images_of}
 use Rattle.mw_model.specs.Tasks.{Progress, flag, task_count, step_number, planned_of, is_step, meets, reads, place_of_task, tile_of_task, is_ready, is_running, ready_tasks, running_tasks}
 use Rattle.mw_model.specs.Stands.{Seen, StandsFor, IsWork, progress_at, inputs_of, inputs_there, input_values, may_run, ready_under, ready_count, running_count}
-use Rattle.mw_model.specs.Scripts.{NonePending}
+use Rattle.mw_core.specs.Counts.{NonePending}
 use Rattle.mw_laws.proofs.RunWaiting.{one_can_finish}
 use Rattle.mw_core.specs.Counts.{running_under}
 use Rattle.mw_core.proofs.CountLemmas.{sum-more}

@@ -33,7 +33,7 @@ impl Core {
     ghost use Rattle.std.specs.Prelude.{◌↔◌, IsSome};
     ghost use Rattle.mw_model.specs.Machine.{Machine};
     ghost use Rattle.mw_model.specs.Refusals.{is_pending};
-    ghost use Rattle.mw_model.specs.Scripts.{NonePending};
+    ghost use Rattle.mw_core.specs.Counts.{NonePending};
     ghost use Rattle.mw_model.specs.Stands.{StandsFor, ready_under, ready_count, running_count, remaining_of};
     ghost use Rattle.mw_core.specs.Turns.{IsAt};
     ghost use Rattle.mw_core.specs.Counts.{running_under};

@@ -88,7 +88,7 @@ pub record IsElement (bytes : List ℕ) (ox oy : ℕ) (figure : Figure) : Type 0
   pub some : offsets_of bitmap ox oy ≢ []
   pub shows : figure ≡ figure_of bitmap ox oy
 
--- the bytes, with this origin, are no element, and this code tells why: the first case that holds
+-- the bytes, with this origin, are no element, and this code tells why: the first case that holds (own)
 pub data ElementRefuses (bytes : List ℕ) (ox oy : ℕ) : Code → Type 0 where
   no_bitmap : (c : Code) → BitmapRefuses bytes element_side c → ElementRefuses bytes ox oy c
   no_origin : (f : Raster ℕ) → IsBitmap bytes element_side f → ¬ HoldsPlace f ox oy → ElementRefuses bytes ox oy code.Origin

@@ -84,6 +84,6 @@ abbrev pub in_rising_order : List ℕ → List ℕ
 in_rising_order [] = []
 in_rising_order (n ∷ ns) = put_in_order n (in_rising_order ns)
 
--- of the m samples under the element in rising order, number min(k, m), counted from 1
+-- of the m samples under the element in rising order, number min(k, m), counted from 1 (own where m is below the number of offsets)
 abbrev pub rank : List Offset → ℕ → Picture → Picture
 rank element k f = redrawn f (λ x y. let found = under f element x y in slice_index (in_rising_order found) (min k (length found) - 1))

@@ -20,13 +20,13 @@ rectangle left right up down =
 abbrev pub is_residue : List Offset → Picture → ℕ → ℕ → Bool
 is_residue element f x y = sample f x y == 1 && not (sample (opening element f) x y == 1)
 
--- n + 1 at a place of the residue of the n-fold erosion, for an n below the depth, else 0
+-- n + 1 at a place of the residue of the n-fold erosion, for an n below the depth, else 0 (own)
 abbrev pub residue_mark : List Offset → Picture → ℕ → ℕ → ℕ → ℕ
 residue_mark element f zero x y = 0
 residue_mark element f (suc n) x y =
     if is_residue element (times n (erosion element) f) x y then n + 1 else residue_mark element f n x y
 
--- the residues of the erosions below the depth, and what the last erosion leaves
+-- the residues of the erosions below the depth, and what the last erosion leaves, as their marks (own)
 abbrev pub skeleton : List Offset → ℕ → Picture → Picture
 skeleton element depth f =
     drawn Grey f.width f.height (depth + 1) (λ x y. if sample (times depth (erosion element) f) x y == 1 then depth + 1 else residue_mark element f depth x y)
@@ -39,7 +39,7 @@ level_set n g = drawn Bit g.width g.height 1 (λ x y. if sample g x y == n then 
 abbrev pub union : Picture → Picture → Picture
 union f g = redrawn f (λ x y. max (sample f x y) (sample g x y))
 
--- the union, for n up to the depth, of the n-fold dilation of the places marked n + 1
+-- the union, for n up to the depth, of the n-fold dilation of the places marked n + 1 (own)
 abbrev pub restoration : List Offset → ℕ → Picture → Picture
 restoration element zero g = level_set 1 g
 restoration element (suc n) g =

@@ -155,7 +155,7 @@ pub record SizeFits (width height : ℕ) : Type 0 where
   pub low : height ≤ 8192
   pub area : height * width ≤ 16777216
 
--- the maxvals that two bytes hold
+-- the maxvals that pgm(5) allows
 pub record MaxvalFits (maxval : ℕ) : Type 0 where
   pub some : 0 < maxval
   pub small : maxval ≤ 65535

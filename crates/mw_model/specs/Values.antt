@@ -1,4 +1,4 @@
--- Values of tickets: what the payloads and the operators of the commands mean. No outcome is looked at.
+-- Values of tickets: what the payloads and the operators of the commands mean. No outcome is looked at (own).
 use Rattle.std.specs.Prelude.{ℕ, List, [], ◌∷◌, ◌++◌, map, slice_index_or, Option, Some, None, option_map, option_and_then}
 use Rattle.mw_model.specs.declared.shapes.Shape.{Shape}
 use Rattle.mw_model.specs.declared.shapes.Shape.TheVariants as shape

@@ -12,4 +12,7 @@ pub mod Refused
 pub mod Packing
 pub mod Exclusive
 pub mod Bitmaps
+pub mod Lanes
+pub mod Pixels
+pub mod Chunks
 pub mod Made

@@ -82,7 +82,7 @@ first_byte (a ∷ b ∷ c ∷ d ∷ e ∷ f ∷ g ∷ h ∷ bits) w =
     ap (λ n. take n (bits_of (byte_of (a ∷ b ∷ c ∷ d ∷ e ∷ f ∷ g ∷ h ∷ bits)))) m
     ∙ ap (take 8) (eight a b c d e f g h w.0 w.1.0 w.1.1.0 w.1.1.1.0 w.1.1.1.1.0 w.1.1.1.1.1.0 w.1.1.1.1.1.1.0 w.1.1.1.1.1.1.1.0)
 
-Within-drop : (m n : ℕ) (xs : List ℕ) → Within m xs → Within m (drop n xs)
+pub Within-drop : (m n : ℕ) (xs : List ℕ) → Within m xs → Within m (drop n xs)
 Within-drop m zero xs w = w
 Within-drop m (suc n) [] w = tt
 Within-drop m (suc n) (x ∷ xs) w = Within-drop m n xs w.1
@@ -95,7 +95,7 @@ row_packed (suc n) bits le w =
     let ih = row_packed n (drop 8 bits) (omega (arith, len)) (Within-drop 1 8 bits w) in
     rw (first_byte bits w, ← len, ih) (take-append-drop 8 bits)
 
-packed_length : (n : ℕ) (bits : List ℕ) → length (packed n bits) ≡ n
+pub packed_length : (n : ℕ) (bits : List ℕ) → length (packed n bits) ≡ n
 unfolding packed
 packed_length zero bits = refl
 packed_length (suc n) bits = ap suc (packed_length n (drop 8 bits))

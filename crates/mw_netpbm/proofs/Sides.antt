@@ -55,7 +55,7 @@ words_length (suc n) [] e = absurd (omega (arith, e))
 words_length (suc n) (b ∷ []) e = absurd (omega (arith, e))
 words_length (suc n) (a ∷ b ∷ bs) e = ap suc (words_length n bs (omega (arith, e)))
 
-Within-append : (m : ℕ) (xs ys : List ℕ) → Within m xs → Within m ys → Within m (xs ++ ys)
+pub Within-append : (m : ℕ) (xs ys : List ℕ) → Within m xs → Within m ys → Within m (xs ++ ys)
 Within-append m [] ys p q = q
 Within-append m (x ∷ xs) ys p q = (p.0, Within-append m xs ys p.1 q)
 

@@ -7,6 +7,7 @@
 #![tactic(auto)]
 
 mod bitmap;
+mod blocks;
 mod fault;
 mod head;
 pub mod laws;

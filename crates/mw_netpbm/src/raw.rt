@@ -5,9 +5,11 @@ ghost use Rattle.mw_netpbm.specs.Reading.{Gives};
 ghost use Rattle.mw_model.specs.NetpbmGrammar.{bits_of};
 ghost use Rattle.mw_netpbm.specs.Rasters.{words_of, row_bits, rows_bits, grey8_at, grey16_at, bits_at};
 
+use crate::blocks::{bits_in, words_in};
 use crate::fault::ReadFault;
 use mw_pixel::Bit;
 use std::alloc::{AllocError, Global};
+use std::simd::prelude::*;
 
 fn greatest8(samples: &[u8]) -> u8
     ensures { result ≡ fold max 0 samples.now }
@@ -42,11 +44,12 @@ pub(crate) fn grey8(
     Ok(Vec::from_slice(alloc, samples)?)
 }
 
+/// The greatest of a sample and of those in the bytes.
 #[tactic(auto, unfolding(crate::specs::Rasters::words_of))]
-fn greatest16(bytes: &[u8]) -> u16
-    ensures { result ≡ fold max 0 (words_of bytes.now) }
+fn greatest_from(first: u16, bytes: &[u8]) -> u16
+    ensures { result ≡ fold max first (words_of bytes.now) }
 {
-    let mut most = 0;
+    let mut most = first;
     let mut rest = bytes;
     'words: while let [high, low, after @ ..] = rest {
         most = most.max(u16::from(*high) * 256 + u16::from(*low));
@@ -55,16 +58,52 @@ fn greatest16(bytes: &[u8]) -> u16
     most
 }
 
-#[tactic(auto, unfolding(crate::specs::Rasters::words_of))]
-fn words(alloc: Global, count: usize, bytes: &[u8]) -> Result<Vec<u16>, AllocError>
-    ensures { IfOk result (λ v. v.items ≡ words_of bytes.now) }
+fn greatest_lane(lanes: [u16; 32]) -> u16
+    ensures { result ≡ fold max 0 lanes }
 {
-    let mut out = Vec::with_capacity(alloc, count)?;
+    let mut most = 0;
+    'lanes: for i in 0..32 {
+        most = most.max(lanes[i]);
+    }
+    most
+}
+
+fn greatest16(bytes: &[u8]) -> u16
+    ensures { result ≡ fold max 0 (words_of bytes.now) }
+{
+    let mut lanes = u16x32::splat(0);
+    let mut rest = bytes;
+    'by_block: while rest.len() >= 64 {
+        let (front, after) = rest.split_at(64);
+        lanes = lanes.simd_max(words_in(front));
+        rest = after;
+    }
+    greatest_from(greatest_lane(lanes.to_array()), rest)
+}
+
+#[tactic(auto, unfolding(crate::specs::Rasters::words_of))]
+fn push_words(out: &mut Vec<u16>, bytes: &[u8]) -> Result<(), AllocError>
+    ensures { OnOk result (out.new.items ≡ out.old.items ++ words_of bytes.now) }
+{
     let mut rest = bytes;
     'words: while let [high, low, after @ ..] = rest {
         out.push(u16::from(*high) * 256 + u16::from(*low))?;
         rest = after;
     }
+    Ok(())
+}
+
+fn words(alloc: Global, count: usize, bytes: &[u8]) -> Result<Vec<u16>, AllocError>
+    ensures { IfOk result (λ v. v.items ≡ words_of bytes.now) }
+{
+    let mut out = Vec::with_capacity(alloc, count)?;
+    let mut rest = bytes;
+    'by_block: while rest.len() >= 64 {
+        let (front, after) = rest.split_at(64);
+        out.extend_from_slice(&words_in(front).to_array())?;
+        rest = after;
+    }
+    push_words(&mut out, rest)?;
     Ok(out)
 }
 
@@ -111,8 +150,9 @@ fn push_bits(out: &mut Vec<Bit>, byte: u8, count: usize) -> Result<(), AllocErro
     Ok(())
 }
 
+/// Adds the pixels byte by byte.
 #[tactic(auto, unfolding(crate::specs::Rasters::row_bits))]
-fn push_row(out: &mut Vec<Bit>, width: usize, row: &[u8]) -> Result<(), AllocError>
+fn push_rest(out: &mut Vec<Bit>, width: usize, row: &[u8]) -> Result<(), AllocError>
     ensures { OnOk result (out.new.items ≡ out.old.items ++ row_bits width row.now) }
 {
     let mut left = width;
@@ -123,6 +163,20 @@ fn push_row(out: &mut Vec<Bit>, width: usize, row: &[u8]) -> Result<(), AllocErr
         rest = after;
     }
     Ok(())
+}
+
+fn push_row(out: &mut Vec<Bit>, width: usize, row: &[u8]) -> Result<(), AllocError>
+    ensures { OnOk result (out.new.items ≡ out.old.items ++ row_bits width row.now) }
+{
+    let mut left = width;
+    let mut rest = row;
+    'by_block: while left >= 64 && rest.len() >= 8 {
+        let (front, after) = rest.split_at(8);
+        out.extend_from_slice(&bits_in(front))?;
+        left -= 64;
+        rest = after;
+    }
+    push_rest(out, left, rest)
 }
 
 #[tactic(auto, unfolding(crate::specs::Rasters::rows_bits))]

@@ -6,6 +6,7 @@ ghost use Rattle.mw_pixel.specs.Images.{grey_of, set_of};
 ghost use Rattle.std.specs.List.{flat_map};
 ghost use Rattle.mw_model.specs.Rasters.{Raster};
 
+use crate::blocks::{bits_as_bytes, words_as_bytes};
 use mw_model::NoMemory;
 use mw_pixel::{Bit, Image, Plane, View};
 use std::alloc::{AllocError, Global};
@@ -16,13 +17,27 @@ fn grey_head(alloc: Global, width: u32, height: u32, maxval: u16) -> Result<Stri
     format!(in alloc; "P5\n{width} {height}\n{maxval}\n")
 }
 
-fn push_words(out: &mut Vec<u8>, samples: &[u16]) -> Result<(), AllocError>
+/// Adds the bytes of samples one by one.
+fn push_rest(out: &mut Vec<u8>, samples: &[u16]) -> Result<(), AllocError>
     ensures { OnOk result (out.new.items ≡ out.old.items ++ flat_map two_bytes samples.now) }
 {
     'samples: for s in samples {
         out.extend_from_slice(&[(*s / 256) as u8, (*s % 256) as u8])?;
     }
     Ok(())
+}
+
+fn push_words(out: &mut Vec<u8>, samples: &[u16]) -> Result<(), AllocError>
+    ensures { OnOk result (out.new.items ≡ out.old.items ++ flat_map two_bytes samples.now) }
+{
+    out.reserve(samples.len().saturating_mul(2))?;
+    let mut rest = samples;
+    'by_block: while rest.len() >= 32 {
+        let (front, after) = rest.split_at(32);
+        out.extend_from_slice(&words_as_bytes(front))?;
+        rest = after;
+    }
+    push_rest(out, rest)
 }
 
 fn grey8(alloc: Global, plane: &Plane<u8>, maxval: u8) -> Result<Vec<u8>, AllocError>
@@ -64,8 +79,9 @@ fn byte(bits: &[Bit]) -> u8
         + bit(bits, 7)
 }
 
+/// Adds so many bytes one by one.
 #[tactic(auto, using(crate::proofs::Packing::one_byte, crate::proofs::Packing::all_bytes))]
-fn push_packed(out: &mut Vec<u8>, count: usize, bits: &[Bit]) -> Result<(), AllocError>
+fn push_bytes(out: &mut Vec<u8>, count: usize, bits: &[Bit]) -> Result<(), AllocError>
     ensures { OnOk result (out.new.items ≡ out.old.items ++ packed count bits.now) }
 {
     let mut left = count;
@@ -79,6 +95,20 @@ fn push_packed(out: &mut Vec<u8>, count: usize, bits: &[Bit]) -> Result<(), Allo
     Ok(())
 }
 
+fn push_packed(out: &mut Vec<u8>, count: usize, bits: &[Bit]) -> Result<(), AllocError>
+    ensures { OnOk result (out.new.items ≡ out.old.items ++ packed count bits.now) }
+{
+    let mut left = count;
+    let mut rest = bits;
+    'by_block: while left >= 8 && rest.len() >= 64 {
+        let (front, after) = rest.split_at(64);
+        out.extend_from_slice(&bits_as_bytes(front))?;
+        left -= 8;
+        rest = after;
+    }
+    push_bytes(out, left, rest)
+}
+
 #[tactic(auto, using(crate::proofs::Packing::all_rows))]
 fn push_rows(
     out: &mut Vec<u8>,
@@ -90,6 +120,7 @@ fn push_rows(
     requires area { height * width ≤ length samples.now }
     ensures { OnOk result (out.new.items ≡ out.old.items ++ packed_rows width height samples.now) }
 {
+    out.reserve(height.saturating_mul((width + 7) / 8))?;
     let mut rest = samples;
     'rows: for y in 0..height {
         let (row, after) = rest.split_at(width);

@@ -23,7 +23,7 @@ use Rattle.mw_intake.proofs.Front.{front_is}
 use Rattle.mw_intake.specs.Reading.{front}
 use Rattle.mw_model.specs.Replies.{refusal_text}
 use Rattle.mw_model.specs.Scripts.{ImageGiven, ElementGiven, Calls, IsCallOf, refused_unread, answer_text, Answers, unread, called, runs_work, Works, Replies, Turn, IsTurn, AreTurns, requests, NoQuit, Ends, IsScript, end_text}
-use Rattle.mw_session.specs.Marks.{NoMarks}
+use Rattle.mw_session.specs.Marks.{NoMarks, kills_of, NoneSaysMemory}
 use Rattle.mw_netpbm.proofs.Sides.{ok_is}
 use Rattle.mw_netpbm.proofs.Files.{file_read}
 use Rattle.mw_netpbm.proofs.Exclusive.{one_refusal, refusal_or_image}
@@ -147,7 +147,7 @@ turn_once m k l t x y a b =
     let mid = works_once (runs_work t.request) m a.0 b.0 t.kills a.1 b.1 in
     replies_once t.no_memory b.0 k l t.request x y (subst (λ z. Replies t.no_memory z t.request x k) mid a.2) b.2
 
-turns_once : (ts : List Turn) (m k l : Machine) (x y : List ℕ) → AreTurns m ts x k → AreTurns m ts y l → (x ≡ y) × (k ≡ l)
+pub turns_once : (ts : List Turn) (m k l : Machine) (x y : List ℕ) → AreTurns m ts x k → AreTurns m ts y l → (x ≡ y) × (k ≡ l)
 turns_once [] m k l x y a b = (a.0 ∙ sym b.0, a.1 ∙ sym b.1)
 turns_once (t ∷ ts) m k l x y a b =
     let first = turn_once m a.0 b.0 t a.1 b.1 a.3 b.3 in
@@ -169,7 +169,7 @@ front_once ts us m n k x y a b =
 
 -- ---- whole scripts
 
-front_empty : front [] ≡ Partial
+pub front_empty : front [] ≡ Partial
 unfolding front
 front_empty = refl
 
@@ -258,3 +258,19 @@ script_once whole bytes ts us m n k x y e f a b p q g h =
     let ends : e ≡ f = same_end whole b.0 e f (subst (λ r. Ends whole r e) same.1 a.3) b.3 g h in
     let told = turns_once us m n k a.1 b.1 (subst (λ v. AreTurns m v a.1 n) same.0 a.2.turns_made) b.2.turns_made in
     (a.4 ∙ (ap (λ u. u ++ end_text e) told.0 ∙ ap (λ v. b.1 ++ end_text v) ends) ∙ sym b.4, told.1, ends)
+
+-- a turn that wrote no 50 found memory
+found_memory : (b : Bool) (m n : Machine) (r : Asked) (x : List ℕ) → Replies b m r x n → x ≢ refusal_text code.Memory → b ≡ false
+found_memory true m n r x a other = absurd (other a.0)
+found_memory false m n r x a other = refl
+
+none_first : (xs ys : List ℕ) → xs ++ ys ≡ [] → (xs ≡ []) × (ys ≡ [])
+none_first [] ys e = (refl, e)
+none_first (x ∷ xs) ys e = cc
+
+-- the marks of turns are their kills and their 50s
+pub marks_seen : (ts : List Turn) (m n : Machine) (x : List ℕ) → (a : AreTurns m ts x n) → kills_of ts ≡ [] → NoneSaysMemory ts m n x a → NoMarks ts
+marks_seen [] m n x a none other = tt
+marks_seen (t ∷ ts) m n x a none other =
+    let kills = none_first t.kills (kills_of ts) none in
+    (kills.0, found_memory t.no_memory a.3.0 a.0 t.request a.1 a.3.2 other.0, marks_seen ts a.0 n a.2 a.4 kills.1 other.1)

@@ -35,7 +35,7 @@ kills_append : (ts us : List Turn) → kills_of (ts ++ us) ≡ kills_of ts ++ ki
 kills_append [] us = refl
 kills_append (t ∷ ts) us = rw (kills_append ts us) (sym (append_assoc t.kills (kills_of ts) (kills_of us)))
 
-killed_append : (is js : List LogItem) → killed_in (is ++ js) ≡ killed_in is ++ killed_in js
+pub killed_append : (is js : List LogItem) → killed_in (is ++ js) ≡ killed_in is ++ killed_in js
 killed_append [] js = refl
 killed_append (item.Call c r ∷ is) js = killed_append is js
 killed_append (item.Finished t ∷ is) js = killed_append is js

@@ -1,10 +1,11 @@
--- Turns without marks of memory, what they and a log tell of kills, logs of work alone, and tables where all work is done (own).
-use Rattle.std.specs.Prelude.{◌≡◌, ◌≢◌, ◌<◌, ℕ, false, length, List, [], ◌∷◌, ◌++◌}
+-- Turns without marks of memory, what they and a log tell of kills, and logs of work alone (own).
+use Rattle.std.specs.Prelude.{◌≡◌, ◌≢◌, ℕ, false, take, List, [], ◌∷◌, ◌++◌}
+use Rattle.mw_model.specs.declared.codes.Code.TheVariants as code
 use Rattle.mw_model.specs.declared.calls.LogItem.{LogItem}
 use Rattle.mw_model.specs.declared.calls.LogItem.TheVariants as item
-use Rattle.mw_model.specs.declared.calls.Outcome.TheVariants as outcome
-use Rattle.mw_model.specs.Refusals.{Table, outcome_at}
-use Rattle.mw_model.specs.Scripts.{Turn}
+use Rattle.mw_model.specs.Machine.{Machine}
+use Rattle.mw_model.specs.Replies.{refusal_text}
+use Rattle.mw_model.specs.Scripts.{Turn, AreTurns}
 
 -- want of memory did nothing in these turns
 abbrev pub NoMarks : List Turn → Type 0
@@ -30,6 +31,11 @@ OnlyWork (item.Call c r ∷ items) = ⊥
 OnlyWork (item.Finished t ∷ items) = OnlyWork items
 OnlyWork (item.Killed t ∷ items) = OnlyWork items
 
--- all work is done
-abbrev pub NonePending : Table → Type 0
-NonePending w = (t : ℕ) → t < length w.names → outcome_at w.outcomes t ≢ outcome.Pending
+-- none of these turns wrote the text of a 50
+abbrev pub NoneSaysMemory : (ts : List Turn) (m n : Machine) (text : List ℕ) → AreTurns m ts text n → Type 0
+NoneSaysMemory [] m n text a = Unit {0}
+NoneSaysMemory (t ∷ ts) m n text a = (a.1 ≢ refusal_text code.Memory) × NoneSaysMemory ts a.0 n a.2 a.4
+
+-- the text is a front of what these turns write and that of a 50, which ended the session there
+abbrev pub EndsInMemory : Machine → List Turn → Machine → List ℕ → Type 0
+EndsInMemory m ts n text = (said : List ℕ) × AreTurns m ts said n × (k : ℕ) × (text ≡ take k (said ++ refusal_text code.Memory))

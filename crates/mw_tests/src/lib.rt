@@ -18,3 +18,9 @@ mod machine;
 mod plain_rows;
 #[cfg(test)]
 mod seams;
+#[cfg(test)]
+mod served;
+#[cfg(test)]
+mod session_ends;
+#[cfg(test)]
+mod sessions;

@@ -1,7 +1,7 @@
 use Rattle.std.proofs.Common.{◌++◌}
 use Rattle.mw_model.specs.NetpbmWriting.{packed}
-use Rattle.mw_netpbm.proofs.Packing.{all_bytes}
+use Rattle.mw_netpbm.proofs.Chunks.{packed_block}
 use Rattle.mw_netpbm.proofs.writer.push_packed.Goals as goal
 
-pub returns : goal.returns
-returns c = all_bytes c.bytes.out.items c.bytes.rest.now (c.args.out.now.items ++ packed c.args.count c.args.bits.now) c.bytes.left c.bytes-test.false c.bytes.invariant
+pub by_block-preserved : goal.by_block-preserved
+by_block-preserved c = packed_block c.by_block.out.items c.extend_from_slice.new.self.items c.bits_as_bytes.result c.by_block.rest.now c.split_at.result.0.now c.split_at.result.1.now (c.args.out.now.items ++ packed c.args.count c.args.bits.now) c.by_block.left c.by_block-test.true c.split_at.ensures.front c.split_at.ensures.back c.bits_as_bytes.ensures c.by_block.invariant c.in_ok-extend_from_slice.ensures.items

@@ -2,8 +2,8 @@ use Rattle.std.proofs.Common.{◌≡◌, ◌++◌}
 use Rattle.mw_model.specs.NetpbmWriting.{packed}
 use Rattle.mw_netpbm.proofs.writer.push_packed.Given as goal
 
-abbrev pub invariant-bytes : goal.invariant-bytes
-invariant-bytes l = l.out.items ++ packed l.left l.rest ≡ l.fn.out.items ++ packed l.count l.fn.bits
+abbrev pub invariant-by_block : goal.invariant-by_block
+invariant-by_block l = l.out.items ++ packed l.left l.rest ≡ l.fn.out.items ++ packed l.count l.fn.bits
 
-abbrev pub decreases-bytes : goal.decreases-bytes
-decreases-bytes l = l.left
+abbrev pub decreases-by_block : goal.decreases-by_block
+decreases-by_block l = l.left

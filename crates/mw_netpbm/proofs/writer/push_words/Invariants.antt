@@ -1,7 +1,10 @@
-use Rattle.std.proofs.Common.{◌≡◌, ◌++◌, take}
+use Rattle.std.proofs.Common.{◌≡◌, ◌++◌, length}
 use Rattle.std.specs.List.{flat_map}
 use Rattle.mw_model.specs.NetpbmWriting.{two_bytes}
 use Rattle.mw_netpbm.proofs.writer.push_words.Given as goal
 
-abbrev pub invariant-samples : goal.invariant-samples
-invariant-samples l = l.out.items ≡ l.fn.out.items ++ flat_map two_bytes (take l.s-index l.samples)
+abbrev pub invariant-by_block : goal.invariant-by_block
+invariant-by_block l = l.out.items ++ flat_map two_bytes l.rest ≡ l.fn.out.items ++ flat_map two_bytes l.fn.samples
+
+abbrev pub decreases-by_block : goal.decreases-by_block
+decreases-by_block l = length l.rest
