@@ -7,7 +7,7 @@ use Rattle.mw_session.proofs.Advancing.{death-turn, finish-turn, refuse-turn}
 use Rattle.mw_session.proofs.work.run_one.Goals as goal
 
 pub returns-then-count-eq0 : goal.returns-then-count-eq0
-returns-then-count-eq0 g c = λ m s none. (refl, idle-turn c.args.core.now m s none (sym c.ready_count-count.ensures ∙ c.if-count-eq0.true))
+returns-then-count-eq0 g c = λ m s none. (refl, nothing-pending c.args.core.now m s (sym c.ready_count-count.ensures ∙ c.if-count-eq0.true) none)
 
 pub returns-in-Idle : goal.returns-in-Idle
 returns-in-Idle g c = λ m s none.
