@@ -58,7 +58,7 @@ same_last a c d e = record {
 pub same_snoc : (a e : List ℕ) → Same (e ++ a) (a ++ e)
 same_snoc a e = record { counts = λ v. omega (arith, count-append v e a, count-append v a e); size = omega (arith, length-append e a, length-append a e) }
 
-run_before : {A : Type 0} (level : A → ℕ) (sight : Sight A) (r : Run) (x y : ℕ) → levels_under level sight (offsets_of r) x y ≡ levels_at level sight r.start x y ++ levels_under level sight (offsets_from r.start r.more) (x + 1) y
+pub run_before : {A : Type 0} (level : A → ℕ) (sight : Sight A) (r : Run) (x y : ℕ) → levels_under level sight (offsets_of r) x y ≡ levels_at level sight r.start x y ++ levels_under level sight (offsets_from r.start r.more) (x + 1) y
 run_before level sight r x y =
     levels-cons level sight r.start (offsets_from (next_offset r.start) r.more) x y ∙ ap (λ (t : List ℕ). levels_at level sight r.start x y ++ t) (levels-next level sight r.start r.more x y)
 
@@ -66,7 +66,7 @@ append_none : (xs : List ℕ) → xs ++ [] ≡ xs
 append_none [] = refl
 append_none (x ∷ xs) = ap (λ (t : List ℕ). x ∷ t) (append_none xs)
 
-run_after : {A : Type 0} (level : A → ℕ) (sight : Sight A) (r : Run) (x y : ℕ) → levels_under level sight (offsets_of r) (x + 1) y ≡ levels_under level sight (offsets_from r.start r.more) (x + 1) y ++ levels_at level sight r.start (x + 1 + r.more) y
+pub run_after : {A : Type 0} (level : A → ℕ) (sight : Sight A) (r : Run) (x y : ℕ) → levels_under level sight (offsets_of r) (x + 1) y ≡ levels_under level sight (offsets_from r.start r.more) (x + 1) y ++ levels_at level sight r.start (x + 1 + r.more) y
 run_after level sight r x y =
     ap (λ (t : List Offset). levels_under level sight t (x + 1) y) (offsets-snoc r.start r.more)
     ∙ levels-append level sight (offsets_from r.start r.more) (_ ∷ []) (x + 1) y

@@ -5,6 +5,7 @@
 //! ```
 #![tactic(auto)]
 
+mod ends;
 mod histogram;
 mod laws;
 mod moving;
