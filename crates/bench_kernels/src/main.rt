@@ -1,6 +1,7 @@
 //! Times of the kernels on images of 4096 x 4096 samples, in one thread and tile by tile, as a step of a plan runs them:
 //! each tile is cut with its halo, computed and pasted. Each line has the best of five runs. The program times only where
-//! it is given an argument, as in `out/bench_kernels measure`, since times differ from run to run.
+//! it is asked to, as in `out/bench_kernels measure all`, or `rectangle`, `disc` or `rank` in place of `all`, since times
+//! differ from run to run.
 #![tactic(auto)]
 
 ghost use Rattle.std.specs.Prelude.{◌≡◌, ◌*◌, ◌≤◌, ◌%◌, vec_len, IfOk};
@@ -214,29 +215,55 @@ fn measure<R: std::rt::Clock + Print, P: Pixel, E: Extremum<P>>(
     Ok(())
 }
 
-/// Times all filters with tiles of one side.
-fn measure_all<R: std::rt::Clock + Print>(rt: &R, alloc: Global, side: u32) -> Result<(), Fault>
+/// Times one filter at 8 and at 16 bits, where it is asked for.
+fn measure_both<R: std::rt::Clock + Print>(
+    rt: &R,
+    alloc: Global,
+    filter: Filter,
+    sizes: &[u8],
+    names: (&str, &str),
+    side: u32,
+) -> Result<(), Fault>
     requires { (64 ≤ side) × (side ≤ 1024) × (side % 64 ≡ 0) }
 {
-    let squares = [3u8, 15, 63, 127];
-    let discs = [5u8, 15, 31];
-    let ranks = [15u8];
-    measure::<R, u8, Min>(rt, alloc, Filter::Rectangle, &squares, "rectangle, 8 bits", side)?;
-    measure::<R, u16, Max>(rt, alloc, Filter::Rectangle, &squares, "rectangle, 16 bits", side)?;
-    measure::<R, u8, Min>(rt, alloc, Filter::Disc, &discs, "disc, 8 bits", side)?;
-    measure::<R, u16, Max>(rt, alloc, Filter::Disc, &discs, "disc, 16 bits", side)?;
-    measure::<R, u8, Min>(rt, alloc, Filter::Rank, &ranks, "rank, 8 bits", side)?;
-    measure::<R, u16, Min>(rt, alloc, Filter::Rank, &ranks, "rank, 16 bits", side)?;
+    measure::<R, u8, Min>(rt, alloc, filter, sizes, names.0, side)?;
+    measure::<R, u16, Max>(rt, alloc, filter, sizes, names.1, side)?;
+    Ok(())
+}
+
+/// Times the filters of that name, or all of them, with tiles of one side.
+fn measure_all<R: std::rt::Clock + Print>(
+    rt: &R,
+    alloc: Global,
+    wanted: &str,
+    side: u32,
+) -> Result<(), Fault>
+    requires { (64 ≤ side) × (side ≤ 1024) × (side % 64 ≡ 0) }
+{
+    let all = wanted == "all";
+    if all || wanted == "rectangle" {
+        let names = ("rectangle, 8 bits", "rectangle, 16 bits");
+        measure_both(rt, alloc, Filter::Rectangle, &[3, 15, 63, 127], names, side)?;
+    }
+    if all || wanted == "disc" {
+        let names = ("disc, 8 bits", "disc, 16 bits");
+        measure_both(rt, alloc, Filter::Disc, &[5, 15, 31], names, side)?;
+    }
+    if all || wanted == "rank" {
+        let names = ("rank, 8 bits", "rank, 16 bits");
+        measure_both(rt, alloc, Filter::Rank, &[15], names, side)?;
+    }
     Ok(())
 }
 
 fn main(rt: HostRuntime) -> Result<(), Fault> {
     let alloc: Global = rt.alloc();
-    if env::args(&rt)?.count() < 2 {
-        return Ok(());
-    }
+    let wanted = match env::args(&rt)?.nth(2) {
+        None => return Ok(()),
+        Some(word) => word,
+    };
     for side in [128u32, 512, 1024] {
-        measure_all(&rt, alloc, side)?;
+        measure_all(&rt, alloc, wanted.as_str(), side)?;
     }
     Ok(())
 }
