@@ -3,3 +3,4 @@ pub mod Sights
 pub mod Moves
 pub mod Rows
 pub mod Edges
+pub mod Parts

@@ -109,7 +109,7 @@ entering level sight runs i r x y lt is =
 element_cons : (q : Run) (runs : List Run) → length (element_of (q ∷ runs)) ≡ suc q.more + length (element_of runs)
 element_cons q runs = ap length (flat_map-cons offsets_of q runs) ∙ length-append (offsets_of q) (element_of runs) ∙ ap (λ (t : ℕ). t + length (element_of runs)) (length-offsets q.start (suc q.more))
 
-element_size : (runs : List Run) (i : ℕ) (r : Run) → i < length runs → get_or runs i r ≡ r → length (element_of runs) ≡ length (element_of (take i runs)) + (suc r.more + length (element_of (drop (i + 1) runs)))
+pub element_size : (runs : List Run) (i : ℕ) (r : Run) → i < length runs → get_or runs i r ≡ r → length (element_of runs) ≡ length (element_of (take i runs)) + (suc r.more + length (element_of (drop (i + 1) runs)))
 element_size [] i r lt is = absurd (omega arith)
 element_size (q ∷ runs) zero r lt is = omega (arith, element_cons q runs, ap (λ (t : Run). t.more) is)
 element_size (q ∷ runs) (suc i) r lt is =

@@ -1,13 +1,13 @@
 //! The ends of an element's runs along a row where all of them lie in the window, or in rows above or below it: there a
 //! move of the element takes no test.
-ghost use Rattle.std.specs.Prelude.{◌≡◌, ℕ, ℤ, pos, ◌+ℤ◌, ◌-ℤ◌, ◌+◌, ◌<◌, ◌≤◌, ◌^◌, List, ◌++◌, None, MatchOption, IfOk, IfSome, IsTrue};
-ghost use Rattle.mw_model.specs.Rasters.{raster, cell_at};
+ghost use Rattle.std.specs.Prelude.{◌≡◌, ℕ, pos, ◌+ℤ◌, ◌-ℤ◌, ◌+◌, ◌<◌, ◌≤◌, ◌^◌, List, ◌++◌, IfOk, IfSome, IsTrue};
 ghost use Rattle.mw_model.specs.Windows.{seen_at};
 ghost use Rattle.mw_rank.specs.Ends.{levels_left, levels_entered, HasEnds, AreEnds, AddsEnds};
 ghost use Rattle.mw_rank.specs.Tallies.{Tallies, Holds};
 
 use crate::histogram::Histogram;
 use crate::runs::Run;
+use crate::seen::{place_of, row_in};
 use mw_model::{NoMemory, Rect};
 use mw_pixel::Pixel;
 use mw_tile::Window;
@@ -24,28 +24,6 @@ pub(crate) struct Ends {
 pub(crate) struct Columns {
     pub first: u32,
     pub count: u32,
-}
-
-/// The place of a step from `from`, counted from `first`.
-#[inline(always)]
-pub(crate) fn place_of(from: u64, step: i16, first: u32) -> i64
-    requires { from ≤ 2 ^ 40 }
-    ensures { result ≡ pos from +ℤ step -ℤ pos first }
-{
-    (from as i64) + i64::from(step) - i64::from(first)
-}
-
-/// The row of the window in which a run lies, where the window has it.
-fn row_in<P: Pixel>(window: &Window<P>, run: Run, y: u64) -> Option<usize>
-    requires { y ≤ 2 ^ 40 }
-    ensures { MatchOption result ((column : ℤ) → cell_at (raster window.now.place.width window.now.place.height window.now.cells) column (pos y +ℤ run.start.dy -ℤ pos window.now.place.y) ≡ None) (λ row. (row < window.now.place.height) × (pos y +ℤ run.start.dy -ℤ pos window.now.place.y ≡ pos row)) }
-{
-    let place = window.place();
-    let row = place_of(y, run.start.dy, place.y);
-    if row < 0 || row >= i64::from(place.height) {
-        return None;
-    }
-    Some(row as usize)
 }
 
 /// The column of the place in which a run begins, where both its ends stay in the place's columns for so many more.

@@ -10,6 +10,7 @@ mod histogram;
 mod laws;
 mod moving;
 mod runs;
+mod seen;
 
 pub use laws::ranks_are_rank_filter;
 pub use moving::rank;

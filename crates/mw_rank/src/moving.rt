@@ -9,11 +9,12 @@ ghost use Rattle.mw_model.specs.Windows.{seen_at, IsWindow};
 ghost use Rattle.mw_rank.specs.Ends.{AreEnds};
 ghost use Rattle.mw_rank.specs.Ranks.{levels_under, levels_at, IsRank, GainsRow, HasRows};
 ghost use Rattle.mw_rank.specs.Runs.{element_of};
-ghost use Rattle.mw_rank.specs.Tallies.{Tallies, HasRoom, Holds};
+ghost use Rattle.mw_rank.specs.Tallies.{Tallies, HasRoom, HasRoomFor, Holds};
 
-use crate::ends::{Columns, Ends, exchange_ends, inner_columns, place_of, row_ends};
+use crate::ends::{Columns, Ends, exchange_ends, inner_columns, row_ends};
 use crate::histogram::Histogram;
 use crate::runs::{Run, runs_of};
+use crate::seen::{place_of, seen_part};
 use mw_model::{NoMemory, Offset, Rect};
 use mw_pixel::{Pixel, Plane};
 use mw_tile::Window;
@@ -73,41 +74,49 @@ fn leave<P: Pixel>(histogram: &mut Histogram, window: &Window<P>, offset: Offset
     }
 }
 
+/// Counts samples.
+fn enter_part<P: Pixel>(histogram: &mut Histogram, samples: &[P])
+    requires { HasRoomFor P.top_level histogram.old (length samples.now) }
+    ensures { (ns : List ℕ) → Tallies P.top_level histogram.old ns → Tallies P.top_level histogram.new (map P.level samples.now ++ ns) }
+{
+    for sample in samples {
+        histogram.add(sample.value());
+    }
+}
+
+/// Takes back samples that were counted.
+fn leave_part<P: Pixel>(histogram: &mut Histogram, samples: &[P])
+    requires { Holds P.top_level histogram.old (map P.level samples.now) }
+    ensures { (ns : List ℕ) → Tallies P.top_level histogram.old (map P.level samples.now ++ ns) → Tallies P.top_level histogram.new ns }
+{
+    for sample in samples {
+        histogram.remove(sample.value());
+    }
+}
+
 /// Counts what is seen under the element.
-fn enter_all<P: Pixel>(
-    histogram: &mut Histogram,
-    window: &Window<P>,
-    offsets: &[Offset],
-    x: u64,
-    y: u64,
-)
+fn enter_all<P: Pixel>(histogram: &mut Histogram, window: &Window<P>, runs: &[Run], x: u64, y: u64)
     requires near { x ≤ 2 ^ 40 }
     requires high { y ≤ 2 ^ 40 }
-    requires few { length offsets.now < 2 ^ 16 }
+    requires few { length (element_of runs.now) < 2 ^ 16 }
     requires empty { Tallies P.top_level histogram.old [] }
-    ensures { Tallies P.top_level histogram.new (levels_under P.level (seen_at window.now) offsets.now x y) }
+    ensures { Tallies P.top_level histogram.new (levels_under P.level (seen_at window.now) (element_of runs.now) x y) }
 {
-    for offset in offsets {
-        enter(histogram, window, *offset, x, y);
+    for run in runs {
+        enter_part(histogram, seen_part(window, *run, x, y));
     }
 }
 
 /// Takes back what is seen under the element.
-fn leave_all<P: Pixel>(
-    histogram: &mut Histogram,
-    window: &Window<P>,
-    offsets: &[Offset],
-    x: u64,
-    y: u64,
-)
+fn leave_all<P: Pixel>(histogram: &mut Histogram, window: &Window<P>, runs: &[Run], x: u64, y: u64)
     requires near { x ≤ 2 ^ 40 }
     requires high { y ≤ 2 ^ 40 }
-    requires few { length offsets.now < 2 ^ 16 }
-    requires held { Tallies P.top_level histogram.old (levels_under P.level (seen_at window.now) offsets.now x y) }
+    requires few { length (element_of runs.now) < 2 ^ 16 }
+    requires held { Tallies P.top_level histogram.old (levels_under P.level (seen_at window.now) (element_of runs.now) x y) }
     ensures { Tallies P.top_level histogram.new [] }
 {
-    for offset in offsets {
-        leave(histogram, window, *offset, x, y);
+    for run in runs {
+        leave_part(histogram, seen_part(window, *run, x, y));
     }
 }
 
@@ -265,7 +274,6 @@ fn push_whole_row<P: Pixel>(
     histogram: &mut Histogram,
     ends: &mut Vec<Ends>,
     window: &Window<P>,
-    offsets: &[Offset],
     runs: &[Run],
     k: u32,
     x: u32,
@@ -274,17 +282,16 @@ fn push_whole_row<P: Pixel>(
     inner: Columns,
 ) -> Result<(), NoMemory>
     requires high { y ≤ 2 ^ 40 }
-    requires few { length offsets.now < 2 ^ 16 }
-    requires runs { element_of runs.now ≡ offsets.now }
+    requires few { length (element_of runs.now) < 2 ^ 16 }
     requires inner { inner.first + inner.count ≤ width }
     requires empty { Tallies P.top_level histogram.old [] }
-    ensures row { OnOk result (GainsRow P.level (λ i. ranked k (levels_under P.level (seen_at window.now) offsets.now (x + i) y)) width out.old.items out.new.items) }
+    ensures row { OnOk result (GainsRow P.level (λ i. ranked k (levels_under P.level (seen_at window.now) (element_of runs.now) (x + i) y)) width out.old.items out.new.items) }
     ensures empty { OnOk result (Tallies P.top_level histogram.new []) }
 {
     let from = u64::from(x);
-    enter_all(histogram, window, offsets, from, y);
+    enter_all(histogram, window, runs, from, y);
     push_columns(out, histogram, ends, window, runs, k, from, y, width, inner)?;
-    leave_all(histogram, window, offsets, from + u64::from(width), y);
+    leave_all(histogram, window, runs, from + u64::from(width), y);
     Ok(())
 }
 
@@ -311,7 +318,6 @@ fn rank_samples<P: Pixel>(
             &mut histogram,
             &mut ends,
             window,
-            offsets,
             &runs,
             k,
             tile.x,
