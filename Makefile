@@ -31,6 +31,6 @@ KEEP = MALLOC_MMAP_MAX_=0 MALLOC_TRIM_THRESHOLD_=17179869184
 
 bench: morphd
 	cd crates/bench_files && rt run && $(KEEP) out/bench_files measure
-	cd crates/bench_kernels && rt run && $(KEEP) out/bench_kernels measure
+	cd crates/bench_kernels && rt run && $(KEEP) out/bench_kernels measure all
 	python3 bench/command.py $(MORPHD)
 	@/usr/bin/python3 bench/peers.py || echo "the peers were not measured" >&2

@@ -1,14 +1,16 @@
 //! Times of the kernels on images of 4096 x 4096 samples, in one thread and tile by tile, as a step of a plan runs them:
 //! each tile is cut with its halo, computed and pasted. Each line has the best of five runs. The program times only where
-//! it is given an argument, as in `rt run -- all`, since times differ from run to run.
+//! it is asked to, as in `out/bench_kernels measure all`, or `rectangle`, `disc` or `rank` in place of `all`, since times
+//! differ from run to run.
 #![tactic(auto)]
 
 ghost use Rattle.std.specs.Prelude.{◌≡◌, ◌*◌, ◌≤◌, ◌%◌, vec_len, IfOk};
 
 use mw_line::rectangle;
-use mw_model::{NoMemory, Offset, OffsetBox, Reach};
+use mw_model::{NoMemory, Offset, OffsetBox, Reach, Rect};
 use mw_offset::extremum;
 use mw_pixel::{Extremum, Max, Min, Pixel, Plane};
+use mw_rank::rank;
 use mw_tile::{Grid, Window, paste};
 use std::alloc::{AllocFailed, Global};
 use std::time::Instant;
@@ -42,7 +44,7 @@ impl From<io::Error> for Fault {
 const SIDE: u32 = 4096;
 
 /// A square of k by k places round its middle.
-fn square(k: u16) -> OffsetBox {
+fn square(k: u8) -> OffsetBox {
     let before = i32::from(k / 2);
     let after = i32::from(k) - before - 1;
     OffsetBox {
@@ -54,7 +56,7 @@ fn square(k: u16) -> OffsetBox {
 }
 
 /// How far a square or a disc of k places across reaches from its middle.
-fn reach(k: u16) -> Reach {
+fn reach(k: u8) -> Reach {
     let half = u32::from(k / 2);
     Reach {
         left: half,
@@ -102,39 +104,76 @@ fn disc(alloc: Global, k: u8) -> Result<Vec<Offset>, Fault> {
     Ok(offsets)
 }
 
-/// One pass over all tiles with a disc.
-fn discs<P: Pixel, E: Extremum<P>>(
-    alloc: Global,
-    plane: &Plane<P>,
-    grid: Grid,
-    k: u8,
-    out: &mut Plane<P>,
-) -> Result<(), Fault> {
-    let offsets = disc(alloc, k)?;
-    if plane.width() != grid.width() || plane.height() != grid.height() {
-        return Ok(());
+/// The offsets of a square of k places across.
+fn full(alloc: Global, k: u8) -> Result<Vec<Offset>, Fault> {
+    let mut offsets = Vec::new(alloc);
+    let radius = k / 2;
+    for y in 0..k {
+        for x in 0..k {
+            offsets.push(Offset {
+                dx: i16::from(x) - i16::from(radius),
+                dy: i16::from(y) - i16::from(radius),
+            })?;
+        }
     }
-    if out.width() != grid.width() || out.height() != grid.height() {
-        return Ok(());
+    Ok(offsets)
+}
+
+/// What is timed: a minimum or maximum under a square or a disc, or the middle rank under a square.
+#[derive(Clone, Copy)]
+enum Filter {
+    Rectangle,
+    Disc,
+    Rank,
+}
+
+impl Filter {
+    /// The offsets that the filter takes where it is k places across, but for a rectangle, which takes none.
+    fn offsets(self, alloc: Global, k: u8) -> Result<Vec<Offset>, Fault> {
+        match self {
+            Filter::Rectangle => Ok(Vec::new(alloc)),
+            Filter::Disc => disc(alloc, k),
+            Filter::Rank => full(alloc, k),
+        }
     }
-    for i in 0..grid.len() {
-        let tile = grid.rect(i);
-        let window = Window::cut(alloc, plane, grid.window(i, reach(u16::from(k))))?;
-        let made = extremum::<P, E>(alloc, &window, offsets.as_slice(), P::TOP, tile)?;
-        paste(out, tile, &made);
+
+    /// What the filter makes of a window.
+    fn run<P: Pixel, E: Extremum<P>>(
+        self,
+        alloc: Global,
+        window: &Window<P>,
+        offsets: &[Offset],
+        k: u8,
+        tile: Rect,
+    ) -> Result<Plane<P>, Fault>
+        ensures width { IfOk result (λ r. r.width ≡ tile.width) }
+        ensures height { IfOk result (λ r. r.height ≡ tile.height) }
+    {
+        let made = match self {
+            Filter::Rectangle => rectangle::<P, E>(alloc, window, square(k), P::TOP, tile)?,
+            Filter::Disc => extremum::<P, E>(alloc, window, offsets, P::TOP, tile)?,
+            Filter::Rank => {
+                if offsets.len() > 65535 {
+                    return Err(Fault::Memory);
+                }
+                let middle = offsets.len() as u32 / 2 + 1;
+                rank(alloc, window, offsets, middle, tile)?
+            }
+        };
+        Ok(made)
     }
-    Ok(())
 }
 
 /// One pass over all tiles.
-fn rectangles<P: Pixel, E: Extremum<P>>(
+fn pass<P: Pixel, E: Extremum<P>>(
     alloc: Global,
     plane: &Plane<P>,
     grid: Grid,
-    k: u16,
+    filter: Filter,
+    k: u8,
     out: &mut Plane<P>,
 ) -> Result<(), Fault> {
-    let offsets = square(k);
+    let offsets = filter.offsets(alloc, k)?;
     if plane.width() != grid.width() || plane.height() != grid.height() {
         return Ok(());
     }
@@ -144,15 +183,18 @@ fn rectangles<P: Pixel, E: Extremum<P>>(
     for i in 0..grid.len() {
         let tile = grid.rect(i);
         let window = Window::cut(alloc, plane, grid.window(i, reach(k)))?;
-        let made = rectangle::<P, E>(alloc, &window, offsets, P::TOP, tile)?;
+        let made = filter.run::<P, E>(alloc, &window, offsets.as_slice(), k, tile)?;
         paste(out, tile, &made);
     }
     Ok(())
 }
 
-fn time_rectangles<R: std::rt::Clock + Print, P: Pixel, E: Extremum<P>>(
+/// Times a filter at some sizes.
+fn measure<R: std::rt::Clock + Print, P: Pixel, E: Extremum<P>>(
     rt: &R,
     alloc: Global,
+    filter: Filter,
+    sizes: &[u8],
     name: &str,
     side: u32,
 ) -> Result<(), Fault>
@@ -161,51 +203,67 @@ fn time_rectangles<R: std::rt::Clock + Print, P: Pixel, E: Extremum<P>>(
     let plane = Plane::new(SIDE, SIDE, noise::<P>(alloc)?);
     let mut out = Plane::<P>::filled(alloc, SIDE, SIDE, P::TOP)?;
     let grid = Grid::new(SIDE, SIDE, side);
-    for k in [3u16, 15, 63, 127] {
+    for k in sizes {
         let mut best = u128::MAX;
         for _ in 0..5 {
             let start = Instant::now(rt)?;
-            rectangles::<P, E>(alloc, &plane, grid, k, &mut out)?;
+            pass::<P, E>(alloc, &plane, grid, filter, *k, &mut out)?;
             best = best.min(start.elapsed(rt)?.as_micros());
         }
-        println!(rt; "rectangle {k} x {k}, {name}, tiles of {side}: {best} us")?;
+        println!(rt; "{name}, {k} across, tiles of {side}: {best} us")?;
     }
     Ok(())
 }
 
-fn time_discs<R: std::rt::Clock + Print, P: Pixel, E: Extremum<P>>(
+/// Times one filter at 8 and at 16 bits, where it is asked for.
+fn measure_both<R: std::rt::Clock + Print>(
     rt: &R,
     alloc: Global,
-    name: &str,
+    filter: Filter,
+    sizes: &[u8],
+    names: (&str, &str),
     side: u32,
 ) -> Result<(), Fault>
     requires { (64 ≤ side) × (side ≤ 1024) × (side % 64 ≡ 0) }
 {
-    let plane = Plane::new(SIDE, SIDE, noise::<P>(alloc)?);
-    let mut out = Plane::<P>::filled(alloc, SIDE, SIDE, P::TOP)?;
-    let grid = Grid::new(SIDE, SIDE, side);
-    for k in [5u8, 15, 31] {
-        let mut best = u128::MAX;
-        for _ in 0..5 {
-            let start = Instant::now(rt)?;
-            discs::<P, E>(alloc, &plane, grid, k, &mut out)?;
-            best = best.min(start.elapsed(rt)?.as_micros());
-        }
-        println!(rt; "disc of {k}, {name}, tiles of {side}: {best} us")?;
+    measure::<R, u8, Min>(rt, alloc, filter, sizes, names.0, side)?;
+    measure::<R, u16, Max>(rt, alloc, filter, sizes, names.1, side)?;
+    Ok(())
+}
+
+/// Times the filters of that name, or all of them, with tiles of one side.
+fn measure_all<R: std::rt::Clock + Print>(
+    rt: &R,
+    alloc: Global,
+    wanted: &str,
+    side: u32,
+) -> Result<(), Fault>
+    requires { (64 ≤ side) × (side ≤ 1024) × (side % 64 ≡ 0) }
+{
+    let all = wanted == "all";
+    if all || wanted == "rectangle" {
+        let names = ("rectangle, 8 bits", "rectangle, 16 bits");
+        measure_both(rt, alloc, Filter::Rectangle, &[3, 15, 63, 127], names, side)?;
+    }
+    if all || wanted == "disc" {
+        let names = ("disc, 8 bits", "disc, 16 bits");
+        measure_both(rt, alloc, Filter::Disc, &[5, 15, 31], names, side)?;
+    }
+    if all || wanted == "rank" {
+        let names = ("rank, 8 bits", "rank, 16 bits");
+        measure_both(rt, alloc, Filter::Rank, &[15], names, side)?;
     }
     Ok(())
 }
 
 fn main(rt: HostRuntime) -> Result<(), Fault> {
     let alloc: Global = rt.alloc();
-    if env::args(&rt)?.count() < 2 {
-        return Ok(());
-    }
+    let wanted = match env::args(&rt)?.nth(2) {
+        None => return Ok(()),
+        Some(word) => word,
+    };
     for side in [128u32, 512, 1024] {
-        time_rectangles::<HostRuntime, u8, Min>(&rt, alloc, "8 bits", side)?;
-        time_rectangles::<HostRuntime, u16, Max>(&rt, alloc, "16 bits", side)?;
-        time_discs::<HostRuntime, u8, Min>(&rt, alloc, "8 bits", side)?;
-        time_discs::<HostRuntime, u16, Max>(&rt, alloc, "16 bits", side)?;
+        measure_all(&rt, alloc, wanted.as_str(), side)?;
     }
     Ok(())
 }

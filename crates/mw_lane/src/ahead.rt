@@ -1,8 +1,20 @@
 //! A row merged with itself, shifted: the step by which extrema of runs are doubled.
-ghost use Rattle.std.specs.Prelude.{◌≡◌, ℕ, ◌+◌, ◌<◌, ◌≤◌, length, slice_index_or};
+ghost use Rattle.std.specs.Prelude.{◌≡◌, ℕ, ◌+◌, ◌<◌, ◌≤◌, length, slice_index_or, slice_range};
 
 use crate::combine_rows;
 use mw_pixel::{Extremum, Pixel};
+
+/// 64 samples from that place on.
+#[inline(always)]
+fn block_at<P: Pixel>(row: &[P], at: usize) -> [P; 64]
+    requires { at + 64 ≤ length row.now }
+    ensures { result ≡ slice_range row.now at (at + 64) }
+{
+    match <[P; 64]>::try_from(&row[at..at + 64]) {
+        Ok(block) => block,
+        Err(_) => unreachable!(),
+    }
+}
 
 /// The extremum of each of 64 samples and the one `shift` further on. The two blocks may overlap.
 #[inline(always)]
@@ -12,8 +24,7 @@ fn block_ahead<P: Pixel, E: Extremum<P>>(row: &mut [P], at: usize, shift: usize)
     ensures within { (p : ℕ) (d : P) → at ≤ p → p < at + 64 → slice_index_or row.new p d ≡ E.merge (slice_index_or row.old p d) (slice_index_or row.old (p + shift) d) }
     ensures above { (p : ℕ) (d : P) → at + 64 ≤ p → slice_index_or row.new p d ≡ slice_index_or row.old p d }
 {
-    let mut ahead = [row[at]; 64];
-    ahead.copy_from_slice(&row[at + shift..at + shift + 64]);
+    let ahead = block_at(row, at + shift);
     E::combine_block(&mut row[at..at + 64], &ahead);
 }
 

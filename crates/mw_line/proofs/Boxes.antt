@@ -16,14 +16,14 @@ pub record IsBoxed {A : Type 0} (f : A → A → A) (n : A) (seen : ℕ → ℕ 
   pub high_is : high ≡ height + (down - 1)
   pub size : length rows ≡ high * width
   pub rows_are : (x y : ℕ) → x < width → y < high → get_or rows (y * width + x) n ≡ over f (λ i. seen (x + i) y) 0 (across - 1)
-  pub made_is : (p : ℕ) (d : A) → p + down * width < length rows + width → get_or made p d ≡ strided f rows d width (down - 1) p
+  pub made_is : (p : ℕ) (d : A) → p + down * width < high * width + width → get_or made p d ≡ strided f rows d width (down - 1) p
 
 pub boxes_done : {A : Type 0} (f : A → A → A) (n : A) (seen : ℕ → ℕ → A) (rows made : List A) (high width height across down : ℕ) → IsBoxed f n seen rows made high width height across down
     → (x y : ℕ) → x < width → y < height → get_or (take (height * width) made) (y * width + x) n ≡ boxed f seen across down x y
 boxes_done f n seen rows made high width height across down b x y less row_less =
     let below : y + down ≤ high = omega (arith, b.high_is, b.down_some) in
     let most = mul-le-mul_left width below in
-    let room : y * width + x + down * width < length rows + width = omega (arith, most, b.size) in
+    let room : y * width + x + down * width < high * width + width = omega (arith, most) in
     get_or-take (height * width) made (y * width + x) n (omega (arith, rows_fit y height width row_less))
     ∙ b.made_is (y * width + x) n room
     ∙ over_strided f rows n width (y * width + x) 0 (down - 1) (y * width + x) (omega arith)
@@ -34,11 +34,11 @@ boxes_done f n seen rows made high width height across down b x y less row_less 
     place y j w x = omega arith
 
 -- a row of the window, merged into a line and slid
-pub row_slid : {A : Type 0} (f : A → A → A) (merged : ℕ → A → A) (blank line slid : List A) (across : ℕ) → 0 < across
+pub row_slid : {A : Type 0} (f : A → A → A) (merged : ℕ → A → A) (blank line slid : List A) (across wide : ℕ) → 0 < across → wide ≤ length blank
     → ((x : ℕ) (d : A) → x < length blank → get_or line x d ≡ merged x (get_or blank x d))
-    → ((p : ℕ) (d : A) → p + across * 1 < length line + 1 → get_or slid p d ≡ strided f line d 1 (across - 1) p) → length line ≡ length blank
-    → (x : ℕ) (d : A) → x + across ≤ length blank → get_or slid x d ≡ over f (λ i. merged (x + i) (get_or blank (x + i) d)) 0 (across - 1)
-row_slid f merged blank line slid across some line-is slid-is same x d le =
+    → ((p : ℕ) (d : A) → p + across * 1 < wide + 1 → get_or slid p d ≡ strided f line d 1 (across - 1) p) → length line ≡ length blank
+    → (x : ℕ) (d : A) → x + across ≤ wide → get_or slid x d ≡ over f (λ i. merged (x + i) (get_or blank (x + i) d)) 0 (across - 1)
+row_slid f merged blank line slid across wide some room line-is slid-is same x d le =
     slid-is x d (omega arith)
     ∙ over_strided f line d 1 x 0 (across - 1) x (omega arith)
     ∙ over_same f (λ i. get_or line (x + i * 1) d) (λ i. merged (x + i) (get_or blank (x + i) d)) 0 (across - 1) (λ i from to.

@@ -58,20 +58,20 @@ joined f laws row d s (suc j) (suc m) n p meets le =
     out : (j n : ℕ) → suc j + n ≡ suc (j + n)
     out j n = omega arith
 
--- a row of which the samples below left are the extrema of `taken` samples
-pub record Taken {A : Type 0} (f : A → A → A) (row : List A) (s k taken left : ℕ) (now : List A) : Type 0 where
+-- a row of which the samples below left are the extrema of `taken` samples, of `len` samples in all
+pub record Taken {A : Type 0} (f : A → A → A) (row : List A) (len s k taken left : ℕ) (now : List A) : Type 0 where
   pub positive : 0 < taken
   pub within : taken ≤ k
   pub size : length now ≡ length row
-  pub left_is : left + taken * s ≡ length row + s
+  pub left_is : left + taken * s ≡ len + s
   pub done : (p : ℕ) (d : A) → p < left → get_or now p d ≡ strided f row d s (taken - 1) p
 
 -- a pass that takes j more
-pub taken_more : {A : Type 0} (f : A → A → A) → IsExtremum f → (row : List A) (s k taken left j shift rest more : ℕ) (now made : List A) → Taken f row s k taken left now
-    → j ≤ taken → taken + j ≤ k → k * s < length row + s → shift ≡ j * s → rest ≡ left - shift → more ≡ taken + j → length made ≡ length now
-    → ((p : ℕ) (d : A) → p < rest → get_or made p d ≡ f (get_or now p d) (get_or now (p + shift) d))
-    → Taken f row s k more rest made
-taken_more f laws row s k taken left j shift rest more now made before short within room shift-is rest-is more-is size made-is =
+pub taken_more : {A : Type 0} (f : A → A → A) → IsExtremum f → (row : List A) (len s k taken left j shift rest more count : ℕ) (now made : List A) → Taken f row len s k taken left now
+    → j ≤ taken → taken + j ≤ k → k * s < len + s → shift ≡ j * s → rest ≡ left - shift → more ≡ taken + j → length made ≡ length now → rest ≤ count
+    → ((p : ℕ) (d : A) → p < count → get_or made p d ≡ f (get_or now p d) (get_or now (p + shift) d))
+    → Taken f row len s k more rest made
+taken_more f laws row len s k taken left j shift rest more count now made before short within room shift-is rest-is more-is size enough made-is =
     let most = mul-le-mul_left s within in
     let fits : shift ≤ left = omega (arith, most, before.left_is) in
     record {
@@ -80,22 +80,28 @@ taken_more f laws row s k taken left j shift rest more now made before short wit
       size = size ∙ before.size;
       left_is = rw (more-is, rest-is) (omega (arith, before.left_is));
       done = λ p d lt.
-          made-is p d lt
+          made-is p d (omega arith)
           ∙ ap (λ (t : _). f t (get_or now (p + shift) d)) (before.done p d (omega arith))
           ∙ ap (f (strided f row d s (taken - 1) p)) (before.done (p + shift) d (omega arith) ∙ ap (λ (t : ℕ). strided f row d s (taken - 1) (p + t)) shift-is)
           ∙ joined f laws row d s j (taken - 1) (taken - 1) p (omega (arith, before.positive)) (omega arith)
-          ∙ ap (λ (t : ℕ). strided f row d s t p) (count before.positive);
+          ∙ ap (λ (t : ℕ). strided f row d s t p) (count_on before.positive);
     }
   where
-    count : 0 < taken → j + (taken - 1) ≡ more - 1
-    count positive = omega (arith, more-is)
+    count_on : 0 < taken → j + (taken - 1) ≡ more - 1
+    count_on positive = omega (arith, more-is)
 
-pub taken_fits : {A : Type 0} (f : A → A → A) (row : List A) (s k taken left j : ℕ) (now : List A) → Taken f row s k taken left now → taken + j ≤ k → k * s < length row + s → j * s ≤ left
-taken_fits f row s k taken left j now before within room =
+pub taken_fits : {A : Type 0} (f : A → A → A) (row : List A) (len s k taken left j : ℕ) (now : List A) → Taken f row len s k taken left now → taken + j ≤ k → k * s < len + s → j * s ≤ left
+taken_fits f row len s k taken left j now before within room =
     let most = mul-le-mul_left s within in omega (arith, most, before.left_is)
 
-pub taken_all : {A : Type 0} (f : A → A → A) (row : List A) (s k taken left : ℕ) (now : List A) → Taken f row s k taken left now → taken ≡ k
-    → (p : ℕ) (d : A) → p + k * s < length row + s → get_or now p d ≡ strided f row d s (k - 1) p
-taken_all f row s k taken left now made same p d lt =
+-- no more samples are left than there are
+pub taken_within : {A : Type 0} (f : A → A → A) (row : List A) (len s k taken left : ℕ) (now : List A) → Taken f row len s k taken left now → left ≤ len
+taken_within f row len s k taken left now before =
+    let some : 1 ≤ taken = before.positive in
+    let most = mul-le-mul_left s some in omega (arith, most, before.left_is)
+
+pub taken_all : {A : Type 0} (f : A → A → A) (row : List A) (len s k taken left : ℕ) (now : List A) → Taken f row len s k taken left now → taken ≡ k
+    → (p : ℕ) (d : A) → p + k * s < len + s → get_or now p d ≡ strided f row d s (k - 1) p
+taken_all f row len s k taken left now made same p d lt =
     let below : p < left = omega (arith, made.left_is, ap (λ (t : ℕ). t * s) same) in
     made.done p d below ∙ ap (λ (t : ℕ). strided f row d s (t - 1) p) same

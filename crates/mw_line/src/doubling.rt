@@ -5,23 +5,40 @@ ghost use Rattle.mw_line.specs.Extrema.{strided};
 use mw_lane::combine_ahead;
 use mw_pixel::{Extremum, Pixel};
 
-/// Each sample that has as many after it becomes the extremum of k samples, each `stride` further on than the one before.
-pub fn slide_by<P: Pixel, E: Extremum<P>>(row: &mut [P], stride: usize, k: usize)
+/// That many places, or as many more as fill blocks of 64, where there is room.
+fn whole_blocks(count: usize, room: usize) -> usize
+    requires { count ≤ room }
+    ensures enough { count ≤ result }
+    ensures fits { result ≤ room }
+{
+    if room - count < 63 {
+        return count;
+    }
+    (count + 63) / 64 * 64
+}
+
+/// Each of the first `len` samples that has as many after it there becomes the extremum of k samples, each `stride`
+/// further on than the one before. What the samples behind these `len` become is not said: where there are 63 of them,
+/// each pass goes by whole blocks.
+pub fn slide_by<P: Pixel, E: Extremum<P>>(row: &mut [P], len: usize, stride: usize, k: usize)
     requires positive { 0 < k }
-    requires room { k * stride < length row.old + stride }
-    ensures { (p : ℕ) (d : P) → p + k * stride < length row.old + stride → slice_index_or row.new p d ≡ strided E.merge row.old d stride (k - 1) p }
+    requires within { len ≤ length row.old }
+    requires room { k * stride < len + stride }
+    ensures { (p : ℕ) (d : P) → p + k * stride < len + stride → slice_index_or row.new p d ≡ strided E.merge row.old d stride (k - 1) p }
 {
     let mut taken = 1usize;
-    let mut left = row.len();
+    let mut left = len;
     'doubling: while taken <= k / 2 {
         let shift = taken * stride;
         left -= shift;
-        combine_ahead::<P, E>(row, shift, left);
+        let count = whole_blocks(left, row.len() - shift);
+        combine_ahead::<P, E>(row, shift, count);
         taken *= 2;
     }
     if taken < k {
         let shift = (k - taken) * stride;
         left -= shift;
-        combine_ahead::<P, E>(row, shift, left);
+        let count = whole_blocks(left, row.len() - shift);
+        combine_ahead::<P, E>(row, shift, count);
     }
 }

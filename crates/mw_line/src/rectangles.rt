@@ -19,23 +19,25 @@ use mw_pixel::{Extremum, Pixel, Plane};
 use mw_tile::Window;
 use std::alloc::Global;
 
-/// Leaves at each place of the line the extremum of `across` places of a row of the window from that column on.
+/// Leaves at each place of the line the extremum of `across` of `wide` places of a row of the window from that column on.
 fn slide_row<P: Pixel, E: Extremum<P>>(
     window: &Window<P>,
     column: i64,
     row: i64,
     across: usize,
+    wide: usize,
     blank: &[P],
     line: &mut [P],
 )
     requires some { 0 < across }
-    requires room { across ≤ length blank.now }
+    requires room { across ≤ wide }
+    requires within { wide ≤ length blank.now }
     requires paired { length line.old ≡ length blank.now }
-    ensures { (x : ℕ) (d : P) → x + across ≤ length blank.now → slice_index_or line.new x d ≡ over E.merge (λ i. merge_at E.merge (slice_index_or blank.now (x + i) d) (cell_at (raster window.now.place.width window.now.place.height window.now.cells) (column +ℤ pos (x + i)) row)) 0 (across - 1) }
+    ensures { (x : ℕ) (d : P) → x + across ≤ wide → slice_index_or line.new x d ≡ over E.merge (λ i. merge_at E.merge (slice_index_or blank.now (x + i) d) (cell_at (raster window.now.place.width window.now.place.height window.now.cells) (column +ℤ pos (x + i)) row)) 0 (across - 1) }
 {
     line.copy_from_slice(blank);
     combine_window_row::<P, E>(window, column, row, line);
-    slide_by::<P, E>(line, 1, across);
+    slide_by::<P, E>(line, wide, 1, across);
 }
 
 /// The extremum of `across` places of the window from each of `width` places of `high` rows on.
@@ -52,7 +54,7 @@ fn slide_rows<P: Pixel, E: Extremum<P>>(
 ) -> Result<Vec<P>, NoMemory>
     requires some { 0 < across }
     requires room { width + (across - 1) ≤ length blank.now }
-    requires wide { across ≤ length blank.now }
+    requires wide { (0 < width) × (width < 2 ^ 32) }
     requires paired { length line.old ≡ length blank.now }
     requires few { high ≤ 2 ^ 40 }
     requires near { row ≤ℤ pos (2 ^ 40) }
@@ -60,9 +62,10 @@ fn slide_rows<P: Pixel, E: Extremum<P>>(
     ensures cells { IfOk result (λ v. (n : P) → blank.now ≡ replicate (length blank.now) n → (x y : ℕ) → x < width → y < high → slice_index_or v.items (y * width + x) n ≡ over E.merge (λ i. merge_at E.merge n (cell_at (raster window.now.place.width window.now.place.height window.now.cells) (column +ℤ pos (x + i)) (row +ℤ pos y))) 0 (across - 1)) }
 {
     let count = high.checked_mul(width).ok_or(NoMemory)?;
+    let wide = width + (across - 1);
     let mut rows = Vec::with_capacity(alloc, count)?;
     for y in 0..high {
-        slide_row::<P, E>(window, column, row + y as i64, across, blank, line);
+        slide_row::<P, E>(window, column, row + y as i64, across, wide, blank, line);
         rows.extend_from_slice(&line[..width])?;
     }
     Ok(rows)
@@ -87,10 +90,10 @@ fn boxes<P: Pixel, E: Extremum<P>>(
     ensures size { IfOk result (λ v. vec_len v ≡ height * width) }
     ensures cells { IfOk result (λ v. (x y : ℕ) → x < width → y < height → slice_index_or v.items (y * width + x) neutral ≡ over E.merge (λ j. over E.merge (λ i. merge_at E.merge neutral (cell_at (raster window.now.place.width window.now.place.height window.now.cells) (column +ℤ pos (x + i)) (row +ℤ pos (y + j)))) 0 (across - 1)) 0 (down - 1)) }
 {
-    let wide = width + (across - 1);
+    let padded = width + (across - 1) + 63;
     let high = height + (down - 1);
-    let blank = filled(alloc, wide, neutral)?;
-    let mut line = filled(alloc, wide, neutral)?;
+    let blank = filled(alloc, padded, neutral)?;
+    let mut line = filled(alloc, padded, neutral)?;
     let mut rows = slide_rows::<P, E>(
         alloc,
         window,
@@ -102,7 +105,7 @@ fn boxes<P: Pixel, E: Extremum<P>>(
         blank.as_slice(),
         line.as_mut_slice(),
     )?;
-    slide_by::<P, E>(rows.as_mut_slice(), width, down);
+    slide_by::<P, E>(rows.as_mut_slice(), high * width, width, down);
     rows.truncate(height * width);
     Ok(rows)
 }

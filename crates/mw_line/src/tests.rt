@@ -102,7 +102,7 @@ fn rectangles_on_a_tile(rt: HostRuntime) -> Result<(), Fail> {
 #[test]
 fn sets_and_rows(rt: HostRuntime) -> Result<(), Fail> {
     let mut row = [1u8, 5, 2, 4, 3];
-    slide_by::<u8, Max>(&mut row, 2, 2);
+    slide_by::<u8, Max>(&mut row, 5, 2, 2);
     assert_eq!(rt; row, [2, 5, 3, 4, 3]);
     let set = filled(rt.alloc(), 4, Bit::SET)?;
     let window = Window::whole(Plane::filled(rt.alloc(), 2, 1, Bit::SET)?);

@@ -3,3 +3,4 @@ pub mod RunLists
 pub mod Rooms
 pub mod Gathers
 pub mod Seens
+pub mod Parts

@@ -1,6 +1,7 @@
 //! The extremum over horizontal runs. The window is spread over rows of one length, which are doubled: a row merged with
 //! itself, shifted by 1, 2, 4 .. places. A run of k samples is then its first 2^j and its last 2^j samples, so that it
-//! takes two merges; and since all rows are equally long, each merge takes all rows of the tile at once.
+//! takes two merges; and since all rows are equally long, a merge takes as many rows of the tile at once as one likes: so
+//! many that they and the rows under the element stay in the nearest cache.
 ghost use Rattle.std.specs.Prelude.{◌≡◌, ℕ, ◌+◌, ◌-◌, ◌*◌, ◌/◌, ◌<◌, ◌≤◌, ◌^◌, ℤ, pos, negsuc, ◌+ℤ◌, ◌-ℤ◌, ◌≤ℤ◌, length, fold, flat_map, replicate, slice_index_or, vec_len, IfOk};
 ghost use Rattle.std.specs.List.{AllByRecursion};
 ghost use Rattle.mw_model.specs.Places.{nonnegative};
@@ -74,6 +75,39 @@ fn combine_sized<P: Pixel, E: Extremum<P>>(
     }
 }
 
+/// How many samples are merged at once.
+const PART: usize = 2048;
+
+/// Merges the runs of `size` to `2 * size - 1` samples, one part of the row after another.
+fn combine_parts<P: Pixel, E: Extremum<P>>(
+    runs: &[Run],
+    extent: Extent,
+    wide: usize,
+    size: usize,
+    cells: &[P],
+    out: &mut [P],
+)
+    requires room { AllByRecursion (HasRoom extent wide (length out.old) (length cells.now)) runs.now }
+    requires fits { length out.old ≤ length cells.now }
+    requires some { 0 < size }
+    requires few { size ≤ 2 ^ 40 }
+    ensures { (q : ℕ) (d : P) → q < length out.old → slice_index_or out.new q d ≡ fold (sized size (two_parts E.merge cells.now d extent wide size q)) (slice_index_or out.old q d) runs.now }
+{
+    let mut at = 0usize;
+    'parts: while at < out.len() {
+        let count = PART.min(out.len() - at);
+        combine_sized::<P, E>(
+            runs,
+            extent,
+            wide,
+            size,
+            &cells[at..],
+            &mut out[at..at + count],
+        );
+        at += count;
+    }
+}
+
 /// The longest run's length.
 fn longest_of(runs: &[Run]) -> usize
     ensures all { AllByRecursion (λ (r : Run). r.count ≤ result) runs.now }
@@ -94,17 +128,18 @@ fn combine_runs<P: Pixel, E: Extremum<P>>(
     cells: &mut [P],
     out: &mut [P],
 )
-    requires { AllByRecursion (HasRoom extent wide (length out.old) (length cells.old)) runs.now }
+    requires room { AllByRecursion (HasRoom extent wide (length out.old) (length cells.old)) runs.now }
+    requires fits { length out.old ≤ length cells.old }
     ensures { (n : P) → out.old ≡ replicate (length out.old) n → (q : ℕ) → q < length out.old → slice_index_or out.new q n ≡ gather E.merge n (λ r. strided E.merge cells.old n 1 (r.count - 1) (start_of extent wide r + q)) runs.now }
 {
     let longest = longest_of(runs);
     let mut size = 1usize;
-    combine_sized::<P, E>(runs, extent, wide, size, cells, out);
+    combine_parts::<P, E>(runs, extent, wide, size, cells, out);
     'sizes: while size <= longest / 2 && size <= cells.len() / 2 {
         let left = cells.len() - 2 * size + 1;
         combine_ahead::<P, E>(cells, size, left);
         size *= 2;
-        combine_sized::<P, E>(runs, extent, wide, size, cells, out);
+        combine_parts::<P, E>(runs, extent, wide, size, cells, out);
     }
 }
 

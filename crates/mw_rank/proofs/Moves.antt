@@ -58,7 +58,7 @@ same_last a c d e = record {
 pub same_snoc : (a e : List ℕ) → Same (e ++ a) (a ++ e)
 same_snoc a e = record { counts = λ v. omega (arith, count-append v e a, count-append v a e); size = omega (arith, length-append e a, length-append a e) }
 
-run_before : {A : Type 0} (level : A → ℕ) (sight : Sight A) (r : Run) (x y : ℕ) → levels_under level sight (offsets_of r) x y ≡ levels_at level sight r.start x y ++ levels_under level sight (offsets_from r.start r.more) (x + 1) y
+pub run_before : {A : Type 0} (level : A → ℕ) (sight : Sight A) (r : Run) (x y : ℕ) → levels_under level sight (offsets_of r) x y ≡ levels_at level sight r.start x y ++ levels_under level sight (offsets_from r.start r.more) (x + 1) y
 run_before level sight r x y =
     levels-cons level sight r.start (offsets_from (next_offset r.start) r.more) x y ∙ ap (λ (t : List ℕ). levels_at level sight r.start x y ++ t) (levels-next level sight r.start r.more x y)
 
@@ -66,7 +66,7 @@ append_none : (xs : List ℕ) → xs ++ [] ≡ xs
 append_none [] = refl
 append_none (x ∷ xs) = ap (λ (t : List ℕ). x ∷ t) (append_none xs)
 
-run_after : {A : Type 0} (level : A → ℕ) (sight : Sight A) (r : Run) (x y : ℕ) → levels_under level sight (offsets_of r) (x + 1) y ≡ levels_under level sight (offsets_from r.start r.more) (x + 1) y ++ levels_at level sight r.start (x + 1 + r.more) y
+pub run_after : {A : Type 0} (level : A → ℕ) (sight : Sight A) (r : Run) (x y : ℕ) → levels_under level sight (offsets_of r) (x + 1) y ≡ levels_under level sight (offsets_from r.start r.more) (x + 1) y ++ levels_at level sight r.start (x + 1 + r.more) y
 run_after level sight r x y =
     ap (λ (t : List Offset). levels_under level sight t (x + 1) y) (offsets-snoc r.start r.more)
     ∙ levels-append level sight (offsets_from r.start r.more) (_ ∷ []) (x + 1) y
@@ -109,7 +109,7 @@ entering level sight runs i r x y lt is =
 element_cons : (q : Run) (runs : List Run) → length (element_of (q ∷ runs)) ≡ suc q.more + length (element_of runs)
 element_cons q runs = ap length (flat_map-cons offsets_of q runs) ∙ length-append (offsets_of q) (element_of runs) ∙ ap (λ (t : ℕ). t + length (element_of runs)) (length-offsets q.start (suc q.more))
 
-element_size : (runs : List Run) (i : ℕ) (r : Run) → i < length runs → get_or runs i r ≡ r → length (element_of runs) ≡ length (element_of (take i runs)) + (suc r.more + length (element_of (drop (i + 1) runs)))
+pub element_size : (runs : List Run) (i : ℕ) (r : Run) → i < length runs → get_or runs i r ≡ r → length (element_of runs) ≡ length (element_of (take i runs)) + (suc r.more + length (element_of (drop (i + 1) runs)))
 element_size [] i r lt is = absurd (omega arith)
 element_size (q ∷ runs) zero r lt is = omega (arith, element_cons q runs, ap (λ (t : Run). t.more) is)
 element_size (q ∷ runs) (suc i) r lt is =

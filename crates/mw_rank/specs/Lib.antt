@@ -1,3 +1,4 @@
 pub mod Ranks
 pub mod Runs
 pub mod Tallies
+pub mod Ends

@@ -22,6 +22,12 @@ pub record HasRoom (top : ℕ) (h : Histogram) : Type 0 where
   pub tallies : Tallies top h levels
   pub few : length levels < 65535
 
+-- the histogram has counted so few levels that n more can be counted
+pub record HasRoomFor (top : ℕ) (h : Histogram) (n : ℕ) : Type 0 where
+  pub levels : List ℕ
+  pub tallies : Tallies top h levels
+  pub few : length levels + n < 65536
+
 -- the histogram has counted these levels, and perhaps others
 pub record Holds (top : ℕ) (h : Histogram) (ns : List ℕ) : Type 0 where
   pub others : List ℕ

@@ -58,6 +58,16 @@ impl Histogram {
         }
     }
 
+    /// Takes back one level and counts another.
+    #[inline(always)]
+    pub(crate) fn exchange(&mut self, left: u16, entered: u16)
+        requires { (top : ℕ) × Holds top self.old (left ∷ []) × (entered ≤ top) }
+        ensures { (top : ℕ) (ns : List ℕ) → entered ≤ top → Tallies top self.old (left ∷ ns) → Tallies top self.new (entered ∷ ns) }
+    {
+        self.remove(left);
+        self.add(entered);
+    }
+
     /// Moves down until fewer than n levels are below.
     fn lower(&mut self, n: u32)
         requires some { 1 ≤ n }

@@ -5,10 +5,12 @@
 //! ```
 #![tactic(auto)]
 
+mod ends;
 mod histogram;
 mod laws;
 mod moving;
 mod runs;
+mod seen;
 
 pub use laws::ranks_are_rank_filter;
 pub use moving::rank;

@@ -7,25 +7,19 @@ ghost use Rattle.mw_model.specs.PlanSteps.{ranked};
 ghost use Rattle.mw_model.specs.Rasters.{Raster, raster, cell_at};
 ghost use Rattle.mw_model.specs.Windows.{seen_at};
 ghost use Rattle.mw_tile.specs.Windows.{IsWindow};
+ghost use Rattle.mw_rank.specs.Ends.{AreEnds};
 ghost use Rattle.mw_rank.specs.Ranks.{levels_under, levels_at, IsRank, GainsRow, HasRows};
 ghost use Rattle.mw_rank.specs.Runs.{element_of};
-ghost use Rattle.mw_rank.specs.Tallies.{Tallies, HasRoom, Holds};
+ghost use Rattle.mw_rank.specs.Tallies.{Tallies, HasRoom, HasRoomFor, Holds};
 
+use crate::ends::{Columns, Ends, exchange_ends, inner_columns, row_ends};
 use crate::histogram::Histogram;
 use crate::runs::{Run, runs_of};
+use crate::seen::{place_of, seen_part};
 use mw_model::{NoMemory, Offset, Rect};
 use mw_pixel::{Pixel, Plane};
 use mw_tile::Window;
 use std::alloc::Global;
-
-/// The place of a step from `from`, counted from `first`.
-#[inline(always)]
-fn place_of(from: u64, step: i16, first: u32) -> i64
-    requires { from ≤ 2 ^ 40 }
-    ensures { result ≡ pos from +ℤ step -ℤ pos first }
-{
-    (from as i64) + i64::from(step) - i64::from(first)
-}
 
 /// The level that a window has in that row and column, both counted from its first place.
 #[inline(always)]
@@ -81,41 +75,49 @@ fn leave<P: Pixel>(histogram: &mut Histogram, window: &Window<P>, offset: Offset
     }
 }
 
+/// Counts samples.
+fn enter_part<P: Pixel>(histogram: &mut Histogram, samples: &[P])
+    requires { HasRoomFor P.top_level histogram.old (length samples.now) }
+    ensures { (ns : List ℕ) → Tallies P.top_level histogram.old ns → Tallies P.top_level histogram.new (map P.level samples.now ++ ns) }
+{
+    for sample in samples {
+        histogram.add(sample.value());
+    }
+}
+
+/// Takes back samples that were counted.
+fn leave_part<P: Pixel>(histogram: &mut Histogram, samples: &[P])
+    requires { Holds P.top_level histogram.old (map P.level samples.now) }
+    ensures { (ns : List ℕ) → Tallies P.top_level histogram.old (map P.level samples.now ++ ns) → Tallies P.top_level histogram.new ns }
+{
+    for sample in samples {
+        histogram.remove(sample.value());
+    }
+}
+
 /// Counts what is seen under the element.
-fn enter_all<P: Pixel>(
-    histogram: &mut Histogram,
-    window: &Window<P>,
-    offsets: &[Offset],
-    x: u64,
-    y: u64,
-)
+fn enter_all<P: Pixel>(histogram: &mut Histogram, window: &Window<P>, runs: &[Run], x: u64, y: u64)
     requires near { x ≤ 2 ^ 40 }
     requires high { y ≤ 2 ^ 40 }
-    requires few { length offsets.now < 2 ^ 16 }
+    requires few { length (element_of runs.now) < 2 ^ 16 }
     requires empty { Tallies P.top_level histogram.old [] }
-    ensures { Tallies P.top_level histogram.new (levels_under P.level (seen_at window.now) offsets.now x y) }
+    ensures { Tallies P.top_level histogram.new (levels_under P.level (seen_at window.now) (element_of runs.now) x y) }
 {
-    for offset in offsets {
-        enter(histogram, window, *offset, x, y);
+    for run in runs {
+        enter_part(histogram, seen_part(window, *run, x, y));
     }
 }
 
 /// Takes back what is seen under the element.
-fn leave_all<P: Pixel>(
-    histogram: &mut Histogram,
-    window: &Window<P>,
-    offsets: &[Offset],
-    x: u64,
-    y: u64,
-)
+fn leave_all<P: Pixel>(histogram: &mut Histogram, window: &Window<P>, runs: &[Run], x: u64, y: u64)
     requires near { x ≤ 2 ^ 40 }
     requires high { y ≤ 2 ^ 40 }
-    requires few { length offsets.now < 2 ^ 16 }
-    requires held { Tallies P.top_level histogram.old (levels_under P.level (seen_at window.now) offsets.now x y) }
+    requires few { length (element_of runs.now) < 2 ^ 16 }
+    requires held { Tallies P.top_level histogram.old (levels_under P.level (seen_at window.now) (element_of runs.now) x y) }
     ensures { Tallies P.top_level histogram.new [] }
 {
-    for offset in offsets {
-        leave(histogram, window, *offset, x, y);
+    for run in runs {
+        leave_part(histogram, seen_part(window, *run, x, y));
     }
 }
 
@@ -145,17 +147,18 @@ fn sample_of<P: Pixel>(level: u16) -> P
     }
 }
 
-/// Adds the ranks of one row of the tile, from column x on.
+/// Adds the ranks of `width` places of row y of the frame, from column x on.
 fn push_row<P: Pixel>(
     out: &mut Vec<P>,
     histogram: &mut Histogram,
     window: &Window<P>,
     runs: &[Run],
     k: u32,
-    x: u32,
+    x: u64,
     y: u64,
     width: u32,
 ) -> Result<(), NoMemory>
+    requires near { x + width ≤ 2 ^ 39 }
     requires high { y ≤ 2 ^ 40 }
     requires few { length (element_of runs.now) < 2 ^ 16 }
     requires held { Tallies P.top_level histogram.old (levels_under P.level (seen_at window.now) (element_of runs.now) x y) }
@@ -165,8 +168,104 @@ fn push_row<P: Pixel>(
     for i in 0..width {
         let sample = sample_of::<P>(histogram.select(k));
         out.push(sample)?;
-        advance(histogram, window, runs, u64::from(x) + u64::from(i), y);
+        advance(histogram, window, runs, x + u64::from(i), y);
     }
+    Ok(())
+}
+
+/// Adds the ranks of `width` places of row y of the frame, from column x on, where the ends of the runs are known.
+fn push_inside<P: Pixel>(
+    out: &mut Vec<P>,
+    histogram: &mut Histogram,
+    window: &Window<P>,
+    runs: &[Run],
+    ends: &[Ends],
+    k: u32,
+    x: u64,
+    y: u64,
+    width: u32,
+) -> Result<(), NoMemory>
+    requires ends { AreEnds P.level P.TOP (seen_at window.now) window.now.cells runs.now x y width ends.now }
+    requires few { length (element_of runs.now) < 2 ^ 16 }
+    requires held { Tallies P.top_level histogram.old (levels_under P.level (seen_at window.now) (element_of runs.now) x y) }
+    ensures row { OnOk result (GainsRow P.level (λ i. ranked k (levels_under P.level (seen_at window.now) (element_of runs.now) (x + i) y)) width out.old.items out.new.items) }
+    ensures moved { OnOk result (Tallies P.top_level histogram.new (levels_under P.level (seen_at window.now) (element_of runs.now) (x + width) y)) }
+{
+    let _runs = runs;
+    let _start = (x, y);
+    let samples = window.samples();
+    for i in 0..width {
+        let sample = sample_of::<P>(histogram.select(k));
+        out.push(sample)?;
+        exchange_ends(histogram, samples, ends, i as usize);
+    }
+    Ok(())
+}
+
+/// Adds the ranks of `width` places of row y of the frame, from column x on, by the ends of the runs where they are inside.
+fn push_middle<P: Pixel>(
+    out: &mut Vec<P>,
+    histogram: &mut Histogram,
+    ends: &mut Vec<Ends>,
+    window: &Window<P>,
+    runs: &[Run],
+    k: u32,
+    x: u64,
+    y: u64,
+    width: u32,
+) -> Result<(), NoMemory>
+    requires near { x + width ≤ 2 ^ 39 }
+    requires high { y ≤ 2 ^ 40 }
+    requires few { length (element_of runs.now) < 2 ^ 16 }
+    requires held { Tallies P.top_level histogram.old (levels_under P.level (seen_at window.now) (element_of runs.now) x y) }
+    ensures row { OnOk result (GainsRow P.level (λ i. ranked k (levels_under P.level (seen_at window.now) (element_of runs.now) (x + i) y)) width out.old.items out.new.items) }
+    ensures moved { OnOk result (Tallies P.top_level histogram.new (levels_under P.level (seen_at window.now) (element_of runs.now) (x + width) y)) }
+{
+    if row_ends(ends, window, runs, x, y, width)? {
+        push_inside(out, histogram, window, runs, ends, k, x, y, width)?;
+    } else {
+        push_row(out, histogram, window, runs, k, x, y, width)?;
+    }
+    Ok(())
+}
+
+/// Adds the ranks of `width` places of row y of the frame, from column x on: the inner columns by the ends of the runs.
+fn push_columns<P: Pixel>(
+    out: &mut Vec<P>,
+    histogram: &mut Histogram,
+    ends: &mut Vec<Ends>,
+    window: &Window<P>,
+    runs: &[Run],
+    k: u32,
+    x: u64,
+    y: u64,
+    width: u32,
+    inner: Columns,
+) -> Result<(), NoMemory>
+    requires near { x + width ≤ 2 ^ 39 }
+    requires high { y ≤ 2 ^ 40 }
+    requires few { length (element_of runs.now) < 2 ^ 16 }
+    requires inner { inner.first + inner.count ≤ width }
+    requires held { Tallies P.top_level histogram.old (levels_under P.level (seen_at window.now) (element_of runs.now) x y) }
+    ensures row { OnOk result (GainsRow P.level (λ i. ranked k (levels_under P.level (seen_at window.now) (element_of runs.now) (x + i) y)) width out.old.items out.new.items) }
+    ensures moved { OnOk result (Tallies P.top_level histogram.new (levels_under P.level (seen_at window.now) (element_of runs.now) (x + width) y)) }
+{
+    let middle = x + u64::from(inner.first);
+    let last = middle + u64::from(inner.count);
+    let rest = width - inner.first - inner.count;
+    push_row(out, histogram, window, runs, k, x, y, inner.first)?;
+    push_middle(
+        out,
+        histogram,
+        ends,
+        window,
+        runs,
+        k,
+        middle,
+        y,
+        inner.count,
+    )?;
+    push_row(out, histogram, window, runs, k, last, y, rest)?;
     Ok(())
 }
 
@@ -174,30 +273,26 @@ fn push_row<P: Pixel>(
 fn push_whole_row<P: Pixel>(
     out: &mut Vec<P>,
     histogram: &mut Histogram,
+    ends: &mut Vec<Ends>,
     window: &Window<P>,
-    offsets: &[Offset],
     runs: &[Run],
     k: u32,
     x: u32,
     y: u64,
     width: u32,
+    inner: Columns,
 ) -> Result<(), NoMemory>
     requires high { y ≤ 2 ^ 40 }
-    requires few { length offsets.now < 2 ^ 16 }
-    requires runs { element_of runs.now ≡ offsets.now }
+    requires few { length (element_of runs.now) < 2 ^ 16 }
+    requires inner { inner.first + inner.count ≤ width }
     requires empty { Tallies P.top_level histogram.old [] }
-    ensures row { OnOk result (GainsRow P.level (λ i. ranked k (levels_under P.level (seen_at window.now) offsets.now (x + i) y)) width out.old.items out.new.items) }
+    ensures row { OnOk result (GainsRow P.level (λ i. ranked k (levels_under P.level (seen_at window.now) (element_of runs.now) (x + i) y)) width out.old.items out.new.items) }
     ensures empty { OnOk result (Tallies P.top_level histogram.new []) }
 {
-    enter_all(histogram, window, offsets, u64::from(x), y);
-    push_row(out, histogram, window, runs, k, x, y, width)?;
-    leave_all(
-        histogram,
-        window,
-        offsets,
-        u64::from(x) + u64::from(width),
-        y,
-    );
+    let from = u64::from(x);
+    enter_all(histogram, window, runs, from, y);
+    push_columns(out, histogram, ends, window, runs, k, from, y, width, inner)?;
+    leave_all(histogram, window, runs, from + u64::from(width), y);
     Ok(())
 }
 
@@ -213,6 +308,8 @@ fn rank_samples<P: Pixel>(
     ensures { IfOk result (λ v. HasRows P.level (λ x y. ranked k (levels_under P.level (seen_at window.now) offsets.now (tile.x + x) (tile.y + y))) tile.width tile.height v.items) }
 {
     let runs = runs_of(alloc, offsets)?;
+    let inner = inner_columns(&runs, tile, window.place());
+    let mut ends = Vec::with_capacity(alloc, runs.len())?;
     let mut histogram = Histogram::empty::<P>(alloc)?;
     let mut out = Vec::with_capacity(alloc, tile.height as usize * tile.width as usize)?;
     for j in 0..tile.height {
@@ -220,13 +317,14 @@ fn rank_samples<P: Pixel>(
         push_whole_row(
             &mut out,
             &mut histogram,
+            &mut ends,
             window,
-            offsets,
             &runs,
             k,
             tile.x,
             y,
             tile.width,
+            inner,
         )?;
     }
     Ok(out)

@@ -17,6 +17,8 @@ mod machine;
 #[cfg(test)]
 mod plain_rows;
 #[cfg(test)]
+mod ranks;
+#[cfg(test)]
 mod seams;
 #[cfg(test)]
 mod served;

@@ -1,5 +1,6 @@
-use Rattle.std.proofs.Common.{◌≡◌, ◌*◌, ◌+◌, ◌-◌, ◌+ℤ◌, pos, ℕ, ℤ, List, ap, sym, ◌∙◌, arith, length, take, replicate, get_or, refl, to_z, of_z, w64}
+use Rattle.std.proofs.Common.{◌≡◌, ◌*◌, ◌+◌, ◌-◌, ◌<◌, ◌≤◌, ◌+ℤ◌, pos, ℕ, ℤ, List, ap, sym, ◌∙◌, arith, length, take, replicate, get_or, refl, to_z, of_z, w64}
 use Rattle.std.proofs.lemmas.Int.{ints}
+use Rattle.std.proofs.Math.Nat.{mul-le-mul_left}
 use Rattle.std.proofs.lemmas.List.{length-replicate}
 use Rattle.mw_model.specs.Rasters.{raster, cell_at}
 use Rattle.mw_lane.specs.Shifted.{merge_at}
@@ -13,7 +14,7 @@ returns-clause-cells g c =
     let f = g.E.Extremum.merge in
     let n = c.args.neutral in
     let window = c.args.window.now in
-    let wide = c.args.width + (c.args.across - 1) in
+    let wide = c.args.width + (c.args.across - 1) + 63 in
     let high = c.args.height + (c.args.down - 1) in
     let rows = c.as_mut_slice-2.result.now in
     let made = c.slide_by.new.row in
@@ -42,3 +43,10 @@ returns-clause-cells g c =
     λ x y less row_less.
     ap (λ (t : List g.row.P.Denot). get_or t (y * c.args.width + x) n) made-is
     ∙ boxes_done f n seen rows made high c.args.width c.args.height c.args.across c.args.down known x y less row_less
+
+pub slide_by-requires-clause-room : goal.slide_by-requires-clause-room
+slide_by-requires-clause-room g c =
+    omega (arith, rows_left c.args.height c.args.down c.args.width (c.args.height + (c.args.down - 1)) c.requires.some.1 c.requires.some.2 c.requires.some.3 (omega arith))
+  where
+    rows_left : (height down width high : ℕ) → 0 < down → 0 < width → 0 < height → high ≡ height + (down - 1) → down * width < high * width + width
+    rows_left height down width high some wide tall is = let le : down ≤ high = omega arith in omega (arith, mul-le-mul_left width le)

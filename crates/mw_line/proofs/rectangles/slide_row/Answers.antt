@@ -14,7 +14,7 @@ returns g c =
     let x-is : to_x ≡ c.args.column = omega (arith, ints) in
     let y-is : to_y ≡ c.args.row = omega (arith, ints) in
     let at = λ (column row : ℤ) (best : g.row.P.Denot). merge_at f best (cell_at (raster window.place.width window.place.height window.cells) column row) in
-    row_slid f (λ (x : ℕ) (best : g.row.P.Denot). at (c.args.column +ℤ pos x) c.args.row best) c.args.blank.now c.combine_window_row.new.out c.slide_by.new.row c.args.across c.requires.some
+    row_slid f (λ (x : ℕ) (best : g.row.P.Denot). at (c.args.column +ℤ pos x) c.args.row best) c.args.blank.now c.combine_window_row.new.out c.slide_by.new.row c.args.across c.args.wide c.requires.some c.requires.within
     (λ x d lt. c.combine_window_row.ensures x d (omega arith)
     ∙ ap (λ (t : List g.row.P.Denot). at (to_x +ℤ pos x) to_y (get_or t x d)) c.copy_from_slice.ensures.after
     ∙ ap (λ (t : ℤ). at (t +ℤ pos x) to_y (get_or c.args.blank.now x d)) x-is

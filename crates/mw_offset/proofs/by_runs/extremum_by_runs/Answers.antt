@@ -4,12 +4,12 @@ use Rattle.std.proofs.lemmas.List.{length-replicate}
 use Rattle.mw_model.specs.declared.places.Rect.{Rect}
 use Rattle.mw_line.proofs.Folds.{IsExtremum}
 use Rattle.mw_line.proofs.Rows.{written}
-use Rattle.mw_offset.proofs.Rooms.{row_fits}
+use Rattle.mw_offset.proofs.Rooms.{row_fits, laid_fits}
 use Rattle.mw_offset.proofs.Seens.{IsLaid, all_room, gather_seen}
 use Rattle.mw_offset.proofs.by_runs.extremum_by_runs.Goals as goal
 
-pub combine_runs-requires : goal.combine_runs-requires
-combine_runs-requires g c =
+pub combine_runs-requires-clause-room : goal.combine_runs-requires-clause-room
+combine_runs-requires-clause-room g c =
     let e = c.args.extent in
     let tile = c.args.tile in
     let across = c.columns_after.ensures.value in
@@ -20,6 +20,13 @@ combine_runs-requires g c =
     (ap (λ (t : ℕ). tile.width + t) across) (ap (λ (t : ℕ). tile.height + t) down)
     (ap length (c.as_mut_slice-2.ensures.value ∙ c.in_ok-out.ensures) ∙ length-replicate ((tile.height - 1) * wide + tile.width) c.args.neutral)
     (omega (arith, c.in_ok-cells.ensures.size)) c.requires.inside
+
+pub combine_runs-requires-clause-fits : goal.combine_runs-requires-clause-fits
+combine_runs-requires-clause-fits g c =
+    let tile = c.args.tile in
+    let wide = tile.width + c.columns_after.result in
+    let out : length c.as_mut_slice-2.result.now ≡ (tile.height - 1) * wide + tile.width = ap length (c.as_mut_slice-2.ensures.value ∙ c.in_ok-out.ensures) ∙ length-replicate ((tile.height - 1) * wide + tile.width) c.args.neutral in
+    laid_fits tile.width tile.height c.columns_after.result c.rows_after.result (length c.as_mut_slice-2.result.now) (length c.as_mut_slice.result.now) c.requires.some.1 out (omega (arith, c.in_ok-cells.ensures.size))
 
 pub returns-clause-cells : goal.returns-clause-cells
 returns-clause-cells g c =

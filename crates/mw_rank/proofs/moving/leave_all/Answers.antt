@@ -1,38 +1,38 @@
-use Rattle.std.proofs.Common.{◌+◌, arith, drop, length-drop, length-append, get_or, pos, sym}
-use Rattle.std.proofs.lemmas.List.{get_or_default}
-use Rattle.mw_model.specs.declared.places.Offset.{Offset}
+use Rattle.std.proofs.Common.{arith, get_or, pos, sym, subst, List}
+use Rattle.std.proofs.lemmas.List.{get_or_default, drop_all}
 use Rattle.mw_model.specs.Windows.{seen_at}
-use Rattle.mw_rank.specs.Ranks.{levels_under, levels_at}
-use Rattle.mw_rank.proofs.Sights.{length-levels, length-levels_at}
-use Rattle.mw_rank.proofs.Moves.{one_left}
+use Rattle.mw_rank.specs.declared.runs.Run.{Run}
+use Rattle.mw_rank.specs.Ranks.{levels_under}
+use Rattle.mw_rank.specs.Runs.{element_of}
+use Rattle.mw_rank.specs.Tallies.{Tallies}
+use Rattle.mw_rank.proofs.Parts.{run_left, few_after}
 use Rattle.mw_rank.proofs.moving.leave_all.Goals as goal
 
-pub leave-requires-clause-held : goal.leave-requires-clause-held
-leave-requires-clause-held g c =
-    let none : Offset = record { dx = pos 0; dy = pos 0 } in
-    let i = c.loop-offset.offset-index in
-    let bs = c.args.offsets.now in
-    let b = get_or bs i none in
-    let level = g.P.Pixel.level in
-    let sight = seen_at c.args.window.now in
+pub leave_part-requires : goal.leave_part-requires
+leave_part-requires g c =
+    let none : Run = record { start = record { dx = pos 0; dy = pos 0 }; more = 0 } in
+    let j = c.loop-run.run-index in
+    let runs = c.args.runs.now in
+    let r = get_or runs j none in
     record {
-      others = levels_under level sight (drop (i + 1) bs) c.args.x c.args.y;
-      tallies = one_left level sight bs i b c.args.x c.args.y g.P.Pixel.top_level _ (omega arith) (sym (get_or_default bs i none b (omega arith))) c.loop-offset.invariant;
+      others = _;
+      tallies = run_left g.P.Pixel.level (seen_at c.args.window.now) runs j r c.args.x c.args.y g.P.Pixel.top_level c.loop-run.histogram _ (omega arith) (sym (get_or_default runs j none r (omega arith))) c.seen_part.ensures c.loop-run.invariant;
       few = omega (
         arith,
-        length-append (levels_at level sight b c.args.x c.args.y) (levels_under level sight (drop (i + 1) bs) c.args.x c.args.y),
-        length-levels_at level sight b c.args.x c.args.y,
-        length-levels level sight (drop (i + 1) bs) c.args.x c.args.y,
-        length-drop (i + 1) bs,
         c.requires.few,
+        few_after g.P.Pixel.level (seen_at c.args.window.now) runs j r c.args.x c.args.y _ (omega arith) (sym (get_or_default runs j none r (omega arith))) c.seen_part.ensures,
       );
     }
 
-pub loop-offset-preserved : goal.loop-offset-preserved
-loop-offset-preserved g c =
-    let none : Offset = record { dx = pos 0; dy = pos 0 } in
-    let i = c.loop-offset.offset-index in
-    let bs = c.args.offsets.now in
-    let b = get_or bs i none in
-    c.leave.ensures _
-    (one_left g.P.Pixel.level (seen_at c.args.window.now) bs i b c.args.x c.args.y g.P.Pixel.top_level _ (omega arith) (sym (get_or_default bs i none b (omega arith))) c.loop-offset.invariant)
+pub loop-run-preserved : goal.loop-run-preserved
+loop-run-preserved g c =
+    let none : Run = record { start = record { dx = pos 0; dy = pos 0 }; more = 0 } in
+    let j = c.loop-run.run-index in
+    let runs = c.args.runs.now in
+    let r = get_or runs j none in
+    c.leave_part.ensures _
+    (run_left g.P.Pixel.level (seen_at c.args.window.now) runs j r c.args.x c.args.y g.P.Pixel.top_level c.loop-run.histogram _ (omega arith) (sym (get_or_default runs j none r (omega arith))) c.seen_part.ensures c.loop-run.invariant)
+
+pub returns : goal.returns
+returns g c =
+    subst (λ (l : List Run). Tallies g.P.Pixel.top_level c.loop-run.histogram (levels_under g.P.Pixel.level (seen_at c.args.window.now) (element_of l) c.args.x c.args.y)) (drop_all c.loop-run.run-index c.args.runs.now (omega arith)) c.loop-run.invariant

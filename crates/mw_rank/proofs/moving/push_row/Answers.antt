@@ -23,7 +23,7 @@ sample_of-sample-requires g c = c.select.ensures.small g.P.Pixel.top_level _ c.l
 
 pub advance-requires-clause-held : goal.advance-requires-clause-held
 advance-requires-clause-held g c =
-    tallies_at g.P.Pixel.level (seen_at c.args.window.now) (element_of c.args.runs.now) (c.args.x + c.loop-i.i) (c.from.result + c.from-in-loop-i.result) c.args.y g.P.Pixel.top_level _ (omega (arith, c.from.ensures, c.from-in-loop-i.ensures))
+    tallies_at g.P.Pixel.level (seen_at c.args.window.now) (element_of c.args.runs.now) (c.args.x + c.loop-i.i) (c.args.x + c.from.result) c.args.y g.P.Pixel.top_level _ (omega (arith, c.from.ensures))
     (c.select.ensures.tallies g.P.Pixel.top_level _ c.loop-i.invariant.tallies)
 
 pub loop-i-preserved : goal.loop-i-preserved
@@ -33,7 +33,7 @@ loop-i-preserved g c =
     let element = element_of c.args.runs.now in
     let top = g.P.Pixel.top_level in
     record {
-      tallies = tallies_at level sight element (c.from.result + c.from-in-loop-i.result + 1) (c.args.x + (c.loop-i.i + 1)) c.args.y top _ (omega (arith, c.from.ensures, c.from-in-loop-i.ensures)) c.advance.ensures;
+      tallies = tallies_at level sight element (c.args.x + c.from.result + 1) (c.args.x + (c.loop-i.i + 1)) c.args.y top _ (omega (arith, c.from.ensures)) c.advance.ensures;
       row = gains_more level (λ i. ranked c.args.k (levels_under level sight element (c.args.x + i) c.args.y)) c.loop-i.i c.args.out.now.items c.loop-i.out.items c.push.new.self.items c.sample_of-sample.result
           c.in_ok-push.ensures.items (c.sample_of-sample.ensures ∙ c.select.ensures.level top _ c.loop-i.invariant.tallies) c.loop-i.invariant.row;
     }

@@ -1,0 +1,63 @@
+//! What a window shows of an element's runs.
+ghost use Rattle.std.specs.Prelude.{◌≡◌, ℕ, ℤ, pos, ◌+ℤ◌, ◌-ℤ◌, ◌<◌, ◌≤◌, ◌^◌, map, min, None, MatchOption};
+ghost use Rattle.mw_model.specs.Places.{nonnegative};
+ghost use Rattle.mw_model.specs.Rasters.{raster, cell_at};
+ghost use Rattle.mw_model.specs.Windows.{seen_at};
+ghost use Rattle.mw_rank.specs.Ranks.{levels_under};
+ghost use Rattle.mw_rank.specs.Runs.{offsets_of};
+
+use crate::runs::Run;
+use mw_pixel::Pixel;
+use mw_tile::Window;
+
+/// The place of a step from `from`, counted from `first`.
+#[inline(always)]
+pub(crate) fn place_of(from: u64, step: i16, first: u32) -> i64
+    requires { from ≤ 2 ^ 40 }
+    ensures { result ≡ pos from +ℤ step -ℤ pos first }
+{
+    (from as i64) + i64::from(step) - i64::from(first)
+}
+
+/// The row of the window in which a run lies, where the window has it.
+pub(crate) fn row_in<P: Pixel>(window: &Window<P>, run: Run, y: u64) -> Option<usize>
+    requires { y ≤ 2 ^ 40 }
+    ensures { MatchOption result ((column : ℤ) → cell_at (raster window.now.place.width window.now.place.height window.now.cells) column (pos y +ℤ run.start.dy -ℤ pos window.now.place.y) ≡ None) (λ row. (row < window.now.place.height) × (pos y +ℤ run.start.dy -ℤ pos window.now.place.y ≡ pos row)) }
+{
+    let place = window.place();
+    let row = place_of(y, run.start.dy, place.y);
+    if row < 0 || row >= i64::from(place.height) {
+        return None;
+    }
+    Some(row as usize)
+}
+
+/// The nearest place to a column that lies in a row of that width or right behind it.
+fn clamped(column: i64, width: u32) -> usize
+    ensures { result ≡ min (nonnegative column) width }
+{
+    if column < 0 {
+        return 0;
+    }
+    (column as usize).min(width as usize)
+}
+
+/// The samples of the window that a run shows at column x of row y of the frame.
+pub(crate) fn seen_part<P: Pixel>(window: &Window<P>, run: Run, x: u64, y: u64) -> &[P]
+    requires near { x ≤ 2 ^ 40 }
+    requires high { y ≤ 2 ^ 40 }
+    ensures { map P.level result.now ≡ levels_under P.level (seen_at window.now) (offsets_of run) x y }
+{
+    let place = window.place();
+    let all = window.samples();
+    match row_in(window, run, y) {
+        None => &all[..0],
+        Some(row) => {
+            let from = place_of(x, run.start.dx, place.x);
+            let begin = clamped(from, place.width);
+            let end = clamped(from + i64::from(run.more) + 1, place.width);
+            let samples = window.row(row as u32);
+            &samples[begin..end]
+        }
+    }
+}
