@@ -1,12 +1,16 @@
 # `make demo` builds morphd and shows it at work; `make test` is the gate; `make memory` refuses each allocation in turn;
 # `make bench` takes times.
-.PHONY: demo morphd test memory bench toolchain
+.PHONY: demo morphd test memory bench toolchain python
 
 MORPHD = crates/morphd/out/morphd
 
 toolchain:
 	@command -v rt >/dev/null || { \
 	  echo "rt is missing: install the Rattle kit and put the folder of its program rt on PATH" >&2; exit 1; }
+
+python:
+	@command -v python3 >/dev/null || { \
+	  echo "python3 is missing: install Debian's package python3" >&2; exit 1; }
 
 test: toolchain
 	rt ci
@@ -15,13 +19,13 @@ test: toolchain
 morphd: toolchain
 	@cd crates/morphd && rt run -- batch < stdin > /dev/null
 
-demo: morphd
+demo: python morphd
 	@echo "a picture of grains:"
 	@python3 examples/show.py examples/grains.pgm
 	@echo "the same, opened by a ball of five pixels: $(MORPHD) batch < examples/grains.session | python3 examples/show.py -"
 	@$(MORPHD) batch < examples/grains.session | python3 examples/show.py -
 
-memory: morphd
+memory: python morphd
 	@python3 checks/refused_memory.py $(MORPHD)
 
 # Best on a machine that does nothing else: each line is the best of five runs in one thread. The C library is told to
@@ -29,7 +33,7 @@ memory: morphd
 # proves and builds; without the word `measure` the programs end at once.
 KEEP = MALLOC_MMAP_MAX_=0 MALLOC_TRIM_THRESHOLD_=17179869184
 
-bench: morphd
+bench: python morphd
 	cd crates/bench_files && rt run && $(KEEP) out/bench_files measure
 	cd crates/bench_kernels && rt run && $(KEEP) out/bench_kernels measure all
 	python3 bench/command.py $(MORPHD)
