@@ -1,0 +1,4 @@
+pub mod Bits
+pub mod Done
+pub mod Packs
+pub mod Counts
