@@ -1,10 +1,11 @@
 -- Words that are written one after another, and rows of words.
-use Rattle.std.proofs.Common.{◌≡◌, ℕ, ◌+◌, ◌-◌, ◌*◌, ◌/◌, ◌%◌, ◌<◌, ◌≤◌, ◌≢◌, List, length, take, drop, set, get_or, ap, subst, sym, arith, ◌∙◌, inl, inr}
+use Rattle.std.proofs.Common.{◌≡◌, ℕ, ◌+◌, ◌-◌, ◌*◌, ◌/◌, ◌%◌, ◌<◌, ◌≤◌, ◌≢◌, List, length, replicate, take, drop, set, get_or, ap, subst, sym, arith, ◌∙◌, inl, inr}
 use Rattle.std.specs.Int.{bit_at}
 use Rattle.std.proofs.Math.ListN.{length-set}
 use Rattle.std.proofs.Math.Nat.{mul-le-mul_left}
 use Rattle.std.proofs.lemmas.Bool.{cases_lt}
 use Rattle.std.proofs.lemmas.List.{get_or-set_same, get_or-set_other}
+use Rattle.std.proofs.lemmas.Simd.{get_or-replicate}
 use Rattle.mw_lane.proofs.Blocks.{put_mid_at, put_mid_below}
 use Rattle.mw_lane.proofs.Parts.{put_mid_above}
 use Rattle.mw_line.proofs.Folds.{length-put_mid}
@@ -101,3 +102,10 @@ pub bit_rows_more_by : (value : ℕ → ℕ → ℕ → ℕ) (w h y s m : ℕ) (
 bit_rows_more_by value w h y s m old out made s-is lt m-is len made-is before =
     subst (λ (t : ℕ). (m ≡ t → length made ≡ t → ((x : ℕ) → x < 64 * t → bit_of made x ≡ value (bit_of (take m (drop (y * t) out)) x) x y) → BitRowsDone value w h (y + 1) old (put_mid (y * t) m out made))) (sym s-is)
     (λ same size is. bit_rows_more value w h y m old out made lt same size is before) m-is len made-is
+
+-- a bit of words that are all one
+pub blank_bit : (count word n q : ℕ) → q < 64 * count → ((i : ℕ) → i < 64 → bit_at word i ≡ n) → bit_of (replicate count word) q ≡ n
+blank_bit count word n q lt word-is =
+    bit_of_its_word (replicate count word) q
+    ∙ ap (λ (t : ℕ). bit_at t (q % 64)) (get_or-replicate count (q / 64) word 0 (omega arith))
+    ∙ word-is (q % 64) (omega arith)

@@ -2,7 +2,7 @@ use Rattle.std.proofs.Common.{◌≡◌, ◌+◌, ◌*◌, ◌-ℤ◌, ℕ, ap, 
 use Rattle.std.proofs.lemmas.Int.{ints}
 use Rattle.mw_model.specs.Places.{nonnegative}
 use Rattle.mw_line.proofs.Padded.{nonnegative_is}
-use Rattle.mw_offset.proofs.by_runs.start_of_run.Goals as goal
+use Rattle.mw_offset.proofs.layout.start_of_run.Goals as goal
 
 pub overflow_mul-result : goal.overflow_mul-result
 overflow_mul-result c =
