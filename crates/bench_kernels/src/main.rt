@@ -5,6 +5,9 @@
 
 ghost use Rattle.std.specs.Prelude.{◌≡◌, ◌*◌, ◌≤◌, ◌%◌, vec_len, IfOk};
 
+mod words;
+
+use crate::words::time_sets;
 use mw_line::rectangle;
 use mw_model::{NoMemory, Offset, OffsetBox, Reach};
 use mw_offset::extremum;
@@ -201,6 +204,7 @@ fn main(rt: HostRuntime) -> Result<(), Fault> {
     if env::args(&rt)?.count() < 2 {
         return Ok(());
     }
+    time_sets::<HostRuntime>(&rt, alloc)?;
     for side in [128u32, 512, 1024] {
         time_rectangles::<HostRuntime, u8, Min>(&rt, alloc, "8 bits", side)?;
         time_rectangles::<HostRuntime, u16, Max>(&rt, alloc, "16 bits", side)?;

@@ -5,3 +5,4 @@ pub mod Counts
 pub mod Funnels
 pub mod Paddings
 pub mod Trims
+pub mod Laid

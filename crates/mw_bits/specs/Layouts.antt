@@ -1,5 +1,5 @@
 -- Rows of words that are laid out around a tile.
-use Rattle.std.specs.Prelude.{ℕ, ◌+◌, ◌-◌, ◌*◌, ◌^◌, List, length, map, cond, nat_lt, Option, Some, None, ℤ, pos, negsuc, ◌+ℤ◌, ◌≤ℤ◌}
+use Rattle.std.specs.Prelude.{ℕ, ◌-◌, ◌*◌, ◌^◌, List, length, map, cond, nat_lt, Option, Some, None, ℤ, pos, negsuc, ◌+ℤ◌, ◌≤ℤ◌}
 use Rattle.std.specs.List.{range_with_len}
 use Rattle.mw_offset.specs.declared.runs.Extent.{Extent}
 use Rattle.mw_bits.specs.Packed.{bit_of}
@@ -17,13 +17,14 @@ words_before = 2 ^ 35
 unfoldable pub laid_bits : List ℕ → List ℕ
 laid_bits words = map (bit_of words) (range_with_len 0 (64 * (length words - 1)))
 
--- an element that lies within 32768 places of its origin, in at most 1024 columns and 1024 rows
+-- at most 1024 places within 32768 of the origin
+pub record AreNear (first last : ℤ) : Type 0 where
+  pub first_near : negsuc 32767 ≤ℤ first
+  pub ordered : first ≤ℤ last
+  pub last_near : last ≤ℤ pos 32768
+  pub few : last ≤ℤ (first +ℤ pos 1023)
+
+-- the element has few columns and rows near its origin
 pub record IsNear (e : Extent) : Type 0 where
-  pub left : negsuc 32767 ≤ℤ e.left
-  pub right : e.right ≤ℤ pos 32768
-  pub columns : e.left ≤ℤ e.right
-  pub narrow : e.right ≤ℤ (e.left +ℤ pos 1023)
-  pub top : negsuc 32767 ≤ℤ e.top
-  pub bottom : e.bottom ≤ℤ pos 32768
-  pub rows : e.top ≤ℤ e.bottom
-  pub low : e.bottom ≤ℤ (e.top +ℤ pos 1023)
+  pub columns : AreNear e.left e.right
+  pub rows : AreNear e.top e.bottom

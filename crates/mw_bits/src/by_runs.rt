@@ -10,7 +10,7 @@ ghost use Rattle.mw_line.specs.Extrema.{strided};
 ghost use Rattle.mw_offset.specs.declared.runs.Run.{Run};
 ghost use Rattle.mw_offset.specs.Runs.{run_offsets, start_of, IsInside, IsWider, HasRoom, sized, two_parts, gather};
 ghost use Rattle.mw_bits.specs.Packed.{bit_of, stride_of, IsPacked};
-ghost use Rattle.mw_bits.specs.Layouts.{laid_bits, IsNear};
+ghost use Rattle.mw_bits.specs.Layouts.{laid_bits, AreNear, IsNear};
 
 use crate::shifting::{combine_ahead, combine_from};
 use crate::spread::spread;
@@ -19,14 +19,13 @@ use crate::words::stride;
 use crate::{WordExtremum, Words};
 use mw_line::filled;
 use mw_model::{NoMemory, Rect};
-use mw_offset::{
-    Extent, Run, columns_after, first_column, first_row, rows_after, start_of_run,
-};
+use mw_offset::{Extent, Run, columns_after, first_column, first_row, rows_after, start_of_run};
 use std::alloc::Global;
 
 /// Merges the bits from two places on into the words.
 fn combine_two<E: WordExtremum>(cells: &[u64], start: usize, extra: usize, out: &mut [u64])
     requires room { start + extra + 64 * length out.old ≤ 64 * (length cells.now - 1) }
+    requires some { 0 < length cells.now }
     requires few { length cells.now < 2 ^ 58 }
     ensures { (q d : ℕ) → q < 64 * length out.old → bit_of out.new q ≡ E.merge (E.merge (bit_of out.old q) (slice_index_or (laid_bits cells.now) (start + q) d)) (slice_index_or (laid_bits cells.now) (start + extra + q) d) }
 {
@@ -46,8 +45,9 @@ fn combine_sized<E: WordExtremum>(
     out: &mut [u64],
 )
     requires room { AllByRecursion (HasRoom extent wide (64 * length out.old) (64 * (length cells.now - 1))) runs.now }
-    requires some { 0 < size }
+    requires positive { 0 < size }
     requires small { size ≤ 2 ^ 40 }
+    requires some { 0 < length cells.now }
     requires few { length cells.now < 2 ^ 58 }
     ensures { (q d : ℕ) → q < 64 * length out.old → bit_of out.new q ≡ fold (sized size (two_parts E.merge (laid_bits cells.now) d extent wide size q)) (bit_of out.old q) runs.now }
 {
@@ -86,31 +86,37 @@ fn combine_runs<E: WordExtremum>(
     }
 }
 
-/// Whether an element lies within 32768 places of its origin and takes at most 1024 columns and 1024 rows, so that it
-/// can be laid out around a tile.
+/// Whether these are at most 1024 places within 32768 of the origin.
+fn are_near(first: i32, last: i32) -> bool
+    ensures { IsTrue result → AreNear first last }
+{
+    if first < -32768 || last < first || 32768 < last {
+        return false;
+    }
+    if last - first >= 1024 {
+        return false;
+    }
+    true
+}
+
+/// Whether an element has few columns and rows near its origin, so that it can be laid out around a tile.
 pub(crate) fn is_near(extent: Extent) -> bool
     ensures { IsTrue result → IsNear extent }
 {
-    -32768 <= extent.left
-        && extent.left <= extent.right
-        && extent.right <= 32768
-        && extent.right - extent.left < 1024
-        && -32768 <= extent.top
-        && extent.top <= extent.bottom
-        && extent.bottom <= 32768
-        && extent.bottom - extent.top < 1024
+    are_near(extent.left, extent.right) && are_near(extent.top, extent.bottom)
 }
 
-/// The same extent with whole words of columns after its first.
-fn in_words(extent: Extent) -> Extent
-    requires { IsNear extent }
+/// The same extent with so many words of columns after its first.
+fn widened(extent: Extent, words: usize) -> Extent
+    requires near { IsNear extent }
+    requires enough { nonnegative (extent.right -ℤ extent.left) ≤ 64 * words }
+    requires few { words ≤ 16 }
     ensures wider { IsWider result extent }
-    ensures near { result.right ≤ℤ (result.left +ℤ pos 1024) }
-    ensures words { nonnegative (result.right -ℤ result.left) ≡ 64 * (nonnegative (result.right -ℤ result.left) / 64) }
-    ensures bottom { result.bottom ≡ extent.bottom }
+    ensures columns { nonnegative (result.right -ℤ result.left) ≡ 64 * words }
+    ensures ordered { result.left ≤ℤ result.right }
     ensures top { result.top ≡ extent.top }
+    ensures bottom { result.bottom ≡ extent.bottom }
 {
-    let words = (columns_after(extent) + 63) / 64;
     Extent {
         left: extent.left,
         right: extent.left + 64 * words as i32,
@@ -129,6 +135,7 @@ pub(crate) fn extremum_by_runs<E: WordExtremum>(
 ) -> Result<Vec<u64>, NoMemory>
     requires inside { AllByRecursion (IsInside extent) runs.now }
     requires some { (0 < tile.width) × (0 < tile.height) }
+    requires small { (tile.width ≤ 2 ^ 31) × (tile.height ≤ 2 ^ 31) }
     requires near { IsNear extent }
     ensures packed { IfOk result (λ v. IsPacked tile.width tile.height v.items) }
     ensures cells { IfOk result (λ v. (x y : ℕ) → x < tile.width → y < tile.height → bit_of v.items (y * (64 * stride_of tile.width) + x) ≡ fold E.merge (E.neutral_of 1) (seen_under (seen_at set.now) (flat_map run_offsets runs.now) (tile.x + x) (tile.y + y))) }
@@ -136,19 +143,20 @@ pub(crate) fn extremum_by_runs<E: WordExtremum>(
     let place = set.place();
     let stride = stride(tile.width);
     let height = tile.height as usize;
-    let longest = columns_after(extent) + 1;
-    let words = in_words(extent);
-    let wide = stride + columns_after(words) / 64;
-    let high = height + rows_after(words);
-    let column = first_column(tile, words, place);
-    let row = first_row(tile, words, place);
+    let columns = columns_after(extent);
+    let words = (columns + 63) / 64;
+    let laid = widened(extent, words);
+    let wide = stride + words;
+    let high = height + rows_after(laid);
+    let column = first_column(tile, laid, place);
+    let row = first_row(tile, laid, place);
     let mut cells = spread::<E>(alloc, set, column, row, wide, high)?;
     let mut out = filled(alloc, (height - 1) * wide + stride, E::neutral_word())?;
     combine_runs::<E>(
         runs,
-        words,
+        laid,
         64 * wide,
-        longest,
+        columns + 1,
         cells.as_mut_slice(),
         out.as_mut_slice(),
     );

@@ -1,7 +1,7 @@
 //! Extrema of sets over any list of offsets: by horizontal runs, or, where these lie too far apart to be laid out around
 //! the tile, one offset after another, each as the set's words shifted against those of the tile. What lies outside the
 //! window is no pixel.
-ghost use Rattle.std.specs.Prelude.{◌≡◌, ℕ, ◌+◌, ◌*◌, ◌<◌, ◌≤◌, ◌^◌, pos, negsuc, ◌+ℤ◌, ◌-ℤ◌, ◌≤ℤ◌, length, fold, IfOk};
+ghost use Rattle.std.specs.Prelude.{◌≡◌, ℕ, ◌+◌, ◌*◌, ◌<◌, ◌≤◌, ◌^◌, pos, negsuc, ◌+ℤ◌, ◌-ℤ◌, ◌≤ℤ◌, length, fold, IfOk, IsTrue};
 ghost use Rattle.mw_model.specs.Rasters.{Raster, raster, cell_at, seen_under};
 ghost use Rattle.mw_model.specs.Windows.{seen_at, IsWindow};
 ghost use Rattle.mw_line.specs.Extrema.{IsSlidingExtremum};
@@ -63,6 +63,13 @@ fn extremum_by_offsets<E: WordExtremum>(
     Ok(made)
 }
 
+/// Whether the tile has places, and few enough to lay out an element around it.
+fn has_layout(tile: Rect) -> bool
+    ensures { IsTrue result → (0 < tile.width) × (0 < tile.height) × (tile.width ≤ 2 ^ 31) × (tile.height ≤ 2 ^ 31) }
+{
+    tile.width > 0 && tile.height > 0 && tile.width <= 2147483648 && tile.height <= 2147483648
+}
+
 /// The words of the tile, by horizontal runs where these can be laid out around it.
 fn extremum_words<E: WordExtremum>(
     alloc: Global,
@@ -74,7 +81,7 @@ fn extremum_words<E: WordExtremum>(
     ensures cells { IfOk result (λ v. (x y : ℕ) → x < tile.width → y < tile.height → bit_of v.items (y * (64 * stride_of tile.width) + x) ≡ fold E.merge (E.neutral_of 1) (seen_under (seen_at set.now) offsets.now (tile.x + x) (tile.y + y))) }
 {
     let runs = runs_of(alloc, offsets)?;
-    if tile.width > 0 && tile.height > 0 {
+    if has_layout(tile) {
         if let Some(extent) = extent_of(runs.as_slice()) {
             if is_near(extent) {
                 let made = extremum_by_runs::<E>(alloc, set, runs.as_slice(), extent, tile)?;
@@ -103,11 +110,6 @@ impl Words {
         ensures over_frame { IfOk result (λ r. (f : Raster ℕ) → IsWindow self.now f offsets.now tile → IsSlidingExtremum E.merge (E.neutral_of 1) (cell_at f) offsets.now tile (raster tile.width tile.height r.cells)) }
     {
         let words = extremum_words::<E>(alloc, self, offsets, tile)?;
-        Ok(Words::new(
-            self.frame_width(),
-            self.frame_height(),
-            tile,
-            words,
-        ))
+        Ok(Words::new(self.frame_width(), self.frame_height(), tile, words))
     }
 }

@@ -42,17 +42,15 @@ pub(crate) fn spread<E: WordExtremum>(
     wide: usize,
     high: usize,
 ) -> Result<Vec<u64>, NoMemory>
-    requires few { high ≤ 2 ^ 40 }
-    requires narrow { wide ≤ 2 ^ 40 }
+    requires few { high ≤ 2 ^ 33 }
+    requires narrow { wide ≤ 2 ^ 27 }
     requires low { negsuc (2 ^ 40) ≤ℤ column }
     requires far { column ≤ℤ pos (2 ^ 40) }
     requires near { row ≤ℤ pos (2 ^ 40) }
     ensures size { IfOk result (λ v. vec_len v ≡ high * wide + 1) }
     ensures cells { IfOk result (λ v. (x y : ℕ) → x < 64 * wide → y < high → bit_of v.items (y * (64 * wide) + x) ≡ merge_at E.merge (E.neutral_of 1) (cell_at (raster set.now.place.width set.now.place.height set.now.cells) (column +ℤ pos x) (row +ℤ pos y))) }
 {
-    let count = high.checked_mul(wide).ok_or(NoMemory)?;
-    let count = count.checked_add(1).ok_or(NoMemory)?;
-    let mut cells = filled(alloc, count, E::neutral_word())?;
+    let mut cells = filled(alloc, high * wide + 1, E::neutral_word())?;
     spread_rows::<E>(set, column, row, wide, high, cells.as_mut_slice());
     Ok(cells)
 }

@@ -32,7 +32,11 @@ fn trim_rows(cells: &[u64], wide: usize, width: u32, high: usize, out: &mut [u64
     for y in 0..high {
         let from = y * wide;
         let to = y * stride;
-        trim_row(&cells[from..from + stride], width, &mut out[to..to + stride]);
+        trim_row(
+            &cells[from..from + stride],
+            width,
+            &mut out[to..to + stride],
+        );
     }
 }
 

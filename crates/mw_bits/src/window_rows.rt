@@ -32,6 +32,16 @@ fn padded_word<E: WordExtremum>(row: &[u64], width: u32, at: u64) -> u64
     }
 }
 
+/// How many places there are to a column from `BEFORE` words before the row on.
+fn places_to(column: i64) -> u64
+    requires low { negsuc (2 ^ 40) ≤ℤ column }
+    requires high { column ≤ℤ pos (2 ^ 40) }
+    ensures value { column ≡ pos result -ℤ pos (64 * words_before) }
+    ensures small { result ≤ 2 ^ 42 }
+{
+    (column + 2199023255552) as u64
+}
+
 /// Merges into each bit the pixel of the row so many columns further on, where there is one.
 fn combine_row<E: WordExtremum>(row: &[u64], width: u32, column: i64, out: &mut [u64])
     requires size { length row.now ≡ stride_of width }
@@ -41,7 +51,7 @@ fn combine_row<E: WordExtremum>(row: &[u64], width: u32, column: i64, out: &mut 
     requires few { length out.old ≤ 2 ^ 40 }
     ensures { (x : ℕ) → x < 64 * length out.old → bit_of out.new x ≡ merge_at E.merge (bit_of out.old x) (pixel_at row.now width (column +ℤ pos x)) }
 {
-    let from = (column + 2199023255552) as u64;
+    let from = places_to(column);
     let first = from / 64;
     let shift = (from % 64) as u32;
     let mut low = padded_word::<E>(row, width, first);

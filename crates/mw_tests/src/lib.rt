@@ -16,3 +16,5 @@ mod kernels;
 mod plain_rows;
 #[cfg(test)]
 mod seams;
+#[cfg(test)]
+mod words;

@@ -1,4 +1,4 @@
-use Rattle.std.proofs.Common.{◌≡◌, ℕ, ◌+◌, ◌*◌, ◌/◌, ◌%◌, ◌<◌, get_or, ap, arith, ◌∙◌}
+use Rattle.std.proofs.Common.{◌+◌, ◌/◌, ◌%◌, get_or, ap, arith, ◌∙◌}
 use Rattle.mw_bits.specs.Packed.{bit_of}
 use Rattle.mw_bits.proofs.Done.{words_more}
 use Rattle.mw_bits.proofs.Funnels.{IsFunnel, funnel_at}

@@ -1,4 +1,4 @@
-use Rattle.std.proofs.Common.{◌≡◌, ◌*◌, ◌+◌, ◌-◌, ◌≤◌, ◌+ℤ◌, ℤ, pos, ap, ◌∙◌, arith, to_z, of_z, w64, length, take, drop, length-take, length-drop}
+use Rattle.std.proofs.Common.{◌≡◌, ◌*◌, ◌+◌, ◌-◌, ◌+ℤ◌, ℤ, pos, ap, ◌∙◌, arith, to_z, of_z, w64, length, take, drop, length-take, length-drop}
 use Rattle.std.proofs.lemmas.Int.{ints}
 use Rattle.mw_model.specs.Rasters.{raster, cell_at}
 use Rattle.mw_lane.specs.Shifted.{merge_at}

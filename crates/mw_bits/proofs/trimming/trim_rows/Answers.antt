@@ -1,4 +1,4 @@
-use Rattle.std.proofs.Common.{◌≡◌, ℕ, ◌*◌, ◌+◌, ◌-◌, ◌<◌, ◌≤◌, cond, nat_lt, List, ap, ◌∙◌, arith, refl, length, take, drop, length-take, length-drop}
+use Rattle.std.proofs.Common.{◌≡◌, ℕ, ◌*◌, ◌+◌, ◌-◌, cond, nat_lt, ap, ◌∙◌, arith, length, take, drop, length-take, length-drop}
 use Rattle.mw_line.proofs.Rows.{rows_fit}
 use Rattle.mw_bits.specs.Packed.{bit_of, stride_of}
 use Rattle.mw_bits.proofs.Bits.{bit_of_part}

@@ -1,4 +1,4 @@
-use Rattle.std.proofs.Common.{◌≡◌, ℕ, ◌+◌, ◌-◌, ◌*◌, ◌<◌, pos, ◌+ℤ◌, ◌-ℤ◌}
+use Rattle.std.proofs.Common.{◌≡◌, ℕ, ◌+◌, ◌*◌, ◌<◌, pos, ◌+ℤ◌, ◌-ℤ◌}
 use Rattle.std.specs.Int.{bit_at}
 use Rattle.mw_lane.specs.Shifted.{merge_at}
 use Rattle.mw_bits.specs.Layouts.{pixel_at, words_before}
