@@ -6,6 +6,9 @@
 
 ghost use Rattle.std.specs.Prelude.{◌≡◌, ◌*◌, ◌≤◌, ◌%◌, vec_len, IfOk};
 
+mod words;
+
+use crate::words::time_sets;
 use mw_line::rectangle;
 use mw_model::{NoMemory, Offset, OffsetBox, Reach, Rect};
 use mw_offset::extremum;
@@ -262,6 +265,9 @@ fn main(rt: HostRuntime) -> Result<(), Fault> {
         None => return Ok(()),
         Some(word) => word,
     };
+    if wanted == "all" || wanted == "sets" {
+        time_sets::<HostRuntime>(&rt, alloc)?;
+    }
     for side in [128u32, 512, 1024] {
         measure_all(&rt, alloc, wanted.as_str(), side)?;
     }

@@ -1,7 +1,8 @@
 //! An element as horizontal runs, and the columns and rows that they take.
-ghost use Rattle.std.specs.Prelude.{◌≡◌, ℕ, ◌+◌, ◌*◌, ◌<◌, ◌≤◌, ◌^◌, ℤ, pos, ◌-ℤ◌, ◌+ℤ◌, ◌≤ℤ◌, length, take, drop, IsTrue, flat_map, IfOk, IfSome};
+ghost use Rattle.std.specs.Prelude.{◌≡◌, ℕ, ◌+◌, ◌*◌, ◌<◌, ◌≤◌, ◌^◌, ℤ, pos, ◌-ℤ◌, ◌+ℤ◌, ◌≤ℤ◌, length, take, drop, IsTrue, flat_map, IfOk, IfSome, IsSome, ◌↔◌};
 ghost use Rattle.std.specs.List.{AllByRecursion};
 ghost use Rattle.mw_model.specs.Places.{nonnegative};
+ghost use Rattle.mw_offset.specs.declared.runs.Extent.{Extent};
 ghost use Rattle.mw_offset.specs.Runs.{run_offsets, IsRun, IsInside, IsWider};
 
 use mw_model::{NoMemory, Offset};
@@ -9,19 +10,19 @@ use std::alloc::Global;
 
 /// Offsets that stand beside one another in a row, from the left.
 #[derive(Clone, Copy)]
-pub(crate) struct Run {
-    pub(crate) dx: i16,
-    pub(crate) dy: i16,
-    pub(crate) count: u32,
+pub struct Run {
+    pub dx: i16,
+    pub dy: i16,
+    pub count: u32,
 }
 
 /// Columns and rows of offsets, both ends included.
 #[derive(Clone, Copy)]
-pub(crate) struct Extent {
-    pub(crate) left: i32,
-    pub(crate) right: i32,
-    pub(crate) top: i32,
-    pub(crate) bottom: i32,
+pub struct Extent {
+    pub left: i32,
+    pub right: i32,
+    pub top: i32,
+    pub bottom: i32,
 }
 
 /// Whether the offset follows so many that begin with `first`.
@@ -56,7 +57,7 @@ fn run_at(offsets: &[Offset], from: usize) -> Run
 }
 
 /// The list cut into runs.
-pub(crate) fn runs_of(alloc: Global, offsets: &[Offset]) -> Result<Vec<Run>, NoMemory>
+pub fn runs_of(alloc: Global, offsets: &[Offset]) -> Result<Vec<Run>, NoMemory>
     ensures offsets { IfOk result (λ v. flat_map run_offsets v.items ≡ offsets.now) }
     ensures runs { IfOk result (λ v. AllByRecursion IsRun v.items) }
 {
@@ -73,7 +74,8 @@ pub(crate) fn runs_of(alloc: Global, offsets: &[Offset]) -> Result<Vec<Run>, NoM
 /// The extent of one run.
 fn extent_of_run(run: Run) -> Extent
     requires { IsRun run }
-    ensures { IsInside result run }
+    ensures inside { IsInside result run }
+    ensures least { (o : Extent) → IsInside o run → IsWider o result }
 {
     Extent {
         left: i32::from(run.dx),
@@ -83,23 +85,42 @@ fn extent_of_run(run: Run) -> Extent
     }
 }
 
+fn lesser(a: i32, b: i32) -> i32
+    ensures first { result ≤ℤ a }
+    ensures second { result ≤ℤ b }
+    ensures least { (o : ℤ) → o ≤ℤ a → o ≤ℤ b → o ≤ℤ result }
+{
+    if a < b { a } else { b }
+}
+
+fn greater(a: i32, b: i32) -> i32
+    ensures first { a ≤ℤ result }
+    ensures second { b ≤ℤ result }
+    ensures least { (o : ℤ) → a ≤ℤ o → b ≤ℤ o → result ≤ℤ o }
+{
+    if a < b { b } else { a }
+}
+
 /// The least extent that has both.
 fn joined(a: Extent, b: Extent) -> Extent
     ensures first { IsWider result a }
     ensures second { IsWider result b }
+    ensures least { (o : Extent) → IsWider o a → IsWider o b → IsWider o result }
 {
     Extent {
-        left: a.left.min(b.left),
-        right: a.right.max(b.right),
-        top: a.top.min(b.top),
-        bottom: a.bottom.max(b.bottom),
+        left: lesser(a.left, b.left),
+        right: greater(a.right, b.right),
+        top: lesser(a.top, b.top),
+        bottom: greater(a.bottom, b.bottom),
     }
 }
 
-/// The extent of all runs; None where there is none.
-pub(crate) fn extent_of(runs: &[Run]) -> Option<Extent>
+/// The least extent of all runs; None where there is none.
+pub fn extent_of(runs: &[Run]) -> Option<Extent>
     requires { AllByRecursion IsRun runs.now }
-    ensures { IfSome result (λ e. AllByRecursion (IsInside e) runs.now) }
+    ensures some { IsSome result ↔ (0 < length runs.now) }
+    ensures inside { IfSome result (λ e. AllByRecursion (IsInside e) runs.now) }
+    ensures least { IfSome result (λ e. (o : Extent) → AllByRecursion (IsInside o) runs.now → IsWider o e) }
 {
     if runs.len() == 0 {
         return None;

@@ -26,3 +26,5 @@ mod served;
 mod session_ends;
 #[cfg(test)]
 mod sessions;
+#[cfg(test)]
+mod words;

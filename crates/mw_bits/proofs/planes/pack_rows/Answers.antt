@@ -1,0 +1,34 @@
+use Rattle.std.proofs.Common.{◌≡◌, ◌+◌, ◌-◌, ◌*◌, ℕ, List, length, take, drop, get_or, ap, arith, ◌∙◌, length-take, length-drop}
+use Rattle.mw_model.specs.declared.places.Rect.{Rect}
+use Rattle.mw_line.proofs.Rows.{rows_fit}
+use Rattle.mw_bits.specs.Packed.{stride_of}
+use Rattle.mw_bits.proofs.Done.{bit_rows_more_by}
+use Rattle.mw_bits.proofs.Packs.{packed_row, all_packed, samples_packed}
+use Rattle.mw_bits.proofs.planes.pack_rows.Goals as goal
+
+pub loop-y-preserved : goal.loop-y-preserved
+loop-y-preserved c =
+    let window = c.args.window.now in
+    let s = c.stride-stride.result in
+    let y = c.loop-y.y in
+    let m = y * s + s - y * s in
+    let width-is = ap (λ (t : Rect). t.width) c.place-place.ensures.value in
+    let height-is = ap (λ (t : Rect). t.height) c.place-place.ensures.value in
+    let stride-is : s ≡ stride_of window.place.width = c.stride-stride.ensures.value ∙ ap stride_of width-is in
+    let fits = rows_fit y window.place.height s (omega arith) in
+    let room = ap (λ (t : ℕ). window.place.height * t) stride-is in
+    let whole : length (take m (drop (y * s) c.loop-y.out)) ≡ s = omega (arith, length-take m (drop (y * s) c.loop-y.out), length-drop (y * s) c.loop-y.out, c.loop-y.invariant.room, fits, room) in
+    bit_rows_more_by (packed_row window.cells window.place.width) (stride_of window.place.width) window.place.height y s m c.args.out.now c.loop-y.out c.pack_row.new.out stride-is (omega arith) (omega arith) (omega (arith, c.pack_row.auto.out, whole))
+    (λ x less. c.pack_row.ensures x (omega (arith, whole)) ∙ ap (λ (t : List ℕ). get_or t x 0) c.row.ensures.value) c.loop-y.invariant
+
+pub returns-clause-packed : goal.returns-clause-packed
+returns-clause-packed c =
+    let window = c.args.window.now in
+    let height-is = ap (λ (t : Rect). t.height) c.place-place.ensures.value in
+    all_packed window.place.width window.place.height c.loop-y.y window.cells c.args.out.now c.loop-y.out (omega (arith, c.loop-y.invariant.size)) (omega arith) c.loop-y.invariant
+
+pub returns-clause-samples : goal.returns-clause-samples
+returns-clause-samples c =
+    let window = c.args.window.now in
+    let height-is = ap (λ (t : Rect). t.height) c.place-place.ensures.value in
+    samples_packed window.place.width window.place.height c.loop-y.y window.cells c.args.out.now c.loop-y.out c.samples-samples.ensures.size (omega arith) c.loop-y.invariant

@@ -1,0 +1,165 @@
+//! The extremum over horizontal runs. The set is spread over rows of so many words, which are doubled: the words merged
+//! with themselves, shifted by 1, 2, 4 .. bits. A run of k pixels is then its first 2^j and its last 2^j pixels, so that it
+//! takes two merges; and since all rows have as many words, each merge takes all rows of the tile at once.
+ghost use Rattle.std.specs.Prelude.{◌≡◌, ℕ, ◌+◌, ◌-◌, ◌*◌, ◌/◌, ◌<◌, ◌≤◌, ◌^◌, ℤ, pos, negsuc, ◌+ℤ◌, ◌-ℤ◌, ◌≤ℤ◌, length, fold, flat_map, slice_index_or, vec_len, IfOk, IsTrue};
+ghost use Rattle.std.specs.List.{AllByRecursion};
+ghost use Rattle.mw_model.specs.Places.{nonnegative};
+ghost use Rattle.mw_model.specs.Rasters.{seen_under};
+ghost use Rattle.mw_model.specs.Windows.{seen_at};
+ghost use Rattle.mw_line.specs.Extrema.{strided};
+ghost use Rattle.mw_offset.specs.declared.runs.Run.{Run};
+ghost use Rattle.mw_offset.specs.Runs.{run_offsets, start_of, IsInside, IsWider, HasRoom, sized, two_parts, gather};
+ghost use Rattle.mw_bits.specs.Packed.{bit_of, stride_of, IsPacked};
+ghost use Rattle.mw_bits.specs.Layouts.{laid_bits, AreNear, IsNear};
+
+use crate::shifting::{combine_ahead, combine_from};
+use crate::spread::spread;
+use crate::trimming::trimmed;
+use crate::words::stride;
+use crate::{WordExtremum, Words};
+use mw_line::filled;
+use mw_model::{NoMemory, Rect};
+use mw_offset::{Extent, Run, columns_after, first_column, first_row, rows_after, start_of_run};
+use std::alloc::Global;
+
+/// Merges the bits from two places on into the words.
+fn combine_two<E: WordExtremum>(cells: &[u64], start: usize, extra: usize, out: &mut [u64])
+    requires room { start + extra + 64 * length out.old ≤ 64 * (length cells.now - 1) }
+    requires some { 0 < length cells.now }
+    requires few { length cells.now < 2 ^ 58 }
+    ensures { (q d : ℕ) → q < 64 * length out.old → bit_of out.new q ≡ E.merge (E.merge (bit_of out.old q) (slice_index_or (laid_bits cells.now) (start + q) d)) (slice_index_or (laid_bits cells.now) (start + extra + q) d) }
+{
+    combine_from::<E>(cells, start, out);
+    if extra > 0 {
+        combine_from::<E>(cells, start + extra, out);
+    }
+}
+
+/// Merges the runs of `size` to `2 * size - 1` pixels, where each cell is the extremum of `size` pixels.
+fn combine_sized<E: WordExtremum>(
+    runs: &[Run],
+    extent: Extent,
+    wide: usize,
+    size: usize,
+    cells: &[u64],
+    out: &mut [u64],
+)
+    requires room { AllByRecursion (HasRoom extent wide (64 * length out.old) (64 * (length cells.now - 1))) runs.now }
+    requires positive { 0 < size }
+    requires small { size ≤ 2 ^ 40 }
+    requires some { 0 < length cells.now }
+    requires few { length cells.now < 2 ^ 58 }
+    ensures { (q d : ℕ) → q < 64 * length out.old → bit_of out.new q ≡ fold (sized size (two_parts E.merge (laid_bits cells.now) d extent wide size q)) (bit_of out.old q) runs.now }
+{
+    for i in 0..runs.len() {
+        let run = runs[i];
+        let count = run.count as usize;
+        if size <= count && count < 2 * size {
+            let start = start_of_run(run, extent, wide);
+            combine_two::<E>(cells, start, count - size, out);
+        }
+    }
+}
+
+/// Merges each run into the words, and doubles the cells. No run is longer than `longest`.
+fn combine_runs<E: WordExtremum>(
+    runs: &[Run],
+    extent: Extent,
+    wide: usize,
+    longest: usize,
+    cells: &mut [u64],
+    out: &mut [u64],
+)
+    requires room { AllByRecursion (HasRoom extent wide (64 * length out.old) (64 * (length cells.old - 1))) runs.now }
+    requires longest { AllByRecursion (λ (r : Run). r.count ≤ longest) runs.now }
+    requires small { longest < 2 ^ 34 }
+    requires some { 0 < length cells.old }
+    requires few { length cells.old < 2 ^ 58 }
+    ensures { (n : ℕ) → ((q : ℕ) → q < 64 * length out.old → bit_of out.old q ≡ n) → (q : ℕ) → q < 64 * length out.old → bit_of out.new q ≡ gather E.merge n (λ r. strided E.merge (laid_bits cells.old) n 1 (r.count - 1) (start_of extent wide r + q)) runs.now }
+{
+    let mut size = 1usize;
+    combine_sized::<E>(runs, extent, wide, size, cells, out);
+    'sizes: while size <= longest / 2 && size <= 32 * (cells.len() - 1) {
+        combine_ahead::<E>(cells, size);
+        size *= 2;
+        combine_sized::<E>(runs, extent, wide, size, cells, out);
+    }
+}
+
+/// Whether these are at most 1024 places within 32768 of the origin.
+fn are_near(first: i32, last: i32) -> bool
+    ensures { IsTrue result → AreNear first last }
+{
+    if first < -32768 || last < first || 32768 < last {
+        return false;
+    }
+    if last - first >= 1024 {
+        return false;
+    }
+    true
+}
+
+/// Whether an element has few columns and rows near its origin, so that it can be laid out around a tile.
+pub(crate) fn is_near(extent: Extent) -> bool
+    ensures { IsTrue result → IsNear extent }
+{
+    are_near(extent.left, extent.right) && are_near(extent.top, extent.bottom)
+}
+
+/// The same extent with so many words of columns after its first.
+fn widened(extent: Extent, words: usize) -> Extent
+    requires near { IsNear extent }
+    requires enough { nonnegative (extent.right -ℤ extent.left) ≤ 64 * words }
+    requires few { words ≤ 16 }
+    ensures wider { IsWider result extent }
+    ensures columns { nonnegative (result.right -ℤ result.left) ≡ 64 * words }
+    ensures ordered { result.left ≤ℤ result.right }
+    ensures top { result.top ≡ extent.top }
+    ensures bottom { result.bottom ≡ extent.bottom }
+{
+    Extent {
+        left: extent.left,
+        right: extent.left + 64 * words as i32,
+        top: extent.top,
+        bottom: extent.bottom,
+    }
+}
+
+/// The words of the tile: the extremum of neutral pixels and what the set has under the runs.
+pub(crate) fn extremum_by_runs<E: WordExtremum>(
+    alloc: Global,
+    set: &Words,
+    runs: &[Run],
+    extent: Extent,
+    tile: Rect,
+) -> Result<Vec<u64>, NoMemory>
+    requires inside { AllByRecursion (IsInside extent) runs.now }
+    requires some { (0 < tile.width) × (0 < tile.height) }
+    requires small { (tile.width ≤ 2 ^ 31) × (tile.height ≤ 2 ^ 31) }
+    requires near { IsNear extent }
+    ensures packed { IfOk result (λ v. IsPacked tile.width tile.height v.items) }
+    ensures cells { IfOk result (λ v. (x y : ℕ) → x < tile.width → y < tile.height → bit_of v.items (y * (64 * stride_of tile.width) + x) ≡ fold E.merge (E.neutral_of 1) (seen_under (seen_at set.now) (flat_map run_offsets runs.now) (tile.x + x) (tile.y + y))) }
+{
+    let place = set.place();
+    let stride = stride(tile.width);
+    let height = tile.height as usize;
+    let columns = columns_after(extent);
+    let words = (columns + 63) / 64;
+    let laid = widened(extent, words);
+    let wide = stride + words;
+    let high = height + rows_after(laid);
+    let column = first_column(tile, laid, place);
+    let row = first_row(tile, laid, place);
+    let mut cells = spread::<E>(alloc, set, column, row, wide, high)?;
+    let mut out = filled(alloc, (height - 1) * wide + stride, E::neutral_word())?;
+    combine_runs::<E>(
+        runs,
+        laid,
+        64 * wide,
+        columns + 1,
+        cells.as_mut_slice(),
+        out.as_mut_slice(),
+    );
+    let made = trimmed(alloc, out.as_slice(), wide, tile.width, tile.height)?;
+    Ok(made)
+}

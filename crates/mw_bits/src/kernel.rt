@@ -1,0 +1,116 @@
+//! Extrema of sets over any list of offsets: by horizontal runs, or, where these lie too far apart to be laid out around
+//! the tile, one offset after another, each as the set's words shifted against those of the tile. What lies outside the
+//! window is no pixel.
+ghost use Rattle.std.specs.Prelude.{◌≡◌, ℕ, ◌+◌, ◌*◌, ◌<◌, ◌≤◌, ◌^◌, pos, negsuc, ◌+ℤ◌, ◌-ℤ◌, ◌≤ℤ◌, length, fold, IfOk, IsTrue};
+ghost use Rattle.mw_model.specs.Rasters.{Raster, raster, cell_at, seen_under};
+ghost use Rattle.mw_model.specs.Windows.{seen_at};
+ghost use Rattle.mw_tile.specs.Windows.{IsWindow};
+ghost use Rattle.mw_line.specs.Extrema.{IsSlidingExtremum};
+ghost use Rattle.mw_bits.specs.Packed.{bit_of, stride_of, IsPacked};
+
+use crate::by_runs::{extremum_by_runs, is_near};
+use crate::spread::spread_rows;
+use crate::trimming::trimmed;
+use crate::words::stride;
+use crate::{WordExtremum, Words};
+use mw_line::filled;
+use mw_model::{NoMemory, Offset, Rect};
+use mw_offset::{extent_of, runs_of};
+use std::alloc::Global;
+
+/// The place of a step from `from`, counted from `first`.
+fn place_of(from: u32, step: i16, first: u32) -> i64
+    ensures value { result ≡ pos from +ℤ step -ℤ pos first }
+    ensures low { negsuc (2 ^ 40) ≤ℤ result }
+    ensures high { result ≤ℤ pos (2 ^ 40) }
+{
+    i64::from(from) + i64::from(step) - i64::from(first)
+}
+
+/// Merges into each bit of the tile's rows what is seen under the element there.
+fn combine_offsets<E: WordExtremum>(
+    set: &Words,
+    offsets: &[Offset],
+    tile: Rect,
+    stride: usize,
+    out: &mut [u64],
+)
+    requires size { length out.old ≡ tile.height * stride }
+    requires few { stride ≤ 2 ^ 40 }
+    ensures { (x y : ℕ) → x < 64 * stride → y < tile.height → bit_of out.new (y * (64 * stride) + x) ≡ fold E.merge (bit_of out.old (y * (64 * stride) + x)) (seen_under (seen_at set.now) offsets.now (tile.x + x) (tile.y + y)) }
+{
+    let place = set.place();
+    for offset in offsets {
+        let column = place_of(tile.x, offset.dx, place.x);
+        let row = place_of(tile.y, offset.dy, place.y);
+        spread_rows::<E>(set, column, row, stride, tile.height as usize, out);
+    }
+}
+
+/// The words of the tile, one offset after another.
+fn extremum_by_offsets<E: WordExtremum>(
+    alloc: Global,
+    set: &Words,
+    offsets: &[Offset],
+    tile: Rect,
+) -> Result<Vec<u64>, NoMemory>
+    ensures packed { IfOk result (λ v. IsPacked tile.width tile.height v.items) }
+    ensures cells { IfOk result (λ v. (x y : ℕ) → x < tile.width → y < tile.height → bit_of v.items (y * (64 * stride_of tile.width) + x) ≡ fold E.merge (E.neutral_of 1) (seen_under (seen_at set.now) offsets.now (tile.x + x) (tile.y + y))) }
+{
+    let stride = stride(tile.width);
+    let mut cells = filled(alloc, tile.height as usize * stride, E::neutral_word())?;
+    combine_offsets::<E>(set, offsets, tile, stride, cells.as_mut_slice());
+    let made = trimmed(alloc, cells.as_slice(), stride, tile.width, tile.height)?;
+    Ok(made)
+}
+
+/// Whether the tile has places, and few enough to lay out an element around it.
+fn has_layout(tile: Rect) -> bool
+    ensures { IsTrue result → (0 < tile.width) × (0 < tile.height) × (tile.width ≤ 2 ^ 31) × (tile.height ≤ 2 ^ 31) }
+{
+    tile.width > 0 && tile.height > 0 && tile.width <= 2147483648 && tile.height <= 2147483648
+}
+
+/// The words of the tile, by horizontal runs where these can be laid out around it.
+fn extremum_words<E: WordExtremum>(
+    alloc: Global,
+    set: &Words,
+    offsets: &[Offset],
+    tile: Rect,
+) -> Result<Vec<u64>, NoMemory>
+    ensures packed { IfOk result (λ v. IsPacked tile.width tile.height v.items) }
+    ensures cells { IfOk result (λ v. (x y : ℕ) → x < tile.width → y < tile.height → bit_of v.items (y * (64 * stride_of tile.width) + x) ≡ fold E.merge (E.neutral_of 1) (seen_under (seen_at set.now) offsets.now (tile.x + x) (tile.y + y))) }
+{
+    let runs = runs_of(alloc, offsets)?;
+    if has_layout(tile) {
+        if let Some(extent) = extent_of(runs.as_slice()) {
+            if is_near(extent) {
+                let made = extremum_by_runs::<E>(alloc, set, runs.as_slice(), extent, tile)?;
+                return Ok(made);
+            }
+        }
+    }
+    let made = extremum_by_offsets::<E>(alloc, set, offsets, tile)?;
+    Ok(made)
+}
+
+impl Words {
+    /// The extremum of a neutral pixel and what the set has under the element, at each place of the tile: the erosion
+    /// for `Min`, the dilation for `Max`. Where the window has all that the frame has there, this is the extremum over
+    /// the frame.
+    pub fn extremum<E: WordExtremum>(
+        &self,
+        alloc: Global,
+        offsets: &[Offset],
+        tile: Rect,
+    ) -> Result<Words, NoMemory>
+        ensures frame_width { IfOk result (λ r. r.frame_width ≡ self.now.frame_width) }
+        ensures frame_height { IfOk result (λ r. r.frame_height ≡ self.now.frame_height) }
+        ensures place { IfOk result (λ r. r.place ≡ tile) }
+        ensures over_window { IfOk result (λ r. IsSlidingExtremum E.merge (E.neutral_of 1) (seen_at self.now) offsets.now tile (raster tile.width tile.height r.cells)) }
+        ensures over_frame { IfOk result (λ r. (f : Raster ℕ) → IsWindow self.now f offsets.now tile → IsSlidingExtremum E.merge (E.neutral_of 1) (cell_at f) offsets.now tile (raster tile.width tile.height r.cells)) }
+    {
+        let words = extremum_words::<E>(alloc, self, offsets, tile)?;
+        Ok(Words::new(self.frame_width(), self.frame_height(), tile, words))
+    }
+}

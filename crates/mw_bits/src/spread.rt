@@ -1,0 +1,56 @@
+//! A set in rows of so many words, with neutral pixels around it.
+ghost use Rattle.std.specs.Prelude.{◌≡◌, ℕ, ◌+◌, ◌*◌, ◌<◌, ◌≤◌, ◌^◌, negsuc, pos, ◌+ℤ◌, ◌≤ℤ◌, length, vec_len, IfOk};
+ghost use Rattle.mw_model.specs.Rasters.{raster, cell_at};
+ghost use Rattle.mw_lane.specs.Shifted.{merge_at};
+ghost use Rattle.mw_bits.specs.Packed.{bit_of};
+
+use crate::window_rows::combine_window_row;
+use crate::{WordExtremum, Words};
+use mw_line::filled;
+use mw_model::NoMemory;
+use std::alloc::Global;
+
+/// Merges into each of `high` rows of `wide` words what the set has there, from that column and row of it on.
+pub(crate) fn spread_rows<E: WordExtremum>(
+    set: &Words,
+    column: i64,
+    row: i64,
+    wide: usize,
+    high: usize,
+    out: &mut [u64],
+)
+    requires room { high * wide ≤ length out.old }
+    requires few { high ≤ 2 ^ 40 }
+    requires narrow { wide ≤ 2 ^ 40 }
+    requires low { negsuc (2 ^ 40) ≤ℤ column }
+    requires far { column ≤ℤ pos (2 ^ 40) }
+    requires near { row ≤ℤ pos (2 ^ 40) }
+    ensures { (x y : ℕ) → x < 64 * wide → y < high → bit_of out.new (y * (64 * wide) + x) ≡ merge_at E.merge (bit_of out.old (y * (64 * wide) + x)) (cell_at (raster set.now.place.width set.now.place.height set.now.cells) (column +ℤ pos x) (row +ℤ pos y)) }
+{
+    for y in 0..high {
+        let start = y * wide;
+        combine_window_row::<E>(set, column, row + y as i64, &mut out[start..start + wide]);
+    }
+}
+
+/// Neutral pixels in each of `high` rows of `wide` words, merged with what the set has there, and one word more.
+pub(crate) fn spread<E: WordExtremum>(
+    alloc: Global,
+    set: &Words,
+    column: i64,
+    row: i64,
+    wide: usize,
+    high: usize,
+) -> Result<Vec<u64>, NoMemory>
+    requires few { high ≤ 2 ^ 33 }
+    requires narrow { wide ≤ 2 ^ 27 }
+    requires low { negsuc (2 ^ 40) ≤ℤ column }
+    requires far { column ≤ℤ pos (2 ^ 40) }
+    requires near { row ≤ℤ pos (2 ^ 40) }
+    ensures size { IfOk result (λ v. vec_len v ≡ high * wide + 1) }
+    ensures cells { IfOk result (λ v. (x y : ℕ) → x < 64 * wide → y < high → bit_of v.items (y * (64 * wide) + x) ≡ merge_at E.merge (E.neutral_of 1) (cell_at (raster set.now.place.width set.now.place.height set.now.cells) (column +ℤ pos x) (row +ℤ pos y))) }
+{
+    let mut cells = filled(alloc, high * wide + 1, E::neutral_word())?;
+    spread_rows::<E>(set, column, row, wide, high, cells.as_mut_slice());
+    Ok(cells)
+}
