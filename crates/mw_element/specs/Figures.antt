@@ -1,5 +1,6 @@
 -- What an element shows, and what its parts compute.
-use Rattle.std.specs.Prelude.{ℕ, List, ◌≤ℤ◌, max, neg_ℤ}
+use Rattle.std.specs.Prelude.{ℕ, ℤ, pos, ◌+ℤ◌, ◌*ℤ◌, ◌<ℤ◌, ◌≤ℤ◌, neg_ℤ, Bool, List, [], ◌∷◌, reverse, max, if◌then◌else◌}
+use Rattle.std.specs.List.{AllByRecursion}
 use Rattle.mw_model.specs.declared.places.Offset.{Offset}
 use Rattle.mw_model.specs.declared.places.OffsetBox.{OffsetBox}
 use Rattle.mw_model.specs.declared.places.Reach.{Reach}
@@ -28,3 +29,16 @@ pub record LiesIn (inner outer : OffsetBox) : Type 0 where
   pub right : inner.x1 ≤ℤ outer.x1
   pub top : outer.y0 ≤ℤ inner.y0
   pub bottom : inner.y1 ≤ℤ outer.y1
+
+-- where an offset stands among others by rows: rows go before columns, which are fewer than 1024
+abbrev pub row_key : Offset → ℤ
+row_key b = (pos 1024 *ℤ b.dy) +ℤ b.dx
+
+-- each offset stands before all that follow it
+abbrev pub Rises : List Offset → Type 0
+Rises [] = Unit {0}
+Rises (b ∷ bs) = AllByRecursion (λ c. row_key b <ℤ row_key c) bs × Rises bs
+
+-- the offsets by rows, where those of a reflected element stand from the last to the first
+abbrev pub by_rows : Bool → List Offset → List Offset
+by_rows is_turned offsets = if is_turned then reverse offsets else offsets
