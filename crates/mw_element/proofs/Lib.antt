@@ -1,5 +1,6 @@
 pub mod Lists
 pub mod Rows
+pub mod Order
 pub mod Boxes
 pub mod Found
 pub mod Exclusive

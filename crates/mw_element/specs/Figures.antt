@@ -1,6 +1,6 @@
 -- What an element shows, and what its parts compute.
-use Rattle.std.specs.Prelude.{ℕ, List, ◌↔◌, ◌≤ℤ◌, max, neg_ℤ}
-use Rattle.std.specs.List.{Contains}
+use Rattle.std.specs.Prelude.{ℕ, ℤ, pos, ◌+ℤ◌, ◌*ℤ◌, ◌<ℤ◌, ◌≤ℤ◌, neg_ℤ, ◌↔◌, Bool, List, [], ◌∷◌, reverse, max, if◌then◌else◌}
+use Rattle.std.specs.List.{AllByRecursion, Contains}
 use Rattle.mw_model.specs.declared.places.Offset.{Offset}
 use Rattle.mw_model.specs.declared.places.OffsetBox.{OffsetBox}
 use Rattle.mw_model.specs.declared.places.Reach.{Reach}
@@ -41,3 +41,16 @@ pub record InBox (box : OffsetBox) (b : Offset) : Type 0 where
 -- the offsets are exactly those of the rectangle
 abbrev pub FillsBox : OffsetBox → List Offset → Type 0
 FillsBox box offsets = (b : Offset) → Contains offsets b ↔ InBox box b
+
+-- where an offset stands among others by rows: rows go before columns, which are fewer than 1024
+abbrev pub row_key : Offset → ℤ
+row_key b = (pos 1024 *ℤ b.dy) +ℤ b.dx
+
+-- each offset stands before all that follow it
+abbrev pub Rises : List Offset → Type 0
+Rises [] = Unit {0}
+Rises (b ∷ bs) = AllByRecursion (λ c. row_key b <ℤ row_key c) bs × Rises bs
+
+-- the offsets by rows, where those of a reflected element stand from the last to the first
+abbrev pub by_rows : Bool → List Offset → List Offset
+by_rows is_turned offsets = if is_turned then reverse offsets else offsets

@@ -13,11 +13,13 @@ pub struct Element {
     width: u32,
     height: u32,
     offsets: Vec<Offset>,
+    /// Whether the offsets stand by rows from the last to the first.
+    is_turned: bool,
 }
 
 impl Model for Element {
     ghost use Rattle.mw_model.specs.Elements.{Figure, IsFigure};
-    ghost use Rattle.mw_element.specs.Figures.{figure};
+    ghost use Rattle.mw_element.specs.Figures.{Rises, by_rows, figure};
 
     ghost Value = { Figure };
 
@@ -25,26 +27,28 @@ impl Model for Element {
 
     ghost use Rattle.std.specs.Prelude.{◌≤◌, length};
 
-    ghost invariant = { λ a. IsFigure (figure a.width a.height a.offsets.items) × (length a.offsets.items ≤ 65025) };
+    ghost invariant = { λ a. IsFigure (figure a.width a.height a.offsets.items) × (length a.offsets.items ≤ 65025) × Rises (by_rows a.is_turned a.offsets.items) };
 }
 
 impl Element {
     ghost use Rattle.std.specs.Prelude.{◌≡◌, ◌↔◌, ◌≤◌, length, IsTrue, IfOk, IfSome, IfNone};
     ghost use Rattle.mw_model.specs.declared.places.OffsetBox.{OffsetBox};
     ghost use Rattle.mw_model.specs.Elements.{IsFigure, holds_origin, overlaps, reach_of};
-    ghost use Rattle.mw_element.specs.Figures.{FillsBox, figure};
+    ghost use Rattle.mw_element.specs.Figures.{FillsBox, Rises, by_rows, figure};
     ghost use Rattle.mw_model.specs.Flat.{negated};
     ghost use Rattle.mw_model.specs.Places.{WithinReach};
 
-    pub(crate) fn new(width: u32, height: u32, offsets: Vec<Offset>) -> Element
+    pub(crate) fn new(width: u32, height: u32, offsets: Vec<Offset>, is_turned: bool) -> Element
         requires figure { IsFigure (figure width height offsets.items) }
         requires few { length offsets.items ≤ 65025 }
+        requires ordered { Rises (by_rows is_turned offsets.items) }
         ensures { result ≡ figure width height offsets.items }
     {
         Element {
             width,
             height,
             offsets,
+            is_turned,
         }
     }
 
@@ -90,7 +94,7 @@ impl Element {
         ensures { IfOk result (λ e. e ≡ figure self.now.width self.now.height (negated self.now.offsets)) }
     {
         let turned = offsets::turn(alloc, &self.offsets)?;
-        Ok(Element::new(self.width, self.height, turned))
+        Ok(Element::new(self.width, self.height, turned, !self.is_turned))
     }
 
     /// Whether the offset (0, 0) is one of them.
@@ -104,7 +108,12 @@ impl Element {
     pub fn overlaps(&self, other: &Element) -> bool
         ensures { result ≡ overlaps self.now.offsets other.now.offsets }
     {
-        offsets::overlap(&self.offsets, &other.offsets)
+        offsets::overlap(
+            &self.offsets,
+            self.is_turned,
+            &other.offsets,
+            other.is_turned,
+        )
     }
 
     /// Whether both are the same element: sides and offsets.

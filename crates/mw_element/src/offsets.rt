@@ -1,11 +1,11 @@
 //! Lists of offsets.
 
-ghost use Rattle.std.specs.Prelude.{◌≡◌, ◌↔◌, ◌+◌, ◌<◌, ◌≤◌, ◌+ℤ◌, ◌≤ℤ◌, pos, max, neg_ℤ, length, IsTrue, IfOk, IfSome, IfNone};
-ghost use Rattle.std.specs.List.{AllByRecursion, IsDistinct, list_any};
+ghost use Rattle.std.specs.Prelude.{◌≡◌, ◌↔◌, ◌+◌, ◌<◌, ◌≤◌, ◌+ℤ◌, ◌≤ℤ◌, pos, max, neg_ℤ, [], ◌∷◌, length, IsTrue, IfOk, IfSome, IfNone, MatchOption};
+ghost use Rattle.std.specs.List.{AllByRecursion, IsDistinct};
 ghost use Rattle.mw_model.specs.declared.places.OffsetBox.{OffsetBox};
 ghost use Rattle.mw_model.specs.Elements.{IsNear, holds_origin, overlaps, reach_of, same_offset};
 ghost use Rattle.mw_model.specs.Places.{nonnegative, WithinReach};
-ghost use Rattle.mw_element.specs.Figures.{FillsBox, InBox, LiesIn, grown, turned};
+ghost use Rattle.mw_element.specs.Figures.{FillsBox, InBox, LiesIn, Rises, by_rows, grown, row_key, turned};
 ghost use Rattle.mw_model.specs.Flat.{negated};
 
 use mw_model::{NoMemory, Offset, OffsetBox, Reach};
@@ -59,16 +59,59 @@ pub(crate) fn same(first: &[Offset], second: &[Offset]) -> bool
     true
 }
 
-fn has(offsets: &[Offset], a: Offset) -> bool
-    ensures { result ≡ list_any (same_offset a) offsets.now }
+/// Where an offset stands among others by rows: the key of a later one is greater.
+fn row_key(b: Offset) -> i32
+    ensures { result ≡ row_key b }
 {
-    offsets.iter().any(|b| is_same(a, *b))
+    1024 * i32::from(b.dy) + i32::from(b.dx)
 }
 
-pub(crate) fn overlap(first: &[Offset], second: &[Offset]) -> bool
+/// The first offset by rows, and the others.
+fn first_by_rows(offsets: &[Offset], is_turned: bool) -> Option<(Offset, &[Offset])>
+    ensures { MatchOption result (by_rows is_turned offsets.now ≡ []) (λ x. by_rows is_turned offsets.now ≡ x.0 ∷ by_rows is_turned x.1.now) }
+{
+    if is_turned {
+        match offsets {
+            [rest @ .., b] => Some((*b, rest)),
+            [] => None,
+        }
+    } else {
+        match offsets {
+            [b, rest @ ..] => Some((*b, rest)),
+            [] => None,
+        }
+    }
+}
+
+/// Whether two lists share an offset: one pass over both, by rows.
+pub(crate) fn overlap(
+    first: &[Offset],
+    is_first_turned: bool,
+    second: &[Offset],
+    is_second_turned: bool,
+) -> bool
+    requires first { Rises (by_rows is_first_turned first.now) }
+    requires second { Rises (by_rows is_second_turned second.now) }
     ensures { result ≡ overlaps first.now second.now }
 {
-    first.iter().any(|a| has(second, *a))
+    let mut first_rest = first;
+    let mut second_rest = second;
+    'offsets: loop {
+        let Some((a, after_a)) = first_by_rows(first_rest, is_first_turned) else {
+            return false;
+        };
+        let Some((b, after_b)) = first_by_rows(second_rest, is_second_turned) else {
+            return false;
+        };
+        if is_same(a, b) {
+            return true;
+        }
+        if row_key(a) < row_key(b) {
+            first_rest = after_a;
+        } else {
+            second_rest = after_b;
+        }
+    }
 }
 
 /// A distance in the direction that counts, or 0.

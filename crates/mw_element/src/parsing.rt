@@ -98,7 +98,7 @@ impl Element {
             return Err(ElementFault::NoMemory);
         };
         match offsets(alloc, &bitmap, ox, oy, facts.ones as usize) {
-            Ok(found) => Ok(Element::new(facts.width, facts.height, found)),
+            Ok(found) => Ok(Element::new(facts.width, facts.height, found, false)),
             Err(NoMemory) => Err(ElementFault::NoMemory),
         }
     }

@@ -68,6 +68,11 @@ fn origins_reach_and_overlap(rt: HostRuntime) -> Result<(), Fail> {
             down: 0
         }
     );
+    assert!(rt; turned.overlaps(&bar));
+    assert!(rt; bar.overlaps(&turned));
+    assert!(rt; !turned.overlaps(&right));
+    assert!(rt; !right.overlaps(&turned));
+    assert!(rt; turned.overlaps(&right.reflect(rt.alloc())?));
     assert!(rt; !turned.same(&bar));
     assert!(rt; turned.reflect(rt.alloc())?.same(&bar));
     Ok(())

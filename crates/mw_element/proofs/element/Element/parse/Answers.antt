@@ -1,6 +1,9 @@
-use Rattle.mw_model.specs.Elements.{no_bitmap}
+use Rattle.std.proofs.Common.{subst, sym}
+use Rattle.mw_model.specs.Elements.{element_side, no_bitmap}
 use Rattle.mw_netpbm.specs.Faults.{bitmap_code_of, facts_of}
-use Rattle.mw_element.proofs.Found.{no_element, no_place, no_ones, origin_refused, empty_told, facts_same, told, told_element, made_is_figure, made_element, made_only}
+use Rattle.mw_element.specs.Figures.{Rises}
+use Rattle.mw_element.proofs.Order.{offsets_rise}
+use Rattle.mw_element.proofs.Found.{bitmap_sides, no_element, no_place, no_ones, origin_refused, empty_told, facts_same, told, told_element, made_is_figure, made_element, made_only}
 use Rattle.mw_element.proofs.Few.{few_offsets}
 use Rattle.mw_element.proofs.element.Element.parse.Goals as goal
 
@@ -67,3 +70,9 @@ returns-clause-memory c =
 pub new-requires-clause-few : goal.new-requires-clause-few
 new-requires-clause-few c =
     few_offsets c.args.bytes.now c.in-Ok-read_plain_bitmap.bitmap c.args.ox c.args.oy c.in-Ok-offsets.found.items c.in-Ok-read_plain_bitmap.ensures.found c.in-Ok-offsets.ensures
+
+pub new-requires-clause-ordered : goal.new-requires-clause-ordered
+new-requires-clause-ordered c =
+    let f = c.in-Ok-read_plain_bitmap.bitmap in
+    let sides = bitmap_sides c.args.bytes.now element_side f c.in-Ok-read_plain_bitmap.ensures.found in
+    subst Rises (sym c.in-Ok-offsets.ensures) (offsets_rise f c.args.ox c.args.oy sides.2)
