@@ -21,7 +21,7 @@ pub use bitmap::{BitmapFacts, read_plain_bitmap, scan_plain_bitmap};
 pub use fault::{BitmapFault, ReadFault};
 pub use mw_model::NoMemory;
 pub use reader::read;
-pub use writer::write;
+pub use writer::{Text, parts, write};
 
 #[cfg(test)]
 mod tests;

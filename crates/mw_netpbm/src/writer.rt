@@ -40,13 +40,21 @@ fn push_words(out: &mut Vec<u8>, samples: &[u16]) -> Result<(), AllocError>
     push_rest(out, rest)
 }
 
-fn grey8(alloc: Global, plane: &Plane<u8>, maxval: u8) -> Result<Vec<u8>, AllocError>
-    ensures { IfOk result (λ v. v.items ≡ text_of (grey_of plane.now maxval)) }
+/// The text of an image in two parts: what was made of it, and behind that what lies in the image as it is written.
+#[derive(Drop)]
+pub struct Text<'a> {
+    pub front: Vec<u8>,
+    pub rest: &'a [u8],
+}
+
+fn grey8(alloc: Global, plane: &Plane<u8>, maxval: u8) -> Result<Text<'_>, AllocError>
+    ensures { IfOk result (λ t. t.front.items ++ t.rest.now ≡ text_of (grey_of plane.now maxval)) }
 {
     let head = grey_head(alloc, plane.width(), plane.height(), u16::from(maxval))?;
-    let mut out = head.into_bytes();
-    out.extend_from_slice(plane.samples())?;
-    Ok(out)
+    Ok(Text {
+        front: head.into_bytes(),
+        rest: plane.samples(),
+    })
 }
 
 fn grey16(alloc: Global, plane: &Plane<u16>, maxval: u16) -> Result<Vec<u8>, AllocError>
@@ -150,20 +158,36 @@ fn bits(alloc: Global, plane: &Plane<Bit>) -> Result<Vec<u8>, AllocError>
     Ok(out)
 }
 
-fn text(alloc: Global, image: &Image) -> Result<Vec<u8>, AllocError>
-    ensures { IfOk result (λ v. v.items ≡ text_of image.now) }
+fn all_made(front: Vec<u8>) -> Text<'static>
+    ensures { result.front.items ++ result.rest.now ≡ front.items }
+{
+    Text { front, rest: &[] }
+}
+
+fn made(alloc: Global, image: &Image) -> Result<Text<'_>, AllocError>
+    ensures { IfOk result (λ t. t.front.items ++ t.rest.now ≡ text_of image.now) }
 {
     match image.view() {
-        View::Bits(plane) => bits(alloc, plane),
+        View::Bits(plane) => Ok(all_made(bits(alloc, plane)?)),
         View::Grey8(plane, maxval) => grey8(alloc, plane, maxval),
-        View::Grey16(plane, maxval) => grey16(alloc, plane, maxval),
+        View::Grey16(plane, maxval) => Ok(all_made(grey16(alloc, plane, maxval)?)),
     }
+}
+
+/// The one text of an image in two parts. Samples of one byte are not copied.
+pub fn parts(alloc: Global, image: &Image) -> Result<Text<'_>, NoMemory>
+    ensures { IfOk result (λ t. t.front.items ++ t.rest.now ≡ text_of image.now) }
+{
+    let text = made(alloc, image)?;
+    Ok(text)
 }
 
 /// The one text of an image.
 pub fn write(alloc: Global, image: &Image) -> Result<Vec<u8>, NoMemory>
     ensures { IfOk result (λ v. v.items ≡ text_of image.now) }
 {
-    let bytes = text(alloc, image)?;
+    let Text { front, rest } = parts(alloc, image)?;
+    let mut bytes = front;
+    bytes.extend_from_slice(rest)?;
     Ok(bytes)
 }

@@ -143,8 +143,8 @@ fn say_plate<W: Write>(
     ensures kept { OnOk result (sink.new.failed ≡ sink.old.failed) }
     ensures flag { OnErr result ((result ≡ Err SessionFault.Write) × (sink.new.failed ≡ true)) }
 {
-    match mw_netpbm::write(alloc, plate.image()) {
-        Ok(bytes) => say_image(sink, t, &bytes),
+    match mw_netpbm::parts(alloc, plate.image()) {
+        Ok(text) => say_image(sink, t, &text.front, text.rest),
         Err(NoMemory) => say(sink, Reply::Refused(Code::Memory)),
     }
 }

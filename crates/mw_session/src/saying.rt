@@ -20,13 +20,18 @@ pub fn say<W: Write>(sink: &mut Sink<W>, reply: Reply) -> Result<(), SessionFaul
     send(sink, reply_line(reply).as_bytes())
 }
 
-/// Writes the reply that hands out an image, and the bytes of the image.
-pub fn say_image<W: Write>(sink: &mut Sink<W>, t: u32, bytes: &[u8]) -> Result<(), SessionFault>
-    ensures wrote { Wrote (W.contents sink.old.inner) (W.contents sink.new.inner) (handed_text t (ImageBytes bytes.now)) result }
+/// Writes the reply that hands out an image, and the bytes of the image, given in two parts.
+pub fn say_image<W: Write>(
+    sink: &mut Sink<W>,
+    t: u32,
+    front: &[u8],
+    rest: &[u8],
+) -> Result<(), SessionFault>
+    ensures wrote { Wrote (W.contents sink.old.inner) (W.contents sink.new.inner) (handed_text t (ImageBytes (front.now ++ rest.now))) result }
     ensures kept { OnOk result (sink.new.failed ≡ sink.old.failed) }
     ensures flag { OnErr result ((result ≡ Err SessionFault.Write) × (sink.new.failed ≡ true)) }
 {
-    send_both(sink, &image_line(t, bytes.len()), bytes)
+    send_in_parts(sink, &image_line(t, front.len() + rest.len()), front, rest)
 }
 
 /// Writes the reply that hands out a curve, and the text of the curve.
@@ -35,21 +40,33 @@ pub fn say_curve<W: Write>(sink: &mut Sink<W>, t: u32, text: &[u8]) -> Result<()
     ensures kept { OnOk result (sink.new.failed ≡ sink.old.failed) }
     ensures flag { OnErr result ((result ≡ Err SessionFault.Write) × (sink.new.failed ≡ true)) }
 {
-    send_both(sink, &curve_line(t, text.len()), text)
+    send_both(sink, curve_line(t, text.len()).as_bytes(), text)
 }
 
-fn send_both<W: Write>(
+fn send_both<W: Write>(sink: &mut Sink<W>, first: &[u8], second: &[u8]) -> Result<(), SessionFault>
+    ensures wrote { Wrote (W.contents sink.old.inner) (W.contents sink.new.inner) (first.now ++ second.now) result }
+    ensures kept { OnOk result (sink.new.failed ≡ sink.old.failed) }
+    ensures flag { OnErr result ((result ≡ Err SessionFault.Write) × (sink.new.failed ≡ true)) }
+{
+    match send(sink, first) {
+        Err(fault) => Err(fault),
+        Ok(()) => send(sink, second),
+    }
+}
+
+fn send_in_parts<W: Write>(
     sink: &mut Sink<W>,
     line: &ReplyLine,
-    bytes: &[u8],
+    front: &[u8],
+    rest: &[u8],
 ) -> Result<(), SessionFault>
-    ensures wrote { Wrote (W.contents sink.old.inner) (W.contents sink.new.inner) (line.now ++ bytes.now) result }
+    ensures wrote { Wrote (W.contents sink.old.inner) (W.contents sink.new.inner) (line.now ++ (front.now ++ rest.now)) result }
     ensures kept { OnOk result (sink.new.failed ≡ sink.old.failed) }
     ensures flag { OnErr result ((result ≡ Err SessionFault.Write) × (sink.new.failed ≡ true)) }
 {
     match send(sink, line.as_bytes()) {
         Err(fault) => Err(fault),
-        Ok(()) => send(sink, bytes),
+        Ok(()) => send_both(sink, front, rest),
     }
 }
 

@@ -148,7 +148,7 @@ fn texts_of_faults(rt: HostRuntime) -> Result<(), Fail> {
 fn replies_one_after_another(rt: HostRuntime) -> Result<(), Fail> {
     let mut sink = Sink::new(Vec::new(rt.alloc()));
     say(&mut sink, Reply::Accepted(3)).map_err(|_| "write")?;
-    say_image(&mut sink, 2, b"P5\n1 1\n9\n\x07").map_err(|_| "write")?;
+    say_image(&mut sink, 2, b"P5\n1 1\n9\n", b"\x07").map_err(|_| "write")?;
     say_curve(&mut sink, 4, b"V 0 4\nR 4\n").map_err(|_| "write")?;
     assert_eq!(rt; end_by(&mut sink, Code::Cut), Ok(End::Ended(Code::Cut)));
     let written = sink.into_inner();
