@@ -57,38 +57,6 @@ fn raw_files(rt: HostRuntime) -> Result<(), Fail> {
     Ok(())
 }
 
-/// A file: the header, and so many bytes of a raster that tell each place from its neighbours.
-fn counted(rt: &HostRuntime, head: &str, count: u8) -> Result<Vec<u8>, Fail> {
-    let mut file = Vec::from_slice(rt.alloc(), head.as_bytes())?;
-    for i in 0..count {
-        file.push(i.wrapping_mul(91).wrapping_add(7))?;
-    }
-    Ok(file)
-}
-
-// Rasters of more than one block of vectors, with something left over. The last row of 131 pixels ends in three.
-#[test]
-fn whole_blocks(rt: HostRuntime) -> Result<(), Fail> {
-    let words = counted(&rt, "P5\n35 2\n65535\n", 140)?;
-    assert_eq!(rt; rewritten(&rt, &words)?.as_slice(), words.as_slice());
-    let image = read(rt.alloc(), &words).ok().ok_or("the bytes are a file")?;
-    assert_eq!(rt; image.sample(0, 0), 7 * 256 + 98);
-    assert_eq!(rt; image.sample(33, 1), 95 * 256 + 186);
-    assert_eq!(rt; refusal(&rt, &counted(&rt, "P5\n35 2\n65369\n", 140)?), 25);
-    assert_eq!(rt; refusal(&rt, &counted(&rt, "P5\n35 2\n65370\n", 140)?), 0);
-    let mut bits = counted(&rt, "P4\n131 2\n", 34)?;
-    let seen = read(rt.alloc(), &bits).ok().ok_or("the bytes are a file")?;
-    assert_eq!(rt; seen.sample(65, 0), 1);
-    assert_eq!(rt; seen.sample(66, 0), 0);
-    assert_eq!(rt; seen.sample(129, 1), 1);
-    assert_eq!(rt; seen.sample(130, 1), 0);
-    let last = bits.len() - 1;
-    bits[last] = bits[last] / 32 * 32;
-    bits[last - 17] = bits[last - 17] / 32 * 32;
-    assert_eq!(rt; rewritten(&rt, &bits)?.as_slice(), bits.as_slice());
-    Ok(())
-}
-
 #[test]
 fn refusals_of_headers(rt: HostRuntime) {
     assert_eq!(rt; refusal(&rt, b""), 20);
