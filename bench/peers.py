@@ -1,7 +1,10 @@
-"""Times OpenCV on what bench_kernels measures: erosions and a median of 4096 x 4096 noise, in one thread.
+"""Times OpenCV and Leptonica on what bench_kernels measures: erosions and a median of 4096 x 4096 noise, in one thread.
 
-Run it with a Python that has cv2 (Debian: python3-opencv). Each line has the best of five runs.
+Run it with a Python that has cv2 (Debian: python3-opencv), beside Leptonica's library (Debian: libleptonica-dev), which
+erodes sets. Each line has the best of five runs.
 """
+import ctypes
+import ctypes.util
 import sys
 import time
 
@@ -40,6 +43,51 @@ def show(name, run):
     print(f"| {name:<27} | {best(run):8.1f} |", flush=True)
 
 
+def leptonica():
+    """Leptonica's library with the types of what is called, or None where it is not installed."""
+    name = ctypes.util.find_library("lept") or ctypes.util.find_library("leptonica")
+    if name is None:
+        return None
+    library = ctypes.CDLL(name)
+    pointer, number = ctypes.c_void_p, ctypes.c_int
+    for function, result, arguments in (
+        ("pixCreate", pointer, [number] * 3),
+        ("pixGetData", pointer, [pointer]),
+        ("pixGetWpl", number, [pointer]),
+        ("pixErode", pointer, [pointer] * 3),
+        ("pixDestroy", None, [ctypes.POINTER(pointer)]),
+        ("selCreate", pointer, [number, number, ctypes.c_char_p]),
+        ("selSetOrigin", number, [pointer, number, number]),
+        ("selSetElement", number, [pointer] + [number] * 3),
+    ):
+        getattr(library, function).restype = result
+        getattr(library, function).argtypes = arguments
+    return library
+
+
+def erode_set(library, pix, sel):
+    made = ctypes.c_void_p(library.pixErode(None, pix, sel))
+    library.pixDestroy(ctypes.byref(made))
+
+
+def show_sets(rng):
+    """Erosions of a set by discs."""
+    library = leptonica()
+    if library is None:
+        print("no times of Leptonica (Debian: apt install libleptonica-dev)", file=sys.stderr)
+        return
+    pix = library.pixCreate(SIDE, SIDE, 1)
+    words = rng.integers(0, 2**32, SIDE * library.pixGetWpl(pix), dtype=numpy.uint32)
+    ctypes.memmove(library.pixGetData(pix), words.ctypes.data, words.nbytes)
+    for across in (5, 15, 31):
+        sel = library.selCreate(across, across, b"disc")
+        library.selSetOrigin(sel, across // 2, across // 2)
+        for y, row in enumerate(disc(across)):
+            for x, hit in enumerate(row):
+                library.selSetElement(sel, y, x, int(hit))
+        show(f"disc of {across}, a set", lambda: erode_set(library, pix, sel))
+
+
 def main():
     cv2.setNumThreads(1)
     rng = numpy.random.default_rng(1)
@@ -54,6 +102,8 @@ def main():
             show(f"disc of {across}, {bits} bits", lambda: cv2.erode(image, element))
     image = rng.integers(0, 256, (SIDE, SIDE)).astype(numpy.uint8)
     show("median 15 x 15, 8 bits", lambda: cv2.medianBlur(image, 15))
+    print(f"| {'Leptonica':<27} | {'ms':>8} |")
+    show_sets(rng)
 
 
 main()
