@@ -13,8 +13,6 @@ mod images;
 #[cfg(test)]
 mod kernels;
 #[cfg(test)]
-mod machine;
-#[cfg(test)]
 mod plain_rows;
 #[cfg(test)]
 mod ranks;
