@@ -15,6 +15,4 @@ mod kernels;
 #[cfg(test)]
 mod plain_rows;
 #[cfg(test)]
-mod ranks;
-#[cfg(test)]
 mod seams;
