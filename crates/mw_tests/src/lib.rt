@@ -15,8 +15,6 @@ mod kernels;
 #[cfg(test)]
 mod plain_rows;
 #[cfg(test)]
-mod ranks;
-#[cfg(test)]
 mod seams;
 #[cfg(test)]
 mod served;
