@@ -34,7 +34,7 @@ use Rattle.mw_core.specs.Changes.{KeepsWork}
 use Rattle.mw_core.specs.Events.{Serves, WorkStays}
 use Rattle.mw_core.specs.Faults.{IsFault}
 use Rattle.mw_core.specs.Planned.{step_of, IsPlanned}
-use Rattle.mw_core.specs.Served.{is_served}
+use Rattle.mw_model.specs.Lines.{is_served}
 use Rattle.mw_core.specs.Work.{one_task}
 use Rattle.mw_core.proofs.AgreeLemmas.{agrees-push, agrees-released}
 use Rattle.mw_core.proofs.GivenLemmas.{ElementsGiven, elements-given}

@@ -1,6 +1,5 @@
 -- An element comes from a payload, and is never pending.
-use Rattle.std.proofs.Common.{◌≡◌, ◌≢◌, ℕ, ◌+◌, ◌<◌, Bool, true, false, ◌⊎◌, inl, inr, List, [], ◌∷◌, ◌++◌, length, map, set, Option, Some, None, refl, sym, ap, ◌∙◌, subst, arith, length-append}
-use Rattle.std.specs.Prelude.{option_map}
+use Rattle.std.proofs.Common.{◌≡◌, ◌≢◌, ℕ, ◌+◌, ◌<◌, true, false, inl, inr, List, [], ◌∷◌, length, map, set, Option, Some, None, refl, sym, ap, ◌∙◌, subst, arith, length-append}
 use Rattle.std.proofs.lemmas.List.{get_or-set_same, get_or-set_other, set_past}
 use Rattle.std.proofs.lemmas.Bool.{cases_lt, cases_eq}
 use Rattle.mw_model.specs.declared.names.Name.{Name}
@@ -21,7 +20,7 @@ use Rattle.mw_model.specs.declared.calls.Call.{Call}
 use Rattle.mw_model.specs.declared.calls.Call.TheVariants as call
 use Rattle.mw_model.specs.declared.calls.LogItem.{LogItem}
 use Rattle.mw_model.specs.declared.calls.LogItem.TheVariants as item
-use Rattle.mw_model.specs.Refusals.{Table, Wanted, AnImage, AnElement, ticket, ticket_of, no_submission, outcome_at, submission_at, shape_at, is_pending, is_image, is_element, first_of, name_taken, no_room, wanted_case, cancel_case, inputs_wanted, flat_inputs, gran_inputs, refusal}
+use Rattle.mw_model.specs.Refusals.{Table, Wanted, AnImage, AnElement, ticket, ticket_of, no_submission, outcome_at, submission_at, shape_at, is_pending, is_image, is_element, first_of, name_taken, no_room, wanted_case, cancel_case, inputs_wanted, refusal}
 use Rattle.mw_model.specs.Machine.{Machine, Step, Run, start_state, with_entry, killed, given_submission, run_submission, changed, unless_refused, shape_named, shape_of_result, as_bits, as_grey}
 use Rattle.mw_laws.specs.MachineLaws.{IsSound}
 use Rattle.mw_laws.proofs.RunCascade.{is_killed}
@@ -60,7 +59,7 @@ named-image w f more h =
 plain : (w : Table) (f : Name) (more : List Wanted) → first_of (map (wanted_case w) (AnImage f ∷ more)) ≡ None → is_element (shape_named w f) ≡ false
 plain w f more h = image-no-element (shape_named w f) (named-image w f more h)
 
-flat-no-element : (w : Table) (o : FlatOp) → first_of (map (wanted_case w) (flat_inputs o)) ≡ None → is_element (shape_of_result w (op.Flat o)) ≡ false
+flat-no-element : (w : Table) (o : FlatOp) → first_of (map (wanted_case w) (inputs_wanted (op.Flat o))) ≡ None → is_element (shape_of_result w (op.Flat o)) ≡ false
 flat-no-element w (flat.Erode f b) h = plain w f (AnElement b ∷ []) h
 flat-no-element w (flat.Dilate f b) h = plain w f (AnElement b ∷ []) h
 flat-no-element w (flat.Opening f b) h = plain w f (AnElement b ∷ []) h
@@ -72,7 +71,7 @@ flat-no-element w (flat.Rank f b k) h = plain w f (AnElement b ∷ []) h
 flat-no-element w (flat.Threshold f k) h = bits-no-element (shape_named w f) (named-image w f [] h)
 flat-no-element w (flat.HitMiss f hit miss) h = plain w f (AnElement hit ∷ AnElement miss ∷ []) h
 
-gran-no-element : (w : Table) (o : GranOp) → first_of (map (wanted_case w) (gran_inputs o)) ≡ None → is_element (shape_of_result w (op.Gran o)) ≡ false
+gran-no-element : (w : Table) (o : GranOp) → first_of (map (wanted_case w) (inputs_wanted (op.Gran o))) ≡ None → is_element (shape_of_result w (op.Gran o)) ≡ false
 gran-no-element w (gran.Skeleton f b levels) h = grey-no-element (levels + 1) (shape_named w f) (named-image w f (AnElement b ∷ []) h)
 gran-no-element w (gran.Restore f b levels) h = bits-no-element (shape_named w f) (named-image w f (AnElement b ∷ []) h)
 gran-no-element w (gran.Spectrum f b levels) h = refl

@@ -1,5 +1,5 @@
 -- The shapes of a machine's table are within the limits.
-use Rattle.std.proofs.Common.{◌≡◌, ℕ, ◌+◌, ◌<◌, ◌≤◌, ◌⊎◌, inl, inr, List, [], ◌∷◌, ◌++◌, length, map, Option, Some, None, refl, sym, ap, ◌∙◌, subst, arith, length-append}
+use Rattle.std.proofs.Common.{◌≡◌, ℕ, ◌+◌, ◌<◌, ◌≤◌, inl, inr, List, [], ◌∷◌, ◌++◌, length, map, Option, Some, None, refl, sym, subst, arith, length-append}
 use Rattle.mw_model.specs.declared.names.Name.{Name}
 use Rattle.mw_model.specs.declared.shapes.Shape.{Shape}
 use Rattle.mw_model.specs.declared.shapes.Shape.TheVariants as shape
@@ -17,8 +17,8 @@ use Rattle.mw_model.specs.declared.calls.Call.TheVariants as call
 use Rattle.mw_model.specs.declared.calls.LogItem.{LogItem}
 use Rattle.mw_model.specs.declared.calls.LogItem.TheVariants as item
 use Rattle.mw_model.specs.Values.{Value}
-use Rattle.mw_model.specs.Refusals.{Table, Wanted, AnImage, AnElement, no_submission, shape_at, submission_at, is_image, first_of, name_taken, no_room, fault_of, wanted_case, inputs_wanted, flat_inputs, gran_inputs, refusal}
-use Rattle.mw_model.specs.Machine.{Machine, Step, Run, IsWith, start_state, with_entry, killed, given_submission, run_submission, changed, unless_refused, shape_named, shape_of_result, as_bits, as_grey}
+use Rattle.mw_model.specs.Refusals.{Table, Wanted, AnImage, AnElement, no_submission, shape_at, is_image, first_of, name_taken, no_room, fault_of, wanted_case, inputs_wanted, refusal}
+use Rattle.mw_model.specs.Machine.{Machine, Step, Run, IsWith, start_state, killed, given_submission, run_submission, changed, unless_refused, shape_named, shape_of_result, as_bits, as_grey}
 use Rattle.mw_laws.specs.MachineLaws.{IsSound}
 use Rattle.mw_laws.proofs.RunTables.{push_front, push_last, last_or_before, first_none, input_found, ticket_is}
 use Rattle.mw_laws.proofs.RunStates.{step_sound, start_sound}
@@ -48,7 +48,7 @@ named-fits w f more fit h =
     let P : ℕ → Type 0 = λ t. FitsLimits (shape_at w.submissions t) in
     subst P (sym (ticket_is w f found.0 found.1.found)) (fit found.0 found.1.within)
 
-flat-fits : (w : Table) (o : FlatOp) → ShapesFit w → first_of (map (wanted_case w) (flat_inputs o)) ≡ None → FitsLimits (shape_of_result w (op.Flat o))
+flat-fits : (w : Table) (o : FlatOp) → ShapesFit w → first_of (map (wanted_case w) (inputs_wanted (op.Flat o))) ≡ None → FitsLimits (shape_of_result w (op.Flat o))
 flat-fits w (flat.Erode f b) fit h = named-fits w f (AnElement b ∷ []) fit h
 flat-fits w (flat.Dilate f b) fit h = named-fits w f (AnElement b ∷ []) fit h
 flat-fits w (flat.Opening f b) fit h = named-fits w f (AnElement b ∷ []) fit h
@@ -60,7 +60,7 @@ flat-fits w (flat.Rank f b k) fit h = named-fits w f (AnElement b ∷ []) fit h
 flat-fits w (flat.Threshold f k) fit h = bits-fit (shape_named w f) (named-fits w f [] fit h)
 flat-fits w (flat.HitMiss f hit miss) fit h = named-fits w f (AnElement hit ∷ AnElement miss ∷ []) fit h
 
-gran-fits : (w : Table) (o : GranOp) → ShapesFit w → first_of (map (wanted_case w) (gran_inputs o)) ≡ None → FitsLimits (shape_of_result w (op.Gran o))
+gran-fits : (w : Table) (o : GranOp) → ShapesFit w → first_of (map (wanted_case w) (inputs_wanted (op.Gran o))) ≡ None → FitsLimits (shape_of_result w (op.Gran o))
 gran-fits w (gran.Skeleton f b levels) fit h = grey-fit (levels + 1) (shape_named w f) (named-fits w f (AnElement b ∷ []) fit h)
 gran-fits w (gran.Restore f b levels) fit h = bits-fit (shape_named w f) (named-fits w f (AnElement b ∷ []) fit h)
 gran-fits w (gran.Spectrum f b levels) fit h = omega arith

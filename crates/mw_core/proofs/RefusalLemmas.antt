@@ -1,5 +1,5 @@
 -- A refusal may look at the elements that are kept in place of the payloads.
-use Rattle.std.proofs.Common.{◌≡◌, ℕ, ◌<◌, Bool, true, false, List, [], ◌∷◌, length, map, Option, Some, None, IsSome, refl, sym, ap, ◌∙◌, not}
+use Rattle.std.proofs.Common.{◌≡◌, ℕ, ◌<◌, true, false, List, [], ◌∷◌, length, map, Option, Some, None, IsSome, refl, sym, ap, ◌∙◌, not}
 use Rattle.std.specs.Prelude.{unwrap_or}
 use Rattle.mw_model.specs.declared.names.Name.{Name}
 use Rattle.mw_model.specs.declared.places.Offset.{Offset}
@@ -9,7 +9,6 @@ use Rattle.mw_model.specs.declared.operations.FlatOp.{FlatOp}
 use Rattle.mw_model.specs.declared.operations.FlatOp.TheVariants as flat
 use Rattle.mw_model.specs.declared.operations.GranOp.{GranOp}
 use Rattle.mw_model.specs.declared.operations.GranOp.TheVariants as gran
-use Rattle.mw_model.specs.declared.submissions.Command.TheVariants as command
 use Rattle.mw_model.specs.declared.codes.Code.{Code}
 use Rattle.mw_model.specs.declared.codes.Code.TheVariants as code
 use Rattle.mw_model.specs.declared.calls.Outcome.{Outcome}
@@ -18,11 +17,11 @@ use Rattle.mw_model.specs.declared.calls.Call.{Call}
 use Rattle.mw_model.specs.declared.calls.Call.TheVariants as call
 use Rattle.mw_model.specs.Elements.{holds_origin, overlaps}
 use Rattle.mw_model.specs.Values.{Value, value_at, value_of, offsets_of}
-use Rattle.mw_model.specs.Refusals.{Table, AnImage, AnElement, ticket, ticket_of, outcome_at, submission_at, shape_at, is_pending, is_dead, is_released, is_element, first_of, when, name_taken, no_room, wanted_case, inputs_wanted, offsets_at, binary_case, param_case, flat_inputs, gran_inputs, flat_cases, gran_cases, op_cases, refusal}
+use Rattle.mw_model.specs.Refusals.{Table, AnImage, AnElement, ticket, ticket_of, outcome_at, shape_at, is_pending, is_dead, is_released, is_element, first_of, when, name_taken, no_room, wanted_case, inputs_wanted, offsets_at, binary_case, param_case, op_cases, refusal}
 use Rattle.mw_model.specs.Machine.{Machine, values}
 use Rattle.mw_model.specs.Stands.{Agrees, inputs_of}
 use Rattle.mw_laws.specs.MachineLaws.{IsSound}
-use Rattle.mw_laws.proofs.RunTables.{first_none, is_known, input_found, ticket_is, ticket_within, when_not, when_so}
+use Rattle.mw_laws.proofs.RunTables.{first_none, is_known, ticket_is, ticket_within, when_not, when_so}
 use Rattle.mw_core.proofs.ValueLemmas.{value-is}
 use Rattle.mw_core.proofs.GivenLemmas.{ElementsGiven}
 
@@ -91,7 +90,7 @@ second : (w : Table) (f b : Name) → first_of (map (wanted_case w) (AnImage f �
 second w f b h = (first_none (wanted_case w (AnElement b)) [] (first_none (wanted_case w (AnImage f)) _ h).1).0
 
 flat-same : (kept : List (Option Value)) (m : Machine) (o : FlatOp) → IsSound m → ElementsGiven m.table → Agrees kept m
-    → first_of (map (wanted_case m.table) (flat_inputs o)) ≡ None → flat_cases m.table kept o ≡ flat_cases m.table m.payloads o
+    → first_of (map (wanted_case m.table) (inputs_wanted (op.Flat o))) ≡ None → op_cases m.table kept (op.Flat o) ≡ op_cases m.table m.payloads (op.Flat o)
 flat-same kept m (flat.Erode f b) s given a h = refl
 flat-same kept m (flat.Dilate f b) s given a h = refl
 flat-same kept m (flat.Opening f b) s given a h = refl
@@ -114,7 +113,7 @@ flat-same kept m (flat.HitMiss f hit miss) s given a h =
     ∙ ap (λ (bs : List Offset). when (overlaps (offsets_at w m.payloads hit) bs) code.Overlap ∷ []) e
 
 gran-same : (kept : List (Option Value)) (m : Machine) (o : GranOp) → IsSound m → ElementsGiven m.table → Agrees kept m
-    → first_of (map (wanted_case m.table) (gran_inputs o)) ≡ None → gran_cases m.table kept o ≡ gran_cases m.table m.payloads o
+    → first_of (map (wanted_case m.table) (inputs_wanted (op.Gran o))) ≡ None → op_cases m.table kept (op.Gran o) ≡ op_cases m.table m.payloads (op.Gran o)
 gran-same kept m (gran.Skeleton f b levels) s given a h =
     let e = offsets-same kept m b s given a (second m.table f b h) in
     ap (λ (bs : List Offset). binary_case m.table f ∷ when (not (holds_origin bs)) code.NoOrigin ∷ param_case 1 254 levels ∷ []) e

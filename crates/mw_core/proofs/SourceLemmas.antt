@@ -1,5 +1,5 @@
 -- What the core keeps of the inputs of a task is what they are by the definitions.
-use Rattle.std.proofs.Common.{◌≡◌, ℕ, zero, suc, ◌+◌, ◌-◌, ◌*◌, ◌<◌, ◌≤◌, min, Bool, true, false, ◌||◌, ◌⊎◌, inl, inr, List, [], ◌∷◌, ◌++◌, length, map, get_or, slice_get, nat_eq, Option, Some, None, IsSome, refl, sym, ap, ◌∙◌, subst, arith, zero-add, ℤ}
+use Rattle.std.proofs.Common.{◌≡◌, ℕ, zero, suc, ◌+◌, ◌-◌, ◌<◌, min, Bool, true, false, ◌||◌, ◌⊎◌, inl, inr, List, [], ◌∷◌, length, map, get_or, slice_get, nat_eq, Option, Some, IsSome, refl, sym, ap, ◌∙◌, subst, arith, zero-add, ℤ}
 use Rattle.std.specs.List.{AllByRecursion, list_all, list_any}
 use Rattle.std.proofs.lemmas.Bool.{cases_Bool, eq-eqb}
 use mathlib.Core.Path.{fun_ext}
@@ -8,25 +8,23 @@ use Rattle.mw_model.specs.declared.calls.Outcome.TheVariants as outcome
 use Rattle.mw_model.specs.declared.places.Reach.{Reach}
 use Rattle.mw_model.specs.declared.places.Rect.{Rect}
 use Rattle.mw_model.specs.Places.{rect, grown}
-use Rattle.mw_model.specs.Pictures.{Picture, IsPicture, sample_at, drawn}
-use Rattle.mw_model.specs.Windows.{seen_at}
-use Rattle.mw_model.specs.Rasters.{Sight}
+use Rattle.mw_model.specs.Pictures.{Picture, IsPicture, drawn}
 use Rattle.mw_model.specs.Values.{Value, value_at}
-use Rattle.mw_model.specs.Refusals.{Table, outcome_at, is_pending, is_done, is_released, is_there}
+use Rattle.mw_model.specs.Refusals.{outcome_at, is_pending, is_there}
 use Rattle.mw_model.specs.Machine.{Machine, values}
 use Rattle.mw_model.specs.Elements.{reach_of}
 use Rattle.mw_model.specs.PlanSteps.{PlanStep, looks_at, step_at, kind_of_step, maxval_of_step}
 use Rattle.mw_model.specs.Plans.{images_of, no_picture, plane_of, sight_of, is_sum}
-use Rattle.mw_model.specs.Tasks.{Progress, SourceWindow, made_in, no_window, window_of, sight_of_window, made_of_windows, cells_in, flag, planned_of}
-use Rattle.mw_model.specs.Stands.{Seen, StandsFor, Agrees, IsWork, inputs_of, inputs_there, input_values, is_wanted}
+use Rattle.mw_model.specs.Tasks.{Progress, made_in, cells_in, flag, planned_of}
+use Rattle.mw_step.specs.WindowTasks.{sight_of_window, WindowTask, tile_made}
+use Rattle.mw_tile.specs.Windows.{SourceWindow, window_of}
+use Rattle.mw_model.specs.Stands.{Agrees, IsWork, inputs_of, inputs_there, input_values, is_wanted}
 use Rattle.mw_model.proofs.ImagePlaces.{drawn_same}
-use Rattle.mw_laws.proofs.RunCascade.{pending_is}
-use Rattle.mw_step.specs.WindowTasks.{WindowTask, tile_made}
 use Rattle.mw_store.specs.Frames.{frame_of, whole_window}
 use Rattle.mw_store.proofs.WholeWindows.{whole-window-of, seen-whole}
 use Rattle.mw_core.specs.Work.{one_task}
-use Rattle.mw_core.specs.Sources.{kept_inputs, first_image, only_task, true_task}
-use Rattle.mw_core.proofs.FateLemmas.{Waits, wanted-at}
+use Rattle.mw_core.specs.Sources.{kept_inputs, only_task, true_task}
+use Rattle.mw_core.proofs.FateLemmas.{wanted-at}
 use Rattle.mw_core.proofs.RefusalLemmas.{some-same}
 use Rattle.mw_core.proofs.WorkLemmas.{there-within}
 

@@ -140,6 +140,7 @@ begins c new m t w s complete within ready kept is =
     subst P (sym kept.3) (record {
       progress = p;
       number = 0;
+      within = within;
       work = k.work;
       ready = ready-at c t p k.work k.one ready;
       task = sym (kept-true c m t p f s within runs.0 runs.1 k.one work k.image k.picture);

@@ -6,10 +6,11 @@ use Rattle.mw_model.specs.declared.codes.Code.{Code}
 use Rattle.mw_model.specs.declared.codes.Code.TheVariants as code
 use Rattle.mw_model.specs.declared.calls.Outcome.{Outcome}
 use Rattle.mw_model.specs.declared.calls.Given.{Given}
+use Rattle.mw_model.specs.declared.operations.Op.TheVariants as op
 use Rattle.mw_model.specs.declared.operations.FlatOp.{FlatOp}
 use Rattle.mw_model.specs.declared.operations.GranOp.{GranOp}
 use Rattle.mw_model.specs.Values.{Value, value_at, offsets_of}
-use Rattle.mw_model.specs.Refusals.{Table, Wanted, first_of, when, is_dead, is_released, name_taken, no_room, fault_of, wanted_case, flat_inputs, gran_inputs, flat_cases, gran_cases}
+use Rattle.mw_model.specs.Refusals.{Table, Wanted, first_of, when, is_dead, is_released, name_taken, no_room, fault_of, wanted_case, inputs_wanted, op_cases}
 
 -- why a check refuses, if it does
 abbrev pub refused : {X : Type 0} → Result X Code → Option Code
@@ -28,10 +29,10 @@ abbrev pub inputs_case : Table → List Wanted → Option Code
 inputs_case w wanted = first_of (map (wanted_case w) wanted)
 
 abbrev pub flat_case : Table → List (Option Value) → FlatOp → Option Code
-flat_case w values o = first_of (inputs_case w (flat_inputs o) ∷ first_of (flat_cases w values o) ∷ [])
+flat_case w values o = first_of (inputs_case w (inputs_wanted (op.Flat o)) ∷ first_of (op_cases w values (op.Flat o)) ∷ [])
 
 abbrev pub gran_case : Table → List (Option Value) → GranOp → Option Code
-gran_case w values o = first_of (inputs_case w (gran_inputs o) ∷ first_of (gran_cases w values o) ∷ [])
+gran_case w values o = first_of (inputs_case w (inputs_wanted (op.Gran o)) ∷ first_of (op_cases w values (op.Gran o)) ∷ [])
 
 -- why a LOAD or an ELEMENT is refused, if it is
 abbrev pub given_case : Table → Name → Given → Option Code

@@ -19,7 +19,7 @@ use Rattle.mw_core.specs.declared.events.Event.{Event}
 use Rattle.mw_core.specs.declared.events.Event.TheVariants as event
 use Rattle.mw_core.specs.declared.events.Answer.{Answer}
 use Rattle.mw_core.specs.declared.events.Answer.TheVariants as answer
-use Rattle.mw_core.specs.Served.{is_served}
+use Rattle.mw_model.specs.Lines.{is_served}
 use Rattle.mw_core.specs.Payloads.{given_image, image_payload, given_element, element_payload}
 use Rattle.mw_core.specs.Events.{handed_out}
 use Rattle.mw_core.specs.Fetches.{shown_value}

@@ -1,4 +1,3 @@
-pub mod Served
 pub mod Payloads
 pub mod Checks
 pub mod Faults

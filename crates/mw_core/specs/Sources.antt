@@ -1,13 +1,13 @@
 -- What a task of the core reads, off what the core shows.
-use Rattle.std.specs.Prelude.{ℕ, ◌≡◌, List, [], ◌∷◌, map, Option, Some, slice_get}
-use Rattle.mw_model.specs.Pictures.{Picture, IsPicture}
+use Rattle.std.specs.Prelude.{ℕ, List, [], ◌∷◌, map, Option, slice_get}
+use Rattle.mw_model.specs.Pictures.{Picture}
 use Rattle.mw_model.specs.Places.{rect}
-use Rattle.mw_model.specs.Values.{Value, value_at, image_of}
+use Rattle.mw_model.specs.Values.{Value, value_at}
 use Rattle.mw_model.specs.Refusals.{Table}
-use Rattle.mw_model.specs.PlanSteps.{PlanStep}
 use Rattle.mw_model.specs.Plans.{images_of}
-use Rattle.mw_model.specs.Tasks.{Progress, planned_of, window_of, place_of_task, sources_of, step_number, tile_number, tile_of_task}
-use Rattle.mw_model.specs.Stands.{Seen, inputs_of, input_values, true_planes, progress_at}
+use Rattle.mw_model.specs.Tasks.{Progress, planned_of, place_of_task, sources_of, step_number, tile_number, tile_of_task}
+use Rattle.mw_tile.specs.Windows.{window_of}
+use Rattle.mw_model.specs.Stands.{inputs_of, input_values, true_planes}
 use Rattle.mw_model.specs.Machine.{Machine}
 use Rattle.mw_store.specs.Frames.{whole_window}
 use Rattle.mw_step.specs.WindowTasks.{WindowTask}

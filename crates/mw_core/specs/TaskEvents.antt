@@ -30,6 +30,7 @@ pub record Kills (old : Seen) (m : Machine) (t : ℕ) (new : Seen) : Type 0 wher
 pub record Begins (old : Seen) (m : Machine) (w : WindowTask) (new : Seen) : Type 0 where
   pub progress : Progress
   pub number : ℕ
+  pub within : w.task.ticket < length old.table.names
   pub work : progress_at old.work w.task.ticket ≡ Some progress
   pub ready : is_ready_at old w.task.ticket number ≡ true
   pub task : w ≡ true_task m w.task.ticket progress number

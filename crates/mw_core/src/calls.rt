@@ -16,7 +16,7 @@ impl Core {
     ghost use Rattle.mw_model.specs.Machine.{Machine, start_state};
     ghost use Rattle.mw_model.specs.Refusals.{refusal};
     ghost use Rattle.mw_model.specs.Stands.{StandsFor};
-    ghost use Rattle.mw_core.specs.Served.{is_served};
+    ghost use Rattle.mw_model.specs.Lines.{is_served};
     ghost use Rattle.mw_core.specs.Payloads.{given_image, image_payload, given_element, element_payload};
     ghost use Rattle.mw_core.specs.Faults.{IsFault};
     ghost use Rattle.mw_core.specs.Events.{Serves, IsFresh};

@@ -11,8 +11,8 @@ use Rattle.std.proofs.lemmas.List.Folds.{list_any-append}
 use Rattle.std.proofs.lemmas.Map.Made.{is_member-Decides, length-le_from_is_member, length-from_same_keys}
 use Rattle.mw_model.specs.declared.places.Offset.{Offset}
 use Rattle.mw_model.specs.declared.places.OffsetBox.{OffsetBox}
-use Rattle.mw_model.specs.Elements.{FillsBox, InBox, same_offset}
-use Rattle.mw_element.specs.Figures.{LiesIn}
+use Rattle.mw_model.specs.Elements.{same_offset}
+use Rattle.mw_element.specs.Figures.{FillsBox, InBox, LiesIn}
 use Rattle.mw_element.proofs.Lists.{made, made_is, same_decides, same_equiv, not_same, box_more}
 
 -- ---- lists of offsets that follow one another

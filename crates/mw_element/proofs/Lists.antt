@@ -1,7 +1,6 @@
 -- Lists of offsets: sameness, reach and boxes.
-use Rattle.std.proofs.Common.{◌≡◌, ℕ, ◌+◌, ◌<◌, ◌≤◌, Bool, true, false, List, [], ◌∷◌, ◌++◌, length, take, map, max, ℤ, pos, negsuc, refl, sym, ap, subst, ◌∙◌, arith}
+use Rattle.std.proofs.Common.{◌≡◌, ℕ, ◌+◌, ◌<◌, ◌≤◌, Bool, true, false, List, [], ◌∷◌, ◌++◌, length, take, map, max, ℤ, pos, negsuc, refl, sym, ap, subst, ◌∙◌, arith, get_or}
 use Rattle.std.specs.Prelude.{neg_ℤ, ◌+ℤ◌, ◌≤ℤ◌, ◌≢◌}
-use Rattle.std.proofs.Common.{get_or}
 use Rattle.std.proofs.lemmas.Bool.{true≢false}
 use Rattle.std.proofs.lemmas.List.Elements.{All-from_recursion}
 use Rattle.std.proofs.lemmas.List.{take_all, take_more}
@@ -14,10 +13,10 @@ use Rattle.std.proofs.lemmas.Int.{ints}
 use Rattle.mw_model.specs.declared.places.Offset.{Offset}
 use Rattle.mw_model.specs.declared.places.OffsetBox.{OffsetBox}
 use Rattle.mw_model.specs.declared.places.Reach.{Reach}
-use Rattle.mw_model.specs.Elements.{InBox, IsFigure, IsNear, reach_of, same_offset, steps}
+use Rattle.mw_model.specs.Elements.{IsFigure, IsNear, reach_of, same_offset}
+use Rattle.mw_model.specs.Places.{nonnegative, WithinReach}
+use Rattle.mw_element.specs.Figures.{InBox, LiesIn, figure, grown, turned}
 use Rattle.mw_model.specs.Flat.{greatest, negated}
-use Rattle.mw_model.specs.Places.{WithinReach}
-use Rattle.mw_element.specs.Figures.{LiesIn, figure, grown, turned}
 
 -- ---- sameness
 
@@ -103,21 +102,21 @@ far_more f xs b = ap greatest (map_more f xs b) ∙ greatest_more (map f xs) (f 
 pub reach_more : (xs : List Offset) (b : Offset) → reach_of (xs ++ b ∷ []) ≡ grown (reach_of xs) b
 reach_more xs b =
     rw (
-      far_more (λ (o : Offset). steps (neg_ℤ o.dx)) xs b,
-      far_more (λ (o : Offset). steps o.dx) xs b,
-      far_more (λ (o : Offset). steps (neg_ℤ o.dy)) xs b,
-      far_more (λ (o : Offset). steps o.dy) xs b,
+      far_more (λ (o : Offset). nonnegative (neg_ℤ o.dx)) xs b,
+      far_more (λ (o : Offset). nonnegative o.dx) xs b,
+      far_more (λ (o : Offset). nonnegative (neg_ℤ o.dy)) xs b,
+      far_more (λ (o : Offset). nonnegative o.dy) xs b,
     ) refl
 
-steps_bound : (z : ℤ) (m : ℕ) → steps z ≤ m → z ≤ℤ pos m
+steps_bound : (z : ℤ) (m : ℕ) → nonnegative z ≤ m → z ≤ℤ pos m
 steps_bound (pos n) m le = omega (arith, ints, le)
 steps_bound (negsuc n) m le = omega (arith, ints)
 
-neg_bound : (z : ℤ) (m : ℕ) → steps (neg_ℤ z) ≤ m → pos 0 ≤ℤ (z +ℤ pos m)
+neg_bound : (z : ℤ) (m : ℕ) → nonnegative (neg_ℤ z) ≤ m → pos 0 ≤ℤ (z +ℤ pos m)
 neg_bound z m le = let b = steps_bound (neg_ℤ z) m le in omega (arith, ints, b)
 
-leads_all : (r : Reach) (xs : List Offset) → greatest (map (λ (b : Offset). steps (neg_ℤ b.dx)) xs) ≤ r.left → greatest (map (λ (b : Offset). steps b.dx) xs) ≤ r.right
-    → greatest (map (λ (b : Offset). steps (neg_ℤ b.dy)) xs) ≤ r.up → greatest (map (λ (b : Offset). steps b.dy) xs) ≤ r.down → WithinReach r xs
+leads_all : (r : Reach) (xs : List Offset) → greatest (map (λ (b : Offset). nonnegative (neg_ℤ b.dx)) xs) ≤ r.left → greatest (map (λ (b : Offset). nonnegative b.dx) xs) ≤ r.right
+    → greatest (map (λ (b : Offset). nonnegative (neg_ℤ b.dy)) xs) ≤ r.up → greatest (map (λ (b : Offset). nonnegative b.dy) xs) ≤ r.down → WithinReach r xs
 leads_all r [] left right up down = tt
 leads_all r (b ∷ xs) left right up down = (
   record {

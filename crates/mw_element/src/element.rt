@@ -31,10 +31,10 @@ impl Model for Element {
 impl Element {
     ghost use Rattle.std.specs.Prelude.{◌≡◌, ◌↔◌, ◌≤◌, length, IsTrue, IfOk, IfSome, IfNone};
     ghost use Rattle.mw_model.specs.declared.places.OffsetBox.{OffsetBox};
-    ghost use Rattle.mw_model.specs.Elements.{FillsBox, IsFigure, holds_origin, overlaps, reach_of};
+    ghost use Rattle.mw_model.specs.Elements.{IsFigure, holds_origin, overlaps, reach_of};
+    ghost use Rattle.mw_element.specs.Figures.{FillsBox, figure};
     ghost use Rattle.mw_model.specs.Flat.{negated};
     ghost use Rattle.mw_model.specs.Places.{WithinReach};
-    ghost use Rattle.mw_element.specs.Figures.{figure};
 
     pub(crate) fn new(width: u32, height: u32, offsets: Vec<Offset>) -> Element
         requires figure { IsFigure (figure width height offsets.items) }

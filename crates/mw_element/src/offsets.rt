@@ -3,10 +3,10 @@
 ghost use Rattle.std.specs.Prelude.{◌≡◌, ◌↔◌, ◌+◌, ◌<◌, ◌≤◌, ◌+ℤ◌, ◌≤ℤ◌, pos, max, neg_ℤ, length, IsTrue, IfOk, IfSome, IfNone};
 ghost use Rattle.std.specs.List.{AllByRecursion, IsDistinct, list_any};
 ghost use Rattle.mw_model.specs.declared.places.OffsetBox.{OffsetBox};
-ghost use Rattle.mw_model.specs.Elements.{FillsBox, InBox, IsNear, holds_origin, overlaps, reach_of, same_offset, steps};
+ghost use Rattle.mw_model.specs.Elements.{IsNear, holds_origin, overlaps, reach_of, same_offset};
+ghost use Rattle.mw_model.specs.Places.{nonnegative, WithinReach};
+ghost use Rattle.mw_element.specs.Figures.{FillsBox, InBox, LiesIn, grown, turned};
 ghost use Rattle.mw_model.specs.Flat.{negated};
-ghost use Rattle.mw_model.specs.Places.{WithinReach};
-ghost use Rattle.mw_element.specs.Figures.{LiesIn, grown, turned};
 
 use mw_model::{NoMemory, Offset, OffsetBox, Reach};
 use std::alloc::Global;
@@ -73,7 +73,7 @@ pub(crate) fn overlap(first: &[Offset], second: &[Offset]) -> bool
 
 /// A distance in the direction that counts, or 0.
 fn distance(along: i32) -> u32
-    ensures { result ≡ steps along }
+    ensures { result ≡ nonnegative along }
 {
     if along > 0 { along as u32 } else { 0 }
 }

@@ -9,7 +9,8 @@ use Rattle.std.proofs.lemmas.Fmt.{decimal-digits_value, digits_decimal, digits_v
 use Rattle.mw_model.specs.declared.names.Name.{Name}
 use Rattle.mw_model.specs.Names.{is_name, name_of, spelling}
 use Rattle.mw_model.proofs.Spellings.{spelling_of}
-use Rattle.mw_model.specs.Lines.{is_digit, is_number, value_of, number_word, name_word, IsName, name_in, number_in, rest, at_end, ◌>>=◌}
+use Rattle.mw_model.specs.Lines.{IsName}
+use Rattle.mw_intake.specs.Reading.{is_digit, is_number, value_of, number_word, name_word, name_in, number_in, rest, at_end, ◌>>=◌}
 
 value_from : ℕ → List ℕ → ℕ
 value_from n ds = fold (λ k b. 10 * k + (b - 48)) n ds

@@ -1,12 +1,20 @@
 -- Laws of the front of a byte list.
-use Rattle.std.proofs.Common.{◌≡◌, ℕ, ◌+◌, ◌<◌, ◌≤◌, List, [], ◌∷◌, ◌++◌, length, take, drop, refl, sym, ap, subst, ◌∙◌, arith, Option, None, Some, inl, inr, min, length-take, take-take, length-drop, drop-drop, take-append-drop, length-append, append_assoc}
-use Rattle.std.proofs.lemmas.Bool.{lt-ltb, le-ltb, cases_lt}
+use Rattle.std.proofs.Common.{◌≡◌, ◌≢◌, ℕ, zero, suc, ◌+◌, ◌<◌, ◌≤◌, Bool, true, false, cond, not, List, [], ◌∷◌, ◌++◌, length, get_or, take, drop, refl, sym, ap, subst, ◌∙◌, arith, Option, None, Some, inl, inr, min, length-take, take-take, length-drop, drop-drop, take-append-drop, length-append, append_assoc}
+use Rattle.std.proofs.lemmas.Bool.{lt-ltb, le-ltb, cases_lt, cases_Bool, eq-eqb, eqb-true, ne_eqb}
 use Rattle.std.proofs.Math.Nat.{le_of_lt}
-use Rattle.std.proofs.lemmas.List.{take-append-le, drop-append-le, take_at, drop_at, append-nil, drop_all}
+use Rattle.std.proofs.lemmas.List.{take-append-le, drop-append-le, take_at, drop_at, append-nil, drop_all, drop_more}
+use Rattle.std.proofs.Math.Seq.{take-length}
 use Rattle.std.specs.List.{position_or_len}
-use Rattle.mw_model.proofs.Positions.{position_length, position_kept, position_grows, position_take}
+use Rattle.mw_model.proofs.Positions.{position_length, position_more, position_kept, position_grows, position_take}
 use Rattle.mw_intake.specs.Intake.{IsPayloadLine}
-use Rattle.mw_model.specs.Lines.{is_line_end, front, Found, Partial, Fault, Asked, asked_with, after_head, with_payload, head_of, Begins}
+use Rattle.mw_model.specs.declared.names.Name.{Name}
+use Rattle.mw_model.specs.declared.operations.Op.{Op}
+use Rattle.mw_model.specs.declared.requests.Ask.TheVariants as ask
+use Rattle.mw_model.specs.declared.requests.Awaited.TheVariants as awaited
+use Rattle.mw_intake.proofs.LineLaws.{read_is_said, run_is_served}
+use Rattle.mw_intake.proofs.SaidLines.{said_is_read}
+use Rattle.mw_model.specs.Lines.{Front, Found, Partial, Fault, Asked, AskAlone, is_served, asked_with, after_head, with_payload, IsSayable, line_of, Says, NoLineEnd, IsFront, too_long, unended, ended, Begins}
+use Rattle.mw_intake.specs.Reading.{is_line_end, front, head_of}
 use Rattle.mw_model.specs.declared.requests.Awaited.{Awaited}
 use Rattle.mw_model.specs.declared.requests.Head.{Head}
 use Rattle.mw_model.specs.declared.requests.Head.TheVariants.{Payload, Alone}
@@ -190,14 +198,106 @@ front_fault xs ys c e = elim (cases_lt 200 (position_or_len is_line_end xs)) [
   ]
 ]
 
+-- ---- what a line says is what is read of it
+
+pub says_of : (line : List ℕ) (o : Option Head) → head_of line ≡ o → Says line o
+says_of line None e = λ h s is. let bad : None ≡ Some h = sym e ∙ sym (ap head_of is) ∙ said_is_read h s in cc
+says_of line (Some h) e = let r = read_is_said line h e in (r.1, sym r.0)
+
+none_said : (line : List ℕ) (o : Option Head) → head_of line ≡ o → ((h : Head) → IsSayable h → line_of h ≢ line) → None ≡ o
+none_said line None e never = refl
+none_said line (Some h) e never = let r = read_is_said line h e in absurd (never h r.1 (sym r.0))
+
+pub says_only : (line : List ℕ) (o : Option Head) → Says line o → o ≡ head_of line
+says_only line None s = none_said line (head_of line) refl s
+says_only line (Some h) s = sym (ap head_of (sym s.1) ∙ said_is_read h s.0)
+
+-- ---- what stands at the front is what is read there
+
+first_step : (t : Bool) (n m : ℕ) → suc n ≤ cond (not t) (1 + m) 0 → (t ≡ false) × (n ≤ m)
+first_step true n m h = absurd (omega arith)
+first_step false n m h = (refl, omega arith)
+
+-- before the first LF none stands
+no_end_take : (xs : List ℕ) (n : ℕ) → n ≤ position_or_len is_line_end xs → NoLineEnd (take n xs)
+no_end_take [] zero h = tt
+no_end_take [] (suc n) h = tt
+no_end_take (x ∷ xs) zero h = tt
+no_end_take (x ∷ xs) (suc n) h =
+    let f = first_step (is_line_end x) n (position_or_len is_line_end xs) h in
+    let other : is_line_end x ≡ false = f.0 in
+    (λ e. let same = eq-eqb x 10 e in cc, no_end_take xs n f.1)
+
+-- where none stands before, the first stands later
+end_after : (xs : List ℕ) (n : ℕ) → NoLineEnd (take n xs) → n ≤ length xs → n ≤ position_or_len is_line_end xs
+end_after [] n a h = omega arith
+end_after (x ∷ xs) zero a h = omega arith
+end_after (x ∷ xs) (suc n) a h = let later = end_after xs n a.1 (omega arith) in rw (ne_eqb x 10 a.0) (omega (arith, later))
+
+end_all : (xs : List ℕ) → NoLineEnd xs → length xs ≤ position_or_len is_line_end xs
+end_all xs a = end_after xs (length xs) (subst NoLineEnd (sym (take-length xs)) a) (omega arith)
+
+no_end_all : (xs : List ℕ) → length xs ≤ position_or_len is_line_end xs → NoLineEnd xs
+no_end_all xs h = subst NoLineEnd (take-length xs) (no_end_take xs (length xs) h)
+
+end_at : (line behind : List ℕ) → NoLineEnd line → position_or_len is_line_end (line ++ 10 ∷ behind) ≡ length line
+end_at [] behind a = refl
+end_at (b ∷ line) behind a = let later = end_at line behind a.1 in rw (ne_eqb b 10 a.0) (omega (arith, later))
+
+is_end : (xs : List ℕ) → position_or_len is_line_end xs < length xs → get_or xs (position_or_len is_line_end xs) 0 ≡ 10
+is_end xs h = elim (cases_Bool (is_line_end (get_or xs (position_or_len is_line_end xs) 0))) [
+  | inl t ↦ eqb-true (get_or xs (position_or_len is_line_end xs) 0) 10 t
+  | inr f ↦ let more = position_more is_line_end xs (position_or_len is_line_end xs) (omega arith) h f in absurd (omega (arith, more))
+]
+
+split_end : (xs : List ℕ) → position_or_len is_line_end xs < length xs →
+    xs ≡ take (position_or_len is_line_end xs) xs ++ 10 ∷ drop (position_or_len is_line_end xs + 1) xs
+split_end xs h =
+    let i = position_or_len is_line_end xs in
+    sym (take-append-drop i xs) ∙ ap (λ l. take i xs ++ l) (drop_more xs i 0 h ∙ ap (λ b. b ∷ drop (i + 1) xs) (is_end xs h))
+
+-- what is read at the front stands there
+pub is_front : (xs : List ℕ) (f : Front) → front xs ≡ f → IsFront xs f
+is_front xs f e = elim (cases_lt 200 (position_or_len is_line_end xs)) [
+  | inl h ↦ let within = position_length is_line_end xs in too_long (omega arith) (no_end_take xs 201 (omega arith)) (sym e ∙ front_long xs h)
+  | inr h ↦ elim (cases_lt (position_or_len is_line_end xs) (length xs)) [
+    | inl k ↦
+        let i = position_or_len is_line_end xs in
+        ended (take i xs) (drop (i + 1) xs) (head_of (take i xs)) (split_end xs k) (no_end_take xs i (omega arith)) (simp length-take (omega arith)) (says_of (take i xs) (head_of (take i xs)) refl) (sym e ∙ front_line xs h k)
+    | inr k ↦ unended (omega arith) (no_end_all xs k) (sym e ∙ front_open xs h k)
+  ]
+]
+
+front_ended : (line behind : List ℕ) (o : Option Head) → NoLineEnd line → length line ≤ 200 → Says line o → front (line ++ 10 ∷ behind) ≡ after_head o behind
+front_ended line behind o a h s =
+    let place = end_at line behind a in
+    let small : position_or_len is_line_end (line ++ 10 ∷ behind) ≤ 200 = omega (arith, place) in
+    let inside : position_or_len is_line_end (line ++ 10 ∷ behind) < length (line ++ 10 ∷ behind) = rw place (simp length-append (omega arith)) in
+    let f = front_line (line ++ 10 ∷ behind) small inside in
+    let f' = rw place at f in
+    let before : take (length line) (line ++ 10 ∷ behind) ≡ line = take_at line (10 ∷ behind) (length line) refl in
+    let after : drop (length line + 1) (line ++ 10 ∷ behind) ≡ behind =
+    ap (λ l. drop (length line + 1) l) (sym (append_assoc line (10 ∷ []) behind)) ∙ drop_at (line ++ 10 ∷ []) behind (length line + 1) (simp length-append (omega arith)) in
+    f' ∙ rw (before, after) (ap (λ h. after_head h behind) (sym (says_only line o s)))
+
+-- and nothing else does
+pub front_is : (xs : List ℕ) (f : Front) → IsFront xs f → front xs ≡ f
+front_is xs f (too_long l a e) = let later = end_after xs 201 a (omega arith) in front_long xs (omega arith) ∙ sym e
+front_is xs f (unended l a e) =
+    let later = end_all xs a in
+    let within = position_length is_line_end xs in
+    front_open xs (omega arith) later ∙ sym e
+front_is xs f (ended line behind o parts a l s e) = ap front parts ∙ front_ended line behind o a l s ∙ sym e
+
 -- requests at the front stay, whatever follows
 pub Begins_more : (rs : List Asked) (xs ys rest : List ℕ) → Begins xs rs rest → Begins (xs ++ ys) rs (rest ++ ys)
 Begins_more [] xs ys rest b = ap (λ l. l ++ ys) b
-Begins_more (r ∷ rs) xs ys rest b = (b.0 ++ ys, front_found xs ys r b.0 b.1, Begins_more rs b.0 ys rest b.2)
+Begins_more (r ∷ rs) xs ys rest b =
+    (b.0 ++ ys, is_front (xs ++ ys) (Found r (b.0 ++ ys)) (front_found xs ys r b.0 (front_is xs (Found r b.0) b.1)), Begins_more rs b.0 ys rest b.2)
 
 -- one more request
 pub Begins_push : (rs : List Asked) (xs mid rest : List ℕ) (r : Asked) → Begins xs rs mid → front mid ≡ Found r rest → Begins xs (rs ++ r ∷ []) rest
-Begins_push [] xs mid rest r b e = (rest, rw (← b) e, refl)
+Begins_push [] xs mid rest r b e = (rest, is_front xs (Found r rest) (rw (← b) e), refl)
 Begins_push (q ∷ rs) xs mid rest r b e = (b.0, b.1, Begins_push rs b.0 mid rest r b.2 e)
 
 -- the same bytes begin with the same requests: the one list begins the other
@@ -205,9 +305,40 @@ pub Begins_prefix : (rs qs : List Asked) (xs rest end : List ℕ) → Begins xs 
 Begins_prefix [] qs xs rest end b d h = (qs, refl, rw b d)
 Begins_prefix (r ∷ rs) [] xs rest end b d h = absurd (omega arith)
 Begins_prefix (r ∷ rs) (q ∷ qs) xs rest end b d h =
-    let same : Found r b.0 ≡ Found q d.0 = sym b.1 ∙ d.1 in
+    let same : Found r b.0 ≡ Found q d.0 = sym (front_is xs (Found r b.0) b.1) ∙ front_is xs (Found q d.0) d.1 in
     let head : r ≡ q = cc in
     let mid : b.0 ≡ d.0 = cc in
     let rec = Begins_prefix rs qs b.0 rest end b.2 (subst (λ l. Begins l qs end) (sym mid) d.2) (omega arith) in
     let tail = rec.1 in
     (rec.0, cc, rec.2)
+
+no_run : (what : Awaited) (payload behind left : List ℕ) (name : Name) (op : Op) → Found (asked_with what payload) behind ≡ Found (AskAlone (ask.Run name op)) left → ⊥
+no_run (awaited.Image n) payload behind left name op e = let bad = found_asked e in cc
+no_run (awaited.Element n ox oy) payload behind left name op e = let bad = found_asked e in cc
+
+-- a request to compute was read from its line
+payload_asks : (what : Awaited) (n : ℕ) (behind left : List ℕ) (name : Name) (op : Op) → with_payload what n behind ≡ Found (AskAlone (ask.Run name op)) left → ⊥
+payload_asks what n behind left name op e = elim (cases_lt 134217728 n) [
+  | inl h ↦ let bad = payload_long what n behind h in cc
+  | inr h ↦ elim (cases_lt (length behind) n) [
+    | inl k ↦ let bad = payload_partial what n behind h k in cc
+    | inr k ↦ no_run what (take n behind) (drop n behind) left name op (sym (payload_whole what n behind h k) ∙ e)
+  ]
+]
+
+after_run : (h : Option Head) (behind left : List ℕ) (name : Name) (op : Op) → after_head h behind ≡ Found (AskAlone (ask.Run name op)) left → h ≡ Some (Alone (ask.Run name op))
+after_run None behind left name op e = cc
+after_run (Some (Payload what n)) behind left name op e = absurd (payload_asks what n behind left name op e)
+after_run (Some (Alone a)) behind left name op e = let asks = found_asked e in let same : a ≡ ask.Run name op = cc in ap (λ b. Some (Alone b)) same
+
+-- a request to compute asks for an operation that is served
+pub front_served : (xs rest : List ℕ) (name : Name) (op : Op) → front xs ≡ Found (AskAlone (ask.Run name op)) rest → is_served op ≡ true
+front_served xs rest name op e = elim (cases_lt 200 (position_or_len is_line_end xs)) [
+  | inl h ↦ let bad = front_long xs h in cc
+  | inr h ↦ elim (cases_lt (position_or_len is_line_end xs) (length xs)) [
+    | inl k ↦
+        let line = take (position_or_len is_line_end xs) xs in
+        run_is_served line name op (after_run (head_of line) (drop (position_or_len is_line_end xs + 1) xs) rest name op (sym (front_line xs h k) ∙ e))
+    | inr k ↦ let bad = front_open xs h k in cc
+  ]
+]

@@ -3,7 +3,7 @@ use Rattle.std.proofs.Common.{◌≡◌, ℕ, suc, ◌+◌, ◌<◌, ◌≤◌, 
 use Rattle.std.specs.Bool.{if◌then◌else◌}
 use Rattle.std.specs.List.{position_or_len, onto_first}
 use Rattle.std.proofs.lemmas.List.Splits.{slice_split_first}
-use Rattle.mw_model.specs.Lines.{words, is_blank, at_end}
+use Rattle.mw_intake.specs.Reading.{words, is_blank, at_end}
 
 -- what stands before the first blank, and the words behind it
 pub words_first : (line : List ℕ) → position_or_len is_blank line < length line →

@@ -2,12 +2,13 @@
 use Rattle.std.specs.Prelude.{◌≡◌, ℕ, ◌<◌, ◌≤◌, List, take, drop, length}
 use Rattle.mw_intake.specs.declared.cut.Cut.{Cut}
 use Rattle.mw_intake.specs.declared.cut.Cut.TheVariants.{Bad, More, Alone, Payload}
-use Rattle.mw_model.specs.Lines.{Found, Partial, Fault, front, asked_alone}
+use Rattle.mw_model.specs.Lines.{Found, Partial, Fault, AskAlone}
+use Rattle.mw_intake.specs.Reading.{front}
 use Rattle.mw_intake.specs.Intake.{IsPayloadLine}
 
 -- The last number is that of the line's bytes, its LF counted.
 abbrev pub IsCut : Cut → List ℕ → Type 0
 IsCut (Bad c) bytes = front bytes ≡ Fault c
 IsCut More bytes = front bytes ≡ Partial
-IsCut (Alone a used) bytes = (0 < used) × (used ≤ length bytes) × (front bytes ≡ Found (asked_alone a) (drop used bytes))
+IsCut (Alone a used) bytes = (0 < used) × (used ≤ length bytes) × (front bytes ≡ Found (AskAlone a) (drop used bytes))
 IsCut (Payload what len used) bytes = (used ≤ length bytes) × IsPayloadLine (take used bytes) what len

@@ -5,21 +5,23 @@ use Rattle.mw_model.specs.declared.requests.Request.{Request}
 use Rattle.mw_model.specs.declared.requests.Request.TheVariants as request
 use Rattle.mw_model.specs.declared.requests.Next.{Next}
 use Rattle.mw_model.specs.declared.requests.Next.TheVariants as next
+use Rattle.mw_model.specs.declared.requests.Ask.TheVariants as ask
 use Rattle.mw_model.specs.declared.requests.Awaited.{Awaited}
 use Rattle.mw_model.specs.declared.requests.Head.TheVariants.{Payload}
-use Rattle.mw_model.specs.Lines.{Asked, AskLoad, AskElement, AskRun, AskCancel, AskRelease, AskStatus, AskFetch, AskWait, AskQuit, Found, Partial, Fault, front, head_of, is_line_end}
+use Rattle.mw_model.specs.Lines.{Asked, AskLoad, AskElement, AskAlone, Found, Partial, Fault}
+use Rattle.mw_intake.specs.Reading.{front, head_of, is_line_end}
 
 -- a request without where its payload lies
 abbrev pub asked : Request → Asked
 asked (request.Load name payload) = AskLoad name payload.items
 asked (request.Element name ox oy payload) = AskElement name ox oy payload.items
-asked (request.Run name op) = AskRun name op
-asked (request.Cancel name) = AskCancel name
-asked (request.Release name) = AskRelease name
-asked (request.Status name) = AskStatus name
-asked (request.Fetch name) = AskFetch name
-asked (request.Wait name) = AskWait name
-asked request.Quit = AskQuit
+asked (request.Run name op) = AskAlone (ask.Run name op)
+asked (request.Cancel name) = AskAlone (ask.Cancel name)
+asked (request.Release name) = AskAlone (ask.Release name)
+asked (request.Status name) = AskAlone (ask.Status name)
+asked (request.Fetch name) = AskAlone (ask.Fetch name)
+asked (request.Wait name) = AskAlone (ask.Wait name)
+asked request.Quit = AskAlone ask.Quit
 
 -- what next answers of the bytes that stood there, and what is left
 abbrev pub Answers : Next → List ℕ → List ℕ → Type 0

@@ -1,3 +1,4 @@
+pub mod Reading
 pub mod Words
 pub mod Cut
 pub mod Intake

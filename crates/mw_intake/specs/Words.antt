@@ -1,7 +1,7 @@
 -- The words of a line that are still to be read.
 use Rattle.std.specs.Prelude.{ℕ, List, [], Option, None, Some}
 use Rattle.std.specs.Borrow.{Bor}
-use Rattle.mw_model.specs.Lines.{words}
+use Rattle.mw_intake.specs.Reading.{words}
 
 -- the words of what is left of a line, and none behind its last word
 abbrev pub words_left : Option (Bor (List ℕ)) → List (List ℕ)

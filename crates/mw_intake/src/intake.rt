@@ -2,7 +2,7 @@
 
 ghost use Rattle.std.specs.Prelude.{◌≡◌, ◌++◌, ◌≤◌, ℕ, List, [], length, drop, IfOk, OnOk, OnErr, IsTrue, ◌↔◌};
 ghost use Rattle.mw_intake.specs.Intake.{Answers, Falls, asked};
-ghost use Rattle.mw_model.specs.Lines.{asked_alone, asked_with};
+ghost use Rattle.mw_model.specs.Lines.{AskAlone, asked_with};
 
 use crate::cut::{Cut, cut_front};
 use mw_model::{Ask, Awaited, Next, NoMemory, Request};
@@ -123,7 +123,7 @@ impl Intake {
 
 /// The request of a line without payload.
 fn alone(ask: Ask) -> Request
-    ensures { asked result ≡ asked_alone ask }
+    ensures { asked result ≡ AskAlone ask }
 {
     match ask {
         Ask::Run(name, op) => Request::Run(name, op),

@@ -1,19 +1,33 @@
 //! Laws of the grammar, over every byte list and every cutting.
 
-ghost use Rattle.std.specs.Prelude.{◌≡◌, ◌++◌, ◌≤◌, ◌↔◌, List, ℕ, length};
-ghost use Rattle.mw_model.specs.Lines.{Asked, Found, Fault, front, Begins, head_of, line_of, IsSayable};
+ghost use Rattle.std.specs.Prelude.{◌≡◌, ◌++◌, ◌≤◌, ◌↔◌, List, ℕ, length, true, Option};
+ghost use Rattle.mw_model.specs.Lines.{Asked, AskAlone, Front, Found, Fault, IsFront, Begins, Says, is_served};
+ghost use Rattle.mw_model.specs.declared.names.Name.{Name};
+ghost use Rattle.mw_model.specs.declared.operations.Op.{Op};
 ghost use Rattle.mw_model.specs.declared.codes.Code.{Code};
+ghost use Rattle.mw_model.specs.declared.requests.Ask.TheVariants.{Run};
 ghost use Rattle.mw_model.specs.declared.requests.Head.{Head};
+ghost use Rattle.mw_intake.specs.Reading.{head_of, front};
 
-/// A line is read exactly where it is the line of what is read: its words, with exactly one blank between two.
+/// A line says exactly what is read of it.
 pub fn lines_say_one_thing()
-    ensures { (line : List ℕ) (h : Head) → (head_of line ≡ Some h) ↔ ((line ≡ line_of h) × IsSayable h) }
+    ensures { (line : List ℕ) (said : Option Head) → Says line said ↔ (said ≡ head_of line) }
+{}
+
+/// What is read of the front of a byte list is what stands there, and nothing else does.
+pub fn one_front_stands()
+    ensures { (bytes : List ℕ) (f : Front) → IsFront bytes f ↔ (f ≡ front bytes) }
+{}
+
+/// A request to compute asks for an operation that is served.
+pub fn runs_are_served()
+    ensures { (xs rest : List ℕ) (name : Name) (op : Op) → IsFront xs (Found (AskAlone (Run name op)) rest) → is_served op ≡ true }
 {}
 
 /// What is cut off stays cut off, whatever bytes follow.
 pub fn front_stays()
-    ensures found { (xs ys rest : List ℕ) (r : Asked) → front xs ≡ Found r rest → front (xs ++ ys) ≡ Found r (rest ++ ys) }
-    ensures fault { (xs ys : List ℕ) (c : Code) → front xs ≡ Fault c → front (xs ++ ys) ≡ Fault c }
+    ensures found { (xs ys rest : List ℕ) (r : Asked) → IsFront xs (Found r rest) → IsFront (xs ++ ys) (Found r (rest ++ ys)) }
+    ensures fault { (xs ys : List ℕ) (c : Code) → IsFront xs (Fault c) → IsFront (xs ++ ys) (Fault c) }
 {}
 
 /// Two readings of one list agree as far as the shorter goes.

@@ -2,7 +2,8 @@
 
 ghost use Rattle.std.specs.Prelude.{◌≡◌, ℕ, List, length, min};
 ghost use Rattle.std.specs.List.{position_or_len};
-ghost use Rattle.mw_model.specs.Lines.{one_name, two_names, three_names, name_and_number, two_names_and_number, name_and_three_numbers, window_op, op_with, run_in, ask_with, head_with, head_of, is_line_end};
+ghost use Rattle.mw_model.specs.Lines.{is_served};
+ghost use Rattle.mw_intake.specs.Reading.{one_name, two_names, three_names, name_and_number, two_names_and_number, name_and_three_numbers, window_op, op_with, run_in, served, ask_with, head_with, head_of, is_line_end};
 
 use crate::words::Words;
 use mw_model::{Ask, Awaited, FlatOp, GranOp, Head, Name, Op};
@@ -65,7 +66,7 @@ fn name_and_three_numbers(words: &mut Words) -> Option<(Name, u32, u32, u32)>
 }
 
 /// An operation on an image and an element.
-#[tactic(auto, unfolding(mw_model::specs::Lines::window_op))]
+#[tactic(auto, unfolding(crate::specs::Reading::window_op))]
 fn window_op(word: &[u8], f: Name, b: Name) -> Option<FlatOp>
     ensures { result ≡ window_op word.now f b }
 {
@@ -94,8 +95,8 @@ fn window_op(word: &[u8], f: Name, b: Name) -> Option<FlatOp>
 }
 
 /// What a RUN computes: the word of an operation, and its arguments.
-#[tactic(auto, unfolding(mw_model::specs::Lines::op_with))]
-fn op_with(word: &[u8], words: &mut Words) -> Option<Op>
+#[tactic(auto, unfolding(crate::specs::Reading::op_with))]
+pub fn op_with(word: &[u8], words: &mut Words) -> Option<Op>
     ensures { result ≡ op_with word.now words.old }
 {
     if word == b"THRESHOLD".as_slice() {
@@ -132,12 +133,29 @@ fn run_in(words: &mut Words) -> Option<Ask>
 {
     let name = words.name()?;
     let word = words.word()?;
-    let op = op_with(word, words)?;
+    let read = op_with(word, words)?;
+    let op = served(read)?;
     Some(Ask::Run(name, op))
 }
 
+fn served(op: Op) -> Option<Op>
+    ensures { result ≡ served op }
+{
+    if is_served(&op) { Some(op) } else { None }
+}
+
+/// Whether a RUN may ask for it.
+pub fn is_served(op: &Op) -> bool
+    ensures { result ≡ is_served op.now }
+{
+    match op {
+        Op::Flat(FlatOp::Erode(_, _) | FlatOp::Dilate(_, _)) => true,
+        _ => false,
+    }
+}
+
 /// A request without a payload, but RUN: its word, and a name.
-#[tactic(auto, unfolding(mw_model::specs::Lines::ask_with))]
+#[tactic(auto, unfolding(crate::specs::Reading::ask_with))]
 fn ask_with(word: &[u8], words: &mut Words) -> Option<Ask>
     ensures { result ≡ ask_with word.now words.old }
 {
@@ -162,7 +180,7 @@ fn ask_with(word: &[u8], words: &mut Words) -> Option<Ask>
     None
 }
 
-#[tactic(auto, unfolding(mw_model::specs::Lines::head_with))]
+#[tactic(auto, unfolding(crate::specs::Reading::head_with))]
 fn head_with(word: &[u8], words: &mut Words) -> Option<Head>
     ensures { result ≡ head_with word.now words.old }
 {
@@ -181,7 +199,7 @@ fn head_with(word: &[u8], words: &mut Words) -> Option<Head>
 }
 
 /// What a line says, without its LF.
-#[tactic(auto, unfolding(mw_model::specs::Lines::head_of))]
+#[tactic(auto, unfolding(crate::specs::Reading::head_of))]
 pub fn head(line: &[u8]) -> Option<Head>
     ensures { result ≡ head_of line.now }
 {

@@ -1,4 +1,6 @@
 use crate::Intake;
+use crate::line::op_with;
+use crate::words::Words;
 use mw_model::{Code, FlatOp, GranOp, Name, Next, Op, Request};
 use std::alloc::Global;
 use std::process::Abort;
@@ -86,6 +88,7 @@ fn lines_that_are_none(rt: HostRuntime) -> Result<(), Fail> {
         "RUN a ERODE f\n",
         "RUN a RANK f b\n",
         "RUN a ROTATE f b\n",
+        "RUN a OPEN f b\n",
         "LOAD x 1234567890\n",
     ];
     for line in bad {
@@ -157,56 +160,35 @@ fn requests_about_a_name(rt: HostRuntime) -> Result<(), Fail> {
     Ok(())
 }
 
-/// What a RUN of this operation computes.
-fn op_of(alloc: Global, text: &str) -> Result<Op, Fail> {
-    let line = format!(in alloc; "RUN r {text}\n")?;
-    match only(alloc, line.as_bytes())? {
-        Next::Request(Request::Run(_, op)) => Ok(op),
-        _ => Err(Fail::from("no run")),
-    }
+/// The operation of these words.
+fn op_of(text: &str) -> Result<Op, Fail> {
+    let mut words = Words::new(text.as_bytes());
+    let word = words.word().ok_or("no word")?;
+    Ok(op_with(word, &mut words).ok_or("no operation")?)
 }
 
 #[test]
 fn operations(rt: HostRuntime) -> Result<(), Fail> {
-    let alloc = rt.alloc();
     let (f, b, c) = (name(b"f")?, name(b"b")?, name(b"c")?);
-    assert_eq!(rt; op_of(alloc, "DILATE f b")?, Op::Flat(FlatOp::Dilate(f, b)));
-    assert_eq!(rt; op_of(alloc, "OPEN f b")?, Op::Flat(FlatOp::Opening(f, b)));
-    assert_eq!(rt; op_of(alloc, "CLOSE f b")?, Op::Flat(FlatOp::Closing(f, b)));
+    assert_eq!(rt; op_of("DILATE f b")?, Op::Flat(FlatOp::Dilate(f, b)));
+    assert_eq!(rt; op_of("OPEN f b")?, Op::Flat(FlatOp::Opening(f, b)));
+    assert_eq!(rt; op_of("CLOSE f b")?, Op::Flat(FlatOp::Closing(f, b)));
+    assert_eq!(rt; op_of("GRADIENT f b")?, Op::Flat(FlatOp::Gradient(f, b)));
+    assert_eq!(rt; op_of("WTOPHAT f b")?, Op::Flat(FlatOp::WhiteTopHat(f, b)));
+    assert_eq!(rt; op_of("BTOPHAT f b")?, Op::Flat(FlatOp::BlackTopHat(f, b)));
+    assert_eq!(rt; op_of("RANK f b 12")?, Op::Flat(FlatOp::Rank(f, b, 12)));
     assert_eq!(rt;
-        op_of(alloc, "GRADIENT f b")?,
-        Op::Flat(FlatOp::Gradient(f, b))
-    );
-    assert_eq!(rt;
-        op_of(alloc, "WTOPHAT f b")?,
-        Op::Flat(FlatOp::WhiteTopHat(f, b))
-    );
-    assert_eq!(rt;
-        op_of(alloc, "BTOPHAT f b")?,
-        Op::Flat(FlatOp::BlackTopHat(f, b))
-    );
-    assert_eq!(rt;
-        op_of(alloc, "RANK f b 12")?,
-        Op::Flat(FlatOp::Rank(f, b, 12))
-    );
-    assert_eq!(rt;
-        op_of(alloc, "THRESHOLD f 65536")?,
+        op_of("THRESHOLD f 65536")?,
         Op::Flat(FlatOp::Threshold(f, 65536))
     );
+    assert_eq!(rt; op_of("HITMISS f b c")?, Op::Flat(FlatOp::HitMiss(f, b, c)));
     assert_eq!(rt;
-        op_of(alloc, "HITMISS f b c")?,
-        Op::Flat(FlatOp::HitMiss(f, b, c))
-    );
-    assert_eq!(rt;
-        op_of(alloc, "SKELETON f b 254")?,
+        op_of("SKELETON f b 254")?,
         Op::Gran(GranOp::Skeleton(f, b, 254))
     );
+    assert_eq!(rt; op_of("RESTORE f b 0")?, Op::Gran(GranOp::Restore(f, b, 0)));
     assert_eq!(rt;
-        op_of(alloc, "RESTORE f b 0")?,
-        Op::Gran(GranOp::Restore(f, b, 0))
-    );
-    assert_eq!(rt;
-        op_of(alloc, "SPECTRUM f b 999999999")?,
+        op_of("SPECTRUM f b 999999999")?,
         Op::Gran(GranOp::Spectrum(f, b, 999_999_999))
     );
     Ok(())

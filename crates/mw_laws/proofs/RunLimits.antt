@@ -15,7 +15,7 @@ use Rattle.mw_model.specs.declared.codes.Code.TheVariants as code
 use Rattle.mw_model.specs.Pictures.{Picture, FitsKind, IsPicture, IsImage}
 use Rattle.mw_model.specs.Flat.{erosion, dilation, opening, closing, gradient, white_top_hat, black_top_hat, rank, threshold, hit_or_miss}
 use Rattle.mw_model.specs.Iterates.{skeleton, restoration}
-use Rattle.mw_model.specs.Values.{Value, drawn_by, result_of, flat_result, gran_result, shape_of_picture}
+use Rattle.mw_model.specs.Values.{Value, drawn_by, result_of, shape_of_picture}
 use Rattle.mw_model.specs.Refusals.{AnImage, AnElement, first_of, wanted_case, inputs_wanted, op_cases, binary_case, origin_case, param_case}
 use Rattle.mw_model.specs.Machine.{Machine, as_bits}
 use Rattle.mw_laws.specs.MachineLaws.{ValuesHaveShapes, ValuesWithinLimits, WithinLimits}
@@ -67,7 +67,7 @@ keeps m f b shapes limits h operator same picture =
     drawn_limits m f b a operator (like a.image (operator a.element.offsets a.image) (same a.element.offsets a.image) (picture a.element.offsets a.image image.picture) image)
 
 flat_limits : (m : Machine) (o : FlatOp) → ValuesHaveShapes m → ValuesWithinLimits m → first_of (map (wanted_case m.table) (inputs_wanted (op.Flat o))) ≡ None
-    → WithinLimits (flat_result o (input_values m (inputs_wanted (op.Flat o))))
+    → WithinLimits (result_of (op.Flat o) (input_values m (inputs_wanted (op.Flat o))))
 flat_limits m (flat.Erode f b) shapes limits h = keeps m f b shapes limits h erosion (λ e g. refl) (λ e g p. erosion_picture e g)
 flat_limits m (flat.Dilate f b) shapes limits h = keeps m f b shapes limits h dilation (λ e g. refl) (λ e g p. dilation_picture e g p)
 flat_limits m (flat.Opening f b) shapes limits h = keeps m f b shapes limits h opening (λ e g. refl) (λ e g p. opening_picture e g)
@@ -79,13 +79,13 @@ flat_limits m (flat.Rank f b k) shapes limits h = keeps m f b shapes limits h (�
 flat_limits m (flat.Threshold f k) shapes limits h =
     let a = alone m f shapes h in
     let image = a.limits limits in
-    let P : List (Option Value) → Type 0 = λ l. WithinLimits (flat_result (flat.Threshold f k) l) in
+    let P : List (Option Value) → Type 0 = λ l. WithinLimits (result_of (op.Flat (flat.Threshold f k)) l) in
     subst P (sym a.values) (within a.image (threshold k a.image) (threshold_picture k a.image) refl refl refl image)
 flat_limits m (flat.HitMiss f hit miss) shapes limits h =
     let a = three m f hit miss shapes h in
     let image = a.limits limits in
     let g = hit_or_miss a.first.offsets a.second.offsets a.image in
-    let P : List (Option Value) → Type 0 = λ l. WithinLimits (flat_result (flat.HitMiss f hit miss) l) in
+    let P : List (Option Value) → Type 0 = λ l. WithinLimits (result_of (op.Flat (flat.HitMiss f hit miss)) l) in
     subst P (sym a.values) (like a.image g refl (minus_picture (erosion a.first.offsets a.image) (dilation a.second.offsets a.image) (erosion_picture a.first.offsets a.image)) image)
 
 -- the depth of a skeleton is within its limits
@@ -97,7 +97,7 @@ depth_fits levels h =
     (omega arith, omega arith)
 
 gran_limits : (m : Machine) (o : GranOp) → ValuesHaveShapes m → ValuesWithinLimits m → first_of (map (wanted_case m.table) (inputs_wanted (op.Gran o))) ≡ None
-    → first_of (op_cases m.table m.payloads (op.Gran o)) ≡ None → WithinLimits (gran_result o (input_values m (inputs_wanted (op.Gran o))))
+    → first_of (op_cases m.table m.payloads (op.Gran o)) ≡ None → WithinLimits (result_of (op.Gran o) (input_values m (inputs_wanted (op.Gran o))))
 gran_limits m (gran.Skeleton f b levels) shapes limits h r =
     let a = both m f b shapes h in
     let image = a.limits limits in
@@ -111,7 +111,7 @@ gran_limits m (gran.Restore f b levels) shapes limits h r =
     drawn_limits m f b a (λ e. restoration e levels) (restored a.element.offsets levels a.image (a.limits limits))
 gran_limits m (gran.Spectrum f b levels) shapes limits h r =
     let a = both m f b shapes h in
-    let P : List (Option Value) → Type 0 = λ l. WithinLimits (gran_result (gran.Spectrum f b levels) l) in
+    let P : List (Option Value) → Type 0 = λ l. WithinLimits (result_of (op.Gran (gran.Spectrum f b levels)) l) in
     subst P (sym a.values) tt
 
 -- the value of an accepted command is within its limits

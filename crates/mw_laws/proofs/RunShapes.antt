@@ -16,7 +16,7 @@ use Rattle.mw_model.specs.Pictures.{Picture, IsImage}
 use Rattle.mw_model.specs.Elements.{Figure}
 use Rattle.mw_model.specs.Flat.{erosion, dilation, opening, closing, gradient, white_top_hat, black_top_hat, rank}
 use Rattle.mw_model.specs.Iterates.{skeleton, restoration, volume}
-use Rattle.mw_model.specs.Values.{Value, ImageValue, ElementValue, CurveValue, tickets, value_at, result_of, flat_result, gran_result, drawn_by, shape_of_picture, shape_of_figure}
+use Rattle.mw_model.specs.Values.{Value, ImageValue, ElementValue, CurveValue, tickets, value_at, result_of, drawn_by, shape_of_picture, shape_of_figure}
 use Rattle.mw_model.specs.Refusals.{Table, Wanted, AnImage, AnElement, ticket_of, shape_at, is_image, is_element, first_of, wanted_case, inputs_wanted}
 use Rattle.mw_model.specs.Machine.{Machine, values, inputs_from, shape_named, shape_of_result, as_bits, as_grey}
 use Rattle.mw_laws.specs.MachineLaws.{shape_of_value, ValuesHaveShapes, ValuesWithinLimits, WithinLimits}
@@ -150,7 +150,7 @@ restoration_shape b zero g = refl
 restoration_shape b (suc n) g = restoration_shape b n g
 
 pub flat_shape_is : (m : Machine) (o : FlatOp) → ValuesHaveShapes m → first_of (map (wanted_case m.table) (inputs_wanted (op.Flat o))) ≡ None
-    → option_map shape_of_value (flat_result o (input_values m (inputs_wanted (op.Flat o)))) ≡ Some (shape_of_result m.table (op.Flat o))
+    → option_map shape_of_value (result_of (op.Flat o) (input_values m (inputs_wanted (op.Flat o)))) ≡ Some (shape_of_result m.table (op.Flat o))
 flat_shape_is m (flat.Erode f b) shapes h = drawn_shape m f b (both m f b shapes h) erosion (λ s. s) refl
 flat_shape_is m (flat.Dilate f b) shapes h = drawn_shape m f b (both m f b shapes h) dilation (λ s. s) refl
 flat_shape_is m (flat.Opening f b) shapes h = drawn_shape m f b (both m f b shapes h) opening (λ s. s) refl
@@ -161,20 +161,20 @@ flat_shape_is m (flat.BlackTopHat f b) shapes h = drawn_shape m f b (both m f b 
 flat_shape_is m (flat.Rank f b k) shapes h = drawn_shape m f b (both m f b shapes h) (λ e. rank e k) (λ s. s) refl
 flat_shape_is m (flat.Threshold f k) shapes h =
     let a = alone m f shapes h in
-    ap (λ l. option_map shape_of_value (flat_result (flat.Threshold f k) l)) a.values ∙ ap (λ s. Some (as_bits s)) (sym a.shape)
+    ap (λ l. option_map shape_of_value (result_of (op.Flat (flat.Threshold f k)) l)) a.values ∙ ap (λ s. Some (as_bits s)) (sym a.shape)
 flat_shape_is m (flat.HitMiss f hit miss) shapes h =
     let a = three m f hit miss shapes h in
-    ap (λ l. option_map shape_of_value (flat_result (flat.HitMiss f hit miss) l)) a.values ∙ ap Some (sym a.shape)
+    ap (λ l. option_map shape_of_value (result_of (op.Flat (flat.HitMiss f hit miss)) l)) a.values ∙ ap Some (sym a.shape)
 
 pub gran_shape_is : (m : Machine) (o : GranOp) → ValuesHaveShapes m → first_of (map (wanted_case m.table) (inputs_wanted (op.Gran o))) ≡ None
-    → option_map shape_of_value (gran_result o (input_values m (inputs_wanted (op.Gran o)))) ≡ Some (shape_of_result m.table (op.Gran o))
+    → option_map shape_of_value (result_of (op.Gran o) (input_values m (inputs_wanted (op.Gran o)))) ≡ Some (shape_of_result m.table (op.Gran o))
 gran_shape_is m (gran.Skeleton f b levels) shapes h = drawn_shape m f b (both m f b shapes h) (λ e. skeleton e levels) (as_grey (levels + 1)) refl
 gran_shape_is m (gran.Restore f b levels) shapes h =
     let a = both m f b shapes h in
     drawn_shape m f b a (λ e. restoration e levels) as_bits (restoration_shape a.element.offsets levels a.image)
 gran_shape_is m (gran.Spectrum f b levels) shapes h =
     let a = both m f b shapes h in
-    ap (λ l. option_map shape_of_value (gran_result (gran.Spectrum f b levels) l)) a.values
+    ap (λ l. option_map shape_of_value (result_of (op.Gran (gran.Spectrum f b levels)) l)) a.values
     ∙ ap (λ n. Some (shape.Curve n)) (length-map-range_with_len (λ n. volume a.element.offsets n a.image) 0 (levels + 1))
 
 -- the value of an accepted command has the shape that it was accepted with

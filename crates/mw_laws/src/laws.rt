@@ -1,6 +1,6 @@
 //! What holds of the operators. Each function is a law, and does nothing.
 
-ghost use Rattle.std.specs.Prelude.{fold, min, max, ◌≡◌, [], ◌∷◌, ◌++◌, ◌↔◌, ◌⊎◌, ◌+◌, ◌-◌, ◌*◌, ℕ, ◌<◌, ◌≤◌, List, length, Contains, count_by, nat_le, nat_lt, slice_index, flat_map, IsTrue, codes, decimal};
+ghost use Rattle.std.specs.Prelude.{fold, min, max, ◌≡◌, [], ◌∷◌, ◌++◌, ◌↔◌, ◌⊎◌, ◌+◌, ◌-◌, ◌*◌, ℕ, ◌<◌, ◌≤◌, List, length, All, Contains, count_by, nat_le, nat_lt, slice_index, flat_map, IsTrue, codes, decimal};
 ghost use Rattle.std.specs.List.{range_with_len};
 ghost use Rattle.std.specs.List.Sorted.{IsNonDecreasing, IsPermutation};
 ghost use Rattle.mw_model.specs.declared.places.Offset.{Offset};
@@ -8,7 +8,7 @@ ghost use Rattle.mw_model.specs.Pictures.{Picture, sample, IsPicture, IsSet};
 ghost use Rattle.mw_model.specs.Flat.{under, minus, rank, in_rising_order, least, greatest, erosion, dilation, opening, closing, negated, gradient, white_top_hat, black_top_hat, threshold, complement, hit_or_miss, set_hit_or_miss};
 ghost use Rattle.mw_model.specs.Iterates.{times, rectangle, volume, spectrum, is_residue, level_set, skeleton, restoration};
 ghost use Rattle.mw_model.specs.Curves.{line, volume_lines, fall_lines, rest_line};
-ghost use Rattle.mw_model.specs.Laws.{Below, SameShape, BelowAll, AboveAll, HoldsOrigin};
+ghost use Rattle.mw_model.specs.Laws.{Below, SameShape, HoldsOrigin};
 
 /// Dilation by the negated element and erosion are adjoint, on images of one shape.
 pub fn adjoint()
@@ -35,11 +35,11 @@ pub fn rising()
 
 /// The least and the greatest bound the numbers, and are among them or the neutral.
 pub fn extrema()
-    ensures below { (top : ℕ) (ns : List ℕ) → BelowAll (least top ns) ns }
+    ensures below { (top : ℕ) (ns : List ℕ) → All (λ n. least top ns ≤ n) ns }
     ensures least { (top : ℕ) (ns : List ℕ) → ((least top ns ≡ top) ⊎ Contains ns (least top ns)) }
-    ensures among { (top n : ℕ) (ns : List ℕ) → AboveAll top (n ∷ ns) → Contains (n ∷ ns) (least top (n ∷ ns)) }
+    ensures among { (top n : ℕ) (ns : List ℕ) → All (λ m. m ≤ top) (n ∷ ns) → Contains (n ∷ ns) (least top (n ∷ ns)) }
     ensures folded { (top : ℕ) (ns : List ℕ) → fold (λ a n. min a n) top ns ≡ least top ns }
-    ensures above { (ns : List ℕ) → AboveAll (greatest ns) ns }
+    ensures above { (ns : List ℕ) → All (λ n. n ≤ greatest ns) ns }
     ensures folded_up { (ns : List ℕ) → fold (λ a n. max a n) 0 ns ≡ greatest ns }
     ensures greatest { (ns : List ℕ) → ((greatest ns ≡ 0) ⊎ Contains ns (greatest ns)) }
 {}

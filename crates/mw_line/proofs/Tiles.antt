@@ -9,7 +9,8 @@ use Rattle.mw_model.specs.declared.places.OffsetBox.{OffsetBox}
 use Rattle.mw_model.specs.declared.places.Rect.{Rect}
 use Rattle.mw_model.specs.Places.{span, box_offsets}
 use Rattle.mw_model.specs.Rasters.{Raster, raster, cell_at, Sight, seen_under}
-use Rattle.mw_model.specs.Windows.{View, seen_at, IsWindow}
+use Rattle.mw_model.specs.Windows.{View, seen_at}
+use Rattle.mw_tile.specs.Windows.{IsWindow}
 use Rattle.mw_tile.proofs.Shown.{seen_under-window}
 use Rattle.mw_lane.specs.Shifted.{merge_at}
 use Rattle.mw_line.specs.Extrema.{over, IsSlidingExtremum}

@@ -1,7 +1,7 @@
 -- What the operators give is an image.
 use Rattle.std.proofs.Common.{◌≡◌, ℕ, zero, suc, ◌+◌, ◌-◌, ◌<◌, ◌≤◌, List, [], ◌∷◌, length, get_or, min, max, pos, ◌+ℤ◌, refl, arith, ◌∙◌, inl, inr}
 use Rattle.std.specs.Prelude.{nat_le, slice_index, if◌then◌else◌, ◌==◌}
-use Rattle.std.specs.List.{AllByRecursion, Contains, fold}
+use Rattle.std.specs.List.{All, AllByRecursion, Contains, fold}
 use Rattle.std.proofs.lemmas.Bool.{cases_lt, cases_Bool}
 use Rattle.std.proofs.lemmas.List.Elements.{All-from_get_or, All-head, Contains-append_right}
 use Rattle.mw_model.specs.declared.shapes.Kind.{Kind}
@@ -10,7 +10,6 @@ use Rattle.mw_model.specs.declared.places.Offset.{Offset}
 use Rattle.mw_model.specs.Pictures.{Picture, sample, drawn, redrawn, IsPicture}
 use Rattle.mw_model.specs.Flat.{under, least, greatest, erosion, dilation, minus, threshold, rank, put_in_order, in_rising_order}
 use Rattle.mw_model.specs.Iterates.{is_residue, residue_mark, times, skeleton}
-use Rattle.mw_model.specs.Laws.{AboveAll}
 use Rattle.mw_model.proofs.ImagePlaces.{sample-drawn, sample-redrawn, by_places, length-rows, sample_bounded}
 use Rattle.mw_model.proofs.ImageOrder.{IsBounded, bounded_erosion, bounded_dilation}
 use Rattle.mw_model.proofs.Covers.{in_frame, outside, seen}
@@ -116,7 +115,7 @@ pub fold-max_from_none : (ns : List ℕ) → fold (λ a n. max a n) 0 ns ≡ gre
 fold-max_from_none ns = omega (arith, fold-max 0 ns)
 
 -- Of numbers that are not above the top the least is one, if there is one.
-pub least_among : (top n : ℕ) (ns : List ℕ) → AboveAll top (n ∷ ns) → Contains (n ∷ ns) (least top (n ∷ ns))
+pub least_among : (top n : ℕ) (ns : List ℕ) → All (λ m. m ≤ top) (n ∷ ns) → Contains (n ∷ ns) (least top (n ∷ ns))
 least_among top n ns above =
     elim (least_reached top ns) [
       | inr among ↦ elim (cases_lt n (least top ns)) [

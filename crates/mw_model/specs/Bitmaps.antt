@@ -8,6 +8,7 @@ use Rattle.mw_model.specs.Rasters.{Raster, raster}
 use Rattle.mw_model.specs.NetpbmGrammar.{Begins, IsPixel, IsRaster}
 use Rattle.mw_model.specs.NetpbmRefusals.{HasMagic, PlainRefuses}
 
+-- there is a pixel, and no side is over the limit (own)
 pub record SidesFit (side width height : ℕ) : Type 0 where
   pub some_column : 0 < width
   pub some_row : 0 < height

@@ -31,11 +31,3 @@ number_and_word code.Settled = (49, codes "SETTLED")
 number_and_word code.Memory = (50, codes "MEMORY")
 number_and_word code.Released = (51, codes "RELEASED")
 number_and_word code.Pending = (52, codes "PENDING")
-
--- the number of a refusal
-abbrev pub number_of : Code → ℕ
-number_of c = (number_and_word c).0
-
--- the word of a refusal
-abbrev pub word_of : Code → List ℕ
-word_of c = (number_and_word c).1

@@ -1,12 +1,12 @@
 -- Structuring elements: lists of distinct offsets, not empty, that come from bitmaps.
-use Rattle.std.specs.Prelude.{◌≡◌, ◌<◌, ℕ, ◌+◌, ◌*◌, ◌&&◌, ◌==◌, ◌↔◌, Bool, List, [], ◌≢◌, map, flat_map, filter_map, ℤ, pos, negsuc, ◌-ℤ◌, neg_ℤ, ◌≤ℤ◌, if◌then◌else◌, Some, None, slice_index}
+use Rattle.std.specs.Prelude.{◌≡◌, ◌<◌, ℕ, ◌+◌, ◌*◌, ◌&&◌, ◌==◌, Bool, List, [], ◌≢◌, map, flat_map, filter_map, ℤ, pos, negsuc, ◌-ℤ◌, neg_ℤ, ◌≤ℤ◌, if◌then◌else◌, Some, None, slice_index}
 use Rattle.std.specs.Ordering.{int_eq}
-use Rattle.std.specs.List.{range_with_len, list_any, IsDistinct, Contains, AllByRecursion}
+use Rattle.std.specs.List.{range_with_len, list_any, IsDistinct, AllByRecursion}
 use Rattle.mw_model.specs.declared.codes.Code.{Code}
 use Rattle.mw_model.specs.declared.codes.Code.TheVariants as code
 use Rattle.mw_model.specs.declared.places.Offset.{Offset}
-use Rattle.mw_model.specs.declared.places.OffsetBox.{OffsetBox}
 use Rattle.mw_model.specs.declared.places.Reach.{Reach}
+use Rattle.mw_model.specs.Places.{nonnegative}
 use Rattle.mw_model.specs.Rasters.{Raster}
 use Rattle.mw_model.specs.Flat.{greatest}
 use Rattle.mw_model.specs.Bitmaps.{SidesFit, IsBitmap, BitmapRefuses}
@@ -34,6 +34,7 @@ offsets_of f ox oy = flat_map (λ y. offsets_in_row f ox oy y) (range_with_len 0
 abbrev pub figure_of : Raster ℕ → ℕ → ℕ → Figure
 figure_of f ox oy = record { width = f.width; height = f.height; offsets = offsets_of f ox oy }
 
+-- the same column and row
 abbrev pub same_offset : Offset → Offset → Bool
 same_offset a b = int_eq a.dx b.dx && int_eq a.dy b.dy
 
@@ -63,29 +64,13 @@ holds_origin offsets = list_any (λ (b : Offset). int_eq b.dx (pos 0) && int_eq 
 abbrev pub overlaps : List Offset → List Offset → Bool
 overlaps first second = list_any (λ (a : Offset). list_any (same_offset a) second) first
 
--- the offset lies in the rectangle
-pub record InBox (box : OffsetBox) (b : Offset) : Type 0 where
-  pub left : box.x0 ≤ℤ b.dx
-  pub right : b.dx ≤ℤ box.x1
-  pub top : box.y0 ≤ℤ b.dy
-  pub bottom : b.dy ≤ℤ box.y1
-
--- the offsets are exactly those of the rectangle
-abbrev pub FillsBox : OffsetBox → List Offset → Type 0
-FillsBox box offsets = (b : Offset) → Contains offsets b ↔ InBox box b
-
--- a distance in the direction that counts, or 0
-abbrev pub steps : ℤ → ℕ
-steps (pos n) = n
-steps (negsuc n) = 0
-
 -- the greatest distance of an offset on each side
 abbrev pub reach_of : List Offset → Reach
 reach_of offsets = record {
-  left = greatest (map (λ (b : Offset). steps (neg_ℤ b.dx)) offsets);
-  right = greatest (map (λ (b : Offset). steps b.dx) offsets);
-  up = greatest (map (λ (b : Offset). steps (neg_ℤ b.dy)) offsets);
-  down = greatest (map (λ (b : Offset). steps b.dy) offsets);
+  left = greatest (map (λ (b : Offset). nonnegative (neg_ℤ b.dx)) offsets);
+  right = greatest (map (λ (b : Offset). nonnegative b.dx) offsets);
+  up = greatest (map (λ (b : Offset). nonnegative (neg_ℤ b.dy)) offsets);
+  down = greatest (map (λ (b : Offset). nonnegative b.dy) offsets);
 }
 
 -- ---- elements from bytes

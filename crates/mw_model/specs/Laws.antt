@@ -1,5 +1,5 @@
 -- What the laws say.
-use Rattle.std.specs.Prelude.{◌≡◌, ℕ, ◌<◌, ◌≤◌, List, All, Contains, pos}
+use Rattle.std.specs.Prelude.{◌≡◌, ℕ, ◌<◌, ◌≤◌, List, Contains, pos}
 use Rattle.mw_model.specs.declared.places.Offset.{Offset}
 use Rattle.mw_model.specs.Pictures.{Picture, sample}
 
@@ -13,14 +13,6 @@ pub record SameShape (f g : Picture) : Type 0 where
   pub width : f.width ≡ g.width
   pub height : f.height ≡ g.height
   pub maxval : f.maxval ≡ g.maxval
-
--- the number is above no number of the list
-abbrev pub BelowAll : ℕ → List ℕ → Type 0
-BelowAll n ns = All (λ m. n ≤ m) ns
-
--- the number is below no number of the list
-abbrev pub AboveAll : ℕ → List ℕ → Type 0
-AboveAll n ns = All (λ m. m ≤ n) ns
 
 -- the element holds its origin
 abbrev pub HoldsOrigin : List Offset → Type 0

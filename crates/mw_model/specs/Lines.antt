@@ -1,11 +1,9 @@
 -- The lines of the protocol, and what they ask for (own).
-use Rattle.std.specs.Prelude.{◌<◌, map, decimal, ◌≡◌, ℕ, ◌+◌, ◌-◌, ◌*◌, Bool, true, ◌&&◌, ◌==◌, if◌then◌else◌, nat_lt, nat_le, List, [], ◌∷◌, length, take, drop, Option, None, Some, codes, fold, slice_index}
-use Rattle.std.specs.List.{list_all, position_or_len, slice_split, join_with_byte, AllByRecursion}
-use Rattle.std.specs.Str.{bytes_eq}
+use Rattle.std.specs.Prelude.{◌<◌, ◌≤◌, map, decimal, ◌≡◌, ◌≢◌, ℕ, Bool, true, false, if◌then◌else◌, nat_lt, List, [], ◌∷◌, ◌++◌, length, take, drop, Option, None, Some, codes}
+use Rattle.std.specs.List.{join_with_byte, AllByRecursion}
 use Rattle.mw_model.specs.declared.names.Name.{Name}
 use Rattle.mw_model.specs.declared.operations.Op.{Op}
 use Rattle.mw_model.specs.declared.operations.Op.TheVariants.{Flat, Gran}
-use Rattle.mw_model.specs.declared.operations.FlatOp.{FlatOp}
 use Rattle.mw_model.specs.declared.operations.FlatOp.TheVariants.{Erode, Dilate, Opening, Closing, Gradient, WhiteTopHat, BlackTopHat, Rank, Threshold, HitMiss}
 use Rattle.mw_model.specs.declared.operations.GranOp.TheVariants.{Skeleton, Restore, Spectrum}
 use Rattle.mw_model.specs.declared.requests.Ask.{Ask}
@@ -74,166 +72,25 @@ words_of (Alone ask.Quit) = Fixed (codes "QUIT") ∷ []
 abbrev pub line_of : Head → List ℕ
 line_of head = join_with_byte 32 (map spelled (words_of head))
 
--- its names are names, and its numbers have at most nine digits
+-- the operations that are served
+abbrev pub is_served : Op → Bool
+is_served (Flat (Erode f b)) = true
+is_served (Flat (Dilate f b)) = true
+is_served op = false
+
+-- what it is to compute is served
+abbrev pub AsksServed : Head → Type 0
+AsksServed (Alone (ask.Run name op)) = is_served op ≡ true
+AsksServed head = Unit {0}
+
+-- its names are names, its numbers have at most nine digits, and its operation is served
 abbrev pub IsSayable : Head → Type 0
-IsSayable head = AllByRecursion Fits (words_of head)
+IsSayable head = AllByRecursion Fits (words_of head) × AsksServed head
 
--- ---- reading a line
-
--- one reading after another
-infixl 10 ◌>>=◌
-abbrev pub ◌>>=◌ : {A B : Type 0} → Option A → (A → Option B) → Option B
-None >>= f = None
-(Some x) >>= f = f x
-
-abbrev pub is_blank : ℕ → Bool
-is_blank b = b == 32
-
-abbrev pub is_digit : ℕ → Bool
-is_digit b = nat_le 48 b && nat_le b 57
-
--- the words of a line: what stands before, between and behind its blanks
-abbrev pub words : List ℕ → List (List ℕ)
-words = slice_split is_blank
-
--- a name
-abbrev pub name_word : List ℕ → Option Name
-name_word word = if is_name word then Some (name_of word) else None
-
--- the number that digits spell
-abbrev pub value_of : List ℕ → ℕ
-value_of = fold (λ n b. 10 * n + (b - 48)) 0
-
--- one to nine digits, the first of which is 0 only where it stands alone
-abbrev pub is_number : List ℕ → Bool
-is_number word = nat_le 1 (length word) && nat_le (length word) 9 && list_all is_digit word && (if slice_index word 0 == 48 then length word == 1 else true)
-
--- a number
-abbrev pub number_word : List ℕ → Option ℕ
-number_word word = if is_number word then Some (value_of word) else None
-
--- the words behind the first
-abbrev pub rest : List (List ℕ) → List (List ℕ)
-rest = drop 1
-
--- the first word, as it stands
-abbrev pub word_in : List (List ℕ) → Option (List ℕ)
-word_in [] = None
-word_in (w ∷ ws) = Some w
-
--- the first word, read as a name
-abbrev pub name_in : List (List ℕ) → Option Name
-name_in ws = word_in ws >>= name_word
-
--- the first word, read as a number
-abbrev pub number_in : List (List ℕ) → Option ℕ
-number_in ws = word_in ws >>= number_word
-
--- what is said where no word is left
-abbrev pub at_end : {A : Type 0} → List (List ℕ) → A → Option A
-at_end [] x = Some x
-at_end (w ∷ ws) x = None
-
--- a name and no more
-abbrev pub one_name : List (List ℕ) → Option Name
-one_name ws = do
-  a ← name_in ws
-  at_end (rest ws) a
-
--- two names and no more
-abbrev pub two_names : List (List ℕ) → Option (Name × Name)
-two_names ws = do
-  a ← name_in ws
-  b ← name_in (rest ws)
-  at_end (rest (rest ws)) (a, b)
-
--- three names and no more
-abbrev pub three_names : List (List ℕ) → Option (Name × Name × Name)
-three_names ws = do
-  a ← name_in ws
-  b ← name_in (rest ws)
-  c ← name_in (rest (rest ws))
-  at_end (rest (rest (rest ws))) (a, b, c)
-
--- a name, a number and no more
-abbrev pub name_and_number : List (List ℕ) → Option (Name × ℕ)
-name_and_number ws = do
-  a ← name_in ws
-  n ← number_in (rest ws)
-  at_end (rest (rest ws)) (a, n)
-
--- two names, a number and no more
-abbrev pub two_names_and_number : List (List ℕ) → Option (Name × Name × ℕ)
-two_names_and_number ws = do
-  a ← name_in ws
-  b ← name_in (rest ws)
-  n ← number_in (rest (rest ws))
-  at_end (rest (rest (rest ws))) (a, b, n)
-
--- a name, three numbers and no more
-abbrev pub name_and_three_numbers : List (List ℕ) → Option (Name × ℕ × ℕ × ℕ)
-name_and_three_numbers ws = do
-  a ← name_in ws
-  k ← number_in (rest ws)
-  m ← number_in (rest (rest ws))
-  n ← number_in (rest (rest (rest ws)))
-  at_end (rest (rest (rest (rest ws)))) (a, k, m, n)
-
--- the operations on an image and an element
-unfoldable pub window_op : List ℕ → Name → Name → Option FlatOp
-window_op word f b =
-    if bytes_eq word (codes "ERODE") then Some (Erode f b)
-    else (if bytes_eq word (codes "DILATE") then Some (Dilate f b)
-    else (if bytes_eq word (codes "OPEN") then Some (Opening f b)
-    else (if bytes_eq word (codes "CLOSE") then Some (Closing f b)
-    else (if bytes_eq word (codes "GRADIENT") then Some (Gradient f b)
-    else (if bytes_eq word (codes "WTOPHAT") then Some (WhiteTopHat f b)
-    else (if bytes_eq word (codes "BTOPHAT") then Some (BlackTopHat f b)
-    else None))))))
-
--- what a RUN computes: the word of an operation, and its arguments
-unfoldable pub op_with : List ℕ → List (List ℕ) → Option Op
-op_with word ws =
-    if bytes_eq word (codes "THRESHOLD") then name_and_number ws >>= (λ a. Some (Flat (Threshold a.0 a.1)))
-    else (if bytes_eq word (codes "HITMISS") then three_names ws >>= (λ a. Some (Flat (HitMiss a.0 a.1 a.2)))
-    else (if bytes_eq word (codes "RANK") then two_names_and_number ws >>= (λ a. Some (Flat (Rank a.0 a.1 a.2)))
-    else (if bytes_eq word (codes "SKELETON") then two_names_and_number ws >>= (λ a. Some (Gran (Skeleton a.0 a.1 a.2)))
-    else (if bytes_eq word (codes "RESTORE") then two_names_and_number ws >>= (λ a. Some (Gran (Restore a.0 a.1 a.2)))
-    else (if bytes_eq word (codes "SPECTRUM") then two_names_and_number ws >>= (λ a. Some (Gran (Spectrum a.0 a.1 a.2)))
-    else two_names ws >>= (λ a. window_op word a.0 a.1 >>= (λ op. Some (Flat op))))))))
-
--- a RUN: the name of the result, and what is computed
-abbrev pub run_in : List (List ℕ) → Option Ask
-run_in ws = do
-  name ← name_in ws
-  word ← word_in (rest ws)
-  op ← op_with word (rest (rest ws))
-  Some (ask.Run name op)
-
--- a request without a payload, but RUN: its word, and a name
-unfoldable pub ask_with : List ℕ → List (List ℕ) → Option Ask
-ask_with word ws =
-    if bytes_eq word (codes "CANCEL") then one_name ws >>= (λ a. Some (ask.Cancel a))
-    else (if bytes_eq word (codes "RELEASE") then one_name ws >>= (λ a. Some (ask.Release a))
-    else (if bytes_eq word (codes "STATUS") then one_name ws >>= (λ a. Some (ask.Status a))
-    else (if bytes_eq word (codes "FETCH") then one_name ws >>= (λ a. Some (ask.Fetch a))
-    else (if bytes_eq word (codes "WAIT") then one_name ws >>= (λ a. Some (ask.Wait a))
-    else (if bytes_eq word (codes "QUIT") then at_end ws ask.Quit
-    else None)))))
-
--- what a line says: its first word, and the words behind it
-unfoldable pub head_with : List ℕ → List (List ℕ) → Option Head
-head_with word ws =
-    if bytes_eq word (codes "LOAD") then name_and_number ws >>= (λ a. Some (Payload (awaited.Image a.0) a.1))
-    else (if bytes_eq word (codes "ELEMENT") then name_and_three_numbers ws >>= (λ a. Some (Payload (awaited.Element a.0 a.1 a.2) a.3))
-    else (if bytes_eq word (codes "RUN") then run_in ws >>= (λ a. Some (Alone a))
-    else ask_with word ws >>= (λ a. Some (Alone a))))
-
--- what a line says, without its LF
-unfoldable pub head_of : List ℕ → Option Head
-head_of line = do
-  word ← word_in (words line)
-  head_with word (rest (words line))
+-- what a line says, without its LF: what can be said and has this line, or nothing
+abbrev pub Says : List ℕ → Option Head → Type 0
+Says line (Some head) = IsSayable head × (line_of head ≡ line)
+Says line None = (head : Head) → IsSayable head → line_of head ≢ line
 
 -- ---- requests
 
@@ -241,23 +98,7 @@ head_of line = do
 pub data Asked : Type 0 where
   AskLoad : Name → List ℕ → Asked
   AskElement : Name → ℕ → ℕ → List ℕ → Asked
-  AskRun : Name → Op → Asked
-  AskCancel : Name → Asked
-  AskRelease : Name → Asked
-  AskStatus : Name → Asked
-  AskFetch : Name → Asked
-  AskWait : Name → Asked
-  AskQuit : Asked
-
--- the request of a line without payload
-abbrev pub asked_alone : Ask → Asked
-asked_alone (ask.Run name op) = AskRun name op
-asked_alone (ask.Cancel name) = AskCancel name
-asked_alone (ask.Release name) = AskRelease name
-asked_alone (ask.Status name) = AskStatus name
-asked_alone (ask.Fetch name) = AskFetch name
-asked_alone (ask.Wait name) = AskWait name
-asked_alone ask.Quit = AskQuit
+  AskAlone : Ask → Asked
 
 -- the request of a line with its payload
 abbrev pub asked_with : Awaited → List ℕ → Asked
@@ -280,25 +121,19 @@ with_payload what n behind =
 abbrev pub after_head : Option Head → List ℕ → Front
 after_head None behind = Fault code.Line
 after_head (Some (Payload what n)) behind = with_payload what n behind
-after_head (Some (Alone a)) behind = Found (asked_alone a) behind
+after_head (Some (Alone a)) behind = Found (AskAlone a) behind
 
-abbrev pub is_line_end : ℕ → Bool
-is_line_end b = b == 10
+-- no LF stands in the bytes
+abbrev pub NoLineEnd : List ℕ → Type 0
+NoLineEnd bytes = AllByRecursion (λ b. b ≢ 10) bytes
 
--- A line ends with the first LF, and has at most 200 bytes before it.
-unfoldable pub front : List ℕ → Front
-front bytes =
-    if nat_lt 200 (position_or_len is_line_end bytes) then Fault code.Line
-    else (if nat_lt (position_or_len is_line_end bytes) (length bytes)
-    then after_head (head_of (take (position_or_len is_line_end bytes) bytes)) (drop (position_or_len is_line_end bytes + 1) bytes)
-    else Partial)
+-- What stands at the front of the bytes: a line ends with the first LF, and has at most 200 bytes before it.
+pub data IsFront (bytes : List ℕ) (front : Front) : Type 0 where
+  too_long : 200 < length bytes → NoLineEnd (take 201 bytes) → front ≡ Fault code.Line → IsFront bytes front
+  unended : length bytes ≤ 200 → NoLineEnd bytes → front ≡ Partial → IsFront bytes front
+  ended : (line behind : List ℕ) (said : Option Head) → bytes ≡ line ++ 10 ∷ behind → NoLineEnd line → length line ≤ 200 → Says line said → front ≡ after_head said behind → IsFront bytes front
 
 -- the bytes begin with these requests, and this is what stands after them
 abbrev pub Begins : List ℕ → List Asked → List ℕ → Type 0
 Begins bytes [] behind = behind ≡ bytes
-Begins bytes (r ∷ rs) behind = (mid : List ℕ) × (front bytes ≡ Found r mid) × Begins mid rs behind
-
--- the fault of an input that ends with these bytes, if they are one
-abbrev pub cut_short : List ℕ → Option Code
-cut_short [] = None
-cut_short (b ∷ bs) = Some code.Cut
+Begins bytes (r ∷ rs) behind = (mid : List ℕ) × IsFront bytes (Found r mid) × Begins mid rs behind

@@ -27,7 +27,7 @@ use Rattle.mw_model.specs.declared.calls.LogItem.TheVariants as item
 use Rattle.mw_model.specs.Pictures.{Picture, IsImage}
 use Rattle.mw_model.specs.Elements.{Figure, IsFigure}
 use Rattle.mw_model.specs.Values.{Value, ImageValue, ElementValue, tickets, values_after, shape_of_picture, shape_of_figure}
-use Rattle.mw_model.specs.Refusals.{Table, Wanted, AnImage, AnElement, ticket_of, ticket, outcome_at, submission_at, shape_at, no_inputs, is_pending, is_dead, is_there, flat_inputs, inputs_wanted, refusal}
+use Rattle.mw_model.specs.Refusals.{Table, Wanted, AnImage, AnElement, ticket_of, ticket, outcome_at, submission_at, shape_at, no_inputs, is_pending, is_dead, is_there, inputs_wanted, refusal}
 
 -- A state of the machine: the table, and the payload of each entry that has one.
 pub record Machine : Type 0 where
@@ -68,6 +68,7 @@ answer w (call.Release n) = reply.Accepted (ticket w n)
 answer w (call.Status n) = status_reply (ticket w n) (shape_at w.submissions (ticket w n)) (outcome_at w.outcomes (ticket w n))
 answer w (call.Fetch n) = fetch_reply (ticket w n) (shape_at w.submissions (ticket w n)) (outcome_at w.outcomes (ticket w n))
 
+-- the refusal, or else the reply
 abbrev pub refused_or : Option Code → Reply → Reply
 refused_or None r = r
 refused_or (Some c) r = reply.Refused c
@@ -82,6 +83,7 @@ reply_to m c = reply_from m.table m.payloads c
 
 -- ---- what a call changes
 
+-- the ticket of an input
 abbrev pub ticket_wanted : Table → Wanted → Option ℕ
 ticket_wanted w (AnImage n) = ticket_of w.names n
 ticket_wanted w (AnElement n) = ticket_of w.names n
@@ -103,6 +105,7 @@ abbrev pub as_grey : ℕ → Shape → Shape
 as_grey maxval (shape.Image k w h m) = shape.Image kind.Grey w h maxval
 as_grey maxval s = s
 
+-- the shape of the entry with this name
 abbrev pub shape_named : Table → Name → Shape
 shape_named w n = shape_at w.submissions (ticket w n)
 
@@ -115,11 +118,12 @@ first_shape w (AnElement b ∷ more) = shape_named w b
 -- the shape of a result, which is known at acceptance
 abbrev pub shape_of_result : Table → Op → Shape
 shape_of_result w (op.Flat (flat.Threshold f k)) = as_bits (shape_named w f)
-shape_of_result w (op.Flat o) = first_shape w (flat_inputs o)
+shape_of_result w (op.Flat o) = first_shape w (inputs_wanted (op.Flat o))
 shape_of_result w (op.Gran (gran.Skeleton f b levels)) = as_grey (levels + 1) (shape_named w f)
 shape_of_result w (op.Gran (gran.Restore f b levels)) = as_bits (shape_named w f)
 shape_of_result w (op.Gran (gran.Spectrum f b levels)) = shape.Curve (levels + 1)
 
+-- the shape of a good payload
 abbrev pub shape_of_given : Given → Shape
 shape_of_given (given.Good s) = s
 shape_of_given (given.Bad c) = shape.Image kind.Bit 0 0 0
@@ -128,9 +132,11 @@ shape_of_given (given.Bad c) = shape.Image kind.Bit 0 0 0
 abbrev pub with_entry : Table → Name → Submission → Outcome → Table
 with_entry w n e o = record { names = w.names ++ n ∷ []; submissions = w.submissions ++ e ∷ []; outcomes = w.outcomes ++ o ∷ [] }
 
+-- what is accepted of a payload
 abbrev pub given_submission : Given → Submission
 given_submission g = record { shape = shape_of_given g; command = command.Given; inputs = no_inputs }
 
+-- what is accepted of an operation
 abbrev pub run_submission : Table → Op → Submission
 run_submission w o = record { shape = shape_of_result w o; command = command.Run o; inputs = inputs_from w (inputs_wanted o) }
 
@@ -160,9 +166,9 @@ changed w (call.Element n g) = with_entry w n (given_submission g) outcome.Done
 changed w (call.Run n o) = with_entry w n (run_submission w o) outcome.Pending
 changed w (call.Cancel n) = killed w (ticket w n) outcome.Cancelled
 changed w (call.Release n) = settled w (ticket w n) outcome.Released
-changed w (call.Status n) = w
-changed w (call.Fetch n) = w
+changed w c = w
 
+-- what was before where the call is refused, else what is after
 abbrev pub unless_refused : {X : Type 0} → Option Code → X → X → X
 unless_refused None before after = after
 unless_refused (Some c) before after = before

@@ -20,17 +20,13 @@ padded text = text ++ replicate (32 - length text) 0
 abbrev pub is_zero : ℕ → Bool
 is_zero b = b == 0
 
--- the bytes before the zeros
-abbrev pub before_zeros : List ℕ → List ℕ
-before_zeros = before_first is_zero
-
 -- the name that is spelled so
 abbrev pub name_of : List ℕ → Name
 name_of text = record { bytes = padded text }
 
--- how a name is spelled
+-- how a name is spelled: its bytes before the zeros
 abbrev pub spelling : Name → List ℕ
-spelling name = before_zeros name.bytes
+spelling name = before_first is_zero name.bytes
 
 -- the same bytes, so the same name
 abbrev pub same_name : Name → Name → Bool

@@ -19,6 +19,7 @@ is_white b = (b == 9) || (b == 10) || (b == 13) || (b == 32)
 abbrev pub is_eol : ℕ → Bool
 is_eol b = (b == 10) || (b == 13)
 
+-- 0 to 9
 abbrev pub is_digit : ℕ → Bool
 is_digit b = nat_le 48 b && nat_le b 57
 
@@ -62,8 +63,7 @@ magic RawGrey = 80 ∷ 53 ∷ []
 abbrev pub IsMaxval : Format → List ℕ → ℕ → Type 0
 IsMaxval PlainBits bytes n = (bytes ≡ []) × (n ≡ 1)
 IsMaxval RawBits bytes n = (bytes ≡ []) × (n ≡ 1)
-IsMaxval PlainGrey bytes n = IsField bytes n
-IsMaxval RawGrey bytes n = IsField bytes n
+IsMaxval format bytes n = IsField bytes n
 
 -- the magic, the fields and one white space byte
 pub record IsHeader (bytes : List ℕ) (h : Header) : Type 0 where
@@ -114,6 +114,7 @@ IsTail (b ∷ bs) = IsTrue (is_white b)
 abbrev pub IsPixel : ℕ → List ℕ → ℕ → List ℕ → Type 0
 IsPixel left bytes s rest = (blank : List ℕ) × (bytes ≡ blank ++ (48 + s) ∷ rest) × Blank blank × (s ≤ 1)
 
+-- no digit stands first
 abbrev pub NoDigit : List ℕ → Type 0
 NoDigit [] = Unit {0}
 NoDigit (b ∷ bs) = is_digit b ≡ false
@@ -132,6 +133,7 @@ abbrev pub IsPlain : (ℕ → List ℕ → ℕ → List ℕ → Type 0) → List
 IsPlain Place bytes [] = IsTail bytes
 IsPlain Place bytes (s ∷ ss) = (rest : List ℕ) × Place (length ss) bytes s rest × IsPlain Place rest ss
 
+-- the bytes spell these samples in this format
 abbrev pub RasterAs : Format → ℕ → ℕ → ℕ → List ℕ → List ℕ → Type 0
 RasterAs PlainBits width height maxval bytes samples = IsPlain IsPixel bytes samples
 RasterAs PlainGrey width height maxval bytes samples = IsPlain IsSample bytes samples
@@ -153,15 +155,16 @@ pub record SizeFits (width height : ℕ) : Type 0 where
   pub low : height ≤ 8192
   pub area : height * width ≤ 16777216
 
+-- the maxvals that two bytes hold
 pub record MaxvalFits (maxval : ℕ) : Type 0 where
   pub some : 0 < maxval
   pub small : maxval ≤ 65535
 
+-- the kind of the images of a format
 abbrev pub kind_of : Format → Kind
 kind_of PlainBits = Bit
 kind_of RawBits = Bit
-kind_of PlainGrey = Grey
-kind_of RawGrey = Grey
+kind_of format = Grey
 
 -- the image under a header with these samples
 abbrev pub picture : Header → List ℕ → Picture

@@ -4,7 +4,7 @@ use Rattle.std.specs.List.{AllByRecursion}
 use Rattle.mw_model.specs.declared.codes.Code.{Code}
 use Rattle.mw_model.specs.declared.codes.Code.TheVariants as code
 use Rattle.mw_model.specs.declared.formats.Format.{Format}
-use Rattle.mw_model.specs.declared.formats.Format.TheVariants.{PlainBits, PlainGrey, RawBits, RawGrey}
+use Rattle.mw_model.specs.declared.formats.Format.TheVariants.{PlainBits, PlainGrey, RawBits}
 use Rattle.mw_model.specs.declared.formats.Header.{Header}
 use Rattle.mw_model.specs.NetpbmGrammar.{is_white, is_eol, Blank, magic, Begins, IsTail, IsPixel, IsSample, IsRaster, SizeFits, MaxvalFits}
 
@@ -44,11 +44,11 @@ pub data PlainRefuses (Place : ℕ → List ℕ → ℕ → List ℕ → Type 0)
   later : (left : ℕ) (bytes : List ℕ) (c : Code) (s : ℕ) (rest : List ℕ) → Place left bytes s rest → s ≤ maxval → PlainRefuses Place maxval left rest c → PlainRefuses Place maxval (suc left) bytes c
   no_tail : (bytes : List ℕ) → ¬ IsTail bytes → PlainRefuses Place maxval zero bytes code.Trailing
 
+-- the bytes are no raster of this format, and this code tells why
 abbrev pub RasterRefusesAs : Format → Header → List ℕ → Code → Type 0
 RasterRefusesAs PlainBits h bytes c = PlainRefuses IsPixel 1 (h.height * h.width) bytes c
 RasterRefusesAs PlainGrey h bytes c = PlainRefuses IsSample h.maxval (h.height * h.width) bytes c
-RasterRefusesAs RawBits h bytes c = RawRefuses h bytes c
-RasterRefusesAs RawGrey h bytes c = RawRefuses h bytes c
+RasterRefusesAs format h bytes c = RawRefuses h bytes c
 
 -- the bytes are no file, and this code tells why
 pub data Refuses (bytes : List ℕ) : Code → Type 0 where

@@ -9,9 +9,11 @@ use Rattle.mw_model.specs.Pictures.{Picture}
 abbrev pub two_bytes : ℕ → List ℕ
 two_bytes s = (s / 256) ∷ (s % 256) ∷ []
 
+-- one byte to a level where the maxval is below 256, else two
 abbrev pub grey_raster : ℕ → List ℕ → List ℕ
 grey_raster maxval samples = if nat_lt maxval 256 then samples else flat_map two_bytes samples
 
+-- P5, the sides and the maxval, each field set off by one byte
 abbrev pub grey_header : ℕ → ℕ → ℕ → List ℕ
 grey_header width height maxval = codes "P5\n" ++ (decimal width ++ (codes " " ++ (decimal height ++ (codes "\n" ++ (decimal maxval ++ codes "\n")))))
 
@@ -29,9 +31,11 @@ unfoldable pub packed_rows : ℕ → ℕ → List ℕ → List ℕ
 packed_rows width zero samples = []
 packed_rows width (suc height) samples = packed ((width + 7) / 8) (take width samples) ++ packed_rows width height (drop width samples)
 
+-- P4 and the sides, each field set off by one byte
 abbrev pub set_header : ℕ → ℕ → List ℕ
 set_header width height = codes "P4\n" ++ (decimal width ++ (codes " " ++ (decimal height ++ codes "\n")))
 
+-- the text of an image of this kind
 abbrev pub text_as : Kind → Picture → List ℕ
 text_as Bit i = set_header i.width i.height ++ packed_rows i.width i.height i.samples
 text_as Grey i = grey_header i.width i.height i.maxval ++ grey_raster i.maxval i.samples

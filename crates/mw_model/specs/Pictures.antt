@@ -28,13 +28,8 @@ sample_at f (negsuc x) y = None
 
 -- the image of this kind, size and maxval with this value in column x of row y
 abbrev pub drawn : Kind → ℕ → ℕ → ℕ → (ℕ → ℕ → ℕ) → Picture
-drawn kind width height maxval value = record {
-  kind = kind;
-  width = width;
-  height = height;
-  maxval = maxval;
-  samples = flat_map (λ y. map (λ x. value x y) (range_with_len 0 width)) (range_with_len 0 height);
-}
+drawn kind width height maxval value =
+    picture kind width height maxval (flat_map (λ y. map (λ x. value x y) (range_with_len 0 width)) (range_with_len 0 height))
 
 -- an image like f with this value in column x of row y
 abbrev pub redrawn : Picture → (ℕ → ℕ → ℕ) → Picture

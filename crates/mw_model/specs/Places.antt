@@ -1,11 +1,12 @@
 -- Rectangles of a frame, and the tiles that cover it.
-use Rattle.std.specs.Prelude.{◌≡◌, ℕ, ◌+◌, ◌-◌, ◌*◌, ◌/◌, ◌%◌, ◌<◌, ◌≤◌, min, List, map, length, slice_index_or, ℤ, pos, negsuc, ◌+ℤ◌, ◌-ℤ◌, ◌≤ℤ◌, flat_map}
+use Rattle.std.specs.Prelude.{◌≡◌, ℕ, ◌+◌, ◌-◌, ◌<◌, ◌≤◌, min, List, map, length, slice_index_or, ℤ, pos, negsuc, ◌+ℤ◌, ◌-ℤ◌, ◌≤ℤ◌, flat_map}
 use Rattle.std.specs.List.{range_with_len, AllByRecursion}
 use Rattle.mw_model.specs.declared.places.Offset.{Offset}
 use Rattle.mw_model.specs.declared.places.OffsetBox.{OffsetBox}
 use Rattle.mw_model.specs.declared.places.Reach.{Reach}
 use Rattle.mw_model.specs.declared.places.Rect.{Rect}
 
+-- the rectangle with this first place and these sides
 abbrev pub rect : ℕ → ℕ → ℕ → ℕ → Rect
 rect x y width height = record { x = x; y = y; width = width; height = height }
 
@@ -42,39 +43,6 @@ pub record CoverOnce (tiles : List Rect) (width height : ℕ) : Type 0 where
   pub within : AllByRecursion (λ r. IsWithin r width height) tiles
   pub once : (x y : ℕ) → x < width → y < height → HoldsOnce tiles x y
 
--- A frame that is cut into squares of one side; the last of a row and of a column end with the frame.
-pub record Tiling : Type 0 where
-  pub width : ℕ
-  pub height : ℕ
-  pub side : ℕ
-
-abbrev pub columns_of : Tiling → ℕ
-columns_of g = (g.width - 1) / g.side + 1
-
-abbrev pub rows_of : Tiling → ℕ
-rows_of g = (g.height - 1) / g.side + 1
-
--- how many tiles there are
-abbrev pub tile_count : Tiling → ℕ
-tile_count g = rows_of g * columns_of g
-
--- the tile of a number; tiles are counted by rows
-abbrev pub tile_at : Tiling → ℕ → Rect
-tile_at g i =
-    rect (i % columns_of g * g.side) (i / columns_of g * g.side) (min g.side (g.width - i % columns_of g * g.side)) (min g.side (g.height - i / columns_of g * g.side))
-
-abbrev pub tiles_of : Tiling → List Rect
-tiles_of g = map (tile_at g) (range_with_len 0 (tile_count g))
-
--- the rectangle has this place if a frame of this width and height has it
-abbrev pub Reaches : Rect → ℕ → ℕ → ℤ → ℤ → Type 0
-Reaches r width height column row = (x y : ℕ) → column ≡ pos x → row ≡ pos y → x < width → y < height → Holds r x y
-
--- at each place of the tile the rectangle has what the frame has under the element
-abbrev pub ReachesAll : Rect → ℕ → ℕ → List Offset → Rect → Type 0
-ReachesAll r width height element tile =
-    (x y : ℕ) → x < tile.width → y < tile.height → AllByRecursion (λ (b : Offset). Reaches r width height (pos (tile.x + x) +ℤ b.dx) (pos (tile.y + y) +ℤ b.dy)) element
-
 -- the offset leads no further than the reach
 pub record Leads (reach : Reach) (b : Offset) : Type 0 where
   pub left : pos 0 ≤ℤ (b.dx +ℤ pos reach.left)
@@ -82,6 +50,7 @@ pub record Leads (reach : Reach) (b : Offset) : Type 0 where
   pub up : pos 0 ≤ℤ (b.dy +ℤ pos reach.up)
   pub down : b.dy ≤ℤ pos reach.down
 
+-- no offset of the element leads further than the reach
 abbrev pub WithinReach : Reach → List Offset → Type 0
 WithinReach reach element = AllByRecursion (λ (b : Offset). Leads reach b) element
 

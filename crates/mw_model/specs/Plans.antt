@@ -18,9 +18,11 @@ pub record Planned : Type 0 where
   pub step : PlanStep
   pub sources : List Source
 
+-- the steps of a plan, in order
 abbrev pub Plan : Type 0
 Plan = List Planned
 
+-- what stands behind the last image of a list: one without places
 abbrev pub no_picture : Picture
 no_picture = record { kind = kind.Bit; width = 0; height = 0; maxval = 0; samples = [] }
 
@@ -50,20 +52,17 @@ planes_from (s ∷ ss) inputs made width height =
 abbrev pub planes : Plan → List Picture → ℕ → ℕ → List Picture
 planes plan inputs width height = planes_from plan inputs [] width height
 
--- a source is an input, or a step before this
-abbrev pub IsBefore : ℕ → Source → Type 0
-IsBefore k (FromInput i) = Unit {0}
-IsBefore k (FromStep i) = i < k
-
 -- a source of step k is one of so many inputs, or a step before k
 abbrev pub IsSourceAt : ℕ → ℕ → Source → Type 0
 IsSourceAt inputs k (FromInput i) = i < inputs
 IsSourceAt inputs k (FromStep i) = i < k
 
+-- the step makes a number, the sum of its samples
 abbrev pub is_sum : PlanStep → Bool
 is_sum Sum = true
 is_sum other = false
 
+-- the number before the others, where it is one
 abbrev pub with_number : Bool → ℕ → List ℕ → List ℕ
 with_number true n ns = n ∷ ns
 with_number false n ns = ns
@@ -78,12 +77,8 @@ numbers_from (s ∷ ss) (f ∷ made) = with_number (is_sum s.step) (sum f.sample
 abbrev pub images_of : List (Option Value) → List Picture
 images_of inputs = filter_map image_of inputs
 
--- the plane of the last step
-abbrev pub last_of : List Picture → Picture
-last_of made = slice_index_or made (length made - 1) no_picture
-
 -- what a plan means for a result of this shape: the plane of the last step, or for a curve the numbers of the Sum steps
 abbrev pub value_of_planes : Shape → Plan → List Picture → Option Value
-value_of_planes (shape.Image k w h m) plan made = Some (ImageValue (last_of made))
+value_of_planes (shape.Image k w h m) plan made = Some (ImageValue (slice_index_or made (length made - 1) no_picture))
 value_of_planes (shape.Element w h) plan made = None
 value_of_planes (shape.Curve n) plan made = Some (CurveValue (numbers_from plan made))

@@ -9,6 +9,7 @@ pub record Raster (A : Type 0) : Type 0 where
   pub height : ℕ
   pub cells : List A
 
+-- the raster of these parts
 abbrev pub raster : {A : Type 0} → ℕ → ℕ → List A → Raster A
 raster width height cells = record { width = width; height = height; cells = cells }
 

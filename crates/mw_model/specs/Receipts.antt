@@ -12,7 +12,8 @@ use Rattle.mw_model.specs.declared.receipts.Receipt.{Receipt}
 use Rattle.mw_model.specs.Pictures.{Picture}
 use Rattle.mw_model.specs.Curves.{curve_text}
 use Rattle.mw_model.specs.NetpbmWriting.{text_of}
-use Rattle.mw_model.specs.Lines.{Asked, AskLoad, AskElement, AskRun, AskCancel, AskRelease, AskStatus, AskFetch, AskWait, AskQuit}
+use Rattle.mw_model.specs.Lines.{Asked, AskLoad, AskElement, AskAlone}
+use Rattle.mw_model.specs.Scripts.{Calls}
 use Rattle.mw_model.specs.Replies.{Handed, NoValue, ImageBytes, CurveText, reply_text, refusal_text}
 
 -- ---- the audit
@@ -41,13 +42,7 @@ pub record Covers (log : List LogItem) (passes : List (List Receipt)) : Type 0 w
 abbrev pub IsCallFor : Asked → Call → Type 0
 IsCallFor (AskLoad name bytes) c = (g : Given) × (c ≡ call.Load name g)
 IsCallFor (AskElement name ox oy bytes) c = (g : Given) × (c ≡ call.Element name g)
-IsCallFor (AskRun name op) c = c ≡ call.Run name op
-IsCallFor (AskCancel name) c = c ≡ call.Cancel name
-IsCallFor (AskRelease name) c = c ≡ call.Release name
-IsCallFor (AskStatus name) c = c ≡ call.Status name
-IsCallFor (AskFetch name) c = c ≡ call.Fetch name
-IsCallFor (AskWait name) c = c ≡ call.Status name
-IsCallFor AskQuit c = ⊥
+IsCallFor (AskAlone a) c = Calls a c
 
 -- the bytes of some image or curve where the reply hands out a value, and none elsewhere
 abbrev pub MayHand : Reply → Handed → Type 0

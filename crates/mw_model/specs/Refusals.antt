@@ -8,9 +8,7 @@ use Rattle.mw_model.specs.declared.shapes.Shape.{Shape}
 use Rattle.mw_model.specs.declared.shapes.Shape.TheVariants as shape
 use Rattle.mw_model.specs.declared.operations.Op.{Op}
 use Rattle.mw_model.specs.declared.operations.Op.TheVariants as op
-use Rattle.mw_model.specs.declared.operations.FlatOp.{FlatOp}
 use Rattle.mw_model.specs.declared.operations.FlatOp.TheVariants as flat
-use Rattle.mw_model.specs.declared.operations.GranOp.{GranOp}
 use Rattle.mw_model.specs.declared.operations.GranOp.TheVariants as gran
 use Rattle.mw_model.specs.declared.submissions.Command.TheVariants as command
 use Rattle.mw_model.specs.declared.submissions.Inputs.{Inputs}
@@ -39,30 +37,38 @@ pub record Table : Type 0 where
 unfoldable pub ticket_of : List Name → Name → Option ℕ
 ticket_of names n = position (same_name n) names
 
+-- the ticket of a known name
 abbrev pub ticket : Table → Name → ℕ
 ticket w n = unwrap_or (ticket_of w.names n) 0
 
+-- how the entry of a ticket stands
 abbrev pub outcome_at : List Outcome → ℕ → Outcome
 outcome_at outcomes t = slice_index_or outcomes t outcome.Pending
 
+-- the inputs of an entry that has none
 abbrev pub no_inputs : Inputs
 no_inputs = record { a = None; b = None; c = None }
 
+-- what stands behind the last entry
 abbrev pub no_submission : Submission
 no_submission = record { shape = shape.Image kind.Bit 0 0 0; command = command.Given; inputs = no_inputs }
 
+-- what was accepted under a ticket
 abbrev pub submission_at : List Submission → ℕ → Submission
 submission_at submissions t = slice_index_or submissions t no_submission
 
+-- the shape of an entry
 abbrev pub shape_at : List Submission → ℕ → Shape
 shape_at submissions t = (submission_at submissions t).shape
 
 -- ---- outcomes and shapes
 
+-- the value is still to come
 abbrev pub is_pending : Outcome → Bool
 is_pending outcome.Pending = true
 is_pending o = false
 
+-- the value is there
 abbrev pub is_done : Outcome → Bool
 is_done outcome.Done = true
 is_done o = false
@@ -74,6 +80,7 @@ is_dead outcome.Memory = true
 is_dead (outcome.Input s) = true
 is_dead o = false
 
+-- the value was there, and was given up
 abbrev pub is_released : Outcome → Bool
 is_released outcome.Released = true
 is_released o = false
@@ -82,14 +89,17 @@ is_released o = false
 abbrev pub is_there : Outcome → Bool
 is_there o = is_done o || is_released o
 
+-- the shape of an image
 abbrev pub is_image : Shape → Bool
 is_image (shape.Image k w h m) = true
 is_image s = false
 
+-- the shape of an element
 abbrev pub is_element : Shape → Bool
 is_element (shape.Element w h) = true
 is_element s = false
 
+-- the shape of a set
 abbrev pub is_binary : Shape → Bool
 is_binary (shape.Image kind.Bit w h m) = true
 is_binary s = false
@@ -102,6 +112,7 @@ first_of [] = None
 first_of (None ∷ cases) = first_of cases
 first_of (Some c ∷ cases) = Some c
 
+-- the code, where the case holds
 abbrev pub when : Bool → Code → Option Code
 when true c = Some c
 when false c = None
@@ -110,9 +121,11 @@ when false c = None
 abbrev pub if_known : Table → Name → (ℕ → Option Code) → Option Code
 if_known w n holds = option_map_or holds (ticket_of w.names n) (Some code.Unknown)
 
+-- the name has an entry
 abbrev pub name_taken : Table → Name → Option Code
 name_taken w n = option_map_or (λ t. Some code.NameTaken) (ticket_of w.names n) None
 
+-- there are 65,536 entries
 abbrev pub no_room : Table → Option Code
 no_room w = when (not (nat_lt (length w.names) 65536)) code.Full
 
@@ -128,39 +141,36 @@ input_case w fits n =
     ∷ when (is_dead (outcome_at w.outcomes t)) code.Dead
     ∷ when (is_released (outcome_at w.outcomes t)) code.Released ∷ []))
 
+-- what is wrong with an input
 abbrev pub wanted_case : Table → Wanted → Option Code
 wanted_case w (AnImage n) = input_case w is_image n
 wanted_case w (AnElement n) = input_case w is_element n
 
 -- the inputs of an operation, in argument order
-abbrev pub flat_inputs : FlatOp → List Wanted
-flat_inputs (flat.Erode f b) = AnImage f ∷ AnElement b ∷ []
-flat_inputs (flat.Dilate f b) = AnImage f ∷ AnElement b ∷ []
-flat_inputs (flat.Opening f b) = AnImage f ∷ AnElement b ∷ []
-flat_inputs (flat.Closing f b) = AnImage f ∷ AnElement b ∷ []
-flat_inputs (flat.Gradient f b) = AnImage f ∷ AnElement b ∷ []
-flat_inputs (flat.WhiteTopHat f b) = AnImage f ∷ AnElement b ∷ []
-flat_inputs (flat.BlackTopHat f b) = AnImage f ∷ AnElement b ∷ []
-flat_inputs (flat.Rank f b k) = AnImage f ∷ AnElement b ∷ []
-flat_inputs (flat.Threshold f k) = AnImage f ∷ []
-flat_inputs (flat.HitMiss f hit miss) = AnImage f ∷ AnElement hit ∷ AnElement miss ∷ []
-
-abbrev pub gran_inputs : GranOp → List Wanted
-gran_inputs (gran.Skeleton f b levels) = AnImage f ∷ AnElement b ∷ []
-gran_inputs (gran.Restore f b levels) = AnImage f ∷ AnElement b ∷ []
-gran_inputs (gran.Spectrum f b levels) = AnImage f ∷ AnElement b ∷ []
-
 abbrev pub inputs_wanted : Op → List Wanted
-inputs_wanted (op.Flat o) = flat_inputs o
-inputs_wanted (op.Gran o) = gran_inputs o
+inputs_wanted (op.Flat (flat.Erode f b)) = AnImage f ∷ AnElement b ∷ []
+inputs_wanted (op.Flat (flat.Dilate f b)) = AnImage f ∷ AnElement b ∷ []
+inputs_wanted (op.Flat (flat.Opening f b)) = AnImage f ∷ AnElement b ∷ []
+inputs_wanted (op.Flat (flat.Closing f b)) = AnImage f ∷ AnElement b ∷ []
+inputs_wanted (op.Flat (flat.Gradient f b)) = AnImage f ∷ AnElement b ∷ []
+inputs_wanted (op.Flat (flat.WhiteTopHat f b)) = AnImage f ∷ AnElement b ∷ []
+inputs_wanted (op.Flat (flat.BlackTopHat f b)) = AnImage f ∷ AnElement b ∷ []
+inputs_wanted (op.Flat (flat.Rank f b k)) = AnImage f ∷ AnElement b ∷ []
+inputs_wanted (op.Flat (flat.Threshold f k)) = AnImage f ∷ []
+inputs_wanted (op.Flat (flat.HitMiss f hit miss)) = AnImage f ∷ AnElement hit ∷ AnElement miss ∷ []
+inputs_wanted (op.Gran (gran.Skeleton f b levels)) = AnImage f ∷ AnElement b ∷ []
+inputs_wanted (op.Gran (gran.Restore f b levels)) = AnImage f ∷ AnElement b ∷ []
+inputs_wanted (op.Gran (gran.Spectrum f b levels)) = AnImage f ∷ AnElement b ∷ []
 
 -- the offsets of the element with this name
 abbrev pub offsets_at : Table → List (Option Value) → Name → List Offset
 offsets_at w values n = unwrap_or (offsets_of (value_at values (ticket w n))) []
 
+-- the image is no set
 abbrev pub binary_case : Table → Name → Option Code
 binary_case w f = when (not (is_binary (shape_at w.submissions (ticket w f)))) code.Binary
 
+-- the element does not hold its origin
 abbrev pub origin_case : Table → List (Option Value) → Name → Option Code
 origin_case w values b = when (not (holds_origin (offsets_at w values b))) code.NoOrigin
 
@@ -169,28 +179,25 @@ abbrev pub param_case : ℕ → ℕ → ℕ → Option Code
 param_case first last k = when (not (nat_le first k && nat_le k last)) code.Param
 
 -- what else an operation asks of its inputs and numbers
-abbrev pub flat_cases : Table → List (Option Value) → FlatOp → List (Option Code)
-flat_cases w values (flat.Rank f b k) = origin_case w values b ∷ param_case 1 (length (offsets_at w values b)) k ∷ []
-flat_cases w values (flat.Threshold f k) = param_case 0 65535 k ∷ []
-flat_cases w values (flat.HitMiss f hit miss) = when (overlaps (offsets_at w values hit) (offsets_at w values miss)) code.Overlap ∷ []
-flat_cases w values o = []
-
-abbrev pub gran_cases : Table → List (Option Value) → GranOp → List (Option Code)
-gran_cases w values (gran.Skeleton f b levels) = binary_case w f ∷ origin_case w values b ∷ param_case 1 254 levels ∷ []
-gran_cases w values (gran.Restore f b levels) = param_case 1 254 levels ∷ []
-gran_cases w values (gran.Spectrum f b levels) = param_case 1 32 levels ∷ []
-
 abbrev pub op_cases : Table → List (Option Value) → Op → List (Option Code)
-op_cases w values (op.Flat o) = flat_cases w values o
-op_cases w values (op.Gran o) = gran_cases w values o
+op_cases w values (op.Flat (flat.Rank f b k)) = origin_case w values b ∷ param_case 1 (length (offsets_at w values b)) k ∷ []
+op_cases w values (op.Flat (flat.Threshold f k)) = param_case 0 65535 k ∷ []
+op_cases w values (op.Flat (flat.HitMiss f hit miss)) = when (overlaps (offsets_at w values hit) (offsets_at w values miss)) code.Overlap ∷ []
+op_cases w values (op.Gran (gran.Skeleton f b levels)) = binary_case w f ∷ origin_case w values b ∷ param_case 1 254 levels ∷ []
+op_cases w values (op.Gran (gran.Restore f b levels)) = param_case 1 254 levels ∷ []
+op_cases w values (op.Gran (gran.Spectrum f b levels)) = param_case 1 32 levels ∷ []
+op_cases w values o = []
 
+-- what is wrong with a payload
 abbrev pub fault_of : Given → Option Code
 fault_of (given.Good s) = None
 fault_of (given.Bad c) = Some c
 
+-- what is not pending cannot be cancelled
 abbrev pub cancel_case : Outcome → Option Code
 cancel_case o = when (not (is_pending o)) code.Settled
 
+-- what is not done cannot be released
 abbrev pub release_case : Outcome → Option Code
 release_case o = first_of (when (is_pending o) code.Pending ∷ when (is_dead o) code.Dead ∷ when (is_released o) code.Released ∷ [])
 

@@ -7,7 +7,7 @@ use Rattle.mw_model.specs.declared.shapes.Shape.{Shape}
 use Rattle.mw_model.specs.declared.shapes.Shape.TheVariants as shape
 use Rattle.mw_model.specs.declared.calls.Reply.{Reply}
 use Rattle.mw_model.specs.declared.calls.Reply.TheVariants as reply
-use Rattle.mw_model.specs.Codes.{number_of, word_of}
+use Rattle.mw_model.specs.Codes.{number_and_word}
 
 -- the bytes that a FETCH hands out: nothing, a written image or the text of a curve
 pub data Handed : Type 0 where
@@ -23,6 +23,7 @@ and_number n = 32 ∷ decimal n
 abbrev pub ticket_line : List ℕ → ℕ → List ℕ → List ℕ
 ticket_line word t more = word ++ and_number t ++ more ++ 10 ∷ []
 
+-- how a kind is told
 abbrev pub kind_text : Kind → List ℕ
 kind_text Bit = codes " BIT"
 kind_text Grey = codes " GREY"
@@ -35,7 +36,7 @@ shape_text (shape.Curve count) = codes " CURVE" ++ and_number count
 
 -- the line of a refusal
 abbrev pub refusal_text : Code → List ℕ
-refusal_text c = codes "ERR" ++ and_number (number_of c) ++ 32 ∷ word_of c ++ 10 ∷ []
+refusal_text c = codes "ERR" ++ and_number (number_and_word c).0 ++ 32 ∷ (number_and_word c).1 ++ 10 ∷ []
 
 -- how many bytes follow, and the bytes
 abbrev pub handed_text : ℕ → Handed → List ℕ

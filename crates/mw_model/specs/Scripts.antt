@@ -1,5 +1,5 @@
 -- What a session of one thread does and writes: a script is served from a state of the machine (own).
-use Rattle.std.specs.Prelude.{◌≡◌, ◌≢◌, ◌<◌, ℕ, length, Bool, true, false, if◌then◌else◌, List, [], ◌∷◌, ◌++◌, map, take, ◌⊎◌, Option, None, Some}
+use Rattle.std.specs.Prelude.{◌≡◌, ◌≢◌, ℕ, Bool, true, false, if◌then◌else◌, List, [], ◌∷◌, ◌++◌, map, take, ◌⊎◌, Option, None, Some}
 use Rattle.mw_model.specs.declared.codes.Code.{Code}
 use Rattle.mw_model.specs.declared.codes.Code.TheVariants as code
 use Rattle.mw_model.specs.declared.calls.Outcome.{Outcome}
@@ -10,8 +10,8 @@ use Rattle.mw_model.specs.declared.calls.Call.{Call}
 use Rattle.mw_model.specs.declared.calls.Call.TheVariants as call
 use Rattle.mw_model.specs.declared.calls.Reply.{Reply}
 use Rattle.mw_model.specs.declared.calls.Reply.TheVariants as reply
-use Rattle.mw_model.specs.declared.calls.LogItem.{LogItem}
-use Rattle.mw_model.specs.declared.calls.LogItem.TheVariants as item
+use Rattle.mw_model.specs.declared.requests.Ask.{Ask}
+use Rattle.mw_model.specs.declared.requests.Ask.TheVariants as ask
 use Rattle.mw_model.specs.declared.requests.End.{End}
 use Rattle.mw_model.specs.declared.requests.End.TheVariants as end
 use Rattle.mw_model.specs.Pictures.{Picture}
@@ -21,9 +21,9 @@ use Rattle.mw_model.specs.NetpbmGrammar.{IsFile}
 use Rattle.mw_model.specs.NetpbmRefusals.{Refuses}
 use Rattle.mw_model.specs.NetpbmWriting.{text_of}
 use Rattle.mw_model.specs.Values.{Value, ImageValue, ElementValue, CurveValue, value_at, shape_of_picture, shape_of_figure}
-use Rattle.mw_model.specs.Refusals.{Table, outcome_at, is_pending, name_taken, no_room, first_of}
+use Rattle.mw_model.specs.Refusals.{Table, is_pending, name_taken, no_room, first_of}
 use Rattle.mw_model.specs.Machine.{Machine, values, reply_to, after, with_table, killed, CanDie}
-use Rattle.mw_model.specs.Lines.{Asked, AskLoad, AskElement, AskRun, AskCancel, AskRelease, AskStatus, AskFetch, AskWait, AskQuit, Found, Partial, Fault, front, Begins}
+use Rattle.mw_model.specs.Lines.{Asked, AskLoad, AskElement, AskAlone, Found, Partial, Fault, IsFront, Begins}
 use Rattle.mw_model.specs.Replies.{Handed, NoValue, ImageBytes, CurveText, reply_text, refusal_text}
 
 -- ---- the call of a request
@@ -38,17 +38,21 @@ abbrev pub ElementGiven : List ℕ → ℕ → ℕ → Given → Option Value �
 ElementGiven bytes ox oy (given.Good s) p = (b : Figure) × IsElement bytes ox oy b × (s ≡ shape_of_figure b) × (p ≡ Some (ElementValue b))
 ElementGiven bytes ox oy (given.Bad c) p = ElementRefuses bytes ox oy c × (p ≡ None)
 
--- the call that a request makes, and the payload that comes with it; WAIT asks as STATUS does, and QUIT calls nothing
+-- the call of a request without payload; WAIT asks as STATUS does, and QUIT calls nothing
+abbrev pub Calls : Ask → Call → Type 0
+Calls (ask.Run name op) c = c ≡ call.Run name op
+Calls (ask.Cancel name) c = c ≡ call.Cancel name
+Calls (ask.Release name) c = c ≡ call.Release name
+Calls (ask.Status name) c = c ≡ call.Status name
+Calls (ask.Fetch name) c = c ≡ call.Fetch name
+Calls (ask.Wait name) c = c ≡ call.Status name
+Calls ask.Quit c = ⊥
+
+-- the call that a request makes, and the payload that comes with it
 abbrev pub IsCallOf : Asked → Call → Option Value → Type 0
 IsCallOf (AskLoad name bytes) c p = (g : Given) × ImageGiven bytes g p × (c ≡ call.Load name g)
 IsCallOf (AskElement name ox oy bytes) c p = (g : Given) × ElementGiven bytes ox oy g p × (c ≡ call.Element name g)
-IsCallOf (AskRun name op) c p = (c ≡ call.Run name op) × (p ≡ None)
-IsCallOf (AskCancel name) c p = (c ≡ call.Cancel name) × (p ≡ None)
-IsCallOf (AskRelease name) c p = (c ≡ call.Release name) × (p ≡ None)
-IsCallOf (AskStatus name) c p = (c ≡ call.Status name) × (p ≡ None)
-IsCallOf (AskFetch name) c p = (c ≡ call.Fetch name) × (p ≡ None)
-IsCallOf (AskWait name) c p = (c ≡ call.Status name) × (p ≡ None)
-IsCallOf AskQuit c p = ⊥
+IsCallOf (AskAlone a) c p = Calls a c × (p ≡ None)
 
 -- why a submission is refused whatever its payload holds
 abbrev pub refused_unread : Table → Asked → Option Code
@@ -82,9 +86,9 @@ pub data Answers (m : Machine) (r : Asked) (text : List ℕ) (n : Machine) : Typ
 
 -- the requests before which all work is run
 abbrev pub runs_work : Asked → Bool
-runs_work (AskStatus name) = true
-runs_work (AskFetch name) = true
-runs_work (AskWait name) = true
+runs_work (AskAlone (ask.Status name)) = true
+runs_work (AskAlone (ask.Fetch name)) = true
+runs_work (AskAlone (ask.Wait name)) = true
 runs_work r = false
 
 -- the machine after these tickets were killed for want of memory, one after another
@@ -97,6 +101,7 @@ abbrev pub CanAllDie : Machine → List ℕ → Type 0
 CanAllDie m [] = Unit {0}
 CanAllDie m (t ∷ ts) = CanDie m.table t × CanAllDie (with_table m (killed m.table t outcome.Memory)) ts
 
+-- done, where it was pending
 abbrev pub done_if_pending : Outcome → Outcome
 done_if_pending o = if is_pending o then outcome.Done else o
 
@@ -131,40 +136,14 @@ abbrev pub AreTurns : Machine → List Turn → List ℕ → Machine → Type 0
 AreTurns m [] text n = (text ≡ []) × (n ≡ m)
 AreTurns m (t ∷ ts) text n = (mid : Machine) × (front rest : List ℕ) × IsTurn m t front mid × AreTurns mid ts rest n × (text ≡ front ++ rest)
 
+-- the requests of the turns
 abbrev pub requests : List Turn → List Asked
 requests = map (λ (t : Turn). t.request)
 
+-- none of them asks to quit
 abbrev pub NoQuit : List Turn → Type 0
 NoQuit [] = Unit {0}
-NoQuit (t ∷ ts) = (t.request ≢ AskQuit) × NoQuit ts
-
--- want of memory did nothing in these turns
-abbrev pub NoMarks : List Turn → Type 0
-NoMarks [] = Unit {0}
-NoMarks (t ∷ ts) = (t.kills ≡ []) × (t.no_memory ≡ false) × NoMarks ts
-
--- the tickets that want of memory killed in these turns, in order
-abbrev pub kills_of : List Turn → List ℕ
-kills_of [] = []
-kills_of (t ∷ ts) = t.kills ++ kills_of ts
-
--- the tickets that a log tells to be killed for want of memory
-abbrev pub killed_in : List LogItem → List ℕ
-killed_in [] = []
-killed_in (item.Killed t ∷ items) = t ∷ killed_in items
-killed_in (item.Finished t ∷ items) = killed_in items
-killed_in (item.Call c r ∷ items) = killed_in items
-
--- the log tells of work alone, and of no call
-abbrev pub OnlyWork : List LogItem → Type 0
-OnlyWork [] = Unit {0}
-OnlyWork (item.Call c r ∷ items) = ⊥
-OnlyWork (item.Finished t ∷ items) = OnlyWork items
-OnlyWork (item.Killed t ∷ items) = OnlyWork items
-
--- all work is done
-abbrev pub NonePending : Table → Type 0
-NonePending w = (t : ℕ) → t < length w.names → outcome_at w.outcomes t ≢ outcome.Pending
+NoQuit (t ∷ ts) = (t.request ≢ AskAlone ask.Quit) × NoQuit ts
 
 -- ---- scripts
 
@@ -177,8 +156,8 @@ pub record Serves (bytes : List ℕ) (turns : List Turn) (rest : List ℕ) (m : 
 -- Where these bytes are left, the session may end so. It is true of whole that no byte follows them.
 -- The last case is a mark of memory: the session ends by 50 here.
 abbrev pub Ends : Type 0 → List ℕ → End → Type 0
-Ends whole rest end.Quit = ((rest ≡ []) × whole) ⊎ ((more : List ℕ) × (front rest ≡ Found AskQuit more))
-Ends whole rest (end.Ended c) = (front rest ≡ Fault c) ⊎ ((c ≡ code.Cut) × (front rest ≡ Partial) × (rest ≢ []) × whole) ⊎ (c ≡ code.Memory)
+Ends whole rest end.Quit = ((rest ≡ []) × whole) ⊎ ((more : List ℕ) × IsFront rest (Found (AskAlone ask.Quit) more))
+Ends whole rest (end.Ended c) = IsFront rest (Fault c) ⊎ ((c ≡ code.Cut) × IsFront rest Partial × (rest ≢ []) × whole) ⊎ (c ≡ code.Memory)
 
 -- what is written at the end
 abbrev pub end_text : End → List ℕ

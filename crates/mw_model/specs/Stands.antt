@@ -19,9 +19,11 @@ pub record Seen : Type 0 where
   pub work : List (Option Progress)
   pub log : List LogItem
 
+-- the work under a ticket, if there is any
 abbrev pub progress_at : List (Option Progress) → ℕ → Option Progress
 progress_at work t = slice_index_or work t None
 
+-- the tickets of the inputs of a ticket
 abbrev pub inputs_of : Table → ℕ → List ℕ
 inputs_of w t = tickets (submission_at w.submissions t).inputs
 

@@ -2,12 +2,8 @@
 use Rattle.std.specs.Prelude.{ℕ, ◌+◌, ◌*◌, ◌/◌, ◌%◌, Bool, false, not, ◌&&◌, ◌||◌, nat_lt, nat_eq, if◌then◌else◌, List, [], ◌∷◌, length, map, flat_map, sum, count_by, Option, slice_index_or}
 use Rattle.std.specs.List.{range_with_len, list_all, list_any}
 use Rattle.mw_model.specs.declared.places.Rect.{Rect}
-use Rattle.mw_model.specs.declared.shapes.Kind.{Kind}
-use Rattle.mw_model.specs.declared.shapes.Kind.TheVariants as kind
-use Rattle.mw_model.specs.Places.{rect, tile_of, grown}
-use Rattle.mw_model.specs.Rasters.{Sight}
-use Rattle.mw_model.specs.Windows.{View, seen_at}
-use Rattle.mw_model.specs.Pictures.{Picture, sample}
+use Rattle.mw_model.specs.Places.{tile_of, grown}
+use Rattle.mw_model.specs.Pictures.{Picture}
 use Rattle.mw_model.specs.Elements.{reach_of}
 use Rattle.mw_model.specs.PlanSteps.{PlanStep, Minus, looks_at, step_at}
 use Rattle.mw_model.specs.Plans.{Source, FromInput, FromStep, Planned, Plan, is_sum, no_picture, plane_of_source, sight_of}
@@ -22,34 +18,9 @@ cells_in r value = flat_map (λ j. map (λ i. value (r.x + i) (r.y + j)) (range_
 abbrev pub made_in : PlanStep → Rect → (ℕ → ℕ → ℕ) → List ℕ
 made_in s tile value = if is_sum s then sum (cells_in tile value) ∷ [] else cells_in tile value
 
--- The samples of a source in a rectangle, with its kind and maxval.
-pub record SourceWindow : Type 0 where
-  pub kind : Kind
-  pub maxval : ℕ
-  pub view : View ℕ
-
-abbrev pub no_window : SourceWindow
-no_window = record { kind = kind.Bit; maxval = 0; view = record { frame_width = 0; frame_height = 0; place = rect 0 0 0 0; cells = [] } }
-
--- the window of an image in a rectangle of its frame
-abbrev pub window_of : Rect → Picture → SourceWindow
-window_of place f = record {
-  kind = f.kind;
-  maxval = f.maxval;
-  view = record { frame_width = f.width; frame_height = f.height; place = place; cells = cells_in place (sample f) };
-}
-
 -- the rectangle that a step reads for a tile: the tile grown by the step's reach and cut to the frame
 abbrev pub place_read : PlanStep → ℕ → ℕ → Rect → Rect
 place_read s width height tile = grown width height (reach_of (looks_at s)) tile
-
-abbrev pub sight_of_window : List SourceWindow → ℕ → Sight ℕ
-sight_of_window windows k = seen_at (slice_index_or windows k no_window).view
-
--- what a step makes in a tile of these windows
-abbrev pub made_of_windows : PlanStep → List SourceWindow → Rect → List ℕ
-made_of_windows s windows tile =
-    made_in s tile (step_at s (slice_index_or windows 0 no_window).maxval (sight_of_window windows 0) (sight_of_window windows 1) (sight_of_window windows 2))
 
 -- what a step makes in a tile of the whole planes of its sources
 abbrev pub made_of_planes : PlanStep → List Picture → Rect → List ℕ
@@ -68,34 +39,39 @@ pub record Progress : Type 0 where
   pub finished : List Bool
   pub placed : List (Option (List ℕ))
 
+-- whether a task is marked
 abbrev pub flag : List Bool → ℕ → Bool
 flag flags n = slice_index_or flags n false
 
+-- how many tasks there are: each step has one for each tile
 abbrev pub task_count : Progress → ℕ
 task_count p = length p.plan * length p.tiles
 
--- the number of a task
-abbrev pub task_at : Progress → ℕ → ℕ → ℕ
-task_at p step tile = step * length p.tiles + tile
-
+-- the number of a task's step
 abbrev pub step_number : Progress → ℕ → ℕ
 step_number p n = n / length p.tiles
 
+-- the number of a task's tile
 abbrev pub tile_number : Progress → ℕ → ℕ
 tile_number p n = n % length p.tiles
 
+-- what stands behind the last step
 abbrev pub nothing_planned : Planned
 nothing_planned = record { step = Minus; sources = [] }
 
+-- the step of a task
 abbrev pub planned_of : Progress → ℕ → Planned
 planned_of p n = slice_index_or p.plan (step_number p n) nothing_planned
 
+-- the tile of a task
 abbrev pub tile_of_task : Progress → ℕ → Rect
 tile_of_task p n = tile_of p.tiles (tile_number p n)
 
+-- the rectangle that a task reads
 abbrev pub place_of_task : Progress → ℕ → Rect
 place_of_task p n = place_read (planned_of p n).step p.width p.height (tile_of_task p n)
 
+-- the source is step k
 abbrev pub is_step : ℕ → Source → Bool
 is_step k (FromInput i) = false
 is_step k (FromStep i) = nat_eq i k
@@ -112,6 +88,7 @@ meets r q = share r.x r.width q.x q.width && share r.y r.height q.y q.height
 abbrev pub reads : Progress → ℕ → ℕ → Bool
 reads p n u = list_any (is_step (step_number p u)) (planned_of p n).sources && meets (place_of_task p n) (tile_of_task p u)
 
+-- the numbers of all tasks
 abbrev pub tasks_below : Progress → List ℕ
 tasks_below p = range_with_len 0 (task_count p)
 
@@ -119,12 +96,15 @@ tasks_below p = range_with_len 0 (task_count p)
 abbrev pub is_ready : Progress → ℕ → Bool
 is_ready p n = not (flag p.started n) && list_all (λ u. not (reads p n u) || flag p.finished u) (tasks_below p)
 
+-- the task was started, and is not finished
 abbrev pub is_running : Progress → ℕ → Bool
 is_running p n = flag p.started n && not (flag p.finished n)
 
+-- how many tasks are ready
 abbrev pub ready_tasks : Progress → ℕ
 ready_tasks p = count_by (is_ready p) (tasks_below p)
 
+-- how many tasks are running
 abbrev pub running_tasks : Progress → ℕ
 running_tasks p = count_by (is_running p) (tasks_below p)
 

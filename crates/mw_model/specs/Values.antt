@@ -4,9 +4,7 @@ use Rattle.mw_model.specs.declared.shapes.Shape.{Shape}
 use Rattle.mw_model.specs.declared.shapes.Shape.TheVariants as shape
 use Rattle.mw_model.specs.declared.operations.Op.{Op}
 use Rattle.mw_model.specs.declared.operations.Op.TheVariants as op
-use Rattle.mw_model.specs.declared.operations.FlatOp.{FlatOp}
 use Rattle.mw_model.specs.declared.operations.FlatOp.TheVariants as flat
-use Rattle.mw_model.specs.declared.operations.GranOp.{GranOp}
 use Rattle.mw_model.specs.declared.operations.GranOp.TheVariants as gran
 use Rattle.mw_model.specs.declared.submissions.Command.{Command}
 use Rattle.mw_model.specs.declared.submissions.Command.TheVariants as command
@@ -24,9 +22,11 @@ pub data Value : Type 0 where
   ElementValue : Figure → Value
   CurveValue : List ℕ → Value
 
+-- the shape of an image
 abbrev pub shape_of_picture : Picture → Shape
 shape_of_picture f = shape.Image f.kind f.width f.height f.maxval
 
+-- the shape of an element
 abbrev pub shape_of_figure : Figure → Shape
 shape_of_figure b = shape.Element b.width b.height
 
@@ -40,13 +40,14 @@ abbrev pub offsets_of : Option Value → Option (List Offset)
 offsets_of (Some (ElementValue b)) = Some b.offsets
 offsets_of v = None
 
-abbrev pub input_at : List (Option Value) → ℕ → Option Value
-input_at inputs n = slice_index_or inputs n None
+-- what stands at a ticket, or in the place of an input, if anything does
+abbrev pub value_at : List (Option Value) → ℕ → Option Value
+value_at values t = slice_index_or values t None
 
 -- an operator on an image and an element, where the inputs are these
 abbrev pub of_both : List (Option Value) → (Picture → List Offset → Value) → Option Value
 of_both inputs operator =
-    option_and_then (λ f. option_map (λ b. operator f b) (offsets_of (input_at inputs 1))) (image_of (input_at inputs 0))
+    option_and_then (λ f. option_map (λ b. operator f b) (offsets_of (value_at inputs 1))) (image_of (value_at inputs 0))
 
 -- an image from an image and an element
 abbrev pub drawn_by : List (Option Value) → (List Offset → Picture → Picture) → Option Value
@@ -55,43 +56,32 @@ drawn_by inputs operator = of_both inputs (λ f b. ImageValue (operator b f))
 -- an image from an image and two elements
 abbrev pub drawn_by_two : List (Option Value) → (List Offset → List Offset → Picture → Picture) → Option Value
 drawn_by_two inputs operator =
-    option_and_then (λ c. of_both inputs (λ f b. ImageValue (operator b c f))) (offsets_of (input_at inputs 2))
+    option_and_then (λ c. of_both inputs (λ f b. ImageValue (operator b c f))) (offsets_of (value_at inputs 2))
 
--- the value of a flat operation on the values of its inputs, in argument order
-abbrev pub flat_result : FlatOp → List (Option Value) → Option Value
-flat_result (flat.Erode f b) inputs = drawn_by inputs erosion
-flat_result (flat.Dilate f b) inputs = drawn_by inputs dilation
-flat_result (flat.Opening f b) inputs = drawn_by inputs opening
-flat_result (flat.Closing f b) inputs = drawn_by inputs closing
-flat_result (flat.Gradient f b) inputs = drawn_by inputs gradient
-flat_result (flat.WhiteTopHat f b) inputs = drawn_by inputs white_top_hat
-flat_result (flat.BlackTopHat f b) inputs = drawn_by inputs black_top_hat
-flat_result (flat.Rank f b k) inputs = drawn_by inputs (λ e. rank e k)
-flat_result (flat.Threshold f k) inputs = option_map (λ g. ImageValue (threshold k g)) (image_of (input_at inputs 0))
-flat_result (flat.HitMiss f hit miss) inputs = drawn_by_two inputs hit_or_miss
-
--- the value of an iterated operation on the values of its inputs, in argument order
-abbrev pub gran_result : GranOp → List (Option Value) → Option Value
-gran_result (gran.Skeleton f b levels) inputs = drawn_by inputs (λ e. skeleton e levels)
-gran_result (gran.Restore f b levels) inputs = drawn_by inputs (λ e. restoration e levels)
-gran_result (gran.Spectrum f b levels) inputs = of_both inputs (λ g e. CurveValue (spectrum e levels g))
-
--- the value of a command on the values of its inputs, in argument order
+-- the value of an operation on the values of its inputs, in argument order
 abbrev pub result_of : Op → List (Option Value) → Option Value
-result_of (op.Flat o) inputs = flat_result o inputs
-result_of (op.Gran o) inputs = gran_result o inputs
+result_of (op.Flat (flat.Erode f b)) inputs = drawn_by inputs erosion
+result_of (op.Flat (flat.Dilate f b)) inputs = drawn_by inputs dilation
+result_of (op.Flat (flat.Opening f b)) inputs = drawn_by inputs opening
+result_of (op.Flat (flat.Closing f b)) inputs = drawn_by inputs closing
+result_of (op.Flat (flat.Gradient f b)) inputs = drawn_by inputs gradient
+result_of (op.Flat (flat.WhiteTopHat f b)) inputs = drawn_by inputs white_top_hat
+result_of (op.Flat (flat.BlackTopHat f b)) inputs = drawn_by inputs black_top_hat
+result_of (op.Flat (flat.Rank f b k)) inputs = drawn_by inputs (λ e. rank e k)
+result_of (op.Flat (flat.Threshold f k)) inputs = option_map (λ g. ImageValue (threshold k g)) (image_of (value_at inputs 0))
+result_of (op.Flat (flat.HitMiss f hit miss)) inputs = drawn_by_two inputs hit_or_miss
+result_of (op.Gran (gran.Skeleton f b levels)) inputs = drawn_by inputs (λ e. skeleton e levels)
+result_of (op.Gran (gran.Restore f b levels)) inputs = drawn_by inputs (λ e. restoration e levels)
+result_of (op.Gran (gran.Spectrum f b levels)) inputs = of_both inputs (λ g e. CurveValue (spectrum e levels g))
 
--- the tickets of the inputs, in argument order
+-- the ticket, where there is one
 abbrev pub option_list : Option ℕ → List ℕ
 option_list None = []
 option_list (Some t) = t ∷ []
 
+-- the tickets of the inputs, in argument order
 abbrev pub tickets : Inputs → List ℕ
 tickets i = option_list i.a ++ option_list i.b ++ option_list i.c
-
--- what stands at a ticket, if anything does
-abbrev pub value_at : List (Option Value) → ℕ → Option Value
-value_at values t = slice_index_or values t None
 
 -- the value of a command: its payload, or its operator on the values before it
 abbrev pub value_of : List (Option Value) → List ℕ → Command → Option Value → Option Value

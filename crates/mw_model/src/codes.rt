@@ -1,7 +1,7 @@
 //! Refusals, each with its number and its word.
 
 ghost use Rattle.std.specs.Prelude.{◌≡◌};
-ghost use Rattle.mw_model.specs.Codes.{number_of, word_of};
+ghost use Rattle.mw_model.specs.Codes.{number_and_word};
 
 /// Why a line, a payload or a command is refused.
 #[derive(Clone, Copy, PartialEq, Eq, Debug)]
@@ -56,7 +56,7 @@ pub enum Code {
 impl Code {
     /// The number in an `ERR` line.
     pub fn number(self) -> u16
-        ensures { result ≡ number_of self }
+        ensures { result ≡ (number_and_word self).0 }
     {
         match self {
             Code::Line => 10,
@@ -90,7 +90,7 @@ impl Code {
 
     /// The word in an `ERR` line.
     pub fn word(self) -> &'static str
-        ensures { result.now ≡ word_of self }
+        ensures { result.now ≡ (number_and_word self).1 }
     {
         match self {
             Code::Line => "LINE",

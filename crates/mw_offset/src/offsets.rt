@@ -3,7 +3,8 @@
 //! by vector code, shifted. What lies outside the window is no sample.
 ghost use Rattle.std.specs.Prelude.{◌≡◌, ℕ, ◌+◌, ◌*◌, ◌<◌, ◌≤◌, ◌^◌, pos, negsuc, ◌+ℤ◌, ◌-ℤ◌, ◌≤ℤ◌, length, slice_index_or, fold, vec_len, IfOk, IsTrue};
 ghost use Rattle.mw_model.specs.Rasters.{Raster, cell_at, seen_under};
-ghost use Rattle.mw_model.specs.Windows.{seen_at, IsWindow};
+ghost use Rattle.mw_model.specs.Windows.{seen_at};
+ghost use Rattle.mw_tile.specs.Windows.{IsWindow};
 ghost use Rattle.mw_lane.specs.Shifted.{merge_at};
 ghost use Rattle.mw_line.specs.Extrema.{IsSlidingExtremum};
 

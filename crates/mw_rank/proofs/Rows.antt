@@ -14,7 +14,8 @@ use Rattle.mw_model.specs.Places.{IsWithin}
 use Rattle.mw_model.proofs.ImagePlaces.{sample-redrawn}
 use Rattle.mw_pixel.specs.Images.{raster_of}
 use Rattle.mw_pixel.proofs.Cells.{seen_under-raster_of}
-use Rattle.mw_model.specs.Windows.{View, seen_at, IsWindow}
+use Rattle.mw_model.specs.Windows.{View, seen_at}
+use Rattle.mw_tile.specs.Windows.{IsWindow}
 use Rattle.mw_tile.proofs.Shown.{seen_under-window}
 use Rattle.mw_rank.specs.Ranks.{levels_under, IsRank, GainsRow, HasRows}
 

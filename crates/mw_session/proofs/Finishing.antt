@@ -11,7 +11,8 @@ use Rattle.mw_model.specs.declared.calls.LogItem.TheVariants as item
 use Rattle.mw_model.specs.Refusals.{outcome_at, is_pending, is_dead, is_there}
 use Rattle.mw_model.specs.Machine.{Machine, with_table, killed, settled, CanFinish, Run}
 use Rattle.mw_laws.specs.MachineLaws.{IsSound, inputs_at}
-use Rattle.mw_model.specs.Scripts.{killed_in, after_kills, CanAllDie, all_done, done_if_pending, OnlyWork, NonePending, Works}
+use Rattle.mw_model.specs.Scripts.{after_kills, CanAllDie, all_done, done_if_pending, Works}
+use Rattle.mw_session.specs.Marks.{killed_in, OnlyWork, NonePending}
 use Rattle.mw_laws.proofs.RunCascade.{pending_is}
 use Rattle.mw_laws.proofs.RunStates.{step_sound}
 use Rattle.mw_laws.proofs.RunReplay.{run_join}
@@ -34,7 +35,7 @@ record FinishesTo (k : ℕ) (m : Machine) : Type 0 where
   kills : killed_in items ≡ []
   done : DoneTo k m state
 
-only_append : (xs ys : List LogItem) → OnlyWork xs → OnlyWork ys → OnlyWork (xs ++ ys)
+pub only_append : (xs ys : List LogItem) → OnlyWork xs → OnlyWork ys → OnlyWork (xs ++ ys)
 only_append [] ys h k = k
 only_append (item.Call c r ∷ xs) ys h k = absurd h
 only_append (item.Finished t ∷ xs) ys h k = only_append xs ys h k

@@ -3,3 +3,8 @@ pub mod Working
 pub mod Finishing
 pub mod Readings
 pub mod Writing
+pub mod Sessions
+pub mod Totals
+pub mod Idle
+pub mod Advancing
+pub mod Answering

@@ -6,6 +6,8 @@ use Rattle.mw_model.specs.declared.calls.Given.{Given}
 use Rattle.mw_model.specs.declared.calls.Given.TheVariants as given
 use Rattle.mw_model.specs.declared.calls.Call.{Call}
 use Rattle.mw_model.specs.declared.calls.Call.TheVariants as call
+use Rattle.mw_model.specs.declared.requests.Ask.{Ask}
+use Rattle.mw_model.specs.declared.requests.Ask.TheVariants as ask
 use Rattle.mw_model.specs.declared.requests.End.{End}
 use Rattle.mw_model.specs.declared.requests.End.TheVariants as end
 use Rattle.mw_model.specs.Pictures.{Picture}
@@ -16,9 +18,12 @@ use Rattle.mw_model.specs.NetpbmGrammar.{IsFile}
 use Rattle.mw_model.specs.Values.{Value, ImageValue, ElementValue, shape_of_picture, shape_of_figure}
 use Rattle.mw_model.specs.Refusals.{first_of, name_taken, no_room, fault_of, refusal}
 use Rattle.mw_model.specs.Machine.{Machine, after}
-use Rattle.mw_model.specs.Lines.{Asked, AskLoad, AskElement, AskRun, AskCancel, AskRelease, AskStatus, AskFetch, AskWait, AskQuit, Found, Partial, Fault, front, Begins}
+use Rattle.mw_model.specs.Lines.{Asked, AskLoad, AskElement, AskAlone, Found, Partial, Fault, Begins}
+use Rattle.mw_intake.proofs.Front.{front_is}
+use Rattle.mw_intake.specs.Reading.{front}
 use Rattle.mw_model.specs.Replies.{refusal_text}
-use Rattle.mw_model.specs.Scripts.{ImageGiven, ElementGiven, IsCallOf, refused_unread, answer_text, Answers, unread, called, runs_work, Works, Replies, Turn, IsTurn, AreTurns, requests, NoQuit, Ends, IsScript, end_text, NoMarks}
+use Rattle.mw_model.specs.Scripts.{ImageGiven, ElementGiven, Calls, IsCallOf, refused_unread, answer_text, Answers, unread, called, runs_work, Works, Replies, Turn, IsTurn, AreTurns, requests, NoQuit, Ends, IsScript, end_text}
+use Rattle.mw_session.specs.Marks.{NoMarks}
 use Rattle.mw_netpbm.proofs.Sides.{ok_is}
 use Rattle.mw_netpbm.proofs.Files.{file_read}
 use Rattle.mw_netpbm.proofs.Exclusive.{one_refusal, refusal_or_image}
@@ -82,6 +87,15 @@ element_given_once bytes ox oy (given.Bad c) (given.Bad d) p q a b =
 
 -- ---- calls and answers
 
+calls_once : (r : Ask) (c d : Call) → Calls r c → Calls r d → c ≡ d
+calls_once (ask.Run name op) c d a b = a ∙ sym b
+calls_once (ask.Cancel name) c d a b = a ∙ sym b
+calls_once (ask.Release name) c d a b = a ∙ sym b
+calls_once (ask.Status name) c d a b = a ∙ sym b
+calls_once (ask.Fetch name) c d a b = a ∙ sym b
+calls_once (ask.Wait name) c d a b = a ∙ sym b
+calls_once ask.Quit c d a b = absurd a
+
 call_once : (r : Asked) (c d : Call) (p q : Option Value) → IsCallOf r c p → IsCallOf r d q → (c ≡ d) × (p ≡ q)
 call_once (AskLoad name bytes) c d p q a b =
     let g = image_given_once bytes a.0 b.0 p q a.1 b.1 in
@@ -89,13 +103,7 @@ call_once (AskLoad name bytes) c d p q a b =
 call_once (AskElement name ox oy bytes) c d p q a b =
     let g = element_given_once bytes ox oy a.0 b.0 p q a.1 b.1 in
     (a.2 ∙ ap (call.Element name) g.0 ∙ sym b.2, g.1)
-call_once (AskRun name op) c d p q a b = (a.0 ∙ sym b.0, a.1 ∙ sym b.1)
-call_once (AskCancel name) c d p q a b = (a.0 ∙ sym b.0, a.1 ∙ sym b.1)
-call_once (AskRelease name) c d p q a b = (a.0 ∙ sym b.0, a.1 ∙ sym b.1)
-call_once (AskStatus name) c d p q a b = (a.0 ∙ sym b.0, a.1 ∙ sym b.1)
-call_once (AskFetch name) c d p q a b = (a.0 ∙ sym b.0, a.1 ∙ sym b.1)
-call_once (AskWait name) c d p q a b = (a.0 ∙ sym b.0, a.1 ∙ sym b.1)
-call_once AskQuit c d p q a b = absurd a
+call_once (AskAlone r) c d p q a b = (calls_once r c d a.0 b.0, a.1 ∙ sym b.1)
 
 first_of_two : (a b x : Option Code) (c : Code) → first_of (a ∷ b ∷ []) ≡ Some c → first_of (a ∷ b ∷ x ∷ []) ≡ Some c
 first_of_two None None x c e = cc
@@ -110,13 +118,7 @@ refused_call m d p c e = (rw e refl, rw e refl)
 unread_refused : (m : Machine) (r : Asked) (c : Code) (d : Call) (p : Option Value) → refused_unread m.table r ≡ Some c → IsCallOf r d p → refusal m.table m.payloads d ≡ Some c
 unread_refused m (AskLoad name bytes) c d p e a = rw a.2 (first_of_two (name_taken m.table name) (no_room m.table) (fault_of a.0) c e)
 unread_refused m (AskElement name ox oy bytes) c d p e a = rw a.2 (first_of_two (name_taken m.table name) (no_room m.table) (fault_of a.0) c e)
-unread_refused m (AskRun name op) c d p e a = cc
-unread_refused m (AskCancel name) c d p e a = cc
-unread_refused m (AskRelease name) c d p e a = cc
-unread_refused m (AskStatus name) c d p e a = cc
-unread_refused m (AskFetch name) c d p e a = cc
-unread_refused m (AskWait name) c d p e a = cc
-unread_refused m AskQuit c d p e a = cc
+unread_refused m (AskAlone r) c d p e a = cc
 
 answer_once : (m k l : Machine) (r : Asked) (x y : List ℕ) → Answers m r x k → Answers m r y l → (x ≡ y) × (k ≡ l)
 answer_once m k l r x y (unread c e f g) (unread d h i j) =
@@ -172,15 +174,15 @@ unfolding front
 front_empty = refl
 
 -- where a script ends without a mark, no further request stands
-no_request_left : (whole : Type 0) (rest mid : List ℕ) (e : End) (r : Asked) → Ends whole rest e → e ≢ end.Ended code.Memory → front rest ≡ Found r mid → r ≢ AskQuit → ⊥
+no_request_left : (whole : Type 0) (rest mid : List ℕ) (e : End) (r : Asked) → Ends whole rest e → e ≢ end.Ended code.Memory → front rest ≡ Found r mid → r ≢ AskAlone ask.Quit → ⊥
 no_request_left whole rest mid end.Quit r h n f q = elim h [
   | inl g ↦ let x : Partial ≡ Found r mid = sym front_empty ∙ sym (ap front g.0) ∙ f in cc
-  | inr g ↦ let x : Found AskQuit g.0 ≡ Found r mid = sym g.1 ∙ f in q cc
+  | inr g ↦ let x : Found (AskAlone ask.Quit) g.0 ≡ Found r mid = sym (front_is rest (Found (AskAlone ask.Quit) g.0) g.1) ∙ f in q cc
 ]
 no_request_left whole rest mid (end.Ended c) r h n f q = elim h [
-  | inl g ↦ let x : Fault c ≡ Found r mid = sym g ∙ f in cc
+  | inl g ↦ let x : Fault c ≡ Found r mid = sym (front_is rest (Fault c) g) ∙ f in cc
   | inr g ↦ elim g [
-    | inl k ↦ let x : Partial ≡ Found r mid = sym k.1 ∙ f in cc
+    | inl k ↦ let x : Partial ≡ Found r mid = sym (front_is rest Partial k.1) ∙ f in cc
     | inr k ↦ n (ap end.Ended k)
   ]
 ]
@@ -188,16 +190,16 @@ no_request_left whole rest mid (end.Ended c) r h n f q = elim h [
 quit_or_fault : (whole : Type 0) (rest : List ℕ) (c : Code) → Ends whole rest end.Quit → Ends whole rest (end.Ended c) → end.Ended c ≢ end.Ended code.Memory → ⊥
 quit_or_fault whole rest c h k n = elim h [
   | inl g ↦ elim k [
-    | inl i ↦ let x : Partial ≡ Fault c = sym front_empty ∙ sym (ap front g.0) ∙ i in cc
+    | inl i ↦ let x : Partial ≡ Fault c = sym front_empty ∙ sym (ap front g.0) ∙ front_is rest (Fault c) i in cc
     | inr i ↦ elim i [
       | inl j ↦ j.2 g.0
       | inr j ↦ n (ap end.Ended j)
     ]
   ]
   | inr g ↦ elim k [
-    | inl i ↦ let x : Found AskQuit g.0 ≡ Fault c = sym g.1 ∙ i in cc
+    | inl i ↦ let x : Found (AskAlone ask.Quit) g.0 ≡ Fault c = sym (front_is rest (Found (AskAlone ask.Quit) g.0) g.1) ∙ front_is rest (Fault c) i in cc
     | inr i ↦ elim i [
-      | inl j ↦ let x : Found AskQuit g.0 ≡ Partial = sym g.1 ∙ j.1 in cc
+      | inl j ↦ let x : Found (AskAlone ask.Quit) g.0 ≡ Partial = sym (front_is rest (Found (AskAlone ask.Quit) g.0) g.1) ∙ front_is rest Partial j.1 in cc
       | inr j ↦ n (ap end.Ended j)
     ]
   ]
@@ -209,15 +211,15 @@ same_end whole rest end.Quit (end.Ended c) h k n o = absurd (quit_or_fault whole
 same_end whole rest (end.Ended c) end.Quit h k n o = absurd (quit_or_fault whole rest c k h n)
 same_end whole rest (end.Ended c) (end.Ended d) h k n o = elim h [
   | inl g ↦ elim k [
-    | inl i ↦ let x : Fault c ≡ Fault d = sym g ∙ i in cc
+    | inl i ↦ let x : Fault c ≡ Fault d = sym (front_is rest (Fault c) g) ∙ front_is rest (Fault d) i in cc
     | inr i ↦ elim i [
-      | inl j ↦ let x : Fault c ≡ Partial = sym g ∙ j.1 in absurd cc
+      | inl j ↦ let x : Fault c ≡ Partial = sym (front_is rest (Fault c) g) ∙ front_is rest Partial j.1 in absurd cc
       | inr j ↦ absurd (o (ap end.Ended j))
     ]
   ]
   | inr g ↦ elim g [
     | inl i ↦ elim k [
-      | inl j ↦ let x : Fault d ≡ Partial = sym j ∙ i.1 in absurd cc
+      | inl j ↦ let x : Fault d ≡ Partial = sym (front_is rest (Fault d) j) ∙ front_is rest Partial i.1 in absurd cc
       | inr j ↦ elim j [
         | inl l ↦ ap end.Ended (i.0 ∙ sym l.0)
         | inr l ↦ absurd (o (ap end.Ended l))
@@ -238,10 +240,10 @@ turn_is t u e f g =
 same_turns : (whole : Type 0) (ts us : List Turn) (bytes rest left : List ℕ) (e f : End) → Begins bytes (requests ts) rest → Begins bytes (requests us) left
     → NoQuit ts → NoQuit us → Ends whole rest e → Ends whole left f → NoMarks ts → NoMarks us → e ≢ end.Ended code.Memory → f ≢ end.Ended code.Memory → (ts ≡ us) × (rest ≡ left)
 same_turns whole [] [] bytes rest left e f b d q r h k x y n o = (refl, b ∙ sym d)
-same_turns whole [] (u ∷ us) bytes rest left e f b d q r h k x y n o = absurd (no_request_left whole rest d.0 e u.request h n (ap front b ∙ d.1) r.0)
-same_turns whole (t ∷ ts) [] bytes rest left e f b d q r h k x y n o = absurd (no_request_left whole left b.0 f t.request k o (ap front d ∙ b.1) q.0)
+same_turns whole [] (u ∷ us) bytes rest left e f b d q r h k x y n o = absurd (no_request_left whole rest d.0 e u.request h n (ap front b ∙ front_is bytes (Found u.request d.0) d.1) r.0)
+same_turns whole (t ∷ ts) [] bytes rest left e f b d q r h k x y n o = absurd (no_request_left whole left b.0 f t.request k o (ap front d ∙ front_is bytes (Found t.request b.0) b.1) q.0)
 same_turns whole (t ∷ ts) (u ∷ us) bytes rest left e f b d q r h k x y n o =
-    let found : Found t.request b.0 ≡ Found u.request d.0 = sym b.1 ∙ d.1 in
+    let found : Found t.request b.0 ≡ Found u.request d.0 = sym (front_is bytes (Found t.request b.0) b.1) ∙ front_is bytes (Found u.request d.0) d.1 in
     let asks : t.request ≡ u.request = cc in
     let mid : b.0 ≡ d.0 = cc in
     let more = same_turns whole ts us b.0 rest left e f b.2 (subst (λ l. Begins l (requests us) left) (sym mid) d.2) q.1 r.1 h k x.2 y.2 n o in

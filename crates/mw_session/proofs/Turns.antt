@@ -6,13 +6,16 @@ use Rattle.std.specs.Io.KnownBytes.{Appends, IsAtEnd}
 use Rattle.std.proofs.KnownBytes.{Appends-trans, Appends-nil}
 use Rattle.mw_model.specs.declared.calls.LogItem.{LogItem}
 use Rattle.mw_model.specs.declared.calls.LogItem.TheVariants as item
+use Rattle.mw_model.specs.declared.requests.Ask.TheVariants as ask
 use Rattle.mw_model.specs.declared.requests.End.{End}
 use Rattle.mw_model.specs.Machine.{Machine}
 use Rattle.mw_model.specs.Stands.{Seen}
-use Rattle.mw_model.specs.Lines.{Asked, AskQuit, front, Found, Begins}
+use Rattle.mw_model.specs.Lines.{Asked, AskAlone, Found, Begins}
+use Rattle.mw_intake.specs.Reading.{front}
 use Rattle.mw_session.specs.declared.fault.SessionFault.{SessionFault}
-use Rattle.mw_model.specs.Scripts.{Turn, requests, NoQuit, IsTurn, AreTurns, Serves, Ends, end_text, kills_of, killed_in}
-use Rattle.mw_intake.proofs.Front.{Begins_more}
+use Rattle.mw_model.specs.Scripts.{Turn, requests, NoQuit, IsTurn, AreTurns, Serves, Ends, end_text}
+use Rattle.mw_session.specs.Marks.{kills_of, killed_in}
+use Rattle.mw_intake.proofs.Front.{Begins_more, is_front}
 use Rattle.mw_session.specs.Runs.{ShowsKills, Drained, Finished, Broken, Answered}
 
 begins_append : (ts us : List Turn) (xs mid rest : List ℕ) → Begins xs (requests ts) mid → Begins mid (requests us) rest → Begins xs (requests (ts ++ us)) rest
@@ -32,7 +35,7 @@ kills_append : (ts us : List Turn) → kills_of (ts ++ us) ≡ kills_of ts ++ ki
 kills_append [] us = refl
 kills_append (t ∷ ts) us = rw (kills_append ts us) (sym (append_assoc t.kills (kills_of ts) (kills_of us)))
 
-killed_append : (is js : List LogItem) → killed_in (is ++ js) ≡ killed_in is ++ killed_in js
+pub killed_append : (is js : List LogItem) → killed_in (is ++ js) ≡ killed_in is ++ killed_in js
 killed_append [] js = refl
 killed_append (item.Call c r ∷ is) js = killed_append is js
 killed_append (item.Finished t ∷ is) js = killed_append is js
@@ -49,8 +52,8 @@ Serves_append ts us xs mid rest m k n x y a b = record {
 pub Serves_none : (xs : List ℕ) (m : Machine) → Serves xs [] xs m [] m
 Serves_none xs m = record { cut = refl; open_still = tt; turns_made = (refl, refl) }
 
-pub Serves_one : (xs rest : List ℕ) (t : Turn) (m n : Machine) (x : List ℕ) → front xs ≡ Found t.request rest → t.request ≢ AskQuit → IsTurn m t x n → Serves xs (t ∷ []) rest m x n
-Serves_one xs rest t m n x e q s = record { cut = (rest, e, refl); open_still = (q, tt); turns_made = (n, x, [], s, (refl, refl), sym (append-nil x)) }
+pub Serves_one : (xs rest : List ℕ) (t : Turn) (m n : Machine) (x : List ℕ) → front xs ≡ Found t.request rest → t.request ≢ AskAlone ask.Quit → IsTurn m t x n → Serves xs (t ∷ []) rest m x n
+Serves_one xs rest t m n x e q s = record { cut = (rest, is_front xs (Found t.request rest) e, refl); open_still = (q, tt); turns_made = (n, x, [], s, (refl, refl), sym (append-nil x)) }
 
 -- more bytes behind
 pub Serves_more : (ts : List Turn) (xs ys rest : List ℕ) (m n : Machine) (x : List ℕ) → Serves xs ts rest m x n → Serves (xs ++ ys) ts (rest ++ ys) m x n
@@ -84,7 +87,7 @@ Progress_start bytes m log before = record { turns = []; text = []; serves = Ser
 
 -- one request more
 pub Progress_turn : (bytes mid rest : List ℕ) (m k n : Machine) (o p q : List LogItem) (a b c : Option (List ℕ)) (t : Turn) (x : List ℕ) → Progress bytes mid m k o p a b →
-    front mid ≡ Found t.request rest → t.request ≢ AskQuit → IsTurn k t x n → ShowsKills (t ∷ []) p q → Appends b c x → Progress bytes rest m n o q a c
+    front mid ≡ Found t.request rest → t.request ≢ AskAlone ask.Quit → IsTurn k t x n → ShowsKills (t ∷ []) p q → Appends b c x → Progress bytes rest m n o q a c
 Progress_turn bytes mid rest m k n o p q a b c t x g e h s l w = record {
   turns = g.turns ++ t ∷ [];
   text = g.text ++ x;
@@ -95,7 +98,7 @@ Progress_turn bytes mid rest m k n o p q a b c t x g e h s l w = record {
 
 -- one request more, whose text was cut short
 pub Broken_turn : (left : Option (List ℕ)) (bytes mid rest : List ℕ) (m k n : Machine) (o p q : List LogItem) (a b c : Option (List ℕ)) (t : Turn) (x : List ℕ) (i : ℕ) → Progress bytes mid m k o p a b →
-    front mid ≡ Found t.request rest → t.request ≢ AskQuit → IsTurn k t x n → ShowsKills (t ∷ []) p q → Appends b c (take i x) → Broken left bytes m n o q a c
+    front mid ≡ Found t.request rest → t.request ≢ AskAlone ask.Quit → IsTurn k t x n → ShowsKills (t ∷ []) p q → Appends b c (take i x) → Broken left bytes m n o q a c
 Broken_turn left bytes mid rest m k n o p q a b c t x i g e h s l w = record {
   turns = g.turns ++ t ∷ [];
   text = take (length g.text + i) (g.text ++ x);
@@ -177,12 +180,12 @@ Progress_more bytes piece rest m n o p a b g = record { turns = g.turns; text = 
 
 -- one request more was served
 pub Progress_answered : (bytes mid rest : List ℕ) (m k : Machine) (o : List LogItem) (p q : Seen) (a b c : Option (List ℕ)) (r : Asked) (v : Unit {0}) → Progress bytes mid m k o p.log a b →
-    front mid ≡ Found r rest → r ≢ AskQuit → (h : Answered k r p q b c (Ok v)) → Progress bytes rest m h.state o q.log a c
+    front mid ≡ Found r rest → r ≢ AskAlone ask.Quit → (h : Answered k r p q b c (Ok v)) → Progress bytes rest m h.state o q.log a c
 Progress_answered bytes mid rest m k o p q a b c r v g e n h =
     Progress_turn bytes mid rest m k h.state o p.log q.log a b c h.turn h.text g (rw h.asked e) (rw h.asked n) h.made h.kills h.wrote
 
 -- one request more was served, and its text was cut short
 pub Broken_answered : (left : Option (List ℕ)) (bytes mid rest : List ℕ) (m k : Machine) (o : List LogItem) (p q : Seen) (a b c : Option (List ℕ)) (r : Asked) (f : SessionFault) → Progress bytes mid m k o p.log a b →
-    front mid ≡ Found r rest → r ≢ AskQuit → (h : Answered k r p q b c (Err f)) → Broken left bytes m h.state o q.log a c
+    front mid ≡ Found r rest → r ≢ AskAlone ask.Quit → (h : Answered k r p q b c (Err f)) → Broken left bytes m h.state o q.log a c
 Broken_answered left bytes mid rest m k o p q a b c r f g e n h =
     Broken_turn left bytes mid rest m k h.state o p.log q.log a b c h.turn h.text h.wrote.0 g (rw h.asked e) (rw h.asked n) h.made h.kills h.wrote.1

@@ -12,7 +12,8 @@ use Rattle.mw_model.specs.declared.calls.LogItem.TheVariants as item
 use Rattle.mw_model.specs.Refusals.{Table, outcome_at, is_pending, is_dead, is_there}
 use Rattle.mw_model.specs.Machine.{Machine, with_table, killed, settled, CanDie, CanFinish, Run}
 use Rattle.mw_laws.specs.MachineLaws.{IsSound, IsKilled, first_dead, inputs_at}
-use Rattle.mw_model.specs.Scripts.{killed_in, after_kills, CanAllDie, done_if_pending, OnlyWork, NonePending, Works}
+use Rattle.mw_model.specs.Scripts.{after_kills, CanAllDie, done_if_pending, Works}
+use Rattle.mw_session.specs.Marks.{killed_in, OnlyWork, NonePending}
 use Rattle.mw_laws.proofs.RunCascade.{find_same, all_map, is_killed, failed_or_waits, pending_is, not_pending, strongly}
 use Rattle.mw_laws.proofs.RunStates.{step_sound, there_not_dead}
 

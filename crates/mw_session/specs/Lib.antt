@@ -1,3 +1,6 @@
+pub mod Marks
 pub mod Writes
 pub mod Reads
+pub mod Work
 pub mod Runs
+pub mod Answering

@@ -4,9 +4,11 @@ use Rattle.std.specs.Io.KnownBytes.{Appends, Consumes, IsAtEnd}
 use Rattle.mw_model.specs.declared.calls.LogItem.{LogItem}
 use Rattle.mw_model.specs.declared.requests.End.{End}
 use Rattle.mw_model.specs.Machine.{Machine}
-use Rattle.mw_model.specs.Stands.{Seen, StandsFor}
-use Rattle.mw_model.specs.Lines.{Asked, front, Partial}
-use Rattle.mw_model.specs.Scripts.{Turn, IsTurn, Serves, IsScript, IsBroken, kills_of, killed_in}
+use Rattle.mw_model.specs.Stands.{Seen, StandsFor, running_count}
+use Rattle.mw_model.specs.Lines.{Asked, Partial}
+use Rattle.mw_intake.specs.Reading.{front}
+use Rattle.mw_model.specs.Scripts.{Turn, IsTurn, Serves, IsScript, IsBroken}
+use Rattle.mw_session.specs.Marks.{kills_of, killed_in}
 use Rattle.mw_session.specs.Writes.{Wrote}
 use Rattle.mw_session.specs.declared.fault.SessionFault.{SessionFault}
 
@@ -51,7 +53,7 @@ Drains left bytes rest m n old new before after result =
     (λ o. MatchOption o (Drained bytes rest m n old new before after) (λ end. Finished left bytes m n old new before after end))
     (λ _. Broken left bytes m n old new before after)
 
--- One request was served: a turn from this state, after which the core stands for the state that it leads to.
+-- One request was served: a turn from this state, after which the core stands for the state that it leads to, and no task is running.
 pub record Answered (m : Machine) (r : Asked) (old new : Seen) (before after : Option (List ℕ)) (result : Result (Unit {0}) SessionFault) : Type 0 where
   pub turn : Turn
   pub state : Machine
@@ -59,13 +61,15 @@ pub record Answered (m : Machine) (r : Asked) (old new : Seen) (before after : O
   pub asked : turn.request ≡ r
   pub made : IsTurn m turn text state
   pub stands : StandsFor new state
+  pub idle : running_count new ≡ 0
   pub kills : ShowsKills (turn ∷ []) old.log new.log
   pub wrote : Wrote before after text result
 
--- A whole session was served: of what the reader had these bytes were taken, and the core then stands for the state after them.
+-- A whole session was served: of what the reader had these bytes were taken, the core then stands for the state after them, and no task is running.
 pub record SessionRan (m : Machine) (old new : Seen) (had left before after : Option (List ℕ)) (result : Result End SessionFault) : Type 0 where
   pub taken : List ℕ
   pub state : Machine
   pub read : Consumes had left taken
   pub stands : StandsFor new state
+  pub idle : running_count new ≡ 0
   pub ran : Ran left taken m state old.log new.log before after result

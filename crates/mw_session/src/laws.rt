@@ -6,7 +6,8 @@ ghost use Rattle.mw_model.specs.declared.codes.Code.TheVariants as Code;
 ghost use Rattle.mw_model.specs.declared.requests.End.{End};
 ghost use Rattle.mw_model.specs.Machine.{Machine, Run};
 ghost use Rattle.mw_laws.specs.MachineLaws.{IsSound};
-ghost use Rattle.mw_model.specs.Scripts.{Turn, AreTurns, IsScript, NoMarks, OnlyWork, NonePending, Works, killed_in};
+ghost use Rattle.mw_model.specs.Scripts.{Turn, AreTurns, IsScript, Works};
+ghost use Rattle.mw_session.specs.Marks.{killed_in, NoMarks, OnlyWork, NonePending};
 
 /// Without marks of memory the bytes and the state tell all: the text, the end, and the state that is left.
 pub fn one_output()

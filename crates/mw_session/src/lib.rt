@@ -7,13 +7,17 @@
 //! ```
 #![tactic(auto)]
 
+mod answer;
 mod fault;
 mod laws;
 mod line;
+mod payloads;
 mod pieces;
 mod reply;
 mod saying;
+mod script;
 mod stream;
+mod work;
 
 pub use fault::SessionFault;
 pub use laws::{one_output, work_in_any_order, work_is_lawful, written_text_stays};
@@ -22,7 +26,9 @@ pub use mw_model::{End, NoMemory};
 pub use pieces::{Piece, take_piece};
 pub use reply::{curve_line, image_line, refusal_line, reply_line};
 pub use saying::{end_by, say, say_curve, say_image};
+pub use script::run_script;
 pub use stream::{Sink, Source, receive, send};
+pub use work::Pick;
 
 #[cfg(test)]
 mod tests;

@@ -10,7 +10,8 @@ use Rattle.mw_model.specs.Rasters.{Raster, raster, cell_at, Sight, seen_under}
 use Rattle.mw_model.specs.Windows.{seen_at}
 use Rattle.mw_model.specs.Plans.{is_sum}
 use Rattle.mw_model.specs.PlanSteps.{PlanStep, Erode, Dilate, ErodeBox, DilateBox, Rank, Minus, AtLeast, Invert, Meet, Join, Blank, Mark, MarkLast, Equal, Sum, step_at, here, maxval_of_step}
-use Rattle.mw_model.specs.Tasks.{SourceWindow, cells_in}
+use Rattle.mw_model.specs.Tasks.{cells_in}
+use Rattle.mw_tile.specs.Windows.{SourceWindow}
 use Rattle.mw_step.specs.WindowTasks.{WindowTask, window_at, KindsFit, IsBounded, tile_made}
 use Rattle.mw_step.proofs.TileCells.{length-cells_in, cells_in_all}
 

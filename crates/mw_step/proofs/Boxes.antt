@@ -7,7 +7,8 @@ use Rattle.mw_model.specs.declared.places.OffsetBox.{OffsetBox}
 use Rattle.mw_model.specs.Places.{span, nonnegative, box_offsets}
 use Rattle.mw_model.specs.declared.places.Reach.{Reach}
 use Rattle.mw_model.specs.Flat.{greatest}
-use Rattle.mw_model.specs.Elements.{InBox, reach_of, steps}
+use Rattle.mw_model.specs.Elements.{reach_of}
+use Rattle.mw_element.specs.Figures.{InBox}
 use Rattle.mw_step.proofs.AllOf.{all_map}
 
 all_append : {A : Type 0} (P : A → Type 0) (xs ys : List A) → AllByRecursion P xs → AllByRecursion P ys → AllByRecursion P (xs ++ ys)
@@ -133,7 +134,7 @@ greatest_at measure box b inside each =
     let ge : measure b ≤ greatest ns = box_at (λ c. measure c ≤ greatest ns) box ((all_map (λ n. n ≤ greatest ns) measure (box_offsets box)).0 (all_up_to_greatest ns)) b inside in
     omega arith
 
-steps_rise : (z w : ℤ) → z ≤ℤ w → steps z ≤ steps w
+steps_rise : (z w : ℤ) → z ≤ℤ w → nonnegative z ≤ nonnegative w
 steps_rise (pos m) (pos n) le = omega (arith, ints)
 steps_rise (pos m) (negsuc n) le = absurd (omega (arith, ints))
 steps_rise (negsuc m) w le = omega arith
@@ -145,14 +146,14 @@ pub same_reach : (a b c d a' b' c' d' : ℕ) → a ≡ a' → b ≡ b' → c ≡
 same_reach a b c d a' b' c' d' p q r s = cc
 
 pub reach_of_none : (box : OffsetBox) → ((b : Offset) → InBox box b → ⊥) → reach_of (box_offsets box) ≡ reach 0 0 0 0
-reach_of_none box none = same_reach _ _ _ _ 0 0 0 0 (greatest_none (λ b. steps (neg_ℤ b.dx)) box none) (greatest_none (λ b. steps b.dx) box none) (greatest_none (λ b. steps (neg_ℤ b.dy)) box none) (greatest_none (λ b. steps b.dy) box none)
+reach_of_none box none = same_reach _ _ _ _ 0 0 0 0 (greatest_none (λ b. nonnegative (neg_ℤ b.dx)) box none) (greatest_none (λ b. nonnegative b.dx) box none) (greatest_none (λ b. nonnegative (neg_ℤ b.dy)) box none) (greatest_none (λ b. nonnegative b.dy) box none)
 
-pub reach_of_some : (box : OffsetBox) → box.x0 ≤ℤ box.x1 → box.y0 ≤ℤ box.y1 → reach_of (box_offsets box) ≡ reach (steps (neg_ℤ box.x0)) (steps box.x1) (steps (neg_ℤ box.y0)) (steps box.y1)
+pub reach_of_some : (box : OffsetBox) → box.x0 ≤ℤ box.x1 → box.y0 ≤ℤ box.y1 → reach_of (box_offsets box) ≡ reach (nonnegative (neg_ℤ box.x0)) (nonnegative box.x1) (nonnegative (neg_ℤ box.y0)) (nonnegative box.y1)
 reach_of_some box wide high =
     let low : InBox box (offset box.x0 box.y0) = record { left = omega (arith, ints); right = wide; top = omega (arith, ints); bottom = high } in
     let top : InBox box (offset box.x1 box.y1) = record { left = wide; right = omega (arith, ints); top = high; bottom = omega (arith, ints) } in
-    same_reach _ _ _ _ (steps (neg_ℤ box.x0)) (steps box.x1) (steps (neg_ℤ box.y0)) (steps box.y1)
-    (greatest_at (λ b. steps (neg_ℤ b.dx)) box (offset box.x0 box.y0) low (λ c inside. let h = inside.left in steps_rise (neg_ℤ c.dx) (neg_ℤ box.x0) (omega (arith, ints))))
-    (greatest_at (λ b. steps b.dx) box (offset box.x1 box.y1) top (λ c inside. steps_rise c.dx box.x1 inside.right))
-    (greatest_at (λ b. steps (neg_ℤ b.dy)) box (offset box.x0 box.y0) low (λ c inside. let h = inside.top in steps_rise (neg_ℤ c.dy) (neg_ℤ box.y0) (omega (arith, ints))))
-    (greatest_at (λ b. steps b.dy) box (offset box.x1 box.y1) top (λ c inside. steps_rise c.dy box.y1 inside.bottom))
+    same_reach _ _ _ _ (nonnegative (neg_ℤ box.x0)) (nonnegative box.x1) (nonnegative (neg_ℤ box.y0)) (nonnegative box.y1)
+    (greatest_at (λ b. nonnegative (neg_ℤ b.dx)) box (offset box.x0 box.y0) low (λ c inside. let h = inside.left in steps_rise (neg_ℤ c.dx) (neg_ℤ box.x0) (omega (arith, ints))))
+    (greatest_at (λ b. nonnegative b.dx) box (offset box.x1 box.y1) top (λ c inside. steps_rise c.dx box.x1 inside.right))
+    (greatest_at (λ b. nonnegative (neg_ℤ b.dy)) box (offset box.x0 box.y0) low (λ c inside. let h = inside.top in steps_rise (neg_ℤ c.dy) (neg_ℤ box.y0) (omega (arith, ints))))
+    (greatest_at (λ b. nonnegative b.dy) box (offset box.x1 box.y1) top (λ c inside. steps_rise c.dy box.y1 inside.bottom))

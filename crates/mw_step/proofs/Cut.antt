@@ -10,20 +10,21 @@ use Rattle.mw_model.specs.declared.places.Offset.{Offset}
 use Rattle.mw_model.specs.declared.places.Rect.{Rect}
 use Rattle.mw_model.specs.declared.shapes.Kind.{Kind}
 use Rattle.mw_model.specs.Flat.{least, greatest}
-use Rattle.mw_model.specs.Places.{rect, IsWithin, Reaches, box_offsets}
+use Rattle.mw_model.specs.Places.{rect, IsWithin, box_offsets}
+use Rattle.mw_tile.specs.Windows.{Reaches, IsCut, SourceWindow, no_window, window_of}
 use Rattle.mw_model.specs.Elements.{reach_of}
 use Rattle.mw_model.specs.Rasters.{Raster, raster, cell_at, Sight, seen_under}
-use Rattle.mw_model.specs.Windows.{seen_at, IsCut}
+use Rattle.mw_model.specs.Windows.{seen_at}
 use Rattle.mw_model.specs.Pictures.{Picture, IsPicture, sample, sample_at, drawn}
 use Rattle.mw_model.specs.Plans.{no_picture, sight_of, is_sum}
 use Rattle.mw_model.specs.PlanSteps.{PlanStep, Erode, Dilate, ErodeBox, DilateBox, Rank, Minus, AtLeast, Invert, Meet, Join, Blank, Mark, MarkLast, Equal, Sum, origin, looks_at, here, ranked, step_at}
-use Rattle.mw_model.specs.Tasks.{SourceWindow, no_window, window_of, place_read, sight_of_window, made_in, made_of_windows, made_of_planes, cells_in}
+use Rattle.mw_model.specs.Tasks.{place_read, made_in, made_of_planes, cells_in}
+use Rattle.mw_step.specs.WindowTasks.{sight_of_window, made_of_windows, FitsStep, IsRead, KindsFit, IsBounded, source_count, window_at}
 use Rattle.mw_model.proofs.ImagePlaces.{drawn_same, sample_bounded}
 use Rattle.mw_element.proofs.Lists.{reach_within}
 use Rattle.mw_tile.proofs.Reaching.{reaches_all, stays_within}
 use Rattle.mw_tile.proofs.Shown.{agrees}
 use Rattle.mw_step.specs.Sources.{HasFrame, AreCut}
-use Rattle.mw_step.specs.WindowTasks.{FitsStep, IsRead, KindsFit, IsBounded, source_count, window_at}
 use Rattle.std.proofs.lemmas.Grind.{get_or_default_zero}
 use Rattle.std.proofs.lemmas.List.{length-map}
 use Rattle.mw_step.proofs.TileCells.{length-cells_in, cells_in_at, cells_in_same, cells_in_all}

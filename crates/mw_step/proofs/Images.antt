@@ -9,7 +9,8 @@ use Rattle.mw_tile.specs.AnyWindows.{kind_of, maxval_of, levels_of}
 use Rattle.mw_model.specs.Pictures.{Picture}
 use Rattle.mw_model.specs.Plans.{is_sum}
 use Rattle.mw_model.specs.PlanSteps.{PlanStep, step_at, kind_of_step, maxval_of_step}
-use Rattle.mw_model.specs.Tasks.{SourceWindow, made_in}
+use Rattle.mw_model.specs.Tasks.{made_in}
+use Rattle.mw_tile.specs.Windows.{SourceWindow}
 use Rattle.mw_step.specs.WindowTasks.{WindowTask, window_at, tile_made}
 use Rattle.mw_step.specs.Products.{HoldsImage, IsMade, tile_drawn}
 use Rattle.mw_step.specs.declared.made.Made.{Made}

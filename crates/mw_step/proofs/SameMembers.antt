@@ -5,7 +5,7 @@ use Rattle.mw_model.specs.declared.places.Offset.{Offset}
 use Rattle.mw_model.specs.declared.places.OffsetBox.{OffsetBox}
 use Rattle.mw_model.specs.declared.places.Rect.{Rect}
 use Rattle.mw_model.specs.Places.{box_offsets}
-use Rattle.mw_model.specs.Elements.{FillsBox}
+use Rattle.mw_element.specs.Figures.{FillsBox}
 use Rattle.mw_model.specs.Rasters.{Raster, Sight, seen_under}
 use Rattle.mw_line.specs.Extrema.{IsSlidingExtremum}
 use Rattle.mw_line.proofs.Folds.{IsExtremum}

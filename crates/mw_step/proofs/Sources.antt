@@ -2,7 +2,7 @@
 use Rattle.std.proofs.Common.{◌≡◌, ℕ, ◌<◌, List, length, map, get_or, ap, sym, subst, arith, ◌∙◌}
 use Rattle.std.proofs.lemmas.List.{get_or-map, length-map}
 use Rattle.std.specs.List.{AllByRecursion}
-use Rattle.mw_model.specs.Tasks.{SourceWindow, no_window}
+use Rattle.mw_tile.specs.Windows.{SourceWindow, no_window}
 use Rattle.mw_tile.specs.declared.any.AnyWindow.{AnyWindow}
 use Rattle.mw_tile.specs.AnyWindows.{shown}
 use Rattle.mw_step.specs.WindowTasks.{window_at}

@@ -6,9 +6,9 @@ use Rattle.mw_model.specs.Pictures.{Picture}
 use Rattle.mw_model.specs.Windows.{View, seen_at}
 use Rattle.mw_model.specs.PlanSteps.{here}
 use Rattle.mw_model.specs.Plans.{is_sum}
-use Rattle.mw_model.specs.Tasks.{cells_in, made_of_windows}
+use Rattle.mw_model.specs.Tasks.{cells_in}
+use Rattle.mw_step.specs.WindowTasks.{made_of_windows, WindowTask, tile_made}
 use Rattle.mw_pixel.specs.Images.{set_of, grey_of}
-use Rattle.mw_step.specs.WindowTasks.{WindowTask, tile_made}
 use Rattle.mw_step.specs.declared.made.Made.{Made}
 use Rattle.mw_step.specs.declared.made.Made.TheVariants.{Bits, Grey8, Grey16, Number}
 

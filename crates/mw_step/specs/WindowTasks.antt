@@ -6,8 +6,20 @@ use Rattle.mw_model.specs.declared.tasks.TaskId.{TaskId}
 use Rattle.mw_model.specs.declared.shapes.Kind.TheVariants as kind
 use Rattle.mw_model.specs.Places.{IsWithin}
 use Rattle.mw_model.specs.Pictures.{Picture}
-use Rattle.mw_model.specs.PlanSteps.{PlanStep, Minus, Meet, Join, Blank, Mark, MarkLast, kind_of_step, maxval_of_step}
-use Rattle.mw_model.specs.Tasks.{SourceWindow, no_window, place_read, made_of_windows}
+use Rattle.mw_model.specs.Rasters.{Sight}
+use Rattle.mw_model.specs.Windows.{seen_at}
+use Rattle.mw_model.specs.PlanSteps.{PlanStep, Minus, Meet, Join, Blank, Mark, MarkLast, step_at, kind_of_step, maxval_of_step}
+use Rattle.mw_model.specs.Tasks.{place_read, made_in}
+use Rattle.mw_tile.specs.Windows.{SourceWindow, no_window}
+
+-- what is seen of a window in this place of the argument list
+abbrev pub sight_of_window : List SourceWindow → ℕ → Sight ℕ
+sight_of_window windows k = seen_at (slice_index_or windows k no_window).view
+
+-- what a step makes in a tile of these windows
+abbrev pub made_of_windows : PlanStep → List SourceWindow → Rect → List ℕ
+made_of_windows s windows tile =
+    made_in s tile (step_at s (slice_index_or windows 0 no_window).maxval (sight_of_window windows 0) (sight_of_window windows 1) (sight_of_window windows 2))
 
 -- A task: what to make, in which tile, from which windows.
 pub record WindowTask : Type 0 where

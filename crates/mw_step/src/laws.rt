@@ -10,9 +10,10 @@ ghost use Rattle.mw_model.specs.Pictures.{Picture, IsPicture};
 ghost use Rattle.mw_model.specs.Plans.{is_sum, plane_of};
 ghost use Rattle.mw_model.specs.PlanSteps.{PlanStep};
 ghost use Rattle.mw_model.specs.PlanSteps as plan;
-ghost use Rattle.mw_model.specs.Tasks.{SourceWindow, made_of_planes, made_of_windows};
+ghost use Rattle.mw_model.specs.Tasks.{made_of_planes};
+ghost use Rattle.mw_step.specs.WindowTasks.{made_of_windows, WindowTask, FitsStep, KindsFit, IsBounded, source_count, tile_made};
+ghost use Rattle.mw_tile.specs.Windows.{SourceWindow};
 ghost use Rattle.mw_step.specs.Sources.{AreCut};
-ghost use Rattle.mw_step.specs.WindowTasks.{WindowTask, FitsStep, KindsFit, IsBounded, source_count, tile_made};
 
 /// What a task makes of windows of whole planes is what its step makes there of the planes.
 pub fn tile_of_windows_is_tile_of_planes()

@@ -1,8 +1,8 @@
 //! Lists of offsets that are the same, and how far the offsets of a box lead.
 
 ghost use Rattle.std.specs.Prelude.{◌≡◌, ◌↔◌, IsTrue, neg_ℤ};
-ghost use Rattle.mw_model.specs.Elements.{reach_of, steps};
-ghost use Rattle.mw_model.specs.Places.{box_offsets};
+ghost use Rattle.mw_model.specs.Elements.{reach_of};
+ghost use Rattle.mw_model.specs.Places.{nonnegative, box_offsets};
 
 use mw_model::{Offset, OffsetBox, Reach};
 
@@ -14,25 +14,25 @@ pub(crate) fn same_box(a: OffsetBox, b: OffsetBox) -> bool
 }
 
 fn left_of(b: OffsetBox) -> u32
-    ensures { result ≡ steps (neg_ℤ b.x0) }
+    ensures { result ≡ nonnegative (neg_ℤ b.x0) }
 {
     if b.x0 < 0 { b.x0.unsigned_abs() } else { 0 }
 }
 
 fn right_of(b: OffsetBox) -> u32
-    ensures { result ≡ steps b.x1 }
+    ensures { result ≡ nonnegative b.x1 }
 {
     if b.x1 < 0 { 0 } else { b.x1 as u32 }
 }
 
 fn up_of(b: OffsetBox) -> u32
-    ensures { result ≡ steps (neg_ℤ b.y0) }
+    ensures { result ≡ nonnegative (neg_ℤ b.y0) }
 {
     if b.y0 < 0 { b.y0.unsigned_abs() } else { 0 }
 }
 
 fn down_of(b: OffsetBox) -> u32
-    ensures { result ≡ steps b.y1 }
+    ensures { result ≡ nonnegative b.y1 }
 {
     if b.y1 < 0 { 0 } else { b.y1 as u32 }
 }

@@ -3,7 +3,8 @@ use Rattle.std.proofs.Common.{◌≡◌, ℕ, ◌+◌, ◌*◌, ℤ, pos, ◌-�
 use Rattle.std.proofs.lemmas.Int.{ints}
 use Rattle.mw_model.specs.Pictures.{Picture, sample, sample_at}
 use Rattle.mw_model.specs.Windows.{seen_at}
-use Rattle.mw_model.specs.Tasks.{SourceWindow, cells_in, window_of}
+use Rattle.mw_model.specs.Tasks.{cells_in}
+use Rattle.mw_tile.specs.Windows.{SourceWindow, window_of}
 use Rattle.mw_model.proofs.ImagePlaces.{drawn_same, redrawn_itself}
 use Rattle.mw_pixel.proofs.Cells.{cell_at-raster_of}
 use Rattle.mw_store.specs.Frames.{frame_of, whole_window}

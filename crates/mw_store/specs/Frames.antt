@@ -1,11 +1,10 @@
 -- Windows of whole images.
-use Rattle.std.specs.Prelude.{ℕ, List}
 use Rattle.mw_model.specs.declared.places.Rect.{Rect}
 use Rattle.mw_model.specs.Places.{rect}
 use Rattle.mw_model.specs.Rasters.{Raster}
 use Rattle.mw_model.specs.Windows.{View}
 use Rattle.mw_model.specs.Pictures.{Picture}
-use Rattle.mw_model.specs.Tasks.{SourceWindow}
+use Rattle.mw_tile.specs.Windows.{SourceWindow}
 
 -- the rectangle of a whole image
 abbrev pub frame_of : Picture → Rect

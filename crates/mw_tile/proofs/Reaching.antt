@@ -5,7 +5,8 @@ use Rattle.std.specs.List.{AllByRecursion}
 use Rattle.mw_model.specs.declared.places.Offset.{Offset}
 use Rattle.mw_model.specs.declared.places.Rect.{Rect}
 use Rattle.mw_model.specs.declared.places.Reach.{Reach}
-use Rattle.mw_model.specs.Places.{grown, Reaches, ReachesAll, IsWithin, Leads, WithinReach}
+use Rattle.mw_model.specs.Places.{grown, IsWithin, Leads, WithinReach}
+use Rattle.mw_tile.specs.Windows.{Reaches, ReachesAll}
 
 -- along one line
 along : (n a w left right i x : ℕ) (d : ℤ) → pos 0 ≤ℤ (d +ℤ pos left) → d ≤ℤ pos right → i < w → pos (a + i) +ℤ d ≡ pos x → x < n

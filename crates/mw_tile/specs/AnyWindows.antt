@@ -3,7 +3,7 @@ use Rattle.std.specs.Prelude.{ℕ, ◌≤◌, map}
 use Rattle.mw_model.specs.declared.shapes.Kind.{Kind}
 use Rattle.mw_model.specs.declared.shapes.Kind.TheVariants as kind
 use Rattle.mw_model.specs.Windows.{View}
-use Rattle.mw_model.specs.Tasks.{SourceWindow}
+use Rattle.mw_tile.specs.Windows.{SourceWindow}
 use Rattle.mw_tile.specs.declared.any.AnyWindow.{AnyWindow}
 use Rattle.mw_tile.specs.declared.any.AnyWindow.TheVariants.{Bits, Grey8, Grey16}
 

@@ -1,3 +1,4 @@
 pub mod Grids
+pub mod Windows
 pub mod Cuts
 pub mod AnyWindows

@@ -3,7 +3,7 @@
 
 ghost use Rattle.std.specs.Prelude.{◌≡◌, ◌+◌, ◌*◌, ◌<◌, ◌≤◌, IfOk};
 ghost use Rattle.mw_model.specs.Places.{IsWithin};
-ghost use Rattle.mw_model.specs.Windows.{IsCut};
+ghost use Rattle.mw_tile.specs.Windows.{IsCut};
 ghost use Rattle.mw_tile.specs.Cuts.{view_of, stood_at, Pastes};
 
 use mw_model::{NoMemory, Rect};

@@ -14,8 +14,7 @@ pub struct Grid {
 }
 
 impl Model for Grid {
-    ghost use Rattle.mw_model.specs.Places.{Tiling};
-    ghost use Rattle.mw_tile.specs.Grids.{tiling, IsTiling};
+    ghost use Rattle.mw_tile.specs.Grids.{Tiling, tiling, IsTiling};
 
     ghost Value = { Tiling };
 
@@ -35,8 +34,8 @@ pub fn side_ok(side: u32) -> bool
 
 impl Grid {
     ghost use Rattle.std.specs.Prelude.{◌≡◌, ◌+◌, ◌%◌, ◌<◌, ◌≤◌};
-    ghost use Rattle.mw_model.specs.Places.{columns_of, rows_of, tile_count, tile_at, grown, IsWithin};
-    ghost use Rattle.mw_tile.specs.Grids.{tiling};
+    ghost use Rattle.mw_model.specs.Places.{grown, IsWithin};
+    ghost use Rattle.mw_tile.specs.Grids.{columns_of, rows_of, tile_count, tile_at, tiling};
 
     pub fn new(width: u32, height: u32, side: u32) -> Grid
         requires width { (1 ≤ width) × (width ≤ 8192) }

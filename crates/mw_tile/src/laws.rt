@@ -2,11 +2,13 @@
 
 ghost use Rattle.std.specs.Prelude.{◌≡◌, ℕ, ◌+◌, ◌<◌};
 ghost use Rattle.mw_model.specs.declared.places.Rect.{Rect};
-ghost use Rattle.mw_model.specs.Places.{tile_count, tile_at, tiles_of, grown, IsWithin, ReachesAll, WithinReach, CoverOnce};
+ghost use Rattle.mw_model.specs.Places.{grown, IsWithin, WithinReach, CoverOnce};
+ghost use Rattle.mw_tile.specs.Windows.{ReachesAll, IsCut, IsWindow};
+ghost use Rattle.mw_tile.specs.Grids.{tile_count, tile_at, tiles_of};
 ghost use Rattle.mw_model.specs.Pictures.{Picture, IsPicture};
 ghost use Rattle.mw_model.specs.Flat.{under};
 ghost use Rattle.mw_model.specs.Rasters.{Raster, cell_at, seen_under};
-ghost use Rattle.mw_model.specs.Windows.{IsCut, IsWindow, seen_at};
+ghost use Rattle.mw_model.specs.Windows.{seen_at};
 ghost use Rattle.mw_pixel.specs.Images.{raster_of};
 ghost use Rattle.mw_tile.specs.AnyWindows.{levels_of};
 

@@ -2,7 +2,7 @@
 
 ghost use Rattle.std.specs.Prelude.{◌≡◌, ◌+◌, ◌*◌, ◌<◌, ◌≤◌, length, slice_range, vec_len, IfOk};
 ghost use Rattle.mw_model.specs.Places.{IsWithin};
-ghost use Rattle.mw_model.specs.Windows.{IsCut};
+ghost use Rattle.mw_tile.specs.Windows.{IsCut};
 ghost use Rattle.mw_tile.specs.Cuts.{view_of, whole_of};
 
 use crate::cuts::cut_samples;

@@ -1,8 +1,7 @@
 use Rattle.std.proofs.Common.{take}
 use Rattle.std.specs.List.{AllByRecursion}
 use Rattle.mw_model.specs.declared.places.OffsetBox.{OffsetBox}
-use Rattle.mw_model.specs.Elements.{InBox}
-use Rattle.mw_element.specs.Figures.{LiesIn}
+use Rattle.mw_element.specs.Figures.{InBox, LiesIn}
 use Rattle.mw_element.proofs.offsets.bounds.Given as goal
 
 abbrev pub invariant-offsets : goal.invariant-offsets

@@ -1,5 +1,5 @@
 use Rattle.std.proofs.Common.{◌≡◌, take, Some, None, ◌∙◌, arith, length-take}
-use Rattle.mw_model.specs.Lines.{head_of}
+use Rattle.mw_intake.specs.Reading.{head_of}
 use Rattle.mw_model.specs.declared.requests.Head.TheVariants.{Payload, Alone}
 use Rattle.mw_intake.proofs.Front.{cut_bound, cut_open, cut_head, payload_line, payload_long}
 use Rattle.mw_intake.proofs.cut.cut_front.Goals as goal

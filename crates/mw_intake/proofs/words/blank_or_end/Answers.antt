@@ -1,5 +1,5 @@
 use Rattle.std.proofs.Common.{rules, arith}
-use Rattle.mw_model.specs.Lines.{is_blank}
+use Rattle.mw_intake.specs.Reading.{is_blank}
 use Rattle.mw_model.proofs.Positions.{position_more, position_here, position_length}
 use Rattle.mw_intake.proofs.words.blank_or_end.Goals as goal
 

@@ -1,6 +1,6 @@
 use Rattle.std.proofs.Common.{◌≤◌}
 use Rattle.std.specs.List.{position_or_len}
-use Rattle.mw_model.specs.Lines.{is_blank}
+use Rattle.mw_intake.specs.Reading.{is_blank}
 use Rattle.mw_intake.proofs.words.blank_or_end.Given as goal
 
 abbrev pub invariant-loop-i : goal.invariant-loop-i

@@ -1,7 +1,7 @@
 use Rattle.std.proofs.Common.{◌≡◌, ◌<◌, ◌+◌, ◌-◌, length, drop, arith, sym, refl, ◌∙◌, length-drop}
 use Rattle.std.specs.List.{position_or_len}
 use Rattle.std.proofs.lemmas.List.{take_all}
-use Rattle.mw_model.specs.Lines.{is_blank}
+use Rattle.mw_intake.specs.Reading.{is_blank}
 use Rattle.mw_intake.proofs.Splits.{words_first, words_last}
 use Rattle.mw_intake.proofs.words.first_word.Goals as goal
 

@@ -1,5 +1,5 @@
 use Rattle.std.proofs.Common.{◌≡◌, ◌<◌, ◌^◌, take}
-use Rattle.mw_model.specs.Lines.{value_of}
+use Rattle.mw_intake.specs.Reading.{value_of}
 use Rattle.mw_intake.proofs.words.value.Given as goal
 
 abbrev pub invariant-loop-d : goal.invariant-loop-d

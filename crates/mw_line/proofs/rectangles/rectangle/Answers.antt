@@ -3,7 +3,8 @@ use Rattle.std.proofs.lemmas.Int.{ints}
 use Rattle.std.proofs.lemmas.Result.{IfOk-weaker}
 use Rattle.mw_model.specs.Places.{box_offsets}
 use Rattle.mw_model.specs.Rasters.{Raster, raster, cell_at}
-use Rattle.mw_model.specs.Windows.{seen_at, IsWindow}
+use Rattle.mw_model.specs.Windows.{seen_at}
+use Rattle.mw_tile.specs.Windows.{IsWindow}
 use Rattle.mw_line.specs.Extrema.{IsSlidingExtremum}
 use Rattle.mw_line.proofs.Folds.{IsExtremum}
 use Rattle.mw_line.proofs.Tiles.{looked, blank_tile, one_is_none, tile_made, tile_cell, on_frame}

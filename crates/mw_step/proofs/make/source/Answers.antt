@@ -1,6 +1,6 @@
 use Rattle.std.proofs.Common.{◌≡◌, arith, ap, length, map, List}
 use Rattle.std.proofs.lemmas.List.{length-map}
-use Rattle.mw_model.specs.Tasks.{SourceWindow}
+use Rattle.mw_tile.specs.Windows.{SourceWindow}
 use Rattle.mw_tile.specs.AnyWindows.{shown}
 use Rattle.mw_step.specs.WindowTasks.{IsRead, window_at}
 use Rattle.mw_step.proofs.Sources.{shown_all}

@@ -1,5 +1,5 @@
 use Rattle.std.proofs.Common.{arith}
-use Rattle.mw_model.specs.Places.{tile_at}
+use Rattle.mw_tile.specs.Grids.{tile_at}
 use Rattle.mw_tile.proofs.Tiles.{tile_begins}
 use Rattle.mw_tile.proofs.Reaching.{reaches_all, stays_within}
 use Rattle.mw_tile.proofs.laws.window_reaches.Goals as goal

@@ -2,7 +2,8 @@ use Rattle.std.proofs.Common.{List, ◌∙◌, ap, subst, ◌≡◌}
 use Rattle.std.specs.Prelude.{IfNone}
 use Rattle.mw_model.specs.declared.places.Offset.{Offset}
 use Rattle.mw_model.specs.declared.places.OffsetBox.{OffsetBox}
-use Rattle.mw_model.specs.Elements.{Figure, FillsBox}
+use Rattle.mw_model.specs.Elements.{Figure}
+use Rattle.mw_element.specs.Figures.{FillsBox}
 use Rattle.mw_element.proofs.element.Element.as_rectangle.Goals as goal
 
 pub returns-clause-none : goal.returns-clause-none

@@ -1,0 +1,367 @@
+-- How the answers to requests are turns of a script.
+use Rattle.std.proofs.Common.{◌≡◌, ◌≢◌, ℕ, ◌+◌, ◌<◌, ◌≤◌, Bool, true, false, ◌⊎◌, inl, inr, List, [], ◌∷◌, ◌++◌, length, Option, Some, None, Result, Ok, Err, refl, sym, ap, ◌∙◌, subst, arith, append_assoc, length-append}
+use Rattle.std.specs.Prelude.{IfOk, OnErr}
+use Rattle.std.proofs.lemmas.List.{append-nil}
+use Rattle.mw_model.specs.declared.names.Name.{Name}
+use Rattle.mw_model.specs.declared.operations.Op.{Op}
+use Rattle.mw_model.specs.declared.submissions.Submission.{Submission}
+use Rattle.mw_model.specs.declared.shapes.Shape.{Shape}
+use Rattle.mw_model.specs.declared.codes.Code.{Code}
+use Rattle.mw_model.specs.declared.codes.Code.TheVariants as code
+use Rattle.mw_model.specs.declared.calls.Given.TheVariants as given
+use Rattle.mw_model.specs.declared.calls.Call.{Call}
+use Rattle.mw_model.specs.declared.calls.Call.TheVariants as call
+use Rattle.mw_model.specs.declared.calls.Outcome.{Outcome}
+use Rattle.mw_model.specs.declared.calls.Outcome.TheVariants as outcome
+use Rattle.mw_model.specs.declared.calls.Reply.{Reply}
+use Rattle.mw_model.specs.declared.calls.Reply.TheVariants as reply
+use Rattle.mw_model.specs.declared.calls.LogItem.{LogItem}
+use Rattle.mw_model.specs.declared.calls.LogItem.TheVariants as item
+use Rattle.mw_model.specs.Pictures.{Picture, IsImage}
+use Rattle.mw_model.specs.Elements.{Figure, IsElement, ElementRefuses}
+use Rattle.mw_model.specs.NetpbmGrammar.{IsFile}
+use Rattle.mw_model.specs.NetpbmRefusals.{Refuses}
+use Rattle.mw_model.specs.NetpbmWriting.{text_of}
+use Rattle.mw_model.specs.Values.{Value, ImageValue, ElementValue, CurveValue, value_at, shape_of_picture, shape_of_figure}
+use Rattle.mw_model.specs.Refusals.{Table, outcome_at, is_pending, first_of, name_taken, no_room, refusal}
+use Rattle.mw_model.specs.Machine.{Machine, values, status_reply, answer, refused_or, reply_to, changed, unless_refused, table_after, with_entry, killed, after}
+use Rattle.mw_model.specs.Tasks.{Progress, running_tasks}
+use Rattle.mw_model.specs.Stands.{Seen, StandsFor, progress_at, running_count}
+use Rattle.mw_model.specs.declared.requests.Ask.TheVariants as ask
+use Rattle.mw_model.specs.Lines.{Asked, AskLoad, AskElement, AskAlone}
+use Rattle.mw_model.specs.Replies.{Handed, reply_text, refusal_text, NoValue, ImageBytes}
+use Rattle.mw_model.specs.Scripts.{Turn, Answers, unread, called, Works, Replies, IsTurn, IsCallOf, ImageGiven, ElementGiven, runs_work, refused_unread, handed, answer_text}
+use Rattle.mw_session.specs.Marks.{killed_in}
+use Rattle.mw_laws.specs.MachineLaws.{IsSound, IsKilled}
+use Rattle.mw_laws.proofs.RunStates.{reached}
+use Rattle.mw_laws.proofs.RunTables.{push_last}
+use Rattle.mw_laws.proofs.RunReplay.{refusal_told, refused_leaves, fetch_leaves}
+use Rattle.mw_core.specs.Payloads.{given_image, image_payload, given_element, element_payload}
+use Rattle.mw_core.specs.Events.{Serves, IsFresh, handed_out}
+use Rattle.mw_core.specs.Fetches.{shown_value}
+use Rattle.mw_core.specs.declared.answers.Shown.{Shown}
+use Rattle.mw_core.specs.declared.answers.Shown.TheVariants as shown
+use Rattle.mw_session.specs.declared.fault.SessionFault.{SessionFault}
+use Rattle.mw_session.specs.Writes.{Wrote}
+use Rattle.mw_session.specs.Work.{AllWorked}
+use Rattle.mw_session.specs.Runs.{Answered, ShowsKills}
+use Rattle.mw_session.specs.Answering.{ReadsImage, ReadsElement, told_text, fetch_text, SaysFetched}
+use Rattle.mw_session.proofs.Turns.{killed_append}
+use Rattle.mw_session.proofs.Advancing.{under, none-under, count-under, calm}
+
+-- ---- texts
+
+-- a reply that shows nothing is one text, whatever is handed out
+told-alone : (r : Reply) (v : Handed) → ((t : ℕ) → r ≢ reply.Shown t) → reply_text r NoValue ≡ reply_text r v
+told-alone (reply.Accepted t) v n = refl
+told-alone (reply.Refused c) v n = refl
+told-alone (reply.Pending t) v n = refl
+told-alone (reply.Done t s) v n = refl
+told-alone (reply.Cancelled t) v n = refl
+told-alone (reply.OutOfMemory t) v n = refl
+told-alone (reply.BadInput t s) v n = refl
+told-alone (reply.Released t) v n = refl
+told-alone (reply.Shown t) v n = absurd (n t refl)
+
+status-shows-none : (t : ℕ) (s : Shape) (o : Outcome) (u : ℕ) → status_reply t s o ≢ reply.Shown u
+status-shows-none t s outcome.Pending u h = cc
+status-shows-none t s outcome.Done u h = cc
+status-shows-none t s outcome.Cancelled u h = cc
+status-shows-none t s outcome.Memory u h = cc
+status-shows-none t s (outcome.Input i) u h = cc
+status-shows-none t s outcome.Released u h = cc
+
+none-shown : (x : Option Code) (a : Reply) (u : ℕ) → a ≢ reply.Shown u → refused_or x a ≢ reply.Shown u
+none-shown None a u n h = n h
+none-shown (Some c) a u n h = cc
+
+-- a call that hands out no value
+abbrev pub IsPlain : Call → Type 0
+IsPlain (call.Fetch n) = ⊥
+IsPlain c = Unit {0}
+
+answer-shows-none : (w : Table) (c : Call) (u : ℕ) → IsPlain c → answer w c ≢ reply.Shown u
+answer-shows-none w (call.Load n g) u p h = cc
+answer-shows-none w (call.Element n g) u p h = cc
+answer-shows-none w (call.Run n o) u p h = cc
+answer-shows-none w (call.Cancel n) u p h = cc
+answer-shows-none w (call.Release n) u p h = cc
+answer-shows-none w (call.Status n) u p h = status-shows-none _ _ _ u h
+answer-shows-none w (call.Fetch n) u p h = absurd p
+
+plain-text : (m : Machine) (c : Call) (r : Reply) → IsPlain c → r ≡ reply_to m c → reply_text r NoValue ≡ answer_text m c
+plain-text m c r p e =
+    ap (λ x. reply_text x NoValue) e ∙ told-alone (reply_to m c) (handed m (reply_to m c)) (λ u. none-shown (refusal m.table m.payloads c) (answer m.table c) u (answer-shows-none m.table c u p))
+
+-- what a FETCH hands out is the machine's
+fetched-text : (m : Machine) (r : Reply) (v : Shown) → shown_value v ≡ handed_out m r → fetch_text r v ≡ reply_text r (handed m r)
+fetched-text m (reply.Accepted t) shown.Nothing e = refl
+fetched-text m (reply.Refused c) shown.Nothing e = refl
+fetched-text m (reply.Pending t) shown.Nothing e = refl
+fetched-text m (reply.Done t s) shown.Nothing e = refl
+fetched-text m (reply.Cancelled t) shown.Nothing e = refl
+fetched-text m (reply.OutOfMemory t) shown.Nothing e = refl
+fetched-text m (reply.BadInput t s) shown.Nothing e = refl
+fetched-text m (reply.Released t) shown.Nothing e = refl
+fetched-text m (reply.Shown t) shown.Nothing e = rw (← e) refl
+fetched-text m (reply.Accepted t) (shown.Image f) e = refl
+fetched-text m (reply.Refused c) (shown.Image f) e = refl
+fetched-text m (reply.Pending t) (shown.Image f) e = refl
+fetched-text m (reply.Done t s) (shown.Image f) e = refl
+fetched-text m (reply.Cancelled t) (shown.Image f) e = refl
+fetched-text m (reply.OutOfMemory t) (shown.Image f) e = refl
+fetched-text m (reply.BadInput t s) (shown.Image f) e = refl
+fetched-text m (reply.Released t) (shown.Image f) e = refl
+fetched-text m (reply.Shown t) (shown.Image f) e = rw (← e) refl
+
+-- ---- payloads
+
+-- a fault for want of memory is told only where another refusal stands before it
+fault-told : (a b : Option Code) (c : Code) → (d : Code) × (first_of (a ∷ b ∷ Some c ∷ []) ≡ Some d) × (d ≢ c → first_of (a ∷ b ∷ []) ≡ Some d)
+fault-told (Some a) b c = (a, refl, λ n. refl)
+fault-told None (Some b) c = (b, refl, λ n. refl)
+fault-told None None c = (c, refl, λ n. absurd (n refl))
+
+-- a submission whose payload found no memory is refused whatever the payload holds
+unread-answers : (m n : Machine) (q : Asked) (c : Call) (x y : Option Code) (r : Reply) → refused_unread m.table q ≡ first_of (x ∷ y ∷ []) → refusal m.table m.payloads c ≡ first_of (x ∷ y ∷ Some code.Memory ∷ [])
+    → r ≡ reply_to m c → r ≢ reply.Refused code.Memory → n ≡ after m c None → Answers m q (reply_text r NoValue) n
+unread-answers m n q c x y r u f told other next =
+    let by = fault-told x y code.Memory in
+    let why = by.0 in
+    let refused : refusal m.table m.payloads c ≡ Some why = f ∙ by.1 in
+    let says : r ≡ reply.Refused why = told ∙ ap (λ o. refused_or o (answer m.table c)) refused in
+    unread why (u ∙ by.2 (λ e. other (says ∙ ap reply.Refused e))) (ap (λ z. reply_text z NoValue) says) (next ∙ refused_leaves m c None why refused)
+
+pub load-answers : (m n : Machine) (name : Name) (bytes : List ℕ) (image : Result Picture Code) (r : Reply) → ReadsImage bytes image → r ≡ reply_to m (call.Load name (given_image image))
+    → r ≢ reply.Refused code.Memory → n ≡ after m (call.Load name (given_image image)) (image_payload image) → Answers m (AskLoad name bytes) (reply_text r NoValue) n
+load-answers m n name bytes (Ok f) r read told other next =
+    let c = call.Load name (given.Good (shape_of_picture f)) in
+    called c (Some (ImageValue f)) (given.Good (shape_of_picture f), (f, read.0, refl, refl), refl) (plain-text m c r tt told) next
+load-answers m n name bytes (Err e) r (inl memory) told other next =
+    let P : Code → Type 0 = λ d. r ≡ reply_to m (call.Load name (given.Bad d)) → n ≡ after m (call.Load name (given.Bad d)) None → Answers m (AskLoad name bytes) (reply_text r NoValue) n in
+    subst P (sym memory) (λ t x. unread-answers m n (AskLoad name bytes) (call.Load name (given.Bad code.Memory)) (name_taken m.table name) (no_room m.table) r refl refl t other x) told next
+load-answers m n name bytes (Err e) r (inr why) told other next =
+    let c = call.Load name (given.Bad e) in
+    called c None (given.Bad e, (why, refl), refl) (plain-text m c r tt told) next
+
+pub element-answers : (m n : Machine) (name : Name) (ox oy : ℕ) (bytes : List ℕ) (element : Result Figure Code) (r : Reply) → ReadsElement bytes ox oy element → r ≡ reply_to m (call.Element name (given_element element))
+    → r ≢ reply.Refused code.Memory → n ≡ after m (call.Element name (given_element element)) (element_payload element) → Answers m (AskElement name ox oy bytes) (reply_text r NoValue) n
+element-answers m n name ox oy bytes (Ok b) r read told other next =
+    let c = call.Element name (given.Good (shape_of_figure b)) in
+    called c (Some (ElementValue b)) (given.Good (shape_of_figure b), (b, read, refl, refl), refl) (plain-text m c r tt told) next
+element-answers m n name ox oy bytes (Err e) r (inl memory) told other next =
+    let P : Code → Type 0 = λ d. r ≡ reply_to m (call.Element name (given.Bad d)) → n ≡ after m (call.Element name (given.Bad d)) None → Answers m (AskElement name ox oy bytes) (reply_text r NoValue) n in
+    subst P (sym memory) (λ t x. unread-answers m n (AskElement name ox oy bytes) (call.Element name (given.Bad code.Memory)) (name_taken m.table name) (no_room m.table) r refl refl t other x) told next
+element-answers m n name ox oy bytes (Err e) r (inr why) told other next =
+    let c = call.Element name (given.Bad e) in
+    called c None (given.Bad e, (why, refl), refl) (plain-text m c r tt told) next
+
+-- ---- no task is running after a call
+
+unless-cases : (x : Option Code) (a b : Table) → (unless_refused x a b ≡ a) ⊎ ((x ≡ None) × (unless_refused x a b ≡ b))
+unless-cases None a b = inr (refl, refl)
+unless-cases (Some c) a b = inl refl
+
+-- where no entry is added
+calm-old : (old new : Seen) (c : Call) (p : Option Value) (r : Reply) (m : Machine) → StandsFor old m → Serves old c p new r → running_count old ≡ 0 → length (changed m.table c).names ≡ length m.table.names → running_count new ≡ 0
+calm-old old new c p r m s e none same =
+    let stands = e.stands m s in
+    let names : length new.table.names ≡ length m.table.names = elim (unless-cases (refusal m.table m.payloads c) m.table (changed m.table c)) [
+      | inl stays ↦ ap (λ (w : Table). length w.names) (stands.table ∙ stays)
+      | inr next ↦ ap (λ (w : Table). length w.names) (stands.table ∙ next.1) ∙ same
+    ] in
+    calm old new (after m c p) stands e.work none (λ u past l. absurd (omega (arith, past, l, names, ap (λ (w : Table). length w.names) s.table)))
+
+-- where an entry is added under which no task is running
+calm-more : (old new : Seen) (c : Call) (p : Option Value) (r : Reply) (m : Machine) (name : Name) (e : Submission) (o : Outcome) → StandsFor old m → Serves old c p new r → running_count old ≡ 0
+    → changed m.table c ≡ with_entry m.table name e o → (refusal m.table m.payloads c ≡ None → (u : ℕ) → u ≡ length m.table.names → under running_tasks new u ≡ 0) → running_count new ≡ 0
+calm-more old new c p r m name e o s h none same rests =
+    let stands = h.stands m s in
+    let names = ap (λ (w : Table). length w.names) s.table in
+    calm old new (after m c p) stands h.work none (λ u past l. elim (unless-cases (refusal m.table m.payloads c) m.table (changed m.table c)) [
+      | inl stays ↦ let long = ap (λ (w : Table). length w.names) (stands.table ∙ stays) in absurd (omega (arith, past, l, long, names))
+      | inr next ↦
+          let long : length new.table.names ≡ length (m.table.names ++ name ∷ []) = ap (λ (w : Table). length w.names) (stands.table ∙ next.1 ∙ same) in
+          rests next.0 u (omega (arith, past, l, long, names, length-append m.table.names (name ∷ [])))
+    ])
+
+-- a given entry is done at once
+given-rests : (old new : Seen) (c : Call) (p : Option Value) (r : Reply) (m : Machine) (name : Name) (e : Submission) → StandsFor old m → Serves old c p new r → changed m.table c ≡ with_entry m.table name e outcome.Done
+    → refusal m.table m.payloads c ≡ None → (u : ℕ) → u ≡ length m.table.names → under running_tasks new u ≡ 0
+given-rests old new c p r m name e s h same free u last =
+    let sound = reached old.log m s.run in
+    let next : (after m c p).table ≡ with_entry m.table name e outcome.Done = ap (λ x. unless_refused x m.table (changed m.table c)) free ∙ same in
+    let done : outcome_at (m.table.outcomes ++ outcome.Done ∷ []) u ≡ outcome.Done = push_last m.table.outcomes outcome.Done outcome.Pending u (omega (arith, last, sound.lengths.outcomes)) in
+    none-under running_tasks new (after m c p) u (h.stands m s) (ap (λ (w : Table). is_pending (outcome_at w.outcomes u)) next ∙ ap is_pending done)
+
+pub calm-load : (old new : Seen) (name : Name) (image : Result Picture Code) (r : Reply) (m : Machine) → StandsFor old m → Serves old (call.Load name (given_image image)) (image_payload image) new r → running_count old ≡ 0 → running_count new ≡ 0
+calm-load old new name image r m s h none =
+    let c = call.Load name (given_image image) in
+    calm-more old new c (image_payload image) r m name _ outcome.Done s h none refl (given-rests old new c (image_payload image) r m name _ s h refl)
+
+pub calm-element : (old new : Seen) (name : Name) (element : Result Figure Code) (r : Reply) (m : Machine) → StandsFor old m → Serves old (call.Element name (given_element element)) (element_payload element) new r → running_count old ≡ 0 → running_count new ≡ 0
+calm-element old new name element r m s h none =
+    let c = call.Element name (given_element element) in
+    calm-more old new c (element_payload element) r m name _ outcome.Done s h none refl (given-rests old new c (element_payload element) r m name _ s h refl)
+
+pub calm-run : (old new : Seen) (name : Name) (op : Op) (r : Reply) (m : Machine) → StandsFor old m → Serves old (call.Run name op) None new r → ((t : ℕ) → r ≡ reply.Accepted t → IsFresh new t) → running_count old ≡ 0 → running_count new ≡ 0
+calm-run old new name op r m s h fresh none =
+    let c = call.Run name op in
+    calm-more old new c None r m name _ outcome.Pending s h none refl (λ free u last.
+    let told : r ≡ reply.Accepted (length m.table.names) = h.reply m s ∙ ap (λ x. refused_or x (answer m.table c)) free in
+    let f = fresh (length m.table.names) told in
+    rw last (count-under running_tasks new (length m.table.names) f.progress f.work ∙ f.idle))
+
+pub calm-cancel : (old new : Seen) (name : Name) (r : Reply) (m : Machine) → StandsFor old m → Serves old (call.Cancel name) None new r → running_count old ≡ 0 → running_count new ≡ 0
+unfolding killed
+calm-cancel old new name r m s h none = calm-old old new (call.Cancel name) None r m s h none refl
+
+pub calm-release : (old new : Seen) (name : Name) (r : Reply) (m : Machine) → StandsFor old m → Serves old (call.Release name) None new r → running_count old ≡ 0 → running_count new ≡ 0
+calm-release old new name r m s h none = calm-old old new (call.Release name) None r m s h none refl
+
+pub calm-status : (old new : Seen) (name : Name) (r : Reply) (m : Machine) → StandsFor old m → Serves old (call.Status name) None new r → running_count old ≡ 0 → running_count new ≡ 0
+calm-status old new name r m s h none = calm-old old new (call.Status name) None r m s h none refl
+
+pub calm-fetch : (old new : Seen) (name : Name) (r : Reply) (m : Machine) → StandsFor old m → Serves old (call.Fetch name) None new r → running_count old ≡ 0 → running_count new ≡ 0
+calm-fetch old new name r m s h none = calm-old old new (call.Fetch name) None r m s h none refl
+
+-- ---- turns
+
+-- What stands before a request is answered: the work before it was run, where it runs any.
+pub record Ready (m : Machine) (q : Asked) (old mid : Seen) : Type 0 where
+  pub items : List LogItem
+  pub state : Machine
+  pub log : mid.log ≡ old.log ++ items
+  pub works : Works (runs_work q) m (killed_in items) state
+  pub stands : StandsFor mid state
+  pub idle : running_count mid ≡ 0
+
+pub ready-at-once : (m : Machine) (q : Asked) (c : Seen) → StandsFor c m → running_count c ≡ 0 → runs_work q ≡ false → Ready m q c c
+ready-at-once m q c s none quiet =
+    let P : Bool → Type 0 = λ b. Works b m [] m in
+    record { items = []; state = m; log = sym (append-nil c.log); works = subst P (sym quiet) (refl, refl); stands = s; idle = none }
+
+pub ready-by-work : (m : Machine) (q : Asked) (old mid : Seen) → AllWorked m old mid → runs_work q ≡ true → Ready m q old mid
+ready-by-work m q old mid w busy =
+    let P : Bool → Type 0 = λ b. Works b m (killed_in w.items) w.state in
+    record { items = w.items; state = w.state; log = w.log; works = subst P (sym busy) w.works; stands = w.stands; idle = w.idle }
+
+-- a request was answered so
+answered : (m : Machine) (q : Asked) (old mid new : Seen) (h : Ready m q old mid) (b : Bool) (text : List ℕ) (n : Machine) (more : List LogItem) (x y : Option (List ℕ)) (res : Result (Unit {0}) SessionFault)
+    → Replies b h.state q text n → StandsFor new n → running_count new ≡ 0 → new.log ≡ mid.log ++ more → killed_in more ≡ [] → Wrote x y text res → Answered m q old new x y res
+answered m q old mid new h b text n more x y res replies stands none log no_kills wrote = record {
+  turn = record { request = q; kills = killed_in h.items; no_memory = b };
+  state = n;
+  text = text;
+  asked = refl;
+  made = (h.state, h.works, replies);
+  stands = stands;
+  idle = none;
+  kills = (
+    h.items ++ more,
+    log ∙ ap (λ l. l ++ more) h.log ∙ append_assoc old.log h.items more,
+    killed_append h.items more ∙ ap (λ l. killed_in h.items ++ l) no_kills,
+  );
+  wrote = wrote;
+}
+
+-- a call that hands out no value was made for it, or found no memory
+pub answered-told : {E : Type 0} → (m : Machine) (q : Asked) (old mid new : Seen) (h : Ready m q old mid) (c : Call) (p : Option Value) (told : Result Reply E) (x y : Option (List ℕ)) (res : Result (Unit {0}) SessionFault)
+    → IfOk told (Serves mid c p new) → OnErr told (new ≡ mid)
+    → ((r : Reply) → told ≡ Ok r → Serves mid c p new r → Answers h.state q (reply_text r NoValue) (after h.state c p) × (running_count new ≡ 0))
+    → Wrote x y (told_text told) res → Answered m q old new x y res
+answered-told m q old mid new h c p (Ok r) x y res served failed answers wrote =
+    let a = answers r refl served in
+    answered m q old mid new h false (reply_text r NoValue) (after h.state c p) (item.Call c r ∷ []) x y res a.0 (served.stands h.state h.stands) a.1 served.log refl wrote
+answered-told m q old mid new h c p (Err e) x y res served failed answers wrote =
+    let P : Seen → Type 0 = λ s. StandsFor s h.state in
+    let Q : Seen → Type 0 = λ s. running_count s ≡ 0 in
+    answered m q old mid new h true (refusal_text code.Memory) h.state [] x y res (refl, refl) (subst P (sym failed) h.stands) (subst Q (sym failed) h.idle) (ap (λ (s : Seen). s.log) failed ∙ sym (append-nil mid.log)) refl wrote
+
+-- a call that answers what the machine does, where the request calls it
+pub called-plain : (m : Machine) (q : Asked) (c : Call) (p : Option Value) (r : Reply) → IsCallOf q c p → IsPlain c → r ≡ reply_to m c → Answers m q (reply_text r NoValue) (after m c p)
+called-plain m q c p r is plain told = called c p is (plain-text m c r plain told) refl
+
+-- a FETCH was answered
+pub answered-fetch : (m : Machine) (name : Name) (old mid new : Seen) (h : Ready m (AskAlone (ask.Fetch name)) old mid) (r : Reply) (v : Shown) (text : List ℕ) (x y : Option (List ℕ)) (res : Result (Unit {0}) SessionFault)
+    → Serves mid (call.Fetch name) None new r → shown_value v ≡ handed_out h.state r → SaysFetched r v text → Wrote x y text res → Answered m (AskAlone (ask.Fetch name)) old new x y res
+answered-fetch m name old mid new h r v text x y res served value (inl says) wrote =
+    let c = call.Fetch name in
+    let told = served.reply h.state h.stands in
+    let same : text ≡ answer_text h.state c = says ∙ fetched-text h.state r v value ∙ ap (λ z. reply_text z (handed h.state z)) told in
+    answered m (AskAlone (ask.Fetch name)) old mid new h false text (after h.state c None) (item.Call c r ∷ []) x y res (called c None (refl, refl) same refl)
+    (served.stands h.state h.stands) (calm-fetch mid new name r h.state h.stands served h.idle) served.log refl wrote
+answered-fetch m name old mid new h r v text x y res served value (inr says) wrote =
+    let c = call.Fetch name in
+    let P : Machine → Type 0 = λ n. StandsFor new n in
+    answered m (AskAlone (ask.Fetch name)) old mid new h true text h.state (item.Call c r ∷ []) x y res (says, refl)
+    (subst P (fetch_leaves h.state name None) (served.stands h.state h.stands)) (calm-fetch mid new name r h.state h.stands served h.idle) served.log refl wrote
+
+-- it found no memory
+pub answered-memory : (m : Machine) (q : Asked) (old mid new : Seen) (h : Ready m q old mid) (x y : Option (List ℕ)) (res : Result (Unit {0}) SessionFault) → new ≡ mid → Wrote x y (refusal_text code.Memory) res → Answered m q old new x y res
+answered-memory m q old mid new h x y res failed wrote =
+    let P : Seen → Type 0 = λ s. StandsFor s h.state in
+    let Q : Seen → Type 0 = λ s. running_count s ≡ 0 in
+    answered m q old mid new h true (refusal_text code.Memory) h.state [] x y res (refl, refl) (subst P (sym failed) h.stands) (subst Q (sym failed) h.idle) (ap (λ (s : Seen). s.log) failed ∙ sym (append-nil mid.log)) refl wrote
+
+-- ---- the kinds of requests
+
+pub answered-load : {E : Type 0} → (m : Machine) (name : Name) (bytes : List ℕ) (image : Result Picture Code) (old new : Seen) (told : Result Reply E) (x y : Option (List ℕ)) (res : Result (Unit {0}) SessionFault)
+    → StandsFor old m → running_count old ≡ 0 → ReadsImage bytes image → IfOk told (Serves old (call.Load name (given_image image)) (image_payload image) new) → IfOk told (λ r. r ≢ reply.Refused code.Memory) → OnErr told (new ≡ old)
+    → Wrote x y (told_text told) res → Answered m (AskLoad name bytes) old new x y res
+unfolding ready-at-once
+answered-load {E} m name bytes image old new told x y res s none read served other failed wrote =
+    let q = AskLoad name bytes in
+    let c = call.Load name (given_image image) in
+    let P : Result Reply E → Type 0 = λ t. IfOk t (λ r. r ≢ reply.Refused code.Memory) in
+    answered-told m q old old new (ready-at-once m q old s none refl) c (image_payload image) told x y res served failed
+    (λ r is h. (load-answers m (after m c (image_payload image)) name bytes image r read (h.reply m s) (subst P is other) refl, calm-load old new name image r m s h none)) wrote
+
+pub answered-element : {E : Type 0} → (m : Machine) (name : Name) (ox oy : ℕ) (bytes : List ℕ) (element : Result Figure Code) (old new : Seen) (told : Result Reply E) (x y : Option (List ℕ)) (res : Result (Unit {0}) SessionFault)
+    → StandsFor old m → running_count old ≡ 0 → ReadsElement bytes ox oy element → IfOk told (Serves old (call.Element name (given_element element)) (element_payload element) new) → IfOk told (λ r. r ≢ reply.Refused code.Memory) → OnErr told (new ≡ old)
+    → Wrote x y (told_text told) res → Answered m (AskElement name ox oy bytes) old new x y res
+unfolding ready-at-once
+answered-element {E} m name ox oy bytes element old new told x y res s none read served other failed wrote =
+    let q = AskElement name ox oy bytes in
+    let c = call.Element name (given_element element) in
+    let P : Result Reply E → Type 0 = λ t. IfOk t (λ r. r ≢ reply.Refused code.Memory) in
+    answered-told m q old old new (ready-at-once m q old s none refl) c (element_payload element) told x y res served failed
+    (λ r is h. (element-answers m (after m c (element_payload element)) name ox oy bytes element r read (h.reply m s) (subst P is other) refl, calm-element old new name element r m s h none)) wrote
+
+pub answered-run : {E : Type 0} → (m : Machine) (name : Name) (op : Op) (old new : Seen) (told : Result Reply E) (x y : Option (List ℕ)) (res : Result (Unit {0}) SessionFault)
+    → StandsFor old m → running_count old ≡ 0 → IfOk told (Serves old (call.Run name op) None new) → ((t : ℕ) → IfOk told (λ r. r ≡ reply.Accepted t → IsFresh new t)) → OnErr told (new ≡ old)
+    → Wrote x y (told_text told) res → Answered m (AskAlone (ask.Run name op)) old new x y res
+unfolding ready-at-once
+answered-run {E} m name op old new told x y res s none served fresh failed wrote =
+    let q = AskAlone (ask.Run name op) in
+    let c = call.Run name op in
+    let P : ℕ → Result Reply E → Type 0 = λ t r. IfOk r (λ a. a ≡ reply.Accepted t → IsFresh new t) in
+    answered-told m q old old new (ready-at-once m q old s none refl) c None told x y res served failed
+    (λ r is h. (called-plain m q c None r (refl, refl) tt (h.reply m s), calm-run old new name op r m s h (λ t. subst (P t) is (fresh t)) none)) wrote
+
+pub answered-cancel : {E : Type 0} → (m : Machine) (name : Name) (old new : Seen) (told : Result Reply E) (x y : Option (List ℕ)) (res : Result (Unit {0}) SessionFault)
+    → StandsFor old m → running_count old ≡ 0 → IfOk told (Serves old (call.Cancel name) None new) → OnErr told (new ≡ old) → Wrote x y (told_text told) res → Answered m (AskAlone (ask.Cancel name)) old new x y res
+unfolding ready-at-once
+answered-cancel m name old new told x y res s none served failed wrote =
+    let q = AskAlone (ask.Cancel name) in
+    let c = call.Cancel name in
+    answered-told m q old old new (ready-at-once m q old s none refl) c None told x y res served failed
+    (λ r is h. (called-plain m q c None r (refl, refl) tt (h.reply m s), calm-cancel old new name r m s h none)) wrote
+
+pub answered-release : {E : Type 0} → (m : Machine) (name : Name) (old new : Seen) (told : Result Reply E) (x y : Option (List ℕ)) (res : Result (Unit {0}) SessionFault)
+    → StandsFor old m → running_count old ≡ 0 → IfOk told (Serves old (call.Release name) None new) → OnErr told (new ≡ old) → Wrote x y (told_text told) res → Answered m (AskAlone (ask.Release name)) old new x y res
+unfolding ready-at-once
+answered-release m name old new told x y res s none served failed wrote =
+    let q = AskAlone (ask.Release name) in
+    let c = call.Release name in
+    answered-told m q old old new (ready-at-once m q old s none refl) c None told x y res served failed
+    (λ r is h. (called-plain m q c None r (refl, refl) tt (h.reply m s), calm-release old new name r m s h none)) wrote
+
+-- STATUS, and WAIT
+pub answered-status : {E : Type 0} → (m : Machine) (q : Asked) (name : Name) (old mid new : Seen) (told : Result Reply E) (x y : Option (List ℕ)) (res : Result (Unit {0}) SessionFault)
+    → IsCallOf q (call.Status name) None → runs_work q ≡ true → AllWorked m old mid → IfOk told (Serves mid (call.Status name) None new) → OnErr told (new ≡ mid) → Wrote x y (told_text told) res → Answered m q old new x y res
+answered-status m q name old mid new told x y res is busy w served failed wrote =
+    let c = call.Status name in
+    let h = ready-by-work m q old mid w busy in
+    answered-told m q old mid new h c None told x y res served failed
+    (λ r same k. (called-plain h.state q c None r is tt (k.reply h.state h.stands), calm-status mid new name r h.state h.stands k h.idle)) wrote

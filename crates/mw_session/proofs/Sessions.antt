@@ -1,0 +1,161 @@
+-- What the loops of a session keep, and what they end with.
+use Rattle.std.proofs.Common.{Bool, true, false, ◌≡◌, ◌≢◌, ℕ, List, [], ◌∷◌, ◌++◌, take, Option, Some, None, Result, Ok, Err, refl, sym, ap, ◌∙◌, subst, inl, inr}
+use Rattle.std.proofs.lemmas.List.{append-nil}
+use Rattle.std.specs.Io.KnownBytes.{Appends, Consumes, IsAtEnd}
+use Rattle.std.proofs.KnownBytes.{Appends-nil, Consumes-trans}
+use Rattle.std.specs.Prelude.{OnOk, OnErr}
+use Rattle.mw_model.specs.declared.codes.Code.{Code}
+use Rattle.mw_model.specs.declared.codes.Code.TheVariants as code
+use Rattle.mw_model.specs.declared.requests.End.{End}
+use Rattle.mw_model.specs.declared.requests.End.TheVariants as end
+use Rattle.mw_model.specs.Machine.{Machine}
+use Rattle.mw_model.specs.Stands.{Seen, StandsFor, running_count}
+use Rattle.mw_model.specs.declared.requests.Ask.TheVariants as ask
+use Rattle.mw_model.specs.Lines.{Asked, AskAlone, Found, Partial}
+use Rattle.mw_intake.specs.Reading.{front}
+use Rattle.mw_intake.proofs.Front.{is_front}
+use Rattle.mw_model.specs.Scripts.{Ends}
+use Rattle.mw_session.specs.declared.fault.SessionFault.{SessionFault}
+use Rattle.mw_session.specs.declared.fault.SessionFault.TheVariants as fault
+use Rattle.mw_session.specs.Writes.{EndsBy}
+use Rattle.mw_session.specs.Runs.{Answered, SessionRan}
+use Rattle.mw_session.specs.Answering.{EndedBy, Drove}
+use Rattle.mw_session.proofs.Turns.{Progress, Progress_start, Progress_more, Progress_answered, Progress_drained, Progress_finished, Progress_broken, Broken_answered, Broken_by, Broken_here, Finished_by}
+
+-- The bytes were served up to the rest, and the core stands for the state after that, with no task running.
+pub record Serving (m : Machine) (old now : Seen) (bytes rest : List ℕ) (before after : Option (List ℕ)) : Type 0 where
+  pub state : Machine
+  pub stands : StandsFor now state
+  pub idle : running_count now ≡ 0
+  pub progress : Progress bytes rest m state old.log now.log before after
+
+pub serving-start : (m : Machine) (c : Seen) (bytes : List ℕ) (x : Option (List ℕ)) → StandsFor c m → running_count c ≡ 0 → Serving m c c bytes bytes x x
+serving-start m c bytes x s none = record { state = m; stands = s; idle = none; progress = Progress_start bytes m c.log x }
+
+pub serving-more : (m : Machine) (old now : Seen) (bytes rest piece : List ℕ) (x y : Option (List ℕ)) → Serving m old now bytes rest x y → Serving m old now (bytes ++ piece) (rest ++ piece) x y
+serving-more m old now bytes rest piece x y h =
+    record { state = h.state; stands = h.stands; idle = h.idle; progress = Progress_more bytes piece rest m h.state old.log now.log x y h.progress }
+
+-- ---- serving what waits
+
+pub drove-partial : (left : Option (List ℕ)) (m : Machine) (old now : Seen) (bytes rest : List ℕ) (x y : Option (List ℕ)) → Serving m old now bytes rest x y → front rest ≡ Partial → Drove left bytes rest m old now x y (Ok None)
+drove-partial left m old now bytes rest x y h parts = record {
+  state = h.state;
+  stands = h.stands;
+  idle = h.idle;
+  drains = record { turns = h.progress.turns; text = h.progress.text; serves = h.progress.serves; open_still = parts; kills = h.progress.kills; wrote = h.progress.wrote };
+}
+
+pub drove-quit : (left : Option (List ℕ)) (m : Machine) (old now : Seen) (bytes rest more after : List ℕ) (x y : Option (List ℕ)) → Serving m old now bytes rest x y → front rest ≡ Found (AskAlone ask.Quit) more → Drove left bytes after m old now x y (Ok (Some end.Quit))
+drove-quit left m old now bytes rest more after x y h found = record {
+  state = h.state;
+  stands = h.stands;
+  idle = h.idle;
+  drains = Finished_by left bytes rest m h.state old.log now.log x y y end.Quit h.progress (inr (more, is_front rest (Found (AskAlone ask.Quit) more) found)) (Appends-nil y);
+}
+
+pub drove-ended : (left : Option (List ℕ)) (m : Machine) (old now : Seen) (bytes rest after : List ℕ) (x y z : Option (List ℕ)) (c : Code) (r : Result (Option End) SessionFault) → Serving m old now bytes rest x y → Ends (IsAtEnd left) rest (end.Ended c) → EndedBy y z c r → Drove left bytes after m old now x z r
+drove-ended left m old now bytes rest after x y z c (Ok o) h ends w =
+    let P : Option End → Type 0 = λ e. Drove left bytes after m old now x z (Ok e) in
+    subst P (sym w.0) (record {
+      state = h.state;
+      stands = h.stands;
+      idle = h.idle;
+      drains = Finished_by left bytes rest m h.state old.log now.log x y z (end.Ended c) h.progress ends w.1;
+    })
+drove-ended left m old now bytes rest after x y z c (Err f) h ends w = record {
+  state = h.state;
+  stands = h.stands;
+  idle = h.idle;
+  drains = Broken_by left bytes rest m h.state old.log now.log x y z (end.Ended c) w.0 h.progress ends w.1;
+}
+
+pub serving-answered : (m : Machine) (old mid now : Seen) (bytes rest after : List ℕ) (x y z : Option (List ℕ)) (q : Asked) (v : Unit {0}) → (h : Serving m old mid bytes rest x y) → front rest ≡ Found q after → q ≢ AskAlone ask.Quit
+    → Answered h.state q mid now y z (Ok v) → Serving m old now bytes after x z
+serving-answered m old mid now bytes rest after x y z q v h found asks a = record {
+  state = a.state;
+  stands = a.stands;
+  idle = a.idle;
+  progress = Progress_answered bytes rest after m h.state old.log mid now x y z q v h.progress found asks a;
+}
+
+pub drove-broken : (left : Option (List ℕ)) (m : Machine) (old mid now : Seen) (bytes rest after behind : List ℕ) (x y z : Option (List ℕ)) (q : Asked) (f : SessionFault) → (h : Serving m old mid bytes rest x y) → front rest ≡ Found q after → q ≢ AskAlone ask.Quit
+    → Answered h.state q mid now y z (Err f) → Drove left bytes behind m old now x z (Err f)
+drove-broken left m old mid now bytes rest after behind x y z q f h found asks a = record {
+  state = a.state;
+  stands = a.stands;
+  idle = a.idle;
+  drains = Broken_answered left bytes rest after m h.state old.log mid now x y z q f h.progress found asks a;
+}
+
+-- ---- the whole session
+
+-- what waited was served, and the session goes on
+pub serving-drained : (left : Option (List ℕ)) (m : Machine) (old mid now : Seen) (bytes rest after : List ℕ) (x y z : Option (List ℕ)) → (h : Serving m old mid bytes rest x y) → Drove left rest after h.state mid now y z (Ok None)
+    → Serving m old now bytes after x z × (front after ≡ Partial)
+serving-drained left m old mid now bytes rest after x y z h d = (
+  record { state = d.state; stands = d.stands; idle = d.idle; progress = Progress_drained bytes rest after m h.state d.state old.log mid.log now.log x y z h.progress d.drains },
+  d.drains.open_still,
+)
+
+-- it ended while what waited was served
+pub ran-finished : (m : Machine) (old mid now : Seen) (had left : Option (List ℕ)) (bytes rest after : List ℕ) (x y z : Option (List ℕ)) (e : End) → Consumes had left bytes → (h : Serving m old mid bytes rest x y) → Drove left rest after h.state mid now y z (Ok (Some e))
+    → SessionRan m old now had left x z (Ok e)
+ran-finished m old mid now had left bytes rest after x y z e read h d =
+    record { taken = bytes; state = d.state; read = read; stands = d.stands; idle = d.idle; ran = Progress_finished left bytes rest m h.state d.state old.log mid.log now.log x y z e h.progress d.drains }
+
+pub ran-broken : (m : Machine) (old mid now : Seen) (had left : Option (List ℕ)) (bytes rest after : List ℕ) (x y z : Option (List ℕ)) (f : SessionFault) → Consumes had left bytes → (h : Serving m old mid bytes rest x y) → Drove left rest after h.state mid now y z (Err f)
+    → SessionRan m old now had left x z (Err f)
+ran-broken m old mid now had left bytes rest after x y z f read h d =
+    record { taken = bytes; state = d.state; read = read; stands = d.stands; idle = d.idle; ran = Progress_broken left bytes rest m h.state d.state old.log mid.log now.log x y z h.progress d.drains }
+
+-- nothing more was read
+pub ran-stopped : (m : Machine) (old now : Seen) (had left : Option (List ℕ)) (bytes rest : List ℕ) (x y : Option (List ℕ)) (f : SessionFault) → Consumes had left bytes → Serving m old now bytes rest x y → SessionRan m old now had left x y (Err f)
+ran-stopped m old now had left bytes rest x y f read h =
+    record { taken = bytes; state = h.state; read = read; stands = h.stands; idle = h.idle; ran = Broken_here left bytes rest m h.state old.log now.log x y h.progress }
+
+-- it ended by a refusal
+pub ran-ended : (m : Machine) (old now : Seen) (had left : Option (List ℕ)) (bytes rest : List ℕ) (x y z : Option (List ℕ)) (c : Code) (r : Result End SessionFault) → Consumes had left bytes → Serving m old now bytes rest x y → Ends (IsAtEnd left) rest (end.Ended c) → EndsBy y z c r
+    → SessionRan m old now had left x z r
+ran-ended m old now had left bytes rest x y z c (Ok e) read h ends w =
+    let P : End → Type 0 = λ o. SessionRan m old now had left x z (Ok o) in
+    subst P (sym w.0) (record {
+      taken = bytes;
+      state = h.state;
+      read = read;
+      stands = h.stands;
+      idle = h.idle;
+      ran = Finished_by left bytes rest m h.state old.log now.log x y z (end.Ended c) h.progress ends w.1;
+    })
+ran-ended m old now had left bytes rest x y z c (Err f) read h ends w =
+    record { taken = bytes; state = h.state; read = read; stands = h.stands; idle = h.idle; ran = Broken_by left bytes rest m h.state old.log now.log x y z (end.Ended c) w.0 h.progress ends w.1 }
+
+-- the input ended between requests
+pub ran-out : (m : Machine) (old now : Seen) (had left : Option (List ℕ)) (bytes : List ℕ) (x y z : Option (List ℕ)) → Consumes had left bytes → Serving m old now bytes [] x y → IsAtEnd left → Appends y z [] → SessionRan m old now had left x z (Ok end.Quit)
+ran-out m old now had left bytes x y z read h whole w =
+    record { taken = bytes; state = h.state; read = read; stands = h.stands; idle = h.idle; ran = Finished_by left bytes [] m h.state old.log now.log x y z end.Quit h.progress (inl (refl, whole)) w }
+
+-- ---- ends
+
+-- the input ended, between requests or in the middle of one
+pub ran-to-end : (m : Machine) (old now : Seen) (had mid left : Option (List ℕ)) (bytes rest behind : List ℕ) (x y z : Option (List ℕ)) (r : Result End SessionFault) → Consumes had mid bytes → Consumes mid left [] → IsAtEnd left → behind ≡ rest
+    → Serving m old now bytes rest x y → front rest ≡ Partial → (behind ≡ [] → (r ≡ Ok end.Quit) × Appends y z []) → (behind ≢ [] → EndsBy y z code.Cut r) → SessionRan m old now had left x z r
+ran-to-end m old now had mid left bytes [] behind x y z r read none whole same h waits quit cut =
+    let q = quit same in
+    let all = rw append-nil at (Consumes-trans _ _ _ bytes [] read none) in
+    let P : Result End SessionFault → Type 0 = λ o. SessionRan m old now had left x z o in
+    subst P (sym q.0) (ran-out m old now had left bytes x y z all h whole q.1)
+ran-to-end m old now had mid left bytes (b ∷ rest) behind x y z r read none whole same h waits quit cut =
+    let all = rw append-nil at (Consumes-trans _ _ _ bytes [] read none) in
+    let some : b ∷ rest ≢ [] = λ e. cc in
+    ran-ended m old now had left bytes (b ∷ rest) x y z code.Cut r all h (inr (inl (refl, is_front (b ∷ rest) Partial waits, some, whole))) (cut (λ e. some (sym same ∙ e)))
+
+-- a writer that failed is told
+pub write-failed : {X : Type 0} → (r : Result X SessionFault) (new old : Bool) → old ≡ false → OnOk r (new ≡ old) → OnErr r ((r ≡ Err fault.Write) × (new ≡ true)) → new ≡ true → r ≡ Err fault.Write
+write-failed (Ok x) new old clear kept flag failed = cc
+write-failed (Err f) new old clear kept flag failed = flag.0
+
+-- no request stands in no bytes
+pub front_none : front [] ≡ Partial
+unfolding front
+front_none = refl

@@ -1,0 +1,98 @@
+-- Sums over the first numbers.
+use Rattle.std.proofs.Common.{◌≡◌, ◌≢◌, ℕ, zero, suc, ◌+◌, ◌*◌, ◌<◌, ◌≤◌, Bool, true, false, cond, List, [], ◌∷◌, ◌++◌, map, sum, inl, inr, refl, sym, ap, ◌∙◌, arith}
+use Rattle.std.specs.List.{range_with_len, count_by}
+use Rattle.std.proofs.lemmas.Bool.{cases_lt, cases_eq, cases_Bool}
+use Rattle.std.proofs.lemmas.Grind.{common_steps}
+use Rattle.std.proofs.lemmas.List.FromFn.{map-range_with_len_more}
+use Rattle.std.proofs.lemmas.List.Sums.{sum-map, sum_by-append, sum_by-cons}
+
+-- the sum of f over the first n numbers
+abbrev pub total : (ℕ → ℕ) → ℕ → ℕ
+total f n = sum (map f (range_with_len 0 n))
+
+sum-push : (xs : List ℕ) (x : ℕ) → sum (xs ++ x ∷ []) ≡ sum xs + x
+sum-push xs x = grind (arith, common_steps, sum_by-append, sum_by-cons)
+
+pub total-suc : (f : ℕ → ℕ) (n : ℕ) → total f (suc n) ≡ total f n + f n
+total-suc f n =
+    let on : suc n ≡ n + 1 = omega arith in
+    ap (total f) on ∙ ap sum (map-range_with_len_more f 0 n n (omega arith)) ∙ sum-push (map f (range_with_len 0 n)) (f n)
+
+-- a term is within the sum
+pub total-at : (f : ℕ → ℕ) (n t : ℕ) → t < n → f t ≤ total f n
+total-at f zero t l = absurd (omega arith)
+total-at f (suc n) t l = elim (cases_lt t n) [
+  | inl b ↦ omega (arith, total-suc f n, total-at f n t b)
+  | inr g ↦ let e : t ≡ n = omega arith in rw e (omega (arith, total-suc f n))
+]
+
+-- larger terms have a larger sum
+pub total-le : (f g : ℕ → ℕ) (n : ℕ) → ((t : ℕ) → t < n → f t ≤ g t) → total f n ≤ total g n
+total-le f g zero h = omega arith
+total-le f g (suc n) h = omega (arith, total-suc f n, total-suc g n, total-le f g n (λ t l. h t (omega arith)), h n (omega arith))
+
+-- where one term gives d away, and none grows
+pub total-falls : (f g : ℕ → ℕ) (n u d : ℕ) → u < n → f u + d ≤ g u → ((t : ℕ) → t < n → t ≢ u → f t ≤ g t) → total f n + d ≤ total g n
+total-falls f g zero u d l s h = absurd (omega arith)
+total-falls f g (suc n) u d l s h = elim (cases_lt u n) [
+  | inl b ↦ omega (arith, total-suc f n, total-suc g n, total-falls f g n u d b s (λ t k. h t (omega arith)), h n (omega arith) (λ e. omega (arith, e)))
+  | inr past ↦
+      let e : u ≡ n = omega arith in
+      let last : f n + d ≤ g n = rw (← e) s in
+      omega (arith, total-suc f n, total-suc g n, total-le f g n (λ t k. h t (omega arith) (λ e'. omega (arith, e, e'))), last)
+]
+
+-- where one term grows by d at most
+pub total-grows : (f g : ℕ → ℕ) (n u d : ℕ) → f u ≤ g u + d → ((t : ℕ) → t < n → t ≢ u → f t ≤ g t) → total f n ≤ total g n + d
+total-grows f g zero u d s h = omega arith
+total-grows f g (suc n) u d s h = elim (cases_eq n u) [
+  | inl e ↦
+      let last : f n ≤ g n + d = rw e s in
+      omega (arith, total-suc f n, total-suc g n, total-le f g n (λ t k. h t (omega arith) (λ e'. omega (arith, e, e'))), last)
+  | inr other ↦ omega (arith, total-suc f n, total-suc g n, total-grows f g n u d s (λ t k. h t (omega arith)), h n (omega arith) other)
+]
+
+-- none of the terms is over b
+pub total-bounded : (f : ℕ → ℕ) (n : ℕ) → ((t : ℕ) → t < n → f t ≤ 4194304) → total f n ≤ n * 4194304
+total-bounded f zero h = omega arith
+total-bounded f (suc n) h = omega (arith, total-suc f n, total-bounded f n (λ t l. h t (omega arith)), h n (omega arith))
+
+-- how many of the first n numbers pass
+pub count-total : (p : ℕ → Bool) (n : ℕ) → count_by p (range_with_len 0 n) ≡ total (λ t. cond (p t) 1 0) n
+count-total p n = sym (sum-map (λ t. cond (p t) 1 0) (range_with_len 0 n))
+
+-- one that passes is counted
+pub count-some : (p : ℕ → Bool) (n t : ℕ) → t < n → p t ≡ true → 1 ≤ count_by p (range_with_len 0 n)
+count-some p n t l e =
+    let counts : ℕ → ℕ = λ i. cond (p i) 1 0 in
+    let one : counts t ≡ 1 = rw e refl in
+    omega (arith, count-total p n, total-at counts n t l, one)
+
+pub total-zero : (f : ℕ → ℕ) (n : ℕ) → ((t : ℕ) → t < n → f t ≡ 0) → total f n ≡ 0
+total-zero f zero h = refl
+total-zero f (suc n) h = omega (arith, total-suc f n, total-zero f n (λ t l. h t (omega arith)), h n (omega arith))
+
+-- where none passes
+pub count-none : (p : ℕ → Bool) (n : ℕ) → ((t : ℕ) → t < n → p t ≡ false) → count_by p (range_with_len 0 n) ≡ 0
+count-none p n h = count-total p n ∙ total-zero (λ t. cond (p t) 1 0) n (λ t l. rw (h t l) refl)
+
+at_most_one : (b : Bool) → cond b 1 0 ≤ 1
+at_most_one true = omega arith
+at_most_one false = omega arith
+
+-- where one number passes no more, and the others as before
+pub count-falls : (p q : ℕ → Bool) (n k : ℕ) → k < n → p k ≡ false → q k ≡ true → ((t : ℕ) → t ≢ k → p t ≡ q t) → count_by p (range_with_len 0 n) + 1 ≤ count_by q (range_with_len 0 n)
+count-falls p q n k l out inside same =
+    let f : ℕ → ℕ = λ t. cond (p t) 1 0 in
+    let g : ℕ → ℕ = λ t. cond (q t) 1 0 in
+    let zero_here : f k ≡ 0 = rw out refl in
+    let one_here : g k ≡ 1 = rw inside refl in
+    omega (arith, count-total p n, count-total q n, total-falls f g n k 1 l (omega (arith, zero_here, one_here)) (λ t h other. let e : f t ≡ g t = rw (same t other) refl in omega (arith, e)))
+
+-- where one number may pass that did not, and the others as before
+pub count-grows : (p q : ℕ → Bool) (n k : ℕ) → ((t : ℕ) → t ≢ k → p t ≡ q t) → count_by p (range_with_len 0 n) ≤ count_by q (range_with_len 0 n) + 1
+count-grows p q n k same =
+    let f : ℕ → ℕ = λ t. cond (p t) 1 0 in
+    let g : ℕ → ℕ = λ t. cond (q t) 1 0 in
+    let one_here : f k ≤ 1 = at_most_one (p k) in
+    omega (arith, count-total p n, count-total q n, total-grows f g n k 1 (omega (arith, one_here)) (λ t h other. let e : f t ≡ g t = rw (same t other) refl in omega (arith, e)))

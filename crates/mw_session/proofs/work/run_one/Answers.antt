@@ -1,0 +1,28 @@
+use Rattle.std.proofs.Common.{sym, subst}
+use Rattle.mw_model.specs.declared.tasks.TaskId.{TaskId}
+use Rattle.mw_step.specs.WindowTasks.{WindowTask}
+use Rattle.mw_core.specs.TaskEvents.{Finishes, Refuses}
+use Rattle.mw_session.proofs.Advancing.{idle-turn, death-turn, finish-turn, refuse-turn}
+use Rattle.mw_session.proofs.work.run_one.Goals as goal
+
+pub returns-in-Idle : goal.returns-in-Idle
+returns-in-Idle g c = λ m s none.
+    let e = c.in-Idle.ensures m s in
+    (e.1, idle-turn c.args.core.now m s none e.0)
+
+pub returns-in-Refused : goal.returns-in-Refused
+returns-in-Refused g c = λ m s none.
+    let e = c.in-Refused.ensures m s in
+    death-turn c.args.core.now c.start.new.self m c.in-Refused.field-0 s none e.1
+
+pub returns-in-Ok : goal.returns-in-Ok
+returns-in-Ok g c = λ m s none.
+    let b = c.in-Work.ensures m s in
+    let P : WindowTask → Type 0 = λ w. Finishes c.start.new.self m w c.finish-answer.result c.finish-answer.new.self in
+    finish-turn c.args.core.now c.start.new.self c.finish-answer.new.self m c.in-Work.work c.finish-answer.result s none b (subst P c.in-Ok.ensures.done (c.finish-answer.ensures m b.stands))
+
+pub returns-in-Err : goal.returns-in-Err
+returns-in-Err g c = λ m s none.
+    let b = c.in-Work.ensures m s in
+    let P : TaskId → Type 0 = λ k. Refuses c.start.new.self m k c.refuse-answer.result c.refuse-answer.new.self in
+    refuse-turn c.args.core.now c.start.new.self c.refuse-answer.new.self m c.in-Work.work c.refuse-answer.result s none b (subst P c.in-Err.ensures.refused (c.refuse-answer.ensures m b.stands))

@@ -1,0 +1,218 @@
+//! One request, and what is written for it.
+
+ghost use Rattle.std.specs.Prelude.{◌≡◌, ◌≢◌, ℕ, List, OnOk, OnErr, Err, true};
+ghost use Rattle.mw_model.specs.declared.names.Name.{Name};
+ghost use Rattle.mw_model.specs.declared.operations.Op.{Op};
+ghost use Rattle.mw_model.specs.declared.requests.Ask.TheVariants as Ask;
+ghost use Rattle.mw_model.specs.Lines.{AskLoad, AskElement, AskAlone, is_served};
+ghost use Rattle.mw_model.specs.Machine.{Machine};
+ghost use Rattle.mw_model.specs.Replies.{handed_text, reply_text, refusal_text, ImageBytes};
+ghost use Rattle.mw_model.specs.NetpbmWriting.{text_of};
+ghost use Rattle.mw_model.specs.Stands.{StandsFor, running_count};
+ghost use Rattle.mw_intake.specs.Intake.{asked};
+ghost use Rattle.mw_session.specs.Answering.{told_text, SaysFetched};
+ghost use Rattle.mw_session.specs.Runs.{Answered};
+ghost use Rattle.mw_session.specs.Writes.{Wrote};
+
+use crate::fault::SessionFault;
+use crate::payloads::{read_element, read_image};
+use crate::saying::{say, say_image};
+use crate::stream::Sink;
+use crate::work::{Pick, run_all_work};
+use mw_core::{Core, Fetched, Shown};
+use mw_model::{Code, Name, NoMemory, Op, Reply, Request};
+use mw_store::Plate;
+use std::alloc::Global;
+use std::io::Write;
+
+/// Writes the reply to a call, or that it found no memory.
+fn say_told<W: Write>(
+    sink: &mut Sink<W>,
+    reply: Result<Reply, NoMemory>,
+) -> Result<(), SessionFault>
+    ensures wrote { Wrote (W.contents sink.old.inner) (W.contents sink.new.inner) (told_text reply) result }
+    ensures kept { OnOk result (sink.new.failed ≡ sink.old.failed) }
+    ensures flag { OnErr result ((result ≡ Err SessionFault.Write) × (sink.new.failed ≡ true)) }
+{
+    match reply {
+        Ok(reply) => say(sink, reply),
+        Err(NoMemory) => say(sink, Reply::Refused(Code::Memory)),
+    }
+}
+
+fn load<W: Write>(
+    alloc: Global,
+    sink: &mut Sink<W>,
+    core: &mut Core,
+    name: Name,
+    payload: &[u8],
+) -> Result<(), SessionFault>
+    ensures answered { (m : Machine) → StandsFor core.old m → running_count core.old ≡ 0
+        → Answered m (AskLoad name payload.now) core.old core.new (W.contents sink.old.inner) (W.contents sink.new.inner) result }
+    ensures kept { OnOk result (sink.new.failed ≡ sink.old.failed) }
+    ensures flag { OnErr result ((result ≡ Err SessionFault.Write) × (sink.new.failed ≡ true)) }
+{
+    let image = read_image(alloc, payload);
+    let reply = core.load(name, image);
+    say_told(sink, reply)
+}
+
+/// The origin is in this column and row of the bitmap.
+fn element<W: Write>(
+    alloc: Global,
+    sink: &mut Sink<W>,
+    core: &mut Core,
+    name: Name,
+    origin: (u32, u32),
+    payload: &[u8],
+) -> Result<(), SessionFault>
+    ensures answered { (m : Machine) → StandsFor core.old m → running_count core.old ≡ 0
+        → Answered m (AskElement name origin.0 origin.1 payload.now) core.old core.new (W.contents sink.old.inner) (W.contents sink.new.inner) result }
+    ensures kept { OnOk result (sink.new.failed ≡ sink.old.failed) }
+    ensures flag { OnErr result ((result ≡ Err SessionFault.Write) × (sink.new.failed ≡ true)) }
+{
+    let element = read_element(alloc, payload, origin.0, origin.1);
+    let reply = core.element(name, element);
+    say_told(sink, reply)
+}
+
+fn run<W: Write>(
+    sink: &mut Sink<W>,
+    core: &mut Core,
+    name: Name,
+    op: Op,
+) -> Result<(), SessionFault>
+    requires { is_served op ≡ true }
+    ensures answered { (m : Machine) → StandsFor core.old m → running_count core.old ≡ 0
+        → Answered m (AskAlone (Ask.Run name op)) core.old core.new (W.contents sink.old.inner) (W.contents sink.new.inner) result }
+    ensures kept { OnOk result (sink.new.failed ≡ sink.old.failed) }
+    ensures flag { OnErr result ((result ≡ Err SessionFault.Write) × (sink.new.failed ≡ true)) }
+{
+    let reply = core.run(name, op);
+    say_told(sink, reply)
+}
+
+fn cancel<W: Write>(sink: &mut Sink<W>, core: &mut Core, name: Name) -> Result<(), SessionFault>
+    ensures answered { (m : Machine) → StandsFor core.old m → running_count core.old ≡ 0
+        → Answered m (AskAlone (Ask.Cancel name)) core.old core.new (W.contents sink.old.inner) (W.contents sink.new.inner) result }
+    ensures kept { OnOk result (sink.new.failed ≡ sink.old.failed) }
+    ensures flag { OnErr result ((result ≡ Err SessionFault.Write) × (sink.new.failed ≡ true)) }
+{
+    let reply = core.cancel(name);
+    say_told(sink, reply)
+}
+
+fn release<W: Write>(sink: &mut Sink<W>, core: &mut Core, name: Name) -> Result<(), SessionFault>
+    ensures answered { (m : Machine) → StandsFor core.old m → running_count core.old ≡ 0
+        → Answered m (AskAlone (Ask.Release name)) core.old core.new (W.contents sink.old.inner) (W.contents sink.new.inner) result }
+    ensures kept { OnOk result (sink.new.failed ≡ sink.old.failed) }
+    ensures flag { OnErr result ((result ≡ Err SessionFault.Write) × (sink.new.failed ≡ true)) }
+{
+    let reply = core.release(name);
+    say_told(sink, reply)
+}
+
+/// STATUS, and WAIT, which has nothing left to wait for.
+fn status<W: Write, P: Pick>(
+    alloc: Global,
+    sink: &mut Sink<W>,
+    core: &mut Core,
+    pick: &mut P,
+    name: Name,
+) -> Result<(), SessionFault>
+    ensures status { (m : Machine) → StandsFor core.old m → running_count core.old ≡ 0
+        → Answered m (AskAlone (Ask.Status name)) core.old core.new (W.contents sink.old.inner) (W.contents sink.new.inner) result }
+    ensures wait { (m : Machine) → StandsFor core.old m → running_count core.old ≡ 0
+        → Answered m (AskAlone (Ask.Wait name)) core.old core.new (W.contents sink.old.inner) (W.contents sink.new.inner) result }
+    ensures kept { OnOk result (sink.new.failed ≡ sink.old.failed) }
+    ensures flag { OnErr result ((result ≡ Err SessionFault.Write) × (sink.new.failed ≡ true)) }
+{
+    run_all_work(alloc, core, pick);
+    let reply = core.status(name);
+    say_told(sink, reply)
+}
+
+/// Writes an image, or that its text found no memory.
+fn say_plate<W: Write>(
+    alloc: Global,
+    sink: &mut Sink<W>,
+    t: u32,
+    plate: &Plate,
+) -> Result<(), SessionFault>
+    ensures said { (text : List ℕ) × SaysFetched (Reply.Shown t) (Shown.Image plate.now) text × Wrote (W.contents sink.old.inner) (W.contents sink.new.inner) text result }
+    ensures kept { OnOk result (sink.new.failed ≡ sink.old.failed) }
+    ensures flag { OnErr result ((result ≡ Err SessionFault.Write) × (sink.new.failed ≡ true)) }
+{
+    match mw_netpbm::write(alloc, plate.image()) {
+        Ok(bytes) => say_image(sink, t, &bytes),
+        Err(NoMemory) => say(sink, Reply::Refused(Code::Memory)),
+    }
+}
+
+fn say_fetched<W: Write>(
+    alloc: Global,
+    sink: &mut Sink<W>,
+    fetched: Fetched,
+) -> Result<(), SessionFault>
+    ensures said { (text : List ℕ) × SaysFetched fetched.reply fetched.value text × Wrote (W.contents sink.old.inner) (W.contents sink.new.inner) text result }
+    ensures kept { OnOk result (sink.new.failed ≡ sink.old.failed) }
+    ensures flag { OnErr result ((result ≡ Err SessionFault.Write) × (sink.new.failed ≡ true)) }
+{
+    let Fetched { reply, value } = fetched;
+    match value {
+        Shown::Nothing => say(sink, reply),
+        Shown::Image(plate) => match reply {
+            Reply::Shown(t) => say_plate(alloc, sink, t, &plate),
+            other => say(sink, other),
+        },
+    }
+}
+
+fn fetch<W: Write, P: Pick>(
+    alloc: Global,
+    sink: &mut Sink<W>,
+    core: &mut Core,
+    pick: &mut P,
+    name: Name,
+) -> Result<(), SessionFault>
+    ensures answered { (m : Machine) → StandsFor core.old m → running_count core.old ≡ 0
+        → Answered m (AskAlone (Ask.Fetch name)) core.old core.new (W.contents sink.old.inner) (W.contents sink.new.inner) result }
+    ensures kept { OnOk result (sink.new.failed ≡ sink.old.failed) }
+    ensures flag { OnErr result ((result ≡ Err SessionFault.Write) × (sink.new.failed ≡ true)) }
+{
+    run_all_work(alloc, core, pick);
+    match core.fetch(name) {
+        Ok(fetched) => say_fetched(alloc, sink, fetched),
+        Err(NoMemory) => say(sink, Reply::Refused(Code::Memory)),
+    }
+}
+
+/// Serves one request, which is not QUIT.
+pub(crate) fn answer<W: Write, P: Pick>(
+    alloc: Global,
+    sink: &mut Sink<W>,
+    core: &mut Core,
+    pick: &mut P,
+    request: Request,
+) -> Result<(), SessionFault>
+    requires served { (name : Name) (op : Op) → asked request ≡ AskAlone (Ask.Run name op) → is_served op ≡ true }
+    requires open { asked request ≢ AskAlone Ask.Quit }
+    ensures answered { (m : Machine) → StandsFor core.old m → running_count core.old ≡ 0
+        → Answered m (asked request) core.old core.new (W.contents sink.old.inner) (W.contents sink.new.inner) result }
+    ensures kept { OnOk result (sink.new.failed ≡ sink.old.failed) }
+    ensures flag { OnErr result ((result ≡ Err SessionFault.Write) × (sink.new.failed ≡ true)) }
+{
+    match request {
+        Request::Load(name, payload) => load(alloc, sink, core, name, &payload),
+        Request::Element(name, ox, oy, payload) => {
+            element(alloc, sink, core, name, (ox, oy), &payload)
+        }
+        Request::Run(name, op) => run(sink, core, name, op),
+        Request::Cancel(name) => cancel(sink, core, name),
+        Request::Release(name) => release(sink, core, name),
+        Request::Status(name) => status(alloc, sink, core, pick, name),
+        Request::Wait(name) => status(alloc, sink, core, pick, name),
+        Request::Fetch(name) => fetch(alloc, sink, core, pick, name),
+        Request::Quit => Ok(()),
+    }
+}

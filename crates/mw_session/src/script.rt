@@ -1,0 +1,136 @@
+//! A whole script, from a reader to a writer.
+
+ghost use Rattle.std.specs.Prelude.{◌≡◌, ◌≢◌, ◌≤◌, ◌⊎◌, ◌↔◌, [], ℕ, List, Option, OnOk, OnErr, Ok, Err, IsTrue, false, true};
+ghost use Rattle.std.specs.Io.KnownBytes.{Appends};
+ghost use Rattle.mw_model.specs.declared.requests.Ask.TheVariants as Ask;
+ghost use Rattle.mw_model.specs.Lines.{AskAlone};
+ghost use Rattle.mw_model.specs.Machine.{Machine};
+ghost use Rattle.mw_model.specs.Stands.{StandsFor, running_count};
+ghost use Rattle.mw_intake.specs.Intake.{asked};
+ghost use Rattle.mw_session.specs.Answering.{EndedBy, Drove};
+ghost use Rattle.mw_session.specs.Runs.{SessionRan};
+ghost use Rattle.mw_session.specs.Writes.{EndsBy};
+
+use crate::answer::answer;
+use crate::fault::SessionFault;
+use crate::pieces::{Piece, take_piece};
+use crate::saying::end_by;
+use crate::stream::{Sink, Source};
+use crate::work::Pick;
+use mw_core::Core;
+use mw_intake::Intake;
+use mw_model::{Code, End, Next, NoMemory, Request};
+use std::alloc::Global;
+use std::io::{Read, Write};
+
+/// A session makes at most so many reads.
+const READ_LIMIT: u32 = u32::MAX;
+
+/// How many bytes are read at a time.
+const PIECE: usize = 65536;
+
+fn is_quit(request: &Request) -> bool
+    ensures { IsTrue result ↔ (asked request.now ≡ AskAlone Ask.Quit) }
+{
+    matches!(request, Request::Quit)
+}
+
+/// Writes the refusal that ends a session, where requests wait.
+fn end_within<W: Write>(sink: &mut Sink<W>, code: Code) -> Result<Option<End>, SessionFault>
+    ensures wrote { EndedBy (W.contents sink.old.inner) (W.contents sink.new.inner) code result }
+    ensures kept { OnOk result (sink.new.failed ≡ sink.old.failed) }
+    ensures flag { OnErr result ((result ≡ Err SessionFault.Write) × (sink.new.failed ≡ true)) }
+{
+    match end_by(sink, code) {
+        Ok(end) => Ok(Some(end)),
+        Err(fault) => Err(fault),
+    }
+}
+
+/// Serves the requests that wait, and says how the session ends where it does.
+fn drain<W: Write, P: Pick>(
+    alloc: Global,
+    intake: &mut Intake,
+    sink: &mut Sink<W>,
+    core: &mut Core,
+    pick: &mut P,
+) -> Result<Option<End>, SessionFault>
+    ensures ran { (left : Option (List ℕ)) (m : Machine) → StandsFor core.old m → running_count core.old ≡ 0
+        → Drove left intake.old intake.new m core.old core.new (W.contents sink.old.inner) (W.contents sink.new.inner) result }
+    ensures kept { OnOk result (sink.new.failed ≡ sink.old.failed) }
+    ensures flag { OnErr result ((result ≡ Err SessionFault.Write) × (sink.new.failed ≡ true)) }
+{
+    'requests: loop {
+        match intake.next() {
+            Err(NoMemory) => return end_within(sink, Code::Memory),
+            Ok(Next::More) => return Ok(None),
+            Ok(Next::Bad(code)) => return end_within(sink, code),
+            Ok(Next::Request(request)) => {
+                if is_quit(&request) {
+                    return Ok(Some(End::Quit));
+                }
+                if let Err(fault) = answer(alloc, sink, core, pick, request) {
+                    return Err(fault);
+                }
+            }
+        }
+    }
+}
+
+/// Ends a session at the end of the input.
+fn end_of_input<W: Write>(sink: &mut Sink<W>, intake: &Intake) -> Result<End, SessionFault>
+    ensures quit { intake.now ≡ [] → (result ≡ Ok End.Quit) × Appends (W.contents sink.old.inner) (W.contents sink.new.inner) [] }
+    ensures cut { intake.now ≢ [] → EndsBy (W.contents sink.old.inner) (W.contents sink.new.inner) Code.Cut result }
+    ensures kept { OnOk result (sink.new.failed ≡ sink.old.failed) }
+    ensures flag { OnErr result ((result ≡ Err SessionFault.Write) × (sink.new.failed ≡ true)) }
+{
+    if intake.at_boundary() {
+        return Ok(End::Quit);
+    }
+    end_by(sink, Code::Cut)
+}
+
+/// Serves a script: reads to the end, to QUIT or to a fault, and writes what is answered. Before each STATUS, FETCH and
+/// WAIT all work is run, in the order of the picks, and nothing else runs work. Want of memory is `ERR 50 MEMORY` for
+/// that request, and ends the session where a line or a payload is gathered.
+///
+/// A core for which no task is running is to be handed in. A session makes at most 4,294,967,295 reads.
+pub fn run_script<R: Read, W: Write, P: Pick>(
+    alloc: Global,
+    source: &mut Source<R>,
+    sink: &mut Sink<W>,
+    core: &mut Core,
+    pick: &mut P,
+) -> Result<End, SessionFault>
+    requires source_clear { source.old.failed ≡ false }
+    requires sink_clear { sink.old.failed ≡ false }
+    requires unread { source.old.reads ≡ 0 }
+    // What was written is the script of the bytes that were read, or a front of it, and the core stands for the state after it.
+    ensures ran { (m : Machine) → StandsFor core.old m → running_count core.old ≡ 0
+        → SessionRan m core.old core.new (R.remaining source.old.inner) (R.remaining source.new.inner) (W.contents sink.old.inner) (W.contents sink.new.inner) result }
+    ensures few_reads { source.new.reads ≤ 4294967295 }
+    ensures read_fault { result ≡ Err SessionFault.Read → (source.new.failed ≡ true) ⊎ (source.new.reads ≡ 4294967295) }
+    ensures write_fault { result ≡ Err SessionFault.Write → sink.new.failed ≡ true }
+    ensures reader_failed { source.new.failed ≡ true → result ≡ Err SessionFault.Read }
+    ensures writer_failed { sink.new.failed ≡ true → result ≡ Err SessionFault.Write }
+{
+    let mut intake = Intake::new(alloc);
+    let mut buffer = match Vec::from_elem(alloc, 0u8, PIECE) {
+        Ok(buffer) => buffer,
+        Err(_) => return end_by(sink, Code::Memory),
+    };
+    'reads: for _turn in 0..READ_LIMIT {
+        match take_piece(source, buffer.as_mut_slice(), &mut intake) {
+            Err(fault) => return Err(fault),
+            Ok(Piece::Nothing) => return end_of_input(sink, &intake),
+            Ok(Piece::NoRoom) => return end_by(sink, Code::Memory),
+            Ok(Piece::Fed) => {}
+        }
+        match drain(alloc, &mut intake, sink, core, pick) {
+            Err(fault) => return Err(fault),
+            Ok(Some(end)) => return Ok(end),
+            Ok(None) => {}
+        }
+    }
+    Err(SessionFault::Read)
+}
