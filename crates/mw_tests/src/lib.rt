@@ -13,11 +13,7 @@ mod images;
 #[cfg(test)]
 mod kernels;
 #[cfg(test)]
-mod machine;
-#[cfg(test)]
 mod plain_rows;
-#[cfg(test)]
-mod ranks;
 #[cfg(test)]
 mod seams;
 #[cfg(test)]
