@@ -265,7 +265,7 @@ fn main(rt: HostRuntime) -> Result<(), Fault> {
         None => return Ok(()),
         Some(word) => word,
     };
-    if wanted == "all" || wanted == "sets" {
+    if matches!(wanted.as_str(), "all" | "sets") {
         time_sets::<HostRuntime>(&rt, alloc)?;
     }
     for side in [128u32, 512, 1024] {

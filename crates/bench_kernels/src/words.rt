@@ -36,7 +36,7 @@ fn steps(
     plane: &Plane<Bit>,
     grid: Grid,
     offsets: &[Offset],
-    k: u16,
+    k: u8,
     out: &mut Plane<Bit>,
 ) -> Result<(), Fault> {
     if plane.width() != grid.width() || plane.height() != grid.height() {
@@ -110,14 +110,7 @@ fn time_steps<R: std::rt::Clock + Print>(
     let mut best = u128::MAX;
     for _ in 0..5 {
         let start = Instant::now(rt)?;
-        steps(
-            alloc,
-            plane,
-            grid,
-            offsets.as_slice(),
-            u16::from(k),
-            &mut out,
-        )?;
+        steps(alloc, plane, grid, offsets.as_slice(), k, &mut out)?;
         best = best.min(start.elapsed(rt)?.as_micros());
     }
     println!(rt; "disc of {k}, a set in samples, tiles of {side}: {best} us")?;
