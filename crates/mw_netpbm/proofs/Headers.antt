@@ -1,6 +1,7 @@
 -- A header is read where one stands, and what is read as one is one.
-use Rattle.std.proofs.Common.{◌≡◌, ℕ, Bool, true, false, cond, eqb, List, [], ◌∷◌, ◌++◌, Result, Ok, Err, IsTrue, refl, sym, ap, subst, ◌∙◌, arith, inl, inr, append_assoc}
+use Rattle.std.proofs.Common.{◌≡◌, ℕ, ◌+◌, ◌-◌, ◌≤◌, Bool, true, false, cond, eqb, List, [], ◌∷◌, ◌++◌, length, drop, Result, Ok, Err, IsTrue, refl, sym, ap, subst, ◌∙◌, arith, inl, inr, append_assoc, length-append}
 use Rattle.std.proofs.lemmas.Bool.{eqb-true}
+use Rattle.std.proofs.lemmas.List.{drop_at}
 use Rattle.mw_netpbm.specs.declared.fault.ReadFault.{ReadFault}
 use Rattle.mw_netpbm.specs.declared.fault.ReadFault.TheVariants.{Magic, Header}
 use Rattle.mw_model.specs.declared.formats.Format.{Format}
@@ -221,3 +222,12 @@ head_parts bytes x e =
       };
       is_capped = caps;
     })
+
+-- the raster is what is left of the bytes
+pub head_last : (bytes : List ℕ) (x : Head × List ℕ) → head_at bytes ≡ Ok x → (length x.1 ≤ length bytes) × (x.1 ≡ drop (length bytes - length x.1) bytes)
+head_last bytes x e =
+    let text = (head_parts bytes x e).begins.text in
+    let parts : bytes ≡ text ++ x.1 = (head_parts bytes x e).begins.parts in
+    let long : length bytes ≡ length text + length x.1 = ap length parts ∙ length-append text x.1 in
+    let before : length bytes - length x.1 ≡ length text = omega arith in
+    (omega arith, sym (ap (λ k. drop k bytes) before ∙ ap (drop (length text)) parts ∙ drop_at text x.1 (length text) refl))

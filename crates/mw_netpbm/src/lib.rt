@@ -20,7 +20,7 @@ mod writer;
 pub use bitmap::{BitmapFacts, read_plain_bitmap, scan_plain_bitmap};
 pub use fault::{BitmapFault, ReadFault};
 pub use mw_model::NoMemory;
-pub use reader::read;
+pub use reader::{read, read_owned};
 pub use writer::{Text, parts, write};
 
 #[cfg(test)]

@@ -1,7 +1,7 @@
 //! Raw rasters.
 
-ghost use Rattle.std.specs.Prelude.{◌≡◌, ℕ, ◌≤◌, ◌<◌, ◌*◌, ◌+◌, ◌/◌, ◌++◌, ◌^◌, List, length, IfOk, OnOk, fold, max, take, vec_len};
-ghost use Rattle.mw_netpbm.specs.Reading.{Gives};
+ghost use Rattle.std.specs.Prelude.{◌≡◌, ℕ, ◌≤◌, ◌<◌, ◌*◌, ◌+◌, ◌/◌, ◌++◌, ◌^◌, List, length, IfOk, OnOk, fold, max, take, drop, vec_len};
+ghost use Rattle.mw_netpbm.specs.Reading.{seen, Gives};
 ghost use Rattle.mw_model.specs.NetpbmGrammar.{bits_of};
 ghost use Rattle.mw_netpbm.specs.Rasters.{words_of, row_bits, rows_bits, grey8_at, grey16_at, bits_at};
 
@@ -21,15 +21,10 @@ fn greatest8(samples: &[u8]) -> u8
     most
 }
 
-/// One byte for each sample.
+/// The bytes of a raster that are samples of one byte each.
 #[tactic(auto, unfolding(crate::specs::Rasters::grey8_at))]
-pub(crate) fn grey8(
-    alloc: Global,
-    count: usize,
-    maxval: u8,
-    raster: &[u8],
-) -> Result<Vec<u8>, ReadFault>
-    ensures { Gives (λ v. v.items) result (grey8_at count maxval raster.now) }
+fn samples8(count: usize, maxval: u8, raster: &[u8]) -> Result<&[u8], ReadFault>
+    ensures { seen (λ x. x.now) result ≡ grey8_at count maxval raster.now }
 {
     if raster.len() < count {
         return Err(ReadFault::Short);
@@ -41,7 +36,50 @@ pub(crate) fn grey8(
     if !rest.is_empty() {
         return Err(ReadFault::Trailing);
     }
-    Ok(Vec::from_slice(alloc, samples)?)
+    Ok(samples)
+}
+
+/// One byte for each sample.
+pub(crate) fn grey8(
+    alloc: Global,
+    count: usize,
+    maxval: u8,
+    raster: &[u8],
+) -> Result<Vec<u8>, ReadFault>
+    ensures { Gives (λ v. v.items) result (grey8_at count maxval raster.now) }
+{
+    match samples8(count, maxval, raster) {
+        Err(fault) => Err(fault),
+        Ok(samples) => Ok(Vec::from_slice(alloc, samples)?),
+    }
+}
+
+/// Takes the first bytes away.
+fn drop_front(file: &mut Vec<u8>, start: usize)
+    requires { start ≤ length file.old.items }
+    ensures { file.new.items ≡ drop start file.old.items }
+{
+    let left = file.len() - start;
+    file.copy_within(start.., 0);
+    file.truncate(left);
+}
+
+/// One byte for each sample, in the vector of a file whose raster begins there.
+pub(crate) fn owned_grey8(
+    count: usize,
+    maxval: u8,
+    start: usize,
+    mut file: Vec<u8>,
+) -> Result<Vec<u8>, ReadFault>
+    requires { start ≤ length file.items }
+    ensures { seen (λ v. v.items) result ≡ grey8_at count maxval (drop start file.items) }
+{
+    let (_, raster) = file.split_at(start);
+    if let Err(fault) = samples8(count, maxval, raster) {
+        return Err(fault);
+    }
+    drop_front(&mut file, start);
+    Ok(file)
 }
 
 /// The greatest of a sample and of those in the bytes.

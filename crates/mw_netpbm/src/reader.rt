@@ -1,6 +1,6 @@
 //! Reading a whole file.
 
-ghost use Rattle.std.specs.Prelude.{◌≡◌, ℕ, ◌≤◌, ◌<◌, ◌*◌, ◌^◌, List, length, ◌≢◌, IfOk, IfErr, Ok, Err, true, nat_lt, MatchResult};
+ghost use Rattle.std.specs.Prelude.{◌≡◌, ℕ, ◌≤◌, ◌<◌, ◌*◌, ◌-◌, ◌^◌, List, length, drop, ◌≢◌, IfOk, IfErr, Ok, Err, true, nat_lt, MatchResult};
 ghost use Rattle.mw_netpbm.specs.Reading.{seen, Gives};
 ghost use Rattle.mw_netpbm.specs.Heading.{head_at, limits};
 ghost use Rattle.mw_netpbm.specs.Whole.{IsFit, set_from, grey_from, image_at, reading};
@@ -8,6 +8,7 @@ ghost use Rattle.mw_netpbm.specs.Faults.{code_of};
 ghost use Rattle.mw_model.specs.NetpbmGrammar.{IsFile};
 ghost use Rattle.mw_model.specs.NetpbmRefusals.{Refuses};
 ghost use Rattle.mw_model.specs.Pictures.{Picture, IsImage};
+ghost use Rattle.mw_model.specs.declared.formats.Format.TheVariants as Format;
 
 use crate::fault::ReadFault;
 use crate::head::{check_limits, read_head};
@@ -108,10 +109,18 @@ fn raster(alloc: Global, head: &Header, raster: &[u8]) -> Result<Image, ReadFaul
     }
 }
 
-/// The image that the bytes hold.
-#[tactic(auto, unfolding(crate::specs::Whole::reading), using(crate::proofs::Faults::Fails_from))]
-fn whole(alloc: Global, bytes: &[u8]) -> Result<Image, ReadFault>
-    ensures { Gives (λ i. i) result (reading bytes.now) }
+/// The header, within the limits, and the raster.
+#[tactic(auto, unfolding(crate::specs::Whole::reading))]
+fn opened(bytes: &[u8]) -> Result<(Header, &[u8]), ReadFault>
+    ensures fault { IfErr result (λ e. reading bytes.now ≡ Err e) }
+    ensures found { IfOk result (λ x. reading bytes.now ≡ image_at x.0 x.1.now) }
+    ensures shorter { IfOk result (λ x. length x.1.now ≤ length bytes.now) }
+    ensures last { IfOk result (λ x. x.1.now ≡ drop (length bytes.now - length x.1.now) bytes.now) }
+    ensures width { IfOk result (λ x. x.0.width ≤ 8192) }
+    ensures height { IfOk result (λ x. x.0.height ≤ 8192) }
+    ensures area { IfOk result (λ x. x.0.height * x.0.width ≤ 2 ^ 24) }
+    ensures some { IfOk result (λ x. 1 ≤ x.0.maxval) }
+    ensures maxval { IfOk result (λ x. x.0.maxval ≤ 65535) }
 {
     match read_head(bytes) {
         Err(fault) => Err(fault),
@@ -119,7 +128,56 @@ fn whole(alloc: Global, bytes: &[u8]) -> Result<Image, ReadFault>
             if let Err(fault) = check_limits(&head) {
                 return Err(fault);
             }
-            raster(alloc, &head, rest)
+            Ok((head, rest))
+        }
+    }
+}
+
+/// The image that the bytes hold.
+#[tactic(auto, using(crate::proofs::Faults::Fails_from))]
+fn whole(alloc: Global, bytes: &[u8]) -> Result<Image, ReadFault>
+    ensures { Gives (λ i. i) result (reading bytes.now) }
+{
+    match opened(bytes) {
+        Err(fault) => Err(fault),
+        Ok((head, rest)) => raster(alloc, &head, rest),
+    }
+}
+
+/// The picture in the raster that begins there, in the vector of the file.
+fn owned_raster(head: &Header, start: usize, file: Vec<u8>) -> Result<Image, ReadFault>
+    requires format { head.now.format ≡ Format.RawGrey }
+    requires width { head.now.width ≤ 8192 }
+    requires height { head.now.height ≤ 8192 }
+    requires some { 1 ≤ head.now.maxval }
+    requires maxval { head.now.maxval < 256 }
+    requires within { start ≤ length file.items }
+    ensures { result ≡ image_at head.now (drop start file.items) }
+{
+    let width = head.width as u32;
+    let height = head.height as u32;
+    let maxval = head.maxval as u8;
+    let count = height as usize * width as usize;
+    let found = raw::owned_grey8(count, maxval, start, file);
+    grey8_image(width, height, maxval, found)
+}
+
+/// The image that the bytes hold. Samples of one byte stay in their vector, unless a header longer than they are would
+/// lie idle behind them.
+#[tactic(auto, using(crate::proofs::Faults::Fails_from))]
+fn whole_owned(alloc: Global, bytes: Vec<u8>) -> Result<Image, ReadFault>
+    ensures { Gives (λ i. i) result (reading bytes.items) }
+{
+    match opened(&bytes) {
+        Err(fault) => Err(fault),
+        Ok((head, rest)) => {
+            let start = bytes.len() - rest.len();
+            match head.format {
+                Format::RawGrey if head.maxval < 256 && start <= rest.len() => {
+                    owned_raster(&head, start, bytes)
+                }
+                _ => raster(alloc, &head, rest),
+            }
         }
     }
 }
@@ -137,4 +195,15 @@ pub fn read(alloc: Global, bytes: &[u8]) -> Result<Image, ReadFault>
     ensures memory { result ≡ Err ReadFault.NoMemory → (i : Picture) × IsFile bytes.now i }
 {
     whole(alloc, bytes)
+}
+
+/// The same of bytes that are handed over: samples of one byte stay where they are, and take no memory of their own.
+pub fn read_owned(alloc: Global, bytes: Vec<u8>) -> Result<Image, ReadFault>
+    ensures found { IfOk result (λ i. IsFile bytes.items i) }
+    ensures writable { IfOk result (λ i. IsImage i) }
+    ensures only { (i : Picture) → IsFile bytes.items i → MatchResult result (λ j. j ≡ i) (λ e. e ≡ ReadFault.NoMemory) }
+    ensures refused { IfErr result (λ e. e ≢ ReadFault.NoMemory → Refuses bytes.items (code_of e)) }
+    ensures memory { result ≡ Err ReadFault.NoMemory → (i : Picture) × IsFile bytes.items i }
+{
+    whole_owned(alloc, bytes)
 }

@@ -8,6 +8,15 @@ fn rewritten(rt: &HostRuntime, bytes: &[u8]) -> Result<Vec<u8>, Fail> {
     Ok(write(rt.alloc(), &image)?)
 }
 
+/// The same of bytes that are handed over.
+fn rewritten_owned(rt: &HostRuntime, bytes: &[u8]) -> Result<Vec<u8>, Fail> {
+    let owned = Vec::from_slice(rt.alloc(), bytes)?;
+    let image = read_owned(rt.alloc(), owned)
+        .ok()
+        .ok_or("the bytes are a file")?;
+    Ok(write(rt.alloc(), &image)?)
+}
+
 /// The number of the refusal of bytes, or 0.
 fn refusal(rt: &HostRuntime, bytes: &[u8]) -> u16 {
     match read(rt.alloc(), bytes) {
@@ -41,6 +50,30 @@ fn plain_files(rt: HostRuntime) -> Result<(), Fail> {
         bench.as_slice(),
         b"P5\n3 2\n255\n\x01\x02\x03\x04\x05\x06".as_slice()
     );
+    Ok(())
+}
+
+#[test]
+fn owned_files(rt: HostRuntime) -> Result<(), Fail> {
+    let moved = rewritten_owned(&rt, b"P5\n4 4\n255\n0123456789abcdef")?;
+    assert_eq!(rt;
+        moved.as_slice(),
+        b"P5\n4 4\n255\n0123456789abcdef".as_slice()
+    );
+    let long_header = rewritten_owned(&rt, b"P5\n# longer than the raster\n2 1\n255\n\x07\x08")?;
+    assert_eq!(rt;
+        long_header.as_slice(),
+        b"P5\n2 1\n255\n\x07\x08".as_slice()
+    );
+    let word = rewritten_owned(&rt, b"P5\n1 1\n256\n\x01\x00")?;
+    assert_eq!(rt; word.as_slice(), b"P5\n1 1\n256\n\x01\x00".as_slice());
+    let set = rewritten_owned(&rt, b"P1\n3 2\n1 0 1\n010\n")?;
+    assert_eq!(rt; set.as_slice(), b"P4\n3 2\n\xa0\x40".as_slice());
+    let over = Vec::from_slice(rt.alloc(), b"P5\n2 1\n9\n\x07\x0a".as_slice())?;
+    let fault = read_owned(rt.alloc(), over)
+        .err()
+        .ok_or("a sample is over the maxval")?;
+    assert_eq!(rt; fault, ReadFault::Sample);
     Ok(())
 }
 
