@@ -45,10 +45,10 @@ fn load<W: Write>(
     sink: &mut Sink<W>,
     core: &mut Core,
     name: Name,
-    payload: &[u8],
+    payload: Vec<u8>,
 ) -> Result<(), SessionFault>
     ensures answered { (m : Machine) → StandsFor core.old m → running_count core.old ≡ 0
-        → Answered m (AskLoad name payload.now) core.old core.new (W.contents sink.old.inner) (W.contents sink.new.inner) result }
+        → Answered m (AskLoad name payload.items) core.old core.new (W.contents sink.old.inner) (W.contents sink.new.inner) result }
     ensures kept { OnOk result (sink.new.failed ≡ sink.old.failed) }
     ensures flag { OnErr result ((result ≡ Err SessionFault.Write) × (sink.new.failed ≡ true)) }
 {
@@ -203,7 +203,7 @@ pub(crate) fn answer<W: Write, P: Pick>(
     ensures flag { OnErr result ((result ≡ Err SessionFault.Write) × (sink.new.failed ≡ true)) }
 {
     match request {
-        Request::Load(name, payload) => load(alloc, sink, core, name, &payload),
+        Request::Load(name, payload) => load(alloc, sink, core, name, payload),
         Request::Element(name, ox, oy, payload) => {
             element(alloc, sink, core, name, (ox, oy), &payload)
         }

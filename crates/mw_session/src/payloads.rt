@@ -10,11 +10,11 @@ use mw_pixel::Image;
 use std::alloc::Global;
 
 /// The image that a payload is, or why it is none.
-pub(crate) fn read_image(alloc: Global, bytes: &[u8]) -> Result<Image, Code>
-    ensures read { ReadsImage bytes.now result }
+pub(crate) fn read_image(alloc: Global, bytes: Vec<u8>) -> Result<Image, Code>
+    ensures read { ReadsImage bytes.items result }
     ensures image { ForOk result IsImage }
 {
-    match mw_netpbm::read(alloc, bytes) {
+    match mw_netpbm::read_owned(alloc, bytes) {
         Ok(image) => Ok(image),
         Err(fault) => Err(fault.code()),
     }
