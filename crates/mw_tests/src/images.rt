@@ -100,3 +100,12 @@ pub(crate) fn element(alloc: Global, bytes: &[u8], ox: u32, oy: u32) -> Result<E
     let found = Element::parse(alloc, bytes, ox, oy);
     Ok(found.ok().ok_or("the bytes are an element")?)
 }
+
+/// The element of all 255 by 255 pixels, from its middle.
+pub(crate) fn full_square(alloc: Global) -> Result<Element, Fail> {
+    let mut bytes = b"P1\n255 255\n".to_vec(alloc)?;
+    for _ in 0..65025u32 {
+        bytes.push(b'1')?;
+    }
+    element(alloc, &bytes, 127, 127)
+}

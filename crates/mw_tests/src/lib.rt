@@ -15,6 +15,8 @@ mod kernels;
 #[cfg(test)]
 mod plain_rows;
 #[cfg(test)]
+mod ranks;
+#[cfg(test)]
 mod seams;
 #[cfg(test)]
 mod served;

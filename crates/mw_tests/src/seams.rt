@@ -1,9 +1,9 @@
 //! Long rows over the seams of tiles.
 
-use crate::images::{BAR, element, grey_row, plane_of};
+use crate::images::{BAR, bit_row, element, full_square, grey_row, plane_of};
 use crate::kernels::agree_on_tiles;
 use mw_model::plain;
-use mw_pixel::{Max, Min};
+use mw_pixel::{Bit, Max, Min};
 use std::test::Fail;
 
 #[test]
@@ -16,15 +16,33 @@ fn a_sample_reaches_over_the_seam(rt: HostRuntime) -> Result<(), Fail> {
     let dilated = plain::dilation(rt.alloc(), &f, &BAR)?;
     assert_eq!(rt; dilated.samples(), wanted.samples());
     let bar = element(rt.alloc(), b"P1\n3 1\n111\n", 1, 0)?;
-    agree_on_tiles::<u8, Max>(
-        &rt,
-        rt.alloc(),
-        &plane_of(&rt, rt.alloc(), &f)?,
-        &bar,
-        0,
-        64,
-        &wanted,
-    )?;
+    let bytes = plane_of(&rt, rt.alloc(), &f)?;
+    agree_on_tiles::<u8, Max>(&rt, rt.alloc(), &bytes, &bar, 0, 64, &wanted)?;
+    let words = plane_of(&rt, rt.alloc(), &f)?;
+    agree_on_tiles::<u16, Max>(&rt, rt.alloc(), &words, &bar, 0, 64, &wanted)?;
+    Ok(())
+}
+
+#[test]
+fn a_place_reaches_over_the_seam(rt: HostRuntime) -> Result<(), Fail> {
+    let mut places = [0u16; 65];
+    places[64] = 1;
+    let f = bit_row(&rt, rt.alloc(), &places)?;
+    places[63] = 1;
+    let wanted = bit_row(&rt, rt.alloc(), &places)?;
+    let bar = element(rt.alloc(), b"P1\n3 1\n111\n", 1, 0)?;
+    let set = plane_of(&rt, rt.alloc(), &f)?;
+    agree_on_tiles::<Bit, Max>(&rt, rt.alloc(), &set, &bar, Bit::new(false), 64, &wanted)?;
+    Ok(())
+}
+
+#[test]
+fn one_pixel_under_a_full_square(rt: HostRuntime) -> Result<(), Fail> {
+    let full = full_square(rt.alloc())?;
+    let pixel = grey_row(&rt, rt.alloc(), 255, &[200])?;
+    let plane = plane_of(&rt, rt.alloc(), &pixel)?;
+    agree_on_tiles::<u8, Min>(&rt, rt.alloc(), &plane, &full, 255, 64, &pixel)?;
+    agree_on_tiles::<u8, Max>(&rt, rt.alloc(), &plane, &full, 0, 64, &pixel)?;
     Ok(())
 }
 
