@@ -23,12 +23,14 @@ impl Core {
 
     /// A core that has accepted nothing yet. The side is that of the tiles, in pixels.
     pub fn new(alloc: Global, side: u32) -> Result<Self, NoMemory>
-        ensures { IfOk result (λ c. StandsFor c start_state) }
+        ensures stands { IfOk result (λ c. StandsFor c start_state) }
+        ensures log { IfOk result (λ c. c.log ≡ []) }
     {
         Ok(Core {
-            store: Store::new(alloc, side)?,
+            store: Store::new(alloc)?,
             work: Vec::with_capacity(alloc, 16)?,
             log: Vec::with_capacity(alloc, 16)?,
+            side,
             alloc,
         })
     }

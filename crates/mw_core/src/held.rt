@@ -1,6 +1,6 @@
 //! A core under a lock: whenever the lock is free, it stands for some state of the machine.
 
-ghost use Rattle.std.specs.Prelude.{IfOk};
+ghost use Rattle.std.specs.Prelude.{◌≡◌, [], IfOk};
 ghost use Rattle.mw_model.specs.Machine.{Machine, start_state};
 ghost use Rattle.mw_model.specs.Stands.{StandsFor};
 
@@ -21,7 +21,8 @@ impl Held {
 
     /// A core that has accepted nothing yet.
     pub fn new(alloc: Global, side: u32) -> Result<Self, NoMemory>
-        ensures { IfOk result (λ h. StandsFor h.core start_state) }
+        ensures stands { IfOk result (λ h. StandsFor h.core start_state) }
+        ensures log { IfOk result (λ h. h.core.log ≡ []) }
     {
         Ok(Held {
             core: Core::new(alloc, side)?,

@@ -17,6 +17,7 @@ pub struct Core {
     pub(crate) store: Store,
     pub(crate) work: Vec<Option<Underway>>,
     pub(crate) log: Vec<LogItem>,
+    pub(crate) side: u32,
     pub(crate) alloc: Global,
 }
 

@@ -25,7 +25,6 @@ pub struct Store {
     marks: Vec<bool>,
     pending: usize,
     alloc: Global,
-    side: u32,
 }
 
 impl Model for Store {
@@ -70,8 +69,8 @@ impl Store {
     ghost use Rattle.mw_store.specs.Kept.{kept_value, figure_in};
     ghost use Rattle.mw_store.specs.Stored.{IsWhole, DropsSpent};
 
-    /// An empty store with room for 16 entries. The side is that of the tiles, in pixels.
-    pub fn new(alloc: Global, side: u32) -> Result<Self, NoMemory>
+    /// An empty store with room for 16 entries.
+    pub fn new(alloc: Global) -> Result<Self, NoMemory>
         ensures names { IfOk result (λ s. s.table.names ≡ []) }
         ensures submissions { IfOk result (λ s. s.table.submissions ≡ []) }
         ensures outcomes { IfOk result (λ s. s.table.outcomes ≡ []) }
@@ -85,7 +84,6 @@ impl Store {
             marks: Vec::with_capacity(alloc, 16)?,
             pending: 0,
             alloc,
-            side,
         })
     }
 
@@ -174,10 +172,11 @@ impl Store {
         }
     }
 
-    /// One more owner of the image that is kept of an entry, if one is.
+    /// One more owner of the image that is kept of an entry, if one is. Where none is, memory is not asked for.
     pub fn plate(&mut self, t: u32) -> Result<Option<Plate>, NoMemory>
         requires { t < length self.old.table.names }
         ensures plate { IfOk result (λ p. p ≡ image_of (value_at self.old.kept t)) }
+        ensures memory { OnErr result (IsSome (image_of (value_at self.old.kept t))) }
         ensures no_curve { (volumes : List ℕ) → value_at self.old.kept t ≢ Some (CurveValue volumes) }
         ensures same { self.new ≡ self.old }
     {

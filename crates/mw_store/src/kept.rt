@@ -1,6 +1,6 @@
 //! Values as the store keeps them, and entries as they are handed to it.
 
-ghost use Rattle.std.specs.Prelude.{◌≡◌, IfOk, option_map};
+ghost use Rattle.std.specs.Prelude.{◌≡◌, IfOk, OnErr, IsSome, option_map};
 ghost use Rattle.std.specs.Arc.{arc_value};
 ghost use Rattle.mw_model.specs.Values.{image_of};
 ghost use Rattle.mw_store.specs.Kept.{kept_value, one_kept};
@@ -70,6 +70,7 @@ fn shared_plate(image: &Arc<Image>) -> Result<Plate, NoMemory>
 pub fn share(alloc: Global, kept: Kept) -> (Kept, Result<Option<Plate>, NoMemory>)
     ensures kept { kept_value result.0 ≡ kept_value kept }
     ensures plate { IfOk result.1 (λ p. p ≡ image_of (one_kept kept)) }
+    ensures memory { OnErr result.1 (IsSome (image_of (one_kept kept))) }
 {
     match kept {
         Kept::Image(image) => match Arc::new(alloc, image) {

@@ -4,7 +4,7 @@
 //! that no sample is copied. What takes memory answers `NoMemory`, and the store is then as before.
 //!
 //! ```text
-//! let mut store = Store::new(alloc, 128)?;
+//! let mut store = Store::new(alloc)?;
 //! let ticket = store.add(name, Entry::Image(image))?;
 //! let outcome = store.outcome(ticket);
 //! ```
