@@ -65,6 +65,12 @@ IsRefused words (fault.Line e) = IsAmong (kind_of e) (fault_of program_words wor
 IsRefused words fault.Tile = AreTaken words × WritesNoSide (side_text words)
 IsRefused words fault.NoMemory = Unit {0}
 
+-- a word is no text, or memory was refused
+abbrev pub IsNoText : LineFault → Type 0
+IsNoText (fault.Line e) = kind_of e ≡ kind.InvalidValue
+IsNoText fault.Tile = ⊥
+IsNoText fault.NoMemory = Unit {0}
+
 -- the kinds of what was asked for, and not refused
 abbrev pub is_text : ErrorKind → Bool
 is_text kind.DisplayHelp = true

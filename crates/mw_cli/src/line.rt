@@ -1,8 +1,8 @@
 //! What the command line asks for.
 
-ghost use Rattle.std.specs.Prelude.{◌≡◌, ◌<◌, ℕ, IfOk, IfErr, IfSome, None, map};
+ghost use Rattle.std.specs.Prelude.{◌≡◌, ℕ, IfOk, IfErr, IfSome, None, map};
 ghost use Rattle.clap.specs.Words.{app_of, subcommand_rows_of};
-ghost use Rattle.mw_cli.specs.CommandLine.{IsAsked, IsRefused, IsTileSide, Writes, fault_status, WritesNoSide, program_words, tile_in};
+ghost use Rattle.mw_cli.specs.CommandLine.{IsAsked, IsNoText, IsRefused, IsTileSide, Writes, WritesNoSide, program_words, tile_in};
 ghost use Rattle.std.specs.String.{string_bytes};
 
 use crate::fault::LineFault;
@@ -90,7 +90,7 @@ fn job_of(matches: &ArgMatches<'_>) -> Result<Job, LineFault>
 
 /// The words of the process. Words that are not UTF-8 are refused as clap refuses a value.
 pub fn words<R: Env + Alloc<A = Global>>(rt: &R) -> Result<Vec<String>, LineFault>
-    ensures { IfErr result (λ fault. 0 < fault_status fault) }
+    ensures { IfErr result IsNoText }
 {
     match args(rt) {
         Ok(words) => words.collect(rt.alloc()).map_err(|_| LineFault::NoMemory),
@@ -100,7 +100,7 @@ pub fn words<R: Env + Alloc<A = Global>>(rt: &R) -> Result<Vec<String>, LineFaul
 }
 
 fn not_text(alloc: Global) -> LineFault
-    ensures { 0 < fault_status result }
+    ensures { IsNoText result }
 {
     let Ok(mut command) = command(alloc) else {
         return LineFault::NoMemory;

@@ -36,6 +36,10 @@ pub record IsPayloadLine (line : List ℕ) (what : Awaited) (len : ℕ) : Type 0
   pub head : head_of (take (position_or_len is_line_end line) line) ≡ Some (Payload what len)
   pub limit : len ≤ 134217728
 
+-- a line that awaits a payload stands at the front
+abbrev pub AsksForPayload : List ℕ → Type 0
+AsksForPayload bytes = (used : ℕ) × (what : Awaited) × (len : ℕ) × IsPayloadLine (take used bytes) what len
+
 -- no payload is being gathered, or one is, and then all that has come of it is in its place
 abbrev pub IsGathering : Option (Awaited × ℕ) → List ℕ → List ℕ → ℕ → ℕ → Type 0
 IsGathering None line payload at end = (line ≡ []) × (payload ≡ [])

@@ -1,7 +1,7 @@
 //! Gathers bytes that come in any pieces, and cuts requests from them.
 
-ghost use Rattle.std.specs.Prelude.{◌≡◌, ◌++◌, ◌≤◌, ℕ, List, [], length, drop, IfOk, OnOk, OnErr, IsTrue, ◌↔◌};
-ghost use Rattle.mw_intake.specs.Intake.{Answers, Falls, asked};
+ghost use Rattle.std.specs.Prelude.{◌≡◌, ◌++◌, ◌≤◌, ◌<◌, ◌+◌, ℕ, List, [], length, drop, IfOk, OnOk, OnErr, IsTrue, ◌↔◌};
+ghost use Rattle.mw_intake.specs.Intake.{Answers, Falls, AsksForPayload, asked};
 ghost use Rattle.mw_model.specs.Lines.{AskAlone, asked_with};
 
 use crate::cut::{Cut, cut_front};
@@ -52,10 +52,11 @@ impl Intake {
         }
     }
 
-    /// Takes the next piece. An `Err` changes nothing.
+    /// Takes the next piece. An `Err` changes nothing; an empty piece takes no memory.
     pub fn feed(&mut self, piece: &[u8]) -> Result<(), NoMemory>
         ensures ok { OnOk result (self.new ≡ self.old ++ piece.now) }
         ensures err { OnErr result (self.new ≡ self.old) }
+        ensures memory { OnErr result (0 < length piece.now) }
     {
         drop_front(&mut self.rest, self.at);
         self.at = 0;
@@ -67,11 +68,13 @@ impl Intake {
         append_both(&mut self.payload, mine, &mut self.rest, other)
     }
 
-    /// Cuts the request at the front, if one is there. `Bad` and `More` leave the bytes, so `Bad` is answered again.
+    /// Cuts the request at the front, if one is there. `Bad` and `More` leave the bytes, so `Bad` is answered again. Only
+    /// a payload takes memory.
     pub fn next(&mut self) -> Result<Next, NoMemory>
         ensures ok { IfOk result (λ next. Answers next self.old self.new) }
         ensures falls { IfOk result (λ next. Falls next self.old self.new) }
         ensures err { OnErr result (self.new ≡ self.old) }
+        ensures memory { OnErr result (AsksForPayload self.old) }
     {
         match self.wanted {
             None => {}
@@ -174,7 +177,7 @@ fn append_both(
     other: &[u8],
 ) -> Result<(), NoMemory>
     ensures ok { OnOk result ((first.new.items ≡ first.old.items ++ mine.now) × (second.new.items ≡ second.old.items ++ other.now)) }
-    ensures err { OnErr result ((first.new.items ≡ first.old.items) × (second.new.items ≡ second.old.items)) }
+    ensures err { OnErr result ((first.new.items ≡ first.old.items) × (second.new.items ≡ second.old.items) × (0 < length mine.now + length other.now)) }
 {
     let before = first.len();
     first.extend_from_slice(mine)?;

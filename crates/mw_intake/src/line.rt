@@ -1,6 +1,6 @@
 //! What a line says.
 
-ghost use Rattle.std.specs.Prelude.{◌≡◌, ℕ, List, length, min};
+ghost use Rattle.std.specs.Prelude.{◌≡◌, min};
 ghost use Rattle.std.specs.List.{position_or_len};
 ghost use Rattle.mw_model.specs.Lines.{is_served};
 ghost use Rattle.mw_intake.specs.Reading.{one_name, two_names, three_names, name_and_number, two_names_and_number, name_and_three_numbers, window_op, op_with, run_in, served, ask_with, head_with, head_of, is_line_end};

@@ -1,6 +1,6 @@
 //! The words of a line, read one by one.
 
-ghost use Rattle.std.specs.Prelude.{◌≡◌, ◌≤◌, ◌<◌, ◌+◌, ℕ, List, ◌∷◌, length, true, Bool};
+ghost use Rattle.std.specs.Prelude.{◌≡◌, ◌≤◌, ◌<◌, ◌+◌, ℕ, List, ◌∷◌, length, true};
 ghost use Rattle.std.specs.List.{position_or_len, list_all};
 ghost use Rattle.mw_intake.specs.Reading.{words, word_in, name_in, number_in, rest, at_end, is_blank, is_digit, is_number, number_word, value_of};
 ghost use Rattle.mw_intake.specs.Words.{words_left, seen};

@@ -6,8 +6,6 @@ ghost use Rattle.mw_model.specs.declared.operations.Op.{Op};
 ghost use Rattle.mw_model.specs.declared.requests.Ask.TheVariants as Ask;
 ghost use Rattle.mw_model.specs.Lines.{AskLoad, AskElement, AskAlone, is_served};
 ghost use Rattle.mw_model.specs.Machine.{Machine};
-ghost use Rattle.mw_model.specs.Replies.{handed_text, reply_text, refusal_text, ImageBytes};
-ghost use Rattle.mw_model.specs.NetpbmWriting.{text_of};
 ghost use Rattle.mw_model.specs.Stands.{StandsFor, running_count};
 ghost use Rattle.mw_intake.specs.Intake.{asked};
 ghost use Rattle.mw_session.specs.Answering.{told_text, SaysFetched};

@@ -1,6 +1,6 @@
 //! A line of a reply, put together without memory.
 
-ghost use Rattle.std.specs.Prelude.{◌≡◌, ◌≤◌, ◌+◌, ◌++◌, ◌∷◌, List, [], ℕ, length};
+ghost use Rattle.std.specs.Prelude.{◌≡◌, ◌≤◌, ◌+◌, ◌++◌, List, [], ℕ, length};
 ghost use Rattle.mw_model.specs.Replies.{and_number};
 
 use itoa::Buffer;

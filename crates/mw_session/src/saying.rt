@@ -1,7 +1,7 @@
 //! Writing replies, and the refusal that ends a session.
 
 ghost use Rattle.std.specs.Prelude.{◌≡◌, ◌++◌, OnOk, OnErr, Err, true};
-ghost use Rattle.mw_model.specs.Replies.{reply_text, refusal_text, handed_text, NoValue, ImageBytes, CurveText};
+ghost use Rattle.mw_model.specs.Replies.{reply_text, handed_text, NoValue, ImageBytes, CurveText};
 ghost use Rattle.mw_session.specs.Writes.{Wrote, EndsBy};
 
 use crate::fault::SessionFault;

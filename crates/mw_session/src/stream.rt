@@ -1,7 +1,7 @@
 //! A reader and a writer that remember whether they failed.
 
-ghost use Rattle.std.specs.Prelude.{◌≡◌, ◌≤◌, ◌<◌, ℕ, ◌+◌, ◌||◌, min, take, length, is_err, true, false, OnOk, OnErr, IfOk, MatchResult};
-ghost use Rattle.std.specs.Io.KnownBytes.{Appends, Consumes, Keeps, IsAtEnd, ReadConsumes, WriteAppends};
+ghost use Rattle.std.specs.Prelude.{◌≡◌, ◌≤◌, ◌<◌, ◌+◌, ◌||◌, min, take, length, is_err, true, false, OnOk, OnErr, IfOk, MatchResult};
+ghost use Rattle.std.specs.Io.KnownBytes.{Consumes, Keeps, IsAtEnd, ReadConsumes, WriteAppends};
 ghost use Rattle.mw_session.specs.Writes.{Wrote};
 ghost use Rattle.std.specs.Io.{ReadsAtMost, WritesAtMost};
 

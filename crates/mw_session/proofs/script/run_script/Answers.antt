@@ -110,3 +110,6 @@ returns-clause-ran g c = λ m s none.
     let i = c.reads.invariant in
     ran-stopped m c.args.core.now c.reads.core (g.R.Read.remaining c.args.source.now.inner) (g.R.Read.remaining c.reads.source.inner) i.taken c.reads.intake
     (g.W.Write.contents c.args.sink.now.inner) (g.W.Write.contents c.reads.sink.inner) _ i.read (i.serving m s none).0
+
+pub returns-clause-read_fault : goal.returns-clause-read_fault
+returns-clause-read_fault g c = λ _. inr (omega (arith, c.reads-test.false, c.reads.auto._turn-end, c.reads.invariant.reads))
