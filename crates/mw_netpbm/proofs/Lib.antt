@@ -16,3 +16,4 @@ pub mod Lanes
 pub mod Pixels
 pub mod Chunks
 pub mod Made
+pub mod FewDigits

@@ -6,6 +6,7 @@ ghost use Rattle.mw_netpbm.specs.Places.{ones_of, place_at, top_of};
 ghost use Rattle.mw_netpbm.specs.Plain.{tail_at, plain_at, bit_at, pixel_at, apart, level_at, sample_at};
 
 use crate::fault::ReadFault;
+use crate::short::short_sample;
 use crate::words::{is_white, number, skip};
 use mw_pixel::Pixel;
 use std::alloc::{AllocError, Global};
@@ -33,8 +34,10 @@ fn pixel(left: usize, bytes: &[u8]) -> Result<(u16, &[u8]), ReadFault>
     }
 }
 
+/// A sample, however it is written.
+#[inline(never)]
 #[tactic(auto, unfolding(crate::specs::Plain::level_at, crate::specs::Plain::apart, crate::specs::Plain::sample_at, crate::specs::Reading::number_at))]
-fn sample(maxval: u16, left: usize, bytes: &[u8]) -> Result<(u16, &[u8]), ReadFault>
+fn any_sample(maxval: u16, left: usize, bytes: &[u8]) -> Result<(u16, &[u8]), ReadFault>
     ensures value { seen (λ x. (x.0, x.1.now)) result ≡ sample_at maxval left bytes.now }
     ensures small { IfOk result (λ x. x.0 ≤ maxval) }
 {
@@ -60,6 +63,18 @@ fn sample(maxval: u16, left: usize, bytes: &[u8]) -> Result<(u16, &[u8]), ReadFa
     }
 }
 
+/// A sample, most often a short one.
+#[inline(always)]
+fn sample(maxval: u16, left: usize, bytes: &[u8]) -> Result<(u16, &[u8]), ReadFault>
+    ensures value { seen (λ x. (x.0, x.1.now)) result ≡ sample_at maxval left bytes.now }
+    ensures small { IfOk result (λ x. x.0 ≤ maxval) }
+{
+    match short_sample(bytes) {
+        Some((n, rest)) if n <= maxval => Ok((n, rest)),
+        _ => any_sample(maxval, left, bytes),
+    }
+}
+
 /// What stands at the places of a plain raster.
 #[derive(Clone, Copy)]
 pub(crate) enum Places {
@@ -69,6 +84,7 @@ pub(crate) enum Places {
     Samples(u16),
 }
 
+#[inline(always)]
 fn place(places: Places, left: usize, bytes: &[u8]) -> Result<(u16, &[u8]), ReadFault>
     ensures value { seen (λ x. (x.0, x.1.now)) result ≡ place_at places left bytes.now }
     ensures small { IfOk result (λ x. x.0 ≤ top_of places) }
@@ -80,13 +96,16 @@ fn place(places: Places, left: usize, bytes: &[u8]) -> Result<(u16, &[u8]), Read
 }
 
 /// 1 for a 1, else 0.
+#[inline(always)]
 fn one(s: u16) -> u64
     ensures { result ≡ if s == 1 then 1 else 0 }
 {
     if s == 1 { 1 } else { 0 }
 }
 
-/// How many places have a 1, or the first fault, without memory.
+/// How many places have a 1, or the first fault, without memory. It is inlined, so that each caller has a loop for its
+/// own places.
+#[inline(always)]
 pub(crate) fn count_ones(places: Places, count: usize, bytes: &[u8]) -> Result<u64, ReadFault>
     ensures { seen (λ n. n) result ≡ ones_of (plain_at (place_at places) count bytes.now) }
 {
@@ -110,6 +129,7 @@ pub(crate) fn count_ones(places: Places, count: usize, bytes: &[u8]) -> Result<u
 }
 
 #[tactic(auto, using(crate::proofs::PlainLoop::no_fault, crate::proofs::PlainLoop::one_more, crate::proofs::PlainLoop::all_read))]
+#[inline(always)]
 fn fill<P: Pixel>(
     alloc: Global,
     places: Places,
@@ -137,6 +157,7 @@ fn fill<P: Pixel>(
 
 /// What the places hold: a pass that checks without memory, and one that fills.
 #[tactic(auto, using(crate::proofs::Faults::Fails_fault))]
+#[inline(always)]
 pub(crate) fn samples<P: Pixel>(
     alloc: Global,
     places: Places,
