@@ -1,17 +1,20 @@
--- Runs merged into one part of a row after another.
-use Rattle.std.proofs.Common.{◌≡◌, ℕ, ◌+◌, ◌-◌, ◌*◌, ◌<◌, ◌≤◌, List, [], ◌∷◌, length, take, drop, get_or, fold, refl, ap, sym, arith, ◌∙◌, inl, inr, length-drop}
+-- Parts of runs, merged at their places.
+use Rattle.std.proofs.Common.{◌≡◌, ℕ, ◌+◌, ◌-◌, ◌*◌, ◌<◌, ◌≤◌, Bool, true, false, List, [], ◌∷◌, ◌++◌, length, take, drop, get_or, set, fold, flat_map, refl, ap, sym, arith, ◌∙◌, inl, inr, append_assoc, length-set, get_or-set_same, get_or-set_other}
 use Rattle.std.specs.List.{AllByRecursion}
 use Rattle.std.specs.Prelude.{nat_le, nat_lt, ◌&&◌, if◌then◌else◌}
-use Rattle.std.proofs.lemmas.Bool.{cases_lt}
-use Rattle.std.proofs.lemmas.List.{get_or-take, get_or-drop, take_all}
+use Rattle.std.proofs.lemmas.Bool.{cases_lt, ltb-false, lt-ltb, le-ltb, le-leb, lt-leb}
+use Rattle.std.proofs.lemmas.List.{get_or-take, get_or-drop, take_more, get_or_default}
+use Rattle.std.proofs.lemmas.List.Concat.{flat_map-append, flat_map-cons}
+use Rattle.std.proofs.lemmas.List.Sums.{fold-append}
 use borrow.Rule.Slice.PartMut.{put_mid}
 use Rattle.mw_lane.proofs.Blocks.{put_mid_at, put_mid_below}
 use Rattle.mw_lane.proofs.Parts.{put_mid_above}
-use Rattle.mw_line.proofs.Folds.{length-put_mid}
+use Rattle.mw_line.proofs.Folds.{IsExtremum, length-put_mid}
 use Rattle.mw_offset.specs.declared.runs.Run.{Run}
 use Rattle.mw_offset.specs.declared.runs.Extent.{Extent}
+use Rattle.mw_offset.proofs.Rooms.{merged_again}
+use Rattle.mw_offset.specs.Places.{merge_from, places_of}
 use Rattle.mw_offset.specs.Runs.{start_of, HasRoom, sized, two_parts}
-use Rattle.mw_offset.proofs.RunLists.{all_weaker}
 
 -- the samples below `at` have their values, and the others are as they were
 pub record PartsDone {A : Type 0} (value : A → ℕ → A → A) (at : ℕ) (old out : List A) : Type 0 where
@@ -23,6 +26,7 @@ pub record PartsDone {A : Type 0} (value : A → ℕ → A → A) (at : ℕ) (ol
 pub parts_none : {A : Type 0} (value : A → ℕ → A → A) (old : List A) → PartsDone value 0 old old
 parts_none value old = record { within = omega arith; size = refl; done = λ q d lt. absurd (omega arith); rest = λ q d le. refl }
 
+-- a block more
 pub parts_more : {A : Type 0} (value : A → ℕ → A → A) (at m count : ℕ) (old out made : List A) → m ≡ count → length made ≡ count → at + count ≤ length out
     → ((x : ℕ) (d : A) → x < count → get_or made x d ≡ value d (at + x) (get_or (take m (drop at out)) x d)) → PartsDone value at old out → PartsDone value (at + count) old (put_mid at m out made)
 parts_more value at m count old out made m-is size room made-is before = record {
@@ -40,30 +44,121 @@ parts_more value at m count old out made m-is size room made-is before = record 
   rest = λ q d from. put_mid_above at m out made q d (omega arith) (omega arith) (omega arith) ∙ before.rest q d (omega arith);
 }
 
-fold_same : {A B : Type 0} (f g : A → B → A) → ((best : A) (r : B) → f best r ≡ g best r) → (best : A) (rs : List B) → fold f best rs ≡ fold g best rs
-fold_same f g same best [] = refl
-fold_same f g same best (r ∷ rs) = ap (λ (t : _). fold f t rs) (same best r) ∙ fold_same f g same (g best r) rs
+-- a sample more
+pub parts_one : {A : Type 0} (value : A → ℕ → A → A) (at : ℕ) (old out : List A) (a v : A) → at < length out → a ≡ get_or out at a → ((d : A) → v ≡ value d at a) → PartsDone value at old out → PartsDone value (at + 1) old (set out at v)
+parts_one value at old out a v lt a-is v-is before = record {
+  within = omega (arith, before.size);
+  size = length-set out at v ∙ before.size;
+  done = λ q d less. elim (cases_lt q at) [
+    | inl early ↦ get_or-set_other out at q v d (omega arith) ∙ before.done q d early
+    | inr late ↦
+        let here : q ≡ at = omega arith in
+        rw here (get_or-set_same out at v d lt ∙ v-is d ∙ ap (value d at) (a-is ∙ get_or_default out at a d lt ∙ before.rest at d (omega arith)))
+  ];
+  rest = λ q d from. get_or-set_other out at q v d (omega arith) ∙ before.rest q d (omega arith);
+}
 
--- the cells from a place on
-pub rest_of : {A : Type 0} (cells : List A) (at : ℕ) → take (length cells - at) (drop at cells) ≡ drop at cells
-rest_of cells at = take_all (length cells - at) (drop at cells) (omega (arith, length-drop at cells))
+pub fold_taken : {A B : Type 0} (f : A → B → A) (best : A) (xs : List B) (j : ℕ) (d : B) → j < length xs → fold f best (take (j + 1) xs) ≡ f (fold f best (take j xs)) (get_or xs j d)
+fold_taken f best xs j d lt = ap (fold f best) (take_more xs j d lt) ∙ fold-append f best (take j xs) (get_or xs j d ∷ [])
 
--- what runs give further on in the cells
-pub sized_further : {A : Type 0} (f : A → A → A) (cells : List A) (d : A) (e : Extent) (wide size at x : ℕ) (best : A) (runs : List Run)
-    → fold (sized size (two_parts f (drop at cells) d e wide size x)) best runs ≡ fold (sized size (two_parts f cells d e wide size (at + x))) best runs
-sized_further {A = A} f cells d e wide size at x best runs =
-    fold_same (sized size (two_parts f (drop at cells) d e wide size x)) (sized size (two_parts f cells d e wide size (at + x)))
-    (λ b r. ap (λ (t : _). if nat_le size r.count && nat_lt r.count (2 * size) then t else b) (two_further b r)) best runs
+-- one place more is merged into a sample
+pub merged_one : {A : Type 0} (f : A → A → A) (cells : List A) (d : A) (q j place : ℕ) (places : List ℕ) (best found made s : A) → j < length places → place ≡ get_or places j 0 → place + q < length cells → found ≡ fold (merge_from f cells d q) best (take j places)
+    → s ≡ get_or cells (place + q) s → made ≡ f found s → made ≡ fold (merge_from f cells d q) best (take (j + 1) places)
+merged_one f cells d q j place places best found made s lt place-is room found-is s-is made-is =
+    made-is
+    ∙ ap (λ (t : _). f t s) found-is
+    ∙ ap (f (fold (merge_from f cells d q) best (take j places))) (s-is ∙ get_or_default cells (place + q) s d room ∙ ap (λ (t : ℕ). get_or cells (t + q) d) place-is)
+    ∙ sym (fold_taken (merge_from f cells d q) best places j 0 lt)
+
+-- one place more is merged into a block
+pub merged_more : {A : Type 0} (f : A → A → A) (cells : List A) (d : A) (at q j place : ℕ) (places : List ℕ) (best found made : A) → j < length places → place ≡ get_or places j 0 → found ≡ fold (merge_from f cells d (at + q)) best (take j places)
+    → made ≡ f found (get_or cells (place + at + q) d) → made ≡ fold (merge_from f cells d (at + q)) best (take (j + 1) places)
+merged_more f cells d at q j place places best found made lt place-is found-is made-is =
+    made-is
+    ∙ ap (λ (t : _). f t (get_or cells (place + at + q) d)) found-is
+    ∙ ap (λ (t : ℕ). f (fold (merge_from f cells d (at + q)) best (take j places)) (get_or cells t d)) (let on : place + at + q ≡ place + (at + q) = omega arith in on)
+    ∙ ap (λ (t : ℕ). f (fold (merge_from f cells d (at + q)) best (take j places)) (get_or cells (t + (at + q)) d)) place-is
+    ∙ sym (fold_taken (merge_from f cells d (at + q)) best places j 0 lt)
+
+-- the first samples of a block
+pub block_first : {A : Type 0} (block best : List A) (q : ℕ) (d : A) → best ≡ take (0 + 64 - 0) (drop 0 block) → q < 64 → get_or best q d ≡ get_or block q d
+block_first block best q d is lt =
+    let count : 0 + 64 - 0 ≡ 64 = omega arith in
+    ap (λ (t : List _). get_or t q d) is ∙ get_or-take (0 + 64 - 0) (drop 0 block) q d (omega arith) ∙ get_or-drop 0 block q d ∙ ap (λ (t : ℕ). get_or block t d) (let none : 0 + q ≡ q = omega arith in none)
+
+-- a run too short or too long for the size has no places
+pub places_below : (e : Extent) (wide size : ℕ) (r : Run) → r.count < size → places_of e wide size r ≡ []
+places_below e wide size r lt = rw (lt-leb size r.count lt) refl
+
+pub places_above : (e : Extent) (wide size : ℕ) (r : Run) → size ≤ r.count → 2 * size ≤ r.count → places_of e wide size r ≡ []
+places_above e wide size r from above = rw (le-leb size r.count from, le-ltb r.count (2 * size) above) refl
+
+pub places_one : (e : Extent) (wide size : ℕ) (r : Run) → size ≤ r.count → r.count < 2 * size → r.count ≤ size → places_of e wide size r ≡ start_of e wide r ∷ []
+places_one e wide size r from to short = rw (le-leb size r.count from, lt-ltb r.count (2 * size) to, le-ltb size r.count short) refl
+
+pub places_two : (e : Extent) (wide size : ℕ) (r : Run) → size ≤ r.count → r.count < 2 * size → size < r.count → places_of e wide size r ≡ start_of e wide r ∷ ((start_of e wide r + (r.count - size)) ∷ [])
+places_two e wide size r from to long = rw (le-leb size r.count from, lt-ltb r.count (2 * size) to, lt-ltb size r.count long) refl
+
+pub two_added : (old mid new : List ℕ) (p q : ℕ) → mid ≡ old ++ p ∷ [] → new ≡ mid ++ q ∷ [] → new ≡ old ++ p ∷ (q ∷ [])
+two_added old mid new p q mid-is new-is = new-is ∙ ap (λ (t : List ℕ). t ++ q ∷ []) mid-is ∙ append_assoc old (p ∷ []) (q ∷ [])
+
+no_more : (ps : List ℕ) → ps ++ [] ≡ ps
+no_more [] = refl
+no_more (p ∷ ps) = ap (λ (t : List ℕ). p ∷ t) (no_more ps)
+
+pub none_added : (old none : List ℕ) → none ≡ [] → old ≡ old ++ none
+none_added old none is = sym (no_more old) ∙ ap (λ (t : List ℕ). old ++ t) (sym is)
+
+-- the places of one run more
+pub more_places : (e : Extent) (wide size : ℕ) (runs : List Run) (i : ℕ) (r : Run) (old new : List ℕ) → i < length runs → r ≡ get_or runs i r → new ≡ old ++ places_of e wide size r → old ≡ flat_map (places_of e wide size) (take i runs)
+    → new ≡ flat_map (places_of e wide size) (take (i + 1) runs)
+more_places e wide size runs i r old new lt is new-is old-is =
+    new-is
+    ∙ ap (λ (t : List ℕ). t ++ places_of e wide size r) old-is
+    ∙ ap (λ (t : List ℕ). flat_map (places_of e wide size) (take i runs) ++ t) (sym (no_more (places_of e wide size r)) ∙ sym (flat_map-cons (places_of e wide size) r []))
+    ∙ sym (flat_map-append (places_of e wide size) (take i runs) (r ∷ []))
+    ∙ ap (λ (t : Run). flat_map (places_of e wide size) (take i runs ++ t ∷ [])) is
+    ∙ ap (flat_map (places_of e wide size)) (sym (take_more runs i r lt))
+
+-- a run's first and last samples, where they are not the same
+two_merged : {A : Type 0} (f : A → A → A) → IsExtremum f → (cells : List A) (d : A) (q x y : ℕ) (best : A) (b : Bool) → (b ≡ false → y ≡ x)
+    → fold (merge_from f cells d q) best (x ∷ (if b then y ∷ [] else [])) ≡ merge_from f cells d q (merge_from f cells d q best x) y
+two_merged f laws cells d q x y best true same = refl
+two_merged f laws cells d q x y best false same =
+    sym (merged_again f laws best (get_or cells (x + q) d)) ∙ ap (λ (t : ℕ). merge_from f cells d q (merge_from f cells d q best x) t) (sym (same refl))
+
+no_second : (start size count : ℕ) → nat_lt size count ≡ false → start + (count - size) ≡ start
+no_second start size count is = let short = ltb-false size count is in omega arith
+
+-- merging at the places of runs is merging their two parts
+pub places_are_parts : {A : Type 0} (f : A → A → A) → IsExtremum f → (cells : List A) (d : A) (e : Extent) (wide size q : ℕ) (best : A) (runs : List Run)
+    → fold (merge_from f cells d q) best (flat_map (places_of e wide size) runs) ≡ fold (sized size (two_parts f cells d e wide size q)) best runs
+places_are_parts f laws cells d e wide size q best [] = refl
+places_are_parts f laws cells d e wide size q best (r ∷ rs) =
+    ap (fold (merge_from f cells d q) best) (flat_map-cons (places_of e wide size) r rs)
+    ∙ fold-append (merge_from f cells d q) best (places_of e wide size r) (flat_map (places_of e wide size) rs)
+    ∙ ap (λ (t : _). fold (merge_from f cells d q) t (flat_map (places_of e wide size) rs)) (either (nat_le size r.count && nat_lt r.count (2 * size)))
+    ∙ places_are_parts f laws cells d e wide size q (sized size (two_parts f cells d e wide size q) best r) rs
   where
-    further : (n : ℕ) → get_or (drop at cells) (n + x) d ≡ get_or cells (n + (at + x)) d
-    further n = get_or-drop at cells (n + x) d ∙ ap (λ (t : ℕ). get_or cells t d) (let e : at + (n + x) ≡ n + (at + x) = omega arith in e)
+    either : (b : Bool) → fold (merge_from f cells d q) best (if b then start_of e wide r ∷ (if nat_lt size r.count then (start_of e wide r + (r.count - size)) ∷ [] else []) else [])
+        ≡ (if b then two_parts f cells d e wide size q best r else best)
+    either true = two_merged f laws cells d q (start_of e wide r) (start_of e wide r + (r.count - size)) best (nat_lt size r.count) (no_second (start_of e wide r) size r.count)
+    either false = refl
 
-    two_further : (b : A) (r : Run) → two_parts f (drop at cells) d e wide size x b r ≡ two_parts f cells d e wide size (at + x) b r
-    two_further b r =
-        ap (λ (t : _). f (f b t) (get_or (drop at cells) (start_of e wide r + (r.count - size) + x) d)) (further (start_of e wide r))
-        ∙ ap (f (f b (get_or cells (start_of e wide r + (at + x)) d))) (further (start_of e wide r + (r.count - size)))
+all_append : {B : Type 0} (P : B → Type 0) (xs ys : List B) → AllByRecursion P xs → AllByRecursion P ys → AllByRecursion P (xs ++ ys)
+all_append P [] ys all more = more
+all_append P (x ∷ xs) ys all more = (all.0, all_append P xs ys all.1 more)
 
--- where there is room for all samples, there is room for a part of them
-pub room_for_part : (e : Extent) (wide out cells at part rest : ℕ) (runs : List Run) → at + part ≤ out → rest + at ≡ cells → AllByRecursion (HasRoom e wide out cells) runs → AllByRecursion (HasRoom e wide part rest) runs
-room_for_part e wide out cells at part rest runs le rest-is all =
-    all_weaker (HasRoom e wide out cells) (HasRoom e wide part rest) runs (λ r has. record { inside = has.inside; room = let fits = has.room in omega arith }) all
+-- at each place there is room for all samples
+pub all_places : (e : Extent) (wide size n m : ℕ) (runs : List Run) → 0 < size → AllByRecursion (HasRoom e wide n m) runs → AllByRecursion (λ (p : ℕ). p + n ≤ m) (flat_map (places_of e wide size) runs)
+all_places e wide size n m [] some all = tt
+all_places e wide size n m (r ∷ rs) some all =
+    let fits = all.0.room in
+    rw (flat_map-cons (places_of e wide size) r rs)
+    (all_append (λ (p : ℕ). p + n ≤ m) (places_of e wide size r) (flat_map (places_of e wide size) rs)
+    (either (λ (p : ℕ). p + n ≤ m) (start_of e wide r) (start_of e wide r + (r.count - size)) (nat_le size r.count && nat_lt r.count (2 * size)) (nat_lt size r.count) (omega arith) (omega arith)) (all_places e wide size n m rs some all.1))
+  where
+    either : (P : ℕ → Type 0) (x y : ℕ) (b c : Bool) → P x → P y → AllByRecursion P (if b then x ∷ (if c then y ∷ [] else []) else [])
+    either P x y true true here there = (here, (there, tt))
+    either P x y true false here there = (here, tt)
+    either P x y false c here there = tt

@@ -31,10 +31,3 @@ merged_again f laws a b = laws.associates a b b ∙ ap (f a) (laws.is_idempotent
 pub one_less : (k w : ℕ) → 0 < k → (k - 1) * w + w ≡ k * w
 one_less zero w positive = absurd (omega arith)
 one_less (suc k) w positive = let e : suc k - 1 ≡ k = omega arith in rw e (omega arith)
-
--- the rows of a tile, laid out, take no more places than the rows around it
-pub laid_fits : (width height columns rows out cells : ℕ) → 0 < height → out ≡ (height - 1) * (width + columns) + width → cells ≡ (height + rows) * (width + columns) → out ≤ cells
-laid_fits width height columns rows out cells some out-is cells-is =
-    let wide = width + columns in
-    let le : height ≤ height + rows = omega arith in
-    omega (arith, one_less height wide some, mul-le-mul_left wide le)

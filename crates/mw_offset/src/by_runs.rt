@@ -1,94 +1,91 @@
 //! The extremum over horizontal runs. The window is spread over rows of one length, which are doubled: a row merged with
 //! itself, shifted by 1, 2, 4 .. places. A run of k samples is then its first 2^j and its last 2^j samples, so that it
-//! takes two merges; and since all rows are equally long, a merge takes as many rows of the tile at once as one likes: so
-//! many that they and the rows under the element stay in the nearest cache. Measured on 4096 by 4096 bytes in tiles of
-//! 512: 32 ms under a disc of 15 places across, 53 ms under one of 31.
-ghost use Rattle.std.specs.Prelude.{◌≡◌, ℕ, ◌+◌, ◌-◌, ◌*◌, ◌/◌, ◌<◌, ◌≤◌, ◌^◌, ℤ, pos, negsuc, ◌+ℤ◌, ◌-ℤ◌, ◌≤ℤ◌, length, fold, flat_map, replicate, slice_index_or, vec_len, IfOk};
+//! takes two merges; and since all rows are equally long, a merge takes any samples of the tile at once: the parts of all
+//! runs of one size are merged into one block of samples after another.
+ghost use Rattle.std.specs.Prelude.{◌≡◌, ℕ, ◌+◌, ◌-◌, ◌*◌, ◌/◌, ◌<◌, ◌≤◌, ◌^◌, ℤ, pos, negsuc, ◌+ℤ◌, ◌-ℤ◌, ◌≤ℤ◌, length, fold, flat_map, replicate, slice_index_or, vec_len, ◌++◌, IfOk, OnOk};
 ghost use Rattle.std.specs.List.{AllByRecursion};
 ghost use Rattle.mw_model.specs.Places.{nonnegative};
 ghost use Rattle.mw_model.specs.Rasters.{seen_under};
 ghost use Rattle.mw_model.specs.Windows.{seen_at};
 ghost use Rattle.mw_line.specs.Extrema.{strided};
 ghost use Rattle.mw_offset.specs.declared.runs.Run.{Run};
+ghost use Rattle.mw_offset.specs.Places.{places_of};
 ghost use Rattle.mw_offset.specs.Runs.{run_offsets, start_of, IsInside, HasRoom, sized, two_parts, gather};
 
 use crate::layout::{columns_after, first_column, first_row, rows_after, start_of_run};
+use crate::places::combine_places;
 use crate::runs::{Extent, Run};
 use crate::spread::{narrowed, spread};
-use mw_lane::{combine_ahead, combine_rows};
+use mw_lane::combine_ahead;
 use mw_line::filled;
 use mw_model::{NoMemory, Rect};
 use mw_pixel::{Extremum, Pixel};
 use mw_tile::Window;
 use std::alloc::Global;
 
-/// Merges the samples from two places on into the row.
-fn combine_two<P: Pixel, E: Extremum<P>>(cells: &[P], start: usize, extra: usize, out: &mut [P])
-    requires { start + extra + length out.old ≤ length cells.now }
-    ensures { (q : ℕ) (d : P) → q < length out.old → slice_index_or out.new q d ≡ E.merge (E.merge (slice_index_or out.old q d) (slice_index_or cells.now (start + q) d)) (slice_index_or cells.now (start + extra + q) d) }
+/// Adds the places of the parts of `size` samples that make up a run, if it has `size` to `2 * size - 1` samples.
+fn push_places(
+    places: &mut Vec<usize>,
+    run: Run,
+    extent: Extent,
+    wide: usize,
+    size: usize,
+) -> Result<(), NoMemory>
+    requires inside { IsInside extent run }
+    requires fits { start_of extent wide run + run.count < 2 ^ 64 }
+    requires few { size ≤ 2 ^ 40 }
+    ensures { OnOk result (places.new.items ≡ places.old.items ++ places_of extent wide size run) }
 {
-    let count = out.len();
-    combine_rows::<P, E>(out, &cells[start..start + count]);
-    if extra > 0 {
-        combine_rows::<P, E>(out, &cells[start + extra..start + extra + count]);
+    let count = run.count as usize;
+    let start = start_of_run(run, extent, wide);
+    if count < size || count >= 2 * size {
+        return Ok(());
     }
+    places.push(start)?;
+    if count > size {
+        places.push(start + (count - size))?;
+    }
+    Ok(())
+}
+
+/// The places of the parts of the runs of `size` to `2 * size - 1` samples.
+fn places_of_size(
+    alloc: Global,
+    runs: &[Run],
+    extent: Extent,
+    wide: usize,
+    size: usize,
+) -> Result<Vec<usize>, NoMemory>
+    requires room { (count : ℕ) × (cells : ℕ) × (0 < count) × (cells < 2 ^ 64) × AllByRecursion (HasRoom extent wide count cells) runs.now }
+    requires few { size ≤ 2 ^ 40 }
+    ensures { IfOk result (λ v. v.items ≡ flat_map (places_of extent wide size) runs.now) }
+{
+    let mut places = Vec::new(alloc);
+    for i in 0..runs.len() {
+        push_places(&mut places, runs[i], extent, wide, size)?;
+    }
+    Ok(places)
 }
 
 /// Merges the runs of `size` to `2 * size - 1` samples, where each cell is the extremum of `size` samples.
 fn combine_sized<P: Pixel, E: Extremum<P>>(
+    alloc: Global,
     runs: &[Run],
     extent: Extent,
     wide: usize,
     size: usize,
     cells: &[P],
     out: &mut [P],
-)
+) -> Result<(), NoMemory>
     requires room { AllByRecursion (HasRoom extent wide (length out.old) (length cells.now)) runs.now }
+    requires wanted { 0 < length out.old }
     requires some { 0 < size }
     requires few { size ≤ 2 ^ 40 }
-    ensures { (q : ℕ) (d : P) → q < length out.old → slice_index_or out.new q d ≡ fold (sized size (two_parts E.merge cells.now d extent wide size q)) (slice_index_or out.old q d) runs.now }
+    ensures { OnOk result ((q : ℕ) (d : P) → q < length out.old → slice_index_or out.new q d ≡ fold (sized size (two_parts E.merge cells.now d extent wide size q)) (slice_index_or out.old q d) runs.now) }
 {
-    for i in 0..runs.len() {
-        let run = runs[i];
-        let count = run.count as usize;
-        if size <= count && count < 2 * size {
-            let start = start_of_run(run, extent, wide);
-            combine_two::<P, E>(cells, start, count - size, out);
-        }
-    }
-}
-
-/// How many samples are merged at once.
-const PART: usize = 2048;
-
-/// Merges the runs of `size` to `2 * size - 1` samples, one part of the row after another.
-fn combine_parts<P: Pixel, E: Extremum<P>>(
-    runs: &[Run],
-    extent: Extent,
-    wide: usize,
-    size: usize,
-    cells: &[P],
-    out: &mut [P],
-)
-    requires room { AllByRecursion (HasRoom extent wide (length out.old) (length cells.now)) runs.now }
-    requires fits { length out.old ≤ length cells.now }
-    requires some { 0 < size }
-    requires few { size ≤ 2 ^ 40 }
-    ensures { (q : ℕ) (d : P) → q < length out.old → slice_index_or out.new q d ≡ fold (sized size (two_parts E.merge cells.now d extent wide size q)) (slice_index_or out.old q d) runs.now }
-{
-    let mut at = 0usize;
-    'parts: while at < out.len() {
-        let count = PART.min(out.len() - at);
-        combine_sized::<P, E>(
-            runs,
-            extent,
-            wide,
-            size,
-            &cells[at..],
-            &mut out[at..at + count],
-        );
-        at += count;
-    }
+    let places = places_of_size(alloc, runs, extent, wide, size)?;
+    combine_places::<P, E>(cells, places.as_slice(), out);
+    Ok(())
 }
 
 /// The longest run's length.
@@ -105,25 +102,27 @@ fn longest_of(runs: &[Run]) -> usize
 
 /// Merges each run into the row, and doubles the cells.
 fn combine_runs<P: Pixel, E: Extremum<P>>(
+    alloc: Global,
     runs: &[Run],
     extent: Extent,
     wide: usize,
     cells: &mut [P],
     out: &mut [P],
-)
+) -> Result<(), NoMemory>
     requires room { AllByRecursion (HasRoom extent wide (length out.old) (length cells.old)) runs.now }
-    requires fits { length out.old ≤ length cells.old }
-    ensures { (n : P) → out.old ≡ replicate (length out.old) n → (q : ℕ) → q < length out.old → slice_index_or out.new q n ≡ gather E.merge n (λ r. strided E.merge cells.old n 1 (r.count - 1) (start_of extent wide r + q)) runs.now }
+    requires wanted { 0 < length out.old }
+    ensures { OnOk result ((n : P) → out.old ≡ replicate (length out.old) n → (q : ℕ) → q < length out.old → slice_index_or out.new q n ≡ gather E.merge n (λ r. strided E.merge cells.old n 1 (r.count - 1) (start_of extent wide r + q)) runs.now) }
 {
     let longest = longest_of(runs);
     let mut size = 1usize;
-    combine_parts::<P, E>(runs, extent, wide, size, cells, out);
+    combine_sized::<P, E>(alloc, runs, extent, wide, size, cells, out)?;
     'sizes: while size <= longest / 2 && size <= cells.len() / 2 {
         let left = cells.len() - 2 * size + 1;
         combine_ahead::<P, E>(cells, size, left);
         size *= 2;
-        combine_parts::<P, E>(runs, extent, wide, size, cells, out);
+        combine_sized::<P, E>(alloc, runs, extent, wide, size, cells, out)?;
     }
+    Ok(())
 }
 
 /// The extremum of the neutral sample and what the window has under the runs, at each place of the tile.
@@ -151,7 +150,14 @@ pub(crate) fn extremum_by_runs<P: Pixel, E: Extremum<P>>(
     let row = first_row(tile, extent, place);
     let mut cells = spread::<P, E>(alloc, window, column, row, wide, high, neutral)?;
     let mut out = filled(alloc, (height - 1) * wide + width, neutral)?;
-    combine_runs::<P, E>(runs, extent, wide, cells.as_mut_slice(), out.as_mut_slice());
+    combine_runs::<P, E>(
+        alloc,
+        runs,
+        extent,
+        wide,
+        cells.as_mut_slice(),
+        out.as_mut_slice(),
+    )?;
     let samples = narrowed(alloc, out.as_slice(), wide, width, height)?;
     Ok(samples)
 }

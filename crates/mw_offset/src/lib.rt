@@ -11,6 +11,7 @@
 mod by_runs;
 mod layout;
 mod offsets;
+mod places;
 mod runs;
 mod spread;
 

@@ -20,13 +20,13 @@ sizes-init g c =
     record {
       small = omega arith;
       doubled = doubled;
-      out_size = c.combine_parts.auto.out;
+      out_size = c.combine_sized.auto.out;
       done = λ n blank q lt.
           let value = λ (r : Run). strided f cells n 1 (r.count - 1) (start_of c.args.extent c.args.wide r + q) in
           let some : AllByRecursion (λ (r : Run). 0 < r.count) runs = all_weaker (HasRoom c.args.extent c.args.wide (length out) (length cells)) (λ (r : Run). 0 < r.count) runs (λ r room. room.inside.run.some) c.requires.room in
           let base : get_or out q n ≡ gather_below f n value 1 runs =
           ap (λ (t : List g.row.P.Denot). get_or t q n) blank ∙ get_or-replicate_same (length out) q n ∙ sym (none_below_one f n value runs some) in
-          c.combine_parts.ensures q n lt
+          c.in_ok-combine_sized.ensures q n lt
           ∙ fold_parts f laws cells cells 1 doubled n c.args.extent c.args.wide (length out) q lt (get_or out q n) runs c.requires.room
           ∙ ap (λ (t : g.row.P.Denot). fold (sized 1 (one_run f value)) t runs) base
           ∙ gather_more f laws n value 1 runs;
@@ -48,10 +48,10 @@ sizes-preserved g c =
     record {
       small = omega arith;
       doubled = doubled;
-      out_size = c.combine_parts-in-sizes.auto.out ∙ c.sizes.invariant.out_size;
+      out_size = c.combine_sized-in-sizes.auto.out ∙ c.sizes.invariant.out_size;
       done = λ n blank q lt.
           let value = λ (r : Run). strided f cells n 1 (r.count - 1) (start_of c.args.extent c.args.wide r + q) in
-          c.combine_parts-in-sizes.ensures q n (omega (arith, c.sizes.invariant.out_size))
+          c.in_ok-combine_sized-2.ensures q n (omega (arith, c.sizes.invariant.out_size))
           ∙ fold_parts f laws cells made (s * 2) doubled n c.args.extent c.args.wide (length out) q lt (get_or c.sizes.out q n) runs c.requires.room
           ∙ ap (λ (t : g.row.P.Denot). fold (sized (s * 2) (one_run f value)) t runs) (c.sizes.invariant.done n blank q lt ∙ ap (λ (t : ℕ). gather_below f n value t runs) twice)
           ∙ gather_more f laws n value (s * 2) runs;

@@ -4,7 +4,7 @@ use Rattle.std.proofs.lemmas.List.{length-replicate}
 use Rattle.mw_model.specs.declared.places.Rect.{Rect}
 use Rattle.mw_line.proofs.Folds.{IsExtremum}
 use Rattle.mw_line.proofs.Rows.{written}
-use Rattle.mw_offset.proofs.Rooms.{row_fits, laid_fits}
+use Rattle.mw_offset.proofs.Rooms.{row_fits}
 use Rattle.mw_offset.proofs.Seens.{IsLaid, all_room, gather_seen}
 use Rattle.mw_offset.proofs.by_runs.extremum_by_runs.Goals as goal
 
@@ -20,13 +20,6 @@ combine_runs-requires-clause-room g c =
     (ap (λ (t : ℕ). tile.width + t) across) (ap (λ (t : ℕ). tile.height + t) down)
     (ap length (c.as_mut_slice-2.ensures.value ∙ c.in_ok-out.ensures) ∙ length-replicate ((tile.height - 1) * wide + tile.width) c.args.neutral)
     (omega (arith, c.in_ok-cells.ensures.size)) c.requires.inside
-
-pub combine_runs-requires-clause-fits : goal.combine_runs-requires-clause-fits
-combine_runs-requires-clause-fits g c =
-    let tile = c.args.tile in
-    let wide = tile.width + c.columns_after.result in
-    let out : length c.as_mut_slice-2.result.now ≡ (tile.height - 1) * wide + tile.width = ap length (c.as_mut_slice-2.ensures.value ∙ c.in_ok-out.ensures) ∙ length-replicate ((tile.height - 1) * wide + tile.width) c.args.neutral in
-    laid_fits tile.width tile.height c.columns_after.result c.rows_after.result (length c.as_mut_slice-2.result.now) (length c.as_mut_slice.result.now) c.requires.some.1 out (omega (arith, c.in_ok-cells.ensures.size))
 
 pub returns-clause-cells : goal.returns-clause-cells
 returns-clause-cells g c =
@@ -66,5 +59,5 @@ returns-clause-cells g c =
     let fits = row_fits y tile.height wide tile.width count row_less (omega arith) in
     c.in_ok-samples.ensures.cells x y n less row_less
     ∙ ap (λ (t : List g.row.P.Denot). get_or t (y * wide + x) n) (c.as_slice.ensures.value ∙ written c.in_ok-out.out.items out c.in_ok-out.out.len whole)
-    ∙ c.combine_runs.ensures n blank (y * wide + x) (omega (arith, fits, old_size))
+    ∙ c.in_ok-combine_runs.ensures n blank (y * wide + x) (omega (arith, fits, old_size))
     ∙ gather_seen f laws n w tile e wide high column row cells laid c.args.runs.now c.requires.inside x y less row_less

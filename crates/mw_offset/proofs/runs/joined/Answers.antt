@@ -1,4 +1,4 @@
-use Rattle.std.proofs.Common.{◌≡◌, ℤ, to_z, of_z, w32, arith}
+use Rattle.std.proofs.Common.{◌≡◌, to_z, of_z, w32, arith}
 use Rattle.std.proofs.lemmas.Int.{ints}
 use Rattle.mw_offset.proofs.runs.joined.Goals as goal
 

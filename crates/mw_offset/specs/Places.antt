@@ -1,0 +1,14 @@
+-- Places of a row of samples, laid out around a tile, at which runs are looked up.
+use Rattle.std.specs.Prelude.{ℕ, ◌+◌, ◌-◌, ◌*◌, ◌&&◌, nat_le, nat_lt, if◌then◌else◌, slice_index_or, List, [], ◌∷◌}
+use Rattle.mw_offset.specs.declared.runs.Run.{Run}
+use Rattle.mw_offset.specs.declared.runs.Extent.{Extent}
+use Rattle.mw_offset.specs.Runs.{start_of}
+
+-- a sample merged with the one that stands q places after p
+abbrev pub merge_from : {A : Type 0} → (A → A → A) → List A → A → ℕ → A → ℕ → A
+merge_from merge cells d q best p = merge best (slice_index_or cells (p + q) d)
+
+-- where the parts of `size` offsets begin that make up a run, if it has `size` to `2 * size - 1` offsets
+abbrev pub places_of : Extent → ℕ → ℕ → Run → List ℕ
+places_of e wide size r =
+    if nat_le size r.count && nat_lt r.count (2 * size) then start_of e wide r ∷ (if nat_lt size r.count then (start_of e wide r + (r.count - size)) ∷ [] else []) else []
