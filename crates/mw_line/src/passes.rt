@@ -57,6 +57,7 @@ pub(crate) fn slide<P: Copy, C: Counted<P>>(
     requires room { C.count counter.old + (3 * length out.old + k) < 2 ^ 64 }
     ensures value { (i : ℕ) → i < length out.old → slice_index_or out.new i neutral ≡ fold C.merge neutral (slice_range padded.now i (i + k)) }
     ensures cost { C.count counter.new ≤ C.count counter.old + (3 * length out.old + k) }
+    ensures counted { C.count counter.old + 3 * length out.old ≤ C.count counter.new }
 {
     let mut at = 0usize;
     'chunks: while at < out.len() {

@@ -15,7 +15,8 @@ use std::alloc::Global;
 use std::marker::PhantomData;
 
 /// At each place i the extremum of the neutral sample and the samples at the places i + a to i + b that exist, in at most
-/// 3n + 4k combines for n samples and windows of k places. After an error `out` and `steps` are as before.
+/// 3n + 4k combines for n samples and windows of k places; at least 3n of them are counted. After an error `out` and
+/// `steps` are as before.
 pub fn line<P: Pixel, E: Extremum<P>>(
     alloc: Global,
     src: &[P],
@@ -30,6 +31,7 @@ pub fn line<P: Pixel, E: Extremum<P>>(
     requires room { steps.old.count + (3 * length src.now + 4 * span a b) < 2 ^ 64 }
     ensures value { OnOk result ((i : ℕ) → i < length src.now → slice_index_or out.new i neutral ≡ line_at E.merge neutral src.now a b i) }
     ensures cost { OnOk result (steps.new.count ≤ steps.old.count + (3 * length src.now + 4 * span a b)) }
+    ensures counted { OnOk result (steps.old.count + 3 * length src.now ≤ steps.new.count) }
     ensures err { OnErr result ((out.new ≡ out.old) × (steps.new ≡ steps.old)) }
 {
     let k = places(a, b);

@@ -24,11 +24,13 @@ chunks-preserved g c =
     let going = c.chunks.invariant.going c.chunks-test.true in
     let written : length c.forward.new.out ≡ m = omega (arith, c.forward.auto.out, length-take (at + m - at) (drop at c.chunks.out), length-drop at c.chunks.out) in
     let same : length (put_mid at (at + m - at) c.chunks.out c.forward.new.out) ≡ length c.chunks.out = length-put_mid at (at + m - at) c.chunks.out c.forward.new.out (omega arith) (omega arith) in
+    let so_far = c.chunks.invariant.counted in
     let steps : g.C.Counted.count c.forward.new.counter ≤ g.C.Counted.count c.args.counter.now + (3 * at + (k + 2 * m)) = omega (arith, counted_back, counted_on, going, length-take (at + k - at) (drop at padded), length-drop at padded, length-take (at + m - at) (drop at c.chunks.out), length-drop at c.chunks.out) in
     record {
       within = omega arith;
       going = λ lt. let whole = full (omega arith) in omega arith;
       cost = omega arith;
+      counted = omega (arith, counted_back, counted_on, so_far, length-take (at + k - at) (drop at padded), length-drop at padded, length-take (at + m - at) (drop at c.chunks.out), length-drop at c.chunks.out);
       done = λ i lt. elim (cases_lt i at) [
         | inl before ↦ put_mid_below at (at + m - at) c.chunks.out c.forward.new.out i n (omega arith) before ∙ c.chunks.invariant.done i before
         | inr from ↦ put_mid_at at (at + m - at) c.chunks.out c.forward.new.out i n (omega arith) from (omega arith)
