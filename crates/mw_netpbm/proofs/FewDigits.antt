@@ -19,8 +19,7 @@ pub sample_of_three : (left first a b c n k : ℕ) (bytes more rest : List ℕ) 
     → IsSample left bytes n rest
 sample_of_three left first a b c n k bytes more rest parts w is le rest-is tail =
     let past : 1 + k ≡ suc k = omega arith in
-    let after : drop k (a ∷ b ∷ c ∷ more) ≡ rest = sym (rest-is ∙ ap (λ (bs : List ℕ). drop (1 + k) bs) parts ∙ ap (λ i. drop i (first ∷ a ∷ b ∷ c ∷ more)) past) in
-    (
+    let after : drop k (a ∷ b ∷ c ∷ more) ≡ rest = sym (rest-is ∙ ap (λ (bs : List ℕ). drop (1 + k) bs) parts ∙ ap (λ i. drop i (first ∷ a ∷ b ∷ c ∷ more)) past) in (
       first ∷ [],
       take k (a ∷ b ∷ c ∷ []),
       parts ∙ ap (λ (bs : List ℕ). first ∷ bs) (joined k a b c more le ∙ ap (λ (bs : List ℕ). take k (a ∷ b ∷ c ∷ []) ++ bs) after),

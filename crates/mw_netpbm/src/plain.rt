@@ -157,7 +157,7 @@ fn fill<P: Pixel>(
 
 /// What the places hold: a pass that checks without memory, and one that fills.
 #[tactic(auto, using(crate::proofs::Faults::Fails_fault))]
-#[inline(always)]
+#[inline(never)]
 pub(crate) fn samples<P: Pixel>(
     alloc: Global,
     places: Places,

@@ -15,13 +15,23 @@ fn is_digit(b: u8) -> bool
     b >= b'0' && b <= b'9'
 }
 
+/// What a digit counts. Any other byte counts something too, so that nothing branches.
+#[inline(always)]
+fn digit(b: u8) -> u16
+    ensures value { IsTrue (is_digit b) → result ≡ b - 48 }
+    ensures small { result ≤ 255 }
+{
+    u16::from(b.wrapping_sub(b'0'))
+}
+
 /// The number with another digit, where there is one.
 #[inline(always)]
 fn with_digit(n: u16, b: u8, is_more: bool) -> u16
-    requires { n ≤ 5000 }
+    requires small { n ≤ 5000 }
+    requires digit { IsTrue is_more → IsTrue (is_digit b) }
     ensures { result ≡ if is_more then 10 * n + (b - 48) else n }
 {
-    let more = 10 * n + u16::from(b.saturating_sub(b'0'));
+    let more = 10 * n + digit(b);
     if is_more { more } else { n }
 }
 
@@ -34,7 +44,7 @@ fn short_number(a: u8, b: u8, c: u8) -> (u16, usize)
 {
     let has_two = is_digit(b);
     let has_three = has_two & is_digit(c);
-    let one = u16::from(a - b'0');
+    let one = digit(a);
     let two = with_digit(one, b, has_two);
     let n = with_digit(two, c, has_three);
     (n, 1 + usize::from(has_two) + usize::from(has_three))
