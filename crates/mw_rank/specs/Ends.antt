@@ -1,9 +1,8 @@
 -- Where the samples stand that leave and enter as an element moves along a row.
-use Rattle.std.specs.Prelude.{◌≡◌, ℕ, ◌+◌, ◌*◌, ◌<◌, ◌≤◌, List, [], ◌∷◌, ◌++◌, map, length, slice_index_or}
+use Rattle.std.specs.Prelude.{◌≡◌, ℕ, ◌+◌, ◌<◌, ◌≤◌, List, [], ◌∷◌, ◌++◌, map, length, slice_index_or}
 use Rattle.std.specs.List.{flat_map}
 use Rattle.mw_model.specs.Rasters.{Sight}
 use Rattle.mw_rank.specs.Ranks.{levels_at}
-use Rattle.mw_rank.specs.declared.ends.Comb.{Comb}
 use Rattle.mw_rank.specs.declared.ends.Ends.{Ends}
 use Rattle.mw_rank.specs.declared.runs.Run.{Run}
 
@@ -39,8 +38,3 @@ pub record AddsEnds {A : Type 0} (level : A → ℕ) (d : A) (sight : Sight A) (
   pub added : List Ends
   pub is : new ≡ old ++ added
   pub are : AreEnds level d sight samples (run ∷ []) x y n added
-
--- the ends stand as far apart as the comb says
-pub record IsComb (comb : Comb) (ends : List Ends) : Type 0 where
-  pub first : (q : ℕ) (e : Ends) → q < length ends → (slice_index_or ends q e).first ≡ comb.first + q * comb.stride
-  pub next : (q : ℕ) (e : Ends) → q < length ends → (slice_index_or ends q e).next ≡ comb.first + q * comb.stride + comb.gap

@@ -2,7 +2,7 @@
 //! move of the element takes no test.
 ghost use Rattle.std.specs.Prelude.{◌≡◌, ℕ, pos, ◌+ℤ◌, ◌-ℤ◌, ◌+◌, ◌<◌, ◌≤◌, ◌^◌, List, ◌++◌, IfOk, IfSome, IsTrue};
 ghost use Rattle.mw_model.specs.Windows.{seen_at};
-ghost use Rattle.mw_rank.specs.Ends.{levels_left, levels_entered, HasEnds, AreEnds, AddsEnds, IsComb};
+ghost use Rattle.mw_rank.specs.Ends.{levels_left, levels_entered, HasEnds, AreEnds, AddsEnds};
 ghost use Rattle.mw_rank.specs.Tallies.{Tallies, Holds};
 
 use crate::histogram::Histogram;
@@ -17,15 +17,6 @@ use mw_tile::Window;
 pub(crate) struct Ends {
     pub first: usize,
     pub next: usize,
-}
-
-/// Ends that stand equally far apart, as those of a rectangle do: where the first of them stands, and how far apart the
-/// ends of a run and those of two runs are.
-#[derive(Clone, Copy)]
-pub(crate) struct Comb {
-    pub first: usize,
-    pub gap: usize,
-    pub stride: usize,
 }
 
 /// The columns of a tile at which all ends of the runs lie in columns of a window.
@@ -148,7 +139,12 @@ pub(crate) fn inner_columns(runs: &[Run], tile: Rect, place: Rect) -> Columns
 
 /// Moves the element one column on, so many columns after the one of which the ends are known.
 #[inline(always)]
-fn exchange_ends<P: Pixel>(histogram: &mut Histogram, samples: &[P], ends: &[Ends], i: usize)
+pub(crate) fn exchange_ends<P: Pixel>(
+    histogram: &mut Histogram,
+    samples: &[P],
+    ends: &[Ends],
+    i: usize,
+)
     requires inside { (n : ℕ) × (i < n) × HasEnds samples.now n ends.now }
     requires held { Holds P.top_level histogram.old (levels_left P.level P.TOP samples.now ends.now i) }
     ensures { (ns : List ℕ) → Tallies P.top_level histogram.old (levels_left P.level P.TOP samples.now ends.now i ++ ns) → Tallies P.top_level histogram.new (levels_entered P.level P.TOP samples.now ends.now i ++ ns) }
@@ -157,72 +153,5 @@ fn exchange_ends<P: Pixel>(histogram: &mut Histogram, samples: &[P], ends: &[End
         let left = samples[e.first + i].value();
         let entered = samples[e.next + i].value();
         histogram.exchange(left, entered);
-    }
-}
-
-/// The comb that the ends make, if they make one.
-pub(crate) fn comb_of(ends: &[Ends]) -> Option<Comb>
-    ensures { IfSome result (λ comb. IsComb comb ends.now) }
-{
-    if ends.len() < 2 || ends[1].first < ends[0].first || ends[0].next < ends[0].first {
-        return None;
-    }
-    let comb = Comb {
-        first: ends[0].first,
-        gap: ends[0].next - ends[0].first,
-        stride: ends[1].first - ends[0].first,
-    };
-    let mut at = comb.first;
-    for e in ends {
-        if e.first != at || e.next < at || e.next - at != comb.gap {
-            return None;
-        }
-        let Some(following) = at.checked_add(comb.stride) else {
-            return None;
-        };
-        at = following;
-    }
-    Some(comb)
-}
-
-/// What `exchange_ends` does, where the ends make a comb: without looking each of them up.
-#[inline(always)]
-fn exchange_comb<P: Pixel>(
-    histogram: &mut Histogram,
-    samples: &[P],
-    ends: &[Ends],
-    comb: Comb,
-    i: usize,
-)
-    requires inside { (n : ℕ) × (i < n) × HasEnds samples.now n ends.now }
-    requires comb { IsComb comb ends.now }
-    requires held { Holds P.top_level histogram.old (levels_left P.level P.TOP samples.now ends.now i) }
-    ensures { (ns : List ℕ) → Tallies P.top_level histogram.old (levels_left P.level P.TOP samples.now ends.now i ++ ns) → Tallies P.top_level histogram.new (levels_entered P.level P.TOP samples.now ends.now i ++ ns) }
-{
-    for q in 0..ends.len() {
-        let at = comb.first + q * comb.stride + i;
-        let left = samples[at].value();
-        let entered = samples[at + comb.gap].value();
-        histogram.exchange(left, entered);
-    }
-}
-
-/// Moves the element one column on, by the comb that its ends make, if they make one.
-#[inline(always)]
-pub(crate) fn move_on<P: Pixel>(
-    histogram: &mut Histogram,
-    samples: &[P],
-    ends: &[Ends],
-    comb: Option<Comb>,
-    i: usize,
-)
-    requires inside { (n : ℕ) × (i < n) × HasEnds samples.now n ends.now }
-    requires comb { IfSome comb (λ c. IsComb c ends.now) }
-    requires held { Holds P.top_level histogram.old (levels_left P.level P.TOP samples.now ends.now i) }
-    ensures { (ns : List ℕ) → Tallies P.top_level histogram.old (levels_left P.level P.TOP samples.now ends.now i ++ ns) → Tallies P.top_level histogram.new (levels_entered P.level P.TOP samples.now ends.now i ++ ns) }
-{
-    match comb {
-        Some(known) => exchange_comb(histogram, samples, ends, known, i),
-        None => exchange_ends(histogram, samples, ends, i),
     }
 }

@@ -12,7 +12,7 @@ ghost use Rattle.mw_rank.specs.Ranks.{levels_under, levels_at, IsRank, GainsRow,
 ghost use Rattle.mw_rank.specs.Runs.{element_of};
 ghost use Rattle.mw_rank.specs.Tallies.{Tallies, HasRoom, HasRoomFor, Holds};
 
-use crate::ends::{Columns, Ends, comb_of, inner_columns, move_on, row_ends};
+use crate::ends::{Columns, Ends, exchange_ends, inner_columns, row_ends};
 use crate::histogram::Histogram;
 use crate::runs::{Run, runs_of};
 use crate::seen::{place_of, seen_part};
@@ -194,11 +194,10 @@ fn push_inside<P: Pixel>(
     let _runs = runs;
     let _start = (x, y);
     let samples = window.samples();
-    let comb = comb_of(ends);
     for i in 0..width {
         let sample = sample_of::<P>(histogram.select(k));
         out.push(sample)?;
-        move_on(histogram, samples, ends, comb, i as usize);
+        exchange_ends(histogram, samples, ends, i as usize);
     }
     Ok(())
 }
