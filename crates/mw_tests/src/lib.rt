@@ -13,6 +13,12 @@ mod images;
 #[cfg(test)]
 mod kernels;
 #[cfg(test)]
+mod machine;
+#[cfg(test)]
+mod machine_calls;
+#[cfg(test)]
+mod machine_results;
+#[cfg(test)]
 mod plain_rows;
 #[cfg(test)]
 mod ranks;
