@@ -12,7 +12,7 @@ use Rattle.mw_model.specs.declared.calls.LogItem.TheVariants as item
 use Rattle.mw_model.specs.Refusals.{Table, outcome_at, is_pending}
 use Rattle.mw_model.specs.Machine.{Machine, with_table, killed, settled}
 use Rattle.mw_model.specs.Tasks.{Progress, task_count, flag, tasks_below, is_ready, is_running, running_tasks, remaining_tasks}
-use Rattle.mw_model.specs.Stands.{Seen, IsWork, StandsFor, progress_at, may_run, ready_count, running_count}
+use Rattle.mw_model.specs.Stands.{Seen, IsWork, StandsFor, progress_at, may_run, running_count}
 use Rattle.mw_laws.proofs.RunCascade.{is_killed}
 use Rattle.mw_laws.proofs.RunStates.{reached}
 use Rattle.mw_step.specs.WindowTasks.{WindowTask}
