@@ -1,28 +1,73 @@
 //! Images and elements from the bytes of files, and the bytes that are written of images.
 
-use crate::images::element;
-use mw_element::Offset;
-use mw_netpbm::{read, write};
+use crate::machine::Stop;
+use mw_element::{Element, ElementFault, Offset};
+use mw_netpbm::{ReadFault, read, read_owned, write};
+use mw_pixel::Image;
+use std::alloc::Global;
+use std::process::Abort;
 use std::test::Fail;
 
+/// Whether bytes are read where they lie, or handed over.
+#[derive(Clone, Copy)]
+enum Way {
+    Lent,
+    Owned,
+}
+
+fn image_in(alloc: Global, bytes: &[u8], way: Way) -> Result<Image, ReadFault> {
+    match way {
+        Way::Lent => read(alloc, bytes),
+        Way::Owned => read_owned(alloc, Vec::from_slice(alloc, bytes)?),
+    }
+}
+
 /// The text of the image that the bytes hold.
-fn rewritten(rt: &HostRuntime, bytes: &[u8]) -> Result<Vec<u8>, Fail> {
-    let image = read(rt.alloc(), bytes).ok().ok_or("the bytes are a file")?;
-    Ok(write(rt.alloc(), &image)?)
+fn text_in(alloc: Global, bytes: &[u8], way: Way) -> Result<Vec<u8>, Stop> {
+    match image_in(alloc, bytes, way) {
+        Ok(image) => Ok(write(alloc, &image)?),
+        Err(ReadFault::NoMemory) => Err(Stop::Memory),
+        Err(_) => Err(Stop::List),
+    }
+}
+
+/// The same, once more where memory was refused: so the text is the same where one allocation fails, whichever it is.
+fn text_of(alloc: Global, bytes: &[u8], way: Way) -> Result<Vec<u8>, Fail> {
+    Ok(match text_in(alloc, bytes, way) {
+        Err(Stop::Memory) => text_in(alloc, bytes, way)?,
+        first => first?,
+    })
+}
+
+/// The text of the image that the bytes hold, read either way.
+fn rewritten(rt: &impl Abort, alloc: Global, bytes: &[u8]) -> Result<Vec<u8>, Fail> {
+    let text = text_of(alloc, bytes, Way::Lent)?;
+    let owned = text_of(alloc, bytes, Way::Owned)?;
+    assert_eq!(rt; owned.as_slice(), text.as_slice());
+    Ok(text)
+}
+
+/// The element that the bytes hold, parsed once more where memory was refused.
+fn parsed(alloc: Global, bytes: &[u8], ox: u32, oy: u32) -> Result<Element, Fail> {
+    let found = match Element::parse(alloc, bytes, ox, oy) {
+        Err(ElementFault::NoMemory) => Element::parse(alloc, bytes, ox, oy),
+        first => first,
+    };
+    Ok(found.ok().ok_or("the bytes are an element")?)
 }
 
 #[test]
 fn images_are_read_and_written(rt: HostRuntime) -> Result<(), Fail> {
-    let five = rewritten(&rt, b"P2\n5 1\n9\n3 1 4 1 5\n")?;
+    let five = rewritten(&rt, rt.alloc(), b"P2\n5 1\n9\n3 1 4 1 5\n")?;
     assert_eq!(rt;
         five.as_slice(),
         b"P5\n5 1\n9\n\x03\x01\x04\x01\x05".as_slice()
     );
-    let again = rewritten(&rt, &five)?;
+    let again = rewritten(&rt, rt.alloc(), &five)?;
     assert_eq!(rt; again.as_slice(), five.as_slice());
-    let set = rewritten(&rt, b"P4\n9 1\n\xff\xff")?;
+    let set = rewritten(&rt, rt.alloc(), b"P4\n9 1\n\xff\xff")?;
     assert_eq!(rt; set.as_slice(), b"P4\n9 1\n\xff\x80".as_slice());
-    let deep = rewritten(&rt, b"P2\n2 1\n1000\n7 1000\n")?;
+    let deep = rewritten(&rt, rt.alloc(), b"P2\n2 1\n1000\n7 1000\n")?;
     assert_eq!(rt;
         deep.as_slice(),
         b"P5\n2 1\n1000\n\x00\x07\x03\xe8".as_slice()
@@ -57,16 +102,25 @@ const RAW_WORDS: &[u8] = b"P5\n66 1\n65535\n\
 
 #[test]
 fn rows_are_longer_than_a_block(rt: HostRuntime) -> Result<(), Fail> {
-    assert_eq!(rt; rewritten(&rt, PLAIN_BITS)?.as_slice(), RAW_BITS);
-    assert_eq!(rt; rewritten(&rt, RAW_BITS)?.as_slice(), RAW_BITS);
-    assert_eq!(rt; rewritten(&rt, PLAIN_WORDS)?.as_slice(), RAW_WORDS);
-    assert_eq!(rt; rewritten(&rt, RAW_WORDS)?.as_slice(), RAW_WORDS);
+    assert_eq!(rt;
+        rewritten(&rt, rt.alloc(), PLAIN_BITS)?.as_slice(),
+        RAW_BITS
+    );
+    assert_eq!(rt; rewritten(&rt, rt.alloc(), RAW_BITS)?.as_slice(), RAW_BITS);
+    assert_eq!(rt;
+        rewritten(&rt, rt.alloc(), PLAIN_WORDS)?.as_slice(),
+        RAW_WORDS
+    );
+    assert_eq!(rt;
+        rewritten(&rt, rt.alloc(), RAW_WORDS)?.as_slice(),
+        RAW_WORDS
+    );
     Ok(())
 }
 
 #[test]
 fn elements_are_read(rt: HostRuntime) -> Result<(), Fail> {
-    let corner = element(rt.alloc(), b"P1 # a corner\n2 2\n10\n11\n", 0, 1)?;
+    let corner = parsed(rt.alloc(), b"P1 # a corner\n2 2\n10\n11\n", 0, 1)?;
     let offsets = [
         Offset { dx: 0, dy: -1 },
         Offset { dx: 0, dy: 0 },
