@@ -5,9 +5,9 @@
 //! time for a sample.
 #![tactic(auto)]
 
-ghost use Rattle.std.specs.Prelude.{◌≡◌, ◌*◌, vec_len, IfOk};
+ghost use Rattle.std.specs.Prelude.{◌≡◌, ◌*◌, length, vec_len, IfOk};
 
-use mw_netpbm::{NoMemory, ReadFault, read, write};
+use mw_netpbm::{NoMemory, ReadFault, read, read_owned, write};
 use std::alloc::{AllocError, AllocFailed, Global};
 use std::rt::Clock;
 use std::time::Instant;
@@ -138,6 +138,21 @@ fn time_read<R: Clock>(rt: &R, alloc: Global, file: &[u8]) -> Result<u64, Fault>
     Ok(best)
 }
 
+/// The time for bytes that are handed over. The copies that are handed over are not counted.
+fn time_read_owned<R: Clock>(rt: &R, alloc: Global, file: &[u8]) -> Result<u64, Fault> {
+    let mut best = u64::MAX;
+    for _ in 0..ROUNDS {
+        let owned = Vec::from_slice(alloc, file)?;
+        let start = Instant::now(rt)?;
+        let image = read_owned(alloc, owned)?;
+        best = best.min(micros(rt, start)?);
+        if image.width() != 4096 {
+            return Err(Fault::File);
+        }
+    }
+    Ok(best)
+}
+
 fn time_write<R: Clock>(rt: &R, alloc: Global, file: &[u8]) -> Result<u64, Fault> {
     let image = read(alloc, file)?;
     let mut best = u64::MAX;
@@ -200,58 +215,49 @@ fn show_raw<R: Clock + Print>(
     names: (&str, &str),
     file: &[u8],
     samples: &[u8],
-) -> Result<(), Fault> {
+) -> Result<Copies, Fault> {
     let copies = show_read(rt, alloc, names.0, file, samples)?;
-    print_line(rt, names.1, time_write(rt, alloc, file)?, copies)
+    print_line(rt, names.1, time_write(rt, alloc, file)?, copies)?;
+    Ok(copies)
+}
+
+/// Raw files of these bytes: all of them as samples of two bytes, half of them as samples of one.
+fn measure_raw<R: Clock + Print>(rt: &R, alloc: Global, words: &[u8]) -> Result<(), Fault>
+    requires { length words.now ≡ 2 * 16777216 }
+{
+    let (bytes, _) = words.split_at(SAMPLES);
+    let file = raw_file(alloc, "P5\n4096 4096\n255\n", bytes)?;
+    let names = ("raw 8 bits, read", "raw 8 bits, write");
+    let copies = show_raw(rt, alloc, names, &file, bytes)?;
+    let owned = time_read_owned(rt, alloc, &file)?;
+    print_line(rt, "raw 8 bits, owned", owned, copies)?;
+    let file = raw_file(alloc, "P5\n4096 4096\n65535\n", words)?;
+    let names = ("raw 16 bits, read", "raw 16 bits, write");
+    show_raw(rt, alloc, names, &file, words)?;
+    let (packed, _) = words.split_at(SAMPLES / 8);
+    let file = raw_file(alloc, "P4\n4096 4096\n", packed)?;
+    let names = ("packed bits, read", "packed bits, write");
+    show_raw(rt, alloc, names, &file, bytes)?;
+    Ok(())
+}
+
+fn measure_plain<R: Clock + Print>(rt: &R, alloc: Global, bytes: &[u8]) -> Result<(), Fault> {
+    let file = plain_set(alloc, bytes)?;
+    show_read(rt, alloc, "plain bits, read", &file, bytes)?;
+    let file = plain_grey(alloc, bytes)?;
+    show_read(rt, alloc, "plain 8 bits, read", &file, bytes)?;
+    Ok(())
 }
 
 fn measure<R: Clock + Print>(rt: &R, alloc: Global) -> Result<(), Fault> {
     let words = noise(alloc, 2 * SAMPLES)?;
-    let (bytes, _) = words.split_at(SAMPLES);
-    let (packed, _) = words.split_at(SAMPLES / 8);
     println!(rt;
         "| {:<19} | {:>6} | {:>7} | {:>7} | {:>5} |",
         "4096 x 4096", "ms", "file", "samples", "ns"
     )?;
-    let file = raw_file(alloc, "P5\n4096 4096\n255\n", bytes)?;
-    show_raw(
-        rt,
-        alloc,
-        ("raw 8 bits, read", "raw 8 bits, write"),
-        &file,
-        bytes,
-    )?;
-    let file = raw_file(alloc, "P5\n4096 4096\n65535\n", &words)?;
-    show_raw(
-        rt,
-        alloc,
-        ("raw 16 bits, read", "raw 16 bits, write"),
-        &file,
-        &words,
-    )?;
-    let file = raw_file(alloc, "P4\n4096 4096\n", packed)?;
-    show_raw(
-        rt,
-        alloc,
-        ("packed bits, read", "packed bits, write"),
-        &file,
-        bytes,
-    )?;
-    show_read(
-        rt,
-        alloc,
-        "plain bits, read",
-        &plain_set(alloc, bytes)?,
-        bytes,
-    )?;
-    show_read(
-        rt,
-        alloc,
-        "plain 8 bits, read",
-        &plain_grey(alloc, bytes)?,
-        bytes,
-    )?;
-    Ok(())
+    measure_raw(rt, alloc, &words)?;
+    let (bytes, _) = words.split_at(SAMPLES);
+    measure_plain(rt, alloc, bytes)
 }
 
 /// Whether the program's first word asks for times.

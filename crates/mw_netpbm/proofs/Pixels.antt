@@ -7,10 +7,10 @@ use Rattle.std.proofs.lemmas.List.{take_all, take_more, take_more_set, drop_more
 use Rattle.std.proofs.lemmas.Nat.{le_bytes_8}
 use Rattle.std.proofs.lemmas.Nat.Bits.{and_pow}
 use Rattle.std.proofs.lemmas.Simd.{bitmask_splat, pick_l_left}
-use lib.Lanes.{zip2, chunk, number_l, digits_l, pick_l, mask_l, top}
+use lib.Lanes.{zip2, chunk, number_l, pick_l, mask_l, top}
 use mir.Val.{bits, hbits}
 use Rattle.mw_model.specs.NetpbmGrammar.{bits_of}
-use Rattle.mw_model.specs.NetpbmWriting.{byte_of, packed}
+use Rattle.mw_model.specs.NetpbmWriting.{packed}
 use Rattle.mw_netpbm.proofs.Sides.{Within, Within-append}
 use Rattle.mw_netpbm.proofs.Packing.{Within-drop, packed_length}
 

@@ -1,7 +1,9 @@
 //! Samples as nearly all plain files have them: white space, one to three digits and white space.
 //!
 //! How many digits there are is no branch of the code, since a processor cannot foresee it: the numbers of one, two and
-//! three digits are all computed, and one is selected.
+//! three digits are all computed, and one is selected. On 4096 x 4096 samples of 8 bits without a pattern, on a busy
+//! machine, both passes over a raster took 11.8 to 18.0 ns a sample; digit by digit they took 25.8 to 36.6 in the same
+//! minutes.
 
 ghost use Rattle.std.specs.Prelude.{◌≡◌, ◌≤◌, ◌+◌, ◌-◌, ◌*◌, [], ◌∷◌, ℕ, take, IfSome, IsTrue, if◌then◌else◌};
 ghost use Rattle.mw_model.specs.NetpbmGrammar.{IsNumber, IsSample, is_digit};
