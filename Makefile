@@ -1,6 +1,6 @@
 # `make demo` builds morphd and shows it at work; `make test` is the gate; `make memory` refuses each allocation in turn;
 # `make bench` takes times.
-.PHONY: demo morphd test memory bench toolchain python
+.PHONY: demo morphd test memory bench toolchain python compiler
 
 MORPHD = crates/morphd/out/morphd
 
@@ -11,6 +11,10 @@ toolchain:
 python:
 	@command -v python3 >/dev/null || { \
 	  echo "python3 is missing: install Debian's package python3" >&2; exit 1; }
+
+compiler:
+	@command -v cc >/dev/null || { \
+	  echo "cc is missing: install Debian's package gcc" >&2; exit 1; }
 
 test: toolchain
 	rt ci
@@ -25,8 +29,10 @@ demo: python morphd
 	@echo "the same, opened by a ball of five pixels: $(MORPHD) batch < examples/grains.session | python3 examples/show.py -"
 	@$(MORPHD) batch < examples/grains.session | python3 examples/show.py -
 
-memory: python morphd
+memory: python compiler morphd
 	@python3 checks/refused_memory.py $(MORPHD)
+	@cd crates/mw_tests && rt test > /dev/null
+	@python3 checks/refused_tests.py crates/mw_tests/out/mw_tests_tests
 
 # Best on a machine that does nothing else: each line is the best of five runs in one thread. The C library is told to
 # keep what is freed, so that copies, reads and writes alike find memory that the system has given already. `rt run`

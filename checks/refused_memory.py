@@ -208,9 +208,20 @@ def explained(asked, written, status):
     return next(iter(ended), None)
 
 
+def built_refuser():
+    """Builds the library that refuses an allocation."""
+    (HERE / "out").mkdir(exist_ok=True)
+    subprocess.run(["cc", "-shared", "-fPIC", "-O1", "-o", HERE / "out" / "refuse.so", HERE / "refuse.c", "-ldl"], check=True)
+
+
+def refusing(number, count):
+    """The environment in which this allocation is refused, none for 0, and the number of all goes into the file."""
+    return dict(os.environ, LD_PRELOAD=str(HERE / "out" / "refuse.so"), REFUSE=str(number), COUNT=count)
+
+
 def run(program, session, number, count):
     """Status, output and fault line of the program with this allocation refused, and how many it asked for."""
-    kept = dict(os.environ, LD_PRELOAD=str(HERE / "out" / "refuse.so"), REFUSE=str(number), COUNT=count)
+    kept = refusing(number, count)
     made = subprocess.run([program, "batch"], input=session, capture_output=True, env=kept, timeout=60)
     with open(count) as file:
         return made.returncode, made.stdout, made.stderr, int(file.read())
@@ -221,8 +232,7 @@ def main():
     sessions = {name: pathlib.Path(name).read_bytes() for name in sys.argv[2:]}
     if not sessions:
         sessions = dict(SESSIONS, grains=(HERE.parent / "examples" / "grains.session").read_bytes())
-    (HERE / "out").mkdir(exist_ok=True)
-    subprocess.run(["cc", "-shared", "-fPIC", "-O1", "-o", HERE / "out" / "refuse.so", HERE / "refuse.c", "-ldl"], check=True)
+    built_refuser()
     bad = 0
     with tempfile.TemporaryDirectory() as folder:
         count = os.path.join(folder, "count")
