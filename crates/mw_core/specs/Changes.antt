@@ -17,6 +17,7 @@ seen_after c q p work =
       kept = unless_refused r c.kept (c.kept ++ payload_of q p);
       work = unless_refused r c.work (c.work ++ work);
       log = c.log ++ item.Call q (reply_from c.table c.kept q) ∷ [];
+      side = c.side;
     }
 
 -- the work under each ticket that is pending stays, and no other has any

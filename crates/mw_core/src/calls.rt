@@ -25,6 +25,7 @@ impl Core {
     pub fn new(alloc: Global, side: u32) -> Result<Self, NoMemory>
         ensures stands { IfOk result (λ c. StandsFor c start_state) }
         ensures log { IfOk result (λ c. c.log ≡ []) }
+        ensures side { IfOk result (λ c. c.side ≡ side) }
     {
         Ok(Core {
             store: Store::new(alloc)?,
@@ -40,6 +41,7 @@ impl Core {
         ensures told { IfOk result (λ r. IsFault self.old.table name code r) }
         ensures ok { IfOk result (λ r. self.new ≡ record self.old { log = self.old.log ++ LogItem.Call call r ∷ [] }) }
         ensures err { OnErr result (self.new ≡ self.old) }
+        ensures side { self.new.side ≡ self.old.side }
     {
         match checks::of_given(&self.store, name, Given::Bad(code)) {
             Err(Code::Memory) => Err(NoMemory),
@@ -53,6 +55,7 @@ impl Core {
         ensures served { IfOk result (Serves self.old (Call.Load name (given_image (Ok image))) (image_payload (Ok image)) self.new) }
         ensures memory { IfOk result (λ r. r ≢ Reply.Refused Code.Memory) }
         ensures err { OnErr result (self.new ≡ self.old) }
+        ensures side { self.new.side ≡ self.old.side }
     {
         let given = Given::Good(image.shape());
         let call = Call::Load(name, given);
@@ -68,6 +71,7 @@ impl Core {
         ensures served { IfOk result (Serves self.old (Call.Load name (given_image image)) (image_payload image) self.new) }
         ensures memory { IfOk result (λ r. r ≢ Reply.Refused Code.Memory) }
         ensures err { OnErr result (self.new ≡ self.old) }
+        ensures side { self.new.side ≡ self.old.side }
     {
         match image {
             Ok(image) => self.load_image(name, image),
@@ -79,6 +83,7 @@ impl Core {
         ensures served { IfOk result (Serves self.old (Call.Element name (given_element (Ok element))) (element_payload (Ok element)) self.new) }
         ensures memory { IfOk result (λ r. r ≢ Reply.Refused Code.Memory) }
         ensures err { OnErr result (self.new ≡ self.old) }
+        ensures side { self.new.side ≡ self.old.side }
     {
         let _offsets = element.offsets();
         let given = Given::Good(element.shape());
@@ -94,6 +99,7 @@ impl Core {
         ensures served { IfOk result (Serves self.old (Call.Element name (given_element element)) (element_payload element) self.new) }
         ensures memory { IfOk result (λ r. r ≢ Reply.Refused Code.Memory) }
         ensures err { OnErr result (self.new ≡ self.old) }
+        ensures side { self.new.side ≡ self.old.side }
     {
         match element {
             Ok(element) => self.load_element(name, element),
@@ -107,6 +113,7 @@ impl Core {
         ensures served { IfOk result (Serves self.old (Call.Run name op) None self.new) }
         ensures fresh { (t : ℕ) → IfOk result (λ r. r ≡ Reply.Accepted t → IsFresh self.new t) }
         ensures err { OnErr result (self.new ≡ self.old) }
+        ensures side { self.new.side ≡ self.old.side }
     {
         let call = Call::Run(name, op);
         match checks::of_run(&self.store, name, op) {
@@ -122,6 +129,7 @@ impl Core {
     pub fn status(&mut self, name: Name) -> Result<Reply, NoMemory>
         ensures served { IfOk result (Serves self.old (Call.Status name) None self.new) }
         ensures err { OnErr result (self.new ≡ self.old) }
+        ensures side { self.new.side ≡ self.old.side }
     {
         let reply = checks::status_reply(&self.store, name);
         self.note(Call::Status(name), reply)
@@ -131,6 +139,7 @@ impl Core {
     pub fn cancel(&mut self, name: Name) -> Result<Reply, NoMemory>
         ensures served { IfOk result (Serves self.old (Call.Cancel name) None self.new) }
         ensures err { OnErr result (self.new ≡ self.old) }
+        ensures side { self.new.side ≡ self.old.side }
         ensures succeeds { (m : Machine) → StandsFor self.old m → refusal m.table m.payloads (Call.Cancel name) ≡ None → IsOk result }
     {
         let call = Call::Cancel(name);
@@ -148,6 +157,7 @@ impl Core {
     pub fn release(&mut self, name: Name) -> Result<Reply, NoMemory>
         ensures served { IfOk result (Serves self.old (Call.Release name) None self.new) }
         ensures err { OnErr result (self.new ≡ self.old) }
+        ensures side { self.new.side ≡ self.old.side }
     {
         let call = Call::Release(name);
         match checks::of_release(&self.store, name) {

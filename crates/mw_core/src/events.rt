@@ -60,7 +60,8 @@ fn handed(answer: Result<Fetched, NoMemory>) -> Answer
 /// One event. The core stands for the machine after it, whatever the machine that it stood for.
 pub fn serve(core: &mut Core, event: Event) -> Answer
     requires { IsServable event }
-    ensures { (m : Machine) → StandsFor core.old m → (n : Machine) × Happens m event result n × StandsFor core.new n }
+    ensures happens { (m : Machine) → StandsFor core.old m → (n : Machine) × Happens m event result n × StandsFor core.new n }
+    ensures side { core.new.side ≡ core.old.side }
 {
     match event {
         Event::Load(name, image) => told(core.load(name, image)),
@@ -87,6 +88,7 @@ pub fn serve_all(
     ensures ok { (m : Machine) → StandsFor core.old m
         → IfOk result (λ answers. (n : Machine) × HappensAll m events.items answers.items n × StandsFor core.new n) }
     ensures err { OnErr result (core.new ≡ core.old) }
+    ensures side { core.new.side ≡ core.old.side }
 {
     let mut answers = Vec::with_capacity(alloc, events.len())?;
     for event in events {

@@ -34,6 +34,7 @@ impl Core {
         ensures value { (m : Machine) → StandsFor self.old m → IfOk result (λ f. shown_value f.value ≡ handed_out m f.reply) }
         ensures shown { (m : Machine) → StandsFor self.old m → IfOk result (λ f. IsSome (shown_value f.value) ↔ ShowsSome f.reply) }
         ensures err { OnErr result (self.new ≡ self.old) }
+        ensures side { self.new.side ≡ self.old.side }
     {
         let reply = checks::fetch_reply(&self.store, name);
         let value = self.shown(reply)?;

@@ -23,6 +23,7 @@ impl Held {
     pub fn new(alloc: Global, side: u32) -> Result<Self, NoMemory>
         ensures stands { IfOk result (λ h. StandsFor h.core start_state) }
         ensures log { IfOk result (λ h. h.core.log ≡ []) }
+        ensures side { IfOk result (λ h. h.core.side ≡ side) }
     {
         Ok(Held {
             core: Core::new(alloc, side)?,
@@ -32,7 +33,8 @@ impl Held {
     /// One event.
     pub fn serve(&mut self, event: Event) -> Answer
         requires { IsServable event }
-        ensures { (m : Machine) → StandsFor self.old.core m → (n : Machine) × Happens m event result n × StandsFor self.new.core n }
+        ensures happens { (m : Machine) → StandsFor self.old.core m → (n : Machine) × Happens m event result n × StandsFor self.new.core n }
+        ensures side { self.new.core.side ≡ self.old.core.side }
     {
         serve(&mut self.core, event)
     }

@@ -28,7 +28,7 @@ impl Model for Core {
 
     ghost Value = { Seen };
 
-    ghost view = { λ c. record { table = c.store.table; kept = c.store.kept; work = c.work.items; log = c.log.items } };
+    ghost view = { λ c. record { table = c.store.table; kept = c.store.kept; work = c.work.items; log = c.log.items; side = c.side } };
 
     // Each pending entry has a place in the log for its end.
     ghost invariant = { λ c. (vec_len c.log + count_by is_pending c.store.table.outcomes ≤ vec_capacity c.log)
@@ -52,6 +52,7 @@ impl Core {
     pub(crate) fn note(&mut self, call: Call, reply: Reply) -> Result<Reply, NoMemory>
         ensures reply { IfOk result (λ r. r ≡ reply) }
         ensures ok { OnOk result (self.new ≡ record self.old { log = self.old.log ++ LogItem.Call call reply ∷ [] }) }
+        ensures side { self.new.side ≡ self.old.side }
         ensures complete { IsComplete self.old }
         ensures err { OnErr result (self.new ≡ self.old) }
     {
@@ -76,6 +77,7 @@ impl Core {
         ensures kept { OnOk result (self.new.kept ≡ self.old.kept ++ payload_in entry ∷ []) }
         ensures work { OnOk result (self.new.work ≡ self.old.work ++ work ∷ []) }
         ensures log { OnOk result (self.new.log ≡ self.old.log ++ LogItem.Call call (Reply.Accepted (length self.old.table.names)) ∷ []) }
+        ensures side { self.new.side ≡ self.old.side }
         ensures complete { IsComplete self.old }
         ensures err { OnErr result (self.new ≡ self.old) }
     {
@@ -96,6 +98,7 @@ impl Core {
         ensures kept { DropsSpent self.new.table self.old.kept self.new.kept }
         ensures work { KeepsWork self.new.table self.old.work self.new.work }
         ensures log { self.new.log ≡ self.old.log ++ item ∷ [] }
+        ensures side { self.new.side ≡ self.old.side }
         ensures complete { IsComplete self.old }
     {
         let _pending = self.store.pending();
@@ -113,6 +116,7 @@ impl Core {
         ensures kept { DropsSpent self.new.table (slice_set self.old.kept t (Some (ImageValue value))) self.new.kept }
         ensures work { self.new.work ≡ slice_set self.old.work t None }
         ensures log { self.new.log ≡ self.old.log ++ LogItem.Finished t ∷ [] }
+        ensures side { self.new.side ≡ self.old.side }
         ensures complete { IsComplete self.old }
     {
         let _pending = self.store.pending();
@@ -131,6 +135,7 @@ impl Core {
         ensures kept { OnOk result (DropsSpent self.new.table self.old.kept self.new.kept) }
         ensures work { OnOk result (self.new.work ≡ self.old.work) }
         ensures log { OnOk result (self.new.log ≡ self.old.log ++ item ∷ []) }
+        ensures side { self.new.side ≡ self.old.side }
         ensures complete { IsComplete self.old }
         ensures err { OnErr result (self.new ≡ self.old) }
     {

@@ -67,6 +67,7 @@ impl Core {
         ensures task { (m : Machine) → StandsFor self.old m → Starts self.old m result self.new }
         ensures idle { (m : Machine) → StandsFor self.old m → (result ≡ Started.Idle) ↔ (ready_count self.old ≡ 0) }
         ensures turn { IsTurn self.old place result }
+        ensures side { self.new.side ≡ self.old.side }
     {
         let count = self.ready_count();
         if count == 0 {
@@ -145,7 +146,8 @@ impl Core {
     /// A worker brings the result of a task. It is taken where the ticket is pending, the task is running, and the
     /// result was made from the tile, the step and the windows that the core has.
     pub fn finish(&mut self, done: TileDone) -> Finish
-        ensures { (m : Machine) → StandsFor self.old m → Finishes self.old m done result self.new }
+        ensures task { (m : Machine) → StandsFor self.old m → Finishes self.old m done result self.new }
+        ensures side { self.new.side ≡ self.old.side }
     {
         match self.check_result(&done) {
             Ok(()) => {
@@ -192,7 +194,8 @@ impl Core {
 
     /// A worker found no memory for a task: the ticket of a running task is killed.
     pub fn refuse(&mut self, refused: TaskRefused) -> Refusal
-        ensures { (m : Machine) → StandsFor self.old m → Refuses self.old m refused.task result self.new }
+        ensures task { (m : Machine) → StandsFor self.old m → Refuses self.old m refused.task result self.new }
+        ensures side { self.new.side ≡ self.old.side }
     {
         let task = refused.task();
         match self.check_task(task) {

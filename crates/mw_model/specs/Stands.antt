@@ -12,12 +12,13 @@ use Rattle.mw_model.specs.Machine.{Machine, Run, start_state, values}
 use Rattle.mw_model.specs.Plans.{IsSourceAt, images_of, planes, value_of_planes}
 use Rattle.mw_model.specs.Tasks.{Progress, nothing_planned, task_count, flag, planned_of, tile_of_task, sources_of, made_of_planes, is_ready, is_needed, ready_tasks, running_tasks, remaining_tasks}
 
--- What a core shows: its table, the value that it keeps of each ticket, the work under each pending ticket, and its log.
+-- What a core shows: its table, the value that it keeps of each ticket, the work under each pending ticket, its log, and the side of tiles that it was made with, in pixels, which no reply depends on.
 pub record Seen : Type 0 where
   pub table : Table
   pub kept : List (Option Value)
   pub work : List (Option Progress)
   pub log : List LogItem
+  pub side : ℕ
 
 -- the work under a ticket, if there is any
 abbrev pub progress_at : List (Option Progress) → ℕ → Option Progress

@@ -11,3 +11,4 @@ invariant-loop-event l =
     AllByRecursion IsServable l.event-iterator.rest.items
     × ((m : Machine) → StandsFor l.fn.core m → (n : Machine) × HappensAll m l.yielded l.answers.items n × StandsFor l.core n)
     × (length l.answers.items + length l.event-iterator.rest.items ≤ vec_capacity l.answers)
+    × (l.core.side ≡ l.fn.core.side)

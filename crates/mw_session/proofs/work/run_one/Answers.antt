@@ -23,10 +23,10 @@ pub returns-in-Ok : goal.returns-in-Ok
 returns-in-Ok g c = λ m s none.
     let b = c.in-Work.ensures.task m s in
     let P : WindowTask → Type 0 = λ w. Finishes c.start.new.self m w c.finish-answer.result c.finish-answer.new.self in
-    finish-turn c.args.core.now c.start.new.self c.finish-answer.new.self m c.in-Work.work c.finish-answer.result s none b (subst P c.in-Ok.ensures.done (c.finish-answer.ensures m b.stands))
+    finish-turn c.args.core.now c.start.new.self c.finish-answer.new.self m c.in-Work.work c.finish-answer.result s none b (subst P c.in-Ok.ensures.done (c.finish-answer.ensures.task m b.stands))
 
 pub returns-in-Err : goal.returns-in-Err
 returns-in-Err g c = λ m s none.
     let b = c.in-Work.ensures.task m s in
     let P : TaskId → Type 0 = λ k. Refuses c.start.new.self m k c.refuse-answer.result c.refuse-answer.new.self in
-    refuse-turn c.args.core.now c.start.new.self c.refuse-answer.new.self m c.in-Work.work c.refuse-answer.result s none b (subst P c.in-Err.ensures.refused (c.refuse-answer.ensures m b.stands))
+    refuse-turn c.args.core.now c.start.new.self c.refuse-answer.new.self m c.in-Work.work c.refuse-answer.result s none b (subst P c.in-Err.ensures.refused (c.refuse-answer.ensures.task m b.stands))

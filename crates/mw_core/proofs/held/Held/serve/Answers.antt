@@ -3,5 +3,5 @@ use Rattle.mw_core.proofs.held.Held.serve.Goals as goal
 
 pub invariant_of-self : goal.invariant_of-self
 invariant_of-self c = record {
-  stands = ∥∥₁_map c.args.self.now.stands (λ w. let step = c.serve.ensures w.0 w.1 in (step.0, step.2));
+  stands = ∥∥₁_map c.args.self.now.stands (λ w. let step = c.serve.ensures.happens w.0 w.1 in (step.0, step.2));
 }

@@ -9,8 +9,8 @@ use Rattle.mw_core.specs.TaskEvents.{Settles}
 use Rattle.mw_core.proofs.TaskLemmas.{settles, result-kept}
 use Rattle.mw_core.proofs.machine.Core.finish.Goals as goal
 
-pub returns-in-Ok : goal.returns-in-Ok
-returns-in-Ok c = λ m s.
+pub returns-in-Ok-clause-task : goal.returns-in-Ok-clause-task
+returns-in-Ok-clause-task c = λ m s.
     let old = c.args.self.now in
     let new = c.settle_with.new.self in
     let d = c.args.done in
@@ -22,8 +22,8 @@ returns-in-Ok c = λ m s.
     → new.log ≡ old.log ++ item.Finished k.ticket ∷ [] → Settles old m d k.ticket new in
     subst At (sym c.task-t.ensures) (settles old new m d f s fits.complete fits.ok c.into_image.ensures) e.table e.kept e.work e.log
 
-pub returns : goal.returns
-returns c = λ m s.
+pub returns-clause-task : goal.returns-clause-task
+returns-clause-task c = λ m s.
     let odd = c.in-Err-Stranger.ensures in
     let is = ap Err c.in-Err-Stranger.field-0-is in (
       odd.open is,

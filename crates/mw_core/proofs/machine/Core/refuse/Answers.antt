@@ -9,8 +9,8 @@ use Rattle.mw_laws.proofs.RunCascade.{pending_is}
 use Rattle.mw_model.specs.Refusals.{outcome_at}
 use Rattle.mw_core.proofs.machine.Core.refuse.Goals as goal
 
-pub returns-in-Ok : goal.returns-in-Ok
-returns-in-Ok c = λ m s.
+pub returns-in-Ok-clause-task : goal.returns-in-Ok-clause-task
+returns-in-Ok-clause-task c = λ m s.
     let old = c.args.self.now in
     let fits = c.in-Ok.ensures in
     let e = c.end.ensures in
@@ -21,8 +21,8 @@ returns-in-Ok c = λ m s.
       kills old c.end.new.self m k.ticket s fits.complete fits.ok.within (pending_is (outcome_at old.table.outcomes k.ticket) fits.ok.pending) e.table e.kept e.work e.log,
     )
 
-pub returns-in-Err-Stranger : goal.returns-in-Err-Stranger
-returns-in-Err-Stranger c = λ m s.
+pub returns-in-Err-Stranger-clause-task : goal.returns-in-Err-Stranger-clause-task
+returns-in-Err-Stranger-clause-task c = λ m s.
     let old = c.args.self.now in
     let odd = c.in-Err-Stranger.ensures in
     let is = ap Err c.in-Err-Stranger.field-0-is in
