@@ -3,6 +3,9 @@ use Rattle.std.specs.Prelude.{◌≡◌, ℕ, ◌≤◌, All}
 use Rattle.mw_model.specs.Rasters.{Raster, raster}
 use Rattle.mw_model.specs.Pictures.{Picture}
 use Rattle.mw_model.specs.declared.shapes.Kind.TheVariants as kind
+use Rattle.std.specs.Arc.{arc_value}
+use Rattle.mw_pixel.specs.declared.image.SharedView.{SharedView}
+use Rattle.mw_pixel.specs.declared.image.SharedView.TheVariants as shared
 use Rattle.mw_pixel.specs.declared.image.View.{View}
 use Rattle.mw_pixel.specs.declared.image.View.TheVariants as view
 use Rattle.mw_pixel.specs.declared.image.Samples.{Samples}
@@ -37,3 +40,9 @@ abbrev pub Shows : Picture → View → Type 0
 Shows f (view.Bits p) = f ≡ set_of p.now
 Shows f (view.Grey8 p maxval) = (f ≡ grey_of p.now maxval) × (1 ≤ maxval)
 Shows f (view.Grey16 p maxval) = (f ≡ grey_of p.now maxval) × (256 ≤ maxval)
+
+-- what is shared is this picture
+abbrev pub SharesAs : Picture → SharedView → Type 0
+SharesAs f (shared.Bits p) = f ≡ set_of (arc_value p)
+SharesAs f (shared.Grey8 p maxval) = (f ≡ grey_of (arc_value p) maxval) × (1 ≤ maxval)
+SharesAs f (shared.Grey16 p maxval) = (f ≡ grey_of (arc_value p) maxval) × (256 ≤ maxval)

@@ -3,9 +3,11 @@
 ghost use Rattle.std.specs.Prelude.{◌≡◌, ◌↔◌, ◌≤◌, ◌<◌, ◌*◌, ◌+◌, All, IsTrue, length};
 ghost use Rattle.mw_model.specs.Pictures.{IsPicture, sample};
 
-use crate::{Bit, Pixel, Plane};
+use crate::{Bit, HeldPlane, Pixel, Plane};
 use mw_model::{Kind, Shape};
+use std::alloc::Global;
 use std::marker::Model;
+use std::sync::Arc;
 
 /// The samples of an image, to be looked at; beside them the maxval.
 #[derive(Clone, Copy)]
@@ -15,11 +17,19 @@ pub enum View<'a> {
     Grey16(&'a Plane<u16>, u16),
 }
 
+/// The samples of an image, with one more owner; beside them the maxval.
+#[derive(Drop)]
+pub enum SharedView {
+    Bits(Arc<Plane<Bit>>),
+    Grey8(Arc<Plane<u8>>, u8),
+    Grey16(Arc<Plane<u16>>, u16),
+}
+
 #[derive(Drop)]
 enum Samples {
-    Bits(Plane<Bit>),
-    Grey8(Plane<u8>, u8),
-    Grey16(Plane<u16>, u16),
+    Bits(HeldPlane<Bit>),
+    Grey8(HeldPlane<u8>, u8),
+    Grey16(HeldPlane<u16>, u16),
 }
 
 /// A set, or a picture in levels of grey up to its maxval. No sample is over the maxval.
@@ -41,16 +51,16 @@ impl Model for Image {
 }
 
 impl Image {
-    ghost use Rattle.std.specs.Prelude.{◌≡◌, ◌↔◌, ◌≤◌, ◌<◌, ◌*◌, ◌+◌, All, IsTrue, length};
+    ghost use Rattle.std.specs.Prelude.{◌≡◌, ◌↔◌, ◌≤◌, ◌<◌, ◌*◌, ◌+◌, All, IfSome, IsTrue, length};
     ghost use Rattle.mw_model.specs.Pictures.{IsPicture, sample};
-    ghost use Rattle.mw_pixel.specs.Images.{grey_of, set_of, Shows};
+    ghost use Rattle.mw_pixel.specs.Images.{grey_of, set_of, Shows, SharesAs};
 
     pub fn bits(plane: Plane<Bit>) -> Image
         requires { All (λ s. s ≤ 1) plane.cells }
         ensures { result ≡ set_of plane }
     {
         Image {
-            content: Samples::Bits(plane),
+            content: Samples::Bits(HeldPlane::alone(plane)),
         }
     }
 
@@ -60,7 +70,7 @@ impl Image {
         ensures { result ≡ grey_of plane maxval }
     {
         Image {
-            content: Samples::Grey8(plane, maxval),
+            content: Samples::Grey8(HeldPlane::alone(plane), maxval),
         }
     }
 
@@ -70,7 +80,7 @@ impl Image {
         ensures { result ≡ grey_of plane maxval }
     {
         Image {
-            content: Samples::Grey16(plane, maxval),
+            content: Samples::Grey16(HeldPlane::alone(plane), maxval),
         }
     }
 
@@ -80,18 +90,44 @@ impl Image {
         ensures picture { IsPicture self.now }
     {
         match &self.content {
-            Samples::Bits(plane) => {
+            Samples::Bits(held) => {
+                let plane = held.plane();
                 let _samples = plane.samples();
                 View::Bits(plane)
             }
-            Samples::Grey8(plane, maxval) => {
+            Samples::Grey8(held, maxval) => {
+                let plane = held.plane();
                 let _samples = plane.samples();
                 View::Grey8(plane, *maxval)
             }
-            Samples::Grey16(plane, maxval) => {
+            Samples::Grey16(held, maxval) => {
+                let plane = held.plane();
                 let _samples = plane.samples();
                 View::Grey16(plane, *maxval)
             }
+        }
+    }
+
+    /// The same image, whose plane others can own from now on. Where memory for that is refused it stays as it was.
+    pub fn into_shared(self, alloc: Global) -> Image
+        ensures { result ≡ self }
+    {
+        let content = match self.content {
+            Samples::Bits(held) => Samples::Bits(held.into_shared(alloc)),
+            Samples::Grey8(held, maxval) => Samples::Grey8(held.into_shared(alloc), maxval),
+            Samples::Grey16(held, maxval) => Samples::Grey16(held.into_shared(alloc), maxval),
+        };
+        Image { content }
+    }
+
+    /// What is inside, with one more owner, if others can own it.
+    pub fn shared(&self) -> Option<SharedView>
+        ensures { IfSome result (SharesAs self.now) }
+    {
+        match &self.content {
+            Samples::Bits(held) => Some(SharedView::Bits(held.shared()?)),
+            Samples::Grey8(held, maxval) => Some(SharedView::Grey8(held.shared()?, *maxval)),
+            Samples::Grey16(held, maxval) => Some(SharedView::Grey16(held.shared()?, *maxval)),
         }
     }
 
@@ -109,9 +145,9 @@ impl Image {
         ensures { result ≡ self.now.width }
     {
         match &self.content {
-            Samples::Bits(plane) => plane.width(),
-            Samples::Grey8(plane, _) => plane.width(),
-            Samples::Grey16(plane, _) => plane.width(),
+            Samples::Bits(held) => held.plane().width(),
+            Samples::Grey8(held, _) => held.plane().width(),
+            Samples::Grey16(held, _) => held.plane().width(),
         }
     }
 
@@ -119,9 +155,9 @@ impl Image {
         ensures { result ≡ self.now.height }
     {
         match &self.content {
-            Samples::Bits(plane) => plane.height(),
-            Samples::Grey8(plane, _) => plane.height(),
-            Samples::Grey16(plane, _) => plane.height(),
+            Samples::Bits(held) => held.plane().height(),
+            Samples::Grey8(held, _) => held.plane().height(),
+            Samples::Grey16(held, _) => held.plane().height(),
         }
     }
 
@@ -145,9 +181,9 @@ impl Image {
         ensures small { result ≤ self.now.maxval }
     {
         match &self.content {
-            Samples::Bits(plane) => plane.at(x, y).value(),
-            Samples::Grey8(plane, _) => plane.at(x, y).value(),
-            Samples::Grey16(plane, _) => plane.at(x, y).value(),
+            Samples::Bits(held) => held.plane().at(x, y).value(),
+            Samples::Grey8(held, _) => held.plane().at(x, y).value(),
+            Samples::Grey16(held, _) => held.plane().at(x, y).value(),
         }
     }
 
@@ -163,9 +199,9 @@ impl Image {
         ensures { IsTrue result ↔ (self.now ≡ other.now) }
     {
         match (&self.content, &other.content) {
-            (Samples::Bits(a), Samples::Bits(b)) => a.same(b),
-            (Samples::Grey8(a, m), Samples::Grey8(b, n)) => *m == *n && a.same(b),
-            (Samples::Grey16(a, m), Samples::Grey16(b, n)) => *m == *n && a.same(b),
+            (Samples::Bits(a), Samples::Bits(b)) => a.plane().same(b.plane()),
+            (Samples::Grey8(a, m), Samples::Grey8(b, n)) => *m == *n && a.plane().same(b.plane()),
+            (Samples::Grey16(a, m), Samples::Grey16(b, n)) => *m == *n && a.plane().same(b.plane()),
             _ => false,
         }
     }

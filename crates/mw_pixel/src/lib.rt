@@ -9,6 +9,7 @@
 
 mod bit;
 mod extremum;
+mod holding;
 mod image;
 mod laws;
 mod max;
@@ -18,7 +19,8 @@ mod plane;
 
 pub use bit::Bit;
 pub use extremum::Extremum;
-pub use image::{Image, View};
+pub use holding::HeldPlane;
+pub use image::{Image, SharedView, View};
 pub use laws::samples_are_seen;
 pub use max::Max;
 pub use min::Min;
