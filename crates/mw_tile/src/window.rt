@@ -1,15 +1,17 @@
 //! Samples of a rectangle of a frame.
 
 ghost use Rattle.std.specs.Prelude.{◌≡◌, ◌+◌, ◌*◌, ◌<◌, ◌≤◌, length, slice_range, vec_len, IfOk};
+ghost use Rattle.std.specs.Arc.{arc_value};
 ghost use Rattle.mw_model.specs.Places.{IsWithin};
 ghost use Rattle.mw_tile.specs.Windows.{IsCut};
-ghost use Rattle.mw_tile.specs.Cuts.{view_of, whole_of};
+ghost use Rattle.mw_tile.specs.Cuts.{stood_at, view_of, whole_of};
 
 use crate::cuts::cut_samples;
 use mw_model::{NoMemory, Rect};
-use mw_pixel::{Pixel, Plane};
+use mw_pixel::{HeldPlane, Pixel, Plane};
 use std::alloc::Global;
 use std::marker::Model;
+use std::sync::Arc;
 
 /// The samples of a rectangle of a frame, with the sides of that frame. They stand by rows.
 #[derive(Drop)]
@@ -17,20 +19,20 @@ pub struct Window<P: Pixel> {
     frame_width: u32,
     frame_height: u32,
     place: Rect,
-    samples: Vec<P>,
+    held: HeldPlane<P>,
 }
 
 impl<P: Pixel> Model for Window<P> {
-    ghost use Rattle.std.specs.Prelude.{◌≡◌, ◌*◌, length};
+    ghost use Rattle.std.specs.Prelude.{◌≡◌};
     ghost use Rattle.mw_model.specs.Places.{IsWithin};
     ghost use Rattle.mw_model.specs.Windows.{View};
     ghost use Rattle.mw_tile.specs.Cuts.{view_of};
 
     ghost Value = { View P };
 
-    ghost view = { λ a. view_of a.frame_width a.frame_height a.place a.samples.items };
+    ghost view = { λ a. view_of a.frame_width a.frame_height a.place a.held.cells };
 
-    ghost invariant = { λ a. (length a.samples.items ≡ a.place.height * a.place.width) × IsWithin a.place a.frame_width a.frame_height };
+    ghost invariant = { λ a. (a.held.width ≡ a.place.width) × (a.held.height ≡ a.place.height) × IsWithin a.place a.frame_width a.frame_height };
 }
 
 impl<P: Pixel> Window<P> {
@@ -44,7 +46,7 @@ impl<P: Pixel> Window<P> {
             frame_width,
             frame_height,
             place,
-            samples,
+            held: HeldPlane::alone(Plane::new(place.width, place.height, samples)),
         }
     }
 
@@ -63,15 +65,34 @@ impl<P: Pixel> Window<P> {
         ensures place { result.place ≡ whole_of plane }
         ensures cut { IsCut result plane }
     {
-        let width = plane.width();
-        let height = plane.height();
-        let place = Rect {
-            x: 0,
-            y: 0,
-            width,
-            height,
-        };
-        Window::new(width, height, place, plane.into_samples())
+        Window::of_held(HeldPlane::alone(plane))
+    }
+
+    /// The window that has the whole plane, as one of its owners.
+    pub fn sharing(plane: Arc<Plane<P>>) -> Window<P>
+        ensures value { result ≡ stood_at (arc_value plane) (whole_of (arc_value plane)) (arc_value plane) }
+        ensures cut { IsCut result (arc_value plane) }
+    {
+        Window::of_held(HeldPlane::sharing(plane))
+    }
+
+    fn of_held(held: HeldPlane<P>) -> Window<P>
+        ensures value { result ≡ stood_at held (whole_of held) held }
+        ensures cut { IsCut result held }
+    {
+        let plane = held.plane();
+        let (width, height) = (plane.width(), plane.height());
+        Window {
+            frame_width: width,
+            frame_height: height,
+            place: Rect {
+                x: 0,
+                y: 0,
+                width,
+                height,
+            },
+            held,
+        }
     }
 
     pub fn frame_width(&self) -> u32
@@ -99,7 +120,7 @@ impl<P: Pixel> Window<P> {
         ensures value { result.now ≡ self.now.cells }
         ensures size { length self.now.cells ≡ self.now.place.height * self.now.place.width }
     {
-        &self.samples
+        self.held.plane().samples()
     }
 
     /// The samples of a row, counted from the window's first.
@@ -108,7 +129,6 @@ impl<P: Pixel> Window<P> {
         ensures value { result.now ≡ slice_range self.now.cells (y * self.now.place.width) (y * self.now.place.width + self.now.place.width) }
         ensures length { length result.now ≡ self.now.place.width }
     {
-        let start = y as usize * self.place.width as usize;
-        &self.samples[start..start + self.place.width as usize]
+        self.held.plane().row(y)
     }
 }
