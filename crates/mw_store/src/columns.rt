@@ -3,7 +3,7 @@
 ghost use Rattle.std.specs.Prelude.{count_by, true, false, ◌≡◌, ◌↔◌, ℕ, ◌+◌, ◌<◌, ◌≤◌, [], ◌∷◌, ◌++◌, length, OnOk, OnErr, IfOk, IfSome, Some, None, IsTrue, IsSome, is_some, option_map, slice_set};
 
 use crate::cascade::fail_dependents;
-use crate::kept::{Entry, Kept, Plate, share};
+use crate::kept::{Entry, Kept, Plate, made_shared, share};
 use crate::outcomes::{count_pending, one_if_pending};
 use crate::wanted::drop_spent;
 use indexmap::IndexSet;
@@ -251,7 +251,7 @@ impl Store {
         ensures table { self.new.table ≡ self.old.table }
         ensures kept { self.new.kept ≡ slice_set self.old.kept t (Some (kept_value value)) }
     {
-        self.kept[t as usize] = Some(value);
+        self.kept[t as usize] = Some(made_shared(self.alloc, value));
     }
 
     /// Drops what is kept of an entry.
@@ -319,6 +319,7 @@ impl Store {
         match entry {
             Entry::Image(image) => {
                 let submission = given(image.shape());
+                let image = image.into_shared(self.alloc);
                 self.push(name, submission, Outcome::Done, Some(Kept::Image(image)))
             }
             Entry::Element(element) => {

@@ -23,6 +23,16 @@ pub enum Kept {
     Element(Arc<Element>),
 }
 
+/// The same value. If it is an image, windows can share its plane from now on.
+pub(crate) fn made_shared(alloc: Global, kept: Kept) -> Kept
+    ensures { kept_value result ≡ kept_value kept }
+{
+    match kept {
+        Kept::Image(image) => Kept::Image(image.into_shared(alloc)),
+        other => other,
+    }
+}
+
 /// What is added under a new name.
 #[derive(Drop)]
 pub enum Entry {

@@ -7,7 +7,7 @@ ghost use Rattle.mw_store.specs.Frames as frames;
 
 use mw_lane::{Lanes, equal_rows};
 use mw_model::{NoMemory, Rect};
-use mw_pixel::{Image, Pixel, Plane, View};
+use mw_pixel::{Image, Pixel, Plane, SharedView, View};
 use mw_tile::{AnyWindow, Window};
 use std::alloc::Global;
 
@@ -50,7 +50,7 @@ fn in_two_bytes(maxval: u8) -> u16
 }
 
 /// The window that has the whole of an image, with samples of its own.
-pub fn whole_window(alloc: Global, image: &Image) -> Result<AnyWindow, NoMemory>
+fn copied_window(alloc: Global, image: &Image) -> Result<AnyWindow, NoMemory>
     ensures window { IfOk result (λ w. shown w ≡ frames.whole_window image.now) }
     ensures sized { IfOk result IsSized }
 {
@@ -58,6 +58,23 @@ pub fn whole_window(alloc: Global, image: &Image) -> Result<AnyWindow, NoMemory>
         View::Bits(plane) => Ok(AnyWindow::Bits(whole(alloc, plane)?)),
         View::Grey8(plane, maxval) => Ok(AnyWindow::Grey8(whole(alloc, plane)?, maxval)),
         View::Grey16(plane, maxval) => Ok(AnyWindow::Grey16(whole(alloc, plane)?, maxval)),
+    }
+}
+
+/// The window that has the whole of an image. It owns the image's plane too, and where that cannot be, a copy.
+pub fn whole_window(alloc: Global, image: &Image) -> Result<AnyWindow, NoMemory>
+    ensures window { IfOk result (λ w. shown w ≡ frames.whole_window image.now) }
+    ensures sized { IfOk result IsSized }
+{
+    match image.shared() {
+        Some(SharedView::Bits(plane)) => Ok(AnyWindow::Bits(Window::sharing(plane))),
+        Some(SharedView::Grey8(plane, maxval)) => {
+            Ok(AnyWindow::Grey8(Window::sharing(plane), maxval))
+        }
+        Some(SharedView::Grey16(plane, maxval)) => {
+            Ok(AnyWindow::Grey16(Window::sharing(plane), maxval))
+        }
+        None => copied_window(alloc, image),
     }
 }
 
