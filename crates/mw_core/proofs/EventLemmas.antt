@@ -1,11 +1,12 @@
 -- What the machine does at an event, from the clauses of the core's call.
-use Rattle.std.proofs.Common.{◌≡◌, List, [], ◌∷◌, ◌++◌, Option, None, Result, Ok, Err, IfOk, OnErr, refl, sym, subst}
+use Rattle.std.proofs.Common.{◌≡◌, List, [], ◌∷◌, ◌++◌, Option, None, Result, Ok, Err, IsOk, IfOk, OnErr, refl, sym, subst}
 use Rattle.mw_model.specs.declared.names.Name.{Name}
 use Rattle.mw_model.specs.declared.tasks.TaskId.{TaskId}
 use Rattle.mw_model.specs.declared.calls.Call.{Call}
 use Rattle.mw_model.specs.declared.calls.Call.TheVariants as call
 use Rattle.mw_model.specs.declared.calls.Reply.{Reply}
 use Rattle.mw_model.specs.Values.{Value}
+use Rattle.mw_model.specs.Refusals.{refusal}
 use Rattle.mw_model.specs.Machine.{Machine, after, with_table, killed, settled}
 use Rattle.mw_model.specs.declared.calls.Outcome.TheVariants as outcome
 use Rattle.mw_model.specs.Stands.{Seen, StandsFor}
@@ -23,12 +24,17 @@ use Rattle.mw_core.specs.declared.events.Answer.TheVariants as answer
 use Rattle.mw_core.specs.Events.{Serves, handed_out}
 use Rattle.mw_core.specs.Fetches.{shown_value}
 use Rattle.mw_core.specs.TaskEvents.{Starts, Finishes, Refuses}
-use Rattle.mw_core.specs.Happenings.{Calls, Fetches, Takes, Brings, GivesUp, Happens, HappensAll, answer_of, fetch_answer_of}
+use Rattle.mw_core.specs.Happenings.{Calls, Cancels, Fetches, Takes, Brings, GivesUp, Happens, HappensAll, answer_of, fetch_answer_of}
 
 pub call-happens : {E : Type 0} → (m : Machine) (c : Call) (p : Option Value) (r : Result Reply E) (old new : Seen) → StandsFor old m → IfOk r (Serves old c p new) → OnErr r (new ≡ old)
     → (n : Machine) × Calls m c p (answer_of r) n × StandsFor new n
 call-happens m c p (Ok x) old new s served err = (after m c p, (served.reply m s, refl), served.stands m s)
 call-happens m c p (Err e) old new s served err = let P : Seen → Type 0 = λ d. StandsFor d m in (m, refl, subst P (sym err) s)
+
+pub cancel-happens : {E : Type 0} → (m : Machine) (c : Call) (r : Result Reply E) (old new : Seen) → StandsFor old m → IfOk r (Serves old c None new) → OnErr r (new ≡ old)
+    → ((k : Machine) → StandsFor old k → refusal k.table k.payloads c ≡ None → IsOk r) → (n : Machine) × Cancels m c (answer_of r) n × StandsFor new n
+cancel-happens m c (Ok x) old new s served err succeeds = (after m c None, (served.reply m s, refl), served.stands m s)
+cancel-happens m c (Err e) old new s served err succeeds = let P : Seen → Type 0 = λ d. StandsFor d m in (m, (λ free. let ok = succeeds m s free in absurd cc, refl), subst P (sym err) s)
 
 pub fetch-happens : {E : Type 0} → (m : Machine) (c : Call) (r : Result Fetched E) (old new : Seen) → StandsFor old m → IfOk r (λ f. Serves old c None new f.reply)
     → IfOk r (λ f. shown_value f.value ≡ handed_out m f.reply) → OnErr r (new ≡ old) → (n : Machine) × Fetches m c (fetch_answer_of r) n × StandsFor new n

@@ -1,5 +1,5 @@
 -- Lists of events, and what the machine of one thread does at them (own).
-use Rattle.std.specs.Prelude.{ℕ, ◌≡◌, true, List, [], ◌∷◌, Option, None, Result, Ok, Err}
+use Rattle.std.specs.Prelude.{ℕ, ◌≡◌, ◌≢◌, true, List, [], ◌∷◌, Option, None, Result, Ok, Err}
 use Rattle.std.specs.Result.{ForOk}
 use Rattle.mw_model.specs.declared.calls.Outcome.TheVariants as outcome
 use Rattle.mw_model.specs.declared.calls.Call.{Call}
@@ -7,6 +7,7 @@ use Rattle.mw_model.specs.declared.calls.Call.TheVariants as call
 use Rattle.mw_model.specs.declared.calls.Reply.{Reply}
 use Rattle.mw_model.specs.Pictures.{IsImage}
 use Rattle.mw_model.specs.Values.{Value}
+use Rattle.mw_model.specs.Refusals.{refusal}
 use Rattle.mw_model.specs.Machine.{Machine, CanFinish, CanDie, with_table, settled, killed, after, reply_to}
 use Rattle.mw_core.specs.declared.answers.Started.{Started}
 use Rattle.mw_core.specs.declared.answers.Started.TheVariants as started
@@ -35,6 +36,11 @@ abbrev pub Calls : Machine → Call → Option Value → Answer → Machine → 
 Calls m c p (answer.Reply r) n = (r ≡ reply_to m c) × (n ≡ after m c p)
 Calls m c p answer.NoMemory n = n ≡ m
 Calls m c p a n = ⊥
+
+-- a CANCEL: memory may be wanting only where it is refused
+abbrev pub Cancels : Machine → Call → Answer → Machine → Type 0
+Cancels m c answer.NoMemory n = (refusal m.table m.payloads c ≢ None) × (n ≡ m)
+Cancels m c a n = Calls m c None a n
 
 -- a FETCH, with the value that it hands out
 abbrev pub Fetches : Machine → Call → Answer → Machine → Type 0
@@ -69,7 +75,7 @@ abbrev pub Happens : Machine → Event → Answer → Machine → Type 0
 Happens m (event.Load x g) a n = Calls m (call.Load x (given_image g)) (image_payload g) a n
 Happens m (event.Element x g) a n = Calls m (call.Element x (given_element g)) (element_payload g) a n
 Happens m (event.Run x o) a n = Calls m (call.Run x o) None a n
-Happens m (event.Cancel x) a n = Calls m (call.Cancel x) None a n
+Happens m (event.Cancel x) a n = Cancels m (call.Cancel x) a n
 Happens m (event.Release x) a n = Calls m (call.Release x) None a n
 Happens m (event.Status x) a n = Calls m (call.Status x) None a n
 Happens m (event.Fetch x) a n = Fetches m (call.Fetch x) a n

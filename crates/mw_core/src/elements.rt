@@ -1,6 +1,6 @@
 //! Questions about the elements that the store keeps.
 
-ghost use Rattle.std.specs.Prelude.{◌≡◌, ◌<◌, [], length, unwrap_or};
+ghost use Rattle.std.specs.Prelude.{◌≡◌, ◌<◌, length};
 ghost use Rattle.mw_model.specs.Elements as words;
 ghost use Rattle.mw_core.specs.Checks.{kept_offsets};
 

@@ -1,11 +1,10 @@
 //! The core: the store, the work under each pending ticket, and the log.
 
-ghost use Rattle.std.specs.Prelude.{◌≡◌, ℕ, ◌+◌, ◌<◌, ◌≤◌, [], ◌∷◌, ◌++◌, length, OnOk, OnErr, IfOk, IsOk, IfSome, Some, None, false, true, slice_set, IsTrue};
+ghost use Rattle.std.specs.Prelude.{◌≡◌, ◌+◌, ◌<◌, ◌≤◌, [], ◌∷◌, ◌++◌, length, OnOk, OnErr, IfOk, Some, None, false, slice_set};
 
-use crate::checks;
 use crate::sweep::drop_settled;
 use crate::underway::Underway;
-use mw_model::{Call, Code, Given, LogItem, Name, NoMemory, Op, Outcome, Reply};
+use mw_model::{Call, LogItem, Name, NoMemory, Outcome, Reply};
 use mw_pixel::Image;
 use mw_store::{Entry, Kept, Store};
 use std::alloc::Global;
@@ -22,7 +21,7 @@ pub struct Core {
 }
 
 impl Model for Core {
-    ghost use Rattle.std.specs.Prelude.{ℕ, ◌+◌, ◌≤◌, ◌≡◌, count_by, vec_len, vec_capacity, length};
+    ghost use Rattle.std.specs.Prelude.{◌+◌, ◌≤◌, ◌≡◌, count_by, vec_len, vec_capacity, length};
     ghost use Rattle.mw_model.specs.Refusals.{is_pending};
     ghost use Rattle.mw_model.specs.Stands.{Seen};
 
@@ -37,15 +36,13 @@ impl Model for Core {
 
 impl Core {
     ghost use Rattle.std.specs.List.{AllByRecursion};
-    ghost use Rattle.std.specs.Result.{ForOk};
-    ghost use Rattle.mw_model.specs.Pictures.{IsImage};
     ghost use Rattle.mw_model.specs.Values.{ImageValue, tickets};
-    ghost use Rattle.mw_model.specs.Refusals.{refusal, ticket_of, outcome_at, is_pending};
-    ghost use Rattle.mw_model.specs.Machine.{reply_from, table_after, with_entry, killed, settled};
+    ghost use Rattle.mw_model.specs.Refusals.{ticket_of, outcome_at, is_pending};
+    ghost use Rattle.mw_model.specs.Machine.{with_entry, killed, settled};
     ghost use Rattle.mw_model.specs.Stands.{Seen};
     ghost use Rattle.mw_store.specs.Entries.{submission_of, outcome_of, payload_in};
     ghost use Rattle.mw_store.specs.Stored.{DropsSpent};
-    ghost use Rattle.mw_core.specs.Changes.{seen_after, KeepsWork};
+    ghost use Rattle.mw_core.specs.Changes.{KeepsWork};
     ghost use Rattle.mw_core.specs.Facts.{IsComplete};
 
     /// Adds the item of a call that changes no entry.

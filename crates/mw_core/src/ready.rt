@@ -1,8 +1,8 @@
 //! Which tasks are ready, running and left.
 
-ghost use Rattle.std.specs.Prelude.{true, ◌≡◌, ◌<◌, ◌≤◌, ◌+◌, ◌-◌, length, IfSome, IfNone, option_map};
+ghost use Rattle.std.specs.Prelude.{true, ◌≡◌, ◌<◌, ◌≤◌, ◌+◌, ◌-◌, length, IfSome, IfNone};
 ghost use Rattle.std.specs.List.{AllByRecursion, list_all};
-ghost use Rattle.mw_model.specs.Values.{tickets, option_list};
+ghost use Rattle.mw_model.specs.Values.{option_list};
 ghost use Rattle.mw_model.specs.Refusals.{is_there, outcome_at};
 ghost use Rattle.mw_model.specs.Stands.{inputs_there};
 

@@ -1,6 +1,6 @@
 //! Events on tasks: a worker takes one, brings its result, or tells that it found no memory.
 
-ghost use Rattle.std.specs.Prelude.{◌≡◌, ◌<◌, ◌≤◌, ◌↔◌, ℕ, Err, false, true, length, slice_set, IfSome, IfNone, IfOk, OnOk, OnErr, IsTrue, Some};
+ghost use Rattle.std.specs.Prelude.{◌≡◌, ◌<◌, ◌≤◌, ◌↔◌, Err, length, slice_set, IfOk, OnOk, IsTrue, Some};
 
 use crate::answers::{Finish, Refusal, Started};
 use crate::fits::{is_first, is_result};
