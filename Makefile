@@ -42,5 +42,6 @@ KEEP = MALLOC_MMAP_MAX_=0 MALLOC_TRIM_THRESHOLD_=17179869184
 bench: python morphd
 	cd crates/bench_files && rt run && $(KEEP) out/bench_files measure
 	cd crates/bench_kernels && rt run && $(KEEP) out/bench_kernels measure all
+	cd crates/bench_core && rt run && out/bench_core measure
 	python3 bench/command.py $(MORPHD)
 	@/usr/bin/python3 bench/peers.py || echo "the peers were not measured" >&2
