@@ -15,7 +15,7 @@ ghost use Rattle.mw_session.specs.Writes.{Wrote};
 use crate::fault::SessionFault;
 use crate::payloads::{read_element, read_image};
 use crate::saying::{say, say_image};
-use crate::stream::Sink;
+use crate::sink::Sink;
 use crate::work::{Pick, run_all_work};
 use mw_core::{Core, Fetched, Shown};
 use mw_model::{Code, Name, NoMemory, Op, Reply, Request};

@@ -16,7 +16,8 @@ mod pieces;
 mod reply;
 mod saying;
 mod script;
-mod stream;
+mod sink;
+mod source;
 mod work;
 
 pub use fault::SessionFault;
@@ -30,7 +31,8 @@ pub use pieces::{Piece, take_piece};
 pub use reply::{curve_line, image_line, refusal_line, reply_line};
 pub use saying::{end_by, say, say_curve, say_image};
 pub use script::run_script;
-pub use stream::{Sink, Source, receive, send};
+pub use sink::{Sink, send};
+pub use source::{Source, receive};
 pub use work::Pick;
 
 #[cfg(test)]

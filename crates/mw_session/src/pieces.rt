@@ -5,7 +5,7 @@ ghost use Rattle.std.specs.Io.KnownBytes.{Keeps};
 ghost use Rattle.mw_session.specs.Reads.{Took};
 
 use crate::fault::SessionFault;
-use crate::stream::{Source, receive};
+use crate::source::{Source, receive};
 use mw_intake::Intake;
 use std::io::Read;
 

@@ -7,7 +7,7 @@ ghost use Rattle.mw_session.specs.Writes.{Wrote, EndsBy};
 use crate::fault::SessionFault;
 use crate::line::ReplyLine;
 use crate::reply::{curve_line, image_line, refusal_line, reply_line};
-use crate::stream::{Sink, send};
+use crate::sink::{Sink, send};
 use mw_model::{Code, End, Reply};
 use std::io::Write;
 
