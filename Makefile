@@ -30,9 +30,11 @@ demo: python morphd
 	@$(MORPHD) batch < examples/grains.session | python3 examples/show.py -
 
 memory: python compiler morphd
-	@python3 checks/refused_memory.py $(MORPHD)
-	@cd crates/mw_tests && rt test > /dev/null
-	@python3 checks/refused_tests.py crates/mw_tests/out/mw_tests_tests
+	@python3 -B checks/refused_memory.py $(MORPHD)
+	@cd crates/mw_memory_tests && rt test > /dev/null
+	@cd crates/mw_machine_tests && rt test > /dev/null
+	@python3 -B checks/refused_tests.py crates/mw_memory_tests/out/mw_memory_tests_tests
+	@python3 -B checks/refused_tests.py crates/mw_machine_tests/out/mw_machine_tests_tests
 
 # Best on a machine that does nothing else: each line is the best of five runs in one thread. The C library is told to
 # keep what is freed, so that copies, reads and writes alike find memory that the system has given already. `rt run`

@@ -5,7 +5,7 @@ request that is answered 50, a pending entry that is killed before work is done,
 
     python3 checks/refused_memory.py crates/morphd/out/morphd [SESSION..]
 
-Without sessions it takes those below and examples/grains.session. The library refuse.so is built from refuse.c.
+Without sessions it takes those below and two of examples/. The library refuse.so is built from refuse.c.
 """
 import collections
 import itertools
@@ -24,6 +24,9 @@ SESSIONS = {
                   b"RUN e ERODE d b\nRUN g ERODE e b\nWAIT g\nFETCH d\nFETCH e\nFETCH g\nSTATUS b\nFETCH b\n",
     "release": FIVE + BAR + b"RUN e ERODE f b\nRELEASE e\nRELEASE f\nRUN g DILATE f b\nSTATUS f\nFETCH e\nRELEASE f\n"
                + FIVE + b"CANCEL f\nRELEASE e\nFETCH e\nRELEASE z\nRELEASE b\nFETCH b\nQUIT\n",
+    "seam": b"LOAD f 75\nP5\n65 1\n9\n" + bytes(64) + b"\x09" + BAR + b"RUN d DILATE f b\nRUN e ERODE d b\nFETCH d\n"
+            b"STATUS e\nFETCH e\n",
+    "two bytes": b"LOAD f 25\nP2\n5 1\n1000\n7 1000 0 3 4\n" + BAR + b"RUN d DILATE f b\nFETCH d\nFETCH f\nSTATUS d\n",
 }
 
 # An entry of the machine: its outcome is PENDING, DONE, CANCELLED, RELEASED, MEMORY or (INPUT, s).
@@ -47,13 +50,26 @@ def requests(data):
 
 
 def image(payload):
-    """Width, height, maxval and samples of a P2 or P5 payload of one byte a sample."""
+    """Kind, width, height, maxval and samples of a P1, P2 or P5 payload; those of P5 have one byte a sample."""
+    words = payload.split()
+    if payload[:2] == b"P1":
+        return b"BIT", int(words[1]), int(words[2]), 1, [int(bit) for bit in b"".join(words[3:]).decode()]
     if payload[:2] == b"P2":
-        numbers = [int(word) for word in payload.split()[1:]]
-        return numbers[0], numbers[1], numbers[2], numbers[3:]
+        numbers = [int(word) for word in words[1:]]
+        return b"GREY", numbers[0], numbers[1], numbers[2], numbers[3:]
     head = payload.split(b"\n", 3)
     width, height = (int(word) for word in head[1].split())
-    return width, height, int(head[2]), list(head[3])
+    return b"GREY", width, height, int(head[2]), list(head[3])
+
+
+def image_text(kind, width, height, maxval, samples):
+    """The text of an image."""
+    if kind == b"GREY":
+        return b"P5\n%d %d\n%d\n" % (width, height, maxval) + b"".join(
+            s.to_bytes(1 if maxval < 256 else 2, "big") for s in samples)
+    rows = (samples[y * width:(y + 1) * width] + [0] * (-width % 8) for y in range(height))
+    return b"P4\n%d %d\n" % (width, height) + b"".join(
+        int("".join(map(str, row[x:x + 8])), 2).to_bytes(1, "big") for row in rows for x in range(0, len(row), 8))
 
 
 def offsets(payload, ox, oy):
@@ -64,14 +80,14 @@ def offsets(payload, ox, oy):
 
 def applied(operation, f, b):
     """Erosion or dilation, place by place."""
-    width, height, maxval, samples = f
+    kind, width, height, maxval, samples = f
     least = operation == "ERODE"
     made = []
     for y in range(height):
         for x in range(width):
             seen = [samples[(y + dy) * width + x + dx] for dx, dy in b[2] if 0 <= x + dx < width and 0 <= y + dy < height]
             made.append((min(seen) if least else max(seen)) if seen else (maxval if least else 0))
-    return width, height, maxval, made
+    return kind, width, height, maxval, made
 
 
 def dead(outcome):
@@ -123,17 +139,17 @@ def submitted(entries, words):
         return entries, refused(b"40 NAME_TAKEN")
     if words[0] == "LOAD":
         f = image(words[-1])
-        entry = Entry(words[1], b"GREY %d %d %d" % f[:3], f, (), None, DONE)
+        entry = Entry(words[1], b"%s %d %d %d" % f[:4], f, (), None, DONE)
     elif words[0] == "ELEMENT":
         b = offsets(words[-1], int(words[2]), int(words[3]))
         entry = Entry(words[1], b"ELEMENT %d %d" % b[:2], b, (), None, DONE)
     else:
         inputs = []
-        for name, kind in zip(words[3:], (b"GREY", b"ELEMENT")):
+        for name, is_element in zip(words[3:], (False, True)):
             t = ticket(entries, name)
             if t is None:
                 return entries, refused(b"41 UNKNOWN")
-            if not entries[t].shape.startswith(kind):
+            if entries[t].shape.startswith(b"ELEMENT") != is_element:
                 return entries, refused(b"42 KIND")
             if dead(entries[t].outcome):
                 return entries, refused(b"43 DEAD")
@@ -163,8 +179,7 @@ def named(entries, words):
     if words[0] == "FETCH" and entry.shape.startswith(b"ELEMENT"):
         return entries, refused(b"42 KIND")
     if words[0] == "FETCH" and entry.outcome == DONE:
-        width, height, maxval, samples = entry.value
-        text = b"P5\n%d %d\n%d\n" % (width, height, maxval) + bytes(samples)
+        text = image_text(*entry.value)
         return entries, b"IMAGE %d %d\n" % (t, len(text)) + text
     return entries, told(t, entry)
 
@@ -231,7 +246,8 @@ def main():
     program = os.path.abspath(sys.argv[1])
     sessions = {name: pathlib.Path(name).read_bytes() for name in sys.argv[2:]}
     if not sessions:
-        sessions = dict(SESSIONS, grains=(HERE.parent / "examples" / "grains.session").read_bytes())
+        examples = {name: (HERE.parent / "examples" / (name + ".session")).read_bytes() for name in ("grains", "defects")}
+        sessions = dict(SESSIONS, **examples)
     built_refuser()
     bad = 0
     with tempfile.TemporaryDirectory() as folder:

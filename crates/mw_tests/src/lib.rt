@@ -1,5 +1,8 @@
-//! Tests across crates: what the proofs leave open, by values from outside. The plain program gives the worked rows,
-//! and the kernels give on each tile what the plain program gives on the whole frame.
+//! Tests of operators across crates, by values from outside: the plain program gives the worked rows, and the kernels give
+//! on each tile what the plain program gives on the whole frame.
+//!
+//! Single calls whose memory is refused are in `mw_memory_tests`, lists of calls of a core in `mw_machine_tests`, and
+//! whole sessions in `mw_session_tests`.
 //!
 //! ```text
 //! rt test     // in this folder
@@ -7,28 +10,14 @@
 #![tactic(auto)]
 
 #[cfg(test)]
-mod files;
-#[cfg(test)]
 mod images;
 #[cfg(test)]
 mod kernels;
-#[cfg(test)]
-mod machine;
-#[cfg(test)]
-mod machine_calls;
-#[cfg(test)]
-mod machine_results;
 #[cfg(test)]
 mod plain_rows;
 #[cfg(test)]
 mod ranks;
 #[cfg(test)]
 mod seams;
-#[cfg(test)]
-mod served;
-#[cfg(test)]
-mod session_ends;
-#[cfg(test)]
-mod sessions;
 #[cfg(test)]
 mod words;

@@ -3,6 +3,7 @@
 use crate::machine::{Ask, Desk, ERODED, ROW, Stop, Turn, plays};
 use mw_core::Finish;
 use mw_model::{LogItem, Reply};
+use mw_step::Work;
 use std::alloc::Global;
 use std::process::Abort;
 use std::test::Fail;
@@ -23,14 +24,19 @@ const EXCHANGED: &[Turn] = &[
     Turn::Fetch(b"e", Reply::Shown(2), ERODED),
 ];
 
+/// A task that another core gave.
+fn strange_work(rt: &impl Abort, alloc: Global) -> Result<Work, Stop> {
+    let mut other = Desk::new(rt, alloc, OTHER_ROW)?;
+    other.play(rt, TAKEN)?;
+    other.taken.pop().ok_or(Stop::List)
+}
+
 fn exchange(rt: &impl Abort, alloc: Global) -> Result<(), Stop> {
-    let mut first = Desk::new(rt, alloc, OTHER_ROW)?;
-    let mut second = Desk::new(rt, alloc, ROW)?;
-    first.play(rt, TAKEN)?;
-    second.play(rt, TAKEN)?;
-    let strange = first.taken.pop().ok_or(Stop::List)?;
-    second.taken.push(strange)?;
-    second.play(rt, EXCHANGED)
+    let strange = strange_work(rt, alloc)?;
+    let mut desk = Desk::new(rt, alloc, ROW)?;
+    desk.play(rt, TAKEN)?;
+    desk.taken.push(strange)?;
+    desk.play(rt, EXCHANGED)
 }
 
 #[test]

@@ -1,0 +1,25 @@
+//! Tests of single calls, by values from outside: files, bitmaps and elements, planes and windows, and what kernels make.
+//! Where memory is refused a call is made once more, so each test passes whichever allocation is refused.
+//!
+//! ```text
+//! rt test     // in this folder; then `make memory` refuses each allocation in turn
+//! ```
+#![tactic(auto)]
+
+/// What a call gives, made once more where it was refused for want of memory.
+#[cfg(test)]
+macro_rules! once_more {
+    ($refused:pat, $call:expr) => {
+        match $call {
+            Err($refused) => $call?,
+            first => first?,
+        }
+    };
+}
+
+#[cfg(test)]
+mod files;
+#[cfg(test)]
+mod makers;
+#[cfg(test)]
+mod results;

@@ -1,0 +1,14 @@
+//! Tests of whole sessions, by values from outside: what they write and how they end, cut into pieces, ended anywhere, and
+//! with readers and writers that fail anywhere.
+//!
+//! ```text
+//! rt test     // in this folder
+//! ```
+#![tactic(auto)]
+
+#[cfg(test)]
+mod served;
+#[cfg(test)]
+mod session_ends;
+#[cfg(test)]
+mod sessions;
