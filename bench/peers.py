@@ -1,7 +1,8 @@
 """Times OpenCV and Leptonica on what bench_kernels measures: erosions and a median of 4096 x 4096 noise, in one thread.
 
 Run it with a Python that has cv2 (Debian: python3-opencv), beside Leptonica's library (Debian: libleptonica-dev), which
-erodes sets. Each line has the best of five runs.
+erodes sets. Each line has the best of five runs. The C library keeps what is freed, as the Makefile tells it to for
+bench_kernels: else each result of 16-bit samples, of 32 MiB, would be in pages that the system gives anew.
 """
 import ctypes
 import ctypes.util
@@ -16,6 +17,16 @@ except ImportError as missing:
 
 SIDE = 4096
 ROUNDS = 5
+
+# What mallopt calls the threshold from which free memory goes back to the system, and the most blocks with pages of
+# their own.
+TRIM_THRESHOLD, MMAP_MAX = -1, -4
+
+
+def keep_freed_memory():
+    library = ctypes.CDLL(None)
+    library.mallopt(MMAP_MAX, 0)
+    library.mallopt(TRIM_THRESHOLD, 2**31 - 1)
 
 
 def disc(across):
@@ -89,6 +100,7 @@ def show_sets(rng):
 
 
 def main():
+    keep_freed_memory()
     cv2.setNumThreads(1)
     rng = numpy.random.default_rng(1)
     print(f"| {'OpenCV ' + cv2.__version__:<27} | {'ms':>8} |")

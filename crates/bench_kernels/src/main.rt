@@ -1,7 +1,8 @@
-//! Times of the kernels on images of 4096 x 4096 samples, in one thread and tile by tile, as a step of a plan runs them:
-//! each tile is cut with its halo, computed and pasted. Each line has the best of five runs. The program times only where
-//! it is asked to, as in `out/bench_kernels measure all`, or `rectangle`, `disc` or `rank` in place of `all`, since times
-//! differ from run to run.
+//! Times of the kernels on images of 4096 x 4096 samples, in one thread: on one window that owns the image's plane too,
+//! as a command runs that is one task, with the result as a plane of its own; and tile by tile, where each tile is cut
+//! with its halo, computed and pasted. Each figure is the best of five runs, or of as many as begin within two seconds.
+//! The program times only where it is asked to, as in `out/bench_kernels measure all`, or `rectangle`, `disc`, `rank` or
+//! `sets` in place of `all`, since times differ from run to run.
 #![tactic(auto)]
 
 ghost use Rattle.std.specs.Prelude.{◌≡◌, ◌*◌, ◌≤◌, ◌%◌, vec_len, IfOk};
@@ -14,8 +15,9 @@ use mw_model::{NoMemory, Offset, OffsetBox, Reach, Rect};
 use mw_offset::extremum;
 use mw_pixel::{Extremum, Max, Min, Pixel, Plane};
 use mw_rank::rank;
-use mw_tile::{Grid, Window, paste};
-use std::alloc::{AllocFailed, Global};
+use mw_tile::{Grid, Window, paste, side_ok};
+use std::alloc::{AllocError, AllocFailed, Global};
+use std::sync::Arc;
 use std::time::Instant;
 use std::{env, io};
 
@@ -28,6 +30,12 @@ enum Fault {
 
 impl From<NoMemory> for Fault {
     fn from(_error: NoMemory) -> Fault {
+        Fault::Memory
+    }
+}
+
+impl From<AllocError> for Fault {
+    fn from(_error: AllocError) -> Fault {
         Fault::Memory
     }
 }
@@ -45,6 +53,13 @@ impl From<io::Error> for Fault {
 }
 
 const SIDE: u32 = 4096;
+
+const FRAME: Rect = Rect {
+    x: 0,
+    y: 0,
+    width: SIDE,
+    height: SIDE,
+};
 
 /// A square of k by k places round its middle.
 fn square(k: u8) -> OffsetBox {
@@ -122,21 +137,73 @@ fn full(alloc: Global, k: u8) -> Result<Vec<Offset>, Fault> {
     Ok(offsets)
 }
 
-/// What is timed: a minimum or maximum under a square or a disc, or the middle rank under a square.
-#[derive(Clone, Copy)]
+/// A minimum or maximum under a square or a disc, or the middle rank under a square.
+#[derive(Clone, Copy, PartialEq)]
 enum Filter {
     Rectangle,
     Disc,
     Rank,
 }
 
+/// A filter that is k places across.
+#[derive(Clone, Copy)]
+struct Case {
+    filter: Filter,
+    k: u8,
+}
+
+const CASES: [Case; 8] = [
+    Case {
+        filter: Filter::Rectangle,
+        k: 3,
+    },
+    Case {
+        filter: Filter::Rectangle,
+        k: 15,
+    },
+    Case {
+        filter: Filter::Rectangle,
+        k: 63,
+    },
+    Case {
+        filter: Filter::Rectangle,
+        k: 127,
+    },
+    Case {
+        filter: Filter::Disc,
+        k: 5,
+    },
+    Case {
+        filter: Filter::Disc,
+        k: 15,
+    },
+    Case {
+        filter: Filter::Disc,
+        k: 31,
+    },
+    Case {
+        filter: Filter::Rank,
+        k: 15,
+    },
+];
+
 impl Filter {
-    /// The offsets that the filter takes where it is k places across, but for a rectangle, which takes none.
-    fn offsets(self, alloc: Global, k: u8) -> Result<Vec<Offset>, Fault> {
+    fn name(self) -> &'static str {
         match self {
+            Filter::Rectangle => "rectangle",
+            Filter::Disc => "disc",
+            Filter::Rank => "rank",
+        }
+    }
+}
+
+impl Case {
+    /// The offsets that the filter takes; a rectangle takes none.
+    fn offsets(self, alloc: Global) -> Result<Vec<Offset>, Fault> {
+        match self.filter {
             Filter::Rectangle => Ok(Vec::new(alloc)),
-            Filter::Disc => disc(alloc, k),
-            Filter::Rank => full(alloc, k),
+            Filter::Disc => disc(alloc, self.k),
+            Filter::Rank => full(alloc, self.k),
         }
     }
 
@@ -146,15 +213,15 @@ impl Filter {
         alloc: Global,
         window: &Window<P>,
         offsets: &[Offset],
-        k: u8,
         tile: Rect,
     ) -> Result<Plane<P>, Fault>
         ensures width { IfOk result (λ r. r.width ≡ tile.width) }
         ensures height { IfOk result (λ r. r.height ≡ tile.height) }
     {
-        let made = match self {
-            Filter::Rectangle => rectangle::<P, E>(alloc, window, square(k), P::TOP, tile)?,
-            Filter::Disc => extremum::<P, E>(alloc, window, offsets, P::TOP, tile)?,
+        let neutral = E::neutral(P::TOP);
+        let made = match self.filter {
+            Filter::Rectangle => rectangle::<P, E>(alloc, window, square(self.k), neutral, tile)?,
+            Filter::Disc => extremum::<P, E>(alloc, window, offsets, neutral, tile)?,
             Filter::Rank => {
                 if offsets.len() > 65535 {
                     return Err(Fault::Memory);
@@ -167,16 +234,27 @@ impl Filter {
     }
 }
 
+/// One pass over the whole image.
+fn whole<P: Pixel, E: Extremum<P>>(
+    alloc: Global,
+    plane: &Arc<Plane<P>>,
+    case: Case,
+) -> Result<(), Fault> {
+    let offsets = case.offsets(alloc)?;
+    let window = Window::sharing(Arc::try_clone(plane)?);
+    let _made = case.run::<P, E>(alloc, &window, offsets.as_slice(), FRAME)?;
+    Ok(())
+}
+
 /// One pass over all tiles.
-fn pass<P: Pixel, E: Extremum<P>>(
+fn tiled<P: Pixel, E: Extremum<P>>(
     alloc: Global,
     plane: &Plane<P>,
+    case: Case,
     grid: Grid,
-    filter: Filter,
-    k: u8,
     out: &mut Plane<P>,
 ) -> Result<(), Fault> {
-    let offsets = filter.offsets(alloc, k)?;
+    let offsets = case.offsets(alloc)?;
     if plane.width() != grid.width() || plane.height() != grid.height() {
         return Ok(());
     }
@@ -185,76 +263,61 @@ fn pass<P: Pixel, E: Extremum<P>>(
     }
     for i in 0..grid.len() {
         let tile = grid.rect(i);
-        let window = Window::cut(alloc, plane, grid.window(i, reach(k)))?;
-        let made = filter.run::<P, E>(alloc, &window, offsets.as_slice(), k, tile)?;
+        let window = Window::cut(alloc, plane, grid.window(i, reach(case.k)))?;
+        let made = case.run::<P, E>(alloc, &window, offsets.as_slice(), tile)?;
         paste(out, tile, &made);
     }
     Ok(())
 }
 
-/// Times a filter at some sizes.
+/// The microseconds of a case on the whole image, or on tiles where a side is given.
+fn time<R: std::rt::Clock, P: Pixel, E: Extremum<P>>(
+    rt: &R,
+    alloc: Global,
+    plane: &Arc<Plane<P>>,
+    case: Case,
+    side: Option<u32>,
+    out: &mut Plane<P>,
+) -> Result<u128, Fault> {
+    let mut best = u128::MAX;
+    let mut spent = 0u128;
+    for _ in 0..5 {
+        if spent < 2_000_000 {
+            let start = Instant::now(rt)?;
+            match side {
+                Some(side) if side_ok(side) => {
+                    tiled::<P, E>(alloc, plane, case, Grid::new(SIDE, SIDE, side), out)?
+                }
+                _ => whole::<P, E>(alloc, plane, case)?,
+            }
+            let taken = start.elapsed(rt)?.as_micros();
+            best = best.min(taken);
+            spent = spent.saturating_add(taken);
+        }
+    }
+    Ok(best)
+}
+
+/// Times the wanted cases on samples of one type.
 fn measure<R: std::rt::Clock + Print, P: Pixel, E: Extremum<P>>(
     rt: &R,
     alloc: Global,
-    filter: Filter,
-    sizes: &[u8],
-    name: &str,
-    side: u32,
-) -> Result<(), Fault>
-    requires { (64 ≤ side) × (side ≤ 1024) × (side % 64 ≡ 0) }
-{
-    let plane = Plane::new(SIDE, SIDE, noise::<P>(alloc)?);
-    let mut out = Plane::<P>::filled(alloc, SIDE, SIDE, P::TOP)?;
-    let grid = Grid::new(SIDE, SIDE, side);
-    for k in sizes {
-        let mut best = u128::MAX;
-        for _ in 0..5 {
-            let start = Instant::now(rt)?;
-            pass::<P, E>(alloc, &plane, grid, filter, *k, &mut out)?;
-            best = best.min(start.elapsed(rt)?.as_micros());
-        }
-        println!(rt; "{name}, {k} across, tiles of {side}: {best} us")?;
-    }
-    Ok(())
-}
-
-/// Times one filter at 8 and at 16 bits, where it is asked for.
-fn measure_both<R: std::rt::Clock + Print>(
-    rt: &R,
-    alloc: Global,
-    filter: Filter,
-    sizes: &[u8],
-    names: (&str, &str),
-    side: u32,
-) -> Result<(), Fault>
-    requires { (64 ≤ side) × (side ≤ 1024) × (side % 64 ≡ 0) }
-{
-    measure::<R, u8, Min>(rt, alloc, filter, sizes, names.0, side)?;
-    measure::<R, u16, Max>(rt, alloc, filter, sizes, names.1, side)?;
-    Ok(())
-}
-
-/// Times the filters of that name, or all of them, with tiles of one side.
-fn measure_all<R: std::rt::Clock + Print>(
-    rt: &R,
-    alloc: Global,
     wanted: &str,
-    side: u32,
-) -> Result<(), Fault>
-    requires { (64 ≤ side) × (side ≤ 1024) × (side % 64 ≡ 0) }
-{
-    let all = wanted == "all";
-    if all || wanted == "rectangle" {
-        let names = ("rectangle, 8 bits", "rectangle, 16 bits");
-        measure_both(rt, alloc, Filter::Rectangle, &[3, 15, 63, 127], names, side)?;
-    }
-    if all || wanted == "disc" {
-        let names = ("disc, 8 bits", "disc, 16 bits");
-        measure_both(rt, alloc, Filter::Disc, &[5, 15, 31], names, side)?;
-    }
-    if all || wanted == "rank" {
-        let names = ("rank, 8 bits", "rank, 16 bits");
-        measure_both(rt, alloc, Filter::Rank, &[15], names, side)?;
+    bits: u32,
+) -> Result<(), Fault> {
+    let plane = Arc::new(alloc, Plane::new(SIDE, SIDE, noise::<P>(alloc)?))?;
+    let mut out = Plane::<P>::filled(alloc, SIDE, SIDE, P::TOP)?;
+    for case in CASES {
+        let name = case.filter.name();
+        if wanted == "all" || wanted == name {
+            let whole = time::<R, P, E>(rt, alloc, &plane, case, None, &mut out)?;
+            print!(rt; "{name}, {} across, {bits} bits: whole {whole} us", case.k)?;
+            for side in [128u32, 512, 1024] {
+                let tiles = time::<R, P, E>(rt, alloc, &plane, case, Some(side), &mut out)?;
+                print!(rt; ", tiles of {side} {tiles} us")?;
+            }
+            println!(rt; "")?;
+        }
     }
     Ok(())
 }
@@ -268,8 +331,6 @@ fn main(rt: HostRuntime) -> Result<(), Fault> {
     if matches!(wanted.as_str(), "all" | "sets") {
         time_sets::<HostRuntime>(&rt, alloc)?;
     }
-    for side in [128u32, 512, 1024] {
-        measure_all(&rt, alloc, wanted.as_str(), side)?;
-    }
-    Ok(())
+    measure::<HostRuntime, u8, Min>(&rt, alloc, wanted.as_str(), 8)?;
+    measure::<HostRuntime, u16, Max>(&rt, alloc, wanted.as_str(), 16)
 }

@@ -2,20 +2,13 @@
 //! them, with each tile cut, packed, eroded, unpacked and pasted.
 ghost use Rattle.std.specs.Prelude.{◌≡◌, ◌*◌, ◌≤◌, ◌%◌, vec_len, IfOk};
 
-use crate::{Fault, SIDE, disc, reach};
+use crate::{FRAME, Fault, SIDE, disc, reach};
 use mw_bits::Words;
-use mw_model::{Offset, Rect};
+use mw_model::Offset;
 use mw_pixel::{Bit, Min, Plane};
 use mw_tile::{Grid, Window, paste};
 use std::alloc::Global;
 use std::time::Instant;
-
-const FRAME: Rect = Rect {
-    x: 0,
-    y: 0,
-    width: SIDE,
-    height: SIDE,
-};
 
 /// Nine of ten pixels, without a pattern.
 fn dots(alloc: Global) -> Result<Vec<Bit>, Fault>

@@ -4,7 +4,7 @@ use Rattle.std.proofs.Math.Nat.{mul-le-mul_left}
 use Rattle.mw_line.specs.Extrema.{strided}
 use Rattle.mw_line.proofs.Folds.{IsExtremum}
 
-spread_in : {A : Type 0} (f : A → A → A) → IsExtremum f → (x a b : A) → f (f x a) (f x b) ≡ f x (f a b)
+pub spread_in : {A : Type 0} (f : A → A → A) → IsExtremum f → (x a b : A) → f (f x a) (f x b) ≡ f x (f a b)
 spread_in f laws x a b =
     laws.associates x a (f x b)
     ∙ ap (f x) (sym (laws.associates a x b) ∙ ap (λ (t : _). f t b) (laws.commutes a x) ∙ laws.associates x a b)

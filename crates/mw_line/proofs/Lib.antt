@@ -8,3 +8,4 @@ pub mod Boxes
 pub mod Spans
 pub mod Tiles
 pub mod Levels
+pub mod Growing

@@ -1,3 +1,4 @@
 pub mod Line
 pub mod Sides
 pub mod Extrema
+pub mod Columns

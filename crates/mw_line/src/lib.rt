@@ -11,6 +11,7 @@
 //! ```
 #![tactic(auto)]
 
+mod columns;
 mod doubling;
 mod laws;
 mod padding;

@@ -10,6 +10,7 @@ ghost use Rattle.mw_tile.specs.Windows.{IsWindow};
 ghost use Rattle.mw_lane.specs.Shifted.{merge_at};
 ghost use Rattle.mw_line.specs.Extrema.{over, IsSlidingExtremum};
 
+use crate::columns::grow;
 use crate::doubling::slide_by;
 use crate::padding::filled;
 use crate::sides::{first_seen, seen_side};
@@ -40,26 +41,28 @@ fn slide_row<P: Pixel, E: Extremum<P>>(
     slide_by::<P, E>(line, wide, 1, across);
 }
 
-/// The extremum of `across` places of the window from each of `width` places of `high` rows on.
+/// The extremum of `across` by `down` places of the window from each of `width` places of `high` rows on that has so many
+/// rows.
 fn slide_rows<P: Pixel, E: Extremum<P>>(
     alloc: Global,
     window: &Window<P>,
     column: i64,
     row: i64,
     across: usize,
+    down: usize,
     width: usize,
     high: usize,
     blank: &[P],
     line: &mut [P],
 ) -> Result<Vec<P>, NoMemory>
-    requires some { 0 < across }
+    requires some { (0 < across) × (0 < down) }
     requires room { width + (across - 1) ≤ length blank.now }
     requires wide { (0 < width) × (width < 2 ^ 32) }
     requires paired { length line.old ≡ length blank.now }
     requires few { high ≤ 2 ^ 40 }
     requires near { row ≤ℤ pos (2 ^ 40) }
     ensures size { IfOk result (λ v. vec_len v ≡ high * width) }
-    ensures cells { IfOk result (λ v. (n : P) → blank.now ≡ replicate (length blank.now) n → (x y : ℕ) → x < width → y < high → slice_index_or v.items (y * width + x) n ≡ over E.merge (λ i. merge_at E.merge n (cell_at (raster window.now.place.width window.now.place.height window.now.cells) (column +ℤ pos (x + i)) (row +ℤ pos y))) 0 (across - 1)) }
+    ensures cells { IfOk result (λ v. (n : P) → blank.now ≡ replicate (length blank.now) n → (x y : ℕ) → x < width → y + down ≤ high → slice_index_or v.items (y * width + x) n ≡ over E.merge (λ j. over E.merge (λ i. merge_at E.merge n (cell_at (raster window.now.place.width window.now.place.height window.now.cells) (column +ℤ pos (x + i)) (row +ℤ pos j))) 0 (across - 1)) y (down - 1)) }
 {
     let count = high.checked_mul(width).ok_or(NoMemory)?;
     let wide = width + (across - 1);
@@ -67,6 +70,7 @@ fn slide_rows<P: Pixel, E: Extremum<P>>(
     for y in 0..high {
         slide_row::<P, E>(window, column, row + y as i64, across, wide, blank, line);
         rows.extend_from_slice(&line[..width])?;
+        grow::<P, E>(rows.as_mut_slice(), width, y, down);
     }
     Ok(rows)
 }
@@ -91,7 +95,6 @@ fn boxes<P: Pixel, E: Extremum<P>>(
     ensures cells { IfOk result (λ v. (x y : ℕ) → x < width → y < height → slice_index_or v.items (y * width + x) neutral ≡ over E.merge (λ j. over E.merge (λ i. merge_at E.merge neutral (cell_at (raster window.now.place.width window.now.place.height window.now.cells) (column +ℤ pos (x + i)) (row +ℤ pos (y + j)))) 0 (across - 1)) 0 (down - 1)) }
 {
     let padded = width + (across - 1) + 63;
-    let high = height + (down - 1);
     let blank = filled(alloc, padded, neutral)?;
     let mut line = filled(alloc, padded, neutral)?;
     let mut rows = slide_rows::<P, E>(
@@ -100,12 +103,12 @@ fn boxes<P: Pixel, E: Extremum<P>>(
         column,
         row,
         across,
+        down,
         width,
-        high,
+        height + (down - 1),
         blank.as_slice(),
         line.as_mut_slice(),
     )?;
-    slide_by::<P, E>(rows.as_mut_slice(), high * width, width, down);
     rows.truncate(height * width);
     Ok(rows)
 }

@@ -4,3 +4,4 @@ pub mod Rooms
 pub mod Gathers
 pub mod Seens
 pub mod Parts
+pub mod StripRows

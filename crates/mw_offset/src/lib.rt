@@ -14,6 +14,7 @@ mod offsets;
 mod places;
 mod runs;
 mod spread;
+mod strips;
 
 pub use layout::{columns_after, first_column, first_row, rows_after, start_of_run};
 pub use mw_model::NoMemory;

@@ -8,8 +8,8 @@ ghost use Rattle.mw_tile.specs.Windows.{IsWindow};
 ghost use Rattle.mw_lane.specs.Shifted.{merge_at};
 ghost use Rattle.mw_line.specs.Extrema.{IsSlidingExtremum};
 
-use crate::by_runs::extremum_by_runs;
 use crate::runs::{Extent, extent_of, runs_of};
+use crate::strips::extremum_by_strips;
 use mw_line::{combine_window_row, filled};
 use mw_model::{NoMemory, Offset, Rect};
 use mw_pixel::{Extremum, Pixel, Plane};
@@ -126,8 +126,8 @@ fn extremum_samples<P: Pixel, E: Extremum<P>>(
     let runs = runs_of(alloc, offsets)?;
     if tile.width > 0 && tile.height > 0 {
         if let Some(extent) = extent_of(runs.as_slice()) {
-            if is_near(extent) {
-                let samples = extremum_by_runs::<P, E>(
+            if is_near(extent) && tile.y <= u32::MAX - tile.height {
+                let samples = extremum_by_strips::<P, E>(
                     alloc,
                     window,
                     runs.as_slice(),

@@ -1,8 +1,8 @@
 use Rattle.std.proofs.Common.{◌≡◌, ◌+◌, ◌-◌, ◌*◌, ◌+ℤ◌, pos, length, replicate, vec_len}
 use Rattle.mw_model.specs.Rasters.{raster, cell_at}
 use Rattle.mw_lane.specs.Shifted.{merge_at}
+use Rattle.mw_line.specs.Columns.{IsGrown}
 use Rattle.mw_line.specs.Extrema.{over}
-use Rattle.mw_line.proofs.Rows.{RowsMade}
 use Rattle.mw_line.proofs.rectangles.slide_rows.Given as goal
 
 abbrev pub invariant-loop-y : goal.invariant-loop-y
@@ -12,5 +12,5 @@ invariant-loop-y g l =
     record {
       size : vec_len l.rows ≡ l.y * l.width;
       made : (n : g.row.P.Denot) → l.blank ≡ replicate (length l.blank) n
-          → RowsMade (λ x j. over f (λ i. merge_at f n (cell_at (raster w.place.width w.place.height w.cells) (l.column +ℤ pos (x + i)) (l.row +ℤ pos j))) 0 (l.across - 1)) n l.width l.y l.rows.items;
+          → IsGrown f (λ x j. over f (λ i. merge_at f n (cell_at (raster w.place.width w.place.height w.cells) (l.column +ℤ pos (x + i)) (l.row +ℤ pos j))) 0 (l.across - 1)) n l.width l.down l.y l.rows.items;
     }
