@@ -12,7 +12,7 @@ use mw_netpbm::read;
 use mw_step::{TileDone, Work, run};
 use std::alloc::{AllocError, AllocFailed, Global};
 use std::rt::Clock;
-use std::time::Instant;
+use std::time::{Duration, Instant};
 use std::{env, io};
 
 const ROUNDS: u32 = 3;
@@ -61,14 +61,20 @@ impl From<io::Error> for Fault {
     }
 }
 
-/// A letter and five digits.
-fn name(letter: u8, number: u32) -> Result<Name, Fault> {
-    let mut text = [letter; 6];
-    let mut rest = number;
-    for i in 0..5 {
-        text[5 - i] = b'0' + (rest % 10) as u8;
-        rest /= 10;
-    }
+fn digit(number: u32) -> u8 {
+    b'0' + (number % 10) as u8
+}
+
+/// A letter and the last five digits of a number.
+fn name(letter: u8, n: u32) -> Result<Name, Fault> {
+    let text = [
+        letter,
+        digit(n / 10000),
+        digit(n / 1000),
+        digit(n / 100),
+        digit(n / 10),
+        digit(n),
+    ];
     Name::parse(&text).ok_or(Fault::Answer)
 }
 
@@ -135,6 +141,23 @@ fn chain(alloc: Global) -> Result<Core, Fault> {
     Ok(core)
 }
 
+/// Cancels commands that nothing waits for.
+fn cancel_first(core: &mut Core) -> Result<(), Fault> {
+    for i in 0..CALLS {
+        accepted(core.cancel(name(b'e', i)?)?)?;
+    }
+    Ok(())
+}
+
+/// Cancels the first command of a chain, with which all others fail.
+fn fail_chain(core: &mut Core) -> Result<(), Fault> {
+    accepted(core.cancel(name(b'e', 0)?)?)?;
+    match core.remaining(ENTRIES - 1) {
+        None => Ok(()),
+        Some(_) => Err(Fault::Answer),
+    }
+}
+
 /// Lets the images of the last commands go.
 fn release_last(core: &mut Core) -> Result<(), Fault> {
     for i in 0..CALLS {
@@ -166,90 +189,14 @@ fn computed(alloc: Global, taken: Vec<Work>) -> Result<Vec<TileDone>, Fault> {
     Ok(results)
 }
 
-/// The nanoseconds since then.
-fn nanos<R: Clock>(rt: &R, start: Instant) -> Result<u64, Fault> {
-    Ok(u64::try_from(start.elapsed(rt)?.as_nanos()).unwrap_or(u64::MAX))
-}
-
-fn time_loads<R: Clock>(rt: &R, alloc: Global) -> Result<u64, Fault> {
-    let mut core = Core::new(alloc, 128)?;
-    let start = Instant::now(rt)?;
-    load_all(alloc, &mut core, ENTRIES)?;
-    nanos(rt, start)
-}
-
-fn time_runs<R: Clock>(rt: &R, alloc: Global) -> Result<u64, Fault> {
-    let mut core = loaded(alloc, IMAGES)?;
-    let start = Instant::now(rt)?;
-    run_all(&mut core)?;
-    nanos(rt, start)
-}
-
-fn time_looks<R: Clock>(rt: &R, alloc: Global) -> Result<u64, Fault> {
-    let mut core = full(alloc)?;
-    let start = Instant::now(rt)?;
-    for i in 0..CALLS {
-        let Reply::Pending(_) = core.status(name(b'e', i)?)? else {
-            return Err(Fault::Answer);
-        };
-    }
-    nanos(rt, start)
-}
-
-fn time_cancels<R: Clock>(rt: &R, alloc: Global) -> Result<u64, Fault> {
-    let mut core = full(alloc)?;
-    let start = Instant::now(rt)?;
-    for i in 0..CALLS {
-        accepted(core.cancel(name(b'e', i)?)?)?;
-    }
-    nanos(rt, start)
-}
-
-fn time_cascade<R: Clock>(rt: &R, alloc: Global) -> Result<u64, Fault> {
-    let mut core = chain(alloc)?;
-    let start = Instant::now(rt)?;
-    accepted(core.cancel(name(b'e', 0)?)?)?;
-    let time = nanos(rt, start)?;
-    match core.status(name(b'e', ENTRIES - 3)?)? {
-        Reply::BadInput(_, _) => Ok(time),
-        _ => Err(Fault::Answer),
-    }
-}
-
-/// Of images that commands wait for, or of images that are dropped at once.
-fn time_releases<R: Clock>(rt: &R, alloc: Global, wanted: bool) -> Result<u64, Fault> {
-    let mut core = if wanted {
-        full(alloc)?
-    } else {
-        loaded(alloc, ENTRIES - 1)?
-    };
-    let start = Instant::now(rt)?;
-    release_last(&mut core)?;
-    nanos(rt, start)
-}
-
-fn time_starts<R: Clock>(rt: &R, alloc: Global) -> Result<u64, Fault> {
-    let mut core = full(alloc)?;
-    let start = Instant::now(rt)?;
-    start_last(alloc, &mut core)?;
-    nanos(rt, start)
-}
-
-/// Each result's input stays, or was released before and is dropped.
-fn time_finishes<R: Clock>(rt: &R, alloc: Global, released: bool) -> Result<u64, Fault> {
-    let mut core = full(alloc)?;
-    if released {
-        release_last(&mut core)?;
-    }
-    let taken = start_last(alloc, &mut core)?;
-    let results = computed(alloc, taken)?;
-    let start = Instant::now(rt)?;
+fn finish_all(core: &mut Core, results: Vec<TileDone>) -> Result<(), Fault> {
     for done in results {
-        let Finish::Settled(_) = core.finish(done) else {
-            return Err(Fault::Answer);
-        };
+        match core.finish(done) {
+            Finish::Settled(_) => (),
+            _ => return Err(Fault::Answer),
+        }
     }
-    nanos(rt, start)
+    Ok(())
 }
 
 /// A row of calls.
@@ -257,7 +204,6 @@ fn time_finishes<R: Clock>(rt: &R, alloc: Global, released: bool) -> Result<u64,
 enum Row {
     Load,
     Run,
-    Status,
     Cancel,
     Cascade,
     ReleaseWanted,
@@ -267,20 +213,51 @@ enum Row {
     FinishDrops,
 }
 
-/// The nanoseconds that the row takes.
-fn time<R: Clock>(rt: &R, alloc: Global, row: Row) -> Result<u64, Fault> {
+/// The core before the row.
+fn prepared(alloc: Global, row: Row) -> Result<Core, Fault> {
     match row {
-        Row::Load => time_loads(rt, alloc),
-        Row::Run => time_runs(rt, alloc),
-        Row::Status => time_looks(rt, alloc),
-        Row::Cancel => time_cancels(rt, alloc),
-        Row::Cascade => time_cascade(rt, alloc),
-        Row::ReleaseWanted => time_releases(rt, alloc, true),
-        Row::ReleaseSpent => time_releases(rt, alloc, false),
-        Row::Start => time_starts(rt, alloc),
-        Row::Finish => time_finishes(rt, alloc, false),
-        Row::FinishDrops => time_finishes(rt, alloc, true),
+        Row::Load => Ok(Core::new(alloc, 128)?),
+        Row::Run => loaded(alloc, IMAGES),
+        Row::Cascade => chain(alloc),
+        Row::ReleaseSpent => loaded(alloc, ENTRIES - 1),
+        Row::FinishDrops => {
+            let mut core = full(alloc)?;
+            release_last(&mut core)?;
+            Ok(core)
+        }
+        _ => full(alloc),
     }
+}
+
+/// The results that the row brings.
+fn results(alloc: Global, core: &mut Core, row: Row) -> Result<Vec<TileDone>, Fault> {
+    match row {
+        Row::Finish | Row::FinishDrops => computed(alloc, start_last(alloc, core)?),
+        _ => Ok(Vec::new(alloc)),
+    }
+}
+
+fn play(alloc: Global, core: &mut Core, row: Row, results: Vec<TileDone>) -> Result<(), Fault> {
+    match row {
+        Row::Load => load_all(alloc, core, ENTRIES),
+        Row::Run => run_all(core),
+        Row::Cancel => cancel_first(core),
+        Row::Cascade => fail_chain(core),
+        Row::ReleaseWanted | Row::ReleaseSpent => release_last(core),
+        Row::Start => {
+            start_last(alloc, core)?;
+            Ok(())
+        }
+        Row::Finish | Row::FinishDrops => finish_all(core, results),
+    }
+}
+
+fn time<R: Clock>(rt: &R, alloc: Global, row: Row) -> Result<Duration, Fault> {
+    let mut core = prepared(alloc, row)?;
+    let results = results(alloc, &mut core, row)?;
+    let start = Instant::now(rt)?;
+    play(alloc, &mut core, row, results)?;
+    Ok(start.elapsed(rt)?)
 }
 
 /// Prints the time of one call of a row.
@@ -291,15 +268,15 @@ fn show<R: Clock + Print>(
     calls: u32,
     text: &str,
 ) -> Result<(), Fault> {
-    let mut best = u64::MAX;
+    let mut best = Duration::MAX;
     for _ in 0..ROUNDS {
         best = best.min(time(rt, alloc, row)?);
     }
-    let each = best / u64::from(calls).max(1);
+    let each = best / calls.max(1);
     println!(rt;
         "| {text:<45} | {calls:>5} | {:>5}.{:02} |",
-        each / 1000,
-        each / 10 % 100
+        each.as_micros(),
+        each.subsec_nanos() / 10 % 100
     )?;
     Ok(())
 }
@@ -308,7 +285,6 @@ fn measure<R: Clock + Print>(rt: &R, alloc: Global) -> Result<(), Fault> {
     println!(rt; "| {:<45} | {:>5} | {:>8} |", "", "calls", "us each")?;
     show(rt, alloc, Row::Load, ENTRIES, "an image is read and loaded")?;
     show(rt, alloc, Row::Run, COMMANDS, "run")?;
-    show(rt, alloc, Row::Status, CALLS, "status")?;
     show(
         rt,
         alloc,
