@@ -31,4 +31,6 @@ mod session_ends;
 #[cfg(test)]
 mod sessions;
 #[cfg(test)]
+mod sharing;
+#[cfg(test)]
 mod words;
