@@ -23,3 +23,5 @@ mod files;
 mod makers;
 #[cfg(test)]
 mod results;
+#[cfg(test)]
+mod sharing;
