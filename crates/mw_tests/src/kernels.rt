@@ -30,6 +30,25 @@ pub(crate) fn shows_tile<P: Pixel>(made: &Plane<P>, tile: Rect, whole: &PlainIma
     true
 }
 
+/// Stops where a kernel does not give in the tile what is wanted there of the whole frame.
+fn agree_on_tile<P: Pixel, E: Extremum<P>>(
+    rt: &impl Abort,
+    alloc: Global,
+    window: &Window<P>,
+    element: &Element,
+    neutral: P,
+    tile: Rect,
+    wanted: &PlainImage,
+) -> Result<(), Fail> {
+    let made = extremum::<P, E>(alloc, window, element.offsets(), neutral, tile)?;
+    assert!(rt; shows_tile(&made, tile, wanted), "offsets in {tile:?}");
+    if let Some(offsets) = element.as_rectangle() {
+        let made = rectangle::<P, E>(alloc, window, offsets, neutral, tile)?;
+        assert!(rt; shows_tile(&made, tile, wanted), "box in {tile:?}");
+    }
+    Ok(())
+}
+
 /// Stops where a kernel does not give on a tile what is wanted there of the whole frame.
 pub(crate) fn agree_on_tiles<P: Pixel, E: Extremum<P>>(
     rt: &impl Abort,
@@ -44,20 +63,8 @@ pub(crate) fn agree_on_tiles<P: Pixel, E: Extremum<P>>(
     assert!(rt; 1 <= width && width <= 8192 && 1 <= height && height <= 8192 && side_ok(side));
     let grid = Grid::new(width, height, side);
     for i in 0..grid.len() {
-        let tile = grid.rect(i);
         let window = Window::cut(alloc, plane, grid.window(i, element.reach()))?;
-        let made = extremum::<P, E>(alloc, &window, element.offsets(), neutral, tile)?;
-        assert!(rt;
-            shows_tile(&made, tile, wanted),
-            "offsets, tile {i}, {width} x {height}"
-        );
-        if let Some(offsets) = element.as_rectangle() {
-            let made = rectangle::<P, E>(alloc, &window, offsets, neutral, tile)?;
-            assert!(rt;
-                shows_tile(&made, tile, wanted),
-                "box, tile {i}, {width} x {height}"
-            );
-        }
+        agree_on_tile::<P, E>(rt, alloc, &window, element, neutral, grid.rect(i), wanted)?;
     }
     Ok(())
 }
@@ -96,20 +103,27 @@ fn agree<P: Pixel, Least: Extremum<P>, Greatest: Extremum<P>>(
     Ok(())
 }
 
-/// The kernels and the plain program by one element: sets, bytes with a low and with the greatest maxval, and samples of
-/// two bytes.
-fn agree_by(rt: &impl Abort, alloc: Global, element: &Element) -> Result<(), Fail> {
+/// The kernels and the plain program by one element, on images without a pattern.
+fn agree_on_noise<P: Pixel, Least: Extremum<P>, Greatest: Extremum<P>>(
+    rt: &impl Abort,
+    alloc: Global,
+    kind: Kind,
+    maxval: u16,
+    element: &Element,
+) -> Result<(), Fail> {
     for (width, height) in [(1, 1), (5, 4), (9, 7), (70, 3), (3, 70), (66, 65)] {
-        let set = noise(rt, alloc, Kind::Bit, width, height, 1)?;
-        agree::<Bit, Min, Max>(rt, alloc, &set, element)?;
-        let shallow = noise(rt, alloc, Kind::Grey, width, height, 9)?;
-        agree::<u8, Min, Max>(rt, alloc, &shallow, element)?;
-        let bytes = noise(rt, alloc, Kind::Grey, width, height, 255)?;
-        agree::<u8, Min, Max>(rt, alloc, &bytes, element)?;
-        let deep = noise(rt, alloc, Kind::Grey, width, height, 1000)?;
-        agree::<u16, Min, Max>(rt, alloc, &deep, element)?;
+        let image = noise(rt, alloc, kind, width, height, maxval)?;
+        agree::<P, Least, Greatest>(rt, alloc, &image, element)?;
     }
     Ok(())
+}
+
+/// Sets, bytes with a low and with the greatest maxval, and samples of two bytes.
+fn agree_by(rt: &impl Abort, alloc: Global, element: &Element) -> Result<(), Fail> {
+    agree_on_noise::<Bit, Min, Max>(rt, alloc, Kind::Bit, 1, element)?;
+    agree_on_noise::<u8, Min, Max>(rt, alloc, Kind::Grey, 9, element)?;
+    agree_on_noise::<u8, Min, Max>(rt, alloc, Kind::Grey, 255, element)?;
+    agree_on_noise::<u16, Min, Max>(rt, alloc, Kind::Grey, 1000, element)
 }
 
 #[test]
@@ -163,11 +177,13 @@ fn rows_agree(rt: HostRuntime) -> Result<(), Fail> {
     let g = noise(&rt, rt.alloc(), Kind::Grey, 70, 3, 99)?;
     let mut row = plane_of::<u8>(&rt, rt.alloc(), &f)?.into_samples();
     let other = plane_of::<u8>(&rt, rt.alloc(), &g)?.into_samples();
+    let high = plain::threshold(rt.alloc(), &f, 128)?;
+    let less = plain::minus(rt.alloc(), &f, &g)?;
     let mut set = copies(rt.alloc(), row.len(), Bit::SET)?;
     assert!(rt; set.len() == row.len() && row.len() == other.len());
     threshold_row(&row, 128, &mut set);
-    assert!(rt; are_levels(&set, plain::threshold(rt.alloc(), &f, 128)?.samples()));
+    assert!(rt; are_levels(&set, high.samples()));
     subtract_rows(&mut row, &other);
-    assert!(rt; are_levels(&row, plain::minus(rt.alloc(), &f, &g)?.samples()));
+    assert!(rt; are_levels(&row, less.samples()));
     Ok(())
 }

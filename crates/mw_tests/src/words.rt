@@ -5,12 +5,48 @@ use crate::kernels::shows_tile;
 use mw_bits::{WordExtremum, Words};
 use mw_element::Element;
 use mw_model::plain::PlainImage;
-use mw_model::{Kind, Offset, Rect, plain};
+use mw_model::{Kind, NoMemory, Offset, Rect, plain};
 use mw_pixel::{Bit, Max, Min, Plane};
 use mw_tile::{Grid, Window, side_ok};
 use std::alloc::Global;
 use std::process::Abort;
 use std::test::Fail;
+
+fn words_by<E: WordExtremum>(
+    alloc: Global,
+    words: &Words,
+    offsets: &[Offset],
+    tile: Rect,
+) -> Result<Words, NoMemory> {
+    words.extremum::<E>(alloc, offsets, tile)
+}
+
+/// Whether the words are the pixels of the tile, and are counted so.
+fn show_tile(
+    alloc: Global,
+    words: &Words,
+    tile: Rect,
+    whole: &PlainImage,
+) -> Result<bool, NoMemory> {
+    let plane = words.to_plane(alloc)?;
+    let count = plane.samples().iter().filter(|s| s.is_set()).count() as u64;
+    Ok(words.count() == count && shows_tile(&plane, tile, whole))
+}
+
+/// Stops where the words do not give in the tile what is wanted there of the whole frame.
+fn agree_on_tile<E: WordExtremum>(
+    rt: &impl Abort,
+    alloc: Global,
+    window: &Window<Bit>,
+    element: &Element,
+    tile: Rect,
+    wanted: &PlainImage,
+) -> Result<(), Fail> {
+    let words = Words::from_plane(alloc, window)?;
+    let made = words_by::<E>(alloc, &words, element.offsets(), tile)?;
+    assert!(rt; show_tile(alloc, &made, tile, wanted)?, "words in {tile:?}");
+    Ok(())
+}
 
 /// Stops where the words do not give on a tile what is wanted there of the whole frame.
 fn agree_on_tiles<E: WordExtremum>(
@@ -25,17 +61,8 @@ fn agree_on_tiles<E: WordExtremum>(
     assert!(rt; 1 <= width && width <= 8192 && 1 <= height && height <= 8192 && side_ok(side));
     let grid = Grid::new(width, height, side);
     for i in 0..grid.len() {
-        let tile = grid.rect(i);
         let window = Window::cut(alloc, plane, grid.window(i, element.reach()))?;
-        let words = Words::from_plane(alloc, &window)?;
-        let made = words.extremum::<E>(alloc, element.offsets(), tile)?;
-        let samples = made.to_plane(alloc)?;
-        assert!(rt;
-            shows_tile(&samples, tile, wanted),
-            "words, tile {i}, {width} x {height}"
-        );
-        let set = samples.samples().iter().filter(|s| s.is_set()).count() as u64;
-        assert_eq!(rt; made.count(), set);
+        agree_on_tile::<E>(rt, alloc, &window, element, grid.rect(i), wanted)?;
     }
     Ok(())
 }
@@ -128,12 +155,12 @@ fn offsets_far_apart_on_words(rt: HostRuntime) -> Result<(), Fail> {
     };
     let window = Window::whole(plane_of::<Bit>(&rt, rt.alloc(), &set)?);
     let words = Words::from_plane(rt.alloc(), &window)?;
-    let eroded = words.extremum::<Min>(rt.alloc(), &apart, tile)?;
-    assert!(rt; shows_tile(&eroded.to_plane(rt.alloc())?, tile, &wanted));
-    let none = words.extremum::<Max>(rt.alloc(), &[], tile)?;
+    let eroded = words_by::<Min>(rt.alloc(), &words, &apart, tile)?;
+    assert!(rt; show_tile(rt.alloc(), &eroded, tile, &wanted)?);
+    let none = words_by::<Max>(rt.alloc(), &words, &[], tile)?;
     assert_eq!(rt; none.count(), 0);
-    let opened = eroded.extremum::<Max>(rt.alloc(), &BAR, tile)?;
+    let opened = words_by::<Max>(rt.alloc(), &eroded, &BAR, tile)?;
     let again = plain::dilation(rt.alloc(), &wanted, &BAR)?;
-    assert!(rt; shows_tile(&opened.to_plane(rt.alloc())?, tile, &again));
+    assert!(rt; show_tile(rt.alloc(), &opened, tile, &again)?);
     Ok(())
 }
