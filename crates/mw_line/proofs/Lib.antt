@@ -4,7 +4,7 @@ pub mod Joined
 pub mod Over
 pub mod Seen
 pub mod Rows
-pub mod Boxes
+pub mod SlidRows
 pub mod Spans
 pub mod Tiles
 pub mod Levels

@@ -1,8 +1,8 @@
 //! The extremum over horizontal runs. The window is spread over rows of one length, which are doubled: a row merged with
 //! itself, shifted by 1, 2, 4 .. places. A run of k samples is then its first 2^j and its last 2^j samples, so that it
 //! takes two merges; and since all rows are equally long, a merge takes any samples of the tile at once: the parts of all
-//! runs of one size are merged into one block of samples after another. Measured on 4096 by 4096 bytes in tiles of 512:
-//! 24 ms under a disc of 15 places across, 36 ms under one of 31.
+//! runs of one size are merged into one block of samples after another. Measured on 4096 by 4096 bytes, strip by strip:
+//! 12 to 16 ms under a disc of 5 places across, 23 under one of 15, 37 under one of 31.
 ghost use Rattle.std.specs.Prelude.{◌≡◌, ℕ, ◌+◌, ◌-◌, ◌*◌, ◌/◌, ◌<◌, ◌≤◌, ◌^◌, ℤ, pos, negsuc, ◌+ℤ◌, ◌-ℤ◌, ◌≤ℤ◌, length, fold, flat_map, replicate, slice_index_or, vec_len, ◌++◌, IfOk, OnOk};
 ghost use Rattle.std.specs.List.{AllByRecursion};
 ghost use Rattle.mw_model.specs.Places.{nonnegative};

@@ -1,5 +1,4 @@
 use Rattle.std.proofs.Common.{◌≡◌, ◌+◌, ◌-◌, ◌*◌, ◌<◌, ◌≤◌, ◌⊎◌, arith, refl, inl, inr, ◌∙◌}
-use Rattle.std.proofs.Math.Nat.{mul-le-mul_left}
 use Rattle.mw_line.proofs.Folds.{IsExtremum}
 use Rattle.mw_line.proofs.Growing.{growing_first, growing_more, grown_last, grown_same}
 use Rattle.mw_line.proofs.columns.grow.Goals as goal

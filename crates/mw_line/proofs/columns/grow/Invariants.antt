@@ -1,4 +1,4 @@
-use Rattle.std.proofs.Common.{◌≡◌, ℕ, ◌+◌, ◌-◌, ◌*◌, ◌<◌, ◌≤◌, length, get_or}
+use Rattle.std.proofs.Common.{◌≡◌, ℕ, ◌+◌, ◌*◌, ◌<◌, ◌≤◌, length, get_or}
 use Rattle.mw_line.specs.Columns.{IsGrown}
 use Rattle.mw_line.proofs.Growing.{IsGrowing}
 use Rattle.mw_line.proofs.columns.grow.Given as goal

@@ -1,4 +1,4 @@
-use Rattle.std.proofs.Common.{◌≡◌, ℕ, ◌+◌, ◌-◌, ◌*◌, ◌<◌, ◌≤◌, length, take, drop, get_or, arith, refl, ◌∙◌, length-take, length-drop}
+use Rattle.std.proofs.Common.{◌+◌, ◌-◌, ◌*◌, drop, arith, length-take, length-drop}
 use Rattle.mw_line.proofs.Growing.{row_merged, row_below, row_above}
 use Rattle.mw_line.proofs.columns.merge_row.Goals as goal
 

@@ -2,7 +2,7 @@ use Rattle.std.proofs.Common.{◌≡◌, ◌+ℤ◌, pos, ℕ, ℤ, List, ap, �
 use Rattle.std.proofs.lemmas.Int.{ints}
 use Rattle.mw_model.specs.Rasters.{raster, cell_at}
 use Rattle.mw_lane.specs.Shifted.{merge_at}
-use Rattle.mw_line.proofs.Boxes.{row_slid}
+use Rattle.mw_line.proofs.SlidRows.{row_slid}
 use Rattle.mw_line.proofs.rectangles.slide_row.Goals as goal
 
 pub returns : goal.returns
