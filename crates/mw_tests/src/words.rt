@@ -137,6 +137,11 @@ fn a_pixel_reaches_over_the_seam_of_words(rt: HostRuntime) -> Result<(), Fail> {
     Ok(())
 }
 
+/// All of a plane as words.
+fn all_words(alloc: Global, plane: Plane<Bit>) -> Result<Words, NoMemory> {
+    Words::from_plane(alloc, &Window::whole(plane))
+}
+
 #[test]
 fn offsets_far_apart_on_words(rt: HostRuntime) -> Result<(), Fail> {
     let set = noise(&rt, rt.alloc(), Kind::Bit, 70, 3, 1)?;
@@ -153,8 +158,7 @@ fn offsets_far_apart_on_words(rt: HostRuntime) -> Result<(), Fail> {
         width: 70,
         height: 3,
     };
-    let window = Window::whole(plane_of::<Bit>(&rt, rt.alloc(), &set)?);
-    let words = Words::from_plane(rt.alloc(), &window)?;
+    let words = all_words(rt.alloc(), plane_of::<Bit>(&rt, rt.alloc(), &set)?)?;
     let eroded = words_by::<Min>(rt.alloc(), &words, &apart, tile)?;
     assert!(rt; show_tile(rt.alloc(), &eroded, tile, &wanted)?);
     let none = words_by::<Max>(rt.alloc(), &words, &[], tile)?;
