@@ -3,7 +3,7 @@
 //! Each call is one event. For every state of the machine of one thread that the core stands for, the answer is that
 //! machine's, and the core then stands for the state after the step. `events::serve_all` says so of any list of events,
 //! and `held::Held` keeps it for a core under a lock. No call waits or computes a task, and none copies samples but
-//! `start`, which copies the windows of one task.
+//! `start`, and that only where no other can own the plane of a source: its windows else own it too.
 //!
 //! ```text
 //! let mut core = Core::new(alloc, 128)?;

@@ -12,4 +12,6 @@ mod machine;
 #[cfg(test)]
 mod machine_calls;
 #[cfg(test)]
+mod machine_owners;
+#[cfg(test)]
 mod machine_results;
