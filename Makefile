@@ -26,7 +26,7 @@ morphd: toolchain
 demo: python morphd
 	@echo "a picture of grains:"
 	@python3 examples/show.py examples/grains.pgm
-	@echo "the same, opened by a ball of five pixels: $(MORPHD) batch < examples/grains.session | python3 examples/show.py -"
+	@echo "the same, opened by a ball five pixels wide: $(MORPHD) batch < examples/grains.session | python3 examples/show.py -"
 	@$(MORPHD) batch < examples/grains.session | python3 examples/show.py -
 
 memory: python compiler morphd
