@@ -12,7 +12,8 @@ use std::mem;
 
 /// The bytes that have come and are no request yet. Contracts see them as one list.
 ///
-/// A byte of a payload is copied once from the piece that brought it, into the vector that its request hands out.
+/// What comes of a payload after its line was cut goes from its piece straight into the vector that its request hands
+/// out. What had come before stands in `rest`, and is copied from there into that vector.
 #[derive(Drop)]
 pub struct Intake {
     alloc: Global,

@@ -1,4 +1,5 @@
-//! Sessions: the texts of replies, and a reader and a writer that remember whether they failed.
+//! Sessions: `run_script` serves the requests of a reader by a core and writes the replies; the texts of replies; and a
+//! reader and a writer that remember whether they failed.
 //!
 //! ```
 //! let mut sink = Sink::new(writer);
