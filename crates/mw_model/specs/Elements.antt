@@ -1,5 +1,5 @@
 -- Structuring elements: lists of distinct offsets, not empty, that come from bitmaps.
-use Rattle.std.specs.Prelude.{◌≡◌, ◌<◌, ℕ, ◌+◌, ◌*◌, ◌&&◌, ◌==◌, Bool, List, [], ◌≢◌, map, flat_map, filter_map, ℤ, pos, negsuc, ◌-ℤ◌, neg_ℤ, ◌≤ℤ◌, if◌then◌else◌, Some, None, slice_index}
+use Rattle.std.specs.Prelude.{◌≡◌, ◌<◌, ℕ, ◌+◌, ◌*◌, ◌&&◌, ◌==◌, Bool, List, [], ◌≢◌, map, flat_map, filter_map, pos, negsuc, ◌-ℤ◌, neg_ℤ, ◌≤ℤ◌, if◌then◌else◌, Some, None, slice_index}
 use Rattle.std.specs.Ordering.{int_eq}
 use Rattle.std.specs.List.{range_with_len, list_any, IsDistinct, AllByRecursion}
 use Rattle.mw_model.specs.declared.codes.Code.{Code}
