@@ -21,14 +21,17 @@ impl Model for Bit {
 }
 
 impl Bit {
+    /// A pixel of the set.
     pub const SET: Bit = Bit { is_set: true };
 
+    /// A pixel of the set, or one outside it.
     pub fn new(is_set: bool) -> Bit
         ensures { result ≡ cond is_set 1 0 }
     {
         Bit { is_set }
     }
 
+    /// Whether the pixel is of the set.
     pub fn is_set(self) -> bool
         ensures set { result ≡ nat_eq self 1 }
         ensures small { self ≤ 1 }

@@ -48,6 +48,7 @@ impl<P: Pixel> HeldPlane<P> {
         }
     }
 
+    /// The plane, whoever else owns it.
     pub fn plane(&self) -> &Plane<P>
         ensures { result.now ≡ self.now }
     {

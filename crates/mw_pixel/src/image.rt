@@ -55,6 +55,7 @@ impl Image {
     ghost use Rattle.mw_model.specs.Pictures.{IsPicture, sample};
     ghost use Rattle.mw_pixel.specs.Images.{grey_of, set_of, Shows, SharesAs};
 
+    /// A set: 1 for its pixels, 0 for the others, with the maxval 1.
     pub fn bits(plane: Plane<Bit>) -> Image
         requires { All (λ s. s ≤ 1) plane.cells }
         ensures { result ≡ set_of plane }
@@ -64,6 +65,7 @@ impl Image {
         }
     }
 
+    /// A grey image of samples up to a maxval from 1 to 255.
     pub fn grey8(plane: Plane<u8>, maxval: u8) -> Image
         requires some { 1 ≤ maxval }
         requires within { All (λ s. s ≤ maxval) plane.cells }
@@ -74,6 +76,7 @@ impl Image {
         }
     }
 
+    /// A grey image of samples up to a maxval from 256 to 65,535.
     pub fn grey16(plane: Plane<u16>, maxval: u16) -> Image
         requires high { 256 ≤ maxval }
         requires within { All (λ s. s ≤ maxval) plane.cells }
@@ -131,6 +134,7 @@ impl Image {
         }
     }
 
+    /// Whether it is a set or a grey image.
     pub fn kind(&self) -> Kind
         ensures { result ≡ self.now.kind }
     {
@@ -141,6 +145,7 @@ impl Image {
         }
     }
 
+    /// The columns, in pixels.
     pub fn width(&self) -> u32
         ensures { result ≡ self.now.width }
     {
@@ -151,6 +156,7 @@ impl Image {
         }
     }
 
+    /// The rows, in pixels.
     pub fn height(&self) -> u32
         ensures { result ≡ self.now.height }
     {

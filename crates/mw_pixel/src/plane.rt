@@ -28,6 +28,7 @@ impl<P: Pixel> Model for Plane<P> {
 }
 
 impl<P: Pixel> Plane<P> {
+    /// A plane of so many columns and rows, with its samples by rows, from the left.
     pub fn new(width: u32, height: u32, samples: Vec<P>) -> Plane<P>
         requires { vec_len samples ≡ height * width }
         ensures { result ≡ raster width height samples.items }
@@ -39,7 +40,7 @@ impl<P: Pixel> Plane<P> {
         }
     }
 
-    /// A plane with one sample everywhere.
+    /// A plane with one sample everywhere. It may want memory (`NoMemory`).
     pub fn filled(alloc: Global, width: u32, height: u32, sample: P) -> Result<Plane<P>, NoMemory>
         ensures { IfOk result (λ p. p ≡ raster width height (replicate (height * width) sample)) }
     {
@@ -47,6 +48,7 @@ impl<P: Pixel> Plane<P> {
         Ok(Plane::new(width, height, samples))
     }
 
+    /// The columns.
     pub fn width(&self) -> u32
         ensures value { result ≡ self.now.width }
         ensures size { length self.now.cells ≡ self.now.height * self.now.width }
@@ -54,6 +56,7 @@ impl<P: Pixel> Plane<P> {
         self.width
     }
 
+    /// The rows.
     pub fn height(&self) -> u32
         ensures value { result ≡ self.now.height }
         ensures size { length self.now.cells ≡ self.now.height * self.now.width }
