@@ -17,7 +17,7 @@ regroup : (front : List ℕ) (x : ℕ) (read : Result (List ℕ) ReadFault) → 
 regroup front x (Ok xs) = ap (λ (ys : List ℕ). Ok ys) (simp append_assoc)
 regroup front x (Err f) = refl
 
-pub one_more : (place : ℕ → List ℕ → Result (ℕ × List ℕ) ReadFault) (left : ℕ) (bytes after front : List ℕ) (x : ℕ) → 0 < left
+one_more : (place : ℕ → List ℕ → Result (ℕ × List ℕ) ReadFault) (left : ℕ) (bytes after front : List ℕ) (x : ℕ) → 0 < left
     → place (left - 1) bytes ≡ Ok (x, after)
     → with_front front (plain_at place left bytes) ≡ with_front (front ++ x ∷ []) (plain_at place (left - 1) after)
 unfolding plain_at
@@ -26,7 +26,7 @@ one_more place left bytes after front x lt h =
     let one : with_front front (plain_at place (suc (left - 1)) bytes) ≡ with_front (front ++ x ∷ []) (plain_at place (left - 1) after) = rw h (regroup front x (plain_at place (left - 1) after)) in
     ap (λ n. with_front front (plain_at place n bytes)) k ∙ one
 
-pub one_fault : (place : ℕ → List ℕ → Result (ℕ × List ℕ) ReadFault) (left : ℕ) (bytes : List ℕ) (f : ReadFault) → 0 < left
+one_fault : (place : ℕ → List ℕ → Result (ℕ × List ℕ) ReadFault) (left : ℕ) (bytes : List ℕ) (f : ReadFault) → 0 < left
     → place (left - 1) bytes ≡ Err f → plain_at place left bytes ≡ Err f
 unfolding plain_at
 one_fault place left bytes f lt h =
@@ -34,53 +34,10 @@ one_fault place left bytes f lt h =
     let one : plain_at place (suc (left - 1)) bytes ≡ Err f = rw h refl in
     ap (λ n. plain_at place n bytes) k ∙ one
 
--- whether the raster is read at all, at one place less
-drop_front : (x : ℕ) (read : Result (List ℕ) ReadFault) → fault_of (read >>= λ xs. Ok (x ∷ xs)) ≡ fault_of read
-drop_front x (Ok xs) = refl
-drop_front x (Err f) = refl
-
-pub one_checked : (place : ℕ → List ℕ → Result (ℕ × List ℕ) ReadFault) (left : ℕ) (bytes after : List ℕ) (x : ℕ) → 0 < left
-    → place (left - 1) bytes ≡ Ok (x, after)
-    → fault_of (plain_at place left bytes) ≡ fault_of (plain_at place (left - 1) after)
-unfolding plain_at
-one_checked place left bytes after x lt h =
-    let k : left ≡ suc (left - 1) = omega arith in
-    let one : fault_of (plain_at place (suc (left - 1)) bytes) ≡ fault_of (plain_at place (left - 1) after) = rw h (drop_front x (plain_at place (left - 1) after)) in
-    ap (λ n. fault_of (plain_at place n bytes)) k ∙ one
-
-pub fault_here : (place : ℕ → List ℕ → Result (ℕ × List ℕ) ReadFault) (left : ℕ) (bytes : List ℕ) (f : ReadFault) → 0 < left
-    → place (left - 1) bytes ≡ Err f → fault_of (plain_at place left bytes) ≡ Some f
-fault_here place left bytes f lt h = ap fault_of (one_fault place left bytes f lt h)
-
-pub all_checked : (place : ℕ → List ℕ → Result (ℕ × List ℕ) ReadFault) (left : ℕ) (bytes : List ℕ) → left ≤ 0
+all_checked : (place : ℕ → List ℕ → Result (ℕ × List ℕ) ReadFault) (left : ℕ) (bytes : List ℕ) → left ≤ 0
     → plain_at place left bytes ≡ tail_at bytes
 unfolding plain_at
 all_checked place left bytes le = let e : left ≡ 0 = omega arith in ap (λ n. plain_at place n bytes) e
-
--- after a check no place has a fault
-pub no_fault : (place : ℕ → List ℕ → Result (ℕ × List ℕ) ReadFault) (left : ℕ) (bytes front : List ℕ) (f : ReadFault) (total : Result (List ℕ) ReadFault) → 0 < left
-    → with_front front (plain_at place left bytes) ≡ total → fault_of total ≡ None → place (left - 1) bytes ≡ Err f → ⊥
-no_fault place left bytes front f total lt so_far sound h =
-    let here = one_fault place left bytes f lt h in
-    let e : total ≡ Err f = sym so_far ∙ ap (with_front front) here in
-    let clash : Some f ≡ None = sym (ap fault_of e) ∙ sound in
-    cc
-
-tail_ends : (w : Bool) (front : List ℕ) (total : Result (List ℕ) ReadFault) → with_front front (cond w (Ok []) (Err Trailing)) ≡ total → fault_of total ≡ None → total ≡ Ok front
-tail_ends true front total e sound = sym e ∙ ap (λ (ys : List ℕ). Ok ys) (append-nil front)
-tail_ends false front total e sound =
-    let clash : Some Trailing ≡ None = ap fault_of e ∙ sound in
-    absurd cc
-
-tail_read : (bytes front : List ℕ) (total : Result (List ℕ) ReadFault) → with_front front (tail_at bytes) ≡ total → fault_of total ≡ None → total ≡ Ok front
-unfolding tail_at
-tail_read [] front total e sound = sym e ∙ ap (λ (ys : List ℕ). Ok ys) (append-nil front)
-tail_read (b ∷ bs) front total e sound = tail_ends (is_white b) front total e sound
-
-pub all_read : (place : ℕ → List ℕ → Result (ℕ × List ℕ) ReadFault) (left : ℕ) (bytes front : List ℕ) (total : Result (List ℕ) ReadFault) → left ≤ 0
-    → with_front front (plain_at place left bytes) ≡ total → fault_of total ≡ None → total ≡ Ok front
-all_read place left bytes front total le so_far sound =
-    tail_read bytes front total (ap (with_front front) (sym (all_checked place left bytes le)) ∙ so_far) sound
 
 -- ---- how many of what is read are 1
 
@@ -139,3 +96,30 @@ pub one_filled : {P : Type 0} (level : P → ℕ) (place : ℕ → List ℕ → 
 one_filled level place left bytes after out p s total lt h is so_far =
     let levels : map level (out ++ p ∷ []) ≡ map level out ++ s ∷ [] = map-append level out (p ∷ []) ∙ ap (λ k. map level out ++ k ∷ []) is in
     ap (λ (front : List ℕ). with_front front (plain_at place (left - 1) after)) levels ∙ sym (one_more place left bytes after (map level out) s lt h) ∙ so_far
+
+pub fault_filled : (place : ℕ → List ℕ → Result (ℕ × List ℕ) ReadFault) (left : ℕ) (bytes front : List ℕ) (f : ReadFault) (total : Result (List ℕ) ReadFault) → 0 < left
+    → place (left - 1) bytes ≡ Err f → with_front front (plain_at place left bytes) ≡ total → Err f ≡ total
+fault_filled place left bytes front f total lt h so_far = sym (ap (with_front front) (one_fault place left bytes f lt h)) ∙ so_far
+
+tail_front : (front : List ℕ) (read : Result (List ℕ) ReadFault) (f : ReadFault) → fault_of read ≡ Some f → with_front front read ≡ Err f
+tail_front front (Ok xs) f h = absurd (let clash : None ≡ Some f = h in cc)
+tail_front front (Err g) f h = let same : g ≡ f = cc in ap (λ (k : ReadFault). Err k) same
+
+pub tail_filled : (place : ℕ → List ℕ → Result (ℕ × List ℕ) ReadFault) (left : ℕ) (bytes front : List ℕ) (f : ReadFault) (total : Result (List ℕ) ReadFault) → left ≤ 0
+    → fault_of (tail_at bytes) ≡ Some f → with_front front (plain_at place left bytes) ≡ total → Err f ≡ total
+tail_filled place left bytes front f total le h so_far =
+    sym (tail_front front (tail_at bytes) f h) ∙ ap (with_front front) (sym (all_checked place left bytes le)) ∙ so_far
+
+whole_cases : (front : List ℕ) (w : Bool) → fault_of {X = List ℕ} (cond w (Ok []) (Err Trailing)) ≡ None → with_front front (cond w (Ok []) (Err Trailing)) ≡ Ok front
+whole_cases front true h = ap (λ (ys : List ℕ). Ok ys) (append-nil front)
+whole_cases front false h = absurd (let clash : Some Trailing ≡ None = h in cc)
+
+tail_whole : (front bytes : List ℕ) → fault_of (tail_at bytes) ≡ None → with_front front (tail_at bytes) ≡ Ok front
+unfolding tail_at
+tail_whole front [] h = ap (λ (ys : List ℕ). Ok ys) (append-nil front)
+tail_whole front (b ∷ bs) h = whole_cases front (is_white b) h
+
+pub all_filled : (place : ℕ → List ℕ → Result (ℕ × List ℕ) ReadFault) (left : ℕ) (bytes front : List ℕ) (total : Result (List ℕ) ReadFault) → left ≤ 0
+    → fault_of (tail_at bytes) ≡ None → with_front front (plain_at place left bytes) ≡ total → Ok front ≡ total
+all_filled place left bytes front total le h so_far =
+    sym (tail_whole front bytes h) ∙ ap (with_front front) (sym (all_checked place left bytes le)) ∙ so_far

@@ -32,6 +32,7 @@ raster_as PlainGrey width height maxval bytes = grey_from width height maxval (p
 raster_as RawBits width height maxval bytes = set_from width height (bits_at width height bytes)
 raster_as RawGrey width height maxval bytes = grey_from width height maxval (if nat_lt maxval 256 then grey8_at (height * width) maxval bytes else grey16_at (height * width) maxval bytes)
 
+-- the image of the raster that the header announces
 abbrev pub image_at : Head → List ℕ → Result Picture ReadFault
 image_at h bytes = raster_as h.format h.width h.height h.maxval bytes
 

@@ -14,11 +14,14 @@ use crate::plain::{self, Places};
 use mw_pixel::{Bit, Plane};
 use std::alloc::Global;
 
-/// What a scan tells of a plain bitmap: its sides in pixels, and how many of its pixels are 1.
+/// What a scan tells of a plain bitmap.
 #[derive(Clone, Copy, Debug, PartialEq, Eq)]
 pub struct BitmapFacts {
+    /// In pixels.
     pub width: u32,
+    /// In pixels.
     pub height: u32,
+    /// How many pixels are 1.
     pub ones: u64,
 }
 

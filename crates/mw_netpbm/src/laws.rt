@@ -1,4 +1,4 @@
-//! What holds of files, bitmaps and elements: each law is the contract of an empty function.
+//! What holds of files and bitmaps: each law is the contract of an empty function.
 
 ghost use Rattle.std.specs.Prelude.{◌≡◌, ◌<◌, ◌^◌, ℕ, List};
 ghost use Rattle.mw_model.specs.declared.codes.Code.{Code};

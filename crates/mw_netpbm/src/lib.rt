@@ -14,6 +14,7 @@ pub mod laws;
 mod plain;
 mod raw;
 mod reader;
+mod room;
 mod short;
 mod words;
 mod writer;

@@ -1,11 +1,13 @@
-//! Plain rasters.
+//! Plain rasters: samples as numbers between white space, pixels as single signs.
 
-ghost use Rattle.std.specs.Prelude.{◌≡◌, ◌≤◌, ◌==◌, if◌then◌else◌, IfOk, Ok, None, map};
+ghost use Rattle.std.specs.Prelude.{◌≡◌, ◌≤◌, ℕ, ◌==◌, if◌then◌else◌, IfOk, IfSome, map};
+ghost use Rattle.mw_model.specs.NetpbmGrammar.{IsSample};
 ghost use Rattle.mw_netpbm.specs.Reading.{seen, Gives, fault_of};
 ghost use Rattle.mw_netpbm.specs.Places.{ones_of, place_at, top_of};
 ghost use Rattle.mw_netpbm.specs.Plain.{tail_at, plain_at, bit_at, pixel_at, apart, level_at, sample_at};
 
 use crate::fault::ReadFault;
+use crate::room::has_room;
 use crate::short::short_sample;
 use crate::words::{is_white, number, skip};
 use mw_pixel::Pixel;
@@ -63,14 +65,26 @@ fn any_sample(maxval: u16, left: usize, bytes: &[u8]) -> Result<(u16, &[u8]), Re
     }
 }
 
+/// The sample at the front where it is as short as its maxval. The branch is the same for each sample of a raster.
+#[inline(always)]
+fn likely_sample(maxval: u16, bytes: &[u8]) -> Option<(u32, &[u8])>
+    ensures { IfSome result (λ x. (left : ℕ) → IsSample left bytes.now x.0 x.1.now) }
+{
+    if maxval < 1000 {
+        short_sample(false, bytes)
+    } else {
+        short_sample(true, bytes)
+    }
+}
+
 /// A sample, most often a short one.
 #[inline(always)]
 fn sample(maxval: u16, left: usize, bytes: &[u8]) -> Result<(u16, &[u8]), ReadFault>
     ensures value { seen (λ x. (x.0, x.1.now)) result ≡ sample_at maxval left bytes.now }
     ensures small { IfOk result (λ x. x.0 ≤ maxval) }
 {
-    match short_sample(bytes) {
-        Some((n, rest)) if n <= maxval => Ok((n, rest)),
+    match likely_sample(maxval, bytes) {
+        Some((n, rest)) if n <= u32::from(maxval) => Ok((n as u16, rest)),
         _ => any_sample(maxval, left, bytes),
     }
 }
@@ -128,35 +142,51 @@ pub(crate) fn count_ones(places: Places, count: usize, bytes: &[u8]) -> Result<u
     Ok(ones)
 }
 
-#[tactic(auto, using(crate::proofs::PlainLoop::no_fault, crate::proofs::PlainLoop::one_more, crate::proofs::PlainLoop::all_read))]
+/// What the places hold, or the first fault, in one pass over memory that was asked for ahead of it.
 #[inline(always)]
 fn fill<P: Pixel>(
     alloc: Global,
     places: Places,
     count: usize,
     bytes: &[u8],
-) -> Result<Vec<P>, AllocError>
-    requires fits { top_of places ≤ P.top_level }
-    requires sound { fault_of (plain_at (place_at places) count bytes.now) ≡ None }
-    ensures { IfOk result (λ v. plain_at (place_at places) count bytes.now ≡ Ok (map P.level v.items)) }
+) -> Result<Result<Vec<P>, ReadFault>, AllocError>
+    requires { top_of places ≤ P.top_level }
+    ensures { IfOk result (λ found. seen (λ v. map P.level v.items) found ≡ plain_at (place_at places) count bytes.now) }
 {
     let mut out = Vec::with_capacity(alloc, count)?;
     let mut left = count;
     let mut rest = bytes;
     'places: while left > 0 {
         left -= 1;
-        let Ok((s, after)) = place(places, left, rest) else {
-            unreachable!()
-        };
-        let Some(p) = P::of(s) else { unreachable!() };
-        out.push(p)?;
-        rest = after;
+        match place(places, left, rest) {
+            Ok((s, after)) => {
+                let Some(p) = P::of(s) else { unreachable!() };
+                out.push(p)?;
+                rest = after;
+            }
+            Err(fault) => return Ok(Err(fault)),
+        }
     }
-    Ok(out)
+    if let Err(fault) = tail(rest) {
+        return Ok(Err(fault));
+    }
+    Ok(Ok(out))
 }
 
-/// What the places hold: a pass that checks without memory, and one that fills.
-#[tactic(auto, using(crate::proofs::Faults::Fails_fault))]
+/// The first fault, without memory.
+#[inline(never)]
+fn check(places: Places, count: usize, bytes: &[u8]) -> Result<(), ReadFault>
+    ensures { fault_of result ≡ fault_of (plain_at (place_at places) count bytes.now) }
+{
+    match count_ones(places, count, bytes) {
+        Ok(_ones) => Ok(()),
+        Err(fault) => Err(fault),
+    }
+}
+
+/// What the places hold. A raster that may be too short is checked before memory is asked for; nor is a fault passed over
+/// where memory is refused.
+#[tactic(auto, using(crate::proofs::Faults::Fails_fault, crate::proofs::Faults::Fails_from))]
 #[inline(never)]
 pub(crate) fn samples<P: Pixel>(
     alloc: Global,
@@ -164,11 +194,22 @@ pub(crate) fn samples<P: Pixel>(
     count: usize,
     bytes: &[u8],
 ) -> Result<Vec<P>, ReadFault>
-    requires fits { top_of places ≤ P.top_level }
+    requires { top_of places ≤ P.top_level }
     ensures { Gives (λ v. map P.level v.items) result (plain_at (place_at places) count bytes.now) }
 {
-    if let Err(fault) = count_ones(places, count, bytes) {
-        return Err(fault);
+    if !has_room(matches!(places, Places::Pixels), count, bytes) {
+        if let Err(fault) = check(places, count, bytes) {
+            return Err(fault);
+        }
     }
-    Ok(fill(alloc, places, count, bytes)?)
+    match fill(alloc, places, count, bytes) {
+        Ok(Ok(samples)) => Ok(samples),
+        Ok(Err(fault)) => Err(fault),
+        Err(_refused) => {
+            if let Err(fault) = check(places, count, bytes) {
+                return Err(fault);
+            }
+            Err(ReadFault::NoMemory)
+        }
+    }
 }

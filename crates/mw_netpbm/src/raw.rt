@@ -1,4 +1,4 @@
-//! Raw rasters.
+//! Raw rasters: samples of one or two bytes, or pixels of one bit; by vectors, 64 bytes or pixels at a time.
 
 ghost use Rattle.std.specs.Prelude.{◌≡◌, ℕ, ◌≤◌, ◌<◌, ◌*◌, ◌+◌, ◌/◌, ◌++◌, ◌^◌, List, length, IfOk, OnOk, fold, max, take, drop, vec_len};
 ghost use Rattle.mw_netpbm.specs.Reading.{seen, Gives};

@@ -1,4 +1,4 @@
-//! Reading a whole file.
+//! Reading a whole file: its header says which raster is to follow, and the raster decides.
 
 ghost use Rattle.std.specs.Prelude.{◌≡◌, ℕ, ◌≤◌, ◌<◌, ◌*◌, ◌-◌, ◌^◌, List, length, drop, ◌≢◌, IfOk, IfErr, Ok, Err, true, nat_lt, MatchResult};
 ghost use Rattle.mw_netpbm.specs.Reading.{seen, Gives};
@@ -182,7 +182,8 @@ fn whole_owned(alloc: Global, bytes: Vec<u8>) -> Result<Image, ReadFault>
     }
 }
 
-/// The image that the bytes are a file of, or the first case by which they are none.
+/// The image that the bytes are a file of (pbm(5), pgm(5)), or the first case by which they are none. `NoMemory` comes
+/// only where there is no such case.
 pub fn read(alloc: Global, bytes: &[u8]) -> Result<Image, ReadFault>
     // What is read is what the file shows.
     ensures found { IfOk result (λ i. IsFile bytes.now i) }

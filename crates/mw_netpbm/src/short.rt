@@ -1,9 +1,9 @@
-//! Samples as nearly all plain files have them: white space, one to three digits and white space.
+//! Samples as nearly all plain files have them: white space, a few digits and white space. Up to three digits are looked
+//! for where the maxval has no more, else up to five.
 //!
-//! How many digits there are is no branch of the code, since a processor cannot foresee it: the numbers of one, two and
-//! three digits are all computed, and one is selected. On 4096 x 4096 samples of 8 bits without a pattern, on a busy
-//! machine, both passes over a raster took 11.8 to 18.0 ns a sample; digit by digit they took 25.8 to 36.6 in the same
-//! minutes.
+//! How many digits there are is no branch of the code, since a processor cannot foresee it: the numbers of one digit and
+//! of more are all computed, and one is selected. On 4096 x 4096 samples without a pattern a raster takes 7 to 13 ns a
+//! sample of 8 bits and 8 to 15 ns one of 16; in two passes, the longer samples digit by digit, it took 13 and 39.
 
 ghost use Rattle.std.specs.Prelude.{◌≡◌, ◌≤◌, ◌+◌, ◌-◌, ◌*◌, [], ◌∷◌, ℕ, take, IfSome, IsTrue, if◌then◌else◌};
 ghost use Rattle.mw_model.specs.NetpbmGrammar.{IsNumber, IsSample, is_digit};
@@ -19,47 +19,57 @@ fn is_digit(b: u8) -> bool
 
 /// What a digit counts. Any other byte counts something too, so that nothing branches.
 #[inline(always)]
-fn digit(b: u8) -> u16
+fn digit(b: u8) -> u32
     ensures value { IsTrue (is_digit b) → result ≡ b - 48 }
     ensures small { result ≤ 255 }
 {
-    u16::from(b.wrapping_sub(b'0'))
+    u32::from(b.wrapping_sub(b'0'))
 }
 
-/// The number with another digit, where there is one.
+/// The number with another digit.
 #[inline(always)]
-fn with_digit(n: u16, b: u8, is_more: bool) -> u16
-    requires small { n ≤ 5000 }
-    requires digit { IsTrue is_more → IsTrue (is_digit b) }
-    ensures { result ≡ if is_more then 10 * n + (b - 48) else n }
+fn with_digit(n: u32, b: u8) -> u32
+    requires { n ≤ 300000 }
+    ensures value { IsTrue (is_digit b) → result ≡ 10 * n + (b - 48) }
+    ensures small { result ≤ 10 * n + 255 }
 {
-    let more = 10 * n + digit(b);
-    if is_more { more } else { n }
+    10 * n + digit(b)
 }
 
-/// The number at the front of three bytes, and how many digits it has. The first byte is a digit.
+/// One of two numbers, each with how many digits it has.
 #[inline(always)]
-fn short_number(a: u8, b: u8, c: u8) -> (u16, usize)
+fn selected(is_longer: bool, longer: (u32, usize), shorter: (u32, usize)) -> (u32, usize)
+    ensures { result ≡ if is_longer then longer else shorter }
+{
+    if is_longer { longer } else { shorter }
+}
+
+/// The number at the front of five bytes, and how many digits it has. The first byte is a digit.
+#[inline(always)]
+fn short_number(is_deep: bool, a: u8, b: u8, c: u8, d: u8, e: u8) -> (u32, usize)
     requires { IsTrue (is_digit a) }
-    ensures number { IsNumber (take result.1 (a ∷ b ∷ c ∷ [])) result.0 }
-    ensures count { result.1 ≤ 3 }
+    ensures number { IsNumber (take result.1 (a ∷ b ∷ c ∷ d ∷ e ∷ [])) result.0 }
+    ensures count { result.1 ≤ 5 }
 {
-    let has_two = is_digit(b);
-    let has_three = has_two & is_digit(c);
     let one = digit(a);
-    let two = with_digit(one, b, has_two);
-    let n = with_digit(two, c, has_three);
-    (n, 1 + usize::from(has_two) + usize::from(has_three))
+    let two = with_digit(one, b);
+    let three = with_digit(two, c);
+    let four = with_digit(three, d);
+    let five = with_digit(four, e);
+    let from_four = selected(is_digit(e), (five, 5), (four, 4));
+    let from_three = selected(is_deep & is_digit(d), from_four, (three, 3));
+    let from_two = selected(is_digit(c), from_three, (two, 2));
+    selected(is_digit(b), from_two, (one, 1))
 }
 
 /// The sample at the front, and what follows it, where it is as short as that.
 #[inline(always)]
-pub(crate) fn short_sample(bytes: &[u8]) -> Option<(u16, &[u8])>
+pub(crate) fn short_sample(is_deep: bool, bytes: &[u8]) -> Option<(u32, &[u8])>
     ensures { IfSome result (λ x. (left : ℕ) → IsSample left bytes.now x.0 x.1.now) }
 {
     match bytes {
-        [first, a, b, c, _, ..] if is_white(*first) && is_digit(*a) => {
-            let (n, count) = short_number(*a, *b, *c);
+        [first, a, b, c, d, e, _, ..] if is_white(*first) && is_digit(*a) => {
+            let (n, count) = short_number(is_deep, *a, *b, *c, *d, *e);
             let (_, rest) = bytes.split_at(1 + count);
             match rest {
                 [next, ..] if is_white(*next) => Some((n, rest)),

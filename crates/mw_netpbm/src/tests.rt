@@ -1,3 +1,5 @@
+//! Small files of each format, read and written, and each refusal.
+
 use super::*;
 use mw_model::Code;
 use std::test::*;
@@ -50,6 +52,26 @@ fn plain_files(rt: HostRuntime) -> Result<(), Fail> {
         bench.as_slice(),
         b"P5\n3 2\n255\n\x01\x02\x03\x04\x05\x06".as_slice()
     );
+    Ok(())
+}
+
+/// Samples of each length, and those one over the maxval and one digit too long.
+#[test]
+fn plain_samples_of_each_length(rt: HostRuntime) -> Result<(), Fail> {
+    let deep = rewritten(&rt, b"P2\n6 1\n65535\n7 42\n365 4096 65535 10000 ")?;
+    assert_eq!(rt;
+        deep.as_slice(),
+        b"P5\n6 1\n65535\n\x00\x07\x00\x2a\x01\x6d\x10\x00\xff\xff\x27\x10".as_slice()
+    );
+    let flat = rewritten(&rt, b"P2\n5 1\n999\n7 42 365 007 999 ")?;
+    assert_eq!(rt;
+        flat.as_slice(),
+        b"P5\n5 1\n999\n\x00\x07\x00\x2a\x01\x6d\x00\x07\x03\xe7".as_slice()
+    );
+    assert_eq!(rt; refusal(&rt, b"P2\n3 1\n65535\n1 65536 1 "), 25);
+    assert_eq!(rt; refusal(&rt, b"P2\n3 1\n65535\n1 100000 1 "), 25);
+    assert_eq!(rt; refusal(&rt, b"P2\n3 1\n999\n1 1000 1 "), 25);
+    assert_eq!(rt; refusal(&rt, b"P2\n9 9\n65535\n1 2 3 4 5 6 "), 24);
     Ok(())
 }
 

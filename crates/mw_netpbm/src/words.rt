@@ -1,4 +1,4 @@
-//! White space, comments and numbers.
+//! White space, comments and numbers, as headers and plain rasters have them.
 
 ghost use Rattle.std.specs.Prelude.{◌≡◌, ◌≤◌, ◌^◌, false, IfOk};
 ghost use Rattle.mw_netpbm.specs.Reading.{skip_from, gap_at, number_at, field_at, seen};

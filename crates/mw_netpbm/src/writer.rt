@@ -43,7 +43,9 @@ fn push_words(out: &mut Vec<u8>, samples: &[u16]) -> Result<(), AllocError>
 /// The text of an image in two parts: what was made of it, and behind that what lies in the image as it is written.
 #[derive(Drop)]
 pub struct Text<'a> {
+    /// The header, and the raster where it had to be made.
     pub front: Vec<u8>,
+    /// The samples of one byte each, as the image holds them.
     pub rest: &'a [u8],
 }
 
@@ -182,7 +184,7 @@ pub fn parts(alloc: Global, image: &Image) -> Result<Text<'_>, NoMemory>
     Ok(text)
 }
 
-/// The one text of an image.
+/// The one text of an image, raw (pbm(5), pgm(5)), or `NoMemory`.
 pub fn write(alloc: Global, image: &Image) -> Result<Vec<u8>, NoMemory>
     ensures { IfOk result (λ v. v.items ≡ text_of image.now) }
 {
