@@ -89,7 +89,7 @@ impl Element {
         Shape::Element(self.width, self.height)
     }
 
-    /// The element with each offset turned round.
+    /// The element with each offset turned round, or `NoMemory`.
     pub fn reflect(&self, alloc: Global) -> Result<Element, NoMemory>
         ensures { IfOk result (λ e. e ≡ figure self.now.width self.now.height (negated self.now.offsets)) }
     {

@@ -2,9 +2,8 @@
 
 ghost use Rattle.std.specs.Prelude.{◌≡◌};
 ghost use Rattle.mw_element.specs.Faults.{element_code_of};
-ghost use Rattle.mw_element.specs.declared.fault.ElementFault.TheVariants as fault;
 
-use mw_model::{Code, NoMemory};
+use mw_model::Code;
 use mw_netpbm::BitmapFault;
 
 /// Why bytes with an origin are no element: the first case that holds, from top to bottom. Memory stands apart.
@@ -30,13 +29,5 @@ impl ElementFault {
             ElementFault::Empty => Code::Empty,
             ElementFault::NoMemory => Code::Memory,
         }
-    }
-}
-
-impl From<NoMemory> for ElementFault {
-    ghost from_gives = { λ _ e. e ≡ fault.NoMemory };
-
-    fn from(_error: NoMemory) -> ElementFault {
-        ElementFault::NoMemory
     }
 }

@@ -1,3 +1,5 @@
+//! Small elements: their offsets, origins, reaches and boxes, and each refusal.
+
 use super::*;
 use mw_model::Shape;
 use std::test::*;
@@ -119,6 +121,8 @@ fn rectangles(rt: HostRuntime) -> Result<(), Fail> {
 fn refusals_in_order(rt: HostRuntime) {
     assert_eq!(rt; refusal(&rt, b"x", 0, 0), 30);
     assert_eq!(rt; refusal(&rt, b"P1\n1\n", 0, 0), 21);
+    assert_eq!(rt; refusal(&rt, b"P1\n0 1\n", 0, 0), 22);
+    assert_eq!(rt; refusal(&rt, b"P1\n1 0\n", 0, 0), 22);
     assert_eq!(rt; refusal(&rt, b"P1\n256 1\n", 0, 0), 22);
     assert_eq!(rt; refusal(&rt, b"P1\n2 1\n1", 9, 9), 24);
     assert_eq!(rt; refusal(&rt, b"P1\n2 1\n12", 9, 9), 25);

@@ -30,6 +30,7 @@ impl AnyWindow {
         }
     }
 
+    /// The columns of the frame.
     pub fn frame_width(&self) -> u32
         ensures { result ≡ (levels_of self.now).frame_width }
     {
@@ -40,6 +41,7 @@ impl AnyWindow {
         }
     }
 
+    /// The rows of the frame.
     pub fn frame_height(&self) -> u32
         ensures { result ≡ (levels_of self.now).frame_height }
     {

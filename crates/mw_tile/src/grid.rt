@@ -37,6 +37,7 @@ impl Grid {
     ghost use Rattle.mw_model.specs.Places.{grown, IsWithin};
     ghost use Rattle.mw_tile.specs.Grids.{columns_of, rows_of, tile_count, tile_at, tiling};
 
+    /// The tiles of a frame of so many columns and rows, squares of this side in pixels.
     pub fn new(width: u32, height: u32, side: u32) -> Grid
         requires width { (1 ≤ width) × (width ≤ 8192) }
         requires height { (1 ≤ height) × (height ≤ 8192) }
@@ -50,6 +51,7 @@ impl Grid {
         }
     }
 
+    /// The columns of the frame.
     pub fn width(self) -> u32
         ensures value { result ≡ self.width }
         ensures some { 1 ≤ result }
@@ -58,6 +60,7 @@ impl Grid {
         self.width
     }
 
+    /// The rows of the frame.
     pub fn height(self) -> u32
         ensures value { result ≡ self.height }
         ensures some { 1 ≤ result }
@@ -66,6 +69,7 @@ impl Grid {
         self.height
     }
 
+    /// The side of a tile, in pixels.
     pub fn side(self) -> u32
         ensures value { result ≡ self.side }
         ensures some { 64 ≤ result }

@@ -95,12 +95,14 @@ impl<P: Pixel> Window<P> {
         }
     }
 
+    /// The columns of the frame.
     pub fn frame_width(&self) -> u32
         ensures { result ≡ self.now.frame_width }
     {
         self.frame_width
     }
 
+    /// The rows of the frame.
     pub fn frame_height(&self) -> u32
         ensures { result ≡ self.now.frame_height }
     {
