@@ -4,3 +4,4 @@ pub mod Blocks
 pub mod Differences
 pub mod Parts
 pub mod Halves
+pub mod Marks

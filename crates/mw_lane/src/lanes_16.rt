@@ -1,8 +1,9 @@
 //! Rows of 16-bit samples.
-ghost use Rattle.std.specs.Prelude.{◌≡◌, ℕ, ◌-◌, length};
+ghost use Rattle.std.specs.Prelude.{◌≡◌, ℕ, ◌-◌, nat_le, if◌then◌else◌, length, map};
 ghost use lib.Lanes.{zip2};
 
 use super::Lanes;
+use mw_pixel::Bit;
 use std::simd::Simd;
 use std::simd::prelude::*;
 
@@ -16,6 +17,19 @@ fn differences(a: &[u16], b: &[u16]) -> Simd<u16, 64>
     let first = Simd::<u16, 64>::from_slice(a);
     let second = Simd::<u16, 64>::from_slice(b);
     first.simd_max(second) - second
+}
+
+/// 1 for each of 64 samples that is `k` or more, else 0.
+#[inline(always)]
+fn marks(samples: &[u16], k: u16) -> [u16; 64]
+    requires { length samples.now ≡ 64 }
+    ensures { result ≡ map (λ s. if nat_le k s then 1 else 0) samples.now }
+{
+    let levels = Simd::<u16, 64>::from_slice(samples);
+    levels
+        .simd_ge(Simd::<u16, 64>::splat(k))
+        .select(Simd::<u16, 64>::splat(1), Simd::<u16, 64>::splat(0))
+        .to_array()
 }
 
 impl Lanes for u16 {
@@ -39,6 +53,14 @@ impl Lanes for u16 {
     #[inline(always)]
     fn subtract_block(acc: &mut [u16], other: &[u16]) {
         differences(acc, other).copy_to_slice(acc);
+    }
+
+    #[inline(always)]
+    fn threshold_block(src: &[u16], k: u16, out: &mut [Bit]) {
+        let marks = marks(src, k);
+        for i in 0..64 {
+            out[i] = Bit::new(marks[i] != 0);
+        }
     }
 
     #[inline(always)]

@@ -1,8 +1,9 @@
 //! Rows of bytes.
-ghost use Rattle.std.specs.Prelude.{◌≡◌, ℕ, ◌-◌, length};
+ghost use Rattle.std.specs.Prelude.{◌≡◌, ℕ, ◌-◌, nat_le, if◌then◌else◌, length, map};
 ghost use lib.Lanes.{zip2};
 
 use super::Lanes;
+use mw_pixel::Bit;
 use std::simd::Simd;
 use std::simd::prelude::*;
 
@@ -16,6 +17,22 @@ fn differences(a: &[u8], b: &[u8]) -> Simd<u8, 64>
     let first = Simd::<u8, 64>::from_slice(a);
     let second = Simd::<u8, 64>::from_slice(b);
     first.simd_max(second) - second
+}
+
+/// 1 for each of 64 samples that is `k` or more, else 0.
+#[inline(always)]
+fn marks(samples: &[u8], k: u16) -> [u8; 64]
+    requires { length samples.now ≡ 64 }
+    ensures { result ≡ map (λ s. if nat_le k s then 1 else 0) samples.now }
+{
+    if k > 255 {
+        return [0; 64];
+    }
+    let levels = Simd::<u8, 64>::from_slice(samples);
+    levels
+        .simd_ge(Simd::<u8, 64>::splat(k as u8))
+        .select(Simd::<u8, 64>::splat(1), Simd::<u8, 64>::splat(0))
+        .to_array()
 }
 
 impl Lanes for u8 {
@@ -39,6 +56,14 @@ impl Lanes for u8 {
     #[inline(always)]
     fn subtract_block(acc: &mut [u8], other: &[u8]) {
         differences(acc, other).copy_to_slice(acc);
+    }
+
+    #[inline(always)]
+    fn threshold_block(src: &[u8], k: u16, out: &mut [Bit]) {
+        let marks = marks(src, k);
+        for i in 0..64 {
+            out[i] = Bit::new(marks[i] != 0);
+        }
     }
 
     #[inline(always)]

@@ -1,9 +1,8 @@
 //! Kernels over whole rows of samples: the extremum of two rows, their difference, the set of the samples from a level
 //! on, and whether two rows are equal.
 //!
-//! Each does its work 64 samples at a time, by vector code for bytes and 16-bit samples but in `threshold_row`, which has
-//! a plain loop over each 64; and one at a time for the rest of a row. Its contract is the plain loop, so a caller never
-//! sees which samples went through vectors.
+//! Each does its work 64 samples at a time, by vector code for bytes and 16-bit samples, and one at a time for the rest
+//! of a row. Its contract is the plain loop, so a caller never sees which samples went through vectors.
 //!
 //! ```text
 //! combine_rows::<u8, Min>(&mut nearest, &other);  // nearest[i] = min(nearest[i], other[i])

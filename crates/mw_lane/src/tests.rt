@@ -1,5 +1,7 @@
 //! Each kernel beside its plain loop, on lengths 0 to 200.
-use super::{combine_ahead, combine_rows, equal_rows, subtract_rows, threshold_row};
+use super::{
+    combine_ahead, combine_rows, combine_shifted, equal_rows, subtract_rows, threshold_row,
+};
 use mw_pixel::{Bit, Max, Min};
 use std::alloc::{AllocError, Global};
 use std::test::Fail;
@@ -52,6 +54,27 @@ fn extrema_of_rows(rt: HostRuntime) -> Result<(), Fail> {
         combine_rows::<u16, Max>(made.as_mut_slice(), other.as_slice());
         for ((made, a), b) in made.iter().zip(before.iter()).zip(other.iter()) {
             assert_eq!(rt; *made, (*a).max(*b));
+        }
+    }
+    Ok(())
+}
+
+#[test]
+fn extrema_of_sets(rt: HostRuntime) -> Result<(), Fail> {
+    for n in 0..201 {
+        let mut both = bits(rt.alloc(), n, 7)?;
+        let mut either = bits(rt.alloc(), n, 7)?;
+        let before = bits(rt.alloc(), n, 7)?;
+        let other = bits(rt.alloc(), n, 90)?;
+        assert_eq!(rt; both.len(), other.len());
+        combine_rows::<Bit, Min>(both.as_mut_slice(), other.as_slice());
+        for ((made, a), b) in both.iter().zip(before.iter()).zip(other.iter()) {
+            assert_eq!(rt; made.is_set(), a.is_set() && b.is_set());
+        }
+        assert_eq!(rt; either.len(), other.len());
+        combine_rows::<Bit, Max>(either.as_mut_slice(), other.as_slice());
+        for ((made, a), b) in either.iter().zip(before.iter()).zip(other.iter()) {
+            assert_eq!(rt; made.is_set(), a.is_set() || b.is_set());
         }
     }
     Ok(())
@@ -157,6 +180,75 @@ fn a_row_merged_with_itself(rt: HostRuntime) -> Result<(), Fail> {
             .enumerate()
         {
             assert_eq!(rt; *made, if i < n { (*a).max(*b) } else { *a });
+        }
+    }
+    Ok(())
+}
+
+#[test]
+fn a_row_merged_with_itself_further_on(rt: HostRuntime) -> Result<(), Fail> {
+    for shift in 0..101 {
+        let mut made = bytes(rt.alloc(), 300, 7)?;
+        let before = bytes(rt.alloc(), 300, 7)?;
+        assert_eq!(rt; made.len(), 300);
+        combine_ahead::<u8, Min>(made.as_mut_slice(), shift, 200);
+        for ((made, a), b) in made
+            .iter()
+            .zip(before.iter())
+            .zip(before.iter().skip(shift))
+            .take(200)
+        {
+            assert_eq!(rt; *made, (*a).min(*b));
+        }
+        for (made, a) in made.iter().zip(before.iter()).skip(200) {
+            assert_eq!(rt; *made, *a);
+        }
+    }
+    Ok(())
+}
+
+/// The greater of two samples, where there is a second.
+fn greater(a: u8, other: Option<&u8>) -> u8 {
+    match other {
+        Some(b) => a.max(*b),
+        None => a,
+    }
+}
+
+#[test]
+fn a_row_merged_with_a_shifted_row(rt: HostRuntime) -> Result<(), Fail> {
+    let row = bytes(rt.alloc(), 150, 90)?;
+    let before = bytes(rt.alloc(), 200, 7)?;
+    for (shift, away) in [
+        (0i64, 0usize),
+        (1, 1),
+        (64, 64),
+        (70, 70),
+        (149, 149),
+        (250, 250),
+    ] {
+        let mut made = bytes(rt.alloc(), 200, 7)?;
+        combine_shifted::<u8, Max>(row.as_slice(), shift, made.as_mut_slice());
+        for (x, (made, a)) in made.iter().zip(before.iter()).enumerate() {
+            let there = row.as_slice().get(x.saturating_add(away));
+            assert_eq!(rt; *made, greater(*a, there));
+        }
+    }
+    for (shift, away) in [
+        (-1i64, 1usize),
+        (-64, 64),
+        (-70, 70),
+        (-199, 199),
+        (-250, 250),
+    ] {
+        let mut made = bytes(rt.alloc(), 200, 7)?;
+        combine_shifted::<u8, Max>(row.as_slice(), shift, made.as_mut_slice());
+        for (x, (made, a)) in made.iter().zip(before.iter()).enumerate() {
+            let there = match x.checked_sub(away) {
+                Some(at) => row.as_slice().get(at),
+                None => None,
+            };
+            assert_eq!(rt; *made, greater(*a, there));
         }
     }
     Ok(())
