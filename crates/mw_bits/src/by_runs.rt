@@ -17,9 +17,8 @@ ghost use Rattle.mw_bits.specs.Layouts.{laid_bits, AreNear, IsNear};
 use crate::shifting::{combine_ahead, combine_from};
 use crate::spread::spread;
 use crate::trimming::trimmed;
-use crate::words::stride;
+use crate::words::{repeated, stride};
 use crate::{WordExtremum, Words};
-use mw_line::filled;
 use mw_model::{NoMemory, Rect};
 use mw_offset::{Extent, Run, columns_after, first_column, first_row, rows_after, start_of_run};
 use std::alloc::Global;
@@ -153,7 +152,7 @@ pub(crate) fn extremum_by_runs<E: WordExtremum>(
     let column = first_column(tile, laid, place);
     let row = first_row(tile, laid, place);
     let mut cells = spread::<E>(alloc, set, column, row, wide, high)?;
-    let mut out = filled(alloc, (height - 1) * wide + stride, E::neutral_word())?;
+    let mut out = repeated(alloc, (height - 1) * wide + stride, E::neutral_word())?;
     combine_runs::<E>(
         runs,
         laid,

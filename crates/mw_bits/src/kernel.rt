@@ -11,9 +11,8 @@ ghost use Rattle.mw_bits.specs.Packed.{bit_of, stride_of, IsPacked};
 use crate::by_runs::{extremum_by_runs, is_near};
 use crate::spread::spread_rows;
 use crate::trimming::trimmed;
-use crate::words::stride;
+use crate::words::{repeated, stride};
 use crate::{WordExtremum, Words};
-use mw_line::filled;
 use mw_model::{NoMemory, Offset, Rect};
 use mw_offset::{extent_of, runs_of};
 use std::alloc::Global;
@@ -58,7 +57,7 @@ fn extremum_by_offsets<E: WordExtremum>(
     ensures cells { IfOk result (λ v. (x y : ℕ) → x < tile.width → y < tile.height → bit_of v.items (y * (64 * stride_of tile.width) + x) ≡ fold E.merge (E.neutral_of 1) (seen_under (seen_at set.now) offsets.now (tile.x + x) (tile.y + y))) }
 {
     let stride = stride(tile.width);
-    let mut cells = filled(alloc, tile.height as usize * stride, E::neutral_word())?;
+    let mut cells = repeated(alloc, tile.height as usize * stride, E::neutral_word())?;
     combine_offsets::<E>(set, offsets, tile, stride, cells.as_mut_slice());
     let made = trimmed(alloc, cells.as_slice(), stride, tile.width, tile.height)?;
     Ok(made)

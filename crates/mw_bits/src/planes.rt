@@ -5,8 +5,7 @@ ghost use Rattle.mw_bits.specs.Packed.{bit_of, stride_of, IsPacked, samples_of};
 
 use crate::packing::pack_row;
 use crate::unpacking::unpack_row;
-use crate::words::{Words, stride};
-use mw_line::filled;
+use crate::words::{Words, repeated, stride};
 use mw_model::NoMemory;
 use mw_pixel::{Bit, Plane, copies};
 use mw_tile::Window;
@@ -47,7 +46,7 @@ impl Words {
         ensures { IfOk result (λ w. w ≡ window.now) }
     {
         let place = window.place();
-        let mut words = filled(alloc, place.height as usize * stride(place.width), 0u64)?;
+        let mut words = repeated(alloc, place.height as usize * stride(place.width), 0u64)?;
         pack_rows(window, words.as_mut_slice());
         Ok(Words::new(window.frame_width(), window.frame_height(), place, words))
     }

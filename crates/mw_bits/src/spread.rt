@@ -5,8 +5,8 @@ ghost use Rattle.mw_lane.specs.Shifted.{merge_at};
 ghost use Rattle.mw_bits.specs.Packed.{bit_of};
 
 use crate::window_rows::combine_window_row;
+use crate::words::repeated;
 use crate::{WordExtremum, Words};
-use mw_line::filled;
 use mw_model::NoMemory;
 use std::alloc::Global;
 
@@ -50,7 +50,7 @@ pub(crate) fn spread<E: WordExtremum>(
     ensures size { IfOk result (λ v. vec_len v ≡ high * wide + 1) }
     ensures cells { IfOk result (λ v. (x y : ℕ) → x < 64 * wide → y < high → bit_of v.items (y * (64 * wide) + x) ≡ merge_at E.merge (E.neutral_of 1) (cell_at (raster set.now.place.width set.now.place.height set.now.cells) (column +ℤ pos x) (row +ℤ pos y))) }
 {
-    let mut cells = filled(alloc, high * wide + 1, E::neutral_word())?;
+    let mut cells = repeated(alloc, high * wide + 1, E::neutral_word())?;
     spread_rows::<E>(set, column, row, wide, high, cells.as_mut_slice());
     Ok(cells)
 }

@@ -2,8 +2,7 @@
 ghost use Rattle.std.specs.Prelude.{◌≡◌, ℕ, ◌+◌, ◌-◌, ◌*◌, ◌/◌, ◌<◌, ◌≤◌, ◌^◌, length, vec_len, if◌then◌else◌, nat_lt, IfOk};
 ghost use Rattle.mw_bits.specs.Packed.{bit_of, stride_of, IsPacked};
 
-use crate::words::stride;
-use mw_line::filled;
+use crate::words::{repeated, stride};
 use mw_model::NoMemory;
 use std::alloc::Global;
 
@@ -53,7 +52,7 @@ pub(crate) fn trimmed(
     ensures packed { IfOk result (λ v. IsPacked width high v.items) }
     ensures bits { IfOk result (λ v. (x y : ℕ) → x < width → y < high → bit_of v.items (y * (64 * stride_of width) + x) ≡ bit_of cells.now (y * (64 * wide) + x)) }
 {
-    let mut out = filled(alloc, high as usize * stride(width), 0u64)?;
+    let mut out = repeated(alloc, high as usize * stride(width), 0u64)?;
     trim_rows(cells, wide, width, high as usize, out.as_mut_slice());
     Ok(out)
 }

@@ -1,9 +1,10 @@
 //! The type of packed sets.
-ghost use Rattle.std.specs.Prelude.{◌≡◌, ℕ, ◌+◌, ◌*◌, ◌/◌, ◌<◌, ◌≤◌, ◌^◌, length, slice_index};
+ghost use Rattle.std.specs.Prelude.{◌≡◌, ℕ, ◌+◌, ◌*◌, ◌/◌, ◌<◌, ◌≤◌, ◌^◌, length, slice_index, replicate, IfOk};
 ghost use Rattle.mw_tile.specs.Cuts.{view_of};
 ghost use Rattle.mw_bits.specs.Packed.{bit_of, stride_of, samples_of, IsPacked};
 
-use mw_model::Rect;
+use mw_model::{NoMemory, Rect};
+use std::alloc::Global;
 use std::marker::Model;
 
 /// The samples of a rectangle of a set, with the sides of the frame. Each row stands in words of its own, 64 pixels a
@@ -37,6 +38,14 @@ pub(crate) fn stride(width: u32) -> usize
     (width as usize + 63) / 64
 }
 
+/// That many words, all alike.
+pub(crate) fn repeated(alloc: Global, count: usize, word: u64) -> Result<Vec<u64>, NoMemory>
+    ensures { IfOk result (λ v. v.items ≡ replicate count word) }
+{
+    let words = vec![in alloc; word; count]?;
+    Ok(words)
+}
+
 impl Words {
     pub(crate) fn new(frame_width: u32, frame_height: u32, place: Rect, words: Vec<u64>) -> Words
         requires { IsPacked place.width place.height words.items }
@@ -50,12 +59,14 @@ impl Words {
         }
     }
 
+    /// The columns of the frame.
     pub fn frame_width(&self) -> u32
         ensures { result ≡ self.now.frame_width }
     {
         self.frame_width
     }
 
+    /// The rows of the frame.
     pub fn frame_height(&self) -> u32
         ensures { result ≡ self.now.frame_height }
     {

@@ -25,7 +25,6 @@ mod window_rows;
 pub use doubling::slide_by;
 pub use laws::{sliding_maximum_is_dilation, sliding_minimum_is_erosion};
 pub use mw_model::NoMemory;
-pub use padding::filled;
 pub use rectangles::rectangle;
 pub use sliding::line;
 pub use steps::Steps;

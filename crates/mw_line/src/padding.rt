@@ -4,6 +4,7 @@ ghost use lib.IntN.{neg_ℤ};
 ghost use Rattle.mw_model.specs.Places.{nonnegative, span};
 
 use crate::NoMemory;
+use mw_pixel::{Pixel, copies};
 use std::alloc::Global;
 
 /// How many places a window has before its own.
@@ -38,17 +39,8 @@ pub(crate) fn places(a: i32, b: i32) -> usize
     (i64::from(b) - i64::from(a) + 1) as usize
 }
 
-/// That many copies of a sample.
-pub fn filled<P: Copy>(alloc: Global, count: usize, sample: P) -> Result<Vec<P>, NoMemory>
-    ensures { IfOk result (λ v. v.items ≡ replicate count sample) }
-{
-    let mut samples = Vec::new(alloc);
-    samples.resize(count, sample)?;
-    Ok(samples)
-}
-
 /// The samples from `skip` on, with neutral samples before and after them.
-pub(crate) fn padded<P: Copy>(
+pub(crate) fn padded<P: Pixel>(
     alloc: Global,
     src: &[P],
     left: usize,
@@ -59,7 +51,7 @@ pub(crate) fn padded<P: Copy>(
     requires { left + (length src.now + right) < 2 ^ 64 }
     ensures { IfOk result (λ v. v.items ≡ replicate left neutral ++ (drop (min skip (length src.now)) src.now ++ replicate right neutral)) }
 {
-    let mut samples = filled(alloc, left, neutral)?;
+    let mut samples = copies(alloc, left, neutral)?;
     samples.extend_from_slice(&src[skip.min(src.len())..])?;
     samples.resize(samples.len() + right, neutral)?;
     Ok(samples)

@@ -18,9 +18,8 @@ use crate::places::combine_places;
 use crate::runs::{Extent, Run};
 use crate::spread::{narrowed, spread};
 use mw_lane::combine_ahead;
-use mw_line::filled;
 use mw_model::{NoMemory, Rect};
-use mw_pixel::{Extremum, Pixel};
+use mw_pixel::{Extremum, Pixel, copies};
 use mw_tile::Window;
 use std::alloc::Global;
 
@@ -150,7 +149,7 @@ pub(crate) fn extremum_by_runs<P: Pixel, E: Extremum<P>>(
     let column = first_column(tile, extent, place);
     let row = first_row(tile, extent, place);
     let mut cells = spread::<P, E>(alloc, window, column, row, wide, high, neutral)?;
-    let mut out = filled(alloc, (height - 1) * wide + width, neutral)?;
+    let mut out = copies(alloc, (height - 1) * wide + width, neutral)?;
     combine_runs::<P, E>(
         alloc,
         runs,

@@ -10,9 +10,9 @@ ghost use Rattle.mw_line.specs.Extrema.{IsSlidingExtremum};
 
 use crate::runs::{Extent, extent_of, runs_of};
 use crate::strips::extremum_by_strips;
-use mw_line::{combine_window_row, filled};
+use mw_line::combine_window_row;
 use mw_model::{NoMemory, Offset, Rect};
-use mw_pixel::{Extremum, Pixel, Plane};
+use mw_pixel::{Extremum, Pixel, Plane, copies};
 use mw_tile::Window;
 use std::alloc::Global;
 
@@ -107,7 +107,7 @@ fn extremum_by_offsets<P: Pixel, E: Extremum<P>>(
     ensures size { IfOk result (λ v. vec_len v ≡ tile.height * tile.width) }
     ensures cells { IfOk result (λ v. (x y : ℕ) → x < tile.width → y < tile.height → slice_index_or v.items (y * tile.width + x) neutral ≡ fold E.merge neutral (seen_under (seen_at window.now) offsets.now (tile.x + x) (tile.y + y))) }
 {
-    let mut samples = filled(alloc, tile.height as usize * tile.width as usize, neutral)?;
+    let mut samples = copies(alloc, tile.height as usize * tile.width as usize, neutral)?;
     combine_tile::<P, E>(window, offsets, tile, samples.as_mut_slice());
     Ok(samples)
 }
@@ -144,7 +144,7 @@ fn extremum_samples<P: Pixel, E: Extremum<P>>(
 }
 
 /// The extremum of the neutral sample and what the window has under the element, at each place of the tile. Where the
-/// window has all that the frame has there, this is the extremum over the frame.
+/// window has all that the frame has there, this is the extremum over the frame. It may want memory (`NoMemory`).
 pub fn extremum<P: Pixel, E: Extremum<P>>(
     alloc: Global,
     window: &Window<P>,

@@ -11,8 +11,11 @@ use std::alloc::Global;
 /// Offsets that stand beside one another in a row, from the left.
 #[derive(Clone, Copy)]
 pub struct Run {
+    /// The first column.
     pub dx: i16,
+    /// The row.
     pub dy: i16,
+    /// How many columns, from 1 on.
     pub count: u32,
 }
 

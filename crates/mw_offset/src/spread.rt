@@ -3,9 +3,9 @@ ghost use Rattle.std.specs.Prelude.{◌≡◌, ℕ, ◌+◌, ◌-◌, ◌*◌, �
 ghost use Rattle.mw_model.specs.Rasters.{raster, cell_at};
 ghost use Rattle.mw_lane.specs.Shifted.{merge_at};
 
-use mw_line::{combine_window_row, filled};
+use mw_line::combine_window_row;
 use mw_model::NoMemory;
-use mw_pixel::{Extremum, Pixel};
+use mw_pixel::{Extremum, Pixel, copies};
 use mw_tile::Window;
 use std::alloc::Global;
 
@@ -50,7 +50,7 @@ pub(crate) fn spread<P: Pixel, E: Extremum<P>>(
     ensures cells { IfOk result (λ v. (x y : ℕ) → x < wide → y < high → slice_index_or v.items (y * wide + x) neutral ≡ merge_at E.merge neutral (cell_at (raster window.now.place.width window.now.place.height window.now.cells) (column +ℤ pos x) (row +ℤ pos y))) }
 {
     let count = high.checked_mul(wide).ok_or(NoMemory)?;
-    let mut cells = filled(alloc, count, neutral)?;
+    let mut cells = copies(alloc, count, neutral)?;
     spread_rows::<P, E>(window, column, row, wide, high, cells.as_mut_slice());
     Ok(cells)
 }

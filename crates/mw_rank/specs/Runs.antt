@@ -13,6 +13,7 @@ abbrev pub offsets_from : Offset → ℕ → List Offset
 offsets_from b zero = []
 offsets_from b (suc n) = b ∷ offsets_from (next_offset b) n
 
+-- all offsets of a run
 abbrev pub offsets_of : Run → List Offset
 offsets_of r = offsets_from r.start (suc r.more)
 

@@ -1,4 +1,4 @@
-//! The rank filter.
+//! The rank filter by a moving histogram, after Huang, Yang and Tang (1979).
 //!
 //! ```text
 //! let median = rank(alloc, &window, offsets, (offsets.len() as u32 + 1) / 2, tile)?;

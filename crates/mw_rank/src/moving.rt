@@ -332,7 +332,8 @@ fn rank_samples<P: Pixel>(
 
 /// At each place of the tile, of the samples that the window has under the element in rising order, number k, counted
 /// from 1, or the last where there are fewer; 0 where there is none. Where the window has all that the frame has there,
-/// this is the rank filter of the frame. The element has fewer than 65,536 offsets, as the counters have 16 bits.
+/// this is the rank filter of the frame. The element has fewer than 65,536 offsets, as the counters have 16 bits. It
+/// may want memory (`NoMemory`).
 pub fn rank<P: Pixel>(
     alloc: Global,
     window: &Window<P>,

@@ -38,6 +38,7 @@ pub struct TaskRefused {
 impl TaskRefused {
     ghost use Rattle.std.specs.Prelude.{◌≡◌};
 
+    /// The numbers of the task.
     pub fn task(&self) -> TaskId
         ensures { result ≡ self.now.task }
     {
@@ -54,6 +55,7 @@ impl TileDone {
     ghost use Rattle.mw_step.specs.WindowTasks.{FitsStep, IsBounded, tile_made};
     ghost use Rattle.mw_step.specs.Products.{IsMade};
 
+    /// The numbers of the task.
     pub fn task(&self) -> TaskId
         ensures { result ≡ self.now.task }
     {
@@ -67,6 +69,7 @@ impl TileDone {
         self.work.rect()
     }
 
+    /// The step that was made in the tile.
     pub fn step(&self) -> &Step
         ensures { meaning result.now ≡ self.now.step }
     {

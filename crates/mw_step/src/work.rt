@@ -56,6 +56,7 @@ impl Work {
         }
     }
 
+    /// The numbers of the task.
     pub fn task(&self) -> TaskId
         ensures { result ≡ self.now.task }
     {
@@ -69,6 +70,7 @@ impl Work {
         self.rect
     }
 
+    /// The step that is made in the tile.
     pub fn step(&self) -> &Step
         ensures { meaning result.now ≡ self.now.step }
     {

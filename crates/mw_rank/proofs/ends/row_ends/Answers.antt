@@ -1,4 +1,4 @@
-use Rattle.std.proofs.Common.{◌≡◌, List, [], arith, get_or, length, pos, rules, subst, sym, take}
+use Rattle.std.proofs.Common.{◌≡◌, List, [], arith, get_or, pos, rules, subst, sym, take}
 use Rattle.std.proofs.lemmas.List.{get_or_default, take_all}
 use Rattle.mw_model.specs.Windows.{seen_at}
 use Rattle.mw_rank.specs.Ends.{AreEnds}

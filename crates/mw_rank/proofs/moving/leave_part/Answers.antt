@@ -1,4 +1,4 @@
-use Rattle.std.proofs.Common.{◌++◌, List, arith, map, drop, subst}
+use Rattle.std.proofs.Common.{◌++◌, List, arith, map, subst}
 use Rattle.std.proofs.lemmas.List.{drop_all}
 use Rattle.mw_rank.specs.Tallies.{Tallies}
 use Rattle.mw_rank.proofs.Parts.{sample_left, length-left}

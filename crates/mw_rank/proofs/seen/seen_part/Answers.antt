@@ -1,4 +1,4 @@
-use Rattle.std.proofs.Common.{◌≡◌, ◌+◌, ◌+ℤ◌, ◌-ℤ◌, pos, ℤ, suc, ap, arith, sym, to_z, of_z, w64, ◌∙◌}
+use Rattle.std.proofs.Common.{◌≡◌, ◌+ℤ◌, ◌-ℤ◌, pos, ℤ, suc, ap, arith, sym, to_z, of_z, w64}
 use Rattle.std.proofs.lemmas.Int.{ints}
 use Rattle.mw_model.specs.declared.places.Rect.{Rect}
 use Rattle.mw_rank.proofs.Parts.{part_seen, part_unseen, clamp_rises}
