@@ -1,24 +1,24 @@
 -- What is kept goes on agreeing with the machine.
-use Rattle.std.proofs.Common.{◌≡◌, ◌≢◌, ◌↔◌, ℕ, ◌+◌, ◌<◌, Bool, true, false, cond, not, ◌⊎◌, inl, inr, List, [], ◌∷◌, ◌++◌, length, get_or, set, nat_eq, Option, Some, None, IsSome, refl, sym, ap, ◌∙◌, subst, arith, length-append}
+use Rattle.std.proofs.Common.{◌≡◌, ◌≢◌, ℕ, ◌<◌, Bool, true, false, cond, not, ◌⊎◌, inl, inr, List, [], ◌∷◌, ◌++◌, length, get_or, set, nat_eq, Option, Some, None, IsSome, refl, sym, ap, ◌∙◌, subst, arith, length-append}
 use Rattle.std.specs.Prelude.{◌&&◌}
 use Rattle.std.specs.List.{AllByRecursion, list_any}
-use Rattle.std.proofs.lemmas.List.{get_or-set_same, get_or-set_other, length-set, get_or_past}
+use Rattle.std.proofs.lemmas.List.{get_or-set_same, get_or-set_other, get_or_past}
 use Rattle.std.proofs.lemmas.Bool.{cases_lt, cases_eq, cases_Bool, eqb-true}
 use Rattle.mw_model.specs.declared.names.Name.{Name}
 use Rattle.mw_model.specs.declared.submissions.Submission.{Submission}
 use Rattle.mw_model.specs.declared.calls.Outcome.{Outcome}
 use Rattle.mw_model.specs.declared.calls.Outcome.TheVariants as outcome
 use Rattle.mw_model.specs.Values.{Value, tickets, value_at, value_of}
-use Rattle.mw_model.specs.Refusals.{Table, no_submission, outcome_at, submission_at, is_pending, is_dead, is_released, is_there}
+use Rattle.mw_model.specs.Refusals.{Table, no_submission, outcome_at, is_pending, is_dead, is_released, is_there}
 use Rattle.mw_model.specs.Machine.{Machine, values, with_entry, with_table, killed, settled}
-use Rattle.mw_model.specs.Stands.{Agrees, is_wanted, inputs_of}
+use Rattle.mw_model.specs.Stands.{Agrees, is_wanted}
 use Rattle.mw_laws.specs.MachineLaws.{IsSound}
 use Rattle.mw_laws.proofs.RunTables.{push_front, push_last}
 use Rattle.mw_laws.proofs.RunValues.{values_push, length_values}
 use Rattle.mw_laws.proofs.RunSteps.{pushed}
 use Rattle.mw_store.proofs.CascadeLemmas.{Fate}
 use Rattle.mw_store.specs.Stored.{is_spent, DropsSpent}
-use Rattle.mw_core.proofs.FateLemmas.{Waits, wanted-by, wanted-at, killed-fate, fate-pending, fate-there, there-stays}
+use Rattle.mw_core.proofs.FateLemmas.{wanted-by, wanted-at, killed-fate, fate-pending, fate-there, there-stays}
 
 -- ---- one entry more
 

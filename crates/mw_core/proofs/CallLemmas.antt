@@ -1,12 +1,10 @@
 -- What follows for a session call from the parts of its event.
-use Rattle.std.proofs.Common.{◌≡◌, ◌≢◌, ℕ, ◌+◌, ◌<◌, Bool, true, false, cond, not, inl, inr, List, [], ◌∷◌, ◌++◌, length, map, Option, Some, None, IsSome, Result, Ok, Err, IfOk, OnOk, OnErr, refl, sym, ap, ◌∙◌, subst, arith, append-nil}
-use Rattle.std.specs.List.{AllByRecursion}
+use Rattle.std.proofs.Common.{◌≡◌, ℕ, ◌+◌, ◌<◌, Bool, true, false, cond, not, List, [], ◌∷◌, ◌++◌, length, map, Option, Some, None, Result, Ok, Err, IfOk, OnOk, refl, sym, ap, ◌∙◌, subst, arith, append-nil}
 use Rattle.mw_model.specs.declared.names.Name.{Name}
 use Rattle.mw_model.specs.declared.shapes.Shape.{Shape}
 use Rattle.mw_model.specs.declared.operations.Op.{Op}
 use Rattle.mw_model.specs.declared.operations.Op.TheVariants as op
 use Rattle.mw_model.specs.declared.operations.FlatOp.TheVariants as flat
-use Rattle.mw_model.specs.declared.submissions.Submission.{Submission}
 use Rattle.mw_model.specs.declared.codes.Code.{Code}
 use Rattle.mw_model.specs.declared.codes.Code.TheVariants as code
 use Rattle.mw_model.specs.declared.calls.Outcome.{Outcome}
@@ -19,9 +17,9 @@ use Rattle.mw_model.specs.declared.calls.Reply.TheVariants as reply
 use Rattle.mw_model.specs.declared.calls.LogItem.TheVariants as item
 use Rattle.mw_model.specs.Pictures.{Picture, IsImage}
 use Rattle.mw_model.specs.Elements.{Figure, IsFigure}
-use Rattle.mw_model.specs.Values.{Value, ImageValue, ElementValue, tickets, value_of, shape_of_picture, shape_of_figure}
-use Rattle.mw_model.specs.Refusals.{Table, Wanted, AnImage, AnElement, ticket, ticket_of, shape_at, is_image, is_element, when, input_case, outcome_at, is_pending, is_dead, is_released, is_there, first_of, name_taken, no_room, wanted_case, inputs_wanted, refusal}
-use Rattle.mw_model.specs.Machine.{Machine, Step, IsWith, values, answer, refused_or, reply_to, reply_from, after, with_entry, with_table, killed, settled, given_submission, run_submission, ticket_wanted, unless_refused}
+use Rattle.mw_model.specs.Values.{Value, ImageValue, ElementValue, shape_of_picture, shape_of_figure}
+use Rattle.mw_model.specs.Refusals.{Table, Wanted, AnImage, AnElement, ticket, ticket_of, shape_at, is_image, is_element, when, input_case, outcome_at, is_pending, is_dead, is_released, first_of, name_taken, no_room, wanted_case, inputs_wanted, refusal}
+use Rattle.mw_model.specs.Machine.{Machine, IsWith, reply_to, reply_from, after, with_entry, with_table, killed, settled, given_submission, run_submission, ticket_wanted, unless_refused}
 use Rattle.mw_model.specs.PlanSteps.{Erode, Dilate}
 use Rattle.mw_model.specs.Tasks.{Progress}
 use Rattle.mw_laws.specs.MachineLaws.{IsSound}
@@ -33,9 +31,8 @@ use Rattle.mw_core.specs.Facts.{IsComplete}
 use Rattle.mw_core.specs.Changes.{KeepsWork}
 use Rattle.mw_core.specs.Events.{Serves, WorkStays}
 use Rattle.mw_core.specs.Faults.{IsFault}
-use Rattle.mw_core.specs.Planned.{step_of, IsPlanned}
+use Rattle.mw_core.specs.Planned.{IsPlanned}
 use Rattle.mw_model.specs.Lines.{is_served}
-use Rattle.mw_core.specs.Work.{one_task}
 use Rattle.mw_core.proofs.AgreeLemmas.{agrees-push, agrees-released}
 use Rattle.mw_core.proofs.GivenLemmas.{ElementsGiven, elements-given}
 use Rattle.mw_core.proofs.PlannedLemmas.{has-both, planned-work}

@@ -1,13 +1,12 @@
 -- What a kill makes of the entries, and who still waits for whom.
-use Rattle.std.proofs.Common.{◌≡◌, ◌≢◌, ℕ, zero, suc, ◌+◌, ◌<◌, ◌≤◌, Bool, true, false, ◌⊎◌, inl, inr, List, [], ◌∷◌, length, set, nat_eq, refl, sym, ap, ◌∙◌, subst, arith, zero-add}
+use Rattle.std.proofs.Common.{◌≡◌, ℕ, zero, suc, ◌+◌, ◌<◌, Bool, true, false, inl, inr, [], length, set, nat_eq, refl, sym, ap, ◌∙◌, subst, arith, zero-add}
 use Rattle.std.specs.Prelude.{◌&&◌}
 use Rattle.std.specs.List.{list_any, range_with_len}
 use Rattle.std.proofs.lemmas.List.{get_or-set_same, get_or-set_other, get_or_past, length-set}
 use Rattle.std.proofs.lemmas.Bool.{cases_lt, cases_eq}
 use Rattle.mw_model.specs.declared.calls.Outcome.{Outcome}
 use Rattle.mw_model.specs.declared.calls.Outcome.TheVariants as outcome
-use Rattle.mw_model.specs.Values.{tickets}
-use Rattle.mw_model.specs.Refusals.{Table, outcome_at, submission_at, is_pending, is_dead, is_there}
+use Rattle.mw_model.specs.Refusals.{Table, outcome_at, is_pending, is_dead, is_there}
 use Rattle.mw_model.specs.Machine.{killed, spread}
 use Rattle.mw_model.specs.Stands.{is_wanted, inputs_of}
 use Rattle.mw_laws.proofs.RunCascade.{length_killed}

@@ -1,9 +1,8 @@
 -- What a FETCH hands out is the value of the ticket.
-use Rattle.std.proofs.Common.{◌≡◌, ◌≢◌, ◌↔◌, ℕ, ◌<◌, Bool, true, false, not, List, [], ◌∷◌, Option, Some, None, IsSome, length, refl, sym, ap, ◌∙◌, subst}
+use Rattle.std.proofs.Common.{◌≡◌, ◌≢◌, ◌↔◌, ℕ, ◌<◌, Bool, true, false, List, Option, Some, None, IsSome, length, refl, sym, ap, ◌∙◌, subst}
 use Rattle.std.specs.Prelude.{option_map, is_some, ◌||◌, ◌&&◌}
 use Rattle.mw_model.specs.declared.names.Name.{Name}
 use Rattle.mw_model.specs.declared.shapes.Shape.{Shape}
-use Rattle.mw_model.specs.declared.shapes.Shape.TheVariants as shape
 use Rattle.mw_model.specs.declared.codes.Code.{Code}
 use Rattle.mw_model.specs.declared.codes.Code.TheVariants as code
 use Rattle.mw_model.specs.declared.calls.Outcome.{Outcome}
@@ -14,8 +13,8 @@ use Rattle.mw_model.specs.declared.calls.Reply.TheVariants as reply
 use Rattle.mw_model.specs.Values.{Value, ImageValue, ElementValue, CurveValue, image_of, value_at, shape_of_figure}
 use Rattle.mw_model.specs.Refusals.{Table, ticket, ticket_of, outcome_at, shape_at, is_element, is_done, is_released, is_there, when, refusal}
 use Rattle.mw_model.specs.Machine.{Machine, values, answer, fetch_reply, refused_or, reply_to, reply_from}
-use Rattle.mw_model.specs.Stands.{Seen, StandsFor, Agrees, is_wanted}
-use Rattle.mw_laws.specs.MachineLaws.{IsSound, shape_of_value}
+use Rattle.mw_model.specs.Stands.{Seen, StandsFor, is_wanted}
+use Rattle.mw_laws.specs.MachineLaws.{shape_of_value}
 use Rattle.mw_laws.proofs.RunTables.{is_known, ticket_is, ticket_within, when_so}
 use Rattle.mw_core.specs.Events.{handed_out}
 use Rattle.mw_core.specs.Fetches.{IsShown, IsPlateOf, ShowsSome, shown_value}

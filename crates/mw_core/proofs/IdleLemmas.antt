@@ -1,19 +1,17 @@
 -- Where no task is ready and none is running, nothing is pending.
-use Rattle.std.proofs.Common.{◌≡◌, ◌≢◌, ℕ, zero, suc, ◌+◌, ◌*◌, ◌/◌, ◌<◌, ◌≤◌, Bool, true, false, cond, not, ◌⊎◌, inl, inr, List, [], ◌∷◌, length, map, sum, count_by, nat_eq, Option, Some, refl, sym, ap, ◌∙◌, subst, arith, zero-add, add-one}
+use Rattle.std.proofs.Common.{◌≡◌, ℕ, zero, suc, ◌+◌, ◌*◌, ◌/◌, ◌<◌, ◌≤◌, Bool, true, false, cond, not, ◌⊎◌, inl, inr, List, [], ◌∷◌, length, map, sum, count_by, nat_eq, refl, sym, ap, ◌∙◌, subst, arith, zero-add, add-one}
 use Rattle.std.specs.Prelude.{◌&&◌, ◌||◌}
-use Rattle.std.specs.Option.{option_map_or}
 use Rattle.std.specs.List.{AllByRecursion, range_with_len, list_all, list_any}
 use Rattle.std.proofs.lemmas.Bool.{cases_lt, cases_Bool, eqb-true}
 use Rattle.std.proofs.lemmas.List.FromFn.{length-range_with_len, get_or-range_with_len}
 use Rattle.std.proofs.lemmas.List.Sums.{get_or-le-sum_by, sum_by-cons}
 use Rattle.std.proofs.lemmas.Nat.{le-div}
 use Rattle.std.proofs.Math.Nat.{div-mul-le_self}
-use Rattle.mw_model.specs.declared.calls.Outcome.TheVariants as outcome
 use Rattle.mw_model.specs.Refusals.{Table, outcome_at, is_pending, is_there}
 use Rattle.mw_model.specs.Machine.{Machine}
 use Rattle.mw_model.specs.Plans.{Source, FromInput, FromStep, IsSourceAt, images_of}
 use Rattle.mw_model.specs.Tasks.{Progress, flag, task_count, step_number, planned_of, is_step, meets, reads, place_of_task, tile_of_task, is_ready, is_running, ready_tasks, running_tasks}
-use Rattle.mw_model.specs.Stands.{Seen, StandsFor, IsWork, progress_at, inputs_of, inputs_there, input_values, may_run, ready_under, ready_count, running_count}
+use Rattle.mw_model.specs.Stands.{Seen, StandsFor, IsWork, inputs_of, inputs_there, input_values, may_run, ready_under, ready_count, running_count}
 use Rattle.mw_core.specs.Counts.{NonePending}
 use Rattle.mw_laws.proofs.RunWaiting.{one_can_finish}
 use Rattle.mw_core.specs.Counts.{running_under}

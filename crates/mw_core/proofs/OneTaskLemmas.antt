@@ -1,23 +1,22 @@
 -- Work of one task: what is ready, running and left of it, and its value.
-use Rattle.std.proofs.Common.{◌≡◌, ℕ, zero, suc, ◌+◌, ◌<◌, ◌≤◌, Bool, true, false, cond, not, ◌&&◌, ◌⊎◌, inl, inr, List, [], ◌∷◌, length, get_or, set, slice_get, Option, Some, None, refl, sym, ap, ◌∙◌, subst, arith, lit<, lit≤}
+use Rattle.std.proofs.Common.{◌≡◌, ℕ, zero, suc, ◌<◌, ◌≤◌, Bool, true, false, cond, ◌&&◌, inl, inr, List, [], ◌∷◌, get_or, set, Option, Some, None, refl, sym, ap, ◌∙◌, subst, arith, lit<}
 use Rattle.std.specs.Prelude.{option_map, nat_lt}
 use Rattle.std.specs.Option.{option_map_or}
-use Rattle.std.specs.List.{AllByRecursion}
-use Rattle.std.proofs.lemmas.List.{length-set, get_or-set_same, get_or-set_other}
+use Rattle.std.proofs.lemmas.List.{length-set, get_or-set_other}
 use Rattle.std.proofs.lemmas.Bool.{cases_eq, cases_Bool}
 use Rattle.mw_model.specs.declared.shapes.Shape.{Shape}
 use Rattle.mw_model.specs.declared.shapes.Shape.TheVariants as shape
 use Rattle.mw_model.specs.Places.{rect}
 use Rattle.mw_model.specs.Pictures.{Picture}
-use Rattle.mw_model.specs.Values.{Value, ImageValue, CurveValue, value_at, shape_of_picture}
-use Rattle.mw_model.specs.Refusals.{Table, submission_at}
+use Rattle.mw_model.specs.Values.{Value, ImageValue, CurveValue, value_at}
+use Rattle.mw_model.specs.Refusals.{submission_at}
 use Rattle.mw_model.specs.Machine.{Machine, values}
 use Rattle.mw_model.specs.Elements.{reach_of}
 use Rattle.mw_model.specs.PlanSteps.{PlanStep, looks_at, Erode, Dilate, ErodeBox, DilateBox, Rank, Minus, AtLeast, Invert, Meet, Join, Blank, Mark, MarkLast, Equal, Sum}
 use Rattle.mw_model.specs.Plans.{images_of, no_picture, planes, plane_of, value_of_planes, numbers_from, is_sum}
 use Rattle.mw_model.specs.Tasks.{Progress, flag, task_count, planned_of, is_ready, is_running, ready_tasks, remaining_tasks, place_read}
-use Rattle.mw_model.specs.Stands.{Seen, IsWork, may_run, is_ready_at, ready_under, progress_at, input_values, inputs_there, true_planes}
-use Rattle.mw_laws.specs.MachineLaws.{IsSound, shape_of_value}
+use Rattle.mw_model.specs.Stands.{Seen, IsWork, may_run, is_ready_at, ready_under, progress_at, input_values, inputs_there}
+use Rattle.mw_laws.specs.MachineLaws.{shape_of_value}
 use Rattle.mw_step.specs.WindowTasks.{FitsStep, KindsFit, source_count}
 use Rattle.mw_store.specs.Frames.{whole_window}
 use Rattle.mw_core.specs.Work.{one_task, is_extremum}

@@ -1,33 +1,29 @@
 -- The work of an accepted command means its command.
-use Rattle.std.proofs.Common.{◌≡◌, ℕ, zero, suc, ◌+◌, ◌-◌, ◌<◌, ◌≤◌, Bool, true, false, List, [], ◌∷◌, ◌++◌, length, map, get_or, Option, Some, None, IsSome, refl, sym, ap, ◌∙◌, subst, arith, length-append, lit≤, lit<}
+use Rattle.std.proofs.Common.{◌≡◌, ℕ, zero, suc, ◌+◌, ◌<◌, true, false, List, [], ◌∷◌, length, map, get_or, Option, Some, None, refl, sym, ap, ◌∙◌, subst, arith, length-append, lit≤, lit<}
 use Rattle.std.specs.Prelude.{option_map}
 use Rattle.std.specs.List.{AllByRecursion}
 use Rattle.mw_model.specs.declared.names.Name.{Name}
-use Rattle.mw_model.specs.declared.places.Offset.{Offset}
 use Rattle.mw_model.specs.declared.shapes.Kind.{Kind}
 use Rattle.mw_model.specs.declared.shapes.Shape.{Shape}
 use Rattle.mw_model.specs.declared.shapes.Shape.TheVariants as shape
 use Rattle.mw_model.specs.declared.operations.Op.{Op}
-use Rattle.mw_model.specs.declared.operations.Op.TheVariants as op
-use Rattle.mw_model.specs.declared.operations.FlatOp.TheVariants as flat
 use Rattle.mw_model.specs.declared.submissions.Submission.{Submission}
 use Rattle.mw_model.specs.declared.submissions.Command.TheVariants as command
 use Rattle.mw_model.specs.declared.calls.Outcome.TheVariants as outcome
-use Rattle.mw_model.specs.Places.{Holds, CoverOnce, rect}
+use Rattle.mw_model.specs.Places.{CoverOnce, rect}
 use Rattle.mw_model.specs.Pictures.{Picture}
 use Rattle.mw_model.specs.Elements.{Figure}
 use Rattle.mw_model.specs.Values.{Value, ImageValue, ElementValue, CurveValue, value_at, value_of, tickets, result_of, shape_of_picture, shape_of_figure}
-use Rattle.mw_model.specs.Refusals.{Table, AnImage, AnElement, ticket_of, no_submission, submission_at, shape_at, is_image, first_of, wanted_case}
-use Rattle.mw_model.specs.Machine.{Machine, values, run_submission, shape_named}
+use Rattle.mw_model.specs.Refusals.{AnImage, AnElement, ticket_of, no_submission, submission_at, shape_at, is_image, first_of, wanted_case}
+use Rattle.mw_model.specs.Machine.{Machine, values, shape_named}
 use Rattle.mw_model.specs.PlanSteps.{PlanStep}
 use Rattle.mw_model.specs.Plans.{IsSourceAt, images_of, planes, value_of_planes, plane_of}
-use Rattle.mw_model.specs.Tasks.{nothing_planned, flag}
-use Rattle.mw_model.specs.Stands.{IsWork, Agrees, inputs_of, input_values, inputs_there}
+use Rattle.mw_model.specs.Tasks.{nothing_planned}
+use Rattle.mw_model.specs.Stands.{IsWork, Agrees, input_values}
 use Rattle.mw_laws.specs.MachineLaws.{IsSound, shape_of_value}
-use Rattle.mw_laws.proofs.RunTables.{push_front, push_last, first_none, input_found, ticket_is, ticket_within}
+use Rattle.mw_laws.proofs.RunTables.{push_front, push_last, first_none, input_found, ticket_is}
 use Rattle.mw_laws.proofs.RunSteps.{pushed}
 use Rattle.mw_core.specs.Work.{one_task}
-use Rattle.mw_core.specs.Planned.{step_of, IsPlanned}
 use Rattle.mw_core.proofs.AgreeLemmas.{values-pushed, values-long}
 use Rattle.mw_core.proofs.GivenLemmas.{ElementsGiven}
 use Rattle.mw_core.proofs.RefusalLemmas.{element-found, kept-element}

@@ -1,5 +1,5 @@
 -- Runs of one item more, and what follows from an answer.
-use Rattle.std.proofs.Common.{List, [], ◌∷◌, ◌++◌, refl, subst, Result, Ok, Err, OnOk, IfOk}
+use Rattle.std.proofs.Common.{List, [], ◌∷◌, ◌++◌, refl, subst, Result, Ok, Err, OnOk}
 use Rattle.mw_model.specs.declared.calls.LogItem.{LogItem}
 use Rattle.mw_model.specs.Machine.{Machine, Run, Step}
 

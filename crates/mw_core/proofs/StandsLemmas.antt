@@ -1,21 +1,18 @@
 -- The core goes on standing for the machine.
-use Rattle.std.proofs.Common.{◌≡◌, ◌≢◌, ℕ, ◌+◌, ◌<◌, Bool, true, false, cond, ◌⊎◌, inl, inr, List, [], ◌∷◌, ◌++◌, length, set, Option, Some, None, refl, sym, ap, ◌∙◌, subst, arith, length-append, append-nil}
-use Rattle.std.specs.List.{AllByRecursion}
+use Rattle.std.proofs.Common.{◌≡◌, ◌≢◌, ℕ, ◌+◌, ◌<◌, Bool, true, false, cond, inl, inr, List, [], ◌∷◌, ◌++◌, length, set, Option, Some, None, refl, sym, ap, ◌∙◌, subst, arith, length-append}
 use Rattle.std.proofs.lemmas.List.{get_or-set_same, get_or-set_other, get_or_past}
 use Rattle.std.proofs.lemmas.Bool.{cases_lt, cases_eq}
 use Rattle.mw_model.specs.declared.names.Name.{Name}
 use Rattle.mw_model.specs.declared.submissions.Submission.{Submission}
-use Rattle.mw_model.specs.declared.codes.Code.{Code}
 use Rattle.mw_model.specs.declared.calls.Outcome.{Outcome}
 use Rattle.mw_model.specs.declared.calls.Outcome.TheVariants as outcome
 use Rattle.mw_model.specs.declared.calls.Call.{Call}
 use Rattle.mw_model.specs.declared.calls.Reply.{Reply}
-use Rattle.mw_model.specs.declared.calls.Reply.TheVariants as reply
 use Rattle.mw_model.specs.declared.calls.LogItem.{LogItem}
 use Rattle.mw_model.specs.declared.calls.LogItem.TheVariants as item
-use Rattle.mw_model.specs.Values.{Value, tickets, value_at, value_of}
-use Rattle.mw_model.specs.Refusals.{Table, outcome_at, is_pending, is_dead, is_released, is_there, refusal}
-use Rattle.mw_model.specs.Machine.{Machine, Run, Step, IsWith, start_state, values, answer, refused_or, reply_from, reply_to, after, with_entry, with_table, killed, settled}
+use Rattle.mw_model.specs.Values.{Value}
+use Rattle.mw_model.specs.Refusals.{Table, outcome_at, is_pending, is_dead, is_there, refusal}
+use Rattle.mw_model.specs.Machine.{Machine, Run, Step, IsWith, start_state, answer, refused_or, reply_from, reply_to, after, with_entry, with_table, killed, settled}
 use Rattle.mw_model.specs.Tasks.{Progress}
 use Rattle.mw_model.specs.Stands.{Seen, StandsFor, Agrees, IsWork, progress_at}
 use Rattle.mw_laws.specs.MachineLaws.{IsSound}
@@ -30,7 +27,7 @@ use Rattle.mw_core.proofs.RunLemmas.{run-push}
 use Rattle.mw_core.proofs.GivenLemmas.{elements-given}
 use Rattle.mw_core.proofs.RefusalLemmas.{refusal-kept}
 use Rattle.mw_core.proofs.FateLemmas.{killed-fate, fate-pending}
-use Rattle.mw_core.proofs.AgreeLemmas.{AgreesBefore, agrees-push, agrees-dropped, agrees-killed, agrees-done, agrees-released}
+use Rattle.mw_core.proofs.AgreeLemmas.{AgreesBefore, agrees-dropped, agrees-killed}
 use Rattle.mw_core.proofs.WorkLemmas.{work-pushed, work-killed, work-settled}
 
 -- ---- what is known of the machine

@@ -1,32 +1,27 @@
 -- Events on tasks, for each machine that the core stands for.
 use Rattle.std.specs.Prelude.{option_map}
-use Rattle.std.proofs.Common.{◌≡◌, ◌≢◌, ◌↔◌, ℕ, zero, ◌+◌, ◌<◌, ◌≤◌, Bool, true, false, ◌&&◌, ◌⊎◌, inl, inr, List, [], ◌∷◌, ◌++◌, length, set, get_or, slice_get, Option, Some, None, IsSome, refl, sym, ap, ◌∙◌, subst, arith}
+use Rattle.std.proofs.Common.{◌≡◌, ◌≢◌, ◌↔◌, ℕ, ◌<◌, ◌≤◌, Bool, true, false, ◌&&◌, inl, inr, List, [], ◌∷◌, ◌++◌, length, set, get_or, slice_get, Option, Some, None, IsSome, refl, sym, ap, ◌∙◌, subst, arith}
 use Rattle.std.specs.List.{AllByRecursion}
 use Rattle.std.proofs.lemmas.List.{get_or-set_same, get_or-set_other, get_or_past}
 use Rattle.std.proofs.lemmas.Bool.{cases_lt, cases_eq}
 use Rattle.mw_model.specs.declared.calls.Outcome.TheVariants as outcome
-use Rattle.mw_model.specs.declared.calls.LogItem.{LogItem}
 use Rattle.mw_model.specs.declared.calls.LogItem.TheVariants as item
 use Rattle.mw_model.specs.declared.tasks.TaskId.{TaskId}
-use Rattle.mw_model.specs.Places.{rect}
 use Rattle.mw_model.specs.Pictures.{Picture, IsPicture}
-use Rattle.mw_model.specs.Values.{Value, ImageValue, value_at}
-use Rattle.mw_model.specs.Refusals.{Table, outcome_at, submission_at, is_pending, is_there}
-use Rattle.mw_model.specs.Machine.{Machine, values, CanFinish, CanDie, with_table, killed, settled}
-use Rattle.mw_model.specs.PlanSteps.{PlanStep}
+use Rattle.mw_model.specs.Values.{ImageValue, value_at}
+use Rattle.mw_model.specs.Refusals.{Table, outcome_at, is_pending, is_there}
+use Rattle.mw_model.specs.Machine.{Machine, values, CanFinish, CanDie, killed, settled}
 use Rattle.mw_model.specs.Plans.{IsSourceAt, images_of, plane_of}
-use Rattle.mw_model.specs.Tasks.{Progress, flag, task_count, nothing_planned, planned_of, step_number, tile_number, is_running, remaining_tasks}
-use Rattle.mw_model.specs.Stands.{Seen, StandsFor, IsWork, progress_at, inputs_of, inputs_there, input_values, may_run, is_ready_at, ready_under, ready_count, remaining_of}
+use Rattle.mw_model.specs.Tasks.{Progress, flag, nothing_planned, planned_of, step_number, tile_number, remaining_tasks}
+use Rattle.mw_model.specs.Stands.{Seen, StandsFor, IsWork, progress_at, inputs_of, inputs_there, input_values, ready_under, remaining_of}
 use Rattle.mw_laws.proofs.RunCascade.{pending_is}
-use Rattle.mw_step.specs.WindowTasks.{WindowTask, FitsStep, tile_made}
-use Rattle.mw_store.specs.Frames.{whole_window}
+use Rattle.mw_step.specs.WindowTasks.{WindowTask, tile_made}
 use Rattle.mw_store.specs.Stored.{DropsSpent}
 use Rattle.mw_core.specs.Facts.{IsComplete}
 use Rattle.mw_core.specs.Changes.{KeepsWork}
-use Rattle.mw_core.specs.Work.{one_task}
 use Rattle.mw_core.specs.Sources.{kept_inputs, first_image, only_task, true_task}
-use Rattle.mw_core.specs.KeptTasks.{IsOneTask, IsPlain, IsKeptTask, IsKeptWork, IsKeptResult, IsKeptRunning, with_started}
-use Rattle.mw_core.specs.TaskEvents.{Kills, Begins, IsResult, Settles, IsOpen, IsUnderway}
+use Rattle.mw_core.specs.KeptTasks.{IsOneTask, IsPlain, IsKeptWork, IsKeptResult, IsKeptRunning, with_started}
+use Rattle.mw_core.specs.TaskEvents.{Kills, Begins, IsResult, Settles, IsUnderway}
 use Rattle.mw_core.proofs.AgreeLemmas.{agrees-done}
 use Rattle.mw_core.proofs.CallLemmas.{dies-work}
 use Rattle.mw_core.proofs.LimitLemmas.{shapes-fit}

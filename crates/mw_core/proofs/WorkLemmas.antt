@@ -1,6 +1,5 @@
 -- Work stays what it is while the machine goes on.
-use Rattle.std.proofs.Common.{◌≡◌, ◌≢◌, ℕ, ◌+◌, ◌<◌, Bool, true, false, cond, ◌⊎◌, inl, inr, List, [], ◌∷◌, ◌++◌, length, map, set, get_or, Option, Some, None, refl, sym, ap, ◌∙◌, subst, arith, length-append}
-use Rattle.std.specs.Prelude.{◌&&◌}
+use Rattle.std.proofs.Common.{◌≡◌, ℕ, ◌<◌, Bool, true, false, inl, inr, List, [], ◌∷◌, length, map, set, get_or, Option, None, refl, sym, ap, ◌∙◌, subst, arith}
 use Rattle.std.specs.List.{AllByRecursion, list_all}
 use Rattle.std.proofs.lemmas.List.{get_or-set_same, get_or-set_other, get_or_past}
 use Rattle.std.proofs.lemmas.Bool.{cases_lt, cases_eq, cases_Bool}
@@ -10,17 +9,15 @@ use Rattle.mw_model.specs.declared.calls.Outcome.{Outcome}
 use Rattle.mw_model.specs.declared.calls.Outcome.TheVariants as outcome
 use Rattle.mw_model.specs.Pictures.{Picture}
 use Rattle.mw_model.specs.Values.{Value, tickets, value_at}
-use Rattle.mw_model.specs.Refusals.{Table, no_submission, outcome_at, submission_at, is_pending, is_dead, is_there}
-use Rattle.mw_model.specs.Machine.{Machine, values, with_entry, with_table, killed, settled}
+use Rattle.mw_model.specs.Refusals.{no_submission, outcome_at, submission_at, is_dead, is_there}
+use Rattle.mw_model.specs.Machine.{Machine, values, with_table, killed, settled}
 use Rattle.mw_model.specs.Plans.{IsSourceAt, images_of, planes, value_of_planes}
 use Rattle.mw_model.specs.Tasks.{Progress, nothing_planned, planned_of, tile_of_task, sources_of, made_of_planes}
-use Rattle.mw_model.specs.Stands.{Seen, IsWork, progress_at, inputs_of, inputs_there, input_values}
+use Rattle.mw_model.specs.Stands.{IsWork, inputs_of, inputs_there, input_values}
 use Rattle.mw_laws.specs.MachineLaws.{IsSound}
-use Rattle.mw_laws.proofs.RunTables.{push_front, push_last}
+use Rattle.mw_laws.proofs.RunTables.{push_front}
 use Rattle.mw_laws.proofs.RunSteps.{pushed}
-use Rattle.mw_store.proofs.CascadeLemmas.{Fate}
-use Rattle.mw_core.specs.Changes.{KeepsWork}
-use Rattle.mw_core.proofs.FateLemmas.{killed-fate, fate-pending, there-stays}
+use Rattle.mw_core.proofs.FateLemmas.{killed-fate, there-stays}
 use Rattle.mw_core.proofs.AgreeLemmas.{values-pushed, values-long}
 
 -- work is told by the submission, its value, the values of its inputs, and whether these are there

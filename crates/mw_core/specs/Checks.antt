@@ -25,12 +25,15 @@ state_case o = first_of (when (is_dead o) code.Dead ∷ when (is_released o) cod
 abbrev pub kept_offsets : List (Option Value) → ℕ → List Offset
 kept_offsets kept t = unwrap_or (offsets_of (value_at kept t)) []
 
+-- why an input is refused, if one is: the first such case
 abbrev pub inputs_case : Table → List Wanted → Option Code
 inputs_case w wanted = first_of (map (wanted_case w) wanted)
 
+-- why an operation on images is refused, if it is: an input, then what it asks of them
 abbrev pub flat_case : Table → List (Option Value) → FlatOp → Option Code
 flat_case w values o = first_of (inputs_case w (inputs_wanted (op.Flat o)) ∷ first_of (op_cases w values (op.Flat o)) ∷ [])
 
+-- the same of a spectrum
 abbrev pub gran_case : Table → List (Option Value) → GranOp → Option Code
 gran_case w values o = first_of (inputs_case w (inputs_wanted (op.Gran o)) ∷ first_of (op_cases w values (op.Gran o)) ∷ [])
 

@@ -1,14 +1,21 @@
--- Lists of events, and what the machine of one thread does at them (own).
-use Rattle.std.specs.Prelude.{ℕ, ◌≡◌, ◌≢◌, true, List, [], ◌∷◌, Option, None, Result, Ok, Err}
+-- Lists of events, and what the core and the machine of one thread do at them (own).
+use Rattle.std.specs.Prelude.{ℕ, ◌≡◌, ◌≢◌, ◌++◌, true, List, [], ◌∷◌, Option, None, IsSome, ◌↔◌, Result, Ok, Err}
 use Rattle.std.specs.Result.{ForOk}
+use Rattle.mw_model.specs.declared.codes.Code.TheVariants as code
+use Rattle.mw_model.specs.declared.tasks.TaskId.{TaskId}
 use Rattle.mw_model.specs.declared.calls.Outcome.TheVariants as outcome
 use Rattle.mw_model.specs.declared.calls.Call.{Call}
 use Rattle.mw_model.specs.declared.calls.Call.TheVariants as call
 use Rattle.mw_model.specs.declared.calls.Reply.{Reply}
+use Rattle.mw_model.specs.declared.calls.Reply.TheVariants as reply
+use Rattle.mw_model.specs.declared.calls.LogItem.TheVariants as item
 use Rattle.mw_model.specs.Pictures.{IsImage}
 use Rattle.mw_model.specs.Values.{Value}
 use Rattle.mw_model.specs.Refusals.{refusal}
-use Rattle.mw_model.specs.Machine.{Machine, CanFinish, CanDie, with_table, settled, killed, after, reply_to}
+use Rattle.mw_model.specs.Machine.{Machine, with_table, settled, killed, after, reply_to}
+use Rattle.mw_model.specs.Lines.{is_served}
+use Rattle.mw_model.specs.Stands.{Seen, StandsFor}
+use Rattle.mw_step.specs.WindowTasks.{WindowTask}
 use Rattle.mw_core.specs.declared.answers.Started.{Started}
 use Rattle.mw_core.specs.declared.answers.Started.TheVariants as started
 use Rattle.mw_core.specs.declared.answers.Finish.{Finish}
@@ -20,10 +27,11 @@ use Rattle.mw_core.specs.declared.events.Event.{Event}
 use Rattle.mw_core.specs.declared.events.Event.TheVariants as event
 use Rattle.mw_core.specs.declared.events.Answer.{Answer}
 use Rattle.mw_core.specs.declared.events.Answer.TheVariants as answer
-use Rattle.mw_model.specs.Lines.{is_served}
 use Rattle.mw_core.specs.Payloads.{given_image, image_payload, given_element, element_payload}
-use Rattle.mw_core.specs.Events.{handed_out}
-use Rattle.mw_core.specs.Fetches.{shown_value}
+use Rattle.mw_core.specs.Events.{WorkStays, IsFresh, handed_out}
+use Rattle.mw_core.specs.TaskEvents.{Starts, Finishes, Refuses}
+use Rattle.mw_core.specs.Turns.{IsTurn}
+use Rattle.mw_core.specs.Fetches.{ShowsSome, shown_value}
 
 -- an image that is loaded is within the limits, and an operation that is run is served
 abbrev pub IsServable : Event → Type 0
@@ -31,64 +39,100 @@ IsServable (event.Load n g) = ForOk g IsImage
 IsServable (event.Run n o) = is_served o ≡ true
 IsServable e = Unit {0}
 
+-- ---- session calls
+
+-- the core and the machine are as before
+abbrev pub Stays : Seen → Machine → Seen → Machine → Type 0
+Stays old m new n = (new ≡ old) × (n ≡ m)
+
+-- The reply is the machine's, the machine goes on by the call, the log tells both, and the work of each ticket that goes on pending stays.
+pub record Replies (old : Seen) (m : Machine) (c : Call) (payload : Option Value) (r : Reply) (new : Seen) (n : Machine) : Type 0 where
+  pub reply : r ≡ reply_to m c
+  pub machine : n ≡ after m c payload
+  pub log : new.log ≡ old.log ++ item.Call c r ∷ []
+  pub work : WorkStays old new
+
 -- a session call that answers by a reply, or found no memory
-abbrev pub Calls : Machine → Call → Option Value → Answer → Machine → Type 0
-Calls m c p (answer.Reply r) n = (r ≡ reply_to m c) × (n ≡ after m c p)
-Calls m c p answer.NoMemory n = n ≡ m
-Calls m c p a n = ⊥
+abbrev pub Calls : Seen → Machine → Call → Option Value → Answer → Seen → Machine → Type 0
+Calls old m c p (answer.Reply r) new n = Replies old m c p r new n
+Calls old m c p answer.NoMemory new n = Stays old m new n
+Calls old m c p a new n = ⊥
+
+-- a LOAD or an ELEMENT: that memory was refused is never told by a reply
+abbrev pub Loads : Seen → Machine → Call → Option Value → Answer → Seen → Machine → Type 0
+Loads old m c p (answer.Reply r) new n = Replies old m c p r new n × (r ≢ reply.Refused code.Memory)
+Loads old m c p a new n = Calls old m c p a new n
+
+-- a RUN: no task of the command that it accepts was started
+abbrev pub Submits : Seen → Machine → Call → Answer → Seen → Machine → Type 0
+Submits old m c (answer.Reply r) new n = Replies old m c None r new n × ((t : ℕ) → r ≡ reply.Accepted t → IsFresh new t)
+Submits old m c a new n = Calls old m c None a new n
 
 -- a CANCEL: memory may be wanting only where it is refused
-abbrev pub Cancels : Machine → Call → Answer → Machine → Type 0
-Cancels m c answer.NoMemory n = (refusal m.table m.payloads c ≢ None) × (n ≡ m)
-Cancels m c a n = Calls m c None a n
+abbrev pub Cancels : Seen → Machine → Call → Answer → Seen → Machine → Type 0
+Cancels old m c answer.NoMemory new n = (refusal m.table m.payloads c ≢ None) × Stays old m new n
+Cancels old m c a new n = Calls old m c None a new n
 
 -- a FETCH, with the value that it hands out
-abbrev pub Fetches : Machine → Call → Answer → Machine → Type 0
-Fetches m c (answer.Fetched f) n = (f.reply ≡ reply_to m c) × (shown_value f.value ≡ handed_out m f.reply) × (n ≡ after m c None)
-Fetches m c answer.NoMemory n = n ≡ m
-Fetches m c a n = ⊥
+abbrev pub Fetches : Seen → Machine → Call → Answer → Seen → Machine → Type 0
+Fetches old m c (answer.Fetched f) new n = Replies old m c None f.reply new n × (shown_value f.value ≡ handed_out m f.reply) × (IsSome (shown_value f.value) ↔ ShowsSome f.reply)
+Fetches old m c answer.NoMemory new n = Stays old m new n
+Fetches old m c a new n = ⊥
 
--- a task is taken, or its ticket is killed for want of memory
-abbrev pub Takes : Machine → Answer → Machine → Type 0
-Takes m (answer.Started (started.Work w)) n = n ≡ m
-Takes m (answer.Started (started.Refused t)) n = CanDie m.table t × (n ≡ with_table m (killed m.table t outcome.Memory))
-Takes m (answer.Started started.Idle) n = n ≡ m
-Takes m a n = ⊥
+-- ---- tasks
 
--- a ticket is done at its last result, and nothing happens at any other
-abbrev pub Brings : Machine → Answer → Machine → Type 0
-Brings m (answer.Finish finish.Placed) n = n ≡ m
-Brings m (answer.Finish (finish.Settled t)) n = CanFinish m.table t × (n ≡ with_table m (settled m.table t outcome.Done))
-Brings m (answer.Finish finish.Late) n = n ≡ m
-Brings m (answer.Finish finish.Stranger) n = n ≡ m
-Brings m a n = ⊥
+-- the machine after a START: the ticket of a task that found no memory is killed
+abbrev pub after_start : Machine → Started → Machine
+after_start m (started.Refused t) = with_table m (killed m.table t outcome.Memory)
+after_start m s = m
 
--- a ticket is killed for want of memory, or nothing happens
-abbrev pub GivesUp : Machine → Answer → Machine → Type 0
-GivesUp m (answer.Refusal (refusal.Killed t)) n = CanDie m.table t × (n ≡ with_table m (killed m.table t outcome.Memory))
-GivesUp m (answer.Refusal refusal.Late) n = n ≡ m
-GivesUp m (answer.Refusal refusal.Stranger) n = n ≡ m
-GivesUp m a n = ⊥
+-- the machine after a result: its ticket is done where this was the last
+abbrev pub after_finish : Machine → Finish → Machine
+after_finish m (finish.Settled t) = with_table m (settled m.table t outcome.Done)
+after_finish m f = m
 
--- what the machine does at an event with this answer
-abbrev pub Happens : Machine → Event → Answer → Machine → Type 0
-Happens m (event.Load x g) a n = Calls m (call.Load x (given_image g)) (image_payload g) a n
-Happens m (event.Element x g) a n = Calls m (call.Element x (given_element g)) (element_payload g) a n
-Happens m (event.Run x o) a n = Calls m (call.Run x o) None a n
-Happens m (event.Cancel x) a n = Cancels m (call.Cancel x) a n
-Happens m (event.Release x) a n = Calls m (call.Release x) None a n
-Happens m (event.Status x) a n = Calls m (call.Status x) None a n
-Happens m (event.Fetch x) a n = Fetches m (call.Fetch x) a n
-Happens m (event.Start k) a n = Takes m a n
-Happens m (event.Finish d) a n = Brings m a n
-Happens m (event.Refuse k) a n = GivesUp m a n
+-- the machine after a task that a worker gave up: its ticket is killed
+abbrev pub after_refusal : Machine → Refusal → Machine
+after_refusal m (refusal.Killed t) = with_table m (killed m.table t outcome.Memory)
+after_refusal m r = m
 
--- the machine gives these answers to these events, one after another, and goes from m to n
-abbrev pub HappensAll : Machine → List Event → List Answer → Machine → Type 0
-HappensAll m [] [] n = n ≡ m
-HappensAll m (e ∷ es) (a ∷ answers) n = (mid : Machine) × Happens m e a mid × HappensAll mid es answers n
-HappensAll m [] (a ∷ answers) n = ⊥
-HappensAll m (e ∷ es) [] n = ⊥
+-- the ready task of this place is taken, or its ticket is killed for want of memory; or no task is ready
+abbrev pub Takes : Seen → Machine → ℕ → Answer → Seen → Machine → Type 0
+Takes old m place (answer.Started s) new n = IsTurn old place s × Starts old m s new × (n ≡ after_start m s)
+Takes old m place a new n = ⊥
+
+-- the result of a running task is taken; any other is late, or a stranger's
+abbrev pub Brings : Seen → Machine → WindowTask → Answer → Seen → Machine → Type 0
+Brings old m d (answer.Finish f) new n = Finishes old m d f new × (n ≡ after_finish m f)
+Brings old m d a new n = ⊥
+
+-- the ticket of a running task is killed for want of memory; any other task is late, or a stranger's
+abbrev pub GivesUp : Seen → Machine → TaskId → Answer → Seen → Machine → Type 0
+GivesUp old m k (answer.Refusal r) new n = Refuses old m k r new × (n ≡ after_refusal m r)
+GivesUp old m k a new n = ⊥
+
+-- ---- events
+
+-- at an event with this answer a core that shows old, and stands for m, comes to show new, and the machine to be n
+abbrev pub Happens : Seen → Machine → Event → Answer → Seen → Machine → Type 0
+Happens old m (event.Load x g) a new n = Loads old m (call.Load x (given_image g)) (image_payload g) a new n
+Happens old m (event.Element x g) a new n = Loads old m (call.Element x (given_element g)) (element_payload g) a new n
+Happens old m (event.Run x o) a new n = Submits old m (call.Run x o) a new n
+Happens old m (event.Cancel x) a new n = Cancels old m (call.Cancel x) a new n
+Happens old m (event.Release x) a new n = Calls old m (call.Release x) None a new n
+Happens old m (event.Status x) a new n = Calls old m (call.Status x) None a new n
+Happens old m (event.Fetch x) a new n = Fetches old m (call.Fetch x) a new n
+Happens old m (event.Start place) a new n = Takes old m place a new n
+Happens old m (event.Finish d) a new n = Brings old m d a new n
+Happens old m (event.Refuse k) a new n = GivesUp old m k.task a new n
+
+-- these answers are given to these events, one after another: between any two the core stands for the machine there, and keeps its side
+abbrev pub HappensAll : Seen → Machine → List Event → List Answer → Seen → Machine → Type 0
+HappensAll old m [] [] new n = Stays old m new n
+HappensAll old m (e ∷ es) (a ∷ answers) new n =
+    (between : Seen) × (k : Machine) × Happens old m e a between k × StandsFor between k × (between.side ≡ old.side) × HappensAll between k es answers new n
+HappensAll old m [] (a ∷ answers) new n = ⊥
+HappensAll old m (e ∷ es) [] new n = ⊥
 
 -- the answer that a session call gives
 abbrev pub answer_of : {E : Type 0} → Result Reply E → Answer

@@ -1,5 +1,5 @@
 -- Tasks as the core has them: work of one step on an image that is kept.
-use Rattle.std.specs.Prelude.{ℕ, ◌≡◌, ◌<◌, ◌&&◌, true, false, Bool, List, [], ◌∷◌, length, slice_set, Option, Some, None}
+use Rattle.std.specs.Prelude.{ℕ, ◌≡◌, ◌<◌, true, false, [], ◌∷◌, length, slice_set, Option, Some, None}
 use Rattle.mw_model.specs.declared.tasks.TaskId.{TaskId}
 use Rattle.mw_model.specs.Pictures.{Picture, IsPicture}
 use Rattle.mw_model.specs.Refusals.{outcome_at, is_pending}

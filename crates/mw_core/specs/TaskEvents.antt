@@ -1,5 +1,5 @@
 -- What START, a finished task and a refused task do (own).
-use Rattle.std.specs.Prelude.{ℕ, ◌≡◌, ◌<◌, ◌≤◌, ◌+◌, ◌++◌, ◌∷◌, [], ◌⊎◌, true, false, length, slice_set, Option, Some}
+use Rattle.std.specs.Prelude.{ℕ, ◌≡◌, ◌<◌, ◌≤◌, ◌+◌, ◌++◌, ◌∷◌, [], ◌⊎◌, true, false, length, slice_set, Some}
 use Rattle.mw_model.specs.declared.calls.Outcome.TheVariants as outcome
 use Rattle.mw_model.specs.declared.calls.LogItem.TheVariants as item
 use Rattle.mw_model.specs.declared.tasks.TaskId.{TaskId}
@@ -89,6 +89,7 @@ pub record IsSettled (c : Seen) (t : ℕ) : Type 0 where
   pub within : t < length c.table.names
   pub settled : is_pending (outcome_at c.table.outcomes t) ≡ false
 
+-- the result is taken, and is the last of its ticket or not; or it is late, or a stranger's
 abbrev pub Finishes : Seen → Machine → WindowTask → Finish → Seen → Type 0
 Finishes old m d finish.Placed new = Places old m d new
 Finishes old m d (finish.Settled t) new = Settles old m d t new
@@ -107,6 +108,7 @@ pub record IsUnderway (c : Seen) (k : TaskId) : Type 0 where
   pub step : k.step ≡ step_number progress number
   pub tile : k.tile ≡ tile_number progress number
 
+-- the ticket of the running task is killed; or the refusal is late, or a stranger's
 abbrev pub Refuses : Seen → Machine → TaskId → Refusal → Seen → Type 0
 Refuses old m k (refusal.Killed t) new = (t ≡ k.ticket) × IsUnderway old k × Kills old m t new
 Refuses old m k refusal.Late new = IsSettled old k.ticket × (new ≡ old)

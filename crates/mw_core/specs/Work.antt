@@ -1,5 +1,5 @@
 -- Work of one step over one tile, the whole frame.
-use Rattle.std.specs.Prelude.{ℕ, Bool, true, false, List, [], ◌∷◌, Option, None}
+use Rattle.std.specs.Prelude.{ℕ, Bool, true, false, [], ◌∷◌, None}
 use Rattle.mw_model.specs.Places.{rect}
 use Rattle.mw_model.specs.PlanSteps.{PlanStep, Erode, Dilate}
 use Rattle.mw_model.specs.Plans.{FromInput}

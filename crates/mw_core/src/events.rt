@@ -57,10 +57,11 @@ fn handed(answer: Result<Fetched, NoMemory>) -> Answer
     }
 }
 
-/// One event. The core stands for the machine after it, whatever the machine that it stood for.
+/// One event: the answer and what changes are those of the core's own call, and the core stands for the machine after
+/// it, whatever the machine that it stood for.
 pub fn serve(core: &mut Core, event: Event) -> Answer
     requires { IsServable event }
-    ensures happens { (m : Machine) → StandsFor core.old m → (n : Machine) × Happens m event result n × StandsFor core.new n }
+    ensures happens { (m : Machine) → StandsFor core.old m → (n : Machine) × Happens core.old m event result core.new n × StandsFor core.new n }
     ensures side { core.new.side ≡ core.old.side }
 {
     match event {
@@ -86,7 +87,7 @@ pub fn serve_all(
 ) -> Result<Vec<Answer>, NoMemory>
     requires { AllByRecursion IsServable events.items }
     ensures ok { (m : Machine) → StandsFor core.old m
-        → IfOk result (λ answers. (n : Machine) × HappensAll m events.items answers.items n × StandsFor core.new n) }
+        → IfOk result (λ answers. (n : Machine) × HappensAll core.old m events.items answers.items core.new n × StandsFor core.new n) }
     ensures err { OnErr result (core.new ≡ core.old) }
     ensures side { core.new.side ≡ core.old.side }
 {

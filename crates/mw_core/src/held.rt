@@ -33,7 +33,7 @@ impl Held {
     /// One event.
     pub fn serve(&mut self, event: Event) -> Answer
         requires { IsServable event }
-        ensures happens { (m : Machine) → StandsFor self.old.core m → (n : Machine) × Happens m event result n × StandsFor self.new.core n }
+        ensures happens { (m : Machine) → StandsFor self.old.core m → (n : Machine) × Happens self.old.core m event result self.new.core n × StandsFor self.new.core n }
         ensures side { self.new.core.side ≡ self.old.core.side }
     {
         serve(&mut self.core, event)

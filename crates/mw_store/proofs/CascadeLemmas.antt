@@ -9,7 +9,7 @@ use Rattle.mw_model.specs.declared.submissions.Submission.{Submission}
 use Rattle.mw_model.specs.declared.submissions.Inputs.{Inputs}
 use Rattle.mw_model.specs.declared.calls.Outcome.{Outcome}
 use Rattle.mw_model.specs.declared.calls.Outcome.TheVariants as outcome
-use Rattle.mw_model.specs.Values.{Value, tickets}
+use Rattle.mw_model.specs.Values.{tickets}
 use Rattle.mw_model.specs.Refusals.{is_dead, is_pending, outcome_at, submission_at, no_submission}
 use Rattle.mw_model.specs.Machine.{spread, beside}
 

@@ -12,6 +12,7 @@ use Rattle.mw_model.specs.Machine.{given_submission}
 use Rattle.mw_store.specs.declared.kept.Entry.{Entry}
 use Rattle.mw_store.specs.declared.kept.Entry.TheVariants as entry
 
+-- what the table holds of the entry
 abbrev pub submission_of : Entry → Submission
 submission_of (entry.Image f) = given_submission (given.Good (shape_of_picture f))
 submission_of (entry.Element b) = given_submission (given.Good (shape_of_figure b))

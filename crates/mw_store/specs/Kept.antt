@@ -1,9 +1,8 @@
 -- The values that a store keeps.
-use Rattle.std.specs.Prelude.{Option, Some, None, option_map}
+use Rattle.std.specs.Prelude.{Option, Some, None}
 use Rattle.std.specs.Arc.{arc_value}
-use Rattle.mw_model.specs.Pictures.{Picture}
 use Rattle.mw_model.specs.Elements.{Figure}
-use Rattle.mw_model.specs.Values.{Value, ImageValue, ElementValue, CurveValue}
+use Rattle.mw_model.specs.Values.{Value, ImageValue, ElementValue}
 use Rattle.mw_store.specs.declared.kept.Kept.{Kept}
 use Rattle.mw_store.specs.declared.kept.Kept.TheVariants as kept
 

@@ -1,5 +1,5 @@
 -- Which values a pending entry still needs, by the columns of the table.
-use Rattle.std.specs.Prelude.{ℕ, ◌≡◌, ◌&&◌, Bool, not, nat_eq, if◌then◌else◌, List, Option, None, length}
+use Rattle.std.specs.Prelude.{ℕ, ◌&&◌, Bool, not, nat_eq, List, length}
 use Rattle.std.specs.List.{list_any, range_with_len}
 use Rattle.mw_model.specs.declared.submissions.Submission.{Submission}
 use Rattle.mw_model.specs.declared.calls.Outcome.{Outcome}

@@ -1,7 +1,8 @@
 //! What the machine keeps: names, submissions, outcomes and values, all by ticket.
 //!
 //! The ticket of an entry is its place in the order of acceptance. An image is shared when it is first handed out, so
-//! that no sample is copied. What takes memory answers `NoMemory`, and the store is then as before.
+//! that no sample is copied. What takes memory answers `NoMemory`, and the store is then as before; `keep` alone takes
+//! some and answers nothing: where it is refused, windows of the image are copies.
 //!
 //! ```text
 //! let mut store = Store::new(alloc)?;

@@ -10,7 +10,7 @@ loop-event-preserved c = (
       let before = c.loop-event.invariant.1 m s in
       let step = c.serve.ensures.happens before.0 before.2 in (
         step.0,
-        rw c.push_reserved.ensures.items (happens-push m before.0 step.0 c.loop-event.yielded c.loop-event.answers.items c.in-Some.event c.serve.result before.1 step.1),
+        rw c.push_reserved.ensures.items (happens-push c.args.core.now c.loop-event.core c.serve.new.core m before.0 step.0 c.loop-event.yielded c.loop-event.answers.items c.in-Some.event c.serve.result before.1 step.1 step.2 c.serve.ensures.side),
         step.2,
       ),
   omega (arith, c.loop-event.invariant.2, ap length c.in-Some.ensures.steps.0, ap length c.push_reserved.ensures.items, length-append c.loop-event.answers.items (c.serve.result ∷ []), c.push_reserved.ensures.capacity),

@@ -9,6 +9,6 @@ use Rattle.mw_core.proofs.events.serve_all.Given as goal
 abbrev pub invariant-loop-event : goal.invariant-loop-event
 invariant-loop-event l =
     AllByRecursion IsServable l.event-iterator.rest.items
-    × ((m : Machine) → StandsFor l.fn.core m → (n : Machine) × HappensAll m l.yielded l.answers.items n × StandsFor l.core n)
+    × ((m : Machine) → StandsFor l.fn.core m → (n : Machine) × HappensAll l.fn.core m l.yielded l.answers.items l.core n × StandsFor l.core n)
     × (length l.answers.items + length l.event-iterator.rest.items ≤ vec_capacity l.answers)
     × (l.core.side ≡ l.fn.core.side)

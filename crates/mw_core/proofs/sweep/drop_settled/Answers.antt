@@ -1,4 +1,4 @@
-use Rattle.std.proofs.Common.{◌≡◌, ◌∙◌, ◌+◌, ◌<◌, ℕ, Bool, List, Option, length, arith, ap, subst, sym, cond, set, None, refl}
+use Rattle.std.proofs.Common.{◌∙◌, ◌+◌, ◌<◌, ℕ, Bool, List, Option, length, arith, ap, subst, sym, cond, set, None, refl}
 use Rattle.mw_model.specs.Refusals.{is_pending, outcome_at}
 use Rattle.mw_model.specs.Tasks.{Progress}
 use Rattle.mw_core.proofs.SweepLemmas.{SweptTo, swept-more}

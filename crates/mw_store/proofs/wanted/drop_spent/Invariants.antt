@@ -1,4 +1,4 @@
-use Rattle.std.proofs.Common.{◌≡◌, ℕ, ◌<◌, ◌≤◌, length, None, if◌then◌else◌, slice_index_or, ◌&&◌, nat_lt}
+use Rattle.std.proofs.Common.{◌≡◌, ℕ, ◌<◌, ◌≤◌, length, None, if◌then◌else◌, slice_index_or}
 use Rattle.mw_store.specs.Wanted.{spent_among}
 use Rattle.mw_store.proofs.wanted.drop_spent.Given as goal
 

@@ -1,4 +1,4 @@
-use Rattle.std.proofs.Common.{false, slice_index_or, ap, sym, ◌∙◌, arith}
+use Rattle.std.proofs.Common.{ap, sym, ◌∙◌, arith}
 use Rattle.std.specs.Prelude.{◌||◌, ◌&&◌, nat_eq}
 use Rattle.std.specs.List.{list_any, range_with_len}
 use Rattle.mw_model.specs.Values.{tickets}

@@ -1,10 +1,9 @@
-use Rattle.std.proofs.Common.{◌≡◌, ◌∙◌, ◌++◌, ◌∷◌, [], ap, sym, refl, subst, None, Result, Err, IfOk}
+use Rattle.std.proofs.Common.{◌≡◌, ◌++◌, ◌∷◌, [], None}
 use Rattle.mw_model.specs.declared.calls.Given.TheVariants as given
 use Rattle.mw_model.specs.declared.calls.Call.TheVariants as call
 use Rattle.mw_model.specs.declared.calls.LogItem.TheVariants as item
 use Rattle.mw_core.specs.Events.{Serves}
 use Rattle.mw_core.specs.Faults.{IsFault}
-use Rattle.mw_core.specs.Payloads.{given_element, element_payload}
 use Rattle.mw_core.proofs.CallLemmas.{by-each, serves-fault-element}
 use Rattle.mw_core.proofs.machine.Core.element.Goals as goal
 

@@ -1,9 +1,8 @@
-use Rattle.std.proofs.Common.{◌≡◌, ◌∙◌, ◌++◌, ◌∷◌, [], ap, subst}
+use Rattle.std.proofs.Common.{◌∙◌, ◌++◌, ◌∷◌, [], ap}
 use Rattle.mw_model.specs.declared.calls.Call.TheVariants as call
 use Rattle.mw_model.specs.declared.calls.LogItem.TheVariants as item
 use Rattle.mw_model.specs.Machine.{reply_from}
 use Rattle.mw_model.specs.Stands.{Seen}
-use Rattle.mw_core.specs.Fetches.{IsShown}
 use Rattle.mw_core.proofs.CallLemmas.{serves-fetch}
 use Rattle.mw_core.proofs.FetchLemmas.{fetched-value, fetched-shown}
 use Rattle.mw_core.proofs.machine.Core.fetch.Goals as goal

@@ -1,4 +1,4 @@
-use Rattle.std.proofs.Common.{◌≡◌, ◌≤◌, ◌+◌, map, sum}
+use Rattle.std.proofs.Common.{◌≡◌, ◌+◌, map, sum}
 use Rattle.std.specs.List.{range_with_len}
 use Rattle.mw_model.specs.Stands.{ready_under}
 use Rattle.mw_core.proofs.machine.Core.ready_ticket.Given as goal

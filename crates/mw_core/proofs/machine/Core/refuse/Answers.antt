@@ -1,8 +1,5 @@
-use Rattle.std.proofs.Common.{◌≡◌, ◌<◌, length, Some, Err, ap, sym, refl, subst}
+use Rattle.std.proofs.Common.{Err, ap, refl, subst}
 use Rattle.mw_model.specs.declared.tasks.TaskId.{TaskId}
-use Rattle.mw_model.specs.Tasks.{Progress}
-use Rattle.mw_model.specs.Stands.{progress_at}
-use Rattle.mw_core.specs.KeptTasks.{IsKeptRunning, IsOneTask}
 use Rattle.mw_core.specs.TaskEvents.{IsOpen, IsUnderway}
 use Rattle.mw_core.proofs.TaskLemmas.{kills, underway, underway-kept}
 use Rattle.mw_laws.proofs.RunCascade.{pending_is}

@@ -1,4 +1,4 @@
-use Rattle.std.proofs.Common.{◌≡◌, ◌%◌, ℕ, Option, ap, sym, subst, ◌∙◌, arith}
+use Rattle.std.proofs.Common.{◌%◌, ℕ, Option, ap, sym, subst, ◌∙◌}
 use Rattle.mw_step.specs.WindowTasks.{WindowTask}
 use Rattle.mw_model.specs.Stands.{ready_count}
 use Rattle.mw_core.specs.KeptTasks.{IsKeptWork}
