@@ -94,7 +94,7 @@ front_gathered line xs what len g =
     let d : drop (position_or_len is_line_end line + 1) (line ++ xs) ≡ xs = drop_at line xs _ (sym g.ends) in
     f' ∙ rw (t, d, g.head) refl
 
-payload_partial : (what : Awaited) (len : ℕ) (xs : List ℕ) → len ≤ 134217728 → length xs < len → with_payload what len xs ≡ Partial
+pub payload_partial : (what : Awaited) (len : ℕ) (xs : List ℕ) → len ≤ 134217728 → length xs < len → with_payload what len xs ≡ Partial
 payload_partial what len xs limit h = rw (le-ltb 134217728 len limit, lt-ltb (length xs) len h) refl
 
 payload_whole : (what : Awaited) (len : ℕ) (xs : List ℕ) → len ≤ 134217728 → len ≤ length xs → with_payload what len xs ≡ Found (asked_with what (take len xs)) (drop len xs)

@@ -1,4 +1,5 @@
 pub mod Front
+mod Misses
 mod Splits
 mod Fields
 mod LineLaws

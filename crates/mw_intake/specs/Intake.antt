@@ -1,5 +1,5 @@
 -- What an intake keeps, and what it answers.
-use Rattle.std.specs.Prelude.{◌≡◌, ℕ, ◌+◌, ◌≤◌, ◌<◌, List, [], length, take, Option, None, Some}
+use Rattle.std.specs.Prelude.{◌≡◌, ℕ, ◌+◌, ◌≤◌, ◌<◌, List, [], ◌++◌, length, take, Option, None, Some}
 use Rattle.std.specs.List.{position_or_len}
 use Rattle.mw_model.specs.declared.requests.Request.{Request}
 use Rattle.mw_model.specs.declared.requests.Request.TheVariants as request
@@ -39,6 +39,10 @@ pub record IsPayloadLine (line : List ℕ) (what : Awaited) (len : ℕ) : Type 0
 -- a line that awaits a payload stands at the front
 abbrev pub AsksForPayload : List ℕ → Type 0
 AsksForPayload bytes = (used : ℕ) × (what : Awaited) × (len : ℕ) × IsPayloadLine (take used bytes) what len
+
+-- so many bytes have not come of the payload that the line at the front awaits
+abbrev pub Misses : List ℕ → ℕ → Type 0
+Misses bytes n = (line got : List ℕ) × (what : Awaited) × (bytes ≡ line ++ got) × IsPayloadLine line what (length got + n)
 
 -- no payload is being gathered, or one is, and then all that has come of it is in its place
 abbrev pub IsGathering : Option (Awaited × ℕ) → List ℕ → List ℕ → ℕ → ℕ → Type 0

@@ -1,10 +1,13 @@
 //! Gathers bytes that come in any pieces, and cuts requests from them.
 
-ghost use Rattle.std.specs.Prelude.{◌≡◌, ◌++◌, ◌≤◌, ◌<◌, ◌+◌, ℕ, List, [], length, drop, IfOk, OnOk, OnErr, IsTrue, ◌↔◌};
-ghost use Rattle.mw_intake.specs.Intake.{Answers, Falls, AsksForPayload, asked};
+ghost use Rattle.std.specs.Prelude.{◌≡◌, ◌++◌, ◌≤◌, ◌<◌, ◌+◌, ℕ, List, [], length, drop, min, IfOk, OnOk, OnErr, IsTrue, ◌↔◌};
+ghost use Rattle.std.specs.List.{position_or_len};
+ghost use Rattle.mw_intake.specs.Intake.{Answers, Falls, AsksForPayload, Misses, asked};
+ghost use Rattle.mw_intake.specs.Reading.{is_line_end};
 ghost use Rattle.mw_model.specs.Lines.{AskAlone, asked_with};
 
 use crate::cut::{Cut, cut_front};
+use crate::line::line_end;
 use mw_model::{Ask, Awaited, Next, NoMemory, Request};
 use std::alloc::Global;
 use std::marker::Model;
@@ -13,7 +16,8 @@ use std::mem;
 /// The bytes that have come and are no request yet. Contracts see them as one list.
 ///
 /// What comes of a payload after its line was cut goes from its piece straight into the vector that its request hands
-/// out. What had come before stands in `rest`, and is copied from there into that vector.
+/// out. What had come before stands in `rest`, and is copied from there into that vector: none of it, where each piece is
+/// fed by portions, and the requests are cut after each.
 #[derive(Drop)]
 pub struct Intake {
     alloc: Global,
@@ -40,6 +44,7 @@ impl Model for Intake {
 }
 
 impl Intake {
+    /// An intake without bytes; it takes no memory yet.
     pub fn new(alloc: Global) -> Intake
         ensures { result ≡ [] }
     {
@@ -67,6 +72,32 @@ impl Intake {
         };
         let (mine, other) = piece.split_at(room.min(piece.len()));
         append_both(&mut self.payload, mine, &mut self.rest, other)
+    }
+
+    /// How many bytes of the piece to feed next, so that no byte of a payload is copied twice: what the payload that is
+    /// gathered misses; else the piece's first line with its LF, or 202 bytes of it, since such a line is refused.
+    pub fn portion(&self, piece: &[u8]) -> usize
+        ensures payload { (n : ℕ) → 0 < n → Misses self.now n → result ≡ min n (length piece.now) }
+        ensures line { ((n : ℕ) → 0 < n → ¬ Misses self.now n) → result ≡ min (min 201 (position_or_len is_line_end piece.now) + 1) (length piece.now) }
+        ensures some { 0 < length piece.now → 0 < result }
+        ensures within { result ≤ length piece.now }
+    {
+        let missing = self.missing();
+        if missing > 0 {
+            return missing.min(piece.len());
+        }
+        (line_end(piece) + 1).min(piece.len())
+    }
+
+    /// How many bytes of the payload that the line at the front awaits have not come: 0 where none is awaited.
+    fn missing(&self) -> usize
+        ensures some { 0 < result → Misses self.now result }
+        ensures none { result ≡ 0 → (n : ℕ) → 0 < n → ¬ Misses self.now n }
+    {
+        match self.wanted {
+            Some((_, len)) => len as usize - self.payload.len(),
+            None => missing_of(behind(&self.rest, self.at)),
+        }
     }
 
     /// Cuts the request at the front, if one is there. `Bad` and `More` leave the bytes, so `Bad` is answered again. Only
@@ -122,6 +153,17 @@ impl Intake {
             None => self.at == self.rest.len(),
             Some(_) => false,
         }
+    }
+}
+
+/// How many bytes of the payload that the line at the front awaits are missing: 0 where none is awaited.
+fn missing_of(bytes: &[u8]) -> usize
+    ensures some { 0 < result → Misses bytes.now result }
+    ensures none { result ≡ 0 → (n : ℕ) → 0 < n → ¬ Misses bytes.now n }
+{
+    match cut_front(bytes) {
+        Cut::Payload(_, len, used) => (used + len as usize).saturating_sub(bytes.len()),
+        _ => 0,
     }
 }
 

@@ -1,3 +1,4 @@
+//! Lines, payloads and refusals of an intake, in pieces and by portions.
 use crate::Intake;
 use crate::line::op_with;
 use crate::words::Words;
@@ -70,6 +71,35 @@ fn a_payload_in_two_pieces(rt: HostRuntime) -> Result<(), Fail> {
     );
     assert_eq!(rt; intake.next()?, Next::Request(Request::Quit));
     assert!(rt; intake.at_boundary());
+    Ok(())
+}
+
+/// Feeds one portion of the bytes, and says how long it was.
+fn feed_portion(intake: &mut Intake, bytes: &[u8]) -> Result<usize, Fail> {
+    let n = intake.portion(bytes);
+    intake.feed(bytes.get(..n).ok_or("a portion past its piece")?)?;
+    Ok(n)
+}
+
+#[test]
+fn a_payload_by_portions(rt: HostRuntime) -> Result<(), Fail> {
+    let mut intake = Intake::new(rt.alloc());
+    assert_eq!(rt; feed_portion(&mut intake, b"LOAD x 5\nab\ndeQUIT\n")?, 9);
+    assert_eq!(rt; intake.next()?, Next::More);
+    assert_eq!(rt; feed_portion(&mut intake, b"ab\n")?, 3);
+    assert_eq!(rt; intake.next()?, Next::More);
+    assert_eq!(rt; feed_portion(&mut intake, b"deQUIT\n")?, 2);
+    let payload = b"ab\nde".to_vec(rt.alloc())?;
+    assert_eq!(rt;
+        intake.next()?,
+        Next::Request(Request::Load(name(b"x")?, payload))
+    );
+    assert_eq!(rt; feed_portion(&mut intake, b"QU")?, 2);
+    assert_eq!(rt; feed_portion(&mut intake, b"IT\nQUIT\n")?, 3);
+    assert_eq!(rt; intake.next()?, Next::Request(Request::Quit));
+    assert!(rt; intake.at_boundary());
+    assert_eq!(rt; intake.portion(&[b'A'; 300]), 202);
+    assert_eq!(rt; intake.portion(b""), 0);
     Ok(())
 }
 

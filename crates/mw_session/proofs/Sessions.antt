@@ -1,6 +1,6 @@
 -- What the loops of a session keep, and what they end with.
-use Rattle.std.proofs.Common.{Bool, true, false, ◌≡◌, ◌≢◌, ℕ, List, [], ◌∷◌, ◌++◌, Option, Some, None, Result, Ok, Err, refl, sym, ◌∙◌, subst, inl, inr}
-use Rattle.std.proofs.lemmas.List.{append-nil}
+use Rattle.std.proofs.Common.{Bool, true, false, ◌≡◌, ◌≢◌, ℕ, List, [], ◌∷◌, ◌++◌, ◌+◌, ◌≤◌, length, take, drop, Option, Some, None, Result, Ok, Err, refl, sym, ap, ◌∙◌, subst, inl, inr, append_assoc, arith, take-append-drop, take-add, take-take}
+use Rattle.std.proofs.lemmas.List.{append-nil, take-append-le}
 use Rattle.std.specs.Io.KnownBytes.{Appends, Consumes, IsAtEnd}
 use Rattle.std.proofs.KnownBytes.{Appends-nil, Consumes-trans}
 use Rattle.std.specs.Prelude.{OnOk, OnErr}
@@ -18,9 +18,9 @@ use Rattle.mw_model.specs.Scripts.{Ends}
 use Rattle.mw_session.specs.declared.fault.SessionFault.{SessionFault}
 use Rattle.mw_session.specs.declared.fault.SessionFault.TheVariants as fault
 use Rattle.mw_session.specs.Writes.{EndsBy}
-use Rattle.mw_session.specs.Runs.{Answered, SessionRan}
+use Rattle.mw_session.specs.Runs.{Answered, Finished, Broken, SessionRan}
 use Rattle.mw_session.specs.Answering.{EndedBy, Drove}
-use Rattle.mw_session.proofs.Turns.{Progress, Progress_start, Progress_more, Progress_answered, Progress_drained, Progress_finished, Progress_broken, Broken_answered, Broken_by, Broken_here, Finished_by}
+use Rattle.mw_session.proofs.Turns.{Progress, Progress_start, Progress_more, Progress_answered, Progress_drained, Progress_finished, Progress_broken, Broken_answered, Broken_by, Broken_here, Broken_more, Finished_by, Finished_more}
 
 -- The bytes were served up to the rest, and the core stands for the state after that, with no task running.
 pub record Serving (m : Machine) (old now : Seen) (bytes rest : List ℕ) (before after : Option (List ℕ)) : Type 0 where
@@ -93,6 +93,70 @@ drove-broken left m old mid now bytes rest after behind x y z q f h found asks a
   idle = a.idle;
   drains = Broken_answered left bytes rest after m h.state old.log mid now x y z q f h.progress found asks a;
 }
+
+-- ---- serving a piece
+
+-- a reader that is not at its end
+abbrev pub some_left : Option (List ℕ)
+some_left = Some (0 ∷ [])
+
+some_byte : (bytes : List ℕ) → 0 ∷ bytes ≡ [] → ⊥
+some_byte bytes e = cc
+
+not_at_end : IsAtEnd some_left → ⊥
+not_at_end e = some_byte [] e
+
+pub portion-joined : (had piece : List ℕ) (at n : ℕ) → (had ++ take at piece) ++ take n (drop at piece) ≡ had ++ take (at + n) piece
+portion-joined had piece at n = append_assoc had (take at piece) (take n (drop at piece)) ∙ ap (λ l. had ++ l) (sym (take-add at n piece))
+
+pub portion-rest : (had piece : List ℕ) (at : ℕ) → (had ++ take at piece) ++ drop at piece ≡ had ++ piece
+portion-rest had piece at = append_assoc had (take at piece) (drop at piece) ∙ ap (λ l. had ++ l) (take-append-drop at piece)
+
+-- a portion of the piece was fed
+pub serving-portion : (m : Machine) (old now : Seen) (had piece rest after : List ℕ) (at n : ℕ) (x y : Option (List ℕ)) → after ≡ rest ++ take n (drop at piece) → Serving m old now (had ++ take at piece) rest x y → Serving m old now (had ++ take (at + n) piece) after x y
+serving-portion m old now had piece rest after at n x y e h =
+    let P : List ℕ → Type 0 = λ l. Serving m old now l after x y in
+    subst P (portion-joined had piece at n) (serving-fed m old now (had ++ take at piece) rest (take n (drop at piece)) after x y e h)
+
+-- it found no memory
+pub drove-no-room : (left : Option (List ℕ)) (m : Machine) (old now : Seen) (had piece rest after : List ℕ) (at : ℕ) (x y z : Option (List ℕ)) (r : Result (Option End) SessionFault) → Serving m old now (had ++ take at piece) rest x y → EndedBy y z code.Memory r
+    → Drove left (had ++ piece) after m old now x z r
+drove-no-room left m old now had piece rest after at x y z r h w =
+    let P : List ℕ → Type 0 = λ l. Serving m old now l (rest ++ drop at piece) x y in
+    let all = subst P (portion-rest had piece at) (serving-more m old now (had ++ take at piece) rest (drop at piece) x y h) in
+    drove-ended left m old now (had ++ piece) (rest ++ drop at piece) after x y z code.Memory r all (inr (inr refl)) w
+
+-- the session ended while what waited was served
+pub drove-finished : (left : Option (List ℕ)) (m : Machine) (old mid now : Seen) (had piece rest after : List ℕ) (at : ℕ) (x y z : Option (List ℕ)) (e : End) → (h : Serving m old mid (had ++ take at piece) rest x y) → Drove some_left rest after h.state mid now y z (Ok (Some e))
+    → Drove left (had ++ piece) after m old now x z (Ok (Some e))
+drove-finished left m old mid now had piece rest after at x y z e h d =
+    let fed = had ++ take at piece in
+    let P : List ℕ → Type 0 = λ l. Finished left l m d.state old.log now.log x z e in
+    let ended = Progress_finished some_left fed rest m h.state d.state old.log mid.log now.log x y z e h.progress d.drains in
+    record {
+      state = d.state;
+      stands = d.stands;
+      idle = d.idle;
+      drains = subst P (portion-rest had piece at) (Finished_more left some_left fed (drop at piece) m d.state old.log now.log x z e not_at_end ended);
+    }
+
+-- writing failed there
+pub drove-cut : (left : Option (List ℕ)) (m : Machine) (old mid now : Seen) (had piece rest after : List ℕ) (at : ℕ) (x y z : Option (List ℕ)) (f : SessionFault) → (h : Serving m old mid (had ++ take at piece) rest x y) → Drove some_left rest after h.state mid now y z (Err f)
+    → Drove left (had ++ piece) after m old now x z (Err f)
+drove-cut left m old mid now had piece rest after at x y z f h d =
+    let fed = had ++ take at piece in
+    let P : List ℕ → Type 0 = λ l. Broken left l m d.state old.log now.log x z in
+    let broken = Progress_broken some_left fed rest m h.state d.state old.log mid.log now.log x y z h.progress d.drains in
+    record {
+      state = d.state;
+      stands = d.stands;
+      idle = d.idle;
+      drains = subst P (portion-rest had piece at) (Broken_more left some_left fed (drop at piece) m d.state old.log now.log x z not_at_end broken);
+    }
+
+-- the front of a buffer that was written to
+pub take-front : (n len : ℕ) (a b : List ℕ) → n ≤ length a → n ≤ len → take n (take len (a ++ b)) ≡ take n a
+take-front n len a b h k = simp take-take (ap (λ i. take i (a ++ b)) (omega (arith, k)) ∙ take-append-le n a b h)
 
 -- ---- the whole session
 

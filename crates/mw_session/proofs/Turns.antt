@@ -8,14 +8,15 @@ use Rattle.mw_model.specs.declared.calls.LogItem.{LogItem}
 use Rattle.mw_model.specs.declared.calls.LogItem.TheVariants as item
 use Rattle.mw_model.specs.declared.requests.Ask.TheVariants as ask
 use Rattle.mw_model.specs.declared.requests.End.{End}
+use Rattle.mw_model.specs.declared.requests.End.TheVariants as end
 use Rattle.mw_model.specs.Machine.{Machine}
 use Rattle.mw_model.specs.Stands.{Seen}
-use Rattle.mw_model.specs.Lines.{Asked, AskAlone, Found, Begins}
+use Rattle.mw_model.specs.Lines.{Asked, AskAlone, Found, Fault, Begins}
 use Rattle.mw_intake.specs.Reading.{front}
 use Rattle.mw_session.specs.declared.fault.SessionFault.{SessionFault}
-use Rattle.mw_model.specs.Scripts.{Turn, requests, NoQuit, IsTurn, AreTurns, Serves, Ends, end_text}
+use Rattle.mw_model.specs.Scripts.{Turn, requests, NoQuit, IsTurn, AreTurns, Serves, Ends, MayFollow, end_text}
 use Rattle.mw_session.specs.Marks.{kills_of, killed_in}
-use Rattle.mw_intake.proofs.Front.{Begins_more, is_front}
+use Rattle.mw_intake.proofs.Front.{Begins_more, is_front, front_is, front_found, front_fault}
 use Rattle.mw_session.specs.Runs.{ShowsKills, Drained, Finished, Broken, Answered}
 
 begins_append : (ts us : List Turn) (xs mid rest : List ℕ) → Begins xs (requests ts) mid → Begins mid (requests us) rest → Begins xs (requests (ts ++ us)) rest
@@ -177,6 +178,53 @@ Progress_broken left bytes mid m k n o p q a b c g f = record {
 -- one piece more was read
 pub Progress_more : (bytes piece rest : List ℕ) (m n : Machine) (o p : List LogItem) (a b : Option (List ℕ)) → Progress bytes rest m n o p a b → Progress (bytes ++ piece) (rest ++ piece) m n o p a b
 Progress_more bytes piece rest m n o p a b g = record { turns = g.turns; text = g.text; serves = Serves_more g.turns bytes piece rest m n g.text g.serves; kills = g.kills; wrote = g.wrote }
+
+-- ---- more bytes behind an end that is not the input's
+
+ends_more : (whole all : Type 0) (rest more : List ℕ) (e : End) → (whole → ⊥) → Ends whole rest e → Ends all (rest ++ more) e
+ends_more whole all rest more end.Quit not h = elim h [
+  | inl g ↦ absurd (not g.1)
+  | inr g ↦ let r = Found (AskAlone ask.Quit) (g.0 ++ more) in inr (g.0 ++ more, is_front (rest ++ more) r (front_found rest more (AskAlone ask.Quit) g.0 (front_is rest (Found (AskAlone ask.Quit) g.0) g.1)))
+]
+ends_more whole all rest more (end.Ended c) not h = elim h [
+  | inl g ↦ inl (is_front (rest ++ more) (Fault c) (front_fault rest more c (front_is rest (Fault c) g)))
+  | inr g ↦ elim g [
+    | inl k ↦ absurd (not k.3)
+    | inr k ↦ inr (inr k)
+  ]
+]
+
+follow_more : (whole all : Type 0) (rest more text : List ℕ) → (whole → ⊥) → MayFollow whole rest text → MayFollow all (rest ++ more) text
+follow_more whole all rest more text not h = elim h [
+  | inl none ↦ inl none
+  | inr g ↦ inr (g.0, ends_more whole all rest more g.0 not g.1, g.2)
+]
+
+pub Finished_more : (left behind : Option (List ℕ)) (bytes more : List ℕ) (m n : Machine) (o p : List LogItem) (a b : Option (List ℕ)) (e : End) → (IsAtEnd behind → ⊥) → Finished behind bytes m n o p a b e → Finished left (bytes ++ more) m n o p a b e
+Finished_more left behind bytes more m n o p a b e not f = record {
+  turns = f.turns;
+  text = f.text;
+  script = (f.script.0 ++ more, f.script.1, Serves_more f.turns bytes more f.script.0 m n f.script.1 f.script.2, ends_more (IsAtEnd behind) (IsAtEnd left) f.script.0 more e not f.script.3, f.script.4);
+  kills = f.kills;
+  wrote = f.wrote;
+}
+
+pub Broken_more : (left behind : Option (List ℕ)) (bytes more : List ℕ) (m n : Machine) (o p : List LogItem) (a b : Option (List ℕ)) → (IsAtEnd behind → ⊥) → Broken behind bytes m n o p a b → Broken left (bytes ++ more) m n o p a b
+Broken_more left behind bytes more m n o p a b not f = record {
+  turns = f.turns;
+  text = f.text;
+  script = (
+    f.script.0 ++ more,
+    f.script.1,
+    f.script.2,
+    f.script.3,
+    Serves_more f.turns bytes more f.script.0 m n f.script.1 f.script.4,
+    follow_more (IsAtEnd behind) (IsAtEnd left) f.script.0 more f.script.2 not f.script.5,
+    f.script.6,
+  );
+  kills = f.kills;
+  wrote = f.wrote;
+}
 
 -- one request more was served
 pub Progress_answered : (bytes mid rest : List ℕ) (m k : Machine) (o : List LogItem) (p q : Seen) (a b c : Option (List ℕ)) (r : Asked) (v : Unit {0}) → Progress bytes mid m k o p.log a b →

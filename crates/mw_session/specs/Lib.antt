@@ -1,6 +1,5 @@
 pub mod Marks
 pub mod Writes
-pub mod Reads
 pub mod Work
 pub mod Runs
 pub mod Answering

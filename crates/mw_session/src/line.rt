@@ -24,6 +24,7 @@ impl Model for ReplyLine {
 }
 
 impl ReplyLine {
+    /// A line without bytes.
     pub fn new() -> ReplyLine
         ensures { result ≡ [] }
     {
@@ -33,6 +34,7 @@ impl ReplyLine {
         }
     }
 
+    /// Puts these bytes behind what stands there.
     pub fn push(&mut self, text: &[u8])
         requires { length self.old + length text.now ≤ 128 }
         ensures { self.new ≡ self.old ++ text.now }
@@ -52,6 +54,7 @@ impl ReplyLine {
         self.push(buffer.format(n).as_bytes());
     }
 
+    /// What stands there.
     pub fn as_bytes(&self) -> &[u8]
         ensures { result.now ≡ self.now }
     {

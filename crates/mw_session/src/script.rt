@@ -1,6 +1,6 @@
 //! A whole script, from a reader to a writer.
 
-ghost use Rattle.std.specs.Prelude.{◌≡◌, ◌≢◌, ◌≤◌, ◌⊎◌, ◌↔◌, [], ℕ, List, Option, OnOk, OnErr, Ok, Err, IsTrue, false, true};
+ghost use Rattle.std.specs.Prelude.{◌≡◌, ◌≢◌, ◌≤◌, ◌<◌, ◌⊎◌, ◌↔◌, [], ◌++◌, length, ℕ, List, Option, OnOk, OnErr, Ok, Err, IsTrue, false, true};
 ghost use Rattle.std.specs.Io.KnownBytes.{Appends};
 ghost use Rattle.mw_model.specs.declared.requests.Ask.TheVariants as Ask;
 ghost use Rattle.mw_model.specs.Lines.{AskAlone};
@@ -13,10 +13,9 @@ ghost use Rattle.mw_session.specs.Writes.{EndsBy};
 
 use crate::answer::answer;
 use crate::fault::SessionFault;
-use crate::pieces::{Piece, take_piece};
 use crate::saying::end_by;
 use crate::sink::Sink;
-use crate::source::Source;
+use crate::source::{Source, receive};
 use crate::work::Pick;
 use mw_core::Core;
 use mw_intake::Intake;
@@ -78,6 +77,40 @@ fn drain<W: Write, P: Pick>(
     }
 }
 
+/// Serves a piece of the input: feeds it by portions, so that no byte of a payload is copied twice, and serves the
+/// requests that wait after each. Where the session ends, what stands behind is not fed.
+pub fn serve_piece<W: Write, P: Pick>(
+    alloc: Global,
+    intake: &mut Intake,
+    sink: &mut Sink<W>,
+    core: &mut Core,
+    pick: &mut P,
+    piece: &[u8],
+) -> Result<Option<End>, SessionFault>
+    requires { 0 < length piece.now }
+    ensures ran { (left : Option (List ℕ)) (m : Machine) → StandsFor core.old m → running_count core.old ≡ 0
+        → Drove left (intake.old ++ piece.now) intake.new m core.old core.new (W.contents sink.old.inner) (W.contents sink.new.inner) result }
+    ensures kept { OnOk result (sink.new.failed ≡ sink.old.failed) }
+    ensures flag { OnErr result ((result ≡ Err SessionFault.Write) × (sink.new.failed ≡ true)) }
+{
+    let mut at = 0;
+    'portions: while at < piece.len() {
+        let (_, rest) = piece.split_at(at);
+        let n = intake.portion(rest);
+        let (portion, _) = rest.split_at(n);
+        match intake.feed(portion) {
+            Err(NoMemory) => return end_within(sink, Code::Memory),
+            Ok(()) => {}
+        }
+        match drain(alloc, intake, sink, core, pick) {
+            Err(fault) => return Err(fault),
+            Ok(Some(end)) => return Ok(Some(end)),
+            Ok(None) => at += n,
+        }
+    }
+    Ok(None)
+}
+
 /// Ends a session at the end of the input.
 fn end_of_input<W: Write>(sink: &mut Sink<W>, intake: &Intake) -> Result<End, SessionFault>
     ensures quit { intake.now ≡ [] → (result ≡ Ok End.Quit) × Appends (W.contents sink.old.inner) (W.contents sink.new.inner) [] }
@@ -121,13 +154,14 @@ pub fn run_script<R: Read, W: Write, P: Pick>(
         Err(_) => return end_by(sink, Code::Memory),
     };
     'reads: for _turn in 0..READ_LIMIT {
-        match take_piece(source, buffer.as_mut_slice(), &mut intake) {
+        let n = match receive(source, buffer.as_mut_slice()) {
             Err(fault) => return Err(fault),
-            Ok(Piece::Nothing) => return end_of_input(sink, &intake),
-            Ok(Piece::NoRoom) => return end_by(sink, Code::Memory),
-            Ok(Piece::Fed) => {}
+            Ok(n) => n,
+        };
+        if n == 0 {
+            return end_of_input(sink, &intake);
         }
-        match drain(alloc, &mut intake, sink, core, pick) {
+        match serve_piece(alloc, &mut intake, sink, core, pick, &buffer[..n]) {
             Err(fault) => return Err(fault),
             Ok(Some(end)) => return Ok(end),
             Ok(None) => {}

@@ -17,6 +17,7 @@ pub struct Sink<W> {
 }
 
 impl<W: Write> Sink<W> {
+    /// A writer that has not failed yet.
     pub fn new(inner: W) -> Sink<W>
         ensures inner { result.inner ≡ inner }
         ensures clear { result.failed ≡ false }
@@ -27,12 +28,14 @@ impl<W: Write> Sink<W> {
         }
     }
 
+    /// Whether a write or a flush failed.
     pub fn failed(&self) -> bool
         ensures { result ≡ self.now.failed }
     {
         self.failed
     }
 
+    /// The writer alone.
     pub fn into_inner(self) -> W
         ensures { result ≡ self.inner }
     {

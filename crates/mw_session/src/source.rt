@@ -17,6 +17,7 @@ pub struct Source<R> {
 }
 
 impl<R: Read> Source<R> {
+    /// A reader that has not failed yet.
     pub fn new(inner: R) -> Source<R>
         ensures inner { result.inner ≡ inner }
         ensures clear { result.failed ≡ false }
@@ -29,6 +30,7 @@ impl<R: Read> Source<R> {
         }
     }
 
+    /// Whether a read failed.
     pub fn failed(&self) -> bool
         ensures { result ≡ self.now.failed }
     {

@@ -1,9 +1,11 @@
+//! Texts of replies, readers and writers that fail, and pieces that are served.
 use crate::{
-    End, Piece, ReplyLine, SessionFault, Sink, Source, curve_line, end_by, image_line, receive,
-    refusal_line, reply_line, say, say_curve, say_image, send, take_piece,
+    End, Pick, ReplyLine, SessionFault, Sink, Source, curve_line, end_by, image_line, receive,
+    refusal_line, reply_line, say, say_curve, say_image, send, serve_piece,
 };
+use mw_core::Core;
 use mw_intake::Intake;
-use mw_model::{Code, Kind, Next, Reply, Request, Shape};
+use mw_model::{Code, Kind, Reply, Shape};
 use std::io;
 use std::io::{ErrorKind, Read, Write};
 use std::process::Abort;
@@ -60,6 +62,22 @@ fn texts_of_replies(rt: HostRuntime) {
         "ERR 30 NOT_PLAIN\n",
     );
     reads(&rt, &reply_line(Reply::Pending(12)), "PENDING 12\n");
+    reads(&rt, &reply_line(Reply::Cancelled(2)), "CANCELLED 2\n");
+    reads(&rt, &reply_line(Reply::OutOfMemory(2)), "FAILED 2 MEMORY\n");
+    reads(
+        &rt,
+        &reply_line(Reply::BadInput(3, 2)),
+        "FAILED 3 INPUT 2\n",
+    );
+    reads(&rt, &reply_line(Reply::Released(0)), "RELEASED 0\n");
+    reads(&rt, &reply_line(Reply::Shown(0)), "");
+    reads(&rt, &image_line(2, 14), "IMAGE 2 14\n");
+    reads(&rt, &curve_line(2, 34), "CURVE 2 34\n");
+    reads(&rt, &refusal_line(Code::Memory), "ERR 50 MEMORY\n");
+}
+
+#[test]
+fn texts_of_shapes(rt: HostRuntime) {
     reads(
         &rt,
         &reply_line(Reply::Done(2, Shape::Image(Kind::Grey, 5, 1, 9))),
@@ -80,18 +98,6 @@ fn texts_of_replies(rt: HostRuntime) {
         &reply_line(Reply::Done(2, Shape::Curve(3))),
         "DONE 2 CURVE 3\n",
     );
-    reads(&rt, &reply_line(Reply::Cancelled(2)), "CANCELLED 2\n");
-    reads(&rt, &reply_line(Reply::OutOfMemory(2)), "FAILED 2 MEMORY\n");
-    reads(
-        &rt,
-        &reply_line(Reply::BadInput(3, 2)),
-        "FAILED 3 INPUT 2\n",
-    );
-    reads(&rt, &reply_line(Reply::Released(0)), "RELEASED 0\n");
-    reads(&rt, &reply_line(Reply::Shown(0)), "");
-    reads(&rt, &image_line(2, 14), "IMAGE 2 14\n");
-    reads(&rt, &curve_line(2, 34), "CURVE 2 34\n");
-    reads(&rt, &refusal_line(Code::Memory), "ERR 50 MEMORY\n");
 }
 
 #[test]
@@ -159,24 +165,34 @@ fn replies_one_after_another(rt: HostRuntime) -> Result<(), Fail> {
     Ok(())
 }
 
+/// Takes the ready task that came first.
+#[derive(Drop)]
+struct First;
+
+impl Pick for First {
+    fn pick(&mut self, _count: u64) -> u64 {
+        0
+    }
+}
+
 #[test]
-fn pieces_reach_the_intake(rt: HostRuntime) -> Result<(), Fail> {
-    let mut source = Source::new(b"QUIT\n".as_slice());
-    let mut intake = Intake::new(rt.alloc());
-    let mut buffer = [0; 3];
+fn pieces_are_served(rt: HostRuntime) -> Result<(), Fail> {
+    let alloc = rt.alloc();
+    let mut core = Core::new(alloc, 64)?;
+    let mut intake = Intake::new(alloc);
+    let mut sink = Sink::new(Vec::new(alloc));
+    let piece = b"STATUS f\nLOAD f 10\nP5\n1".as_slice();
+    let served = serve_piece(alloc, &mut intake, &mut sink, &mut core, &mut First, piece);
+    assert_eq!(rt; served, Ok(None));
+    let piece = b" 1\n9\n\x07RELEASE f\nQU".as_slice();
+    let served = serve_piece(alloc, &mut intake, &mut sink, &mut core, &mut First, piece);
+    assert_eq!(rt; served, Ok(None));
+    let piece = b"IT\nSTATUS f\n".as_slice();
+    let served = serve_piece(alloc, &mut intake, &mut sink, &mut core, &mut First, piece);
+    assert_eq!(rt; served, Ok(Some(End::Quit)));
     assert_eq!(rt;
-        take_piece(&mut source, &mut buffer, &mut intake),
-        Ok(Piece::Fed)
-    );
-    assert_eq!(rt; intake.next()?, Next::More);
-    assert_eq!(rt;
-        take_piece(&mut source, &mut buffer, &mut intake),
-        Ok(Piece::Fed)
-    );
-    assert_eq!(rt; intake.next()?, Next::Request(Request::Quit));
-    assert_eq!(rt;
-        take_piece(&mut source, &mut buffer, &mut intake),
-        Ok(Piece::Nothing)
+        sink.into_inner().as_slice(),
+        b"ERR 41 UNKNOWN\nOK 0\nOK 0\n".as_slice()
     );
     Ok(())
 }

@@ -5,7 +5,7 @@ use Rattle.mw_intake.proofs.Front.{cut_bound, cut_open, cut_head, payload_line, 
 use Rattle.mw_intake.proofs.cut.cut_front.Goals as goal
 
 pub returns-then-end-bytes : goal.returns-then-end-bytes
-returns-then-end-bytes c = cut_open c.args.bytes.now c.line_end-end.result c.line_end-end.ensures (omega arith) (omega arith)
+returns-then-end-bytes c = (cut_open c.args.bytes.now c.line_end-end.result c.line_end-end.ensures (omega arith) (omega arith), omega arith)
 
 pub slice_bounds-head-end : goal.slice_bounds-head-end
 slice_bounds-head-end c = let b = cut_bound c.args.bytes.now c.line_end-end.result c.line_end-end.ensures in simp length-take (omega arith)

@@ -1,9 +1,9 @@
-use Rattle.std.proofs.Common.{◌≡◌, ℕ, List, [], ◌++◌, ◌∙◌, refl, inr, sym, subst, arith}
+use Rattle.std.proofs.Common.{◌≡◌, ℕ, List, [], ◌++◌, ◌∙◌, ◌≤◌, take, drop, length, ap, rules, refl, inr, sym, subst, arith}
 use Rattle.std.proofs.KnownBytes.{Consumes-nil, Consumes-trans, Consumes-kept}
 use Rattle.mw_model.specs.declared.codes.Code.TheVariants.{Memory}
 use Rattle.mw_model.specs.Lines.{Partial}
 use Rattle.mw_intake.specs.Reading.{front}
-use Rattle.mw_session.proofs.Sessions.{Serving, serving-start, serving-more, serving-fed, serving-drained, ran-finished, ran-broken, ran-stopped, ran-ended, ran-to-end, write-failed}
+use Rattle.mw_session.proofs.Sessions.{take-front, Serving, serving-start, serving-more, serving-drained, ran-finished, ran-broken, ran-stopped, ran-ended, ran-to-end, write-failed}
 use Rattle.mw_session.proofs.Readings.{front_empty}
 use Rattle.mw_session.proofs.script.run_script.Goals as goal
 
@@ -30,78 +30,71 @@ reads-init g c =
       buffer = c.in-Ok.ensures.len;
     }
 
-pub returns-in-Err-take_piece-clause-ran : goal.returns-in-Err-take_piece-clause-ran
-returns-in-Err-take_piece-clause-ran g c = λ m s none.
+pub returns-in-Err-receive-clause-ran : goal.returns-in-Err-receive-clause-ran
+returns-in-Err-receive-clause-ran g c = λ m s none.
     let i = c.reads.invariant in
-    ran-stopped m c.args.core.now c.reads.core (g.R.Read.remaining c.args.source.now.inner) (g.R.Read.remaining c.take_piece.new.source.inner) i.taken c.reads.intake
-    (g.W.Write.contents c.args.sink.now.inner) (g.W.Write.contents c.reads.sink.inner) c.in-Err-take_piece.fault (Consumes-kept _ _ _ _ i.read c.in-Err-take_piece.ensures.err.0) (i.serving m s none).0
+    ran-stopped m c.args.core.now c.reads.core (g.R.Read.remaining c.args.source.now.inner) (g.R.Read.remaining c.receive.new.source.inner) i.taken c.reads.intake
+    (g.W.Write.contents c.args.sink.now.inner) (g.W.Write.contents c.reads.sink.inner) c.in-Err-receive.fault (Consumes-kept _ _ _ _ i.read c.in-Err-receive.ensures.err) (i.serving m s none).0
 
-pub returns-in-Ok-Nothing-clause-ran : goal.returns-in-Ok-Nothing-clause-ran
-returns-in-Ok-Nothing-clause-ran g c = λ m s none.
+pub returns-then-n-eq0-clause-ran : goal.returns-then-n-eq0-clause-ran
+returns-then-n-eq0-clause-ran g c = λ m s none.
     let i = c.reads.invariant in
-    let took = rw c.in-Ok-Nothing.field-0-is at c.in-Ok-Nothing.ensures.took in
+    let zero : c.in-Ok-receive.n ≡ 0 = omega (arith, c.if-n-eq0.true) in
     let h = i.serving m s none in
-    ran-to-end m c.args.core.now c.reads.core (g.R.Read.remaining c.args.source.now.inner) (g.R.Read.remaining c.reads.source.inner) (g.R.Read.remaining c.take_piece.new.source.inner) i.taken c.reads.intake c.take_piece.new.intake
-    (g.W.Write.contents c.args.sink.now.inner) (g.W.Write.contents c.reads.sink.inner) (g.W.Write.contents c.end_of_input.new.sink.inner) c.end_of_input.result i.read took.0 took.1 took.2 h.0 h.1 c.end_of_input.ensures.quit c.end_of_input.ensures.cut
+    ran-to-end m c.args.core.now c.reads.core (g.R.Read.remaining c.args.source.now.inner) (g.R.Read.remaining c.reads.source.inner) (g.R.Read.remaining c.receive.new.source.inner) i.taken c.reads.intake c.reads.intake
+    (g.W.Write.contents c.args.sink.now.inner) (g.W.Write.contents c.reads.sink.inner) (g.W.Write.contents c.end_of_input.new.sink.inner) c.end_of_input.result i.read (rw zero at c.in-Ok-receive.ensures.ok) (c.in-Ok-receive.ensures.end zero) refl h.0 h.1 c.end_of_input.ensures.quit c.end_of_input.ensures.cut
 
-pub returns-in-Ok-Nothing-clause-writer_failed : goal.returns-in-Ok-Nothing-clause-writer_failed
-returns-in-Ok-Nothing-clause-writer_failed g c = write-failed c.end_of_input.result c.end_of_input.new.sink.failed c.reads.sink.failed c.reads.invariant.sink_clear c.end_of_input.ensures.kept c.end_of_input.ensures.flag
+pub returns-then-n-eq0-clause-writer_failed : goal.returns-then-n-eq0-clause-writer_failed
+returns-then-n-eq0-clause-writer_failed g c = write-failed c.end_of_input.result c.end_of_input.new.sink.failed c.reads.sink.failed c.reads.invariant.sink_clear c.end_of_input.ensures.kept c.end_of_input.ensures.flag
 
-pub returns-in-Ok-NoRoom-clause-ran : goal.returns-in-Ok-NoRoom-clause-ran
-returns-in-Ok-NoRoom-clause-ran g c = λ m s none.
+pub returns-in-Err-serve_piece-clause-ran : goal.returns-in-Err-serve_piece-clause-ran
+returns-in-Err-serve_piece-clause-ran g c = λ m s none.
     let i = c.reads.invariant in
-    let took = rw c.in-Ok-NoRoom.field-0-is at c.in-Ok-NoRoom.ensures.took in
-    let x = g.W.Write.contents c.args.sink.now.inner in
-    let y = g.W.Write.contents c.reads.sink.inner in
-    ran-ended m c.args.core.now c.reads.core (g.R.Read.remaining c.args.source.now.inner) (g.R.Read.remaining c.take_piece.new.source.inner) (i.taken ++ took.0) (c.reads.intake ++ took.0)
-    x y (g.W.Write.contents c.end_by-in-Ok-NoRoom.new.sink.inner) Memory c.end_by-in-Ok-NoRoom.result (Consumes-trans _ _ _ i.taken took.0 i.read took.2)
-    (serving-more m c.args.core.now c.reads.core i.taken c.reads.intake took.0 x y (i.serving m s none).0) (inr (inr refl)) c.end_by-in-Ok-NoRoom.ensures.wrote
-
-pub returns-in-Ok-NoRoom-clause-writer_failed : goal.returns-in-Ok-NoRoom-clause-writer_failed
-returns-in-Ok-NoRoom-clause-writer_failed g c = write-failed c.end_by-in-Ok-NoRoom.result c.end_by-in-Ok-NoRoom.new.sink.failed c.reads.sink.failed c.reads.invariant.sink_clear c.end_by-in-Ok-NoRoom.ensures.kept c.end_by-in-Ok-NoRoom.ensures.flag
-
-pub returns-in-Err-drain-clause-ran : goal.returns-in-Err-drain-clause-ran
-returns-in-Err-drain-clause-ran g c = λ m s none.
-    let i = c.reads.invariant in
-    let took = rw c.in-Ok-Fed.field-0-is at c.in-Ok-Fed.ensures.took in
     let core = c.args.core.now in
     let x = g.W.Write.contents c.args.sink.now.inner in
     let y = g.W.Write.contents c.reads.sink.inner in
-    let left = g.R.Read.remaining c.take_piece.new.source.inner in
-    let h = serving-fed m core c.reads.core i.taken c.reads.intake took.0 c.take_piece.new.intake x y took.3 (i.serving m s none).0 in
-    ran-broken m core c.reads.core c.drain.new.core (g.R.Read.remaining c.args.source.now.inner) left (i.taken ++ took.0) c.take_piece.new.intake c.drain.new.intake x y (g.W.Write.contents c.drain.new.sink.inner) c.in-Err-drain.fault
-    (Consumes-trans _ _ _ i.taken took.0 i.read took.2) h (c.in-Err-drain.ensures.ran left h.state h.stands h.idle)
+    let left = g.R.Read.remaining c.receive.new.source.inner in
+    let piece = take c.in-Ok-receive.n c.receive.new.buffer in
+    let fits : c.in-Ok-receive.n ≤ c.reads.buffer.len = search rules in
+    let same : take c.in-Ok-receive.n c.deref.result.now ≡ piece = ap (λ l. take c.in-Ok-receive.n l) c.deref.ensures.value ∙ take-front c.in-Ok-receive.n c.reads.buffer.len c.receive.new.buffer (drop (length c.receive.new.buffer) c.reads.buffer.items) c.in-Ok-receive.ensures.bound fits in
+    let h = serving-more m core c.reads.core i.taken c.reads.intake piece x y (i.serving m s none).0 in
+    ran-broken m core c.reads.core c.serve_piece.new.core (g.R.Read.remaining c.args.source.now.inner) left (i.taken ++ piece) (c.reads.intake ++ piece) c.serve_piece.new.intake x y (g.W.Write.contents c.serve_piece.new.sink.inner) c.in-Err-serve_piece.fault
+    (Consumes-trans _ _ _ i.taken piece i.read c.in-Ok-receive.ensures.ok) h (rw same at (c.in-Err-serve_piece.ensures.ran left h.state h.stands h.idle))
 
 pub returns-in-Ok-Some-clause-ran : goal.returns-in-Ok-Some-clause-ran
 returns-in-Ok-Some-clause-ran g c = λ m s none.
     let i = c.reads.invariant in
-    let took = rw c.in-Ok-Fed.field-0-is at c.in-Ok-Fed.ensures.took in
     let core = c.args.core.now in
     let x = g.W.Write.contents c.args.sink.now.inner in
     let y = g.W.Write.contents c.reads.sink.inner in
-    let left = g.R.Read.remaining c.take_piece.new.source.inner in
-    let h = serving-fed m core c.reads.core i.taken c.reads.intake took.0 c.take_piece.new.intake x y took.3 (i.serving m s none).0 in
-    ran-finished m core c.reads.core c.drain.new.core (g.R.Read.remaining c.args.source.now.inner) left (i.taken ++ took.0) c.take_piece.new.intake c.drain.new.intake x y (g.W.Write.contents c.drain.new.sink.inner) c.in-Ok-Some.end
-    (Consumes-trans _ _ _ i.taken took.0 i.read took.2) h (rw c.in-Ok-Some.field-0-is at (c.in-Ok-Some.ensures.ran left h.state h.stands h.idle))
+    let left = g.R.Read.remaining c.receive.new.source.inner in
+    let piece = take c.in-Ok-receive.n c.receive.new.buffer in
+    let fits : c.in-Ok-receive.n ≤ c.reads.buffer.len = search rules in
+    let same : take c.in-Ok-receive.n c.deref.result.now ≡ piece = ap (λ l. take c.in-Ok-receive.n l) c.deref.ensures.value ∙ take-front c.in-Ok-receive.n c.reads.buffer.len c.receive.new.buffer (drop (length c.receive.new.buffer) c.reads.buffer.items) c.in-Ok-receive.ensures.bound fits in
+    let h = serving-more m core c.reads.core i.taken c.reads.intake piece x y (i.serving m s none).0 in
+    ran-finished m core c.reads.core c.serve_piece.new.core (g.R.Read.remaining c.args.source.now.inner) left (i.taken ++ piece) (c.reads.intake ++ piece) c.serve_piece.new.intake x y (g.W.Write.contents c.serve_piece.new.sink.inner) c.in-Ok-Some.end
+    (Consumes-trans _ _ _ i.taken piece i.read c.in-Ok-receive.ensures.ok) h (rw (same, c.in-Ok-Some.field-0-is) at (c.in-Ok-Some.ensures.ran left h.state h.stands h.idle))
 
 pub reads-preserved : goal.reads-preserved
 reads-preserved g c =
     let i = c.reads.invariant in
-    let took = rw c.in-Ok-Fed.field-0-is at c.in-Ok-Fed.ensures.took in
     let core = c.args.core.now in
     let x = g.W.Write.contents c.args.sink.now.inner in
     let y = g.W.Write.contents c.reads.sink.inner in
-    let left = g.R.Read.remaining c.take_piece.new.source.inner in
+    let left = g.R.Read.remaining c.receive.new.source.inner in
+    let piece = take c.in-Ok-receive.n c.receive.new.buffer in
+    let fits : c.in-Ok-receive.n ≤ c.reads.buffer.len = search rules in
+    let same : take c.in-Ok-receive.n c.deref.result.now ≡ piece = ap (λ l. take c.in-Ok-receive.n l) c.deref.ensures.value ∙ take-front c.in-Ok-receive.n c.reads.buffer.len c.receive.new.buffer (drop (length c.receive.new.buffer) c.reads.buffer.items) c.in-Ok-receive.ensures.bound fits in
     record {
-      taken = i.taken ++ took.0;
-      read = Consumes-trans _ _ _ i.taken took.0 i.read took.2;
+      taken = i.taken ++ piece;
+      read = Consumes-trans _ _ _ i.taken piece i.read c.in-Ok-receive.ensures.ok;
       serving = λ m s none.
-          let h = serving-fed m core c.reads.core i.taken c.reads.intake took.0 c.take_piece.new.intake x y took.3 (i.serving m s none).0 in
-          serving-drained left m core c.reads.core c.drain.new.core (i.taken ++ took.0) c.take_piece.new.intake c.drain.new.intake x y (g.W.Write.contents c.drain.new.sink.inner) h
-          (rw c.in-Ok-None.field-0-is at (c.in-Ok-None.ensures.ran left h.state h.stands h.idle));
-      source_clear = c.in-Ok-Fed.ensures.kept ∙ i.source_clear;
+          let h = serving-more m core c.reads.core i.taken c.reads.intake piece x y (i.serving m s none).0 in
+          serving-drained left m core c.reads.core c.serve_piece.new.core (i.taken ++ piece) (c.reads.intake ++ piece) c.serve_piece.new.intake x y (g.W.Write.contents c.serve_piece.new.sink.inner) h
+          (rw (same, c.in-Ok-None.field-0-is) at (c.in-Ok-None.ensures.ran left h.state h.stands h.idle));
+      source_clear = c.in-Ok-receive.ensures.kept ∙ i.source_clear;
       sink_clear = c.in-Ok-None.ensures.kept ∙ i.sink_clear;
-      reads = omega (arith, c.take_piece.ensures.counted, i.reads, c.reads-test.true);
+      reads = omega (arith, c.receive.ensures.counted, i.reads, c.reads-test.true);
       buffer = i.buffer;
     }
 
