@@ -3,6 +3,9 @@
 use crate::{Job, LineFault, options, words};
 use clap::error::ErrorKind;
 use std::alloc::Global;
+use std::fmt::Display;
+use std::io;
+use std::io::{Eprint, Print};
 use std::process::Abort;
 
 /// The words of this command line.
@@ -46,6 +49,53 @@ fn statuses(rt: HostRuntime) {
     let given = split(&rt, rt.alloc(), "morphd batch --tile 65");
     assert!(rt; matches!(options(rt.alloc(), given.as_slice()), Err(fault) if fault.status() == 2));
     assert!(rt; LineFault::NoMemory.status() == 1);
+}
+
+/// Takes this line as that of a fault, and nothing else.
+#[derive(Drop)]
+struct Takes<'a> {
+    alloc: Global,
+    line: &'a str,
+}
+
+impl Eprint for Takes<'_> {
+    fn eprint<D: Display + Drop>(&self, _value: D) -> io::Result<()> {
+        Err(io::Error::from(io::ErrorKind::Other))
+    }
+
+    fn eprintln<D: Display + Drop>(&self, value: D) -> io::Result<()> {
+        match format!(in self.alloc; "{value}") {
+            Ok(text) if text.as_str() == self.line => Ok(()),
+            _ => Err(io::Error::from(io::ErrorKind::Other)),
+        }
+    }
+}
+
+impl Print for Takes<'_> {
+    fn print<D: Display + Drop>(&self, _value: D) -> io::Result<()> {
+        Err(io::Error::from(io::ErrorKind::Other))
+    }
+
+    fn println<D: Display + Drop>(&self, _value: D) -> io::Result<()> {
+        Err(io::Error::from(io::ErrorKind::Other))
+    }
+
+    fn write_all(&self, _bytes: &[u8]) -> io::Result<()> {
+        Err(io::Error::from(io::ErrorKind::Other))
+    }
+}
+
+/// Whether this line alone is told of a fault.
+fn tells(alloc: Global, fault: &LineFault, line: &str) -> bool {
+    fault.print(&Takes { alloc, line }).is_ok()
+}
+
+#[test]
+fn lines_of_faults(rt: HostRuntime) {
+    let tile = "error: tile must be a multiple of 64";
+    assert!(rt; tells(rt.alloc(), &LineFault::Tile, tile));
+    assert!(rt; tells(rt.alloc(), &LineFault::NoMemory, "error: memory"));
+    assert!(rt; !tells(rt.alloc(), &LineFault::NoMemory, tile));
 }
 
 /// The kind of error that clap has for a command line.
