@@ -132,7 +132,7 @@ fn answer(alloc: Global, core: &mut Core, ask: &Ask) -> Result<Reply, Stop> {
 }
 
 /// The text of a value that is handed out.
-fn text_of(alloc: Global, value: &Shown) -> Result<Vec<u8>, Stop> {
+pub(crate) fn text_of(alloc: Global, value: &Shown) -> Result<Vec<u8>, Stop> {
     match value {
         Shown::Image(plate) => Ok(write(alloc, plate.image())?),
         Shown::Nothing => Ok(Vec::new(alloc)),

@@ -4,10 +4,10 @@ ghost use Rattle.std.specs.Prelude.{IfOk};
 ghost use Rattle.std.specs.List.{AllByRecursion};
 ghost use Rattle.mw_core.specs.Happenings.{IsServable};
 
-use crate::machine::{Ask, BAR, Desk, ERODED, ROW, Stop, Turn, by_hand, name, plays};
+use crate::machine::{Ask, BAR, Desk, ERODED, ROW, Stop, Turn, by_hand, name, plays, text_of};
 use mw_core::events::{Answer, Event, serve_all};
 use mw_core::held::Held;
-use mw_core::{Finish, NoMemory, Started};
+use mw_core::{Fetched, Finish, NoMemory, Started};
 use mw_model::{Code, Name, Reply, Shape};
 use std::alloc::Global;
 use std::process::Abort;
@@ -138,18 +138,19 @@ fn is_in_want(answer: &Answer) -> bool {
     )
 }
 
-fn are_as_wanted(answers: &[Answer]) -> bool {
-    matches!(
-        answers,
+/// What the last event is handed, where all answers before it are as they are to be.
+fn handed_last(answers: &[Answer]) -> Option<&Fetched> {
+    match answers {
         [
             Answer::Finish(Finish::Stranger),
             Answer::Started(Started::Work(_)),
             Answer::Reply(Reply::Accepted(0)),
             Answer::Finish(Finish::Settled(2)),
             Answer::Reply(Reply::Released(0)),
-            Answer::Fetched(_),
-        ]
-    )
+            Answer::Fetched(fetched),
+        ] => Some(fetched),
+        _ => None,
+    }
 }
 
 fn serve_list(rt: &impl Abort, alloc: Global) -> Result<(), Stop> {
@@ -163,7 +164,10 @@ fn serve_list(rt: &impl Abort, alloc: Global) -> Result<(), Stop> {
     if answers.iter().any(|answer| is_in_want(answer)) {
         return Err(Stop::Memory);
     }
-    assert!(rt; are_as_wanted(&answers));
+    let fetched = handed_last(&answers).ok_or(Stop::List)?;
+    assert_eq!(rt; fetched.reply, Reply::Shown(2));
+    let text = text_of(alloc, &fetched.value)?;
+    assert_eq!(rt; text.as_slice(), ERODED);
     Ok(())
 }
 

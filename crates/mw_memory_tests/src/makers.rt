@@ -147,7 +147,7 @@ fn owns(owner: &SharedView, width: u32, height: u32, maxval: u16, levels: &[u16]
     }
 }
 
-fn has<P: Pixel>(plane: &Plane<P>, width: u32, height: u32, levels: &[u16]) -> bool {
+pub(crate) fn has<P: Pixel>(plane: &Plane<P>, width: u32, height: u32, levels: &[u16]) -> bool {
     let samples = plane.samples();
     plane.width() == width
         && plane.height() == height

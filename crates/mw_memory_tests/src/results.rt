@@ -1,6 +1,7 @@
 //! What kernels make: each result is exactly as it is to be where memory was refused before, and what was lent for it is
 //! as it was.
 
+use crate::makers::has;
 use mw_bits::{WordExtremum, Words};
 use mw_line::{Steps, line, rectangle};
 use mw_model::{NoMemory, Offset, OffsetBox, Rect};
@@ -27,6 +28,13 @@ const BAR_OFFSETS: [Offset; 3] = [
 
 const RIGHT: [Offset; 1] = [Offset { dx: 1, dy: 0 }];
 
+/// The first two see the row from a tile that lies 2,000 columns further on, and the last sees nothing there.
+const FAR_APART: [Offset; 3] = [
+    Offset { dx: -2000, dy: 0 },
+    Offset { dx: -1999, dy: 0 },
+    Offset { dx: 0, dy: 0 },
+];
+
 const FIVE: [u8; 5] = [3, 1, 4, 1, 5];
 
 fn all_of_a_row(width: u32) -> Rect {
@@ -38,16 +46,34 @@ fn all_of_a_row(width: u32) -> Rect {
     }
 }
 
+/// So far on that the kernels take the offsets above one after another, since they lie more than 1,024 columns apart.
+fn far_in_a_row(width: u32) -> Rect {
+    Rect {
+        x: 2000,
+        y: 0,
+        width,
+        height: 1,
+    }
+}
+
+fn copied<P: Pixel>(alloc: Global, samples: &[P]) -> Result<Vec<P>, Fail> {
+    Ok(once_more!(_, samples.to_vec(alloc)))
+}
+
 /// The window that has a whole row of so many samples.
-fn row<P: Pixel>(
-    rt: &impl Abort,
-    alloc: Global,
-    width: u32,
-    samples: &[P],
-) -> Result<Window<P>, Fail> {
-    let row = once_more!(_, samples.to_vec(alloc));
-    assert_eq!(rt; row.len(), width as usize);
-    Ok(Window::whole(Plane::new(width, 1, row)))
+fn row_of<P: Pixel>(rt: &impl Abort, width: u32, samples: Vec<P>) -> Window<P> {
+    assert!(rt; samples.len() == width as usize);
+    Window::whole(Plane::new(width, 1, samples))
+}
+
+/// The row of five samples.
+fn five(rt: &impl Abort, alloc: Global) -> Result<Window<u8>, Fail> {
+    Ok(row_of(rt, 5, copied(alloc, &FIVE)?))
+}
+
+/// Stops where the samples are others.
+fn are(rt: &impl Abort, samples: &[u8], wanted: &[u8]) {
+    assert_eq!(rt; samples, wanted);
 }
 
 #[test]
@@ -85,8 +111,8 @@ fn by_offsets<E: Extremum<u8>>(
     window: &Window<u8>,
     offsets: &[Offset],
     neutral: u8,
+    tile: Rect,
 ) -> Result<Vec<u8>, Fail> {
-    let tile = all_of_a_row(5);
     let made = once_more!(
         NoMemory,
         extremum::<u8, E>(alloc, window, offsets, neutral, tile)
@@ -95,18 +121,56 @@ fn by_offsets<E: Extremum<u8>>(
 }
 
 #[test]
-fn extrema(rt: HostRuntime) -> Result<(), Fail> {
-    let five = row(&rt, rt.alloc(), 5, &FIVE)?;
-    let least = by_bar::<Min>(rt.alloc(), &five, 9)?;
-    assert_eq!(rt; least.as_slice(), [1, 1, 1, 1, 1].as_slice());
-    let greatest = by_bar::<Max>(rt.alloc(), &five, 0)?;
-    assert_eq!(rt; greatest.as_slice(), [3, 4, 4, 5, 5].as_slice());
-    let least = by_offsets::<Min>(rt.alloc(), &five, &RIGHT, 9)?;
-    assert_eq!(rt; least.as_slice(), [1, 4, 1, 5, 9].as_slice());
-    let greatest = by_offsets::<Max>(rt.alloc(), &five, &RIGHT, 0)?;
-    assert_eq!(rt; greatest.as_slice(), [1, 4, 1, 5, 0].as_slice());
-    assert_eq!(rt; five.samples(), FIVE.as_slice());
+fn extrema_by_a_bar(rt: HostRuntime) -> Result<(), Fail> {
+    let five = five(&rt, rt.alloc())?;
+    are(&rt, &by_bar::<Min>(rt.alloc(), &five, 9)?, &[1, 1, 1, 1, 1]);
+    are(&rt, &by_bar::<Max>(rt.alloc(), &five, 0)?, &[3, 4, 4, 5, 5]);
+    are(&rt, five.samples(), &FIVE);
     Ok(())
+}
+
+/// Both extrema of five samples over any offsets.
+fn are_extrema(
+    rt: &impl Abort,
+    alloc: Global,
+    offsets: &[Offset],
+    tile: Rect,
+    least: &[u8],
+    greatest: &[u8],
+) -> Result<(), Fail> {
+    let five = five(rt, alloc)?;
+    let made = by_offsets::<Min>(alloc, &five, offsets, 9, tile)?;
+    are(rt, &made, least);
+    let made = by_offsets::<Max>(alloc, &five, offsets, 0, tile)?;
+    are(rt, &made, greatest);
+    are(rt, five.samples(), &FIVE);
+    Ok(())
+}
+
+#[test]
+fn extrema_by_offsets(rt: HostRuntime) -> Result<(), Fail> {
+    let tile = all_of_a_row(5);
+    are_extrema(
+        &rt,
+        rt.alloc(),
+        &RIGHT,
+        tile,
+        &[1, 4, 1, 5, 9],
+        &[1, 4, 1, 5, 0],
+    )
+}
+
+#[test]
+fn extrema_by_offsets_far_apart(rt: HostRuntime) -> Result<(), Fail> {
+    let tile = far_in_a_row(5);
+    are_extrema(
+        &rt,
+        rt.alloc(),
+        &FAR_APART,
+        tile,
+        &[1, 1, 1, 1, 5],
+        &[3, 4, 4, 5, 5],
+    )
 }
 
 /// The rank filter of five samples.
@@ -121,54 +185,83 @@ fn is_ranked(
     assert!(rt; offsets.len() < 65536);
     let tile = all_of_a_row(5);
     let made = once_more!(NoMemory, rank(alloc, window, offsets, k, tile));
-    assert_eq!(rt; made.samples(), wanted);
+    are(rt, made.samples(), wanted);
     Ok(())
 }
 
 #[test]
 fn ranks(rt: HostRuntime) -> Result<(), Fail> {
-    let five = row(&rt, rt.alloc(), 5, &FIVE)?;
+    let five = five(&rt, rt.alloc())?;
     is_ranked(&rt, rt.alloc(), &five, &BAR_OFFSETS, 2, &[3, 3, 1, 4, 5])?;
     is_ranked(&rt, rt.alloc(), &five, &RIGHT, 1, &[1, 4, 1, 5, 0])?;
-    assert_eq!(rt; five.samples(), FIVE.as_slice());
+    are(&rt, five.samples(), &FIVE);
     Ok(())
 }
 
-/// Whether the words are these pixels.
-fn are_pixels(alloc: Global, words: &Words, pixels: &[Bit]) -> Result<bool, Fail> {
+const SET: [u16; 7] = [0, 1, 1, 1, 0, 1, 0];
+
+/// The words of the set, from a window that stays as it was.
+fn words_of_set(rt: &impl Abort, alloc: Global) -> Result<Words, Fail> {
+    let (zero, one) = (Bit::new(false), Bit::SET);
+    let pixels = [zero, one, one, one, zero, one, zero];
+    let window = row_of(rt, 7, copied(alloc, &pixels)?);
+    let words = once_more!(NoMemory, Words::from_plane(alloc, &window));
+    assert!(rt; window.samples() == pixels.as_slice());
+    Ok(words)
+}
+
+/// Whether the words are these seven pixels.
+fn are_pixels(alloc: Global, words: &Words, pixels: &[u16]) -> Result<bool, Fail> {
     let plane = once_more!(NoMemory, words.to_plane(alloc));
-    Ok(plane.samples() == pixels)
+    Ok(has(&plane, 7, 1, pixels))
 }
 
 fn extremum_of<E: WordExtremum>(
     alloc: Global,
     words: &Words,
     offsets: &[Offset],
+    tile: Rect,
 ) -> Result<Words, NoMemory> {
-    words.extremum::<E>(alloc, offsets, all_of_a_row(7))
+    words.extremum::<E>(alloc, offsets, tile)
 }
 
 fn words_by<E: WordExtremum>(
     alloc: Global,
     words: &Words,
     offsets: &[Offset],
-) -> Result<Words, Fail> {
-    Ok(once_more!(NoMemory, extremum_of::<E>(alloc, words, offsets)))
+    tile: Rect,
+) -> Result<Words, NoMemory> {
+    match extremum_of::<E>(alloc, words, offsets, tile) {
+        Err(NoMemory) => extremum_of::<E>(alloc, words, offsets, tile),
+        first => first,
+    }
+}
+
+/// One extremum of the set over any offsets.
+fn is_extremum<E: WordExtremum>(
+    rt: &impl Abort,
+    alloc: Global,
+    offsets: &[Offset],
+    tile: Rect,
+    wanted: &[u16],
+) -> Result<(), Fail> {
+    let words = words_of_set(rt, alloc)?;
+    let made = words_by::<E>(alloc, &words, offsets, tile)?;
+    assert!(rt; are_pixels(alloc, &made, wanted)?);
+    assert!(rt; are_pixels(alloc, &words, &SET)?);
+    Ok(())
 }
 
 #[test]
 fn sets_as_words(rt: HostRuntime) -> Result<(), Fail> {
-    let (zero, one) = (Bit::new(false), Bit::SET);
-    let pixels = [zero, one, one, one, zero, one, zero];
-    let window = row(&rt, rt.alloc(), 7, &pixels)?;
-    let words = once_more!(NoMemory, Words::from_plane(rt.alloc(), &window));
-    let eroded = words_by::<Min>(rt.alloc(), &words, &BAR_OFFSETS)?;
-    let wanted = [zero, zero, one, zero, zero, zero, zero];
-    assert!(rt; are_pixels(rt.alloc(), &eroded, &wanted)?);
-    let dilated = words_by::<Max>(rt.alloc(), &words, &RIGHT)?;
-    let wanted = [one, one, one, zero, one, zero, zero];
-    assert!(rt; are_pixels(rt.alloc(), &dilated, &wanted)?);
-    assert!(rt; are_pixels(rt.alloc(), &words, &pixels)?);
-    assert_eq!(rt; window.samples(), pixels.as_slice());
-    Ok(())
+    let tile = all_of_a_row(7);
+    is_extremum::<Min>(&rt, rt.alloc(), &BAR_OFFSETS, tile, &[0, 0, 1, 0, 0, 0, 0])?;
+    is_extremum::<Max>(&rt, rt.alloc(), &RIGHT, tile, &[1, 1, 1, 0, 1, 0, 0])
+}
+
+#[test]
+fn sets_as_words_by_offsets_far_apart(rt: HostRuntime) -> Result<(), Fail> {
+    let tile = far_in_a_row(7);
+    is_extremum::<Min>(&rt, rt.alloc(), &FAR_APART, tile, &[0, 1, 1, 0, 0, 0, 0])?;
+    is_extremum::<Max>(&rt, rt.alloc(), &FAR_APART, tile, &[1, 1, 1, 1, 1, 1, 0])
 }

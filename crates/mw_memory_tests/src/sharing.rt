@@ -13,12 +13,19 @@ use std::sync::Arc;
 use std::test::Fail;
 
 /// Three columns and two rows of one sample.
+fn filled<P: Pixel>(alloc: Global, sample: P) -> Result<Plane<P>, NoMemory>
+    ensures { IfOk result (λ p. p ≡ raster 3 2 (replicate 6 sample)) }
+{
+    Plane::filled(alloc, 3, 2, sample)
+}
+
+/// The same, asked for once more where memory was refused.
 fn plane_of<P: Pixel>(alloc: Global, sample: P) -> Result<Plane<P>, NoMemory>
     ensures { IfOk result (λ p. p ≡ raster 3 2 (replicate 6 sample)) }
 {
-    match Plane::filled(alloc, 3, 2, sample) {
-        Err(NoMemory) => Plane::filled(alloc, 3, 2, sample),
-        Ok(plane) => Ok(plane),
+    match filled(alloc, sample) {
+        Err(NoMemory) => filled(alloc, sample),
+        first => first,
     }
 }
 
@@ -52,7 +59,16 @@ fn window_of(share: SharedView) -> AnyWindow {
     }
 }
 
-/// An image, a share and a window own one plane, and it stays until the last of them goes.
+/// A share and a window own one plane, and it stays until the last of them goes.
+fn owned_by_two(rt: &impl Abort, share: SharedView, window: AnyWindow, wanted: &AnyWindow) {
+    assert!(rt; others(&share) == 1);
+    assert!(rt; window.same(wanted));
+    drop(window);
+    assert!(rt; others(&share) == 0);
+    assert!(rt; window_of(share).same(wanted));
+}
+
+/// An image, a share and a window own one plane, and it stays where the image goes.
 fn owned_in_turn(
     rt: &impl Abort,
     alloc: Global,
@@ -62,34 +78,35 @@ fn owned_in_turn(
     assert!(rt; image.shared().is_none());
     let image = shareable(alloc, image);
     let first = image.shared().ok_or("others can own the plane")?;
-    assert_eq!(rt; others(&first), 1);
+    assert!(rt; others(&first) == 1);
     let second = image.shared().ok_or("others can own the plane")?;
-    assert_eq!(rt; others(&first), 2);
+    assert!(rt; others(&first) == 2);
     let window = window_of(second);
-    assert_eq!(rt; others(&first), 2);
+    assert!(rt; others(&first) == 2);
     drop(image);
-    assert_eq!(rt; others(&first), 1);
-    assert!(rt; window.same(wanted));
-    drop(window);
-    assert_eq!(rt; others(&first), 0);
-    assert!(rt; window_of(first).same(wanted));
+    owned_by_two(rt, first, window, wanted);
     Ok(())
 }
 
 #[test]
-fn images_share_their_planes(rt: HostRuntime) -> Result<(), Fail> {
-    let alloc = rt.alloc();
-    let set = AnyWindow::Bits(Window::whole(plane_of(alloc, Bit::SET)?));
-    owned_in_turn(&rt, alloc, Image::bits(plane_of(alloc, Bit::SET)?), &set)?;
-    let grey = AnyWindow::Grey8(Window::whole(plane_of(alloc, 7u8)?), 9);
-    owned_in_turn(&rt, alloc, Image::grey8(plane_of(alloc, 7u8)?, 9), &grey)?;
-    let deep = AnyWindow::Grey16(Window::whole(plane_of(alloc, 700u16)?), 999);
-    owned_in_turn(
-        &rt,
-        alloc,
-        Image::grey16(plane_of(alloc, 700u16)?, 999),
-        &deep,
-    )
+fn sets_share_their_planes(rt: HostRuntime) -> Result<(), Fail> {
+    let set = AnyWindow::Bits(Window::whole(plane_of(rt.alloc(), Bit::SET)?));
+    let image = Image::bits(plane_of(rt.alloc(), Bit::SET)?);
+    owned_in_turn(&rt, rt.alloc(), image, &set)
+}
+
+#[test]
+fn images_of_bytes_share_their_planes(rt: HostRuntime) -> Result<(), Fail> {
+    let grey = AnyWindow::Grey8(Window::whole(plane_of(rt.alloc(), 7u8)?), 9);
+    let image = Image::grey8(plane_of(rt.alloc(), 7u8)?, 9);
+    owned_in_turn(&rt, rt.alloc(), image, &grey)
+}
+
+#[test]
+fn images_of_two_bytes_share_their_planes(rt: HostRuntime) -> Result<(), Fail> {
+    let deep = AnyWindow::Grey16(Window::whole(plane_of(rt.alloc(), 700u16)?), 999);
+    let image = Image::grey16(plane_of(rt.alloc(), 700u16)?, 999);
+    owned_in_turn(&rt, rt.alloc(), image, &deep)
 }
 
 #[test]

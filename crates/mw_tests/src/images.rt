@@ -4,7 +4,7 @@ ghost use Rattle.std.specs.Prelude.{◌≤◌, ◌↔◌, IsTrue, All};
 
 use mw_element::Element;
 use mw_model::plain::PlainImage;
-use mw_model::{Kind, Offset};
+use mw_model::{Kind, NoMemory, Offset, plain};
 use mw_pixel::{Pixel, Plane};
 use std::alloc::Global;
 use std::process::Abort;
@@ -71,14 +71,43 @@ pub(crate) fn noise(
     height: u32,
     maxval: u16,
 ) -> Result<PlainImage, Fail> {
-    assert!(rt; maxval < u16::MAX);
+    let levels = u32::from(maxval) + 1;
     let mut samples = Vec::new(alloc);
     let mut state = u32::from(maxval);
     for _ in 0..u64::from(width) * u64::from(height) {
         state = state.wrapping_mul(1664525).wrapping_add(1013904223);
-        samples.push((state >> 16) as u16 % (maxval + 1))?;
+        samples.push(((state >> 16) % levels) as u16)?;
     }
     image(rt, alloc, kind, width, height, maxval, &samples)
+}
+
+/// Stops where the image has other samples; `what` says which image it is.
+pub(crate) fn shows(rt: &impl Abort, image: &PlainImage, samples: &[u16], what: &str) {
+    assert_eq!(rt; image.samples(), samples, "{what}");
+}
+
+/// The erosion and the dilation by the plain program.
+pub(crate) fn extrema(
+    alloc: Global,
+    image: &PlainImage,
+    offsets: &[Offset],
+) -> Result<(PlainImage, PlainImage), NoMemory> {
+    let eroded = plain::erosion(alloc, image, offsets)?;
+    let dilated = plain::dilation(alloc, image, offsets)?;
+    Ok((eroded, dilated))
+}
+
+pub(crate) fn sample_of<P: Pixel>(level: u16) -> Result<P, Fail> {
+    Ok(P::of(level).ok_or("a level of the type")?)
+}
+
+/// Samples of these levels.
+pub(crate) fn row_of<P: Pixel>(alloc: Global, levels: &[u16]) -> Result<Vec<P>, Fail> {
+    let mut row = Vec::new(alloc);
+    for level in levels {
+        row.push(sample_of::<P>(*level)?)?;
+    }
+    Ok(row)
 }
 
 /// The samples of an image, in a type that has its levels.
@@ -87,10 +116,7 @@ pub(crate) fn plane_of<P: Pixel>(
     alloc: Global,
     image: &PlainImage,
 ) -> Result<Plane<P>, Fail> {
-    let mut samples = Vec::new(alloc);
-    for s in image.samples() {
-        samples.push(P::of(*s).ok_or("a level of the type")?)?;
-    }
+    let samples = row_of::<P>(alloc, image.samples())?;
     let (width, height) = (image.width(), image.height());
     assert_eq!(rt; samples.len(), height as usize * width as usize);
     Ok(Plane::new(width, height, samples))
@@ -108,4 +134,11 @@ pub(crate) fn full_square(alloc: Global) -> Result<Element, Fail> {
         bytes.push(b'1')?;
     }
     element(alloc, &bytes, 127, 127)
+}
+
+/// The element of 255 pixels in a row, from its middle.
+pub(crate) fn long_line(alloc: Global) -> Result<Element, Fail> {
+    let mut bytes = b"P1\n255 1\n".to_vec(alloc)?;
+    bytes.extend_from_slice(&[b'1'; 255])?;
+    element(alloc, &bytes, 127, 0)
 }

@@ -14,10 +14,16 @@ mod images;
 #[cfg(test)]
 mod kernels;
 #[cfg(test)]
+mod lines;
+#[cfg(test)]
 mod plain_rows;
 #[cfg(test)]
 mod ranks;
 #[cfg(test)]
+mod rows;
+#[cfg(test)]
 mod seams;
+#[cfg(test)]
+mod tiles;
 #[cfg(test)]
 mod words;

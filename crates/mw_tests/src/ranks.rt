@@ -1,13 +1,13 @@
 //! The rank filter beside the plain program, over tiles and over the whole frame.
 
 use crate::images::{element, full_square, grey_row, noise, plane_of};
-use crate::kernels::shows_tile;
+use crate::tiles::{parts_of, shows_tile};
 use mw_element::Element;
 use mw_model::plain::PlainImage;
 use mw_model::{Kind, Rect, plain};
 use mw_pixel::{Bit, Pixel, Plane};
 use mw_rank::rank;
-use mw_tile::{Grid, Window};
+use mw_tile::Window;
 use std::alloc::Global;
 use std::process::Abort;
 use std::test::Fail;
@@ -46,12 +46,8 @@ fn agree_on_grid<P: Pixel>(
     k: u32,
     wanted: &PlainImage,
 ) -> Result<(), Fail> {
-    let (width, height) = (plane.width(), plane.height());
-    assert!(rt; 1 <= width && width <= 8192 && 1 <= height && height <= 8192);
-    let grid = Grid::new(width, height, 64);
-    for i in 0..grid.len() {
-        let window = Window::cut(alloc, plane, grid.window(i, element.reach()))?;
-        agree_on_tile(rt, alloc, &window, element, k, grid.rect(i), wanted)?;
+    for part in &parts_of(rt, alloc, plane, element.reach(), 64)? {
+        agree_on_tile(rt, alloc, &part.window, element, k, part.tile, wanted)?;
     }
     Ok(())
 }
@@ -104,8 +100,10 @@ fn agree_by(rt: &impl Abort, alloc: Global, element: &Element, k: u32) -> Result
         agree::<u8>(rt, alloc, &shallow, element, k)?;
         let bytes = noise(rt, alloc, Kind::Grey, width, height, 255)?;
         agree::<u8>(rt, alloc, &bytes, element, k)?;
-        let deep = noise(rt, alloc, Kind::Grey, width, height, 1000)?;
-        agree::<u16>(rt, alloc, &deep, element, k)?;
+        for maxval in [256, 1000, 65535] {
+            let deep = noise(rt, alloc, Kind::Grey, width, height, maxval)?;
+            agree::<u16>(rt, alloc, &deep, element, k)?;
+        }
     }
     Ok(())
 }

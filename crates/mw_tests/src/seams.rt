@@ -1,70 +1,84 @@
 //! Long rows over the seams of tiles.
 
-use crate::images::{BAR, bit_row, element, full_square, grey_row, plane_of};
+use crate::images::{
+    BAR, bit_row, element, full_square, grey_row, long_line, plane_of, sample_of, shows,
+};
 use crate::kernels::agree_on_tiles;
+use mw_element::Element;
 use mw_model::plain;
-use mw_pixel::{Bit, Max, Min};
+use mw_model::plain::PlainImage;
+use mw_pixel::{Bit, Extremum, Max, Min, Pixel};
+use std::alloc::Global;
+use std::process::Abort;
 use std::test::Fail;
+
+/// Stops where a kernel makes another row, in tiles of 64 columns or in one piece.
+fn makes<P: Pixel, E: Extremum<P>>(
+    rt: &impl Abort,
+    alloc: Global,
+    row: &PlainImage,
+    element: &Element,
+    wanted: &PlainImage,
+) -> Result<(), Fail> {
+    let plane = plane_of::<P>(rt, alloc, row)?;
+    let neutral = E::neutral(sample_of::<P>(row.maxval())?);
+    agree_on_tiles::<P, E>(rt, alloc, &plane, element, neutral, 64, wanted)?;
+    agree_on_tiles::<P, E>(rt, alloc, &plane, element, neutral, 1024, wanted)
+}
 
 #[test]
 fn a_sample_reaches_over_the_seam(rt: HostRuntime) -> Result<(), Fail> {
+    let alloc = rt.alloc();
     let mut samples = [0u16; 65];
     samples[64] = 9;
-    let f = grey_row(&rt, rt.alloc(), 9, &samples)?;
+    let f = grey_row(&rt, alloc, 9, &samples)?;
     samples[63] = 9;
-    let wanted = grey_row(&rt, rt.alloc(), 9, &samples)?;
-    let dilated = plain::dilation(rt.alloc(), &f, &BAR)?;
-    assert_eq!(rt; dilated.samples(), wanted.samples());
-    let bar = element(rt.alloc(), b"P1\n3 1\n111\n", 1, 0)?;
-    let bytes = plane_of(&rt, rt.alloc(), &f)?;
-    agree_on_tiles::<u8, Max>(&rt, rt.alloc(), &bytes, &bar, 0, 64, &wanted)?;
-    let words = plane_of(&rt, rt.alloc(), &f)?;
-    agree_on_tiles::<u16, Max>(&rt, rt.alloc(), &words, &bar, 0, 64, &wanted)?;
-    Ok(())
+    let dilated = plain::dilation(alloc, &f, &BAR)?;
+    shows(&rt, &dilated, &samples, "dilation");
+    let bar = element(alloc, b"P1\n3 1\n111\n", 1, 0)?;
+    makes::<u8, Max>(&rt, alloc, &f, &bar, &dilated)?;
+    makes::<u16, Max>(&rt, alloc, &f, &bar, &dilated)
 }
 
 #[test]
 fn a_place_reaches_over_the_seam(rt: HostRuntime) -> Result<(), Fail> {
+    let alloc = rt.alloc();
     let mut places = [0u16; 65];
     places[64] = 1;
-    let f = bit_row(&rt, rt.alloc(), &places)?;
+    let f = bit_row(&rt, alloc, &places)?;
     places[63] = 1;
-    let wanted = bit_row(&rt, rt.alloc(), &places)?;
-    let bar = element(rt.alloc(), b"P1\n3 1\n111\n", 1, 0)?;
-    let set = plane_of(&rt, rt.alloc(), &f)?;
-    agree_on_tiles::<Bit, Max>(&rt, rt.alloc(), &set, &bar, Bit::new(false), 64, &wanted)?;
-    Ok(())
+    let wanted = bit_row(&rt, alloc, &places)?;
+    let bar = element(alloc, b"P1\n3 1\n111\n", 1, 0)?;
+    makes::<Bit, Max>(&rt, alloc, &f, &bar, &wanted)
 }
 
 #[test]
 fn one_pixel_under_a_full_square(rt: HostRuntime) -> Result<(), Fail> {
-    let full = full_square(rt.alloc())?;
-    let pixel = grey_row(&rt, rt.alloc(), 255, &[200])?;
-    let plane = plane_of(&rt, rt.alloc(), &pixel)?;
-    agree_on_tiles::<u8, Min>(&rt, rt.alloc(), &plane, &full, 255, 64, &pixel)?;
-    agree_on_tiles::<u8, Max>(&rt, rt.alloc(), &plane, &full, 0, 64, &pixel)?;
-    Ok(())
+    let alloc = rt.alloc();
+    let full = full_square(alloc)?;
+    let pixel = grey_row(&rt, alloc, 255, &[200])?;
+    makes::<u8, Min>(&rt, alloc, &pixel, &full, &pixel)?;
+    makes::<u8, Max>(&rt, alloc, &pixel, &full, &pixel)
+}
+
+/// The 200 levels of a ramp, each so much lower or higher and cut to those of the ramp.
+fn ramp(alloc: Global, lower: u16, higher: u16) -> Result<Vec<u16>, Fail> {
+    let mut levels = Vec::new(alloc);
+    for x in 0..200u16 {
+        levels.push(x.saturating_sub(lower).saturating_add(higher).min(199))?;
+    }
+    Ok(levels)
+}
+
+fn ramp_row(rt: &impl Abort, alloc: Global, lower: u16, higher: u16) -> Result<PlainImage, Fail> {
+    grey_row(rt, alloc, 255, &ramp(alloc, lower, higher)?)
 }
 
 #[test]
 fn a_long_row_under_a_long_line(rt: HostRuntime) -> Result<(), Fail> {
-    let mut rising = [0u16; 200];
-    let mut least = [0u16; 200];
-    let mut greatest = [0u16; 200];
-    for x in 0..200u16 {
-        rising[x as usize] = x;
-        least[x as usize] = x.saturating_sub(127);
-        greatest[x as usize] = (x + 127).min(199);
-    }
-    let plane = plane_of::<u8>(&rt, rt.alloc(), &grey_row(&rt, rt.alloc(), 255, &rising)?)?;
-    let mut bytes = b"P1\n255 1\n".to_vec(rt.alloc())?;
-    bytes.extend_from_slice(&[b'1'; 255])?;
-    let line = element(rt.alloc(), &bytes, 127, 0)?;
-    for side in [64, 1024] {
-        let wanted = grey_row(&rt, rt.alloc(), 255, &least)?;
-        agree_on_tiles::<u8, Min>(&rt, rt.alloc(), &plane, &line, 255, side, &wanted)?;
-        let wanted = grey_row(&rt, rt.alloc(), 255, &greatest)?;
-        agree_on_tiles::<u8, Max>(&rt, rt.alloc(), &plane, &line, 0, side, &wanted)?;
-    }
-    Ok(())
+    let alloc = rt.alloc();
+    let rising = ramp_row(&rt, alloc, 0, 0)?;
+    let line = long_line(alloc)?;
+    makes::<u8, Min>(&rt, alloc, &rising, &line, &ramp_row(&rt, alloc, 127, 0)?)?;
+    makes::<u8, Max>(&rt, alloc, &rising, &line, &ramp_row(&rt, alloc, 0, 127)?)
 }

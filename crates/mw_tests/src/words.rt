@@ -1,13 +1,13 @@
 //! Sets as words beside the plain program, over tiles and over the whole frame, at the seams of the words.
 
-use crate::images::{BAR, bit_row, element, noise, plane_of};
-use crate::kernels::shows_tile;
+use crate::images::{BAR, bit_row, element, extrema, full_square, long_line, noise, plane_of};
+use crate::tiles::{parts_of, shows_tile};
 use mw_bits::{WordExtremum, Words};
 use mw_element::Element;
 use mw_model::plain::PlainImage;
-use mw_model::{Kind, NoMemory, Offset, Rect, plain};
+use mw_model::{Kind, NoMemory, Offset, Rect};
 use mw_pixel::{Bit, Max, Min, Plane};
-use mw_tile::{Grid, Window, side_ok};
+use mw_tile::Window;
 use std::alloc::Global;
 use std::process::Abort;
 use std::test::Fail;
@@ -57,26 +57,30 @@ fn agree_on_tiles<E: WordExtremum>(
     side: u32,
     wanted: &PlainImage,
 ) -> Result<(), Fail> {
-    let (width, height) = (plane.width(), plane.height());
-    assert!(rt; 1 <= width && width <= 8192 && 1 <= height && height <= 8192 && side_ok(side));
-    let grid = Grid::new(width, height, side);
-    for i in 0..grid.len() {
-        let window = Window::cut(alloc, plane, grid.window(i, element.reach()))?;
-        agree_on_tile::<E>(rt, alloc, &window, element, grid.rect(i), wanted)?;
+    for part in &parts_of(rt, alloc, plane, element.reach(), side)? {
+        agree_on_tile::<E>(rt, alloc, &part.window, element, part.tile, wanted)?;
     }
     Ok(())
 }
 
-/// Both extrema of a set, in tiles and in one piece.
-fn agree(rt: &impl Abort, alloc: Global, set: &PlainImage, element: &Element) -> Result<(), Fail> {
+/// One extremum of a set, in tiles and in one piece.
+fn agree_by_sides<E: WordExtremum>(
+    rt: &impl Abort,
+    alloc: Global,
+    set: &PlainImage,
+    element: &Element,
+    wanted: &PlainImage,
+) -> Result<(), Fail> {
     let plane = plane_of::<Bit>(rt, alloc, set)?;
-    let eroded = plain::erosion(alloc, set, element.offsets())?;
-    let dilated = plain::dilation(alloc, set, element.offsets())?;
-    for side in [64, 1024] {
-        agree_on_tiles::<Min>(rt, alloc, &plane, element, side, &eroded)?;
-        agree_on_tiles::<Max>(rt, alloc, &plane, element, side, &dilated)?;
-    }
-    Ok(())
+    agree_on_tiles::<E>(rt, alloc, &plane, element, 64, wanted)?;
+    agree_on_tiles::<E>(rt, alloc, &plane, element, 1024, wanted)
+}
+
+/// Both extrema of a set.
+fn agree(rt: &impl Abort, alloc: Global, set: &PlainImage, element: &Element) -> Result<(), Fail> {
+    let (eroded, dilated) = extrema(alloc, set, element.offsets())?;
+    agree_by_sides::<Min>(rt, alloc, set, element, &eroded)?;
+    agree_by_sides::<Max>(rt, alloc, set, element, &dilated)
 }
 
 #[test]
@@ -111,30 +115,34 @@ fn words_agree(rt: HostRuntime) -> Result<(), Fail> {
 
 #[test]
 fn a_long_line_of_words(rt: HostRuntime) -> Result<(), Fail> {
-    let mut bytes = b"P1\n255 1\n".to_vec(rt.alloc())?;
-    bytes.extend_from_slice(&[b'1'; 255])?;
-    let line = element(rt.alloc(), &bytes, 127, 0)?;
     let set = noise(&rt, rt.alloc(), Kind::Bit, 200, 2, 1)?;
-    agree(&rt, rt.alloc(), &set, &line)
+    agree(&rt, rt.alloc(), &set, &long_line(rt.alloc())?)
+}
+
+#[test]
+fn one_pixel_under_a_full_square(rt: HostRuntime) -> Result<(), Fail> {
+    let alloc = rt.alloc();
+    let full = full_square(alloc)?;
+    for pixel in [0, 1] {
+        let set = bit_row(&rt, alloc, &[pixel])?;
+        agree_by_sides::<Min>(&rt, alloc, &set, &full, &set)?;
+        agree_by_sides::<Max>(&rt, alloc, &set, &full, &set)?;
+    }
+    Ok(())
 }
 
 #[test]
 fn a_pixel_reaches_over_the_seam_of_words(rt: HostRuntime) -> Result<(), Fail> {
+    let alloc = rt.alloc();
     let mut pixels = [0u16; 65];
     pixels[64] = 1;
-    let f = bit_row(&rt, rt.alloc(), &pixels)?;
+    let f = bit_row(&rt, alloc, &pixels)?;
     pixels[63] = 1;
-    let by_bar = bit_row(&rt, rt.alloc(), &pixels)?;
+    let bar = element(alloc, b"P1\n3 1\n111\n", 1, 0)?;
+    agree_by_sides::<Max>(&rt, alloc, &f, &bar, &bit_row(&rt, alloc, &pixels)?)?;
     pixels[64] = 0;
-    let by_ends = bit_row(&rt, rt.alloc(), &pixels)?;
-    let plane = plane_of::<Bit>(&rt, rt.alloc(), &f)?;
-    let bar = element(rt.alloc(), b"P1\n3 1\n111\n", 1, 0)?;
-    let ends = element(rt.alloc(), b"P1\n3 1\n101\n", 1, 0)?;
-    for side in [64, 1024] {
-        agree_on_tiles::<Max>(&rt, rt.alloc(), &plane, &bar, side, &by_bar)?;
-        agree_on_tiles::<Max>(&rt, rt.alloc(), &plane, &ends, side, &by_ends)?;
-    }
-    Ok(())
+    let ends = element(alloc, b"P1\n3 1\n101\n", 1, 0)?;
+    agree_by_sides::<Max>(&rt, alloc, &f, &ends, &bit_row(&rt, alloc, &pixels)?)
 }
 
 /// All of a plane as words.
@@ -142,29 +150,48 @@ fn all_words(alloc: Global, plane: Plane<Bit>) -> Result<Words, NoMemory> {
     Words::from_plane(alloc, &Window::whole(plane))
 }
 
+/// The words of the tile, which are as wanted.
+fn made_as<E: WordExtremum>(
+    rt: &impl Abort,
+    alloc: Global,
+    words: &Words,
+    offsets: &[Offset],
+    tile: Rect,
+    wanted: &PlainImage,
+) -> Result<Words, Fail> {
+    let made = words_by::<E>(alloc, words, offsets, tile)?;
+    assert!(rt; show_tile(alloc, &made, tile, wanted)?);
+    Ok(made)
+}
+
+const APART: [Offset; 4] = [
+    Offset { dx: 3000, dy: 2 },
+    Offset { dx: -3, dy: 1 },
+    Offset { dx: 1, dy: -1 },
+    Offset { dx: 0, dy: -3000 },
+];
+
 #[test]
 fn offsets_far_apart_on_words(rt: HostRuntime) -> Result<(), Fail> {
-    let set = noise(&rt, rt.alloc(), Kind::Bit, 70, 3, 1)?;
-    let apart = [
-        Offset { dx: 30000, dy: 2 },
-        Offset { dx: -3, dy: 1 },
-        Offset { dx: 1, dy: -1 },
-        Offset { dx: 0, dy: -30000 },
-    ];
-    let wanted = plain::erosion(rt.alloc(), &set, &apart)?;
-    let tile = Rect {
-        x: 0,
-        y: 0,
-        width: 70,
-        height: 3,
-    };
-    let words = all_words(rt.alloc(), plane_of::<Bit>(&rt, rt.alloc(), &set)?)?;
-    let eroded = words_by::<Min>(rt.alloc(), &words, &apart, tile)?;
-    assert!(rt; show_tile(rt.alloc(), &eroded, tile, &wanted)?);
-    let none = words_by::<Max>(rt.alloc(), &words, &[], tile)?;
-    assert_eq!(rt; none.count(), 0);
-    let opened = words_by::<Max>(rt.alloc(), &eroded, &BAR, tile)?;
-    let again = plain::dilation(rt.alloc(), &wanted, &BAR)?;
-    assert!(rt; show_tile(rt.alloc(), &opened, tile, &again)?);
+    let alloc = rt.alloc();
+    let set = noise(&rt, alloc, Kind::Bit, 70, 3, 1)?;
+    let words = all_words(alloc, plane_of::<Bit>(&rt, alloc, &set)?)?;
+    let tile = words.place();
+    let (eroded, dilated) = extrema(alloc, &set, &APART)?;
+    let made = made_as::<Min>(&rt, alloc, &words, &APART, tile, &eroded)?;
+    made_as::<Max>(&rt, alloc, &words, &APART, tile, &dilated)?;
+    let (_, again) = extrema(alloc, &eroded, &BAR)?;
+    made_as::<Max>(&rt, alloc, &made, &BAR, tile, &again)?;
+    Ok(())
+}
+
+#[test]
+fn no_offsets_on_words(rt: HostRuntime) -> Result<(), Fail> {
+    let alloc = rt.alloc();
+    let set = noise(&rt, alloc, Kind::Bit, 70, 3, 1)?;
+    let words = all_words(alloc, plane_of::<Bit>(&rt, alloc, &set)?)?;
+    let (all, none) = extrema(alloc, &set, &[])?;
+    made_as::<Min>(&rt, alloc, &words, &[], words.place(), &all)?;
+    made_as::<Max>(&rt, alloc, &words, &[], words.place(), &none)?;
     Ok(())
 }
