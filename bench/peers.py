@@ -1,4 +1,5 @@
-"""Times OpenCV and Leptonica on what bench_kernels measures: erosions and a median of 4096 x 4096 noise, in one thread.
+"""Times OpenCV and Leptonica on what bench_kernels measures, on the same samples and in one thread: erosions and a median
+of 4096 x 4096 bytes, dilations of as many 16-bit samples, and erosions of a set.
 
 Run it with a Python that has cv2 (Debian: python3-opencv), beside Leptonica's library (Debian: libleptonica-dev), which
 erodes sets. Each line has the best of five runs. The C library keeps what is freed, as the Makefile tells it to for
@@ -27,6 +28,20 @@ def keep_freed_memory():
     library = ctypes.CDLL(None)
     library.mallopt(MMAP_MAX, 0)
     library.mallopt(TRIM_THRESHOLD, 2**31 - 1)
+
+
+def levels():
+    """The levels that bench_kernels makes its images of, one a pixel, by rows: the upper 16 bits of each state of the
+    generator s -> 1664525 s + 1013904223 (mod 2^32) after state 1. Its bytes are their lower 8 bits, and its set has
+    the pixels whose level is no multiple of 10."""
+    states = numpy.array([1664525 + 1013904223], numpy.uint32)
+    factor, summand = 1664525, 1013904223
+    while len(states) < SIDE * SIDE:
+        # the factor and the summand lead as many states on as there are
+        ahead = states * numpy.uint32(factor) + numpy.uint32(summand)
+        states = numpy.concatenate((states, ahead))
+        factor, summand = factor * factor % 2**32, (factor + 1) * summand % 2**32
+    return (states >> 16).astype(numpy.uint16).reshape(SIDE, SIDE)
 
 
 def disc(across):
@@ -81,14 +96,16 @@ def erode_set(library, pix, sel):
     library.pixDestroy(ctypes.byref(made))
 
 
-def show_sets(rng):
+def show_sets(pixels):
     """Erosions of a set by discs."""
     library = leptonica()
     if library is None:
         print("no times of Leptonica (Debian: apt install libleptonica-dev)", file=sys.stderr)
         return
     pix = library.pixCreate(SIDE, SIDE, 1)
-    words = rng.integers(0, 2**32, SIDE * library.pixGetWpl(pix), dtype=numpy.uint32)
+    # 32 pixels a word, the first in the highest bit
+    words = numpy.packbits(pixels, axis=1).view(">u4").astype(numpy.uint32)
+    assert words.shape == (SIDE, library.pixGetWpl(pix))
     ctypes.memmove(library.pixGetData(pix), words.ctypes.data, words.nbytes)
     for across in (5, 15, 31):
         sel = library.selCreate(across, across, b"disc")
@@ -102,20 +119,19 @@ def show_sets(rng):
 def main():
     keep_freed_memory()
     cv2.setNumThreads(1)
-    rng = numpy.random.default_rng(1)
+    words = levels()
+    octets = words.astype(numpy.uint8)
     print(f"| {'OpenCV ' + cv2.__version__:<27} | {'ms':>8} |")
-    for bits, kind in ((8, numpy.uint8), (16, numpy.uint16)):
-        image = rng.integers(0, 2**bits, (SIDE, SIDE)).astype(kind)
+    for bits, image, filtered in ((8, octets, cv2.erode), (16, words, cv2.dilate)):
         for across in (3, 15, 63, 127):
             element = rectangle(across)
-            show(f"rectangle {across} x {across}, {bits} bits", lambda: cv2.erode(image, element))
+            show(f"rectangle {across} x {across}, {bits} bits", lambda: filtered(image, element))
         for across in (5, 15, 31):
             element = disc(across)
-            show(f"disc of {across}, {bits} bits", lambda: cv2.erode(image, element))
-    image = rng.integers(0, 256, (SIDE, SIDE)).astype(numpy.uint8)
-    show("median 15 x 15, 8 bits", lambda: cv2.medianBlur(image, 15))
+            show(f"disc of {across}, {bits} bits", lambda: filtered(image, element))
+    show("median 15 x 15, 8 bits", lambda: cv2.medianBlur(octets, 15))
     print(f"| {'Leptonica':<27} | {'ms':>8} |")
-    show_sets(rng)
+    show_sets(words % 10 > 0)
 
 
 main()

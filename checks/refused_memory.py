@@ -226,7 +226,10 @@ def explained(asked, written, status):
 def built_refuser():
     """Builds the library that refuses an allocation."""
     (HERE / "out").mkdir(exist_ok=True)
-    subprocess.run(["cc", "-shared", "-fPIC", "-O1", "-o", HERE / "out" / "refuse.so", HERE / "refuse.c", "-ldl"], check=True)
+    # under a name of its own first, so that a check that runs beside this one keeps a whole library
+    made = HERE / "out" / ("refuse.%d.so" % os.getpid())
+    subprocess.run(["cc", "-shared", "-fPIC", "-O1", "-o", made, HERE / "refuse.c", "-ldl"], check=True)
+    os.replace(made, HERE / "out" / "refuse.so")
 
 
 def refusing(number, count):

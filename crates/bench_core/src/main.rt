@@ -281,10 +281,8 @@ fn show<R: Clock + Print>(
     Ok(())
 }
 
-fn measure<R: Clock + Print>(rt: &R, alloc: Global) -> Result<(), Fault> {
-    println!(rt; "| {:<45} | {:>5} | {:>8} |", "", "calls", "us each")?;
-    show(rt, alloc, Row::Load, ENTRIES, "an image is read and loaded")?;
-    show(rt, alloc, Row::Run, COMMANDS, "run")?;
+/// The rows of CANCEL and RELEASE.
+fn measure_ends<R: Clock + Print>(rt: &R, alloc: Global) -> Result<(), Fault> {
     show(
         rt,
         alloc,
@@ -312,7 +310,14 @@ fn measure<R: Clock + Print>(rt: &R, alloc: Global) -> Result<(), Fault> {
         Row::ReleaseSpent,
         CALLS,
         "release, its value is dropped",
-    )?;
+    )
+}
+
+fn measure<R: Clock + Print>(rt: &R, alloc: Global) -> Result<(), Fault> {
+    println!(rt; "| {:<45} | {:>5} | {:>8} |", "", "calls", "us each")?;
+    show(rt, alloc, Row::Load, ENTRIES, "an image is read and loaded")?;
+    show(rt, alloc, Row::Run, COMMANDS, "run")?;
+    measure_ends(rt, alloc)?;
     show(rt, alloc, Row::Start, CALLS, "start")?;
     show(rt, alloc, Row::Finish, CALLS, "finish")?;
     show(

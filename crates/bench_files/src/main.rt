@@ -90,19 +90,46 @@ fn plain_set(alloc: Global, samples: &[u8]) -> Result<Vec<u8>, Fault> {
     Ok(file)
 }
 
-/// A plain file of a picture, with 16 samples a line.
-fn plain_grey(alloc: Global, samples: &[u8]) -> Result<Vec<u8>, Fault> {
+/// Adds the digits of a sample.
+fn push_digits(file: &mut Vec<u8>, s: u16) -> Result<(), Fault> {
+    if s >= 10000 {
+        file.push(b'0' + (s / 10000) as u8)?;
+    }
+    if s >= 1000 {
+        file.push(b'0' + (s / 1000 % 10) as u8)?;
+    }
+    if s >= 100 {
+        file.push(b'0' + (s / 100 % 10) as u8)?;
+    }
+    if s >= 10 {
+        file.push(b'0' + (s / 10 % 10) as u8)?;
+    }
+    file.push(b'0' + (s % 10) as u8)?;
+    Ok(())
+}
+
+/// What follows a sample: there are 16 a line.
+fn gap(i: usize) -> u8 {
+    if i % 16 == 15 { b'\n' } else { b' ' }
+}
+
+/// A plain file of a picture of these samples.
+fn plain_grey8(alloc: Global, samples: &[u8]) -> Result<Vec<u8>, Fault> {
     let mut file = Vec::from_slice(alloc, b"P2\n4096 4096\n255\n".as_slice())?;
     for i in 0..samples.len() {
-        let s = samples[i];
-        if s >= 100 {
-            file.push(b'0' + s / 100)?;
-        }
-        if s >= 10 {
-            file.push(b'0' + s / 10 % 10)?;
-        }
-        file.push(b'0' + s % 10)?;
-        file.push(if i % 16 == 15 { b'\n' } else { b' ' })?;
+        push_digits(&mut file, u16::from(samples[i]))?;
+        file.push(gap(i))?;
+    }
+    Ok(file)
+}
+
+/// A plain file of a picture whose samples are two bytes each.
+fn plain_grey16(alloc: Global, words: &[u8]) -> Result<Vec<u8>, Fault> {
+    let mut file = Vec::from_slice(alloc, b"P2\n4096 4096\n65535\n".as_slice())?;
+    for i in 0..words.len() / 2 {
+        let s = u16::from(words[2 * i]) * 256 + u16::from(words[2 * i + 1]);
+        push_digits(&mut file, s)?;
+        file.push(gap(i))?;
     }
     Ok(file)
 }
@@ -241,11 +268,17 @@ fn measure_raw<R: Clock + Print>(rt: &R, alloc: Global, words: &[u8]) -> Result<
     Ok(())
 }
 
-fn measure_plain<R: Clock + Print>(rt: &R, alloc: Global, bytes: &[u8]) -> Result<(), Fault> {
+/// Plain files of these bytes, as raw ones are made of them.
+fn measure_plain<R: Clock + Print>(rt: &R, alloc: Global, words: &[u8]) -> Result<(), Fault>
+    requires { length words.now ≡ 2 * 16777216 }
+{
+    let (bytes, _) = words.split_at(SAMPLES);
     let file = plain_set(alloc, bytes)?;
     show_read(rt, alloc, "plain bits, read", &file, bytes)?;
-    let file = plain_grey(alloc, bytes)?;
+    let file = plain_grey8(alloc, bytes)?;
     show_read(rt, alloc, "plain 8 bits, read", &file, bytes)?;
+    let file = plain_grey16(alloc, words)?;
+    show_read(rt, alloc, "plain 16 bits, read", &file, words)?;
     Ok(())
 }
 
@@ -256,8 +289,7 @@ fn measure<R: Clock + Print>(rt: &R, alloc: Global) -> Result<(), Fault> {
         "4096 x 4096", "ms", "file", "samples", "ns"
     )?;
     measure_raw(rt, alloc, &words)?;
-    let (bytes, _) = words.split_at(SAMPLES);
-    measure_plain(rt, alloc, bytes)
+    measure_plain(rt, alloc, &words)
 }
 
 /// Whether the program's first word asks for times.

@@ -1,14 +1,16 @@
 //! Times of the kernels on images of 4096 x 4096 samples, in one thread: on one window that owns the image's plane too,
 //! as a command runs that is one task, with the result as a plane of its own; and tile by tile, where each tile is cut
 //! with its halo, computed and pasted. Each figure is the best of five runs, or of as many as begin within two seconds.
-//! The program times only where it is asked to, as in `out/bench_kernels measure all`, or `rectangle`, `disc`, `rank` or
-//! `sets` in place of `all`, since times differ from run to run.
+//! The program times only where it is asked to, as in `out/bench_kernels measure all`, or `rectangle`, `disc`, `rank`,
+//! `lines` or `sets` in place of `all`, since times differ from run to run.
 #![tactic(auto)]
 
 ghost use Rattle.std.specs.Prelude.{◌≡◌, ◌*◌, ◌≤◌, ◌%◌, vec_len, IfOk};
 
+mod lines;
 mod words;
 
+use crate::lines::time_lines;
 use crate::words::time_sets;
 use mw_line::rectangle;
 use mw_model::{NoMemory, Offset, OffsetBox, Reach, Rect};
@@ -330,6 +332,9 @@ fn main(rt: HostRuntime) -> Result<(), Fault> {
     };
     if matches!(wanted.as_str(), "all" | "sets") {
         time_sets::<HostRuntime>(&rt, alloc)?;
+    }
+    if matches!(wanted.as_str(), "all" | "lines") {
+        time_lines::<HostRuntime>(&rt, alloc)?;
     }
     measure::<HostRuntime, u8, Min>(&rt, alloc, wanted.as_str(), 8)?;
     measure::<HostRuntime, u16, Max>(&rt, alloc, wanted.as_str(), 16)
