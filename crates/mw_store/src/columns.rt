@@ -188,6 +188,18 @@ impl Store {
         plate
     }
 
+    /// Windows can own the plane of the image that is kept of an entry from now on, if memory for that is found. What is
+    /// kept stays the same.
+    pub fn share_plane(&mut self, t: u32)
+        requires { t < length self.old.table.names }
+        ensures { self.new ≡ self.old }
+    {
+        let Some(value) = self.kept[t as usize].take() else {
+            return;
+        };
+        self.kept[t as usize] = Some(made_shared(self.alloc, value));
+    }
+
     /// The element that is kept of an entry.
     pub fn element(&self, t: u32) -> Option<&Arc<Element>>
         requires { t < length self.now.table.names }
@@ -245,13 +257,13 @@ impl Store {
         self.settle(t, Outcome::Released);
     }
 
-    /// Keeps a value of an entry.
+    /// Keeps a value of an entry. No memory is asked for.
     pub fn keep(&mut self, t: u32, value: Kept)
         requires { t < length self.old.table.names }
         ensures table { self.new.table ≡ self.old.table }
         ensures kept { self.new.kept ≡ slice_set self.old.kept t (Some (kept_value value)) }
     {
-        self.kept[t as usize] = Some(made_shared(self.alloc, value));
+        self.kept[t as usize] = Some(value);
     }
 
     /// Drops what is kept of an entry.
@@ -319,7 +331,6 @@ impl Store {
         match entry {
             Entry::Image(image) => {
                 let submission = given(image.shape());
-                let image = image.into_shared(self.alloc);
                 self.push(name, submission, Outcome::Done, Some(Kept::Image(image)))
             }
             Entry::Element(element) => {

@@ -23,7 +23,8 @@ pub enum Kept {
     Element(Arc<Element>),
 }
 
-/// The same value. If it is an image, windows can share its plane from now on.
+/// The same value. If it is an image that was not handed out yet, windows can own its plane from now on. Where memory for
+/// that is refused it stays as it was.
 pub(crate) fn made_shared(alloc: Global, kept: Kept) -> Kept
     ensures { kept_value result ≡ kept_value kept }
 {
@@ -76,14 +77,15 @@ fn shared_plate(image: &Arc<Image>) -> Result<Plate, NoMemory>
     })
 }
 
-/// Shares an image that is kept, if one is. What is kept stays the same value.
+/// Shares an image that is kept, if one is. What is kept stays the same value. Its plane is made shareable first: once the
+/// image has several owners that comes too late.
 pub fn share(alloc: Global, kept: Kept) -> (Kept, Result<Option<Plate>, NoMemory>)
     ensures kept { kept_value result.0 ≡ kept_value kept }
     ensures plate { IfOk result.1 (λ p. p ≡ image_of (one_kept kept)) }
     ensures memory { OnErr result.1 (IsSome (image_of (one_kept kept))) }
 {
     match kept {
-        Kept::Image(image) => match Arc::new(alloc, image) {
+        Kept::Image(image) => match Arc::new(alloc, image.into_shared(alloc)) {
             Ok(image) => {
                 let plate = shared_plate(&image);
                 (Kept::Shared(image), plate.map(Some))

@@ -1,8 +1,9 @@
 //! What the machine keeps: names, submissions, outcomes and values, all by ticket.
 //!
-//! The ticket of an entry is its place in the order of acceptance. An image is shared when it is first handed out, so
-//! that no sample is copied. What takes memory answers `NoMemory`, and the store is then as before; `keep` alone takes
-//! some and answers nothing: where it is refused, windows of the image are copies.
+//! The ticket of an entry is its place in the order of acceptance. An image is shared when it is first handed out, and
+//! windows can own its plane from then on, or from the first `share_plane` on: so no sample is copied. What takes memory
+//! answers `NoMemory`, and the store is then as before. `share_plane` alone answers nothing: where memory is refused,
+//! windows are copies. `keep`, `settle`, `kill`, `release` and what drops values ask for no memory.
 //!
 //! ```text
 //! let mut store = Store::new(alloc)?;
