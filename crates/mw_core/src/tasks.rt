@@ -5,7 +5,7 @@ ghost use Rattle.std.specs.Prelude.{◌≡◌, ◌<◌, ◌≤◌, ◌↔◌, Er
 use crate::answers::{Finish, Refusal, Started};
 use crate::fits::{is_first, is_result};
 use crate::machine::Core;
-use crate::sources::first_image;
+use crate::sources::{first_image, first_source};
 use mw_model::{LogItem, NoMemory, Outcome, TaskId};
 use mw_step::{TaskRefused, TileDone, Work};
 use mw_store::{is_pending, whole_window};
@@ -26,6 +26,16 @@ impl Core {
     ghost use Rattle.mw_core.specs.KeptTasks.{IsKeptResult, IsKeptRunning, IsKeptWork, IsOneTask, IsPlain, with_started};
     ghost use Rattle.mw_core.specs.TaskEvents.{Starts, Finishes, Refuses, IsOpen, IsSettled};
     ghost use Rattle.mw_core.specs.Turns.{IsTurn};
+
+    /// Windows can own the plane of the image that a ticket's task reads from now on, if memory for that is found.
+    fn share_source(&mut self, t: u32)
+        requires { t < length self.old.table.names }
+        ensures { self.new ≡ self.old }
+    {
+        if let Some(source) = first_source(&self.store, t) {
+            self.store.share_plane(source);
+        }
+    }
 
     /// The only task under a ticket, with the window that it reads.
     fn only_work(&self, t: u32) -> Result<Option<Work>, NoMemory>
@@ -76,6 +86,7 @@ impl Core {
         let Some(t) = self.ready_ticket(place % count) else {
             return Started::Idle;
         };
+        self.share_source(t);
         match self.only_work(t) {
             Ok(Some(work)) => {
                 self.mark_started(t);
@@ -144,7 +155,8 @@ impl Core {
     }
 
     /// A worker brings the result of a task. It is taken where the ticket is pending, the task is running, and the
-    /// result was made from the tile, the step and the windows that the core has.
+    /// result was made from the tile, the step and the windows that the core has. No memory is asked for: the place in
+    /// the log is reserved since the ticket was accepted.
     pub fn finish(&mut self, done: TileDone) -> Finish
         ensures task { (m : Machine) → StandsFor self.old m → Finishes self.old m done result self.new }
         ensures side { self.new.side ≡ self.old.side }
