@@ -20,7 +20,7 @@ unfolding skip_from
 skip_text [] end bs all e = ap (λ (b : Bool). skip_from (not b) bs) e
 skip_text (b ∷ text) end bs all e = ap (λ (x : Bool). skip_from (not x) (text ++ end ∷ bs)) all.0 ∙ skip_text text end bs all.1 e
 
-skip_white : (b : ℕ) (bs : List ℕ) → IsTrue (is_white b) → skip_from false (b ∷ bs) ≡ skip_from false bs
+pub skip_white : (b : ℕ) (bs : List ℕ) → IsTrue (is_white b) → skip_from false (b ∷ bs) ≡ skip_from false bs
 unfolding skip_from
 skip_white b bs e = ap (λ (x : Bool). cond x (skip_from false bs) (cond (eqb b 35) (skip_from true bs) (b ∷ bs))) e
 

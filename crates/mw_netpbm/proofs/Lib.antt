@@ -17,3 +17,6 @@ pub mod Pixels
 pub mod Chunks
 pub mod Made
 pub mod FewDigits
+pub mod Masks
+pub mod Tallies
+pub mod Enough

@@ -4,5 +4,6 @@ pub mod Rasters
 pub mod Swapping
 pub mod Plain
 pub mod Places
+pub mod Tallies
 pub mod Whole
 pub mod Faults

@@ -197,7 +197,7 @@ pub(crate) fn samples<P: Pixel>(
     requires { top_of places ≤ P.top_level }
     ensures { Gives (λ v. map P.level v.items) result (plain_at (place_at places) count bytes.now) }
 {
-    if !has_room(matches!(places, Places::Pixels), count, bytes) {
+    if !has_room(places, count, bytes) {
         if let Err(fault) = check(places, count, bytes) {
             return Err(fault);
         }
