@@ -1,14 +1,15 @@
 -- Lists of offsets as runs.
-use Rattle.std.proofs.Common.{◌≡◌, ℕ, zero, suc, ◌+◌, ◌<◌, ℤ, pos, ◌+ℤ◌, List, [], ◌∷◌, ◌++◌, length, take, drop, get_or, map, flat_map, ap, sym, arith, ◌∙◌, length-drop}
+use Rattle.std.proofs.Common.{◌≡◌, ℕ, zero, suc, ◌+◌, ◌<◌, ℤ, pos, ◌+ℤ◌, List, [], ◌∷◌, ◌++◌, length, take, drop, get_or, map, flat_map, ap, sym, subst, inl, inr, arith, ◌∙◌, length-append, length-drop}
 use Rattle.std.specs.List.{range_with_len, AllByRecursion}
 use Rattle.std.proofs.lemmas.Int.{ints}
-use Rattle.std.proofs.lemmas.List.{take_more, get_or-drop, append-nil}
+use Rattle.std.proofs.lemmas.Bool.{cases_lt}
+use Rattle.std.proofs.lemmas.List.{take_more, get_or_append_left, get_or-drop, append-nil}
 use Rattle.std.proofs.lemmas.Grind.{flat_map-append}
-use Rattle.std.proofs.Math.Seq.{take-add}
+use Rattle.std.proofs.Math.Seq.{take-add, get_or-append_seam}
 use Rattle.mw_model.specs.declared.places.Offset.{Offset}
 use Rattle.mw_offset.specs.declared.runs.Run.{Run}
 use Rattle.mw_offset.specs.declared.runs.Extent.{Extent}
-use Rattle.mw_offset.specs.Runs.{run_offsets, IsInside, IsWider}
+use Rattle.mw_offset.specs.Runs.{run_offsets, offset_at, start_offset, Continues, AreLongest, IsInside, IsWider}
 
 map-range_more : {B : Type 0} (f : ℕ → B) (a n : ℕ) → map f (range_with_len a (suc n)) ≡ map f (range_with_len a n) ++ f (a + n) ∷ []
 map-range_more f a zero = ap (λ (t : ℕ). f t ∷ []) (same a)
@@ -21,7 +22,7 @@ map-range_more f a (suc n) =
     next : (a n : ℕ) → a + 1 + n ≡ a + suc n
     next a n = omega arith
 
-offset_is : (o : Offset) (dx dy : ℤ) → o.dx ≡ dx → o.dy ≡ dy → o ≡ record { dx = dx; dy = dy }
+pub offset_is : (o : Offset) (dx dy : ℤ) → o.dx ≡ dx → o.dy ≡ dy → o ≡ record { dx = dx; dy = dy }
 offset_is o dx dy dx-is dy-is = ap (λ (t : ℤ). let b : Offset = record { dx = t; dy = o.dy } in b) dx-is ∙ ap (λ (t : ℤ). let b : Offset = record { dx = dx; dy = t } in b) dy-is
 
 -- one offset more in a run
@@ -78,3 +79,34 @@ inside_wider e o wider r inside = record {
 pub inside_more : (e o : Extent) (runs : List Run) (i : ℕ) (d : Run) → i < length runs → IsWider e o → AllByRecursion (IsInside o) (take i runs) → IsInside e (get_or runs i d) → AllByRecursion (IsInside e) (take (i + 1) runs)
 inside_more e o runs i d lt wider so_far here =
     rw (take_more runs i d lt) (all_more (IsInside e) (take i runs) (get_or runs i d) (all_weaker (IsInside o) (IsInside e) (take i runs) (inside_wider e o wider) so_far) here)
+
+-- no run continues the one before it, also where the last one is new
+pub longest_more : (offsets : List Offset) (runs more : List Run) (run : Run) (at to : ℕ) → more ≡ runs ++ run ∷ [] → to ≡ at + run.count → at < length offsets
+    → offset_at offsets at ≡ start_offset run
+    → AreLongest runs → ((k : ℕ) (r : Run) → k + 1 ≡ length runs → at < length offsets → Continues (get_or runs k r) (offset_at offsets at) → ⊥)
+    → AreLongest more
+longest_more offsets runs more run at to more-is to-is lt first so_far last =
+    subst AreLongest (sym more-is)
+    (λ k r less onward.
+    elim (cases_lt (k + 1) (length runs)) [
+      | inl inside ↦
+          let one : get_or (runs ++ run ∷ []) k r ≡ get_or runs k r = get_or_append_left runs (run ∷ []) r k (omega arith) in
+          let next : get_or (runs ++ run ∷ []) (k + 1) r ≡ get_or runs (k + 1) r = get_or_append_left runs (run ∷ []) r (k + 1) inside in
+          so_far k r inside (subst (λ (s : Run). Continues s (start_offset (get_or runs (k + 1) r))) one (subst (λ (s : Run). Continues (get_or (runs ++ run ∷ []) k r) (start_offset s)) next onward))
+      | inr past ↦
+          let end : k + 1 ≡ length runs = omega (arith, length-append runs (run ∷ []), less) in
+          let one : get_or (runs ++ run ∷ []) k r ≡ get_or runs k r = get_or_append_left runs (run ∷ []) r k (omega arith) in
+          let next : get_or (runs ++ run ∷ []) (k + 1) r ≡ run = ap (λ (t : ℕ). get_or (runs ++ run ∷ []) t r) end ∙ get_or-append_seam runs run [] r in
+          last k r end lt
+          (subst (Continues (get_or runs k r)) (sym first)
+          (subst (λ (s : Run). Continues s (start_offset run)) one (subst (λ (s : Run). Continues (get_or (runs ++ run ∷ []) k r) (start_offset s)) next onward)))
+    ])
+
+-- the offset after the last run does not continue it
+pub last_more : (offsets : List Offset) (runs more : List Run) (run : Run) (at to : ℕ) → more ≡ runs ++ run ∷ [] → to ≡ at + run.count
+    → (at + run.count < length offsets → Continues run (offset_at offsets (at + run.count)) → ⊥)
+    → (k : ℕ) (r : Run) → k + 1 ≡ length more → to < length offsets → Continues (get_or more k r) (offset_at offsets to) → ⊥
+last_more offsets runs more run at to more-is to-is whole k r end lt onward =
+    let place : k ≡ length runs = omega (arith, ap length more-is, length-append runs (run ∷ [])) in
+    let one : get_or more k r ≡ run = ap (λ (t : List Run). get_or t k r) more-is ∙ ap (λ (t : ℕ). get_or (runs ++ run ∷ []) t r) place ∙ get_or-append_seam runs run [] r in
+    whole (omega arith) (subst (λ (t : ℕ). Continues run (offset_at offsets t)) to-is (subst (λ (s : Run). Continues s (offset_at offsets to)) one onward))

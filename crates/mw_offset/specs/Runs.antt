@@ -1,5 +1,5 @@
 -- An element as horizontal runs of offsets.
-use Rattle.std.specs.Prelude.{ℕ, ◌+◌, ◌-◌, ◌*◌, ◌<◌, ◌≤◌, ◌&&◌, nat_le, nat_lt, if◌then◌else◌, slice_index_or, List, [], ◌∷◌, map, pos, ◌+ℤ◌, ◌-ℤ◌, ◌≤ℤ◌}
+use Rattle.std.specs.Prelude.{◌≡◌, ℕ, ◌+◌, ◌-◌, ◌*◌, ◌<◌, ◌≤◌, ◌&&◌, nat_le, nat_lt, if◌then◌else◌, slice_index_or, List, [], ◌∷◌, length, map, pos, ◌+ℤ◌, ◌-ℤ◌, ◌≤ℤ◌}
 use Rattle.std.specs.List.{range_with_len}
 use Rattle.mw_model.specs.declared.places.Offset.{Offset}
 use Rattle.mw_model.specs.Places.{nonnegative}
@@ -14,6 +14,23 @@ run_offsets r = map (λ i. record { dx = r.dx +ℤ pos i; dy = r.dy }) (range_wi
 pub record IsRun (r : Run) : Type 0 where
   pub some : 0 < r.count
   pub few : r.count ≤ 65536
+
+-- the offset stands right behind the run in its row
+pub record Continues (r : Run) (o : Offset) : Type 0 where
+  pub dx : o.dx ≡ r.dx +ℤ pos r.count
+  pub dy : o.dy ≡ r.dy
+
+-- the offset at a place of a list
+abbrev pub offset_at : List Offset → ℕ → Offset
+offset_at offsets k = slice_index_or offsets k (record { dx = pos 0; dy = pos 0 })
+
+-- the first offset of a run
+abbrev pub start_offset : Run → Offset
+start_offset r = record { dx = r.dx; dy = r.dy }
+
+-- each run is as long as it can be: the one after it does not continue it
+abbrev pub AreLongest : List Run → Type 0
+AreLongest runs = (k : ℕ) (r : Run) → k + 1 < length runs → Continues (slice_index_or runs k r) (start_offset (slice_index_or runs (k + 1) r)) → ⊥
 
 -- the first extent has the columns and rows of the second
 pub record IsWider (e o : Extent) : Type 0 where

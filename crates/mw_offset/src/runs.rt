@@ -3,7 +3,7 @@ ghost use Rattle.std.specs.Prelude.{◌≡◌, ℕ, ◌+◌, ◌*◌, ◌<◌, �
 ghost use Rattle.std.specs.List.{AllByRecursion};
 ghost use Rattle.mw_model.specs.Places.{nonnegative};
 ghost use Rattle.mw_offset.specs.declared.runs.Extent.{Extent};
-ghost use Rattle.mw_offset.specs.Runs.{run_offsets, IsRun, IsInside, IsWider};
+ghost use Rattle.mw_offset.specs.Runs.{run_offsets, offset_at, start_offset, Continues, AreLongest, IsRun, IsInside, IsWider};
 
 use mw_model::{NoMemory, Offset};
 use std::alloc::Global;
@@ -28,13 +28,25 @@ pub struct Extent {
     pub bottom: i32,
 }
 
-/// Whether the offset follows so many that begin with `first`.
+/// Whether the offset continues a run of so many that begin with `first`.
 fn continues(first: Offset, count: u32, next: Offset) -> bool
     requires { count ≤ 65536 }
-    ensures follows { IsTrue result → (next.dx ≡ first.dx +ℤ pos count) × (next.dy ≡ first.dy) }
+    ensures follows { IsTrue result ↔ Continues (record { dx = first.dx; dy = first.dy; count = count }) next }
     ensures few { IsTrue result → count < 65536 }
 {
     next.dy == first.dy && i32::from(next.dx) == i32::from(first.dx) + count as i32
+}
+
+/// Whether the offset after so many that begin at that place of the list continues them.
+fn goes_on(offsets: &[Offset], from: usize, count: u32) -> bool
+    requires within { from < length offsets.now }
+    requires few { count ≤ 65536 }
+    requires room { from + count ≤ length offsets.now }
+    ensures next { IsTrue result ↔ (from + count < length offsets.now) × Continues (record { dx = (offset_at offsets.now from).dx; dy = (offset_at offsets.now from).dy; count = count }) (offset_at offsets.now (from + count)) }
+    ensures few { IsTrue result → count < 65536 }
+{
+    let next = from + count as usize;
+    next < offsets.len() && continues(offsets[from], count, offsets[next])
 }
 
 /// The run that begins at that place of the list.
@@ -43,13 +55,12 @@ fn run_at(offsets: &[Offset], from: usize) -> Run
     ensures run { IsRun result }
     ensures room { from + result.count ≤ length offsets.now }
     ensures same { run_offsets result ≡ take result.count (drop from offsets.now) }
+    ensures first { offset_at offsets.now from ≡ start_offset result }
+    ensures longest { from + result.count < length offsets.now → Continues result (offset_at offsets.now (from + result.count)) → ⊥ }
 {
     let first = offsets[from];
     let mut count = 1u32;
-    'on: while count < 65536
-        && from + (count as usize) < offsets.len()
-        && continues(first, count, offsets[from + count as usize])
-    {
+    'on: while goes_on(offsets, from, count) {
         count += 1;
     }
     Run {
@@ -59,10 +70,11 @@ fn run_at(offsets: &[Offset], from: usize) -> Run
     }
 }
 
-/// The list cut into runs.
+/// The list cut into runs that are as long as they can be.
 pub fn runs_of(alloc: Global, offsets: &[Offset]) -> Result<Vec<Run>, NoMemory>
     ensures offsets { IfOk result (λ v. flat_map run_offsets v.items ≡ offsets.now) }
     ensures runs { IfOk result (λ v. AllByRecursion IsRun v.items) }
+    ensures longest { IfOk result (λ v. AreLongest v.items) }
 {
     let mut runs = Vec::new(alloc);
     let mut at = 0usize;
