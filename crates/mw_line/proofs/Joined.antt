@@ -65,14 +65,23 @@ pub record Taken {A : Type 0} (f : A → A → A) (row : List A) (len s k taken 
   pub size : length now ≡ length row
   pub left_is : left + taken * s ≡ len + s
   pub done : (p : ℕ) (d : A) → p < left → get_or now p d ≡ strided f row d s (taken - 1) p
+  pub past : (p : ℕ) (d : A) → len + 63 ≤ p → get_or now p d ≡ get_or row p d
+
+-- no more samples are left than there are
+pub taken_within : {A : Type 0} (f : A → A → A) (row : List A) (len s k taken left : ℕ) (now : List A) → Taken f row len s k taken left now → left ≤ len
+taken_within f row len s k taken left now before =
+    let some : 1 ≤ taken = before.positive in
+    let most = mul-le-mul_left s some in omega (arith, most, before.left_is)
 
 -- a pass that takes j more
 pub taken_more : {A : Type 0} (f : A → A → A) → IsExtremum f → (row : List A) (len s k taken left j shift rest more count : ℕ) (now made : List A) → Taken f row len s k taken left now
     → j ≤ taken → taken + j ≤ k → k * s < len + s → shift ≡ j * s → rest ≡ left - shift → more ≡ taken + j → length made ≡ length now → rest ≤ count
     → ((p : ℕ) (d : A) → p < count → get_or made p d ≡ f (get_or now p d) (get_or now (p + shift) d))
+    → count ≤ rest + 63 → ((p : ℕ) (d : A) → count ≤ p → get_or made p d ≡ get_or now p d)
     → Taken f row len s k more rest made
-taken_more f laws row len s k taken left j shift rest more count now made before short within room shift-is rest-is more-is size enough made-is =
+taken_more f laws row len s k taken left j shift rest more count now made before short within room shift-is rest-is more-is size enough made-is few same =
     let most = mul-le-mul_left s within in
+    let inside = taken_within f row len s k taken left now before in
     let fits : shift ≤ left = omega (arith, most, before.left_is) in
     record {
       positive = omega (arith, before.positive);
@@ -85,6 +94,7 @@ taken_more f laws row len s k taken left j shift rest more count now made before
           ∙ ap (f (strided f row d s (taken - 1) p)) (before.done (p + shift) d (omega arith) ∙ ap (λ (t : ℕ). strided f row d s (taken - 1) (p + t)) shift-is)
           ∙ joined f laws row d s j (taken - 1) (taken - 1) p (omega (arith, before.positive)) (omega arith)
           ∙ ap (λ (t : ℕ). strided f row d s t p) (count_on before.positive);
+      past = λ p d far. same p d (omega arith) ∙ before.past p d far;
     }
   where
     count_on : 0 < taken → j + (taken - 1) ≡ more - 1
@@ -93,12 +103,6 @@ taken_more f laws row len s k taken left j shift rest more count now made before
 pub taken_fits : {A : Type 0} (f : A → A → A) (row : List A) (len s k taken left j : ℕ) (now : List A) → Taken f row len s k taken left now → taken + j ≤ k → k * s < len + s → j * s ≤ left
 taken_fits f row len s k taken left j now before within room =
     let most = mul-le-mul_left s within in omega (arith, most, before.left_is)
-
--- no more samples are left than there are
-pub taken_within : {A : Type 0} (f : A → A → A) (row : List A) (len s k taken left : ℕ) (now : List A) → Taken f row len s k taken left now → left ≤ len
-taken_within f row len s k taken left now before =
-    let some : 1 ≤ taken = before.positive in
-    let most = mul-le-mul_left s some in omega (arith, most, before.left_is)
 
 pub taken_all : {A : Type 0} (f : A → A → A) (row : List A) (len s k taken left : ℕ) (now : List A) → Taken f row len s k taken left now → taken ≡ k
     → (p : ℕ) (d : A) → p + k * s < len + s → get_or now p d ≡ strided f row d s (k - 1) p

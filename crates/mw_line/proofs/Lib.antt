@@ -9,3 +9,4 @@ pub mod Spans
 pub mod Tiles
 pub mod Levels
 pub mod Growing
+pub mod Segments

@@ -1,6 +1,8 @@
 -- Windows on a line of samples.
-use Rattle.std.specs.Prelude.{ℕ, ℤ, pos, ◌+ℤ◌, List, fold, slice_range}
-use Rattle.mw_model.specs.Places.{nonnegative}
+use Rattle.std.specs.Prelude.{ℕ, ◌+◌, ◌*◌, ℤ, pos, ◌+ℤ◌, List, fold, slice_range}
+use Rattle.mw_model.specs.declared.places.Offset.{Offset}
+use Rattle.mw_model.specs.Pictures.{Picture}
+use Rattle.mw_model.specs.Places.{nonnegative, box_offsets}
 
 -- the samples at the places from first to last, both included, that exist
 abbrev pub samples_between : {A : Type 0} → List A → ℤ → ℤ → List A
@@ -9,3 +11,11 @@ samples_between samples first last = slice_range samples (nonnegative first) (no
 -- the extremum of the neutral sample and the samples at the places i + a to i + b
 abbrev pub line_at : {A : Type 0} → (A → A → A) → A → List A → ℤ → ℤ → ℕ → A
 line_at merge neutral samples a b i = fold merge neutral (samples_between samples (pos i +ℤ a) (pos i +ℤ b))
+
+-- the element of the offsets from (a, 0) to (b, 0)
+abbrev pub segment : ℤ → ℤ → List Offset
+segment a b = box_offsets (record { x0 = a; x1 = b; y0 = pos 0; y1 = pos 0 })
+
+-- the samples of row y, from the left
+abbrev pub row_samples : Picture → ℕ → List ℕ
+row_samples f y = slice_range f.samples (y * f.width) (y * f.width + f.width)

@@ -9,6 +9,7 @@ use mw_pixel::{Extremum, Pixel};
 fn whole_blocks(count: usize, room: usize) -> usize
     requires { count ≤ room }
     ensures enough { count ≤ result }
+    ensures few { result ≤ count + 63 }
     ensures fits { result ≤ room }
 {
     if room - count < 63 {
@@ -18,13 +19,14 @@ fn whole_blocks(count: usize, room: usize) -> usize
 }
 
 /// Each of the first `len` samples that has as many after it there becomes the extremum of k samples, each `stride`
-/// further on than the one before. What the samples behind these `len` become is not said: where there are 63 of them,
-/// each pass goes by whole blocks.
+/// further on than the one before. The samples from `len + 63` on stay as they are. What those between become is not said:
+/// where there is room, each pass goes by whole blocks.
 pub fn slide_by<P: Pixel, E: Extremum<P>>(row: &mut [P], len: usize, stride: usize, k: usize)
     requires positive { 0 < k }
     requires within { len ≤ length row.old }
     requires room { k * stride < len + stride }
-    ensures { (p : ℕ) (d : P) → p + k * stride < len + stride → slice_index_or row.new p d ≡ strided E.merge row.old d stride (k - 1) p }
+    ensures windows { (p : ℕ) (d : P) → p + k * stride < len + stride → slice_index_or row.new p d ≡ strided E.merge row.old d stride (k - 1) p }
+    ensures past { (p : ℕ) (d : P) → len + 63 ≤ p → slice_index_or row.new p d ≡ slice_index_or row.old p d }
 {
     let mut taken = 1usize;
     let mut left = len;

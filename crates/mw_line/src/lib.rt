@@ -23,7 +23,9 @@ mod steps;
 mod window_rows;
 
 pub use doubling::slide_by;
-pub use laws::{sliding_maximum_is_dilation, sliding_minimum_is_erosion};
+pub use laws::{
+    sliding_maximum_is_dilation, sliding_minimum_is_erosion, windows_of_a_row_are_operators,
+};
 pub use mw_model::NoMemory;
 pub use rectangles::rectangle;
 pub use sliding::line;

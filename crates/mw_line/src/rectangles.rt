@@ -12,7 +12,7 @@ ghost use Rattle.mw_line.specs.Extrema.{over, IsSlidingExtremum};
 
 use crate::columns::grow;
 use crate::doubling::slide_by;
-use crate::sides::{first_seen, seen_side};
+use crate::sides::{first_seen, seen_across, seen_down};
 use crate::window_rows::combine_window_row;
 use mw_model::{NoMemory, OffsetBox, Rect};
 use mw_pixel::{Extremum, Pixel, Plane, copies};
@@ -125,22 +125,8 @@ pub fn rectangle<P: Pixel, E: Extremum<P>>(
     ensures over_frame { IfOk result (λ r. (f : Raster P) → IsWindow window.now f (box_offsets offsets) tile → IsSlidingExtremum E.merge neutral (cell_at f) (box_offsets offsets) tile r) }
 {
     let place = window.place();
-    let across = seen_side(
-        offsets.x0,
-        offsets.x1,
-        tile.x,
-        tile.width,
-        place.x,
-        place.width,
-    );
-    let down = seen_side(
-        offsets.y0,
-        offsets.y1,
-        tile.y,
-        tile.height,
-        place.y,
-        place.height,
-    );
+    let across = seen_across(offsets, tile, place);
+    let down = seen_down(offsets, tile, place);
     if across.count == 0 || down.count == 0 || tile.width == 0 || tile.height == 0 {
         return Plane::filled(alloc, tile.width, tile.height, neutral);
     }

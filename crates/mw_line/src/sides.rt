@@ -3,6 +3,8 @@ ghost use Rattle.std.specs.Prelude.{◌≡◌, ℕ, ◌+◌, ◌≤◌, ◌^◌,
 ghost use Rattle.mw_model.specs.Places.{nonnegative, span};
 ghost use Rattle.mw_line.specs.Sides.{IsSeenSide};
 
+use mw_model::{OffsetBox, Rect};
+
 /// The places of a side that are left out at its beginning, and how many from there on are looked at.
 #[derive(Clone, Copy)]
 pub(crate) struct SeenSide {
@@ -42,7 +44,7 @@ fn places_of_side(a: i32, b: i32) -> usize
 }
 
 /// The part of a box's side from `a` to `b` by which `side` places of a tile can see `len` places of a window.
-pub(crate) fn seen_side(a: i32, b: i32, tile: u32, side: u32, first: u32, len: u32) -> SeenSide
+fn seen_side(a: i32, b: i32, tile: u32, side: u32, first: u32, len: u32) -> SeenSide
     ensures { IsSeenSide tile side first len a b result.skipped result.count }
 {
     let skipped = places_before(a, tile, side, first);
@@ -52,6 +54,34 @@ pub(crate) fn seen_side(a: i32, b: i32, tile: u32, side: u32, first: u32, len: u
         skipped,
         count: stop.saturating_sub(skipped),
     }
+}
+
+/// The part of the box's columns by which the tile can see a window at that place.
+pub(crate) fn seen_across(offsets: OffsetBox, tile: Rect, place: Rect) -> SeenSide
+    ensures { IsSeenSide tile.x tile.width place.x place.width offsets.x0 offsets.x1 result.skipped result.count }
+{
+    seen_side(
+        offsets.x0,
+        offsets.x1,
+        tile.x,
+        tile.width,
+        place.x,
+        place.width,
+    )
+}
+
+/// The part of the box's rows by which the tile can see a window at that place.
+pub(crate) fn seen_down(offsets: OffsetBox, tile: Rect, place: Rect) -> SeenSide
+    ensures { IsSeenSide tile.y tile.height place.y place.height offsets.y0 offsets.y1 result.skipped result.count }
+{
+    seen_side(
+        offsets.y0,
+        offsets.y1,
+        tile.y,
+        tile.height,
+        place.y,
+        place.height,
+    )
 }
 
 /// Where the first place that is looked at from the tile's first place lies in the window.

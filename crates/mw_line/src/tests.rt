@@ -1,7 +1,7 @@
 //! Worked rows, and the count of combines on a long line.
 use crate::{
     Steps, combine_window_row, line, rectangle, slide_by, sliding_maximum_is_dilation,
-    sliding_minimum_is_erosion,
+    sliding_minimum_is_erosion, windows_of_a_row_are_operators,
 };
 use mw_model::{OffsetBox, Rect};
 use mw_pixel::{Bit, Max, Min, Plane};
@@ -110,5 +110,6 @@ fn sets_and_rows(rt: HostRuntime) -> Result<(), Fail> {
     assert!(rt; out == [Bit::new(false), Bit::SET, Bit::SET]);
     sliding_minimum_is_erosion();
     sliding_maximum_is_dilation();
+    windows_of_a_row_are_operators();
     Ok(())
 }

@@ -1,4 +1,4 @@
-use Rattle.std.proofs.Common.{◌≡◌, ◌⊎◌, ◌*◌, ◌+ℤ◌, ◌-ℤ◌, pos, ℤ, ◌∙◌, arith, replicate, to_z, of_z, w32, w64}
+use Rattle.std.proofs.Common.{◌≡◌, ◌⊎◌, ◌*◌, ◌+ℤ◌, ◌-ℤ◌, pos, ℤ, ◌∙◌, arith, refl, replicate, to_z, of_z, w64}
 use Rattle.std.proofs.lemmas.Int.{ints}
 use Rattle.std.proofs.lemmas.Result.{IfOk-weaker}
 use Rattle.mw_model.specs.Places.{box_offsets}
@@ -15,21 +15,13 @@ returns-then-across-eq0-clause-over_window g c =
     let w = c.args.window.now in
     let box = c.args.offsets in
     let tile = c.args.tile in
-    let x0 : ℤ = to_z w32 (of_z w32 box.x0) in
-    let x1 : ℤ = to_z w32 (of_z w32 box.x1) in
-    let y0 : ℤ = to_z w32 (of_z w32 box.y0) in
-    let y1 : ℤ = to_z w32 (of_z w32 box.y1) in
-    let x0-is : x0 ≡ box.x0 = omega (arith, ints) in
-    let x1-is : x1 ≡ box.x1 = omega (arith, ints) in
-    let y0-is : y0 ≡ box.y0 = omega (arith, ints) in
-    let y1-is : y1 ≡ box.y1 = omega (arith, ints) in
-    let across = c.seen_side-across in
-    let down = c.seen_side-down in
-    let known = looked w box tile c.place-place.result x0 x1 y0 y1 across.result.skipped across.result.count down.result.skipped down.result.count c.place-place.ensures.value x0-is x1-is y0-is y1-is across.ensures down.ensures in
+    let across = c.seen_across-across in
+    let down = c.seen_down-down in
+    let known = looked w box tile c.place-place.result box.x0 box.x1 box.y0 box.y1 across.result.skipped across.result.count down.result.skipped down.result.count c.place-place.ensures.value refl refl refl refl across.ensures down.ensures in
     let why : (across.result.count ≡ 0) ⊎ ((down.result.count ≡ 0) ⊎ ((tile.width ≡ 0) ⊎ (tile.height ≡ 0))) = one_is_none across.result.count down.result.count tile.width tile.height c.then-across-eq0.either in
     IfOk-weaker c.filled.result (λ p. p ≡ raster tile.width tile.height (replicate (tile.height * tile.width) c.args.neutral))
     (λ r. IsSlidingExtremum g.E.Extremum.merge c.args.neutral (seen_at w) (box_offsets box) tile r)
-    (λ r r-is. blank_tile g.E.Extremum.merge c.args.neutral w box tile c.place-place.result x0 x1 y0 y1 across.result.skipped across.result.count down.result.skipped down.result.count r known why r-is)
+    (λ r r-is. blank_tile g.E.Extremum.merge c.args.neutral w box tile c.place-place.result box.x0 box.x1 box.y0 box.y1 across.result.skipped across.result.count down.result.skipped down.result.count r known why r-is)
     c.filled.ensures
 
 pub returns-then-across-eq0-clause-over_frame : goal.returns-then-across-eq0-clause-over_frame
@@ -51,24 +43,16 @@ returns-clause-over_window g c =
     let box = c.args.offsets in
     let tile = c.args.tile in
     let place = c.place-place.result in
-    let x0 : ℤ = to_z w32 (of_z w32 box.x0) in
-    let x1 : ℤ = to_z w32 (of_z w32 box.x1) in
-    let y0 : ℤ = to_z w32 (of_z w32 box.y0) in
-    let y1 : ℤ = to_z w32 (of_z w32 box.y1) in
-    let x0-is : x0 ≡ box.x0 = omega (arith, ints) in
-    let x1-is : x1 ≡ box.x1 = omega (arith, ints) in
-    let y0-is : y0 ≡ box.y0 = omega (arith, ints) in
-    let y1-is : y1 ≡ box.y1 = omega (arith, ints) in
-    let across = c.seen_side-across in
-    let down = c.seen_side-down in
-    let known = looked w box tile place x0 x1 y0 y1 across.result.skipped across.result.count down.result.skipped down.result.count c.place-place.ensures.value x0-is x1-is y0-is y1-is across.ensures down.ensures in
+    let across = c.seen_across-across in
+    let down = c.seen_down-down in
+    let known = looked w box tile place box.x0 box.x1 box.y0 box.y1 across.result.skipped across.result.count down.result.skipped down.result.count c.place-place.ensures.value refl refl refl refl across.ensures down.ensures in
     let column : ℤ = to_z w64 (of_z w64 c.first_seen-column.result) in
     let row : ℤ = to_z w64 (of_z w64 c.first_seen-row.result) in
-    let column-is : column ≡ pos tile.x +ℤ (x0 +ℤ pos across.result.skipped) -ℤ pos place.x = omega (arith, ints, c.first_seen-column.ensures.value) in
-    let row-is : row ≡ pos tile.y +ℤ (y0 +ℤ pos down.result.skipped) -ℤ pos place.y = omega (arith, ints, c.first_seen-row.ensures.value) in
+    let column-is : column ≡ pos tile.x +ℤ (box.x0 +ℤ pos across.result.skipped) -ℤ pos place.x = omega (arith, ints, c.first_seen-column.ensures.value) in
+    let row-is : row ≡ pos tile.y +ℤ (box.y0 +ℤ pos down.result.skipped) -ℤ pos place.y = omega (arith, ints, c.first_seen-row.ensures.value) in
     tile_made f n n (seen_at w) (box_offsets box) tile c.in_ok-samples.samples.items c.new.result c.new.ensures (omega (arith, c.in_ok-samples.ensures.size))
     (λ x y less row_less. c.in_ok-samples.ensures.cells x y less row_less
-    ∙ tile_cell f laws n w box tile place x0 x1 y0 y1 across.result.skipped across.result.count down.result.skipped down.result.count known (omega arith) (omega arith) column row column-is row-is x y less row_less)
+    ∙ tile_cell f laws n w box tile place box.x0 box.x1 box.y0 box.y1 across.result.skipped across.result.count down.result.skipped down.result.count known (omega arith) (omega arith) column row column-is row-is x y less row_less)
 
 pub returns-clause-over_frame : goal.returns-clause-over_frame
 returns-clause-over_frame g c = λ f window.

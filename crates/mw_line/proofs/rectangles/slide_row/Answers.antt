@@ -19,4 +19,4 @@ returns g c =
     ∙ ap (λ (t : List g.row.P.Denot). at (to_x +ℤ pos x) to_y (get_or t x d)) c.copy_from_slice.ensures.after
     ∙ ap (λ (t : ℤ). at (t +ℤ pos x) to_y (get_or c.args.blank.now x d)) x-is
     ∙ ap (λ (t : ℤ). at (c.args.column +ℤ pos x) t (get_or c.args.blank.now x d)) y-is)
-    c.slide_by.ensures (omega arith)
+    c.slide_by.ensures.windows (omega arith)
