@@ -115,9 +115,8 @@ impl Intake {
                     return Ok(Next::More);
                 }
                 self.wanted = None;
-                self.line.clear();
-                let payload = mem::replace(&mut self.payload, Vec::new(self.alloc));
-                return Ok(Next::Request(with_payload(what, payload)));
+                let request = gathered(self.alloc, what, &mut self.line, &mut self.payload);
+                return Ok(Next::Request(request));
             }
         }
         let bytes = behind(&self.rest, self.at);
@@ -138,9 +137,7 @@ impl Intake {
                     self.wanted = Some((what, len));
                     return Ok(Next::More);
                 }
-                self.line.clear();
-                let payload = mem::replace(&mut self.payload, Vec::new(self.alloc));
-                Ok(Next::Request(with_payload(what, payload)))
+                Ok(Next::Request(gathered(self.alloc, what, &mut self.line, &mut self.payload)))
             }
         }
     }
@@ -190,6 +187,16 @@ fn with_payload(what: Awaited, payload: Vec<u8>) -> Request
         Awaited::Image(name) => Request::Load(name, payload),
         Awaited::Element(name, ox, oy) => Request::Element(name, ox, oy, payload),
     }
+}
+
+/// The request of a line with all of its payload, both of which leave their places empty.
+fn gathered(alloc: Global, what: Awaited, line: &mut Vec<u8>, payload: &mut Vec<u8>) -> Request
+    ensures asked { asked result ≡ asked_with what payload.old.items }
+    ensures line { line.new.items ≡ [] }
+    ensures payload { payload.new.items ≡ [] }
+{
+    line.clear();
+    with_payload(what, mem::replace(payload, Vec::new(alloc)))
 }
 
 /// What stands from `at` on.

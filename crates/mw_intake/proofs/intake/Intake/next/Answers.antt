@@ -16,7 +16,7 @@ pub returns-in-Some-clause-ok : goal.returns-in-Some-clause-ok
 returns-in-Some-clause-ok c =
     let inv = rw c.in-Some.is at c.self.invariant in
     let whole : length c.self.inside.payload.items ≡ c.in-Some.len = omega (arith, c.self.inside.payload.ok.0, inv.1.1) in
-    rw (c.with_payload.ensures, c.clear.ensures.items, c.replace-payload.ensures.after, c.new.ensures.items, c.replace-payload.ensures.value, ← c.self.view_is)
+    rw (c.gathered-request.ensures.asked, c.gathered-request.ensures.line, c.gathered-request.ensures.payload, ← c.self.view_is)
     (gathering_whole c.self.inside.line.items c.self.inside.payload.items (drop c.self.inside.at c.self.inside.rest.items) c.in-Some.what c.in-Some.len inv.1.0 whole)
 
 pub returns-then-n-len-clause-ok : goal.returns-then-n-len-clause-ok
@@ -39,5 +39,5 @@ returns-else-n-len-clause-ok c =
     let payload : c.append_both.new.second.items ≡ take c.min-n.result (drop c.in-Payload.used bytes) = rw (inv.1.1, c.split_at-in-Payload.ensures.front, c.split_at.ensures.back, c.behind-bytes.ensures) at c.in_ok-append_both-in-Payload.ensures.ok.1 in
     let cut : IsPayloadLine (take c.in-Payload.used bytes) c.in-Payload.what c.in-Payload.len = rw c.behind-bytes.ensures at c.in-Payload.ensures.1 in
     let count : c.min-n.result ≡ min (length (drop c.in-Payload.used bytes)) c.in-Payload.len = grind (arith, common_steps) in
-    rw (c.with_payload-in-Payload.ensures, c.clear-in-Payload.ensures.items, c.replace-payload-in-Payload.ensures.after, c.new-in-Payload.ensures.items, c.replace-payload-in-Payload.ensures.value)
+    rw (c.gathered.ensures.asked, c.gathered.ensures.line, c.gathered.ensures.payload)
     (begun_whole c.args.self.now c.append_both.new.first.items c.append_both.new.second.items bytes c.self.inside.rest.items c.self.inside.at c.in-Payload.used c.min-n.result c.in-Payload.what c.in-Payload.len old refl line payload cut count (omega arith))
