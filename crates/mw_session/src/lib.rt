@@ -26,7 +26,8 @@ pub use laws::{
     written_text_stays,
 };
 pub use line::ReplyLine;
-pub use mw_model::{End, NoMemory};
+pub use mw_intake::Intake;
+pub use mw_model::{End, Next, NoMemory, Request};
 pub use reply::{curve_line, image_line, refusal_line, reply_line};
 pub use saying::{end_by, say, say_curve, say_image};
 pub use script::{run_script, serve_piece};
