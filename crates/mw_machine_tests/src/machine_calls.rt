@@ -153,6 +153,15 @@ fn handed_last(answers: &[Answer]) -> Option<&Fetched> {
     }
 }
 
+/// The last event was handed what the list makes of the row, where all answers before it are as they are to be.
+fn hands_the_eroded_row(rt: &impl Abort, alloc: Global, answers: &[Answer]) -> Result<(), Stop> {
+    let fetched = handed_last(answers).ok_or(Stop::List)?;
+    assert_eq!(rt; fetched.reply, Reply::Shown(2));
+    let text = text_of(alloc, &fetched.value)?;
+    assert_eq!(rt; text.as_slice(), ERODED);
+    Ok(())
+}
+
 fn serve_list(rt: &impl Abort, alloc: Global) -> Result<(), Stop> {
     let mut desk = Desk::new(rt, alloc, ROW)?;
     desk.play(
@@ -164,11 +173,7 @@ fn serve_list(rt: &impl Abort, alloc: Global) -> Result<(), Stop> {
     if answers.iter().any(|answer| is_in_want(answer)) {
         return Err(Stop::Memory);
     }
-    let fetched = handed_last(&answers).ok_or(Stop::List)?;
-    assert_eq!(rt; fetched.reply, Reply::Shown(2));
-    let text = text_of(alloc, &fetched.value)?;
-    assert_eq!(rt; text.as_slice(), ERODED);
-    Ok(())
+    hands_the_eroded_row(rt, alloc, &answers)
 }
 
 #[test]

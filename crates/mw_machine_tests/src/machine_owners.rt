@@ -1,5 +1,6 @@
 //! Who owns the planes of images that a core keeps. No contract says how many own a plane, nor that it is not copied: so
-//! here its owners are counted. The test passes whichever one of its allocations is refused.
+//! here its owners are counted. A plane can have several from the first START or FETCH of its image on. Each test passes
+//! whichever one of its allocations is refused.
 
 use crate::machine::{Ask, Desk, ERODED, ROW, Stop, Turn, name};
 use mw_core::{Finish, NoMemory, Shown};
@@ -65,6 +66,35 @@ fn tasks_own_the_planes_of_their_sources(rt: HostRuntime) -> Result<(), Fail> {
     let seen = match owners_in_turn(&rt, alloc) {
         Ok(seen) if seen == shared => seen,
         _ => owners_in_turn(&rt, alloc)?,
+    };
+    assert_eq!(rt; seen, shared);
+    Ok(())
+}
+
+const TAKEN_IN_TURN: &[Turn] = &[
+    Turn::Bring(Finish::Settled(2)),
+    Turn::Call(Ask::Erode(b"g", b"e", b"b"), Reply::Accepted(3)),
+    Turn::Take(0, 3),
+];
+
+/// The owners of the row and of what was made of it, each while a task runs that took it before anyone fetched it, and
+/// those of the row when its task is through.
+fn owners_before_a_fetch(rt: &impl Abort, alloc: Global) -> Result<[Option<usize>; 3], Stop> {
+    let mut desk = Desk::new(rt, alloc, ROW)?;
+    desk.play(rt, TAKEN)?;
+    let row = owners(&mut desk, b"f")?;
+    desk.play(rt, TAKEN_IN_TURN)?;
+    let made = owners(&mut desk, b"e")?;
+    Ok([row, made, owners(&mut desk, b"f")?])
+}
+
+#[test]
+fn the_first_start_makes_a_plane_shareable(rt: HostRuntime) -> Result<(), Fail> {
+    let alloc = rt.alloc();
+    let shared = [Some(2), Some(2), Some(1)];
+    let seen = match owners_before_a_fetch(&rt, alloc) {
+        Ok(seen) if seen == shared => seen,
+        _ => owners_before_a_fetch(&rt, alloc)?,
     };
     assert_eq!(rt; seen, shared);
     Ok(())

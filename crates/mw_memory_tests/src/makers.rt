@@ -24,9 +24,6 @@ fn is_filled<P: Pixel>(
     assert!(rt; plane.width() == width && plane.height() == height);
     assert_eq!(rt; plane.samples().len(), count);
     assert!(rt; plane.samples().iter().all(|s| *s == sample));
-    let row = once_more!(NoMemory, copies(alloc, count, sample));
-    assert_eq!(rt; row.len(), count);
-    assert!(rt; row.iter().all(|s| *s == sample));
     Ok(())
 }
 
@@ -35,6 +32,26 @@ fn planes_are_filled(rt: HostRuntime) -> Result<(), Fail> {
     is_filled(&rt, rt.alloc(), 3, 2, 7u8, 6)?;
     is_filled(&rt, rt.alloc(), 1, 70, 700u16, 70)?;
     is_filled(&rt, rt.alloc(), 65, 2, Bit::SET, 130)
+}
+
+/// A row of so many copies of one sample.
+fn is_repeated<P: Pixel>(
+    rt: &impl Abort,
+    alloc: Global,
+    sample: P,
+    count: usize,
+) -> Result<(), Fail> {
+    let row = once_more!(NoMemory, copies(alloc, count, sample));
+    assert_eq!(rt; row.len(), count);
+    assert!(rt; row.iter().all(|s| *s == sample));
+    Ok(())
+}
+
+#[test]
+fn samples_are_repeated(rt: HostRuntime) -> Result<(), Fail> {
+    is_repeated(&rt, rt.alloc(), 7u8, 6)?;
+    is_repeated(&rt, rt.alloc(), 700u16, 70)?;
+    is_repeated(&rt, rt.alloc(), Bit::SET, 130)
 }
 
 /// Three columns and two rows.

@@ -109,15 +109,19 @@ fn images_of_two_bytes_share_their_planes(rt: HostRuntime) -> Result<(), Fail> {
     owned_in_turn(&rt, rt.alloc(), image, &deep)
 }
 
-#[test]
-fn planes_are_shared_once(rt: HostRuntime) -> Result<(), Fail> {
-    let alloc = rt.alloc();
+/// A plane that others can own, asked for twice: only the first time makes it so.
+fn shared_twice(rt: &impl Abort, alloc: Global) -> Result<HeldPlane<u8>, Fail> {
     let alone = HeldPlane::alone(plane_of(alloc, 7u8)?);
     assert!(rt; alone.shared().is_none());
-    let held = alone.into_shared(alloc).into_shared(alloc);
+    Ok(alone.into_shared(alloc).into_shared(alloc))
+}
+
+#[test]
+fn planes_are_shared_once(rt: HostRuntime) -> Result<(), Fail> {
+    let held = shared_twice(&rt, rt.alloc())?;
     let plane = held.shared().ok_or("others can own the plane")?;
     assert_eq!(rt; Arc::strong_count(&plane), 2);
-    let other = HeldPlane::sharing(plane).into_shared(alloc);
+    let other = HeldPlane::sharing(plane).into_shared(rt.alloc());
     let plane = other.shared().ok_or("others can own the plane")?;
     assert_eq!(rt; Arc::strong_count(&plane), 3);
     drop(held);
