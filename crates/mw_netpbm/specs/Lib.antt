@@ -4,6 +4,7 @@ pub mod Rasters
 pub mod Swapping
 pub mod Plain
 pub mod Places
+pub mod Short
 pub mod Tallies
 pub mod Whole
 pub mod Faults

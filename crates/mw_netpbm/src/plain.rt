@@ -1,9 +1,10 @@
 //! Plain rasters: samples as numbers between white space, pixels as single signs.
 
-ghost use Rattle.std.specs.Prelude.{◌≡◌, ◌≤◌, ℕ, ◌==◌, if◌then◌else◌, IfOk, IfSome, map};
+ghost use Rattle.std.specs.Prelude.{◌≡◌, ◌≤◌, ◌↔◌, ℕ, ◌==◌, nat_lt, if◌then◌else◌, IfOk, IfSome, IsSome, map};
 ghost use Rattle.mw_model.specs.NetpbmGrammar.{IsSample};
 ghost use Rattle.mw_netpbm.specs.Reading.{seen, Gives, fault_of};
 ghost use Rattle.mw_netpbm.specs.Places.{ones_of, place_at, top_of};
+ghost use Rattle.mw_netpbm.specs.Short.{IsShort};
 ghost use Rattle.mw_netpbm.specs.Plain.{tail_at, plain_at, bit_at, pixel_at, apart, level_at, sample_at};
 
 use crate::fault::ReadFault;
@@ -68,7 +69,8 @@ fn any_sample(maxval: u16, left: usize, bytes: &[u8]) -> Result<(u16, &[u8]), Re
 /// The sample at the front where it is as short as its maxval. The branch is the same for each sample of a raster.
 #[inline(always)]
 fn likely_sample(maxval: u16, bytes: &[u8]) -> Option<(u32, &[u8])>
-    ensures { IfSome result (λ x. (left : ℕ) → IsSample left bytes.now x.0 x.1.now) }
+    ensures sample { IfSome result (λ x. (left : ℕ) → IsSample left bytes.now x.0 x.1.now) }
+    ensures short { IsSome result ↔ IsShort (if nat_lt maxval 1000 then 3 else 5) bytes.now }
 {
     if maxval < 1000 {
         short_sample(false, bytes)

@@ -5,8 +5,9 @@
 //! of more are all computed, and one is selected. On 4096 x 4096 samples without a pattern a raster takes 7 to 13 ns a
 //! sample of 8 bits and 8 to 15 ns one of 16; in two passes, the longer samples digit by digit, it took 13 and 39.
 
-ghost use Rattle.std.specs.Prelude.{◌≡◌, ◌≤◌, ◌+◌, ◌-◌, ◌*◌, [], ◌∷◌, ℕ, take, IfSome, IsTrue, if◌then◌else◌};
+ghost use Rattle.std.specs.Prelude.{◌≡◌, ◌≤◌, ◌+◌, ◌-◌, ◌*◌, ◌↔◌, [], ◌∷◌, ℕ, take, IfSome, IsSome, IsTrue, if◌then◌else◌};
 ghost use Rattle.mw_model.specs.NetpbmGrammar.{IsNumber, IsSample, is_digit};
+ghost use Rattle.mw_netpbm.specs.Short.{digits_ahead, IsShort};
 
 use crate::words::is_white;
 
@@ -46,10 +47,12 @@ fn selected(is_longer: bool, longer: (u32, usize), shorter: (u32, usize)) -> (u3
 
 /// The number at the front of five bytes, and how many digits it has. The first byte is a digit.
 #[inline(always)]
+#[tactic(auto, unfolding(crate::specs::Short::digits_ahead))]
 fn short_number(is_deep: bool, a: u8, b: u8, c: u8, d: u8, e: u8) -> (u32, usize)
     requires { IsTrue (is_digit a) }
     ensures number { IsNumber (take result.1 (a ∷ b ∷ c ∷ d ∷ e ∷ [])) result.0 }
-    ensures count { result.1 ≤ 5 }
+    ensures count { result.1 ≡ digits_ahead (if is_deep then 5 else 3) (a ∷ b ∷ c ∷ d ∷ e ∷ []) }
+    ensures few { result.1 ≤ 5 }
 {
     let one = digit(a);
     let two = with_digit(one, b);
@@ -65,15 +68,17 @@ fn short_number(is_deep: bool, a: u8, b: u8, c: u8, d: u8, e: u8) -> (u32, usize
 /// The sample at the front, and what follows it, where it is as short as that.
 #[inline(always)]
 pub(crate) fn short_sample(is_deep: bool, bytes: &[u8]) -> Option<(u32, &[u8])>
-    ensures { IfSome result (λ x. (left : ℕ) → IsSample left bytes.now x.0 x.1.now) }
+    ensures sample { IfSome result (λ x. (left : ℕ) → IsSample left bytes.now x.0 x.1.now) }
+    ensures short { IsSome result ↔ IsShort (if is_deep then 5 else 3) bytes.now }
 {
     match bytes {
         [first, a, b, c, d, e, _, ..] if is_white(*first) && is_digit(*a) => {
             let (n, count) = short_number(is_deep, *a, *b, *c, *d, *e);
             let (_, rest) = bytes.split_at(1 + count);
-            match rest {
-                [next, ..] if is_white(*next) => Some((n, rest)),
-                _ => None,
+            if is_white(rest[0]) {
+                Some((n, rest))
+            } else {
+                None
             }
         }
         _ => None,
