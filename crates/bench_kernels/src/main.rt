@@ -12,12 +12,13 @@ mod words;
 
 use crate::lines::time_lines;
 use crate::words::time_sets;
+use mw_grid::{Grid, side_ok};
 use mw_line::rectangle;
 use mw_model::{NoMemory, Offset, OffsetBox, Reach, Rect};
 use mw_offset::extremum;
 use mw_pixel::{Extremum, Max, Min, Pixel, Plane};
 use mw_rank::rank;
-use mw_tile::{Grid, Window, paste, side_ok};
+use mw_tile::{Window, paste};
 use std::alloc::{AllocError, AllocFailed, Global};
 use std::sync::Arc;
 use std::time::Instant;

@@ -4,9 +4,10 @@ ghost use Rattle.std.specs.Prelude.{◌≡◌, ◌*◌, ◌≤◌, ◌%◌, vec_
 
 use crate::{FRAME, Fault, SIDE, disc, reach};
 use mw_bits::Words;
+use mw_grid::Grid;
 use mw_model::Offset;
 use mw_pixel::{Bit, Min, Plane};
-use mw_tile::{Grid, Window, paste};
+use mw_tile::{Window, paste};
 use std::alloc::Global;
 use std::time::Instant;
 

@@ -8,7 +8,7 @@ ghost use Rattle.std.specs.String.{string_bytes};
 use crate::fault::LineFault;
 use clap::error::ErrorKind;
 use clap::{Arg, ArgMatches, Command, value_parser};
-use mw_tile::side_ok;
+use mw_grid::side_ok;
 use std::alloc::{Alloc, AllocError, Global};
 use std::env::{Env, args};
 use std::io;

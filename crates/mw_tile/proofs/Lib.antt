@@ -1,6 +1,3 @@
-pub mod Lines
-pub mod Tiles
-pub mod Reaching
 pub mod Rows
 pub mod Shown
 pub mod LevelLists

@@ -7,12 +7,13 @@ use Rattle.mw_model.specs.declared.places.Offset.{Offset}
 use Rattle.mw_model.specs.declared.places.Rect.{Rect}
 use Rattle.mw_model.specs.declared.places.Reach.{Reach}
 use Rattle.mw_model.specs.Places.{grown, Holds, WithinReach}
-use Rattle.mw_tile.specs.Windows.{Reaches, IsCut, IsWindow}
-use Rattle.mw_tile.specs.Grids.{Tiling, tile_at}
+use Rattle.mw_tile.specs.Windows.{IsCut, IsWindow}
+use Rattle.mw_grid.specs.Rectangles.{Reaches}
+use Rattle.mw_grid.specs.Grids.{Tiling, tile_at}
 use Rattle.mw_model.specs.Pictures.{Picture}
 use Rattle.mw_model.specs.Flat.{under}
 use Rattle.mw_pixel.specs.Images.{raster_of}
-use Rattle.mw_tile.proofs.Reaching.{reaches_all}
+use Rattle.mw_grid.proofs.Reaching.{reaches_all}
 use Rattle.mw_model.specs.Rasters.{Raster, raster, cell_at, seen_under}
 use Rattle.mw_model.specs.Windows.{View, seen_at}
 use Rattle.mw_pixel.proofs.Cells.{cell_at-inside, cell_at-right, cell_at-below, cell_at-above, seen_under-raster_of}

@@ -1,9 +1,10 @@
 -- Samples of a rectangle of a frame.
 use Rattle.std.specs.Prelude.{◌≡◌, ℕ, ◌+◌, ◌*◌, ◌<◌, List, length, slice_get}
 use Rattle.mw_model.specs.declared.places.Rect.{Rect}
-use Rattle.mw_model.specs.Places.{rect, Holds}
+use Rattle.mw_model.specs.Places.{Holds}
 use Rattle.mw_model.specs.Rasters.{Raster}
 use Rattle.mw_model.specs.Windows.{View}
+use Rattle.mw_grid.specs.Rectangles.{whole_frame}
 
 -- cells of a place of a frame with these sides
 abbrev pub view_of : {A : Type 0} → ℕ → ℕ → Rect → List A → View A
@@ -15,7 +16,7 @@ stood_at f place part = view_of f.width f.height place part.cells
 
 -- the rectangle of a whole frame
 abbrev pub whole_of : {A : Type 0} → Raster A → Rect
-whole_of f = rect 0 0 f.width f.height
+whole_of f = whole_frame f.width f.height
 
 -- the new frame has the part in the rectangle, and elsewhere what the old one has
 pub record Pastes {A : Type 0} (old new part : Raster A) (r : Rect) : Type 0 where

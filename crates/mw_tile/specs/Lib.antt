@@ -1,4 +1,3 @@
-pub mod Grids
 pub mod Windows
 pub mod Cuts
 pub mod AnyWindows

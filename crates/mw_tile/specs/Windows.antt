@@ -1,24 +1,15 @@
 -- Windows of a frame: what they have of it, and the samples of a source in one (own).
-use Rattle.std.specs.Prelude.{◌≡◌, ℕ, ◌+◌, ◌*◌, ◌<◌, List, [], length, ℤ, pos, ◌+ℤ◌, slice_get}
-use Rattle.std.specs.List.{AllByRecursion}
+use Rattle.std.specs.Prelude.{◌≡◌, ℕ, ◌+◌, ◌*◌, ◌<◌, List, [], length, slice_get}
 use Rattle.mw_model.specs.declared.places.Offset.{Offset}
 use Rattle.mw_model.specs.declared.places.Rect.{Rect}
 use Rattle.mw_model.specs.declared.shapes.Kind.{Kind}
 use Rattle.mw_model.specs.declared.shapes.Kind.TheVariants as kind
-use Rattle.mw_model.specs.Places.{rect, Holds, IsWithin}
+use Rattle.mw_model.specs.Places.{rect, IsWithin}
 use Rattle.mw_model.specs.Rasters.{Raster}
 use Rattle.mw_model.specs.Pictures.{Picture, sample}
 use Rattle.mw_model.specs.Windows.{View}
 use Rattle.mw_model.specs.Tasks.{cells_in}
-
--- the rectangle has this place if a frame of this width and height has it
-abbrev pub Reaches : Rect → ℕ → ℕ → ℤ → ℤ → Type 0
-Reaches r width height column row = (x y : ℕ) → column ≡ pos x → row ≡ pos y → x < width → y < height → Holds r x y
-
--- at each place of the tile the rectangle has what the frame has under the element
-abbrev pub ReachesAll : Rect → ℕ → ℕ → List Offset → Rect → Type 0
-ReachesAll r width height element tile =
-    (x y : ℕ) → x < tile.width → y < tile.height → AllByRecursion (λ (b : Offset). Reaches r width height (pos (tile.x + x) +ℤ b.dx) (pos (tile.y + y) +ℤ b.dy)) element
+use Rattle.mw_grid.specs.Rectangles.{ReachesAll}
 
 -- the view has the cells that the frame has there
 pub record IsCut {A : Type 0} (w : View A) (f : Raster A) : Type 0 where

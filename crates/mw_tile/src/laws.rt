@@ -1,10 +1,10 @@
-//! What tiles and windows are for.
+//! What windows are for.
 
 ghost use Rattle.std.specs.Prelude.{◌≡◌, ℕ, ◌+◌, ◌<◌};
 ghost use Rattle.mw_model.specs.declared.places.Rect.{Rect};
-ghost use Rattle.mw_model.specs.Places.{grown, IsWithin, WithinReach, CoverOnce};
-ghost use Rattle.mw_tile.specs.Windows.{ReachesAll, IsCut, IsWindow};
-ghost use Rattle.mw_tile.specs.Grids.{tile_count, tile_at, tiles_of};
+ghost use Rattle.mw_model.specs.Places.{grown, WithinReach};
+ghost use Rattle.mw_tile.specs.Windows.{IsCut, IsWindow};
+ghost use Rattle.mw_grid.specs.Grids.{tile_at};
 ghost use Rattle.mw_model.specs.Pictures.{Picture, IsPicture};
 ghost use Rattle.mw_model.specs.Flat.{under};
 ghost use Rattle.mw_model.specs.Rasters.{Raster, cell_at, seen_under};
@@ -12,31 +12,10 @@ ghost use Rattle.mw_model.specs.Windows.{seen_at};
 ghost use Rattle.mw_pixel.specs.Images.{raster_of};
 ghost use Rattle.mw_tile.specs.AnyWindows.{levels_of};
 
-use crate::{AnyWindow, Grid, Window};
+use crate::{AnyWindow, Window};
+use mw_grid::Grid;
 use mw_model::{Offset, Reach};
 use mw_pixel::Pixel;
-
-/// The tiles lie in the frame, and each of its pixels is in exactly one of them.
-pub fn tiles_cover_once(grid: Grid)
-    ensures { CoverOnce (tiles_of grid) grid.width grid.height }
-{
-    let _width = grid.width();
-    let _height = grid.height();
-    let _side = grid.side();
-}
-
-/// A tile's window has each place of the frame to which the element leads from the tile.
-pub fn window_reaches(grid: Grid, i: u32, reach: Reach, element: &[Offset])
-    requires tile { i < tile_count grid }
-    requires reach { WithinReach reach element.now }
-    ensures reaches { ReachesAll (grown grid.width grid.height reach (tile_at grid i)) grid.width grid.height element.now (tile_at grid i) }
-    ensures within { IsWithin (grown grid.width grid.height reach (tile_at grid i)) grid.width grid.height }
-{
-    let _width = grid.width();
-    let _height = grid.height();
-    let _side = grid.side();
-    let _size = element.len();
-}
 
 /// At each place of the tile a window shows under the element what the whole frame has there.
 pub fn window_shows_frame<P: Pixel>(window: &Window<P>, element: &[Offset])

@@ -1,7 +1,7 @@
-//! Tiles of a frame, and the windows of samples that tiles are computed from.
+//! The windows of samples that the tiles of a frame are computed from.
 //!
 //! ```text
-//! let grid = Grid::new(frame_width, frame_height, 128);
+//! let grid = mw_grid::Grid::new(frame_width, frame_height, 128);
 //! for i in 0..grid.len() {
 //!     let window = Window::cut(alloc, &plane, grid.window(i, reach))?;
 //!     // compute the samples of the tile from the window, and put them in their place:
@@ -12,17 +12,13 @@
 
 mod any;
 mod cuts;
-mod grid;
 mod laws;
 mod levels;
 mod window;
 
 pub use any::AnyWindow;
 pub use cuts::{cut, paste};
-pub use grid::{Grid, side_ok};
-pub use laws::{
-    cut_is_window, tiles_cover_once, window_reaches, window_shows_frame, window_shows_picture,
-};
+pub use laws::{cut_is_window, window_shows_frame, window_shows_picture};
 pub use mw_model::{NoMemory, Offset, Reach, Rect};
 pub use window::Window;
 

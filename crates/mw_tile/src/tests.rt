@@ -3,9 +3,10 @@
 ghost use Rattle.std.specs.Prelude.{◌≡◌};
 
 use crate::{
-    AnyWindow, Grid, Reach, Rect, Window, cut, cut_is_window, paste, side_ok, tiles_cover_once,
-    window_reaches, window_shows_frame, window_shows_picture,
+    AnyWindow, Reach, Rect, Window, cut, cut_is_window, paste, window_shows_frame,
+    window_shows_picture,
 };
+use mw_grid::{Grid, side_ok, tiles_cover_once, window_reaches};
 use mw_pixel::{Bit, Kind, Plane};
 use std::test::Fail;
 

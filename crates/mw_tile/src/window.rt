@@ -7,6 +7,7 @@ ghost use Rattle.mw_tile.specs.Windows.{IsCut};
 ghost use Rattle.mw_tile.specs.Cuts.{stood_at, view_of, whole_of};
 
 use crate::cuts::cut_samples;
+use mw_grid::whole_frame;
 use mw_model::{NoMemory, Rect};
 use mw_pixel::{HeldPlane, Pixel, Plane};
 use std::alloc::Global;
@@ -85,12 +86,7 @@ impl<P: Pixel> Window<P> {
         Window {
             frame_width: width,
             frame_height: height,
-            place: Rect {
-                x: 0,
-                y: 0,
-                width,
-                height,
-            },
+            place: whole_frame(width, height),
             held,
         }
     }

@@ -2,6 +2,7 @@
 
 ghost use Rattle.std.specs.Prelude.{◌≡◌, ◌↔◌, ◌+◌, ◌%◌, ◌<◌, ◌≤◌, IsTrue};
 
+use crate::rectangles::grown;
 use mw_model::{Reach, Rect};
 use std::marker::Model;
 
@@ -14,7 +15,7 @@ pub struct Grid {
 }
 
 impl Model for Grid {
-    ghost use Rattle.mw_tile.specs.Grids.{Tiling, tiling, IsTiling};
+    ghost use Rattle.mw_grid.specs.Grids.{Tiling, tiling, IsTiling};
 
     ghost Value = { Tiling };
 
@@ -35,7 +36,7 @@ pub fn side_ok(side: u32) -> bool
 impl Grid {
     ghost use Rattle.std.specs.Prelude.{◌≡◌, ◌+◌, ◌%◌, ◌<◌, ◌≤◌};
     ghost use Rattle.mw_model.specs.Places.{grown, IsWithin};
-    ghost use Rattle.mw_tile.specs.Grids.{columns_of, rows_of, tile_count, tile_at, tiling};
+    ghost use Rattle.mw_grid.specs.Grids.{columns_of, rows_of, tile_count, tile_at, tiling};
 
     /// The tiles of a frame of so many columns and rows, squares of this side in pixels.
     pub fn new(width: u32, height: u32, side: u32) -> Grid
@@ -128,20 +129,6 @@ impl Grid {
         ensures value { result ≡ grown self.width self.height reach (tile_at self i) }
         ensures within { IsWithin result self.width self.height }
     {
-        let tile = self.rect(i);
-        let x = tile.x.saturating_sub(reach.left);
-        let y = tile.y.saturating_sub(reach.up);
-        let right = (tile.x + tile.width)
-            .saturating_add(reach.right)
-            .min(self.width);
-        let bottom = (tile.y + tile.height)
-            .saturating_add(reach.down)
-            .min(self.height);
-        Rect {
-            x,
-            y,
-            width: right - x,
-            height: bottom - y,
-        }
+        grown(self.rect(i), reach, self.width, self.height)
     }
 }

@@ -6,7 +6,7 @@ use Rattle.mw_model.specs.declared.places.Offset.{Offset}
 use Rattle.mw_model.specs.declared.places.Rect.{Rect}
 use Rattle.mw_model.specs.declared.places.Reach.{Reach}
 use Rattle.mw_model.specs.Places.{grown, IsWithin, Leads, WithinReach}
-use Rattle.mw_tile.specs.Windows.{Reaches, ReachesAll}
+use Rattle.mw_grid.specs.Rectangles.{Reaches, ReachesAll}
 
 -- along one line
 along : (n a w left right i x : ℕ) (d : ℤ) → pos 0 ≤ℤ (d +ℤ pos left) → d ≤ℤ pos right → i < w → pos (a + i) +ℤ d ≡ pos x → x < n

@@ -1,6 +1,6 @@
 use Rattle.std.proofs.Common.{◌≡◌, ap, arith}
-use Rattle.mw_tile.proofs.Tiles.{rect_within, HasTiles}
-use Rattle.mw_tile.proofs.grid.Grid.rect.Goals as goal
+use Rattle.mw_grid.proofs.Tiles.{rect_within, HasTiles}
+use Rattle.mw_grid.proofs.grid.Grid.rect.Goals as goal
 
 pub returns-clause-within : goal.returns-clause-within
 returns-clause-within c =

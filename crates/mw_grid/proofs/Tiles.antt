@@ -5,8 +5,8 @@ use Rattle.std.proofs.lemmas.Nat.{div-mul-add, div-add-mod'}
 use Rattle.std.proofs.lemmas.List.FromFn.{length-map-range_with_len, get_or-map-range_with_len}
 use Rattle.mw_model.specs.declared.places.Rect.{Rect}
 use Rattle.mw_model.specs.Places.{rect, tile_of, Holds, HoldsOnce, CoverOnce, IsWithin}
-use Rattle.mw_tile.specs.Grids.{Tiling, columns_of, rows_of, tile_count, tile_at, tiles_of}
-use Rattle.mw_tile.proofs.Lines.{piece_has, piece_only, piece_counts, piece_begins, number_of, row_less}
+use Rattle.mw_grid.specs.Grids.{Tiling, columns_of, rows_of, tile_count, tile_at, tiles_of}
+use Rattle.mw_grid.proofs.Lines.{piece_has, piece_only, piece_counts, piece_begins, number_of, row_less}
 
 mod_lt : (i n : ℕ) → 0 < n → i % n < n
 mod_lt i n some = omega arith

@@ -1,8 +1,8 @@
 use Rattle.std.proofs.Common.{arith}
-use Rattle.mw_tile.specs.Grids.{tile_at}
-use Rattle.mw_tile.proofs.Tiles.{tile_begins}
-use Rattle.mw_tile.proofs.Reaching.{reaches_all, stays_within}
-use Rattle.mw_tile.proofs.laws.window_reaches.Goals as goal
+use Rattle.mw_grid.specs.Grids.{tile_at}
+use Rattle.mw_grid.proofs.Tiles.{tile_begins}
+use Rattle.mw_grid.proofs.Reaching.{reaches_all, stays_within}
+use Rattle.mw_grid.proofs.laws.window_reaches.Goals as goal
 
 pub returns : goal.returns
 returns c =
