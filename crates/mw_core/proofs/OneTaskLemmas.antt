@@ -17,7 +17,7 @@ use Rattle.mw_model.specs.Plans.{images_of, no_picture, planes, plane_of, value_
 use Rattle.mw_model.specs.Tasks.{Progress, flag, task_count, planned_of, is_ready, is_running, ready_tasks, remaining_tasks, place_read}
 use Rattle.mw_model.specs.Stands.{Seen, IsWork, may_run, is_ready_at, ready_under, progress_at, input_values, inputs_there}
 use Rattle.mw_laws.specs.MachineLaws.{shape_of_value}
-use Rattle.mw_step.specs.WindowTasks.{FitsStep, KindsFit, source_count}
+use Rattle.mw_task.specs.WindowTasks.{FitsStep, KindsFit, source_count}
 use Rattle.mw_store.specs.Frames.{whole_window}
 use Rattle.mw_core.specs.Work.{one_task, is_extremum}
 use Rattle.mw_core.specs.KeptTasks.{IsOneTask}

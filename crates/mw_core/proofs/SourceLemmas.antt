@@ -16,7 +16,7 @@ use Rattle.mw_model.specs.Elements.{reach_of}
 use Rattle.mw_model.specs.PlanSteps.{PlanStep, looks_at, step_at, kind_of_step, maxval_of_step}
 use Rattle.mw_model.specs.Plans.{images_of, no_picture, plane_of, sight_of, is_sum}
 use Rattle.mw_model.specs.Tasks.{Progress, made_in, cells_in, flag, planned_of}
-use Rattle.mw_step.specs.WindowTasks.{sight_of_window, WindowTask, tile_made}
+use Rattle.mw_task.specs.WindowTasks.{sight_of_window, WindowTask, tile_made}
 use Rattle.mw_tile.specs.Windows.{SourceWindow, window_of}
 use Rattle.mw_model.specs.Stands.{Agrees, IsWork, inputs_of, inputs_there, input_values, is_wanted}
 use Rattle.mw_model.proofs.ImagePlaces.{drawn_same}

@@ -15,7 +15,7 @@ use Rattle.mw_model.specs.Plans.{IsSourceAt, images_of, plane_of}
 use Rattle.mw_model.specs.Tasks.{Progress, flag, nothing_planned, planned_of, step_number, tile_number, remaining_tasks}
 use Rattle.mw_model.specs.Stands.{Seen, StandsFor, IsWork, progress_at, inputs_of, inputs_there, input_values, ready_under, remaining_of}
 use Rattle.mw_laws.proofs.RunCascade.{pending_is}
-use Rattle.mw_step.specs.WindowTasks.{WindowTask, tile_made}
+use Rattle.mw_task.specs.WindowTasks.{WindowTask, tile_made}
 use Rattle.mw_store.specs.Stored.{DropsSpent}
 use Rattle.mw_core.specs.Facts.{IsComplete}
 use Rattle.mw_core.specs.Changes.{KeepsWork}

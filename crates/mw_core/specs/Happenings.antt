@@ -15,7 +15,7 @@ use Rattle.mw_model.specs.Refusals.{refusal}
 use Rattle.mw_model.specs.Machine.{Machine, with_table, settled, killed, after, reply_to}
 use Rattle.mw_model.specs.Lines.{is_served}
 use Rattle.mw_model.specs.Stands.{Seen, StandsFor}
-use Rattle.mw_step.specs.WindowTasks.{WindowTask}
+use Rattle.mw_task.specs.WindowTasks.{WindowTask}
 use Rattle.mw_core.specs.declared.answers.Started.{Started}
 use Rattle.mw_core.specs.declared.answers.Started.TheVariants as started
 use Rattle.mw_core.specs.declared.answers.Finish.{Finish}

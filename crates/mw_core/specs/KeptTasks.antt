@@ -8,7 +8,7 @@ use Rattle.mw_model.specs.Tasks.{Progress, flag, planned_of}
 use Rattle.mw_model.specs.Stands.{Seen, progress_at}
 use Rattle.mw_model.specs.Places.{rect}
 use Rattle.mw_store.specs.Frames.{whole_window}
-use Rattle.mw_step.specs.WindowTasks.{WindowTask, FitsStep}
+use Rattle.mw_task.specs.WindowTasks.{WindowTask, FitsStep}
 use Rattle.mw_core.specs.Work.{one_task, is_extremum}
 use Rattle.mw_core.specs.Sources.{first_image, only_task}
 

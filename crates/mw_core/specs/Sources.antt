@@ -10,7 +10,7 @@ use Rattle.mw_tile.specs.Windows.{window_of}
 use Rattle.mw_model.specs.Stands.{inputs_of, input_values, true_planes}
 use Rattle.mw_model.specs.Machine.{Machine}
 use Rattle.mw_store.specs.Frames.{whole_window}
-use Rattle.mw_step.specs.WindowTasks.{WindowTask}
+use Rattle.mw_task.specs.WindowTasks.{WindowTask}
 
 -- what is kept of the inputs of a ticket
 abbrev pub kept_inputs : Table → List (Option Value) → ℕ → List (Option Value)

@@ -1,7 +1,7 @@
 //! What the events on tasks, and FETCH, answer.
 
 use mw_model::Reply;
-use mw_step::Work;
+use mw_task::Work;
 use mw_store::Plate;
 
 /// The answer to a worker that asks for a task.

@@ -10,7 +10,7 @@ use crate::{Core, Fetched, Finish, Refusal, Started};
 use mw_element::Element;
 use mw_model::{Code, Name, NoMemory, Op, Reply};
 use mw_pixel::Image;
-use mw_step::{TaskRefused, TileDone};
+use mw_task::{TaskRefused, TileDone};
 use std::alloc::Global;
 
 /// What may come to the core.

@@ -10,7 +10,7 @@ ghost use Rattle.mw_core.specs.Sources.{only_task};
 use crate::underway::Underway;
 use mw_model::TaskId;
 use mw_pixel::Image;
-use mw_step::{AnyWindow, TileDone};
+use mw_task::{AnyWindow, TileDone};
 use mw_store::is_whole;
 
 /// Whether the only window is that of the whole of the image.

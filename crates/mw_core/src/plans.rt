@@ -5,14 +5,14 @@ ghost use Rattle.std.specs.List.{AllByRecursion};
 ghost use Rattle.mw_model.specs.Values.{tickets};
 ghost use Rattle.mw_model.specs.Plans.{is_sum};
 ghost use Rattle.std.specs.Arc.{arc_value};
-ghost use Rattle.mw_step.specs.Meanings.{meaning};
+ghost use Rattle.mw_task.specs.Meanings.{meaning};
 ghost use Rattle.mw_core.specs.Work.{is_extremum};
 ghost use Rattle.mw_core.specs.Planned.{step_of, IsPlanned};
 
 use crate::underway::Underway;
 use mw_element::Element;
 use mw_model::{FlatOp, NoMemory, Op, Shape, Submission};
-use mw_step::Step;
+use mw_task::Step;
 use mw_store::Store;
 use std::sync::Arc;
 

@@ -7,7 +7,7 @@ use crate::fits::{is_first, is_result};
 use crate::machine::Core;
 use crate::sources::{first_image, first_source};
 use mw_model::{LogItem, NoMemory, Outcome, TaskId};
-use mw_step::{TaskRefused, TileDone, Work};
+use mw_task::{TaskRefused, TileDone, Work};
 use mw_store::{is_pending, whole_window};
 
 /// Why a task is not taken.

@@ -3,11 +3,11 @@
 ghost use Rattle.std.specs.Prelude.{◌≡◌, ◌≤◌, false, true, slice_set};
 ghost use Rattle.mw_model.specs.Plans.{is_sum};
 ghost use Rattle.mw_model.specs.Tasks.{flag, ready_tasks, running_tasks, remaining_tasks};
-ghost use Rattle.mw_step.specs.Meanings.{meaning};
+ghost use Rattle.mw_task.specs.Meanings.{meaning};
 ghost use Rattle.mw_core.specs.Work.{one_task, is_extremum};
 
 use mw_model::Rect;
-use mw_step::Step;
+use mw_task::Step;
 use std::marker::Model;
 
 /// One step on the first image among the inputs, as one task over the whole frame.
@@ -21,7 +21,7 @@ pub struct Underway {
 
 impl Model for Underway {
     ghost use Rattle.mw_model.specs.Tasks.{Progress};
-    ghost use Rattle.mw_step.specs.Meanings.{meaning};
+    ghost use Rattle.mw_task.specs.Meanings.{meaning};
     ghost use Rattle.mw_core.specs.Work.{one_task};
 
     ghost Value = { Progress };

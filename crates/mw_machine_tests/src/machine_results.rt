@@ -3,7 +3,7 @@
 use crate::machine::{Ask, Desk, ERODED, ROW, Stop, Turn, plays};
 use mw_core::Finish;
 use mw_model::{LogItem, Reply};
-use mw_step::Work;
+use mw_task::Work;
 use std::alloc::Global;
 use std::process::Abort;
 use std::test::Fail;

@@ -15,7 +15,7 @@ use Rattle.mw_model.specs.Tasks.{Progress, task_count, flag, tasks_below, is_rea
 use Rattle.mw_model.specs.Stands.{Seen, IsWork, StandsFor, progress_at, may_run, running_count}
 use Rattle.mw_laws.proofs.RunCascade.{is_killed}
 use Rattle.mw_laws.proofs.RunStates.{reached}
-use Rattle.mw_step.specs.WindowTasks.{WindowTask}
+use Rattle.mw_task.specs.WindowTasks.{WindowTask}
 use Rattle.mw_core.specs.Events.{WorkStays}
 use Rattle.mw_core.specs.TaskEvents.{Kills, Begins, IsResult, Settles, Places, IsSettled, Finishes, Refuses}
 use Rattle.mw_core.specs.declared.answers.Finish.{Finish}

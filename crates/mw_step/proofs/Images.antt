@@ -11,11 +11,11 @@ use Rattle.mw_model.specs.Plans.{is_sum}
 use Rattle.mw_model.specs.PlanSteps.{PlanStep, step_at, kind_of_step, maxval_of_step}
 use Rattle.mw_model.specs.Tasks.{made_in}
 use Rattle.mw_tile.specs.Windows.{SourceWindow}
-use Rattle.mw_step.specs.WindowTasks.{WindowTask, window_at, tile_made}
-use Rattle.mw_step.specs.Products.{HoldsImage, IsMade, tile_drawn}
-use Rattle.mw_step.specs.declared.made.Made.{Made}
-use Rattle.mw_step.specs.declared.made.Made.TheVariants.{Bits, Grey8, Grey16, Number}
-use Rattle.mw_step.proofs.TileCells.{cells_in_are}
+use Rattle.mw_task.specs.WindowTasks.{WindowTask, window_at, tile_made}
+use Rattle.mw_task.specs.Products.{HoldsImage, IsMade, tile_drawn}
+use Rattle.mw_task.specs.declared.made.Made.{Made}
+use Rattle.mw_task.specs.declared.made.Made.TheVariants.{Bits, Grey8, Grey16, Number}
+use Rattle.mw_task.proofs.TileCells.{cells_in_are}
 
 abbrev pub picture : Kind → ℕ → ℕ → ℕ → List ℕ → Picture
 picture kind width height maxval samples = record { kind = kind; width = width; height = height; maxval = maxval; samples = samples }

@@ -1,11 +1,6 @@
-pub mod AllOf
-pub mod TileCells
 pub mod Sources
 pub mod Images
-pub mod Bounded
 pub mod PlaceByPlace
 pub mod OfTasks
-pub mod Boxes
 pub mod SameMembers
-pub mod Cut
 pub mod Ranked

@@ -13,8 +13,8 @@ use Rattle.mw_model.specs.Windows.{View, seen_at}
 use Rattle.mw_model.specs.PlanSteps.{here}
 use Rattle.mw_model.specs.Tasks.{cells_in}
 use Rattle.mw_tile.proofs.Shown.{seen_in}
-use Rattle.mw_step.specs.Products.{tile_drawn, three_drawn, both_drawn, each_drawn, plane_drawn}
-use Rattle.mw_step.proofs.TileCells.{cells_in_is}
+use Rattle.mw_task.specs.Products.{tile_drawn, three_drawn, both_drawn, each_drawn, plane_drawn}
+use Rattle.mw_task.proofs.TileCells.{cells_in_is}
 use Rattle.mw_step.proofs.Images.{picture}
 
 -- the cells of a window fill its place

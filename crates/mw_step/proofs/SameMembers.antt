@@ -9,8 +9,8 @@ use Rattle.mw_element.specs.Figures.{FillsBox}
 use Rattle.mw_model.specs.Rasters.{Raster, Sight, seen_under}
 use Rattle.mw_line.specs.Extrema.{IsSlidingExtremum}
 use Rattle.mw_line.proofs.Folds.{IsExtremum}
-use Rattle.mw_step.proofs.AllOf.{all_at}
-use Rattle.mw_step.proofs.Boxes.{box_all, box_at}
+use Rattle.mw_task.proofs.AllOf.{all_at}
+use Rattle.mw_task.proofs.Boxes.{box_all, box_at}
 
 -- a value that is merged before the list may be merged after it
 merged_late : {A : Type 0} (f : A → A → A) → IsExtremum f → (a b : A) (xs : List A) → fold f (f a b) xs ≡ f (fold f a xs) b

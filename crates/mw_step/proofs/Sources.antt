@@ -5,8 +5,8 @@ use Rattle.std.specs.List.{AllByRecursion}
 use Rattle.mw_tile.specs.Windows.{SourceWindow, no_window}
 use Rattle.mw_tile.specs.declared.any.AnyWindow.{AnyWindow}
 use Rattle.mw_tile.specs.AnyWindows.{shown}
-use Rattle.mw_step.specs.WindowTasks.{window_at}
-use Rattle.mw_step.proofs.AllOf.{all_at}
+use Rattle.mw_task.specs.WindowTasks.{window_at}
+use Rattle.mw_task.proofs.AllOf.{all_at}
 
 -- what a window shows is the window of its source
 pub shown_at : (xs : List AnyWindow) (ws : List SourceWindow) (k : ℕ) (w : AnyWindow) → k < length xs → w ≡ get_or xs k w → map shown xs ≡ ws → shown w ≡ window_at ws k

@@ -7,15 +7,15 @@ ghost use Rattle.mw_model.specs.PlanSteps.{ranked};
 ghost use Rattle.mw_model.specs.Rasters.{seen_under};
 ghost use Rattle.mw_model.specs.Windows.{seen_at};
 ghost use Rattle.mw_tile.specs.AnyWindows.{levels_of, kind_of, maxval_of, IsSized};
-ghost use Rattle.mw_step.specs.Products.{HoldsImage, tile_drawn};
+ghost use Rattle.mw_task.specs.Products.{HoldsImage, tile_drawn};
 
-use crate::Made;
 use crate::sliding::extremum;
 use mw_element::Element;
 use mw_line::rectangle;
 use mw_model::{NoMemory, OffsetBox, Rect};
 use mw_pixel::{Bit, Max, Min};
 use mw_rank::rank;
+use mw_task::Made;
 use mw_tile::AnyWindow;
 use std::alloc::Global;
 

@@ -1,18 +1,17 @@
-//! What each step makes of its windows.
+//! Running a task: what each step makes of its windows.
 
-ghost use Rattle.std.specs.Prelude.{◌≡◌, ◌+◌, ◌<◌, ◌^◌, IfOk};
+ghost use Rattle.std.specs.Prelude.{◌≡◌, ◌+◌, ◌<◌, ◌^◌, IfOk, IfErr};
 ghost use Rattle.mw_model.specs.Places.{IsWithin};
 ghost use Rattle.mw_tile.specs.AnyWindows.{shown, IsSized};
-ghost use Rattle.mw_step.specs.WindowTasks.{source_count, window_at, IsRead, KindsFit};
-ghost use Rattle.mw_step.specs.Products.{IsMade};
+ghost use Rattle.mw_task.specs.WindowTasks.{source_count, window_at, IsRead, KindsFit};
+ghost use Rattle.mw_task.specs.Products.{IsMade};
 
 use crate::flat::{dilate, dilate_box, erode, erode_box, rank_filter};
 use crate::marking::{mark, mark_last};
 use crate::pairs::{join, meet, minus};
 use crate::singles::{at_least, blank, equal, invert, sum_up};
-use crate::{Made, Step, Work};
 use mw_model::NoMemory;
-use mw_tile::AnyWindow;
+use mw_task::{AnyWindow, Made, Step, TaskRefused, TileDone, Work};
 use std::alloc::Global;
 
 /// The window of a source of the task.
@@ -26,8 +25,19 @@ fn source(work: &Work, k: usize) -> &AnyWindow
     &work.windows()[k]
 }
 
+/// Makes what the step makes of the windows in the tile. Refused where memory is.
+pub fn run(alloc: Global, work: Work) -> Result<TileDone, TaskRefused>
+    ensures done { IfOk result (λ d. d ≡ work) }
+    ensures refused { IfErr result (λ r. r.task ≡ work.task) }
+{
+    match make(alloc, &work) {
+        Ok(made) => Ok(TileDone::new(work, made)),
+        Err(NoMemory) => Err(TaskRefused::new(work)),
+    }
+}
+
 /// What the step makes of the windows in the tile.
-pub(crate) fn make(alloc: Global, work: &Work) -> Result<Made, NoMemory>
+fn make(alloc: Global, work: &Work) -> Result<Made, NoMemory>
     ensures { IfOk result (IsMade work.now) }
 {
     let tile = work.rect();

@@ -4,13 +4,13 @@ ghost use Rattle.std.specs.Prelude.{◌≡◌, ◌*◌, ◌≤◌, ◌==◌, ◌
 ghost use lib.Lanes.{zip2};
 ghost use Rattle.mw_model.specs.declared.shapes.Kind.TheVariants as kind;
 ghost use Rattle.mw_tile.specs.AnyWindows.{levels_of, kind_of, maxval_of, IsSized};
-ghost use Rattle.mw_step.specs.Products.{HoldsImage, both_drawn, three_drawn, plane_drawn};
+ghost use Rattle.mw_task.specs.Products.{HoldsImage, both_drawn, three_drawn, plane_drawn};
 
-use crate::Made;
 use crate::kinds::{bits_of, byte_below};
 use crate::marks::{marked, without};
 use mw_model::NoMemory;
 use mw_pixel::Bit;
+use mw_task::Made;
 use mw_tile::AnyWindow;
 use std::alloc::Global;
 

@@ -2,14 +2,14 @@
 
 ghost use Rattle.std.specs.Prelude.{◌≡◌, ◌-◌, min, max, IfOk};
 ghost use Rattle.mw_tile.specs.AnyWindows.{levels_of, kind_of, maxval_of, shown, IsSized};
-ghost use Rattle.mw_step.specs.WindowTasks.{SameKind};
-ghost use Rattle.mw_step.specs.Products.{HoldsImage, both_drawn};
+ghost use Rattle.mw_task.specs.WindowTasks.{SameKind};
+ghost use Rattle.mw_task.specs.Products.{HoldsImage, both_drawn};
 
-use crate::Made;
 use crate::kinds::{bits_of, bytes_of, words_of};
 use crate::pointwise::{differences, merged};
 use mw_model::NoMemory;
 use mw_pixel::{Bit, Max, Min};
+use mw_task::Made;
 use mw_tile::AnyWindow;
 use std::alloc::Global;
 

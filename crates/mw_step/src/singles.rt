@@ -3,13 +3,13 @@
 ghost use Rattle.std.specs.Prelude.{◌≡◌, ◌-◌, ◌*◌, ◌≤◌, ◌==◌, nat_le, if◌then◌else◌, length, sum, IfOk};
 ghost use Rattle.mw_model.specs.declared.shapes.Kind.TheVariants as kind;
 ghost use Rattle.mw_tile.specs.AnyWindows.{levels_of, kind_of, maxval_of, IsSized};
-ghost use Rattle.mw_step.specs.Products.{HoldsImage, each_drawn, tile_drawn};
+ghost use Rattle.mw_task.specs.Products.{HoldsImage, each_drawn, tile_drawn};
 
-use crate::Made;
 use crate::marks::{level_set, total, upper_set};
 use crate::pointwise::inverted;
 use mw_model::{NoMemory, Rect};
 use mw_pixel::{Bit, Plane};
+use mw_task::Made;
 use mw_tile::AnyWindow;
 use std::alloc::Global;
 

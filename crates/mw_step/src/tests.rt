@@ -2,12 +2,13 @@
 
 ghost use Rattle.std.specs.Prelude.{◌≡◌};
 
-use crate::{
+use crate::run;
+use mw_pixel::{Bit, Kind};
+use mw_task::{
     AnyWindow, Element, Made, OffsetBox, Reach, Rect, Step, TaskId, TileDone, Work,
-    cut_windows_are_bounded, cut_windows_fit, made_is_bounded, planes_are_operators, run,
+    cut_windows_are_bounded, cut_windows_fit, made_is_bounded, planes_are_operators,
     tile_of_windows_is_tile_of_planes, whole_tile_is_plane,
 };
-use mw_pixel::{Bit, Kind};
 use mw_tile::Window;
 use std::sync::Arc;
 use std::test::Fail;

@@ -1,6 +1,6 @@
 use Rattle.std.proofs.Common.{◌∙◌, refl, sym, subst}
 use Rattle.mw_model.specs.declared.tasks.TaskId.{TaskId}
-use Rattle.mw_step.specs.WindowTasks.{WindowTask}
+use Rattle.mw_task.specs.WindowTasks.{WindowTask}
 use Rattle.mw_core.specs.TaskEvents.{Finishes, Refuses}
 use Rattle.mw_core.proofs.IdleLemmas.{nothing-pending}
 use Rattle.mw_session.proofs.Advancing.{death-turn, finish-turn, refuse-turn}

@@ -2,7 +2,7 @@ use Rattle.std.proofs.Common.{◌≡◌, arith, ap, length, map, List}
 use Rattle.std.proofs.lemmas.List.{length-map}
 use Rattle.mw_tile.specs.Windows.{SourceWindow}
 use Rattle.mw_tile.specs.AnyWindows.{shown}
-use Rattle.mw_step.specs.WindowTasks.{IsRead, window_at}
+use Rattle.mw_task.specs.WindowTasks.{IsRead, window_at}
 use Rattle.mw_step.proofs.Sources.{shown_all}
 use Rattle.mw_step.proofs.make.source.Goals as goal
 

@@ -3,7 +3,7 @@ use Rattle.std.specs.Prelude.{◌==◌, if◌then◌else◌}
 use lib.Lanes.{zip2}
 use Rattle.mw_model.specs.Pictures.{Picture}
 use Rattle.mw_tile.specs.AnyWindows.{kind_of, maxval_of, levels_of}
-use Rattle.mw_step.specs.Products.{HoldsImage, both_drawn, plane_drawn}
+use Rattle.mw_task.specs.Products.{HoldsImage, both_drawn, plane_drawn}
 use Rattle.mw_step.proofs.Images.{if_ok_too}
 use Rattle.mw_step.proofs.PlaceByPlace.{both_given}
 use Rattle.mw_step.proofs.marking.mark_last.Goals as goal

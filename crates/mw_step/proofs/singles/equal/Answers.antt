@@ -3,7 +3,7 @@ use Rattle.std.specs.Prelude.{◌==◌, if◌then◌else◌}
 use Rattle.mw_model.specs.declared.shapes.Kind.TheVariants as kind
 use Rattle.mw_model.specs.Windows.{View}
 use Rattle.mw_tile.specs.AnyWindows.{levels_of}
-use Rattle.mw_step.specs.Products.{each_drawn}
+use Rattle.mw_task.specs.Products.{each_drawn}
 use Rattle.mw_step.proofs.PlaceByPlace.{each_held}
 use Rattle.mw_step.proofs.singles.equal.Goals as goal
 

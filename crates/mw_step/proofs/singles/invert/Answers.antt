@@ -3,7 +3,7 @@ use Rattle.mw_model.specs.declared.shapes.Kind.{Kind}
 use Rattle.mw_model.specs.declared.shapes.Kind.TheVariants as kind
 use Rattle.mw_model.specs.Windows.{View}
 use Rattle.mw_tile.specs.AnyWindows.{kind_of, maxval_of, levels_of, IsSized}
-use Rattle.mw_step.specs.Products.{each_drawn}
+use Rattle.mw_task.specs.Products.{each_drawn}
 use Rattle.mw_step.proofs.PlaceByPlace.{inverted_held}
 use Rattle.mw_step.proofs.singles.invert.Goals as goal
 

@@ -3,7 +3,7 @@ use Rattle.mw_model.specs.declared.calls.Outcome.TheVariants as outcome
 use Rattle.mw_model.specs.declared.calls.LogItem.TheVariants as item
 use Rattle.mw_model.specs.Machine.{killed}
 use Rattle.mw_model.specs.Stands.{Seen, progress_at, ready_count}
-use Rattle.mw_step.specs.WindowTasks.{WindowTask}
+use Rattle.mw_task.specs.WindowTasks.{WindowTask}
 use Rattle.mw_store.specs.Stored.{DropsSpent}
 use Rattle.mw_core.specs.Changes.{KeepsWork}
 use Rattle.mw_core.specs.KeptTasks.{IsKeptWork, IsPlain, with_started}

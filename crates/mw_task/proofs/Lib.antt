@@ -1,0 +1,5 @@
+pub mod AllOf
+pub mod TileCells
+pub mod Bounded
+pub mod Boxes
+pub mod Cut

@@ -1,0 +1,28 @@
+//! A task of a plan: a step, a tile, and the windows that the step reads for the tile; and what is made of them.
+//!
+//! ```text
+//! let work = Work::new(task, tile, step, windows)?;    // None where the windows are not those of the step
+//! let done = TileDone::new(work, made);                // only of what the step means on those windows
+//! let image = done.into_image();
+//! ```
+#![tactic(auto)]
+
+mod done;
+mod laws;
+mod made;
+mod offsets;
+mod reads;
+mod step;
+mod work;
+
+pub use done::{TaskRefused, TileDone};
+pub use laws::{
+    cut_windows_are_bounded, cut_windows_fit, made_is_bounded, planes_are_operators,
+    tile_of_windows_is_tile_of_planes, whole_tile_is_plane,
+};
+pub use made::Made;
+pub use mw_element::Element;
+pub use mw_model::{NoMemory, Offset, OffsetBox, Reach, Rect, TaskId};
+pub use mw_tile::AnyWindow;
+pub use step::Step;
+pub use work::Work;
