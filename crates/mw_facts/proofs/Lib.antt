@@ -7,3 +7,4 @@ pub mod Merged
 pub mod Numbers
 pub mod Parts
 pub mod Positions
+pub mod Ranges
