@@ -1,14 +1,17 @@
 -- Full boxes: as many offsets as places, and none outside.
-use Rattle.std.proofs.Common.{◌≡◌, ℕ, zero, suc, ◌*◌, ◌<◌, Bool, true, false, List, [], ◌∷◌, ◌++◌, length, get_or, ℤ, pos, refl, sym, ap, subst, ◌∙◌, arith, inl, inr, ◌⊎◌, ◌||◌, length-append}
+use Rattle.std.proofs.Common.{◌≡◌, ℕ, zero, suc, ◌*◌, ◌<◌, true, false, List, [], ◌∷◌, ◌++◌, length, get_or, ℤ, pos, refl, sym, ap, subst, ◌∙◌, arith, inl, inr, ◌⊎◌, length-append}
 use Rattle.std.specs.Prelude.{◌+ℤ◌, ◌≤ℤ◌}
 use Rattle.std.specs.Ordering.{int_eq}
 use Rattle.std.proofs.lemmas.Bool.Decides.{Decides-int_eq}
 use Rattle.std.specs.List.{AllByRecursion, Contains, IsDistinct, list_any}
-use Rattle.std.proofs.lemmas.Bool.{true≢false}
+use Rattle.std.specs.Cmp.{both_ways as same_answer}
+use Rattle.std.proofs.lemmas.Bool.{true≢false, cases_Bool, or_left, or_right, or_parts}
+use Rattle.std.proofs.lemmas.List.{get_or_default}
 use Rattle.std.proofs.lemmas.Int.{ints}
 use Rattle.std.proofs.lemmas.List.Elements.{All-from_recursion, recursion_from_All}
 use Rattle.std.proofs.lemmas.List.Folds.{list_any-append}
 use Rattle.std.proofs.lemmas.Map.Made.{is_member-Decides, length-le_from_is_member, length-from_same_keys}
+use Rattle.mw_facts.proofs.Alls.{all-weaker, all-append}
 use Rattle.mw_model.specs.declared.places.Offset.{Offset}
 use Rattle.mw_model.specs.declared.places.OffsetBox.{OffsetBox}
 use Rattle.mw_model.specs.Elements.{same_offset}
@@ -43,14 +46,10 @@ row_apart x y (a ∷ row) below all rest =
     let level : a.dy ≡ y = all.0.level in
     (apart_below a (y +ℤ pos 1) below (omega (arith, ints, level)) rest, row_apart x y row below all.1 rest)
 
-pub all_append : (P : Offset → Type 0) (xs ys : List Offset) → AllByRecursion P xs → AllByRecursion P ys → AllByRecursion P (xs ++ ys)
-all_append P [] ys a b = b
-all_append P (x ∷ xs) ys a b = (a.0, all_append P xs ys a.1 b)
-
 pub distinct_append : (xs ys : List Offset) → IsDistinct same_offset xs → IsDistinct same_offset ys → AllByRecursion (λ a. AllByRecursion (λ b. same_offset a b ≡ false) ys) xs → IsDistinct same_offset (xs ++ ys)
 unfolding IsDistinct
 distinct_append [] ys a b apart = b
-distinct_append (x ∷ xs) ys a b apart = (all_append (λ b. same_offset x b ≡ false) xs ys a.0 apart.0, distinct_append xs ys a.1 b apart.1)
+distinct_append (x ∷ xs) ys a b apart = (all-append (λ b. same_offset x b ≡ false) xs ys a.0 apart.0, distinct_append xs ys a.1 b apart.1)
 
 pub distinct_cons : (x : Offset) (xs : List Offset) → AllByRecursion (λ b. same_offset x b ≡ false) xs → IsDistinct same_offset xs → IsDistinct same_offset (x ∷ xs)
 unfolding IsDistinct
@@ -61,16 +60,13 @@ unfolding IsDistinct
 distinct_nil = tt
 
 pub below_row : (x y : ℤ) (row : List Offset) → AllByRecursion (Follows x y) row → AllByRecursion (Below y) row
-below_row x y [] all = tt
-below_row x y (b ∷ row) all = let level : b.dy ≡ y = all.0.level in (omega (arith, ints, level), below_row x y row all.1)
+below_row x y row all = all-weaker (Follows x y) (Below y) row (λ b f. let level : b.dy ≡ y = f.level in omega (arith, ints, level)) all
 
 pub below_more : (y z : ℤ) (xs : List Offset) → y ≤ℤ z → AllByRecursion (Below z) xs → AllByRecursion (Below y) xs
-below_more y z [] le all = tt
-below_more y z (b ∷ xs) le all = (omega (arith, ints, le, all.0), below_more y z xs le all.1)
+below_more y z xs le all = all-weaker (Below z) (Below y) xs (λ b low. omega (arith, ints, le, low)) all
 
 pub follows_more : (w x y : ℤ) (xs : List Offset) → w ≤ℤ x → AllByRecursion (Follows x y) xs → AllByRecursion (Follows w y) xs
-follows_more w x y [] le all = tt
-follows_more w x y (b ∷ xs) le all = (record { right = omega (arith, ints, le, all.0.right); level = all.0.level }, follows_more w x y xs le all.1)
+follows_more w x y xs le all = all-weaker (Follows x y) (Follows w y) xs (λ b f. record { right = omega (arith, ints, le, f.right); level = f.level }) all
 
 -- ---- all offsets of a box
 
@@ -101,7 +97,7 @@ grid_below : (x y : ℤ) (w h : ℕ) → AllByRecursion (Below y) (grid x y w h)
 unfolding grid
 grid_below x y w zero = tt
 grid_below x y w (suc h) =
-    all_append (Below y) (line x y w) (grid x (y +ℤ pos 1) w h) (below_row x y (line x y w) (line_follows x y w)) (below_more y (y +ℤ pos 1) (grid x (y +ℤ pos 1) w h) (omega (arith, ints)) (grid_below x (y +ℤ pos 1) w h))
+    all-append (Below y) (line x y w) (grid x (y +ℤ pos 1) w h) (below_row x y (line x y w) (line_follows x y w)) (below_more y (y +ℤ pos 1) (grid x (y +ℤ pos 1) w h) (omega (arith, ints)) (grid_below x (y +ℤ pos 1) w h))
 
 line_distinct : (x y : ℤ) (n : ℕ) → IsDistinct same_offset (line x y n)
 unfolding line
@@ -115,21 +111,9 @@ grid_distinct x y w zero = distinct_nil
 grid_distinct x y w (suc h) =
     distinct_append (line x y w) (grid x (y +ℤ pos 1) w h) (line_distinct x y w) (grid_distinct x (y +ℤ pos 1) w h) (row_apart x y (line x y w) (grid x (y +ℤ pos 1) w h) (line_follows x y w) (grid_below x (y +ℤ pos 1) w h))
 
-or_left : (a b : Bool) → a ≡ true → (a || b) ≡ true
-or_left true b e = refl
-or_left false b e = absurd (true≢false (sym e))
-
-or_right : (a b : Bool) → b ≡ true → (a || b) ≡ true
-or_right true b e = refl
-or_right false b e = e
-
-pub true_or_false : (b : Bool) → (b ≡ true) ⊎ (b ≡ false)
-true_or_false true = inl refl
-true_or_false false = inr refl
-
 int_split : (x z : ℤ) → x ≤ℤ z → (z ≡ x) ⊎ ((x +ℤ pos 1) ≤ℤ z)
 int_split x z le =
-    elim (true_or_false (int_eq z x)) [
+    elim (cases_Bool (int_eq z x)) [
       | inl e ↦ inl ((Decides-int_eq z x).0 e)
       | inr ne ↦ let apart : z ≡ x → ⊥ = λ e. true≢false (sym ((Decides-int_eq z x).1 e) ∙ ne) in inr (omega (arith, ints, le, apart))
     ]
@@ -164,7 +148,7 @@ grid_in : (box : OffsetBox) (x y : ℤ) (w h : ℕ) → box.x0 ≤ℤ x → (x +
 unfolding grid
 grid_in box x y w zero left right top bottom = tt
 grid_in box x y w (suc h) left right top bottom =
-    all_append (λ o. InBox box o) (line x y w) (grid x (y +ℤ pos 1) w h) (line_in box x y w left right top (omega (arith, ints, bottom))) (grid_in box x (y +ℤ pos 1) w h left right (omega (arith, ints, top)) (omega (arith, ints, bottom)))
+    all-append (λ o. InBox box o) (line x y w) (grid x (y +ℤ pos 1) w h) (line_in box x y w left right top (omega (arith, ints, bottom))) (grid_in box x (y +ℤ pos 1) w h left right (omega (arith, ints, top)) (omega (arith, ints, bottom)))
 
 -- ---- membership
 
@@ -195,11 +179,7 @@ places_in box w h q s has =
 
 apart_false : (q : Offset) (xs : List Offset) → list_any (same_offset q) xs ≡ false → AllByRecursion (λ b. same_offset q b ≡ false) xs
 apart_false q [] e = tt
-apart_false q (x ∷ xs) e = let h = both_false (same_offset q x) (list_any (same_offset q) xs) e in (h.0, apart_false q xs h.1)
-  where
-    both_false : (a b : Bool) → (a || b) ≡ false → (a ≡ false) × (b ≡ false)
-    both_false true b e = absurd (true≢false e)
-    both_false false b e = (refl, e)
+apart_false q (x ∷ xs) e = let h = or_parts (same_offset q x) (list_any (same_offset q) xs) e in (h.0, apart_false q xs h.1)
 
 -- as many distinct offsets as places, all in the box: then each place is one of them
 pub full_box : (box : OffsetBox) (w h : ℕ) (xs : List Offset) → Spans box w h → IsDistinct same_offset xs → AllByRecursion (λ o. InBox box o) xs → h * w ≡ length xs → FillsBox box xs
@@ -207,7 +187,7 @@ full_box box w h xs s distinct all count = λ q. (boxed_contained box xs q all, 
   where
     full : (q : Offset) → InBox box q → Contains xs q
     full q b =
-        elim (true_or_false (list_any (same_offset q) xs)) [
+        elim (cases_Bool (list_any (same_offset q) xs)) [
           | inl has ↦ has_contains xs q has
           | inr none ↦
               let le = length-le_from_is_member same_equiv (q ∷ xs) (places box w h) (distinct_cons q xs (apart_false q xs none) distinct) (λ p m. in_places box w h p s (inside p m)) in
@@ -218,18 +198,7 @@ full_box box w h xs s distinct all count = λ q. (boxed_contained box xs q all, 
         inside p m = boxed_contained box (q ∷ xs) p (b, all) (has_contains (q ∷ xs) p m)
 
 all_filled : (box : OffsetBox) (xs : List Offset) → FillsBox box xs → AllByRecursion (λ o. InBox box o) xs
-all_filled box xs fills = recursion_from_All (λ o. InBox box o) xs (λ k d lt. (fills (get_or xs k d)).0 (k, lt, get_or_same xs k d lt))
-  where
-    get_or_same : (xs : List Offset) (k : ℕ) (d : Offset) → k < length xs → get_or xs k (get_or xs k d) ≡ get_or xs k d
-    get_or_same [] k d lt = absurd (omega (arith, lt))
-    get_or_same (x ∷ xs) zero d lt = refl
-    get_or_same (x ∷ xs) (suc k) d lt = get_or_same xs k d (omega (arith, lt))
-
-both : (a b : Bool) → (a ≡ true → b ≡ true) → (b ≡ true → a ≡ true) → a ≡ b
-both true true f g = refl
-both true false f g = absurd (true≢false (sym (f refl)))
-both false true f g = absurd (true≢false (sym (g refl)))
-both false false f g = refl
+all_filled box xs fills = recursion_from_All (λ o. InBox box o) xs (λ k d lt. (fills (get_or xs k d)).0 (k, lt, get_or_default xs k (get_or xs k d) d lt))
 
 -- a filled box has as many places as there are offsets
 pub filled_count : (box bounds : OffsetBox) (w h : ℕ) (xs : List Offset) → 0 < length xs → Spans bounds w h → IsDistinct same_offset xs → AllByRecursion (λ o. InBox bounds o) xs
@@ -244,7 +213,7 @@ filled_count box bounds w h xs some s distinct all least fills =
     outside q has = in_places bounds w h q s (boxed_contained bounds xs q all (has_contains xs q has))
 
     same : (q : Offset) → list_any (same_offset q) (places bounds w h) ≡ list_any (same_offset q) xs
-    same q = both (list_any (same_offset q) (places bounds w h)) (list_any (same_offset q) xs) (inside q) (outside q)
+    same q = same_answer (list_any (same_offset q) (places bounds w h)) (list_any (same_offset q) xs) (inside q) (outside q)
 
 pub not_filled : (bounds : OffsetBox) (w h : ℕ) (xs : List Offset) → 0 < length xs → Spans bounds w h → IsDistinct same_offset xs → AllByRecursion (λ o. InBox bounds o) xs
     → ((box : OffsetBox) → AllByRecursion (λ o. InBox box o) xs → LiesIn bounds box) → (h * w ≡ length xs → ⊥) → (box : OffsetBox) → FillsBox box xs → ⊥

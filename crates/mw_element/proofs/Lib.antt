@@ -1,7 +1,9 @@
-pub mod Lists
-pub mod Rows
-pub mod Order
-pub mod Boxes
-pub mod Found
+-- what other crates may cite
 pub mod Exclusive
-pub mod Few
+pub mod Lists
+pub mod Order
+-- the crate's own
+mod Boxes
+mod Few
+mod Found
+mod Rows

@@ -1,15 +1,15 @@
 -- Lists of offsets: sameness, reach and boxes.
-use Rattle.std.proofs.Common.{◌≡◌, ℕ, ◌+◌, ◌<◌, ◌≤◌, Bool, true, false, List, [], ◌∷◌, ◌++◌, length, take, map, max, ℤ, pos, negsuc, refl, sym, ap, subst, ◌∙◌, arith, get_or}
+use Rattle.std.proofs.Common.{◌≡◌, ℕ, ◌+◌, ◌<◌, ◌≤◌, false, List, [], ◌∷◌, ◌++◌, length, take, map, max, ℤ, pos, negsuc, refl, sym, ap, subst, ◌∙◌, arith, get_or}
 use Rattle.std.specs.Prelude.{neg_ℤ, ◌+ℤ◌, ◌≤ℤ◌, ◌≢◌}
-use Rattle.std.proofs.lemmas.Bool.{true≢false}
-use Rattle.std.proofs.lemmas.List.Elements.{All-from_recursion}
-use Rattle.std.proofs.lemmas.List.{take_all, take_more}
+use Rattle.std.proofs.lemmas.Bool.{true≢false, false_from_ne_true}
+use Rattle.std.proofs.lemmas.List.{take_all, take_more, map-append}
 use Rattle.std.specs.Bool.{Decides}
 use Rattle.std.specs.Cmp.{IsEquivalence, decided}
 use Rattle.std.specs.Ordering.{int_eq}
 use Rattle.std.specs.List.{AllByRecursion, IsDistinct}
 use Rattle.std.proofs.lemmas.Bool.Decides.{Decides-and, Decides-int_eq, Decides-like}
 use Rattle.std.proofs.lemmas.Int.{ints}
+use Rattle.mw_facts.proofs.Alls.{all-weaker, all-push, all-get_or}
 use Rattle.mw_model.specs.declared.places.Offset.{Offset}
 use Rattle.mw_model.specs.declared.places.OffsetBox.{OffsetBox}
 use Rattle.mw_model.specs.declared.places.Reach.{Reach}
@@ -34,10 +34,6 @@ same_decides a b =
 pub same_equiv : IsEquivalence same_offset
 same_equiv = decided same_offset same_decides
 
-is_false : (b : Bool) → (b ≡ true → ⊥) → b ≡ false
-is_false true none = absurd (none refl)
-is_false false none = refl
-
 -- ---- turned round
 
 pub negated_more : (xs : List Offset) (b : Offset) → negated (xs ++ b ∷ []) ≡ negated xs ++ turned b ∷ []
@@ -61,7 +57,7 @@ neg_same : (x y : ℤ) → neg_ℤ x ≡ neg_ℤ y → x ≡ y
 neg_same x y e = omega (arith, ints, e)
 
 pub not_same : (a b : Offset) → (a ≡ b → ⊥) → same_offset a b ≡ false
-not_same a b none = is_false (same_offset a b) (λ e. none ((same_decides a b).0 e))
+not_same a b none = false_from_ne_true (same_offset a b) (λ e. none ((same_decides a b).0 e))
 
 turned_apart : (a b : Offset) → same_offset a b ≡ false → same_offset (turned a) (turned b) ≡ false
 turned_apart a b e =
@@ -92,12 +88,8 @@ pub greatest_more : (xs : List ℕ) (n : ℕ) → greatest (xs ++ n ∷ []) ≡ 
 greatest_more [] n = omega arith
 greatest_more (x ∷ xs) n = ap (max x) (greatest_more xs n) ∙ omega arith
 
-map_more : (f : Offset → ℕ) (xs : List Offset) (b : Offset) → map f (xs ++ b ∷ []) ≡ map f xs ++ f b ∷ []
-map_more f [] b = refl
-map_more f (x ∷ xs) b = ap (λ (ys : List ℕ). f x ∷ ys) (map_more f xs b)
-
 far_more : (f : Offset → ℕ) (xs : List Offset) (b : Offset) → greatest (map f (xs ++ b ∷ [])) ≡ max (greatest (map f xs)) (f b)
-far_more f xs b = ap greatest (map_more f xs b) ∙ greatest_more (map f xs) (f b)
+far_more f xs b = ap greatest (map-append f xs (b ∷ [])) ∙ greatest_more (map f xs) (f b)
 
 pub reach_more : (xs : List Offset) (b : Offset) → reach_of (xs ++ b ∷ []) ≡ grown (reach_of xs) b
 reach_more xs b =
@@ -138,15 +130,15 @@ box_more inner outer b lies in' =
     record { left = omega (arith, ints, lies.left, in'.left); right = omega (arith, ints, lies.right, in'.right); top = omega (arith, ints, lies.top, in'.top); bottom = omega (arith, ints, lies.bottom, in'.bottom) }
 
 pub all_boxed : (inner outer : OffsetBox) (xs : List Offset) (b : Offset) → LiesIn inner outer → InBox outer b → AllByRecursion (λ o. InBox inner o) xs → AllByRecursion (λ o. InBox outer o) (xs ++ b ∷ [])
-all_boxed inner outer [] b lies last all = (last, tt)
-all_boxed inner outer (x ∷ xs) b lies last all = (box_more inner outer x lies all.0, all_boxed inner outer xs b lies last all.1)
+all_boxed inner outer xs b lies last all =
+    all-push (λ o. InBox outer o) xs b (all-weaker (λ o. InBox inner o) (λ o. InBox outer o) xs (λ o in'. box_more inner outer o lies in') all) last
 
 pub boxed_at : (box : OffsetBox) (xs : List Offset) (i : ℕ) (d : Offset) → i < length xs → AllByRecursion (λ o. InBox box o) xs → InBox box (get_or xs i d)
-boxed_at box xs i d lt all = All-from_recursion (λ o. InBox box o) xs all i d lt
+boxed_at box xs i d lt all = all-get_or (λ o. InBox box o) xs i d lt all
 
 pub near_box : (xs : List Offset) → AllByRecursion IsNear xs → AllByRecursion (λ o. InBox (record { x0 = negsuc 253; x1 = pos 254; y0 = negsuc 253; y1 = pos 254 }) o) xs
-near_box [] n = tt
-near_box (x ∷ xs) n = (record { left = n.0.left; right = n.0.right; top = n.0.top; bottom = n.0.bottom }, near_box xs n.1)
+near_box xs near =
+    all-weaker IsNear (λ o. InBox (record { x0 = negsuc 253; x1 = pos 254; y0 = negsuc 253; y1 = pos 254 }) o) xs (λ o n. record { left = n.left; right = n.right; top = n.top; bottom = n.bottom }) near
 
 pub boxed_below : (box : OffsetBox) (xs : List Offset) → 0 < length xs → AllByRecursion (λ o. InBox box o) xs → (box.x0 ≤ℤ box.x1) × (box.y0 ≤ℤ box.y1)
 boxed_below box [] some all = absurd (omega (arith, some))

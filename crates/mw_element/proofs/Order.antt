@@ -5,12 +5,12 @@ use Rattle.std.specs.List.{AllByRecursion, list_any, cons_option}
 use Rattle.std.proofs.lemmas.Int.{ints}
 use Rattle.std.proofs.lemmas.List.{reverse-reverse, reverse-append}
 use Rattle.std.proofs.lemmas.List.Sorted.{IsPermutation-reverse, list_any-IsPermutation}
+use Rattle.mw_facts.proofs.Alls.{all-weaker, all-append, all-push}
 use Rattle.mw_model.specs.declared.places.Offset.{Offset}
 use Rattle.mw_model.specs.Rasters.{Raster}
 use Rattle.mw_model.specs.Elements.{offset_from, offsets_in_row, offsets_of, overlaps, same_offset}
 use Rattle.mw_model.specs.Flat.{negated}
 use Rattle.mw_element.specs.Figures.{Rises, by_rows, row_key, turned}
-use Rattle.mw_element.proofs.Boxes.{all_append}
 use Rattle.mw_element.proofs.Lists.{not_same}
 use Rattle.mw_element.proofs.Rows.{row_part, rows_part}
 
@@ -21,22 +21,19 @@ abbrev AllBelow : ℤ → List Offset → Type 0
 AllBelow k xs = AllByRecursion (λ (b : Offset). row_key b <ℤ k) xs
 
 from_weaker : (j k : ℤ) (xs : List Offset) → j ≤ℤ k → AllFrom k xs → AllFrom j xs
-from_weaker j k [] le all = tt
-from_weaker j k (x ∷ xs) le all = (omega (arith, ints, all.0), from_weaker j k xs le all.1)
+from_weaker j k xs le all = all-weaker (λ (b : Offset). k ≤ℤ row_key b) (λ (b : Offset). j ≤ℤ row_key b) xs (λ b from. omega (arith, ints, le, from)) all
 
 from_after : (k : ℤ) (b : Offset) (xs : List Offset) → row_key b <ℤ k → AllFrom k xs → AllByRecursion (λ (c : Offset). row_key b <ℤ row_key c) xs
-from_after k b [] lt all = tt
-from_after k b (x ∷ xs) lt all = (omega (arith, ints, all.0), from_after k b xs lt all.1)
+from_after k b xs lt all = all-weaker (λ (c : Offset). k ≤ℤ row_key c) (λ (c : Offset). row_key b <ℤ row_key c) xs (λ c from. omega (arith, ints, lt, from)) all
 
 below_stronger : (j k : ℤ) (xs : List Offset) → k ≤ℤ j → AllBelow k xs → AllBelow j xs
-below_stronger j k [] le all = tt
-below_stronger j k (x ∷ xs) le all = (omega (arith, ints, all.0), below_stronger j k xs le all.1)
+below_stronger j k xs le all = all-weaker (λ (b : Offset). row_key b <ℤ k) (λ (b : Offset). row_key b <ℤ j) xs (λ b below. omega (arith, ints, le, below)) all
 
 -- two lists, with a key between them
 rises_append : (k : ℤ) (xs ys : List Offset) → Rises xs → AllBelow k xs → Rises ys → AllFrom k ys → Rises (xs ++ ys)
 rises_append k [] ys r below s from = s
 rises_append k (x ∷ xs) ys r below s from =
-    (all_append (λ (c : Offset). row_key x <ℤ row_key c) xs ys r.0 (from_after k x ys below.0 from), rises_append k xs ys r.1 below.1 s from)
+    (all-append (λ (c : Offset). row_key x <ℤ row_key c) xs ys r.0 (from_after k x ys below.0 from), rises_append k xs ys r.1 below.1 s from)
 
 -- ---- the offsets of a bitmap
 
@@ -75,7 +72,7 @@ row_rises f ox oy y x (suc n) =
 rows_from : (f : Raster ℕ) (ox oy y n : ℕ) → AllFrom (key_at ox oy 0 y) (rows_part f ox oy y n)
 rows_from f ox oy y zero = tt
 rows_from f ox oy y (suc n) =
-    all_append (λ (b : Offset). key_at ox oy 0 y ≤ℤ row_key b) (offsets_in_row f ox oy y) (rows_part f ox oy (y + 1) n) (row_from f ox oy y 0 f.width)
+    all-append (λ (b : Offset). key_at ox oy 0 y ≤ℤ row_key b) (offsets_in_row f ox oy y) (rows_part f ox oy (y + 1) n) (row_from f ox oy y 0 f.width)
     (from_weaker (key_at ox oy 0 y) (key_at ox oy 0 (y + 1)) (rows_part f ox oy (y + 1) n) (omega (arith, ints)) (rows_from f ox oy (y + 1) n))
 
 rows_rise : (f : Raster ℕ) (ox oy y n : ℕ) → f.width ≤ 1024 → Rises (rows_part f ox oy y n)
@@ -95,7 +92,7 @@ before_turned b (x ∷ xs) all = (omega (arith, ints, all.0), before_turned b xs
 
 all_reverse : (P : Offset → Type 0) (xs : List Offset) → AllByRecursion P xs → AllByRecursion P (reverse xs)
 all_reverse P [] all = tt
-all_reverse P (x ∷ xs) all = subst (AllByRecursion P) (sym (reverse-append (x ∷ []) xs)) (all_append P (reverse xs) (x ∷ []) (all_reverse P xs all.1) (all.0, tt))
+all_reverse P (x ∷ xs) all = subst (AllByRecursion P) (sym (reverse-append (x ∷ []) xs)) (all-push P (reverse xs) x (all_reverse P xs all.1) all.0)
 
 rises_turned : (xs : List Offset) → Rises xs → Rises (reverse (negated xs))
 rises_turned [] r = tt
@@ -131,12 +128,11 @@ before_none a [] all = refl
 before_none a (x ∷ xs) all = rw (key_apart a x all.0, before_none a xs all.1) refl
 
 all_after : (a b : Offset) (xs : List Offset) → row_key a ≤ℤ row_key b → AllByRecursion (λ (c : Offset). row_key b <ℤ row_key c) xs → AllByRecursion (λ (c : Offset). row_key a <ℤ row_key c) xs
-all_after a b [] le all = tt
-all_after a b (x ∷ xs) le all = (omega (arith, ints, le, all.0), all_after a b xs le all.1)
+all_after a b xs le all = all-weaker (λ (c : Offset). row_key b <ℤ row_key c) (λ (c : Offset). row_key a <ℤ row_key c) xs (λ c after. omega (arith, ints, le, after)) all
 
-none_second : (xs : List Offset) → overlaps xs [] ≡ false
-none_second [] = refl
-none_second (x ∷ xs) = none_second xs
+pub overlaps-none : (xs : List Offset) → overlaps xs [] ≡ false
+overlaps-none [] = refl
+overlaps-none (x ∷ xs) = overlaps-none xs
 
 -- the first offset of the second list is none of these
 without : (b : Offset) (xs bs : List Offset) → AllByRecursion (λ (c : Offset). row_key b <ℤ row_key c) xs → overlaps xs (b ∷ bs) ≡ overlaps xs bs
@@ -202,5 +198,5 @@ passes_on_second s t rest others after first second a b as' p e f apart le =
 
 pub passes_end_second : (s t : Bool) (rest others first second : List Offset) → Passes s t rest others first second → by_rows t others ≡ [] → false ≡ overlaps first second
 passes_end_second s t rest others first second p e =
-    let both : overlaps (by_rows s rest) (by_rows t others) ≡ false = ap (overlaps (by_rows s rest)) e ∙ none_second (by_rows s rest) in
+    let both : overlaps (by_rows s rest) (by_rows t others) ≡ false = ap (overlaps (by_rows s rest)) e ∙ overlaps-none (by_rows s rest) in
     sym both ∙ p.same

@@ -1,20 +1,22 @@
 -- The offsets of a bitmap, by rows.
-use Rattle.std.proofs.Common.{◌≡◌, ℕ, zero, suc, ◌+◌, ◌*◌, ◌/◌, ◌%◌, ◌<◌, ◌≤◌, ℤ, pos, inl, inr, add-one, append_assoc, Bool, true, false, cond, eqb, List, [], ◌∷◌, ◌++◌, length, refl, sym, ap, subst, ◌∙◌, arith}
+use Rattle.std.proofs.Common.{◌≡◌, ℕ, zero, suc, ◌+◌, ◌*◌, ◌/◌, ◌%◌, ◌<◌, ◌≤◌, ℤ, pos, inl, inr, append_assoc, Bool, true, false, cond, eqb, List, [], ◌∷◌, ◌++◌, length, refl, sym, ap, subst, ◌∙◌, arith}
 use Rattle.std.specs.Prelude.{Option, Some, None, slice_index, flat_map, filter_map, ◌-ℤ◌, ◌+ℤ◌, ◌≤ℤ◌, count_by, ◌==◌}
 use Rattle.std.proofs.lemmas.Int.{ints}
-use Rattle.std.proofs.Math.Nat.{mul-le-mul_right, div-lt_iff_lt-mul, mod-lt, mod-add-div'}
+use Rattle.std.proofs.Math.Nat.{zero-add, mul-le-mul_right, div-lt_iff_lt-mul, mod-lt, mod-add-div'}
 use Rattle.std.proofs.lemmas.Option.{get_or_from_slice_get}
 use Rattle.std.specs.Prelude.{slice_get}
-use Rattle.std.proofs.lemmas.Bool.{cases_lt}
+use Rattle.std.proofs.lemmas.Bool.{cases_lt, cases_Bool}
 use Rattle.std.proofs.lemmas.List.Sums.{sum_by-cons}
 use Rattle.std.specs.List.{range_with_len, cons_option, AllByRecursion, IsDistinct}
 use Rattle.std.proofs.lemmas.Grind.{flat_map-append}
 use Rattle.std.proofs.lemmas.List.{append-nil}
 use Rattle.std.proofs.lemmas.List.Elements.{filter_map-append}
+use Rattle.mw_facts.proofs.Alls.{all-append}
+use Rattle.mw_facts.proofs.Ranges.{range_with_len-more}
 use Rattle.mw_model.specs.declared.places.Offset.{Offset}
 use Rattle.mw_model.specs.Rasters.{Raster}
 use Rattle.mw_model.specs.Elements.{IsNear, offset_from, offsets_in_row, offsets_of, same_offset}
-use Rattle.mw_element.proofs.Boxes.{Follows, Below, apart_right, row_apart, all_append, distinct_append, distinct_cons, distinct_nil, below_row, below_more, follows_more, true_or_false}
+use Rattle.mw_element.proofs.Boxes.{Follows, Below, apart_right, row_apart, distinct_append, distinct_cons, distinct_nil, below_row, below_more, follows_more}
 
 -- the pixel of column x of row y, as an offset where it is 1
 abbrev pub pixel_offset : Raster ℕ → ℕ → ℕ → ℕ → ℕ → Option Offset
@@ -30,15 +32,8 @@ rows_part f ox oy y n = flat_map (λ k. offsets_in_row f ox oy k) (range_with_le
 
 -- ---- steps of loops
 
-range_suc : (a n : ℕ) → range_with_len a (suc n) ≡ range_with_len a n ++ (a + n) ∷ []
-range_suc a zero = ap (λ k. k ∷ []) (omega arith)
-range_suc a (suc n) = ap (λ (ks : List ℕ). a ∷ ks) (range_suc (a + 1) n ∙ ap (λ k. range_with_len (a + 1) n ++ k ∷ []) (omega arith))
-
-range_more : (n : ℕ) → range_with_len 0 (n + 1) ≡ range_with_len 0 n ++ n ∷ []
-range_more n = ap (range_with_len 0) (add-one n) ∙ range_suc 0 n ∙ ap (λ k. range_with_len 0 n ++ k ∷ []) (omega arith)
-
 row_more : (f : Raster ℕ) (ox oy y n : ℕ) → row_part f ox oy y 0 (n + 1) ≡ row_part f ox oy y 0 n ++ cons_option (pixel_offset f ox oy y n) []
-row_more f ox oy y n = ap (filter_map (pixel_offset f ox oy y)) (range_more n) ∙ filter_map-append (pixel_offset f ox oy y) (range_with_len 0 n) (n ∷ [])
+row_more f ox oy y n = ap (filter_map (pixel_offset f ox oy y)) (range_with_len-more 0 n n (zero-add n)) ∙ filter_map-append (pixel_offset f ox oy y) (range_with_len 0 n) (n ∷ [])
 
 row_next : (f : Raster ℕ) (ox oy y n : ℕ) (b : Bool) → eqb (slice_index f.cells (y * f.width + n)) 1 ≡ b → row_part f ox oy y 0 (n + 1) ≡ row_part f ox oy y 0 n ++ cons_option (cond b (Some (offset_from ox oy n y)) None) []
 row_next f ox oy y n b e = row_more f ox oy y n ∙ ap (λ (t : Bool). row_part f ox oy y 0 n ++ cons_option (cond t (Some (offset_from ox oy n y)) None) []) e
@@ -57,7 +52,7 @@ row_unset f ox oy y n before out so_far not =
 pub rows_more : (f : Raster ℕ) (ox oy n : ℕ) (out new : List Offset) → out ≡ rows_part f ox oy 0 n → new ≡ out ++ offsets_in_row f ox oy n → new ≡ rows_part f ox oy 0 (n + 1)
 rows_more f ox oy n out new so_far e =
     e ∙ ap (λ (xs : List Offset). xs ++ offsets_in_row f ox oy n) so_far
-    ∙ sym (ap (flat_map (λ k. offsets_in_row f ox oy k)) (range_more n) ∙ flat_map-append (λ k. offsets_in_row f ox oy k) (range_with_len 0 n) (n ∷ []) ∙ ap (λ (xs : List Offset). flat_map (λ k. offsets_in_row f ox oy k) (range_with_len 0 n) ++ xs) (append-nil (offsets_in_row f ox oy n)))
+    ∙ sym (ap (flat_map (λ k. offsets_in_row f ox oy k)) (range_with_len-more 0 n n (zero-add n)) ∙ flat_map-append (λ k. offsets_in_row f ox oy k) (range_with_len 0 n) (n ∷ []) ∙ ap (λ (xs : List Offset). flat_map (λ k. offsets_in_row f ox oy k) (range_with_len 0 n) ++ xs) (append-nil (offsets_in_row f ox oy n)))
 
 -- ---- what the offsets of a bitmap are
 
@@ -90,7 +85,7 @@ row_distinct f ox oy y x (suc n) =
 rows_below : (f : Raster ℕ) (ox oy y n : ℕ) → AllByRecursion (Below (seen_at oy y)) (rows_part f ox oy y n)
 rows_below f ox oy y zero = tt
 rows_below f ox oy y (suc n) =
-    all_append (Below (seen_at oy y)) (offsets_in_row f ox oy y) (rows_part f ox oy (y + 1) n) (below_row (seen_at ox 0) (seen_at oy y) (offsets_in_row f ox oy y) (row_follows f ox oy y 0 f.width))
+    all-append (Below (seen_at oy y)) (offsets_in_row f ox oy y) (rows_part f ox oy (y + 1) n) (below_row (seen_at ox 0) (seen_at oy y) (offsets_in_row f ox oy y) (row_follows f ox oy y 0 f.width))
     (below_more (seen_at oy y) (seen_at oy (y + 1)) (rows_part f ox oy (y + 1) n) (omega (arith, ints)) (rows_below f ox oy (y + 1) n))
 
 rows_distinct : (f : Raster ℕ) (ox oy y n : ℕ) → IsDistinct same_offset (rows_part f ox oy y n)
@@ -118,7 +113,7 @@ row_near f ox oy y x (suc n) a b d le =
 rows_near : (f : Raster ℕ) (ox oy y n : ℕ) → ox < 255 → oy < 255 → f.width ≤ 255 → y + n ≤ 255 → AllByRecursion IsNear (rows_part f ox oy y n)
 rows_near f ox oy y zero a b w le = tt
 rows_near f ox oy y (suc n) a b w le =
-    all_append IsNear (offsets_in_row f ox oy y) (rows_part f ox oy (y + 1) n) (row_near f ox oy y 0 f.width a b (omega (arith, le)) (omega (arith, w))) (rows_near f ox oy (y + 1) n a b w (omega (arith, le)))
+    all-append IsNear (offsets_in_row f ox oy y) (rows_part f ox oy (y + 1) n) (row_near f ox oy y 0 f.width a b (omega (arith, le)) (omega (arith, w))) (rows_near f ox oy (y + 1) n a b w (omega (arith, le)))
 
 pub offsets_near : (f : Raster ℕ) (ox oy : ℕ) → ox < f.width → oy < f.height → f.width ≤ 255 → f.height ≤ 255 → AllByRecursion IsNear (offsets_of f ox oy)
 offsets_near f ox oy a b w h = rows_near f ox oy 0 f.height (omega (arith, a, w)) (omega (arith, b, h)) w (omega (arith, h))
@@ -128,7 +123,7 @@ offsets_near f ox oy a b w h = rows_near f ox oy 0 f.height (omega (arith, a, w)
 row_none : (f : Raster ℕ) (ox oy y x n : ℕ) → row_part f ox oy y x n ≡ [] → (i : ℕ) → x ≤ i → i < x + n → eqb (slice_index f.cells (y * f.width + i)) 1 ≡ false
 row_none f ox oy y x zero e i low high = absurd (omega (arith, low, high))
 row_none f ox oy y x (suc n) e i low high =
-    elim (true_or_false (eqb (slice_index f.cells (y * f.width + x)) 1)) [
+    elim (cases_Bool (eqb (slice_index f.cells (y * f.width + x)) 1)) [
       | inl is ↦ absurd (let clash : cons_option (cond true (Some (offset_from ox oy x y)) None) (row_part f ox oy y (x + 1) n) ≡ [] = row_at f ox oy y x n true is e in cc)
       | inr not ↦
           let rest : row_part f ox oy y (x + 1) n ≡ [] = row_at f ox oy y x n false not e in

@@ -1,15 +1,10 @@
 -- A block of a row, merged with the samples further on.
-use Rattle.std.proofs.Common.{◌≡◌, ℕ, ◌+◌, ◌-◌, ◌<◌, ◌≤◌, List, ◌++◌, length, take, drop, get_or, ap, arith, ◌∙◌, length-take, length-drop}
-use Rattle.std.proofs.lemmas.List.{get_or_append_left, get_or-append_right, get_or-take, get_or-drop}
+use Rattle.std.proofs.Common.{◌≡◌, ℕ, ◌+◌, ◌-◌, ◌<◌, ◌≤◌, List, length, take, drop, get_or, ap, arith, ◌∙◌, length-take, length-drop}
+use Rattle.std.proofs.lemmas.List.{get_or-take, get_or-drop}
 use Rattle.std.proofs.lemmas.Simd.{get_or-zip2, length-zip2}
-use borrow.Rule.Slice.PartMut.{put_mid, post_of}
+use Rattle.mw_facts.proofs.Parts.{get_or-put_mid_within}
+use borrow.Rule.Slice.PartMut.{put_mid}
 use lib.Lanes.{zip2}
-
-pub put_mid_at : {A : Type 0} (a k : ℕ) (xs ys : List A) (i : ℕ) (d : A) → a ≤ length xs → a ≤ i → i < a + length ys → get_or (put_mid a k xs ys) i d ≡ get_or ys (i - a) d
-put_mid_at a k xs ys i d le from to = get_or-append_right (take a xs) (ys ++ post_of a k xs) a i d (omega (arith, length-take a xs)) from ∙ get_or_append_left ys (post_of a k xs) d (i - a) (omega arith)
-
-pub put_mid_below : {A : Type 0} (a k : ℕ) (xs ys : List A) (i : ℕ) (d : A) → a ≤ length xs → i < a → get_or (put_mid a k xs ys) i d ≡ get_or xs i d
-put_mid_below a k xs ys i d le lt = get_or_append_left (take a xs) (ys ++ post_of a k xs) d i (omega (arith, length-take a xs)) ∙ get_or-take a xs i d lt
 
 part_at : {A : Type 0} (a m i : ℕ) (xs : List A) (d : A) → i < m → get_or (take m (drop a xs)) i d ≡ get_or xs (a + i) d
 part_at a m i xs d lt = get_or-take m (drop a xs) i d lt ∙ get_or-drop a xs i d
@@ -26,7 +21,7 @@ merged_ahead f row ahead made at shift m k p d room m-is k-is ahead-is made-is f
     let len : length made ≡ 64 = ap length whole ∙ length-zip2 f here there (omega arith) ∙ here_len in
     let near : at + (p - at) ≡ p = omega arith in
     let far : at + shift + (p - at) ≡ p + shift = omega arith in
-    put_mid_at at m row made p d (omega arith) from (omega arith)
+    get_or-put_mid_within at m row made p d (omega arith) from (omega arith)
     ∙ ap (λ (t : List _). get_or t (p - at) d) whole
     ∙ get_or-zip2 f here there (p - at) d d d (omega arith) (omega arith)
     ∙ ap (λ (t : _). f t (get_or there (p - at) d)) (part_at at m (p - at) row d (omega arith) ∙ ap (λ (t : ℕ). get_or row t d) near)

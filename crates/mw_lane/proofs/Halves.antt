@@ -1,10 +1,10 @@
 -- A row in two halves, of which a part of the front is merged with the beginning of the back.
 use Rattle.std.proofs.Common.{◌≡◌, ℕ, ◌+◌, ◌-◌, ◌<◌, ◌≤◌, List, ◌++◌, length, take, drop, get_or, ap, arith, ◌∙◌, inl, inr, length-append, length-take, length-drop}
+use Rattle.std.proofs.Math.Nat.{add-sub_of_le}
 use Rattle.std.proofs.lemmas.Bool.{cases_lt}
 use Rattle.std.proofs.lemmas.List.{get_or_append_left, get_or-append_right, get_or-take, get_or-drop}
 use Rattle.std.proofs.lemmas.Simd.{get_or-zip2, length-zip2}
-use Rattle.mw_lane.proofs.Blocks.{put_mid_at, put_mid_below}
-use Rattle.mw_lane.proofs.Parts.{put_mid_above}
+use Rattle.mw_facts.proofs.Parts.{get_or-put_mid_below, get_or-put_mid_within, get_or-put_mid_above}
 use borrow.Rule.Slice.PartMut.{put_mid, post_of}
 use lib.Lanes.{zip2}
 
@@ -36,7 +36,7 @@ pub halved_below : {A : Type 0} (f : A → A → A) (row front back made : List 
 halved_below f row front back made at shift m k h p d lt =
     let size = whole_size f row front back made at shift m k h in
     get_or_append_left (put_mid at k front made) back d p (omega (arith, size))
-    ∙ put_mid_below at k front made p d (omega (arith, h.front_size)) lt
+    ∙ get_or-put_mid_below at k front made p d (omega (arith, h.front_size)) lt
     ∙ h.front_is p d (omega arith)
 
 pub halved_within : {A : Type 0} (f : A → A → A) (row front back made : List A) (at shift m k : ℕ) → IsHalved f row front back made at shift m k
@@ -47,15 +47,12 @@ halved_within f row front back made at shift m k h p d from to =
     let first = take k (drop at front) in
     let second = take m back in
     get_or_append_left (put_mid at k front made) back d p (omega (arith, size, h.apart))
-    ∙ put_mid_at at k front made p d (omega (arith, h.front_size)) from (omega (arith, small, h.count))
+    ∙ get_or-put_mid_within at k front made p d (omega (arith, h.front_size)) from (omega (arith, small, h.count))
     ∙ ap (λ (t : List _). get_or t (p - at) d) h.made_is
     ∙ get_or-zip2 f first second (p - at) d d d (omega (arith, length-take k (drop at front), length-drop at front, h.front_size, h.apart, h.count)) (omega (arith, length-take m back, h.back_size, h.room))
-    ∙ ap (λ (t : _). f t (get_or second (p - at) d)) (get_or-take k (drop at front) (p - at) d (omega (arith, h.count)) ∙ get_or-drop at front (p - at) d ∙ ap (λ (t : ℕ). get_or front t d) (near at p from) ∙ h.front_is p d (omega (arith, h.apart)))
+    ∙ ap (λ (t : _). f t (get_or second (p - at) d)) (get_or-take k (drop at front) (p - at) d (omega (arith, h.count)) ∙ get_or-drop at front (p - at) d ∙ ap (λ (t : ℕ). get_or front t d) (add-sub_of_le from) ∙ h.front_is p d (omega (arith, h.apart)))
     ∙ ap (λ (t : _). f (get_or row p d) t) (get_or-take m back (p - at) d (omega arith) ∙ h.back_is (p - at) d ∙ ap (λ (t : ℕ). get_or row t d) (far at shift p from))
   where
-    near : (at p : ℕ) → at ≤ p → at + (p - at) ≡ p
-    near at p le = omega arith
-
     far : (at shift p : ℕ) → at ≤ p → at + shift + (p - at) ≡ p + shift
     far at shift p le = omega arith
 
@@ -67,13 +64,10 @@ halved_above f row front back made at shift m k h p d from =
     elim (cases_lt p (at + shift)) [
       | inl inside ↦
           get_or_append_left (put_mid at k front made) back d p (omega (arith, size))
-          ∙ put_mid_above at k front made p d (omega (arith, h.front_size)) small (omega (arith, h.count))
+          ∙ get_or-put_mid_above at k front made p d (omega (arith, h.front_size)) small (omega (arith, h.count))
           ∙ h.front_is p d inside
       | inr past ↦
           get_or-append_right (put_mid at k front made) back (at + shift) p d size past
           ∙ h.back_is (p - (at + shift)) d
-          ∙ ap (λ (t : ℕ). get_or row t d) (back_again (at + shift) p past)
+          ∙ ap (λ (t : ℕ). get_or row t d) (add-sub_of_le past)
     ]
-  where
-    back_again : (a p : ℕ) → a ≤ p → a + (p - a) ≡ p
-    back_again a p le = omega arith

@@ -1,7 +1,9 @@
-pub mod Merged
-pub mod Same
-pub mod Blocks
-pub mod Differences
-pub mod Parts
-pub mod Halves
-pub mod Marks
+-- facts on lists, passed on until those who cite them here cite mw_facts
+pub use Rattle.mw_facts.proofs.Merged
+-- the crate's own
+mod Same
+mod Blocks
+mod Differences
+mod Parts
+mod Halves
+mod Marks

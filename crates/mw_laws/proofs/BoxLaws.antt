@@ -1,8 +1,9 @@
 -- Full rectangles.
-use Rattle.std.proofs.Common.{◌≡◌, ℕ, zero, suc, ◌+◌, ◌-◌, ◌*◌, ◌<◌, ◌≤◌, ◌⊎◌, List, [], ◌∷◌, ◌++◌, map, pos, ◌+ℤ◌, ◌-ℤ◌, ap, arith, ◌∙◌, inl, inr, refl}
+use Rattle.std.proofs.Common.{◌≡◌, ℕ, zero, suc, ◌+◌, ◌-◌, ◌*◌, ◌<◌, ◌≤◌, ◌⊎◌, List, [], ◌∷◌, ◌++◌, map, pos, ◌+ℤ◌, ◌-ℤ◌, ap, sym, arith, ◌∙◌, inl, inr, refl}
 use Rattle.std.specs.List.{range_with_len, flat_map}
 use Rattle.std.proofs.lemmas.Bool.{cases_lt, cases_eq}
 use Rattle.std.proofs.lemmas.Int.{ints}
+use Rattle.std.proofs.Math.Nat.{le_antisymm}
 use Rattle.mw_model.specs.declared.places.Offset.{Offset}
 use Rattle.mw_model.specs.Pictures.{Picture, sample, IsPicture}
 use Rattle.mw_model.specs.Flat.{under, least, greatest, erosion, dilation, negated}
@@ -192,10 +193,7 @@ no_erosion left right up down f picture =
     let upper = least_below f b f.maxval x y x y p q (covers_itself left right up down x y) in
     let lower : sample f x y ≤ least f.maxval (under f b x y) = below_least f b f.maxval x y (sample f x y) (sample_bounded f picture x y p q)
     (λ u v p' q' c. let e = covers_alone left right up down x y u v c in rw (e.0, e.1) (omega arith)) in
-    equal _ _ _ lower upper (sample-erosion b f x y p q))
-  where
-    equal : (a b c : ℕ) → a ≤ b → b ≤ a → c ≡ b → a ≡ c
-    equal a b c p q e = omega arith
+    le_antisymm lower upper ∙ sym (sample-erosion b f x y p q))
 
 no_dilation : (left right up down : ℕ) (f : Picture) → IsPicture f → f ≡ dilation (multiplied 0 left right up down) f
 no_dilation left right up down f picture =
@@ -205,10 +203,7 @@ no_dilation left right up down f picture =
     let lower = below_greatest f b x y x y p q (covers_itself left right up down x y) in
     let upper : greatest (under f b x y) ≤ sample f x y = greatest_below f b x y (sample f x y)
     (λ u v p' q' c. let e = covers_alone left right up down x y u v c in rw (e.0, e.1) (omega arith)) in
-    equal _ _ _ lower upper (sample-dilation b f x y p q))
-  where
-    equal : (a b c : ℕ) → a ≤ b → b ≤ a → c ≡ b → a ≡ c
-    equal a b c p q e = omega arith
+    le_antisymm lower upper ∙ sym (sample-dilation b f x y p q))
 
 pub times-erosion_box : (left right up down n : ℕ) (f : Picture) → IsPicture f → times n (erosion (rectangle left right up down)) f ≡ erosion (rectangle (n * left) (n * right) (n * up) (n * down)) f
 times-erosion_box left right up down zero f picture = no_erosion left right up down f picture

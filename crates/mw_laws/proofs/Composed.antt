@@ -1,5 +1,6 @@
 -- One element in place of another, and of two in a row.
-use Rattle.std.proofs.Common.{◌≡◌, ℕ, ◌<◌, ◌≤◌, List, arith}
+use Rattle.std.proofs.Common.{◌≡◌, ℕ, ◌<◌, List, arith}
+use Rattle.std.proofs.Math.Nat.{le_antisymm}
 use Rattle.mw_model.specs.declared.places.Offset.{Offset}
 use Rattle.mw_model.specs.Pictures.{Picture}
 use Rattle.mw_model.specs.Flat.{under, least, greatest, erosion, dilation}
@@ -21,14 +22,11 @@ pub record AreComposed (b c d : List Offset) (width height : ℕ) : Type 0 where
   pub within : (x y s t u v : ℕ) → Covers b x y s t → Covers c s t u v → Covers d x y u v
   pub whole : (x y u v : ℕ) → x < width → y < height → u < width → v < height → Covers d x y u v → Between b c width height x y u v
 
-equal : (m n : ℕ) → m ≤ n → n ≤ m → m ≡ n
-equal m n p q = omega arith
-
 pub erosion-erosion : (b c d : List Offset) (f : Picture) → AreComposed b c d f.width f.height → erosion b (erosion c f) ≡ erosion d f
 erosion-erosion b c d f composed =
     let g = erosion c f in
     drawn_same f.kind f.width f.height f.maxval (λ x y. least f.maxval (under g b x y)) (λ x y. least f.maxval (under f d x y))
-    (λ x y p q. equal _ _
+    (λ x y p q. le_antisymm
     (below_least f d f.maxval x y (least f.maxval (under g b x y)) (least_at_most f.maxval (under g b x y))
     (λ u v p' q' covers.
     let way = composed.whole x y u v p q p' q' covers in
@@ -48,7 +46,7 @@ pub dilation-dilation : (b c d : List Offset) (f : Picture) → AreComposed b c 
 dilation-dilation b c d f composed =
     let g = dilation c f in
     drawn_same f.kind f.width f.height f.maxval (λ x y. greatest (under g b x y)) (λ x y. greatest (under f d x y))
-    (λ x y p q. equal _ _
+    (λ x y p q. le_antisymm
     (greatest_below g b x y (greatest (under f d x y))
     (λ s t p' q' covers.
     rw (sample-dilation c f s t p' q')
@@ -72,13 +70,13 @@ pub record CoverSame (b c : List Offset) : Type 0 where
 pub erosion_same : (b c : List Offset) (f : Picture) → CoverSame b c → erosion b f ≡ erosion c f
 erosion_same b c f same =
     drawn_same f.kind f.width f.height f.maxval (λ x y. least f.maxval (under f b x y)) (λ x y. least f.maxval (under f c x y))
-    (λ x y p q. equal _ _
+    (λ x y p q. le_antisymm
     (below_least f c f.maxval x y (least f.maxval (under f b x y)) (least_at_most f.maxval (under f b x y)) (λ u v p' q' covers. least_below f b f.maxval x y u v p' q' (same.from x y u v covers)))
     (below_least f b f.maxval x y (least f.maxval (under f c x y)) (least_at_most f.maxval (under f c x y)) (λ u v p' q' covers. least_below f c f.maxval x y u v p' q' (same.to x y u v covers))))
 
 pub dilation_same : (b c : List Offset) (f : Picture) → CoverSame b c → dilation b f ≡ dilation c f
 dilation_same b c f same =
     drawn_same f.kind f.width f.height f.maxval (λ x y. greatest (under f b x y)) (λ x y. greatest (under f c x y))
-    (λ x y p q. equal _ _
+    (λ x y p q. le_antisymm
     (greatest_below f b x y (greatest (under f c x y)) (λ u v p' q' covers. below_greatest f c x y u v p' q' (same.to x y u v covers)))
     (greatest_below f c x y (greatest (under f b x y)) (λ u v p' q' covers. below_greatest f b x y u v p' q' (same.from x y u v covers))))

@@ -1,18 +1,20 @@
+-- what other crates may cite
 pub mod BoxLaws
 pub mod Composed
-pub mod ResidueLaws
 pub mod RunCascade
-pub mod RunExamples
-pub mod RunGrowth
-pub mod RunLimits
-pub mod RunReach
 pub mod RunReplay
-pub mod RunSettling
 pub mod RunShapes
 pub mod RunStates
 pub mod RunSteps
 pub mod RunTables
 pub mod RunValues
 pub mod RunWaiting
-pub mod SampleMaps
-pub mod SetLaws
+-- the crate's own
+mod ResidueLaws
+mod RunExamples
+mod RunGrowth
+mod RunLimits
+mod RunReach
+mod RunSettling
+mod SampleMaps
+mod SetLaws

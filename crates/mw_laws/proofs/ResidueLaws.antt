@@ -2,6 +2,7 @@
 use Rattle.std.proofs.Common.{◌≡◌, ◌≢◌, ℕ, zero, suc, ◌+◌, ◌-◌, ◌<◌, ◌≤◌, true, List, max, refl, ap, sym, subst, arith, ◌∙◌, inl, inr}
 use Rattle.std.specs.Prelude.{◌↔◌}
 use Rattle.std.proofs.lemmas.Bool.{cases_eq, cases_order}
+use Rattle.std.proofs.Math.Nat.{zero-add, suc-add}
 use Rattle.mw_model.specs.declared.places.Offset.{Offset}
 use Rattle.mw_model.specs.Pictures.{Picture, sample, IsSet}
 use Rattle.mw_model.specs.Flat.{erosion, dilation, negated, opening}
@@ -13,14 +14,8 @@ use Rattle.mw_model.proofs.Iterated.{eroded_shape}
 use Rattle.mw_model.proofs.SkeletonLaws.{erosion_in_opening, eroded_falls, residue_parts, no_residue, mark_sound, mark_complete, skeleton_last, skeleton_other, sample-union, part_below, restoration_shape, restoration_picture}
 
 pub times-sum : (operator : Picture → Picture) (m n : ℕ) (f : Picture) → times (m + n) operator f ≡ times m operator (times n operator f)
-times-sum operator zero n f = ap (λ (k : ℕ). times k operator f) (same n)
-  where
-    same : (n : ℕ) → zero + n ≡ n
-    same n = omega arith
-times-sum operator (suc m) n f = ap (λ (k : ℕ). times k operator f) (same m n) ∙ ap operator (times-sum operator m n f)
-  where
-    same : (m n : ℕ) → suc m + n ≡ suc (m + n)
-    same m n = omega arith
+times-sum operator zero n f = ap (λ (k : ℕ). times k operator f) (zero-add n)
+times-sum operator (suc m) n f = ap (λ (k : ℕ). times k operator f) (suc-add m n) ∙ ap operator (times-sum operator m n f)
 
 -- For a set and an element with its origin, at a place of the frame.
 module _ (b : List Offset) (depth : ℕ) (f : Picture) (x y : ℕ) (holds : HoldsOrigin b) (set : IsSet f) (p : x < f.width) (q : y < f.height) where

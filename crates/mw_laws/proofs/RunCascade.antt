@@ -1,10 +1,17 @@
 -- What a kill makes of each entry.
-use Rattle.std.proofs.Common.{◌≡◌, ◌≢◌, ℕ, zero, suc, ◌+◌, ◌<◌, Bool, true, false, cond, ◌⊎◌, inl, inr, List, [], ◌∷◌, ◌++◌, length, set, Option, Some, None, refl, sym, ap, ◌∙◌, subst, arith, find, length-append, add-zero, zero-add}
+-- the first three lines pass facts on until those who cite them here cite mw_facts
+pub use Rattle.mw_facts.proofs.Alls.{all-weaker as all_map}
+pub use Rattle.mw_facts.proofs.Finds.{find-same as find_same}
+pub use Rattle.mw_facts.proofs.Numbers.{strong_induction as strongly}
+use Rattle.std.proofs.Common.{◌≡◌, ◌≢◌, ℕ, zero, suc, ◌+◌, ◌<◌, true, false, cond, inl, inr, List, [], ◌∷◌, ◌++◌, length, set, Option, Some, None, refl, sym, ap, ◌∙◌, subst, arith, find, length-append, add-zero, zero-add}
 use Rattle.std.specs.List.{AllByRecursion}
 use Rattle.std.specs.Option.{option_map_or}
 use Rattle.std.proofs.lemmas.List.{get_or_append_left, get_or-set_same, get_or-set_other, length-set, get_or_past, ext_get_or}
 use Rattle.std.proofs.Math.Seq.{get_or-append_seam}
-use Rattle.std.proofs.lemmas.Bool.{cases_lt, cases_eq, cases_Bool}
+use Rattle.std.proofs.lemmas.Bool.{cases_lt, cases_eq, cases_Bool, both_ways}
+use Rattle.mw_facts.proofs.Alls.{all-weaker}
+use Rattle.mw_facts.proofs.Finds.{find-same, option_cases}
+use Rattle.mw_facts.proofs.Numbers.{strong_induction}
 use Rattle.mw_model.specs.declared.submissions.Inputs.{Inputs}
 use Rattle.mw_model.specs.declared.submissions.Submission.{Submission}
 use Rattle.mw_model.specs.declared.calls.Outcome.{Outcome}
@@ -14,23 +21,15 @@ use Rattle.mw_model.specs.Refusals.{Table, outcome_at, submission_at, is_dead, i
 use Rattle.mw_model.specs.Machine.{spread, beside, killed}
 use Rattle.mw_laws.specs.MachineLaws.{inputs_at, first_dead, IsKilled}
 
-pub find_same : (p q : ℕ → Bool) (xs : List ℕ) → AllByRecursion (λ x. p x ≡ q x) xs → find p xs ≡ find q xs
-find_same p q [] h = refl
-find_same p q (x ∷ xs) h = rw (h.0, find_same p q xs h.1) refl
-
-pub all_map : (P Q : ℕ → Type 0) (xs : List ℕ) → ((x : ℕ) → P x → Q x) → AllByRecursion P xs → AllByRecursion Q xs
-all_map P Q [] f h = tt
-all_map P Q (x ∷ xs) f h = (f x h.0, all_map P Q xs f h.1)
-
 -- what fits beside an entry is told by the outcomes of its inputs
 beside_same : (b v : List Outcome) (inputs : Inputs) (o : Outcome) → ((i : ℕ) → i < length b → outcome_at v i ≡ outcome_at b i) → AllByRecursion (λ i. i < length b) (tickets inputs)
     → beside b inputs o ≡ beside v inputs o
 beside_same b v inputs o same below =
-    let e = find_same (λ i. is_dead (outcome_at b i)) (λ i. is_dead (outcome_at v i)) (tickets inputs)
-    (all_map (λ i. i < length b) (λ i. is_dead (outcome_at b i) ≡ is_dead (outcome_at v i)) (tickets inputs) (λ i h. ap is_dead (sym (same i h))) below) in
+    let e = find-same (λ i. is_dead (outcome_at b i)) (λ i. is_dead (outcome_at v i)) (tickets inputs)
+    (all-weaker (λ i. i < length b) (λ i. is_dead (outcome_at b i) ≡ is_dead (outcome_at v i)) (tickets inputs) (λ i h. ap is_dead (sym (same i h))) below) in
     ap (λ f. cond (is_pending o) (option_map_or outcome.Input f outcome.Pending) o) e
 
-spread_front : (b : List Outcome) (es : List Submission) (os : List Outcome) (k : ℕ) → k < length b → outcome_at (spread b es os) k ≡ outcome_at b k
+pub spread_front : (b : List Outcome) (es : List Submission) (os : List Outcome) (k : ℕ) → k < length b → outcome_at (spread b es os) k ≡ outcome_at b k
 spread_front b [] os k h = refl
 spread_front b (e ∷ es) [] k h = refl
 spread_front b (e ∷ es) (o ∷ os) k h =
@@ -148,18 +147,6 @@ is_killed w t cause same below within dead =
 
 -- ---- no other table fits
 
--- a fact of all numbers follows from what the smaller ones tell
-by_smaller : (P : ℕ → Type 0) → ((u : ℕ) → ((v : ℕ) → v < u → P v) → P u) → (n u : ℕ) → u < n → P u
-by_smaller P f zero u h = absurd (omega arith)
-by_smaller P f (suc n) u h = f u (λ v l. by_smaller P f n v (omega arith))
-
-pub strongly : (P : ℕ → Type 0) → ((u : ℕ) → ((v : ℕ) → v < u → P v) → P u) → (u : ℕ) → P u
-strongly P f u = by_smaller P f (suc u) u (omega arith)
-
-option_cases : (f : Option ℕ) → (f ≡ None) ⊎ ((s : ℕ) × (f ≡ Some s))
-option_cases None = inl refl
-option_cases (Some s) = inr (s, refl)
-
 -- what becomes of a pending entry, by its first dead input
 pub failed_or_waits : (w v : Table) (t : ℕ) (cause : Outcome) (u : ℕ) → IsKilled w v t cause → u < length w.outcomes → u ≢ t → outcome_at w.outcomes u ≡ outcome.Pending
     → outcome_at v.outcomes u ≡ option_map_or outcome.Input (first_dead v u) outcome.Pending
@@ -176,10 +163,10 @@ killed_alone w a b t cause below j k =
     let first : (u : ℕ) → u < length w.outcomes → ((v : ℕ) → v < u → P v) → first_dead a u ≡ first_dead b u
     = λ u h smaller.
     ap (λ es. find (λ i. is_dead (outcome_at a.outcomes i)) (inputs_at es u)) j.submissions
-    ∙ find_same (λ i. is_dead (outcome_at a.outcomes i)) (λ i. is_dead (outcome_at b.outcomes i)) (inputs_at w.submissions u)
-    (all_map (λ i. i < u) (λ i. is_dead (outcome_at a.outcomes i) ≡ is_dead (outcome_at b.outcomes i)) (inputs_at w.submissions u) (λ i l. ap is_dead (smaller i l (omega arith))) (below u h))
+    ∙ find-same (λ i. is_dead (outcome_at a.outcomes i)) (λ i. is_dead (outcome_at b.outcomes i)) (inputs_at w.submissions u)
+    (all-weaker (λ i. i < u) (λ i. is_dead (outcome_at a.outcomes i) ≡ is_dead (outcome_at b.outcomes i)) (inputs_at w.submissions u) (λ i l. ap is_dead (smaller i l (omega arith))) (below u h))
     ∙ sym (ap (λ es. find (λ i. is_dead (outcome_at b.outcomes i)) (inputs_at es u)) k.submissions) in
-    let all : (u : ℕ) → P u = strongly P (λ u smaller h. elim (cases_eq u t) [
+    let all : (u : ℕ) → P u = strong_induction P (λ u smaller h. elim (cases_eq u t) [
       | inl e ↦ ap (outcome_at a.outcomes) e ∙ j.dies ∙ sym k.dies ∙ sym (ap (outcome_at b.outcomes) e)
       | inr n ↦ elim (cases_Bool (is_pending (outcome_at w.outcomes u))) [
         | inl e ↦
@@ -193,9 +180,6 @@ killed_alone w a b t cause below j k =
     let outcomes : a.outcomes ≡ b.outcomes = ext_get_or outcome.Pending a.outcomes b.outcomes (j.size ∙ sym k.size) (λ u h. all u (omega (arith, j.size))) in
     same_table a b (j.names ∙ sym k.names) (j.submissions ∙ sym k.submissions) outcomes
   where
-    both_ways : (b : Bool) → b ≡ false → b ≡ true → ⊥
-    both_ways b e f = cc
-
     same_table : (a b : Table) → a.names ≡ b.names → a.submissions ≡ b.submissions → a.outcomes ≡ b.outcomes → a ≡ b
     same_table a b p q r =
         ap (λ x. record a { names = x }) p ∙ ap (λ x. record a { names = b.names; submissions = x }) q ∙ ap (λ x. record b { outcomes = x }) r

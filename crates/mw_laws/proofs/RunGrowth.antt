@@ -1,7 +1,7 @@
 -- What a step and a run may change.
-use Rattle.std.proofs.Common.{◌≡◌, ◌≢◌, ℕ, ◌<◌, Bool, true, false, ◌⊎◌, inl, inr, List, [], ◌∷◌, ◌++◌, length, set, Option, None, refl, sym, ap, ◌∙◌, subst, arith, length-append, append_assoc}
+use Rattle.std.proofs.Common.{◌≡◌, ◌≢◌, ℕ, ◌<◌, true, ◌⊎◌, inl, inr, List, [], ◌∷◌, ◌++◌, length, set, Option, None, refl, sym, ap, ◌∙◌, subst, arith, length-append, append_assoc}
 use Rattle.std.proofs.lemmas.List.{append-nil, get_or_append_left, get_or-set_same, get_or-set_other}
-use Rattle.std.proofs.lemmas.Bool.{cases_eq, cases_Bool}
+use Rattle.std.proofs.lemmas.Bool.{cases_eq, cases_Bool, both_ways}
 use Rattle.mw_model.specs.declared.names.Name.{Name}
 use Rattle.mw_model.specs.declared.submissions.Submission.{Submission}
 use Rattle.mw_model.specs.declared.calls.Outcome.{Outcome}
@@ -13,7 +13,7 @@ use Rattle.mw_model.specs.Machine.{Machine, values, with_table, killed, settled,
 use Rattle.mw_laws.specs.MachineLaws.{GoesOn, MayBecome, GrowsTo, IsSound, IsKilled}
 use Rattle.mw_laws.proofs.RunCascade.{is_killed, pending_is, dead_not_pending}
 use Rattle.mw_laws.proofs.RunValues.{values_push, length_values}
-use Rattle.mw_laws.proofs.RunTables.{push_front}
+use Rattle.mw_facts.proofs.Elements.{get_or-push_below}
 use Rattle.mw_laws.proofs.RunSteps.{pushed, holds_after}
 use Rattle.mw_laws.proofs.RunStates.{step_sound}
 
@@ -70,7 +70,7 @@ grows_added m n e o p s = record {
   submissions = (e ∷ [], refl);
   payloads = (p ∷ [], refl);
   values = (value_of (values m) (tickets e.inputs) e.command p ∷ [], values_push [] m.table.submissions m.payloads e p (omega (arith, s.lengths.submissions, s.lengths.payloads)));
-  outcomes = λ t h. inl (push_front m.table.outcomes o outcome.Pending t (omega (arith, s.lengths.outcomes)));
+  outcomes = λ t h. inl (get_or-push_below m.table.outcomes o outcome.Pending t (omega (arith, s.lengths.outcomes)));
 }
 
 grows_killed : (m : Machine) (t : ℕ) (cause : Outcome) → IsSound m → CanDie m.table t → is_dead cause ≡ true → GrowsTo m (with_table m (killed m.table t cause))
@@ -93,9 +93,6 @@ grows_killed m t cause s can dead =
         ]
       ];
     }
-  where
-    both_ways : (b : Bool) → b ≡ false → b ≡ true → ⊥
-    both_ways b e f = cc
 
 grows_settled : (m : Machine) (t : ℕ) (o : Outcome) → t < length m.table.outcomes → MayBecome (outcome_at m.table.outcomes t) o → GrowsTo m (with_table m (settled m.table t o))
 grows_settled m t o within may =

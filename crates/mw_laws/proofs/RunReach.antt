@@ -1,58 +1,16 @@
 -- Which entries a kill reaches.
-use Rattle.std.proofs.Common.{◌≡◌, ◌≢◌, ℕ, zero, suc, ◌<◌, Bool, true, false, ◌⊎◌, inl, inr, List, [], ◌∷◌, length, get_or, find, Option, Some, None, refl, sym, ap, ◌∙◌, subst, arith, Contains}
+use Rattle.std.proofs.Common.{◌≡◌, ◌≢◌, ℕ, ◌<◌, true, false, inl, inr, List, length, find, Some, refl, sym, ap, ◌∙◌, subst, arith, Contains}
 use Rattle.std.specs.List.{AllByRecursion}
-use Rattle.std.proofs.lemmas.Bool.{cases_eq, cases_Bool}
+use Rattle.std.proofs.lemmas.Bool.{cases_eq, cases_Bool, both_ways}
+use Rattle.mw_facts.proofs.Alls.{all-contains}
+use Rattle.mw_facts.proofs.Finds.{find-contains, find-some, option_cases}
+use Rattle.mw_facts.proofs.Numbers.{strong_induction}
 use Rattle.mw_model.specs.declared.calls.Outcome.{Outcome}
 use Rattle.mw_model.specs.declared.calls.Outcome.TheVariants as outcome
 use Rattle.mw_model.specs.Refusals.{Table, outcome_at, is_pending, is_dead}
 use Rattle.mw_model.specs.Machine.{Machine, killed, CanDie}
 use Rattle.mw_laws.specs.MachineLaws.{inputs_at, first_dead, IsKilled, IsSound, HangsOn, at_once, through}
-use Rattle.mw_laws.proofs.RunCascade.{is_killed, pending_is, dead_not_pending, strongly}
-
-found_at : (p : ℕ → Bool) (xs : List ℕ) (k d : ℕ) → k < length xs → p (get_or xs k d) ≡ true → (s : ℕ) × (find p xs ≡ Some s)
-found_at p [] k d h e = absurd (omega arith)
-found_at p (x ∷ xs) zero d h e = (x, rw e refl)
-found_at p (x ∷ xs) (suc k) d h e = elim (cases_Bool (p x)) [
-  | inl f ↦ (x, rw f refl)
-  | inr f ↦ let rest = found_at p xs k d (omega arith) e in (rest.0, rw f rest.1)
-]
-
--- where an element passes, one is found
-found_in : (p : ℕ → Bool) (xs : List ℕ) (x : ℕ) → Contains xs x → p x ≡ true → (s : ℕ) × (find p xs ≡ Some s)
-found_in p xs x h e = found_at p xs h.0 x h.1 (ap p h.2 ∙ e)
-
-member_more : (x y : ℕ) (xs : List ℕ) → Contains xs y → Contains (x ∷ xs) y
-member_more x y xs h = (suc h.0, omega (arith, h.1), h.2)
-
--- what is found is an element that passes
-pub find_member : (p : ℕ → Bool) (xs : List ℕ) (s : ℕ) → find p xs ≡ Some s → Contains xs s × (p s ≡ true)
-find_member p [] s h = absurd cc
-find_member p (x ∷ xs) s h = elim (cases_Bool (p x)) [
-  | inl f ↦
-      let g : Some x ≡ Some s = sym (rw f refl) ∙ h in
-      let e : x ≡ s = cc in
-      let P : ℕ → Type 0 = λ y. Contains (x ∷ xs) y × (p y ≡ true) in
-      subst P e ((0, omega arith, refl), f)
-  | inr f ↦
-      let g : find p xs ≡ Some s = sym (rw f refl) ∙ h in
-      let rest = find_member p xs s g in
-      (member_more x s xs rest.0, rest.1)
-]
-
-all_contains : (P : ℕ → Type 0) (xs : List ℕ) (k d : ℕ) → AllByRecursion P xs → k < length xs → P (get_or xs k d)
-all_contains P [] k d h l = absurd (omega arith)
-all_contains P (x ∷ xs) zero d h l = h.0
-all_contains P (x ∷ xs) (suc k) d h l = all_contains P xs k d h.1 (omega arith)
-
-pub all_member : (P : ℕ → Type 0) (xs : List ℕ) (x : ℕ) → AllByRecursion P xs → Contains xs x → P x
-all_member P xs x h c = subst P c.2 (all_contains P xs c.0 x h c.1)
-
-both_ways : (b : Bool) → b ≡ false → b ≡ true → ⊥
-both_ways b e f = cc
-
-option_cases : (f : Option ℕ) → (f ≡ None) ⊎ ((s : ℕ) × (f ≡ Some s))
-option_cases None = inl refl
-option_cases (Some s) = inr (s, refl)
+use Rattle.mw_laws.proofs.RunCascade.{is_killed, pending_is, dead_not_pending}
 
 input_dead : (s : ℕ) → is_dead (outcome.Input s) ≡ true
 input_dead s = refl
@@ -62,7 +20,7 @@ fails_with : (w v : Table) (t : ℕ) (cause : Outcome) (u i : ℕ) → IsKilled 
     → Contains (inputs_at w.submissions u) i → is_dead (outcome_at v.outcomes i) ≡ true → is_dead (outcome_at v.outcomes u) ≡ true
 fails_with w v t cause u i k h n e c dead =
     let P : List ℕ → Type 0 = λ xs. (s : ℕ) × (find (λ j. is_dead (outcome_at v.outcomes j)) xs ≡ Some s) in
-    let found : (s : ℕ) × (first_dead v u ≡ Some s) = subst P (sym (ap (λ es. inputs_at es u) k.submissions)) (found_in (λ j. is_dead (outcome_at v.outcomes j)) (inputs_at w.submissions u) i c dead) in
+    let found : (s : ℕ) × (first_dead v u ≡ Some s) = subst P (sym (ap (λ es. inputs_at es u) k.submissions)) (find-contains (λ j. is_dead (outcome_at v.outcomes j)) (inputs_at w.submissions u) i c dead) in
     ap is_dead ((k.fails u found.0 h n e).1 found.1) ∙ input_dead found.0
 
 -- a kill reaches what hangs on t
@@ -71,7 +29,7 @@ reached_dies : (w v : Table) (t : ℕ) (cause : Outcome) → IsKilled w v t caus
     → (u : ℕ) → HangsOn w t u → u < length w.outcomes → u ≢ t → is_dead (outcome_at v.outcomes u) ≡ true
 reached_dies w v t cause k dead below u (at_once x e c) h n = fails_with w v t cause x t k h n e c (ap is_dead k.dies ∙ dead)
 reached_dies w v t cause k dead below u (through x i e c more) h n =
-    let less : i < x = all_member (λ j. j < x) (inputs_at w.submissions x) i (below x h) c in
+    let less : i < x = all-contains (λ j. j < x) (inputs_at w.submissions x) i (below x h) c in
     fails_with w v t cause x i k h n e c (elim (cases_eq i t) [
       | inl same ↦ ap (λ j. is_dead (outcome_at v.outcomes j)) same ∙ ap is_dead k.dies ∙ dead
       | inr other ↦ reached_dies w v t cause k dead below i more (omega arith) other
@@ -84,15 +42,15 @@ dies_reached : (w v : Table) (t : ℕ) (cause : Outcome) → IsKilled w v t caus
     → (u : ℕ) → u < length w.outcomes → u ≢ t → outcome_at w.outcomes u ≡ outcome.Pending → is_dead (outcome_at v.outcomes u) ≡ true → HangsOn w t u
 dies_reached w v t cause k below alive =
     let P : ℕ → Type 0 = λ u. u < length w.outcomes → u ≢ t → outcome_at w.outcomes u ≡ outcome.Pending → is_dead (outcome_at v.outcomes u) ≡ true → HangsOn w t u in
-    strongly P (λ u smaller h n e dead. elim (option_cases (first_dead v u)) [
+    strong_induction P (λ u smaller h n e dead. elim (option_cases (first_dead v u)) [
       | inl f ↦ let g : is_dead (outcome_at v.outcomes u) ≡ false = ap is_dead ((k.waits u h n e).1 f) in absurd (both_ways (is_dead (outcome_at v.outcomes u)) g dead)
       | inr f ↦
           let i = f.0 in
-          let found = find_member (λ j. is_dead (outcome_at v.outcomes j)) (inputs_at v.submissions u) i f.1 in
+          let found = find-some (λ j. is_dead (outcome_at v.outcomes j)) (inputs_at v.submissions u) i f.1 in
           let Q : List ℕ → Type 0 = λ xs. Contains xs i in
           let c : Contains (inputs_at w.submissions u) i = subst Q (ap (λ es. inputs_at es u) k.submissions) found.0 in
-          let less : i < u = all_member (λ j. j < u) (inputs_at w.submissions u) i (below u h) c in
-          let was : is_dead (outcome_at w.outcomes i) ≡ false = all_member (λ j. is_dead (outcome_at w.outcomes j) ≡ false) (inputs_at w.submissions u) i (alive u h e) c in
+          let less : i < u = all-contains (λ j. j < u) (inputs_at w.submissions u) i (below u h) c in
+          let was : is_dead (outcome_at w.outcomes i) ≡ false = all-contains (λ j. is_dead (outcome_at w.outcomes j) ≡ false) (inputs_at w.submissions u) i (alive u h e) c in
           elim (cases_eq i t) [
             | inl same ↦ let R : ℕ → Type 0 = λ j. Contains (inputs_at w.submissions u) j in at_once u e (subst R same c)
             | inr other ↦ elim (cases_Bool (is_pending (outcome_at w.outcomes i))) [

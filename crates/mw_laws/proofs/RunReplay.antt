@@ -73,7 +73,7 @@ refused_leaves m (call.Status n) p d h = leaves (refusal m.table m.payloads (cal
 refused_leaves m (call.Fetch n) p d h = leaves (refusal m.table m.payloads (call.Fetch n)) d m (changed m.table (call.Fetch n)) _ h
 refused_leaves m (call.Release n) p d h = leaves (refusal m.table m.payloads (call.Release n)) d m (changed m.table (call.Release n)) _ h
 
-quiet : (r : Option Code) (m : Machine) → record { table = unless_refused r m.table m.table; payloads = unless_refused r m.payloads (m.payloads ++ []) } ≡ m
+pub quiet : (r : Option Code) (m : Machine) → record { table = unless_refused r m.table m.table; payloads = unless_refused r m.payloads (m.payloads ++ []) } ≡ m
 quiet None m = let P : List (Option Value) → Type 0 = λ ps. record { table = m.table; payloads = ps } ≡ m in subst P (sym (append-nil m.payloads)) refl
 quiet (Some c) m = refl
 

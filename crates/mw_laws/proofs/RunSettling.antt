@@ -1,9 +1,9 @@
 -- Each command is settled by one item of the log.
-use Rattle.std.proofs.Common.{◌≡◌, ◌≢◌, ℕ, zero, suc, ◌<◌, Bool, true, false, ◌⊎◌, inl, inr, List, [], ◌∷◌, length, Contains, Option, Some, None, sym, ap, ◌∙◌, subst, arith, length-append}
+use Rattle.std.proofs.Common.{◌≡◌, ◌≢◌, ℕ, zero, suc, ◌<◌, true, ◌⊎◌, inl, inr, List, [], ◌∷◌, length, Contains, Option, Some, None, sym, ap, ◌∙◌, subst, arith, length-append}
 use Rattle.std.specs.List.{AllByRecursion}
 use Rattle.std.specs.Option.{option_map_or}
 use Rattle.std.proofs.lemmas.List.{get_or-set_same, get_or-set_other}
-use Rattle.std.proofs.lemmas.Bool.{cases_eq, cases_Bool}
+use Rattle.std.proofs.lemmas.Bool.{cases_eq, cases_Bool, both_ways}
 use Rattle.mw_model.specs.declared.names.Name.{Name}
 use Rattle.mw_model.specs.declared.operations.Op.{Op}
 use Rattle.mw_model.specs.declared.submissions.Submission.{Submission}
@@ -17,7 +17,9 @@ use Rattle.mw_model.specs.Refusals.{Table, no_submission, outcome_at, submission
 use Rattle.mw_model.specs.Machine.{Machine, start_state, with_table, killed, settled, CanDie, Step, Run}
 use Rattle.mw_laws.specs.MachineLaws.{IsSound, IsKilled, SettlesNot, first_dead}
 use Rattle.mw_laws.proofs.RunCascade.{is_killed, failed_or_waits, dead_not_pending, pending_is}
-use Rattle.mw_laws.proofs.RunTables.{push_front, push_last, last_or_before}
+use Rattle.mw_facts.proofs.Elements.{get_or-push_below, get_or-push_last}
+use Rattle.mw_facts.proofs.Finds.{contains-cons}
+use Rattle.mw_facts.proofs.Numbers.{below_or_last}
 use Rattle.mw_laws.proofs.RunSteps.{pushed, IsNew, holds_after}
 use Rattle.mw_laws.proofs.RunStates.{start_sound, step_sound, there_not_dead}
 use Rattle.mw_laws.proofs.RunGrowth.{step_grows, done_stays, length_goes_on}
@@ -61,14 +63,14 @@ added_before m i t x n e o p s new d =
     let N = length m.table.names in
     let subs : length m.table.submissions ≡ N = s.lengths.submissions in
     let outs : length m.table.outcomes ≡ N = s.lengths.outcomes in
-    elim (last_or_before N t (omega (arith, d.within, length-append m.table.names (n ∷ [])))) [
+    elim (below_or_last N t (omega (arith, d.within, length-append m.table.names (n ∷ [])))) [
       | inl l ↦ inl (record {
         within = l;
-        command = ap (λ y. y.command) (sym (push_front m.table.submissions e no_submission t (omega arith))) ∙ d.command;
-        there = ap is_there (sym (push_front m.table.outcomes o outcome.Pending t (omega arith))) ∙ d.there;
+        command = ap (λ y. y.command) (sym (get_or-push_below m.table.submissions e no_submission t (omega arith))) ∙ d.command;
+        there = ap is_there (sym (get_or-push_below m.table.outcomes o outcome.Pending t (omega arith))) ∙ d.there;
       })
-      | inr l ↦ absurd (new.waits x (ap (λ y. y.command) (sym (push_last m.table.submissions e no_submission t (omega arith))) ∙ d.command)
-          (ap is_there (sym (push_last m.table.outcomes o outcome.Pending t (omega arith))) ∙ d.there))
+      | inr l ↦ absurd (new.waits x (ap (λ y. y.command) (sym (get_or-push_last m.table.submissions e no_submission t (omega arith))) ∙ d.command)
+          (ap is_there (sym (get_or-push_last m.table.outcomes o outcome.Pending t (omega arith))) ∙ d.there))
     ]
 
 waits_not_there : (f : Option ℕ) → is_there (option_map_or outcome.Input f outcome.Pending) ≡ true → ⊥
@@ -86,9 +88,6 @@ killed_there w v t cause u k dead h there = elim (cases_eq u t) [
     | inr e ↦ ap is_there (sym (k.settled u n (λ g. both_ways (is_pending (outcome_at w.outcomes u)) e (ap is_pending g)))) ∙ there
   ]
 ]
-  where
-    both_ways : (b : Bool) → b ≡ false → b ≡ true → ⊥
-    both_ways b e f = cc
 
 killed_before : (m : Machine) (i : LogItem) (t : ℕ) (x : Op) (u : ℕ) (cause : Outcome) → IsSound m → CanDie m.table u → is_dead cause ≡ true → Before m i t x (with_table m (killed m.table u cause))
 unfolding killed
@@ -121,17 +120,11 @@ step_before m i n t x s step =
       let_go = λ u within was. released_before m i t x u was;
     })
 
-member_more : (i j : LogItem) (log : List LogItem) → Contains log j → Contains (i ∷ log) j
-member_more i j log h = (suc h.0, omega (arith, h.1), h.2)
-
-member_here : (i j : LogItem) (log : List LogItem) → i ≡ j → Contains (i ∷ log) j
-member_here i j log e = (0, omega arith, e)
-
 run_before : (log : List LogItem) (m n : Machine) (t : ℕ) (x : Op) → IsSound m → Run m log n → IsDoneRun n t x → IsDoneRun m t x ⊎ Contains log (item.Finished t)
 run_before [] m n t x s r d = let P : Machine → Type 0 = λ y. IsDoneRun y t x in inl (subst P r d)
 run_before (i ∷ log) m n t x s r d = elim (run_before log r.0 n t x (step_sound m i r.0 s r.1) r.2 d) [
-  | inl d' ↦ elim (step_before m i r.0 t x s r.1 d') [ inl d'' ↦ inl d'' | inr e ↦ inr (member_here i (item.Finished t) log e) ]
-  | inr c ↦ inr (member_more i (item.Finished t) log c)
+  | inl d' ↦ elim (step_before m i r.0 t x s r.1 d') [ inl d'' ↦ inl d'' | inr e ↦ inr ((0, omega arith, e)) ]
+  | inr c ↦ inr (contains-cons i (item.Finished t) log c)
 ]
 
 -- a command that is done, or released since, was finished

@@ -23,7 +23,7 @@ use Rattle.mw_laws.specs.MachineLaws.{shape_of_value, ValuesHaveShapes, ValuesWi
 use Rattle.mw_laws.proofs.RunTables.{first_none, input_found, ticket_is}
 
 -- an image stands where the table tells an image
-image_value : (v : Option Value) (s : Shape) → option_map shape_of_value v ≡ Some s → is_image s ≡ true → (g : Picture) × (v ≡ Some (ImageValue g)) × (s ≡ shape_of_picture g)
+pub image_value : (v : Option Value) (s : Shape) → option_map shape_of_value v ≡ Some s → is_image s ≡ true → (g : Picture) × (v ≡ Some (ImageValue g)) × (s ≡ shape_of_picture g)
 image_value None s h k = absurd cc
 image_value (Some (ImageValue g)) s h k = (g, refl, cc)
 image_value (Some (ElementValue b)) s h k = let e : shape_of_figure b ≡ s = cc in let f = ap is_image e in absurd cc
@@ -185,23 +185,23 @@ result_shape m (op.Gran o) shapes h = gran_shape_is m o shapes h
 
 -- ---- no command makes an element
 
-no_element : (s : Shape) → is_image s ≡ true → is_element s ≡ false
+pub no_element : (s : Shape) → is_image s ≡ true → is_element s ≡ false
 no_element (shape.Image k w h m) e = refl
 no_element (shape.Element w h) e = cc
 no_element (shape.Curve n) e = refl
 
-bits_no_element : (s : Shape) → is_image s ≡ true → is_element (as_bits s) ≡ false
+pub bits_no_element : (s : Shape) → is_image s ≡ true → is_element (as_bits s) ≡ false
 bits_no_element (shape.Image k w h m) e = refl
 bits_no_element (shape.Element w h) e = cc
 bits_no_element (shape.Curve n) e = cc
 
-grey_no_element : (maxval : ℕ) (s : Shape) → is_image s ≡ true → is_element (as_grey maxval s) ≡ false
+pub grey_no_element : (maxval : ℕ) (s : Shape) → is_image s ≡ true → is_element (as_grey maxval s) ≡ false
 grey_no_element maxval (shape.Image k w h m) e = refl
 grey_no_element maxval (shape.Element w h) e = cc
 grey_no_element maxval (shape.Curve n) e = cc
 
 -- the first input of a command is an image
-first_image : (w : Table) (f : Name) (more : List Wanted) → first_of (map (wanted_case w) (AnImage f ∷ more)) ≡ None → is_image (shape_named w f) ≡ true
+pub first_image : (w : Table) (f : Name) (more : List Wanted) → first_of (map (wanted_case w) (AnImage f ∷ more)) ≡ None → is_image (shape_named w f) ≡ true
 first_image w f more h =
     let x = first_none (wanted_case w (AnImage f)) _ h in
     let found = input_found w is_image f x.0 in

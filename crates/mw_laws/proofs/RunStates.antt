@@ -1,9 +1,13 @@
 -- What holds of each state that a run reaches.
-use Rattle.std.proofs.Common.{◌≡◌, ◌≢◌, ℕ, ◌+◌, ◌<◌, Bool, true, false, ◌⊎◌, inl, inr, List, [], ◌∷◌, ◌++◌, length, set, find, Contains, Option, Some, None, refl, sym, ap, ◌∙◌, subst, arith, length-append}
+use Rattle.std.proofs.Common.{◌≡◌, ◌≢◌, ℕ, ◌+◌, ◌<◌, Bool, true, false, inl, inr, List, [], ◌∷◌, ◌++◌, length, set, Contains, Option, Some, None, refl, sym, ap, ◌∙◌, subst, arith, length-append}
 use Rattle.std.specs.Prelude.{option_map}
 use Rattle.std.specs.List.{AllByRecursion}
 use Rattle.std.proofs.lemmas.List.{get_or-set_same, get_or-set_other, length-set}
-use Rattle.std.proofs.lemmas.Bool.{cases_eq, cases_Bool}
+use Rattle.std.proofs.lemmas.Bool.{cases_eq, cases_Bool, both_ways}
+use Rattle.mw_facts.proofs.Alls.{all-weaker, all-both, all-contains}
+use Rattle.mw_facts.proofs.Elements.{get_or-push_below, get_or-push_last}
+use Rattle.mw_facts.proofs.Finds.{find-some, find-none, option_cases}
+use Rattle.mw_facts.proofs.Numbers.{below_or_last}
 use Rattle.mw_model.specs.declared.names.Name.{Name}
 use Rattle.mw_model.specs.declared.submissions.Submission.{Submission}
 use Rattle.mw_model.specs.declared.calls.Outcome.{Outcome}
@@ -13,27 +17,19 @@ use Rattle.mw_model.specs.Values.{Value, tickets, value_at, value_of}
 use Rattle.mw_model.specs.Refusals.{no_submission, outcome_at, is_pending, is_dead, is_there, is_element}
 use Rattle.mw_model.specs.Machine.{Machine, start_state, values, with_table, killed, settled, CanDie, Step, Run}
 use Rattle.mw_laws.specs.MachineLaws.{inputs_at, shape_of_value, NoneAwaitsDead, DoneFromDone, FailedByDead, GivenAreThere, WithinLimits, IsSound, first_dead, IsKilled}
-use Rattle.mw_laws.proofs.RunCascade.{all_map, is_killed, length_killed, pending_is, dead_not_pending}
+use Rattle.mw_laws.proofs.RunCascade.{is_killed, length_killed, pending_is, dead_not_pending}
 use Rattle.mw_laws.proofs.RunValues.{values_push, length_values}
-use Rattle.mw_laws.proofs.RunReach.{find_member, all_member}
-use Rattle.mw_laws.proofs.RunTables.{push_front, push_last, last_or_before, names_push}
+use Rattle.mw_laws.proofs.RunTables.{names_push}
 use Rattle.mw_laws.proofs.RunSteps.{pushed, IsNew, holds_after}
-
-both_ways : (b : Bool) → b ≡ false → b ≡ true → ⊥
-both_ways b e f = cc
 
 -- ---- a new entry
 
 -- what holds of an entry among those that were there, or of the new one
 pushed_inputs : (es : List Submission) (e : Submission) (t : ℕ) → t < length es → inputs_at (es ++ e ∷ []) t ≡ inputs_at es t
-pushed_inputs es e t h = ap (λ x. tickets x.inputs) (push_front es e no_submission t h)
+pushed_inputs es e t h = ap (λ x. tickets x.inputs) (get_or-push_below es e no_submission t h)
 
 last_inputs : (es : List Submission) (e : Submission) (t : ℕ) → t ≡ length es → inputs_at (es ++ e ∷ []) t ≡ tickets e.inputs
-last_inputs es e t h = ap (λ x. tickets x.inputs) (push_last es e no_submission t h)
-
-all_both : (P Q R : ℕ → Type 0) (xs : List ℕ) → ((x : ℕ) → P x → Q x → R x) → AllByRecursion P xs → AllByRecursion Q xs → AllByRecursion R xs
-all_both P Q R [] f p q = tt
-all_both P Q R (x ∷ xs) f p q = (f x p.0 q.0, all_both P Q R xs f p.1 q.1)
+last_inputs es e t h = ap (λ x. tickets x.inputs) (get_or-push_last es e no_submission t h)
 
 -- a fact about the outcomes of the inputs, where one entry is new
 pushed_facts : (m : Machine) (n : Name) (e : Submission) (o : Outcome) (fact : Outcome → Bool) (b : Bool) → IsSound m → (premise : Outcome → Type 0)
@@ -50,16 +46,16 @@ pushed_facts m n e o fact b s premise old below new t within h =
     let outs : length os ≡ N = s.lengths.outcomes in
     let F : ℕ → Type 0 = λ i. fact (outcome_at os i) ≡ b in
     let G : ℕ → Type 0 = λ i. fact (outcome_at (os ++ o ∷ []) i) ≡ b in
-    let move : (i : ℕ) → i < N → F i → G i = λ i l f. ap fact (push_front os o outcome.Pending i (omega arith)) ∙ f in
+    let move : (i : ℕ) → i < N → F i → G i = λ i l f. ap fact (get_or-push_below os o outcome.Pending i (omega arith)) ∙ f in
     let A : List ℕ → Type 0 = λ xs. AllByRecursion G xs in
-    elim (last_or_before N t (omega (arith, length-append m.table.names (n ∷ [])))) [
+    elim (below_or_last N t (omega (arith, length-append m.table.names (n ∷ [])))) [
       | inl l ↦
-          let was : premise (outcome_at os t) = subst premise (push_front os o outcome.Pending t (omega arith)) h in
-          let before : AllByRecursion (λ i. i < N) (inputs_at es t) = all_map (λ i. i < t) (λ i. i < N) (inputs_at es t) (λ i k. omega arith) (s.inputs t l) in
-          subst A (sym (pushed_inputs es e t (omega arith))) (all_both (λ i. i < N) F G (inputs_at es t) move before (old t l was))
+          let was : premise (outcome_at os t) = subst premise (get_or-push_below os o outcome.Pending t (omega arith)) h in
+          let before : AllByRecursion (λ i. i < N) (inputs_at es t) = all-weaker (λ i. i < t) (λ i. i < N) (inputs_at es t) (λ i k. omega arith) (s.inputs t l) in
+          subst A (sym (pushed_inputs es e t (omega arith))) (all-both (λ i. i < N) F G (inputs_at es t) move before (old t l was))
       | inr l ↦
-          let is : premise o = subst premise (push_last os o outcome.Pending t (omega arith)) h in
-          subst A (sym (last_inputs es e t (omega arith))) (all_both (λ i. i < N) F G (tickets e.inputs) move below (new is))
+          let is : premise o = subst premise (get_or-push_last os o outcome.Pending t (omega arith)) h in
+          subst A (sym (last_inputs es e t (omega arith))) (all-both (λ i. i < N) F G (tickets e.inputs) move below (new is))
     ]
 
 sound_added : (m : Machine) (n : Name) (e : Submission) (o : Outcome) (p : Option Value) → IsSound m → IsNew m n e o p → IsSound (pushed m n e o p)
@@ -85,49 +81,49 @@ sound_added m n e o p s new =
       names = names_push m.table.names n s.names new.fresh;
       inputs = λ t h.
           let A : List ℕ → Type 0 = λ xs. AllByRecursion (λ i. i < t) xs in
-          elim (last_or_before N t (omega arith)) [
+          elim (below_or_last N t (omega arith)) [
             | inl l ↦ subst A (sym (pushed_inputs es e t (omega arith))) (s.inputs t l)
-            | inr l ↦ subst A (sym (last_inputs es e t (omega arith))) (all_map (λ i. i < N) (λ i. i < t) (tickets e.inputs) (λ i k. omega arith) new.below)
+            | inr l ↦ subst A (sym (last_inputs es e t (omega arith))) (all-weaker (λ i. i < N) (λ i. i < t) (tickets e.inputs) (λ i k. omega arith) new.below)
           ];
       pending = pushed_facts m n e o is_dead false s (λ x. x ≡ outcome.Pending) s.pending new.below (λ h. new.alive);
       done = pushed_facts m n e o is_there true s (λ x. is_there x ≡ true) s.done new.below new.there;
-      failed = λ t x h f. elim (last_or_before N t (omega arith)) [
+      failed = λ t x h f. elim (below_or_last N t (omega arith)) [
         | inl l ↦
-            let was = s.failed t x l (sym (push_front os o outcome.Pending t (omega arith)) ∙ f) in
-            let less : x < t = all_member (λ i. i < t) (inputs_at es t) x (s.inputs t l) was.0 in
+            let was = s.failed t x l (sym (get_or-push_below os o outcome.Pending t (omega arith)) ∙ f) in
+            let less : x < t = all-contains (λ i. i < t) (inputs_at es t) x (s.inputs t l) was.0 in
             let A : List ℕ → Type 0 = λ xs. Contains xs x in (
               subst A (sym (pushed_inputs es e t (omega arith))) was.0,
-              ap is_dead (push_front os o outcome.Pending x (omega arith)) ∙ was.1,
+              ap is_dead (get_or-push_below os o outcome.Pending x (omega arith)) ∙ was.1,
             )
-        | inr l ↦ absurd (new.unfailed x (sym (push_last os o outcome.Pending t (omega arith)) ∙ f))
+        | inr l ↦ absurd (new.unfailed x (sym (get_or-push_last os o outcome.Pending t (omega arith)) ∙ f))
       ];
-      given = λ t h f. elim (last_or_before N t (omega arith)) [
-        | inl l ↦ ap is_there (push_front os o outcome.Pending t (omega arith)) ∙ s.given t l (ap (λ x. x.command) (sym (push_front es e no_submission t (omega arith))) ∙ f)
-        | inr l ↦ ap is_there (push_last os o outcome.Pending t (omega arith)) ∙ new.given (ap (λ x. x.command) (sym (push_last es e no_submission t (omega arith))) ∙ f)
+      given = λ t h f. elim (below_or_last N t (omega arith)) [
+        | inl l ↦ ap is_there (get_or-push_below os o outcome.Pending t (omega arith)) ∙ s.given t l (ap (λ x. x.command) (sym (get_or-push_below es e no_submission t (omega arith))) ∙ f)
+        | inr l ↦ ap is_there (get_or-push_last os o outcome.Pending t (omega arith)) ∙ new.given (ap (λ x. x.command) (sym (get_or-push_last es e no_submission t (omega arith))) ∙ f)
       ];
-      elements = λ t h f. elim (last_or_before N t (omega arith)) [
+      elements = λ t h f. elim (below_or_last N t (omega arith)) [
         | inl l ↦
-            let same = push_front es e no_submission t (omega arith) in
+            let same = get_or-push_below es e no_submission t (omega arith) in
             ap (λ x. x.command) same ∙ s.elements t l (ap (λ x. is_element x.shape) (sym same) ∙ f)
         | inr l ↦
-            let same = push_last es e no_submission t (omega arith) in
+            let same = get_or-push_last es e no_submission t (omega arith) in
             ap (λ x. x.command) same ∙ new.element (ap (λ x. is_element x.shape) (sym same) ∙ f)
       ];
-      bare = λ t x h f. elim (last_or_before N t (omega arith)) [
-        | inl l ↦ push_front m.payloads p None t (omega arith) ∙ s.bare t x l (ap (λ y. y.command) (sym (push_front es e no_submission t (omega arith))) ∙ f)
-        | inr l ↦ push_last m.payloads p None t (omega arith) ∙ new.bare x (ap (λ y. y.command) (sym (push_last es e no_submission t (omega arith))) ∙ f)
+      bare = λ t x h f. elim (below_or_last N t (omega arith)) [
+        | inl l ↦ get_or-push_below m.payloads p None t (omega arith) ∙ s.bare t x l (ap (λ y. y.command) (sym (get_or-push_below es e no_submission t (omega arith))) ∙ f)
+        | inr l ↦ get_or-push_last m.payloads p None t (omega arith) ∙ new.bare x (ap (λ y. y.command) (sym (get_or-push_last es e no_submission t (omega arith))) ∙ f)
       ];
-      shapes = λ t h. elim (last_or_before N t (omega arith)) [
+      shapes = λ t h. elim (below_or_last N t (omega arith)) [
         | inl l ↦
-            ap (λ vs. option_map shape_of_value (value_at vs t)) more ∙ ap (option_map shape_of_value) (push_front (values m) v None t (omega arith))
-            ∙ s.shapes t l ∙ ap (λ x. Some x.shape) (sym (push_front es e no_submission t (omega arith)))
+            ap (λ vs. option_map shape_of_value (value_at vs t)) more ∙ ap (option_map shape_of_value) (get_or-push_below (values m) v None t (omega arith))
+            ∙ s.shapes t l ∙ ap (λ x. Some x.shape) (sym (get_or-push_below es e no_submission t (omega arith)))
         | inr l ↦
-            ap (λ vs. option_map shape_of_value (value_at vs t)) more ∙ ap (option_map shape_of_value) (push_last (values m) v None t (omega arith))
-            ∙ new.shape s.shapes ∙ ap (λ x. Some x.shape) (sym (push_last es e no_submission t (omega arith)))
+            ap (λ vs. option_map shape_of_value (value_at vs t)) more ∙ ap (option_map shape_of_value) (get_or-push_last (values m) v None t (omega arith))
+            ∙ new.shape s.shapes ∙ ap (λ x. Some x.shape) (sym (get_or-push_last es e no_submission t (omega arith)))
       ];
-      limits = λ t h. elim (last_or_before N t (omega arith)) [
-        | inl l ↦ subst WithinLimits (sym (ap (λ vs. value_at vs t) more ∙ push_front (values m) v None t (omega arith))) (s.limits t l)
-        | inr l ↦ subst WithinLimits (sym (ap (λ vs. value_at vs t) more ∙ push_last (values m) v None t (omega arith))) (new.limits s.shapes s.limits)
+      limits = λ t h. elim (below_or_last N t (omega arith)) [
+        | inl l ↦ subst WithinLimits (sym (ap (λ vs. value_at vs t) more ∙ get_or-push_below (values m) v None t (omega arith))) (s.limits t l)
+        | inr l ↦ subst WithinLimits (sym (ap (λ vs. value_at vs t) more ∙ get_or-push_last (values m) v None t (omega arith))) (new.limits s.shapes s.limits)
       ];
     }
 
@@ -175,15 +171,15 @@ sound_settled m t o s within not_pending not_dead there alive inputs =
     (λ u l h. elim (cases_eq u t) [
       | inl e ↦ let f : is_pending o ≡ true = ap is_pending (sym hit ∙ ap (outcome_at ns) (sym e) ∙ h) in absurd cc
       | inr n ↦
-          all_map (λ i. is_dead (outcome_at os i) ≡ false) (λ i. is_dead (outcome_at ns i) ≡ false) (inputs_at m.table.submissions u)
+          all-weaker (λ i. is_dead (outcome_at os i) ≡ false) (λ i. is_dead (outcome_at ns i) ≡ false) (inputs_at m.table.submissions u)
           (stays is_dead false not_dead) (s.pending u l (sym (other u n) ∙ h))
     ])
     (λ u l h. elim (cases_eq u t) [
       | inl e ↦
           let A : ℕ → Type 0 = λ k. AllByRecursion (λ i. is_there (outcome_at ns i) ≡ true) (inputs_at m.table.submissions k) in
-          subst A (sym e) (all_map (λ i. is_there (outcome_at os i) ≡ true) (λ i. is_there (outcome_at ns i) ≡ true) (inputs_at m.table.submissions t) (stays is_there true there) inputs)
+          subst A (sym e) (all-weaker (λ i. is_there (outcome_at os i) ≡ true) (λ i. is_there (outcome_at ns i) ≡ true) (inputs_at m.table.submissions t) (stays is_there true there) inputs)
       | inr n ↦
-          all_map (λ i. is_there (outcome_at os i) ≡ true) (λ i. is_there (outcome_at ns i) ≡ true) (inputs_at m.table.submissions u)
+          all-weaker (λ i. is_there (outcome_at os i) ≡ true) (λ i. is_there (outcome_at ns i) ≡ true) (inputs_at m.table.submissions u)
           (stays is_there true there) (s.done u l (ap is_there (sym (other u n)) ∙ h))
     ])
     (λ u x l h. elim (cases_eq u t) [
@@ -209,19 +205,6 @@ there_not_dead outcome.Memory a b = cc
 there_not_dead (outcome.Input s) a b = cc
 there_not_dead outcome.Released a b = cc
 
-option_cases : (f : Option ℕ) → (f ≡ None) ⊎ ((s : ℕ) × (f ≡ Some s))
-option_cases None = inl refl
-option_cases (Some s) = inr (s, refl)
-
--- where nothing is found, no element passes
-none_found : (p : ℕ → Bool) (xs : List ℕ) → find p xs ≡ None → AllByRecursion (λ x. p x ≡ false) xs
-none_found p [] h = tt
-none_found p (x ∷ xs) h =
-    elim (cases_Bool (p x)) [
-      | inl e ↦ let f : Some x ≡ None = sym (rw e refl) ∙ h in absurd cc
-      | inr e ↦ (e, none_found p xs (sym (rw e refl) ∙ h))
-    ]
-
 -- ---- a kill
 
 -- t dies, and what it was an input of fails
@@ -238,7 +221,7 @@ sound_killed m t cause s can dead unfailed =
     (λ u l h. elim (cases_eq u t) [
       | inl e ↦ let f : is_pending cause ≡ true = ap is_pending (sym k.dies ∙ ap (outcome_at ns) (sym e) ∙ h) in absurd (both_ways (is_pending cause) (dead_not_pending cause dead) f)
       | inr n ↦ elim (cases_Bool (is_pending (outcome_at os u))) [
-        | inl e ↦ none_found (λ i. is_dead (outcome_at ns i)) (inputs_at w.submissions u) ((k.waits u (omega arith) n (pending_is (outcome_at os u) e)).0 h)
+        | inl e ↦ find-none (λ i. is_dead (outcome_at ns i)) (inputs_at w.submissions u) ((k.waits u (omega arith) n (pending_is (outcome_at os u) e)).0 h)
         | inr e ↦
             let f : outcome_at ns u ≡ outcome_at os u = k.settled u n (λ g. both_ways (is_pending (outcome_at os u)) e (ap is_pending g)) in
             absurd (both_ways (is_pending (outcome_at os u)) e (ap is_pending (sym f ∙ h)))
@@ -253,7 +236,7 @@ sound_killed m t cause s can dead unfailed =
         ]
         | inr e ↦
             let f : outcome_at ns u ≡ outcome_at os u = k.settled u n (λ g. both_ways (is_pending (outcome_at os u)) e (ap is_pending g)) in
-            all_map (λ i. is_there (outcome_at os i) ≡ true) (λ i. is_there (outcome_at ns i) ≡ true) (inputs_at w.submissions u)
+            all-weaker (λ i. is_there (outcome_at os i) ≡ true) (λ i. is_there (outcome_at ns i) ≡ true) (inputs_at w.submissions u)
             (λ i was.
             let alive = there_not_pending (outcome_at os i) was in
             ap is_there (k.settled i (λ x. alive (ap (outcome_at os) x ∙ can.pending)) alive) ∙ was)
@@ -263,7 +246,7 @@ sound_killed m t cause s can dead unfailed =
     (λ u x l h. elim (cases_eq u t) [
       | inl e ↦ absurd (unfailed x (sym k.dies ∙ ap (outcome_at ns) (sym e) ∙ h))
       | inr n ↦ elim (cases_Bool (is_pending (outcome_at os u))) [
-        | inl e ↦ find_member (λ i. is_dead (outcome_at ns i)) (inputs_at w.submissions u) x ((k.fails u x (omega arith) n (pending_is (outcome_at os u) e)).0 h)
+        | inl e ↦ find-some (λ i. is_dead (outcome_at ns i)) (inputs_at w.submissions u) x ((k.fails u x (omega arith) n (pending_is (outcome_at os u) e)).0 h)
         | inr e ↦
             let f : outcome_at ns u ≡ outcome_at os u = k.settled u n (λ g. both_ways (is_pending (outcome_at os u)) e (ap is_pending g)) in
             let was = s.failed u x l (sym f ∙ h) in

@@ -1,14 +1,17 @@
 -- Names, lists with one element more, and what an accepted call has found.
-use Rattle.std.proofs.Common.{◌≡◌, ℕ, ◌+◌, ◌<◌, ◌≤◌, Bool, true, false, not, ltb, cond, ◌⊎◌, inl, inr, List, [], ◌∷◌, ◌++◌, length, get_or, map, Option, Some, None, refl, sym, ap, ◌∙◌, subst, arith, length-append}
+-- the first two lines pass facts on until those who cite them here cite mw_facts
+pub use Rattle.mw_facts.proofs.Elements.{get_or-push_below as push_front, get_or-push_last as push_last}
+pub use Rattle.mw_facts.proofs.Numbers.{below_or_last as last_or_before}
+use Rattle.std.proofs.Common.{◌≡◌, ℕ, ◌<◌, ◌≤◌, Bool, true, false, not, ltb, inl, inr, List, [], ◌∷◌, ◌++◌, length, map, Option, Some, None, refl, sym, ap, ◌∙◌, subst, arith, length-append}
 use Rattle.std.specs.Prelude.{unwrap_or}
-use Rattle.std.specs.List.{AllByRecursion, position, position_or_len}
+use Rattle.std.specs.List.{AllByRecursion, position}
 use Rattle.std.specs.Option.{option_map_or}
-use Rattle.std.proofs.lemmas.List.{get_or_append_left}
-use Rattle.std.proofs.lemmas.List.Sums.{prefix_len_passes, position_or_len_is}
 use Rattle.std.proofs.lemmas.List.Quantifiers.{position-Some}
 use Rattle.std.proofs.lemmas.Cmp.{nat_list_eq_equiv}
-use Rattle.std.proofs.Math.Seq.{get_or-append_seam}
-use Rattle.std.proofs.lemmas.Bool.{ltb-false, ltb-true, lt-ltb, le-ltb, cases_lt}
+use Rattle.std.proofs.lemmas.Bool.{ltb-true, lt-ltb, le-ltb, cases_lt, both_ways}
+use Rattle.mw_facts.proofs.Elements.{get_or-push_below, get_or-push_last}
+use Rattle.mw_facts.proofs.Finds.{position-none, position-is}
+use Rattle.mw_facts.proofs.Numbers.{below_or_last}
 use Rattle.mw_model.specs.declared.names.Name.{Name}
 use Rattle.mw_model.specs.declared.shapes.Shape.{Shape}
 use Rattle.mw_model.specs.declared.codes.Code.{Code}
@@ -23,37 +26,6 @@ use Rattle.mw_model.specs.Values.{Value, option_list, tickets}
 use Rattle.mw_model.specs.Refusals.{Table, Wanted, AnImage, AnElement, ticket, ticket_of, outcome_at, shape_at, is_dead, is_released, is_image, is_element, first_of, when, no_room, inputs_wanted, op_cases, refusal, input_case, wanted_case, cancel_case, release_case}
 use Rattle.mw_model.specs.Machine.{ticket_wanted, inputs_from}
 use Rattle.mw_laws.specs.MachineLaws.{name_at, new_name, old_name}
-
--- a place of a list with one element more
-pub push_front : {X : Type 0} → (xs : List X) (x d : X) (t : ℕ) → t < length xs → get_or (xs ++ x ∷ []) t d ≡ get_or xs t d
-push_front xs x d t h = get_or_append_left xs (x ∷ []) d t h
-
-pub push_last : {X : Type 0} → (xs : List X) (x d : X) (t : ℕ) → t ≡ length xs → get_or (xs ++ x ∷ []) t d ≡ x
-push_last xs x d t h = rw h (get_or-append_seam xs x [] d)
-
--- a place below n + 1 is below n, or n
-pub last_or_before : (n t : ℕ) → t < n + 1 → (t < n) ⊎ (t ≡ n)
-last_or_before n t h = elim (cases_lt t n) [ inl l ↦ inl l | inr g ↦ inr (omega arith) ]
-
-not_true : (b : Bool) → not b ≡ true → b ≡ false
-not_true true e = cc
-not_true false e = refl
-
-cond_none : (b : Bool) (n : ℕ) → cond b (Some n) None ≡ None → b ≡ false
-cond_none true n e = cc
-cond_none false n e = refl
-
--- where no place is found, no element passes
-none_passes : {X : Type 0} → (p : X → Bool) (xs : List X) → position p xs ≡ None → (k : ℕ) (d : X) → k < length xs → p (get_or xs k d) ≡ false
-none_passes p xs h k d within =
-    let past : length xs ≤ position_or_len p xs = ltb-false (position_or_len p xs) (length xs) (cond_none (ltb (position_or_len p xs) (length xs)) (position_or_len p xs) h) in
-    not_true (p (get_or xs k d)) (prefix_len_passes (λ x. not (p x)) xs k d (omega arith))
-
--- the first place that passes
-position_is : {X : Type 0} → (p : X → Bool) (xs : List X) (i : ℕ) (d : X) → i < length xs → ((k : ℕ) → k < i → p (get_or xs k d) ≡ false) → p (get_or xs i d) ≡ true → position p xs ≡ Some i
-position_is p xs i d within before here =
-    let e : position_or_len p xs ≡ i = position_or_len_is p xs i d (omega arith) before (λ h. here) in
-    rw (e, lt-ltb i (length xs) within) refl
 
 -- ---- names
 
@@ -75,17 +47,17 @@ unfolding ticket_of
 names_push names n lead fresh t within =
     let all = names ++ n ∷ [] in
     let P : Name → Type 0 = λ x. position (same_name x) all ≡ Some t in
-    elim (last_or_before (length names) t (omega (arith, length-append names (n ∷ [])))) [
+    elim (below_or_last (length names) t (omega (arith, length-append names (n ∷ [])))) [
       | inl h ↦
           let x = name_at names t in
           let was = position-Some (same_name x) names t n (lead t h) in
-          subst P (sym (push_front names n _ t h)) (position_is (same_name x) all t n within
-          (λ k l. ap (same_name x) (push_front names n n k (omega arith)) ∙ was.2 k l)
-          (ap (same_name x) (push_front names n n t h) ∙ was.1))
+          subst P (sym (get_or-push_below names n _ t h)) (position-is (same_name x) all t n within
+          (λ k l. ap (same_name x) (get_or-push_below names n n k (omega arith)) ∙ was.2 k l)
+          (ap (same_name x) (get_or-push_below names n n t h) ∙ was.1))
       | inr e ↦
-          subst P (sym (push_last names n _ t e)) (position_is (same_name n) all t n within
-          (λ k l. ap (same_name n) (push_front names n n k (omega arith)) ∙ none_passes (same_name n) names fresh k n (omega arith))
-          (ap (same_name n) (push_last names n n t e) ∙ same_name_reflexive n))
+          subst P (sym (get_or-push_last names n _ t e)) (position-is (same_name n) all t n within
+          (λ k l. ap (same_name n) (get_or-push_below names n n k (omega arith)) ∙ position-none (same_name n) names fresh k n (omega arith))
+          (ap (same_name n) (get_or-push_last names n n t e) ∙ same_name_reflexive n))
     ]
 
 -- ---- cases that did not hold
@@ -209,9 +181,6 @@ names_differ names lead t u p q e =
       | inl l ↦ absurd (both_ways (same_name b a) (second.2 t l) back)
       | inr g ↦ elim (cases_lt u t) [ inl l ↦ absurd (both_ways (same_name a b) (first.2 u l) e) | inr h ↦ omega arith ]
     ]
-  where
-    both_ways : (b : Bool) → b ≡ false → b ≡ true → ⊥
-    both_ways b e f = cc
 
 -- ---- why a call is refused
 

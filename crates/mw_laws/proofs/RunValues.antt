@@ -11,7 +11,7 @@ use Rattle.mw_model.specs.Values.{Value, tickets, value_at, value_of, values_aft
 use Rattle.mw_model.specs.Refusals.{submission_at}
 use Rattle.mw_model.specs.Machine.{Machine, values}
 use Rattle.mw_laws.specs.MachineLaws.{inputs_at, IsSound}
-use Rattle.mw_laws.proofs.RunCascade.{all_map}
+use Rattle.mw_facts.proofs.Alls.{all-weaker, map-same}
 
 -- one entry more has its value at the end
 pub values_push : (b : List (Option Value)) (es : List Submission) (ps : List (Option Value)) (e : Submission) (p : Option Value) → length ps ≡ length es
@@ -31,7 +31,7 @@ length_values b (d ∷ es) (q ∷ ps) h =
 -- ---- the value of each entry
 
 -- later entries change no value
-values_front : (b : List (Option Value)) (es : List Submission) (ps : List (Option Value)) (t : ℕ) → t < length b → value_at (values_after b es ps) t ≡ value_at b t
+pub values_front : (b : List (Option Value)) (es : List Submission) (ps : List (Option Value)) (t : ℕ) → t < length b → value_at (values_after b es ps) t ≡ value_at b t
 values_front b [] ps t h = refl
 values_front b (d ∷ es) [] t h = refl
 values_front b (d ∷ es) (q ∷ ps) t h =
@@ -39,19 +39,15 @@ values_front b (d ∷ es) (q ∷ ps) t h =
     let within : t < length (b ++ v ∷ []) = omega (arith, length-append b (v ∷ [])) in
     values_front (b ++ v ∷ []) es ps t within ∙ get_or_append_left b (v ∷ []) None t h
 
-map_same : (f g : ℕ → Option Value) (xs : List ℕ) → AllByRecursion (λ x. f x ≡ g x) xs → map f xs ≡ map g xs
-map_same f g [] h = refl
-map_same f g (x ∷ xs) h = rw (h.0, map_same f g xs h.1) refl
-
 -- the value of a command is told by the values of all, since its inputs stand before it
-value_same : (b v : List (Option Value)) (inputs : List ℕ) (k : Command) (p : Option Value)
+pub value_same : (b v : List (Option Value)) (inputs : List ℕ) (k : Command) (p : Option Value)
     → ((t : ℕ) → t < length b → value_at v t ≡ value_at b t) → AllByRecursion (λ i. i < length b) inputs → value_of b inputs k p ≡ value_of v inputs k p
 value_same b v inputs command.Given p h below = refl
 value_same b v inputs (command.Run o) p h below =
-    ap (result_of o) (map_same (value_at b) (value_at v) inputs (all_map (λ i. i < length b) (λ i. value_at b i ≡ value_at v i) inputs (λ i l. sym (h i l)) below))
+    ap (result_of o) (map-same (value_at b) (value_at v) inputs (all-weaker (λ i. i < length b) (λ i. value_at b i ≡ value_at v i) inputs (λ i l. sym (h i l)) below))
 
 -- each value is that of its entry on the values of its inputs
-values_at : (b : List (Option Value)) (es : List Submission) (ps : List (Option Value)) (k : ℕ) → length ps ≡ length es → k < length es
+pub values_at : (b : List (Option Value)) (es : List Submission) (ps : List (Option Value)) (k : ℕ) → length ps ≡ length es → k < length es
     → AllByRecursion (λ i. i < length b + k) (tickets (submission_at es k).inputs)
     → value_at (values_after b es ps) (length b + k) ≡ value_of (values_after b es ps) (tickets (submission_at es k).inputs) (submission_at es k).command (value_at ps k)
 values_at b [] ps k h within below = absurd (omega arith)

@@ -6,7 +6,7 @@ use Rattle.mw_model.specs.declared.calls.Outcome.TheVariants as outcome
 use Rattle.mw_model.specs.Refusals.{outcome_at, is_dead, is_there}
 use Rattle.mw_model.specs.Machine.{Machine, CanFinish}
 use Rattle.mw_laws.specs.MachineLaws.{inputs_at, IsSound}
-use Rattle.mw_laws.proofs.RunCascade.{strongly}
+use Rattle.mw_facts.proofs.Numbers.{strong_induction}
 
 there_or_pending : (o : Outcome) → is_dead o ≡ false → (is_there o ≡ true) ⊎ (o ≡ outcome.Pending)
 there_or_pending outcome.Pending h = inr refl
@@ -29,7 +29,7 @@ all_there_or_pending os P (x ∷ xs) p h = elim (there_or_pending (outcome_at os
 pub one_can_finish : (m : Machine) (t : ℕ) → IsSound m → t < length m.table.names → outcome_at m.table.outcomes t ≡ outcome.Pending → (u : ℕ) × CanFinish m.table u
 one_can_finish m t s =
     let P : ℕ → Type 0 = λ v. v < length m.table.names → outcome_at m.table.outcomes v ≡ outcome.Pending → (u : ℕ) × CanFinish m.table u in
-    strongly P (λ v smaller l e.
+    strong_induction P (λ v smaller l e.
     elim (all_there_or_pending m.table.outcomes (λ i. i < v) (inputs_at m.table.submissions v) (s.inputs v l) (s.pending v l e)) [
       | inl f ↦ (v, record { within = omega (arith, s.lengths.outcomes); pending = e; inputs_there = f })
       | inr f ↦ smaller f.0 f.1 (omega (arith, f.1)) f.2

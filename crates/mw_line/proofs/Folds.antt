@@ -1,10 +1,11 @@
 -- Folds by an operation that takes no notice of order and repeats.
-use Rattle.std.proofs.Common.{◌≡◌, ℕ, ◌+◌, ◌-◌, ◌<◌, ◌≤◌, List, [], ◌∷◌, ◌++◌, length, take, drop, get_or, set, fold, slice_range, ◌≢◌, inl, inr, length-append, length-take, length-drop, refl, ap, sym, arith, ◌∙◌}
+pub use Rattle.mw_facts.proofs.Parts.{length-put_mid}
+use Rattle.std.proofs.Common.{◌≡◌, ℕ, ◌+◌, ◌-◌, ◌<◌, ◌≤◌, List, [], ◌∷◌, ◌++◌, length, take, drop, get_or, set, fold, slice_range, ◌≢◌, inl, inr, length-take, length-drop, refl, ap, sym, arith, ◌∙◌}
 use Rattle.std.proofs.lemmas.List.Sums.{fold-append}
 use Rattle.std.proofs.lemmas.List.{drop_more, take_more, drop-take, drop-drop, get_or-set_same, get_or-set_other}
 use Rattle.std.proofs.lemmas.Bool.{cases_eq}
+use Rattle.std.proofs.Math.Nat.{add-sub_of_le}
 use Rattle.std.proofs.Math.Seq.{take-add}
-use borrow.Rule.Slice.PartMut.{put_mid, post_of}
 
 pub record IsExtremum {A : Type 0} (f : A → A → A) : Type 0 where
   pub commutes : (a b : A) → f a b ≡ f b a
@@ -48,9 +49,6 @@ window_cut k r ys le =
     let rest : take r (drop k ys) ≡ take r (drop (k - r) (drop r ys)) = ap (λ (t : ℕ). take r (drop t ys)) (sym whole) ∙ ap (λ (t : List _). take r t) (sym (drop-drop (k - r) r ys)) in
     rw (front, rest) (sym (take-add (k - r) r (drop r ys)) ∙ ap (λ (t : ℕ). take t (drop r ys)) back)
 
-pub length-put_mid : {A : Type 0} (a k : ℕ) (xs ys : List A) → length ys ≡ k → a + k ≤ length xs → length (put_mid a k xs ys) ≡ length xs
-length-put_mid a k xs ys len le = omega (arith, length-append (take a xs) (ys ++ post_of a k xs), length-append ys (post_of a k xs), length-take a xs, length-drop k (drop a xs), length-drop a xs)
-
 -- what holds from i on after a write at i
 pub set_back : {A : Type 0} (tail : List A) (i : ℕ) (x n : A) (goal : ℕ → A) (e : ℕ) → i < length tail → x ≡ goal i
     → ((r : ℕ) → i + 1 ≤ r → r < e → get_or tail r n ≡ goal r) → (r : ℕ) → i ≤ r → r < e → get_or (set tail i x) r n ≡ goal r
@@ -73,7 +71,7 @@ window_done f laws n padded rest tail made at k kk m i kk-is rest-is short room 
     let r = i - at in
     let in_block : r < length (take kk (drop at padded)) = omega (arith, length-take kk (drop at padded), length-drop at padded) in
     let ends : drop (at + k) padded ≡ drop k (drop at padded) = sym (drop-drop k at padded) in
-    let begins : drop r (drop at padded) ≡ drop i padded = drop-drop r at padded ∙ ap (λ (t : ℕ). drop t padded) (back at i from) in
+    let begins : drop r (drop at padded) ≡ drop i padded = drop-drop r at padded ∙ ap (λ (t : ℕ). drop t padded) (add-sub_of_le from) in
     let wide : i + k - i ≡ k = omega arith in
     made-is r (omega arith)
     ∙ ap (λ (t : _). f t (fold f n (take r rest))) (tail-is r in_block)
@@ -83,6 +81,3 @@ window_done f laws n padded rest tail made at k kk m i kk-is rest-is short room 
     ∙ ap (λ (t : List _). fold f n t) (window_cut k r (drop at padded) (omega arith))
     ∙ ap (λ (t : List _). fold f n (take k t)) begins
     ∙ ap (λ (t : ℕ). fold f n (take t (drop i padded))) (sym wide)
-  where
-    back : (at i : ℕ) → at ≤ i → at + (i - at) ≡ i
-    back at i le = omega arith

@@ -3,10 +3,9 @@ use Rattle.std.proofs.Common.{◌≡◌, ℕ, zero, suc, ◌+◌, ◌-◌, ◌*�
 use Rattle.std.proofs.lemmas.Bool.{cases_lt}
 use Rattle.std.proofs.lemmas.Nat.{mul-add-lt}
 use Rattle.std.proofs.lemmas.Grind.{pow_more}
-use Rattle.std.proofs.Math.Nat.{mul-le-mul_left, pow-le-pow_right}
+use Rattle.std.proofs.Math.Nat.{add-zero, zero-add, suc-add, add-sub_cancel_left, add-sub_of_le, mul-le-mul_left, pow-le-pow_right}
 use Rattle.std.proofs.lemmas.List.{get_or-take, get_or-drop, get_or_append_left, get_or-append_right}
-use Rattle.mw_lane.proofs.Parts.{put_mid_above}
-use Rattle.mw_lane.proofs.Blocks.{put_mid_below, put_mid_at}
+use Rattle.mw_facts.proofs.Parts.{get_or-put_mid_below, get_or-put_mid_within, get_or-put_mid_above}
 use Rattle.mw_line.specs.Columns.{IsGrown}
 use Rattle.mw_line.specs.Extrema.{over}
 use Rattle.mw_line.proofs.Folds.{IsExtremum}
@@ -22,36 +21,21 @@ absorbed f laws v (suc m) (suc n) a le = spread_in f laws (v a) (over f v (a + 1
 -- two ranges of places that meet or overlap
 pub over_joined : {A : Type 0} (f : A → A → A) → IsExtremum f → (v : ℕ → A) (j m n a : ℕ) → j ≤ suc m → m ≤ j + n → f (over f v a m) (over f v (a + j) n) ≡ over f v a (j + n)
 over_joined f laws v zero m n a meets le =
-    ap (λ (t : ℕ). f (over f v a m) (over f v t n)) (none a) ∙ absorbed f laws v m n a (omega arith) ∙ ap (over f v a) (front n)
-  where
-    none : (a : ℕ) → a + 0 ≡ a
-    none a = omega arith
-
-    front : (n : ℕ) → n ≡ 0 + n
-    front n = omega arith
+    ap (λ (t : ℕ). f (over f v a m) (over f v t n)) (add-zero a) ∙ absorbed f laws v m n a (omega arith) ∙ ap (over f v a) (sym (zero-add n))
 over_joined f laws v (suc j) zero n a meets le =
     let j-is : j ≡ 0 = omega arith in
     ap (λ (t : ℕ). f (v a) (over f v (a + suc t) n)) j-is
-    ∙ ap (λ (t : ℕ). f (v a) (over f v (a + 1) t)) (front n)
+    ∙ ap (λ (t : ℕ). f (v a) (over f v (a + 1) t)) (sym (zero-add n))
     ∙ ap (λ (t : ℕ). f (v a) (over f v (a + 1) (t + n))) (sym j-is)
-    ∙ ap (over f v a) (sym (out j n))
-  where
-    front : (n : ℕ) → n ≡ 0 + n
-    front n = omega arith
-
-    out : (j n : ℕ) → suc j + n ≡ suc (j + n)
-    out j n = omega arith
+    ∙ ap (over f v a) (sym (suc-add j n))
 over_joined f laws v (suc j) (suc m) n a meets le =
     laws.associates (v a) (over f v (a + 1) m) (over f v (a + suc j) n)
     ∙ ap (λ (t : ℕ). f (v a) (f (over f v (a + 1) m) (over f v t n))) (one_on a j)
     ∙ ap (f (v a)) (over_joined f laws v j m n (a + 1) (omega arith) (omega arith))
-    ∙ ap (over f v a) (sym (out j n))
+    ∙ ap (over f v a) (sym (suc-add j n))
   where
     one_on : (a j : ℕ) → a + suc j ≡ a + 1 + j
     one_on a j = omega arith
-
-    out : (j n : ℕ) → suc j + n ≡ suc (j + n)
-    out j n = omega arith
 
 -- a power of 2 that is more than another is at least twice as much
 twice : (i j : ℕ) → 2 ^ i < 2 ^ j → 2 * 2 ^ i ≤ 2 ^ j
@@ -209,25 +193,19 @@ grown_longer f value d w k y rows line some size before = record {
 -- the row that was put behind the others
 pub row_behind : {A : Type 0} (w y m : ℕ) (rows line : List A) (d : A) → length rows ≡ y * w → m ≡ w → w ≤ length line → (x : ℕ) → x < w → get_or (rows ++ take m line) (y * w + x) d ≡ get_or line x d
 row_behind w y m rows line d size m-is le x less =
-    get_or-append_right rows (take m line) (y * w) (y * w + x) d size (omega arith) ∙ ap (λ (t : ℕ). get_or (take m line) t d) (ahead (y * w) x) ∙ get_or-take m line x d (omega arith)
-  where
-    ahead : (a x : ℕ) → a + x - a ≡ x
-    ahead a x = omega arith
+    get_or-append_right rows (take m line) (y * w) (y * w + x) d size (omega arith) ∙ ap (λ (t : ℕ). get_or (take m line) t d) (add-sub_cancel_left (y * w) x) ∙ get_or-take m line x d (omega arith)
 
 -- a row merged with one further down, in the part of the rows that has both
 pub row_merged : {A : Type 0} (f : A → A → A) (w at down m : ℕ) (rows made : List A) (x : ℕ) (d : A) → at * w + (down * w + w) ≤ length rows → m ≡ down * w + w → length made ≡ m
     → get_or made x d ≡ f (get_or (take m (drop (at * w) rows)) x d) (get_or (take m (drop (at * w) rows)) (x + down * w) d) → x < w
     → get_or (put_mid (at * w) m rows made) (at * w + x) d ≡ f (get_or rows (at * w + x) d) (get_or rows ((at + down) * w + x) d)
 row_merged f w at down m rows made x d room m-is len made-is less =
-    put_mid_at (at * w) m rows made (at * w + x) d (omega arith) (omega arith) (omega arith)
-    ∙ ap (λ (t : ℕ). get_or made t d) (ahead (at * w) x)
+    get_or-put_mid_within (at * w) m rows made (at * w + x) d (omega arith) (omega arith) (omega arith)
+    ∙ ap (λ (t : ℕ). get_or made t d) (add-sub_cancel_left (at * w) x)
     ∙ made-is
     ∙ ap (λ (t : _). f t (get_or (take m (drop (at * w) rows)) (x + down * w) d)) (get_or-take m (drop (at * w) rows) x d (omega arith) ∙ get_or-drop (at * w) rows x d)
     ∙ ap (f (get_or rows (at * w + x) d)) (get_or-take m (drop (at * w) rows) (x + down * w) d (omega arith) ∙ get_or-drop (at * w) rows (x + down * w) d ∙ ap (λ (t : ℕ). get_or rows t d) (place at w x down))
   where
-    ahead : (a x : ℕ) → a + x - a ≡ x
-    ahead a x = omega arith
-
     place : (at w x down : ℕ) → at * w + (x + down * w) ≡ (at + down) * w + x
     place at w x down = omega arith
 
@@ -240,21 +218,18 @@ row_below w at m rows made x y d room len past less below =
     let most = mul-le-mul_left w le in
     elim (cases_lt (y * w + x) (at * w + m)) [
       | inl within ↦
-          put_mid_at (at * w) m rows made (y * w + x) d (omega arith) (omega (arith, most)) (omega arith)
+          get_or-put_mid_within (at * w) m rows made (y * w + x) d (omega arith) (omega (arith, most)) (omega arith)
           ∙ past (y * w + x - at * w) d (omega (arith, most))
           ∙ get_or-take m (drop (at * w) rows) (y * w + x - at * w) d (omega (arith, most))
           ∙ get_or-drop (at * w) rows (y * w + x - at * w) d
-          ∙ ap (λ (t : ℕ). get_or rows t d) (back (at * w) (y * w + x) (omega (arith, most)))
+          ∙ ap (λ (t : ℕ). get_or rows t d) (add-sub_of_le (omega (arith, most)))
       | inr behind ↦
-          put_mid_above (at * w) m rows made (y * w + x) d (omega arith) len behind
+          get_or-put_mid_above (at * w) m rows made (y * w + x) d (omega arith) len behind
     ]
-  where
-    back : (a b : ℕ) → a ≤ b → a + (b - a) ≡ b
-    back a b le = omega arith
 
 -- and so do those further up
 pub row_above : {A : Type 0} (w at m : ℕ) (rows made : List A) (x y : ℕ) (d : A) → at * w ≤ length rows → x < w → y < at → get_or (put_mid (at * w) m rows made) (y * w + x) d ≡ get_or rows (y * w + x) d
-row_above w at m rows made x y d room less above = put_mid_below (at * w) m rows made (y * w + x) d room (omega (arith, mul-add-lt y w x at above less))
+row_above w at m rows made x y d room less above = get_or-put_mid_below (at * w) m rows made (y * w + x) d room (omega (arith, mul-add-lt y w x at above less))
 
 -- no rows
 pub grown_none : {A : Type 0} (f : A → A → A) (value : ℕ → ℕ → A) (d : A) (w k : ℕ) (rows : List A) → 0 < k → IsGrown f value d w k 0 rows

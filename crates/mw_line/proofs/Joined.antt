@@ -1,6 +1,6 @@
 -- Extrema of samples that stand equally far apart, joined.
 use Rattle.std.proofs.Common.{◌≡◌, ℕ, zero, suc, ◌+◌, ◌-◌, ◌*◌, ◌<◌, ◌≤◌, List, length, get_or, ap, sym, arith, ◌∙◌}
-use Rattle.std.proofs.Math.Nat.{mul-le-mul_left}
+use Rattle.std.proofs.Math.Nat.{zero-add, suc-add, mul-le-mul_left}
 use Rattle.mw_line.specs.Extrema.{strided}
 use Rattle.mw_line.proofs.Folds.{IsExtremum}
 
@@ -23,40 +23,28 @@ absorbed f laws row d s (suc m) (suc n) p le =
 pub joined : {A : Type 0} (f : A → A → A) → IsExtremum f → (row : List A) (d : A) (s j m n p : ℕ) → j ≤ suc m → m ≤ j + n
     → f (strided f row d s m p) (strided f row d s n (p + j * s)) ≡ strided f row d s (j + n) p
 joined f laws row d s zero m n p meets le =
-    ap (λ (t : ℕ). f (strided f row d s m p) (strided f row d s n t)) (none p s) ∙ absorbed f laws row d s m n p (omega arith) ∙ ap (λ (t : ℕ). strided f row d s t p) (front n)
+    ap (λ (t : ℕ). f (strided f row d s m p) (strided f row d s n t)) (none p s) ∙ absorbed f laws row d s m n p (omega arith) ∙ ap (λ (t : ℕ). strided f row d s t p) (sym (zero-add n))
   where
     none : (p s : ℕ) → p + 0 * s ≡ p
     none p s = omega arith
-
-    front : (n : ℕ) → n ≡ 0 + n
-    front n = omega arith
 joined f laws row d s (suc j) zero n p meets le =
     let j-is : j ≡ 0 = omega arith in
     ap (λ (t : ℕ). f (get_or row p d) (strided f row d s n (p + suc t * s))) j-is
     ∙ ap (λ (t : ℕ). f (get_or row p d) (strided f row d s n t)) (once p s)
-    ∙ ap (λ (t : ℕ). f (get_or row p d) (strided f row d s t (p + s))) (front n)
+    ∙ ap (λ (t : ℕ). f (get_or row p d) (strided f row d s t (p + s))) (sym (zero-add n))
     ∙ ap (λ (t : ℕ). f (get_or row p d) (strided f row d s (t + n) (p + s))) (sym j-is)
-    ∙ ap (λ (t : ℕ). strided f row d s t p) (sym (out j n))
+    ∙ ap (λ (t : ℕ). strided f row d s t p) (sym (suc-add j n))
   where
     once : (p s : ℕ) → p + suc 0 * s ≡ p + s
     once p s = omega arith
-
-    front : (n : ℕ) → n ≡ 0 + n
-    front n = omega arith
-
-    out : (j n : ℕ) → suc j + n ≡ suc (j + n)
-    out j n = omega arith
 joined f laws row d s (suc j) (suc m) n p meets le =
     laws.associates (get_or row p d) (strided f row d s m (p + s)) (strided f row d s n (p + suc j * s))
     ∙ ap (λ (t : ℕ). f (get_or row p d) (f (strided f row d s m (p + s)) (strided f row d s n t))) (over p j s)
     ∙ ap (f (get_or row p d)) (joined f laws row d s j m n (p + s) (omega arith) (omega arith))
-    ∙ ap (λ (t : ℕ). strided f row d s t p) (sym (out j n))
+    ∙ ap (λ (t : ℕ). strided f row d s t p) (sym (suc-add j n))
   where
     over : (p j s : ℕ) → p + suc j * s ≡ p + s + j * s
     over p j s = omega arith
-
-    out : (j n : ℕ) → suc j + n ≡ suc (j + n)
-    out j n = omega arith
 
 -- a row of which the samples below left are the extrema of `taken` samples, of `len` samples in all
 pub record Taken {A : Type 0} (f : A → A → A) (row : List A) (len s k taken left : ℕ) (now : List A) : Type 0 where

@@ -1,12 +1,14 @@
+-- what other crates may cite
 pub mod Folds
-pub mod Padded
 pub mod Joined
 pub mod Over
-pub mod Seen
+pub mod Padded
 pub mod Rows
-pub mod SlidRows
-pub mod Spans
 pub mod Tiles
-pub mod Levels
-pub mod Growing
-pub mod Segments
+-- the crate's own
+mod Seen
+mod SlidRows
+mod Spans
+mod Levels
+mod Growing
+mod Segments

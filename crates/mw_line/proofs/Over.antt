@@ -1,6 +1,7 @@
 -- Extrema over the places of a range.
 use Rattle.std.proofs.Common.{◌≡◌, ℕ, zero, suc, ◌+◌, ◌*◌, ◌<◌, ◌≤◌, List, [], ◌∷◌, ◌++◌, Option, Some, None, get_or, fold, refl, ap, sym, arith, ◌∙◌}
 use Rattle.std.specs.List.{range_with_len, filter_map, flat_map, cons_option}
+use Rattle.std.proofs.Math.Nat.{add-zero}
 use Rattle.std.proofs.lemmas.List.{append-nil}
 use Rattle.mw_lane.specs.Shifted.{merge_at}
 use Rattle.mw_line.specs.Extrema.{strided, over}
@@ -67,10 +68,7 @@ kept_front rows s (suc m) (suc k) le empty =
 pub kept : {A : Type 0} (rows : ℕ → List A) (s m a k : ℕ) → a + k ≤ m → ((i : ℕ) → s ≤ i → i < s + a → rows i ≡ []) → ((i : ℕ) → s + a + k ≤ i → i < s + m → rows i ≡ [])
     → flat_map rows (range_with_len s m) ≡ flat_map rows (range_with_len (s + a) k)
 kept rows s m zero k le before behind =
-    kept_front rows s m k (omega arith) (λ i from to. behind i (omega arith) to) ∙ ap (λ (t : ℕ). flat_map rows (range_with_len t k)) (same s)
-  where
-    same : (s : ℕ) → s ≡ s + 0
-    same s = omega arith
+    kept_front rows s m k (omega arith) (λ i from to. behind i (omega arith) to) ∙ ap (λ (t : ℕ). flat_map rows (range_with_len t k)) (sym (add-zero s))
 kept rows s zero (suc a) k le before behind = absurd (omega arith)
 kept rows s (suc m) (suc a) k le before behind =
     ap (λ (t : List _). t ++ flat_map rows (range_with_len (s + 1) m)) (before s (omega arith) (omega arith))

@@ -1,12 +1,10 @@
 -- Rows that are filled one after another.
-use Rattle.std.proofs.Common.{◌≡◌, ℕ, zero, suc, refl, replicate, ◌+◌, ◌-◌, ◌*◌, ◌<◌, ◌≤◌, List, ◌++◌, length, take, drop, get_or, ap, sym, arith, ◌∙◌, inl, inr, length-append, length-take}
+use Rattle.std.proofs.Common.{◌≡◌, ℕ, zero, suc, refl, replicate, ◌+◌, ◌*◌, ◌<◌, ◌≤◌, List, ◌++◌, length, take, drop, get_or, ap, sym, arith, ◌∙◌, inl, inr, length-append, length-take}
 use Rattle.std.proofs.lemmas.Bool.{cases_lt}
 use Rattle.std.proofs.lemmas.Nat.{mul-add-lt}
-use Rattle.std.proofs.Math.Nat.{mul-le-mul_left}
+use Rattle.std.proofs.Math.Nat.{add-sub_cancel_left, mul-le-mul_left}
 use Rattle.std.proofs.lemmas.List.{take_all, take-append-le, get_or-take, get_or-drop, get_or_append_left, get_or-append_right}
-use Rattle.mw_lane.proofs.Parts.{put_mid_above}
-use Rattle.mw_lane.proofs.Blocks.{put_mid_below, put_mid_at}
-use Rattle.mw_line.proofs.Folds.{length-put_mid}
+use Rattle.mw_facts.proofs.Parts.{length-put_mid, get_or-put_mid_below, get_or-put_mid_within, get_or-put_mid_above}
 use borrow.Rule.Slice.PartMut.{put_mid}
 
 pub rows_fit : (y h w : ℕ) → y < h → y * w + w ≤ h * w
@@ -29,19 +27,16 @@ rows_more value w h y m old out made lt m-is len made-is before =
       size = length-put_mid (y * w) m out made (sym same) (omega (arith, before.size, fits)) ∙ before.size;
       done = λ x j d less row_less. elim (cases_lt j y) [
         | inl earlier ↦
-            put_mid_below (y * w) m out made (j * w + x) d room (omega (arith, mul-add-lt j w x y earlier less)) ∙ before.done x j d less earlier
+            get_or-put_mid_below (y * w) m out made (j * w + x) d room (omega (arith, mul-add-lt j w x y earlier less)) ∙ before.done x j d less earlier
         | inr this ↦
             let j-is : j ≡ y = omega arith in
-            rw j-is (put_mid_at (y * w) m out made (y * w + x) d room (omega arith) (omega arith)
-            ∙ ap (λ (t : ℕ). get_or made t d) (ahead (y * w) x)
+            rw j-is (get_or-put_mid_within (y * w) m out made (y * w + x) d room (omega arith) (omega arith)
+            ∙ ap (λ (t : ℕ). get_or made t d) (add-sub_cancel_left (y * w) x)
             ∙ made-is x d less
             ∙ ap (λ (t : _). value t x y) (get_or-take m (drop (y * w) out) x d (omega arith) ∙ get_or-drop (y * w) out x d ∙ before.rest (y * w + x) d (omega arith)))
       ];
-      rest = λ p d from. put_mid_above (y * w) m out made p d room (sym same) (omega arith) ∙ before.rest p d (omega arith);
+      rest = λ p d from. get_or-put_mid_above (y * w) m out made p d room (sym same) (omega arith) ∙ before.rest p d (omega arith);
     }
-  where
-    ahead : (a x : ℕ) → a + x - a ≡ x
-    ahead a x = omega arith
 
 -- rows of w values, put behind one another
 pub record RowsMade {A : Type 0} (value : ℕ → ℕ → A) (n : A) (w y : ℕ) (out : List A) : Type 0 where
@@ -62,14 +57,11 @@ rows_made_more value n w y m out line made m-is le made-is line-is before =
         | inr this ↦
             let j-is : j ≡ y = omega arith in
             rw j-is (get_or-append_right out part (y * w) (y * w + x) n before.size (omega arith)
-            ∙ ap (λ (t : ℕ). get_or part t n) (ahead (y * w) x)
+            ∙ ap (λ (t : ℕ). get_or part t n) (add-sub_cancel_left (y * w) x)
             ∙ get_or-take m line x n (omega arith)
             ∙ line-is x less)
       ]);
     }
-  where
-    ahead : (a x : ℕ) → a + x - a ≡ x
-    ahead a x = omega arith
 
 -- what stands in a list that was written over whole
 pub written : {A : Type 0} (xs ys : List A) (n : ℕ) → length ys ≡ n → take n (ys ++ drop (length ys) xs) ≡ ys

@@ -1,11 +1,12 @@
 -- What a tile sees of a window through a box.
-use Rattle.std.proofs.Common.{◌≡◌, ◌⊎◌, ℕ, zero, suc, ◌+◌, ◌-◌, ◌*◌, ◌<◌, ◌≤◌, ℤ, pos, negsuc, ◌+ℤ◌, ◌-ℤ◌, ◌≤ℤ◌, ◌<ℤ◌, List, [], ◌∷◌, None, slice_get, slice_range, take, drop, min, refl, ap, sym, arith, ◌∙◌, inl, inr, length-take}
+use Rattle.std.proofs.Common.{◌≡◌, ◌⊎◌, ℕ, ◌+◌, ◌-◌, ◌*◌, ◌<◌, ◌≤◌, ℤ, pos, negsuc, ◌+ℤ◌, ◌-ℤ◌, ◌≤ℤ◌, ◌<ℤ◌, List, None, slice_range, drop, min, refl, ap, arith, ◌∙◌, inl, inr, length-take}
 use Rattle.std.proofs.lemmas.Bool.{cases_lt, lt-ltb, le-ltb}
 use Rattle.std.proofs.lemmas.Int.{ints}
+use Rattle.std.proofs.lemmas.Option.{slice_get_past}
 use Rattle.mw_model.specs.Rasters.{raster, cell_at}
 use Rattle.mw_model.specs.Places.{nonnegative, span}
 use Rattle.mw_lane.specs.Shifted.{at_place}
-use Rattle.mw_lane.proofs.Parts.{slice_get_past}
+use Rattle.mw_facts.proofs.Elements.{slice_get-drop, slice_get-take}
 use Rattle.mw_line.specs.Sides.{IsSeenSide}
 use Rattle.mw_line.proofs.Padded.{nonnegative_is}
 
@@ -27,30 +28,13 @@ side_seen tile side first len a b skipped to_end size count skipped-is to_end-is
       small = omega (arith, ints, s-is, e-is, skipped-is, to_end-is, count-is);
     }
 
-get_drop : {A : Type 0} (a : ℕ) (xs : List A) (i : ℕ) → slice_get (drop a xs) i ≡ slice_get xs (a + i)
-get_drop zero xs i = ap (slice_get xs) (front i)
-  where
-    front : (i : ℕ) → i ≡ 0 + i
-    front i = omega arith
-get_drop (suc a) [] i = slice_get_past [] i (omega arith) ∙ sym (slice_get_past [] (suc a + i) (omega arith))
-get_drop (suc a) (x ∷ xs) i = get_drop a xs i ∙ ap (slice_get (x ∷ xs)) (sym (out a i))
-  where
-    out : (a i : ℕ) → suc a + i ≡ suc (a + i)
-    out a i = omega arith
-
-get_take : {A : Type 0} (m : ℕ) (xs : List A) (i : ℕ) → i < m → slice_get (take m xs) i ≡ slice_get xs i
-get_take zero xs i lt = absurd (omega arith)
-get_take (suc m) [] i lt = refl
-get_take (suc m) (x ∷ xs) zero lt = refl
-get_take (suc m) (x ∷ xs) (suc i) lt = get_take m xs i (omega arith)
-
 -- a place of a row that the raster has
 pub row_seen : {A : Type 0} (w h : ℕ) (cells : List A) (j : ℕ) (z : ℤ) → j < h → at_place (slice_range cells (j * w) (j * w + w)) z ≡ cell_at (raster w h cells) z (pos j)
 row_seen w h cells j (negsuc n) lt = refl
 row_seen w h cells j (pos i) lt =
     elim (cases_lt i w) [
       | inl inside ↦
-          rw (lt-ltb i w inside, lt-ltb j h lt) (get_take (j * w + w - j * w) (drop (j * w) cells) i (omega arith) ∙ get_drop (j * w) cells i)
+          rw (lt-ltb i w inside, lt-ltb j h lt) (slice_get-take (j * w + w - j * w) (drop (j * w) cells) i (omega arith) ∙ slice_get-drop (j * w) cells i)
       | inr past ↦
           rw (le-ltb i w past) (slice_get_past (slice_range cells (j * w) (j * w + w)) i (omega (arith, length-take (j * w + w - j * w) (drop (j * w) cells))))
     ]

@@ -46,7 +46,7 @@ seen_part f laws n sight box x y a k c l some_k some_l le_k le_l outside_x outsi
     let one_row : (j : ℕ) → fold f n (row_of sight box x y j) ≡ over f (λ i. merge_at f n (sight (pos x +ℤ (box.x0 +ℤ pos (a + i))) (pos y +ℤ (box.y0 +ℤ pos j)))) 0 (k - 1) = λ j.
     ap (fold f n) (kept (cell j) 0 across a k le_k
     (λ i from to. ap those (outside_x i (pos y +ℤ (box.y0 +ℤ pos j)) (inl (before i a to), front i a across k to le_k)))
-    (λ i from to. ap those (outside_x i (pos y +ℤ (box.y0 +ℤ pos j)) (inr (behind i a k from), back i across to))))
+    (λ i from to. ap those (outside_x i (pos y +ℤ (box.y0 +ℤ pos j)) (inr (behind i a k from), before i across to))))
     ∙ ap (λ (t : ℕ). fold f n (flat_map (cell j) (range_with_len (0 + a) t))) (whole k some_k)
     ∙ fold_flat f laws n (cell j) (0 + a) (k - 1)
     ∙ over_same f (λ i. fold f n (cell j i)) (λ i. merge_at f n (sight (pos x +ℤ (box.x0 +ℤ pos i)) (pos y +ℤ (box.y0 +ℤ pos j)))) (0 + a) (k - 1) (λ i from to. fold_those f n (sight (pos x +ℤ (box.x0 +ℤ pos i)) (pos y +ℤ (box.y0 +ℤ pos j))))
@@ -54,7 +54,7 @@ seen_part f laws n sight box x y a k c l some_k some_l le_k le_l outside_x outsi
     ap (fold f n) (seen_boxed sight box x y)
     ∙ ap (fold f n) (kept (row_of sight box x y) 0 down c l le_l
     (λ j from to. empty_row j (inl (before j c to), front j c down l to le_l))
-    (λ j from to. empty_row j (inr (behind j c l from), back j down to)))
+    (λ j from to. empty_row j (inr (behind j c l from), before j down to)))
     ∙ ap (λ (t : ℕ). fold f n (flat_map (row_of sight box x y) (range_with_len (0 + c) t))) (whole l some_l)
     ∙ fold_flat f laws n (row_of sight box x y) (0 + c) (l - 1)
     ∙ over_shift f (λ j. fold f n (row_of sight box x y j)) c 0 (0 + c) (l - 1) (turn c)
@@ -69,9 +69,6 @@ seen_part f laws n sight box x y a k c l some_k some_l le_k le_l outside_x outsi
     behind : (i a k : ℕ) → 0 + a + k ≤ i → a + k ≤ i
     behind i a k le = omega arith
 
-    back : (i m : ℕ) → i < 0 + m → i < m
-    back i m lt = omega arith
-
     whole : (k : ℕ) → 0 < k → k ≡ suc (k - 1)
     whole k some = omega arith
 
@@ -83,16 +80,10 @@ pub nothing_across : {A : Type 0} (sight : Sight A) (box : OffsetBox) (x y : ℕ
 nothing_across sight box x y outside =
     seen_boxed sight box x y
     ∙ all_empty (row_of sight box x y) 0 (span box.y0 box.y1) (λ j from to.
-    all_empty (λ (i : ℕ). those (sight (pos x +ℤ (box.x0 +ℤ pos i)) (pos y +ℤ (box.y0 +ℤ pos j)))) 0 (span box.x0 box.x1) (λ i after before. ap those (outside i (pos y +ℤ (box.y0 +ℤ pos j)) (back i (span box.x0 box.x1) before))))
-  where
-    back : (i m : ℕ) → i < 0 + m → i < m
-    back i m lt = omega arith
+    all_empty (λ (i : ℕ). those (sight (pos x +ℤ (box.x0 +ℤ pos i)) (pos y +ℤ (box.y0 +ℤ pos j)))) 0 (span box.x0 box.x1) (λ i after before. ap those (outside i (pos y +ℤ (box.y0 +ℤ pos j)) (omega arith))))
 
 pub nothing_down : {A : Type 0} (sight : Sight A) (box : OffsetBox) (x y : ℕ) → ((j : ℕ) (column : ℤ) → j < span box.y0 box.y1 → sight column (pos y +ℤ (box.y0 +ℤ pos j)) ≡ None) → seen_under sight (box_offsets box) x y ≡ []
 nothing_down sight box x y outside =
     seen_boxed sight box x y
     ∙ all_empty (row_of sight box x y) 0 (span box.y0 box.y1) (λ j from to.
-    all_empty (λ (i : ℕ). those (sight (pos x +ℤ (box.x0 +ℤ pos i)) (pos y +ℤ (box.y0 +ℤ pos j)))) 0 (span box.x0 box.x1) (λ i after before. ap those (outside j (pos x +ℤ (box.x0 +ℤ pos i)) (back j (span box.y0 box.y1) to))))
-  where
-    back : (i m : ℕ) → i < 0 + m → i < m
-    back i m lt = omega arith
+    all_empty (λ (i : ℕ). those (sight (pos x +ℤ (box.x0 +ℤ pos i)) (pos y +ℤ (box.y0 +ℤ pos j)))) 0 (span box.x0 box.x1) (λ i after before. ap those (outside j (pos x +ℤ (box.x0 +ℤ pos i)) (omega arith))))

@@ -86,19 +86,16 @@ tile_cell f laws n w box tile place x0 x1 y0 y1 a k c l b some_k some_l column r
     ∙ sym (seen_part f laws n (seen_at w) box (tile.x + x) (tile.y + y) a k c l some_k some_l (omega (arith, b.across.within some_k, width)) (omega (arith, b.down.within some_l, height))
     (outside_column w box tile place x0 x1 y0 y1 a k c l b x less) (outside_row w box tile place x0 x1 y0 y1 a k c l b y row_less))
 
+all_out : (i a k : ℕ) → k ≡ 0 → (i < a) ⊎ (a + k ≤ i)
+all_out i a k none = elim (cases_lt i a) [ inl before ↦ inl before | inr behind ↦ inr (omega arith) ]
+
 -- a tile that sees nothing
 pub tile_sees_nothing : {A : Type 0} (w : View A) (box : OffsetBox) (tile place : Rect) (x0 x1 y0 y1 : ℤ) (a k c l : ℕ) → IsLooked w box tile place x0 x1 y0 y1 a k c l
     → (k ≡ 0) ⊎ (l ≡ 0) → (x y : ℕ) → x < tile.width → y < tile.height → seen_under (seen_at w) (box_offsets box) (tile.x + x) (tile.y + y) ≡ []
 tile_sees_nothing w box tile place x0 x1 y0 y1 a k c l b (inl none) x y less row_less =
     nothing_across (seen_at w) box (tile.x + x) (tile.y + y) (λ i row lt. outside_column w box tile place x0 x1 y0 y1 a k c l b x less i row (all_out i a k none, lt))
-  where
-    all_out : (i a k : ℕ) → k ≡ 0 → (i < a) ⊎ (a + k ≤ i)
-    all_out i a k none = elim (cases_lt i a) [ inl before ↦ inl before | inr behind ↦ inr (omega arith) ]
 tile_sees_nothing w box tile place x0 x1 y0 y1 a k c l b (inr none) x y less row_less =
     nothing_down (seen_at w) box (tile.x + x) (tile.y + y) (λ j column lt. outside_row w box tile place x0 x1 y0 y1 a k c l b y row_less j column (all_out j c l none, lt))
-  where
-    all_out : (i a k : ℕ) → k ≡ 0 → (i < a) ⊎ (a + k ≤ i)
-    all_out i a k none = elim (cases_lt i a) [ inl before ↦ inl before | inr behind ↦ inr (omega arith) ]
 
 get-replicate : {A : Type 0} (m i : ℕ) (n : A) → i < m → slice_get (replicate m n) i ≡ Some n
 get-replicate zero i n lt = absurd (omega arith)

@@ -3,6 +3,7 @@ use Rattle.std.proofs.Common.{◌≡◌, ℕ, zero, suc, ◌+◌, ◌-◌, ◌<�
 use Rattle.std.specs.Prelude.{codes, decimal}
 use Rattle.std.specs.List.{range_with_len, flat_map}
 use Rattle.std.proofs.lemmas.List.FromFn.{length-map-range_with_len, get_or-map-range_with_len}
+use Rattle.std.proofs.Math.Nat.{sub-zero}
 use Rattle.mw_model.specs.declared.places.Offset.{Offset}
 use Rattle.mw_model.specs.Pictures.{Picture}
 use Rattle.mw_model.specs.Iterates.{volume, spectrum}
@@ -37,10 +38,7 @@ pub volumes_by_line : (vs : List ℕ) → volume_lines 0 vs ≡ flat_map (λ n. 
 volumes_by_line vs =
     volumes_by_number 0 vs
     ∙ same_lines (λ n. line (codes "V ") n (get_or vs (n - 0) 0)) (λ n. line (codes "V ") n (get_or vs n 0)) 0 (length vs)
-    (λ k low high. ap (λ (i : ℕ). line (codes "V ") k (get_or vs i 0)) (from_start k))
-  where
-    from_start : (k : ℕ) → k - 0 ≡ k
-    from_start k = omega arith
+    (λ k low high. ap (λ (i : ℕ). line (codes "V ") k (get_or vs i 0)) (sub-zero k))
 
 -- the fall from the volume behind the start by so many places
 abbrev fall_at : List ℕ → ℕ → ℕ → ℕ

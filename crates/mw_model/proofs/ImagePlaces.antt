@@ -5,7 +5,7 @@ use Rattle.std.proofs.lemmas.List.{get_or_append_left, get_or-append_right, ext_
 use Rattle.std.proofs.lemmas.List.FromFn.{length-map-range_with_len, get_or-map-range_with_len}
 use Rattle.std.proofs.lemmas.Nat.{div_below, mod_below, mul-add-lt, div-add-mod'}
 use Rattle.std.proofs.lemmas.List.Elements.{All-get_or}
-use Rattle.std.proofs.Math.Nat.{mul_comm}
+use Rattle.std.proofs.Math.Nat.{add-zero, zero-add, mul_comm}
 use Rattle.mw_model.specs.declared.shapes.Kind.{Kind}
 use Rattle.mw_model.specs.Pictures.{Picture, sample, drawn, redrawn, IsPicture}
 use Rattle.mw_model.specs.Laws.{SameShape, Below}
@@ -31,13 +31,10 @@ rows_at value width a (suc n) x zero p q =
     ap (λ i. get_or (rows value width a (suc n)) i 0) (start width x)
     ∙ get_or_append_left (map (λ x. value x a) (range_with_len 0 width)) (rows value width (a + 1) n) 0 x (omega (arith, length-map-range_with_len (λ x. value x a) 0 width))
     ∙ get_or-map-range_with_len (λ x. value x a) 0 width x x 0 p (omega arith)
-    ∙ ap (value x) (same a)
+    ∙ ap (value x) (sym (add-zero a))
   where
     start : (width x : ℕ) → zero * width + x ≡ x
     start width x = omega arith
-
-    same : (a : ℕ) → a ≡ a + zero
-    same a = omega arith
 rows_at value width a (suc n) x (suc y) p q =
     get_or-append_right (map (λ x. value x a) (range_with_len 0 width)) (rows value width (a + 1) n) width (suc y * width + x) 0 (length-map-range_with_len (λ x. value x a) 0 width) (omega arith)
     ∙ ap (λ i. get_or (rows value width (a + 1) n) i 0) (back width x y)
@@ -52,10 +49,7 @@ rows_at value width a (suc n) x (suc y) p q =
 
 -- what a drawn image shows at a place
 pub sample-drawn : (kind : Kind) (width height maxval : ℕ) (value : ℕ → ℕ → ℕ) (x y : ℕ) → x < width → y < height → sample (drawn kind width height maxval value) x y ≡ value x y
-sample-drawn kind width height maxval value x y p q = rows_at value width 0 height x y p q ∙ ap (value x) (same y)
-  where
-    same : (y : ℕ) → 0 + y ≡ y
-    same y = omega arith
+sample-drawn kind width height maxval value x y p q = rows_at value width 0 height x y p q ∙ ap (value x) (zero-add y)
 
 pub sample-redrawn : (f : Picture) (value : ℕ → ℕ → ℕ) (x y : ℕ) → x < f.width → y < f.height → sample (redrawn f value) x y ≡ value x y
 sample-redrawn f value x y p q = sample-drawn f.kind f.width f.height f.maxval value x y p q

@@ -1,15 +1,16 @@
-pub mod ImagePlaces
+-- what other crates may cite
 pub mod Covers
-pub mod ImageOrder
-pub mod Extrema
-pub mod Iterated
-pub mod SkeletonLaws
-pub mod ImageLaws
-pub mod Positions
-pub mod Spellings
-pub mod RisingOrder
 pub mod CurveLaws
-pub mod PlainLoops
+pub mod Extrema
+pub mod ImageLaws
+pub mod ImageOrder
+pub mod ImagePlaces
+pub mod Iterated
 pub mod PlainRanks
-pub mod PlainIterates
-pub mod PlainCurves
+pub mod RisingOrder
+pub mod SkeletonLaws
+pub mod Spellings
+-- the crate's own
+mod PlainCurves
+mod PlainIterates
+mod PlainLoops

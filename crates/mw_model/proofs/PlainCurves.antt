@@ -4,9 +4,10 @@ use Rattle.std.specs.Prelude.{codes, decimal}
 use Rattle.std.specs.List.{range_with_len, flat_map}
 use Rattle.std.proofs.lemmas.List.{append-nil, append_assoc}
 use Rattle.std.proofs.lemmas.List.Concat.{flat_map-append}
+use Rattle.std.proofs.Math.Nat.{zero-add}
+use Rattle.mw_facts.proofs.Ranges.{range_with_len-more}
 use Rattle.mw_model.specs.Curves.{line, volume_lines, fall_lines, rest_line}
 use Rattle.mw_model.proofs.CurveLaws.{volumes_by_line, falls_by_line}
-use Rattle.mw_model.proofs.PlainLoops.{range_more}
 
 -- a start, and the lines with the numbers below n
 abbrev pub lines_below : (ℕ → List ℕ) → ℕ → List ℕ
@@ -24,12 +25,9 @@ one_line_more text n start before after is step =
     ∙ ap (λ (t : List ℕ). t ++ text n) is
     ∙ append_assoc start (lines_below text n) (text n)
     ∙ ap (λ (t : List ℕ). start ++ t)
-    (ap (λ (t : List ℕ). lines_below text n ++ t) (sym (append-nil (text n)) ∙ ap (λ (k : ℕ). text k ++ []) (same n))
+    (ap (λ (t : List ℕ). lines_below text n ++ t) (sym (append-nil (text n)) ∙ ap (λ (k : ℕ). text k ++ []) (sym (zero-add n)))
     ∙ sym (flat_map-append text (range_with_len 0 n) ((0 + n) ∷ []))
-    ∙ ap (flat_map text) (sym (range_more 0 n)))
-  where
-    same : (n : ℕ) → n ≡ 0 + n
-    same n = omega arith
+    ∙ ap (flat_map text) (sym (range_with_len-more 0 n (0 + n) refl)))
 
 pub all_volumes : (vs : List ℕ) (i : ℕ) (start text : List ℕ) → i ≡ length vs → text ≡ start ++ lines_below (volume_text vs) i → text ≡ start ++ volume_lines 0 vs
 all_volumes vs i start text same is = is ∙ ap (λ (n : ℕ). start ++ lines_below (volume_text vs) n) same ∙ ap (λ (t : List ℕ). start ++ t) (sym (volumes_by_line vs))

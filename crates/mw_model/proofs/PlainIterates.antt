@@ -5,6 +5,7 @@ use Rattle.std.specs.List.{range_with_len}
 use Rattle.std.proofs.lemmas.Bool.{cases_Bool}
 use Rattle.std.proofs.lemmas.List.FromFn.{map-range_with_len_more}
 use Rattle.std.proofs.lemmas.List.Sums.{sum_by-le}
+use Rattle.std.proofs.Math.Nat.{le_antisymm}
 use Rattle.mw_model.specs.declared.places.Offset.{Offset}
 use Rattle.mw_model.specs.declared.shapes.Kind.TheVariants.{Grey}
 use Rattle.mw_model.specs.Pictures.{Picture, sample, drawn, redrawn, IsPicture, IsSmallPicture}
@@ -18,10 +19,7 @@ pub once_more : (operator : Picture → Picture) (n : ℕ) (f before after : Pic
 once_more operator n f before after step is = step ∙ ap operator is ∙ ap (λ (k : ℕ). times k operator f) (sym (add-one n))
 
 pub all_times : (operator : Picture → Picture) (i n : ℕ) (f g : Picture) → i ≤ n → n ≤ i → g ≡ times i operator f → g ≡ times n operator f
-all_times operator i n f g low high is = is ∙ ap (λ (k : ℕ). times k operator f) (same i n low high)
-  where
-    same : (i n : ℕ) → i ≤ n → n ≤ i → i ≡ n
-    same i n low high = omega arith
+all_times operator i n f g low high is = is ∙ ap (λ (k : ℕ). times k operator f) (le_antisymm low high)
 
 -- a part of a restoration has the maxval of a set, and so has the restoration
 pub part_maxval : (b : List Offset) (n m : ℕ) (g restored level part : Picture) → restored ≡ restoration b n g → level ≡ level_set (n + 2) g → part ≡ times m (dilation (negated b)) level

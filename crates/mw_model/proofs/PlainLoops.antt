@@ -3,11 +3,13 @@ use Rattle.std.proofs.Common.{◌≡◌, ℕ, zero, suc, ◌+◌, ◌<◌, ◌�
 use Rattle.std.specs.Prelude.{Bool, cond, nat_lt, count_by, true, false, if◌then◌else◌, ℤ, ◌-ℤ◌, neg_ℤ}
 use Rattle.std.specs.List.{range_with_len, flat_map, cons_option}
 use Rattle.std.specs.Option.{option_to_list}
-use Rattle.std.proofs.lemmas.List.{take_more, take_all, take-append-drop, get_or_default, map-id, append-nil, append_assoc}
+use Rattle.std.proofs.lemmas.List.{take_more, take_all, take-append-drop, get_or_default, append-nil, append_assoc}
 use Rattle.std.proofs.lemmas.Int.{ints}
 use Rattle.std.proofs.lemmas.List.Sums.{sum_by-append}
 use Rattle.std.proofs.lemmas.List.Concat.{flat_map-append}
 use Rattle.std.proofs.lemmas.List.FromFn.{map-range_with_len_more}
+use Rattle.std.proofs.Math.Nat.{zero-add}
+use Rattle.mw_facts.proofs.Ranges.{range_with_len-more}
 use Rattle.mw_model.specs.declared.places.Offset.{Offset}
 use Rattle.mw_model.specs.declared.shapes.Kind.{Kind}
 use Rattle.mw_model.specs.Pictures.{Picture, picture, sample_at, drawn}
@@ -109,25 +111,16 @@ one_pixel_more value width y x n before after is n-is new =
     ∙ append_assoc done (map (λ x. value x y) (range_with_len 0 x)) (value x y ∷ [])
     ∙ ap (λ (t : List ℕ). done ++ t) (sym (map-range_with_len_more (λ x. value x y) 0 x x (omega arith)))
 
-pub range_more : (a n : ℕ) → range_with_len a (n + 1) ≡ range_with_len a n ++ (a + n) ∷ []
-range_more a n =
-    sym (map-id (range_with_len a (n + 1)))
-    ∙ map-range_with_len_more (λ i. i) a n (a + n) refl
-    ∙ ap (λ (t : List ℕ). t ++ (a + n) ∷ []) (map-id (range_with_len a n))
-
 -- a whole row more
 pub one_row_more : (value : ℕ → ℕ → ℕ) (width y x : ℕ) (after : List ℕ) → x ≡ width → after ≡ drawn_so_far value width y x → after ≡ drawn_so_far value width (y + 1) 0
 one_row_more value width y x after e is =
     let row = λ (y : ℕ). map (λ x. value x y) (range_with_len 0 width) in
     is
     ∙ ap (λ (t : ℕ). drawn_so_far value width y t) e
-    ∙ ap (λ (t : List ℕ). flat_map row (range_with_len 0 y) ++ t) (sym (append-nil (row y)) ∙ ap (λ (t : ℕ). row t ++ []) (same y))
+    ∙ ap (λ (t : List ℕ). flat_map row (range_with_len 0 y) ++ t) (sym (append-nil (row y)) ∙ ap (λ (t : ℕ). row t ++ []) (sym (zero-add y)))
     ∙ sym (flat_map-append row (range_with_len 0 y) ((0 + y) ∷ []))
-    ∙ ap (flat_map row) (sym (range_more 0 y))
+    ∙ ap (flat_map row) (sym (range_with_len-more 0 y (0 + y) refl))
     ∙ sym (append-nil (flat_map row (range_with_len 0 (y + 1))))
-  where
-    same : (y : ℕ) → y ≡ 0 + y
-    same y = omega arith
 
 -- what all the rows make
 pub all_rows : (f : Picture) (kind : Kind) (maxval : ℕ) (value : ℕ → ℕ → ℕ) (width height y : ℕ) (samples : List ℕ) → width ≡ f.width → height ≡ f.height → y ≡ height

@@ -1,7 +1,7 @@
 -- Skipping goes over white space and comments, and over nothing else.
-use Rattle.std.proofs.Common.{◌≡◌, ℕ, ◌+◌, ◌-◌, ◌*◌, Bool, true, false, cond, eqb, not, List, [], ◌∷◌, ◌++◌, Ok, Err, min, IsTrue, refl, sym, ap, subst, ◌∙◌, arith, inl, inr, ◌⊎◌, append_assoc}
+use Rattle.std.proofs.Common.{◌≡◌, ℕ, ◌+◌, ◌-◌, ◌*◌, Bool, true, false, cond, eqb, not, List, [], ◌∷◌, ◌++◌, Ok, Err, min, IsTrue, refl, sym, ap, subst, ◌∙◌, arith, inl, inr, append_assoc}
 use Rattle.std.specs.List.{AllByRecursion}
-use Rattle.std.proofs.lemmas.Bool.{eqb-true}
+use Rattle.std.proofs.lemmas.Bool.{eqb-true, cases_Bool}
 use Rattle.std.proofs.lemmas.Bool.Decides.{nat_tests}
 use Rattle.std.proofs.lemmas.List.{append-nil}
 use Rattle.mw_netpbm.specs.declared.fault.ReadFault.TheVariants.{Header}
@@ -10,10 +10,6 @@ use Rattle.mw_model.specs.NetpbmGrammar.{is_white, is_eol, is_digit}
 use Rattle.mw_model.specs.NetpbmGrammar.{Blank, nothing, white, comment, value_after, IsNumber}
 use Rattle.mw_netpbm.proofs.Whole.{chosen}
 use Rattle.mw_netpbm.proofs.Sides.{ok_is}
-
-pub true_or_false : (b : Bool) → (b ≡ true) ⊎ (b ≡ false)
-true_or_false true = inl refl
-true_or_false false = inr refl
 
 skip_text : (text : List ℕ) (end : ℕ) (bs : List ℕ) → AllByRecursion (λ b. is_eol b ≡ false) text → IsTrue (is_eol end) → skip_from true (text ++ end ∷ bs) ≡ skip_from false bs
 unfolding skip_from
@@ -82,10 +78,10 @@ unfolding skip_from
 found false text [] all = at_end [] nothing
 found true text [] all = subst (λ (t : List ℕ). Skipped (35 ∷ t) []) (sym (append-nil text)) (in_comment [] text nothing all)
 found false text (b ∷ bs) all =
-    elim (true_or_false (is_white b)) [
+    elim (cases_Bool (is_white b)) [
       | inl w ↦ subst (λ (rest : List ℕ). Skipped (b ∷ bs) rest) (sym (skip_white b bs w)) (more_white b bs (skip_from false bs) w (found false [] bs tt))
       | inr nw ↦
-          elim (true_or_false (eqb b 35)) [
+          elim (cases_Bool (eqb b 35)) [
             | inl hash ↦
                 let same : b ≡ 35 = eqb-true b 35 hash in
                 subst (λ (c : ℕ). Skipped (c ∷ bs) (skip_from false (c ∷ bs))) (sym same) (found true [] bs tt)
@@ -93,7 +89,7 @@ found false text (b ∷ bs) all =
           ]
     ]
 found true text (b ∷ bs) all =
-    elim (true_or_false (is_eol b)) [
+    elim (cases_Bool (is_eol b)) [
       | inl e ↦ subst (λ (x : Bool). Skipped (35 ∷ text ++ b ∷ bs) (skip_from (not x) bs)) (sym e) (more_comment text b bs (skip_from false bs) all e (found false [] bs tt))
       | inr ne ↦
           let inner = found true (text ++ b ∷ []) bs (all_push text b all ne) in
@@ -135,7 +131,7 @@ pub record Run (bytes : List ℕ) : Type 0 where
 pub run_of : (bytes : List ℕ) → Run bytes
 run_of [] = record { text = []; rest = []; parts = refl; each = tt; stops = tt }
 run_of (b ∷ bs) =
-    elim (true_or_false (is_digit b)) [
+    elim (cases_Bool (is_digit b)) [
       | inl d ↦
           let r = run_of bs in
           record { text = b ∷ r.text; rest = r.rest; parts = ap (λ (t : List ℕ). b ∷ t) r.parts; each = (d, r.each); stops = r.stops }

@@ -2,6 +2,8 @@
 use Rattle.std.proofs.Common.{Some, None, ◌≡◌, ℕ, zero, suc, ◌+◌, ◌-◌, ◌*◌, ◌≤◌, List, [], ◌∷◌, Result, Ok, Err, min, refl, sym, ap, subst, ◌∙◌, Bool, true, false, cond, eqb, not, ◌||◌, ◌&&◌, arith, inl, inr}
 use Rattle.std.specs.Prelude.{nat_lt}
 use Rattle.std.proofs.lemmas.List.Sums.{sum_by-cons}
+use Rattle.std.proofs.lemmas.Bool.{cases_Bool}
+use Rattle.mw_facts.proofs.Numbers.{one_if-le}
 use Rattle.mw_model.specs.NetpbmGrammar.{is_white, is_digit}
 use Rattle.mw_netpbm.specs.declared.fault.ReadFault.{ReadFault}
 use Rattle.mw_netpbm.specs.declared.fault.ReadFault.TheVariants.{Short, Sample, Trailing}
@@ -11,7 +13,7 @@ use Rattle.mw_netpbm.specs.Reading.{◌>>=◌, fault_of, skip_from, digits_from}
 use Rattle.mw_netpbm.specs.Plain.{tail_at, plain_at, bit_at, pixel_at, apart, level_at, sample_at}
 use Rattle.mw_netpbm.specs.Places.{place_at}
 use Rattle.mw_netpbm.specs.Tallies.{signs_in, words_in, has_hash, room_for}
-use Rattle.mw_netpbm.proofs.Blanks.{true_or_false, skip_visible, skip_white, digit_visible}
+use Rattle.mw_netpbm.proofs.Blanks.{skip_visible, skip_white, digit_visible}
 
 abbrev IsLong : {X : Type 0} → Result X ReadFault → Type 0
 IsLong read = fault_of read ≡ Some Short → ⊥
@@ -73,7 +75,7 @@ nothing_skipped = record { clean = refl; signs = refl; words = refl }
 skipped : (bytes : List ℕ) → has_hash bytes ≡ false → IsSkipped bytes (skip_from false bytes)
 skipped [] clean = nothing_skipped
 skipped (b ∷ bs) clean =
-    elim (true_or_false (is_white b)) [
+    elim (cases_Bool (is_white b)) [
       | inl w ↦
           let rest = skipped bs (or_second (eqb b 35) (has_hash bs) clean) in
           let none : signs_in (b ∷ bs) ≡ signs_in bs = signs_first b bs ∙ ap (λ (x : Bool). cond (not x) 1 0 + signs_in bs) w ∙ omega arith in
@@ -102,14 +104,10 @@ unfolding bit_at
 bit_after [] s after h clean = absurd (no_fault h)
 bit_after (b ∷ bs) s after h clean = by_test ((eqb b 48) || (eqb b 49)) h
   where
-    at_most : (t : Bool) → cond t 1 0 ≤ 1
-    at_most true = omega arith
-    at_most false = omega arith
-
     by_test : (t : Bool) → cond {A = Found} t (Ok (b - 48, bs)) (Err Sample) ≡ Ok (s, after) → (has_hash after ≡ false) × (signs_in (b ∷ bs) ≤ suc (signs_in after))
     by_test true e =
         let is : bs ≡ after = ap after_of e in
-        let one : cond (not (is_white b)) 1 0 ≤ 1 = at_most (not (is_white b)) in
+        let one : cond (not (is_white b)) 1 0 ≤ 1 = one_if-le (not (is_white b)) in
         (ap has_hash (sym is) ∙ or_second (eqb b 35) (has_hash bs) clean, omega (arith, signs_first b bs, ap signs_in is, one))
     by_test false e = absurd (no_fault e)
 

@@ -1,11 +1,11 @@
 -- Blocks of words and their bytes, lane by lane.
 use Rattle.std.proofs.Common.{◌≡◌, ℕ, zero, suc, ◌+◌, ◌-◌, ◌*◌, ◌/◌, ◌%◌, ◌^◌, ◌<◌, ◌≤◌, cond, ltb, max, fold, List, [], ◌∷◌, ◌++◌, length, map, take, drop, replicate, get_or, refl, sym, ap, ◌∙◌, arith, w8, w16, Fits}
-use Rattle.std.proofs.lemmas.Bool.Decides.{nat_tests}
 use Rattle.std.proofs.lemmas.List.{take_all, length-take-le}
 use Rattle.std.proofs.lemmas.Simd.{Each1-from_get_or, tops_compared}
 use Rattle.std.specs.List.{flat_map}
 use lib.Lanes.{zip2, sel_l, Each1, chunk, number_l, digits_l, top}
 use mir.Val.{bits, hbits}
+use Rattle.mw_facts.proofs.Numbers.{cond-max}
 use Rattle.mw_model.specs.NetpbmWriting.{two_bytes}
 use Rattle.mw_netpbm.specs.Rasters.{words_of}
 use Rattle.mw_netpbm.specs.Swapping.{swap}
@@ -77,16 +77,13 @@ fold_max : (xs : List ℕ) (a b : ℕ) → fold max (max a b) xs ≡ max a (fold
 fold_max [] a b = refl
 fold_max (x ∷ xs) a b = ap (λ m. fold max m xs) (omega arith) ∙ fold_max xs a (max b x)
 
-greater : (x y : ℕ) → cond (ltb x y) y x ≡ max x y
-greater x y = grind (arith, nat_tests)
-
 -- the greatest of each pair of lanes
 fold_lanes : (xs ys : List ℕ) → length xs ≡ length ys → fold max 0 (sel_l (zip2 ltb xs ys) ys xs) ≡ max (fold max 0 xs) (fold max 0 ys)
 fold_lanes [] [] e = refl
 fold_lanes [] (y ∷ ys) e = absurd (omega arith)
 fold_lanes (x ∷ xs) [] e = absurd (omega arith)
 fold_lanes (x ∷ xs) (y ∷ ys) e =
-    ap (λ m. fold max (max 0 m) (sel_l (zip2 ltb xs ys) ys xs)) (greater x y) ∙ ap (λ m. fold max m (sel_l (zip2 ltb xs ys) ys xs)) (omega arith)
+    ap (λ m. fold max (max 0 m) (sel_l (zip2 ltb xs ys) ys xs)) (cond-max x y) ∙ ap (λ m. fold max m (sel_l (zip2 ltb xs ys) ys xs)) (omega arith)
     ∙ fold_max (sel_l (zip2 ltb xs ys) ys xs) (max x y) 0 ∙ ap (max (max x y)) (fold_lanes xs ys (omega arith)) ∙ omega (arith, first x xs, first y ys)
   where
     first : (x : ℕ) (xs : List ℕ) → fold max (max 0 x) xs ≡ max x (fold max 0 xs)

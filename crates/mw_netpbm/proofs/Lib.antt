@@ -1,22 +1,24 @@
-pub mod Rows
-pub mod PlainLoop
-pub mod Faults
-pub mod Sides
-pub mod Whole
-pub mod Blanks
-pub mod Headers
-pub mod Rasters
-pub mod Files
-pub mod Written
-pub mod Refused
-pub mod Packing
-pub mod Exclusive
+-- what other crates may cite
 pub mod Bitmaps
-pub mod Lanes
-pub mod Pixels
-pub mod Chunks
-pub mod Made
-pub mod FewDigits
-pub mod Masks
-pub mod Tallies
-pub mod Enough
+pub mod Exclusive
+pub mod Files
+pub mod Sides
+-- the crate's own
+mod Blanks
+mod Chunks
+mod Enough
+mod Faults
+mod FewDigits
+mod Headers
+mod Lanes
+mod Made
+mod Masks
+mod Packing
+mod Pixels
+mod PlainLoop
+mod Rasters
+mod Refused
+mod Rows
+mod Tallies
+mod Whole
+mod Written

@@ -1,6 +1,7 @@
 -- Packing pixels into bytes.
 use Rattle.std.proofs.Common.{◌≡◌, ℕ, zero, suc, ◌+◌, ◌-◌, ◌*◌, ◌/◌, ◌%◌, ◌<◌, ◌≤◌, cond, eqb, List, [], ◌∷◌, ◌++◌, length, take, drop, min, refl, sym, ap, ◌∙◌, arith, append_assoc, length-drop}
 use Rattle.std.proofs.lemmas.List.{take-append-drop, nil_from_length, length-take-le, append-nil, drop_min}
+use Rattle.mw_facts.proofs.Alls.{all-take, all-drop}
 use Rattle.mw_model.specs.NetpbmGrammar.{bits_of}
 use Rattle.mw_netpbm.specs.Rasters.{row_bits}
 use Rattle.mw_model.specs.NetpbmWriting.{byte_of, packed, packed_rows}
@@ -82,28 +83,18 @@ first_byte (a ∷ b ∷ c ∷ d ∷ e ∷ f ∷ g ∷ h ∷ bits) w =
     ap (λ n. take n (bits_of (byte_of (a ∷ b ∷ c ∷ d ∷ e ∷ f ∷ g ∷ h ∷ bits)))) m
     ∙ ap (take 8) (eight a b c d e f g h w.0 w.1.0 w.1.1.0 w.1.1.1.0 w.1.1.1.1.0 w.1.1.1.1.1.0 w.1.1.1.1.1.1.0 w.1.1.1.1.1.1.1.0)
 
-pub Within-drop : (m n : ℕ) (xs : List ℕ) → Within m xs → Within m (drop n xs)
-Within-drop m zero xs w = w
-Within-drop m (suc n) [] w = tt
-Within-drop m (suc n) (x ∷ xs) w = Within-drop m n xs w.1
-
 row_packed : (n : ℕ) (bits : List ℕ) → length bits ≤ 8 * n → Within 1 bits → row_bits (length bits) (packed n bits) ≡ bits
 unfolding packed row_bits
 row_packed zero bits le w = sym (nil_from_length bits (omega arith))
 row_packed (suc n) bits le w =
     let len : length (drop 8 bits) ≡ length bits - 8 = length-drop 8 bits in
-    let ih = row_packed n (drop 8 bits) (omega (arith, len)) (Within-drop 1 8 bits w) in
+    let ih = row_packed n (drop 8 bits) (omega (arith, len)) (all-drop (λ s. s ≤ 1) 8 bits w) in
     rw (first_byte bits w, ← len, ih) (take-append-drop 8 bits)
 
 pub packed_length : (n : ℕ) (bits : List ℕ) → length (packed n bits) ≡ n
 unfolding packed
 packed_length zero bits = refl
 packed_length (suc n) bits = ap suc (packed_length n (drop 8 bits))
-
-Within-take : (m n : ℕ) (xs : List ℕ) → Within m xs → Within m (take n xs)
-Within-take m zero xs p = tt
-Within-take m (suc n) [] p = tt
-Within-take m (suc n) (x ∷ xs) p = (p.0, Within-take m n xs p.1)
 
 pub rows_packed : (width height : ℕ) (samples : List ℕ) → length samples ≡ height * width → Within 1 samples → IsRows width height (packed_rows width height samples) samples
 unfolding packed_rows
@@ -113,12 +104,12 @@ rows_packed width (suc height) samples len w =
     let rest = drop width samples in
     let front : length row ≡ width = length-take-le width samples (omega (arith, len)) in
     let is : row_bits width (packed ((width + 7) / 8) row) ≡ row =
-    ap (λ k. row_bits k (packed ((width + 7) / 8) row)) (sym front) ∙ row_packed ((width + 7) / 8) row (omega (arith, front)) (Within-take 1 width samples w) in (
+    ap (λ k. row_bits k (packed ((width + 7) / 8) row)) (sym front) ∙ row_packed ((width + 7) / 8) row (omega (arith, front)) (all-take (λ s. s ≤ 1) width samples w) in (
       packed ((width + 7) / 8) row,
       packed_rows width height rest,
       rest,
       refl,
       packed_length ((width + 7) / 8) row,
       sym (take-append-drop width samples) ∙ ap (λ (r : List ℕ). r ++ rest) (sym is ∙ row_is width (packed ((width + 7) / 8) row)),
-      rows_packed width height rest (omega (arith, length-drop width samples, len)) (Within-drop 1 width samples w),
+      rows_packed width height rest (omega (arith, length-drop width samples, len)) (all-drop (λ s. s ≤ 1) width samples w),
     )

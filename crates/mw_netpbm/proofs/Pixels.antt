@@ -9,10 +9,11 @@ use Rattle.std.proofs.lemmas.Nat.Bits.{and_pow}
 use Rattle.std.proofs.lemmas.Simd.{bitmask_splat, pick_l_left}
 use lib.Lanes.{zip2, chunk, number_l, pick_l, mask_l, top}
 use mir.Val.{bits, hbits}
+use Rattle.mw_facts.proofs.Alls.{all-append, all-drop}
 use Rattle.mw_model.specs.NetpbmGrammar.{bits_of}
 use Rattle.mw_model.specs.NetpbmWriting.{packed}
-use Rattle.mw_netpbm.proofs.Sides.{Within, Within-append}
-use Rattle.mw_netpbm.proofs.Packing.{Within-drop, packed_length}
+use Rattle.mw_netpbm.proofs.Sides.{Within}
+use Rattle.mw_netpbm.proofs.Packing.{packed_length}
 
 -- ---- pixels and lanes
 
@@ -40,7 +41,7 @@ lane_more lanes pixels i n r a b so_far e is =
 pub within_more : (pixels : List ℕ) (i n r : ℕ) → i < length pixels → Within 1 (take i pixels) → n ≡ r → r ≡ get_or pixels i r → n ≤ 1 → Within 1 (take (i + 1) pixels)
 within_more pixels i n r b so_far e is small =
     let last : get_or pixels i r ≤ 1 = omega (arith, e, is, small) in
-    subst (λ (xs : List ℕ). Within 1 xs) (sym (take_more pixels i r b)) (Within-append 1 (take i pixels) (get_or pixels i r ∷ []) so_far (last, tt))
+    subst (λ (xs : List ℕ). Within 1 xs) (sym (take_more pixels i r b)) (all-append (λ s. s ≤ 1) (take i pixels) (get_or pixels i r ∷ []) so_far (last, tt))
 
 pub lanes_whole : (lanes pixels : List ℕ) (i : ℕ) → length lanes ≤ i → length pixels ≤ i → take i lanes ≡ take i pixels → lanes ≡ pixels
 lanes_whole lanes pixels i a b so_far = sym (take_all i lanes a) ∙ so_far ∙ take_all i pixels b
@@ -150,7 +151,7 @@ eights_mask (suc n) xs w =
       on_is (get_or xs 2 0) (within_at xs 2 w),
       on_is (get_or xs 1 0) (within_at xs 1 w),
       on_is (get_or xs 0 0) (within_at xs 0 w),
-      eights_mask n (drop 8 xs) (Within-drop 1 8 xs w),
+      eights_mask n (drop 8 xs) (all-drop (λ s. s ≤ 1) 8 xs w),
     ) (omega arith)
 
 packed_small : (n : ℕ) (xs : List ℕ) (i : ℕ) → Within 1 xs → get_or (packed n xs) i 0 < 256
@@ -158,7 +159,7 @@ unfolding packed
 packed_small zero xs i w = omega arith
 packed_small (suc n) xs zero w =
     omega (arith, within_at xs 0 w, within_at xs 1 w, within_at xs 2 w, within_at xs 3 w, within_at xs 4 w, within_at xs 5 w, within_at xs 6 w, within_at xs 7 w)
-packed_small (suc n) xs (suc i) w = packed_small n (drop 8 xs) i (Within-drop 1 8 xs w)
+packed_small (suc n) xs (suc i) w = packed_small n (drop 8 xs) i (all-drop (λ s. s ≤ 1) 8 xs w)
 
 eight_bytes : (bs : List ℕ) → length bs ≡ 8 → number_l 256 bs ≡ from_le_bytes w64 bs
 eight_bytes [] e = absurd (omega arith)

@@ -1,8 +1,9 @@
 -- What is read has as many samples as was asked for, none over the maxval.
-use Rattle.std.proofs.Common.{◌≡◌, ℕ, zero, suc, ◌+◌, ◌-◌, ◌*◌, ◌/◌, ◌%◌, ◌≤◌, Bool, true, false, cond, ltb, List, [], ◌∷◌, ◌++◌, length, take, drop, Result, Ok, Err, min, max, fold, refl, sym, ap, subst, ◌∙◌, arith, length-append, length-drop}
+use Rattle.std.proofs.Common.{◌≡◌, ℕ, zero, suc, ◌+◌, ◌-◌, ◌*◌, ◌/◌, ◌%◌, ◌≤◌, Bool, true, false, cond, ltb, List, [], ◌∷◌, length, take, drop, Result, Ok, Err, min, max, fold, refl, sym, ap, subst, ◌∙◌, arith, length-append, length-drop}
 use Rattle.std.specs.List.{AllByRecursion}
 use Rattle.std.proofs.lemmas.Bool.{ltb-false}
 use Rattle.std.proofs.lemmas.List.{length-take, take_all}
+use Rattle.mw_facts.proofs.Alls.{all-append, all-take}
 use Rattle.mw_netpbm.specs.declared.fault.ReadFault.{ReadFault}
 use Rattle.mw_netpbm.specs.declared.fault.ReadFault.TheVariants.{Short, Sample, Trailing}
 use Rattle.mw_netpbm.specs.Reading.{◌>>=◌}
@@ -55,15 +56,6 @@ words_length (suc n) [] e = absurd (omega (arith, e))
 words_length (suc n) (b ∷ []) e = absurd (omega (arith, e))
 words_length (suc n) (a ∷ b ∷ bs) e = ap suc (words_length n bs (omega (arith, e)))
 
-pub Within-append : (m : ℕ) (xs ys : List ℕ) → Within m xs → Within m ys → Within m (xs ++ ys)
-Within-append m [] ys p q = q
-Within-append m (x ∷ xs) ys p q = (p.0, Within-append m xs ys p.1 q)
-
-Within-take : (m n : ℕ) (xs : List ℕ) → Within m xs → Within m (take n xs)
-Within-take m zero xs p = tt
-Within-take m (suc n) [] p = tt
-Within-take m (suc n) (x ∷ xs) p = (p.0, Within-take m n xs p.1)
-
 bit_within : (n : ℕ) → n % 2 ≤ 1
 bit_within n = omega arith
 
@@ -74,7 +66,7 @@ bits_within b = (bit_within (b / 128), (bit_within (b / 64), (bit_within (b / 32
 row_within : (left : ℕ) (bytes : List ℕ) → Within 1 (row_bits left bytes)
 unfolding row_bits
 row_within left [] = tt
-row_within left (b ∷ bs) = Within-append 1 (take (min left 8) (bits_of b)) (row_bits (left - 8) bs) (Within-take 1 (min left 8) (bits_of b) (bits_within b)) (row_within (left - 8) bs)
+row_within left (b ∷ bs) = all-append (λ s. s ≤ 1) (take (min left 8) (bits_of b)) (row_bits (left - 8) bs) (all-take (λ s. s ≤ 1) (min left 8) (bits_of b) (bits_within b)) (row_within (left - 8) bs)
 
 bits_length : (b : ℕ) → length (bits_of b) ≡ 8
 unfolding bits_of
@@ -90,7 +82,7 @@ row_length left (b ∷ bs) h =
 pub rows_within : (width height : ℕ) (bytes : List ℕ) → Within 1 (rows_bits width height bytes)
 unfolding rows_bits
 rows_within width zero bytes = tt
-rows_within width (suc height) bytes = Within-append 1 (row_bits width (take ((width + 7) / 8) bytes)) (rows_bits width height (drop ((width + 7) / 8) bytes)) (row_within width (take ((width + 7) / 8) bytes)) (rows_within width height (drop ((width + 7) / 8) bytes))
+rows_within width (suc height) bytes = all-append (λ s. s ≤ 1) (row_bits width (take ((width + 7) / 8) bytes)) (rows_bits width height (drop ((width + 7) / 8) bytes)) (row_within width (take ((width + 7) / 8) bytes)) (rows_within width height (drop ((width + 7) / 8) bytes))
 
 pub rows_length : (width height : ℕ) (bytes : List ℕ) → height * ((width + 7) / 8) ≤ length bytes → length (rows_bits width height bytes) ≡ height * width
 unfolding rows_bits

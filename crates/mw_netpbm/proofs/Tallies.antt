@@ -1,6 +1,7 @@
 -- Signs and words, part by part.
 use Rattle.std.proofs.Common.{◌≡◌, ℕ, zero, suc, ◌+◌, ◌-◌, ◌^◌, Bool, true, false, cond, eqb, not, ◌||◌, List, [], ◌∷◌, ◌++◌, min, replicate, refl, sym, ap, ◌∙◌, arith}
 use Rattle.std.proofs.lemmas.List.Sums.{sum_by-append}
+use Rattle.std.proofs.Math.Bool.{or_assoc, or-false}
 use Rattle.mw_model.specs.NetpbmGrammar.{is_white}
 use Rattle.mw_netpbm.specs.Tallies.{signs_in, words_in, ends_white, has_hash}
 
@@ -8,13 +9,9 @@ words_append : (white : Bool) (front after : List ℕ) → words_in white (front
 words_append white [] after = omega arith
 words_append white (b ∷ front) after = let rest = words_append (is_white b) front after in omega arith
 
-grouped : (a b c : Bool) → (a || (b || c)) ≡ ((a || b) || c)
-grouped true b c = refl
-grouped false b c = refl
-
 hash_append : (front after : List ℕ) → has_hash (front ++ after) ≡ (has_hash front || has_hash after)
 hash_append [] after = refl
-hash_append (b ∷ front) after = ap (λ (t : Bool). eqb b 35 || t) (hash_append front after) ∙ grouped (eqb b 35) (has_hash front) (has_hash after)
+hash_append (b ∷ front) after = ap (λ (t : Bool). eqb b 35 || t) (hash_append front after) ∙ sym (or_assoc (eqb b 35) (has_hash front) (has_hash after))
 
 signs_append : (front after : List ℕ) → signs_in (front ++ after) ≡ signs_in front + signs_in after
 signs_append front after = sum_by-append (λ (b : ℕ). cond (not (is_white b)) 1 0) front after
@@ -41,11 +38,7 @@ pub words_padded : (white : Bool) (bytes block : List ℕ) (n : ℕ) → block �
 words_padded white bytes block n is = ap (words_in white) is ∙ words_append white bytes (replicate n 32) ∙ omega (arith, no_words (ends_white white bytes) n)
 
 pub hash_padded : (bytes block : List ℕ) (n : ℕ) → block ≡ bytes ++ replicate n 32 → has_hash block ≡ has_hash bytes
-hash_padded bytes block n is = ap has_hash is ∙ hash_append bytes (replicate n 32) ∙ ap (λ (t : Bool). has_hash bytes || t) (no_hash n) ∙ or_false (has_hash bytes)
-  where
-    or_false : (b : Bool) → (b || false) ≡ b
-    or_false true = refl
-    or_false false = refl
+hash_padded bytes block n is = ap has_hash is ∙ hash_append bytes (replicate n 32) ∙ ap (λ (t : Bool). has_hash bytes || t) (no_hash n) ∙ or-false (has_hash bytes)
 
 -- ---- what is counted, and what is still to be
 
@@ -67,7 +60,7 @@ tally_more signs words blank hash more_signs more_words more_blank more_hash fro
     record {
       all_signs = counted_on signs (signs_in front) (signs_in after) (signs_in rest) (min (signs_in bytes) (2 ^ 64 - 1)) more_signs (2 ^ 64 - 1) signs_split signs-is tally.all_signs;
       all_words = counted_on words (words_in blank front) (words_in more_blank after) (words_in blank rest) (min (words_in true bytes) (2 ^ 64 - 1)) more_words (2 ^ 64 - 1) words_split words-is tally.all_words;
-      all_hashes = ap (λ (t : Bool). t || has_hash after) hash-is ∙ sym (grouped hash (has_hash front) (has_hash after)) ∙ ap (λ (t : Bool). hash || t) (sym (hash_append front after) ∙ ap has_hash parts) ∙ tally.all_hashes;
+      all_hashes = ap (λ (t : Bool). t || has_hash after) hash-is ∙ or_assoc hash (has_hash front) (has_hash after) ∙ ap (λ (t : Bool). hash || t) (sym (hash_append front after) ∙ ap has_hash parts) ∙ tally.all_hashes;
     }
 
 -- the last bytes, with white space behind them

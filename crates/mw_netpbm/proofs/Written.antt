@@ -1,8 +1,8 @@
 -- What is written is a file of the image.
-use Rattle.std.proofs.Common.{◌≡◌, ℕ, zero, suc, ◌^◌, ◌<◌, Bool, true, false, ◌&&◌, List, [], ◌∷◌, length, IsTrue, refl, sym, subst, arith, rules}
+use Rattle.std.proofs.Common.{◌≡◌, ℕ, zero, suc, ◌^◌, ◌<◌, Bool, true, ◌&&◌, List, [], ◌∷◌, length, IsTrue, refl, sym, subst, arith, rules}
 use Rattle.std.specs.List.{AllByRecursion, flat_map}
 use Rattle.std.specs.Fmt.{decimal}
-use Rattle.std.proofs.lemmas.Bool.{le-ltb, lt-ltb}
+use Rattle.std.proofs.lemmas.Bool.{le-ltb, lt-ltb, and_parts}
 use Rattle.std.proofs.lemmas.List.Concat.{flat_map-cons}
 use Rattle.std.proofs.lemmas.Str.Parse.{IsNumeralModel, numerals_by_fold}
 use Rattle.std.proofs.lemmas.Fmt.{digits_decimal, digits_value-decimal, decimal_nonempty}
@@ -29,13 +29,9 @@ all_digits (d ∷ ds) = is_digit d && all_digits ds
 own : IsNumeralModel (λ ds. all_digits ds ≡ true) (value_after 0)
 own = numerals_by_fold _ (search rules) value_after (search rules)
 
-both : (a b : Bool) → (a && b) ≡ true → (a ≡ true) × (b ≡ true)
-both true b e = (refl, e)
-both false b e = absurd cc
-
 digits_each : (ds : List ℕ) → all_digits ds ≡ true → AllByRecursion (λ d. IsTrue (is_digit d)) ds
 digits_each [] e = tt
-digits_each (d ∷ ds) e = let h = both (is_digit d) (all_digits ds) e in (h.0, digits_each ds h.1)
+digits_each (d ∷ ds) e = let h = and_parts (is_digit d) (all_digits ds) e in (h.0, digits_each ds h.1)
 
 decimal_some : (n : ℕ) → n < 2 ^ 64 → 0 < length (decimal n)
 decimal_some n lt = decimal_nonempty n lt

@@ -8,6 +8,7 @@ use Rattle.mw_model.specs.declared.places.Offset.{Offset}
 use Rattle.mw_model.specs.Rasters.{Raster, cell_at, seen_under}
 use Rattle.mw_model.specs.Pictures.{Picture, sample, sample_at}
 use Rattle.mw_model.specs.Flat.{under}
+use Rattle.mw_model.proofs.Covers.{sample_at_in}
 use Rattle.mw_pixel.specs.Images.{raster_of}
 
 pub cell_at-inside : {A : Type 0} (f : Raster A) (x y : ℕ) → x < f.width → y < f.height → cell_at f (pos x) (pos y) ≡ slice_get f.cells (y * f.width + x)
@@ -22,9 +23,6 @@ cell_at-below f x y across past = rw (lt-ltb x f.width across, le-ltb y f.height
 pub cell_at-above : {A : Type 0} (f : Raster A) (column : ℤ) (n : ℕ) → cell_at f column (negsuc n) ≡ None
 cell_at-above f (pos x) n = refl
 cell_at-above f (negsuc x) n = refl
-
-sample_at-inside : (f : Picture) (x y : ℕ) → x < f.width → y < f.height → sample_at f (pos x) (pos y) ≡ Some (sample f x y)
-sample_at-inside f x y across down = rw (lt-ltb x f.width across, lt-ltb y f.height down) refl
 
 sample_at-right : (f : Picture) (x y : ℕ) → f.width ≤ x → sample_at f (pos x) (pos y) ≡ None
 sample_at-right f x y past = rw (le-ltb x f.width past) refl
@@ -45,7 +43,7 @@ cell_at-raster_of f size (pos x) (pos y) =
       | inr past ↦ cell_at-right (raster_of f) x y past ∙ sym (sample_at-right f x y past)
       | inl across ↦ elim (cases_lt y f.height) [
         | inr past ↦ cell_at-below (raster_of f) x y across past ∙ sym (sample_at-below f x y across past)
-        | inl down ↦ cell_at-inside (raster_of f) x y across down ∙ slice_get-samples f size x y across down ∙ sym (sample_at-inside f x y across down)
+        | inl down ↦ cell_at-inside (raster_of f) x y across down ∙ slice_get-samples f size x y across down ∙ sym (sample_at_in f x y across down)
       ]
     ]
 

@@ -1,5 +1,6 @@
-pub mod Lanes
-pub mod Merged
-pub mod Lists
-pub mod Held
+-- what other crates may cite
 pub mod Cells
+pub mod Lists
+-- the crate's own
+mod Lanes
+mod Held

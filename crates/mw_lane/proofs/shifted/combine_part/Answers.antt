@@ -1,5 +1,6 @@
 use Rattle.std.proofs.Common.{arith, ◌+◌, ◌-◌, length, refl, ◌≤◌}
-use Rattle.mw_lane.proofs.Parts.{part_done, slice_get_past}
+use Rattle.std.proofs.lemmas.Option.{slice_get_past}
+use Rattle.mw_lane.proofs.Parts.{part_done}
 use Rattle.mw_lane.proofs.shifted.combine_part.Goals as goal
 use Rattle.mw_lane.proofs.shifted.combine_part.Goals.{else-ahead-row-via-then-ahead-row+else-behind-out, else-ahead-row-via-else-ahead-row}
 

@@ -1,5 +1,6 @@
 use Rattle.std.proofs.Common.{arith, ◌∙◌, ◌+◌, length-set, ap, map}
-use Rattle.mw_lane.proofs.Merged.{merged_step, merged_chunk, merged_all, length-merged, map-zip2}
+use Rattle.mw_facts.proofs.Merged.{merged_step, merged_chunk, merged_all, length-merged}
+use Rattle.mw_lane.proofs.Differences.{map-zip2}
 use Rattle.mw_lane.proofs.subtract.subtract_rows.Goals as goal
 
 pub by_block-preserved : goal.by_block-preserved

@@ -1,8 +1,8 @@
 use Rattle.std.proofs.Common.{◌≡◌, ◌+◌, ◌-◌, ◌*◌, ◌≤◌, ◌<◌, length-take, length-drop, take, drop, length, arith, ◌∙◌, inl, inr}
 use Rattle.std.proofs.lemmas.Bool.{cases_lt}
 use Rattle.std.proofs.lemmas.List.{take_rest}
-use Rattle.mw_lane.proofs.Blocks.{put_mid_below, put_mid_at}
-use Rattle.mw_line.proofs.Folds.{IsExtremum, window_done, length-put_mid}
+use Rattle.mw_facts.proofs.Parts.{length-put_mid, get_or-put_mid_below, get_or-put_mid_within}
+use Rattle.mw_line.proofs.Folds.{IsExtremum, window_done}
 use borrow.Rule.Slice.PartMut.{put_mid}
 use Rattle.mw_line.proofs.passes.slide.Goals as goal
 use Rattle.mw_line.proofs.passes.slide.Goals.{then-k-room, else-k-room}
@@ -32,8 +32,8 @@ chunks-preserved g c =
       cost = omega arith;
       counted = omega (arith, counted_back, counted_on, so_far, length-take (at + k - at) (drop at padded), length-drop at padded, length-take (at + m - at) (drop at c.chunks.out), length-drop at c.chunks.out);
       done = λ i lt. elim (cases_lt i at) [
-        | inl before ↦ put_mid_below at (at + m - at) c.chunks.out c.forward.new.out i n (omega arith) before ∙ c.chunks.invariant.done i before
-        | inr from ↦ put_mid_at at (at + m - at) c.chunks.out c.forward.new.out i n (omega arith) from (omega arith)
+        | inl before ↦ get_or-put_mid_below at (at + m - at) c.chunks.out c.forward.new.out i n (omega arith) before ∙ c.chunks.invariant.done i before
+        | inr from ↦ get_or-put_mid_within at (at + m - at) c.chunks.out c.forward.new.out i n (omega arith) from (omega arith)
             ∙ window_done f laws n padded (take (length padded - (at + k)) (drop (at + k) padded)) c.backward.new.tail c.forward.new.out at k (at + k - at) m i (omega arith) (take_rest padded (at + k)) short (omega arith) c.backward.ensures.value (λ r less. c.forward.ensures.value r (omega (arith, length-take (at + m - at) (drop at c.chunks.out), length-drop at c.chunks.out))) from lt
       ];
     }

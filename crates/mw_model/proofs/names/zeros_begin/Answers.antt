@@ -1,6 +1,6 @@
 use Rattle.std.proofs.Common.{rules, arith}
 use Rattle.mw_model.specs.Names.{is_zero}
-use Rattle.mw_model.proofs.Positions.{position_more, position_here, position_length}
+use Rattle.mw_facts.proofs.Positions.{position_more, position_here, position_length}
 use Rattle.mw_model.proofs.names.zeros_begin.Goals as goal
 
 pub returns-then-bytes-i-eq0 : goal.returns-then-bytes-i-eq0

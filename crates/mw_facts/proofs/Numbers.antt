@@ -1,0 +1,25 @@
+-- Tests on numbers, and induction over the numbers below one.
+use Rattle.std.proofs.Common.{◌≡◌, ℕ, zero, suc, ◌+◌, ◌<◌, Bool, true, false, cond, ltb, min, max, ◌⊎◌, inl, inr, ◌≤◌, arith}
+use Rattle.std.proofs.lemmas.Bool.{cases_lt}
+use Rattle.std.proofs.lemmas.Bool.Decides.{nat_tests}
+
+pub cond-min : (x y : ℕ) → cond (ltb x y) x y ≡ min x y
+cond-min x y = grind (arith, nat_tests)
+
+pub cond-max : (x y : ℕ) → cond (ltb x y) y x ≡ max x y
+cond-max x y = grind (arith, nat_tests)
+
+pub one_if-le : (b : Bool) → cond b 1 0 ≤ 1
+one_if-le true = omega arith
+one_if-le false = omega arith
+
+pub below_or_last : (n t : ℕ) → t < n + 1 → (t < n) ⊎ (t ≡ n)
+below_or_last n t lt = elim (cases_lt t n) [ inl less ↦ inl less | inr past ↦ inr (omega arith) ]
+
+-- a fact of all numbers follows from what the smaller ones tell
+pub strong_induction : (P : ℕ → Type 0) → ((u : ℕ) → ((v : ℕ) → v < u → P v) → P u) → (u : ℕ) → P u
+strong_induction P f u = below (suc u) u (omega arith)
+  where
+    below : (n u : ℕ) → u < n → P u
+    below zero u lt = absurd (omega arith)
+    below (suc n) u lt = f u (λ v less. below n v (omega arith))
