@@ -8,8 +8,7 @@ use Rattle.std.proofs.lemmas.List.{take_all, get_or-take, get_or-drop, get_or_pa
 use Rattle.std.proofs.lemmas.Nat.{shr-shr, one_shl, pow_pos, div-add-mod', div_below, mod_below}
 use Rattle.std.proofs.lemmas.Nat.Bits.{bit_at_and, bit_at_ones, bit_at-lt, and_pow}
 use Rattle.std.proofs.lemmas.Simd.{bitmask_splat, bit_mask_l, get_or-replicate}
-use Rattle.mw_lane.proofs.Blocks.{put_mid_at, put_mid_below}
-use Rattle.mw_lane.proofs.Parts.{put_mid_above}
+use Rattle.mw_facts.proofs.Parts.{get_or-put_mid_below as put_mid_below, get_or-put_mid_within as put_mid_at, get_or-put_mid_above as put_mid_above}
 use Rattle.mw_line.proofs.Rows.{RowsMade}
 use Rattle.mw_bits.specs.Packed.{stride_of, samples_of, IsPacked}
 use Rattle.mw_bits.proofs.Bits.{samples_are_bits, some_width}

@@ -1,5 +1,4 @@
 -- Folds by an operation that takes no notice of order and repeats.
-pub use Rattle.mw_facts.proofs.Parts.{length-put_mid}
 use Rattle.std.proofs.Common.{◌≡◌, ℕ, ◌+◌, ◌-◌, ◌<◌, ◌≤◌, List, [], ◌∷◌, ◌++◌, length, take, drop, get_or, set, fold, slice_range, ◌≢◌, inl, inr, length-take, length-drop, refl, ap, sym, arith, ◌∙◌}
 use Rattle.std.proofs.lemmas.List.Sums.{fold-append}
 use Rattle.std.proofs.lemmas.List.{drop_more, take_more, drop-take, drop-drop, get_or-set_same, get_or-set_other}

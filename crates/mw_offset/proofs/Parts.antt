@@ -7,9 +7,8 @@ use Rattle.std.proofs.lemmas.List.{get_or-take, get_or-drop, take_more, get_or_d
 use Rattle.std.proofs.lemmas.List.Concat.{flat_map-append, flat_map-cons}
 use Rattle.std.proofs.lemmas.List.Sums.{fold-append}
 use borrow.Rule.Slice.PartMut.{put_mid}
-use Rattle.mw_lane.proofs.Blocks.{put_mid_at, put_mid_below}
-use Rattle.mw_lane.proofs.Parts.{put_mid_above}
-use Rattle.mw_line.proofs.Folds.{IsExtremum, length-put_mid}
+use Rattle.mw_facts.proofs.Parts.{length-put_mid, get_or-put_mid_below as put_mid_below, get_or-put_mid_within as put_mid_at, get_or-put_mid_above as put_mid_above}
+use Rattle.mw_line.proofs.Folds.{IsExtremum}
 use Rattle.mw_offset.specs.declared.runs.Run.{Run}
 use Rattle.mw_offset.specs.declared.runs.Extent.{Extent}
 use Rattle.mw_offset.proofs.Rooms.{merged_again}
