@@ -4,14 +4,15 @@ use Rattle.mw_line.specs.Extrema.{IsSlidingExtremum}
 use Rattle.mw_line.proofs.Folds.{IsExtremum}
 use Rattle.mw_step.proofs.Images.{if_ok}
 use Rattle.mw_step.proofs.SameMembers.{box_slides}
-use Rattle.mw_step.proofs.sliding.extremum.Goals as goal
+use Rattle.mw_step.proofs.sliding.under_element.Goals as goal
 
 pub returns-in-Some : goal.returns-in-Some
 returns-in-Some g c =
     let f = g.E.Extremum.merge in
+    let neutral = g.E.Extremum.neutral_of c.args.maxval in
     let laws : IsExtremum f = record { commutes = g.met.E.Extremum.commutes; associates = g.met.E.Extremum.associates; is_idempotent = g.met.E.Extremum.is_idempotent } in
     let sight = seen_at c.args.window.now in
     let e = c.args.element.now.offsets in
     let box = c.in-Some.offsets in
-    if_ok c.rectangle.result (IsSlidingExtremum f c.args.neutral sight (box_offsets box) c.args.tile) (IsSlidingExtremum f c.args.neutral sight e c.args.tile)
-    (λ r slides. box_slides f laws c.args.neutral sight box e c.args.tile r c.in-Some.ensures.some slides) c.rectangle.ensures.over_window
+    if_ok c.under_box.result (IsSlidingExtremum f neutral sight (box_offsets box) c.args.tile) (IsSlidingExtremum f neutral sight e c.args.tile)
+    (λ r slides. box_slides f laws neutral sight box e c.args.tile r c.in-Some.ensures.some slides) c.under_box.ensures

@@ -1,7 +1,7 @@
 use Rattle.std.proofs.Common.{arith, ap, ◌∙◌, ℕ, cond}
 use Rattle.std.specs.Prelude.{◌==◌, if◌then◌else◌}
 use Rattle.mw_lane.proofs.Merged.{mapped_step, mapped_all, merged_all}
-use Rattle.mw_step.proofs.marks.level_row.Goals as goal
+use Rattle.mw_step.proofs.thresholds.level_row.Goals as goal
 
 pub loop-i-preserved : goal.loop-i-preserved
 loop-i-preserved g c = mapped_step (λ (s : g.row.P.Denot). if g.P.Pixel.level s == c.args.v then 1 else 0) c.loop-i.i c.args.out.now c.args.src.now c.loop-i.out c.index-src-i.result c.new.result
