@@ -53,9 +53,9 @@ fn others(share: &SharedView) -> usize {
 /// The window of the whole frame that owns its plane by this share.
 fn window_of(share: SharedView) -> AnyWindow {
     match share {
-        SharedView::Bits(plane) => AnyWindow::Bits(Window::sharing(plane)),
-        SharedView::Grey8(plane, maxval) => AnyWindow::Grey8(Window::sharing(plane), maxval),
-        SharedView::Grey16(plane, maxval) => AnyWindow::Grey16(Window::sharing(plane), maxval),
+        SharedView::Bits(plane) => AnyWindow::bits(Window::sharing(plane)),
+        SharedView::Grey8(plane, maxval) => AnyWindow::grey8(Window::sharing(plane), maxval),
+        SharedView::Grey16(plane, maxval) => AnyWindow::grey16(Window::sharing(plane), maxval),
     }
 }
 
@@ -90,21 +90,21 @@ fn owned_in_turn(
 
 #[test]
 fn sets_share_their_planes(rt: HostRuntime) -> Result<(), Fail> {
-    let set = AnyWindow::Bits(Window::whole(plane_of(rt.alloc(), Bit::SET)?));
+    let set = AnyWindow::bits(Window::whole(plane_of(rt.alloc(), Bit::SET)?));
     let image = Image::bits(plane_of(rt.alloc(), Bit::SET)?);
     owned_in_turn(&rt, rt.alloc(), image, &set)
 }
 
 #[test]
 fn images_of_bytes_share_their_planes(rt: HostRuntime) -> Result<(), Fail> {
-    let grey = AnyWindow::Grey8(Window::whole(plane_of(rt.alloc(), 7u8)?), 9);
+    let grey = AnyWindow::grey8(Window::whole(plane_of(rt.alloc(), 7u8)?), 9);
     let image = Image::grey8(plane_of(rt.alloc(), 7u8)?, 9);
     owned_in_turn(&rt, rt.alloc(), image, &grey)
 }
 
 #[test]
 fn images_of_two_bytes_share_their_planes(rt: HostRuntime) -> Result<(), Fail> {
-    let deep = AnyWindow::Grey16(Window::whole(plane_of(rt.alloc(), 700u16)?), 999);
+    let deep = AnyWindow::grey16(Window::whole(plane_of(rt.alloc(), 700u16)?), 999);
     let image = Image::grey16(plane_of(rt.alloc(), 700u16)?, 999);
     owned_in_turn(&rt, rt.alloc(), image, &deep)
 }
