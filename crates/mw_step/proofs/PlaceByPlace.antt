@@ -96,13 +96,6 @@ blank_held kind maxval tile p is =
     (cells_in_is tile (λ x y. 0) (replicate (tile.height * tile.width) 0) (length-replicate (tile.height * tile.width) 0)
     (λ i j across down. get_or-replicate (tile.height * tile.width) (j * tile.width + i) 0 0 (omega (arith, mul-add-lt j tile.width i tile.height down across))) ∙ sym (ap (λ (r : Raster ℕ). r.cells) is))
 
--- a plane with cells that are given
-pub plane_held : (kind : Kind) (maxval : ℕ) (place : Rect) (p : Raster ℕ) (cells : List ℕ) → HasSides p place → p.cells ≡ cells → plane_drawn kind maxval place cells ≡ picture kind p.width p.height maxval p.cells
-plane_held kind maxval place p cells sides is =
-    ap (λ (t : List ℕ). picture kind place.width place.height maxval t) (sym is)
-    ∙ ap (λ (t : ℕ). picture kind t place.height maxval p.cells) (sym sides.width)
-    ∙ ap (λ (t : ℕ). picture kind p.width t maxval p.cells) (sym sides.height)
-
 -- the cells of a value of two windows, and of three
 pub both_cells : (kind : Kind) (maxval : ℕ) (value : ℕ → ℕ → ℕ) (a b : View ℕ) → a.place ≡ b.place → Fills a.place a → Fills a.place b → both_drawn kind maxval value a b ≡ plane_drawn kind maxval a.place (zip2 value a.cells b.cells)
 both_cells kind maxval value a b place a-size b-size =

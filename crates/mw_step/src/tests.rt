@@ -27,6 +27,7 @@ const TASK: TaskId = TaskId {
 };
 
 fn levels(rt: &HostRuntime, samples: &[u8; 5], maxval: u8) -> Result<AnyWindow, Fail> {
+    assert!(rt; maxval >= 1);
     let samples = samples.to_vec(rt.alloc())?;
     if samples.len() == 5 {
         let place = Rect {
