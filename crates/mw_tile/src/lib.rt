@@ -13,10 +13,9 @@
 mod any;
 mod cuts;
 mod laws;
-mod levels;
 mod window;
 
-pub use any::AnyWindow;
+pub use any::{AnyWindow, WindowView};
 pub use cuts::{cut, paste};
 pub use laws::{cut_is_window, window_shows_frame, window_shows_picture};
 pub use mw_model::{NoMemory, Offset, Reach, Rect};
