@@ -16,12 +16,13 @@ compiler:
 	@command -v cc >/dev/null || { \
 	  echo "cc is missing: install Debian's package gcc" >&2; exit 1; }
 
-test: toolchain
+test: toolchain python
+	@python3 -B checks/no_leaks.py
 	rt ci
 
-# Proves and builds the program, and runs it once on its stored session.
-morphd: toolchain
-	@cd crates/morphd && rt run -- batch < stdin > /dev/null
+# Proves and builds the program, as wide as the machine allows, and runs it once on its stored session.
+morphd: toolchain python
+	@python3 -B checks/prove.py morphd
 
 demo: python morphd
 	@echo "a picture of grains:"
@@ -29,21 +30,21 @@ demo: python morphd
 	@echo "the same, opened by a ball five pixels wide: $(MORPHD) batch < examples/grains.session | python3 examples/show.py -"
 	@$(MORPHD) batch < examples/grains.session | python3 examples/show.py -
 
-memory: python compiler morphd
+memory: toolchain python compiler
+	@python3 -B checks/prove.py morphd mw_memory_tests mw_machine_tests
 	@python3 -B checks/refused_memory.py $(MORPHD)
-	@cd crates/mw_memory_tests && rt test > /dev/null
-	@cd crates/mw_machine_tests && rt test > /dev/null
 	@python3 -B checks/refused_tests.py crates/mw_memory_tests/out/mw_memory_tests_tests
 	@python3 -B checks/refused_tests.py crates/mw_machine_tests/out/mw_machine_tests_tests
 
 # Best on a machine that does nothing else: each line is the best of five runs in one thread. The C library is told to
-# keep what is freed, so that copies, reads and writes alike find memory that the system has given already. `rt run`
-# proves and builds; without the word `measure` the programs end at once.
+# keep what is freed, so that copies, reads and writes alike find memory that the system has given already. Without the
+# word `measure`, as where they are built, the programs end at once.
 KEEP = MALLOC_MMAP_MAX_=0 MALLOC_TRIM_THRESHOLD_=17179869184
 
-bench: python morphd
-	cd crates/bench_files && rt run && $(KEEP) out/bench_files measure
-	cd crates/bench_kernels && rt run && $(KEEP) out/bench_kernels measure all
-	cd crates/bench_core && rt run && out/bench_core measure
+bench: toolchain python
+	@python3 -B checks/prove.py morphd bench_files bench_kernels bench_core
+	$(KEEP) crates/bench_files/out/bench_files measure
+	$(KEEP) crates/bench_kernels/out/bench_kernels measure all
+	crates/bench_core/out/bench_core measure
 	python3 bench/command.py $(MORPHD)
 	@/usr/bin/python3 bench/peers.py || echo "the peers were not measured" >&2

@@ -267,7 +267,7 @@ impl Store {
     }
 
     /// Drops what is kept of an entry.
-    pub fn forget(&mut self, t: u32)
+    pub fn drop_kept(&mut self, t: u32)
         requires { t < length self.old.table.names }
         ensures table { self.new.table ≡ self.old.table }
         ensures kept { self.new.kept ≡ slice_set self.old.kept t None }

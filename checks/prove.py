@@ -1,0 +1,289 @@
+#!/usr/bin/env python3
+"""Proves and builds crates, and all that they need, as wide as the machine allows.
+
+    python3 checks/prove.py [--jobs N] CRATE..
+
+A library is proved and built; a program is built and runs once, on its files `args` and `stdin`; the tests of a crate of
+tests are proved and run. It prints how many crates are done, which run, and about how long the rest will take.
+
+`rt` locks a crate and all crates below it for as long as it works. So each crate is proved in a folder of its own, with
+copies of its sources, with links to what was proved of the crates below it, and with the crate's own `out/`, which goes
+there and comes back. `rt` in the repository waits meanwhile. What earlier checks left in `out/` is used again.
+"""
+import argparse
+import fcntl
+import os
+import shutil
+import signal
+import subprocess
+import sys
+import tempfile
+import time
+
+ROOT = os.path.dirname(os.path.dirname(os.path.realpath(__file__)))
+PARTS = ("src", "specs", "proofs")
+# Until something has been proved: processor seconds for a line of code or of proofs.
+SECONDS_A_LINE = 0.08
+MOST_JOBS = 4
+
+
+def needs_by_crate():
+    """Of each crate that crates.txt lists, the crates of the repository that it stands on."""
+    rows = {}
+    with open(f"{ROOT}/crates.txt", encoding="utf-8") as file:
+        for line in file:
+            name, _, needs = line.partition("#")[0].partition(":")
+            if name.strip():
+                rows[name.strip()] = needs.split()
+    return {name: [it for it in needs if it in rows] for name, needs in rows.items()}
+
+
+def all_below(name, needs):
+    """The crates that a crate stands on, at any depth."""
+    found = set()
+    for below in needs[name]:
+        found |= {below} | all_below(below, needs)
+    return found
+
+
+def sources(name):
+    for part in PARTS:
+        for folder, _, files in os.walk(f"{ROOT}/crates/{name}/{part}"):
+            yield from (f"{folder}/{file}" for file in files)
+
+
+def text(path):
+    if not os.path.isfile(path):
+        return ""
+    with open(path, encoding="utf-8", errors="replace") as file:
+        return file.read()
+
+
+class Crate:
+    """A crate to prove: its work in lines, and the run that proves it."""
+
+    def __init__(self, name, needs, is_wanted):
+        self.name, self.needs, self.below = name, needs[name], all_below(name, needs)
+        self.home = f"{ROOT}/crates/{name}"
+        texts = {file: text(file) for file in sources(name)}
+        # Each check reads the libraries below first, which takes as long as some lines.
+        self.lines = 150 + sum(it.count("\n") for it in texts.values())
+        # Of a crate that is only needed by others the library alone is wanted.
+        self.is_tested = is_wanted and any("#[test]" in it for file, it in texts.items() if file.endswith(".rt"))
+        self.is_program = os.path.isfile(f"{self.home}/src/main.rt")
+        self.run = None
+
+    def memory(self):
+        """The bytes that a check of the crate is likely to take with one job."""
+        return 1_000_000_000 + 500_000 * self.lines
+
+    def words(self, jobs):
+        if self.is_program:
+            return ["rt", "run", "--jobs", str(jobs), "--", *text(f"{self.home}/args").splitlines()]
+        return ["rt", "test" if self.is_tested else "lib", "--jobs", str(jobs)]
+
+    def wanted_status(self):
+        return int(text(f"{self.home}/status").strip() or 0) if self.is_program else 0
+
+    def furnish(self, room):
+        """Lays out a repository of this crate and those below it in the room's folder."""
+        self.top = f"{room}/{self.name}"
+        self.place = f"{self.top}/crates/{self.name}"
+        for name in [self.name, *self.below]:
+            for part in PARTS:
+                if os.path.isdir(f"{ROOT}/crates/{name}/{part}"):
+                    shutil.copytree(f"{ROOT}/crates/{name}/{part}", f"{self.top}/crates/{name}/{part}")
+        for name in self.below:
+            linked(f"{ROOT}/crates/{name}/out/rlib", f"{self.top}/crates/{name}/out/rlib")
+        kept = {self.name, *self.below}
+        with open(f"{ROOT}/crates.txt", encoding="utf-8") as rows, open(f"{self.top}/crates.txt", "w", encoding="utf-8") as file:
+            file.writelines(it for it in rows if it.partition(":")[0].strip() in kept)
+        if os.path.isdir(f"{self.home}/out"):
+            os.rename(f"{self.home}/out", f"{self.place}/out")
+
+    def start(self, room, jobs):
+        self.jobs, self.began = jobs, time.monotonic()
+        self.furnish(room)
+        self.said = open(f"{room}/{self.name}.said", "w+", errors="replace")
+        given = f"{self.home}/stdin"
+        with open(given if self.is_program and os.path.isfile(given) else os.devnull, "rb") as stdin:
+            how = {"stdin": stdin, "stdout": self.said, "stderr": subprocess.STDOUT}
+            self.run = subprocess.Popen(self.words(jobs), cwd=self.place, **how)
+
+    def ended(self):
+        """Whether the run has ended; then what it took stands in `took`: more than its processor seconds on a busy machine."""
+        ended, status, used = os.wait4(self.run.pid, os.WNOHANG)
+        if not ended:
+            return False
+        self.run.returncode = os.waitstatus_to_exitcode(status)
+        self.took = max(used.ru_utime + used.ru_stime, time.monotonic() - self.began)
+        return True
+
+    def is_well(self):
+        return self.run.returncode == self.wanted_status()
+
+    def give_back(self):
+        """Puts the crate's out/ back, and takes down the folder that it was proved in."""
+        if os.path.isdir(f"{self.place}/out"):
+            shutil.rmtree(f"{self.home}/out", ignore_errors=True)
+            os.rename(f"{self.place}/out", f"{self.home}/out")
+        shutil.rmtree(self.top, ignore_errors=True)
+
+
+def linked(source, target):
+    """Copies a folder by hard links: nothing writes into what was proved."""
+    if os.path.isdir(source):
+        shutil.copytree(source, target, copy_function=os.link)
+
+
+class Proving:
+    """All crates that are to be proved: those that wait, those that run, and those that are done."""
+
+    def __init__(self, crates, lanes, room):
+        self.crates, self.lanes, self.room = crates, lanes, room
+        self.waiting, self.running, self.done, self.failed = list(crates.values()), [], [], []
+        self.memory = 0.85 * free_memory()
+        self.chains = {}
+        for crate in reversed(self.waiting):
+            above = [self.chains[it.name] for it in self.waiting if crate.name in it.needs]
+            self.chains[crate.name] = crate.lines + max(above, default=0)
+        self.waiting.sort(key=lambda it: -self.chains[it.name])
+
+    def seconds_a_line(self):
+        # A crate that was proved before takes a second or two, and says nothing of the others.
+        new = [it for it in self.done if it.took > 0.01 * it.lines + 5]
+        took, lines = sum(it.took for it in new), sum(it.lines for it in new)
+        return (took + SECONDS_A_LINE * 500) / (lines + 500)
+
+    def seconds_left(self):
+        """The rest of the work over all processors, or that of the longest chain of crates, whichever is more."""
+        rate, now = self.seconds_a_line(), time.monotonic()
+        rest = {it.name: rate * it.lines for it in self.waiting}
+        for it in self.running:
+            spent = it.jobs * (now - it.began)
+            # A crate that is over its time is taken to need a third of it more.
+            rest[it.name] = max(rate * it.lines - spent, spent / 3)
+        chains = [rate * (self.chains[name] - self.crates[name].lines) + it for name, it in rest.items()]
+        return max([sum(rest.values()) / self.lanes, *(it / 1.5 for it in chains)], default=0)
+
+    def say(self, what):
+        running = ", ".join(it.name for it in self.running)
+        left = self.seconds_left()
+        rest = f"; running: {running}; about {as_time(left)} to go" if running else ""
+        print(f"[{len(self.done)}/{len(self.crates)}] {what}{rest}", flush=True)
+
+    def start_some(self):
+        done = {it.name for it in self.done}
+        ready = [it for it in self.waiting if done.issuperset(it.needs)]
+        for at, crate in enumerate(ready):
+            idle = self.lanes - sum(it.jobs for it in self.running)
+            room = self.memory - sum(it.memory() * (1 + it.jobs) / 2 for it in self.running)
+            if idle <= 0 or self.running and room < crate.memory():
+                return
+            # A processor that no other crate waits for goes to this one.
+            spare = min(MOST_JOBS, idle // (len(ready) - at), int(2 * room / crate.memory() - 1))
+            self.waiting.remove(crate)
+            self.running.append(crate)
+            crate.start(self.room, max(1, spare))
+
+    def settle(self, crate):
+        self.running.remove(crate)
+        crate.give_back()
+        (self.done if crate.is_well() else self.failed).append(crate)
+        took = as_time(time.monotonic() - crate.began)
+        self.say(f"{crate.name} {'done' if crate.is_well() else 'FAILED'} after {took}")
+        if not crate.is_well():
+            crate.said.seek(0)
+            print(crate.said.read(), flush=True)
+
+    def to_the_end(self):
+        last = time.monotonic()
+        while self.running or self.waiting and not self.failed:
+            if not self.failed:
+                self.start_some()
+            for crate in [it for it in self.running if it.ended()]:
+                self.settle(crate)
+                last = time.monotonic()
+            if time.monotonic() - last > 30:
+                self.say("..")
+                last = time.monotonic()
+            time.sleep(0.1)
+        return not self.failed
+
+    def stop(self):
+        for crate in self.running:
+            crate.run.terminate()
+        for crate in self.running:
+            crate.run.wait()
+            crate.give_back()
+
+
+def as_time(seconds):
+    return f"{seconds:.0f} s" if seconds < 90 else f"{seconds / 60:.0f} minutes"
+
+
+def free_memory():
+    rows = dict(row.split(":") for row in text("/proc/meminfo").splitlines())
+    return 1024 * int(rows["MemAvailable"].split()[0])
+
+
+def locked(names):
+    """Waits for each `rt` that works in these crates' folders, and keeps others out until the files are closed."""
+    files = [os.open(f"{ROOT}/crates/{name}", os.O_RDONLY) for name in sorted(names)]
+    for file in files:
+        fcntl.flock(file, fcntl.LOCK_EX)
+    return files
+
+
+def work_room():
+    """A folder on the repository's own disk that no check reads: in git's folder, or beside the repository."""
+    found = subprocess.run(["git", "-C", ROOT, "rev-parse", "--absolute-git-dir"], capture_output=True, text=True)
+    room = f"{found.stdout.strip()}/prove" if found.returncode == 0 else f"{ROOT}-prove"
+    os.makedirs(room, exist_ok=True)
+    return room
+
+
+def take_back(room):
+    """Gives crates what a run that was killed left in its folder."""
+    for name in os.listdir(room):
+        left, home = f"{room}/{name}/crates/{name}/out", f"{ROOT}/crates/{name}"
+        if os.path.isdir(left) and os.path.isdir(home) and not os.path.exists(f"{home}/out"):
+            os.rename(left, f"{home}/out")
+    shutil.rmtree(room)
+    os.makedirs(room)
+
+
+def end(*_):
+    sys.exit(130)
+
+
+def main():
+    wanted = argparse.ArgumentParser(description=__doc__.split("\n")[0])
+    wanted.add_argument("--jobs", type=int, default=len(os.sched_getaffinity(0)), help="how many processors to use")
+    wanted.add_argument("crates", nargs="+", metavar="CRATE")
+    wanted = wanted.parse_args()
+    needs = needs_by_crate()
+    for name in wanted.crates:
+        if name not in needs:
+            sys.exit(f"crates.txt lists no crate {name}")
+    names = set(wanted.crates).union(*(all_below(it, needs) for it in wanted.crates))
+    names = sorted(names, key=lambda it: len(all_below(it, needs)))
+    held, room, began = locked(names), work_room(), time.monotonic()
+    take_back(room)
+    proving = Proving({name: Crate(name, needs, name in wanted.crates) for name in names}, max(1, wanted.jobs), room)
+    for it in (signal.SIGINT, signal.SIGTERM):
+        signal.signal(it, end)
+    try:
+        is_well = proving.to_the_end()
+    finally:
+        proving.stop()
+        shutil.rmtree(room, ignore_errors=True)
+        for file in held:
+            os.close(file)
+    if not is_well:
+        sys.exit(f"not proved: {', '.join(it.name for it in proving.failed)}")
+    print(f"all {len(names)} crates done in {as_time(time.monotonic() - began)}")
+
+
+if __name__ == "__main__":
+    main()
