@@ -25,7 +25,7 @@ use Rattle.mw_plan.specs.declared.inputs.Input.{Input}
 use Rattle.mw_plan.specs.declared.inputs.Input.TheVariants as input
 use Rattle.mw_plan.specs.Asked.{is_image_input, is_element_input, image_shape, offsets_of_input, unless, first_fault, fault_in, shape_made, IsRefusedBy}
 use Rattle.mw_plan.specs.PlansOf.{IsValueOf, AreValuesOf, HaveFrame, IsPlanOf, IsReadBy, CanBeMade, images_taken, inputs_taken, planes_read}
-use Rattle.mw_plan.specs.Steps.{HasElements, Makes, last_plane, operator_of}
+use Rattle.mw_plan.specs.Steps.{HasElements, Makes, last_plane, operator_of, step_count}
 
 -- ---- no fault
 
@@ -179,10 +179,10 @@ value_is s kind m n maxval plan f images width height g shaped alone w h last =
     ∙ ap (λ (t : ℕ). value_of_planes (shape.Image kind m n maxval) plan (planes plan (f ∷ []) f.width t)) (sym h)
     ∙ ap (λ (t : Picture). Some (ImageValue t)) last
 
-pub plan_of_one : (o : Op) (a b c : Input) (operator : Picture → Picture) (plan : Plan) → TakesOne o a b c
-    → ((values : List (Option Value)) → AreValuesOf (inputs_taken o a b c) values → Finds o values operator) → Makes plan operator → IsPlanOf o a b c plan
-plan_of_one o a b c operator plan takes finds makes = record {
-  some = makes.some;
+pub plan_of_one : (o : Op) (a b c : Input) (operator : Picture → Picture) (count : ℕ) (plan : Plan) → TakesOne o a b c
+    → ((values : List (Option Value)) → AreValuesOf (inputs_taken o a b c) values → Finds o values operator) → Makes count operator plan → IsPlanOf o a b c plan
+plan_of_one o a b c operator count plan takes finds makes = record {
+  some = let long = makes.some in let steps = makes.steps in omega arith;
   sources = λ k. subst (λ (n : ℕ). AllByRecursion (IsSourceAt n k) (slice_index_or plan k nothing_planned).sources) (sym takes.images) (makes.sources k);
   read = λ i lt. subst (IsReadBy plan) (sym (first i lt)) makes.read;
   made = λ values width height k are frames lt.
@@ -270,8 +270,8 @@ flat_finds (flat.HitMiss f hit miss) a b c p q =
       value = ap (λ (e : List Offset). Some (ImageValue (hit_or_miss e h.offsets f))) first ∙ ap (λ (d : List Offset). Some (ImageValue (hit_or_miss (offsets_of_input b) d f))) second;
     })
 
-pub flat_plan : (o : FlatOp) (a b c : Input) (plan : Plan) → fault_in (op.Flat o) a b c ≡ None → Makes plan (operator_of o (offsets_of_input b) (offsets_of_input c)) → IsPlanOf (op.Flat o) a b c plan
+pub flat_plan : (o : FlatOp) (a b c : Input) (plan : Plan) → fault_in (op.Flat o) a b c ≡ None → Makes (step_count o) (operator_of o (offsets_of_input b) (offsets_of_input c)) plan → IsPlanOf (op.Flat o) a b c plan
 flat_plan o a b c plan none makes =
     let p = image_there o a b c none in
     let q = elements_there o a b c none in
-    plan_of_one (op.Flat o) a b c (operator_of o (offsets_of_input b) (offsets_of_input c)) plan (flat_takes o a b c p q) (flat_finds o a b c p q) makes
+    plan_of_one (op.Flat o) a b c (operator_of o (offsets_of_input b) (offsets_of_input c)) (step_count o) plan (flat_takes o a b c p q) (flat_finds o a b c p q) makes

@@ -18,9 +18,10 @@ use Rattle.mw_plan.specs.Steps.{ActsAs, IsChain, Makes, filtering, greater, less
 abbrev plane_on : PlanStep → Picture → Picture
 plane_on s f = plane_of s (f ∷ []) f.width f.height
 
-pub alone_makes : (s : PlanStep) (operator : Picture → Picture) (plan : Plan) → plan ≡ of_image s ∷ [] → ActsAs s operator → Makes plan operator
-alone_makes s operator plan is acts = subst (λ (p : Plan). Makes p operator) (sym is) (record {
+pub alone_makes : (s : PlanStep) (operator : Picture → Picture) (plan : Plan) → plan ≡ of_image s ∷ [] → ActsAs s operator → Makes 1 operator plan
+alone_makes s operator plan is acts = subst (Makes 1 operator) (sym is) (record {
   some = omega arith;
+  steps = refl;
   sources = sources;
   read = (0, omega arith, (0, omega arith, refl));
   made = made;
@@ -36,9 +37,10 @@ alone_makes s operator plan is acts = subst (λ (p : Plan). Makes p operator) (s
     made f (suc k) lt = absurd (omega arith)
 
 -- two steps in a row
-pub in_turn_makes : (s t : PlanStep) (first second : Picture → Picture) → ActsAs s first → ActsAs t second → Makes (of_image s ∷ of_step 0 t ∷ []) (λ f. second (first f))
+pub in_turn_makes : (s t : PlanStep) (first second : Picture → Picture) → ActsAs s first → ActsAs t second → Makes 2 (λ f. second (first f)) (of_image s ∷ of_step 0 t ∷ [])
 in_turn_makes s t first second acts_first acts_second = record {
   some = omega arith;
+  steps = refl;
   sources = sources;
   read = (0, omega arith, (0, omega arith, refl));
   made = made;
@@ -55,9 +57,9 @@ in_turn_makes s t first second acts_first acts_second = record {
     made f (suc zero) lt = acts_second.made (plane_on s f)
     made f (suc (suc k)) lt = absurd (omega arith)
 
-pub chain_makes : (x : Extremum) (e : List Offset) (plan : Plan) → IsChain x e plan → Makes plan (filtering x e)
-chain_makes Least e plan c = subst (λ (p : Plan). Makes p (opening e)) (sym c.is) (in_turn_makes c.first c.second (erosion e) (dilation (negated e)) c.acts_first c.acts_second)
-chain_makes Greatest e plan c = subst (λ (p : Plan). Makes p (closing e)) (sym c.is) (in_turn_makes c.first c.second (dilation e) (erosion (negated e)) c.acts_first c.acts_second)
+pub chain_makes : (x : Extremum) (e : List Offset) (plan : Plan) → IsChain x e plan → Makes 2 (filtering x e) plan
+chain_makes Least e plan c = subst (Makes 2 (opening e)) (sym c.is) (in_turn_makes c.first c.second (erosion e) (dilation (negated e)) c.acts_first c.acts_second)
+chain_makes Greatest e plan c = subst (Makes 2 (closing e)) (sym c.is) (in_turn_makes c.first c.second (dilation e) (erosion (negated e)) c.acts_first c.acts_second)
 
 -- the difference of two images of one shape
 pub less_of : (f g : Picture) → g.width ≡ f.width → g.height ≡ f.height → plane_of Minus (f ∷ g ∷ []) f.width f.height ≡ minus f g
@@ -83,9 +85,10 @@ after_is s t first second acts_first acts_second f = acts_second.plane (plane_on
 
 -- an image less what two steps make of it
 below_makes : (s t : PlanStep) (first second : Picture → Picture) → ActsAs s first → ActsAs t second → ((f : Picture) → AreAlike f (second (first f)))
-    → Makes (three s (of_step 0 t) (FromInput 0) (FromStep 1)) (λ f. minus f (second (first f)))
+    → Makes 3 (λ f. minus f (second (first f))) (three s (of_step 0 t) (FromInput 0) (FromStep 1))
 below_makes s t first second acts_first acts_second alike = record {
   some = omega arith;
+  steps = refl;
   sources = three_sources s (of_step 0 t) (FromInput 0) (FromStep 1) (omega arith, tt) (omega arith) (omega arith);
   read = (0, omega arith, (0, omega arith, refl));
   made = made;
@@ -101,9 +104,10 @@ below_makes s t first second acts_first acts_second alike = record {
 
 -- what two steps make of an image less the image
 above_makes : (s t : PlanStep) (first second : Picture → Picture) → ActsAs s first → ActsAs t second → ((f : Picture) → AreAlike (second (first f)) f)
-    → Makes (three s (of_step 0 t) (FromStep 1) (FromInput 0)) (λ f. minus (second (first f)) f)
+    → Makes 3 (λ f. minus (second (first f)) f) (three s (of_step 0 t) (FromStep 1) (FromInput 0))
 above_makes s t first second acts_first acts_second alike = record {
   some = omega arith;
+  steps = refl;
   sources = three_sources s (of_step 0 t) (FromStep 1) (FromInput 0) (omega arith, tt) (omega arith) (omega arith);
   read = (0, omega arith, (0, omega arith, refl));
   made = made;
@@ -119,9 +123,10 @@ above_makes s t first second acts_first acts_second alike = record {
 
 -- what one step makes of an image less what another makes of it
 pub difference_makes : (s t : PlanStep) (first second : Picture → Picture) (plan : Plan) → plan ≡ three s (of_image t) (FromStep 0) (FromStep 1) → ActsAs s first → ActsAs t second → ((f : Picture) → AreAlike (first f) (second f))
-    → Makes plan (λ f. minus (first f) (second f))
-difference_makes s t first second plan is acts_first acts_second alike = subst (λ (p : Plan). Makes p (λ f. minus (first f) (second f))) (sym is) (record {
+    → Makes 3 (λ f. minus (first f) (second f)) plan
+difference_makes s t first second plan is acts_first acts_second alike = subst (Makes 3 (λ f. minus (first f) (second f))) (sym is) (record {
   some = omega arith;
+  steps = refl;
   sources = three_sources s (of_image t) (FromStep 0) (FromStep 1) (omega arith, tt) (omega arith) (omega arith);
   read = (0, omega arith, (0, omega arith, refl));
   made = made;
@@ -143,12 +148,12 @@ pub alike_extrema : (x : Extremum) (e d : List Offset) (f : Picture) → AreAlik
 alike_extrema Least e d f = (refl, refl)
 alike_extrema Greatest e d f = (refl, refl)
 
-pub residue_makes : (x : Extremum) (e : List Offset) (chain plan : Plan) → IsChain x e chain → plan ≡ chain ++ less (greater x) (lesser x) ∷ [] → Makes plan (residue x e)
+pub residue_makes : (x : Extremum) (e : List Offset) (chain plan : Plan) → IsChain x e chain → plan ≡ chain ++ less (greater x) (lesser x) ∷ [] → Makes 3 (residue x e) plan
 residue_makes Least e chain plan c is =
-    subst (λ (p : Plan). Makes p (white_top_hat e)) (sym (is ∙ ap (λ (p : Plan). p ++ less (FromInput 0) (FromStep 1) ∷ []) c.is))
+    subst (Makes 3 (white_top_hat e)) (sym (is ∙ ap (λ (p : Plan). p ++ less (FromInput 0) (FromStep 1) ∷ []) c.is))
     (below_makes c.first c.second (erosion e) (dilation (negated e)) c.acts_first c.acts_second (λ f. (refl, refl)))
 residue_makes Greatest e chain plan c is =
-    subst (λ (p : Plan). Makes p (black_top_hat e)) (sym (is ∙ ap (λ (p : Plan). p ++ less (FromStep 1) (FromInput 0) ∷ []) c.is))
+    subst (Makes 3 (black_top_hat e)) (sym (is ∙ ap (λ (p : Plan). p ++ less (FromStep 1) (FromInput 0) ∷ []) c.is))
     (above_makes c.first c.second (dilation e) (erosion (negated e)) c.acts_first c.acts_second (λ f. (refl, refl)))
 
 -- three steps added to a plan without any
@@ -164,5 +169,5 @@ if_ok A E (Ok a) P Q each p = each a p
 if_ok A E (Err e) P Q each p = p
 
 -- a plan of one step that acts as an operator, if there was memory for it
-pub alone_if_ok : (E : Type 0) (r : Result Plan E) (s : PlanStep) (operator : Picture → Picture) → ActsAs s operator → IfOk r (λ p. p ≡ of_image s ∷ []) → IfOk r (λ p. Makes p operator)
-alone_if_ok E r s operator acts = if_ok Plan E r (λ p. p ≡ of_image s ∷ []) (λ p. Makes p operator) (λ p is. alone_makes s operator p is acts)
+pub alone_if_ok : (E : Type 0) (r : Result Plan E) (s : PlanStep) (operator : Picture → Picture) → ActsAs s operator → IfOk r (λ p. p ≡ of_image s ∷ []) → IfOk r (Makes 1 operator)
+alone_if_ok E r s operator acts = if_ok Plan E r (λ p. p ≡ of_image s ∷ []) (Makes 1 operator) (λ p is. alone_makes s operator p is acts)

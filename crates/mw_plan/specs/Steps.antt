@@ -99,9 +99,10 @@ last_plane plan f =
     let made = planes plan (f ∷ []) f.width f.height in
     slice_index_or made (length made - 1) no_picture
 
--- the plan reads one image and makes this operator of it
-pub record Makes (plan : Plan) (operator : Picture → Picture) : Type 0 where
-  pub some : 1 ≤ length plan
+-- the plan of so many steps reads one image and makes this operator of it
+pub record Makes (count : ℕ) (operator : Picture → Picture) (plan : Plan) : Type 0 where
+  pub some : 1 ≤ count
+  pub steps : length plan ≡ count
   pub sources : (k : ℕ) → AllByRecursion (IsSourceAt 1 k) (slice_index_or plan k nothing_planned).sources
   pub read : IsReadBy plan 0
   pub made : (f : Picture) (k : ℕ) → k < length plan → CanBeMade (slice_index_or plan k nothing_planned).step (planes_read plan (f ∷ []) f.width f.height k)
@@ -120,6 +121,16 @@ abbrev pub HasElements : FlatOp → Input → Input → Type 0
 HasElements (flat.Threshold f k) b c = Unit {0}
 HasElements (flat.HitMiss f hit miss) b c = (is_element_input b ≡ true) × (is_element_input c ≡ true)
 HasElements o b c = is_element_input b ≡ true
+
+-- how many steps an operation takes
+abbrev pub step_count : FlatOp → ℕ
+step_count (flat.Opening f b) = 2
+step_count (flat.Closing f b) = 2
+step_count (flat.Gradient f b) = 3
+step_count (flat.WhiteTopHat f b) = 3
+step_count (flat.BlackTopHat f b) = 3
+step_count (flat.HitMiss f hit miss) = 3
+step_count o = 1
 
 -- the operator of an operation by these elements
 abbrev pub operator_of : FlatOp → List Offset → List Offset → Picture → Picture

@@ -3,13 +3,13 @@
 //! An erosion, a dilation, a rank filter and a threshold are one step. An opening and a closing are two: an extremum, and
 //! then the other by the element turned round. A gradient, a top-hat and a hit-or-miss end in a difference.
 
-ghost use Rattle.std.specs.Prelude.{◌≡◌, true, [], ◌∷◌, IfOk};
+ghost use Rattle.std.specs.Prelude.{◌≡◌, true, [], ◌∷◌, length, IfOk};
 ghost use Rattle.mw_model.specs.Flat.{minus, rank, threshold};
 ghost use Rattle.mw_task.specs.Meanings.{meaning};
 ghost use Rattle.mw_plan.specs.Asked.{IsRefusedBy, fault_in, is_element_input, offsets_of_input};
 ghost use Rattle.mw_plan.specs.PlansOf.{IsPlanOf};
 ghost use Rattle.mw_plan.specs.Seen.{planned};
-ghost use Rattle.mw_plan.specs.Steps.{HasElements, IsChain, Makes, filtering, greater, less, lesser, of_image, operator_of, other, residue, sliding};
+ghost use Rattle.mw_plan.specs.Steps.{HasElements, IsChain, Makes, filtering, greater, less, lesser, of_image, operator_of, other, residue, sliding, step_count};
 
 use crate::building::{less, of_image, of_step};
 use crate::extremum::Extremum;
@@ -31,7 +31,7 @@ fn alone(alloc: Global, step: Step) -> Result<Plan, NoMemory>
 /// An erosion or a dilation.
 fn slid(alloc: Global, extremum: Extremum, b: Input<'_>) -> Result<Plan, NoMemory>
     requires { is_element_input b ≡ true }
-    ensures { IfOk result (λ p. Makes p (sliding extremum (offsets_of_input b.entry))) }
+    ensures { IfOk result (Makes 1 (sliding extremum (offsets_of_input b.entry))) }
 {
     alone(alloc, slide(extremum, b)?)
 }
@@ -52,7 +52,7 @@ fn chain(alloc: Global, room: usize, extremum: Extremum, b: Input<'_>) -> Result
 /// An opening or a closing.
 fn filtered(alloc: Global, extremum: Extremum, b: Input<'_>) -> Result<Plan, NoMemory>
     requires { is_element_input b ≡ true }
-    ensures { IfOk result (λ p. Makes p (filtering extremum (offsets_of_input b.entry))) }
+    ensures { IfOk result (Makes 2 (filtering extremum (offsets_of_input b.entry))) }
 {
     chain(alloc, 2, extremum, b)
 }
@@ -70,7 +70,7 @@ fn left_over(extremum: Extremum) -> PlannedStep
 /// A top-hat.
 fn residue(alloc: Global, extremum: Extremum, b: Input<'_>) -> Result<Plan, NoMemory>
     requires { is_element_input b ≡ true }
-    ensures { IfOk result (λ p. Makes p (residue extremum (offsets_of_input b.entry))) }
+    ensures { IfOk result (Makes 3 (residue extremum (offsets_of_input b.entry))) }
 {
     let mut plan = chain(alloc, 3, extremum, b)?;
     plan.push(left_over(extremum))?;
@@ -86,7 +86,7 @@ fn difference(
 ) -> Result<Plan, NoMemory>
     requires first { is_element_input first ≡ true }
     requires second { is_element_input second ≡ true }
-    ensures { IfOk result (λ p. Makes p (λ f. minus (sliding extremum (offsets_of_input first.entry) f) (sliding (other extremum) (offsets_of_input second.entry) f))) }
+    ensures { IfOk result (Makes 3 (λ f. minus (sliding extremum (offsets_of_input first.entry) f) (sliding (other extremum) (offsets_of_input second.entry) f))) }
 {
     let greater = slide(extremum, first)?;
     let lesser = slide(extremum.other(), second)?;
@@ -99,13 +99,13 @@ fn difference(
 
 fn ranked(alloc: Global, b: Input<'_>, k: u32) -> Result<Plan, NoMemory>
     requires { is_element_input b ≡ true }
-    ensures { IfOk result (λ p. Makes p (rank (offsets_of_input b.entry) k)) }
+    ensures { IfOk result (Makes 1 (rank (offsets_of_input b.entry) k)) }
 {
     alone(alloc, rank(b, k)?)
 }
 
 fn thresholded(alloc: Global, k: u32) -> Result<Plan, NoMemory>
-    ensures { IfOk result (λ p. Makes p (threshold k)) }
+    ensures { IfOk result (Makes 1 (threshold k)) }
 {
     alone(alloc, Step::AtLeast(k))
 }
@@ -113,7 +113,7 @@ fn thresholded(alloc: Global, k: u32) -> Result<Plan, NoMemory>
 /// The steps of an operation whose elements are there.
 fn steps(alloc: Global, op: &FlatOp, b: Input<'_>, c: Input<'_>) -> Result<Plan, NoMemory>
     requires { HasElements op.now b c }
-    ensures { IfOk result (λ p. Makes p (operator_of op.now (offsets_of_input b.entry) (offsets_of_input c.entry))) }
+    ensures { IfOk result (Makes (step_count op.now) (operator_of op.now (offsets_of_input b.entry) (offsets_of_input c.entry))) }
 {
     match op {
         FlatOp::Erode(_, _) => slid(alloc, Extremum::Least, b),
@@ -139,6 +139,7 @@ pub fn plan_of(
     c: Input<'_>,
 ) -> Result<Plan, PlanFault>
     ensures refused { IsRefusedBy (fault_in (Op.Flat op.now) a.entry b.entry c.entry) result }
+    ensures steps { IfOk result (λ p. length p ≡ step_count op.now) }
     ensures plan { IfOk result (IsPlanOf (Op.Flat op.now) a.entry b.entry c.entry) }
 {
     shape_of(&Op::Flat(*op), a, b, c)?;

@@ -8,4 +8,4 @@ use Rattle.mw_plan.proofs.flat.filtered.Goals as goal
 pub returns : goal.returns
 returns c =
     let e = offsets_of_input c.args.b in
-    if_ok Plan NoMemory c.chain.result (IsChain c.args.extremum e) (λ p. Makes p (filtering c.args.extremum e)) (chain_makes c.args.extremum e) c.chain.ensures
+    if_ok Plan NoMemory c.chain.result (IsChain c.args.extremum e) (Makes 2 (filtering c.args.extremum e)) (chain_makes c.args.extremum e) c.chain.ensures
