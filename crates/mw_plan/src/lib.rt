@@ -1,0 +1,28 @@
+//! Plans: an operation as a list of steps, each of which reads inputs or earlier steps.
+//!
+//! ```text
+//! let shape = shape_of(&op, a, b, c)?;                // the shape of the result, or why there is none; takes no memory
+//! let plan = plan_of(alloc, &flat, a, b, c)?;         // the planes of its steps are the operator
+//! for planned in plan.steps() { .. }
+//! ```
+#![tactic(auto)]
+
+mod building;
+mod extremum;
+mod faults;
+mod flat;
+mod inputs;
+mod laws;
+mod plans;
+mod shapes;
+mod sliding;
+
+pub use faults::PlanFault;
+pub use flat::plan_of;
+pub use inputs::Input;
+pub use laws::{faults_are_refusals, planes_are_of_steps};
+pub use mw_laws::laws::hits_of_sets;
+pub use mw_model::{FlatOp, GranOp, NoMemory, OffsetBox, Op, Shape};
+pub use mw_task::{Element, Step};
+pub use plans::{Plan, PlannedStep, Source, Sources};
+pub use shapes::shape_of;
