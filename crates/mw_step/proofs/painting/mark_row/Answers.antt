@@ -1,6 +1,6 @@
 use Rattle.std.proofs.Common.{arith, ◌∙◌, ℕ}
 use Rattle.std.specs.Prelude.{◌==◌, if◌then◌else◌}
-use Rattle.mw_lane.proofs.Merged.{merged_step, merged_all}
+use Rattle.mw_facts.proofs.Merged.{merged_step, merged_all}
 use Rattle.mw_step.proofs.painting.mark_row.Goals as goal
 
 pub loop-i-preserved : goal.loop-i-preserved

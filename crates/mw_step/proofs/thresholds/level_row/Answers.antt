@@ -1,6 +1,6 @@
 use Rattle.std.proofs.Common.{arith, ap, ◌∙◌, ℕ, cond}
 use Rattle.std.specs.Prelude.{◌==◌, if◌then◌else◌}
-use Rattle.mw_lane.proofs.Merged.{mapped_step, mapped_all, merged_all}
+use Rattle.mw_facts.proofs.Merged.{mapped_step, mapped_all, merged_all}
 use Rattle.mw_step.proofs.thresholds.level_row.Goals as goal
 
 pub loop-i-preserved : goal.loop-i-preserved

@@ -1,6 +1,6 @@
 use Rattle.std.proofs.Common.{◌≡◌, ℕ}
 use Rattle.std.specs.Prelude.{◌==◌, if◌then◌else◌}
-use Rattle.mw_lane.proofs.Merged.{merged}
+use Rattle.mw_facts.proofs.Merged.{merged}
 use Rattle.mw_step.proofs.thresholds.level_row.Given as goal
 
 abbrev pub invariant-loop-i : goal.invariant-loop-i
