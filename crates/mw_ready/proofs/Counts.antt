@@ -268,3 +268,11 @@ count-step p n b is = ap (count_below p) (next n) ∙ count-next p n ∙ ap (λ 
   where
     next : (n : ℕ) → n + 1 ≡ suc n
     next n = omega arith
+
+pub count-none : (p : ℕ → Bool) (n : ℕ) → ((t : ℕ) → t < n → p t ≡ false) → count_below p n ≡ 0
+count-none p zero none = refl
+count-none p (suc n) none = omega (arith, count-next p n, ap bit (none n (omega arith)), count-none p n (λ t lt. none t (omega arith)))
+
+pub count-all : (p : ℕ → Bool) (n : ℕ) → ((t : ℕ) → t < n → p t ≡ true) → count_below p n ≡ n
+count-all p zero all = refl
+count-all p (suc n) all = omega (arith, count-next p n, ap bit (all n (omega arith)), count-all p n (λ t lt. all t (omega arith)))

@@ -1,5 +1,8 @@
 -- How many tasks a task reads.
-use Rattle.std.proofs.Common.{◌≡◌, ℕ, ◌+◌, ◌-◌, ◌*◌, ◌/◌, ◌%◌, ◌<◌, ◌≤◌, Bool, true, false, not, ◌&&◌, List, length, refl, ap, sym, ◌∙◌, arith, get_or}
+use Rattle.std.proofs.Common.{◌≡◌, ℕ, ◌+◌, ◌-◌, ◌*◌, ◌/◌, ◌%◌, ◌<◌, ◌≤◌, Bool, true, false, not, ◌&&◌, List, [], ◌∷◌, ◌++◌, length, refl, ap, sym, ◌∙◌, arith, inl, inr, get_or}
+use Rattle.std.proofs.Math.Seq.{get_or-append_seam}
+use Rattle.std.proofs.lemmas.Bool.{cases_lt}
+use Rattle.std.proofs.lemmas.List.{get_or_append_left}
 use Rattle.std.proofs.lemmas.Nat.{div-mul-add, mod-mul-add}
 use Rattle.mw_model.specs.declared.places.Reach.{Reach}
 use Rattle.mw_model.specs.declared.places.Rect.{Rect}
@@ -34,3 +37,14 @@ read_count-is needs need g n k tile t steps tiles is lt t-is steps-is tiles-is =
     ∙ sym (count-product (step_reads need) (λ v. meets (grown g.width g.height need.reach (tile_at g tile)) (tile_at g v)) n (tile_count g))
     ∙ ap (λ (m : Need). count_below (λ u. step_reads m (u / tile_count g) && meets (grown g.width g.height m.reach (tile_at g tile)) (tile_at g (u % tile_count g))) (n * tile_count g)) (sym own)
     ∙ ap (λ (m : ℕ). count_below (λ u. step_reads (need_of needs g t) (u / tile_count g) && meets (grown g.width g.height (need_of needs g t).reach (tile_at g m)) (tile_at g (u % tile_count g))) (n * tile_count g)) (sym here)
+
+-- a value more
+pub each-next : (f : ℕ → ℕ) (old now : List ℕ) (v n : ℕ) → now ≡ old ++ v ∷ [] → length old ≡ n → v ≡ f n → ((t : ℕ) → t < n → get_or old t 0 ≡ f t) → (t : ℕ) → t < n + 1 → get_or now t 0 ≡ f t
+each-next f old now v n now-is size v-is before t lt =
+    ap (λ (xs : List ℕ). get_or xs t 0) now-is
+    ∙ elim (cases_lt t n) [
+      | inl less ↦ get_or_append_left old (v ∷ []) 0 t (omega arith) ∙ before t less
+      | inr here ↦
+          let e : t ≡ length old = omega arith in
+          ap (λ (k : ℕ). get_or (old ++ v ∷ []) k 0) e ∙ get_or-append_seam old v [] 0 ∙ v-is ∙ ap f (sym size) ∙ ap f (sym e)
+    ]

@@ -1,17 +1,17 @@
 -- The counters of a board are kept.
-use Rattle.std.proofs.Common.{◌≡◌, ◌≢◌, ℕ, ◌+◌, ◌-◌, ◌*◌, ◌/◌, ◌%◌, ◌<◌, ◌≤◌, Bool, true, false, not, ◌&&◌, ◌||◌, nat_eq, List, length, refl, ap, sym, subst, ◌∙◌, arith, inl, inr, set, get_or, length-set}
+use Rattle.std.proofs.Common.{◌≡◌, ◌≢◌, ℕ, ◌+◌, ◌-◌, ◌*◌, ◌/◌, ◌%◌, ◌<◌, ◌≤◌, Bool, true, false, not, ◌&&◌, ◌||◌, nat_eq, List, length, refl, ap, sym, subst, ◌∙◌, arith, inl, inr, set, get_or, replicate, ◌^◌, length-set}
 use Rattle.std.proofs.lemmas.Bool.{cases_eq, eqb-true}
-use Rattle.std.proofs.lemmas.List.{get_or-set_same, get_or-set_other}
+use Rattle.std.proofs.lemmas.List.{get_or-set_same, get_or-set_other, get_or-replicate, length-replicate}
 use Rattle.std.proofs.Math.Nat.{mul-le-mul_left}
 use Rattle.std.proofs.lemmas.Nat.{div-mul-add, mod-mul-add}
 use Rattle.mw_model.specs.Tasks.{flag}
 use Rattle.mw_grid.specs.Grids.{Tiling, tile_count}
 use Rattle.mw_ready.specs.declared.need.Need.{Need}
-use Rattle.mw_ready.specs.Boards.{Board, task_count, task_number, tasks_below, is_running, is_ready, ready_tasks, reads, reads_tile, Runs}
+use Rattle.mw_ready.specs.Boards.{Board, task_count, task_number, tasks_below, is_running, is_ready, ready_tasks, step_of, reads, reads_tile, Runs}
 use Rattle.mw_ready.specs.Queues.{bit, count_below, Queued, is_open, Lowers, Waiting}
-use Rattle.mw_ready.specs.Kept.{Keeps, waits_for, board_of}
-use Rattle.mw_ready.proofs.Counts.{count-more, count-same, count-some, bit-at, bit-other, list_all-count}
-use Rattle.mw_ready.proofs.Lowering.{eq_true}
+use Rattle.mw_ready.specs.Kept.{Keeps, waits_for, read_count, board_of}
+use Rattle.mw_ready.proofs.Counts.{count-none, count-all, count-more, count-same, count-some, bit-at, bit-other, list_all-count}
+use Rattle.mw_ready.proofs.Lowering.{eq_true, and-true}
 use Rattle.mw_ready.proofs.Pieces.{and_both}
 use Rattle.mw_ready.proofs.Numbers.{step_within}
 use Rattle.mw_ready.proofs.Boxes.{lowers_same}
@@ -223,8 +223,43 @@ finish_keeps_given b counters now started shown active left step tile keeps runs
 pub ready_given : (b : Board) (counters : List ℕ) (active left t : ℕ) → Keeps b counters active left → t < length counters → is_open b.started counters t ≡ true → is_ready b t ≡ true
 ready_given b counters active left t keeps lt opened = sym (ready_is_open b counters active left t keeps (let s = keeps.waiting in omega arith)) ∙ opened
 
-pub step_of_number : (b : Board) (counters : List ℕ) (active left step tile : ℕ) → Keeps b counters active left → step * tile_count b.grid + tile < length counters → tile < tile_count b.grid → step < length b.needs
-step_of_number b counters active left step tile keeps lt inside = less step (length b.needs) (tile_count b.grid) (let s = keeps.waiting in omega arith)
+pub step_of_number : (b : Board) (counters : List ℕ) (active left tiles step tile : ℕ) → Keeps b counters active left → tiles ≡ tile_count b.grid → step * tiles + tile < length counters → step < length b.needs
+step_of_number b counters active left tiles step tile keeps tiles-is lt =
+    let whole : length counters ≡ length b.needs * tiles = keeps.waiting ∙ ap (λ (k : ℕ). length b.needs * k) (sym tiles-is) in
+    less step (length b.needs) tiles (omega arith)
   where
     less : (a n m : ℕ) → a * m < n * m → a < n
     less a n m lt = grind (arith, mul-le-mul_left)
+
+pub open_number : (b : Board) (counters : List ℕ) (active left tiles step tile : ℕ) → Keeps b counters active left → tiles ≡ tile_count b.grid → step * tiles + tile < length counters → is_open b.started counters (step * tiles + tile) ≡ true
+    → is_ready b (task_number b.grid step tile) ≡ true
+open_number b counters active left tiles step tile keeps tiles-is lt opened =
+    ap (λ (k : ℕ). is_ready b (step * k + tile)) (sym tiles-is) ∙ ready_given b counters active left (step * tiles + tile) keeps lt opened
+
+pub latest_step : (b : Board) (counters : List ℕ) (active left tiles step n : ℕ) → Keeps b counters active left → tiles ≡ tile_count b.grid
+    → ((t : ℕ) → t < length counters → is_open b.started counters t ≡ true → t / tiles ≤ step) → n < task_count b → is_ready b n ≡ true → step_of b.grid n ≤ step
+latest_step b counters active left tiles step n keeps tiles-is latest lt ready =
+    let h = latest n (let s = keeps.waiting in omega arith) (ready_is_open b counters active left n keeps lt ∙ ready) in
+    omega (arith, ap (λ (k : ℕ). n / k) tiles-is)
+
+-- nothing was started
+pub keeps_fresh : (needs : List Need) (g : Tiling) (q : Queued) (finished : List Bool) (left : ℕ) → length needs * tile_count g < 2 ^ 31 → q.started ≡ replicate (length needs * tile_count g) false → finished ≡ replicate (length needs * tile_count g) false
+    → length q.waiting ≡ length needs * tile_count g → left ≡ length needs * tile_count g → ((t : ℕ) → t < length needs * tile_count g → get_or q.waiting t 0 ≡ read_count needs g (length needs * tile_count g) t)
+    → Keeps (board_of needs g q finished) q.waiting 0 left
+keeps_fresh needs g q finished left small started-is finished-is size left-is each = record {
+  started = ap (λ (xs : List Bool). length xs) started-is ∙ length-replicate (length needs * tile_count g) false;
+  finished = ap (λ (xs : List Bool). length xs) finished-is ∙ length-replicate (length needs * tile_count g) false;
+  waiting = size;
+  small = small;
+  waits = λ t lt. each t lt ∙ count-same (reads needs g t) (λ u. reads needs g t u && not (flag finished u)) (length needs * tile_count g) (λ u u-lt. sym (ap (λ (b : Bool). reads needs g t u && not b) (unfinished u u-lt) ∙ and-true (reads needs g t u)));
+  calm = λ t lt begun. absurd (true_or (flag q.started t) begun (idle t lt));
+  running = sym (count-none (λ t. flag q.started t && not (flag finished t)) (length needs * tile_count g) (λ t lt. ap (λ (b : Bool). b && not (flag finished t)) (idle t lt)));
+  remaining = left-is ∙ sym (count-all (λ t. not (flag finished t)) (length needs * tile_count g) (λ t lt. ap (λ (b : Bool). not b) (unfinished t lt)));
+  begun = λ t lt done. absurd (true_or (flag finished t) done (unfinished t lt));
+}
+  where
+    idle : (t : ℕ) → t < length needs * tile_count g → flag q.started t ≡ false
+    idle t lt = ap (λ (xs : List Bool). flag xs t) started-is ∙ get_or-replicate (length needs * tile_count g) t false false lt
+
+    unfinished : (t : ℕ) → t < length needs * tile_count g → flag finished t ≡ false
+    unfinished t lt = ap (λ (xs : List Bool). flag xs t) finished-is ∙ get_or-replicate (length needs * tile_count g) t false false lt

@@ -1,11 +1,11 @@
 -- The lists of a queue keep its open tasks.
-use Rattle.std.proofs.Common.{◌≡◌, ◌≢◌, ℕ, zero, suc, ◌+◌, ◌-◌, ◌*◌, ◌/◌, ◌%◌, ◌<◌, ◌≤◌, Bool, true, false, not, ◌&&◌, nat_eq, List, [], ◌∷◌, ◌++◌, length, refl, ap, sym, subst, ◌∙◌, arith, inl, inr, set, get_or, map, replicate, vec_capacity, length-set, length-append, map-append}
+use Rattle.std.proofs.Common.{◌≡◌, ◌≢◌, ℕ, zero, suc, ◌+◌, ◌-◌, ◌*◌, ◌/◌, ◌%◌, ◌<◌, ◌≤◌, Bool, true, false, not, ◌&&◌, nat_eq, List, [], ◌∷◌, ◌++◌, length, refl, ap, sym, subst, ◌∙◌, arith, inl, inr, set, get_or, map, replicate, vec_capacity, length-set, length-append, ◌^◌}
 use Rattle.std.specs.List.{swap_remove}
 use Rattle.std.specs.Global.{Vec}
 use Rattle.std.proofs.Math.Nat.{mul-le-mul_left}
 use Rattle.std.proofs.Math.Seq.{get_or-append_seam}
 use Rattle.std.proofs.lemmas.Bool.{cases_eq, cases_lt, ne_eqb}
-use Rattle.std.proofs.lemmas.List.{get_or-set_same, get_or-set_other, get_or_default, get_or-replicate, get_or_append_left, length-replicate, length-map, map-set}
+use Rattle.std.proofs.lemmas.List.{get_or-set_same, get_or-set_other, get_or_default, get_or-replicate, get_or_append_left, length-replicate, length-map, map-set, map-append}
 use Rattle.std.proofs.lemmas.Nat.{div-mul-add, mod-mul-add, div-add-mod'}
 use Rattle.mw_model.specs.Tasks.{flag}
 use Rattle.mw_grid.proofs.Lines.{row_less}
@@ -254,3 +254,8 @@ pub count-more_step : (waiting : List ℕ) (tiles k total n : ℕ) (xs : List �
 count-more_step waiting tiles k total n xs before listed n-is =
     let row : (k + 1) * tiles ≡ k * tiles + tiles = omega arith in
     omega (arith, ap (count_below (free waiting)) row, count-add (free waiting) (k * tiles) tiles, length-of_listed tiles (λ t. free waiting (k * tiles + t)) xs listed)
+
+pub total_next : (waiting : List ℕ) (tiles k total n steps size : ℕ) → total ≡ count_below (free waiting) (k * tiles) → n ≤ tiles → k < steps → size ≡ steps * tiles → size < 2 ^ 31 → total + n < 2 ^ 31
+total_next waiting tiles k total n steps size count few lt whole small =
+    let up : k + 1 ≤ steps = omega arith in
+    omega (arith, count-most (free waiting) (k * tiles), mul-le-mul_left tiles up)

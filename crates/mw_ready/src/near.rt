@@ -43,6 +43,7 @@ fn end_near(count: u32, side: u32, at: u32, after: u32) -> u32
 /// The tiles that the window of a tile meets.
 pub(crate) fn met_by(grid: Grid, reach: Reach, tile: u32) -> Block
     requires { tile < tile_count grid }
+    ensures some { (1 ≤ grid.width) × (1 ≤ grid.height) × (1 ≤ grid.side) }
     ensures across { (result.left ≤ result.right) × (result.right ≤ columns_of grid) }
     ensures down { (result.top ≤ result.bottom) × (result.bottom ≤ rows_of grid) }
     ensures meets { (v : ℕ) → v < tile_count grid → in_range result.top result.bottom (v / columns_of grid) && in_range result.left result.right (v % columns_of grid) ≡ meets (grown grid.width grid.height reach (tile_at grid tile)) (tile_at grid v) }

@@ -53,10 +53,11 @@ impl Ready {
         requires { vec_len needs ≤ 65535 }
         ensures { IfOk result (λ r. r.board ≡ fresh needs.items grid) }
     {
+        let tiles = grid.len();
         let waiting = first_waits(alloc, &needs, grid)?;
-        let finished = vec![in alloc; false; waiting.len()]?;
         let remaining = waiting.len() as u32;
-        let queue = Queue::new(alloc, needs.len(), grid.len(), waiting)?;
+        let finished = vec![in alloc; false; waiting.len()]?;
+        let queue = Queue::new(alloc, needs.len(), tiles, waiting)?;
         Ok(Ready {
             needs,
             grid,

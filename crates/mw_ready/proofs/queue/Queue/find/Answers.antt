@@ -10,7 +10,7 @@ returns-then-left-count-clause-value c =
     let q = c.args.self.now in
     let shown = ap (λ (v : Queued). v.ready) c.self.view_is in
     let size = length-items_of c.self.inside.ready.items in
-    let s-lt = omega (arith, c.loop-step.invariant.within, ap (λ (xs : List (List ℕ)). length xs) shown, size) in
+    let s-lt : c.loop-step.step - 1 < length c.self.inside.ready.items = omega (arith, c.loop-step.invariant.within, ap (λ (xs : List (List ℕ)). length xs) shown, size) in
     let is = list-length c.self.inside.ready.items q.ready (c.loop-step.step - 1) c.index.result.now c.len-count.result shown s-lt c.index.ensures c.len-count.ensures in
     c.loop-step.invariant.value ∙ handed-here q.ready q.tiles c.loop-step.step (c.loop-step.step - 1) c.loop-step.left (omega arith) (omega (arith, is))
 
@@ -26,7 +26,7 @@ loop-step-preserved c =
     let before = c.loop-step.invariant in
     let shown = ap (λ (v : Queued). v.ready) c.self.view_is in
     let size = length-items_of c.self.inside.ready.items in
-    let s-lt = omega (arith, before.within, ap (λ (xs : List (List ℕ)). length xs) shown, size) in
+    let s-lt : c.loop-step.step - 1 < length c.self.inside.ready.items = omega (arith, before.within, ap (λ (xs : List (List ℕ)). length xs) shown, size) in
     let is = list-length c.self.inside.ready.items q.ready (c.loop-step.step - 1) c.index.result.now c.len-count.result shown s-lt c.index.ensures c.len-count.ensures in
     let past : length (list_at q.ready (c.loop-step.step - 1)) ≤ c.loop-step.left = omega (arith, is) in
     record {

@@ -14,7 +14,7 @@ push_reserved-requires c =
     let waits = subst (λ (v : Queued). 0 < get_or v.waiting c.args.task 0) (sym c.self.view_is) c.requires.waits in
     let w = c.index_mut-then-left-eq0 in
     let room = list_room q a.total c.args.task c.self.invariant.0 within waits in
-    let s-lt = omega (arith, room.0, length-items_of a.ready.items) in
+    let s-lt : c.args.task / a.tiles < length a.ready.items = omega (arith, room.0, length-items_of a.ready.items) in
     omega (arith, room.1, list-length a.ready.items (items_of a.ready.items) (c.args.task / a.tiles) w.result.now _ refl s-lt w.ensures.value refl, room-at a.tiles (c.args.task / a.tiles) a.ready.items w.result.now c.self.invariant.1 s-lt w.ensures.value)
 
 pub overflow_add-self : goal.overflow_add-self
@@ -32,7 +32,7 @@ invariant_of-self c =
     let w = c.index_mut-then-left-eq0 in
     let s = c.args.task / a.tiles in
     let room = list_room q a.total c.args.task c.self.invariant.0 within waits in
-    let s-lt = omega (arith, room.0, length-items_of a.ready.items) in
+    let s-lt : c.args.task / a.tiles < length a.ready.items = omega (arith, room.0, length-items_of a.ready.items) in
     let list-is = list_at-items a.ready.items (items_of a.ready.items) s w.result.now refl s-lt w.ensures.value in
     (opened_given q a.total c.args.task (c.index.result.now - 1) (items_of (set a.ready.items s c.push_reserved.new.self)) c.self.invariant.0 within waits idle c.if-left-eq0.true
         (items-set a.ready.items s c.push_reserved.new.self (list_at q.ready s ++ c.args.task % a.tiles ∷ []) (c.push_reserved.ensures.items ∙ ap (λ (xs : List ℕ). xs ++ c.args.task % a.tiles ∷ []) (sym list-is))),
