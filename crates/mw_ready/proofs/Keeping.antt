@@ -1,0 +1,265 @@
+-- The counters of a board are kept.
+use Rattle.std.proofs.Common.{◌≡◌, ◌≢◌, ℕ, ◌+◌, ◌-◌, ◌*◌, ◌/◌, ◌%◌, ◌<◌, ◌≤◌, Bool, true, false, not, ◌&&◌, ◌||◌, nat_eq, List, length, refl, ap, sym, subst, ◌∙◌, arith, inl, inr, set, get_or, replicate, ◌^◌, length-set}
+use Rattle.std.proofs.lemmas.Bool.{cases_eq, eqb-true}
+use Rattle.std.proofs.lemmas.List.{get_or-set_same, get_or-set_other, get_or-replicate, length-replicate}
+use Rattle.std.proofs.Math.Nat.{mul-le-mul_left}
+use Rattle.std.proofs.lemmas.Nat.{div-mul-add, mod-mul-add}
+use Rattle.mw_model.specs.Tasks.{flag}
+use Rattle.mw_grid.specs.Grids.{Tiling, tile_count}
+use Rattle.mw_ready.specs.declared.need.Need.{Need}
+use Rattle.mw_ready.specs.Boards.{Board, task_count, task_number, tasks_below, is_running, is_ready, ready_tasks, step_of, reads, reads_tile, Runs}
+use Rattle.mw_ready.specs.Queues.{bit, count_below, Queued, is_open, Lowers, Waiting}
+use Rattle.mw_ready.specs.Kept.{Keeps, waits_for, read_count, board_of}
+use Rattle.mw_ready.proofs.Counts.{count-none, count-all, count-more, count-same, count-some, bit-at, bit-other, list_all-count}
+use Rattle.mw_ready.proofs.Lowering.{eq_true, and-true}
+use Rattle.mw_ready.proofs.Pieces.{and_both}
+use Rattle.mw_ready.proofs.Numbers.{step_within}
+use Rattle.mw_ready.proofs.Boxes.{lowers_same}
+
+not_true : (b : Bool) → not b ≡ true → b ≡ false
+not_true true e = absurd (let f : false ≡ true = e in never f)
+  where
+    never : false ≡ true → ⊥
+    never e = cc
+not_true false e = refl
+
+-- one task more is finished
+waits_one : (needs : List Need) (g : Tiling) (fin : List Bool) (n task t : ℕ) → task < n → length fin ≡ n → flag fin task ≡ false
+    → waits_for needs g (set fin task true) n t + bit (reads needs g t task) ≡ waits_for needs g fin n t
+waits_one needs g fin n task t lt size open_yet = go (reads needs g t task) refl
+  where
+    now : flag (set fin task true) task ≡ true
+    now = get_or-set_same fin task true false (omega arith)
+
+    other : (u : ℕ) → u ≢ task → flag (set fin task true) u ≡ flag fin u
+    other u ne = get_or-set_other fin task u true false ne
+
+    at-old : (u : ℕ) → u ≡ task → flag fin u ≡ false
+    at-old u e = ap (flag fin) e ∙ open_yet
+
+    at-new : (u : ℕ) → u ≡ task → flag (set fin task true) u ≡ true
+    at-new u e = ap (flag (set fin task true)) e ∙ now
+
+    add : (m k : ℕ) → k ≡ m + 1 → m + 1 ≡ k
+    add m k e = sym e
+
+    one : (u : ℕ) → reads needs g t task ≡ true → bit (reads needs g t u && not (flag fin u)) ≡ bit (reads needs g t u && not (flag (set fin task true) u)) + bit (nat_eq u task)
+    one u r = elim (cases_eq u task) [
+      | inl here ↦
+          let read : reads needs g t u ≡ true = ap (reads needs g t) here ∙ r in
+          let p : bit (reads needs g t u && not (flag fin u)) ≡ 1 = rw (read, at-old u here) refl in
+          let q : bit (reads needs g t u && not (flag (set fin task true) u)) ≡ 0 = rw (read, at-new u here) refl in
+          omega (arith, bit-at u task here)
+      | inr ne ↦
+          let p : bit (reads needs g t u && not (flag (set fin task true) u)) ≡ bit (reads needs g t u && not (flag fin u)) = ap (λ (b : Bool). bit (reads needs g t u && not b)) (other u ne) in
+          omega (arith, bit-other u task ne)
+    ]
+
+    none : (u : ℕ) → reads needs g t task ≡ false → reads needs g t u && not (flag (set fin task true) u) ≡ reads needs g t u && not (flag fin u)
+    none u r = elim (cases_eq u task) [
+      | inl here ↦ let read : reads needs g t u ≡ false = ap (reads needs g t) here ∙ r in rw read refl
+      | inr ne ↦ ap (λ (b : Bool). reads needs g t u && not b) (other u ne)
+    ]
+
+    go : (r : Bool) → reads needs g t task ≡ r → waits_for needs g (set fin task true) n t + bit r ≡ waits_for needs g fin n t
+    go true e = sym (count-more (λ u. reads needs g t u && not (flag fin u)) (λ u. reads needs g t u && not (flag (set fin task true) u)) task n lt (λ u u-lt. one u e))
+    go false e = zero_more (waits_for needs g (set fin task true) n t) ∙ count-same (λ u. reads needs g t u && not (flag (set fin task true) u)) (λ u. reads needs g t u && not (flag fin u)) n (λ u u-lt. none u e)
+      where
+        zero_more : (m : ℕ) → m + 0 ≡ m
+        zero_more m = omega arith
+
+pub ready_is_open : (b : Board) (counters : List ℕ) (active left t : ℕ) → Keeps b counters active left → t < task_count b → is_open b.started counters t ≡ is_ready b t
+ready_is_open b counters active left t keeps lt =
+    ap (λ (n : ℕ). not (flag b.started t) && nat_eq n 0) (keeps.waits t lt)
+    ∙ ap (λ (r : Bool). not (flag b.started t) && r) (sym (list_all-count (reads b.needs b.grid t) (flag b.finished) (tasks_below b)))
+
+pub count_is : (b : Board) (counters : List ℕ) (active left n : ℕ) → Keeps b counters active left → n ≡ length counters → count_below (is_open b.started counters) n ≡ ready_tasks b
+count_is b counters active left n keeps e =
+    ap (count_below (is_open b.started counters)) (e ∙ keeps.waiting)
+    ∙ count-same (is_open b.started counters) (is_ready b) (task_count b) (λ t lt. ready_is_open b counters active left t keeps lt)
+
+true_or : (b : Bool) → b ≡ true → b ≡ false → ⊥
+true_or true e f = cc
+true_or false e f = cc
+
+not_begun : (b : Board) (counters : List ℕ) (active left t : ℕ) → Keeps b counters active left → t < task_count b → flag b.started t ≡ false → flag b.finished t ≡ false
+not_begun b counters active left t keeps lt idle = go (flag b.finished t) refl
+  where
+    go : (r : Bool) → flag b.finished t ≡ r → flag b.finished t ≡ false
+    go false e = e
+    go true e = absurd (true_or (flag b.started t) (keeps.begun t lt e) idle)
+
+-- a task is started
+start_keeps : (b : Board) (counters : List ℕ) (active left task : ℕ) → Keeps b counters active left → task < task_count b → is_open b.started counters task ≡ true
+    → Keeps (record b { started = set b.started task true }) counters (active + 1) left
+start_keeps b counters active left task keeps lt opened =
+    let parts = and_both (not (flag b.started task)) (nat_eq (get_or counters task 0) 0) opened in
+    let idle : flag b.started task ≡ false = not_true (flag b.started task) parts.0 in
+    let none : get_or counters task 0 ≡ 0 = eq_true (get_or counters task 0) 0 parts.1 in
+    let unfinished : flag b.finished task ≡ false = not_begun b counters active left task keeps lt idle in
+    let now : flag (set b.started task true) task ≡ true = get_or-set_same b.started task true false (let e = keeps.started in omega arith) in
+    let size : length (set b.started task true) ≡ length b.started = simp length-set in
+    record {
+      started = size ∙ keeps.started;
+      finished = keeps.finished;
+      waiting = keeps.waiting;
+      small = keeps.small;
+      waits = keeps.waits;
+      calm = λ t t-lt begun. elim (cases_eq t task) [
+        | inl here ↦ ap (λ (k : ℕ). get_or counters k 0) here ∙ none
+        | inr ne ↦ keeps.calm t t-lt (sym (get_or-set_other b.started task t true false ne) ∙ begun)
+      ];
+      running =
+        ap (λ (k : ℕ). k + 1) keeps.running
+        ∙ sym (count-more (λ t. flag (set b.started task true) t && not (flag b.finished t)) (is_running b) task (task_count b) lt (λ t t-lt. elim (cases_eq t task) [
+          | inl here ↦
+              let p : bit (flag (set b.started task true) t && not (flag b.finished t)) ≡ 1 = rw here (rw (now, unfinished) refl) in
+              let q : bit (is_running b t) ≡ 0 = rw here (rw idle refl) in
+              omega (arith, bit-at t task here)
+          | inr ne ↦
+              let p : bit (flag (set b.started task true) t && not (flag b.finished t)) ≡ bit (is_running b t) = ap (λ (v : Bool). bit (v && not (flag b.finished t))) (get_or-set_other b.started task t true false ne) in
+              omega (arith, bit-other t task ne)
+        ]));
+      remaining = keeps.remaining;
+      begun = λ t t-lt done. elim (cases_eq t task) [
+        | inl here ↦ ap (flag (set b.started task true)) here ∙ now
+        | inr ne ↦ get_or-set_other b.started task t true false ne ∙ keeps.begun t t-lt done
+      ];
+    }
+
+-- a running task is finished
+finish_keeps : (b : Board) (counters now : List ℕ) (active left task : ℕ) → Keeps b counters active left → task < task_count b → is_running b task ≡ true → Lowers (λ t. reads b.needs b.grid t task) counters now
+    → Keeps (record b { finished = set b.finished task true }) now (active - 1) (left - 1)
+finish_keeps b counters now active left task keeps lt running lowers =
+    let parts = and_both (flag b.started task) (not (flag b.finished task)) running in
+    let unfinished : flag b.finished task ≡ false = not_true (flag b.finished task) parts.1 in
+    let done : flag (set b.finished task true) task ≡ true = get_or-set_same b.finished task true false (let e = keeps.finished in omega arith) in
+    let size : length (set b.finished task true) ≡ length b.finished = simp length-set in
+    let less-running : count_below (is_running b) (task_count b) ≡ count_below (λ t. flag b.started t && not (flag (set b.finished task true) t)) (task_count b) + 1 =
+      count-more (is_running b) (λ t. flag b.started t && not (flag (set b.finished task true) t)) task (task_count b) lt (λ t t-lt. elim (cases_eq t task) [
+        | inl here ↦
+            let p : bit (is_running b t) ≡ 1 = rw here (ap bit running) in
+            let q : bit (flag b.started t && not (flag (set b.finished task true) t)) ≡ 0 = rw here (rw (done, parts.0) refl) in
+            omega (arith, bit-at t task here)
+        | inr ne ↦
+            let p : bit (flag b.started t && not (flag (set b.finished task true) t)) ≡ bit (is_running b t) = ap (λ (v : Bool). bit (flag b.started t && not v)) (get_or-set_other b.finished task t true false ne) in
+            omega (arith, bit-other t task ne)
+      ]) in
+    let less-left : count_below (λ t. not (flag b.finished t)) (task_count b) ≡ count_below (λ t. not (flag (set b.finished task true) t)) (task_count b) + 1 =
+      count-more (λ t. not (flag b.finished t)) (λ t. not (flag (set b.finished task true) t)) task (task_count b) lt (λ t t-lt. elim (cases_eq t task) [
+        | inl here ↦
+            let p : bit (not (flag b.finished t)) ≡ 1 = rw here (rw unfinished refl) in
+            let q : bit (not (flag (set b.finished task true) t)) ≡ 0 = rw here (rw done refl) in
+            omega (arith, bit-at t task here)
+        | inr ne ↦
+            let p : bit (not (flag (set b.finished task true) t)) ≡ bit (not (flag b.finished t)) = ap (λ (v : Bool). bit (not v)) (get_or-set_other b.finished task t true false ne) in
+            omega (arith, bit-other t task ne)
+      ]) in
+    record {
+      started = keeps.started;
+      finished = size ∙ keeps.finished;
+      waiting = lowers.size ∙ keeps.waiting;
+      small = keeps.small;
+      waits = λ t t-lt. let e = keeps.waiting in omega (arith, lowers.each t (omega arith), keeps.waits t t-lt, waits_one b.needs b.grid b.finished (task_count b) task t lt keeps.finished unfinished);
+      calm = λ t t-lt begun. let e = keeps.waiting in omega (arith, lowers.each t (omega arith), keeps.calm t t-lt begun);
+      running = let e = keeps.running in omega (arith, less-running);
+      remaining = let e = keeps.remaining in omega (arith, less-left);
+      begun = λ t t-lt fin. elim (cases_eq t task) [
+        | inl here ↦ ap (flag b.started) here ∙ parts.0
+        | inr ne ↦ keeps.begun t t-lt (sym (get_or-set_other b.finished task t true false ne) ∙ fin)
+      ];
+    }
+
+-- what reads an unfinished task waits for it, and is idle
+readers_wait : (b : Board) (counters : List ℕ) (active left task : ℕ) → Keeps b counters active left → task < task_count b → is_running b task ≡ true
+    → (t : ℕ) → t < length counters → reads b.needs b.grid t task ≡ true → (0 < get_or counters t 0) × (flag b.started t ≡ false)
+readers_wait b counters active left task keeps lt running = λ t t-lt here.
+    let parts = and_both (flag b.started task) (not (flag b.finished task)) running in
+    let unfinished : flag b.finished task ≡ false = not_true (flag b.finished task) parts.1 in
+    let n-lt : t < task_count b = let e = keeps.waiting in omega arith in
+    let more : 0 < get_or counters t 0 = omega (arith, keeps.waits t n-lt, waits_one b.needs b.grid b.finished (task_count b) task t lt keeps.finished unfinished, ap bit here) in
+    (more, go t n-lt (flag b.started t) refl more)
+  where
+    go : (t : ℕ) → t < task_count b → (r : Bool) → flag b.started t ≡ r → 0 < get_or counters t 0 → flag b.started t ≡ false
+    go t n-lt false e more = e
+    go t n-lt true e more = absurd (let z = keeps.calm t n-lt e in omega arith)
+
+-- some task is running, so there is one, and it remains
+pub some_run : (b : Board) (counters now : List ℕ) (active left task : ℕ) → Keeps b counters active left → task < task_count b → is_running b task ≡ true → (0 < active) × (0 < left)
+some_run b counters now active left task keeps lt running =
+    let parts = and_both (flag b.started task) (not (flag b.finished task)) running in
+    (omega (arith, keeps.running, count-some (is_running b) task (task_count b) lt running), omega (arith, keeps.remaining, count-some (λ t. not (flag b.finished t)) task (task_count b) lt parts.1))
+
+-- the tasks that read a tile, by its step and by its number
+reads-number : (needs : List Need) (g : Tiling) (step tile t : ℕ) → tile < tile_count g → reads needs g t (task_number g step tile) ≡ reads_tile needs g t step tile
+reads-number needs g step tile t lt =
+    ap (λ (k : ℕ). reads_tile needs g t k (task_number g step tile % tile_count g)) (div-mul-add step (tile_count g) tile lt)
+    ∙ ap (reads_tile needs g t step) (mod-mul-add step (tile_count g) tile lt)
+
+pub number_within : (b : Board) (step tile : ℕ) → Runs b step tile → task_number b.grid step tile < task_count b
+number_within b step tile runs = step_within step (length b.needs) (tile_count b.grid) tile runs.within runs.inside
+
+pub readers_wait_given : (needs shown : List Need) (g : Tiling) (q : Queued) (finished : List Bool) (active left step tile : ℕ) → Keeps (board_of needs g q finished) q.waiting active left → Runs (board_of needs g q finished) step tile → shown ≡ needs
+    → Waiting (λ t. reads_tile shown g t step tile) q
+readers_wait_given needs shown g q finished active left step tile keeps runs shown-is = λ t lt here.
+    let b = board_of needs g q finished in
+    let same = ap (λ (n : List Need). reads_tile n g t step tile) shown-is in
+    readers_wait b q.waiting active left (task_number g step tile) keeps (number_within b step tile runs) runs.running t lt (reads-number needs g step tile t runs.inside ∙ sym same ∙ here)
+
+pub start_keeps_given : (b : Board) (counters now : List ℕ) (started : List Bool) (active left task : ℕ) → Keeps b counters active left → task < length counters → is_open b.started counters task ≡ true
+    → started ≡ set b.started task true → now ≡ counters → Keeps (record b { started = started }) now (active + 1) left
+start_keeps_given b counters now started active left task keeps lt opened e f =
+    rw (e, f) (start_keeps b counters active left task keeps (let s = keeps.waiting in omega arith) opened)
+
+pub finish_keeps_given : (b : Board) (counters now : List ℕ) (started : List Bool) (shown : List Need) (active left step tile : ℕ) → Keeps b counters active left → Runs b step tile → shown ≡ b.needs
+    → Lowers (λ t. reads_tile shown b.grid t step tile) counters now → started ≡ b.started
+    → Keeps (record b { started = started; finished = set b.finished (task_number b.grid step tile) true }) now (active - 1) (left - 1)
+finish_keeps_given b counters now started shown active left step tile keeps runs shown-is lowers e =
+    let task = task_number b.grid step tile in
+    let lowered : Lowers (λ t. reads b.needs b.grid t task) counters now = lowers_same (λ t. reads_tile shown b.grid t step tile) (λ t. reads b.needs b.grid t task) counters now
+      (λ t. ap (λ (n : List Need). reads_tile n b.grid t step tile) shown-is ∙ sym (reads-number b.needs b.grid step tile t runs.inside)) lowers in
+    subst (λ (s : List Bool). Keeps (record b { started = s; finished = set b.finished task true }) now (active - 1) (left - 1)) (sym e) (finish_keeps b counters now active left task keeps (number_within b step tile runs) runs.running lowered)
+
+pub ready_given : (b : Board) (counters : List ℕ) (active left t : ℕ) → Keeps b counters active left → t < length counters → is_open b.started counters t ≡ true → is_ready b t ≡ true
+ready_given b counters active left t keeps lt opened = sym (ready_is_open b counters active left t keeps (let s = keeps.waiting in omega arith)) ∙ opened
+
+pub step_of_number : (b : Board) (counters : List ℕ) (active left tiles step tile : ℕ) → Keeps b counters active left → tiles ≡ tile_count b.grid → step * tiles + tile < length counters → step < length b.needs
+step_of_number b counters active left tiles step tile keeps tiles-is lt =
+    let whole : length counters ≡ length b.needs * tiles = keeps.waiting ∙ ap (λ (k : ℕ). length b.needs * k) (sym tiles-is) in
+    less step (length b.needs) tiles (omega arith)
+  where
+    less : (a n m : ℕ) → a * m < n * m → a < n
+    less a n m lt = grind (arith, mul-le-mul_left)
+
+pub open_number : (b : Board) (counters : List ℕ) (active left tiles step tile : ℕ) → Keeps b counters active left → tiles ≡ tile_count b.grid → step * tiles + tile < length counters → is_open b.started counters (step * tiles + tile) ≡ true
+    → is_ready b (task_number b.grid step tile) ≡ true
+open_number b counters active left tiles step tile keeps tiles-is lt opened =
+    ap (λ (k : ℕ). is_ready b (step * k + tile)) (sym tiles-is) ∙ ready_given b counters active left (step * tiles + tile) keeps lt opened
+
+pub latest_step : (b : Board) (counters : List ℕ) (active left tiles step n : ℕ) → Keeps b counters active left → tiles ≡ tile_count b.grid
+    → ((t : ℕ) → t < length counters → is_open b.started counters t ≡ true → t / tiles ≤ step) → n < task_count b → is_ready b n ≡ true → step_of b.grid n ≤ step
+latest_step b counters active left tiles step n keeps tiles-is latest lt ready =
+    let h = latest n (let s = keeps.waiting in omega arith) (ready_is_open b counters active left n keeps lt ∙ ready) in
+    omega (arith, ap (λ (k : ℕ). n / k) tiles-is)
+
+-- nothing was started
+pub keeps_fresh : (needs : List Need) (g : Tiling) (q : Queued) (finished : List Bool) (left : ℕ) → length needs * tile_count g < 2 ^ 31 → q.started ≡ replicate (length needs * tile_count g) false → finished ≡ replicate (length needs * tile_count g) false
+    → length q.waiting ≡ length needs * tile_count g → left ≡ length needs * tile_count g → ((t : ℕ) → t < length needs * tile_count g → get_or q.waiting t 0 ≡ read_count needs g (length needs * tile_count g) t)
+    → Keeps (board_of needs g q finished) q.waiting 0 left
+keeps_fresh needs g q finished left small started-is finished-is size left-is each = record {
+  started = ap (λ (xs : List Bool). length xs) started-is ∙ length-replicate (length needs * tile_count g) false;
+  finished = ap (λ (xs : List Bool). length xs) finished-is ∙ length-replicate (length needs * tile_count g) false;
+  waiting = size;
+  small = small;
+  waits = λ t lt. each t lt ∙ count-same (reads needs g t) (λ u. reads needs g t u && not (flag finished u)) (length needs * tile_count g) (λ u u-lt. sym (ap (λ (b : Bool). reads needs g t u && not b) (unfinished u u-lt) ∙ and-true (reads needs g t u)));
+  calm = λ t lt begun. absurd (true_or (flag q.started t) begun (idle t lt));
+  running = sym (count-none (λ t. flag q.started t && not (flag finished t)) (length needs * tile_count g) (λ t lt. ap (λ (b : Bool). b && not (flag finished t)) (idle t lt)));
+  remaining = left-is ∙ sym (count-all (λ t. not (flag finished t)) (length needs * tile_count g) (λ t lt. ap (λ (b : Bool). not b) (unfinished t lt)));
+  begun = λ t lt done. absurd (true_or (flag finished t) done (unfinished t lt));
+}
+  where
+    idle : (t : ℕ) → t < length needs * tile_count g → flag q.started t ≡ false
+    idle t lt = ap (λ (xs : List Bool). flag xs t) started-is ∙ get_or-replicate (length needs * tile_count g) t false false lt
+
+    unfinished : (t : ℕ) → t < length needs * tile_count g → flag finished t ≡ false
+    unfinished t lt = ap (λ (xs : List Bool). flag xs t) finished-is ∙ get_or-replicate (length needs * tile_count g) t false false lt

@@ -1,0 +1,11 @@
+pub mod Counts
+pub mod Lists
+pub mod Pieces
+pub mod Lowering
+pub mod Numbers
+pub mod Boxes
+pub mod Orders
+pub mod Opens
+pub mod Keeping
+pub mod Firsts
+pub mod Tied

@@ -1,0 +1,36 @@
+-- What the counters of a board are; no public contract speaks of them.
+use Rattle.std.specs.Prelude.{◌≡◌, ℕ, ◌*◌, ◌<◌, ◌^◌, Bool, true, not, ◌&&◌, nat_eq, List, length, slice_index}
+use Rattle.mw_model.specs.declared.places.Reach.{Reach}
+use Rattle.mw_model.specs.Tasks.{flag, meets}
+use Rattle.mw_model.specs.Places.{grown}
+use Rattle.mw_grid.specs.Grids.{Tiling, tile_count, tile_at}
+use Rattle.mw_ready.specs.declared.need.Need.{Need}
+use Rattle.mw_ready.specs.Queues.{Queued, count_below}
+use Rattle.mw_ready.specs.Boards.{Board, task_count, step_of, tile_of_task, reads, is_running, running_tasks, remaining_tasks}
+
+-- how many of the first n tasks t reads
+abbrev pub read_count : List Need → Tiling → ℕ → ℕ → ℕ
+read_count needs g n t = count_below (reads needs g t) n
+
+-- how many of the first n tasks t reads that are not finished
+abbrev pub waits_for : List Need → Tiling → List Bool → ℕ → ℕ → ℕ
+waits_for needs g finished n t = count_below (λ u. reads needs g t u && not (flag finished u)) n
+
+-- t is a task of this step whose window, with this reach, meets the tile
+abbrev pub is_near : Tiling → Reach → ℕ → ℕ → ℕ → Bool
+is_near g reach step tile t = nat_eq (step_of g t) step && meets (grown g.width g.height reach (tile_of_task g t)) (tile_at g tile)
+
+pub record Keeps (b : Board) (counters : List ℕ) (active left : ℕ) : Type 0 where
+  pub started : length b.started ≡ task_count b
+  pub finished : length b.finished ≡ task_count b
+  pub waiting : length counters ≡ task_count b
+  pub small : task_count b < 2 ^ 31
+  pub waits : (t : ℕ) → t < task_count b → slice_index counters t ≡ waits_for b.needs b.grid b.finished (task_count b) t
+  pub calm : (t : ℕ) → t < task_count b → flag b.started t ≡ true → slice_index counters t ≡ 0
+  pub running : active ≡ running_tasks b
+  pub remaining : left ≡ remaining_tasks b
+  pub begun : (t : ℕ) → t < task_count b → flag b.finished t ≡ true → flag b.started t ≡ true
+
+-- the board of a queue of its tasks
+abbrev pub board_of : List Need → Tiling → Queued → List Bool → Board
+board_of needs g q finished = record { needs = needs; grid = g; started = q.started; finished = finished }

@@ -1,0 +1,5 @@
+pub mod Boards
+pub mod Work
+pub mod Queues
+pub mod Shown
+pub mod Kept

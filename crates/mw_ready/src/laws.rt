@@ -1,0 +1,14 @@
+//! What the tasks of a board are for a machine.
+
+ghost use Rattle.mw_model.specs.Tasks.{Progress};
+ghost use Rattle.mw_ready.specs.Boards.{Board};
+ghost use Rattle.mw_ready.specs.Work.{IsBoardOf, SameTasks};
+
+use crate::Ready;
+
+/// Where the board shows the work under a ticket, the same tasks are ready, running and left in both.
+pub fn tasks_are_those_of_work(ready: &Ready)
+    ensures { (p : Progress) → IsBoardOf ready.now.board p → SameTasks ready.now.board p }
+{
+    let _count = ready.count();
+}

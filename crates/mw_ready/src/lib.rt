@@ -1,0 +1,30 @@
+//! Which tasks of a plan on a grid are ready. A task is one tile of one step; nothing here knows of pixels or of what
+//! a step computes.
+//!
+//! ```text
+//! let mut ready = Ready::new(alloc, needs, grid)?;
+//! while ready.remaining() > 0 {
+//!     let (step, tile) = ready.start(0);
+//!     // compute the tile of the step, here or elsewhere; others may be started meanwhile
+//!     ready.finish(step, tile);
+//! }
+//! ```
+//!
+//! Each task has a counter of the unfinished tasks that it reads. A finished tile lowers the counters of its readers
+//! alone, and a task whose counter comes to zero joins the list of its step. Eight bytes a task are all that it takes.
+#![tactic(auto)]
+
+mod laws;
+mod near;
+mod need;
+mod queue;
+mod readers;
+mod ready;
+mod release;
+mod waits;
+
+pub use laws::tasks_are_those_of_work;
+pub use mw_grid::Grid;
+pub use mw_model::{NoMemory, Reach};
+pub use need::Need;
+pub use ready::Ready;
