@@ -12,10 +12,9 @@ use crate::kinds::of_samples;
 use crate::sliding::{under_box, under_element};
 use mw_element::Element;
 use mw_model::{NoMemory, OffsetBox, Rect};
-use mw_pixel::Bit;
 use mw_rank::rank;
 use mw_task::Made;
-use mw_tile::{AnyWindow, WindowView};
+use mw_tile::AnyWindow;
 use std::alloc::Global;
 
 /// At each place of the tile the extremum of the samples under the element.

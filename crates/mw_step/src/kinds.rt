@@ -14,18 +14,18 @@ use mw_tile::{AnyWindow, Window, WindowView};
 macro_rules! of_samples {
     ($window:expr, |$samples:ident, $maxval:ident| $plane:expr) => {
         match $window.view() {
-            WindowView::Bits($samples) => {
-                let $maxval = Bit::SET;
+            mw_tile::WindowView::Bits($samples) => {
+                let $maxval = mw_pixel::Bit::SET;
                 let plane = $plane?;
-                Ok(Made::Bits(plane))
+                Ok(mw_task::Made::Bits(plane))
             }
-            WindowView::Grey8($samples, $maxval) => {
+            mw_tile::WindowView::Grey8($samples, $maxval) => {
                 let plane = $plane?;
-                Ok(Made::Grey8(plane, $maxval))
+                Ok(mw_task::Made::Grey8(plane, $maxval))
             }
-            WindowView::Grey16($samples, $maxval) => {
+            mw_tile::WindowView::Grey16($samples, $maxval) => {
                 let plane = $plane?;
-                Ok(Made::Grey16(plane, $maxval))
+                Ok(mw_task::Made::Grey16(plane, $maxval))
             }
         }
     };
@@ -35,20 +35,20 @@ macro_rules! of_samples {
 macro_rules! of_both {
     ($a:expr, $b:expr, |$first:ident, $second:ident| $plane:expr) => {
         match $a.view() {
-            WindowView::Bits($first) => {
-                let $second = bits_of($b);
+            mw_tile::WindowView::Bits($first) => {
+                let $second = $crate::kinds::bits_of($b);
                 let plane = $plane?;
-                Ok(Made::Bits(plane))
+                Ok(mw_task::Made::Bits(plane))
             }
-            WindowView::Grey8($first, maxval) => {
-                let $second = bytes_of($b, maxval);
+            mw_tile::WindowView::Grey8($first, maxval) => {
+                let $second = $crate::kinds::bytes_of($b, maxval);
                 let plane = $plane?;
-                Ok(Made::Grey8(plane, maxval))
+                Ok(mw_task::Made::Grey8(plane, maxval))
             }
-            WindowView::Grey16($first, maxval) => {
-                let $second = words_of($b);
+            mw_tile::WindowView::Grey16($first, maxval) => {
+                let $second = $crate::kinds::words_of($b);
                 let plane = $plane?;
-                Ok(Made::Grey16(plane, maxval))
+                Ok(mw_task::Made::Grey16(plane, maxval))
             }
         }
     };

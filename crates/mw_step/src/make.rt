@@ -1,7 +1,6 @@
 //! Running a task: what each step makes of its windows.
 
-ghost use Rattle.std.specs.Prelude.{◌≡◌, ◌+◌, ◌<◌, ◌^◌, IfOk, IfErr};
-ghost use Rattle.mw_model.specs.Places.{IsWithin};
+ghost use Rattle.std.specs.Prelude.{◌≡◌, ◌<◌, IfOk, IfErr};
 ghost use Rattle.mw_task.specs.WindowTasks.{source_count, window_at, IsRead, KindsFit};
 ghost use Rattle.mw_task.specs.Products.{IsMade};
 

@@ -10,7 +10,7 @@ use crate::painting::{marked, without};
 use mw_model::NoMemory;
 use mw_pixel::Bit;
 use mw_task::Made;
-use mw_tile::{AnyWindow, WindowView};
+use mw_tile::AnyWindow;
 use std::alloc::Global;
 
 /// The samples, with level `v` in each place of the set.

@@ -5,11 +5,11 @@ ghost use Rattle.mw_task.specs.WindowTasks.{SameKind};
 ghost use Rattle.mw_task.specs.Products.{HoldsImage, both_drawn};
 
 use crate::extrema::LevelExtremum;
-use crate::kinds::{bits_of, bytes_of, of_both, words_of};
+use crate::kinds::of_both;
 use crate::pointwise::{differences, merged};
 use mw_model::NoMemory;
 use mw_task::Made;
-use mw_tile::{AnyWindow, WindowView};
+use mw_tile::AnyWindow;
 use std::alloc::Global;
 
 /// Each sample of the first source less that of the second, stopping at 0.
