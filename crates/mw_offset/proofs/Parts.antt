@@ -10,11 +10,11 @@ use borrow.Rule.Slice.PartMut.{put_mid}
 use Rattle.mw_lane.proofs.Blocks.{put_mid_at, put_mid_below}
 use Rattle.mw_lane.proofs.Parts.{put_mid_above}
 use Rattle.mw_line.proofs.Folds.{IsExtremum, length-put_mid}
-use Rattle.mw_offset.specs.declared.runs.Run.{Run}
-use Rattle.mw_offset.specs.declared.runs.Extent.{Extent}
+use Rattle.mw_run.specs.declared.runs.Run.{Run}
+use Rattle.mw_run.specs.declared.runs.Extent.{Extent}
 use Rattle.mw_offset.proofs.Rooms.{merged_again}
 use Rattle.mw_offset.specs.Places.{merge_from, places_of}
-use Rattle.mw_offset.specs.Runs.{start_of, HasRoom, sized, two_parts}
+use Rattle.mw_run.specs.Runs.{start_of, HasRoom, sized, two_parts}
 
 -- the samples below `at` have their values, and the others are as they were
 pub record PartsDone {A : Type 0} (value : A → ℕ → A → A) (at : ℕ) (old out : List A) : Type 0 where
