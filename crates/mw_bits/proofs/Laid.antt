@@ -5,10 +5,10 @@ use Rattle.std.proofs.lemmas.Int.{ints}
 use Rattle.std.proofs.lemmas.List.FromFn.{get_or-map-range_with_len, length-map-range_with_len}
 use Rattle.mw_model.specs.Places.{nonnegative}
 use Rattle.mw_line.proofs.Padded.{nonnegative_is}
-use Rattle.mw_offset.specs.declared.runs.Run.{Run}
-use Rattle.mw_offset.specs.declared.runs.Extent.{Extent}
-use Rattle.mw_offset.specs.Runs.{IsInside, IsWider}
-use Rattle.mw_offset.proofs.RunLists.{all_weaker, inside_wider}
+use Rattle.mw_run.specs.declared.runs.Run.{Run}
+use Rattle.mw_run.specs.declared.runs.Extent.{Extent}
+use Rattle.mw_run.specs.Runs.{IsInside, IsWider}
+use Rattle.mw_run.proofs.RunLists.{all_weaker, inside_wider}
 use Rattle.mw_bits.specs.Packed.{bit_of}
 use Rattle.mw_bits.specs.Layouts.{laid_bits, IsNear}
 

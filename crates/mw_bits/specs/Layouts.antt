@@ -1,7 +1,7 @@
 -- Rows of words that are laid out around a tile.
 use Rattle.std.specs.Prelude.{ℕ, ◌-◌, ◌*◌, ◌^◌, List, length, map, cond, nat_lt, Option, Some, None, ℤ, pos, negsuc, ◌+ℤ◌, ◌≤ℤ◌}
 use Rattle.std.specs.List.{range_with_len}
-use Rattle.mw_offset.specs.declared.runs.Extent.{Extent}
+use Rattle.mw_run.specs.declared.runs.Extent.{Extent}
 use Rattle.mw_bits.specs.Packed.{bit_of}
 
 -- the pixel at a place of a row of so many, where the row has that place

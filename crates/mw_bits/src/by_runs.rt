@@ -9,8 +9,8 @@ ghost use Rattle.mw_model.specs.Places.{nonnegative};
 ghost use Rattle.mw_model.specs.Rasters.{seen_under};
 ghost use Rattle.mw_model.specs.Windows.{seen_at};
 ghost use Rattle.mw_line.specs.Extrema.{strided};
-ghost use Rattle.mw_offset.specs.declared.runs.Run.{Run};
-ghost use Rattle.mw_offset.specs.Runs.{run_offsets, start_of, IsInside, IsWider, HasRoom, sized, two_parts, gather};
+ghost use Rattle.mw_run.specs.declared.runs.Run.{Run};
+ghost use Rattle.mw_run.specs.Runs.{run_offsets, start_of, IsInside, IsWider, HasRoom, sized, two_parts, gather};
 ghost use Rattle.mw_bits.specs.Packed.{bit_of, stride_of, IsPacked};
 ghost use Rattle.mw_bits.specs.Layouts.{laid_bits, AreNear, IsNear};
 
@@ -20,7 +20,7 @@ use crate::trimming::trimmed;
 use crate::words::{repeated, stride};
 use crate::{WordExtremum, Words};
 use mw_model::{NoMemory, Rect};
-use mw_offset::{Extent, Run, columns_after, first_column, first_row, rows_after, start_of_run};
+use mw_run::{Extent, Run, columns_after, first_column, first_row, rows_after, start_of_run};
 use std::alloc::Global;
 
 /// Merges the bits from two places on into the words.

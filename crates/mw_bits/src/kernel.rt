@@ -14,17 +14,8 @@ use crate::trimming::trimmed;
 use crate::words::{repeated, stride};
 use crate::{WordExtremum, Words};
 use mw_model::{NoMemory, Offset, Rect};
-use mw_offset::{extent_of, runs_of};
+use mw_run::{extent_of, place_of, runs_of};
 use std::alloc::Global;
-
-/// The place of a step from `from`, counted from `first`.
-fn place_of(from: u32, step: i16, first: u32) -> i64
-    ensures value { result ≡ pos from +ℤ step -ℤ pos first }
-    ensures low { negsuc (2 ^ 40) ≤ℤ result }
-    ensures high { result ≤ℤ pos (2 ^ 40) }
-{
-    i64::from(from) + i64::from(step) - i64::from(first)
-}
 
 /// Merges into each bit of the tile's rows what is seen under the element there.
 fn combine_offsets<E: WordExtremum>(
@@ -40,8 +31,8 @@ fn combine_offsets<E: WordExtremum>(
 {
     let place = set.place();
     for offset in offsets {
-        let column = place_of(tile.x, offset.dx, place.x);
-        let row = place_of(tile.y, offset.dy, place.y);
+        let column = place_of(u64::from(tile.x), offset.dx, place.x);
+        let row = place_of(u64::from(tile.y), offset.dy, place.y);
         spread_rows::<E>(set, column, row, stride, tile.height as usize, out);
     }
 }

@@ -39,7 +39,7 @@ fn places_to(column: i64) -> u64
     ensures value { column ≡ pos result -ℤ pos (64 * words_before) }
     ensures small { result ≤ 2 ^ 42 }
 {
-    (column + 2199023255552) as u64
+    (column + 64 * BEFORE as i64) as u64
 }
 
 /// Merges into each bit the pixel of the row so many columns further on, where there is one.

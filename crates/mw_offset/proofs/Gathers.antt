@@ -5,9 +5,9 @@ use Rattle.std.proofs.lemmas.Bool.{cases_lt, lt-ltb, le-ltb, le-leb, lt-leb}
 use Rattle.mw_line.specs.Extrema.{strided}
 use Rattle.mw_line.proofs.Folds.{IsExtremum}
 use Rattle.mw_line.proofs.Joined.{joined}
-use Rattle.mw_offset.specs.declared.runs.Run.{Run}
-use Rattle.mw_offset.specs.declared.runs.Extent.{Extent}
-use Rattle.mw_offset.specs.Runs.{start_of, HasRoom, sized, two_parts, gather}
+use Rattle.mw_run.specs.declared.runs.Run.{Run}
+use Rattle.mw_run.specs.declared.runs.Extent.{Extent}
+use Rattle.mw_run.specs.Runs.{start_of, HasRoom, sized, two_parts, gather}
 
 -- what the runs of less than b offsets give
 abbrev pub gather_below : {A : Type 0} → (A → A → A) → A → (Run → A) → ℕ → List Run → A

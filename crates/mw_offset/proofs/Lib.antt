@@ -1,5 +1,4 @@
 pub mod Merges
-pub mod RunLists
 pub mod Rooms
 pub mod Gathers
 pub mod Seens

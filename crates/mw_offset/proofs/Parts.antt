@@ -9,11 +9,11 @@ use Rattle.std.proofs.lemmas.List.Sums.{fold-append}
 use borrow.Rule.Slice.PartMut.{put_mid}
 use Rattle.mw_facts.proofs.Parts.{length-put_mid, get_or-put_mid_below as put_mid_below, get_or-put_mid_within as put_mid_at, get_or-put_mid_above as put_mid_above}
 use Rattle.mw_line.proofs.Folds.{IsExtremum}
-use Rattle.mw_offset.specs.declared.runs.Run.{Run}
-use Rattle.mw_offset.specs.declared.runs.Extent.{Extent}
+use Rattle.mw_run.specs.declared.runs.Run.{Run}
+use Rattle.mw_run.specs.declared.runs.Extent.{Extent}
 use Rattle.mw_offset.proofs.Rooms.{merged_again}
 use Rattle.mw_offset.specs.Places.{merge_from, places_of}
-use Rattle.mw_offset.specs.Runs.{start_of, HasRoom, sized, two_parts}
+use Rattle.mw_run.specs.Runs.{start_of, HasRoom, sized, two_parts}
 
 -- the samples below `at` have their values, and the others are as they were
 pub record PartsDone {A : Type 0} (value : A → ℕ → A → A) (at : ℕ) (old out : List A) : Type 0 where

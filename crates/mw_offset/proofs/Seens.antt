@@ -14,11 +14,11 @@ use Rattle.mw_lane.specs.Shifted.{merge_at}
 use Rattle.mw_line.specs.Extrema.{strided, over}
 use Rattle.mw_line.proofs.Folds.{IsExtremum, fold_both}
 use Rattle.mw_line.proofs.Over.{over_same, over_strided, fold_flat, those, fold_those, filter_map-flat}
-use Rattle.mw_line.proofs.Padded.{nonnegative_is}
-use Rattle.mw_offset.specs.declared.runs.Run.{Run}
-use Rattle.mw_offset.specs.declared.runs.Extent.{Extent}
-use Rattle.mw_offset.specs.Runs.{run_offsets, start_of, IsInside, HasRoom, gather}
-use Rattle.mw_offset.proofs.RunLists.{all_weaker}
+use Rattle.mw_run.proofs.Nonnegative.{nonnegative_is}
+use Rattle.mw_run.specs.declared.runs.Run.{Run}
+use Rattle.mw_run.specs.declared.runs.Extent.{Extent}
+use Rattle.mw_run.specs.Runs.{run_offsets, start_of, IsInside, HasRoom, gather}
+use Rattle.mw_run.proofs.RunLists.{all_weaker}
 use Rattle.mw_offset.proofs.Rooms.{one_less}
 
 -- the rows that the code lays out for a tile and an extent

@@ -9,17 +9,16 @@ ghost use Rattle.mw_model.specs.Places.{nonnegative};
 ghost use Rattle.mw_model.specs.Rasters.{seen_under};
 ghost use Rattle.mw_model.specs.Windows.{seen_at};
 ghost use Rattle.mw_line.specs.Extrema.{strided};
-ghost use Rattle.mw_offset.specs.declared.runs.Run.{Run};
+ghost use Rattle.mw_run.specs.declared.runs.Run.{Run};
 ghost use Rattle.mw_offset.specs.Places.{places_of};
-ghost use Rattle.mw_offset.specs.Runs.{run_offsets, start_of, IsInside, HasRoom, sized, two_parts, gather};
+ghost use Rattle.mw_run.specs.Runs.{run_offsets, start_of, IsInside, HasRoom, sized, two_parts, gather};
 
-use crate::layout::{columns_after, first_column, first_row, rows_after, start_of_run};
 use crate::places::combine_places;
-use crate::runs::{Extent, Run};
 use crate::spread::{narrowed, spread};
 use mw_lane::combine_ahead;
 use mw_model::{NoMemory, Rect};
 use mw_pixel::{Extremum, Pixel, copies};
+use mw_run::{Extent, Run, columns_after, first_column, first_row, rows_after, start_of_run};
 use mw_tile::Window;
 use std::alloc::Global;
 

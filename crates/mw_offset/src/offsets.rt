@@ -8,21 +8,13 @@ ghost use Rattle.mw_tile.specs.Windows.{IsWindow};
 ghost use Rattle.mw_lane.specs.Shifted.{merge_at};
 ghost use Rattle.mw_line.specs.Extrema.{IsSlidingExtremum};
 
-use crate::runs::{Extent, extent_of, runs_of};
 use crate::strips::extremum_by_strips;
 use mw_line::combine_window_row;
 use mw_model::{NoMemory, Offset, Rect};
 use mw_pixel::{Extremum, Pixel, Plane, copies};
+use mw_run::{Extent, extent_of, place_of, runs_of};
 use mw_tile::Window;
 use std::alloc::Global;
-
-/// The place of a step from `from`, counted from `first`.
-fn place_of(from: u64, step: i16, first: u32) -> i64
-    requires { from ≤ 2 ^ 40 }
-    ensures { result ≡ pos from +ℤ step -ℤ pos first }
-{
-    (from as i64) + i64::from(step) - i64::from(first)
-}
 
 /// Merges into each sample of a row of the frame, from `column` on, the sample at an offset from there.
 fn combine_offset<P: Pixel, E: Extremum<P>>(

@@ -5,13 +5,12 @@ ghost use Rattle.std.specs.Prelude.{◌≡◌, ℕ, ◌+◌, ◌*◌, ◌<◌, �
 ghost use Rattle.std.specs.List.{AllByRecursion};
 ghost use Rattle.mw_model.specs.Rasters.{seen_under};
 ghost use Rattle.mw_model.specs.Windows.{seen_at};
-ghost use Rattle.mw_offset.specs.Runs.{run_offsets, IsInside};
+ghost use Rattle.mw_run.specs.Runs.{run_offsets, IsInside};
 
 use crate::by_runs::extremum_by_runs;
-use crate::layout::rows_after;
-use crate::runs::{Extent, Run};
 use mw_model::{NoMemory, Rect};
 use mw_pixel::{Extremum, Pixel};
+use mw_run::{Extent, Run, rows_after};
 use mw_tile::Window;
 use std::alloc::Global;
 

@@ -11,7 +11,8 @@ use Rattle.mw_model.specs.Rasters.{Sight, raster, cell_at}
 use Rattle.mw_model.specs.Windows.{View, seen_at}
 use Rattle.mw_rank.specs.declared.ends.Ends.{Ends}
 use Rattle.mw_rank.specs.declared.histogram.Histogram.{Histogram}
-use Rattle.mw_rank.specs.declared.runs.Run.{Run}
+use Rattle.mw_run.specs.declared.runs.Run.{Run}
+use Rattle.mw_run.specs.Runs.{start_offset}
 use Rattle.mw_rank.specs.Ends.{levels_left, levels_entered, first_seen, next_seen, HasEnds, AreEnds, AddsEnds}
 use Rattle.mw_rank.specs.Ranks.{levels_under, levels_at, GainsRow}
 use Rattle.mw_rank.specs.Runs.{offsets_from, offsets_of, element_of}
@@ -22,7 +23,7 @@ use Rattle.mw_rank.proofs.Moves.{drop_one, run_before, run_after}
 
 -- what is seen of the runs both before and after the move
 abbrev pub kept : {A : Type 0} → (A → ℕ) → Sight A → List Run → ℕ → ℕ → List ℕ
-kept level sight runs x y = flat_map (λ (r : Run). levels_under level sight (offsets_from r.start r.more) (x + 1) y) runs
+kept level sight runs x y = flat_map (λ (r : Run). levels_under level sight (offsets_from (start_offset r) (r.count - 1)) (x + 1) y) runs
 
 split_before : (whole front rest here first staying inner outer : List ℕ) → whole ≡ (here ++ inner) ++ rest → first ≡ here ++ front → staying ≡ inner ++ outer → Same rest (front ++ outer) → Same whole (first ++ staying)
 split_before whole front rest here first staying inner outer whole-is first-is staying-is same = record {
@@ -90,17 +91,17 @@ split_after whole front rest here next staying inner outer whole-is next-is stay
 pub before_move : {A : Type 0} (level : A → ℕ) (sight : Sight A) (runs : List Run) (x y : ℕ) → Same (levels_under level sight (element_of runs) x y) (first_seen level sight runs x y ++ kept level sight runs x y)
 before_move level sight [] x y = record { counts = λ v. refl; size = refl }
 before_move level sight (r ∷ rs) x y =
-    split_before _ (first_seen level sight rs x y) (levels_under level sight (element_of rs) x y) (levels_at level sight r.start x y) _ _ (levels_under level sight (offsets_from r.start r.more) (x + 1) y) (kept level sight rs x y)
+    split_before _ (first_seen level sight rs x y) (levels_under level sight (element_of rs) x y) (levels_at level sight (start_offset r) x y) _ _ (levels_under level sight (offsets_from (start_offset r) (r.count - 1)) (x + 1) y) (kept level sight rs x y)
     (ap (λ (t : List _). levels_under level sight t x y) (flat_map-cons offsets_of r rs) ∙ levels-append level sight (offsets_of r) (element_of rs) x y ∙ ap (λ (t : List ℕ). t ++ levels_under level sight (element_of rs) x y) (run_before level sight r x y))
-    (flat_map-cons (λ (q : Run). levels_at level sight q.start x y) r rs) (flat_map-cons (λ (q : Run). levels_under level sight (offsets_from q.start q.more) (x + 1) y) r rs) (before_move level sight rs x y)
+    (flat_map-cons (λ (q : Run). levels_at level sight (start_offset q) x y) r rs) (flat_map-cons (λ (q : Run). levels_under level sight (offsets_from (start_offset q) (q.count - 1)) (x + 1) y) r rs) (before_move level sight rs x y)
 
 -- after it, what is seen is what enters and what stays
 pub after_move : {A : Type 0} (level : A → ℕ) (sight : Sight A) (runs : List Run) (x y : ℕ) → Same (next_seen level sight runs x y ++ kept level sight runs x y) (levels_under level sight (element_of runs) (x + 1) y)
 after_move level sight [] x y = record { counts = λ v. refl; size = refl }
 after_move level sight (r ∷ rs) x y =
-    split_after _ (next_seen level sight rs x y) (levels_under level sight (element_of rs) (x + 1) y) (levels_at level sight r.start (x + 1 + r.more) y) _ _ (levels_under level sight (offsets_from r.start r.more) (x + 1) y) (kept level sight rs x y)
+    split_after _ (next_seen level sight rs x y) (levels_under level sight (element_of rs) (x + 1) y) (levels_at level sight (start_offset r) (x + 1 + (r.count - 1)) y) _ _ (levels_under level sight (offsets_from (start_offset r) (r.count - 1)) (x + 1) y) (kept level sight rs x y)
     (ap (λ (t : List _). levels_under level sight t (x + 1) y) (flat_map-cons offsets_of r rs) ∙ levels-append level sight (offsets_of r) (element_of rs) (x + 1) y ∙ ap (λ (t : List ℕ). t ++ levels_under level sight (element_of rs) (x + 1) y) (run_after level sight r x y))
-    (flat_map-cons (λ (q : Run). levels_at level sight q.start (x + 1 + q.more) y) r rs) (flat_map-cons (λ (q : Run). levels_under level sight (offsets_from q.start q.more) (x + 1) y) r rs) (after_move level sight rs x y)
+    (flat_map-cons (λ (q : Run). levels_at level sight (start_offset q) (x + 1 + (q.count - 1)) y) r rs) (flat_map-cons (λ (q : Run). levels_under level sight (offsets_from (start_offset q) (q.count - 1)) (x + 1) y) r rs) (after_move level sight rs x y)
 
 to_front : (a : ℕ) (e l r : List ℕ) → Same (e ++ (a ∷ l ++ r)) (a ∷ (e ++ (l ++ r)))
 to_front a e l r = record {
@@ -169,12 +170,12 @@ are_ends_more level d sight samples runs r j x y n old new lt is more before =
           map-append (λ (t : Ends). level (get_or samples (t.first + i) d)) old more.added
           ∙ ap (λ (t : List ℕ). t ++ levels_left level d samples more.added i) (before.first i less)
           ∙ ap (λ (t : List ℕ). first_seen level sight (take j runs) (x + i) y ++ t) (more.are.first i less)
-          ∙ sym (flat_map-append (λ (q : Run). levels_at level sight q.start (x + i) y) (take j runs) (r ∷ []));
+          ∙ sym (flat_map-append (λ (q : Run). levels_at level sight (start_offset q) (x + i) y) (take j runs) (r ∷ []));
       next = λ i less.
           map-append (λ (t : Ends). level (get_or samples (t.next + i) d)) old more.added
           ∙ ap (λ (t : List ℕ). t ++ levels_entered level d samples more.added i) (before.next i less)
           ∙ ap (λ (t : List ℕ). next_seen level sight (take j runs) (x + i) y ++ t) (more.are.next i less)
-          ∙ sym (flat_map-append (λ (q : Run). levels_at level sight q.start (x + i + 1 + q.more) y) (take j runs) (r ∷ []));
+          ∙ sym (flat_map-append (λ (q : Run). levels_at level sight (start_offset q) (x + i + 1 + (q.count - 1)) y) (take j runs) (r ∷ []));
     } in
     subst (λ (t : List Ends). AreEnds level d sight samples (take (j + 1) runs) x y n t) (sym more.is) (subst (λ (t : List Run). AreEnds level d sight samples t x y n (old ++ more.added)) (sym taken) all)
 
@@ -183,17 +184,17 @@ append_none [] = refl
 append_none (n ∷ ns) = ap (λ (t : List ℕ). n ∷ t) (append_none ns)
 
 -- a run in a row that the window lacks has no ends there
-pub no_ends : {A : Type 0} (level : A → ℕ) (d : A) (w : View A) (run : Run) (x y n : ℕ) (old : List Ends) → ((column : ℤ) → cell_at (raster w.place.width w.place.height w.cells) column (pos y +ℤ run.start.dy -ℤ pos w.place.y) ≡ None)
+pub no_ends : {A : Type 0} (level : A → ℕ) (d : A) (w : View A) (run : Run) (x y n : ℕ) (old : List Ends) → ((column : ℤ) → cell_at (raster w.place.width w.place.height w.cells) column (pos y +ℤ run.dy -ℤ pos w.place.y) ≡ None)
     → AddsEnds level d (seen_at w) w.cells run x y n old old
 no_ends level d w run x y n old none =
-    let nothing : (p : ℕ) → levels_at level (seen_at w) run.start p y ≡ [] = λ p. ap (λ (t : _). map level (option_to_list t)) (none (pos p +ℤ run.start.dx -ℤ pos w.place.x)) in
+    let nothing : (p : ℕ) → levels_at level (seen_at w) (start_offset run) p y ≡ [] = λ p. ap (λ (t : _). map level (option_to_list t)) (none (pos p +ℤ run.dx -ℤ pos w.place.x)) in
     record {
       added = [];
       is = sym (no_more old);
       are = record {
         inside = has_ends_none w.cells n;
-        first = λ i lt. sym (flat_map-cons (λ (q : Run). levels_at level (seen_at w) q.start (x + i) y) run [] ∙ append_none _ ∙ nothing (x + i));
-        next = λ i lt. sym (flat_map-cons (λ (q : Run). levels_at level (seen_at w) q.start (x + i + 1 + q.more) y) run [] ∙ append_none _ ∙ nothing (x + i + 1 + run.more));
+        first = λ i lt. sym (flat_map-cons (λ (q : Run). levels_at level (seen_at w) (start_offset q) (x + i) y) run [] ∙ append_none _ ∙ nothing (x + i));
+        next = λ i lt. sym (flat_map-cons (λ (q : Run). levels_at level (seen_at w) (start_offset q) (x + i + 1 + (q.count - 1)) y) run [] ∙ append_none _ ∙ nothing (x + i + 1 + (run.count - 1)));
       };
     }
   where
@@ -202,15 +203,15 @@ no_ends level d w run x y n old none =
     no_more (e ∷ es) = ap (λ (t : List Ends). e ∷ t) (no_more es)
 
 -- the level of a cell is what is seen there
-level_seen : {A : Type 0} (level : A → ℕ) (d : A) (w : View A) (run : Run) (p y column row : ℕ) → length w.cells ≡ w.place.height * w.place.width → column < w.place.width → row < w.place.height → pos p +ℤ run.start.dx -ℤ pos w.place.x ≡ pos column
-    → pos y +ℤ run.start.dy -ℤ pos w.place.y ≡ pos row → level (get_or w.cells (row * w.place.width + column) d) ∷ [] ≡ levels_at level (seen_at w) run.start p y
+level_seen : {A : Type 0} (level : A → ℕ) (d : A) (w : View A) (run : Run) (p y column row : ℕ) → length w.cells ≡ w.place.height * w.place.width → column < w.place.width → row < w.place.height → pos p +ℤ run.dx -ℤ pos w.place.x ≡ pos column
+    → pos y +ℤ run.dy -ℤ pos w.place.y ≡ pos row → level (get_or w.cells (row * w.place.width + column) d) ∷ [] ≡ levels_at level (seen_at w) (start_offset run) p y
 level_seen level d w run p y column row size across down column-is row-is =
-    seen_inside level w.place.width w.place.height w.cells (pos p +ℤ run.start.dx -ℤ pos w.place.x) (pos y +ℤ run.start.dy -ℤ pos w.place.y) column row _ (get_or w.cells (row * w.place.width + column) d) column-is row-is across down size
+    seen_inside level w.place.width w.place.height w.cells (pos p +ℤ run.dx -ℤ pos w.place.x) (pos y +ℤ run.dy -ℤ pos w.place.y) column row _ (get_or w.cells (row * w.place.width + column) d) column-is row-is across down size
     (get_or_default w.cells (row * w.place.width + column) d _ (omega (arith, size, mul-add-lt row w.place.width column w.place.height down across))) refl
 
 -- a run in columns and a row that the window has
-pub one_end : {A : Type 0} (level : A → ℕ) (d : A) (w : View A) (run : Run) (x y n column row : ℕ) (old new : List Ends) (e : Ends) → length w.cells ≡ w.place.height * w.place.width → row < w.place.height → column + (run.more + 1) + n ≤ w.place.width
-    → pos x +ℤ run.start.dx -ℤ pos w.place.x ≡ pos column → pos y +ℤ run.start.dy -ℤ pos w.place.y ≡ pos row → e.first ≡ row * w.place.width + column → e.next ≡ e.first + run.more + 1 → new ≡ old ++ e ∷ [] → AddsEnds level d (seen_at w) w.cells run x y n old new
+pub one_end : {A : Type 0} (level : A → ℕ) (d : A) (w : View A) (run : Run) (x y n column row : ℕ) (old new : List Ends) (e : Ends) → length w.cells ≡ w.place.height * w.place.width → row < w.place.height → column + ((run.count - 1) + 1) + n ≤ w.place.width
+    → pos x +ℤ run.dx -ℤ pos w.place.x ≡ pos column → pos y +ℤ run.dy -ℤ pos w.place.y ≡ pos row → e.first ≡ row * w.place.width + column → e.next ≡ e.first + (run.count - 1) + 1 → new ≡ old ++ e ∷ [] → AddsEnds level d (seen_at w) w.cells run x y n old new
 one_end level d w run x y n column row old new e size down across column-is row-is first-is next-is new-is =
     let fits : row * w.place.width + w.place.width ≤ length w.cells = rows_fit row w.place.height w.place.width (length w.cells) down size in
     record {
@@ -221,11 +222,11 @@ one_end level d w run x y n column row old new e size down across column-is row-
         first = λ i lt.
             ap (λ (t : ℕ). level (get_or w.cells t d) ∷ []) (let at : e.first + i ≡ row * w.place.width + (column + i) = omega arith in at)
             ∙ level_seen level d w run (x + i) y (column + i) row size (omega arith) down (omega (arith, ints)) row-is
-            ∙ sym (flat_map-cons (λ (q : Run). levels_at level (seen_at w) q.start (x + i) y) run [] ∙ append_none _);
+            ∙ sym (flat_map-cons (λ (q : Run). levels_at level (seen_at w) (start_offset q) (x + i) y) run [] ∙ append_none _);
         next = λ i lt.
-            ap (λ (t : ℕ). level (get_or w.cells t d) ∷ []) (let at : e.next + i ≡ row * w.place.width + (column + i + 1 + run.more) = omega arith in at)
-            ∙ level_seen level d w run (x + i + 1 + run.more) y (column + i + 1 + run.more) row size (omega arith) down (omega (arith, ints)) row-is
-            ∙ sym (flat_map-cons (λ (q : Run). levels_at level (seen_at w) q.start (x + i + 1 + q.more) y) run [] ∙ append_none _);
+            ap (λ (t : ℕ). level (get_or w.cells t d) ∷ []) (let at : e.next + i ≡ row * w.place.width + (column + i + 1 + (run.count - 1)) = omega arith in at)
+            ∙ level_seen level d w run (x + i + 1 + (run.count - 1)) y (column + i + 1 + (run.count - 1)) row size (omega arith) down (omega (arith, ints)) row-is
+            ∙ sym (flat_map-cons (λ (q : Run). levels_at level (seen_at w) (start_offset q) (x + i + 1 + (q.count - 1)) y) run [] ∙ append_none _);
       };
     }
   where

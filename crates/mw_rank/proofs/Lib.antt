@@ -4,3 +4,4 @@ pub mod Moves
 pub mod Rows
 pub mod Edges
 pub mod Parts
+pub mod Elements

@@ -1,12 +1,13 @@
 -- What leaves and what enters where the element moves one column on.
-use Rattle.std.proofs.Common.{◌≡◌, ℕ, zero, suc, ◌+◌, ◌<◌, List, [], ◌∷◌, ◌++◌, length, get_or, take, drop, refl, ap, sym, arith, ◌∙◌, length-append, append_assoc, add-one, drop-cons, subst}
+use Rattle.std.proofs.Common.{◌≡◌, ◌-◌, ℕ, zero, suc, ◌+◌, ◌<◌, List, [], ◌∷◌, ◌++◌, length, get_or, take, drop, refl, ap, sym, arith, ◌∙◌, length-append, append_assoc, add-one, drop-cons, subst}
 use Rattle.std.specs.List.{flat_map}
 use Rattle.std.proofs.lemmas.List.{take_more}
 use Rattle.std.proofs.lemmas.List.Concat.{flat_map-append, flat_map-cons}
 use Rattle.mw_model.specs.declared.places.Offset.{Offset}
 use Rattle.mw_model.specs.Rasters.{Sight}
 use Rattle.mw_rank.specs.declared.histogram.Histogram.{Histogram}
-use Rattle.mw_rank.specs.declared.runs.Run.{Run}
+use Rattle.mw_run.specs.declared.runs.Run.{Run}
+use Rattle.mw_run.specs.Runs.{start_offset}
 use Rattle.mw_rank.specs.Ranks.{levels_under, levels_at}
 use Rattle.mw_rank.specs.Runs.{next_offset, offsets_from, offsets_of, element_of}
 use Rattle.mw_rank.specs.Tallies.{Tallies}
@@ -19,7 +20,7 @@ drop_one xs i d lt = rw (add-one, drop-cons xs i d) refl
 -- what is seen both before and after the move of run i
 abbrev pub staying : {A : Type 0} → (A → ℕ) → Sight A → List Run → ℕ → Run → ℕ → ℕ → List ℕ
 staying level sight runs i r x y =
-    levels_under level sight (element_of (take i runs)) (x + 1) y ++ (levels_under level sight (offsets_from r.start r.more) (x + 1) y ++ levels_under level sight (element_of (drop (i + 1) runs)) x y)
+    levels_under level sight (element_of (take i runs)) (x + 1) y ++ (levels_under level sight (offsets_from (start_offset r) (r.count - 1)) (x + 1) y ++ levels_under level sight (element_of (drop (i + 1) runs)) x y)
 
 -- what is seen where the first i runs have moved
 abbrev pub moved : {A : Type 0} → (A → ℕ) → Sight A → List Run → ℕ → ℕ → ℕ → List ℕ
@@ -58,46 +59,46 @@ same_last a c d e = record {
 pub same_snoc : (a e : List ℕ) → Same (e ++ a) (a ++ e)
 same_snoc a e = record { counts = λ v. omega (arith, count-append v e a, count-append v a e); size = omega (arith, length-append e a, length-append a e) }
 
-pub run_before : {A : Type 0} (level : A → ℕ) (sight : Sight A) (r : Run) (x y : ℕ) → levels_under level sight (offsets_of r) x y ≡ levels_at level sight r.start x y ++ levels_under level sight (offsets_from r.start r.more) (x + 1) y
+pub run_before : {A : Type 0} (level : A → ℕ) (sight : Sight A) (r : Run) (x y : ℕ) → levels_under level sight (offsets_of r) x y ≡ levels_at level sight (start_offset r) x y ++ levels_under level sight (offsets_from (start_offset r) (r.count - 1)) (x + 1) y
 run_before level sight r x y =
-    levels-cons level sight r.start (offsets_from (next_offset r.start) r.more) x y ∙ ap (λ (t : List ℕ). levels_at level sight r.start x y ++ t) (levels-next level sight r.start r.more x y)
+    levels-cons level sight (start_offset r) (offsets_from (next_offset (start_offset r)) (r.count - 1)) x y ∙ ap (λ (t : List ℕ). levels_at level sight (start_offset r) x y ++ t) (levels-next level sight (start_offset r) (r.count - 1) x y)
 
 append_none : (xs : List ℕ) → xs ++ [] ≡ xs
 append_none [] = refl
 append_none (x ∷ xs) = ap (λ (t : List ℕ). x ∷ t) (append_none xs)
 
-pub run_after : {A : Type 0} (level : A → ℕ) (sight : Sight A) (r : Run) (x y : ℕ) → levels_under level sight (offsets_of r) (x + 1) y ≡ levels_under level sight (offsets_from r.start r.more) (x + 1) y ++ levels_at level sight r.start (x + 1 + r.more) y
+pub run_after : {A : Type 0} (level : A → ℕ) (sight : Sight A) (r : Run) (x y : ℕ) → levels_under level sight (offsets_of r) (x + 1) y ≡ levels_under level sight (offsets_from (start_offset r) (r.count - 1)) (x + 1) y ++ levels_at level sight (start_offset r) (x + 1 + (r.count - 1)) y
 run_after level sight r x y =
-    ap (λ (t : List Offset). levels_under level sight t (x + 1) y) (offsets-snoc r.start r.more)
-    ∙ levels-append level sight (offsets_from r.start r.more) (_ ∷ []) (x + 1) y
-    ∙ ap (λ (t : List ℕ). levels_under level sight (offsets_from r.start r.more) (x + 1) y ++ t)
-    (levels-cons level sight _ [] (x + 1) y ∙ append_none _ ∙ levels_at-on level sight r.start r.more (x + 1) y)
+    ap (λ (t : List Offset). levels_under level sight t (x + 1) y) (offsets-snoc (start_offset r) (r.count - 1))
+    ∙ levels-append level sight (offsets_from (start_offset r) (r.count - 1)) (_ ∷ []) (x + 1) y
+    ∙ ap (λ (t : List ℕ). levels_under level sight (offsets_from (start_offset r) (r.count - 1)) (x + 1) y ++ t)
+    (levels-cons level sight _ [] (x + 1) y ∙ append_none _ ∙ levels_at-on level sight (start_offset r) (r.count - 1) (x + 1) y)
 
 pub leaving : {A : Type 0} (level : A → ℕ) (sight : Sight A) (runs : List Run) (i : ℕ) (r : Run) (x y : ℕ) → i < length runs → get_or runs i r ≡ r
-    → Same (moved level sight runs i x y) (levels_at level sight r.start x y ++ staying level sight runs i r x y)
+    → Same (moved level sight runs i x y) (levels_at level sight (start_offset r) x y ++ staying level sight runs i r x y)
 leaving level sight runs i r x y lt is =
     let rest = element_of (drop (i + 1) runs) in
-    let split : levels_under level sight (element_of (drop i runs)) x y ≡ (levels_at level sight r.start x y ++ levels_under level sight (offsets_from r.start r.more) (x + 1) y) ++ levels_under level sight rest x y =
+    let split : levels_under level sight (element_of (drop i runs)) x y ≡ (levels_at level sight (start_offset r) x y ++ levels_under level sight (offsets_from (start_offset r) (r.count - 1)) (x + 1) y) ++ levels_under level sight rest x y =
     ap (λ (t : List Run). levels_under level sight (element_of t) x y) (drop_one runs i r lt)
     ∙ ap (λ (t : Run). levels_under level sight (element_of (t ∷ drop (i + 1) runs)) x y) is
     ∙ ap (λ (t : List Offset). levels_under level sight t x y) (flat_map-cons offsets_of r (drop (i + 1) runs))
     ∙ levels-append level sight (offsets_of r) rest x y
     ∙ ap (λ (t : List ℕ). t ++ levels_under level sight rest x y) (run_before level sight r x y) in
-    subst (λ (t : List ℕ). Same (levels_under level sight (element_of (take i runs)) (x + 1) y ++ t) (levels_at level sight r.start x y ++ staying level sight runs i r x y)) (sym split)
-    (same_first (levels_under level sight (element_of (take i runs)) (x + 1) y) (levels_at level sight r.start x y) (levels_under level sight (offsets_from r.start r.more) (x + 1) y) (levels_under level sight rest x y))
+    subst (λ (t : List ℕ). Same (levels_under level sight (element_of (take i runs)) (x + 1) y ++ t) (levels_at level sight (start_offset r) x y ++ staying level sight runs i r x y)) (sym split)
+    (same_first (levels_under level sight (element_of (take i runs)) (x + 1) y) (levels_at level sight (start_offset r) x y) (levels_under level sight (offsets_from (start_offset r) (r.count - 1)) (x + 1) y) (levels_under level sight rest x y))
 
 pub entering : {A : Type 0} (level : A → ℕ) (sight : Sight A) (runs : List Run) (i : ℕ) (r : Run) (x y : ℕ) → i < length runs → get_or runs i r ≡ r
-    → Same (levels_at level sight r.start (x + 1 + r.more) y ++ staying level sight runs i r x y) (moved level sight runs (i + 1) x y)
+    → Same (levels_at level sight (start_offset r) (x + 1 + (r.count - 1)) y ++ staying level sight runs i r x y) (moved level sight runs (i + 1) x y)
 entering level sight runs i r x y lt is =
     let first = element_of (take i runs) in
-    let e = levels_at level sight r.start (x + 1 + r.more) y in
-    let split : levels_under level sight (element_of (take (i + 1) runs)) (x + 1) y ≡ levels_under level sight first (x + 1) y ++ (levels_under level sight (offsets_from r.start r.more) (x + 1) y ++ e) =
+    let e = levels_at level sight (start_offset r) (x + 1 + (r.count - 1)) y in
+    let split : levels_under level sight (element_of (take (i + 1) runs)) (x + 1) y ≡ levels_under level sight first (x + 1) y ++ (levels_under level sight (offsets_from (start_offset r) (r.count - 1)) (x + 1) y ++ e) =
     ap (λ (t : List Run). levels_under level sight (element_of t) (x + 1) y) (take_more runs i r lt ∙ ap (λ (t : Run). take i runs ++ t ∷ []) is)
     ∙ ap (λ (t : List Offset). levels_under level sight t (x + 1) y) (flat_map-append offsets_of (take i runs) (r ∷ []) ∙ ap (λ (t : List Offset). first ++ t) (one_run r))
     ∙ levels-append level sight first (offsets_of r) (x + 1) y
     ∙ ap (λ (t : List ℕ). levels_under level sight first (x + 1) y ++ t) (run_after level sight r x y) in
     subst (λ (t : List ℕ). Same (e ++ staying level sight runs i r x y) (t ++ levels_under level sight (element_of (drop (i + 1) runs)) x y)) (sym split)
-    (same_last (levels_under level sight first (x + 1) y) (levels_under level sight (offsets_from r.start r.more) (x + 1) y) (levels_under level sight (element_of (drop (i + 1) runs)) x y) e)
+    (same_last (levels_under level sight first (x + 1) y) (levels_under level sight (offsets_from (start_offset r) (r.count - 1)) (x + 1) y) (levels_under level sight (element_of (drop (i + 1) runs)) x y) e)
   where
     no_more : (bs : List Offset) → bs ++ [] ≡ bs
     no_more [] = refl
@@ -106,12 +107,12 @@ entering level sight runs i r x y lt is =
     one_run : (r : Run) → flat_map offsets_of (r ∷ []) ≡ offsets_of r
     one_run r = flat_map-cons offsets_of r [] ∙ no_more (offsets_of r)
 
-element_cons : (q : Run) (runs : List Run) → length (element_of (q ∷ runs)) ≡ suc q.more + length (element_of runs)
-element_cons q runs = ap length (flat_map-cons offsets_of q runs) ∙ length-append (offsets_of q) (element_of runs) ∙ ap (λ (t : ℕ). t + length (element_of runs)) (length-offsets q.start (suc q.more))
+element_cons : (q : Run) (runs : List Run) → length (element_of (q ∷ runs)) ≡ suc (q.count - 1) + length (element_of runs)
+element_cons q runs = ap length (flat_map-cons offsets_of q runs) ∙ length-append (offsets_of q) (element_of runs) ∙ ap (λ (t : ℕ). t + length (element_of runs)) (length-offsets (start_offset q) (suc (q.count - 1)))
 
-pub element_size : (runs : List Run) (i : ℕ) (r : Run) → i < length runs → get_or runs i r ≡ r → length (element_of runs) ≡ length (element_of (take i runs)) + (suc r.more + length (element_of (drop (i + 1) runs)))
+pub element_size : (runs : List Run) (i : ℕ) (r : Run) → i < length runs → get_or runs i r ≡ r → length (element_of runs) ≡ length (element_of (take i runs)) + (suc (r.count - 1) + length (element_of (drop (i + 1) runs)))
 element_size [] i r lt is = absurd (omega arith)
-element_size (q ∷ runs) zero r lt is = omega (arith, element_cons q runs, ap (λ (t : Run). t.more) is)
+element_size (q ∷ runs) zero r lt is = omega (arith, element_cons q runs, ap (λ (t : Run). t.count) is)
 element_size (q ∷ runs) (suc i) r lt is =
     let later : length (element_of (drop (suc i + 1) (q ∷ runs))) ≡ length (element_of (drop (i + 1) runs)) = ap (λ (n : ℕ). length (element_of (drop n (q ∷ runs)))) (one_on i) in
     omega (arith, later, element_cons q runs, element_cons q (take i runs), element_size runs i r (omega arith) is)
@@ -119,7 +120,7 @@ element_size (q ∷ runs) (suc i) r lt is =
     one_on : (i : ℕ) → suc i + 1 ≡ suc (i + 1)
     one_on i = omega arith
 
-pub more_within : (runs : List Run) (i : ℕ) (r : Run) → i < length runs → get_or runs i r ≡ r → r.more < length (element_of runs)
+pub more_within : (runs : List Run) (i : ℕ) (r : Run) → i < length runs → get_or runs i r ≡ r → (r.count - 1) < length (element_of runs)
 more_within runs i r lt is = omega (arith, element_size runs i r lt is)
 
 pub length-staying : {A : Type 0} (level : A → ℕ) (sight : Sight A) (runs : List Run) (i : ℕ) (r : Run) (x y : ℕ) → i < length runs → get_or runs i r ≡ r
@@ -127,16 +128,16 @@ pub length-staying : {A : Type 0} (level : A → ℕ) (sight : Sight A) (runs : 
 length-staying level sight runs i r x y lt is =
     let first = element_of (take i runs) in
     let rest = element_of (drop (i + 1) runs) in
-    let whole : length (element_of runs) ≡ length first + (suc r.more + length rest) = element_size runs i r lt is in
+    let whole : length (element_of runs) ≡ length first + (suc (r.count - 1) + length rest) = element_size runs i r lt is in
     omega (
       arith,
       whole,
       length-levels level sight first (x + 1) y,
       length-levels level sight rest x y,
-      length-levels level sight (offsets_from r.start r.more) (x + 1) y,
-      length-offsets r.start r.more,
-      length-append (levels_under level sight first (x + 1) y) (levels_under level sight (offsets_from r.start r.more) (x + 1) y ++ levels_under level sight rest x y),
-      length-append (levels_under level sight (offsets_from r.start r.more) (x + 1) y) (levels_under level sight rest x y),
+      length-levels level sight (offsets_from (start_offset r) (r.count - 1)) (x + 1) y,
+      length-offsets (start_offset r) (r.count - 1),
+      length-append (levels_under level sight first (x + 1) y) (levels_under level sight (offsets_from (start_offset r) (r.count - 1)) (x + 1) y ++ levels_under level sight rest x y),
+      length-append (levels_under level sight (offsets_from (start_offset r) (r.count - 1)) (x + 1) y) (levels_under level sight rest x y),
     )
 
 -- one offset more is counted
@@ -167,27 +168,6 @@ no_more (b ∷ bs) = ap (λ (t : List Offset). b ∷ t) (no_more bs)
 pub element_snoc : (runs : List Run) (run : Run) → element_of (runs ++ run ∷ []) ≡ element_of runs ++ offsets_of run
 element_snoc runs run = flat_map-append offsets_of runs (run ∷ []) ∙ ap (λ (t : List Offset). element_of runs ++ t) (flat_map-cons offsets_of run [] ∙ no_more (offsets_of run))
 
--- the present run with one offset more
-pub taken_longer : (runs new : List Run) (run longer : Run) (i : ℕ) (b : Offset) (bs : List Offset) → i < length bs → get_or bs i b ≡ b → new ≡ runs → longer.start ≡ run.start → longer.more ≡ run.more + 1
-    → offsets_from run.start (suc (suc run.more)) ≡ offsets_from run.start (suc run.more) ++ b ∷ [] → element_of runs ++ offsets_of run ≡ take i bs → element_of new ++ offsets_of longer ≡ take (i + 1) bs
-taken_longer runs new run longer i b bs lt is new-is start-is more-is follows before =
-    let count : suc longer.more ≡ suc (suc run.more) = omega arith in
-    ap (λ (t : List Run). element_of t ++ offsets_of longer) new-is
-    ∙ ap (λ (t : Offset). element_of runs ++ offsets_from t (suc longer.more)) start-is
-    ∙ ap (λ (n : ℕ). element_of runs ++ offsets_from run.start n) count
-    ∙ ap (λ (t : List Offset). element_of runs ++ t) follows
-    ∙ sym (append_assoc (element_of runs) (offsets_of run) (b ∷ []))
-    ∙ ap (λ (t : List Offset). t ++ b ∷ []) before
-    ∙ ap (λ (t : Offset). take i bs ++ t ∷ []) (sym is)
-    ∙ sym (take_more bs i b lt)
-
--- a new run of one offset
-pub taken_new : (runs new : List Run) (run next : Run) (i : ℕ) (b : Offset) (bs : List Offset) → i < length bs → get_or bs i b ≡ b → new ≡ runs ++ run ∷ [] → next.start ≡ b → next.more ≡ 0
-    → element_of runs ++ offsets_of run ≡ take i bs → element_of new ++ offsets_of next ≡ take (i + 1) bs
-taken_new runs new run next i b bs lt is new-is start-is more-is before =
-    ap (λ (t : List Run). element_of t ++ offsets_of next) new-is
-    ∙ ap (λ (t : List Offset). t ++ offsets_of next) (element_snoc runs run ∙ before)
-    ∙ ap (λ (t : Offset). take i bs ++ offsets_from t (suc next.more)) start-is
-    ∙ ap (λ (n : ℕ). take i bs ++ offsets_from b (suc n)) more-is
-    ∙ ap (λ (t : Offset). take i bs ++ t ∷ []) (sym is)
-    ∙ sym (take_more bs i b lt)
+-- the same offset under another name
+pub tallies_from : {A : Type 0} (level : A → ℕ) (sight : Sight A) (b start : Offset) (x y top : ℕ) (h : Histogram) (ns : List ℕ) → b ≡ start → Tallies top h (levels_at level sight start x y ++ ns) → Tallies top h (levels_at level sight b x y ++ ns)
+tallies_from level sight b start x y top h ns e t = subst (λ (o : Offset). Tallies top h (levels_at level sight o x y ++ ns)) (sym e) t

@@ -13,7 +13,8 @@ use Rattle.mw_model.specs.Windows.{View, seen_at}
 use Rattle.mw_model.specs.declared.places.Offset.{Offset}
 use Rattle.mw_pixel.proofs.Cells.{cell_at-inside, cell_at-right}
 use Rattle.mw_rank.specs.declared.histogram.Histogram.{Histogram}
-use Rattle.mw_rank.specs.declared.runs.Run.{Run}
+use Rattle.mw_run.specs.declared.runs.Run.{Run}
+use Rattle.mw_run.specs.Runs.{start_offset}
 use Rattle.mw_rank.specs.Ranks.{levels_under, levels_at}
 use Rattle.mw_rank.specs.Runs.{next_offset, offsets_from, offsets_of, element_of}
 use Rattle.mw_rank.specs.Tallies.{Tallies}
@@ -112,13 +113,13 @@ is_row w row samples down cells_size size is = record {
 
 -- what a run shows is a part of the row
 pub part_seen : {A : Type 0} (level : A → ℕ) (d : A) (w : View A) (run : Run) (x y row : ℕ) (from to : ℤ) (begin end wide : ℕ) (samples : List A) → wide ≡ w.place.width → row < w.place.height → length w.cells ≡ w.place.height * w.place.width → length samples ≡ w.place.width
-    → samples ≡ take (row * w.place.width + w.place.width - row * w.place.width) (drop (row * w.place.width) w.cells) → pos x +ℤ run.start.dx -ℤ pos w.place.x ≡ from → pos y +ℤ run.start.dy -ℤ pos w.place.y ≡ pos row
-    → to ≡ from +ℤ pos (suc run.more) → begin ≡ min (nonnegative from) wide → end ≡ min (nonnegative to) wide → map level (take (end - begin) (drop begin samples)) ≡ levels_under level (seen_at w) (offsets_of run) x y
+    → samples ≡ take (row * w.place.width + w.place.width - row * w.place.width) (drop (row * w.place.width) w.cells) → pos x +ℤ run.dx -ℤ pos w.place.x ≡ from → pos y +ℤ run.dy -ℤ pos w.place.y ≡ pos row
+    → to ≡ from +ℤ pos (suc (run.count - 1)) → begin ≡ min (nonnegative from) wide → end ≡ min (nonnegative to) wide → map level (take (end - begin) (drop begin samples)) ≡ levels_under level (seen_at w) (offsets_of run) x y
 part_seen level d w run x y row from to begin end wide samples wide-is down cells_size size is from-is row-is to-is begin-is end-is =
     ap (λ (t : ℕ). map level (take (end - t) (drop t samples))) (begin-is ∙ ap (min (nonnegative from)) wide-is)
     ∙ ap (λ (t : ℕ). map level (take (t - min (nonnegative from) w.place.width) (drop (min (nonnegative from) w.place.width) samples))) (end-is ∙ ap (min (nonnegative to)) wide-is)
-    ∙ sym (columns_between level d samples w.place.width (λ c. cell_at (raster w.place.width w.place.height w.cells) c (pos row)) from to (suc run.more) (is_row w row samples down cells_size size is) to-is)
-    ∙ sym (run_columns level w run.start (suc run.more) x y row from from-is row-is)
+    ∙ sym (columns_between level d samples w.place.width (λ c. cell_at (raster w.place.width w.place.height w.cells) c (pos row)) from to (suc (run.count - 1)) (is_row w row samples down cells_size size is) to-is)
+    ∙ sym (run_columns level w (start_offset run) (suc (run.count - 1)) x y row from from-is row-is)
 
 -- a run in a row that the window lacks shows nothing
 pub part_unseen : {A : Type 0} (level : A → ℕ) (w : View A) (b : Offset) (n x y : ℕ) → ((column : ℤ) → cell_at (raster w.place.width w.place.height w.cells) column (pos y +ℤ b.dy -ℤ pos w.place.y) ≡ None) → levels_under level (seen_at w) (offsets_from b n) x y ≡ []
@@ -168,7 +169,7 @@ room_for_run level sight runs j r x y part lt is part-is =
       ap length part-is,
       length-mapped level part,
       element_size runs j r lt is,
-      length-offsets r.start (suc r.more),
+      length-offsets (start_offset r) (suc (r.count - 1)),
     )
 
 pub few_after : {A : Type 0} (level : A → ℕ) (sight : Sight A) (runs : List Run) (j : ℕ) (r : Run) (x y : ℕ) (part : List ℕ) → j < length runs → get_or runs j r ≡ r → part ≡ levels_under level sight (offsets_of r) x y
@@ -181,7 +182,7 @@ few_after level sight runs j r x y part lt is part-is =
       length-levels level sight (offsets_of r) x y,
       ap length part-is,
       element_size runs j r lt is,
-      length-offsets r.start (suc r.more),
+      length-offsets (start_offset r) (suc (r.count - 1)),
     )
 
 -- one sample more of a part is counted

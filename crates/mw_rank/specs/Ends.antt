@@ -1,10 +1,11 @@
 -- Where the samples stand that leave and enter as an element moves along a row.
-use Rattle.std.specs.Prelude.{◌≡◌, ℕ, ◌+◌, ◌<◌, ◌≤◌, List, [], ◌∷◌, ◌++◌, map, length, slice_index_or}
+use Rattle.std.specs.Prelude.{◌≡◌, ℕ, ◌+◌, ◌-◌, ◌<◌, ◌≤◌, List, [], ◌∷◌, ◌++◌, map, length, slice_index_or}
 use Rattle.std.specs.List.{flat_map}
 use Rattle.mw_model.specs.Rasters.{Sight}
 use Rattle.mw_rank.specs.Ranks.{levels_at}
 use Rattle.mw_rank.specs.declared.ends.Ends.{Ends}
-use Rattle.mw_rank.specs.declared.runs.Run.{Run}
+use Rattle.mw_run.specs.declared.runs.Run.{Run}
+use Rattle.mw_run.specs.Runs.{start_offset}
 
 -- the levels at the first places of runs, so many columns further on
 abbrev pub levels_left : {A : Type 0} → (A → ℕ) → A → List A → List Ends → ℕ → List ℕ
@@ -16,11 +17,11 @@ levels_entered level d samples ends i = map (λ (e : Ends). level (slice_index_o
 
 -- what is seen at the first offsets of runs
 abbrev pub first_seen : {A : Type 0} → (A → ℕ) → Sight A → List Run → ℕ → ℕ → List ℕ
-first_seen level sight runs x y = flat_map (λ (r : Run). levels_at level sight r.start x y) runs
+first_seen level sight runs x y = flat_map (λ (r : Run). levels_at level sight (start_offset r) x y) runs
 
 -- what is seen one place after the last offsets of runs
 abbrev pub next_seen : {A : Type 0} → (A → ℕ) → Sight A → List Run → ℕ → ℕ → List ℕ
-next_seen level sight runs x y = flat_map (λ (r : Run). levels_at level sight r.start (x + 1 + r.more) y) runs
+next_seen level sight runs x y = flat_map (λ (r : Run). levels_at level sight (start_offset r) (x + 1 + (r.count - 1)) y) runs
 
 -- the ends have their samples for n columns on
 pub record HasEnds {A : Type 0} (samples : List A) (n : ℕ) (ends : List Ends) : Type 0 where

@@ -1,8 +1,9 @@
 -- Elements as horizontal runs of offsets.
-use Rattle.std.specs.Prelude.{ℕ, zero, suc, List, [], ◌∷◌, pos, ◌+ℤ◌}
+use Rattle.std.specs.Prelude.{ℕ, zero, suc, ◌-◌, List, [], ◌∷◌, pos, ◌+ℤ◌}
 use Rattle.std.specs.List.{flat_map}
 use Rattle.mw_model.specs.declared.places.Offset.{Offset}
-use Rattle.mw_rank.specs.declared.runs.Run.{Run}
+use Rattle.mw_run.specs.declared.runs.Run.{Run}
+use Rattle.mw_run.specs.Runs.{start_offset}
 
 -- the offset to the right
 abbrev pub next_offset : Offset → Offset
@@ -13,9 +14,9 @@ abbrev pub offsets_from : Offset → ℕ → List Offset
 offsets_from b zero = []
 offsets_from b (suc n) = b ∷ offsets_from (next_offset b) n
 
--- all offsets of a run
+-- all offsets of a run, which has one at least
 abbrev pub offsets_of : Run → List Offset
-offsets_of r = offsets_from r.start (suc r.more)
+offsets_of r = offsets_from (start_offset r) (suc (r.count - 1))
 
 -- the offsets of all runs
 abbrev pub element_of : List Run → List Offset

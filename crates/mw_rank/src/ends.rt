@@ -1,15 +1,16 @@
 //! The ends of an element's runs along a row where all of them lie in the window, or in rows above or below it: there a
 //! move of the element takes no test.
-ghost use Rattle.std.specs.Prelude.{◌≡◌, ℕ, pos, ◌+ℤ◌, ◌-ℤ◌, ◌+◌, ◌<◌, ◌≤◌, ◌^◌, List, ◌++◌, IfOk, IfSome, IsTrue};
+ghost use Rattle.std.specs.Prelude.{◌≡◌, ℕ, pos, ◌+ℤ◌, ◌-ℤ◌, ◌+◌, ◌-◌, ◌<◌, ◌≤◌, ◌^◌, List, ◌++◌, IfOk, IfSome, IsTrue};
 ghost use Rattle.mw_model.specs.Windows.{seen_at};
 ghost use Rattle.mw_rank.specs.Ends.{levels_left, levels_entered, HasEnds, AreEnds, AddsEnds};
 ghost use Rattle.mw_rank.specs.Tallies.{Tallies, Holds};
 
 use crate::histogram::Histogram;
-use crate::runs::Run;
-use crate::seen::{place_of, row_in};
+use crate::runs::more_of;
+use crate::seen::row_in;
 use mw_model::{NoMemory, Rect};
 use mw_pixel::Pixel;
+use mw_run::{Run, place_of};
 use mw_tile::Window;
 
 /// Where a run's first sample stands in a window, and the one after its last.
@@ -29,14 +30,14 @@ pub(crate) struct Columns {
 /// The column of the place in which a run begins, where both its ends stay in the place's columns for so many more.
 fn column_in(place: Rect, run: Run, x: u64, count: u32) -> Option<usize>
     requires { x ≤ 2 ^ 40 }
-    ensures { IfSome result (λ column. (pos x +ℤ run.start.dx -ℤ pos place.x ≡ pos column) × (column + (run.more + 1) + count ≤ place.width)) }
+    ensures { IfSome result (λ column. (pos x +ℤ run.dx -ℤ pos place.x ≡ pos column) × (column + (run.count - 1 + 1) + count ≤ place.width)) }
 {
-    let from = place_of(x, run.start.dx, place.x);
+    let from = place_of(x, run.dx, place.x);
     if from < 0 {
         return None;
     }
     let column = from as usize;
-    if column + run.more as usize + 1 + count as usize > place.width as usize {
+    if column + more_of(run) as usize + 1 + count as usize > place.width as usize {
         return None;
     }
     Some(column)
@@ -63,7 +64,7 @@ fn push_ends<P: Pixel>(
             None => Ok(false),
             Some(column) => {
                 let first = row * place.width as usize + column;
-                let next = first + run.more as usize + 1;
+                let next = first + more_of(run) as usize + 1;
                 ends.push(Ends { first, next })?;
                 Ok(true)
             }
@@ -97,8 +98,8 @@ pub(crate) fn row_ends<P: Pixel>(
 fn columns_before(run: Run) -> u64
     ensures { result ≤ 2 ^ 34 }
 {
-    if run.start.dx < 0 {
-        return (-i64::from(run.start.dx)) as u64;
+    if run.dx < 0 {
+        return (-i64::from(run.dx)) as u64;
     }
     0
 }
@@ -107,7 +108,7 @@ fn columns_before(run: Run) -> u64
 fn columns_after(run: Run) -> u64
     ensures { result ≤ 2 ^ 34 }
 {
-    let after = i64::from(run.start.dx) + i64::from(run.more) + 1;
+    let after = i64::from(run.dx) + i64::from(more_of(run)) + 1;
     if after > 0 {
         return after as u64;
     }

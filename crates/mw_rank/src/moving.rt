@@ -14,10 +14,11 @@ ghost use Rattle.mw_rank.specs.Tallies.{Tallies, HasRoom, HasRoomFor, Holds};
 
 use crate::ends::{Columns, Ends, exchange_ends, inner_columns, row_ends};
 use crate::histogram::Histogram;
-use crate::runs::{Run, runs_of};
-use crate::seen::{place_of, seen_part};
+use crate::runs::{more_of, start_of};
+use crate::seen::seen_part;
 use mw_model::{NoMemory, Offset, Rect};
 use mw_pixel::{Pixel, Plane};
+use mw_run::{Run, place_of, runs_of};
 use mw_tile::Window;
 use std::alloc::Global;
 
@@ -130,8 +131,15 @@ fn advance<P: Pixel>(histogram: &mut Histogram, window: &Window<P>, runs: &[Run]
     ensures { Tallies P.top_level histogram.new (levels_under P.level (seen_at window.now) (element_of runs.now) (x + 1) y) }
 {
     for run in runs {
-        leave(histogram, window, run.start, x, y);
-        enter(histogram, window, run.start, x + 1 + u64::from(run.more), y);
+        let start = start_of(*run);
+        leave(histogram, window, start, x, y);
+        enter(
+            histogram,
+            window,
+            start,
+            x + 1 + u64::from(more_of(*run)),
+            y,
+        );
     }
 }
 
@@ -147,152 +155,155 @@ fn sample_of<P: Pixel>(level: u16) -> P
     }
 }
 
-/// Adds the ranks of `width` places of row y of the frame, from column x on.
+/// The places of a row of the frame from column x on, and the number of the rank that is wanted there.
+#[derive(Clone, Copy)]
+struct Stretch {
+    x: u64,
+    y: u64,
+    width: u32,
+    k: u32,
+}
+
+/// A row of a tile, and those of its columns at which the ends of the runs are in columns of the window.
+#[derive(Clone, Copy)]
+struct Row {
+    at: Stretch,
+    inner: Columns,
+}
+
+/// Adds the ranks of the places.
 fn push_row<P: Pixel>(
     out: &mut Vec<P>,
     histogram: &mut Histogram,
     window: &Window<P>,
     runs: &[Run],
-    k: u32,
-    x: u64,
-    y: u64,
-    width: u32,
+    at: Stretch,
 ) -> Result<(), NoMemory>
-    requires near { x + width ≤ 2 ^ 39 }
-    requires high { y ≤ 2 ^ 40 }
+    requires near { at.x + at.width ≤ 2 ^ 39 }
+    requires high { at.y ≤ 2 ^ 40 }
     requires few { length (element_of runs.now) < 2 ^ 16 }
-    requires held { Tallies P.top_level histogram.old (levels_under P.level (seen_at window.now) (element_of runs.now) x y) }
-    ensures row { OnOk result (GainsRow P.level (λ i. ranked k (levels_under P.level (seen_at window.now) (element_of runs.now) (x + i) y)) width out.old.items out.new.items) }
-    ensures moved { OnOk result (Tallies P.top_level histogram.new (levels_under P.level (seen_at window.now) (element_of runs.now) (x + width) y)) }
+    requires held { Tallies P.top_level histogram.old (levels_under P.level (seen_at window.now) (element_of runs.now) at.x at.y) }
+    ensures row { OnOk result (GainsRow P.level (λ i. ranked at.k (levels_under P.level (seen_at window.now) (element_of runs.now) (at.x + i) at.y)) at.width out.old.items out.new.items) }
+    ensures moved { OnOk result (Tallies P.top_level histogram.new (levels_under P.level (seen_at window.now) (element_of runs.now) (at.x + at.width) at.y)) }
 {
-    for i in 0..width {
-        let sample = sample_of::<P>(histogram.select(k));
+    for i in 0..at.width {
+        let sample = sample_of::<P>(histogram.select(at.k));
         out.push(sample)?;
-        advance(histogram, window, runs, x + u64::from(i), y);
+        advance(histogram, window, runs, at.x + u64::from(i), at.y);
     }
     Ok(())
 }
 
-/// Adds the ranks of `width` places of row y of the frame, from column x on, where the ends of the runs are known.
+/// Adds the ranks of the places, where the ends of the runs are known.
 fn push_inside<P: Pixel>(
     out: &mut Vec<P>,
     histogram: &mut Histogram,
     window: &Window<P>,
     runs: &[Run],
     ends: &[Ends],
-    k: u32,
-    x: u64,
-    y: u64,
-    width: u32,
+    at: Stretch,
 ) -> Result<(), NoMemory>
-    requires ends { AreEnds P.level P.TOP (seen_at window.now) window.now.cells runs.now x y width ends.now }
+    requires ends { AreEnds P.level P.TOP (seen_at window.now) window.now.cells runs.now at.x at.y at.width ends.now }
     requires few { length (element_of runs.now) < 2 ^ 16 }
-    requires held { Tallies P.top_level histogram.old (levels_under P.level (seen_at window.now) (element_of runs.now) x y) }
-    ensures row { OnOk result (GainsRow P.level (λ i. ranked k (levels_under P.level (seen_at window.now) (element_of runs.now) (x + i) y)) width out.old.items out.new.items) }
-    ensures moved { OnOk result (Tallies P.top_level histogram.new (levels_under P.level (seen_at window.now) (element_of runs.now) (x + width) y)) }
+    requires held { Tallies P.top_level histogram.old (levels_under P.level (seen_at window.now) (element_of runs.now) at.x at.y) }
+    ensures row { OnOk result (GainsRow P.level (λ i. ranked at.k (levels_under P.level (seen_at window.now) (element_of runs.now) (at.x + i) at.y)) at.width out.old.items out.new.items) }
+    ensures moved { OnOk result (Tallies P.top_level histogram.new (levels_under P.level (seen_at window.now) (element_of runs.now) (at.x + at.width) at.y)) }
 {
     let _runs = runs;
-    let _start = (x, y);
     let samples = window.samples();
-    for i in 0..width {
-        let sample = sample_of::<P>(histogram.select(k));
+    for i in 0..at.width {
+        let sample = sample_of::<P>(histogram.select(at.k));
         out.push(sample)?;
         exchange_ends(histogram, samples, ends, i as usize);
     }
     Ok(())
 }
 
-/// Adds the ranks of `width` places of row y of the frame, from column x on, by the ends of the runs where they are inside.
+/// Adds the ranks of the places, by the ends of the runs where they are inside.
 fn push_middle<P: Pixel>(
     out: &mut Vec<P>,
     histogram: &mut Histogram,
     ends: &mut Vec<Ends>,
     window: &Window<P>,
     runs: &[Run],
-    k: u32,
-    x: u64,
-    y: u64,
-    width: u32,
+    at: Stretch,
 ) -> Result<(), NoMemory>
-    requires near { x + width ≤ 2 ^ 39 }
-    requires high { y ≤ 2 ^ 40 }
+    requires near { at.x + at.width ≤ 2 ^ 39 }
+    requires high { at.y ≤ 2 ^ 40 }
     requires few { length (element_of runs.now) < 2 ^ 16 }
-    requires held { Tallies P.top_level histogram.old (levels_under P.level (seen_at window.now) (element_of runs.now) x y) }
-    ensures row { OnOk result (GainsRow P.level (λ i. ranked k (levels_under P.level (seen_at window.now) (element_of runs.now) (x + i) y)) width out.old.items out.new.items) }
-    ensures moved { OnOk result (Tallies P.top_level histogram.new (levels_under P.level (seen_at window.now) (element_of runs.now) (x + width) y)) }
+    requires held { Tallies P.top_level histogram.old (levels_under P.level (seen_at window.now) (element_of runs.now) at.x at.y) }
+    ensures row { OnOk result (GainsRow P.level (λ i. ranked at.k (levels_under P.level (seen_at window.now) (element_of runs.now) (at.x + i) at.y)) at.width out.old.items out.new.items) }
+    ensures moved { OnOk result (Tallies P.top_level histogram.new (levels_under P.level (seen_at window.now) (element_of runs.now) (at.x + at.width) at.y)) }
 {
-    if row_ends(ends, window, runs, x, y, width)? {
-        push_inside(out, histogram, window, runs, ends, k, x, y, width)?;
+    if row_ends(ends, window, runs, at.x, at.y, at.width)? {
+        push_inside(out, histogram, window, runs, ends, at)?;
     } else {
-        push_row(out, histogram, window, runs, k, x, y, width)?;
+        push_row(out, histogram, window, runs, at)?;
     }
     Ok(())
 }
 
-/// Adds the ranks of `width` places of row y of the frame, from column x on: the inner columns by the ends of the runs.
+/// Adds the ranks of a row: the inner columns by the ends of the runs.
 fn push_columns<P: Pixel>(
     out: &mut Vec<P>,
     histogram: &mut Histogram,
     ends: &mut Vec<Ends>,
     window: &Window<P>,
     runs: &[Run],
-    k: u32,
-    x: u64,
-    y: u64,
-    width: u32,
-    inner: Columns,
+    row: Row,
 ) -> Result<(), NoMemory>
-    requires near { x + width ≤ 2 ^ 39 }
-    requires high { y ≤ 2 ^ 40 }
+    requires near { row.at.x + row.at.width ≤ 2 ^ 39 }
+    requires high { row.at.y ≤ 2 ^ 40 }
     requires few { length (element_of runs.now) < 2 ^ 16 }
-    requires inner { inner.first + inner.count ≤ width }
-    requires held { Tallies P.top_level histogram.old (levels_under P.level (seen_at window.now) (element_of runs.now) x y) }
-    ensures row { OnOk result (GainsRow P.level (λ i. ranked k (levels_under P.level (seen_at window.now) (element_of runs.now) (x + i) y)) width out.old.items out.new.items) }
-    ensures moved { OnOk result (Tallies P.top_level histogram.new (levels_under P.level (seen_at window.now) (element_of runs.now) (x + width) y)) }
+    requires inner { row.inner.first + row.inner.count ≤ row.at.width }
+    requires held { Tallies P.top_level histogram.old (levels_under P.level (seen_at window.now) (element_of runs.now) row.at.x row.at.y) }
+    ensures row { OnOk result (GainsRow P.level (λ i. ranked row.at.k (levels_under P.level (seen_at window.now) (element_of runs.now) (row.at.x + i) row.at.y)) row.at.width out.old.items out.new.items) }
+    ensures moved { OnOk result (Tallies P.top_level histogram.new (levels_under P.level (seen_at window.now) (element_of runs.now) (row.at.x + row.at.width) row.at.y)) }
 {
-    let middle = x + u64::from(inner.first);
-    let last = middle + u64::from(inner.count);
-    let rest = width - inner.first - inner.count;
-    push_row(out, histogram, window, runs, k, x, y, inner.first)?;
-    push_middle(
-        out,
-        histogram,
-        ends,
-        window,
-        runs,
-        k,
-        middle,
-        y,
-        inner.count,
-    )?;
-    push_row(out, histogram, window, runs, k, last, y, rest)?;
+    let at = row.at;
+    let first = row.inner.first;
+    let count = row.inner.count;
+    let middle = at.x + u64::from(first);
+    let last = middle + u64::from(count);
+    let rest = at.width - first - count;
+    let left = Stretch { width: first, ..at };
+    let inside = Stretch {
+        x: middle,
+        width: count,
+        ..at
+    };
+    let right = Stretch {
+        x: last,
+        width: rest,
+        ..at
+    };
+    push_row(out, histogram, window, runs, left)?;
+    push_middle(out, histogram, ends, window, runs, inside)?;
+    push_row(out, histogram, window, runs, right)?;
     Ok(())
 }
 
-/// Adds the ranks of the row y of the frame, from column x on.
+/// Adds the ranks of a row, before and after which the histogram is empty.
 fn push_whole_row<P: Pixel>(
     out: &mut Vec<P>,
     histogram: &mut Histogram,
     ends: &mut Vec<Ends>,
     window: &Window<P>,
     runs: &[Run],
-    k: u32,
-    x: u32,
-    y: u64,
-    width: u32,
-    inner: Columns,
+    row: Row,
 ) -> Result<(), NoMemory>
-    requires high { y ≤ 2 ^ 40 }
+    requires near { row.at.x < 2 ^ 32 }
+    requires high { row.at.y ≤ 2 ^ 40 }
     requires few { length (element_of runs.now) < 2 ^ 16 }
-    requires inner { inner.first + inner.count ≤ width }
+    requires inner { row.inner.first + row.inner.count ≤ row.at.width }
     requires empty { Tallies P.top_level histogram.old [] }
-    ensures row { OnOk result (GainsRow P.level (λ i. ranked k (levels_under P.level (seen_at window.now) (element_of runs.now) (x + i) y)) width out.old.items out.new.items) }
+    ensures row { OnOk result (GainsRow P.level (λ i. ranked row.at.k (levels_under P.level (seen_at window.now) (element_of runs.now) (row.at.x + i) row.at.y)) row.at.width out.old.items out.new.items) }
     ensures empty { OnOk result (Tallies P.top_level histogram.new []) }
 {
-    let from = u64::from(x);
-    enter_all(histogram, window, runs, from, y);
-    push_columns(out, histogram, ends, window, runs, k, from, y, width, inner)?;
-    leave_all(histogram, window, runs, from + u64::from(width), y);
+    let at = row.at;
+    enter_all(histogram, window, runs, at.x, at.y);
+    push_columns(out, histogram, ends, window, runs, row)?;
+    leave_all(histogram, window, runs, at.x + u64::from(at.width), at.y);
     Ok(())
 }
 
@@ -312,20 +323,17 @@ fn rank_samples<P: Pixel>(
     let mut ends = Vec::with_capacity(alloc, runs.len())?;
     let mut histogram = Histogram::empty::<P>(alloc)?;
     let mut out = Vec::with_capacity(alloc, tile.height as usize * tile.width as usize)?;
+    let x = u64::from(tile.x);
     for j in 0..tile.height {
         let y = u64::from(tile.y) + u64::from(j);
-        push_whole_row(
-            &mut out,
-            &mut histogram,
-            &mut ends,
-            window,
-            &runs,
-            k,
-            tile.x,
+        let at = Stretch {
+            x,
             y,
-            tile.width,
-            inner,
-        )?;
+            width: tile.width,
+            k,
+        };
+        let row = Row { at, inner };
+        push_whole_row(&mut out, &mut histogram, &mut ends, window, &runs, row)?;
     }
     Ok(out)
 }

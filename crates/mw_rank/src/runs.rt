@@ -1,50 +1,25 @@
-//! An element as horizontal runs of offsets.
-ghost use Rattle.std.specs.Prelude.{◌≡◌, ◌<◌, ◌^◌, [], ◌∷◌, ◌++◌, suc, length, IfOk, IsTrue};
-ghost use Rattle.mw_rank.specs.Runs.{element_of, offsets_from};
+//! What a run of offsets is to a moving histogram: a first offset, and those after it.
+ghost use Rattle.std.specs.Prelude.{◌≡◌, ◌-◌};
+ghost use Rattle.mw_run.specs.Runs.{start_offset};
 
-use mw_model::{NoMemory, Offset};
-use std::alloc::Global;
+use mw_model::Offset;
+use mw_run::Run;
 
-/// An offset and so many more to the right of it.
-#[derive(Clone, Copy)]
-pub(crate) struct Run {
-    pub start: Offset,
-    pub more: u32,
+/// The first offset of a run.
+#[inline(always)]
+pub(crate) fn start_of(run: Run) -> Offset
+    ensures { result ≡ start_offset run }
+{
+    Offset {
+        dx: run.dx,
+        dy: run.dy,
+    }
 }
 
-/// Whether the offset lies to the right of the last one of the run.
-fn follows(run: Run, b: Offset) -> bool
-    ensures { IsTrue result → offsets_from run.start (suc (suc run.more)) ≡ offsets_from run.start (suc run.more) ++ b ∷ [] }
+/// How many offsets a run has after its first.
+#[inline(always)]
+pub(crate) fn more_of(run: Run) -> u32
+    ensures { result ≡ run.count - 1 }
 {
-    let next = i64::from(run.start.dx) + i64::from(run.more) + 1;
-    if b.dy != run.start.dy || i64::from(b.dx) != next {
-        return false;
-    }
-    true
-}
-
-/// The element as runs, as long as its order allows.
-pub(crate) fn runs_of(alloc: Global, offsets: &[Offset]) -> Result<Vec<Run>, NoMemory>
-    requires { length offsets.now < 2 ^ 16 }
-    ensures { IfOk result (λ v. element_of v.items ≡ offsets.now) }
-{
-    let mut runs = Vec::new(alloc);
-    if offsets.len() == 0 {
-        return Ok(runs);
-    }
-    let mut run = Run {
-        start: offsets[0],
-        more: 0,
-    };
-    for i in 1..offsets.len() {
-        let b = offsets[i];
-        if follows(run, b) {
-            run.more += 1;
-        } else {
-            runs.push(run)?;
-            run = Run { start: b, more: 0 };
-        }
-    }
-    runs.push(run)?;
-    Ok(runs)
+    run.count.saturating_sub(1)
 }

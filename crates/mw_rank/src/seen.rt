@@ -6,26 +6,18 @@ ghost use Rattle.mw_model.specs.Windows.{seen_at};
 ghost use Rattle.mw_rank.specs.Ranks.{levels_under};
 ghost use Rattle.mw_rank.specs.Runs.{offsets_of};
 
-use crate::runs::Run;
+use crate::runs::more_of;
 use mw_pixel::Pixel;
+use mw_run::{Run, place_of};
 use mw_tile::Window;
-
-/// The place of a step from `from`, counted from `first`.
-#[inline(always)]
-pub(crate) fn place_of(from: u64, step: i16, first: u32) -> i64
-    requires { from ≤ 2 ^ 40 }
-    ensures { result ≡ pos from +ℤ step -ℤ pos first }
-{
-    (from as i64) + i64::from(step) - i64::from(first)
-}
 
 /// The row of the window in which a run lies, where the window has it.
 pub(crate) fn row_in<P: Pixel>(window: &Window<P>, run: Run, y: u64) -> Option<usize>
     requires { y ≤ 2 ^ 40 }
-    ensures { MatchOption result ((column : ℤ) → cell_at (raster window.now.place.width window.now.place.height window.now.cells) column (pos y +ℤ run.start.dy -ℤ pos window.now.place.y) ≡ None) (λ row. (row < window.now.place.height) × (pos y +ℤ run.start.dy -ℤ pos window.now.place.y ≡ pos row)) }
+    ensures { MatchOption result ((column : ℤ) → cell_at (raster window.now.place.width window.now.place.height window.now.cells) column (pos y +ℤ run.dy -ℤ pos window.now.place.y) ≡ None) (λ row. (row < window.now.place.height) × (pos y +ℤ run.dy -ℤ pos window.now.place.y ≡ pos row)) }
 {
     let place = window.place();
-    let row = place_of(y, run.start.dy, place.y);
+    let row = place_of(y, run.dy, place.y);
     if row < 0 || row >= i64::from(place.height) {
         return None;
     }
@@ -53,9 +45,9 @@ pub(crate) fn seen_part<P: Pixel>(window: &Window<P>, run: Run, x: u64, y: u64) 
     match row_in(window, run, y) {
         None => &all[..0],
         Some(row) => {
-            let from = place_of(x, run.start.dx, place.x);
+            let from = place_of(x, run.dx, place.x);
             let begin = clamped(from, place.width);
-            let end = clamped(from + i64::from(run.more) + 1, place.width);
+            let end = clamped(from + i64::from(more_of(run)) + 1, place.width);
             let samples = window.row(row as u32);
             &samples[begin..end]
         }

@@ -2,9 +2,9 @@ use Rattle.std.proofs.Common.{◌≡◌, ℕ, ◌+◌, ◌-◌, ◌*◌, ◌<◌
 use Rattle.std.specs.List.{AllByRecursion}
 use Rattle.mw_line.specs.Extrema.{strided}
 use Rattle.mw_line.proofs.Folds.{IsExtremum}
-use Rattle.mw_offset.specs.declared.runs.Run.{Run}
-use Rattle.mw_offset.specs.Runs.{start_of, HasRoom, sized}
-use Rattle.mw_offset.proofs.RunLists.{all_weaker}
+use Rattle.mw_run.specs.declared.runs.Run.{Run}
+use Rattle.mw_run.specs.Runs.{start_of, HasRoom, sized}
+use Rattle.mw_run.proofs.RunLists.{all_weaker}
 use Rattle.mw_offset.proofs.Gathers.{gather_below, one_run, none_below_one, all_below, gather_more, IsDoubled, fold_parts, doubled_more}
 use Rattle.mw_bits.specs.Packed.{bit_of}
 use Rattle.mw_bits.specs.Layouts.{laid_bits}

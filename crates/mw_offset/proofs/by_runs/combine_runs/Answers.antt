@@ -3,9 +3,9 @@ use Rattle.std.specs.List.{AllByRecursion}
 use Rattle.mw_line.specs.Extrema.{strided}
 use Rattle.mw_line.proofs.Folds.{IsExtremum}
 use Rattle.mw_line.proofs.Rows.{get_or-replicate_same}
-use Rattle.mw_offset.specs.declared.runs.Run.{Run}
-use Rattle.mw_offset.specs.Runs.{start_of, HasRoom, sized}
-use Rattle.mw_offset.proofs.RunLists.{all_weaker}
+use Rattle.mw_run.specs.declared.runs.Run.{Run}
+use Rattle.mw_run.specs.Runs.{start_of, HasRoom, sized}
+use Rattle.mw_run.proofs.RunLists.{all_weaker}
 use Rattle.mw_offset.proofs.Gathers.{gather_below, one_run, none_below_one, all_below, gather_more, IsDoubled, fold_parts, doubled_more}
 use Rattle.mw_offset.proofs.by_runs.combine_runs.Goals as goal
 

@@ -1,6 +1,6 @@
 use Rattle.std.proofs.Common.{◌≡◌, ℕ, ◌+◌, ◌-◌, ◌*◌, ◌<◌, ◌≤◌, length, replicate, get_or}
 use Rattle.mw_line.specs.Extrema.{strided}
-use Rattle.mw_offset.specs.Runs.{start_of}
+use Rattle.mw_run.specs.Runs.{start_of}
 use Rattle.mw_offset.proofs.Gathers.{gather_below, IsDoubled}
 use Rattle.mw_offset.proofs.by_runs.combine_runs.Given as goal
 

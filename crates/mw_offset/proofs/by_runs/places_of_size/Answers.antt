@@ -1,9 +1,9 @@
 use Rattle.std.proofs.Common.{arith, get_or, pos}
 use Rattle.std.proofs.lemmas.List.{get_or_default}
-use Rattle.mw_offset.specs.declared.runs.Run.{Run}
-use Rattle.mw_offset.specs.Runs.{HasRoom}
+use Rattle.mw_run.specs.declared.runs.Run.{Run}
+use Rattle.mw_run.specs.Runs.{HasRoom}
 use Rattle.mw_offset.proofs.Parts.{more_places}
-use Rattle.mw_offset.proofs.RunLists.{all_at}
+use Rattle.mw_run.proofs.RunLists.{all_at}
 use Rattle.mw_offset.proofs.by_runs.places_of_size.Goals as goal
 
 pub push_places-requires-clause-inside : goal.push_places-requires-clause-inside

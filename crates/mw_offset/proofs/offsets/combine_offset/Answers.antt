@@ -13,8 +13,8 @@ returns g c =
     let to_y : ℤ = to_z w64 (of_z w64 c.place_of-from_row.result) in
     let place_x = ap (λ (t : Rect). t.x) c.place-place.ensures.value in
     let place_y = ap (λ (t : Rect). t.y) c.place-place.ensures.value in
-    let x-is : to_x ≡ pos c.args.column +ℤ c.args.offset.dx -ℤ pos w.place.x = omega (arith, ints, c.place_of-from_column.ensures, place_x) in
-    let y-is : to_y ≡ pos c.args.row +ℤ c.args.offset.dy -ℤ pos w.place.y = omega (arith, ints, c.place_of-from_row.ensures, place_y) in
+    let x-is : to_x ≡ pos c.args.column +ℤ c.args.offset.dx -ℤ pos w.place.x = omega (arith, ints, c.place_of-from_column.ensures.value, place_x) in
+    let y-is : to_y ≡ pos c.args.row +ℤ c.args.offset.dy -ℤ pos w.place.y = omega (arith, ints, c.place_of-from_row.ensures.value, place_y) in
     let at = λ (column row : ℤ). cell_at (raster w.place.width w.place.height w.cells) column row in
     λ x d lt.
     let there : pos c.args.column +ℤ c.args.offset.dx -ℤ pos w.place.x +ℤ pos x ≡ pos (c.args.column + x) +ℤ c.args.offset.dx -ℤ pos w.place.x = omega (arith, ints) in

@@ -2,7 +2,7 @@ use Rattle.std.proofs.Common.{◌≡◌, ℕ, ◌+◌, ◌-◌, ◌≤◌, ◌�
 use Rattle.std.proofs.lemmas.List.{take_all}
 use Rattle.mw_offset.specs.Places.{merge_from}
 use Rattle.mw_offset.proofs.Parts.{merged_more}
-use Rattle.mw_offset.proofs.RunLists.{all_at}
+use Rattle.mw_run.proofs.RunLists.{all_at}
 use Rattle.mw_offset.proofs.Rooms.{part_merged, part_size}
 use Rattle.mw_offset.proofs.places.merge_block.Goals as goal
 

@@ -1,7 +1,7 @@
 use Rattle.std.proofs.Common.{◌≡◌, ◌+◌, ◌*◌, ◌++◌, ℕ, List, length, fold, flat_map, ap, ◌∙◌, arith}
 use Rattle.mw_model.specs.Rasters.{seen_under}
 use Rattle.mw_model.specs.Windows.{seen_at}
-use Rattle.mw_offset.specs.Runs.{run_offsets}
+use Rattle.mw_run.specs.Runs.{run_offsets}
 use Rattle.mw_offset.proofs.StripRows.{rows_made_on, from_strip}
 use Rattle.mw_offset.proofs.strips.extremum_by_strips.Goals as goal
 

@@ -2,7 +2,7 @@ use Rattle.std.proofs.Common.{◌≡◌, ◌+◌, ◌-◌, ◌*◌, ◌≤◌, f
 use Rattle.mw_model.specs.Rasters.{seen_under}
 use Rattle.mw_model.specs.Windows.{seen_at}
 use Rattle.mw_line.proofs.Rows.{RowsMade}
-use Rattle.mw_offset.specs.Runs.{run_offsets}
+use Rattle.mw_run.specs.Runs.{run_offsets}
 use Rattle.mw_offset.proofs.strips.extremum_by_strips.Given as goal
 
 abbrev pub invariant-strips : goal.invariant-strips

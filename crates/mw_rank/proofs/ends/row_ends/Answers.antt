@@ -3,7 +3,7 @@ use Rattle.std.proofs.lemmas.List.{get_or_default, take_all}
 use Rattle.mw_model.specs.Windows.{seen_at}
 use Rattle.mw_rank.specs.Ends.{AreEnds}
 use Rattle.mw_rank.specs.declared.ends.Ends.{Ends}
-use Rattle.mw_rank.specs.declared.runs.Run.{Run}
+use Rattle.mw_run.specs.declared.runs.Run.{Run}
 use Rattle.mw_rank.proofs.Edges.{are_ends_none, are_ends_more}
 use Rattle.mw_rank.proofs.ends.row_ends.Goals as goal
 
@@ -14,7 +14,7 @@ loop-run-init g c =
 
 pub loop-run-preserved : goal.loop-run-preserved
 loop-run-preserved g c =
-    let none : Run = record { start = record { dx = pos 0; dy = pos 0 }; more = 0 } in
+    let none : Run = record { dx = pos 0; dy = pos 0; count = 0 } in
     let i = c.loop-run.run-index in
     let runs = c.args.runs.now in
     let r = get_or runs i none in

@@ -1,7 +1,7 @@
 use Rattle.std.proofs.Common.{arith, get_or, pos, sym, subst, List}
 use Rattle.std.proofs.lemmas.List.{get_or_default, take_all}
 use Rattle.mw_model.specs.Windows.{seen_at}
-use Rattle.mw_rank.specs.declared.runs.Run.{Run}
+use Rattle.mw_run.specs.declared.runs.Run.{Run}
 use Rattle.mw_rank.specs.Ranks.{levels_under}
 use Rattle.mw_rank.specs.Runs.{element_of}
 use Rattle.mw_rank.specs.Tallies.{Tallies}
@@ -10,7 +10,7 @@ use Rattle.mw_rank.proofs.moving.enter_all.Goals as goal
 
 pub enter_part-requires : goal.enter_part-requires
 enter_part-requires g c =
-    let none : Run = record { start = record { dx = pos 0; dy = pos 0 }; more = 0 } in
+    let none : Run = record { dx = pos 0; dy = pos 0; count = 0 } in
     let j = c.loop-run.run-index in
     let runs = c.args.runs.now in
     let r = get_or runs j none in
@@ -26,7 +26,7 @@ enter_part-requires g c =
 
 pub loop-run-preserved : goal.loop-run-preserved
 loop-run-preserved g c =
-    let none : Run = record { start = record { dx = pos 0; dy = pos 0 }; more = 0 } in
+    let none : Run = record { dx = pos 0; dy = pos 0; count = 0 } in
     let j = c.loop-run.run-index in
     let runs = c.args.runs.now in
     let r = get_or runs j none in

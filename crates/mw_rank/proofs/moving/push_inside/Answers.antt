@@ -12,9 +12,9 @@ pub select-requires : goal.select-requires
 select-requires g c = (
   g.P.Pixel.top_level,
   record {
-    others = levels_under g.P.Pixel.level (seen_at c.args.window.now) (element_of c.args.runs.now) (c.args.x + c.loop-i.i) c.args.y;
+    others = levels_under g.P.Pixel.level (seen_at c.args.window.now) (element_of c.args.runs.now) (c.args.at.x + c.loop-i.i) c.args.at.y;
     tallies = c.loop-i.invariant.tallies;
-    few = omega (arith, c.requires.few, length-levels g.P.Pixel.level (seen_at c.args.window.now) (element_of c.args.runs.now) (c.args.x + c.loop-i.i) c.args.y);
+    few = omega (arith, c.requires.few, length-levels g.P.Pixel.level (seen_at c.args.window.now) (element_of c.args.runs.now) (c.args.at.x + c.loop-i.i) c.args.at.y);
   },
 )
 
@@ -22,17 +22,17 @@ pub sample_of-sample-requires : goal.sample_of-sample-requires
 sample_of-sample-requires g c = c.select.ensures.small g.P.Pixel.top_level _ c.loop-i.invariant.tallies
 
 pub exchange_ends-requires-clause-inside : goal.exchange_ends-requires-clause-inside
-exchange_ends-requires-clause-inside g c = (c.args.width, omega arith, (known_samples g.P.Pixel.level g.P.Pixel.TOP (seen_at c.args.window.now) c.samples-samples.result.now c.args.window.now.cells c.args.runs.now c.args.x c.args.y c.args.width c.args.ends.now c.samples-samples.ensures.value c.requires.ends).inside)
+exchange_ends-requires-clause-inside g c = (c.args.at.width, omega arith, (known_samples g.P.Pixel.level g.P.Pixel.TOP (seen_at c.args.window.now) c.samples-samples.result.now c.args.window.now.cells c.args.runs.now c.args.at.x c.args.at.y c.args.at.width c.args.ends.now c.samples-samples.ensures.value c.requires.ends).inside)
 
 pub exchange_ends-requires-clause-held : goal.exchange_ends-requires-clause-held
 exchange_ends-requires-clause-held g c = record {
-  others = kept g.P.Pixel.level (seen_at c.args.window.now) c.args.runs.now (c.args.x + c.loop-i.i) c.args.y;
-  tallies = before_ends g.P.Pixel.level g.P.Pixel.TOP (seen_at c.args.window.now) c.samples-samples.result.now c.args.runs.now c.args.ends.now c.args.x c.args.y c.args.width c.loop-i.i g.P.Pixel.top_level c.select.new.self (omega arith) (known_samples g.P.Pixel.level g.P.Pixel.TOP (seen_at c.args.window.now) c.samples-samples.result.now c.args.window.now.cells c.args.runs.now c.args.x c.args.y c.args.width c.args.ends.now c.samples-samples.ensures.value c.requires.ends)
+  others = kept g.P.Pixel.level (seen_at c.args.window.now) c.args.runs.now (c.args.at.x + c.loop-i.i) c.args.at.y;
+  tallies = before_ends g.P.Pixel.level g.P.Pixel.TOP (seen_at c.args.window.now) c.samples-samples.result.now c.args.runs.now c.args.ends.now c.args.at.x c.args.at.y c.args.at.width c.loop-i.i g.P.Pixel.top_level c.select.new.self (omega arith) (known_samples g.P.Pixel.level g.P.Pixel.TOP (seen_at c.args.window.now) c.samples-samples.result.now c.args.window.now.cells c.args.runs.now c.args.at.x c.args.at.y c.args.at.width c.args.ends.now c.samples-samples.ensures.value c.requires.ends)
       (c.select.ensures.tallies g.P.Pixel.top_level _ c.loop-i.invariant.tallies);
   few = omega (
     arith,
     c.requires.few,
-    length-before_ends g.P.Pixel.level g.P.Pixel.TOP (seen_at c.args.window.now) c.samples-samples.result.now c.args.runs.now c.args.ends.now c.args.x c.args.y c.args.width c.loop-i.i (omega arith) (known_samples g.P.Pixel.level g.P.Pixel.TOP (seen_at c.args.window.now) c.samples-samples.result.now c.args.window.now.cells c.args.runs.now c.args.x c.args.y c.args.width c.args.ends.now c.samples-samples.ensures.value c.requires.ends),
+    length-before_ends g.P.Pixel.level g.P.Pixel.TOP (seen_at c.args.window.now) c.samples-samples.result.now c.args.runs.now c.args.ends.now c.args.at.x c.args.at.y c.args.at.width c.loop-i.i (omega arith) (known_samples g.P.Pixel.level g.P.Pixel.TOP (seen_at c.args.window.now) c.samples-samples.result.now c.args.window.now.cells c.args.runs.now c.args.at.x c.args.at.y c.args.at.width c.args.ends.now c.samples-samples.ensures.value c.requires.ends),
   );
 }
 
@@ -43,8 +43,8 @@ loop-i-preserved g c =
     let element = element_of c.args.runs.now in
     let top = g.P.Pixel.top_level in
     record {
-      tallies = moved_by_ends level g.P.Pixel.TOP sight c.samples-samples.result.now c.args.runs.now c.args.ends.now c.args.x c.args.y c.args.width c.loop-i.i top c.select.new.self c.exchange_ends.new.histogram (omega arith) (known_samples g.P.Pixel.level g.P.Pixel.TOP (seen_at c.args.window.now) c.samples-samples.result.now c.args.window.now.cells c.args.runs.now c.args.x c.args.y c.args.width c.args.ends.now c.samples-samples.ensures.value c.requires.ends) c.exchange_ends.ensures
+      tallies = moved_by_ends level g.P.Pixel.TOP sight c.samples-samples.result.now c.args.runs.now c.args.ends.now c.args.at.x c.args.at.y c.args.at.width c.loop-i.i top c.select.new.self c.exchange_ends.new.histogram (omega arith) (known_samples g.P.Pixel.level g.P.Pixel.TOP (seen_at c.args.window.now) c.samples-samples.result.now c.args.window.now.cells c.args.runs.now c.args.at.x c.args.at.y c.args.at.width c.args.ends.now c.samples-samples.ensures.value c.requires.ends) c.exchange_ends.ensures
           (c.select.ensures.tallies top _ c.loop-i.invariant.tallies);
-      row = gains_more level (λ i. ranked c.args.k (levels_under level sight element (c.args.x + i) c.args.y)) c.loop-i.i c.args.out.now.items c.loop-i.out.items c.push.new.self.items c.sample_of-sample.result
+      row = gains_more level (λ i. ranked c.args.at.k (levels_under level sight element (c.args.at.x + i) c.args.at.y)) c.loop-i.i c.args.out.now.items c.loop-i.out.items c.push.new.self.items c.sample_of-sample.result
           c.in_ok-push.ensures.items (c.sample_of-sample.ensures ∙ c.select.ensures.level top _ c.loop-i.invariant.tallies) c.loop-i.invariant.row;
     }

@@ -8,6 +8,6 @@ use Rattle.mw_rank.proofs.moving.push_row.Given as goal
 
 abbrev pub invariant-loop-i : goal.invariant-loop-i
 invariant-loop-i g l = record {
-  tallies : Tallies g.P.Pixel.top_level l.histogram (levels_under g.P.Pixel.level (seen_at l.window) (element_of l.runs) (l.x + l.i) l.y);
-  row : GainsRow g.P.Pixel.level (λ i. ranked l.k (levels_under g.P.Pixel.level (seen_at l.window) (element_of l.runs) (l.x + i) l.y)) l.i l.initial.out.items l.out.items;
+  tallies : Tallies g.P.Pixel.top_level l.histogram (levels_under g.P.Pixel.level (seen_at l.window) (element_of l.runs) (l.at.x + l.i) l.at.y);
+  row : GainsRow g.P.Pixel.level (λ i. ranked l.at.k (levels_under g.P.Pixel.level (seen_at l.window) (element_of l.runs) (l.at.x + i) l.at.y)) l.i l.initial.out.items l.out.items;
 }

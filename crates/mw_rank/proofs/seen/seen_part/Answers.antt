@@ -1,11 +1,12 @@
-use Rattle.std.proofs.Common.{◌≡◌, ◌+ℤ◌, ◌-ℤ◌, pos, ℤ, suc, ap, arith, sym, to_z, of_z, w64}
+use Rattle.std.proofs.Common.{◌≡◌, ◌-◌, ◌+ℤ◌, ◌-ℤ◌, pos, ℤ, suc, ap, arith, sym, to_z, of_z, w64}
 use Rattle.std.proofs.lemmas.Int.{ints}
 use Rattle.mw_model.specs.declared.places.Rect.{Rect}
+use Rattle.mw_run.specs.Runs.{start_offset}
 use Rattle.mw_rank.proofs.Parts.{part_seen, part_unseen, clamp_rises}
 use Rattle.mw_rank.proofs.seen.seen_part.Goals as goal
 
 pub returns-in-None : goal.returns-in-None
-returns-in-None g c = sym (part_unseen g.P.Pixel.level c.args.window.now c.args.run.start (suc c.args.run.more) c.args.x c.args.y c.in-None.ensures)
+returns-in-None g c = sym (part_unseen g.P.Pixel.level c.args.window.now (start_offset c.args.run) (suc (c.args.run.count - 1)) c.args.x c.args.y c.in-None.ensures)
 
 pub returns-in-Some : goal.returns-in-Some
 returns-in-Some g c =
@@ -16,10 +17,10 @@ returns-in-Some g c =
     let more : ℤ = to_z w64 (of_z w64 c.from.result) in
     let sum : ℤ = to_z w64 (of_z w64 (from +ℤ more)) in
     let to : ℤ = to_z w64 (of_z w64 (sum +ℤ pos 1)) in
-    let from-is : pos c.args.x +ℤ c.args.run.start.dx -ℤ pos w.place.x ≡ from = omega (arith, ints, c.place_of-from.ensures, x-is) in
-    let more-is : more ≡ pos c.args.run.more = omega (arith, ints, c.from.ensures) in
+    let from-is : pos c.args.x +ℤ c.args.run.dx -ℤ pos w.place.x ≡ from = omega (arith, ints, c.place_of-from.ensures.value, x-is) in
+    let more-is : more ≡ pos (c.args.run.count - 1) = omega (arith, ints, c.from.ensures, c.more_of.ensures) in
     let sum-is : sum ≡ from +ℤ more = omega (arith, ints) in
-    let to-is : to ≡ from +ℤ pos (suc c.args.run.more) = omega (arith, ints) in
+    let to-is : to ≡ from +ℤ pos (suc (c.args.run.count - 1)) = omega (arith, ints) in
     part_seen g.P.Pixel.level g.P.Pixel.TOP w c.args.run c.args.x c.args.y c.in-Some.row from to c.clamped-begin.result c.clamped-end.result c.place-place.result.width c.row-samples.result.now width c.in-Some.ensures.0 c.samples-all.ensures.size c.row-samples.ensures.length
     c.row-samples.ensures.value from-is c.in-Some.ensures.1 to-is c.clamped-begin.ensures c.clamped-end.ensures
 
@@ -29,10 +30,10 @@ slice_bounds-result-count g c =
     let more : ℤ = to_z w64 (of_z w64 c.from.result) in
     let sum : ℤ = to_z w64 (of_z w64 (from +ℤ more)) in
     let to : ℤ = to_z w64 (of_z w64 (sum +ℤ pos 1)) in
-    let more-is : more ≡ pos c.args.run.more = omega (arith, ints, c.from.ensures) in
+    let more-is : more ≡ pos (c.args.run.count - 1) = omega (arith, ints, c.from.ensures, c.more_of.ensures) in
     let sum-is : sum ≡ from +ℤ more = omega (arith, ints) in
-    let to-is : to ≡ from +ℤ pos (suc c.args.run.more) = omega (arith, ints) in
-    omega (arith, clamp_rises from to (suc c.args.run.more) c.place-place.result.width to-is, c.clamped-begin.ensures, c.clamped-end.ensures)
+    let to-is : to ≡ from +ℤ pos (suc (c.args.run.count - 1)) = omega (arith, ints) in
+    omega (arith, clamp_rises from to (suc (c.args.run.count - 1)) c.place-place.result.width to-is, c.clamped-begin.ensures, c.clamped-end.ensures)
 
 pub slice_bounds-result-start : goal.slice_bounds-result-start
 slice_bounds-result-start g c =
@@ -40,7 +41,7 @@ slice_bounds-result-start g c =
     let more : ℤ = to_z w64 (of_z w64 c.from.result) in
     let sum : ℤ = to_z w64 (of_z w64 (from +ℤ more)) in
     let to : ℤ = to_z w64 (of_z w64 (sum +ℤ pos 1)) in
-    let more-is : more ≡ pos c.args.run.more = omega (arith, ints, c.from.ensures) in
+    let more-is : more ≡ pos (c.args.run.count - 1) = omega (arith, ints, c.from.ensures, c.more_of.ensures) in
     let sum-is : sum ≡ from +ℤ more = omega (arith, ints) in
-    let to-is : to ≡ from +ℤ pos (suc c.args.run.more) = omega (arith, ints) in
-    omega (arith, clamp_rises from to (suc c.args.run.more) c.place-place.result.width to-is, c.clamped-begin.ensures, c.clamped-end.ensures)
+    let to-is : to ≡ from +ℤ pos (suc (c.args.run.count - 1)) = omega (arith, ints) in
+    omega (arith, clamp_rises from to (suc (c.args.run.count - 1)) c.place-place.result.width to-is, c.clamped-begin.ensures, c.clamped-end.ensures)

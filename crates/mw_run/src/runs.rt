@@ -1,0 +1,148 @@
+//! An element as horizontal runs, and the columns and rows that they take.
+ghost use Rattle.std.specs.Prelude.{◌≡◌, ℕ, ◌+◌, ◌*◌, ◌<◌, ◌≤◌, ◌^◌, ℤ, pos, ◌-ℤ◌, ◌+ℤ◌, ◌≤ℤ◌, length, take, drop, IsTrue, flat_map, IfOk, IfSome, IsSome, ◌↔◌};
+ghost use Rattle.std.specs.List.{AllByRecursion};
+ghost use Rattle.mw_model.specs.Places.{nonnegative};
+ghost use Rattle.mw_run.specs.declared.runs.Extent.{Extent};
+ghost use Rattle.mw_run.specs.Runs.{run_offsets, offset_at, start_offset, Continues, AreLongest, IsRun, IsInside, IsWider};
+
+use mw_model::{NoMemory, Offset};
+use std::alloc::Global;
+
+/// Offsets that stand beside one another in a row, from the left.
+#[derive(Clone, Copy)]
+pub struct Run {
+    /// The first column.
+    pub dx: i16,
+    /// The row.
+    pub dy: i16,
+    /// How many columns, from 1 on.
+    pub count: u32,
+}
+
+/// Columns and rows of offsets, both ends included.
+#[derive(Clone, Copy)]
+pub struct Extent {
+    pub left: i32,
+    pub right: i32,
+    pub top: i32,
+    pub bottom: i32,
+}
+
+/// Whether the offset continues a run of so many that begin with `first`.
+fn continues(first: Offset, count: u32, next: Offset) -> bool
+    requires { count ≤ 65536 }
+    ensures follows { IsTrue result ↔ Continues (record { dx = first.dx; dy = first.dy; count = count }) next }
+    ensures few { IsTrue result → count < 65536 }
+{
+    next.dy == first.dy && i32::from(next.dx) == i32::from(first.dx) + count as i32
+}
+
+/// Whether the offset after so many that begin at that place of the list continues them.
+fn goes_on(offsets: &[Offset], from: usize, count: u32) -> bool
+    requires within { from < length offsets.now }
+    requires few { count ≤ 65536 }
+    requires room { from + count ≤ length offsets.now }
+    ensures next { IsTrue result ↔ (from + count < length offsets.now) × Continues (record { dx = (offset_at offsets.now from).dx; dy = (offset_at offsets.now from).dy; count = count }) (offset_at offsets.now (from + count)) }
+    ensures few { IsTrue result → count < 65536 }
+{
+    let next = from + count as usize;
+    next < offsets.len() && continues(offsets[from], count, offsets[next])
+}
+
+/// The run that begins at that place of the list.
+fn run_at(offsets: &[Offset], from: usize) -> Run
+    requires { from < length offsets.now }
+    ensures run { IsRun result }
+    ensures room { from + result.count ≤ length offsets.now }
+    ensures same { run_offsets result ≡ take result.count (drop from offsets.now) }
+    ensures first { offset_at offsets.now from ≡ start_offset result }
+    ensures longest { from + result.count < length offsets.now → Continues result (offset_at offsets.now (from + result.count)) → ⊥ }
+{
+    let first = offsets[from];
+    let mut count = 1u32;
+    'on: while goes_on(offsets, from, count) {
+        count += 1;
+    }
+    Run {
+        dx: first.dx,
+        dy: first.dy,
+        count,
+    }
+}
+
+/// The list cut into runs that are as long as they can be.
+pub fn runs_of(alloc: Global, offsets: &[Offset]) -> Result<Vec<Run>, NoMemory>
+    ensures offsets { IfOk result (λ v. flat_map run_offsets v.items ≡ offsets.now) }
+    ensures runs { IfOk result (λ v. AllByRecursion IsRun v.items) }
+    ensures longest { IfOk result (λ v. AreLongest v.items) }
+{
+    let mut runs = Vec::new(alloc);
+    let mut at = 0usize;
+    'runs: while at < offsets.len() {
+        let run = run_at(offsets, at);
+        runs.push(run)?;
+        at += run.count as usize;
+    }
+    Ok(runs)
+}
+
+/// The extent of one run.
+fn extent_of_run(run: Run) -> Extent
+    requires { IsRun run }
+    ensures inside { IsInside result run }
+    ensures least { (o : Extent) → IsInside o run → IsWider o result }
+{
+    Extent {
+        left: i32::from(run.dx),
+        right: i32::from(run.dx) + run.count as i32 - 1,
+        top: i32::from(run.dy),
+        bottom: i32::from(run.dy),
+    }
+}
+
+fn lesser(a: i32, b: i32) -> i32
+    ensures first { result ≤ℤ a }
+    ensures second { result ≤ℤ b }
+    ensures least { (o : ℤ) → o ≤ℤ a → o ≤ℤ b → o ≤ℤ result }
+{
+    if a < b { a } else { b }
+}
+
+fn greater(a: i32, b: i32) -> i32
+    ensures first { a ≤ℤ result }
+    ensures second { b ≤ℤ result }
+    ensures least { (o : ℤ) → a ≤ℤ o → b ≤ℤ o → result ≤ℤ o }
+{
+    if a < b { b } else { a }
+}
+
+/// The least extent that has both.
+fn joined(a: Extent, b: Extent) -> Extent
+    ensures first { IsWider result a }
+    ensures second { IsWider result b }
+    ensures least { (o : Extent) → IsWider o a → IsWider o b → IsWider o result }
+{
+    Extent {
+        left: lesser(a.left, b.left),
+        right: greater(a.right, b.right),
+        top: lesser(a.top, b.top),
+        bottom: greater(a.bottom, b.bottom),
+    }
+}
+
+/// The least extent of all runs; None where there is none.
+pub fn extent_of(runs: &[Run]) -> Option<Extent>
+    requires { AllByRecursion IsRun runs.now }
+    ensures some { IsSome result ↔ (0 < length runs.now) }
+    ensures inside { IfSome result (λ e. AllByRecursion (IsInside e) runs.now) }
+    ensures least { IfSome result (λ e. (o : Extent) → AllByRecursion (IsInside o) runs.now → IsWider o e) }
+{
+    if runs.len() == 0 {
+        return None;
+    }
+    let mut extent = extent_of_run(runs[0]);
+    for i in 0..runs.len() {
+        extent = joined(extent, extent_of_run(runs[i]));
+    }
+    Some(extent)
+}
