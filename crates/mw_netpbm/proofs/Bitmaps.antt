@@ -1,5 +1,5 @@
 -- Reading gives the pixels of a plain bitmap, and what it meets is the refusal.
-use Rattle.std.proofs.Common.{◌≡◌, ℕ, ◌*◌, ◌<◌, ◌≤◌, true, false, eqb, ltb, List, [], ◌∷◌, ◌++◌, length, Result, Ok, Err, refl, sym, ap, subst, ◌∙◌, arith, inl, inr, ◌||◌, append_assoc}
+use Rattle.std.proofs.Common.{◌≡◌, ℕ, ◌*◌, ◌<◌, ◌≤◌, Bool, cond, ◌⊎◌, true, false, eqb, ltb, List, [], ◌∷◌, ◌++◌, length, Result, Ok, Err, refl, sym, ap, subst, ◌∙◌, arith, inl, inr, ◌||◌, append_assoc}
 use Rattle.std.specs.Prelude.{◌≢◌, count_by, ◌==◌}
 use Rattle.std.proofs.lemmas.Bool.Decides.{nat_tests}
 use Rattle.mw_model.specs.declared.codes.Code.{Code}
@@ -9,7 +9,7 @@ use Rattle.mw_model.specs.declared.formats.Format.TheVariants.{PlainBits, PlainG
 use Rattle.mw_model.specs.declared.formats.Header.{Header as Head}
 use Rattle.mw_model.specs.Rasters.{Raster, raster}
 use Rattle.mw_model.specs.NetpbmGrammar.{Begins, magic, IsPixel, IsPlain, RasterAs}
-use Rattle.mw_model.specs.NetpbmRefusals.{HasMagic, PlainRefuses, later}
+use Rattle.mw_model.specs.NetpbmRefusals.{PlainRefuses, later}
 use Rattle.mw_model.specs.Bitmaps.{SidesFit, BeginsBitmap, IsBitmap, BitmapRefuses, not_plain, no_header, bad_sides, bad_pixels}
 use Rattle.mw_netpbm.specs.declared.fault.ReadFault.{ReadFault}
 use Rattle.mw_netpbm.specs.declared.fault.ReadFault.TheVariants.{Magic, Header, Size, Maxval, Short, Sample, Trailing, NoMemory}
@@ -22,11 +22,11 @@ use Rattle.mw_netpbm.specs.Plain.{plain_at, pixel_at}
 use Rattle.mw_netpbm.specs.Whole.{plain_only, bitmap_head_at, pixels_from, bitmap_at}
 use Rattle.mw_netpbm.specs.Places.{ones_of}
 use Rattle.mw_netpbm.proofs.Blanks.{cap}
-use Rattle.mw_netpbm.proofs.Exclusive.{either, reads_pixels, plain_none, no_header_read}
+use Rattle.mw_netpbm.proofs.Outcomes.{good, no_both, either, RefusesAs, one_code, code_or_value, refuses-given, refuses-with, refuses-then, refuses-view, refuses-like, refuses-renamed}
 use Rattle.mw_netpbm.proofs.Files.{begun_read, begun_maxval, head_cap, SetMaxval}
 use Rattle.mw_netpbm.proofs.Headers.{head_parts, capped, magic_parts, magic_whole}
 use Rattle.mw_netpbm.proofs.Rasters.{pixel_parts, pixel_whole, plain_from, plain_read}
-use Rattle.mw_netpbm.proofs.Refused.{bad, bind_err, head_err, magic_err, no_both, no_format, no_head, pixels_err, plain_memory, test_err}
+use Rattle.mw_netpbm.proofs.Refused.{magic_refuses, header_refuses, magic_found, pixels_refuses, plain_memory}
 use Rattle.mw_netpbm.proofs.Sides.{Within, bind_ok, guard_ok, ok_is, plain_length}
 
 -- ---- the format
@@ -49,19 +49,12 @@ only_plain PlainGrey u e = absurd cc
 only_plain RawBits u e = absurd cc
 only_plain RawGrey u e = absurd cc
 
-not_only : (format : Format) → ¬ (format ≡ PlainBits) → plain_only format ≡ Err Magic
-unfolding plain_only
-not_only PlainBits none = absurd (none refl)
-not_only PlainGrey none = refl
-not_only RawBits none = refl
-not_only RawGrey none = refl
-
-only_fault : (format : Format) (d : ReadFault) → plain_only format ≡ Err d → (Magic ≡ d) × ¬ (format ≡ PlainBits)
+only_fault : (format : Format) (d : ReadFault) → plain_only format ≡ Err d → Magic ≡ d
 unfolding plain_only
 only_fault PlainBits d e = absurd cc
-only_fault PlainGrey d e = (cc, λ same. absurd cc)
-only_fault RawBits d e = (cc, λ same. absurd cc)
-only_fault RawGrey d e = (cc, λ same. absurd cc)
+only_fault PlainGrey d e = cc
+only_fault RawBits d e = cc
+only_fault RawGrey d e = cc
 
 first_is : {A B : Type 0} (r : Result (A × B) ReadFault) (x y : A × B) → r ≡ Ok x → r ≡ Ok y → x.0 ≡ y.0
 first_is {A = A} {B = B} r x y e f = ap (λ (z : A × B). z.0) (ok_is x y (sym e ∙ f))
@@ -80,9 +73,6 @@ sides_uncapped side w h lt s =
     let e2 : cap h ≡ h = omega (arith, s.low) in
     subst (λ k. SidesFit side k h) e1 (subst (λ k. SidesFit side (cap w) k) e2 s)
 
-abbrev fine : Result (Unit {0}) ReadFault
-fine = Ok tt
-
 sides_ok : (side : ℕ) (h : Head) (u : Unit {0}) → side < 4294967296 → side_limits side (capped h) ≡ Ok u → SidesFit side h.width h.height
 unfolding side_limits
 sides_ok side h u lt e =
@@ -95,23 +85,16 @@ sides_taken side h s = rw (sides_fine side h.width h.height s.some_column s.some
 
 sides_fault : (side : ℕ) (h : Head) (d : ReadFault) → side_limits side h ≡ Err d → Size ≡ d
 unfolding side_limits
-sides_fault side h d e =
-    elim (test_err (eqb h.width 0 || eqb h.height 0 || ltb side h.width || ltb side h.height) Size (Ok tt) d e) [
-      | inl s ↦ s.1
-      | inr s ↦ absurd (let clash : fine ≡ bad d = s.1 in cc)
-    ]
+sides_fault side h d e = faulty (eqb h.width 0 || eqb h.height 0 || ltb side h.width || ltb side h.height) e
+  where
+    faulty : (b : Bool) → cond {A = Result (Unit {0}) ReadFault} b (Err Size) (Ok tt) ≡ Err d → Size ≡ d
+    faulty true e = cc
+    faulty false e = absurd (no_both (good {A = Unit {0}} tt) tt d refl e)
 
 fit_cap : (side : ℕ) (h : Head) → side < 4294967296 → h.format ≡ PlainBits → SetMaxval h.format h.maxval → SidesFit side h.width h.height → capped h ≡ h
 fit_cap side h lt plain top s =
     let one : h.maxval ≡ 1 = subst (λ k. SetMaxval k h.maxval) plain top in
     head_cap h (omega (arith, s.narrow)) (omega (arith, s.low)) (omega (arith, one))
-
-sides_refused : (side : ℕ) (h : Head) → side < 4294967296 → ¬ SidesFit side h.width h.height → side_limits side (capped h) ≡ Err Size
-sides_refused side h lt none =
-    elim (either (side_limits side (capped h))) [
-      | inl x ↦ absurd (none (sides_ok side h x.0 lt x.1))
-      | inr d ↦ d.1 ∙ ap (λ (k : ReadFault). bad k) (sym (sides_fault side (capped h) d.0 d.1))
-    ]
 
 -- ---- the pixels
 
@@ -127,9 +110,6 @@ pixels_read n bytes xs len is =
 
 abbrev headed_ok : Head × List ℕ → Result (Head × List ℕ) ReadFault
 headed_ok h = Ok h
-
-plain_magic : (bytes rest : List ℕ) → bytes ≡ magic PlainBits ++ rest → magic_at bytes ≡ Ok (PlainBits, rest)
-plain_magic bytes rest parts = ap magic_at parts ∙ magic_whole PlainBits rest
 
 begun_plain : (bytes pixels : List ℕ) (h : Head) → BeginsBitmap bytes h pixels → (rest : List ℕ) × (magic_at bytes ≡ Ok (PlainBits, rest))
 begun_plain bytes pixels h b = let m = begun_magic bytes pixels h b.begins in (m.0, subst (λ (k : Format). magic_at bytes ≡ Ok (k, m.0)) b.format m.1)
@@ -222,139 +202,102 @@ same_code n bytes Sample r = refl
 same_code n bytes Trailing r = refl
 same_code n bytes NoMemory r = refl
 
-abbrev refuses_bitmap : List ℕ → ℕ → ReadFault → Type 0
-refuses_bitmap bytes side d = BitmapRefuses bytes side (bitmap_code d)
+abbrev LastSteps : ℕ → Head × List ℕ → Code → Type 0
+LastSteps side h c = (code.Size ≡ c) × ((u : Unit {0}) → ¬ (side_limits side h.0 ≡ Ok u)) ⊎ ((u : Unit {0}) × (side_limits side h.0 ≡ Ok u) × ⊥)
 
-other_format : (bytes : List ℕ) (m : Format × List ℕ) → magic_at bytes ≡ Ok m → ¬ (m.0 ≡ PlainBits) → ¬ HasMagic PlainBits bytes
-other_format bytes m e none (rest, parts) = none (first_is (magic_at bytes) m (PlainBits, rest) e (ap magic_at parts ∙ magic_whole PlainBits rest))
+abbrev HeaderSteps : ℕ → List ℕ → Code → Type 0
+HeaderSteps side bytes c = (code.Header ≡ c) × ((h : Head × List ℕ) → ¬ (head_at bytes ≡ Ok h)) ⊎ ((h : Head × List ℕ) × (head_at bytes ≡ Ok h) × LastSteps side h c)
 
-head_refused : (side : ℕ) (bytes : List ℕ) (d : ReadFault) → side < 4294967296 → bitmap_head_at side bytes ≡ Err d → BitmapRefuses bytes side (bitmap_code d)
+abbrev FormatSteps : ℕ → List ℕ → Format × List ℕ → Code → Type 0
+FormatSteps side bytes m c = (code.NotPlain ≡ c) × ((u : Unit {0}) → ¬ (plain_only m.0 ≡ Ok u)) ⊎ ((u : Unit {0}) × (plain_only m.0 ≡ Ok u) × HeaderSteps side bytes c)
+
+-- the refusals of a header of a bitmap, step by step
+abbrev HeadSteps : ℕ → List ℕ → Code → Type 0
+HeadSteps side bytes c =
+    (code.NotPlain ≡ c) × ((m : Format × List ℕ) → ¬ (magic_at bytes ≡ Ok m))
+    ⊎ ((m : Format × List ℕ) × (magic_at bytes ≡ Ok m) × FormatSteps side bytes m c)
+
+abbrev Steps : ℕ → List ℕ → Code → Type 0
+Steps side bytes c = HeadSteps side bytes c ⊎ ((h : Head × List ℕ) × (bitmap_head_at side bytes ≡ Ok h) × PlainRefuses IsPixel 1 (h.0.height * h.0.width) h.1 c)
+
+abbrev after_header : ℕ → Head × List ℕ → Result (Head × List ℕ) ReadFault
+after_header side h = side_limits side h.0 >>= λ l. good h
+
+abbrev after_format : ℕ → List ℕ → Result (Head × List ℕ) ReadFault
+after_format side bytes = head_at bytes >>= λ h. after_header side h
+
+abbrev after_magic : ℕ → List ℕ → Format × List ℕ → Result (Head × List ℕ) ReadFault
+after_magic side bytes m = plain_only m.0 >>= λ p. after_format side bytes
+
+head_refuses : (side : ℕ) (bytes : List ℕ) → RefusesAs bitmap_code (bitmap_head_at side bytes) (HeadSteps side bytes)
 unfolding bitmap_head_at
-head_refused side bytes d lt e =
-    elim (bind_err (magic_at bytes) (λ m. plain_only m.0 >>= λ p. head_at bytes >>= λ h. side_limits side h.0 >>= λ l. headed_ok h) d e) [
-      | inl f ↦ subst (refuses_bitmap bytes side) (magic_err bytes d f) (not_plain (no_format bytes d f PlainBits))
-      | inr m ↦
-          elim (bind_err (plain_only m.0.0) (λ p. head_at bytes >>= λ h. side_limits side h.0 >>= λ l. headed_ok h) d m.2) [
-            | inl f ↦ let o = only_fault m.0.0 d f in subst (refuses_bitmap bytes side) o.0 (not_plain (other_format bytes m.0 m.1 o.1))
-            | inr p ↦
-                let plain = only_plain m.0.0 p.0 p.1 in
-                let has : HasMagic PlainBits bytes = (m.0.1, subst (λ (k : Format). bytes ≡ magic k ++ m.0.1) plain (magic_parts bytes m.0 m.1)) in
-                elim (bind_err (head_at bytes) (λ h. side_limits side h.0 >>= λ l. headed_ok h) d p.2) [
-                  | inl f ↦
-                      elim (head_err bytes d f) [
-                        | inl k ↦ absurd (no_both (magic_at bytes) m.0 d m.1 k.1)
-                        | inr k ↦ subst (refuses_bitmap bytes side) k.0 (no_header has (λ h pixels b. no_head bytes d f h pixels b.begins))
-                      ]
-                  | inr h ↦
-                      let parts = head_parts bytes h.0 h.1 in
-                      let begins = plain_begins bytes h.0.1 parts.head m.0 parts.begins m.1 plain in
-                      elim (bind_err (side_limits side h.0.0) (λ l. headed_ok h.0) d h.2) [
-                        | inl f ↦
-                            subst (refuses_bitmap bytes side) (sides_fault side h.0.0 d f)
-                            (bad_sides parts.head h.0.1 begins (λ s.
-                            let small = fit_cap side parts.head lt begins.format (begun_maxval bytes h.0.1 parts.head parts.begins) s in
-                            no_both (side_limits side h.0.0) tt d (ap (side_limits side) (parts.is_capped ∙ small) ∙ sides_taken side parts.head s) f))
-                        | inr l ↦ absurd (let clash : headed_ok h.0 ≡ bad d = l.2 in cc)
-                      ]
-                ]
-          ]
-    ]
+head_refuses side bytes =
+    refuses-then bitmap_code (magic_at bytes) (λ m. after_magic side bytes m) (λ c. (code.NotPlain ≡ c) × ((m : Format × List ℕ) → ¬ (magic_at bytes ≡ Ok m))) (λ m. FormatSteps side bytes m) (magic_refuses bitmap_code bytes)
+    (λ m is. refuses-then bitmap_code (plain_only m.0) (λ p. after_format side bytes) (λ c. (code.NotPlain ≡ c) × ((u : Unit {0}) → ¬ (plain_only m.0 ≡ Ok u))) (λ u. HeaderSteps side bytes)
+    (refuses-with bitmap_code Magic (plain_only m.0) (only_fault m.0))
+    (λ u plain. refuses-then bitmap_code (head_at bytes) (λ h. after_header side h) (λ c. (code.Header ≡ c) × ((h : Head × List ℕ) → ¬ (head_at bytes ≡ Ok h))) (λ h. LastSteps side h) (header_refuses bitmap_code bytes m is)
+    (λ h read. refuses-then bitmap_code (side_limits side h.0) (λ l. good h) (λ c. (code.Size ≡ c) × ((u : Unit {0}) → ¬ (side_limits side h.0 ≡ Ok u))) (λ l c. ⊥)
+    (refuses-with bitmap_code Size (side_limits side h.0) (sides_fault side h.0)) (λ l fine. refuses-given bitmap_code h))))
 
-abbrev shown : Raster ℕ → Result (Raster ℕ) ReadFault
-shown f = Ok f
-
-pub bitmap_refused : (side : ℕ) (bytes : List ℕ) (d : ReadFault) → side < 4294967296 → bitmap_at side bytes ≡ Err d → BitmapRefuses bytes side (bitmap_code d)
+steps_refuse : (side : ℕ) (bytes : List ℕ) → RefusesAs bitmap_code (bitmap_at side bytes) (Steps side bytes)
 unfolding bitmap_at
-bitmap_refused side bytes d lt e =
-    elim (bind_err (bitmap_head_at side bytes) (λ h. pixels_from h.0 (plain_at pixel_at (h.0.height * h.0.width) h.1)) d e) [
-      | inl f ↦ head_refused side bytes d lt f
-      | inr a ↦
-          let h = a.0.0 in
-          let r = head_read side bytes a.0 lt a.1 in
-          elim (bind_err (plain_at pixel_at (h.height * h.width) a.0.1) (λ xs. shown (raster h.width h.height xs)) d a.2) [
-            | inl f ↦
-                let p = pixels_err (h.height * h.width) a.0.1 d f in
-                let same = same_code (h.height * h.width) a.0.1 d p in
-                subst (λ (k : Code). BitmapRefuses bytes side k) same (bad_pixels h a.0.1 (code_of d) r.begins r.sides p)
-            | inr x ↦ absurd (let clash : shown (raster h.width h.height x.0) ≡ bad d = x.2 in cc)
-          ]
+steps_refuse side bytes =
+    refuses-then bitmap_code (bitmap_head_at side bytes) (λ h. pixels_from h.0 (plain_at pixel_at (h.0.height * h.0.width) h.1)) (HeadSteps side bytes) (λ h. PlainRefuses IsPixel 1 (h.0.height * h.0.width) h.1) (head_refuses side bytes)
+    (λ h read. let n = h.0.height * h.0.width in
+    refuses-view bitmap_code (plain_at pixel_at n h.1) (λ xs. raster h.0.width h.0.height xs) (PlainRefuses IsPixel 1 n h.1)
+    (refuses-renamed code_of bitmap_code (plain_at pixel_at n h.1) (PlainRefuses IsPixel 1 n h.1) (pixels_refuses n h.1) (same_code n h.1)))
+
+pub bitmap_refuses : (side : ℕ) (bytes : List ℕ) → side < 4294967296 → RefusesAs bitmap_code (bitmap_at side bytes) (BitmapRefuses bytes side)
+bitmap_refuses side bytes lt = refuses-like bitmap_code (bitmap_at side bytes) (Steps side bytes) (BitmapRefuses bytes side) (steps_refuse side bytes) to from
+  where
+    to : (c : Code) → Steps side bytes c → BitmapRefuses bytes side c
+    to c (inl (inl (is, none))) = subst (BitmapRefuses bytes side) is (not_plain (λ has. none (PlainBits, has.0) (magic_found PlainBits bytes has)))
+    to c (inl (inr (m, found, inl (is, none)))) =
+        subst (BitmapRefuses bytes side) is
+        (not_plain (λ has. none tt (ap plain_only (first_is (magic_at bytes) m (PlainBits, has.0) found (magic_found PlainBits bytes has)) ∙ only_ok)))
+    to c (inl (inr (m, found, inr (u, plain, inl (is, none))))) =
+        let same = only_plain m.0 u plain in
+        subst (BitmapRefuses bytes side) is
+        (no_header (m.1, subst (λ (k : Format). bytes ≡ magic k ++ m.1) same (magic_parts bytes m found)) (λ h pixels b. none (capped h, pixels) (begun_read bytes pixels h b.begins)))
+    to c (inl (inr (m, found, inr (u, plain, inr (h, read, inl (is, none)))))) =
+        let parts = head_parts bytes h read in
+        let begins = plain_begins bytes h.1 parts.head m parts.begins found (only_plain m.0 u plain) in
+        subst (BitmapRefuses bytes side) is
+        (bad_sides parts.head h.1 begins (λ s.
+        let small = fit_cap side parts.head lt begins.format (begun_maxval bytes h.1 parts.head parts.begins) s in
+        none tt (ap (side_limits side) (parts.is_capped ∙ small) ∙ sides_taken side parts.head s)))
+    to c (inl (inr (m, found, inr (u, plain, inr (h, read, inr (l, fine, none)))))) = absurd none
+    to c (inr (h, read, r)) = let found = head_read side bytes h lt read in bad_pixels h.0 h.1 c found.begins found.sides r
+
+    from : (c : Code) → BitmapRefuses bytes side c → Steps side bytes c
+    from c (not_plain none) = elim (either (magic_at bytes)) [
+      | inl m ↦ inl (inr (m.0, m.1, inl (refl, λ u e. none (m.0.1, subst (λ (k : Format). bytes ≡ magic k ++ m.0.1) (only_plain m.0.0 u e) (magic_parts bytes m.0 m.1)))))
+      | inr d ↦ inl (inl (refl, λ m is. no_both (magic_at bytes) m d.0 is d.1))
     ]
+    from c (no_header has none) =
+        let found = magic_found PlainBits bytes has in
+        inl (inr ((PlainBits, has.0), found, inr (tt, only_ok, inl (refl, λ h read. let p = head_parts bytes h read in none p.head h.1 (plain_begins bytes h.1 p.head (PlainBits, has.0) p.begins found refl)))))
+    from c (bad_sides h pixels b none) =
+        let m = begun_plain bytes pixels h b in
+        inl (inr ((PlainBits, m.0), m.1, inr (tt, only_ok, inr ((capped h, pixels), begun_read bytes pixels h b.begins, inl (refl, λ u fine. none (sides_ok side h u lt fine))))))
+    from c (bad_pixels h pixels k b s r) = inr ((h, pixels), head_is_read side bytes pixels h lt b s, r)
 
 pub bitmap_memory : (bytes : List ℕ) (side : ℕ) → BitmapRefuses bytes side code.Memory → ⊥
 bitmap_memory bytes side (bad_pixels h pixels c b s r) = plain_memory IsPixel 1 (h.height * h.width) pixels r
 
--- ---- a refusal is the fault that reading meets
-
-abbrev pub MeetsBitmap : {A : Type 0} → Code → Result A ReadFault → Type 0
-MeetsBitmap c read = (d : ReadFault) × (bitmap_code d ≡ c) × (read ≡ Err d)
-
-magic_bad : (side : ℕ) (bytes : List ℕ) (d : ReadFault) → magic_at bytes ≡ Err d → bitmap_at side bytes ≡ Err d
-unfolding bitmap_at bitmap_head_at
-magic_bad side bytes d e = rw e refl
-
-format_bad : (side : ℕ) (bytes : List ℕ) (m : Format × List ℕ) → magic_at bytes ≡ Ok m → plain_only m.0 ≡ Err Magic → bitmap_at side bytes ≡ Err Magic
-unfolding bitmap_at bitmap_head_at
-format_bad side bytes m e f = rw (e, f) refl
-
-header_bad : (side : ℕ) (bytes rest : List ℕ) (d : ReadFault) → magic_at bytes ≡ Ok (PlainBits, rest) → head_at bytes ≡ Err d → bitmap_at side bytes ≡ Err d
-unfolding bitmap_at bitmap_head_at
-header_bad side bytes rest d e f = rw (e, only_ok, f) refl
-
-sides_bad : (side : ℕ) (bytes rest pixels : List ℕ) (h : Head) (d : ReadFault) → magic_at bytes ≡ Ok (PlainBits, rest) → head_at bytes ≡ Ok (h, pixels) → side_limits side h ≡ Err d → bitmap_at side bytes ≡ Err d
-unfolding bitmap_at bitmap_head_at
-sides_bad side bytes rest pixels h d e f g = rw (e, only_ok, f, g) refl
-
-pixels_bad : (side : ℕ) (bytes pixels : List ℕ) (h : Head) (d : ReadFault) → bitmap_head_at side bytes ≡ Ok (h, pixels) → plain_at pixel_at (h.height * h.width) pixels ≡ Err d → bitmap_at side bytes ≡ Err d
-unfolding bitmap_at
-pixels_bad side bytes pixels h d e f = rw (e, f) refl
-
-not_plain_read : (side : ℕ) (bytes : List ℕ) → ¬ HasMagic PlainBits bytes → bitmap_at side bytes ≡ Err Magic
-not_plain_read side bytes none =
-    elim (either (magic_at bytes)) [
-      | inl m ↦ format_bad side bytes m.0 m.1 (not_only m.0.0 (λ plain. none (m.0.1, subst (λ (k : Format). bytes ≡ magic k ++ m.0.1) plain (magic_parts bytes m.0 m.1))))
-      | inr d ↦ magic_bad side bytes d.0 d.1 ∙ ap (λ (k : ReadFault). bad k) (sym (magic_err bytes d.0 d.1))
-    ]
-
-no_header_bad : (side : ℕ) (bytes : List ℕ) → HasMagic PlainBits bytes → ((h : Head) (pixels : List ℕ) → ¬ BeginsBitmap bytes h pixels) → bitmap_at side bytes ≡ Err Header
-no_header_bad side bytes has none =
-    let m = plain_magic bytes has.0 has.1 in
-    header_bad side bytes has.0 Header m (no_header_read bytes PlainBits has (λ h pixels b. none h pixels (plain_begins bytes pixels h (PlainBits, has.0) b m refl)))
-
-pub bitmap_refusal_read : (side : ℕ) (bytes : List ℕ) (c : Code) → side < 4294967296 → BitmapRefuses bytes side c → MeetsBitmap c (bitmap_at side bytes)
-bitmap_refusal_read side bytes c lt (not_plain none) = (Magic, refl, not_plain_read side bytes none)
-bitmap_refusal_read side bytes c lt (no_header has none) = (Header, refl, no_header_bad side bytes has none)
-bitmap_refusal_read side bytes c lt (bad_sides h pixels b none) =
-    let m = begun_plain bytes pixels h b in
-    (Size, refl, sides_bad side bytes m.0 pixels (capped h) Size m.1 (begun_read bytes pixels h b.begins) (sides_refused side h lt none))
-bitmap_refusal_read side bytes c lt (bad_pixels h pixels k b s r) =
-    let x = plain_none pixel_at IsPixel 1 reads_pixels (h.height * h.width) pixels c r in
-    let same = same_code (h.height * h.width) pixels x.0 (subst (λ (j : Code). PlainRefuses IsPixel 1 (h.height * h.width) pixels j) (sym x.1) r) in
-    (x.0, sym same ∙ x.1, pixels_bad side bytes pixels h x.0 (head_is_read side bytes pixels h lt b s) x.2)
-
 pub one_bitmap : (bytes : List ℕ) (side : ℕ) (f g : Raster ℕ) → side < 4294967296 → IsBitmap bytes side f → IsBitmap bytes side g → f ≡ g
 one_bitmap bytes side f g lt a b = ok_is f g (sym (bitmap_read side bytes f lt a) ∙ bitmap_read side bytes g lt b)
 
-bad_is : {A : Type 0} (c d : ReadFault) → bad {A = A} c ≡ bad d → c ≡ d
-bad_is c d e = cc
-
 pub one_bitmap_refusal : (bytes : List ℕ) (side : ℕ) (c d : Code) → side < 4294967296 → BitmapRefuses bytes side c → BitmapRefuses bytes side d → c ≡ d
-one_bitmap_refusal bytes side c d lt p q =
-    let x = bitmap_refusal_read side bytes c lt p in
-    let y = bitmap_refusal_read side bytes d lt q in
-    sym x.1 ∙ ap bitmap_code (bad_is {A = Raster ℕ} x.0 y.0 (sym x.2 ∙ y.2)) ∙ y.1
+one_bitmap_refusal bytes side c d lt p q = one_code bitmap_code (bitmap_at side bytes) (BitmapRefuses bytes side) (bitmap_refuses side bytes lt) c d p q
 
 pub refusal_or_bitmap : (bytes : List ℕ) (side : ℕ) (c : Code) (f : Raster ℕ) → side < 4294967296 → BitmapRefuses bytes side c → IsBitmap bytes side f → ⊥
-refusal_or_bitmap bytes side c f lt r is =
-    let x = bitmap_refusal_read side bytes c lt r in
-    no_both (bitmap_at side bytes) f x.0 (bitmap_read side bytes f lt is) x.2
+refusal_or_bitmap bytes side c f lt r is = code_or_value bitmap_code (bitmap_at side bytes) (BitmapRefuses bytes side) (bitmap_refuses side bytes lt) c f r (bitmap_read side bytes f lt is)
 
 -- ---- the facts of a scan
 
 abbrev facts_with : Raster ℕ → ℕ → BitmapFacts
 facts_with f n = record { width = f.width; height = f.height; ones = n }
-
-abbrev facts_ok : BitmapFacts → Result BitmapFacts ReadFault
-facts_ok x = Ok x
 
 -- a scan gives the facts of what is read
 abbrev facts_from : Result (Raster ℕ) ReadFault → Result BitmapFacts ReadFault
@@ -392,14 +335,11 @@ scan_only side bytes f lt is =
 
 pub scan_refuses : (side : ℕ) (bytes : List ℕ) (d : ReadFault) → side < 4294967296 → Err d ≡ facts_at side bytes → BitmapRefuses bytes side (bitmap_code d)
 scan_refuses side bytes d lt e =
-    elim (bind_err (bitmap_at side bytes) (λ f. facts_ok (facts_with f (count_by (λ s. s == 1) f.cells))) d (sym (facts_read side bytes) ∙ sym e)) [
-      | inl f ↦ bitmap_refused side bytes d lt f
-      | inr x ↦ absurd (let clash : facts_ok (facts_with x.0 (count_by (λ s. s == 1) x.0.cells)) ≡ bad d = x.2 in cc)
-    ]
+    (refuses-view bitmap_code (bitmap_at side bytes) (λ f. facts_with f (count_by (λ s. s == 1) f.cells)) (BitmapRefuses bytes side) (bitmap_refuses side bytes lt)).refused d (sym (facts_read side bytes) ∙ sym e)
 
 read_fails : (e : ReadFault) (side : ℕ) (bytes : List ℕ) (r : Result (Raster ℕ) ReadFault) → side < 4294967296 → bitmap_at side bytes ≡ r → Fails e r → (as_bitmap e ≡ bitmap.NoMemory → ⊥) → BitmapRefuses bytes side (bitmap_code e)
 read_fails NoMemory side bytes r lt s f n = absurd (n refl)
-read_fails e side bytes r lt s f n = bitmap_refused side bytes e lt (s ∙ f)
+read_fails e side bytes r lt s f n = (bitmap_refuses side bytes lt).refused e (s ∙ f)
 
 pub read_refuses : (e : ReadFault) (side : ℕ) (bytes : List ℕ) → side < 4294967296 → Fails e (bitmap_at side bytes) → as_bitmap e ≢ bitmap.NoMemory → BitmapRefuses bytes side (bitmap_code e)
 read_refuses e side bytes lt f n = read_fails e side bytes (bitmap_at side bytes) lt refl f n
@@ -411,7 +351,7 @@ memory_only e h = absurd cc
 memory_found : (side : ℕ) (bytes : List ℕ) (r : Result (Raster ℕ) ReadFault) → side < 4294967296 → bitmap_at side bytes ≡ r → Fails NoMemory r → (f : Raster ℕ) × IsBitmap bytes side f
 memory_found side bytes (Ok f) lt s h = (f, read_bitmap side bytes f lt s)
 memory_found side bytes (Err d) lt s (inl h) = absurd (let clash : false ≡ true = h in cc)
-memory_found side bytes (Err d) lt s (inr h) = absurd (bitmap_memory bytes side (bitmap_refused side bytes NoMemory lt (s ∙ h)))
+memory_found side bytes (Err d) lt s (inr h) = absurd (bitmap_memory bytes side ((bitmap_refuses side bytes lt).refused NoMemory (s ∙ h)))
 
 pub read_memory : (e : ReadFault) (side : ℕ) (bytes : List ℕ) → side < 4294967296 → Fails e (bitmap_at side bytes) → as_bitmap e ≡ bitmap.NoMemory → (f : Raster ℕ) × IsBitmap bytes side f
 read_memory e side bytes lt f same = memory_found side bytes (bitmap_at side bytes) lt refl (subst (λ k. Fails k (bitmap_at side bytes)) (memory_only e same) f)

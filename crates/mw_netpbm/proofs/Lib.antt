@@ -13,6 +13,7 @@ mod Headers
 mod Lanes
 mod Made
 mod Masks
+mod Outcomes
 mod Packing
 mod Pixels
 mod PlainLoop

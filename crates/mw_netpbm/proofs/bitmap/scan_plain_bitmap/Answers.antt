@@ -5,7 +5,7 @@ use Rattle.mw_netpbm.specs.declared.bitmap.BitmapFacts.{BitmapFacts}
 use Rattle.mw_netpbm.specs.declared.fault.BitmapFault.{BitmapFault}
 use Rattle.mw_netpbm.specs.Faults.{bitmap_code_of, facts_of}
 use Rattle.mw_netpbm.proofs.Bitmaps.{scan_finds, scan_only, scan_refuses}
-use Rattle.mw_netpbm.proofs.Refused.{no_both}
+use Rattle.mw_netpbm.proofs.Outcomes.{no_both}
 use Rattle.mw_netpbm.proofs.Sides.{ok_is}
 use Rattle.mw_netpbm.specs.Faults.{facts_at}
 use Rattle.mw_netpbm.proofs.bitmap.scan_plain_bitmap.Goals as goal
