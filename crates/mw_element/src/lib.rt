@@ -17,6 +17,3 @@ mod parsing;
 pub use element::Element;
 pub use fault::ElementFault;
 pub use mw_model::{NoMemory, Offset, OffsetBox, Reach};
-
-#[cfg(test)]
-mod tests;

@@ -237,25 +237,44 @@ impl Desk {
         Ok(())
     }
 
+    fn last_item(&self) -> Option<LogItem> {
+        let items = self.core.log_len();
+        if items > 0 {
+            Some(self.core.log_at(items - 1))
+        } else {
+            None
+        }
+    }
+
+    fn left(&self, t: u32) -> Option<u64> {
+        self.core.remaining(t)
+    }
+
     /// A ticket was killed for want of memory. The log tells it last, and nothing of it is left.
     fn killed(&self, rt: &impl Abort, t: u32) -> Result<(), Stop> {
-        let items = self.core.log_len();
-        assert!(rt; items > 0);
-        assert_eq!(rt; self.core.log_at(items - 1), LogItem::Killed(t));
-        assert_eq!(rt; self.core.remaining(t), None);
+        assert_eq!(rt; self.last_item(), Some(LogItem::Killed(t)));
+        assert_eq!(rt; self.left(t), None);
         Err(Stop::Killed)
     }
 
+    fn keep(&mut self, rt: &impl Abort, work: Work, ticket: u32) -> Result<(), Stop> {
+        assert_eq!(rt; work.task().ticket, ticket);
+        Ok(self.taken.push(work)?)
+    }
+
+    fn is_refused(&self, rt: &impl Abort, t: u32, ticket: u32) -> Result<(), Stop> {
+        assert_eq!(rt; t, ticket);
+        self.killed(rt, t)
+    }
+
+    fn started(&mut self, place: u64) -> Started {
+        self.core.start(place)
+    }
+
     fn take(&mut self, rt: &impl Abort, place: u64, ticket: u32) -> Result<(), Stop> {
-        match self.core.start(place) {
-            Started::Work(work) => {
-                assert_eq!(rt; work.task().ticket, ticket);
-                Ok(self.taken.push(work)?)
-            }
-            Started::Refused(t) => {
-                assert_eq!(rt; t, ticket);
-                self.killed(rt, t)
-            }
+        match self.started(place) {
+            Started::Work(work) => self.keep(rt, work, ticket),
+            Started::Refused(t) => self.is_refused(rt, t, ticket),
             Started::Idle => Err(Stop::List),
         }
     }
@@ -315,13 +334,13 @@ impl Desk {
             Turn::Call(ask, wanted) => self.call(rt, ask, *wanted)?,
             Turn::Fetch(text, wanted, bytes) => self.fetch(rt, text, *wanted, bytes)?,
             Turn::Take(place, ticket) => self.take(rt, *place, *ticket)?,
-            Turn::Rest => assert!(rt; matches!(self.core.start(0), Started::Idle)),
+            Turn::Rest => assert!(rt; matches!(self.started(0), Started::Idle)),
             Turn::Bring(wanted) => self.bring(rt, *wanted)?,
             Turn::ByHand(ticket, samples, wanted) => {
                 self.bring_by_hand(rt, *ticket, samples, *wanted)?;
             }
             Turn::Tasks(ready, running) => self.tasks(rt, *ready, *running),
-            Turn::Left(ticket, left) => assert_eq!(rt; self.core.remaining(*ticket), *left),
+            Turn::Left(ticket, left) => assert_eq!(rt; self.left(*ticket), *left),
             Turn::Keeps(ticket, keeps) => assert_eq!(rt; self.core.keeps(*ticket), *keeps),
             Turn::Logged(place, item) => self.item(rt, *place, *item),
         }

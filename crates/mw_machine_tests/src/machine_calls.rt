@@ -138,27 +138,47 @@ fn is_in_want(answer: &Answer) -> bool {
     )
 }
 
-/// What the last event is handed, where all answers before it are as they are to be.
-fn handed_last(answers: &[Answer]) -> Option<&Fetched> {
-    match answers {
-        [
-            Answer::Finish(Finish::Stranger),
-            Answer::Started(Started::Work(_)),
-            Answer::Reply(Reply::Accepted(0)),
-            Answer::Finish(Finish::Settled(2)),
-            Answer::Reply(Reply::Released(0)),
-            Answer::Fetched(fetched),
-        ] => Some(fetched),
+fn finish_of(answer: Option<&Answer>) -> Option<Finish> {
+    match answer {
+        Some(Answer::Finish(finish)) => Some(*finish),
         _ => None,
     }
 }
 
+fn reply_of(answer: Option<&Answer>) -> Option<Reply> {
+    match answer {
+        Some(Answer::Reply(reply)) => Some(*reply),
+        _ => None,
+    }
+}
+
+fn is_work(answer: Option<&Answer>) -> bool {
+    matches!(answer, Some(Answer::Started(Started::Work(_))))
+}
+
+fn fetched_of(answer: Option<&Answer>) -> Option<&Fetched> {
+    match answer {
+        Some(Answer::Fetched(fetched)) => Some(fetched),
+        _ => None,
+    }
+}
+
+/// All answers but the last are as they are to be.
+fn are_answers(rt: &impl Abort, answers: &[Answer]) {
+    assert_eq!(rt; answers.len(), 6);
+    assert_eq!(rt; finish_of(answers.get(0)), Some(Finish::Stranger));
+    assert!(rt; is_work(answers.get(1)));
+    assert_eq!(rt; reply_of(answers.get(2)), Some(Reply::Accepted(0)));
+    assert_eq!(rt; finish_of(answers.get(3)), Some(Finish::Settled(2)));
+    assert_eq!(rt; reply_of(answers.get(4)), Some(Reply::Released(0)));
+}
+
 /// The last event was handed what the list makes of the row, where all answers before it are as they are to be.
 fn hands_the_eroded_row(rt: &impl Abort, alloc: Global, answers: &[Answer]) -> Result<(), Stop> {
-    let fetched = handed_last(answers).ok_or(Stop::List)?;
+    are_answers(rt, answers);
+    let fetched = fetched_of(answers.get(5)).ok_or(Stop::List)?;
     assert_eq!(rt; fetched.reply, Reply::Shown(2));
-    let text = text_of(alloc, &fetched.value)?;
-    assert_eq!(rt; text.as_slice(), ERODED);
+    assert!(rt; text_of(alloc, &fetched.value)?.as_slice() == ERODED);
     Ok(())
 }
 
@@ -186,16 +206,26 @@ fn lists_of_events_are_served(rt: HostRuntime) -> Result<(), Fail> {
     Ok(())
 }
 
+fn held_core(alloc: Global) -> Result<Held, Fail> {
+    match Held::new(alloc, 128) {
+        Err(NoMemory) => Ok(Held::new(alloc, 128)?),
+        Ok(held) => Ok(held),
+    }
+}
+
+fn status(held: &mut Held, name: Name) -> Answer {
+    held.serve(Event::Status(name))
+}
+
+fn start(held: &mut Held) -> Answer {
+    held.serve(Event::Start(0))
+}
+
 #[test]
 fn a_held_core_serves_events(rt: HostRuntime) -> Result<(), Fail> {
-    let alloc = rt.alloc();
-    let mut held = match Held::new(alloc, 128) {
-        Err(NoMemory) => Held::new(alloc, 128)?,
-        Ok(held) => held,
-    };
-    let first = held.serve(Event::Status(name(b"f")?));
-    assert!(rt; matches!(first, Answer::Reply(Reply::Refused(Code::Unknown))));
-    let second = held.serve(Event::Start(0));
-    assert!(rt; matches!(second, Answer::Started(Started::Idle)));
+    let mut held = held_core(rt.alloc())?;
+    let unknown = Some(Reply::Refused(Code::Unknown));
+    assert_eq!(rt; reply_of(Some(&status(&mut held, name(b"f")?))), unknown);
+    assert!(rt; matches!(start(&mut held), Answer::Started(Started::Idle)));
     Ok(())
 }

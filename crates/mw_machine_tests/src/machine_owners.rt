@@ -22,19 +22,25 @@ fn others(share: &SharedView) -> usize {
 }
 
 /// How many own the plane of an image that is kept; None where no other can own it.
-fn owners(desk: &mut Desk, text: &[u8]) -> Result<Option<usize>, Stop> {
+type Owners = Option<usize>;
+
+fn owners_of(value: &Shown) -> Result<Owners, Stop> {
+    match value {
+        Shown::Image(plate) => match plate.image().shared() {
+            Some(share) => Ok(Some(others(&share))),
+            None => Ok(None),
+        },
+        Shown::Nothing => Err(Stop::List),
+    }
+}
+
+fn owners(desk: &mut Desk, text: &[u8]) -> Result<Owners, Stop> {
     let name = name(text)?;
     let fetched = match desk.core.fetch(name) {
         Err(NoMemory) => desk.core.fetch(name)?,
         Ok(fetched) => fetched,
     };
-    match &fetched.value {
-        Shown::Image(plate) => Ok(match plate.image().shared() {
-            Some(share) => Some(others(&share)),
-            None => None,
-        }),
-        Shown::Nothing => Err(Stop::List),
-    }
+    owners_of(&fetched.value)
 }
 
 const TAKEN: &[Turn] = &[
@@ -47,27 +53,35 @@ const BROUGHT: &[Turn] = &[
     Turn::Fetch(b"e", Reply::Shown(2), ERODED),
 ];
 
-/// The owners of the row before a task takes it, while the task runs and when its result is brought, and those of the
-/// result. The result is the same whether the task owns the row's plane or a copy.
-fn owners_in_turn(rt: &impl Abort, alloc: Global) -> Result<[Option<usize>; 4], Stop> {
-    let mut desk = Desk::new(rt, alloc, ROW)?;
-    let before = owners(&mut desk, b"f")?;
+/// The owners of the row before a task takes it, and while the task runs.
+fn owners_while_taken(rt: &impl Abort, desk: &mut Desk) -> Result<(Owners, Owners), Stop> {
+    let before = owners(desk, b"f")?;
     desk.play(rt, TAKEN)?;
-    let during = owners(&mut desk, b"f")?;
+    Ok((before, owners(desk, b"f")?))
+}
+
+/// The owners of the row when the task's result is brought, and those of the result.
+fn owners_once_brought(rt: &impl Abort, desk: &mut Desk) -> Result<(Owners, Owners), Stop> {
     desk.play(rt, BROUGHT)?;
-    let after = owners(&mut desk, b"f")?;
-    Ok([before, during, after, owners(&mut desk, b"e")?])
+    let after = owners(desk, b"f")?;
+    Ok((after, owners(desk, b"e")?))
+}
+
+/// Whether the row has one owner, and a second while the task runs. The result is the same whether the task owns the row's
+/// plane or a copy.
+fn are_owned_in_turn(rt: &impl Abort, alloc: Global) -> Result<bool, Stop> {
+    let mut desk = Desk::new(rt, alloc, ROW)?;
+    let first = owners_while_taken(rt, &mut desk)?;
+    let then = owners_once_brought(rt, &mut desk)?;
+    Ok(first == (Some(1), Some(2)) && then == (Some(1), Some(1)))
 }
 
 #[test]
 fn tasks_own_the_planes_of_their_sources(rt: HostRuntime) -> Result<(), Fail> {
     let alloc = rt.alloc();
-    let shared = [Some(1), Some(2), Some(1), Some(1)];
-    let seen = match owners_in_turn(&rt, alloc) {
-        Ok(seen) if seen == shared => seen,
-        _ => owners_in_turn(&rt, alloc)?,
-    };
-    assert_eq!(rt; seen, shared);
+    if !matches!(are_owned_in_turn(&rt, alloc), Ok(true)) {
+        assert!(rt; are_owned_in_turn(&rt, alloc)?);
+    }
     Ok(())
 }
 
@@ -77,25 +91,33 @@ const TAKEN_IN_TURN: &[Turn] = &[
     Turn::Take(0, 3),
 ];
 
-/// The owners of the row and of what was made of it, each while a task runs that took it before anyone fetched it, and
-/// those of the row when its task is through.
-fn owners_before_a_fetch(rt: &impl Abort, alloc: Global) -> Result<[Option<usize>; 3], Stop> {
-    let mut desk = Desk::new(rt, alloc, ROW)?;
+/// The owners of the row while a task runs that took it before anyone fetched it.
+fn owners_of_the_row(rt: &impl Abort, desk: &mut Desk) -> Result<Owners, Stop> {
     desk.play(rt, TAKEN)?;
-    let row = owners(&mut desk, b"f")?;
+    owners(desk, b"f")
+}
+
+/// The owners of what was made of the row, while a task runs that took that before anyone fetched it, and those of the row
+/// when its task is through.
+fn owners_of_what_was_made(rt: &impl Abort, desk: &mut Desk) -> Result<(Owners, Owners), Stop> {
     desk.play(rt, TAKEN_IN_TURN)?;
-    let made = owners(&mut desk, b"e")?;
-    Ok([row, made, owners(&mut desk, b"f")?])
+    let made = owners(desk, b"e")?;
+    Ok((made, owners(desk, b"f")?))
+}
+
+/// Whether the first START of a plane made it shareable.
+fn are_owned_before_a_fetch(rt: &impl Abort, alloc: Global) -> Result<bool, Stop> {
+    let mut desk = Desk::new(rt, alloc, ROW)?;
+    let row = owners_of_the_row(rt, &mut desk)?;
+    let then = owners_of_what_was_made(rt, &mut desk)?;
+    Ok(row == Some(2) && then == (Some(2), Some(1)))
 }
 
 #[test]
 fn the_first_start_makes_a_plane_shareable(rt: HostRuntime) -> Result<(), Fail> {
     let alloc = rt.alloc();
-    let shared = [Some(2), Some(2), Some(1)];
-    let seen = match owners_before_a_fetch(&rt, alloc) {
-        Ok(seen) if seen == shared => seen,
-        _ => owners_before_a_fetch(&rt, alloc)?,
-    };
-    assert_eq!(rt; seen, shared);
+    if !matches!(are_owned_before_a_fetch(&rt, alloc), Ok(true)) {
+        assert!(rt; are_owned_before_a_fetch(&rt, alloc)?);
+    }
     Ok(())
 }

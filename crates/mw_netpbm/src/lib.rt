@@ -24,6 +24,3 @@ pub use fault::{BitmapFault, ReadFault};
 pub use mw_model::NoMemory;
 pub use reader::{read, read_owned};
 pub use writer::{Text, parts, write};
-
-#[cfg(test)]
-mod tests;

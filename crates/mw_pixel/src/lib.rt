@@ -27,6 +27,3 @@ pub use min::Min;
 pub use mw_model::{Kind, NoMemory, Shape};
 pub use pixel::Pixel;
 pub use plane::{Plane, copies};
-
-#[cfg(test)]
-mod tests;
