@@ -80,32 +80,70 @@ fn inputs_of_the_wrong_kind_by_place(rt: HostRuntime) -> Result<(), Fail> {
     Ok(())
 }
 
-#[test]
-fn the_first_fault_is_told(rt: HostRuntime) -> Result<(), Fail> {
+/// Stops where a rank filter of this number by the element is not refused so.
+fn rank_refused(
+    rt: &impl Abort,
+    k: u32,
+    element: &Arc<Element>,
+    fault: PlanFault,
+    code: u16,
+) -> Result<(), Fail> {
     let n = name()?;
+    let op = Op::Flat(FlatOp::Rank(n, n, k));
+    let inputs = (GREY, Input::Element(element), Input::Absent);
+    refused(rt, op, inputs, fault, code);
+    Ok(())
+}
+
+#[test]
+fn no_origin_before_a_number(rt: HostRuntime) -> Result<(), Fail> {
     let b = bar(rt.alloc())?;
     let r = right(rt.alloc())?;
-    let bar = Input::Element(&b);
-    let right = Input::Element(&r);
-    let none = Input::Absent;
-    let rank = |k: u32| Op::Flat(FlatOp::Rank(n, n, k));
-    refused(&rt, rank(0), (GREY, right, none), PlanFault::NoOrigin, 45);
-    refused(&rt, rank(0), (GREY, bar, none), PlanFault::Param, 47);
-    refused(&rt, rank(4), (GREY, bar, none), PlanFault::Param, 47);
-    let skeleton = |levels: u32| Op::Gran(GranOp::Skeleton(n, n, levels));
-    refused(&rt, skeleton(0), (GREY, right, none), PlanFault::Binary, 44);
-    refused(
-        &rt,
-        skeleton(0),
-        (SET, right, none),
-        PlanFault::NoOrigin,
-        45,
-    );
-    refused(&rt, skeleton(255), (SET, bar, none), PlanFault::Param, 47);
-    let hit_miss = Op::Flat(FlatOp::HitMiss(n, n, n));
-    refused(&rt, hit_miss, (GREY, bar, bar), PlanFault::Overlap, 46);
-    let threshold = Op::Flat(FlatOp::Threshold(n, 65536));
-    refused(&rt, threshold, (GREY, none, none), PlanFault::Param, 47);
+    rank_refused(&rt, 0, &r, PlanFault::NoOrigin, 45)?;
+    rank_refused(&rt, 0, &b, PlanFault::Param, 47)?;
+    rank_refused(&rt, 4, &b, PlanFault::Param, 47)
+}
+
+/// Stops where a skeleton of the image by the element is not refused so.
+fn skeleton_refused(
+    rt: &impl Abort,
+    levels: u32,
+    image: Input<'_>,
+    element: &Arc<Element>,
+    fault: PlanFault,
+    code: u16,
+) -> Result<(), Fail> {
+    let n = name()?;
+    let op = Op::Gran(GranOp::Skeleton(n, n, levels));
+    let inputs = (image, Input::Element(element), Input::Absent);
+    refused(rt, op, inputs, fault, code);
+    Ok(())
+}
+
+#[test]
+fn no_set_before_no_origin(rt: HostRuntime) -> Result<(), Fail> {
+    let b = bar(rt.alloc())?;
+    let r = right(rt.alloc())?;
+    skeleton_refused(&rt, 0, GREY, &r, PlanFault::Binary, 44)?;
+    skeleton_refused(&rt, 0, SET, &r, PlanFault::NoOrigin, 45)?;
+    skeleton_refused(&rt, 255, SET, &b, PlanFault::Param, 47)
+}
+
+#[test]
+fn elements_that_share_an_offset(rt: HostRuntime) -> Result<(), Fail> {
+    let n = name()?;
+    let b = bar(rt.alloc())?;
+    let op = Op::Flat(FlatOp::HitMiss(n, n, n));
+    let inputs = (GREY, Input::Element(&b), Input::Element(&b));
+    refused(&rt, op, inputs, PlanFault::Overlap, 46);
+    Ok(())
+}
+
+#[test]
+fn a_level_over_all_levels(rt: HostRuntime) -> Result<(), Fail> {
+    let op = Op::Flat(FlatOp::Threshold(name()?, 65536));
+    let inputs = (GREY, Input::Absent, Input::Absent);
+    refused(&rt, op, inputs, PlanFault::Param, 47);
     Ok(())
 }
 
