@@ -1,11 +1,12 @@
 -- The command line of the program (own): what clap is to read of it, and which job its words ask for.
-use Rattle.std.specs.Prelude.{◌≡◌, ◌≤◌, ◌<◌, ◌^◌, ◌%◌, ℕ, Bool, true, false, if◌then◌else◌, List, [], ◌∷◌, Option, Some, None, codes, option_and_then, pos}
+use Rattle.std.specs.Prelude.{◌≡◌, ◌<◌, ◌^◌, ℕ, Bool, true, false, if◌then◌else◌, List, [], ◌∷◌, Option, Some, None, codes, option_and_then, pos}
 use Rattle.std.specs.Str.Parse.{IsNumeral, digits_value, without_leading_plus}
 use Rattle.clap.specs.Words.{App, IsAmong, Row, Rule, Text, fault_of, kind_of, new_app, new_rule, one_of, subcommand_of, with_rule, with_subcommand}
 use Rattle.clap.specs.Simple.{on_top}
 use Rattle.clap.specs.declared.builder.value_parser.ValueParser.TheVariants as parser
 use Rattle.clap.specs.declared.error.kind.ErrorKind.{ErrorKind}
 use Rattle.clap.specs.declared.error.kind.ErrorKind.TheVariants as kind
+use Rattle.mw_batch.specs.Batches.{IsTileSide}
 use Rattle.mw_cli.specs.declared.line.Job.{Job}
 use Rattle.mw_cli.specs.declared.line.Job.TheVariants as job
 use Rattle.mw_cli.specs.declared.fault.LineFault.{LineFault}
@@ -24,9 +25,9 @@ tile_option = record (new_rule (codes "tile")) {
 abbrev pub batch_words : App
 batch_words = with_rule (new_app (codes "batch")) tile_option
 
--- `morphd`, and then one of its jobs
+-- `morphd`, and then one of its jobs; it has a version to show
 abbrev pub program_words : App
-program_words = with_subcommand (on_top (λ s. record s { subcommand_required = true }) (new_app (codes "morphd"))) batch_words.top
+program_words = with_subcommand (on_top (λ s. record s { has_version = true; subcommand_required = true }) (new_app (codes "morphd"))) batch_words.top
 
 -- clap takes the words
 abbrev pub AreTaken : List Text → Type 0
@@ -46,10 +47,6 @@ Writes None n = ⊥
 Writes (Some text) n =
     let digits = without_leading_plus text in
     IsNumeral 10 digits × (digits_value 10 digits < 2 ^ 32) × (n ≡ digits_value 10 digits)
-
--- tiles may have this side
-abbrev pub IsTileSide : ℕ → Type 0
-IsTileSide side = (64 ≤ side) × (side ≤ 1024) × (side % 64 ≡ 0)
 
 -- the text writes no side of tiles
 abbrev pub WritesNoSide : Option Text → Type 0

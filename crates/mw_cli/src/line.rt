@@ -2,7 +2,8 @@
 
 ghost use Rattle.std.specs.Prelude.{◌≡◌, ℕ, IfOk, IfErr, IfSome, None, map};
 ghost use Rattle.clap.specs.Words.{app_of, subcommand_rows_of};
-ghost use Rattle.mw_cli.specs.CommandLine.{IsAsked, IsNoText, IsRefused, IsTileSide, Writes, WritesNoSide, program_words, tile_in};
+ghost use Rattle.mw_batch.specs.Batches.{IsTileSide};
+ghost use Rattle.mw_cli.specs.CommandLine.{IsAsked, IsNoText, IsRefused, Writes, WritesNoSide, program_words, tile_in};
 ghost use Rattle.std.specs.String.{string_bytes};
 
 use crate::fault::LineFault;
@@ -12,6 +13,9 @@ use mw_tile::side_ok;
 use std::alloc::{Alloc, AllocError, Global};
 use std::env::{Env, args};
 use std::io;
+
+/// What `--version` shows.
+pub const VERSION: &str = "0.1.0";
 
 /// One whole session, shown by help.
 const EXAMPLE: &str = "\
@@ -62,6 +66,7 @@ fn command<'a>(alloc: Global) -> Result<Command<'a>, AllocError>
         .after_help(EXAMPLE)
         .arg(tile)?;
     Command::new(alloc, "morphd")
+        .version(VERSION)
         .about("Flat mathematical morphology of images, by scripts")
         .after_help(EXAMPLE)
         .subcommand_required(true)

@@ -42,7 +42,7 @@ only_append (item.Call c r ∷ xs) ys h k = absurd h
 only_append (item.Finished t ∷ xs) ys h k = only_append xs ys h k
 only_append (item.Killed t ∷ xs) ys h k = only_append xs ys h k
 
-kills_append : (xs ys : List LogItem) → killed_in (xs ++ ys) ≡ killed_in xs ++ killed_in ys
+pub kills_append : (xs ys : List LogItem) → killed_in (xs ++ ys) ≡ killed_in xs ++ killed_in ys
 kills_append [] ys = refl
 kills_append (item.Call c r ∷ xs) ys = kills_append xs ys
 kills_append (item.Finished t ∷ xs) ys = kills_append xs ys

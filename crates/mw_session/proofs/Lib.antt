@@ -1,8 +1,9 @@
 pub mod Turns
+pub mod Stops
+pub mod Rooms
 pub mod Working
 pub mod Finishing
 pub mod Readings
-pub mod Writing
 pub mod Sessions
 pub mod Totals
 pub mod Advancing

@@ -1,7 +1,7 @@
 //! Laws of sessions, over all logs and states.
 
 ghost use Rattle.std.specs.Prelude.{◌≡◌, ◌≢◌, ◌⊎◌, ◌++◌, [], ℕ, List, Option, true};
-ghost use Rattle.std.specs.Io.KnownBytes.{IsAtEnd};
+ghost use Rattle.std.specs.Io.KnownBytes.{Appends, IsAtEnd};
 ghost use Rattle.mw_model.specs.declared.calls.LogItem.{LogItem};
 ghost use Rattle.mw_model.specs.declared.codes.Code.TheVariants as Code;
 ghost use Rattle.mw_model.specs.declared.requests.End.{End};
@@ -9,7 +9,21 @@ ghost use Rattle.mw_model.specs.Machine.{Machine, Run};
 ghost use Rattle.mw_laws.specs.MachineLaws.{IsSound};
 ghost use Rattle.mw_model.specs.Scripts.{Turn, AreTurns, IsScript, IsBroken, Works};
 ghost use Rattle.mw_session.specs.Marks.{killed_in, kills_of, EndsInMemory, NoMarks, NoneSaysMemory, OnlyWork};
+ghost use Rattle.mw_session.specs.Runs.{Finished, LacksRoom, ShowsKills, Stopped};
 ghost use Rattle.mw_core.specs.Counts.{NonePending};
+ghost use Rattle.mw_wire.specs.declared.fault.SessionFault.{SessionFault};
+
+/// A session that has ended wrote the script of its bytes, and the kills of its turns are those of the log.
+pub fn finished_is_script()
+    ensures { (left : Option (List ℕ)) (bytes : List ℕ) (m n : Machine) (old new : List LogItem) (before after : Option (List ℕ)) (e : End) → Finished (LacksRoom bytes) left bytes m n old new before after e
+        → (turns : List Turn) × (text : List ℕ) × IsScript (IsAtEnd left) bytes turns m n text e × Appends before after text × ShowsKills turns old new }
+{}
+
+/// A session that a fault has stopped wrote a front of what belongs to its bytes.
+pub fn stopped_is_broken()
+    ensures { (left : Option (List ℕ)) (bytes : List ℕ) (m n : Machine) (old new : List LogItem) (before after : Option (List ℕ)) (f : SessionFault) → Stopped (LacksRoom bytes) left bytes m n old new before after f
+        → (turns : List Turn) × (text : List ℕ) × IsBroken (IsAtEnd left) bytes turns m n text × Appends before after text × ShowsKills turns old new }
+{}
 
 /// Without marks of memory the bytes and the state tell all: the text, the end, and the state that is left.
 pub fn one_output()

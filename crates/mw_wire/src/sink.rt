@@ -2,7 +2,7 @@
 
 ghost use Rattle.std.specs.Prelude.{◌≡◌, ◌<◌, ◌||◌, is_err, true, false, OnOk, OnErr, MatchResult};
 ghost use Rattle.std.specs.Io.KnownBytes.{Keeps, WriteAppends};
-ghost use Rattle.mw_session.specs.Writes.{Wrote};
+ghost use Rattle.mw_wire.specs.Writes.{Wrote};
 ghost use Rattle.std.specs.Io.{WritesAtMost};
 
 use crate::fault::SessionFault;
