@@ -1,5 +1,5 @@
 -- What a batch leaves behind (own).
-use Rattle.std.specs.Prelude.{◌≡◌, ◌≤◌, ◌%◌, ◌⊎◌, ℕ, Bool, true, List, [], Option, Result, Ok, Err, codes}
+use Rattle.std.specs.Prelude.{◌≡◌, ◌≤◌, ◌⊎◌, ℕ, Bool, true, List, [], Option, Result, Ok, Err, codes}
 use Rattle.std.specs.Io.KnownBytes.{Appends, Consumes, IsAtEnd}
 use Rattle.mw_model.specs.declared.calls.LogItem.{LogItem}
 use Rattle.mw_model.specs.declared.requests.End.{End}
@@ -11,10 +11,6 @@ use Rattle.mw_wire.specs.Writes.{CutsShort}
 use Rattle.mw_wire.specs.declared.fault.SessionFault.{SessionFault}
 use Rattle.mw_wire.specs.declared.fault.SessionFault.TheVariants as fault
 use Rattle.mw_session.specs.Runs.{LacksRoom, Ran}
-
--- tiles may have this side
-abbrev pub IsTileSide : ℕ → Type 0
-IsTileSide side = (64 ≤ side) × (side ≤ 1024) × (side % 64 ≡ 0)
 
 -- What is seen of the ends of a session: what is known of what the reader has left, how often it was read and whether it failed; what is known of what the writer holds, and whether it failed; what is known of what the writer of faults holds, and whether it failed.
 pub record Ends : Type 0 where

@@ -1,7 +1,7 @@
 //! A script from a reader to a writer, and what is told of its faults.
 
-ghost use Rattle.std.specs.Prelude.{◌≡◌, ◌⊎◌, false};
-ghost use Rattle.mw_batch.specs.Batches.{Ends, IsTileSide, Served, Unserved};
+ghost use Rattle.std.specs.Prelude.{◌≡◌, ◌≤◌, ◌%◌, ◌⊎◌, false};
+ghost use Rattle.mw_batch.specs.Batches.{Ends, Served, Unserved};
 
 use mw_core::Core;
 use mw_session::{End, Pick, run_script};
@@ -31,7 +31,7 @@ pub fn batch<R: Read, W: Write, F: Write>(
     faults: &mut Sink<F>,
     side: u32,
 ) -> u8
-    requires side { IsTileSide side }
+    requires side { (64 ≤ side) × (side ≤ 1024) × (side % 64 ≡ 0) }
     requires source_clear { source.old.failed ≡ false }
     requires sink_clear { sink.old.failed ≡ false }
     requires unread { source.old.reads ≡ 0 }

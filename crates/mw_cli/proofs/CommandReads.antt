@@ -6,8 +6,7 @@ use Rattle.clap.specs.Words.{ReadsOne, Row, Text, app_of, one_of}
 use Rattle.clap.specs.Simple.{app_of_fields}
 use Rattle.clap.specs.declared.builder.command.Command.{Command}
 use Rattle.clap.specs.declared.builder.command.Command.TheViews.{out-Command as fields_of}
-use Rattle.mw_batch.specs.Batches.{IsTileSide}
-use Rattle.mw_cli.specs.CommandLine.{Writes, WritesNoSide, tile_in}
+use Rattle.mw_cli.specs.CommandLine.{IsTileSide, Writes, WritesNoSide, tile_in}
 
 pub about_keeps_words : (old new : Command) (text : _) → fields_of new ≡ record (fields_of old) { about = text } → app_of new ≡ app_of old
 about_keeps_words old new text e = ap app_of_fields e

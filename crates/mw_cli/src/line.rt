@@ -2,8 +2,7 @@
 
 ghost use Rattle.std.specs.Prelude.{◌≡◌, ℕ, IfOk, IfErr, IfSome, None, map};
 ghost use Rattle.clap.specs.Words.{app_of, subcommand_rows_of};
-ghost use Rattle.mw_batch.specs.Batches.{IsTileSide};
-ghost use Rattle.mw_cli.specs.CommandLine.{IsAsked, IsNoText, IsRefused, Writes, WritesNoSide, program_words, tile_in};
+ghost use Rattle.mw_cli.specs.CommandLine.{IsAsked, IsNoText, IsRefused, IsTileSide, Writes, WritesNoSide, program_words, tile_in};
 ghost use Rattle.std.specs.String.{string_bytes};
 
 use crate::fault::LineFault;

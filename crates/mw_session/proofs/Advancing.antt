@@ -27,8 +27,8 @@ use Rattle.mw_laws.proofs.RunReplay.{run_join}
 use Rattle.mw_core.specs.Turns.{IsAt}
 use Rattle.mw_session.specs.Work.{tasks_left, Worked, AllWorked, Took}
 use Rattle.mw_session.proofs.Totals.{total, total-at, total-falls, total-grows, total-bounded, total-zero, count-some, count-falls, count-grows}
-use Rattle.mw_session.proofs.Working.{works_any_order}
-use Rattle.mw_session.proofs.Finishing.{only_append}
+use Rattle.mw_script_laws.proofs.Working.{works_any_order}
+use Rattle.mw_script_laws.proofs.Finishing.{only_append}
 
 both_left : (a b : Bool) → (a && b) ≡ true → a ≡ true
 both_left true b h = refl

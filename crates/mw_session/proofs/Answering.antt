@@ -29,7 +29,7 @@ use Rattle.mw_model.specs.Lines.{Asked, AskLoad, AskElement, AskAlone}
 use Rattle.mw_model.specs.Replies.{Handed, reply_text, refusal_text, NoValue}
 use Rattle.mw_model.specs.Scripts.{Answers, unread, called, Works, Replies, IsCallOf, runs_work, refused_unread, handed, answer_text}
 use Rattle.mw_model.specs.Receipts.{IsCallFor, MayFail}
-use Rattle.mw_session.specs.Marks.{OnlyWork, killed_in}
+use Rattle.mw_script_laws.specs.Marks.{OnlyWork, killed_in}
 use Rattle.mw_session.specs.Turns.{TellsWork, TellsCall, logged, unlogged, MayLack}
 use Rattle.mw_laws.proofs.RunStates.{reached}
 use Rattle.mw_laws.proofs.RunTables.{push_last}

@@ -1,11 +1,7 @@
 pub mod Turns
 pub mod Stops
 pub mod Rooms
-pub mod Working
-pub mod Finishing
-pub mod Readings
 pub mod Sessions
 pub mod Totals
 pub mod Advancing
 pub mod Answering
-pub mod Fronts

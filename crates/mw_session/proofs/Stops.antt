@@ -11,10 +11,10 @@ use Rattle.mw_model.specs.Lines.{Asked, Found}
 use Rattle.mw_wire.specs.declared.fault.SessionFault.{SessionFault}
 use Rattle.mw_wire.specs.declared.fault.SessionFault.TheVariants as fault
 use Rattle.mw_model.specs.Scripts.{Turn, IsTurn, AreTurns, Serves, Works, IsScript, IsBroken, runs_work, end_text}
-use Rattle.mw_session.specs.Marks.{kills_of, killed_in}
+use Rattle.mw_script_laws.specs.Marks.{kills_of, killed_in}
 use Rattle.mw_session.specs.Turns.{TellsWork, TellsCall, logged, unlogged, TellsTurn, TurnMade, TurnsMade, HasServed}
 use Rattle.mw_session.specs.Runs.{ShowsKills, Drained, Finished, CutReply, CutEnd, Stopped}
-use Rattle.mw_session.proofs.Finishing.{kills_append}
+use Rattle.mw_script_laws.proofs.Finishing.{kills_append}
 use Rattle.mw_session.proofs.Turns.{served_append, served_one}
 
 are_turns : (ts : List Turn) (m n : Machine) (x : List ℕ) (is : List LogItem) → TurnsMade m ts x is n → AreTurns m ts x n

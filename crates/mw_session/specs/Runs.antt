@@ -13,7 +13,7 @@ use Rattle.mw_model.specs.Lines.{Asked, AskAlone, Found, Partial}
 use Rattle.mw_intake.specs.Intake.{AsksForPayload}
 use Rattle.mw_intake.specs.Reading.{front, is_line_end}
 use Rattle.mw_model.specs.Scripts.{Turn, Ends, end_text}
-use Rattle.mw_session.specs.Marks.{kills_of, killed_in}
+use Rattle.mw_script_laws.specs.Marks.{kills_of, killed_in}
 use Rattle.mw_session.specs.Turns.{TurnMade, HasServed}
 use Rattle.mw_wire.specs.Writes.{Wrote}
 use Rattle.mw_wire.specs.declared.fault.SessionFault.{SessionFault}

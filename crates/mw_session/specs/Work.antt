@@ -10,7 +10,7 @@ use Rattle.mw_model.specs.Stands.{Seen, StandsFor, progress_at, ready_count, run
 use Rattle.mw_model.specs.Scripts.{Works}
 use Rattle.mw_core.specs.Counts.{NonePending}
 use Rattle.mw_core.specs.Turns.{IsAt}
-use Rattle.mw_session.specs.Marks.{OnlyWork, killed_in}
+use Rattle.mw_script_laws.specs.Marks.{OnlyWork, killed_in}
 
 -- how many tasks are not finished
 abbrev pub tasks_left : Seen → ℕ

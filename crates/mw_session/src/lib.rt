@@ -14,10 +14,7 @@ mod saying;
 mod script;
 mod work;
 
-pub use laws::{
-    finished_is_script, marks_are_seen, one_output, stopped_is_broken, work_in_any_order, work_is_lawful,
-    written_is_a_front, written_text_stays,
-};
+pub use laws::{finished_is_script, stopped_is_broken};
 pub use mw_model::End;
 pub use script::run_script;
 pub use work::Pick;

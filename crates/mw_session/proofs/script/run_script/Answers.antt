@@ -5,7 +5,7 @@ use Rattle.mw_wire.specs.declared.fault.SessionFault.TheVariants.{Read}
 use Rattle.mw_model.specs.Lines.{Partial}
 use Rattle.mw_intake.specs.Reading.{front}
 use Rattle.mw_session.proofs.Sessions.{take-front, Serving, serving-start, serving-more, serving-drained, ran-finished, ran-broken, ran-stopped, ran-ended, ran-to-end, write-failed}
-use Rattle.mw_session.proofs.Readings.{front_empty}
+use Rattle.mw_script_laws.proofs.Readings.{front_empty}
 use Rattle.mw_session.proofs.script.run_script.Goals as goal
 
 pub returns-in-Err-clause-ran : goal.returns-in-Err-clause-ran
