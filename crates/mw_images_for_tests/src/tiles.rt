@@ -3,7 +3,8 @@
 use mw_model::plain::PlainImage;
 use mw_model::{Reach, Rect};
 use mw_pixel::{Pixel, Plane};
-use mw_tile::{Grid, Window, side_ok};
+use mw_grid::{Grid, side_ok};
+use mw_tile::Window;
 use std::alloc::Global;
 use std::test::Fail;
 
