@@ -20,6 +20,3 @@ pub use layout::{columns_after, first_column, first_row, rows_after, start_of_ru
 pub use mw_model::NoMemory;
 pub use offsets::extremum;
 pub use runs::{Extent, Run, extent_of, runs_of};
-
-#[cfg(test)]
-mod tests;

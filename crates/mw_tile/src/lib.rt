@@ -25,6 +25,3 @@ pub use laws::{
 };
 pub use mw_model::{NoMemory, Offset, Reach, Rect};
 pub use window::Window;
-
-#[cfg(test)]
-mod tests;
