@@ -35,6 +35,3 @@ pub use mw_model::{NoMemory, Offset, OffsetBox, Reach, Rect, TaskId};
 pub use mw_tile::AnyWindow;
 pub use step::Step;
 pub use work::Work;
-
-#[cfg(test)]
-mod tests;
