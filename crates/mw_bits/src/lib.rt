@@ -24,6 +24,3 @@ mod words;
 pub use extremes::WordExtremum;
 pub use mw_model::NoMemory;
 pub use words::Words;
-
-#[cfg(test)]
-mod tests;

@@ -14,6 +14,3 @@ mod strips;
 
 pub use mw_model::NoMemory;
 pub use offsets::extremum;
-
-#[cfg(test)]
-mod tests;

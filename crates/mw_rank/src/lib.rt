@@ -15,6 +15,3 @@ mod seen;
 pub use laws::ranks_are_rank_filter;
 pub use moving::rank;
 pub use mw_model::NoMemory;
-
-#[cfg(test)]
-mod tests;

@@ -19,6 +19,3 @@ mod sliding;
 mod thresholds;
 
 pub use make::run;
-
-#[cfg(test)]
-mod tests;

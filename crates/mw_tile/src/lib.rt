@@ -20,6 +20,3 @@ pub use cuts::{cut, paste};
 pub use laws::{cut_is_window, window_shows_frame, window_shows_picture};
 pub use mw_model::{NoMemory, Offset, Reach, Rect};
 pub use window::Window;
-
-#[cfg(test)]
-mod tests;

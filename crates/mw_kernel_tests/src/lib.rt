@@ -1,0 +1,16 @@
+//! Tests of the calls over tiles: cutting and pasting, worked extrema by offsets and by rectangles, and rank filters, these
+//! beside the plain program too.
+//!
+//! ```text
+//! rt test     // in this folder
+//! ```
+#![tactic(auto)]
+
+#[cfg(test)]
+mod extrema;
+#[cfg(test)]
+mod ranks;
+#[cfg(test)]
+mod tiles;
+#[cfg(test)]
+mod worked_ranks;

@@ -1,0 +1,11 @@
+//! Tests of sets as words of 64 pixels: packed, unpacked and counted, and their extrema beside the plain program.
+//!
+//! ```text
+//! rt test     // in this folder
+//! ```
+#![tactic(auto)]
+
+#[cfg(test)]
+mod packed;
+#[cfg(test)]
+mod words;
