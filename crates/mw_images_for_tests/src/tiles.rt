@@ -1,9 +1,9 @@
 //! The tiles of frames, with what an element sees from them.
 
+use mw_grid::{Grid, side_ok};
 use mw_model::plain::PlainImage;
 use mw_model::{Reach, Rect};
 use mw_pixel::{Pixel, Plane};
-use mw_grid::{Grid, side_ok};
 use mw_tile::Window;
 use std::alloc::Global;
 use std::test::Fail;

@@ -1,11 +1,11 @@
 //! Tiles of frames, and windows that are cut from them: each call once, with the rows of the worked examples.
 
+use mw_grid::{Grid, side_ok, tiles_cover_once, window_reaches};
 use mw_images_for_tests::rect;
 use mw_model::{Reach, Rect};
 use mw_pixel::{Bit, Kind, Plane};
 use mw_tile::{
-    AnyWindow, Grid, Window, cut, cut_is_window, paste, side_ok, tiles_cover_once, window_reaches,
-    window_shows_frame, window_shows_picture,
+    AnyWindow, Window, cut, cut_is_window, paste, window_shows_frame, window_shows_picture,
 };
 use std::alloc::Global;
 use std::process::Abort;
@@ -148,13 +148,13 @@ fn a_window_with_its_own_samples(rt: HostRuntime) -> Result<(), Fail> {
 
 /// The right two columns, as a window of any kind.
 fn deep(alloc: Global) -> Result<AnyWindow, Fail> {
-    Ok(AnyWindow::Grey16(right_columns(alloc)?, 999))
+    Ok(AnyWindow::grey16(right_columns(alloc)?, 999))
 }
 
 /// All four pixels of a set.
 fn set(alloc: Global) -> Result<AnyWindow, Fail> {
     let plane = Plane::filled(alloc, 2, 2, Bit::SET)?;
-    Ok(AnyWindow::Bits(Window::whole(plane)))
+    Ok(AnyWindow::bits(Window::whole(plane)))
 }
 
 #[test]

@@ -3,7 +3,8 @@
 use mw_images_for_tests::{element, row_of};
 use mw_model::{Rect, TaskId};
 use mw_pixel::{Bit, Pixel, Plane};
-use mw_step::{AnyWindow, Element, Made, Step, TileDone, Work, run};
+use mw_step::run;
+use mw_task::{AnyWindow, Element, Made, Step, TileDone, Work};
 use mw_tile::Window;
 use std::alloc::Global;
 use std::process::Abort;
@@ -33,11 +34,14 @@ fn row<P: Pixel>(alloc: Global, levels: &[u16; 5]) -> Result<Window<P>, Fail> {
 }
 
 pub(crate) fn levels(alloc: Global, levels: &[u16; 5], maxval: u8) -> Result<AnyWindow, Fail> {
-    Ok(AnyWindow::Grey8(row::<u8>(alloc, levels)?, maxval))
+    if maxval == 0 {
+        return Err("a maxval".into());
+    }
+    Ok(AnyWindow::grey8(row::<u8>(alloc, levels)?, maxval))
 }
 
 pub(crate) fn set(alloc: Global, pixels: &[u16; 5]) -> Result<AnyWindow, Fail> {
-    Ok(AnyWindow::Bits(row::<Bit>(alloc, pixels)?))
+    Ok(AnyWindow::bits(row::<Bit>(alloc, pixels)?))
 }
 
 /// The row of the worked examples, of maxval 9.

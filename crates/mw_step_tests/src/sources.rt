@@ -1,7 +1,7 @@
 //! Steps that go sample by sample, on one, two, three rows or none.
 
 use crate::given::{five, levels, makes_levels, makes_set, number, one, set};
-use mw_step::{AnyWindow, Step};
+use mw_task::{AnyWindow, Step};
 use std::alloc::Global;
 use std::process::Abort;
 use std::test::Fail;

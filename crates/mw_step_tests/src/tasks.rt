@@ -3,9 +3,10 @@
 
 use crate::given::{FIVE, TASK, bar, done, five, framed_bar, levels, one, work};
 use mw_pixel::{Image, Kind};
-use mw_step::{
+use mw_step::run;
+use mw_task::{
     AnyWindow, Step, Work, cut_windows_are_bounded, cut_windows_fit, made_is_bounded,
-    planes_are_operators, run, tile_of_windows_is_tile_of_planes, whole_tile_is_plane,
+    planes_are_operators, tile_of_windows_is_tile_of_planes, whole_tile_is_plane,
 };
 use std::alloc::Global;
 use std::test::Fail;

@@ -2,7 +2,7 @@
 
 use crate::given::{bar, five, makes_levels, right};
 use mw_model::{OffsetBox, Reach};
-use mw_step::Step;
+use mw_task::Step;
 use std::test::Fail;
 
 #[test]
