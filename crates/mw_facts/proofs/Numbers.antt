@@ -1,7 +1,17 @@
 -- Tests on numbers, and induction over the numbers below one.
-use Rattle.std.proofs.Common.{◌≡◌, ℕ, zero, suc, ◌+◌, ◌<◌, Bool, true, false, cond, ltb, min, max, ◌⊎◌, inl, inr, ◌≤◌, arith}
+use Rattle.std.proofs.Common.{◌≡◌, ℕ, zero, suc, ◌+◌, ◌<◌, Bool, true, false, cond, ltb, min, max, ◌⊎◌, inl, inr, ◌≤◌, refl, arith}
 use Rattle.std.proofs.lemmas.Bool.{cases_lt}
 use Rattle.std.proofs.lemmas.Bool.Decides.{nat_tests}
+use lib.Count.{ones}
+
+pub add_one-add : (a b : ℕ) → a + 1 + b ≡ a + suc b
+add_one-add a b = omega arith
+
+pub ones-bit : (b : ℕ) → b < 2 → ones b ≡ b
+unfolding ones
+ones-bit zero lt = refl
+ones-bit (suc zero) lt = refl
+ones-bit (suc (suc b)) lt = absurd (omega arith)
 
 pub cond-min : (x y : ℕ) → cond (ltb x y) x y ≡ min x y
 cond-min x y = grind (arith, nat_tests)

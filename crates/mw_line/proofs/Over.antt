@@ -3,6 +3,7 @@ use Rattle.std.proofs.Common.{◌≡◌, ℕ, zero, suc, ◌+◌, ◌*◌, ◌<�
 use Rattle.std.specs.List.{range_with_len, filter_map, flat_map, cons_option}
 use Rattle.std.proofs.Math.Nat.{add-zero}
 use Rattle.std.proofs.lemmas.List.{append-nil}
+use Rattle.mw_facts.proofs.Numbers.{add_one-add}
 use Rattle.mw_lane.specs.Shifted.{merge_at}
 use Rattle.mw_line.specs.Extrema.{strided, over}
 use Rattle.mw_line.proofs.Folds.{IsExtremum, fold_both}
@@ -73,7 +74,4 @@ kept rows s zero (suc a) k le before behind = absurd (omega arith)
 kept rows s (suc m) (suc a) k le before behind =
     ap (λ (t : List _). t ++ flat_map rows (range_with_len (s + 1) m)) (before s (omega arith) (omega arith))
     ∙ kept rows (s + 1) m a k (omega arith) (λ i from to. before i (omega arith) (omega arith)) (λ i from to. behind i (omega arith) (omega arith))
-    ∙ ap (λ (t : ℕ). flat_map rows (range_with_len t k)) (over_one s a)
-  where
-    over_one : (s a : ℕ) → s + 1 + a ≡ s + suc a
-    over_one s a = omega arith
+    ∙ ap (λ (t : ℕ). flat_map rows (range_with_len t k)) (add_one-add s a)

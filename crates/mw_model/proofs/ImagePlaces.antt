@@ -6,6 +6,7 @@ use Rattle.std.proofs.lemmas.List.FromFn.{length-map-range_with_len, get_or-map-
 use Rattle.std.proofs.lemmas.Nat.{div_below, mod_below, mul-add-lt, div-add-mod'}
 use Rattle.std.proofs.lemmas.List.Elements.{All-get_or}
 use Rattle.std.proofs.Math.Nat.{add-zero, zero-add, mul_comm}
+use Rattle.mw_facts.proofs.Numbers.{add_one-add}
 use Rattle.mw_model.specs.declared.shapes.Kind.{Kind}
 use Rattle.mw_model.specs.Pictures.{Picture, sample, drawn, redrawn, IsPicture}
 use Rattle.mw_model.specs.Laws.{SameShape, Below}
@@ -39,13 +40,10 @@ rows_at value width a (suc n) x (suc y) p q =
     get_or-append_right (map (λ x. value x a) (range_with_len 0 width)) (rows value width (a + 1) n) width (suc y * width + x) 0 (length-map-range_with_len (λ x. value x a) 0 width) (omega arith)
     ∙ ap (λ i. get_or (rows value width (a + 1) n) i 0) (back width x y)
     ∙ rows_at value width (a + 1) n x y p (omega arith)
-    ∙ ap (value x) (same a y)
+    ∙ ap (value x) (add_one-add a y)
   where
     back : (width x y : ℕ) → suc y * width + x - width ≡ y * width + x
     back width x y = omega arith
-
-    same : (a y : ℕ) → a + 1 + y ≡ a + suc y
-    same a y = omega arith
 
 -- what a drawn image shows at a place
 pub sample-drawn : (kind : Kind) (width height maxval : ℕ) (value : ℕ → ℕ → ℕ) (x y : ℕ) → x < width → y < height → sample (drawn kind width height maxval value) x y ≡ value x y

@@ -7,6 +7,7 @@ use Rattle.std.proofs.lemmas.List.{take_all}
 use Rattle.std.proofs.lemmas.Nat.{ones_cat, mod-mul-add, div-add-mod', mod_below, pow_pos}
 use Rattle.std.proofs.lemmas.Simd.{bitmask_splat, bit_mask_l, ones-mask_l}
 use Rattle.std.specs.Simd.Lanes.{mask_l}
+use Rattle.mw_facts.proofs.Numbers.{ones-bit}
 use Rattle.mw_model.specs.NetpbmGrammar.{is_white}
 use Rattle.mw_netpbm.specs.Tallies.{signs_in, words_in, ends_white, has_hash}
 use lib.Bits.{and_step, or_step, or_zero_r}
@@ -48,13 +49,8 @@ ones_digit : (d m : ℕ) → d < 2 → ones (d + 2 * m) ≡ d + ones m
 unfolding ones
 ones_digit d m lt =
     let turned : d + 2 * m ≡ m * 2 ^ 1 + d = omega arith in
-    let one = lowest d lt in
+    let one = ones-bit d lt in
     ap ones turned ∙ ones_cat 1 m d (omega arith) ∙ omega arith
-  where
-    lowest : (b : ℕ) → b < 2 → ones b ≡ b
-    lowest zero less = refl
-    lowest (suc zero) less = refl
-    lowest (suc (suc b)) less = absurd (omega arith)
 
 pub as_digit : (b : Bool) → from_bool b ≡ cond b 1 0
 as_digit true = refl

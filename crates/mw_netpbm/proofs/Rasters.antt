@@ -41,10 +41,6 @@ pairs_words (a ∷ b ∷ bs) (s ∷ ss) h =
 
 -- ---- rows
 
-bits_eight : (b : ℕ) → length (bits_of b) ≡ 8
-unfolding bits_of
-bits_eight b = refl
-
 take_over : (n : ℕ) (xs ys : List ℕ) → take n (xs ++ ys) ≡ take (min n (length xs)) xs ++ take (n - length xs) ys
 take_over n xs ys =
     elim (cases_lt n (length xs)) [
