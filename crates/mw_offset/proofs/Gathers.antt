@@ -8,6 +8,7 @@ use Rattle.mw_line.proofs.Joined.{joined}
 use Rattle.mw_run.specs.declared.runs.Run.{Run}
 use Rattle.mw_run.specs.declared.runs.Extent.{Extent}
 use Rattle.mw_run.specs.Runs.{start_of, HasRoom, sized, two_parts, gather}
+use Rattle.mw_run.proofs.RunLists.{all_weaker}
 
 -- what the runs of less than b offsets give
 abbrev pub gather_below : {A : Type 0} → (A → A → A) → A → (Run → A) → ℕ → List Run → A
@@ -138,3 +139,21 @@ doubled_more f laws cells doubled made s left known room left-is size made-is = 
 
     whole : 0 < s → s + (s - 1) ≡ s * 2 - 1
     whole some = omega arith
+
+-- what a run gives at a place, where the cells are laid out for an element
+abbrev pub run_value : {A : Type 0} → (A → A → A) → List A → A → Extent → ℕ → ℕ → Run → A
+run_value f cells n e wide q r = strided f cells n 1 (r.count - 1) (start_of e wide r + q)
+
+pub none_gathered : {A : Type 0} (f : A → A → A) (n : A) (value : Run → A) (e : Extent) (wide count cells : ℕ) (runs : List Run) → AllByRecursion (HasRoom e wide count cells) runs → n ≡ gather_below f n value 1 runs
+none_gathered f n value e wide count cells runs rooms =
+    sym (none_below_one f n value runs (all_weaker (HasRoom e wide count cells) (λ (r : Run). 0 < r.count) runs (λ r room. room.inside.run.some) rooms))
+
+-- the runs of s to 2 * s - 1 offsets are merged by two parts each
+pub gathered_more : {A : Type 0} (f : A → A → A) → IsExtremum f → (cells doubled : List A) (s : ℕ) → IsDoubled f cells doubled s → (n : A) (e : Extent) (wide count q : ℕ) → q < count → (best made : A) (runs : List Run)
+    → AllByRecursion (HasRoom e wide count (length cells)) runs → made ≡ fold (sized s (two_parts f doubled n e wide s q)) best runs → best ≡ gather_below f n (run_value f cells n e wide q) s runs
+    → made ≡ gather_below f n (run_value f cells n e wide q) (2 * s) runs
+gathered_more f laws cells doubled s known n e wide count q lt best made runs rooms made-is best-is =
+    made-is
+    ∙ fold_parts f laws cells doubled s known n e wide count q lt best runs rooms
+    ∙ ap (λ (t : _). fold (sized s (one_run f (run_value f cells n e wide q))) t runs) best-is
+    ∙ gather_more f laws n (run_value f cells n e wide q) s runs

@@ -6,7 +6,7 @@ use Rattle.std.proofs.lemmas.List.Concat.{flat_map-cons}
 use Rattle.mw_model.specs.declared.places.Offset.{Offset}
 use Rattle.mw_run.specs.declared.runs.Run.{Run}
 use Rattle.mw_run.specs.Runs.{run_offsets, start_offset, IsRun}
-use Rattle.mw_rank.specs.Runs.{next_offset, offsets_from, offsets_of, element_of}
+use Rattle.mw_rank.specs.Runs.{offsets_from, offsets_of, element_of}
 
 offset_at_dx : (dx dx' dy : ℤ) → dx ≡ dx' → let b : Offset = record { dx = dx; dy = dy } in let c : Offset = record { dx = dx'; dy = dy } in b ≡ c
 offset_at_dx dx dx' dy e = cc

@@ -1,11 +1,11 @@
-use Rattle.std.proofs.Common.{◌≡◌, ℕ, ◌+◌, ◌-◌, ◌*◌, ◌<◌, ◌≤◌, length, fold, refl, ap, sym, ◌∙◌, arith}
+use Rattle.std.proofs.Common.{◌≡◌, ℕ, ◌+◌, ◌-◌, ◌*◌, ◌<◌, ◌≤◌, length, refl, ap, ◌∙◌, arith}
 use Rattle.std.specs.List.{AllByRecursion}
 use Rattle.mw_line.specs.Extrema.{strided}
 use Rattle.mw_line.proofs.Folds.{IsExtremum}
 use Rattle.mw_run.specs.declared.runs.Run.{Run}
-use Rattle.mw_run.specs.Runs.{start_of, HasRoom, sized}
+use Rattle.mw_run.specs.Runs.{start_of, HasRoom}
 use Rattle.mw_run.proofs.RunLists.{all_weaker}
-use Rattle.mw_offset.proofs.Gathers.{gather_below, one_run, none_below_one, all_below, gather_more, IsDoubled, fold_parts, doubled_more}
+use Rattle.mw_offset.proofs.Gathers.{gather_below, all_below, IsDoubled, doubled_more, run_value, none_gathered, gathered_more}
 use Rattle.mw_bits.specs.Packed.{bit_of}
 use Rattle.mw_bits.specs.Layouts.{laid_bits}
 use Rattle.mw_bits.proofs.Laid.{length-laid_bits, laid_ahead}
@@ -29,12 +29,8 @@ sizes-init g c =
       cells_size = refl;
       out_size = c.combine_sized.auto.out;
       done = λ n blank q lt.
-          let value = λ (r : Run). strided f cells n 1 (r.count - 1) (start_of e wide r + q) in
-          let some : AllByRecursion (λ (r : Run). 0 < r.count) runs = all_weaker (HasRoom e wide (64 * length out) (length cells)) (λ (r : Run). 0 < r.count) runs (λ r room. room.inside.run.some) rooms in
-          c.combine_sized.ensures q n lt
-          ∙ fold_parts f laws cells cells 1 doubled n e wide (64 * length out) q lt (bit_of out q) runs rooms
-          ∙ ap (λ (t : ℕ). fold (sized 1 (one_run f value)) t runs) (blank q lt ∙ sym (none_below_one f n value runs some))
-          ∙ gather_more f laws n value 1 runs;
+          gathered_more f laws cells cells 1 doubled n e wide (64 * length out) q lt (bit_of out q) (bit_of c.combine_sized.new.out q) runs rooms (c.combine_sized.ensures q n lt)
+          (blank q lt ∙ none_gathered f n (run_value f cells n e wide q) e wide (64 * length out) (length cells) runs rooms);
     }
 
 pub sizes-preserved : goal.sizes-preserved
@@ -69,11 +65,8 @@ sizes-preserved g c =
       cells_size = kept ∙ same;
       out_size = c.combine_sized-in-sizes.auto.out ∙ known.out_size;
       done = λ n blank q lt.
-          let value = λ (r : Run). strided f cells n 1 (r.count - 1) (start_of e wide r + q) in
-          c.combine_sized-in-sizes.ensures q n (omega (arith, known.out_size))
-          ∙ fold_parts f laws cells (laid_bits made) (s * 2) doubled n e wide (64 * length out) q lt (bit_of c.sizes.out q) runs rooms
-          ∙ ap (λ (t : ℕ). fold (sized (s * 2) (one_run f value)) t runs) (known.done n blank q lt ∙ ap (λ (t : ℕ). gather_below f n value t runs) twice)
-          ∙ gather_more f laws n value (s * 2) runs;
+          gathered_more f laws cells (laid_bits made) (s * 2) doubled n e wide (64 * length out) q lt (bit_of c.sizes.out q) (bit_of c.combine_sized-in-sizes.new.out q) runs rooms
+          (c.combine_sized-in-sizes.ensures q n (omega (arith, known.out_size))) (known.done n blank q lt ∙ ap (λ (t : ℕ). gather_below f n (run_value f cells n e wide q) t runs) twice);
     }
 
 pub returns-else-size-cells : goal.returns-else-size-cells

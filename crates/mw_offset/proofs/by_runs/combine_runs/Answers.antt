@@ -1,12 +1,12 @@
-use Rattle.std.proofs.Common.{◌≡◌, ℕ, ◌+◌, ◌-◌, ◌*◌, ◌<◌, ◌≤◌, List, length, get_or, fold, refl, ap, sym, ◌∙◌, arith}
+use Rattle.std.proofs.Common.{◌≡◌, ℕ, ◌+◌, ◌-◌, ◌*◌, ◌<◌, ◌≤◌, List, length, get_or, refl, ap, ◌∙◌, arith}
 use Rattle.std.specs.List.{AllByRecursion}
 use Rattle.mw_line.specs.Extrema.{strided}
 use Rattle.mw_line.proofs.Folds.{IsExtremum}
 use Rattle.mw_line.proofs.Rows.{get_or-replicate_same}
 use Rattle.mw_run.specs.declared.runs.Run.{Run}
-use Rattle.mw_run.specs.Runs.{start_of, HasRoom, sized}
+use Rattle.mw_run.specs.Runs.{start_of, HasRoom}
 use Rattle.mw_run.proofs.RunLists.{all_weaker}
-use Rattle.mw_offset.proofs.Gathers.{gather_below, one_run, none_below_one, all_below, gather_more, IsDoubled, fold_parts, doubled_more}
+use Rattle.mw_offset.proofs.Gathers.{gather_below, all_below, IsDoubled, doubled_more, run_value, none_gathered, gathered_more}
 use Rattle.mw_offset.proofs.by_runs.combine_runs.Goals as goal
 
 pub sizes-init : goal.sizes-init
@@ -22,14 +22,8 @@ sizes-init g c =
       doubled = doubled;
       out_size = c.combine_sized.auto.out;
       done = λ n blank q lt.
-          let value = λ (r : Run). strided f cells n 1 (r.count - 1) (start_of c.args.extent c.args.wide r + q) in
-          let some : AllByRecursion (λ (r : Run). 0 < r.count) runs = all_weaker (HasRoom c.args.extent c.args.wide (length out) (length cells)) (λ (r : Run). 0 < r.count) runs (λ r room. room.inside.run.some) c.requires.room in
-          let base : get_or out q n ≡ gather_below f n value 1 runs =
-          ap (λ (t : List g.row.P.Denot). get_or t q n) blank ∙ get_or-replicate_same (length out) q n ∙ sym (none_below_one f n value runs some) in
-          c.in_ok-combine_sized.ensures q n lt
-          ∙ fold_parts f laws cells cells 1 doubled n c.args.extent c.args.wide (length out) q lt (get_or out q n) runs c.requires.room
-          ∙ ap (λ (t : g.row.P.Denot). fold (sized 1 (one_run f value)) t runs) base
-          ∙ gather_more f laws n value 1 runs;
+          gathered_more f laws cells cells 1 doubled n c.args.extent c.args.wide (length out) q lt (get_or out q n) (get_or c.combine_sized.new.out q n) runs c.requires.room (c.in_ok-combine_sized.ensures q n lt)
+          (ap (λ (t : List g.row.P.Denot). get_or t q n) blank ∙ get_or-replicate_same (length out) q n ∙ none_gathered f n (run_value f cells n c.args.extent c.args.wide q) c.args.extent c.args.wide (length out) (length cells) runs c.requires.room);
     }
 
 pub sizes-preserved : goal.sizes-preserved
@@ -50,11 +44,9 @@ sizes-preserved g c =
       doubled = doubled;
       out_size = c.combine_sized-in-sizes.auto.out ∙ c.sizes.invariant.out_size;
       done = λ n blank q lt.
-          let value = λ (r : Run). strided f cells n 1 (r.count - 1) (start_of c.args.extent c.args.wide r + q) in
-          c.in_ok-combine_sized-2.ensures q n (omega (arith, c.sizes.invariant.out_size))
-          ∙ fold_parts f laws cells made (s * 2) doubled n c.args.extent c.args.wide (length out) q lt (get_or c.sizes.out q n) runs c.requires.room
-          ∙ ap (λ (t : g.row.P.Denot). fold (sized (s * 2) (one_run f value)) t runs) (c.sizes.invariant.done n blank q lt ∙ ap (λ (t : ℕ). gather_below f n value t runs) twice)
-          ∙ gather_more f laws n value (s * 2) runs;
+          gathered_more f laws cells made (s * 2) doubled n c.args.extent c.args.wide (length out) q lt (get_or c.sizes.out q n) (get_or c.combine_sized-in-sizes.new.out q n) runs c.requires.room
+          (c.in_ok-combine_sized-2.ensures q n (omega (arith, c.sizes.invariant.out_size)))
+          (c.sizes.invariant.done n blank q lt ∙ ap (λ (t : ℕ). gather_below f n (run_value f cells n c.args.extent c.args.wide q) t runs) twice);
     }
 
 pub returns-else-size-cells : goal.returns-else-size-cells

@@ -1,4 +1,4 @@
-use Rattle.std.proofs.Common.{ℕ, ◌≡◌, ◌+◌, ◌<◌, ◌∙◌, List, length, arith, ap, subst}
+use Rattle.std.proofs.Common.{ℕ, ◌≡◌, ◌+◌, ◌∙◌, List, length, arith, ap, subst}
 use Rattle.mw_model.specs.declared.places.Offset.{Offset}
 use Rattle.mw_rank.specs.Runs.{element_of}
 use Rattle.mw_model.specs.PlanSteps.{ranked}
