@@ -1,5 +1,5 @@
 -- The tasks that read a tile stand in a block of each step.
-use Rattle.std.proofs.Common.{◌≡◌, ℕ, ◌+◌, ◌-◌, ◌*◌, ◌/◌, ◌%◌, ◌<◌, ◌≤◌, min, Bool, true, false, ◌&&◌, List, nat_eq, nat_lt, refl, ap, sym, subst, ◌∙◌, arith, get_or, length, inl, inr}
+use Rattle.std.proofs.Common.{◌≡◌, ℕ, ◌+◌, ◌-◌, ◌*◌, ◌/◌, ◌%◌, ◌<◌, ◌≤◌, min, Bool, true, false, ◌&&◌, List, nat_eq, refl, ap, sym, subst, ◌∙◌, arith, get_or, length, inl, inr}
 use Rattle.std.proofs.Math.Nat.{mul-le-mul_left}
 use Rattle.std.proofs.lemmas.Bool.{cases_eq, ne_eqb}
 use Rattle.mw_model.specs.declared.places.Reach.{Reach}
@@ -11,7 +11,7 @@ use Rattle.mw_ready.specs.declared.need.Need.{Need}
 use Rattle.mw_ready.specs.Queues.{bit, in_range, Queued, Lowers, Waiting}
 use Rattle.mw_ready.specs.Kept.{is_near}
 use Rattle.mw_ready.specs.Boards.{step_of, tile_of_task, step_reads, reads_tile, need_of, no_need}
-use Rattle.mw_ready.proofs.Counts.{in-low, in-high, in-yes}
+use Rattle.mw_ready.proofs.Counts.{in-high, in-yes}
 use Rattle.mw_ready.proofs.Pieces.{share-range, share-turned, and_both}
 use Rattle.mw_ready.proofs.Lowering.{row_is, and_bits, range_more, eq_true, lowers_more}
 use Rattle.mw_ready.proofs.Numbers.{div-of_mod, mod-of_mod, div-twice}
@@ -44,7 +44,7 @@ row_within g t columns rows columns-is rows-is lt = rw (columns-is, rows-is) (ro
 -- the tiles that a window meets
 block_is : (g : Tiling) (reach : Reach) (tile v : ℕ) → HasTiles g → tile < tile_count g → v < tile_count g
     → in_range ((tile / columns_of g * g.side - reach.up) / g.side) (min (rows_of g) ((tile / columns_of g * g.side + g.side - 1 + reach.down) / g.side + 1)) (v / columns_of g)
-      && in_range ((tile % columns_of g * g.side - reach.left) / g.side) (min (columns_of g) ((tile % columns_of g * g.side + g.side - 1 + reach.right) / g.side + 1)) (v % columns_of g)
+    && in_range ((tile % columns_of g * g.side - reach.left) / g.side) (min (columns_of g) ((tile % columns_of g * g.side + g.side - 1 + reach.right) / g.side + 1)) (v % columns_of g)
     ≡ meets (grown g.width g.height reach (tile_at g tile)) (tile_at g v)
 block_is g reach tile v has lt v-lt =
     let columns = columns_of g in
@@ -105,7 +105,7 @@ pub near_given : (g : Tiling) (reach back : Reach) (k tile columns rows left rig
     → (t : ℕ) → in_range (k * rows + top) (k * rows + bottom) (t / columns) && in_range left right (t % columns) ≡ is_near g reach k tile t
 near_given g reach back k tile columns rows left right top bottom has lt columns-is rows-is low back-is block t =
     rw (columns-is, rows-is)
-      (near_is g reach k tile left right top bottom t has lt low (λ v v-lt. block v v-lt ∙ ap (λ (r : Reach). meets (grown g.width g.height r (tile_at g tile)) (tile_at g v)) back-is))
+    (near_is g reach k tile left right top bottom t has lt low (λ v v-lt. block v v-lt ∙ ap (λ (r : Reach). meets (grown g.width g.height r (tile_at g tile)) (tile_at g v)) back-is))
 
 pub lowers_same : (here there : ℕ → Bool) (old now : List ℕ) → ((t : ℕ) → here t ≡ there t) → Lowers here old now → Lowers there old now
 lowers_same here there old now same lowers = record { size = lowers.size; each = λ t lt. omega (arith, lowers.each t lt, ap bit (same t)) }

@@ -1,19 +1,17 @@
 -- How many tasks a task reads.
-use Rattle.std.proofs.Common.{◌≡◌, ℕ, ◌+◌, ◌-◌, ◌*◌, ◌/◌, ◌%◌, ◌<◌, ◌≤◌, Bool, true, false, not, ◌&&◌, List, [], ◌∷◌, ◌++◌, length, refl, ap, sym, ◌∙◌, arith, inl, inr, get_or}
+use Rattle.std.proofs.Common.{◌≡◌, ℕ, ◌+◌, ◌-◌, ◌*◌, ◌/◌, ◌%◌, ◌<◌, ◌≤◌, Bool, ◌&&◌, List, [], ◌∷◌, ◌++◌, length, ap, sym, ◌∙◌, arith, inl, inr, get_or}
 use Rattle.std.proofs.Math.Seq.{get_or-append_seam}
 use Rattle.std.proofs.lemmas.Bool.{cases_lt}
 use Rattle.std.proofs.lemmas.List.{get_or_append_left}
 use Rattle.std.proofs.lemmas.Nat.{div-mul-add, mod-mul-add}
-use Rattle.mw_model.specs.declared.places.Reach.{Reach}
-use Rattle.mw_model.specs.declared.places.Rect.{Rect}
 use Rattle.mw_model.specs.Places.{grown}
 use Rattle.mw_model.specs.Tasks.{meets}
 use Rattle.mw_grid.specs.Grids.{Tiling, columns_of, rows_of, tile_count, tile_at}
 use Rattle.mw_ready.specs.declared.need.Need.{Need}
 use Rattle.mw_ready.specs.Queues.{in_range, count_below}
-use Rattle.mw_ready.specs.Boards.{step_of, tile_of_task, step_reads, need_of, no_need}
+use Rattle.mw_ready.specs.Boards.{step_of, step_reads, need_of, no_need}
 use Rattle.mw_ready.specs.Kept.{read_count}
-use Rattle.mw_ready.proofs.Counts.{count-product, count-range, count-same, count-most}
+use Rattle.mw_ready.proofs.Counts.{count-product, count-range, count-same}
 
 -- the tiles of a block
 pub count-block : (g : Tiling) (p : ℕ → Bool) (left right top bottom : ℕ) → left ≤ right → right ≤ columns_of g → top ≤ bottom → bottom ≤ rows_of g

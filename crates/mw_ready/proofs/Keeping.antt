@@ -1,6 +1,6 @@
 -- The counters of a board are kept.
-use Rattle.std.proofs.Common.{◌≡◌, ◌≢◌, ℕ, ◌+◌, ◌-◌, ◌*◌, ◌/◌, ◌%◌, ◌<◌, ◌≤◌, Bool, true, false, not, ◌&&◌, ◌||◌, nat_eq, List, length, refl, ap, sym, subst, ◌∙◌, arith, inl, inr, set, get_or, replicate, ◌^◌, length-set}
-use Rattle.std.proofs.lemmas.Bool.{cases_eq, eqb-true}
+use Rattle.std.proofs.Common.{◌≡◌, ◌≢◌, ℕ, ◌+◌, ◌-◌, ◌*◌, ◌/◌, ◌%◌, ◌<◌, ◌≤◌, Bool, true, false, not, ◌&&◌, nat_eq, List, length, refl, ap, sym, subst, ◌∙◌, arith, inl, inr, set, get_or, replicate, ◌^◌, length-set}
+use Rattle.std.proofs.lemmas.Bool.{cases_eq}
 use Rattle.std.proofs.lemmas.List.{get_or-set_same, get_or-set_other, get_or-replicate, length-replicate}
 use Rattle.std.proofs.Math.Nat.{mul-le-mul_left}
 use Rattle.std.proofs.lemmas.Nat.{div-mul-add, mod-mul-add}
@@ -110,16 +110,16 @@ start_keeps b counters active left task keeps lt opened =
         | inr ne ↦ keeps.calm t t-lt (sym (get_or-set_other b.started task t true false ne) ∙ begun)
       ];
       running =
-        ap (λ (k : ℕ). k + 1) keeps.running
-        ∙ sym (count-more (λ t. flag (set b.started task true) t && not (flag b.finished t)) (is_running b) task (task_count b) lt (λ t t-lt. elim (cases_eq t task) [
-          | inl here ↦
-              let p : bit (flag (set b.started task true) t && not (flag b.finished t)) ≡ 1 = rw here (rw (now, unfinished) refl) in
-              let q : bit (is_running b t) ≡ 0 = rw here (rw idle refl) in
-              omega (arith, bit-at t task here)
-          | inr ne ↦
-              let p : bit (flag (set b.started task true) t && not (flag b.finished t)) ≡ bit (is_running b t) = ap (λ (v : Bool). bit (v && not (flag b.finished t))) (get_or-set_other b.started task t true false ne) in
-              omega (arith, bit-other t task ne)
-        ]));
+          ap (λ (k : ℕ). k + 1) keeps.running
+          ∙ sym (count-more (λ t. flag (set b.started task true) t && not (flag b.finished t)) (is_running b) task (task_count b) lt (λ t t-lt. elim (cases_eq t task) [
+            | inl here ↦
+                let p : bit (flag (set b.started task true) t && not (flag b.finished t)) ≡ 1 = rw here (rw (now, unfinished) refl) in
+                let q : bit (is_running b t) ≡ 0 = rw here (rw idle refl) in
+                omega (arith, bit-at t task here)
+            | inr ne ↦
+                let p : bit (flag (set b.started task true) t && not (flag b.finished t)) ≡ bit (is_running b t) = ap (λ (v : Bool). bit (v && not (flag b.finished t))) (get_or-set_other b.started task t true false ne) in
+                omega (arith, bit-other t task ne)
+          ]));
       remaining = keeps.remaining;
       begun = λ t t-lt done. elim (cases_eq t task) [
         | inl here ↦ ap (flag (set b.started task true)) here ∙ now
@@ -136,25 +136,25 @@ finish_keeps b counters now active left task keeps lt running lowers =
     let done : flag (set b.finished task true) task ≡ true = get_or-set_same b.finished task true false (let e = keeps.finished in omega arith) in
     let size : length (set b.finished task true) ≡ length b.finished = simp length-set in
     let less-running : count_below (is_running b) (task_count b) ≡ count_below (λ t. flag b.started t && not (flag (set b.finished task true) t)) (task_count b) + 1 =
-      count-more (is_running b) (λ t. flag b.started t && not (flag (set b.finished task true) t)) task (task_count b) lt (λ t t-lt. elim (cases_eq t task) [
-        | inl here ↦
-            let p : bit (is_running b t) ≡ 1 = rw here (ap bit running) in
-            let q : bit (flag b.started t && not (flag (set b.finished task true) t)) ≡ 0 = rw here (rw (done, parts.0) refl) in
-            omega (arith, bit-at t task here)
-        | inr ne ↦
-            let p : bit (flag b.started t && not (flag (set b.finished task true) t)) ≡ bit (is_running b t) = ap (λ (v : Bool). bit (flag b.started t && not v)) (get_or-set_other b.finished task t true false ne) in
-            omega (arith, bit-other t task ne)
-      ]) in
+    count-more (is_running b) (λ t. flag b.started t && not (flag (set b.finished task true) t)) task (task_count b) lt (λ t t-lt. elim (cases_eq t task) [
+      | inl here ↦
+          let p : bit (is_running b t) ≡ 1 = rw here (ap bit running) in
+          let q : bit (flag b.started t && not (flag (set b.finished task true) t)) ≡ 0 = rw here (rw (done, parts.0) refl) in
+          omega (arith, bit-at t task here)
+      | inr ne ↦
+          let p : bit (flag b.started t && not (flag (set b.finished task true) t)) ≡ bit (is_running b t) = ap (λ (v : Bool). bit (flag b.started t && not v)) (get_or-set_other b.finished task t true false ne) in
+          omega (arith, bit-other t task ne)
+    ]) in
     let less-left : count_below (λ t. not (flag b.finished t)) (task_count b) ≡ count_below (λ t. not (flag (set b.finished task true) t)) (task_count b) + 1 =
-      count-more (λ t. not (flag b.finished t)) (λ t. not (flag (set b.finished task true) t)) task (task_count b) lt (λ t t-lt. elim (cases_eq t task) [
-        | inl here ↦
-            let p : bit (not (flag b.finished t)) ≡ 1 = rw here (rw unfinished refl) in
-            let q : bit (not (flag (set b.finished task true) t)) ≡ 0 = rw here (rw done refl) in
-            omega (arith, bit-at t task here)
-        | inr ne ↦
-            let p : bit (not (flag (set b.finished task true) t)) ≡ bit (not (flag b.finished t)) = ap (λ (v : Bool). bit (not v)) (get_or-set_other b.finished task t true false ne) in
-            omega (arith, bit-other t task ne)
-      ]) in
+    count-more (λ t. not (flag b.finished t)) (λ t. not (flag (set b.finished task true) t)) task (task_count b) lt (λ t t-lt. elim (cases_eq t task) [
+      | inl here ↦
+          let p : bit (not (flag b.finished t)) ≡ 1 = rw here (rw unfinished refl) in
+          let q : bit (not (flag (set b.finished task true) t)) ≡ 0 = rw here (rw done refl) in
+          omega (arith, bit-at t task here)
+      | inr ne ↦
+          let p : bit (not (flag (set b.finished task true) t)) ≡ bit (not (flag b.finished t)) = ap (λ (v : Bool). bit (not v)) (get_or-set_other b.finished task t true false ne) in
+          omega (arith, bit-other t task ne)
+    ]) in
     record {
       started = keeps.started;
       finished = size ∙ keeps.finished;
@@ -217,7 +217,7 @@ pub finish_keeps_given : (b : Board) (counters now : List ℕ) (started : List B
 finish_keeps_given b counters now started shown active left step tile keeps runs shown-is lowers e =
     let task = task_number b.grid step tile in
     let lowered : Lowers (λ t. reads b.needs b.grid t task) counters now = lowers_same (λ t. reads_tile shown b.grid t step tile) (λ t. reads b.needs b.grid t task) counters now
-      (λ t. ap (λ (n : List Need). reads_tile n b.grid t step tile) shown-is ∙ sym (reads-number b.needs b.grid step tile t runs.inside)) lowers in
+    (λ t. ap (λ (n : List Need). reads_tile n b.grid t step tile) shown-is ∙ sym (reads-number b.needs b.grid step tile t runs.inside)) lowers in
     subst (λ (s : List Bool). Keeps (record b { started = s; finished = set b.finished task true }) now (active - 1) (left - 1)) (sym e) (finish_keeps b counters now active left task keeps (number_within b step tile runs) runs.running lowered)
 
 pub ready_given : (b : Board) (counters : List ℕ) (active left t : ℕ) → Keeps b counters active left → t < length counters → is_open b.started counters t ≡ true → is_ready b t ≡ true

@@ -1,5 +1,5 @@
 -- Lists that have each number where something is true once.
-use Rattle.std.proofs.Common.{◌≡◌, ◌≢◌, ℕ, zero, suc, ◌+◌, ◌-◌, ◌<◌, ◌≤◌, Bool, true, false, nat_eq, List, [], ◌∷◌, ◌++◌, length, take, refl, ap, sym, subst, ◌∙◌, arith, inl, inr, set, get_or}
+use Rattle.std.proofs.Common.{◌≡◌, ◌≢◌, ℕ, zero, suc, ◌+◌, ◌-◌, ◌<◌, ◌≤◌, Bool, true, false, nat_eq, List, [], ◌∷◌, ◌++◌, length, take, refl, ap, sym, ◌∙◌, arith, inl, inr, set, get_or}
 use Rattle.std.specs.List.{AllByRecursion, swap_remove}
 use Rattle.std.proofs.lemmas.Bool.{cases_eq, cases_lt}
 use Rattle.std.proofs.lemmas.List.{get_or_default}
@@ -31,11 +31,11 @@ listed-push n p q xs t listed lt was now other = record {
   each = λ u u-lt. elim (cases_eq u t) [
     | inl here ↦ count-push (λ x. nat_eq u x) xs t
         ∙ (let before : bit (p u) ≡ 0 = ap bit (ap p here ∙ was) in
-          let after : bit (q u) ≡ 1 = ap bit (ap q here ∙ now) in
-          omega (arith, listed.each u u-lt, bit-at u t here))
+        let after : bit (q u) ≡ 1 = ap bit (ap q here ∙ now) in
+        omega (arith, listed.each u u-lt, bit-at u t here))
     | inr ne ↦ count-push (λ x. nat_eq u x) xs t
         ∙ (let same : bit (q u) ≡ bit (p u) = ap bit (other u u-lt ne) in
-          omega (arith, listed.each u u-lt, bit-other u t ne))
+        omega (arith, listed.each u u-lt, bit-other u t ne))
   ];
 }
 

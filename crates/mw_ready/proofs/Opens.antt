@@ -1,12 +1,12 @@
 -- The lists of a queue keep its open tasks.
-use Rattle.std.proofs.Common.{◌≡◌, ◌≢◌, ℕ, zero, suc, ◌+◌, ◌-◌, ◌*◌, ◌/◌, ◌%◌, ◌<◌, ◌≤◌, Bool, true, false, not, ◌&&◌, nat_eq, List, [], ◌∷◌, ◌++◌, length, refl, ap, sym, subst, ◌∙◌, arith, inl, inr, set, get_or, map, replicate, vec_capacity, length-set, length-append, ◌^◌}
+use Rattle.std.proofs.Common.{◌≡◌, ◌≢◌, ℕ, ◌+◌, ◌-◌, ◌*◌, ◌/◌, ◌%◌, ◌<◌, ◌≤◌, Bool, true, false, not, ◌&&◌, nat_eq, List, [], ◌∷◌, ◌++◌, length, refl, ap, sym, subst, ◌∙◌, arith, inl, inr, set, get_or, replicate, vec_capacity, length-set, length-append, ◌^◌}
 use Rattle.std.specs.List.{swap_remove}
 use Rattle.std.specs.Global.{Vec}
 use Rattle.std.proofs.Math.Nat.{mul-le-mul_left}
 use Rattle.std.proofs.Math.Seq.{get_or-append_seam}
 use Rattle.std.proofs.lemmas.Bool.{cases_eq, cases_lt, ne_eqb}
 use Rattle.std.proofs.lemmas.List.{get_or-set_same, get_or-set_other, get_or_default, get_or-replicate, get_or_append_left, length-replicate, length-map, map-set, map-append}
-use Rattle.std.proofs.lemmas.Nat.{div-mul-add, mod-mul-add, div-add-mod'}
+use Rattle.std.proofs.lemmas.Nat.{div-mul-add, div-add-mod'}
 use Rattle.mw_model.specs.Tasks.{flag}
 use Rattle.mw_grid.proofs.Lines.{row_less}
 use Rattle.mw_ready.specs.Queues.{bit, count_below, is_open, list_at, Queued, IsQueue, Listed}
@@ -42,7 +42,7 @@ changed p q tiles s u n lists xs s-lt u-lt other old new k k-lt =
       | inl here ↦ subst (λ (j : ℕ). Listed tiles (λ t. q (j * tiles + t)) (list_at (set lists s xs) j)) (sym here) (subst (λ (ys : List ℕ). Listed tiles (λ t. q (s * tiles + t)) ys) (sym (get_or-set_same lists s xs [] s-lt)) new)
       | inr ne ↦ subst (λ (ys : List ℕ). Listed tiles (λ t. q (k * tiles + t)) ys) (sym (get_or-set_other lists s k xs [] ne))
           (listed-same tiles (λ t. p (k * tiles + t)) (λ t. q (k * tiles + t)) (list_at lists k)
-            (λ t t-lt. other (k * tiles + t) (other_step tiles k t (s * tiles + u) t-lt (λ e. ne (e ∙ div-mul-add s tiles u u-lt)))) (old k (omega arith)))
+          (λ t t-lt. other (k * tiles + t) (other_step tiles k t (s * tiles + u) t-lt (λ e. ne (e ∙ div-mul-add s tiles u u-lt)))) (old k (omega arith)))
     ]
 
 cancel : (a b c : ℕ) → a + b ≡ a + c → b ≡ c
@@ -68,7 +68,7 @@ taken q total s i u queue s-lt i-lt u-is =
       whole = queue.whole ∙ ap (λ (k : ℕ). k * q.tiles) (sym ready-size);
       small = queue.small;
       listed = changed before now q.tiles s u (length q.waiting) q.ready (swap_remove (list_at q.ready s) i u) s-lt there.0 other queue.listed
-        (listed-swap_remove q.tiles (λ k. before (s * q.tiles + k)) (λ k. now (s * q.tiles + k)) (list_at q.ready s) i u (queue.listed s s-lt) i-lt u-is closed
+          (listed-swap_remove q.tiles (λ k. before (s * q.tiles + k)) (λ k. now (s * q.tiles + k)) (list_at q.ready s) i u (queue.listed s s-lt) i-lt u-is closed
           (λ k k-lt ne. other (s * q.tiles + k) (λ e. ne (cancel (s * q.tiles) k u e))));
       count = (let less = count-changed before now t (length q.waiting) t-lt there.1 closed (λ k k-lt ne. other k ne) in let c = queue.count in omega arith);
     }
@@ -142,7 +142,7 @@ opened q total s u queue s-lt u-lt waits idle =
       whole = size ∙ queue.whole ∙ ap (λ (k : ℕ). k * q.tiles) (sym ready-size);
       small = (let z = queue.small in omega arith);
       listed = changed before now q.tiles s u (length q.waiting) q.ready (list_at q.ready s ++ u ∷ []) s-lt u-lt other queue.listed
-        (listed-push q.tiles (λ k. before (s * q.tiles + k)) (λ k. now (s * q.tiles + k)) (list_at q.ready s) u (queue.listed s s-lt) u-lt closed free
+          (listed-push q.tiles (λ k. before (s * q.tiles + k)) (λ k. now (s * q.tiles + k)) (list_at q.ready s) u (queue.listed s s-lt) u-lt closed free
           (λ k k-lt ne. other (s * q.tiles + k) (λ e. ne (cancel (s * q.tiles) k u e))));
       count = (let more = count-changed now before t (length q.waiting) t-lt free closed (λ k k-lt ne. sym (other k ne)) in let c = queue.count in let e = ap (count_below now) size in omega arith);
     }
@@ -222,7 +222,7 @@ queue-fresh waiting tiles total n steps ready some few n-is steps-is whole small
   whole = whole ∙ ap (λ (k : ℕ). k * tiles) steps-is;
   small = small;
   listed = λ s s-lt. listed-same tiles (λ t. free waiting (s * tiles + t)) (λ t. is_open (replicate n false) waiting (s * tiles + t)) (list_at ready s)
-    (λ t t-lt. open-fresh n waiting (s * tiles + t) (omega (arith, step_within s steps tiles t (omega arith) t-lt))) (listed s (omega arith));
+      (λ t t-lt. open-fresh n waiting (s * tiles + t) (omega (arith, step_within s steps tiles t (omega arith) t-lt))) (listed s (omega arith));
   count = count ∙ sym (ap (count_below (is_open (replicate n false) waiting)) whole ∙ count-same (is_open (replicate n false) waiting) (free waiting) (steps * tiles) (λ t t-lt. open-fresh n waiting t (omega arith)));
 }
 

@@ -1,5 +1,5 @@
 -- The order in which open tasks are handed out.
-use Rattle.std.proofs.Common.{◌≡◌, ℕ, zero, suc, ◌+◌, ◌-◌, ◌*◌, ◌/◌, ◌<◌, ◌≤◌, Bool, true, List, [], ◌++◌, length, map, refl, ap, sym, ◌∙◌, arith, get_or, vec_len, inl, inr, length-append}
+use Rattle.std.proofs.Common.{◌≡◌, ℕ, zero, suc, ◌+◌, ◌-◌, ◌*◌, ◌<◌, ◌≤◌, Bool, List, [], ◌++◌, length, map, ap, sym, ◌∙◌, arith, get_or, vec_len, inl, inr, length-append}
 use Rattle.std.specs.Global.{Vec}
 use Rattle.std.proofs.lemmas.Bool.{cases_lt}
 use Rattle.std.proofs.lemmas.List.{get_or-map, get_or_append_left, get_or-append_right, length-map}
@@ -20,11 +20,11 @@ length-handed p lists tiles zero each = sym (ap (count_below p) (none tiles))
 length-handed p lists tiles (suc n) each =
     length-append (map (λ t. n * tiles + t) (list_at lists n)) (handed lists tiles n)
     ∙ (let a = length-map (list_at lists n) (λ t. n * tiles + t) in
-      let b = each n (omega arith) in
-      let c = length-handed p lists tiles n (λ s lt. each s (omega arith)) in
-      let d = count-add p (n * tiles) tiles in
-      let e = ap (count_below p) (row n tiles) in
-      omega arith)
+    let b = each n (omega arith) in
+    let c = length-handed p lists tiles n (λ s lt. each s (omega arith)) in
+    let d = count-add p (n * tiles) tiles in
+    let e = ap (count_below p) (row n tiles) in
+    omega arith)
   where
     row : (n m : ℕ) → suc n * m ≡ n * m + m
     row n m = omega arith

@@ -1,5 +1,5 @@
 -- The tasks of a board are those of the work that it shows.
-use Rattle.std.proofs.Common.{◌≡◌, ℕ, ◌+◌, ◌-◌, ◌*◌, ◌/◌, ◌%◌, ◌<◌, Bool, true, false, not, ◌&&◌, ◌||◌, List, length, refl, ap, sym, ◌∙◌, arith, get_or}
+use Rattle.std.proofs.Common.{◌≡◌, ℕ, ◌+◌, ◌-◌, ◌*◌, ◌/◌, ◌%◌, ◌<◌, Bool, not, ◌&&◌, ◌||◌, List, length, ap, sym, ◌∙◌, arith, get_or}
 use Rattle.std.specs.List.{range_with_len, list_all, list_any}
 use Rattle.mw_model.specs.declared.places.Reach.{Reach}
 use Rattle.mw_model.specs.declared.places.Rect.{Rect}
@@ -10,11 +10,11 @@ use Rattle.mw_model.specs.PlanSteps.{looks_at}
 use Rattle.mw_model.specs.Plans.{Planned}
 use Rattle.mw_model.specs.Tasks as tasks
 use Rattle.mw_model.specs.Tasks.{Progress, nothing_planned, is_step, flag, meets}
-use Rattle.mw_grid.specs.Grids.{tile_count, tile_at, tiles_of}
+use Rattle.mw_grid.specs.Grids.{tile_count}
 use Rattle.mw_grid.proofs.Lines.{row_less}
 use Rattle.mw_grid.proofs.Tiles.{length-tiles_of, tile_of-tiles_of}
-use Rattle.mw_ready.specs.Boards.{Board, step_reads, no_need, need_of, step_of, tile_of_task, place_of_task, reads, task_count, is_ready, is_running, ready_tasks, running_tasks, remaining_tasks}
-use Rattle.mw_ready.specs.Work.{IsNeedOf, IsBoardOf, SameTasks}
+use Rattle.mw_ready.specs.Boards.{Board, step_reads, need_of, step_of, tile_of_task, place_of_task, reads, task_count, is_ready, is_running}
+use Rattle.mw_ready.specs.Work.{IsBoardOf, SameTasks}
 use Rattle.mw_ready.specs.Queues.{count_below}
 use Rattle.mw_ready.proofs.Counts.{count-same, all-same}
 

@@ -1,7 +1,6 @@
 -- Which tasks of a plan on a grid read which, and which of them are ready (own).
-use Rattle.std.specs.Prelude.{◌≡◌, ℕ, ◌+◌, ◌*◌, ◌/◌, ◌%◌, ◌<◌, Bool, true, false, not, ◌&&◌, ◌||◌, nat_eq, List, [], ◌∷◌, Option, Some, None, length, replicate, count_by, slice_index_or}
+use Rattle.std.specs.Prelude.{◌≡◌, ℕ, ◌+◌, ◌*◌, ◌/◌, ◌%◌, ◌<◌, Bool, true, false, not, ◌&&◌, ◌||◌, nat_eq, List, [], Option, Some, None, length, replicate, count_by, slice_index_or}
 use Rattle.std.specs.List.{range_with_len, list_all, list_any}
-use Rattle.mw_model.specs.declared.places.Reach.{Reach}
 use Rattle.mw_model.specs.declared.places.Rect.{Rect}
 use Rattle.mw_model.specs.Places.{grown}
 use Rattle.mw_model.specs.Tasks.{flag, meets}

@@ -1,12 +1,12 @@
 -- What the counters of a board are; no public contract speaks of them.
-use Rattle.std.specs.Prelude.{◌≡◌, ℕ, ◌*◌, ◌<◌, ◌^◌, Bool, true, not, ◌&&◌, nat_eq, List, length, slice_index}
+use Rattle.std.specs.Prelude.{◌≡◌, ℕ, ◌<◌, ◌^◌, Bool, true, not, ◌&&◌, nat_eq, List, length, slice_index}
 use Rattle.mw_model.specs.declared.places.Reach.{Reach}
 use Rattle.mw_model.specs.Tasks.{flag, meets}
 use Rattle.mw_model.specs.Places.{grown}
-use Rattle.mw_grid.specs.Grids.{Tiling, tile_count, tile_at}
+use Rattle.mw_grid.specs.Grids.{Tiling, tile_at}
 use Rattle.mw_ready.specs.declared.need.Need.{Need}
 use Rattle.mw_ready.specs.Queues.{Queued, count_below}
-use Rattle.mw_ready.specs.Boards.{Board, task_count, step_of, tile_of_task, reads, is_running, running_tasks, remaining_tasks}
+use Rattle.mw_ready.specs.Boards.{Board, task_count, step_of, tile_of_task, reads, running_tasks, remaining_tasks}
 
 -- how many of the first n tasks t reads
 abbrev pub read_count : List Need → Tiling → ℕ → ℕ → ℕ

@@ -158,12 +158,7 @@ ghost use Rattle.std.specs.Prelude.{nat_eq};
 ghost use Rattle.mw_ready.specs.Queues.{Listed};
 
 /// The tiles of a step that wait for nothing, with room for all tiles of a step.
-fn free_tiles(
-    alloc: Global,
-    waiting: &[u32],
-    step: usize,
-    tiles: u32,
-) -> Result<Vec<u16>, NoMemory>
+fn free_tiles(alloc: Global, waiting: &[u32], step: usize, tiles: u32) -> Result<Vec<u16>, NoMemory>
     requires tiles { (1 ≤ tiles) × (tiles ≤ 16384) }
     requires fits { step * tiles + tiles ≤ length waiting.now }
     ensures listed { IfOk result (λ v. Listed tiles (λ t. nat_eq (slice_index waiting.now (step * tiles + t)) 0) v.items) }

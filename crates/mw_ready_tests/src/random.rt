@@ -19,7 +19,11 @@ impl Random {
             .state
             .wrapping_mul(1_664_525)
             .wrapping_add(1_013_904_223);
-        if bound == 0 { 0 } else { (self.state >> 8) % bound }
+        if bound == 0 {
+            0
+        } else {
+            (self.state >> 8) % bound
+        }
     }
 
     fn reach(&mut self) -> Reach {
@@ -134,7 +138,9 @@ fn plays(rt: &impl Abort, alloc: Global, seed: u32) -> Result<(), Fail> {
         if place < ready.count() && random.below(2) == 0 {
             let shown = ready.task_at(place);
             let task = ready.start(place);
-            assert!(rt; shown.0 == task.0 && shown.1 == task.1 && !has(&plain.started, task.0, task.1));
+            assert!(rt;
+                shown.0 == task.0 && shown.1 == task.1 && !has(&plain.started, task.0, task.1)
+            );
             plain.started.push(task)?;
             running.push(task)?;
         } else if !running.is_empty() {

@@ -78,7 +78,12 @@ fn ready_as_soon_as_two_tiles_are_done(rt: HostRuntime) -> Result<(), Fail> {
 
 #[test]
 fn latest_step_first(rt: HostRuntime) -> Result<(), Fail> {
-    let needs = vec![in rt.alloc(); reading(None), reading(Some(0)), reading(Some(1)), reading(None)]?;
+    let needs = vec![in rt.alloc();
+        reading(None),
+        reading(Some(0)),
+        reading(Some(1)),
+        reading(None),
+    ]?;
     let mut ready = Ready::new(rt.alloc(), needs, Grid::new(64, 1, 64))?;
     counts(&rt, &ready, 2, 0, 4);
     starts(&rt, &mut ready, 3, 0);

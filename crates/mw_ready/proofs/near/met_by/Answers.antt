@@ -1,6 +1,4 @@
-use Rattle.std.proofs.Common.{arith, ◌<◌, ◌%◌, ◌/◌, ◌≡◌}
-use Rattle.mw_grid.specs.Grids.{columns_of, rows_of}
-use Rattle.mw_grid.proofs.Lines.{row_less}
+use Rattle.std.proofs.Common.{arith}
 use Rattle.mw_ready.proofs.Boxes.{block_given, row_within}
 use Rattle.mw_ready.proofs.near.met_by.Goals as goal
 

@@ -1,5 +1,5 @@
-use Rattle.std.proofs.Common.{arith, ◌∙◌, ◌+◌, get_or, true, false, sym, ap, subst, ◌≡◌, refl, length}
-use Rattle.mw_grid.specs.Grids.{columns_of, rows_of, tile_count}
+use Rattle.std.proofs.Common.{arith, ◌∙◌, ◌+◌, get_or, sym, ap, subst, refl, length}
+use Rattle.mw_grid.specs.Grids.{columns_of, rows_of}
 use Rattle.mw_ready.specs.Queues.{Queued, Lowers}
 use Rattle.mw_ready.specs.Boards.{no_need}
 use Rattle.mw_ready.proofs.Boxes.{lowers_step, lowers_skip, step_waits, lowers_all_given, boxes_fit, readers}

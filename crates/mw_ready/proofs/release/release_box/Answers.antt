@@ -1,4 +1,4 @@
-use Rattle.std.proofs.Common.{arith, ◌∙◌, ◌/◌, ◌%◌, ◌*◌, ◌+◌, ◌&&◌}
+use Rattle.std.proofs.Common.{◌∙◌, ◌/◌, ◌%◌, ◌*◌, ◌+◌, ◌&&◌}
 use Rattle.mw_ready.specs.Queues.{in_range}
 use Rattle.mw_ready.proofs.Lowering.{row_waits, lowers_more, box_more}
 use Rattle.mw_ready.proofs.release.release_box.Goals as goal

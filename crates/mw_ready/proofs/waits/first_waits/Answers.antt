@@ -1,4 +1,4 @@
-use Rattle.std.proofs.Common.{◌≡◌, ℕ, ◌+◌, ◌*◌, ◌<◌, ◌∙◌, length, ap, sym, subst, refl, arith, get_or}
+use Rattle.std.proofs.Common.{◌*◌, ◌<◌, length, refl, arith, get_or}
 use Rattle.mw_grid.specs.Grids.{tile_count}
 use Rattle.mw_ready.specs.Boards.{no_need}
 use Rattle.mw_ready.specs.Kept.{read_count}

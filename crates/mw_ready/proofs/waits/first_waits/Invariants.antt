@@ -5,12 +5,14 @@ use Rattle.mw_ready.proofs.waits.first_waits.Given as goal
 
 abbrev pub invariant-loop-k : goal.invariant-loop-k
 invariant-loop-k l = record {
-    size : vec_len l.waits ≡ l.k * tile_count l.grid;
-    capacity : length l.needs * tile_count l.grid ≤ vec_capacity l.waits;
-    each : (t : ℕ) → t < vec_len l.waits → get_or l.waits.items t 0 ≡ read_count l.needs l.grid (length l.needs * tile_count l.grid) t }
+  size : vec_len l.waits ≡ l.k * tile_count l.grid;
+  capacity : length l.needs * tile_count l.grid ≤ vec_capacity l.waits;
+  each : (t : ℕ) → t < vec_len l.waits → get_or l.waits.items t 0 ≡ read_count l.needs l.grid (length l.needs * tile_count l.grid) t;
+}
 
 abbrev pub invariant-loop-tile : goal.invariant-loop-tile
 invariant-loop-tile l = record {
-    size : vec_len l.waits ≡ l.k * tile_count l.grid + l.tile;
-    capacity : length l.needs * tile_count l.grid ≤ vec_capacity l.waits;
-    each : (t : ℕ) → t < vec_len l.waits → get_or l.waits.items t 0 ≡ read_count l.needs l.grid (length l.needs * tile_count l.grid) t }
+  size : vec_len l.waits ≡ l.k * tile_count l.grid + l.tile;
+  capacity : length l.needs * tile_count l.grid ≤ vec_capacity l.waits;
+  each : (t : ℕ) → t < vec_len l.waits → get_or l.waits.items t 0 ≡ read_count l.needs l.grid (length l.needs * tile_count l.grid) t;
+}

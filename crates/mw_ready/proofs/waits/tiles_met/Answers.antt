@@ -1,4 +1,4 @@
-use Rattle.std.proofs.Common.{◌≡◌, ℕ, ◌-◌, ◌*◌, arith, ◌∙◌}
+use Rattle.std.proofs.Common.{arith}
 use Rattle.mw_model.specs.Places.{grown}
 use Rattle.mw_model.specs.Tasks.{meets}
 use Rattle.mw_grid.specs.Grids.{tile_count, tile_at}

@@ -1,7 +1,6 @@
-use Rattle.std.proofs.Common.{◌≡◌, ℕ, ◌+◌, ◌-◌, ◌<◌, ◌≤◌, length, List, ap, sym, subst, ◌∙◌, arith, inl, inr}
-use Rattle.std.proofs.lemmas.Bool.{cases_lt}
+use Rattle.std.proofs.Common.{ℕ, ◌-◌, ◌<◌, ◌≤◌, length, List, ap, subst, ◌∙◌, arith}
 use Rattle.mw_ready.specs.Queues.{Queued, IsQueue, list_at}
-use Rattle.mw_ready.proofs.Orders.{list_at-items, handed-here, handed-later, length-handed_less, list-length, list_empty}
+use Rattle.mw_ready.proofs.Orders.{handed-here, handed-later, length-handed_less, list-length, list_empty}
 use Rattle.mw_ready.proofs.Opens.{steps_small, length-items_of}
 use Rattle.mw_ready.proofs.queue.Queue.find.Goals as goal
 

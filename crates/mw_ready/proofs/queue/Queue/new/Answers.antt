@@ -1,4 +1,4 @@
-use Rattle.std.proofs.Common.{◌≡◌, ℕ, ◌+◌, ◌*◌, ◌∙◌, [], ◌∷◌, List, ap, sym, subst, arith, length, length-append}
+use Rattle.std.proofs.Common.{ℕ, ◌+◌, ◌*◌, ◌∙◌, [], ◌∷◌, List, ap, subst, arith, length, length-append}
 use Rattle.std.specs.Global.{Vec}
 use Rattle.mw_ready.specs.Queues.{Listed}
 use Rattle.mw_ready.proofs.Opens.{free, total_next, listed-more, room-more, count-more_step}

@@ -33,10 +33,11 @@ invariant_of-self c =
     let s = c.args.task / a.tiles in
     let room = list_room q a.total c.args.task c.self.invariant.0 within waits in
     let s-lt : c.args.task / a.tiles < length a.ready.items = omega (arith, room.0, length-items_of a.ready.items) in
-    let list-is = list_at-items a.ready.items (items_of a.ready.items) s w.result.now refl s-lt w.ensures.value in
-    (opened_given q a.total c.args.task (c.index.result.now - 1) (items_of (set a.ready.items s c.push_reserved.new.self)) c.self.invariant.0 within waits idle c.if-left-eq0.true
-        (items-set a.ready.items s c.push_reserved.new.self (list_at q.ready s ++ c.args.task % a.tiles ∷ []) (c.push_reserved.ensures.items ∙ ap (λ (xs : List ℕ). xs ++ c.args.task % a.tiles ∷ []) (sym list-is))),
-      room-set a.tiles s a.ready.items c.push_reserved.new.self c.self.invariant.1 s-lt (omega (arith, c.push_reserved.ensures.capacity, room-at a.tiles s a.ready.items w.result.now c.self.invariant.1 s-lt w.ensures.value)))
+    let list-is = list_at-items a.ready.items (items_of a.ready.items) s w.result.now refl s-lt w.ensures.value in (
+      opened_given q a.total c.args.task (c.index.result.now - 1) (items_of (set a.ready.items s c.push_reserved.new.self)) c.self.invariant.0 within waits idle c.if-left-eq0.true
+          (items-set a.ready.items s c.push_reserved.new.self (list_at q.ready s ++ c.args.task % a.tiles ∷ []) (c.push_reserved.ensures.items ∙ ap (λ (xs : List ℕ). xs ++ c.args.task % a.tiles ∷ []) (sym list-is))),
+      room-set a.tiles s a.ready.items c.push_reserved.new.self c.self.invariant.1 s-lt (omega (arith, c.push_reserved.ensures.capacity, room-at a.tiles s a.ready.items w.result.now c.self.invariant.1 s-lt w.ensures.value)),
+    )
 
 pub invariant_of-self-else-left-eq0 : goal.invariant_of-self-else-left-eq0
 invariant_of-self-else-left-eq0 c =

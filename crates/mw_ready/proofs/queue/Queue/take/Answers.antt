@@ -1,4 +1,4 @@
-use Rattle.std.proofs.Common.{arith, ◌≡◌, ℕ, ◌+◌, ◌*◌, ◌-◌, ◌∙◌, ◌<◌, List, length, get_or, ap, sym, set, subst, true, refl}
+use Rattle.std.proofs.Common.{arith, ◌≡◌, ℕ, ◌+◌, ◌*◌, ◌∙◌, ◌<◌, List, length, get_or, ap, sym, set, subst, true, refl}
 use Rattle.std.specs.List.{swap_remove}
 use Rattle.std.proofs.lemmas.List.{get_or_default}
 use Rattle.mw_ready.specs.Queues.{Queued, list_at, is_open}
@@ -17,10 +17,11 @@ invariant_of-self c =
     let at-lt = subst (λ (v : Queued). i < length (list_at v.ready s)) (sym c.self.view_is) c.find-step.ensures.at in
     let s-lt : s < length a.ready.items = omega (arith, step-lt, length-items_of a.ready.items) in
     let list-is = list_at-items a.ready.items (items_of a.ready.items) s c.index_mut.result.now refl s-lt c.index_mut.ensures.value in
-    let u = c.swap_remove-tile.result in
-    (taken_given q a.total s i u (items_of (set a.ready.items s c.swap_remove-tile.new.self)) c.self.invariant.0 step-lt at-lt (c.swap_remove-tile.ensures.value ∙ ap (λ (xs : List ℕ). get_or xs i u) (sym list-is))
-        (items-set a.ready.items s c.swap_remove-tile.new.self (swap_remove (list_at q.ready s) i u) (c.swap_remove-tile.ensures.items ∙ ap (λ (xs : List ℕ). swap_remove xs i u) (sym list-is))),
-      room-set a.tiles s a.ready.items c.swap_remove-tile.new.self c.self.invariant.1 s-lt (omega (arith, c.swap_remove-tile.ensures.capacity, room-at a.tiles s a.ready.items c.index_mut.result.now c.self.invariant.1 s-lt c.index_mut.ensures.value)))
+    let u = c.swap_remove-tile.result in (
+      taken_given q a.total s i u (items_of (set a.ready.items s c.swap_remove-tile.new.self)) c.self.invariant.0 step-lt at-lt (c.swap_remove-tile.ensures.value ∙ ap (λ (xs : List ℕ). get_or xs i u) (sym list-is))
+          (items-set a.ready.items s c.swap_remove-tile.new.self (swap_remove (list_at q.ready s) i u) (c.swap_remove-tile.ensures.items ∙ ap (λ (xs : List ℕ). swap_remove xs i u) (sym list-is))),
+      room-set a.tiles s a.ready.items c.swap_remove-tile.new.self c.self.invariant.1 s-lt (omega (arith, c.swap_remove-tile.ensures.capacity, room-at a.tiles s a.ready.items c.index_mut.result.now c.self.invariant.1 s-lt c.index_mut.ensures.value)),
+    )
 
 pub returns-clause-tile : goal.returns-clause-tile
 returns-clause-tile c =
@@ -63,4 +64,4 @@ returns-clause-opened c =
     let u = c.swap_remove-tile.result in
     let u-is = c.swap_remove-tile.ensures.value ∙ ap (λ (xs : List ℕ). get_or xs i u) (sym list-is) ∙ get_or_default (list_at q.ready s) i u 0 at-lt in
     subst (λ (v : Queued). is_open v.started v.waiting (s * v.tiles + c.from.result) ≡ true) c.self.view_is
-      (ap (λ (k : ℕ). is_open q.started q.waiting (s * q.tiles + k)) c.from.ensures ∙ (listed_open q a.total s i u c.self.invariant.0 step-lt at-lt u-is).2)
+    (ap (λ (k : ℕ). is_open q.started q.waiting (s * q.tiles + k)) c.from.ensures ∙ (listed_open q a.total s i u c.self.invariant.0 step-lt at-lt u-is).2)

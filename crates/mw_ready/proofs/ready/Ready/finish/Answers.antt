@@ -1,8 +1,5 @@
-use Rattle.std.proofs.Common.{◌≡◌, ◌<◌, ℕ, ◌+◌, ◌-◌, ◌*◌, ◌/◌, ◌∙◌, ap, subst, sym, refl, arith, length, true, set, List}
-use Rattle.mw_grid.specs.Grids.{tile_count}
-use Rattle.mw_ready.specs.declared.need.Need.{Need}
-use Rattle.mw_ready.specs.Boards.{Board, Turns, ready_tasks, is_ready, is_running, task_number, task_count, step_of, Runs}
-use Rattle.mw_ready.specs.Queues.{Queued, Lowers, Waiting, is_open}
+use Rattle.std.proofs.Common.{ℕ, ◌+◌, ◌-◌, ◌*◌, ◌∙◌, subst, sym, true, set}
+use Rattle.mw_ready.specs.Boards.{Turns, task_number, Runs}
 use Rattle.mw_ready.specs.Kept.{board_of, Keeps}
 use Rattle.mw_ready.proofs.Keeping.{some_run, readers_wait_given, finish_keeps_given, number_within}
 use Rattle.mw_ready.proofs.ready.Ready.finish.Goals as goal
@@ -32,7 +29,9 @@ invariant_of-self c =
     let a = c.self.inside in
     let b = board_of a.needs.items a.grid a.queue a.finished.items in
     let runs = subst (λ (v : Turns). Runs v.board c.args.step c.args.tile) (sym c.self.view_is) c.requires in
-    let e = c.release_readers.ensures in
-    (subst (λ (k : ℕ). Keeps (board_of a.needs.items a.grid c.release_readers.new.queue (set a.finished.items (c.args.step * k + c.args.tile) true)) c.release_readers.new.queue.waiting (a.running - 1) (a.remaining - 1)) (sym c.len.ensures.value)
-        (finish_keeps_given b a.queue.waiting c.release_readers.new.queue.waiting c.release_readers.new.queue.started c.deref.result.now a.running a.remaining c.args.step c.args.tile c.self.invariant.0 runs c.deref.ensures.value e.lowers e.same.started),
-      e.same.tiles ∙ c.self.invariant.1, c.self.invariant.2)
+    let e = c.release_readers.ensures in (
+      subst (λ (k : ℕ). Keeps (board_of a.needs.items a.grid c.release_readers.new.queue (set a.finished.items (c.args.step * k + c.args.tile) true)) c.release_readers.new.queue.waiting (a.running - 1) (a.remaining - 1)) (sym c.len.ensures.value)
+          (finish_keeps_given b a.queue.waiting c.release_readers.new.queue.waiting c.release_readers.new.queue.started c.deref.result.now a.running a.remaining c.args.step c.args.tile c.self.invariant.0 runs c.deref.ensures.value e.lowers e.same.started),
+      e.same.tiles ∙ c.self.invariant.1,
+      c.self.invariant.2,
+    )

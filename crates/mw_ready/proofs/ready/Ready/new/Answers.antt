@@ -1,4 +1,4 @@
-use Rattle.std.proofs.Common.{◌≡◌, ℕ, ◌*◌, ◌<◌, ◌^◌, ◌∙◌, List, length, replicate, false, ap, sym, subst, arith, rules, get_or}
+use Rattle.std.proofs.Common.{◌≡◌, ℕ, ◌*◌, ◌∙◌, List, length, replicate, false, ap, sym, subst, arith, rules, get_or}
 use Rattle.mw_grid.specs.Grids.{tile_count}
 use Rattle.mw_ready.specs.declared.need.Need.{Need}
 use Rattle.mw_ready.specs.Kept.{read_count}
@@ -21,8 +21,10 @@ invariant_of-result c =
     let size : c.in_ok-waiting.waiting.len ≡ length needs.items * tile_count g = c.in_ok-waiting.ensures.size ∙ ap (λ (xs : List Need). length xs * tile_count g) c.deref.ensures.value in
     let small = product_small (length needs.items) (tile_count g) (omega (arith, c.requires, needs-len)) (omega (arith, c.len-tiles.ensures.value, c.len-tiles.ensures.small)) in
     let fin : c.in_ok-finished.finished.items ≡ replicate c.in_ok-waiting.waiting.len false = search rules in
-    let started : q.started ≡ replicate (length needs.items * tile_count g) false = e.started ∙ ap (λ (k : ℕ). replicate (k * c.len-tiles.result) false) (c.len-2.ensures ∙ sym needs-len) ∙ ap (λ (k : ℕ). replicate (length needs.items * k) false) c.len-tiles.ensures.value in
-    (keeps_fresh needs.items g q c.in_ok-finished.finished.items c.len-remaining.result (omega (arith, small)) started (fin ∙ ap (λ (k : ℕ). replicate k false) size)
-        (ap (λ (xs : List ℕ). length xs) e.waiting ∙ (let ok = c.in_ok-waiting.waiting.ok in omega (arith, size))) (c.len-remaining.ensures ∙ size)
-        (λ t lt. ap (λ (xs : List ℕ). get_or xs t 0) e.waiting ∙ subst (λ (xs : List Need). get_or c.in_ok-waiting.waiting.items t 0 ≡ read_count xs g (length xs * tile_count g) t) c.deref.ensures.value (c.in_ok-waiting.ensures.each t (omega (arith, size)))),
-      e.tiles ∙ c.len-tiles.ensures.value, omega (arith, c.requires, needs-len))
+    let started : q.started ≡ replicate (length needs.items * tile_count g) false = e.started ∙ ap (λ (k : ℕ). replicate (k * c.len-tiles.result) false) (c.len-2.ensures ∙ sym needs-len) ∙ ap (λ (k : ℕ). replicate (length needs.items * k) false) c.len-tiles.ensures.value in (
+      keeps_fresh needs.items g q c.in_ok-finished.finished.items c.len-remaining.result (omega (arith, small)) started (fin ∙ ap (λ (k : ℕ). replicate k false) size)
+          (ap (λ (xs : List ℕ). length xs) e.waiting ∙ (let ok = c.in_ok-waiting.waiting.ok in omega (arith, size))) (c.len-remaining.ensures ∙ size)
+          (λ t lt. ap (λ (xs : List ℕ). get_or xs t 0) e.waiting ∙ subst (λ (xs : List Need). get_or c.in_ok-waiting.waiting.items t 0 ≡ read_count xs g (length xs * tile_count g) t) c.deref.ensures.value (c.in_ok-waiting.ensures.each t (omega (arith, size)))),
+      e.tiles ∙ c.len-tiles.ensures.value,
+      omega (arith, c.requires, needs-len),
+    )

@@ -1,11 +1,8 @@
-use Rattle.std.proofs.Common.{◌≡◌, ◌<◌, ℕ, ◌+◌, ◌*◌, ◌/◌, ◌∙◌, ap, subst, sym, refl, arith, length, true, List}
-use Rattle.mw_grid.specs.Grids.{tile_count}
-use Rattle.mw_ready.specs.declared.need.Need.{Need}
-use Rattle.mw_ready.specs.Boards.{Board, Turns, ready_tasks, is_ready, is_running, task_number, task_count, step_of, Runs}
-use Rattle.mw_ready.specs.Queues.{Queued, Lowers, Waiting, is_open}
-use Rattle.mw_ready.specs.Kept.{board_of, Keeps}
+use Rattle.std.proofs.Common.{◌≡◌, ◌<◌, ◌+◌, ◌*◌, ◌∙◌, subst, sym, refl, arith, length, true}
+use Rattle.mw_ready.specs.Boards.{Turns, ready_tasks, is_ready, is_running, task_number, task_count}
+use Rattle.mw_ready.specs.Kept.{board_of}
 use Rattle.mw_ready.proofs.Counts.{count-most}
-use Rattle.mw_ready.proofs.Keeping.{count_is, start_keeps_given, ready_given, step_of_number, open_number}
+use Rattle.mw_ready.proofs.Keeping.{count_is, start_keeps_given, step_of_number, open_number}
 use Rattle.mw_ready.proofs.ready.Ready.start.Goals as goal
 
 pub take-task-requires : goal.take-task-requires
@@ -25,9 +22,11 @@ pub invariant_of-self : goal.invariant_of-self
 invariant_of-self c =
     let a = c.self.inside in
     let b = board_of a.needs.items a.grid a.queue a.finished.items in
-    let e = c.take-task.ensures in
-    (start_keeps_given b a.queue.waiting c.take-task.new.self.waiting c.take-task.new.self.started a.running a.remaining (c.take-task.result.0 * a.queue.tiles + c.take-task.result.1) c.self.invariant.0 e.within e.opened e.started e.waiting,
-      e.tiles ∙ c.self.invariant.1, c.self.invariant.2)
+    let e = c.take-task.ensures in (
+      start_keeps_given b a.queue.waiting c.take-task.new.self.waiting c.take-task.new.self.started a.running a.remaining (c.take-task.result.0 * a.queue.tiles + c.take-task.result.1) c.self.invariant.0 e.within e.opened e.started e.waiting,
+      e.tiles ∙ c.self.invariant.1,
+      c.self.invariant.2,
+    )
 
 pub returns-clause-step : goal.returns-clause-step
 returns-clause-step c =
@@ -35,7 +34,7 @@ returns-clause-step c =
     let b = board_of a.needs.items a.grid a.queue a.finished.items in
     let e = c.take-task.ensures in
     subst (λ (v : Turns). c.take-task.result.0 < length v.board.needs) c.self.view_is
-      (step_of_number b a.queue.waiting a.running a.remaining a.queue.tiles c.take-task.result.0 c.take-task.result.1 c.self.invariant.0 c.self.invariant.1 e.within)
+    (step_of_number b a.queue.waiting a.running a.remaining a.queue.tiles c.take-task.result.0 c.take-task.result.1 c.self.invariant.0 c.self.invariant.1 e.within)
 
 pub returns-clause-ready : goal.returns-clause-ready
 returns-clause-ready c =
@@ -43,4 +42,4 @@ returns-clause-ready c =
     let b = board_of a.needs.items a.grid a.queue a.finished.items in
     let e = c.take-task.ensures in
     subst (λ (v : Turns). is_ready v.board (task_number v.board.grid c.take-task.result.0 c.take-task.result.1) ≡ true) c.self.view_is
-      (open_number b a.queue.waiting a.running a.remaining a.queue.tiles c.take-task.result.0 c.take-task.result.1 c.self.invariant.0 c.self.invariant.1 e.within e.opened)
+    (open_number b a.queue.waiting a.running a.remaining a.queue.tiles c.take-task.result.0 c.take-task.result.1 c.self.invariant.0 c.self.invariant.1 e.within e.opened)
