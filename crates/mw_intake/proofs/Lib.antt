@@ -1,6 +1,8 @@
+-- what other crates may cite
 pub mod Front
-mod Misses
-mod Splits
+-- the crate's own
 mod Fields
 mod LineLaws
+mod Misses
 mod SaidLines
+mod Splits

@@ -1,7 +1,7 @@
 -- The line of what can be said is read as that.
 use Rattle.std.proofs.Common.{◌≡◌, ℕ, ◌<◌, Bool, true, false, not, List, [], ◌∷◌, ◌++◌, map, refl, ap, ◌∙◌, Some, decimal, arith}
 use Rattle.std.specs.List.{join_with_byte, AllByRecursion, list_all}
-use Rattle.std.proofs.lemmas.Bool.{and_parts, ne_eqb}
+use Rattle.std.proofs.lemmas.Bool.{and_parts, ne_eqb, not-true}
 use Rattle.std.proofs.lemmas.Fmt.{digits_decimal}
 use Rattle.mw_model.specs.declared.names.Name.{Name}
 use Rattle.mw_model.specs.declared.operations.Op.{Op}
@@ -31,21 +31,17 @@ no_blank_of p (b ∷ word) at h =
     let q = and_parts (p b) (list_all p word) h in
     rw (not_blank p b at q.0) (no_blank_of p word at q.1)
 
-not_true : (b : Bool) → not b ≡ true → b ≡ false
-not_true true h = cc
-not_true false h = refl
-
 split_last : (word : List ℕ) → list_all (λ b. not (is_blank b)) word ≡ true → words word ≡ word ∷ []
 split_last [] h = refl
 split_last (b ∷ word) h =
     let q = and_parts (not (is_blank b)) (list_all (λ c. not (is_blank c)) word) h in
-    rw (not_true (is_blank b) q.0, split_last word q.1) refl
+    rw (not-true (is_blank b) q.0, split_last word q.1) refl
 
 split_before : (word behind : List ℕ) → list_all (λ b. not (is_blank b)) word ≡ true → words (word ++ 32 ∷ behind) ≡ word ∷ words behind
 split_before [] behind h = refl
 split_before (b ∷ word) behind h =
     let q = and_parts (not (is_blank b)) (list_all (λ c. not (is_blank c)) word) h in
-    rw (not_true (is_blank b) q.0, split_before word behind q.1) refl
+    rw (not-true (is_blank b) q.0, split_before word behind q.1) refl
 
 -- words without blanks, joined by single blanks, are the words of the line
 split_joined : (word : List ℕ) (ws : List (List ℕ)) → AllByRecursion NoBlank (word ∷ ws) → words (join_with_byte 32 (word ∷ ws)) ≡ word ∷ ws
