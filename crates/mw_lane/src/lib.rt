@@ -29,6 +29,3 @@ pub use lanes::Lanes;
 pub use shifted::combine_shifted;
 pub use subtract::subtract_rows;
 pub use threshold::threshold_row;
-
-#[cfg(test)]
-mod tests;

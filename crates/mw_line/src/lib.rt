@@ -31,6 +31,3 @@ pub use rectangles::rectangle;
 pub use sliding::line;
 pub use steps::Steps;
 pub use window_rows::combine_window_row;
-
-#[cfg(test)]
-mod tests;

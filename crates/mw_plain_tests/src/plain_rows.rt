@@ -1,6 +1,6 @@
 //! The worked rows of each operator, by the plain program.
 
-use crate::images::{BAR, bit_row, grey_row, shows};
+use mw_images_for_tests::{BAR, bit_row, grey_row};
 use mw_model::plain::PlainImage;
 use mw_model::{Kind, NoMemory, Offset, plain};
 use std::alloc::Global;
@@ -68,7 +68,7 @@ fn five_samples_by_one_element(rt: HostRuntime) -> Result<(), Fail> {
         (Operator::WhiteTopHat, [2, 0, 3, 0, 4], [3, 0, 0, 0, 0]),
         (Operator::BlackTopHat, [0, 2, 0, 3, 0], [6, 0, 0, 0, 0]),
     ];
-    let f = grey_row(&rt, rt.alloc(), 9, &[3, 1, 4, 1, 5])?;
+    let f = grey_row(rt.alloc(), 9, &[3, 1, 4, 1, 5])?;
     for (operator, by_bar, by_pixel) in rows {
         gives(&rt, rt.alloc(), operator, &f, &BAR, &by_bar)?;
         gives(&rt, rt.alloc(), operator, &f, &RIGHT, &by_pixel)?;
@@ -76,61 +76,116 @@ fn five_samples_by_one_element(rt: HostRuntime) -> Result<(), Fail> {
     Ok(())
 }
 
+/// Stops where the image has other samples.
+fn shows(rt: &impl Abort, image: &PlainImage, samples: &[u16]) {
+    assert!(rt; image.samples() == samples);
+}
+
+fn ranked(alloc: Global, f: &PlainImage, k: u32) -> Result<PlainImage, NoMemory> {
+    plain::rank(alloc, f, &BAR, k)
+}
+
 #[test]
 fn ranks(rt: HostRuntime) -> Result<(), Fail> {
-    let f = grey_row(&rt, rt.alloc(), 9, &[3, 1, 4, 1, 5])?;
-    let rows = [
+    let f = grey_row(rt.alloc(), 9, &[3, 1, 4, 1, 5])?;
+    for (k, wanted) in [
         (1, [1, 1, 1, 1, 1]),
         (2, [3, 3, 1, 4, 5]),
         (3, [3, 4, 4, 5, 5]),
-    ];
-    for (k, wanted) in rows {
-        let ranked = plain::rank(rt.alloc(), &f, &BAR, k)?;
-        shows(&rt, &ranked, &wanted, "a rank");
+    ] {
+        shows(&rt, &ranked(rt.alloc(), &f, k)?, &wanted);
     }
     Ok(())
 }
 
+fn at_least(alloc: Global, f: &PlainImage, level: u32) -> Result<PlainImage, NoMemory> {
+    plain::threshold(alloc, f, level)
+}
+
 #[test]
-fn levels(rt: HostRuntime) -> Result<(), Fail> {
-    let f = grey_row(&rt, rt.alloc(), 9, &[3, 1, 4, 1, 5])?;
-    let high = plain::threshold(rt.alloc(), &f, 4)?;
-    shows(&rt, &high, &[0, 0, 1, 0, 1], "threshold");
+fn levels_from_one_on(rt: HostRuntime) -> Result<(), Fail> {
+    let f = grey_row(rt.alloc(), 9, &[3, 1, 4, 1, 5])?;
+    let high = at_least(rt.alloc(), &f, 4)?;
+    shows(&rt, &high, &[0, 0, 1, 0, 1]);
     assert!(rt; high.kind() == Kind::Bit && high.maxval() == 1);
-    let rest = plain::complement(rt.alloc(), &f)?;
-    shows(&rt, &rest, &[6, 8, 5, 8, 4], "complement");
     Ok(())
+}
+
+fn inverted(alloc: Global, f: &PlainImage) -> Result<PlainImage, NoMemory> {
+    plain::complement(alloc, f)
+}
+
+#[test]
+fn levels_below_the_maxval(rt: HostRuntime) -> Result<(), Fail> {
+    let f = grey_row(rt.alloc(), 9, &[3, 1, 4, 1, 5])?;
+    shows(&rt, &inverted(rt.alloc(), &f)?, &[6, 8, 5, 8, 4]);
+    Ok(())
+}
+
+/// How far each sample lies above the one to its left.
+fn rises(alloc: Global, f: &PlainImage) -> Result<PlainImage, NoMemory> {
+    plain::hit_or_miss(alloc, f, &ORIGIN, &LEFT)
 }
 
 #[test]
 fn hits_and_misses(rt: HostRuntime) -> Result<(), Fail> {
-    let f = grey_row(&rt, rt.alloc(), 9, &[3, 1, 4, 1, 5])?;
-    let rises = plain::hit_or_miss(rt.alloc(), &f, &ORIGIN, &LEFT)?;
-    shows(&rt, &rises, &[3, 0, 3, 0, 4], "rises");
-    let set = bit_row(&rt, rt.alloc(), &[0, 1, 1, 0, 1])?;
-    assert!(rt; set.maxval() >= 1);
-    let starts = plain::set_hit_or_miss(rt.alloc(), &set, &ORIGIN, &LEFT)?;
-    shows(&rt, &starts, &[0, 1, 0, 0, 1], "starts");
+    let f = grey_row(rt.alloc(), 9, &[3, 1, 4, 1, 5])?;
+    shows(&rt, &rises(rt.alloc(), &f)?, &[3, 0, 3, 0, 4]);
     Ok(())
+}
+
+/// The pixels of a set whose left neighbour is not in it.
+fn starts(alloc: Global, set: &PlainImage) -> Result<PlainImage, Fail> {
+    if set.maxval() == 0 {
+        return Err("a set".into());
+    }
+    Ok(plain::set_hit_or_miss(alloc, set, &ORIGIN, &LEFT)?)
+}
+
+#[test]
+fn hits_and_misses_of_a_set(rt: HostRuntime) -> Result<(), Fail> {
+    let set = bit_row(rt.alloc(), &[0, 1, 1, 0, 1])?;
+    shows(&rt, &starts(rt.alloc(), &set)?, &[0, 1, 0, 0, 1]);
+    Ok(())
+}
+
+const LINE: [u16; 7] = [0, 1, 1, 1, 1, 1, 0];
+
+fn skeleton(alloc: Global) -> Result<PlainImage, Fail> {
+    Ok(plain::skeleton(alloc, &bit_row(alloc, &LINE)?, &BAR, 2)?)
+}
+
+fn restored(alloc: Global, marks: &PlainImage) -> Result<PlainImage, NoMemory> {
+    plain::restoration(alloc, marks, &BAR, 2)
 }
 
 #[test]
 fn a_line_and_its_skeleton(rt: HostRuntime) -> Result<(), Fail> {
-    let line = bit_row(&rt, rt.alloc(), &[0, 1, 1, 1, 1, 1, 0])?;
-    let marks = plain::skeleton(rt.alloc(), &line, &BAR, 2)?;
-    shows(&rt, &marks, &[0, 0, 0, 3, 0, 0, 0], "skeleton");
+    let marks = skeleton(rt.alloc())?;
+    shows(&rt, &marks, &[0, 0, 0, 3, 0, 0, 0]);
     assert!(rt; marks.kind() == Kind::Grey && marks.maxval() == 3);
-    let restored = plain::restoration(rt.alloc(), &marks, &BAR, 2)?;
-    shows(&rt, &restored, line.samples(), "restoration");
+    shows(&rt, &restored(rt.alloc(), &marks)?, &LINE);
     Ok(())
 }
 
+fn volumes(alloc: Global) -> Result<Vec<u64>, Fail> {
+    let set = bit_row(alloc, &[0, 1, 1, 1, 0, 1, 0])?;
+    Ok(plain::spectrum(alloc, &set, &BAR, 2)?)
+}
+
 #[test]
-fn a_spectrum_and_its_text(rt: HostRuntime) -> Result<(), Fail> {
-    let set = bit_row(&rt, rt.alloc(), &[0, 1, 1, 1, 0, 1, 0])?;
-    let volumes = plain::spectrum(rt.alloc(), &set, &BAR, 2)?;
-    assert!(rt; volumes.as_slice() == [4, 3, 0].as_slice());
-    let text = plain::curve_text(rt.alloc(), &volumes)?;
+fn a_spectrum(rt: HostRuntime) -> Result<(), Fail> {
+    assert!(rt; volumes(rt.alloc())?.as_slice() == [4, 3, 0].as_slice());
+    Ok(())
+}
+
+fn text_of(alloc: Global, volumes: &[u64]) -> Result<Vec<u8>, NoMemory> {
+    plain::curve_text(alloc, volumes)
+}
+
+#[test]
+fn the_text_of_a_spectrum(rt: HostRuntime) -> Result<(), Fail> {
+    let text = text_of(rt.alloc(), &[4, 3, 0])?;
     assert!(rt; text.as_slice() == b"V 0 4\nV 1 3\nV 2 0\nS 0 1\nS 1 3\nR 0\n".as_slice());
     Ok(())
 }

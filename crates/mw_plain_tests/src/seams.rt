@@ -1,40 +1,22 @@
 //! Long rows over the seams of tiles.
 
-use crate::images::{
-    BAR, bit_row, element, full_square, grey_row, long_line, plane_of, sample_of, shows,
-};
-use crate::kernels::agree_on_tiles;
-use mw_element::Element;
+use crate::kernels::makes;
+use mw_images_for_tests::{BAR, bit_row, element, full_square, grey_row, long_line};
 use mw_model::plain;
 use mw_model::plain::PlainImage;
-use mw_pixel::{Bit, Extremum, Max, Min, Pixel};
+use mw_pixel::{Bit, Max, Min};
 use std::alloc::Global;
-use std::process::Abort;
 use std::test::Fail;
-
-/// Stops where a kernel makes another row, in tiles of 64 columns or in one piece.
-fn makes<P: Pixel, E: Extremum<P>>(
-    rt: &impl Abort,
-    alloc: Global,
-    row: &PlainImage,
-    element: &Element,
-    wanted: &PlainImage,
-) -> Result<(), Fail> {
-    let plane = plane_of::<P>(rt, alloc, row)?;
-    let neutral = E::neutral(sample_of::<P>(row.maxval())?);
-    agree_on_tiles::<P, E>(rt, alloc, &plane, element, neutral, 64, wanted)?;
-    agree_on_tiles::<P, E>(rt, alloc, &plane, element, neutral, 1024, wanted)
-}
 
 #[test]
 fn a_sample_reaches_over_the_seam(rt: HostRuntime) -> Result<(), Fail> {
     let alloc = rt.alloc();
     let mut samples = [0u16; 65];
     samples[64] = 9;
-    let f = grey_row(&rt, alloc, 9, &samples)?;
+    let f = grey_row(alloc, 9, &samples)?;
     samples[63] = 9;
     let dilated = plain::dilation(alloc, &f, &BAR)?;
-    shows(&rt, &dilated, &samples, "dilation");
+    assert!(rt; dilated.samples() == samples.as_slice());
     let bar = element(alloc, b"P1\n3 1\n111\n", 1, 0)?;
     makes::<u8, Max>(&rt, alloc, &f, &bar, &dilated)?;
     makes::<u16, Max>(&rt, alloc, &f, &bar, &dilated)
@@ -45,9 +27,9 @@ fn a_place_reaches_over_the_seam(rt: HostRuntime) -> Result<(), Fail> {
     let alloc = rt.alloc();
     let mut places = [0u16; 65];
     places[64] = 1;
-    let f = bit_row(&rt, alloc, &places)?;
+    let f = bit_row(alloc, &places)?;
     places[63] = 1;
-    let wanted = bit_row(&rt, alloc, &places)?;
+    let wanted = bit_row(alloc, &places)?;
     let bar = element(alloc, b"P1\n3 1\n111\n", 1, 0)?;
     makes::<Bit, Max>(&rt, alloc, &f, &bar, &wanted)
 }
@@ -56,7 +38,7 @@ fn a_place_reaches_over_the_seam(rt: HostRuntime) -> Result<(), Fail> {
 fn one_pixel_under_a_full_square(rt: HostRuntime) -> Result<(), Fail> {
     let alloc = rt.alloc();
     let full = full_square(alloc)?;
-    let pixel = grey_row(&rt, alloc, 255, &[200])?;
+    let pixel = grey_row(alloc, 255, &[200])?;
     makes::<u8, Min>(&rt, alloc, &pixel, &full, &pixel)?;
     makes::<u8, Max>(&rt, alloc, &pixel, &full, &pixel)
 }
@@ -70,15 +52,14 @@ fn ramp(alloc: Global, lower: u16, higher: u16) -> Result<Vec<u16>, Fail> {
     Ok(levels)
 }
 
-fn ramp_row(rt: &impl Abort, alloc: Global, lower: u16, higher: u16) -> Result<PlainImage, Fail> {
-    grey_row(rt, alloc, 255, &ramp(alloc, lower, higher)?)
+fn ramp_row(alloc: Global, lower: u16, higher: u16) -> Result<PlainImage, Fail> {
+    grey_row(alloc, 255, &ramp(alloc, lower, higher)?)
 }
 
 #[test]
 fn a_long_row_under_a_long_line(rt: HostRuntime) -> Result<(), Fail> {
     let alloc = rt.alloc();
-    let rising = ramp_row(&rt, alloc, 0, 0)?;
-    let line = long_line(alloc)?;
-    makes::<u8, Min>(&rt, alloc, &rising, &line, &ramp_row(&rt, alloc, 127, 0)?)?;
-    makes::<u8, Max>(&rt, alloc, &rising, &line, &ramp_row(&rt, alloc, 0, 127)?)
+    let (rising, line) = (ramp_row(alloc, 0, 0)?, long_line(alloc)?);
+    makes::<u8, Min>(&rt, alloc, &rising, &line, &ramp_row(alloc, 127, 0)?)?;
+    makes::<u8, Max>(&rt, alloc, &rising, &line, &ramp_row(alloc, 0, 127)?)
 }

@@ -1,7 +1,6 @@
 //! The counted call on lines beside the plain program: rows and bars around the lengths of blocks.
 
-use crate::images::{extrema, noise, row_of, sample_of};
-use crate::rows::are_levels;
+use mw_images_for_tests::{are_levels, extrema, noise, row_of, sample_of};
 use mw_line::{Steps, line};
 use mw_model::plain::PlainImage;
 use mw_model::{Kind, Offset};
@@ -98,7 +97,7 @@ fn agree<P: Pixel, Least: Extremum<P>, Greatest: Extremum<P>>(
     maxval: u16,
 ) -> Result<(), Fail> {
     for width in [1, 2, 3, 64, 65, 200] {
-        let image = noise(rt, alloc, kind, width, 1, maxval)?;
+        let image = noise(alloc, kind, width, 1, maxval)?;
         for bar in BARS {
             agree_by::<P, Least, Greatest>(rt, alloc, &image, *bar)?;
         }

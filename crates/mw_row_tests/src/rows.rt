@@ -1,6 +1,6 @@
-//! Calls on rows of samples beside plain loops and the plain program.
+//! Calls on rows of 0 to 200 samples, beside plain loops and the plain program.
 
-use crate::images::{noise, row_of};
+use mw_images_for_tests::{are_levels, noise, row_of};
 use mw_lane::{Lanes, combine_rows, equal_rows, subtract_rows, threshold_row};
 use mw_model::plain::PlainImage;
 use mw_model::{Kind, plain};
@@ -8,19 +8,6 @@ use mw_pixel::{Bit, Extremum, Max, Min, Pixel, copies};
 use std::alloc::Global;
 use std::process::Abort;
 use std::test::Fail;
-
-/// Whether these are the levels of the samples.
-pub(crate) fn are_levels<P: Pixel>(samples: &[P], levels: &[u16]) -> bool {
-    if samples.len() != levels.len() {
-        return false;
-    }
-    for i in 0..levels.len() {
-        if samples[i].value() != levels[i] {
-            return false;
-        }
-    }
-    true
-}
 
 fn lesser(alloc: Global, f: &[u16], g: &[u16]) -> Result<Vec<u16>, Fail> {
     let mut levels = Vec::new(alloc);
@@ -90,6 +77,10 @@ fn subtract<P: Lanes>(
     subtract_as::<P>(rt, alloc, f.samples(), g.samples(), less.samples())
 }
 
+fn all_set(alloc: Global, count: usize) -> Result<Vec<Bit>, Fail> {
+    Ok(copies(alloc, count, Bit::SET)?)
+}
+
 fn threshold_as<P: Lanes>(
     rt: &impl Abort,
     alloc: Global,
@@ -98,7 +89,7 @@ fn threshold_as<P: Lanes>(
     wanted: &[u16],
 ) -> Result<(), Fail> {
     let row = row_of::<P>(alloc, f)?;
-    let mut set = copies(alloc, row.len(), Bit::SET)?;
+    let mut set = all_set(alloc, row.len())?;
     assert!(rt; set.len() == row.len());
     threshold_row(&row, level, &mut set);
     assert!(rt; are_levels(&set, wanted), "from {level} on");
@@ -145,55 +136,93 @@ fn is_one<P: Lanes>(
     Ok(())
 }
 
-/// A row is its copy, and no row that differs in one place or in length; `shorter` is a front of the levels.
+/// The levels and one more.
+fn longer(alloc: Global, levels: &[u16]) -> Result<Vec<u16>, Fail> {
+    let mut longer = levels.to_vec(alloc)?;
+    longer.push(0)?;
+    Ok(longer)
+}
+
+/// A row is its copy, no longer one, and none that differs in one place from `first` on.
 fn tell_apart<P: Lanes>(
     rt: &impl Abort,
     alloc: Global,
     levels: &[u16],
-    shorter: &[u16],
+    first: usize,
 ) -> Result<(), Fail> {
+    let longer = longer(alloc, levels)?;
     is_one::<P>(rt, alloc, levels, levels, true)?;
-    is_one::<P>(rt, alloc, levels, shorter, false)?;
-    is_one::<P>(rt, alloc, shorter, levels, false)?;
-    for place in 0..levels.len() {
+    is_one::<P>(rt, alloc, levels, &longer, false)?;
+    is_one::<P>(rt, alloc, &longer, levels, false)?;
+    for place in first..levels.len() {
         is_one::<P>(rt, alloc, levels, &changed(alloc, levels, place)?, false)?;
     }
     Ok(())
 }
 
+/// The two extrema, the difference and the thresholds of a row, and whether it is told from another length and from a row
+/// with another last sample.
+fn agree<P: Lanes, Least: Extremum<P>, Greatest: Extremum<P>>(
+    rt: &impl Abort,
+    alloc: Global,
+    f: &PlainImage,
+    g: &PlainImage,
+    levels: &[u16],
+) -> Result<(), Fail> {
+    merge::<P, Least, Greatest>(rt, alloc, f.samples(), g.samples())?;
+    subtract::<P>(rt, alloc, f, g)?;
+    threshold::<P>(rt, alloc, f, levels)?;
+    tell_apart::<P>(rt, alloc, f.samples(), f.samples().len().saturating_sub(1))
+}
+
+/// So many levels without a pattern.
+fn greys(alloc: Global, width: u32, maxval: u16) -> Result<PlainImage, Fail> {
+    noise(alloc, Kind::Grey, width, 1, maxval)
+}
+
+/// So many pixels without a pattern.
+fn pixels(alloc: Global, width: u32) -> Result<PlainImage, Fail> {
+    Ok(plain::threshold(alloc, &greys(alloc, width, 99)?, 50)?)
+}
+
 #[test]
 fn rows_of_bytes(rt: HostRuntime) -> Result<(), Fail> {
-    let alloc = rt.alloc();
-    let f = noise(&rt, alloc, Kind::Grey, 70, 3, 255)?;
-    let g = noise(&rt, alloc, Kind::Grey, 70, 3, 99)?;
-    merge::<u8, Min, Max>(&rt, alloc, f.samples(), g.samples())?;
-    subtract::<u8>(&rt, alloc, &f, &g)?;
-    // a byte is less than 256 and 300, whatever it is
-    threshold::<u8>(&rt, alloc, &f, &[0, 1, 128, 255, 256, 300, 65535])?;
-    let front = noise(&rt, alloc, Kind::Grey, 69, 3, 255)?;
-    tell_apart::<u8>(&rt, alloc, f.samples(), front.samples())
+    for width in 0..211 {
+        let f = greys(rt.alloc(), width, 255)?;
+        let g = greys(rt.alloc(), width, 99)?;
+        // a byte is less than 256 and 300, whatever it is
+        let levels = [0, 1, 100, 128, 255, 256, 300, 65535];
+        agree::<u8, Min, Max>(&rt, rt.alloc(), &f, &g, &levels)?;
+    }
+    Ok(())
 }
 
 #[test]
 fn rows_of_two_bytes(rt: HostRuntime) -> Result<(), Fail> {
-    let alloc = rt.alloc();
-    let f = noise(&rt, alloc, Kind::Grey, 70, 3, 65535)?;
-    let g = noise(&rt, alloc, Kind::Grey, 70, 3, 40000)?;
-    merge::<u16, Min, Max>(&rt, alloc, f.samples(), g.samples())?;
-    subtract::<u16>(&rt, alloc, &f, &g)?;
-    threshold::<u16>(&rt, alloc, &f, &[0, 1, 256, 32768, 65535])?;
-    let front = noise(&rt, alloc, Kind::Grey, 69, 3, 65535)?;
-    tell_apart::<u16>(&rt, alloc, f.samples(), front.samples())
+    for width in 0..211 {
+        let f = greys(rt.alloc(), width, 65535)?;
+        let g = greys(rt.alloc(), width, 40000)?;
+        let levels = [0, 1, 100, 256, 32768, 65535];
+        agree::<u16, Min, Max>(&rt, rt.alloc(), &f, &g, &levels)?;
+    }
+    Ok(())
 }
 
 #[test]
 fn rows_of_pixels(rt: HostRuntime) -> Result<(), Fail> {
-    let alloc = rt.alloc();
-    let f = noise(&rt, alloc, Kind::Bit, 70, 3, 1)?;
-    let g = plain::threshold(alloc, &noise(&rt, alloc, Kind::Grey, 70, 3, 99)?, 50)?;
-    merge::<Bit, Min, Max>(&rt, alloc, f.samples(), g.samples())?;
-    subtract::<Bit>(&rt, alloc, &f, &g)?;
-    threshold::<Bit>(&rt, alloc, &f, &[0, 1, 2, 65535])?;
-    let front = noise(&rt, alloc, Kind::Bit, 69, 3, 1)?;
-    tell_apart::<Bit>(&rt, alloc, f.samples(), front.samples())
+    for width in 0..211 {
+        let f = noise(rt.alloc(), Kind::Bit, width, 1, 1)?;
+        let g = pixels(rt.alloc(), width)?;
+        agree::<Bit, Min, Max>(&rt, rt.alloc(), &f, &g, &[0, 1, 2, 65535])?;
+    }
+    Ok(())
+}
+
+#[test]
+fn rows_that_differ_in_one_sample(rt: HostRuntime) -> Result<(), Fail> {
+    let set = noise(rt.alloc(), Kind::Bit, 210, 1, 1)?;
+    tell_apart::<Bit>(&rt, rt.alloc(), set.samples(), 0)?;
+    let levels = greys(rt.alloc(), 210, 255)?;
+    tell_apart::<u8>(&rt, rt.alloc(), levels.samples(), 0)?;
+    tell_apart::<u16>(&rt, rt.alloc(), levels.samples(), 0)
 }

@@ -1,0 +1,16 @@
+//! Tests of rows of samples beside plain loops and the plain program: whole rows, rows merged with a part of another, and
+//! sliding extrema along a line.
+//!
+//! ```text
+//! rt test     // in this folder
+//! ```
+#![tactic(auto)]
+
+#[cfg(test)]
+mod lines;
+#[cfg(test)]
+mod rows;
+#[cfg(test)]
+mod shifted_rows;
+#[cfg(test)]
+mod worked_lines;
