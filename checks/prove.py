@@ -62,9 +62,10 @@ def text(path):
 class Crate:
     """A crate to prove: its work in lines, and the run that proves it."""
 
-    def __init__(self, name, needs, is_wanted):
+    def __init__(self, name, needs, is_wanted, room):
         self.name, self.needs, self.below = name, needs[name], all_below(name, needs)
-        self.home = f"{ROOT}/crates/{name}"
+        self.home, self.top = f"{ROOT}/crates/{name}", f"{room}/{name}"
+        self.place, self.said_file = f"{self.top}/crates/{name}", f"{room}/{name}.said"
         texts = {file: text(file) for file in sources(name)}
         # Each check reads the libraries below first, which takes as long as some lines.
         self.lines = 150 + sum(it.count("\n") for it in texts.values())
@@ -85,10 +86,8 @@ class Crate:
     def wanted_status(self):
         return int(text(f"{self.home}/status").strip() or 0) if self.is_program else 0
 
-    def furnish(self, room):
-        """Lays out a repository of this crate and those below it in the room's folder."""
-        self.top = f"{room}/{self.name}"
-        self.place = f"{self.top}/crates/{self.name}"
+    def furnish(self):
+        """Lays out a repository of this crate and those below it in the crate's own folder."""
         for name in [self.name, *self.below]:
             for part in PARTS:
                 if os.path.isdir(f"{ROOT}/crates/{name}/{part}"):
@@ -101,10 +100,10 @@ class Crate:
         if os.path.isdir(f"{self.home}/out"):
             os.rename(f"{self.home}/out", f"{self.place}/out")
 
-    def start(self, room, jobs):
+    def start(self, jobs):
         self.jobs, self.began = jobs, time.monotonic()
-        self.furnish(room)
-        self.said = open(f"{room}/{self.name}.said", "w+", errors="replace")
+        self.furnish()
+        self.said = open(self.said_file, "w+", errors="replace")
         given = f"{self.home}/stdin"
         with open(given if self.is_program and os.path.isfile(given) else os.devnull, "rb") as stdin:
             how = {"stdin": stdin, "stdout": self.said, "stderr": subprocess.STDOUT}
@@ -139,8 +138,8 @@ def linked(source, target):
 class Proving:
     """All crates that are to be proved: those that wait, those that run, and those that are done."""
 
-    def __init__(self, crates, lanes, room):
-        self.crates, self.lanes, self.room = crates, lanes, room
+    def __init__(self, crates, lanes):
+        self.crates, self.lanes = crates, lanes
         self.waiting, self.running, self.done, self.failed = list(crates.values()), [], [], []
         self.memory = 0.85 * free_memory()
         self.chains = {}
@@ -184,12 +183,14 @@ class Proving:
             spare = min(MOST_JOBS, idle // (len(ready) - at), int(2 * room / crate.memory() - 1))
             self.waiting.remove(crate)
             self.running.append(crate)
-            crate.start(self.room, max(1, spare))
+            crate.start(max(1, spare))
 
     def settle(self, crate):
         self.running.remove(crate)
         crate.give_back()
         (self.done if crate.is_well() else self.failed).append(crate)
+        if not self.failed:
+            self.start_some()
         took = as_time(time.monotonic() - crate.began)
         self.say(f"{crate.name} {'done' if crate.is_well() else 'FAILED'} after {took}")
         if not crate.is_well():
@@ -198,9 +199,8 @@ class Proving:
 
     def to_the_end(self):
         last = time.monotonic()
+        self.start_some()
         while self.running or self.waiting and not self.failed:
-            if not self.failed:
-                self.start_some()
             for crate in [it for it in self.running if it.ended()]:
                 self.settle(crate)
                 last = time.monotonic()
@@ -211,10 +211,12 @@ class Proving:
         return not self.failed
 
     def stop(self):
+        started = [it.run for it in self.running if it.run]
+        for run in started:
+            run.terminate()
+        for run in started:
+            run.wait()
         for crate in self.running:
-            crate.run.terminate()
-        for crate in self.running:
-            crate.run.wait()
             crate.give_back()
 
 
@@ -270,7 +272,7 @@ def main():
     names = sorted(names, key=lambda it: len(all_below(it, needs)))
     held, room, began = locked(names), work_room(), time.monotonic()
     take_back(room)
-    proving = Proving({name: Crate(name, needs, name in wanted.crates) for name in names}, max(1, wanted.jobs), room)
+    proving = Proving({name: Crate(name, needs, name in wanted.crates, room) for name in names}, max(1, wanted.jobs))
     for it in (signal.SIGINT, signal.SIGTERM):
         signal.signal(it, end)
     try:
