@@ -4,3 +4,4 @@ pub mod OneImage
 pub mod Fitting
 pub mod Planes
 pub mod Refused
+pub mod WindowsFit

@@ -1,27 +1,37 @@
 //! What holds of plans and their faults. Each function is a law, and does nothing.
 
-ghost use Rattle.std.specs.Prelude.{◌≡◌, ◌<◌, ℕ, List, [], ◌∷◌, length, Option, Some, None, option_map, slice_index_or};
+ghost use Rattle.std.specs.Prelude.{◌≡◌, ◌<◌, ◌≤◌, ℕ, List, [], ◌∷◌, length, Option, Some, None, option_map, slice_index_or};
 ghost use Rattle.std.specs.List.{AllByRecursion};
 ghost use Rattle.mw_model.specs.declared.calls.Call.{Call};
 ghost use Rattle.mw_model.specs.declared.calls.Call.TheVariants as call;
 ghost use Rattle.mw_model.specs.declared.names.Name.{Name};
 ghost use Rattle.mw_model.specs.declared.operations.Op.{Op};
+ghost use Rattle.mw_model.specs.declared.places.Rect.{Rect};
 ghost use Rattle.mw_model.specs.Machine.{shape_of_result};
 ghost use Rattle.mw_model.specs.Pictures.{Picture};
+ghost use Rattle.mw_model.specs.PlanSteps.{PlanStep};
 ghost use Rattle.mw_model.specs.Plans.{IsSourceAt, Plan, no_picture, plane_of, planes};
 ghost use Rattle.mw_model.specs.Refusals.{Table, inputs_wanted, name_taken, no_room, refusal};
 ghost use Rattle.mw_model.specs.Tasks.{nothing_planned};
 ghost use Rattle.mw_model.specs.Values.{Value};
+ghost use Rattle.mw_task.specs.Sources.{AreCut};
+ghost use Rattle.mw_task.specs.WindowTasks.{FitsStep};
+ghost use Rattle.mw_tile.specs.Windows.{SourceWindow};
 ghost use Rattle.mw_plan.specs.declared.inputs.Input.{Input};
 ghost use Rattle.mw_plan.specs.Asked.{fault_in, shape_made};
 ghost use Rattle.mw_plan.specs.Faults.{code_of};
-ghost use Rattle.mw_plan.specs.PlansOf.{planes_read};
+ghost use Rattle.mw_plan.specs.PlansOf.{CanBeMade, planes_read};
 ghost use Rattle.mw_plan.specs.Tables.{AreEntries};
 
 /// A plan has a plane for each step, and where a step reads earlier steps, its plane is what it makes of their planes.
 pub fn planes_are_of_steps()
     ensures count { (plan : Plan) (images : List Picture) (width height : ℕ) → length (planes plan images width height) ≡ length plan }
     ensures each { (plan : Plan) (images : List Picture) (width height k inputs : ℕ) → k < length plan → AllByRecursion (IsSourceAt inputs k) (slice_index_or plan k nothing_planned).sources → slice_index_or (planes plan images width height) k no_picture ≡ plane_of (slice_index_or plan k nothing_planned).step (planes_read plan images width height k) width height }
+{}
+
+/// Where a step can be made of its planes, each of its tasks can be made of the windows that it reads.
+pub fn tasks_of_plans_fit()
+    ensures { (s : PlanStep) (sources : List Picture) (width height : ℕ) (tile : Rect) (windows : List SourceWindow) → AreCut s sources width height tile windows → width ≤ 8192 → height ≤ 8192 → 1 ≤ tile.width → 1 ≤ tile.height → CanBeMade s sources → FitsStep s tile windows }
 {}
 
 /// Where the inputs are entries that are neither dead nor released, the machine refuses a RUN by the first fault, and the

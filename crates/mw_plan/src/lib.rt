@@ -20,7 +20,7 @@ mod sliding;
 pub use faults::PlanFault;
 pub use flat::plan_of;
 pub use inputs::Input;
-pub use laws::{faults_are_refusals, planes_are_of_steps};
+pub use laws::{faults_are_refusals, planes_are_of_steps, tasks_of_plans_fit};
 pub use mw_laws::laws::hits_of_sets;
 pub use mw_model::{FlatOp, GranOp, NoMemory, OffsetBox, Op, Shape};
 pub use mw_task::{Element, Step};
