@@ -1,0 +1,4 @@
+pub mod Planes
+pub mod StepPlanes
+pub mod Boxes
+pub mod Iterates

@@ -1,0 +1,2 @@
+//! Skeletons, restorations and spectra as plans.
+#![tactic(auto)]
