@@ -6,6 +6,7 @@ use Rattle.mw_model.specs.Pictures.{Picture, sample, redrawn}
 use Rattle.mw_model.specs.Flat.{under, greatest, erosion, dilation, negated}
 use Rattle.mw_model.specs.Iterates.{times, level_set, union, restoration, volume, spectrum}
 use Rattle.mw_model.specs.Laws.{SameShape}
+use Rattle.mw_gran.specs.Turns.{restored}
 use Rattle.mw_model.proofs.Covers.{below_greatest, greatest_below}
 use Rattle.mw_model.proofs.ImagePlaces.{drawn_same, sample-redrawn, redrawn_shape, shape_trans, shape_sym, shape_itself}
 use Rattle.mw_model.proofs.ImageOrder.{sample-dilation}
@@ -60,12 +61,7 @@ union-assoc f g h shape =
     go : (s a b c t : ℕ) → s ≡ max a b → t ≡ max b c → max s c ≡ max a t
     go s a b c t e d = omega arith
 
--- what is restored of the marks above n, in so many turns
-unfoldable pub restored : List Offset → ℕ → ℕ → Picture → Picture
-restored b n zero g = level_set (n + 1) g
-restored b n (suc m) g = union (restored b n m g) (times (suc m) (dilation (negated b)) (level_set (n + m + 2) g))
-
-restored_shape : (b : List Offset) (n m : ℕ) (g : Picture) → SameShape (restored b n m g) (level_set (n + 1) g)
+pub restored_shape : (b : List Offset) (n m : ℕ) (g : Picture) → SameShape (restored b n m g) (level_set (n + 1) g)
 unfolding restored
 restored_shape b n zero g = shape_itself (level_set (n + 1) g)
 restored_shape b n (suc m) g = shape_trans (redrawn_shape (restored b n m g) (λ x y. max (sample (restored b n m g) x y) (sample (times (suc m) (dilation (negated b)) (level_set (n + m + 2) g)) x y))) (restored_shape b n m g)

@@ -1,4 +1,7 @@
 pub mod Planes
-pub mod StepPlanes
-pub mod Boxes
+pub mod MultipliedBoxes
 pub mod Iterates
+pub mod StepPlanes
+pub mod OneMore
+pub mod Actions
+pub mod Turns

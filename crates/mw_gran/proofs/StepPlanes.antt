@@ -10,14 +10,10 @@ use Rattle.mw_model.specs.Flat.{erosion, dilation, negated, opening}
 use Rattle.mw_model.specs.Iterates.{times, is_residue, residue_mark, skeleton, level_set, union}
 use Rattle.mw_model.specs.PlanSteps.{Erode, Dilate, ErodeBox, DilateBox, Join, Blank, Mark, MarkLast, Equal, Sum, here}
 use Rattle.mw_model.specs.Plans.{plane_of}
+use Rattle.mw_gran.specs.Growing.{IsFramed}
+use Rattle.mw_gran.specs.Turns.{marked}
 use Rattle.mw_model.proofs.Covers.{sample_at_in}
 use Rattle.mw_model.proofs.ImagePlaces.{drawn_same, sample-drawn, redrawn_itself}
-
--- the image is of this frame
-pub record IsFramed (f : Picture) (w h : ℕ) : Type 0 where
-  pub width : f.width ≡ w
-  pub height : f.height ≡ h
-  pub size : length f.samples ≡ h * w
 
 pub here_sample : (f : Picture) (width height x y : ℕ) → IsFramed f width height → x < width → y < height → here (sample_at f) x y ≡ sample f x y
 here_sample f width height x y framed p q = rw (sample_at_in f x y (omega (arith, framed.width)) (omega (arith, framed.height))) refl
@@ -52,10 +48,6 @@ plane-join f g width height framed beside =
     ∙ rw (← framed.width, ← framed.height) refl
 
 -- ---- marks
-
--- the marks of the residues of the first n erosions
-abbrev pub marked : List Offset → ℕ → ℕ → Picture → Picture
-marked b depth n f = drawn Grey f.width f.height (depth + 1) (residue_mark b f n)
 
 pub plane-blank : (b : List Offset) (depth : ℕ) (f : Picture) → plane_of (Blank (depth + 1)) [] f.width f.height ≡ marked b depth 0 f
 plane-blank b depth f = refl

@@ -1,1 +1,3 @@
 pub mod Boxes
+pub mod Growing
+pub mod Turns
