@@ -1,2 +1,6 @@
 pub mod Faults
 pub mod Seen
+pub mod Asked
+pub mod PlansOf
+pub mod Steps
+pub mod Tables

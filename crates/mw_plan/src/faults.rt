@@ -3,7 +3,7 @@
 ghost use Rattle.std.specs.Prelude.{◌≡◌};
 ghost use Rattle.mw_plan.specs.Faults.{code_of};
 
-use mw_model::Code;
+use mw_model::{Code, NoMemory};
 
 /// Why an operation is refused on its inputs: the first case that holds, from top to bottom. Memory stands apart.
 #[derive(Clone, Copy, PartialEq, Eq, Debug)]
@@ -37,12 +37,13 @@ impl PlanFault {
     }
 }
 
-impl From<mw_model::NoMemory> for PlanFault {
+impl From<NoMemory> for PlanFault {
     ghost use Rattle.std.specs.Prelude.{◌≡◌};
+    ghost use Rattle.mw_plan.specs.declared.faults.PlanFault.TheVariants as fault;
 
-    fn from(_error: mw_model::NoMemory) -> PlanFault
-        ensures { result ≡ PlanFault.NoMemory }
-    {
+    ghost from_gives = { λ _ e. e ≡ fault.NoMemory };
+
+    fn from(_error: NoMemory) -> PlanFault {
         PlanFault::NoMemory
     }
 }

@@ -7,12 +7,22 @@
 //! ```
 #![tactic(auto)]
 
+mod building;
+mod extremum;
 mod faults;
+mod flat;
 mod inputs;
+mod laws;
 mod plans;
+mod shapes;
+mod sliding;
 
 pub use faults::PlanFault;
+pub use flat::plan_of;
 pub use inputs::Input;
+pub use laws::{faults_are_refusals, planes_are_of_steps};
+pub use mw_laws::laws::hits_of_sets;
 pub use mw_model::{FlatOp, GranOp, NoMemory, OffsetBox, Op, Shape};
 pub use mw_task::{Element, Step};
 pub use plans::{Plan, PlannedStep, Source, Sources};
+pub use shapes::shape_of;

@@ -1,0 +1,119 @@
+-- Full rectangles cover what their boxes cover, turned round or not.
+use Rattle.std.proofs.Common.{◌≡◌, ℕ, suc, List, [], ◌∷◌, ℤ, pos, ◌+ℤ◌, ◌≤ℤ◌, neg_ℤ, refl, sym, subst, arith, inl, inr}
+use Rattle.std.specs.List.{AllByRecursion, Contains}
+use Rattle.std.proofs.lemmas.Int.{ints}
+use Rattle.mw_model.specs.declared.places.Offset.{Offset}
+use Rattle.mw_model.specs.declared.places.OffsetBox.{OffsetBox}
+use Rattle.mw_model.specs.Places.{box_offsets}
+use Rattle.mw_model.specs.Flat.{negated}
+use Rattle.mw_model.specs.Elements.{IsNear, IsFigure, Figure}
+use Rattle.mw_model.proofs.Covers as cover
+use Rattle.mw_model.proofs.Covers.{Covers}
+use Rattle.mw_element.specs.Figures.{FillsBox, InBox, turned}
+use Rattle.mw_laws.proofs.Composed.{CoverSame}
+use Rattle.mw_task.proofs.AllOf.{all_at}
+use Rattle.mw_task.proofs.Boxes.{box_all, box_at}
+use Rattle.mw_plan.specs.Steps.{IsNearBox, turned_box}
+
+-- the offset leads from (x, y) to (u, v)
+abbrev Leads : Offset → ℕ → ℕ → ℕ → ℕ → Type 0
+Leads b x y u v = (pos x +ℤ b.dx ≡ pos u) × (pos y +ℤ b.dy ≡ pos v)
+
+each_contained : {A : Type 0} (P : A → Type 0) (xs : List A) → ((x : A) → Contains xs x → P x) → AllByRecursion P xs
+each_contained P [] each = tt
+each_contained P (x ∷ xs) each = (each x (0, omega arith, refl), each_contained P xs (λ y has. each y (suc has.0, (let lt = has.1 in omega arith), has.2)))
+
+contained : {A : Type 0} (P : A → Type 0) (xs : List A) (x : A) → AllByRecursion P xs → Contains xs x → P x
+contained P xs x all has = subst P has.2 (all_at P xs has.0 x has.1 all)
+
+-- an offset of the list by which it covers
+record Way (Q : Offset → Type 0) (x y u v : ℕ) : Type 0 where
+  by : Offset
+  leads : Leads by x y u v
+  holds : Q by
+
+way : (Q : Offset → Type 0) (bs : List Offset) (x y u v : ℕ) → AllByRecursion Q bs → Covers bs x y u v → Way Q x y u v
+way Q [] x y u v all c = absurd c
+way Q (b ∷ bs) x y u v all (inl e) = record { by = b; leads = e; holds = all.0 }
+way Q (b ∷ bs) x y u v all (inr c) = way Q bs x y u v all.1 c
+
+members : (bs cs : List Offset) (x y u v : ℕ) → (Covers bs x y u v → Covers cs x y u v) → AllByRecursion (λ b. Leads b x y u v → Covers cs x y u v) bs
+members [] cs x y u v into = tt
+members (b ∷ bs) cs x y u v into = ((λ leads. into (inl leads)), members bs cs x y u v (λ c. into (inr c)))
+
+-- an offset of the element, or of the box, covers where it leads
+element_covers : (e : List Offset) (b : Offset) (x y u v : ℕ) → Contains e b → Leads b x y u v → Covers e x y u v
+element_covers e b x y u v has = contained (λ b. Leads b x y u v → Covers e x y u v) e b (members e e x y u v (λ c. c)) has
+
+box_covers : (box : OffsetBox) (b : Offset) (x y u v : ℕ) → InBox box b → Leads b x y u v → Covers (box_offsets box) x y u v
+box_covers box b x y u v inside = box_at (λ b. Leads b x y u v → Covers (box_offsets box) x y u v) box (members (box_offsets box) (box_offsets box) x y u v (λ c. c)) b inside
+
+of_box : (box : OffsetBox) (x y u v : ℕ) → Covers (box_offsets box) x y u v → Way (InBox box) x y u v
+of_box box x y u v c = way (InBox box) (box_offsets box) x y u v (box_all (InBox box) box (λ b inside. inside)) c
+
+of_element : (e : List Offset) (x y u v : ℕ) → Covers e x y u v → Way (Contains e) x y u v
+of_element e x y u v c = way (Contains e) e x y u v (each_contained (Contains e) e (λ b has. has)) c
+
+pub box_same : (box : OffsetBox) (e : List Offset) → FillsBox box e → CoverSame (box_offsets box) e
+box_same box e fills = record {
+  to = λ x y u v c. let w = of_box box x y u v c in element_covers e w.by x y u v ((fills w.by).1 w.holds) w.leads;
+  from = λ x y u v c. let w = of_element e x y u v c in box_covers box w.by x y u v ((fills w.by).0 w.holds) w.leads;
+}
+
+in_turned : (box : OffsetBox) (b : Offset) → InBox box b → InBox (turned_box box) (turned b)
+in_turned box b h = record {
+  left = let p = h.right in omega (arith, ints);
+  right = let p = h.left in omega (arith, ints);
+  top = let p = h.bottom in omega (arith, ints);
+  bottom = let p = h.top in omega (arith, ints);
+}
+
+in_box : (box : OffsetBox) (b : Offset) → InBox (turned_box box) b → InBox box (turned b)
+in_box box b h = record {
+  left = let p = h.right in omega (arith, ints);
+  right = let p = h.left in omega (arith, ints);
+  top = let p = h.bottom in omega (arith, ints);
+  bottom = let p = h.top in omega (arith, ints);
+}
+
+leads_back : (b : Offset) (x y u v : ℕ) → Leads b x y u v → Leads (turned b) u v x y
+leads_back b x y u v h = (back x u b.dx h.0, back y v b.dy h.1)
+  where
+    back : (x u : ℕ) (d : ℤ) → pos x +ℤ d ≡ pos u → pos u +ℤ neg_ℤ d ≡ pos x
+    back x u d e = omega (arith, ints)
+
+pub turned_same : (box : OffsetBox) (e : List Offset) → FillsBox box e → CoverSame (box_offsets (turned_box box)) (negated e)
+turned_same box e fills = record {
+  to = λ x y u v c.
+      let w = of_box (turned_box box) x y u v c in
+      cover.turned e u v x y (element_covers e (turned w.by) u v x y ((fills (turned w.by)).1 (in_box box w.by w.holds)) (leads_back w.by x y u v w.leads));
+  from = λ x y u v c.
+      let w = of_element e u v x y (cover.turned_back e x y u v c) in
+      box_covers (turned_box box) (turned w.by) x y u v (in_turned box w.by ((fills w.by).0 w.holds)) (leads_back w.by u v x y w.leads);
+}
+
+abbrev offset : ℤ → ℤ → Offset
+offset x y = record { dx = x; dy = y }
+
+-- the bounds of a full rectangle are those of its offsets
+pub near_box : (box : OffsetBox) (f : Figure) → IsFigure f → FillsBox box f.offsets → IsNearBox box
+near_box box f figure fills = go f.offsets refl
+  where
+    near : (b : Offset) → InBox box b → IsNear b
+    near b inside = contained IsNear f.offsets b figure.near ((fills b).1 inside)
+
+    within : (b : Offset) → InBox box b → IsNearBox box
+    within b inside =
+        let left = inside.left in
+        let right = inside.right in
+        let top = inside.top in
+        let bottom = inside.bottom in
+        let wide : box.x0 ≤ℤ box.x1 = omega (arith, ints) in
+        let high : box.y0 ≤ℤ box.y1 = omega (arith, ints) in
+        let first = near (offset box.x0 box.y0) (record { left = omega (arith, ints); right = wide; top = omega (arith, ints); bottom = high }) in
+        let last = near (offset box.x1 box.y1) (record { left = wide; right = omega (arith, ints); top = high; bottom = omega (arith, ints) }) in
+        record { left = first.left; right = last.right; top = first.top; bottom = last.bottom; wide = wide; high = high }
+
+    go : (bs : List Offset) → f.offsets ≡ bs → IsNearBox box
+    go [] is = absurd (figure.some is)
+    go (b ∷ bs) is = within b ((fills b).0 (subst (λ (xs : List Offset). Contains xs b) (sym is) (0, omega arith, refl)))
