@@ -11,7 +11,8 @@ use Rattle.mw_model.specs.Plans.{plane_of, FromInput}
 use Rattle.mw_model.proofs.ImagePlaces.{length-rows}
 use Rattle.mw_model.proofs.ImageOrder.{bounded_erosion, bounded_dilation}
 use Rattle.mw_model.proofs.Iterated.{eroded_shape}
-use Rattle.mw_gran.specs.Growing.{IsFramed, Acts, ActsAs, Shows}
+use Rattle.mw_plan.specs.Steps.{ActsAs}
+use Rattle.mw_gran.specs.Growing.{IsFramed, Acts, Shows}
 use Rattle.mw_gran.specs.Turns.{marked}
 use Rattle.mw_gran.proofs.StepPlanes.{plane-sum, plane-equal, plane-join, plane-mark, plane-mark_last}
 

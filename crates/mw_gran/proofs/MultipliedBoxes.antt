@@ -13,7 +13,7 @@ use Rattle.mw_model.specs.Iterates.{times, rectangle}
 use Rattle.mw_model.specs.Laws.{HoldsOrigin}
 use Rattle.mw_model.proofs.Covers.{Covers, turned, turned_back}
 use Rattle.mw_gran.specs.Boxes.{multiplied}
-use Rattle.mw_gran.specs.Boxes.{turned as turned_box}
+use Rattle.mw_plan.specs.Steps.{turned_box}
 use Rattle.mw_model.proofs.ImageLaws.{erosion_picture, dilation_picture}
 use Rattle.mw_element.specs.Figures.{FillsBox, InBox}
 use Rattle.mw_laws.proofs.BoxLaws.{IsWithin, within, covers_within, times-erosion_box, times-dilation_box, negated_rectangle}

@@ -1,5 +1,5 @@
 -- What one more step does to a plan that grows.
-use Rattle.std.proofs.Common.{◌≡◌, ℕ, zero, suc, ◌+◌, ◌-◌, ◌*◌, ◌<◌, ◌≤◌, Bool, true, false, List, [], ◌∷◌, ◌++◌, length, map, sum, refl, ap, sym, subst, arith, ◌∙◌, inl, inr, length-append}
+use Rattle.std.proofs.Common.{◌≡◌, ℕ, zero, suc, ◌+◌, ◌-◌, ◌*◌, ◌<◌, ◌≤◌, Bool, true, false, List, [], ◌∷◌, ◌++◌, length, map, sum, refl, ap, sym, subst, arith, ◌∙◌, inl, inr, length-append, Result, Ok, Err, IfOk}
 use Rattle.std.specs.Prelude.{slice_index_or, Contains}
 use Rattle.std.specs.List.{AllByRecursion}
 use Rattle.std.proofs.lemmas.Bool.{cases_lt, cases_eq}
@@ -155,3 +155,21 @@ now_counts Fits p q step sources s shown operator numbers pushed are acts is cou
     ∙ ap (λ (t : Picture). numbers_from p (planes p (f ∷ []) f.width f.height) ++ sum t.samples ∷ [])
     (ap (λ (t : List Picture). plane_of step t f.width f.height) (are_seen p sources shown are f fits) ∙ acts.plane f fits)
     ∙ ap (λ (t : List ℕ). t ++ sum (operator f).samples ∷ []) (counts f fits)
+
+pub pushed_count : (p q : Plan) (step : PlanStep) (sources : List Source) (s : Source) → IsPushed p q step sources s → length q ≡ suc (length p)
+pushed_count p q step sources s pushed =
+    let x : Planned = record { step = step; sources = sources } in
+    omega (arith, ap length pushed.is, length-append p (x ∷ []))
+
+-- the same step under another name
+pub with_step : (p q : Plan) (first second : PlanStep) (sources : List Source) (s : Source) → first ≡ second → IsPushed p q first sources s → IsPushed p q second sources s
+with_step p q first second sources s same pushed = subst (λ (t : PlanStep). IsPushed p q t sources s) same pushed
+
+-- the first step of a plan
+pub pushed_empty : (p q : Plan) (step : PlanStep) (sources : List Source) (s : Source) → p ≡ [] → IsPushed p q step sources s → IsPushed [] q step sources s
+pushed_empty p q step sources s empty pushed = subst (λ (t : Plan). IsPushed t q step sources s) empty pushed
+
+-- of what a call gives, if it gives anything
+pub if_ok : {A E : Type 0} (r : Result A E) (P Q : A → Type 0) → ((a : A) → P a → Q a) → IfOk r P → IfOk r Q
+if_ok (Ok a) P Q each p = each a p
+if_ok (Err e) P Q each p = p

@@ -1,5 +1,5 @@
 -- One turn after another: skeletons, restorations and spectra.
-use Rattle.std.proofs.Common.{◌≡◌, ℕ, zero, suc, ◌+◌, ◌-◌, ◌*◌, ◌<◌, ◌≤◌, ◌⊎◌, false, List, [], ◌∷◌, ◌++◌, length, sum, refl, ap, sym, subst, arith, ◌∙◌, inl, inr, length-append}
+use Rattle.std.proofs.Common.{◌≡◌, ℕ, zero, suc, ◌+◌, ◌-◌, ◌*◌, ◌/◌, ◌<◌, ◌≤◌, ◌⊎◌, false, List, [], ◌∷◌, ◌++◌, length, sum, refl, ap, sym, subst, arith, ◌∙◌, inl, inr, length-append}
 use Rattle.std.specs.Prelude.{Contains}
 use Rattle.mw_model.specs.declared.places.Offset.{Offset}
 use Rattle.mw_model.specs.declared.places.OffsetBox.{OffsetBox}
@@ -8,25 +8,24 @@ use Rattle.mw_model.specs.Pictures.{Picture, IsPicture, IsSet}
 use Rattle.mw_model.specs.Flat.{erosion, dilation, negated}
 use Rattle.mw_model.specs.Iterates.{times, skeleton, level_set, union, restoration, volume, spectrum}
 use Rattle.mw_model.specs.Laws.{HoldsOrigin}
-use Rattle.mw_model.specs.PlanSteps.{PlanStep, ErodeBox, DilateBox, Join, Blank, Mark, MarkLast, Equal, Sum}
+use Rattle.mw_model.specs.PlanSteps.{PlanStep, Erode, Dilate, ErodeBox, DilateBox, Join, Blank, Mark, MarkLast, Equal, Sum}
 use Rattle.mw_model.specs.Plans.{Plan, Planned, Source, FromInput, FromStep, is_sum}
 use Rattle.mw_model.proofs.Iterated.{times_turn}
 use Rattle.mw_model.proofs.ImageLaws.{erosion_picture}
 use Rattle.mw_element.specs.Figures.{FillsBox}
 use Rattle.mw_plan.specs.PlansOf.{IsReadBy}
-use Rattle.mw_gran.specs.Boxes.{multiplied, turned}
-use Rattle.mw_gran.specs.Growing.{IsFramed, IsPushed, Shows, IsSound, Acts, ActsAs, Counts}
-use Rattle.mw_gran.specs.Turns.{Slides, Draws, marked, MarksResidues, restored, Restores, Tells, StillShown, spectrum_steps, TellsVolumes}
-use Rattle.mw_gran.proofs.OneMore.{AreShown, none, also, still_shows, now_shows, still_sound, still_read, now_read, still_counts, now_counts}
+use Rattle.mw_laws.proofs.Composed.{erosion_same, dilation_same}
+use Rattle.mw_plan.proofs.Boxes.{box_same, turned_same}
+use Rattle.mw_plan.specs.Steps.{turned_box}
+use Rattle.mw_gran.specs.Boxes.{multiplied}
+use Rattle.mw_plan.specs.Steps.{ActsAs}
+use Rattle.mw_gran.specs.Growing.{IsFramed, IsPushed, Shows, IsSound, Acts, Counts}
+use Rattle.mw_gran.specs.Turns.{Slides, Draws, marked, MarksResidues, restored, Restores, Tells, StillShown, spectrum_steps, TellsVolumes, TellsSpectrum}
+use Rattle.mw_gran.proofs.OneMore.{AreShown, none, also, still_shows, now_shows, still_sound, still_read, now_read, still_counts, now_counts, pushed_count}
 use Rattle.mw_gran.proofs.Actions.{times_framed, picture_framed, erosion_framed, dilation_framed, acts_on, acts_equal, acts_sum, acts_join, acts_blank, acts_mark, acts_mark_last, shows_input}
 use Rattle.mw_gran.proofs.Iterates.{restored-turn, restored-all, restored_shape, spectrum-more}
 use Rattle.mw_gran.proofs.StepPlanes.{plane-erode_box, plane-dilate_box}
 use Rattle.mw_gran.proofs.MultipliedBoxes.{erosion-multiplied, dilation-multiplied_turned}
-
-pub pushed_count : (p q : Plan) (step : PlanStep) (sources : List Source) (s : Source) → IsPushed p q step sources s → length q ≡ suc (length p)
-pushed_count p q step sources s pushed =
-    let x : Planned = record { step = step; sources = sources } in
-    omega (arith, ap length pushed.is, length-append p (x ∷ []))
 
 pushed_last : (p q : Plan) (step : PlanStep) (sources : List Source) (s : Source) → IsPushed p q step sources s → s ≡ FromStep (length q - 1)
 pushed_last p q step sources s pushed =
@@ -281,7 +280,7 @@ times_picture b zero f picture = picture
 times_picture b (suc n) f picture = erosion_picture b (times n (erosion b) f)
 
 pub box_turn : (b : List Offset) (box : OffsetBox) (n : ℕ) (p p1 p2 p3 : Plan) (s1 s2 s3 : Source) → FillsBox box b → HoldsOrigin b → Tells p (3 * n + 1) (spectrum b n)
-    → IsPushed p p1 (ErodeBox (multiplied (n + 1) box)) (FromInput 0 ∷ []) s1 → IsPushed p1 p2 (DilateBox (multiplied (n + 1) (turned box))) (s1 ∷ []) s2 → IsPushed p2 p3 Sum (s2 ∷ []) s3
+    → IsPushed p p1 (ErodeBox (multiplied (n + 1) box)) (FromInput 0 ∷ []) s1 → IsPushed p1 p2 (DilateBox (multiplied (n + 1) (turned_box box))) (s1 ∷ []) s2 → IsPushed p2 p3 Sum (s2 ∷ []) s3
     → Tells p3 (3 * (n + 1) + 1) (spectrum b (n + 1))
 box_turn b box n p p1 p2 p3 s1 s2 s3 fills holds tells push1 push2 push3 =
     let eroded : Picture → Picture = times (n + 1) (erosion b) in
@@ -291,13 +290,83 @@ box_turn b box n p p1 p2 p3 s1 s2 s3 fills holds tells push1 push2 push3 =
         plane = λ f fits. plane-erode_box (multiplied (n + 1) box) f f.width f.height (picture_framed f fits) ∙ erosion-multiplied box b (n + 1) f fills holds fits;
         framed = λ f fits. times_framed (erosion b) (erosion_framed b) (n + 1) f f.width f.height (picture_framed f fits);
       } in
-    let acts2 : Acts IsPicture (DilateBox (multiplied (n + 1) (turned box))) (λ f. eroded f ∷ []) opened = record {
+    let acts2 : Acts IsPicture (DilateBox (multiplied (n + 1) (turned_box box))) (λ f. eroded f ∷ []) opened = record {
         made = λ f fits. record { count = refl; kinds = tt };
-        plane = λ f fits. plane-dilate_box (multiplied (n + 1) (turned box)) (eroded f) f.width f.height (acts1.framed f fits) ∙ dilation-multiplied_turned box b (n + 1) (eroded f) fills holds (times_picture b (n + 1) f fits);
+        plane = λ f fits. plane-dilate_box (multiplied (n + 1) (turned_box box)) (eroded f) f.width f.height (acts1.framed f fits) ∙ dilation-multiplied_turned box b (n + 1) (eroded f) fills holds (times_picture b (n + 1) f fits);
         framed = λ f fits. times_framed (dilation (negated b)) (dilation_framed (negated b)) (n + 1) (eroded f) f.width f.height (acts1.framed f fits);
       } in
     let first = tells_no_more p p1 (ErodeBox (multiplied (n + 1) box)) (FromInput 0) s1 (λ f. f) eroded (3 * n + 1) (spectrum b n) push1 (shows_input IsPicture p itself) acts1 refl tells in
-    let second = tells_no_more p1 p2 (DilateBox (multiplied (n + 1) (turned box))) s1 s2 eroded opened (suc (3 * n + 1)) (spectrum b n) push2 first.1 acts2 refl first.0 in
+    let second = tells_no_more p1 p2 (DilateBox (multiplied (n + 1) (turned_box box))) s1 s2 eroded opened (suc (3 * n + 1)) (spectrum b n) push2 first.1 acts2 refl first.0 in
     let third = tells_sum p2 p3 s2 s3 opened (suc (suc (3 * n + 1))) (spectrum b n) push3 second.1 second.0 in
     let steps : suc (suc (suc (3 * n + 1))) ≡ 3 * (n + 1) + 1 = omega arith in
     same_tells p3 (suc (suc (suc (3 * n + 1)))) (3 * (n + 1) + 1) (λ f. spectrum b n f ++ sum (opened f).samples ∷ []) (spectrum b (n + 1)) steps (λ f. sym (spectrum-more b n f)) third
+
+-- the erosion that a turn begins with
+pub turn_erodes : (b : List Offset) (n : ℕ) (p p1 : Plan) (e s1 : Source) (erode dilate : PlanStep) → Slides b erode dilate → TellsVolumes b n p e → IsPushed p p1 erode (e ∷ []) s1
+    → Tells p1 (suc (spectrum_steps n)) (spectrum b n) × Shows IsPicture p1 s1 (λ f. erosion b (times n (erosion b) f))
+turn_erodes b n p p1 e s1 erode dilate slides at pushed =
+    let left : Picture → Picture = times n (erosion b) in
+    tells_no_more p p1 erode e s1 left (λ f. erosion b (left f)) (spectrum_steps n) (spectrum b n) pushed at.shows
+    (acts_on IsPicture erode (erosion b) left slides.erodes (erosion_framed b) at.shows.framed) slides.no_sums.0 at.tells
+
+pub ends_in : (b : List Offset) (n levels : ℕ) (p : Plan) (e : Source) → n ≡ levels → TellsVolumes b n p e → Tells p (spectrum_steps levels) (spectrum b levels)
+ends_in b n levels p e same at = subst (λ (k : ℕ). Tells p (spectrum_steps k) (spectrum b k)) same at.tells
+
+pub boxes_begin : (b : List Offset) (q : Plan) (s : Source) → IsPushed [] q Sum (FromInput 0 ∷ []) s → Tells q (3 * 0 + 1) (spectrum b 0)
+boxes_begin b q s pushed = (spectrum_begins b q s pushed).tells
+
+-- ---- the steps of an element
+
+pub slides_by_box : (box : OffsetBox) (b : List Offset) (dilate : OffsetBox) → FillsBox box b → dilate ≡ turned_box box → Slides b (ErodeBox box) (DilateBox dilate)
+slides_by_box box b dilate fills is = record {
+  erodes = record { made = λ f. record { count = refl; kinds = tt }; plane = λ f. erosion_same (box_offsets box) b f (box_same box b fills) };
+  dilates = subst (λ (t : OffsetBox). ActsAs (DilateBox t) (dilation (negated b))) (sym is)
+      (record { made = λ f. record { count = refl; kinds = tt }; plane = λ f. dilation_same (box_offsets (turned_box box)) (negated b) f (turned_same box b fills) });
+  no_sums = (refl, refl);
+}
+
+pub slides_by_offsets : (b d e : List Offset) → d ≡ b → e ≡ negated b → Slides b (Erode d) (Dilate e)
+slides_by_offsets b d e is turned = record {
+  erodes = subst (λ (t : List Offset). ActsAs (Erode t) (erosion b)) (sym is) (record { made = λ f. record { count = refl; kinds = tt }; plane = λ f. refl });
+  dilates = subst (λ (t : List Offset). ActsAs (Dilate t) (dilation (negated b))) (sym turned) (record { made = λ f. record { count = refl; kinds = tt }; plane = λ f. refl });
+  no_sums = (refl, refl);
+}
+
+-- ---- the steps of a spectrum
+
+half : (a : ℕ) → 2 * a / 2 ≡ a
+half a = omega arith
+
+-- the steps of all turns
+steps_are : (n : ℕ) → spectrum_steps n ≡ n + n * (n + 1) / 2 + n + 1
+steps_are n = go (spectrum_steps n) (n * (n + 1)) (n * (n + 1) / 2) n (spectrum_steps_twice n) refl
+  where
+    go : (s m h n : ℕ) → 2 * s ≡ m + 4 * n + 2 → h ≡ m / 2 → s ≡ n + h + n + 1
+    go s m h n twice is = omega arith
+
+few_by_boxes : (n : ℕ) → 3 * n + 1 ≤ n + n * (n + 1) / 2 + n + 1
+few_by_boxes zero = omega arith
+few_by_boxes (suc n) = go (suc n * (suc n + 1)) n (square n)
+  where
+    square : (n : ℕ) → 2 * suc n ≤ suc n * (suc n + 1)
+    square n = omega arith
+
+    go : (m n : ℕ) → 2 * suc n ≤ m → 3 * suc n + 1 ≤ suc n + m / 2 + suc n + 1
+    go m n le = omega arith
+
+same_length : (p : Plan) (steps : ℕ) (numbers : Picture → List ℕ) → Tells p steps numbers → Tells p (length p) numbers
+same_length p steps numbers tells = subst (λ (n : ℕ). Tells p n numbers) (sym tells.count) tells
+
+pub told_by_boxes : (b : List Offset) (levels : ℕ) (p : Plan) → Tells p (3 * levels + 1) (spectrum b levels) → TellsSpectrum b levels p
+told_by_boxes b levels p tells = record {
+  tells = same_length p (3 * levels + 1) (spectrum b levels) tells;
+  few = (let few = few_by_boxes levels in let is = tells.count in omega arith);
+  boxed = λ box fills holds. tells.count;
+}
+
+pub told_by_turns : (b : List Offset) (levels : ℕ) (p : Plan) → ((box : OffsetBox) → FillsBox box b → HoldsOrigin b → ⊥) → Tells p (spectrum_steps levels) (spectrum b levels) → TellsSpectrum b levels p
+told_by_turns b levels p no_box tells = record {
+  tells = same_length p (spectrum_steps levels) (spectrum b levels) tells;
+  few = (let are = steps_are levels in let is = tells.count in omega arith);
+  boxed = λ box fills holds. absurd (no_box box fills holds);
+}

@@ -39,11 +39,6 @@ pub record Acts (Fits : Picture → Type 0) (step : PlanStep) (shown : Picture �
   pub plane : (f : Picture) → Fits f → plane_of step (shown f) f.width f.height ≡ operator f
   pub framed : (f : Picture) → Fits f → IsFramed (operator f) f.width f.height
 
--- the step can be made of each image, and its plane is this operator of it
-pub record ActsAs (step : PlanStep) (operator : Picture → Picture) : Type 0 where
-  pub made : (f : Picture) → CanBeMade step (f ∷ [])
-  pub plane : (f : Picture) → plane_of step (f ∷ []) f.width f.height ≡ operator f
-
 -- of images that fit, the numbers of the Sum steps so far
 abbrev pub Counts : (Picture → Type 0) → Plan → (Picture → List ℕ) → Type 0
 Counts Fits p numbers = (f : Picture) → Fits f → numbers_from p (planes p (f ∷ []) f.width f.height) ≡ numbers f

@@ -1,14 +1,18 @@
 -- What stands after some turns of a plan (own).
-use Rattle.std.specs.Prelude.{ℕ, zero, suc, false, ◌≡◌, ◌+◌, ◌-◌, ◌*◌, ◌⊎◌, List, length}
+use Rattle.std.specs.Prelude.{ℕ, zero, suc, false, ◌≡◌, ◌+◌, ◌-◌, ◌*◌, ◌/◌, ◌≤◌, ◌⊎◌, List, length}
 use Rattle.mw_model.specs.declared.shapes.Kind.TheVariants.{Grey}
 use Rattle.mw_model.specs.declared.places.Offset.{Offset}
+use Rattle.mw_model.specs.declared.places.OffsetBox.{OffsetBox}
+use Rattle.mw_model.specs.Laws.{HoldsOrigin}
+use Rattle.mw_element.specs.Figures.{FillsBox}
 use Rattle.mw_model.specs.Pictures.{Picture, drawn, IsPicture, IsSet}
 use Rattle.mw_model.specs.Flat.{erosion, dilation, negated}
 use Rattle.mw_model.specs.Iterates.{times, residue_mark, level_set, union, spectrum}
 use Rattle.mw_model.specs.Plans.{Plan, Source, FromInput, FromStep, is_sum}
 use Rattle.mw_plan.specs.PlansOf.{IsReadBy}
 use Rattle.mw_model.specs.PlanSteps.{PlanStep}
-use Rattle.mw_gran.specs.Growing.{ActsAs, IsSound, Shows, Counts}
+use Rattle.mw_plan.specs.Steps.{ActsAs}
+use Rattle.mw_gran.specs.Growing.{IsSound, Shows, Counts}
 
 -- the steps are the erosion by the element, and the dilation by the element turned round
 pub record Slides (b : List Offset) (erode dilate : PlanStep) : Type 0 where
@@ -68,3 +72,9 @@ spectrum_steps (suc n) = spectrum_steps n + n + 3
 pub record TellsVolumes (b : List Offset) (n : ℕ) (p : Plan) (eroded : Source) : Type 0 where
   pub tells : Tells p (spectrum_steps n) (spectrum b n)
   pub shows : Shows IsPicture p eroded (times n (erosion b))
+
+-- a plan with the volumes as its numbers; by a full rectangle that holds its origin it has three steps for each volume but the first
+pub record TellsSpectrum (b : List Offset) (levels : ℕ) (p : Plan) : Type 0 where
+  pub tells : Tells p (length p) (spectrum b levels)
+  pub few : length p ≤ levels + levels * (levels + 1) / 2 + levels + 1
+  pub boxed : (box : OffsetBox) → FillsBox box b → HoldsOrigin b → length p ≡ 3 * levels + 1

@@ -1,13 +1,14 @@
 //! Boxes of offsets, multiplied and turned round.
 
 ghost use Rattle.std.specs.Prelude.{◌≡◌, ◌≤◌};
-ghost use Rattle.mw_gran.specs.Boxes.{IsNearBox, multiplied, turned};
+ghost use Rattle.mw_plan.specs.Steps.{turned_box};
+ghost use Rattle.mw_gran.specs.Boxes.{IsSmallBox, multiplied};
 
 use mw_model::OffsetBox;
 
 /// The box with all four bounds multiplied.
 pub(crate) fn multiplied(offsets: OffsetBox, n: u32) -> OffsetBox
-    requires near { IsNearBox offsets }
+    requires near { IsSmallBox offsets }
     requires small { n ≤ 32 }
     ensures { result ≡ multiplied n offsets }
 {
@@ -22,9 +23,9 @@ pub(crate) fn multiplied(offsets: OffsetBox, n: u32) -> OffsetBox
 
 /// The box turned round its origin.
 pub(crate) fn turned(offsets: OffsetBox) -> OffsetBox
-    requires { IsNearBox offsets }
-    ensures value { result ≡ turned offsets }
-    ensures near { IsNearBox result }
+    requires { IsSmallBox offsets }
+    ensures value { result ≡ turned_box offsets }
+    ensures near { IsSmallBox result }
 {
     OffsetBox {
         x0: -offsets.x1,

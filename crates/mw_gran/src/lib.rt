@@ -8,10 +8,15 @@
 #![tactic(auto)]
 
 mod boxes;
+mod curves;
 mod growing;
+pub mod laws;
+mod plans;
 mod restorations;
 mod skeletons;
 mod sliding;
 mod spectra;
 
+pub use curves::Curve;
 pub use mw_plan::{GranOp, Input, NoMemory, OffsetBox, Plan, PlanFault};
+pub use plans::plan_of;

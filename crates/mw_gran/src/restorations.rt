@@ -25,11 +25,13 @@ fn turn(
     level: u16,
 ) -> Result<Source, NoMemory>
     requires { length plan.old < 65000 }
-    ensures { (b : List Offset) (n m : ℕ) → Slides b (meaning steps.now.erode) (meaning steps.now.dilate) → level ≡ n + 1 → Restores b (n + 1) m plan.old (source restored) → IfOk result (λ s. Restores b n (m + 1) plan.new (source s)) }
+    ensures count { IfOk result (λ _. length plan.new ≡ length plan.old + 3) }
+    ensures restores { (b : List Offset) (n m : ℕ) → Slides b (meaning steps.now.erode) (meaning steps.now.dilate) → level ≡ n + 1 → Restores b (n + 1) m plan.old (source restored) → IfOk result (λ s. Restores b n (m + 1) plan.new (source s)) }
 {
     let marked = add(plan, Step::Equal(level), Sources::One(Source::Input(0)))?;
     let grown = add(plan, steps.dilate.share()?, Sources::One(restored))?;
-    add(plan, Step::Join, Sources::Two(marked, grown))
+    let joined = add(plan, Step::Join, Sources::Two(marked, grown))?;
+    Ok(joined)
 }
 
 /// The plan of a restoration.

@@ -33,7 +33,8 @@ fn turn(
 ) -> Result<Stand, NoMemory>
     requires few { length plan.old < 65000 }
     requires small { n < 254 }
-    ensures { (b : List Offset) (depth : ℕ) → Slides b (meaning steps.now.erode) (meaning steps.now.dilate) → n < depth → MarksResidues b depth n plan.old (source before.eroded) (source before.marks) → IfOk result (λ t. MarksResidues b depth (n + 1) plan.new (source t.eroded) (source t.marks)) }
+    ensures count { IfOk result (λ _. length plan.new ≡ length plan.old + 3) }
+    ensures marks { (b : List Offset) (depth : ℕ) → Slides b (meaning steps.now.erode) (meaning steps.now.dilate) → n < depth → MarksResidues b depth n plan.old (source before.eroded) (source before.marks) → IfOk result (λ t. MarksResidues b depth (n + 1) plan.new (source t.eroded) (source t.marks)) }
 {
     let eroded = add(plan, steps.erode.share()?, Sources::One(before.eroded))?;
     let opened = add(plan, steps.dilate.share()?, Sources::One(eroded))?;
