@@ -1,6 +1,6 @@
 -- An element holds its origin where the test says so.
 use Rattle.std.proofs.Common.{◌≡◌, ℕ, zero, suc, ◌<◌, ◌⊎◌, Bool, true, false, List, [], ◌∷◌, length, ℤ, pos, ap, sym, subst, arith, ◌∙◌, inl, inr, refl}
-use Rattle.std.specs.Prelude.{◌||◌, ◌&&◌, not, Contains}
+use Rattle.std.specs.Prelude.{◌||◌, ◌&&◌, Contains}
 use Rattle.std.specs.Ordering.{int_eq}
 use Rattle.std.proofs.lemmas.Bool.Decides.{Decides-and, Decides-int_eq}
 use Rattle.mw_model.specs.declared.places.Offset.{Offset}
@@ -43,8 +43,8 @@ or_right_true false y e = e
 pub holds : (bs : List Offset) → holds_origin bs ≡ true → HoldsOrigin bs
 holds [] e = absurd cc
 holds (b ∷ bs) e = elim (true_or_false (at_origin b)) [
-  | inl yes ↦ (0, omega arith, is_origin b yes)
-  | inr no ↦ let rest = holds bs (or_right (at_origin b) (holds_origin bs) no e) in (suc rest.0, (let lt = rest.1 in omega arith), rest.2)
+  | inl at_it ↦ (0, omega arith, is_origin b at_it)
+  | inr elsewhere ↦ let rest = holds bs (or_right (at_origin b) (holds_origin bs) elsewhere e) in (suc rest.0, (let lt = rest.1 in omega arith), rest.2)
 ]
 
 pub held : (bs : List Offset) → HoldsOrigin bs → holds_origin bs ≡ true
@@ -53,6 +53,5 @@ held (b ∷ bs) (zero, lt, is) = or_left_true (at_origin b) (holds_origin bs) (o
 held (b ∷ bs) (suc k, lt, is) = or_right_true (at_origin b) (holds_origin bs) (held bs (k, omega arith, is))
 
 -- the test that a branch has made
-pub origin_held : (bs : List Offset) (t : Bool) → t ≡ holds_origin bs → not t ≡ false → HoldsOrigin bs
-origin_held bs true is passed = holds bs (sym is)
-origin_held bs false is passed = absurd cc
+pub origin_held : (bs : List Offset) (t : Bool) → t ≡ holds_origin bs → t ≡ true → HoldsOrigin bs
+origin_held bs t is passed = holds bs (sym is ∙ passed)

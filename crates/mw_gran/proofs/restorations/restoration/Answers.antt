@@ -10,7 +10,9 @@ loop-done-init c =
     let first = pushed_empty _ _ _ _ _ c.in_ok-plan.ensures c.in_ok-restored.ensures in
     record {
       count = (let one : length c.add.new.plan ≡ suc 0 = pushed_count _ _ _ _ _ first in omega arith);
-      restores = λ b slides. restoration_begins b c.args.levels _ _ first;
+      restores = λ b slides.
+          let all : c.args.levels ≡ c.args.levels - 0 = omega arith in
+          subst (λ (n : ℕ). Restores b n 0 c.add.new.plan (source c.in_ok-restored.restored)) all (restoration_begins b c.args.levels _ _ first);
     }
 
 pub loop-done-preserved : goal.loop-done-preserved

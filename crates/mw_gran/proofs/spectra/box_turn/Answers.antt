@@ -1,4 +1,4 @@
-use Rattle.std.proofs.Common.{◌≡◌, suc, length, arith, ap, ◌∙◌}
+use Rattle.std.proofs.Common.{◌≡◌, suc, ◌+◌, length, arith, ap, ◌∙◌}
 use Rattle.mw_model.specs.declared.places.OffsetBox.{OffsetBox}
 use Rattle.mw_model.specs.PlanSteps.{ErodeBox, DilateBox}
 use Rattle.mw_plan.specs.Seen.{source}
@@ -18,4 +18,4 @@ pub returns-clause-tells : goal.returns-clause-tells
 returns-clause-tells c = λ b fills holds tells.
     box_turn b c.args.offsets c.args.n c.args.plan.now c.add.new.plan c.add-2.new.plan c.add-3.new.plan (source c.in_ok-eroded.eroded) (source c.in_ok-opened.opened) (source c.in_ok-add.field-0) fills holds tells
     (with_step _ _ _ _ _ _ (ap ErodeBox c.multiplied.ensures) c.in_ok-eroded.ensures)
-    (with_step _ _ _ _ _ _ (ap DilateBox (c.multiplied-2.ensures ∙ ap (λ (t : OffsetBox). multiplied _ t) c.turned.ensures.value)) c.in_ok-opened.ensures) c.in_ok-add.ensures
+    (with_step _ _ _ _ _ _ (ap DilateBox (c.multiplied-2.ensures ∙ ap (λ (t : OffsetBox). multiplied (c.args.n + 1) t) c.turned.ensures.value)) c.in_ok-opened.ensures) c.in_ok-add.ensures
