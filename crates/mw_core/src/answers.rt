@@ -1,8 +1,8 @@
 //! What the events on tasks, and FETCH, answer.
 
 use mw_model::Reply;
-use mw_task::Work;
 use mw_store::Plate;
+use mw_task::Work;
 
 /// The answer to a worker that asks for a task.
 #[derive(Drop)]

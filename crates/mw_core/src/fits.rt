@@ -1,22 +1,19 @@
 //! Whether a result is that of a task.
 
-ghost use Rattle.std.specs.Prelude.{◌≡◌, ◌↔◌, ◌∷◌, [], true, IsTrue, map};
-ghost use Rattle.std.specs.List.{AllByRecursion};
+ghost use Rattle.std.specs.Prelude.{◌≡◌, ◌↔◌, ◌∷◌, [], true, IsTrue};
 ghost use Rattle.mw_model.specs.Tasks.{flag};
-ghost use Rattle.mw_tile.specs.AnyWindows.{shown, IsSized};
 ghost use Rattle.mw_store.specs.Frames.{whole_window};
 ghost use Rattle.mw_core.specs.Sources.{only_task};
 
 use crate::underway::Underway;
 use mw_model::TaskId;
 use mw_pixel::Image;
-use mw_task::{AnyWindow, TileDone};
 use mw_store::is_whole;
+use mw_task::{AnyWindow, TileDone};
 
 /// Whether the only window is that of the whole of the image.
 fn is_only(windows: &[AnyWindow], image: &Image) -> bool
-    requires { AllByRecursion IsSized windows.now }
-    ensures { IsTrue result ↔ (map shown windows.now ≡ whole_window image.now ∷ []) }
+    ensures { IsTrue result ↔ (windows.now ≡ whole_window image.now ∷ []) }
 {
     match windows {
         [window] => is_whole(window, image),

@@ -12,8 +12,8 @@ ghost use Rattle.mw_core.specs.Planned.{step_of, IsPlanned};
 use crate::underway::Underway;
 use mw_element::Element;
 use mw_model::{FlatOp, NoMemory, Op, Shape, Submission};
-use mw_task::Step;
 use mw_store::Store;
+use mw_task::Step;
 use std::sync::Arc;
 
 /// The only step of an operation on an image and an element.

@@ -7,8 +7,8 @@ use crate::fits::{is_first, is_result};
 use crate::machine::Core;
 use crate::sources::{first_image, first_source};
 use mw_model::{LogItem, NoMemory, Outcome, TaskId};
-use mw_task::{TaskRefused, TileDone, Work};
 use mw_store::{is_pending, whole_window};
+use mw_task::{TaskRefused, TileDone, Work};
 
 /// Why a task is not taken.
 #[derive(Clone, Copy, PartialEq, Eq, Debug)]

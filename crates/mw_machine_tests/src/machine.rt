@@ -160,7 +160,7 @@ fn task_by_hand(alloc: Global, ticket: u32, samples: &[u8]) -> Result<Work, Stop
         return Err(Stop::List);
     }
     let mut windows = Vec::with_capacity(alloc, 1)?;
-    windows.push(AnyWindow::Grey8(Window::new(5, 1, place, samples), 9))?;
+    windows.push(AnyWindow::grey8(Window::new(5, 1, place, samples), 9))?;
     Work::new(task, place, step, windows).ok_or(Stop::List)
 }
 

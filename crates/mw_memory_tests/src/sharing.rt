@@ -51,11 +51,17 @@ fn others(share: &SharedView) -> usize {
 }
 
 /// The window of the whole frame that owns its plane by this share.
-fn window_of(share: SharedView) -> AnyWindow {
+fn window_of(rt: &impl Abort, share: SharedView) -> AnyWindow {
     match share {
-        SharedView::Bits(plane) => AnyWindow::Bits(Window::sharing(plane)),
-        SharedView::Grey8(plane, maxval) => AnyWindow::Grey8(Window::sharing(plane), maxval),
-        SharedView::Grey16(plane, maxval) => AnyWindow::Grey16(Window::sharing(plane), maxval),
+        SharedView::Bits(plane) => AnyWindow::bits(Window::sharing(plane)),
+        SharedView::Grey8(plane, maxval) => {
+            assert!(rt; maxval >= 1);
+            AnyWindow::grey8(Window::sharing(plane), maxval)
+        }
+        SharedView::Grey16(plane, maxval) => {
+            assert!(rt; maxval >= 256);
+            AnyWindow::grey16(Window::sharing(plane), maxval)
+        }
     }
 }
 
@@ -65,7 +71,7 @@ fn owned_by_two(rt: &impl Abort, share: SharedView, window: AnyWindow, wanted: &
     assert!(rt; window.same(wanted));
     drop(window);
     assert!(rt; others(&share) == 0);
-    assert!(rt; window_of(share).same(wanted));
+    assert!(rt; window_of(rt, share).same(wanted));
 }
 
 /// An image, a share and a window own one plane, and it stays where the image goes.
@@ -81,7 +87,7 @@ fn owned_in_turn(
     assert!(rt; others(&first) == 1);
     let second = image.shared().ok_or("others can own the plane")?;
     assert!(rt; others(&first) == 2);
-    let window = window_of(second);
+    let window = window_of(rt, second);
     assert!(rt; others(&first) == 2);
     drop(image);
     owned_by_two(rt, first, window, wanted);
@@ -90,21 +96,21 @@ fn owned_in_turn(
 
 #[test]
 fn sets_share_their_planes(rt: HostRuntime) -> Result<(), Fail> {
-    let set = AnyWindow::Bits(Window::whole(plane_of(rt.alloc(), Bit::SET)?));
+    let set = AnyWindow::bits(Window::whole(plane_of(rt.alloc(), Bit::SET)?));
     let image = Image::bits(plane_of(rt.alloc(), Bit::SET)?);
     owned_in_turn(&rt, rt.alloc(), image, &set)
 }
 
 #[test]
 fn images_of_bytes_share_their_planes(rt: HostRuntime) -> Result<(), Fail> {
-    let grey = AnyWindow::Grey8(Window::whole(plane_of(rt.alloc(), 7u8)?), 9);
+    let grey = AnyWindow::grey8(Window::whole(plane_of(rt.alloc(), 7u8)?), 9);
     let image = Image::grey8(plane_of(rt.alloc(), 7u8)?, 9);
     owned_in_turn(&rt, rt.alloc(), image, &grey)
 }
 
 #[test]
 fn images_of_two_bytes_share_their_planes(rt: HostRuntime) -> Result<(), Fail> {
-    let deep = AnyWindow::Grey16(Window::whole(plane_of(rt.alloc(), 700u16)?), 999);
+    let deep = AnyWindow::grey16(Window::whole(plane_of(rt.alloc(), 700u16)?), 999);
     let image = Image::grey16(plane_of(rt.alloc(), 700u16)?, 999);
     owned_in_turn(&rt, rt.alloc(), image, &deep)
 }

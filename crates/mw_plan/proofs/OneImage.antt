@@ -12,7 +12,7 @@ use Rattle.mw_task.proofs.Cut.{plane_of_two}
 use Rattle.mw_plan.specs.declared.extremum.Extremum.{Extremum}
 use Rattle.mw_plan.specs.declared.extremum.Extremum.TheVariants.{Least, Greatest}
 use Rattle.mw_plan.specs.PlansOf.{AreAlike, CanBeMade, planes_read}
-use Rattle.mw_plan.specs.Steps.{ActsAs, IsChain, Makes, filtering, greater, less, lesser, of_image, of_step, other, residue, sliding}
+use Rattle.mw_plan.specs.Steps.{ActsAs, IsChain, Makes, filtering, greater, less, lesser, of_image, of_step, residue, sliding}
 
 -- the plane of a step on an image
 abbrev plane_on : PlanStep → Picture → Picture
@@ -143,10 +143,12 @@ difference_makes s t first second plan is acts_first acts_second alike = subst (
     }
     made f (suc (suc (suc k))) lt = absurd (omega arith)
 
--- an extremum by one element and the other by another are alike
-pub alike_extrema : (x : Extremum) (e d : List Offset) (f : Picture) → AreAlike (sliding x e f) (sliding (other x) d f)
-alike_extrema Least e d f = (refl, refl)
-alike_extrema Greatest e d f = (refl, refl)
+-- extrema of one image are alike
+pub alike_extrema : (x y : Extremum) (e d : List Offset) (f : Picture) → AreAlike (sliding x e f) (sliding y d f)
+alike_extrema Least Least e d f = (refl, refl)
+alike_extrema Least Greatest e d f = (refl, refl)
+alike_extrema Greatest Least e d f = (refl, refl)
+alike_extrema Greatest Greatest e d f = (refl, refl)
 
 pub residue_makes : (x : Extremum) (e : List Offset) (chain plan : Plan) → IsChain x e chain → plan ≡ chain ++ less (greater x) (lesser x) ∷ [] → Makes 3 (residue x e) plan
 residue_makes Least e chain plan c is =

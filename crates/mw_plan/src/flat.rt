@@ -9,7 +9,7 @@ ghost use Rattle.mw_task.specs.Meanings.{meaning};
 ghost use Rattle.mw_plan.specs.Asked.{IsRefusedBy, fault_in, is_element_input, offsets_of_input};
 ghost use Rattle.mw_plan.specs.PlansOf.{IsPlanOf};
 ghost use Rattle.mw_plan.specs.Seen.{planned};
-ghost use Rattle.mw_plan.specs.Steps.{HasElements, IsChain, Makes, filtering, greater, less, lesser, of_image, operator_of, other, residue, sliding, step_count};
+ghost use Rattle.mw_plan.specs.Steps.{HasElements, IsChain, Makes, filtering, greater, less, lesser, of_image, operator_of, residue, sliding, step_count};
 
 use crate::building::{less, of_image, of_step};
 use crate::extremum::Extremum;
@@ -77,19 +77,20 @@ fn residue(alloc: Global, extremum: Extremum, b: Input<'_>) -> Result<Plan, NoMe
     Ok(plan)
 }
 
-/// An extremum by the first element less the other by the second.
+/// An extremum by the first element less an extremum by the second.
 fn difference(
     alloc: Global,
-    extremum: Extremum,
+    upper: Extremum,
     first: Input<'_>,
+    lower: Extremum,
     second: Input<'_>,
 ) -> Result<Plan, NoMemory>
     requires first { is_element_input first ≡ true }
     requires second { is_element_input second ≡ true }
-    ensures { IfOk result (Makes 3 (λ f. minus (sliding extremum (offsets_of_input first.entry) f) (sliding (other extremum) (offsets_of_input second.entry) f))) }
+    ensures { IfOk result (Makes 3 (λ f. minus (sliding upper (offsets_of_input first.entry) f) (sliding lower (offsets_of_input second.entry) f))) }
 {
-    let greater = slide(extremum, first)?;
-    let lesser = slide(extremum.other(), second)?;
+    let greater = slide(upper, first)?;
+    let lesser = slide(lower, second)?;
     let mut plan = Plan::with_capacity(alloc, 3)?;
     plan.push(of_image(greater))?;
     plan.push(of_image(lesser))?;
@@ -120,12 +121,12 @@ fn steps(alloc: Global, op: &FlatOp, b: Input<'_>, c: Input<'_>) -> Result<Plan,
         FlatOp::Dilate(_, _) => slid(alloc, Extremum::Greatest, b),
         FlatOp::Opening(_, _) => filtered(alloc, Extremum::Least, b),
         FlatOp::Closing(_, _) => filtered(alloc, Extremum::Greatest, b),
-        FlatOp::Gradient(_, _) => difference(alloc, Extremum::Greatest, b, b),
+        FlatOp::Gradient(_, _) => difference(alloc, Extremum::Greatest, b, Extremum::Least, b),
         FlatOp::WhiteTopHat(_, _) => residue(alloc, Extremum::Least, b),
         FlatOp::BlackTopHat(_, _) => residue(alloc, Extremum::Greatest, b),
         FlatOp::Rank(_, _, k) => ranked(alloc, b, *k),
         FlatOp::Threshold(_, k) => thresholded(alloc, *k),
-        FlatOp::HitMiss(_, _, _) => difference(alloc, Extremum::Least, b, c),
+        FlatOp::HitMiss(_, _, _) => difference(alloc, Extremum::Least, b, Extremum::Greatest, c),
     }
 }
 

@@ -4,8 +4,6 @@ use Rattle.mw_model.specs.declared.places.Rect.{Rect}
 use Rattle.mw_model.specs.declared.shapes.Kind.{Kind}
 use Rattle.mw_model.specs.Rasters.{Raster}
 use Rattle.mw_model.specs.Windows.{View, seen_at}
-use Rattle.mw_tile.specs.declared.any.AnyWindow.{AnyWindow}
-use Rattle.mw_tile.specs.AnyWindows.{kind_of, maxval_of, levels_of}
 use Rattle.mw_model.specs.Pictures.{Picture}
 use Rattle.mw_model.specs.Plans.{is_sum}
 use Rattle.mw_model.specs.PlanSteps.{PlanStep, step_at, kind_of_step, maxval_of_step}
@@ -64,13 +62,14 @@ pub if_ok_too : {A E : Type 0} (r : Result A E) (P Q R : A → Type 0) → ((a :
 if_ok_too (Ok a) P Q R each p q = each a p q
 if_ok_too (Err e) P Q R each p q = p
 
--- a plane with the values of what a window shows
-pub shown_plane : (u : AnyWindow) (kind : Kind) (maxval : ℕ) (w : View ℕ) (tile : Rect) (value : ℕ → View ℕ → ℕ → ℕ → ℕ) (p : Raster ℕ)
-    → kind_of u ≡ kind → maxval_of u ≡ maxval → levels_of u ≡ w → p.width ≡ tile.width → p.height ≡ tile.height → length p.cells ≡ tile.height * tile.width
+-- a window of a source of this kind and maxval
+abbrev pub source : Kind → ℕ → View ℕ → SourceWindow
+source kind maxval w = record { kind = kind; maxval = maxval; view = w }
+
+-- a plane of a value of what is seen of a window at each place of a tile
+pub slid_plane : (u : SourceWindow) (kind : Kind) (maxval : ℕ) (w : View ℕ) (tile : Rect) (value : ℕ → View ℕ → ℕ → ℕ → ℕ) (p : Raster ℕ) → u ≡ source kind maxval w
+    → p.width ≡ tile.width → p.height ≡ tile.height → length p.cells ≡ tile.height * tile.width
     → ((x y : ℕ) → x < tile.width → y < tile.height → slice_get p.cells (y * tile.width + x) ≡ Some (value maxval w (tile.x + x) (tile.y + y)))
-    → tile_drawn (kind_of u) (maxval_of u) tile (value (maxval_of u) (levels_of u)) ≡ picture kind p.width p.height maxval p.cells
-shown_plane u kind maxval w tile value p kind-is maxval-is w-is width height size each =
-    ap (λ (t : Kind). tile_drawn t (maxval_of u) tile (value (maxval_of u) (levels_of u))) kind-is
-    ∙ ap (λ (t : ℕ). tile_drawn kind t tile (value t (levels_of u))) maxval-is
-    ∙ ap (λ (t : View ℕ). tile_drawn kind maxval tile (value maxval t)) w-is
-    ∙ plane_is kind maxval tile (value maxval w) p width height size each
+    → tile_drawn u.kind u.maxval tile (value u.maxval u.view) ≡ picture kind p.width p.height maxval p.cells
+slid_plane u kind maxval w tile value p is width height size each =
+    ap (λ (s : SourceWindow). tile_drawn s.kind s.maxval tile (value s.maxval s.view)) is ∙ plane_is kind maxval tile (value maxval w) p width height size each

@@ -1,6 +1,5 @@
-pub mod Sources
 pub mod Images
 pub mod PlaceByPlace
 pub mod OfTasks
 pub mod SameMembers
-pub mod Ranked
+pub mod Slid

@@ -15,7 +15,8 @@ use Rattle.mw_model.specs.Tasks.{cells_in}
 use Rattle.mw_tile.proofs.Shown.{seen_in}
 use Rattle.mw_task.specs.Products.{tile_drawn, three_drawn, both_drawn, each_drawn, plane_drawn}
 use Rattle.mw_task.proofs.TileCells.{cells_in_is}
-use Rattle.mw_step.proofs.Images.{picture}
+use Rattle.mw_tile.specs.Windows.{SourceWindow}
+use Rattle.mw_step.proofs.Images.{picture, source}
 
 -- the cells of a window fill its place
 abbrev pub Fills : Rect → View ℕ → Type 0
@@ -95,13 +96,6 @@ blank_held kind maxval tile p is =
     (cells_in_is tile (λ x y. 0) (replicate (tile.height * tile.width) 0) (length-replicate (tile.height * tile.width) 0)
     (λ i j across down. get_or-replicate (tile.height * tile.width) (j * tile.width + i) 0 0 (omega (arith, mul-add-lt j tile.width i tile.height down across))) ∙ sym (ap (λ (r : Raster ℕ). r.cells) is))
 
--- a plane with cells that are given
-pub plane_held : (kind : Kind) (maxval : ℕ) (place : Rect) (p : Raster ℕ) (cells : List ℕ) → HasSides p place → p.cells ≡ cells → plane_drawn kind maxval place cells ≡ picture kind p.width p.height maxval p.cells
-plane_held kind maxval place p cells sides is =
-    ap (λ (t : List ℕ). picture kind place.width place.height maxval t) (sym is)
-    ∙ ap (λ (t : ℕ). picture kind t place.height maxval p.cells) (sym sides.width)
-    ∙ ap (λ (t : ℕ). picture kind p.width t maxval p.cells) (sym sides.height)
-
 -- the cells of a value of two windows, and of three
 pub both_cells : (kind : Kind) (maxval : ℕ) (value : ℕ → ℕ → ℕ) (a b : View ℕ) → a.place ≡ b.place → Fills a.place a → Fills a.place b → both_drawn kind maxval value a b ≡ plane_drawn kind maxval a.place (zip2 value a.cells b.cells)
 both_cells kind maxval value a b place a-size b-size =
@@ -140,3 +134,20 @@ marked_given kind maxval v a b c s t cells s-is t-is cells-is s-size t-size b-pl
     ap (λ (u : List ℕ). plane_drawn kind maxval a.place (zip2 (λ (s m : ℕ). if m == 1 then v else s) a.cells u))
     (cells-is ∙ ap (λ (u : View ℕ). mask u.cells t.cells) s-is ∙ ap (λ (u : View ℕ). mask b.cells u.cells) t-is)
     ∙ sym (marked_cells kind maxval v a b c b-place (b-place ∙ c-place) a-size b-size c-size)
+
+-- planes of a source that is looked at by its kind
+pub each_plane : (value : ℕ → ℕ) (u : SourceWindow) (kind : Kind) (maxval : ℕ) (k : Kind) (m : ℕ) (w : View ℕ) (p : Raster ℕ) → u ≡ source kind maxval w → HasSides p w.place → Fills w.place w → p.cells ≡ map value w.cells
+    → each_drawn k m value u.view ≡ picture k p.width p.height m p.cells
+each_plane value u kind maxval k m w p is sides size cells = ap (λ (s : SourceWindow). each_drawn k m value s.view) is ∙ each_held k m value w p sides size cells
+
+pub inverted_plane : (u : SourceWindow) (kind : Kind) (maxval : ℕ) (w : View ℕ) (p : Raster ℕ) → u ≡ source kind maxval w → HasSides p w.place → Fills w.place w → p.cells ≡ zip2 (λ (m n : ℕ). m - n) (replicate (w.place.height * w.place.width) maxval) w.cells
+    → each_drawn u.kind u.maxval (λ n. u.maxval - n) u.view ≡ picture kind p.width p.height maxval p.cells
+inverted_plane u kind maxval w p is sides size cells = ap (λ (s : SourceWindow). each_drawn s.kind s.maxval (λ n. s.maxval - n) s.view) is ∙ inverted_held kind maxval w p sides size cells
+
+pub both_plane : (value : ℕ → ℕ → ℕ) (u : SourceWindow) (b second : View ℕ) (kind : Kind) (maxval : ℕ) (w : View ℕ) (p : Raster ℕ) → u ≡ source kind maxval w → second ≡ b → u.view.place ≡ b.place → HasSides p w.place → Fills w.place w → Fills w.place second
+    → p.cells ≡ zip2 value w.cells second.cells → both_drawn u.kind u.maxval value u.view b ≡ picture kind p.width p.height maxval p.cells
+both_plane value u b second kind maxval w p is second-is place sides size other-size cells =
+    let same : w.place ≡ second.place = ap (λ (s : SourceWindow). s.view.place) (sym is) ∙ place ∙ ap (λ (v : View ℕ). v.place) (sym second-is) in
+    ap (λ (s : SourceWindow). both_drawn s.kind s.maxval value s.view b) is
+    ∙ ap (λ (v : View ℕ). both_drawn kind maxval value w v) (sym second-is)
+    ∙ both_held kind maxval value w second p sides same size other-size cells

@@ -1,66 +1,108 @@
-//! Windows whose kind and maxval are known.
+//! One body for windows of every type of samples.
+//!
+//! ```text
+//! of_samples!(window, |samples, maxval| inverted(alloc, maxval, samples))
+//! ```
 
 ghost use Rattle.std.specs.Prelude.{◌≡◌, ◌≤◌};
 ghost use Rattle.mw_model.specs.declared.shapes.Kind.TheVariants as kind;
-ghost use Rattle.mw_tile.specs.AnyWindows.{levels_of, kind_of, maxval_of, IsSized};
 
-use mw_pixel::Bit;
-use mw_tile::{AnyWindow, Window};
+use mw_pixel::{Bit, Pixel};
+use mw_tile::{AnyWindow, Window, WindowView};
 
-/// A level of one byte.
-fn byte(n: u8) -> u16
-    ensures value { result ≡ n }
-    ensures small { n ≤ 255 }
-{
-    u16::from(n)
+/// What is made by one body of the samples of a window and the maxval of its source.
+macro_rules! of_samples {
+    ($window:expr, |$samples:ident, $maxval:ident| $plane:expr) => {
+        match $window.view() {
+            WindowView::Bits($samples) => {
+                let $maxval = Bit::SET;
+                let plane = $plane?;
+                Ok(Made::Bits(plane))
+            }
+            WindowView::Grey8($samples, $maxval) => {
+                let plane = $plane?;
+                Ok(Made::Grey8(plane, $maxval))
+            }
+            WindowView::Grey16($samples, $maxval) => {
+                let plane = $plane?;
+                Ok(Made::Grey16(plane, $maxval))
+            }
+        }
+    };
 }
 
-/// A level that is no more than one of one byte.
-pub(crate) fn byte_below(v: u16, maxval: u8) -> u8
-    requires { v ≤ maxval }
-    ensures { result ≡ v }
+/// What is made by one body of the samples of two windows of one kind and maxval.
+macro_rules! of_both {
+    ($a:expr, $b:expr, |$first:ident, $second:ident| $plane:expr) => {
+        match $a.view() {
+            WindowView::Bits($first) => {
+                let $second = bits_of($b);
+                let plane = $plane?;
+                Ok(Made::Bits(plane))
+            }
+            WindowView::Grey8($first, maxval) => {
+                let $second = bytes_of($b, maxval);
+                let plane = $plane?;
+                Ok(Made::Grey8(plane, maxval))
+            }
+            WindowView::Grey16($first, maxval) => {
+                let $second = words_of($b);
+                let plane = $plane?;
+                Ok(Made::Grey16(plane, maxval))
+            }
+        }
+    };
+}
+
+pub(crate) use of_both;
+pub(crate) use of_samples;
+
+/// The sample of a level that is not over the maxval.
+pub(crate) fn sample_of<P: Pixel>(level: u16, maxval: P) -> P
+    requires { level ≤ P.level maxval }
+    ensures { P.level result ≡ level }
 {
-    v as u8
+    let _top = maxval.value();
+    match P::of(level) {
+        Some(sample) => sample,
+        None => unreachable!(),
+    }
 }
 
 /// The window of a set.
 pub(crate) fn bits_of(window: &AnyWindow) -> &Window<Bit>
-    requires { kind_of window.now ≡ kind.Bit }
-    ensures { result.now ≡ levels_of window.now }
+    requires { window.now.kind ≡ kind.Bit }
+    ensures { result.now ≡ window.now.view }
 {
-    match window {
-        AnyWindow::Bits(w) => w,
-        AnyWindow::Grey8(_, _) => unreachable!(),
-        AnyWindow::Grey16(_, _) => unreachable!(),
+    match window.view() {
+        WindowView::Bits(w) => w,
+        WindowView::Grey8(_, _) => unreachable!(),
+        WindowView::Grey16(_, _) => unreachable!(),
     }
 }
 
 /// The window of levels of grey up to a maxval of one byte.
 pub(crate) fn bytes_of(window: &AnyWindow, maxval: u8) -> &Window<u8>
-    requires kind { kind_of window.now ≡ kind.Grey }
-    requires maxval { maxval ≡ maxval_of window.now }
-    requires sized { IsSized window.now }
-    ensures { result.now ≡ levels_of window.now }
+    requires kind { window.now.kind ≡ kind.Grey }
+    requires maxval { window.now.maxval ≡ maxval }
+    ensures { result.now ≡ window.now.view }
 {
-    match window {
-        AnyWindow::Bits(_) => unreachable!(),
-        AnyWindow::Grey8(w, _) => w,
-        AnyWindow::Grey16(_, _) => unreachable!(),
+    match window.view() {
+        WindowView::Bits(_) => unreachable!(),
+        WindowView::Grey8(w, _) => w,
+        WindowView::Grey16(_, _) => unreachable!(),
     }
 }
 
 /// The window of levels of grey up to more than 255.
 pub(crate) fn words_of(window: &AnyWindow) -> &Window<u16>
-    requires kind { kind_of window.now ≡ kind.Grey }
-    requires maxval { 256 ≤ maxval_of window.now }
-    ensures { result.now ≡ levels_of window.now }
+    requires kind { window.now.kind ≡ kind.Grey }
+    requires maxval { 256 ≤ window.now.maxval }
+    ensures { result.now ≡ window.now.view }
 {
-    match window {
-        AnyWindow::Bits(_) => unreachable!(),
-        AnyWindow::Grey8(_, maxval) => {
-            let _small = byte(*maxval);
-            unreachable!()
-        }
-        AnyWindow::Grey16(w, _) => w,
+    match window.view() {
+        WindowView::Bits(_) => unreachable!(),
+        WindowView::Grey8(_, _) => unreachable!(),
+        WindowView::Grey16(w, _) => w,
     }
 }

@@ -6,15 +6,17 @@
 //! ```
 #![tactic(auto)]
 
+mod extrema;
 mod flat;
 mod kinds;
 mod make;
-mod marking;
 mod marks;
+mod painting;
 mod pairs;
 mod pointwise;
 mod singles;
 mod sliding;
+mod thresholds;
 
 pub use make::run;
 

@@ -2,24 +2,23 @@
 
 ghost use Rattle.std.specs.Prelude.{◌≡◌, ◌+◌, ◌<◌, ◌^◌, IfOk, IfErr};
 ghost use Rattle.mw_model.specs.Places.{IsWithin};
-ghost use Rattle.mw_tile.specs.AnyWindows.{shown, IsSized};
 ghost use Rattle.mw_task.specs.WindowTasks.{source_count, window_at, IsRead, KindsFit};
 ghost use Rattle.mw_task.specs.Products.{IsMade};
 
-use crate::flat::{dilate, dilate_box, erode, erode_box, rank_filter};
-use crate::marking::{mark, mark_last};
-use crate::pairs::{join, meet, minus};
+use crate::flat::{rank_filter, slide, slide_box};
+use crate::marks::{mark, mark_last};
+use crate::pairs::{merge, minus};
 use crate::singles::{at_least, blank, equal, invert, sum_up};
 use mw_model::NoMemory;
+use mw_pixel::{Max, Min};
 use mw_task::{AnyWindow, Made, Step, TaskRefused, TileDone, Work};
 use std::alloc::Global;
 
 /// The window of a source of the task.
 fn source(work: &Work, k: usize) -> &AnyWindow
     requires { k < source_count work.now.step }
-    ensures window { shown result.now ≡ window_at work.now.windows k }
-    ensures sized { IsSized result.now }
-    ensures read { IsRead work.now.step work.now.rect (window_at work.now.windows 0).view.frame_width (window_at work.now.windows 0).view.frame_height (shown result.now) }
+    ensures window { result.now ≡ window_at work.now.windows k }
+    ensures read { IsRead work.now.step work.now.rect (window_at work.now.windows 0).view.frame_width (window_at work.now.windows 0).view.frame_height result.now }
     ensures kinds { KindsFit work.now.step work.now.windows }
 {
     &work.windows()[k]
@@ -42,16 +41,16 @@ fn make(alloc: Global, work: &Work) -> Result<Made, NoMemory>
 {
     let tile = work.rect();
     match work.step() {
-        Step::Erode(element) => erode(alloc, source(work, 0), element, tile),
-        Step::Dilate(element) => dilate(alloc, source(work, 0), element, tile),
-        Step::ErodeBox(offsets) => erode_box(alloc, source(work, 0), *offsets, tile),
-        Step::DilateBox(offsets) => dilate_box(alloc, source(work, 0), *offsets, tile),
+        Step::Erode(element) => slide::<Min>(alloc, source(work, 0), element, tile),
+        Step::Dilate(element) => slide::<Max>(alloc, source(work, 0), element, tile),
+        Step::ErodeBox(offsets) => slide_box::<Min>(alloc, source(work, 0), *offsets, tile),
+        Step::DilateBox(offsets) => slide_box::<Max>(alloc, source(work, 0), *offsets, tile),
         Step::Rank(element, k) => rank_filter(alloc, source(work, 0), element, *k, tile),
         Step::Minus => minus(alloc, source(work, 0), source(work, 1)),
         Step::AtLeast(k) => at_least(alloc, *k, source(work, 0)),
         Step::Invert => invert(alloc, source(work, 0)),
-        Step::Meet => meet(alloc, source(work, 0), source(work, 1)),
-        Step::Join => join(alloc, source(work, 0), source(work, 1)),
+        Step::Meet => merge::<Min>(alloc, source(work, 0), source(work, 1)),
+        Step::Join => merge::<Max>(alloc, source(work, 0), source(work, 1)),
         Step::Blank(maxval) => {
             let _fits = work.windows();
             blank(alloc, *maxval, tile)

@@ -1,149 +1,62 @@
-//! Levels that are put into the places of a set, and the set of the places with a level.
+//! Steps that mark the places of sets with a level.
 
-ghost use Rattle.std.specs.Prelude.{◌≡◌, ◌*◌, ◌==◌, ◌&&◌, length, vec_len, map, sum_by, IfOk, nat_le, if◌then◌else◌, ◌≤◌};
+ghost use Rattle.std.specs.Prelude.{◌≡◌, ◌*◌, ◌≤◌, ◌==◌, ◌&&◌, if◌then◌else◌, length, IfOk};
 ghost use lib.Lanes.{zip2};
+ghost use Rattle.mw_model.specs.declared.shapes.Kind.TheVariants as kind;
+ghost use Rattle.mw_task.specs.Products.{HoldsImage, both_drawn, three_drawn, plane_drawn};
 
-use mw_lane::{Lanes, threshold_row};
+use crate::kinds::{bits_of, of_samples, sample_of};
+use crate::painting::{marked, without};
 use mw_model::NoMemory;
-use mw_pixel::{Bit, Pixel, Plane};
-use mw_tile::Window;
+use mw_pixel::Bit;
+use mw_task::Made;
+use mw_tile::{AnyWindow, WindowView};
 use std::alloc::Global;
 
-/// Puts those places into the set whose sample has level `v`.
-fn level_row<P: Pixel>(src: &[P], v: u16, out: &mut [Bit])
-    requires { length out.old ≡ length src.now }
-    ensures { out.new ≡ map (λ s. if P.level s == v then 1 else 0) src.now }
+/// The samples, with level `v` in each place of the set.
+fn mark_places(alloc: Global, v: u16, a: &AnyWindow, places: &[Bit]) -> Result<Made, NoMemory>
+    requires size { length places.now ≡ a.now.view.place.height * a.now.view.place.width }
+    requires level { v ≤ a.now.maxval }
+    ensures held { IfOk result (HoldsImage (plane_drawn a.now.kind a.now.maxval a.now.view.place (zip2 (λ s m. if m == 1 then v else s) a.now.view.cells places.now))) }
+    ensures fills { IfOk result (λ _. length a.now.view.cells ≡ a.now.view.place.height * a.now.view.place.width) }
 {
-    for i in 0..src.len() {
-        out[i] = Bit::new(src[i].value() == v);
-    }
+    of_samples!(
+        a,
+        |samples, maxval| marked(alloc, sample_of(v, maxval), samples, places)
+    )
 }
 
-/// The set of the places with level `v`.
-pub(crate) fn level_set<P: Pixel>(
+/// The first source, with level `v` where the set is.
+pub(crate) fn mark_last(
     alloc: Global,
     v: u16,
-    a: &Window<P>,
-) -> Result<Plane<Bit>, NoMemory>
-    ensures width { IfOk result (λ p. p.width ≡ a.now.place.width) }
-    ensures height { IfOk result (λ p. p.height ≡ a.now.place.height) }
-    ensures cells { IfOk result (λ p. p.cells ≡ map (λ s. if P.level s == v then 1 else 0) a.now.cells) }
-    ensures size { length a.now.cells ≡ a.now.place.height * a.now.place.width }
+    a: &AnyWindow,
+    set: &AnyWindow,
+) -> Result<Made, NoMemory>
+    requires place { a.now.view.place ≡ set.now.view.place }
+    requires level { v ≤ a.now.maxval }
+    requires set { set.now.kind ≡ kind.Bit }
+    ensures { IfOk result (HoldsImage (both_drawn a.now.kind a.now.maxval (λ s m. if m == 1 then v else s) a.now.view set.now.view)) }
 {
-    let place = a.place();
-    let levels = a.samples();
-    let plane = Plane::filled(alloc, place.width, place.height, Bit::new(false))?;
-    let mut samples = plane.into_samples();
-    level_row(levels, v, &mut samples);
-    Ok(Plane::new(place.width, place.height, samples))
+    let places = bits_of(set);
+    mark_places(alloc, v, a, places.samples())
 }
 
-/// Puts those places into the set whose sample has level `k` or more.
-fn upper_row<P: Pixel>(src: &[P], k: u32, out: &mut [Bit])
-    requires { length out.old ≡ length src.now }
-    ensures { out.new ≡ map (λ s. if nat_le k (P.level s) then 1 else 0) src.now }
-{
-    for i in 0..src.len() {
-        out[i] = Bit::new(u32::from(src[i].value()) >= k);
-    }
-}
-
-/// The set of the places with level `k` or more.
-pub(crate) fn upper_set<P: Lanes>(
+/// The first source, with level `v` where the set is and the other is not.
+pub(crate) fn mark(
     alloc: Global,
-    k: u32,
-    a: &Window<P>,
-) -> Result<Plane<Bit>, NoMemory>
-    ensures width { IfOk result (λ p. p.width ≡ a.now.place.width) }
-    ensures height { IfOk result (λ p. p.height ≡ a.now.place.height) }
-    ensures cells { IfOk result (λ p. p.cells ≡ map (λ s. if nat_le k (P.level s) then 1 else 0) a.now.cells) }
-    ensures size { length a.now.cells ≡ a.now.place.height * a.now.place.width }
+    v: u16,
+    a: &AnyWindow,
+    set: &AnyWindow,
+    other: &AnyWindow,
+) -> Result<Made, NoMemory>
+    requires place { a.now.view.place ≡ set.now.view.place }
+    requires other_place { set.now.view.place ≡ other.now.view.place }
+    requires level { v ≤ a.now.maxval }
+    requires set { set.now.kind ≡ kind.Bit }
+    requires other { other.now.kind ≡ kind.Bit }
+    ensures { IfOk result (HoldsImage (three_drawn a.now.kind a.now.maxval (λ s m n. if m == 1 && n == 0 then v else s) a.now.view set.now.view other.now.view)) }
 {
-    let place = a.place();
-    let levels = a.samples();
-    let plane = Plane::filled(alloc, place.width, place.height, Bit::new(false))?;
-    let mut samples = plane.into_samples();
-    if k <= 65535 {
-        threshold_row(levels, k as u16, &mut samples);
-    } else {
-        upper_row(levels, k, &mut samples);
-    }
-    Ok(Plane::new(place.width, place.height, samples))
-}
-
-fn only(m: Bit, n: Bit) -> Bit
-    ensures { result ≡ (if m == 1 && n == 0 then 1 else 0) }
-{
-    Bit::new(m.is_set() && !n.is_set())
-}
-
-/// Takes the second set out of the first.
-fn take_out(acc: &mut [Bit], other: &[Bit])
-    requires { length acc.old ≡ length other.now }
-    ensures { acc.new ≡ zip2 (λ m n. if m == 1 && n == 0 then 1 else 0) acc.old other.now }
-{
-    for i in 0..acc.len() {
-        acc[i] = only(acc[i], other[i]);
-    }
-}
-
-/// The places of the first set that are not in the second.
-pub(crate) fn without(alloc: Global, a: &Window<Bit>, b: &Window<Bit>) -> Result<Vec<Bit>, NoMemory>
-    requires { a.now.place ≡ b.now.place }
-    ensures places { IfOk result (λ v. v.items ≡ zip2 (λ m n. if m == 1 && n == 0 then 1 else 0) a.now.cells b.now.cells) }
-    ensures size { IfOk result (λ v. vec_len v ≡ a.now.place.height * a.now.place.width) }
-    ensures first { length a.now.cells ≡ a.now.place.height * a.now.place.width }
-    ensures second { length b.now.cells ≡ a.now.place.height * a.now.place.width }
-{
-    let other = b.samples();
-    let mut places = Vec::from_slice(alloc, a.samples())?;
-    take_out(&mut places, other);
-    Ok(places)
-}
-
-fn chosen<P: Pixel>(mark: Bit, v: P, s: P) -> P
-    ensures { result ≡ (if mark == 1 then v else s) }
-{
-    if mark.is_set() { v } else { s }
-}
-
-/// Puts the level into each place of the set.
-fn mark_row<P: Pixel>(acc: &mut [P], set: &[Bit], v: P)
-    requires { length acc.old ≡ length set.now }
-    ensures { acc.new ≡ zip2 (λ s m. if m == 1 then v else s) acc.old set.now }
-{
-    for i in 0..acc.len() {
-        acc[i] = chosen(set[i], v, acc[i]);
-    }
-}
-
-/// The samples of the window, with the level in each place of the set.
-pub(crate) fn marked<P: Pixel>(
-    alloc: Global,
-    v: P,
-    a: &Window<P>,
-    set: &[Bit],
-) -> Result<Plane<P>, NoMemory>
-    requires { length set.now ≡ a.now.place.height * a.now.place.width }
-    ensures width { IfOk result (λ p. p.width ≡ a.now.place.width) }
-    ensures height { IfOk result (λ p. p.height ≡ a.now.place.height) }
-    ensures cells { IfOk result (λ p. p.cells ≡ zip2 (λ s m. if m == 1 then v else s) a.now.cells set.now) }
-    ensures size { length a.now.cells ≡ a.now.place.height * a.now.place.width }
-{
-    let place = a.place();
-    let mut samples = Vec::from_slice(alloc, a.samples())?;
-    mark_row(&mut samples, set, v);
-    Ok(Plane::new(place.width, place.height, samples))
-}
-
-/// The sum of the levels.
-pub(crate) fn total<P: Pixel>(samples: &[P]) -> u64
-    requires { length samples.now ≤ 67108864 }
-    ensures { result ≡ sum_by P.level samples.now }
-{
-    let mut total: u64 = 0;
-    for sample in samples {
-        total += u64::from(sample.value());
-    }
-    total
+    let places = without(alloc, bits_of(set), bits_of(other))?;
+    mark_places(alloc, v, a, &places)
 }

@@ -1,76 +1,44 @@
 //! Steps that look at one image, place by place, or at none.
 
-ghost use Rattle.std.specs.Prelude.{◌≡◌, ◌-◌, ◌*◌, ◌≤◌, ◌==◌, nat_le, if◌then◌else◌, length, sum, IfOk};
+ghost use Rattle.std.specs.Prelude.{◌≡◌, ◌-◌, ◌*◌, ◌≤◌, ◌==◌, nat_le, if◌then◌else◌, length, sum, sum_by, IfOk};
 ghost use Rattle.mw_model.specs.declared.shapes.Kind.TheVariants as kind;
-ghost use Rattle.mw_tile.specs.AnyWindows.{levels_of, kind_of, maxval_of, IsSized};
 ghost use Rattle.mw_task.specs.Products.{HoldsImage, each_drawn, tile_drawn};
 
-use crate::marks::{level_set, total, upper_set};
+use crate::kinds::of_samples;
 use crate::pointwise::inverted;
+use crate::thresholds::{level_set, upper_set};
 use mw_model::{NoMemory, Rect};
-use mw_pixel::{Bit, Plane};
+use mw_pixel::{Bit, Pixel, Plane};
 use mw_task::Made;
-use mw_tile::AnyWindow;
+use mw_tile::{AnyWindow, WindowView};
 use std::alloc::Global;
 
 /// The maxval less each sample.
 pub(crate) fn invert(alloc: Global, a: &AnyWindow) -> Result<Made, NoMemory>
-    requires { IsSized a.now }
-    ensures { IfOk result (HoldsImage (each_drawn (kind_of a.now) (maxval_of a.now) (λ n. maxval_of a.now - n) (levels_of a.now))) }
+    ensures { IfOk result (HoldsImage (each_drawn a.now.kind a.now.maxval (λ n. a.now.maxval - n) a.now.view)) }
 {
-    match a {
-        AnyWindow::Bits(x) => {
-            let plane = inverted(alloc, Bit::SET, x)?;
-            Ok(Made::Bits(plane))
-        }
-        AnyWindow::Grey8(x, maxval) => {
-            let plane = inverted(alloc, *maxval, x)?;
-            Ok(Made::Grey8(plane, *maxval))
-        }
-        AnyWindow::Grey16(x, maxval) => {
-            let plane = inverted(alloc, *maxval, x)?;
-            Ok(Made::Grey16(plane, *maxval))
-        }
-    }
+    of_samples!(a, |samples, maxval| inverted(alloc, maxval, samples))
 }
 
 /// The set of the places with level `k` or more.
 pub(crate) fn at_least(alloc: Global, k: u32, a: &AnyWindow) -> Result<Made, NoMemory>
-    ensures { IfOk result (HoldsImage (each_drawn kind.Bit 1 (λ n. if nat_le k n then 1 else 0) (levels_of a.now))) }
+    ensures { IfOk result (HoldsImage (each_drawn kind.Bit 1 (λ n. if nat_le k n then 1 else 0) a.now.view)) }
 {
-    match a {
-        AnyWindow::Bits(x) => {
-            let plane = upper_set(alloc, k, x)?;
-            Ok(Made::Bits(plane))
-        }
-        AnyWindow::Grey8(x, _) => {
-            let plane = upper_set(alloc, k, x)?;
-            Ok(Made::Bits(plane))
-        }
-        AnyWindow::Grey16(x, _) => {
-            let plane = upper_set(alloc, k, x)?;
-            Ok(Made::Bits(plane))
-        }
+    match a.view() {
+        WindowView::Bits(samples) => Ok(Made::Bits(upper_set(alloc, k, samples)?)),
+        WindowView::Grey8(samples, _) => Ok(Made::Bits(upper_set(alloc, k, samples)?)),
+        WindowView::Grey16(samples, _) => Ok(Made::Bits(upper_set(alloc, k, samples)?)),
     }
 }
 
 /// The set of the places with level `v`.
 pub(crate) fn equal(alloc: Global, v: u16, a: &AnyWindow) -> Result<Made, NoMemory>
-    ensures { IfOk result (HoldsImage (each_drawn kind.Bit 1 (λ n. if n == v then 1 else 0) (levels_of a.now))) }
+    ensures { IfOk result (HoldsImage (each_drawn kind.Bit 1 (λ n. if n == v then 1 else 0) a.now.view)) }
 {
-    match a {
-        AnyWindow::Bits(x) => {
-            let plane = level_set(alloc, v, x)?;
-            Ok(Made::Bits(plane))
-        }
-        AnyWindow::Grey8(x, _) => {
-            let plane = level_set(alloc, v, x)?;
-            Ok(Made::Bits(plane))
-        }
-        AnyWindow::Grey16(x, _) => {
-            let plane = level_set(alloc, v, x)?;
-            Ok(Made::Bits(plane))
-        }
+    match a.view() {
+        WindowView::Bits(samples) => Ok(Made::Bits(level_set(alloc, v, samples)?)),
+        WindowView::Grey8(samples, _) => Ok(Made::Bits(level_set(alloc, v, samples)?)),
+        WindowView::Grey16(samples, _) => Ok(Made::Bits(level_set(alloc, v, samples)?)),
     }
 }
 
@@ -90,14 +58,26 @@ pub(crate) fn blank(alloc: Global, maxval: u16, tile: Rect) -> Result<Made, NoMe
 
 /// The sum of the samples.
 pub(crate) fn sum_up(a: &AnyWindow) -> u64
-    requires wide { (levels_of a.now).place.width ≤ 8192 }
-    requires high { (levels_of a.now).place.height ≤ 8192 }
-    ensures value { result ≡ sum (levels_of a.now).cells }
-    ensures fills { length (levels_of a.now).cells ≡ (levels_of a.now).place.height * (levels_of a.now).place.width }
+    requires wide { a.now.view.place.width ≤ 8192 }
+    requires high { a.now.view.place.height ≤ 8192 }
+    ensures value { result ≡ sum a.now.view.cells }
+    ensures fills { length a.now.view.cells ≡ a.now.view.place.height * a.now.view.place.width }
 {
-    match a {
-        AnyWindow::Bits(x) => total(x.samples()),
-        AnyWindow::Grey8(x, _) => total(x.samples()),
-        AnyWindow::Grey16(x, _) => total(x.samples()),
+    match a.view() {
+        WindowView::Bits(w) => total(w.samples()),
+        WindowView::Grey8(w, _) => total(w.samples()),
+        WindowView::Grey16(w, _) => total(w.samples()),
     }
+}
+
+/// The sum of the levels.
+fn total<P: Pixel>(samples: &[P]) -> u64
+    requires { length samples.now ≤ 67108864 }
+    ensures { result ≡ sum_by P.level samples.now }
+{
+    let mut total: u64 = 0;
+    for sample in samples {
+        total += u64::from(sample.value());
+    }
+    total
 }

@@ -27,6 +27,7 @@ const TASK: TaskId = TaskId {
 };
 
 fn levels(rt: &HostRuntime, samples: &[u8; 5], maxval: u8) -> Result<AnyWindow, Fail> {
+    assert!(rt; maxval >= 1);
     let samples = samples.to_vec(rt.alloc())?;
     if samples.len() == 5 {
         let place = Rect {
@@ -35,7 +36,7 @@ fn levels(rt: &HostRuntime, samples: &[u8; 5], maxval: u8) -> Result<AnyWindow, 
             width: 5,
             height: 1,
         };
-        Ok(AnyWindow::Grey8(Window::new(5, 1, place, samples), maxval))
+        Ok(AnyWindow::grey8(Window::new(5, 1, place, samples), maxval))
     } else {
         Err("five samples".into())
     }
@@ -53,7 +54,7 @@ fn set(rt: &HostRuntime, samples: &[u8; 5]) -> Result<AnyWindow, Fail> {
             width: 5,
             height: 1,
         };
-        Ok(AnyWindow::Bits(Window::new(5, 1, place, bits)))
+        Ok(AnyWindow::bits(Window::new(5, 1, place, bits)))
     } else {
         Err("five samples".into())
     }

@@ -1,14 +1,13 @@
 //! Windows of the images that are kept.
 
-ghost use Rattle.std.specs.Prelude.{◌≡◌, ◌↔◌, ◌≤◌, IsTrue, IfOk};
-ghost use Rattle.mw_tile.specs.AnyWindows.{shown, IsSized};
+ghost use Rattle.std.specs.Prelude.{◌≡◌, ◌↔◌, IsTrue, IfOk};
 ghost use Rattle.mw_store.specs.Frames.{whole_view};
 ghost use Rattle.mw_store.specs.Frames as frames;
 
 use mw_lane::{Lanes, equal_rows};
 use mw_model::{NoMemory, Rect};
 use mw_pixel::{Image, Pixel, Plane, SharedView, View};
-use mw_tile::{AnyWindow, Window};
+use mw_tile::{AnyWindow, Window, WindowView};
 use std::alloc::Global;
 
 /// The rectangle of a frame of this width and height.
@@ -41,38 +40,28 @@ fn has_whole<P: Lanes>(window: &Window<P>, plane: &Plane<P>) -> bool
         && equal_rows(window.samples(), plane.samples())
 }
 
-/// A maxval of one byte is none that wants two.
-fn in_two_bytes(maxval: u8) -> u16
-    ensures value { result ≡ maxval }
-    ensures small { result ≤ 255 }
-{
-    u16::from(maxval)
-}
-
 /// The window that has the whole of an image, with samples of its own.
 fn copied_window(alloc: Global, image: &Image) -> Result<AnyWindow, NoMemory>
-    ensures window { IfOk result (λ w. shown w ≡ frames.whole_window image.now) }
-    ensures sized { IfOk result IsSized }
+    ensures { IfOk result (λ w. w ≡ frames.whole_window image.now) }
 {
     match image.view() {
-        View::Bits(plane) => Ok(AnyWindow::Bits(whole(alloc, plane)?)),
-        View::Grey8(plane, maxval) => Ok(AnyWindow::Grey8(whole(alloc, plane)?, maxval)),
-        View::Grey16(plane, maxval) => Ok(AnyWindow::Grey16(whole(alloc, plane)?, maxval)),
+        View::Bits(plane) => Ok(AnyWindow::bits(whole(alloc, plane)?)),
+        View::Grey8(plane, maxval) => Ok(AnyWindow::grey8(whole(alloc, plane)?, maxval)),
+        View::Grey16(plane, maxval) => Ok(AnyWindow::grey16(whole(alloc, plane)?, maxval)),
     }
 }
 
 /// The window that has the whole of an image. It owns the image's plane too, and where that cannot be, a copy.
 pub fn whole_window(alloc: Global, image: &Image) -> Result<AnyWindow, NoMemory>
-    ensures window { IfOk result (λ w. shown w ≡ frames.whole_window image.now) }
-    ensures sized { IfOk result IsSized }
+    ensures { IfOk result (λ w. w ≡ frames.whole_window image.now) }
 {
     match image.shared() {
-        Some(SharedView::Bits(plane)) => Ok(AnyWindow::Bits(Window::sharing(plane))),
+        Some(SharedView::Bits(plane)) => Ok(AnyWindow::bits(Window::sharing(plane))),
         Some(SharedView::Grey8(plane, maxval)) => {
-            Ok(AnyWindow::Grey8(Window::sharing(plane), maxval))
+            Ok(AnyWindow::grey8(Window::sharing(plane), maxval))
         }
         Some(SharedView::Grey16(plane, maxval)) => {
-            Ok(AnyWindow::Grey16(Window::sharing(plane), maxval))
+            Ok(AnyWindow::grey16(Window::sharing(plane), maxval))
         }
         None => copied_window(alloc, image),
     }
@@ -80,16 +69,12 @@ pub fn whole_window(alloc: Global, image: &Image) -> Result<AnyWindow, NoMemory>
 
 /// Whether a window is that of the whole of an image.
 pub fn is_whole(window: &AnyWindow, image: &Image) -> bool
-    requires { IsSized window.now }
-    ensures { IsTrue result ↔ (shown window.now ≡ frames.whole_window image.now) }
+    ensures { IsTrue result ↔ (window.now ≡ frames.whole_window image.now) }
 {
-    match (window, image.view()) {
-        (AnyWindow::Bits(w), View::Bits(p)) => has_whole(w, p),
-        (AnyWindow::Grey8(w, m), View::Grey8(p, n)) => *m == n && has_whole(w, p),
-        (AnyWindow::Grey16(w, m), View::Grey16(p, n)) => *m == n && has_whole(w, p),
-        (AnyWindow::Grey8(_, m), View::Grey16(_, n)) => in_two_bytes(*m) == n,
-        (AnyWindow::Grey16(_, _), View::Grey8(_, _)) => false,
-        (AnyWindow::Bits(_), _) => false,
-        (_, View::Bits(_)) => false,
+    match (window.view(), image.view()) {
+        (WindowView::Bits(w), View::Bits(p)) => has_whole(w, p),
+        (WindowView::Grey8(w, m), View::Grey8(p, n)) => m == n && has_whole(w, p),
+        (WindowView::Grey16(w, m), View::Grey16(p, n)) => m == n && has_whole(w, p),
+        _ => false,
     }
 }

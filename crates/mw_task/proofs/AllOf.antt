@@ -6,9 +6,6 @@ use Rattle.std.specs.List.{AllByRecursion}
 abbrev pub AllIsRest : {A : Type 0} → (A → Type 0) → List A → ℕ → Type 0
 AllIsRest P xs i = AllByRecursion P xs ↔ AllByRecursion P (drop i xs)
 
-pub all_first : {A : Type 0} (P : A → Type 0) (xs : List A) → AllIsRest P xs 0
-all_first P xs = ((λ h. h), (λ h. h))
-
 split : {A : Type 0} (P : A → Type 0) (xs : List A) (i : ℕ) (x : A) → i < length xs → x ≡ get_or xs i x → drop i xs ≡ x ∷ drop (i + 1) xs
 split P xs i x lt is = drop-cons xs i x lt ∙ ap (λ (t : _). t ∷ drop (suc i) xs) (sym is) ∙ ap (λ (n : ℕ). x ∷ drop n xs) (sym (add-one i))
 

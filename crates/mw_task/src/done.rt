@@ -50,10 +50,9 @@ impl TaskRefused {
 }
 
 impl TileDone {
-    ghost use Rattle.std.specs.Prelude.{◌≡◌, map, false};
+    ghost use Rattle.std.specs.Prelude.{◌≡◌, false};
     ghost use Rattle.std.specs.List.{AllByRecursion};
     ghost use Rattle.mw_model.specs.Plans.{is_sum};
-    ghost use Rattle.mw_tile.specs.AnyWindows.{shown, IsSized};
     ghost use Rattle.mw_task.specs.Meanings.{meaning};
     ghost use Rattle.mw_task.specs.WindowTasks.{FitsStep, IsBounded, tile_made};
     ghost use Rattle.mw_task.specs.Products.{IsMade};
@@ -89,9 +88,8 @@ impl TileDone {
 
     /// The windows that the task was made from.
     pub fn windows(&self) -> &[AnyWindow]
-        ensures value { map shown result.now ≡ self.now.windows }
+        ensures value { result.now ≡ self.now.windows }
         ensures fits { FitsStep self.now.step self.now.rect self.now.windows }
-        ensures sized { AllByRecursion IsSized result.now }
     {
         self.work.windows()
     }

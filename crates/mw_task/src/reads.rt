@@ -1,10 +1,9 @@
 //! Whether windows are those that a step reads for a tile.
 
-ghost use Rattle.std.specs.Prelude.{◌≡◌, ◌↔◌, IsTrue, map, length};
+ghost use Rattle.std.specs.Prelude.{◌≡◌, ◌↔◌, IsTrue, length};
 ghost use Rattle.std.specs.List.{AllByRecursion};
 ghost use Rattle.mw_model.specs.Places.{IsWithin};
 ghost use Rattle.mw_model.specs.Tasks.{place_read};
-ghost use Rattle.mw_tile.specs.AnyWindows.{shown, IsSized};
 ghost use Rattle.mw_task.specs.Meanings.{meaning};
 ghost use Rattle.mw_task.specs.WindowTasks.{FitsStep, IsRead, KindsFit, SameKind, IsSetWindow, source_count};
 
@@ -44,7 +43,7 @@ fn within(tile: Rect, width: u32, height: u32) -> bool
 
 /// Whether the window is what the step reads for the tile in a frame of these sides.
 fn is_read(step: &Step, tile: Rect, width: u32, height: u32, window: &AnyWindow) -> bool
-    ensures { IsTrue result ↔ IsRead (meaning step.now) tile width height (shown window.now) }
+    ensures { IsTrue result ↔ IsRead (meaning step.now) tile width height window.now }
 {
     window.frame_width() == width
         && window.frame_height() == height
@@ -54,20 +53,9 @@ fn is_read(step: &Step, tile: Rect, width: u32, height: u32, window: &AnyWindow)
         && window.place() == place_read(step, width, height, tile)
 }
 
-/// Whether the maxval is one of the size of the samples.
-fn is_sized(window: &AnyWindow) -> bool
-    ensures { IsTrue result ↔ IsSized window.now }
-{
-    match window {
-        AnyWindow::Bits(_) => true,
-        AnyWindow::Grey8(_, maxval) => *maxval >= 1,
-        AnyWindow::Grey16(_, maxval) => *maxval >= 256,
-    }
-}
-
 /// Whether each window is what the step reads for the tile in a frame of these sides.
 fn all_read(step: &Step, tile: Rect, width: u32, height: u32, windows: &[AnyWindow]) -> bool
-    ensures { IsTrue result ↔ AllByRecursion (IsRead (meaning step.now) tile width height) (map shown windows.now) }
+    ensures { IsTrue result ↔ AllByRecursion (IsRead (meaning step.now) tile width height) windows.now }
 {
     for window in windows {
         if !is_read(step, tile, width, height, window) {
@@ -77,25 +65,14 @@ fn all_read(step: &Step, tile: Rect, width: u32, height: u32, windows: &[AnyWind
     true
 }
 
-pub(crate) fn all_sized(windows: &[AnyWindow]) -> bool
-    ensures { IsTrue result ↔ AllByRecursion IsSized windows.now }
-{
-    for window in windows {
-        if !is_sized(window) {
-            return false;
-        }
-    }
-    true
-}
-
 fn is_set(window: &AnyWindow) -> bool
-    ensures { IsTrue result ↔ IsSetWindow (shown window.now) }
+    ensures { IsTrue result ↔ IsSetWindow window.now }
 {
     window.kind() == Kind::Bit
 }
 
 fn same_kind(a: &AnyWindow, b: &AnyWindow) -> bool
-    ensures { IsTrue result ↔ SameKind (shown a.now) (shown b.now) }
+    ensures { IsTrue result ↔ SameKind a.now b.now }
 {
     a.kind() == b.kind() && a.maxval() == b.maxval()
 }
@@ -103,7 +80,7 @@ fn same_kind(a: &AnyWindow, b: &AnyWindow) -> bool
 /// Whether the kinds and maxvals of the sources are such that the step can be made of them.
 fn kinds_fit(step: &Step, windows: &[AnyWindow]) -> bool
     requires { length windows.now ≡ source_count (meaning step.now) }
-    ensures { IsTrue result ↔ KindsFit (meaning step.now) (map shown windows.now) }
+    ensures { IsTrue result ↔ KindsFit (meaning step.now) windows.now }
 {
     match step {
         Step::Minus => same_kind(&windows[0], &windows[1]),
@@ -120,7 +97,7 @@ fn kinds_fit(step: &Step, windows: &[AnyWindow]) -> bool
 
 /// Whether the windows are those that the step reads for the tile.
 pub(crate) fn windows_fit(step: &Step, tile: Rect, windows: &[AnyWindow]) -> bool
-    ensures { IsTrue result ↔ FitsStep (meaning step.now) tile (map shown windows.now) }
+    ensures { IsTrue result ↔ FitsStep (meaning step.now) tile windows.now }
 {
     if windows.len() != step.source_count() || tile.width == 0 || tile.height == 0 {
         return false;

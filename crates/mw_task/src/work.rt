@@ -1,7 +1,7 @@
 //! Tasks that are to be run.
 
 use crate::Step;
-use crate::reads::{all_sized, windows_fit};
+use crate::reads::windows_fit;
 use mw_model::{Rect, TaskId};
 use mw_tile::AnyWindow;
 use std::marker::Model;
@@ -20,31 +20,26 @@ impl Model for Work {
 
     ghost Value = { WindowTask };
 
-    ghost use Rattle.std.specs.Prelude.{map};
-    ghost use Rattle.std.specs.List.{AllByRecursion};
-    ghost use Rattle.mw_tile.specs.AnyWindows.{shown, IsSized};
     ghost use Rattle.mw_task.specs.Meanings.{meaning};
     ghost use Rattle.mw_task.specs.WindowTasks.{FitsStep};
 
-    ghost view = { λ w. record { task = w.task; rect = w.rect; step = meaning w.step; windows = map shown w.windows.items } };
+    ghost view = { λ w. record { task = w.task; rect = w.rect; step = meaning w.step; windows = w.windows.items } };
 
-    ghost invariant = { λ w. FitsStep (meaning w.step) w.rect (map shown w.windows.items) × AllByRecursion IsSized w.windows.items };
+    ghost invariant = { λ w. FitsStep (meaning w.step) w.rect w.windows.items };
 }
 
 impl Work {
-    ghost use Rattle.std.specs.Prelude.{◌≡◌, ◌↔◌, IsSome, IfSome, map};
-    ghost use Rattle.std.specs.List.{AllByRecursion};
-    ghost use Rattle.mw_tile.specs.AnyWindows.{shown, IsSized};
+    ghost use Rattle.std.specs.Prelude.{◌≡◌, ◌↔◌, IsSome, IfSome};
     ghost use Rattle.mw_task.specs.Meanings.{meaning};
     ghost use Rattle.mw_task.specs.WindowTasks.{FitsStep};
 
     /// A task of these windows; None where they are not those that the step reads for the tile, or their kinds and
     /// maxvals do not fit the step.
     pub fn new(task: TaskId, rect: Rect, step: Step, windows: Vec<AnyWindow>) -> Option<Work>
-        ensures fits { IsSome result ↔ (FitsStep (meaning step) rect (map shown windows.items) × AllByRecursion IsSized windows.items) }
-        ensures value { IfSome result (λ w. w ≡ record { task = task; rect = rect; step = meaning step; windows = map shown windows.items }) }
+        ensures fits { IsSome result ↔ FitsStep (meaning step) rect windows.items }
+        ensures value { IfSome result (λ w. w ≡ record { task = task; rect = rect; step = meaning step; windows = windows.items }) }
     {
-        if windows_fit(&step, rect, &windows) && all_sized(&windows) {
+        if windows_fit(&step, rect, &windows) {
             Some(Work {
                 task,
                 rect,
@@ -79,9 +74,8 @@ impl Work {
 
     /// A window of each source.
     pub fn windows(&self) -> &[AnyWindow]
-        ensures value { map shown result.now ≡ self.now.windows }
+        ensures value { result.now ≡ self.now.windows }
         ensures fits { FitsStep self.now.step self.now.rect self.now.windows }
-        ensures sized { AllByRecursion IsSized result.now }
     {
         &self.windows
     }

@@ -3,4 +3,3 @@ pub mod Tiles
 pub mod Reaching
 pub mod Rows
 pub mod Shown
-pub mod LevelLists

@@ -10,7 +10,6 @@ ghost use Rattle.mw_model.specs.Flat.{under};
 ghost use Rattle.mw_model.specs.Rasters.{Raster, cell_at, seen_under};
 ghost use Rattle.mw_model.specs.Windows.{seen_at};
 ghost use Rattle.mw_pixel.specs.Images.{raster_of};
-ghost use Rattle.mw_tile.specs.AnyWindows.{levels_of};
 
 use crate::{AnyWindow, Grid, Window};
 use mw_model::{Offset, Reach};
@@ -48,7 +47,7 @@ pub fn window_shows_frame<P: Pixel>(window: &Window<P>, element: &[Offset])
 
 /// At each place of the tile a window shows under the element what stands there in the whole image.
 pub fn window_shows_picture(window: &AnyWindow, element: &[Offset])
-    ensures { (f : Picture) (tile : Rect) → IsPicture f → IsWindow (levels_of window.now) (raster_of f) element.now tile → (x y : ℕ) → x < tile.width → y < tile.height → seen_under (seen_at (levels_of window.now)) element.now (tile.x + x) (tile.y + y) ≡ under f element.now (tile.x + x) (tile.y + y) }
+    ensures { (f : Picture) (tile : Rect) → IsPicture f → IsWindow window.now.view (raster_of f) element.now tile → (x y : ℕ) → x < tile.width → y < tile.height → seen_under (seen_at window.now.view) element.now (tile.x + x) (tile.y + y) ≡ under f element.now (tile.x + x) (tile.y + y) }
 {
     let _place = window.place();
     let _size = element.len();

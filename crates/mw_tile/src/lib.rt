@@ -14,10 +14,9 @@ mod any;
 mod cuts;
 mod grid;
 mod laws;
-mod levels;
 mod window;
 
-pub use any::AnyWindow;
+pub use any::{AnyWindow, WindowView};
 pub use cuts::{cut, paste};
 pub use grid::{Grid, side_ok};
 pub use laws::{

@@ -71,11 +71,11 @@ fn windows(rt: HostRuntime) -> Result<(), Fail> {
     assert!(rt; window.frame_width() == 3 && window.frame_height() == 2);
     assert_eq!(rt; window.row(1), [500, 600].as_slice());
     window_shows_frame(&window, &[]);
-    let deep = AnyWindow::Grey16(window, 999);
+    let deep = AnyWindow::grey16(window, 999);
     window_shows_picture(&deep, &[]);
     assert!(rt; deep.maxval() == 999 && deep.kind() == Kind::Grey);
     assert!(rt; deep.frame_width() == 3 && deep.frame_height() == 2);
-    let set = AnyWindow::Bits(Window::whole(Plane::filled(rt.alloc(), 2, 2, Bit::SET)?));
+    let set = AnyWindow::bits(Window::whole(Plane::filled(rt.alloc(), 2, 2, Bit::SET)?));
     assert_eq!(rt; set.place(), rect(0, 0, 2, 2));
     assert!(rt; set.same(&set) && deep.same(&deep) && !set.same(&deep));
     let own = Window::new(2, 1, rect(1, 0, 1, 1), vec![in rt.alloc(); 7u8]?);

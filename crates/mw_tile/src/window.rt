@@ -1,6 +1,6 @@
 //! Samples of a rectangle of a frame.
 
-ghost use Rattle.std.specs.Prelude.{◌≡◌, ◌+◌, ◌*◌, ◌<◌, ◌≤◌, length, slice_range, vec_len, IfOk};
+ghost use Rattle.std.specs.Prelude.{◌≡◌, ◌↔◌, ◌+◌, ◌*◌, ◌<◌, ◌≤◌, IsTrue, length, slice_range, vec_len, IfOk};
 ghost use Rattle.std.specs.Arc.{arc_value};
 ghost use Rattle.mw_model.specs.Places.{IsWithin};
 ghost use Rattle.mw_tile.specs.Windows.{IsCut};
@@ -132,5 +132,15 @@ impl<P: Pixel> Window<P> {
         ensures length { length result.now ≡ self.now.place.width }
     {
         self.held.plane().row(y)
+    }
+
+    /// Whether both windows have the same place of frames with the same sides, and the same samples.
+    pub fn same(&self, other: &Window<P>) -> bool
+        ensures { IsTrue result ↔ (self.now ≡ other.now) }
+    {
+        self.frame_width == other.frame_width
+            && self.frame_height == other.frame_height
+            && self.place == other.place
+            && self.held.plane().same(other.held.plane())
     }
 }

@@ -1,44 +1,13 @@
-use Rattle.std.proofs.Common.{◌≡◌, ℕ, ◌-◌, ap, sym, subst, ◌∙◌}
-use Rattle.mw_model.specs.declared.shapes.Kind.{Kind}
+use Rattle.std.proofs.Common.{ℕ, ◌-◌}
 use Rattle.mw_model.specs.declared.shapes.Kind.TheVariants as kind
-use Rattle.mw_model.specs.Windows.{View}
-use Rattle.mw_tile.specs.AnyWindows.{kind_of, maxval_of, levels_of, IsSized}
-use Rattle.mw_task.specs.Products.{both_drawn}
-use Rattle.mw_step.proofs.PlaceByPlace.{both_held}
+use Rattle.mw_step.proofs.PlaceByPlace.{both_plane}
 use Rattle.mw_step.proofs.pairs.minus.Goals as goal
 
 pub returns-in_ok-plane-in-Bits : goal.returns-in_ok-plane-in-Bits
-returns-in_ok-plane-in-Bits c =
-    let b-is : levels_of c.args.b.now ≡ c.bits_of.result.now = sym c.bits_of.ensures in
-    let place : c.in-Bits.x.place ≡ c.bits_of.result.now.place = ap (λ (w : View ℕ). w.place) (sym (ap levels_of c.in-Bits.is)) ∙ c.requires.place ∙ ap (λ (w : View ℕ). w.place) b-is in
-    let held =
-    ap (λ (t : Kind). both_drawn t (maxval_of c.args.a.now) (λ (m n : ℕ). m - n) (levels_of c.args.a.now) (levels_of c.args.b.now)) (ap kind_of c.in-Bits.is)
-    ∙ ap (λ (t : ℕ). both_drawn kind.Bit t (λ (m n : ℕ). m - n) (levels_of c.args.a.now) (levels_of c.args.b.now)) (ap maxval_of c.in-Bits.is)
-    ∙ ap (λ (t : View ℕ). both_drawn kind.Bit 1 (λ (m n : ℕ). m - n) t (levels_of c.args.b.now)) (ap levels_of c.in-Bits.is)
-    ∙ ap (λ (t : View ℕ). both_drawn kind.Bit 1 (λ (m n : ℕ). m - n) c.in-Bits.x t) b-is
-    ∙ both_held kind.Bit 1 (λ (m n : ℕ). m - n) c.in-Bits.x c.bits_of.result.now c.in_ok-plane-in-Bits.plane (record { width = c.in_ok-plane-in-Bits.ensures.width; height = c.in_ok-plane-in-Bits.ensures.height }) place c.differences.ensures.first c.differences.ensures.second c.in_ok-plane-in-Bits.ensures.cells in
-    held
+returns-in_ok-plane-in-Bits c = both_plane (λ (m n : ℕ). m - n) c.args.a.now c.args.b.now.view c.bits_of-second.result.now kind.Bit 1 c.in-Bits.first.now c.in_ok-plane-in-Bits.plane c.in-Bits.ensures c.bits_of-second.ensures c.requires.place (record { width = c.in_ok-plane-in-Bits.ensures.width; height = c.in_ok-plane-in-Bits.ensures.height }) c.differences.ensures.first c.differences.ensures.second c.in_ok-plane-in-Bits.ensures.cells
 
 pub returns-in_ok-plane-in-Grey8 : goal.returns-in_ok-plane-in-Grey8
-returns-in_ok-plane-in-Grey8 c =
-    let b-is : levels_of c.args.b.now ≡ c.bytes_of.result.now = sym c.bytes_of.ensures in
-    let place : c.in-Grey8.x.place ≡ c.bytes_of.result.now.place = ap (λ (w : View ℕ). w.place) (sym (ap levels_of c.in-Grey8.is)) ∙ c.requires.place ∙ ap (λ (w : View ℕ). w.place) b-is in
-    let held =
-    ap (λ (t : Kind). both_drawn t (maxval_of c.args.a.now) (λ (m n : ℕ). m - n) (levels_of c.args.a.now) (levels_of c.args.b.now)) (ap kind_of c.in-Grey8.is)
-    ∙ ap (λ (t : ℕ). both_drawn kind.Grey t (λ (m n : ℕ). m - n) (levels_of c.args.a.now) (levels_of c.args.b.now)) (ap maxval_of c.in-Grey8.is)
-    ∙ ap (λ (t : View ℕ). both_drawn kind.Grey c.in-Grey8.maxval (λ (m n : ℕ). m - n) t (levels_of c.args.b.now)) (ap levels_of c.in-Grey8.is)
-    ∙ ap (λ (t : View ℕ). both_drawn kind.Grey c.in-Grey8.maxval (λ (m n : ℕ). m - n) c.in-Grey8.x t) b-is
-    ∙ both_held kind.Grey c.in-Grey8.maxval (λ (m n : ℕ). m - n) c.in-Grey8.x c.bytes_of.result.now c.in_ok-plane-in-Grey8.plane (record { width = c.in_ok-plane-in-Grey8.ensures.width; height = c.in_ok-plane-in-Grey8.ensures.height }) place c.differences-in-Grey8.ensures.first c.differences-in-Grey8.ensures.second c.in_ok-plane-in-Grey8.ensures.cells in
-    (held, subst IsSized c.in-Grey8.is c.requires.first)
+returns-in_ok-plane-in-Grey8 c = (both_plane (λ (m n : ℕ). m - n) c.args.a.now c.args.b.now.view c.bytes_of-second.result.now kind.Grey c.in-Grey8.maxval c.in-Grey8.first.now c.in_ok-plane-in-Grey8.plane c.in-Grey8.ensures.0 c.bytes_of-second.ensures c.requires.place (record { width = c.in_ok-plane-in-Grey8.ensures.width; height = c.in_ok-plane-in-Grey8.ensures.height }) c.differences-in-Grey8.ensures.first c.differences-in-Grey8.ensures.second c.in_ok-plane-in-Grey8.ensures.cells, c.in-Grey8.ensures.1)
 
 pub returns-in_ok-plane-in-Grey16 : goal.returns-in_ok-plane-in-Grey16
-returns-in_ok-plane-in-Grey16 c =
-    let b-is : levels_of c.args.b.now ≡ c.words_of.result.now = sym c.words_of.ensures in
-    let place : c.in-Grey16.x.place ≡ c.words_of.result.now.place = ap (λ (w : View ℕ). w.place) (sym (ap levels_of c.in-Grey16.is)) ∙ c.requires.place ∙ ap (λ (w : View ℕ). w.place) b-is in
-    let held =
-    ap (λ (t : Kind). both_drawn t (maxval_of c.args.a.now) (λ (m n : ℕ). m - n) (levels_of c.args.a.now) (levels_of c.args.b.now)) (ap kind_of c.in-Grey16.is)
-    ∙ ap (λ (t : ℕ). both_drawn kind.Grey t (λ (m n : ℕ). m - n) (levels_of c.args.a.now) (levels_of c.args.b.now)) (ap maxval_of c.in-Grey16.is)
-    ∙ ap (λ (t : View ℕ). both_drawn kind.Grey c.in-Grey16.maxval (λ (m n : ℕ). m - n) t (levels_of c.args.b.now)) (ap levels_of c.in-Grey16.is)
-    ∙ ap (λ (t : View ℕ). both_drawn kind.Grey c.in-Grey16.maxval (λ (m n : ℕ). m - n) c.in-Grey16.x t) b-is
-    ∙ both_held kind.Grey c.in-Grey16.maxval (λ (m n : ℕ). m - n) c.in-Grey16.x c.words_of.result.now c.in_ok-plane-in-Grey16.plane (record { width = c.in_ok-plane-in-Grey16.ensures.width; height = c.in_ok-plane-in-Grey16.ensures.height }) place c.differences-in-Grey16.ensures.first c.differences-in-Grey16.ensures.second c.in_ok-plane-in-Grey16.ensures.cells in
-    (held, subst IsSized c.in-Grey16.is c.requires.first)
+returns-in_ok-plane-in-Grey16 c = (both_plane (λ (m n : ℕ). m - n) c.args.a.now c.args.b.now.view c.words_of-second.result.now kind.Grey c.in-Grey16.maxval c.in-Grey16.first.now c.in_ok-plane-in-Grey16.plane c.in-Grey16.ensures.0 c.words_of-second.ensures c.requires.place (record { width = c.in_ok-plane-in-Grey16.ensures.width; height = c.in_ok-plane-in-Grey16.ensures.height }) c.differences-in-Grey16.ensures.first c.differences-in-Grey16.ensures.second c.in_ok-plane-in-Grey16.ensures.cells, c.in-Grey16.ensures.1)

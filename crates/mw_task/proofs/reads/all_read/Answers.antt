@@ -1,17 +1,16 @@
 use Rattle.std.proofs.Common.{arith, rules}
-use Rattle.mw_tile.specs.AnyWindows.{shown}
-use Rattle.mw_tile.specs.declared.any.AnyWindow.{AnyWindow}
+use Rattle.mw_tile.specs.Windows.{SourceWindow}
 use Rattle.mw_task.specs.Meanings.{meaning}
 use Rattle.mw_task.specs.WindowTasks.{IsRead}
-use Rattle.mw_task.proofs.AllOf.{all_end, all_fails, all_map}
+use Rattle.mw_task.proofs.AllOf.{all_end, all_fails}
 use Rattle.mw_task.proofs.reads.all_read.Goals as goal
 
 pub returns-then-not-is_read : goal.returns-then-not-is_read
 returns-then-not-is_read c =
-    let P : AnyWindow → Type 0 = λ w. IsRead (meaning c.args.step.now) c.args.tile c.args.width c.args.height (shown w) in
-    ((λ f. absurd (search rules)), (λ all. absurd (all_fails P c.args.windows.now c.loop-window.window-index c.window-item.result (omega arith) c.window-item.is (search rules) c.loop-window.invariant ((all_map (IsRead (meaning c.args.step.now) c.args.tile c.args.width c.args.height) shown c.args.windows.now).0 all))))
+    let P : SourceWindow → Type 0 = IsRead (meaning c.args.step.now) c.args.tile c.args.width c.args.height in
+    ((λ f. absurd (search rules)), (λ all. absurd (all_fails P c.args.windows.now c.loop-window.window-index c.window-item.result (omega arith) c.window-item.is (search rules) c.loop-window.invariant all)))
 
 pub returns : goal.returns
 returns c =
-    let P : AnyWindow → Type 0 = λ w. IsRead (meaning c.args.step.now) c.args.tile c.args.width c.args.height (shown w) in
-    ((λ t. (all_map (IsRead (meaning c.args.step.now) c.args.tile c.args.width c.args.height) shown c.args.windows.now).1 (all_end P c.args.windows.now c.loop-window.window-index (omega arith) c.loop-window.invariant)), (λ all. search rules))
+    let P : SourceWindow → Type 0 = IsRead (meaning c.args.step.now) c.args.tile c.args.width c.args.height in
+    ((λ t. all_end P c.args.windows.now c.loop-window.window-index (omega arith) c.loop-window.invariant), (λ all. search rules))

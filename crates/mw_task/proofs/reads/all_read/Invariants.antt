@@ -1,8 +1,7 @@
-use Rattle.mw_tile.specs.AnyWindows.{shown}
 use Rattle.mw_task.specs.Meanings.{meaning}
 use Rattle.mw_task.specs.WindowTasks.{IsRead}
 use Rattle.mw_task.proofs.AllOf.{AllIsRest}
 use Rattle.mw_task.proofs.reads.all_read.Given as goal
 
 abbrev pub invariant-loop-window : goal.invariant-loop-window
-invariant-loop-window l = AllIsRest (λ w. IsRead (meaning l.step) l.tile l.width l.height (shown w)) l.windows l.window-index
+invariant-loop-window l = AllIsRest (IsRead (meaning l.step) l.tile l.width l.height) l.windows l.window-index

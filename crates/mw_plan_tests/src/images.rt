@@ -1,0 +1,124 @@
+//! Images of the plain program as windows of whole planes, and back.
+
+ghost use Rattle.std.specs.Prelude.{◌≤◌, ◌↔◌, IsTrue, All};
+
+use mw_model::plain::PlainImage;
+use mw_model::{Kind, Rect, Shape};
+use mw_pixel::{Bit, Pixel, Plane};
+use mw_task::{AnyWindow, Element, Made};
+use mw_tile::Window;
+use std::alloc::Global;
+use std::process::Abort;
+use std::sync::Arc;
+use std::test::Fail;
+
+fn are_at_most(samples: &[u16], maxval: u16) -> bool
+    ensures { IsTrue result ↔ All (λ s. s ≤ maxval) samples.now }
+{
+    samples.iter().all(|s| *s <= maxval)
+}
+
+/// An image with these samples, by rows.
+pub(crate) fn image(
+    rt: &impl Abort,
+    shape: (Kind, u32, u32, u16),
+    samples: Vec<u16>,
+) -> Result<PlainImage, Fail> {
+    let (kind, width, height, maxval) = shape;
+    assert!(rt; width <= 8192 && height <= 8192);
+    assert_eq!(rt; samples.len(), height as usize * width as usize);
+    assert!(rt; are_at_most(&samples, maxval));
+    Ok(PlainImage::new(kind, width, height, maxval, samples))
+}
+
+/// An image of one row.
+pub(crate) fn row(
+    rt: &impl Abort,
+    alloc: Global,
+    kind: Kind,
+    maxval: u16,
+    samples: &[u16],
+) -> Result<PlainImage, Fail> {
+    assert!(rt; samples.len() <= 8192);
+    let width = samples.len() as u32;
+    image(rt, (kind, width, 1, maxval), samples.to_vec(alloc)?)
+}
+
+pub(crate) fn shape(image: &PlainImage) -> Shape {
+    Shape::Image(image.kind(), image.width(), image.height(), image.maxval())
+}
+
+pub(crate) fn element(alloc: Global, bytes: &[u8], ox: u32, oy: u32) -> Result<Arc<Element>, Fail> {
+    let found = Element::parse(alloc, bytes, ox, oy);
+    let element = found.ok().ok_or("the bytes are an element")?;
+    Ok(Arc::new(alloc, element).ok().ok_or("there is memory")?)
+}
+
+fn samples_of<P: Pixel>(alloc: Global, levels: &[u16]) -> Result<Vec<P>, Fail> {
+    let mut samples = Vec::new(alloc);
+    for level in levels {
+        let sample = P::of(*level).ok_or("a level of the type")?;
+        samples.push(sample).ok().ok_or("there is memory")?;
+    }
+    Ok(samples)
+}
+
+fn window<P: Pixel>(rt: &impl Abort, alloc: Global, image: &PlainImage) -> Result<Window<P>, Fail> {
+    let samples = samples_of::<P>(alloc, image.samples())?;
+    let (width, height) = (image.width(), image.height());
+    assert_eq!(rt; samples.len(), height as usize * width as usize);
+    let place = Rect {
+        x: 0,
+        y: 0,
+        width,
+        height,
+    };
+    Ok(Window::new(width, height, place, samples))
+}
+
+/// The window that has the whole image.
+pub(crate) fn whole(rt: &impl Abort, alloc: Global, image: &PlainImage) -> Result<AnyWindow, Fail> {
+    let maxval = image.maxval();
+    assert!(rt; 1 <= maxval);
+    match image.kind() {
+        Kind::Bit => Ok(AnyWindow::bits(window::<Bit>(rt, alloc, image)?)),
+        Kind::Grey => {
+            if maxval <= 255 {
+                let levels = window::<u8>(rt, alloc, image)?;
+                Ok(AnyWindow::grey8(levels, maxval as u8))
+            } else {
+                let levels = window::<u16>(rt, alloc, image)?;
+                Ok(AnyWindow::grey16(levels, maxval))
+            }
+        }
+    }
+}
+
+fn levels<P: Pixel>(alloc: Global, plane: &Plane<P>) -> Result<Vec<u16>, Fail> {
+    let mut levels = Vec::new(alloc);
+    for sample in plane.samples() {
+        levels.push(sample.value())?;
+    }
+    Ok(levels)
+}
+
+fn image_of<P: Pixel>(
+    rt: &impl Abort,
+    alloc: Global,
+    kind: Kind,
+    maxval: u16,
+    plane: &Plane<P>,
+) -> Result<PlainImage, Fail> {
+    let samples = levels(alloc, plane)?;
+    image(rt, (kind, plane.width(), plane.height(), maxval), samples)
+}
+
+/// The image that a step made.
+pub(crate) fn made(rt: &impl Abort, alloc: Global, made: &Made) -> Result<PlainImage, Fail> {
+    match made {
+        Made::Bits(plane) => image_of(rt, alloc, Kind::Bit, 1, plane),
+        Made::Grey8(plane, maxval) => image_of(rt, alloc, Kind::Grey, u16::from(*maxval), plane),
+        Made::Grey16(plane, maxval) => image_of(rt, alloc, Kind::Grey, *maxval, plane),
+        Made::Number(_) => Err("a step that makes an image".into()),
+    }
+}

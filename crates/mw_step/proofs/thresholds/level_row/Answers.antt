@@ -1,0 +1,13 @@
+use Rattle.std.proofs.Common.{arith, ap, ◌∙◌, ℕ, cond}
+use Rattle.std.specs.Prelude.{◌==◌, if◌then◌else◌}
+use Rattle.mw_lane.proofs.Merged.{mapped_step, mapped_all, merged_all}
+use Rattle.mw_step.proofs.thresholds.level_row.Goals as goal
+
+pub loop-i-preserved : goal.loop-i-preserved
+loop-i-preserved g c = mapped_step (λ (s : g.row.P.Denot). if g.P.Pixel.level s == c.args.v then 1 else 0) c.loop-i.i c.args.out.now c.args.src.now c.loop-i.out c.index-src-i.result c.new.result
+    (omega arith) (omega arith) c.loop-i.invariant c.index-src-i.is (c.new.ensures ∙ ap (λ (t : ℕ). cond (t == c.args.v) 1 0) c.value.ensures.level)
+
+pub returns : goal.returns
+returns g c =
+    let mark : g.row.P.Denot → ℕ = λ (s : g.row.P.Denot). if g.P.Pixel.level s == c.args.v then 1 else 0 in
+    c.loop-i.invariant ∙ merged_all (λ (_ : ℕ) (s : g.row.P.Denot). mark s) c.loop-i.i c.args.out.now c.args.src.now (omega arith) (omega arith) ∙ mapped_all mark c.args.out.now c.args.src.now (omega arith)

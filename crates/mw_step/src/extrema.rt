@@ -1,0 +1,69 @@
+//! The lesser and the greater of levels, whatever samples hold them.
+
+use mw_pixel::{Bit, Extremum, Max, Min};
+
+/// An extremum of samples of every type, and what it is of their levels: of two, and of all that are seen in an image with
+/// a maxval.
+pub(crate) trait LevelExtremum: Extremum<Bit> + Extremum<u8> + Extremum<u16> {
+    ghost use Rattle.std.specs.Prelude.{◌≡◌, ℕ, List, fold};
+
+    ghost of_two: { ℕ → ℕ → ℕ };
+
+    ghost of_seen: { ℕ → List ℕ → ℕ };
+
+    ghost bits_merge: { ⟦<Self as Extremum<Bit>>⟧.merge ≡ of_two };
+
+    ghost bytes_merge: { ⟦<Self as Extremum<u8>>⟧.merge ≡ of_two };
+
+    ghost words_merge: { ⟦<Self as Extremum<u16>>⟧.merge ≡ of_two };
+
+    ghost bits_fold: { (m : ℕ) (ns : List ℕ) → fold ⟦<Self as Extremum<Bit>>⟧.merge (⟦<Self as Extremum<Bit>>⟧.neutral_of m) ns ≡ of_seen m ns };
+
+    ghost bytes_fold: { (m : ℕ) (ns : List ℕ) → fold ⟦<Self as Extremum<u8>>⟧.merge (⟦<Self as Extremum<u8>>⟧.neutral_of m) ns ≡ of_seen m ns };
+
+    ghost words_fold: { (m : ℕ) (ns : List ℕ) → fold ⟦<Self as Extremum<u16>>⟧.merge (⟦<Self as Extremum<u16>>⟧.neutral_of m) ns ≡ of_seen m ns };
+}
+
+impl LevelExtremum for Min {
+    ghost use Rattle.std.specs.Prelude.{min, refl};
+    ghost use Rattle.mw_model.specs.Flat.{least};
+    ghost use Rattle.mw_model.proofs.ImageLaws.{fold-min};
+
+    ghost of_two = { min };
+
+    ghost of_seen = { least };
+
+    ghost bits_merge = { refl };
+
+    ghost bytes_merge = { refl };
+
+    ghost words_merge = { refl };
+
+    ghost bits_fold = { fold-min };
+
+    ghost bytes_fold = { fold-min };
+
+    ghost words_fold = { fold-min };
+}
+
+impl LevelExtremum for Max {
+    ghost use Rattle.std.specs.Prelude.{max, refl};
+    ghost use Rattle.mw_model.specs.Flat.{greatest};
+    ghost use Rattle.mw_model.proofs.ImageLaws.{fold-max_from_none};
+
+    ghost of_two = { max };
+
+    ghost of_seen = { λ m ns. greatest ns };
+
+    ghost bits_merge = { refl };
+
+    ghost bytes_merge = { refl };
+
+    ghost words_merge = { refl };
+
+    ghost bits_fold = { λ m ns. fold-max_from_none ns };
+
+    ghost bytes_fold = { λ m ns. fold-max_from_none ns };
+
+    ghost words_fold = { λ m ns. fold-max_from_none ns };
+}
