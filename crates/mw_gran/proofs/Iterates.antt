@@ -28,26 +28,26 @@ dilation-union b f g shape =
         let first = sample-dilation b f x y p q in
         let second = sample-dilation b g x y p' q' in
         let upper : greatest (under (union f g) b x y) ≤ max (greatest (under f b x y)) (greatest (under g b x y)) =
-            greatest_below (union f g) b x y (max (greatest (under f b x y)) (greatest (under g b x y)))
-            (λ u v in_u in_v covers.
-            let both = sample-union f g u v in_u in_v in
-            let left = below_greatest f b x y u v in_u in_v covers in
-            let right = below_greatest g b x y u v (omega (arith, shape.width)) (omega (arith, shape.height)) covers in
-            omega arith) in
+        greatest_below (union f g) b x y (max (greatest (under f b x y)) (greatest (under g b x y)))
+        (λ u v in_u in_v covers.
+        let both = sample-union f g u v in_u in_v in
+        let left = below_greatest f b x y u v in_u in_v covers in
+        let right = below_greatest g b x y u v (omega (arith, shape.width)) (omega (arith, shape.height)) covers in
+        omega arith) in
         let left : greatest (under f b x y) ≤ greatest (under (union f g) b x y) =
-            greatest_below f b x y (greatest (under (union f g) b x y))
-            (λ u v in_u in_v covers.
-            let both = sample-union f g u v in_u in_v in
-            let there = below_greatest (union f g) b x y u v in_u in_v covers in
-            omega arith) in
+        greatest_below f b x y (greatest (under (union f g) b x y))
+        (λ u v in_u in_v covers.
+        let both = sample-union f g u v in_u in_v in
+        let there = below_greatest (union f g) b x y u v in_u in_v covers in
+        omega arith) in
         let right : greatest (under g b x y) ≤ greatest (under (union f g) b x y) =
-            greatest_below g b x y (greatest (under (union f g) b x y))
-            (λ u v in_u in_v covers.
-            let in_u' : u < f.width = omega (arith, shape.width) in
-            let in_v' : v < f.height = omega (arith, shape.height) in
-            let both = sample-union f g u v in_u' in_v' in
-            let there = below_greatest (union f g) b x y u v in_u' in_v' covers in
-            omega arith) in
+        greatest_below g b x y (greatest (under (union f g) b x y))
+        (λ u v in_u in_v covers.
+        let in_u' : u < f.width = omega (arith, shape.width) in
+        let in_v' : v < f.height = omega (arith, shape.height) in
+        let both = sample-union f g u v in_u' in_v' in
+        let there = below_greatest (union f g) b x y u v in_u' in_v' covers in
+        omega arith) in
         omega arith
 
 union-assoc : (f g h : Picture) → SameShape g f → union (union f g) h ≡ union f (union g h)

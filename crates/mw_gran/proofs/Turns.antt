@@ -70,7 +70,7 @@ skeleton_turn_more b depth n p p1 p2 p3 e m s1 s2 s3 erode dilate slides below a
     let m2 = still_shows IsSet p1 p2 dilate (s1 ∷ []) s2 m (marked b depth n) push2 (still_shows IsSet p p1 erode (e ∷ []) s1 m (marked b depth n) push1 at.shows_marks) in
     let acts3 = acts_mark b depth n below in
     let shown3 : AreShown IsSet p2 (m ∷ e ∷ s2 ∷ []) (λ f. marked b depth n f ∷ left f ∷ opened f ∷ []) =
-        also m (e ∷ s2 ∷ []) (marked b depth n) (λ f. left f ∷ opened f ∷ []) m2 (also e (s2 ∷ []) left (λ f. opened f ∷ []) e2 (alone p2 s2 opened shows2)) in
+    also m (e ∷ s2 ∷ []) (marked b depth n) (λ f. left f ∷ opened f ∷ []) m2 (also e (s2 ∷ []) left (λ f. opened f ∷ []) e2 (alone p2 s2 opened shows2)) in
     let sound1 = still_sound IsSet p p1 erode (e ∷ []) s1 (λ f. left f ∷ []) next push1 shown1 acts1 at.sound in
     let sound2 = still_sound IsSet p1 p2 dilate (s1 ∷ []) s2 (λ f. next f ∷ []) opened push2 shown2 acts2 sound1 in
     let read1 : IsReadBy p1 0 = read_first at.read in
@@ -259,7 +259,7 @@ pub dilated_more : (b : List Offset) (k steps : ℕ) (numbers : Picture → List
 dilated_more b k steps numbers before p q r s erode dilate slides tells shows pushed =
     let grown : Picture → Picture = λ f. times k (dilation (negated b)) (before f) in
     let both = tells_no_more p q dilate r s grown (λ f. dilation (negated b) (grown f)) (steps + k) numbers pushed shows
-        (acts_on IsPicture dilate (dilation (negated b)) grown slides.dilates (dilation_framed (negated b)) shows.framed) slides.no_sums.1 tells in
+    (acts_on IsPicture dilate (dilation (negated b)) grown slides.dilates (dilation_framed (negated b)) shows.framed) slides.no_sums.1 tells in
     let more : suc k ≡ k + 1 = omega arith in
     let steps_more : suc (steps + k) ≡ steps + (k + 1) = omega arith in
     (subst (λ (n : ℕ). Tells q n numbers) steps_more both.0, subst (λ (n : ℕ). Shows IsPicture q s (λ f. times n (dilation (negated b)) (before f))) more both.1)
@@ -286,15 +286,15 @@ box_turn b box n p p1 p2 p3 s1 s2 s3 fills holds tells push1 push2 push3 =
     let eroded : Picture → Picture = times (n + 1) (erosion b) in
     let opened : Picture → Picture = λ f. times (n + 1) (dilation (negated b)) (eroded f) in
     let acts1 : Acts IsPicture (ErodeBox (multiplied (n + 1) box)) (λ f. f ∷ []) eroded = record {
-        made = λ f fits. record { count = refl; kinds = tt };
-        plane = λ f fits. plane-erode_box (multiplied (n + 1) box) f f.width f.height (picture_framed f fits) ∙ erosion-multiplied box b (n + 1) f fills holds fits;
-        framed = λ f fits. times_framed (erosion b) (erosion_framed b) (n + 1) f f.width f.height (picture_framed f fits);
-      } in
+      made = λ f fits. record { count = refl; kinds = tt };
+      plane = λ f fits. plane-erode_box (multiplied (n + 1) box) f f.width f.height (picture_framed f fits) ∙ erosion-multiplied box b (n + 1) f fills holds fits;
+      framed = λ f fits. times_framed (erosion b) (erosion_framed b) (n + 1) f f.width f.height (picture_framed f fits);
+    } in
     let acts2 : Acts IsPicture (DilateBox (multiplied (n + 1) (turned_box box))) (λ f. eroded f ∷ []) opened = record {
-        made = λ f fits. record { count = refl; kinds = tt };
-        plane = λ f fits. plane-dilate_box (multiplied (n + 1) (turned_box box)) (eroded f) f.width f.height (acts1.framed f fits) ∙ dilation-multiplied_turned box b (n + 1) (eroded f) fills holds (times_picture b (n + 1) f fits);
-        framed = λ f fits. times_framed (dilation (negated b)) (dilation_framed (negated b)) (n + 1) (eroded f) f.width f.height (acts1.framed f fits);
-      } in
+      made = λ f fits. record { count = refl; kinds = tt };
+      plane = λ f fits. plane-dilate_box (multiplied (n + 1) (turned_box box)) (eroded f) f.width f.height (acts1.framed f fits) ∙ dilation-multiplied_turned box b (n + 1) (eroded f) fills holds (times_picture b (n + 1) f fits);
+      framed = λ f fits. times_framed (dilation (negated b)) (dilation_framed (negated b)) (n + 1) (eroded f) f.width f.height (acts1.framed f fits);
+    } in
     let first = tells_no_more p p1 (ErodeBox (multiplied (n + 1) box)) (FromInput 0) s1 (λ f. f) eroded (3 * n + 1) (spectrum b n) push1 (shows_input IsPicture p itself) acts1 refl tells in
     let second = tells_no_more p1 p2 (DilateBox (multiplied (n + 1) (turned_box box))) s1 s2 eroded opened (suc (3 * n + 1)) (spectrum b n) push2 first.1 acts2 refl first.0 in
     let third = tells_sum p2 p3 s2 s3 opened (suc (suc (3 * n + 1))) (spectrum b n) push3 second.1 second.0 in

@@ -43,11 +43,7 @@ fn skeleton_by(alloc: Global, element: &Arc<Element>, levels: u32) -> Result<Pla
 }
 
 /// The plan of a restoration by this element.
-fn restoration_by(
-    alloc: Global,
-    element: &Arc<Element>,
-    levels: u32,
-) -> Result<Plan, NoMemory>
+fn restoration_by(alloc: Global, element: &Arc<Element>, levels: u32) -> Result<Plan, NoMemory>
     requires { levels ≤ 254 }
     ensures { IfOk result (λ p. Draws IsPicture p (3 * levels + 1) (restoration (arc_value element.now).offsets levels)) }
 {

@@ -25,12 +25,7 @@ struct Stand {
 }
 
 /// One turn, behind n others.
-fn turn(
-    plan: &mut Plan,
-    steps: &SlidingSteps,
-    before: Stand,
-    n: u16,
-) -> Result<Stand, NoMemory>
+fn turn(plan: &mut Plan, steps: &SlidingSteps, before: Stand, n: u16) -> Result<Stand, NoMemory>
     requires few { length plan.old < 65000 }
     requires small { n < 254 }
     ensures count { IfOk result (λ _. length plan.new ≡ length plan.old + 3) }
@@ -44,11 +39,7 @@ fn turn(
 }
 
 /// The plan of a skeleton.
-pub(crate) fn skeleton(
-    alloc: Global,
-    steps: &SlidingSteps,
-    levels: u16,
-) -> Result<Plan, NoMemory>
+pub(crate) fn skeleton(alloc: Global, steps: &SlidingSteps, levels: u16) -> Result<Plan, NoMemory>
     requires { levels ≤ 254 }
     ensures { (b : List Offset) → Slides b (meaning steps.now.erode) (meaning steps.now.dilate) → IfOk result (λ p. Draws IsSet p (3 * levels + 2) (skeleton b levels)) }
 {

@@ -24,10 +24,7 @@ pub(crate) struct SlidingSteps {
 }
 
 /// The steps of an element; those of a full rectangle go as its box.
-pub(crate) fn sliding_steps(
-    alloc: Global,
-    element: &Arc<Element>,
-) -> Result<SlidingSteps, NoMemory>
+pub(crate) fn sliding_steps(alloc: Global, element: &Arc<Element>) -> Result<SlidingSteps, NoMemory>
     ensures { IfOk result (λ s. Slides (arc_value element.now).offsets (meaning s.erode) (meaning s.dilate)) }
 {
     // The bounds of a box stay within the sides of an element.

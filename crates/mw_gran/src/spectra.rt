@@ -28,12 +28,7 @@ use std::alloc::Global;
 use std::sync::Arc;
 
 /// n dilations, one behind another.
-fn dilated(
-    plan: &mut Plan,
-    steps: &SlidingSteps,
-    from: Source,
-    n: u32,
-) -> Result<Source, NoMemory>
+fn dilated(plan: &mut Plan, steps: &SlidingSteps, from: Source, n: u32) -> Result<Source, NoMemory>
     requires few { length plan.old < 65000 }
     requires small { n ≤ 32 }
     ensures kept { IfOk result (λ _. StillShown plan.old plan.new) }
@@ -48,12 +43,7 @@ fn dilated(
 }
 
 /// One turn, behind n others: the next erosion, as many dilations, and their sum.
-fn turn(
-    plan: &mut Plan,
-    steps: &SlidingSteps,
-    eroded: Source,
-    n: u32,
-) -> Result<Source, NoMemory>
+fn turn(plan: &mut Plan, steps: &SlidingSteps, eroded: Source, n: u32) -> Result<Source, NoMemory>
     requires few { length plan.old < 64000 }
     requires small { n < 32 }
     ensures count { IfOk result (λ _. length plan.new ≡ length plan.old + n + 3) }
@@ -66,11 +56,7 @@ fn turn(
 }
 
 /// The plan of a spectrum by any element.
-fn by_turns(
-    alloc: Global,
-    steps: &SlidingSteps,
-    levels: u32,
-) -> Result<Plan, NoMemory>
+fn by_turns(alloc: Global, steps: &SlidingSteps, levels: u32) -> Result<Plan, NoMemory>
     requires { levels ≤ 32 }
     ensures { (b : List Offset) → Slides b (meaning steps.now.erode) (meaning steps.now.dilate) → IfOk result (λ p. Tells p (spectrum_steps levels) (spectrum b levels)) }
 {
@@ -102,11 +88,7 @@ fn box_turn(plan: &mut Plan, offsets: OffsetBox, n: u32) -> Result<(), NoMemory>
 }
 
 /// The plan of a spectrum by a full rectangle that holds its origin.
-fn by_boxes(
-    alloc: Global,
-    offsets: OffsetBox,
-    levels: u32,
-) -> Result<Plan, NoMemory>
+fn by_boxes(alloc: Global, offsets: OffsetBox, levels: u32) -> Result<Plan, NoMemory>
     requires small { levels ≤ 32 }
     requires near { IsSmallBox offsets }
     ensures { (b : List Offset) → FillsBox offsets b → HoldsOrigin b → IfOk result (λ p. Tells p (3 * levels + 1) (spectrum b levels)) }
@@ -120,11 +102,7 @@ fn by_boxes(
 }
 
 /// The plan of a spectrum: by boxes where the element is a full rectangle that holds its origin, else by turns.
-pub(crate) fn spectrum(
-    alloc: Global,
-    element: &Arc<Element>,
-    levels: u32,
-) -> Result<Plan, NoMemory>
+pub(crate) fn spectrum(alloc: Global, element: &Arc<Element>, levels: u32) -> Result<Plan, NoMemory>
     requires { levels ≤ 32 }
     ensures { IfOk result (TellsSpectrum (arc_value element.now).offsets levels) }
 {

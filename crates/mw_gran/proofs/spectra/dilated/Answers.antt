@@ -36,8 +36,7 @@ returns-clause-kept c = c.loop-done.invariant.kept
 pub returns-clause-grown : goal.returns-clause-grown
 returns-clause-grown c = λ b count numbers before slides tells shows.
     let at = c.loop-done.invariant.grown b count numbers before slides tells shows in
-    let same : c.loop-done._done ≡ c.args.n = omega arith in
-    (
+    let same : c.loop-done._done ≡ c.args.n = omega arith in (
       subst (λ (k : ℕ). Tells c.loop-done.plan (count + k) numbers) same at.0,
       subst (λ (k : ℕ). Shows IsPicture c.loop-done.plan (source c.loop-done.grown) (λ f. times k (dilation (negated b)) (before f))) same at.1,
     )
