@@ -1,0 +1,68 @@
+-- Bounds of boxes, as signed numbers of 32 bits.
+use Rattle.std.proofs.Common.{◌≡◌, ℕ, zero, suc, ◌+◌, ◌*◌, ◌≤◌, ℤ, pos, negsuc, ◌-ℤ◌, ◌*ℤ◌, ◌≤ℤ◌, neg_ℤ, ap, sym, arith, ◌∙◌, w32, to_z, of_z}
+use Rattle.std.proofs.lemmas.Int.{ints}
+use Rattle.std.proofs.Math.IntN.{pos-*ℤ-pos, pos-*ℤ-negsuc}
+use Rattle.mw_model.specs.declared.places.OffsetBox.{OffsetBox}
+use Rattle.mw_model.specs.Elements.{Figure, IsFigure}
+use Rattle.mw_element.specs.Figures.{FillsBox}
+use Rattle.mw_plan.proofs.Boxes.{near_box}
+use Rattle.mw_gran.specs.Boxes.{IsNear, IsSmallBox}
+
+mul_below : (n m k : ℕ) → n ≤ k → n * m ≤ k * m
+mul_below zero m k le = omega arith
+mul_below (suc n) m zero le = absurd (omega arith)
+mul_below (suc n) m (suc k) le = omega (arith, mul_below n m k (omega arith))
+
+-- a product of a small number and a bound
+fits_product : (n : ℕ) (z : ℤ) → n ≤ 32 → IsNear z → to_z w32 (of_z w32 (pos n *ℤ z)) ≡ pos n *ℤ z
+fits_product n (pos m) le near =
+    let e = pos-*ℤ-pos n m in
+    let low = mul_below n m 32 le in
+    let small : m ≤ 254 = let h = near.1 in omega (arith, ints) in
+    ap (λ (t : ℤ). to_z w32 (of_z w32 t)) e ∙ fits (n * m) (omega arith) ∙ sym e
+  where
+    fits : (k : ℕ) → k ≤ 8128 → to_z w32 (of_z w32 (pos k)) ≡ pos k
+    fits k le = omega (arith, ints)
+fits_product n (negsuc m) le near =
+    let e = pos-*ℤ-negsuc n m in
+    let low = mul_below n (suc m) 32 le in
+    let small : m ≤ 253 = let h = near.0 in omega (arith, ints) in
+    ap (λ (t : ℤ). to_z w32 (of_z w32 t)) e ∙ fits (n * suc m) (omega arith) ∙ sym e
+  where
+    fits : (k : ℕ) → k ≤ 8128 → to_z w32 (of_z w32 (neg_ℤ (pos k))) ≡ neg_ℤ (pos k)
+    fits k le = omega (arith, ints)
+
+pub product_is : (n : ℕ) (z : ℤ) → n ≤ 32 → IsNear z → to_z w32 (of_z w32 (to_z w32 n *ℤ to_z w32 (of_z w32 z))) ≡ pos n *ℤ z
+product_is n z le near =
+    let low = near.0 in
+    let high = near.1 in
+    let number : to_z w32 n ≡ pos n = omega (arith, ints) in
+    let bound : to_z w32 (of_z w32 z) ≡ z = omega (arith, ints) in
+    ap (λ (t : ℤ). to_z w32 (of_z w32 (t *ℤ to_z w32 (of_z w32 z)))) number
+    ∙ ap (λ (t : ℤ). to_z w32 (of_z w32 (pos n *ℤ t))) bound
+    ∙ fits_product n z le near
+
+pub negated_is : (z : ℤ) → IsNear z → to_z w32 (of_z w32 (pos 0 -ℤ to_z w32 (of_z w32 z))) ≡ neg_ℤ z
+negated_is z near = let low = near.0 in let high = near.1 in omega (arith, ints)
+
+abbrev pub box_of : ℤ → ℤ → ℤ → ℤ → OffsetBox
+box_of a b c d = record { x0 = a; x1 = b; y0 = c; y1 = d }
+
+pub same_box : (a b c d a' b' c' d' : ℤ) → a ≡ a' → b ≡ b' → c ≡ c' → d ≡ d' → box_of a b c d ≡ box_of a' b' c' d'
+same_box a b c d a' b' c' d' p q r s = cc
+
+pub small_box : (box : OffsetBox) (f : Figure) → IsFigure f → FillsBox box f.offsets → IsSmallBox box
+small_box box f figure fills =
+    let near = near_box box f figure fills in
+    let left = near.left in
+    let right = near.right in
+    let top = near.top in
+    let bottom = near.bottom in
+    let wide = near.wide in
+    let high = near.high in
+    record {
+      left = (left, omega (arith, ints));
+      right = (omega (arith, ints), right);
+      top = (top, omega (arith, ints));
+      bottom = (omega (arith, ints), bottom);
+    }

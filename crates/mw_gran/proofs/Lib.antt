@@ -1,0 +1,10 @@
+pub mod Planes
+pub mod MultipliedBoxes
+pub mod BoxBounds
+pub mod Origins
+pub mod Iterates
+pub mod StepPlanes
+pub mod OneMore
+pub mod Actions
+pub mod Turns
+pub mod Meaning

@@ -1,0 +1,175 @@
+-- What one more step does to a plan that grows.
+use Rattle.std.proofs.Common.{◌≡◌, ℕ, zero, suc, ◌+◌, ◌-◌, ◌*◌, ◌<◌, ◌≤◌, Bool, true, false, List, [], ◌∷◌, ◌++◌, length, map, sum, refl, ap, sym, subst, arith, ◌∙◌, inl, inr, length-append, Result, Ok, Err, IfOk}
+use Rattle.std.specs.Prelude.{slice_index_or, Contains}
+use Rattle.std.specs.List.{AllByRecursion}
+use Rattle.std.proofs.lemmas.Bool.{cases_lt, cases_eq}
+use Rattle.std.proofs.Math.ListN.{get_or-append}
+use Rattle.std.proofs.Math.Seq.{get_or-append_seam, get_or-append_right}
+use Rattle.mw_model.specs.Pictures.{Picture}
+use Rattle.mw_model.specs.PlanSteps.{PlanStep}
+use Rattle.mw_model.specs.Plans.{Plan, Planned, Source, FromInput, FromStep, IsSourceAt, plane_of, plane_of_source, planes, planes_from, numbers_from, is_sum, with_number}
+use Rattle.mw_model.specs.Tasks.{nothing_planned}
+use Rattle.mw_plan.specs.PlansOf.{CanBeMade, IsReadBy, planes_read}
+use Rattle.mw_gran.specs.Growing.{IsFramed, seen_of, IsPushed, Shows, IsSound, Acts, Counts}
+use Rattle.mw_gran.proofs.Planes.{source_kept, source_pushed, numbers-push, length-planes}
+
+-- the step with its sources
+abbrev planned : PlanStep → List Source → Planned
+planned step sources = record { step = step; sources = sources }
+
+length-pushed : (p : Plan) (s : Planned) → length (p ++ s ∷ []) ≡ suc (length p)
+length-pushed p s = omega (arith, length-append p (s ∷ []))
+
+-- ---- sources
+
+later : (n k m : ℕ) (s : Source) → k ≤ m → IsSourceAt n k s → IsSourceAt n m s
+later n k m (FromInput i) le is = is
+later n k m (FromStep i) le is = omega arith
+
+-- the sources are shown to be these images
+pub data AreShown (Fits : Picture → Type 0) (p : Plan) : List Source → (Picture → List Picture) → Type 0 where
+  none : AreShown Fits p [] (λ f. [])
+  also : (s : Source) (sources : List Source) (operator : Picture → Picture) (shown : Picture → List Picture)
+      → Shows Fits p s operator → AreShown Fits p sources shown → AreShown Fits p (s ∷ sources) (λ f. operator f ∷ shown f)
+
+are_here : {Fits : Picture → Type 0} (p : Plan) (sources : List Source) (shown : Picture → List Picture) → AreShown Fits p sources shown → AllByRecursion (IsSourceAt 1 (length p)) sources
+are_here p _ _ none = tt
+are_here p _ _ (also s sources operator shown first rest) = (first.here, are_here p sources shown rest)
+
+are_seen : {Fits : Picture → Type 0} (p : Plan) (sources : List Source) (shown : Picture → List Picture) → AreShown Fits p sources shown → (f : Picture) → Fits f → map (seen_of p f) sources ≡ shown f
+are_seen p _ _ none f fits = refl
+are_seen p _ _ (also s sources operator shown first rest) f fits =
+    ap (λ (t : Picture). t ∷ map (seen_of p f) sources) (first.is f fits) ∙ ap (λ (t : List Picture). operator f ∷ t) (are_seen p sources shown rest f fits)
+
+-- ---- one more step
+
+-- a source shows what it showed
+pub still_shows : (Fits : Picture → Type 0) (p q : Plan) (step : PlanStep) (sources : List Source) (r s : Source) (operator : Picture → Picture)
+    → IsPushed p q step sources r → Shows Fits p s operator → Shows Fits q s operator
+still_shows Fits p q step sources r s operator pushed shows =
+    subst (λ (t : Plan). Shows Fits t s operator) (sym pushed.is) (record {
+      here = later 1 (length p) (length (p ++ planned step sources ∷ [])) s (omega (arith, length-pushed p (planned step sources))) shows.here;
+      is = λ f fits. source_kept p (planned step sources) (f ∷ []) f.width f.height 1 s shows.here ∙ shows.is f fits;
+      framed = shows.framed;
+    })
+
+-- the new source shows what the step does
+pub now_shows : (Fits : Picture → Type 0) (p q : Plan) (step : PlanStep) (sources : List Source) (s : Source) (shown : Picture → List Picture) (operator : Picture → Picture)
+    → IsPushed p q step sources s → AreShown Fits p sources shown → Acts Fits step shown operator → Shows Fits q s operator
+now_shows Fits p q step sources s shown operator pushed are acts =
+    subst (λ (t : Source). Shows Fits q t operator) (sym pushed.at)
+    (subst (λ (t : Plan). Shows Fits t (FromStep (length p)) operator) (sym pushed.is) (record {
+      here = omega (arith, length-pushed p (planned step sources));
+      is = λ f fits.
+          source_pushed p (planned step sources) (f ∷ []) f.width f.height
+          ∙ ap (λ (t : List Picture). plane_of step t f.width f.height) (are_seen p sources shown are f fits)
+          ∙ acts.plane f fits;
+      framed = acts.framed;
+    }))
+
+-- where a step of the longer plan stands
+at_front : (p : Plan) (s : Planned) (k : ℕ) → k < length p → slice_index_or (p ++ s ∷ []) k nothing_planned ≡ slice_index_or p k nothing_planned
+at_front p s k lt = get_or-append p (s ∷ []) nothing_planned k lt
+
+at_end : (p : Plan) (s : Planned) (k : ℕ) → k ≡ length p → slice_index_or (p ++ s ∷ []) k nothing_planned ≡ s
+at_end p s k e = ap (λ (t : ℕ). slice_index_or (p ++ s ∷ []) t nothing_planned) e ∙ get_or-append_seam p s [] nothing_planned
+
+behind : (p : Plan) (k : ℕ) → length p ≤ k → slice_index_or p k nothing_planned ≡ nothing_planned
+behind [] k le = refl
+behind (s ∷ p) zero le = absurd (omega arith)
+behind (s ∷ p) (suc k) le = behind p k (omega arith)
+
+same_seen : (n : ℕ) (p : Plan) (s : Planned) (f : Picture) (sources : List Source) → AllByRecursion (IsSourceAt 1 n) sources → n ≤ length p
+    → map (seen_of (p ++ s ∷ []) f) sources ≡ map (seen_of p f) sources
+same_seen n p s f [] here le = refl
+same_seen n p s f (r ∷ rs) here le =
+    ap (λ (t : Picture). t ∷ map (seen_of (p ++ s ∷ []) f) rs) (source_kept p s (f ∷ []) f.width f.height 1 r (later 1 n (length p) r le here.0))
+    ∙ ap (λ (t : List Picture). seen_of p f r ∷ t) (same_seen n p s f rs here.1 le)
+
+-- the plan stays sound
+pub still_sound : (Fits : Picture → Type 0) (p q : Plan) (step : PlanStep) (sources : List Source) (s : Source) (shown : Picture → List Picture) (operator : Picture → Picture)
+    → IsPushed p q step sources s → AreShown Fits p sources shown → Acts Fits step shown operator → IsSound Fits p → IsSound Fits q
+still_sound Fits p q step sources s shown operator pushed are acts sound =
+    subst (IsSound Fits) (sym pushed.is) (record { sources = source_at; made = made_at })
+  where
+    x : Planned
+    x = planned step sources
+
+    source_at : (k : ℕ) → AllByRecursion (IsSourceAt 1 k) (slice_index_or (p ++ planned step sources ∷ []) k nothing_planned).sources
+    source_at k =
+        elim (cases_lt k (length p)) [
+          | inl lt ↦ subst (λ (t : Planned). AllByRecursion (IsSourceAt 1 k) t.sources) (sym (at_front p (planned step sources) k lt)) (sound.sources k)
+          | inr le ↦ elim (cases_eq k (length p)) [
+            | inl e ↦ subst (λ (t : Planned). AllByRecursion (IsSourceAt 1 k) t.sources) (sym (at_end p (planned step sources) k e)) (subst (λ (n : ℕ). AllByRecursion (IsSourceAt 1 n) sources) (sym e) (are_here p sources shown are))
+            | inr past ↦ subst (λ (t : Planned). AllByRecursion (IsSourceAt 1 k) t.sources) (sym (behind (p ++ planned step sources ∷ []) k (omega (arith, length-pushed p (planned step sources))))) tt
+          ]
+        ]
+
+    made_at : (f : Picture) → Fits f → (k : ℕ) → k < length (p ++ planned step sources ∷ [])
+        → CanBeMade (slice_index_or (p ++ planned step sources ∷ []) k nothing_planned).step (planes_read (p ++ planned step sources ∷ []) (f ∷ []) f.width f.height k)
+    made_at f fits k lt =
+        elim (cases_lt k (length p)) [
+          | inl front ↦
+              subst (λ (t : Planned). CanBeMade t.step (map (seen_of (p ++ planned step sources ∷ []) f) t.sources)) (sym (at_front p (planned step sources) k front))
+              (subst (CanBeMade (slice_index_or p k nothing_planned).step) (sym (same_seen k p (planned step sources) f (slice_index_or p k nothing_planned).sources (sound.sources k) (omega arith))) (sound.made f fits k front))
+          | inr le ↦
+              let e : k ≡ length p = omega (arith, length-pushed p (planned step sources)) in
+              subst (λ (t : Planned). CanBeMade t.step (map (seen_of (p ++ planned step sources ∷ []) f) t.sources)) (sym (at_end p (planned step sources) k e))
+              (subst (CanBeMade step) (sym (same_seen (length p) p (planned step sources) f sources (are_here p sources shown are) (omega arith) ∙ are_seen p sources shown are f fits)) (acts.made f fits))
+        ]
+
+-- the image stays read
+pub still_read : (p q : Plan) (step : PlanStep) (sources : List Source) (s : Source) → IsPushed p q step sources s → IsReadBy p 0 → IsReadBy q 0
+still_read p q step sources s pushed (k, lt, has) =
+    subst (λ (t : Plan). IsReadBy t 0) (sym pushed.is)
+    (k, omega (arith, length-pushed p (planned step sources)), subst (λ (t : Planned). Contains t.sources (FromInput 0)) (sym (at_front p (planned step sources) k lt)) has)
+
+-- or is read by the step
+pub now_read : (p q : Plan) (step : PlanStep) (sources : List Source) (s : Source) → IsPushed p q step sources s → Contains sources (FromInput 0) → IsReadBy q 0
+now_read p q step sources s pushed has =
+    subst (λ (t : Plan). IsReadBy t 0) (sym pushed.is)
+    (length p, omega (arith, length-pushed p (planned step sources)), subst (λ (t : Planned). Contains t.sources (FromInput 0)) (sym (at_end p (planned step sources) (length p) refl)) has)
+
+-- a step that is no sum adds no number
+pub still_counts : (Fits : Picture → Type 0) (p q : Plan) (step : PlanStep) (sources : List Source) (s : Source) (numbers : Picture → List ℕ)
+    → IsPushed p q step sources s → is_sum step ≡ false → Counts Fits p numbers → Counts Fits q numbers
+still_counts Fits p q step sources s numbers pushed not counts = λ f fits.
+    ap (λ (t : Plan). numbers_from t (planes t (f ∷ []) f.width f.height)) pushed.is
+    ∙ numbers-push p (planned step sources) (f ∷ []) f.width f.height
+    ∙ ap (λ (t : Bool). numbers_from p (planes p (f ∷ []) f.width f.height) ++ with_number t (sum (plane_of step (map (seen_of p f) sources) f.width f.height).samples) []) not
+    ∙ append_none (numbers_from p (planes p (f ∷ []) f.width f.height))
+    ∙ counts f fits
+  where
+    append_none : (xs : List ℕ) → xs ++ [] ≡ xs
+    append_none [] = refl
+    append_none (x ∷ xs) = ap (λ (t : List ℕ). x ∷ t) (append_none xs)
+
+-- a sum adds the sum of what its source shows
+pub now_counts : (Fits : Picture → Type 0) (p q : Plan) (step : PlanStep) (sources : List Source) (s : Source) (shown : Picture → List Picture) (operator : Picture → Picture) (numbers : Picture → List ℕ)
+    → IsPushed p q step sources s → AreShown Fits p sources shown → Acts Fits step shown operator → is_sum step ≡ true → Counts Fits p numbers
+    → Counts Fits q (λ f. numbers f ++ sum (operator f).samples ∷ [])
+now_counts Fits p q step sources s shown operator numbers pushed are acts is counts = λ f fits.
+    ap (λ (t : Plan). numbers_from t (planes t (f ∷ []) f.width f.height)) pushed.is
+    ∙ numbers-push p (planned step sources) (f ∷ []) f.width f.height
+    ∙ ap (λ (t : Bool). numbers_from p (planes p (f ∷ []) f.width f.height) ++ with_number t (sum (plane_of step (map (seen_of p f) sources) f.width f.height).samples) []) is
+    ∙ ap (λ (t : Picture). numbers_from p (planes p (f ∷ []) f.width f.height) ++ sum t.samples ∷ [])
+    (ap (λ (t : List Picture). plane_of step t f.width f.height) (are_seen p sources shown are f fits) ∙ acts.plane f fits)
+    ∙ ap (λ (t : List ℕ). t ++ sum (operator f).samples ∷ []) (counts f fits)
+
+pub pushed_count : (p q : Plan) (step : PlanStep) (sources : List Source) (s : Source) → IsPushed p q step sources s → length q ≡ suc (length p)
+pushed_count p q step sources s pushed =
+    let x : Planned = record { step = step; sources = sources } in
+    omega (arith, ap length pushed.is, length-append p (x ∷ []))
+
+-- the same step under another name
+pub with_step : (p q : Plan) (first second : PlanStep) (sources : List Source) (s : Source) → first ≡ second → IsPushed p q first sources s → IsPushed p q second sources s
+with_step p q first second sources s same pushed = subst (λ (t : PlanStep). IsPushed p q t sources s) same pushed
+
+-- the first step of a plan
+pub pushed_empty : (p q : Plan) (step : PlanStep) (sources : List Source) (s : Source) → p ≡ [] → IsPushed p q step sources s → IsPushed [] q step sources s
+pushed_empty p q step sources s empty pushed = subst (λ (t : Plan). IsPushed t q step sources s) empty pushed
+
+-- of what a call gives, if it gives anything
+pub if_ok : {A E : Type 0} (r : Result A E) (P Q : A → Type 0) → ((a : A) → P a → Q a) → IfOk r P → IfOk r Q
+if_ok (Ok a) P Q each p = each a p
+if_ok (Err e) P Q each p = p

@@ -1,0 +1,4 @@
+pub mod Boxes
+pub mod Growing
+pub mod Turns
+pub mod Sizes

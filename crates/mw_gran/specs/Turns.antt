@@ -1,0 +1,80 @@
+-- What stands after some turns of a plan (own).
+use Rattle.std.specs.Prelude.{ℕ, zero, suc, false, ◌≡◌, ◌+◌, ◌-◌, ◌*◌, ◌/◌, ◌≤◌, ◌⊎◌, List, length}
+use Rattle.mw_model.specs.declared.shapes.Kind.TheVariants.{Grey}
+use Rattle.mw_model.specs.declared.places.Offset.{Offset}
+use Rattle.mw_model.specs.declared.places.OffsetBox.{OffsetBox}
+use Rattle.mw_model.specs.Laws.{HoldsOrigin}
+use Rattle.mw_element.specs.Figures.{FillsBox}
+use Rattle.mw_model.specs.Pictures.{Picture, drawn, IsPicture, IsSet}
+use Rattle.mw_model.specs.Flat.{erosion, dilation, negated}
+use Rattle.mw_model.specs.Iterates.{times, residue_mark, level_set, union, spectrum}
+use Rattle.mw_model.specs.Plans.{Plan, Source, FromInput, FromStep, is_sum}
+use Rattle.mw_plan.specs.PlansOf.{IsReadBy}
+use Rattle.mw_model.specs.PlanSteps.{PlanStep}
+use Rattle.mw_plan.specs.Steps.{ActsAs}
+use Rattle.mw_gran.specs.Growing.{IsSound, Shows, Counts}
+
+-- the steps are the erosion by the element, and the dilation by the element turned round
+pub record Slides (b : List Offset) (erode dilate : PlanStep) : Type 0 where
+  pub erodes : ActsAs erode (erosion b)
+  pub dilates : ActsAs dilate (dilation (negated b))
+  pub no_sums : (is_sum erode ≡ false) × (is_sum dilate ≡ false)
+
+-- a plan of so many steps whose last plane is this operator of each image that fits
+pub record Draws (Fits : Picture → Type 0) (p : Plan) (steps : ℕ) (operator : Picture → Picture) : Type 0 where
+  pub count : length p ≡ steps
+  pub sound : IsSound Fits p
+  pub read : IsReadBy p 0
+  pub shows : Shows Fits p (FromStep (length p - 1)) operator
+
+-- the marks of the residues of the first n erosions
+abbrev pub marked : List Offset → ℕ → ℕ → Picture → Picture
+marked b depth n f = drawn Grey f.width f.height (depth + 1) (residue_mark b f n)
+
+-- n turns of a skeleton of this depth: the image is read, or this is the image; what is left of it, and the marks so far
+pub record MarksResidues (b : List Offset) (depth n : ℕ) (p : Plan) (eroded marks : Source) : Type 0 where
+  pub count : length p ≡ 3 * n + 1
+  pub sound : IsSound IsSet p
+  pub read : (eroded ≡ FromInput 0) ⊎ IsReadBy p 0
+  pub shows_eroded : Shows IsSet p eroded (times n (erosion b))
+  pub shows_marks : Shows IsSet p marks (marked b depth n)
+
+-- what m turns restore of the marks above n
+unfoldable pub restored : List Offset → ℕ → ℕ → Picture → Picture
+restored b n zero g = level_set (n + 1) g
+restored b n (suc m) g = union (restored b n m g) (times (suc m) (dilation (negated b)) (level_set (n + m + 2) g))
+
+-- m turns of a restoration, and n to come
+pub record Restores (b : List Offset) (n m : ℕ) (p : Plan) (s : Source) : Type 0 where
+  pub count : length p ≡ 3 * m + 1
+  pub sound : IsSound IsPicture p
+  pub read : IsReadBy p 0
+  pub last : s ≡ FromStep (length p - 1)
+  pub shows : Shows IsPicture p s (restored b n m)
+
+-- a plan of so many steps with these numbers
+pub record Tells (p : Plan) (steps : ℕ) (numbers : Picture → List ℕ) : Type 0 where
+  pub count : length p ≡ steps
+  pub sound : IsSound IsPicture p
+  pub read : IsReadBy p 0
+  pub counts : Counts IsPicture p numbers
+
+-- what the sources of the first plan show the second shows too
+abbrev pub StillShown : Plan → Plan → Type 0
+StillShown p q = (s : Source) (operator : Picture → Picture) → Shows IsPicture p s operator → Shows IsPicture q s operator
+
+-- the steps of n turns of a spectrum
+abbrev pub spectrum_steps : ℕ → ℕ
+spectrum_steps zero = 1
+spectrum_steps (suc n) = spectrum_steps n + n + 3
+
+-- n turns of a spectrum: what is left of the image, and the volumes so far
+pub record TellsVolumes (b : List Offset) (n : ℕ) (p : Plan) (eroded : Source) : Type 0 where
+  pub tells : Tells p (spectrum_steps n) (spectrum b n)
+  pub shows : Shows IsPicture p eroded (times n (erosion b))
+
+-- a plan with the volumes as its numbers; by a full rectangle that holds its origin it has three steps for each volume but the first
+pub record TellsSpectrum (b : List Offset) (levels : ℕ) (p : Plan) : Type 0 where
+  pub tells : Tells p (length p) (spectrum b levels)
+  pub few : length p ≤ levels + levels * (levels + 1) / 2 + levels + 1
+  pub boxed : (box : OffsetBox) → FillsBox box b → HoldsOrigin b → length p ≡ 3 * levels + 1

@@ -1,0 +1,22 @@
+//! Skeletons, restorations and spectra: operators that are done again and again, as plans of steps.
+//!
+//! ```text
+//! let plan = plan_of(alloc, &gran, a, b, c)?;       // the planes of its steps are the operator
+//! let curve = Curve::of(volumes);
+//! let text = curve.text(alloc)?;
+//! ```
+#![tactic(auto)]
+
+mod boxes;
+mod curves;
+mod growing;
+pub mod laws;
+mod plans;
+mod restorations;
+mod skeletons;
+mod sliding;
+mod spectra;
+
+pub use curves::Curve;
+pub use mw_plan::{GranOp, Input, NoMemory, OffsetBox, Plan, PlanFault};
+pub use plans::plan_of;

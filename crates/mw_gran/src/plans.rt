@@ -1,0 +1,84 @@
+//! Plans of iterated operators.
+
+ghost use Rattle.std.specs.Prelude.{◌≡◌, ◌+◌, ◌*◌, ◌≤◌, true, length, IfOk};
+ghost use Rattle.std.specs.Arc.{arc_value};
+ghost use Rattle.mw_element.specs.Figures.{FillsBox};
+ghost use Rattle.mw_model.specs.declared.places.OffsetBox.{OffsetBox};
+ghost use Rattle.mw_model.specs.Iterates.{skeleton, restoration};
+ghost use Rattle.mw_model.specs.Laws.{HoldsOrigin};
+ghost use Rattle.mw_model.specs.Pictures.{IsPicture, IsSet};
+ghost use Rattle.mw_plan.specs.Asked.{IsRefusedBy, fault_in, is_element_input, offsets_of_input};
+ghost use Rattle.mw_plan.specs.PlansOf.{IsPlanOf};
+ghost use Rattle.mw_gran.specs.Sizes.{LevelsFit, MakesGran, most_steps, most_steps_by_box};
+ghost use Rattle.mw_gran.specs.Turns.{Draws};
+
+use crate::restorations::restoration;
+use crate::skeletons::skeleton;
+use crate::sliding::sliding_steps;
+use crate::spectra::spectrum;
+use mw_element::Element;
+use mw_model::{GranOp, NoMemory, Op};
+use mw_plan::{Input, Plan, PlanFault, shape_of};
+use std::alloc::Global;
+use std::sync::Arc;
+
+/// The element that stands there.
+fn element_in<'a>(input: Input<'a>) -> &'a Arc<Element>
+    requires { is_element_input input ≡ true }
+    ensures { (arc_value result.now).offsets ≡ offsets_of_input input.entry }
+{
+    match input {
+        Input::Element(element) => element,
+        _ => unreachable!(),
+    }
+}
+
+/// The plan of a skeleton by this element.
+fn skeleton_by(alloc: Global, element: &Arc<Element>, levels: u32) -> Result<Plan, NoMemory>
+    requires { levels ≤ 254 }
+    ensures { IfOk result (λ p. Draws IsSet p (3 * levels + 2) (skeleton (arc_value element.now).offsets levels)) }
+{
+    let steps = sliding_steps(alloc, element)?;
+    skeleton(alloc, &steps, levels as u16)
+}
+
+/// The plan of a restoration by this element.
+fn restoration_by(alloc: Global, element: &Arc<Element>, levels: u32) -> Result<Plan, NoMemory>
+    requires { levels ≤ 254 }
+    ensures { IfOk result (λ p. Draws IsPicture p (3 * levels + 1) (restoration (arc_value element.now).offsets levels)) }
+{
+    let steps = sliding_steps(alloc, element)?;
+    restoration(alloc, &steps, levels as u16)
+}
+
+/// The steps of an operation by this element.
+fn steps(alloc: Global, op: &GranOp, element: &Arc<Element>) -> Result<Plan, NoMemory>
+    requires { LevelsFit op.now }
+    ensures { IfOk result (MakesGran op.now (arc_value element.now).offsets) }
+{
+    match op {
+        GranOp::Skeleton(_, _, levels) => skeleton_by(alloc, element, *levels),
+        GranOp::Restore(_, _, levels) => restoration_by(alloc, element, *levels),
+        GranOp::Spectrum(_, _, levels) => spectrum(alloc, element, *levels),
+    }
+}
+
+/// A plan of the operation on these inputs, or its first fault as `mw_plan::shape_of` tells it, or `NoMemory` where memory
+/// was refused.
+pub fn plan_of(
+    alloc: Global,
+    op: &GranOp,
+    a: Input<'_>,
+    b: Input<'_>,
+    c: Input<'_>,
+) -> Result<Plan, PlanFault>
+    ensures refused { IsRefusedBy (fault_in (Op.Gran op.now) a.entry b.entry c.entry) result }
+    ensures plan { IfOk result (IsPlanOf (Op.Gran op.now) a.entry b.entry c.entry) }
+    ensures steps { IfOk result (λ p. length p ≤ most_steps op.now) }
+    ensures boxed { IfOk result (λ p. (box : OffsetBox) → FillsBox box (offsets_of_input b.entry) → HoldsOrigin (offsets_of_input b.entry) → length p ≤ most_steps_by_box op.now) }
+    ensures short { IfOk result (λ p. length p ≤ 896) }
+{
+    shape_of(&Op::Gran(*op), a, b, c)?;
+    let element = element_in(b);
+    Ok(steps(alloc, op, element)?)
+}
