@@ -100,6 +100,3 @@ listed-next n p xs listed so = record {
         omega (arith, none_above n t xs listed.within last, bit-at t n e)
   ];
 }
-
-pub listed-empty : (p : ℕ → Bool) → Listed 0 p []
-listed-empty p = record { within = tt; each = λ t lt. absurd (omega arith) }

@@ -1,7 +1,6 @@
 -- Lowering counters, one place, one row, one box after another.
-use Rattle.std.proofs.Common.{◌≡◌, ◌≢◌, ℕ, ◌+◌, ◌*◌, ◌/◌, ◌%◌, ◌<◌, ◌≤◌, Bool, true, false, ◌&&◌, nat_eq, List, length, refl, ap, sym, ◌∙◌, arith, inl, inr, set, get_or, length-set}
+use Rattle.std.proofs.Common.{◌≡◌, ◌≢◌, ℕ, ◌+◌, ◌*◌, ◌/◌, ◌%◌, ◌<◌, ◌≤◌, Bool, true, false, ◌&&◌, nat_eq, List, length, refl, ap, sym, ◌∙◌, arith, inl, inr}
 use Rattle.std.proofs.lemmas.Bool.{cases_lt, cases_eq, eq-eqb, ne_eqb, eqb-true}
-use Rattle.std.proofs.lemmas.List.{get_or-set_same, get_or-set_other}
 use Rattle.std.proofs.lemmas.Nat.{div-add-mod'}
 use Rattle.std.proofs.Math.Nat.{mul-le-mul_left}
 use Rattle.mw_model.specs.Tasks.{flag}
@@ -25,25 +24,6 @@ range_more a t x le =
   where
     beyond : (x t : ℕ) → t ≤ x → x ≢ t → t + 1 ≤ x
     beyond x t le ne = omega arith
-
-pub lowers_none : (here : ℕ → Bool) (old : List ℕ) → ((t : ℕ) → here t ≡ false) → Lowers here old old
-lowers_none here old none = record { size = refl; each = λ t lt. omega (arith, ap bit (none t)) }
-
-pub lowers_one : (here more : ℕ → Bool) (old now : List ℕ) (t v : ℕ) → t < length old → v + 1 ≡ get_or now t 0 → ((x : ℕ) → bit (more x) ≡ bit (here x) + bit (nat_eq x t)) → Lowers here old now → Lowers more old (set now t v)
-lowers_one here more old now t v lt v-is same before =
-    let size : length (set now t v) ≡ length now = simp length-set in
-    record {
-      size = size ∙ before.size;
-      each = λ x x-lt. elim (cases_eq x t) [
-        | inl at ↦
-            let read : get_or (set now t v) x 0 ≡ v = ap (λ (k : ℕ). get_or (set now t v) k 0) at ∙ get_or-set_same now t v 0 (let e = before.size in omega arith) in
-            let was : get_or now x 0 ≡ get_or now t 0 = ap (λ (k : ℕ). get_or now k 0) at in
-            omega (arith, before.each x x-lt, same x, bit-at x t at)
-        | inr other ↦
-            let read : get_or (set now t v) x 0 ≡ get_or now x 0 = get_or-set_other now t x v 0 other in
-            omega (arith, before.each x x-lt, same x, bit-other x t other)
-      ];
-    }
 
 pub lowers_more : (here row more : ℕ → Bool) (old now out : List ℕ) → ((x : ℕ) → bit (more x) ≡ bit (here x) + bit (row x)) → Lowers here old now → Lowers row now out → Lowers more old out
 lowers_more here row more old now out same before after =

@@ -1,11 +1,11 @@
 -- The lists of a queue keep its open tasks.
-use Rattle.std.proofs.Common.{◌≡◌, ◌≢◌, ℕ, ◌+◌, ◌-◌, ◌*◌, ◌/◌, ◌%◌, ◌<◌, ◌≤◌, Bool, true, false, not, ◌&&◌, nat_eq, List, [], ◌∷◌, ◌++◌, length, refl, ap, sym, subst, ◌∙◌, arith, inl, inr, set, get_or, replicate, vec_capacity, length-set, length-append, ◌^◌}
+use Rattle.std.proofs.Common.{◌≡◌, ◌≢◌, ℕ, ◌+◌, ◌-◌, ◌*◌, ◌/◌, ◌%◌, ◌<◌, ◌≤◌, Bool, true, false, not, ◌&&◌, nat_eq, List, [], ◌∷◌, ◌++◌, length, refl, ap, sym, subst, ◌∙◌, arith, inl, inr, set, get_or, vec_capacity, length-set, length-append, ◌^◌}
 use Rattle.std.specs.List.{swap_remove}
 use Rattle.std.specs.Global.{Vec}
 use Rattle.std.proofs.Math.Nat.{mul-le-mul_left}
 use Rattle.std.proofs.Math.Seq.{get_or-append_seam}
 use Rattle.std.proofs.lemmas.Bool.{cases_eq, cases_lt, ne_eqb}
-use Rattle.std.proofs.lemmas.List.{get_or-set_same, get_or-set_other, get_or_default, get_or-replicate, get_or_append_left, length-replicate, length-map, map-set, map-append}
+use Rattle.std.proofs.lemmas.List.{get_or-set_same, get_or-set_other, get_or_default, get_or_append_left, length-map, map-set, map-append}
 use Rattle.std.proofs.lemmas.Nat.{div-mul-add, div-add-mod'}
 use Rattle.mw_model.specs.Tasks.{flag}
 use Rattle.mw_grid.proofs.Lines.{row_less}
@@ -13,6 +13,7 @@ use Rattle.mw_ready.specs.Queues.{bit, count_below, is_open, list_at, Queued, Is
 use Rattle.mw_ready.specs.Shown.{items_of, HasRoom}
 use Rattle.mw_ready.proofs.Counts.{count-add, count-most, count-more, count-same, bit-at, bit-other, count-some, count-less}
 use Rattle.mw_ready.proofs.Lists.{listed-push, listed-swap_remove, listed-same, listed-at, length-of_listed}
+use Rattle.mw_ready.proofs.Orders.{list_at-items}
 use Rattle.mw_ready.proofs.Numbers.{other_step, step_within}
 
 abbrev queued : List Bool → List ℕ → ℕ → List (List ℕ) → Queued
@@ -209,23 +210,6 @@ length-items_of lists = length-map lists (λ (v : Vec ℕ). v.items)
 abbrev pub free : List ℕ → ℕ → Bool
 free waiting t = nat_eq (get_or waiting t 0) 0
 
-open-fresh : (n : ℕ) (waiting : List ℕ) (t : ℕ) → t < n → is_open (replicate n false) waiting t ≡ free waiting t
-open-fresh n waiting t lt = ap (λ (b : Bool). not b && free waiting t) (get_or-replicate n t false false lt)
-
-pub queue-fresh : (waiting : List ℕ) (tiles total n steps : ℕ) (ready : List (List ℕ)) → 1 ≤ tiles → tiles ≤ 16384 → n ≡ length waiting → steps ≡ length ready → length waiting ≡ steps * tiles → length waiting < 2 ^ 31
-    → ((s : ℕ) → s < steps → Listed tiles (λ t. free waiting (s * tiles + t)) (list_at ready s)) → total ≡ count_below (free waiting) (steps * tiles)
-    → IsQueue (queued (replicate n false) waiting tiles ready) total
-queue-fresh waiting tiles total n steps ready some few n-is steps-is whole small listed count = record {
-  some = some;
-  few = few;
-  started = length-replicate n false ∙ n-is;
-  whole = whole ∙ ap (λ (k : ℕ). k * tiles) steps-is;
-  small = small;
-  listed = λ s s-lt. listed-same tiles (λ t. free waiting (s * tiles + t)) (λ t. is_open (replicate n false) waiting (s * tiles + t)) (list_at ready s)
-      (λ t t-lt. open-fresh n waiting (s * tiles + t) (omega (arith, step_within s steps tiles t (omega arith) t-lt))) (listed s (omega arith));
-  count = count ∙ sym (ap (count_below (is_open (replicate n false) waiting)) whole ∙ count-same (is_open (replicate n false) waiting) (free waiting) (steps * tiles) (λ t t-lt. open-fresh n waiting t (omega arith)));
-}
-
 -- the list of one step more
 pub listed-more : (waiting : List ℕ) (tiles k : ℕ) (lists now : List (Vec ℕ)) (v : Vec ℕ) → length lists ≡ k → now ≡ lists ++ v ∷ [] → Listed tiles (λ t. free waiting (k * tiles + t)) v.items
     → ((s : ℕ) → s < k → Listed tiles (λ t. free waiting (s * tiles + t)) (list_at (items_of lists) s)) → (s : ℕ) → s < k + 1 → Listed tiles (λ t. free waiting (s * tiles + t)) (list_at (items_of now) s)
@@ -259,3 +243,11 @@ pub total_next : (waiting : List ℕ) (tiles k total n steps size : ℕ) → tot
 total_next waiting tiles k total n steps size count few lt whole small =
     let up : k + 1 ≤ steps = omega arith in
     omega (arith, count-most (free waiting) (k * tiles), mul-le-mul_left tiles up)
+
+-- what is taken out of a list that is held was open
+pub picked : (lists : List (Vec ℕ)) (q : Queued) (total s i u : ℕ) (w : Vec ℕ) → IsQueue q total → items_of lists ≡ q.ready → s < length q.ready → i < length (list_at q.ready s) → w ≡ get_or lists s w → u ≡ get_or w.items i u
+    → (u < q.tiles) × (s * q.tiles + u < length q.waiting) × (is_open q.started q.waiting (s * q.tiles + u) ≡ true)
+picked lists q total s i u w queue shown s-lt i-lt w-is u-is =
+    let held : s < length lists = omega (arith, ap (λ (xs : List (List ℕ)). length xs) shown, length-items_of lists) in
+    let list-is = list_at-items lists q.ready s w shown held w-is in
+    listed_open q total s i u queue s-lt i-lt (u-is ∙ ap (λ (xs : List ℕ). get_or xs i u) (sym list-is) ∙ get_or_default (list_at q.ready s) i u 0 i-lt)

@@ -124,7 +124,9 @@ fn plays(rt: &impl Abort, alloc: Global, seed: u32) -> Result<(), Fail> {
     let mut random = Random { state: seed };
     let needs = random_needs(alloc, &mut random)?;
     let grid = Grid::new(170, 120, 64);
-    let mut ready = Ready::new(alloc, copied(alloc, &needs)?, grid)?;
+    let own = copied(alloc, &needs)?;
+    assert!(rt; own.len() <= 65535);
+    let mut ready = Ready::new(alloc, own, grid)?;
     let mut plain = Plain {
         needs,
         grid,
