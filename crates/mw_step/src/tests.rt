@@ -27,9 +27,8 @@ const TASK: TaskId = TaskId {
 };
 
 fn levels(rt: &HostRuntime, samples: &[u8; 5], maxval: u8) -> Result<AnyWindow, Fail> {
-    assert!(rt; maxval >= 1);
     let samples = samples.to_vec(rt.alloc())?;
-    if samples.len() == 5 {
+    if samples.len() == 5 && maxval >= 1 {
         let place = Rect {
             x: 0,
             y: 0,
