@@ -1,11 +1,10 @@
 -- Steps that can be made of whole planes can be made of windows of them.
-use Rattle.std.proofs.Common.{◌≡◌, ℕ, zero, suc, ◌≤◌, List, [], ◌∷◌, length, map, refl, sym, subst, arith, ◌∙◌}
-use Rattle.std.specs.Prelude.{slice_index_or}
+use Rattle.std.proofs.Common.{◌≡◌, ℕ, zero, suc, ◌≤◌, List, [], ◌∷◌, map, refl, sym, subst, ◌∙◌}
 use Rattle.mw_model.specs.declared.places.Rect.{Rect}
 use Rattle.mw_model.specs.Pictures.{Picture}
 use Rattle.mw_model.specs.PlanSteps.{PlanStep, Erode, Dilate, ErodeBox, DilateBox, Rank, Minus, AtLeast, Invert, Meet, Join, Blank, Mark, MarkLast, Equal, Sum}
 use Rattle.mw_model.specs.Tasks.{place_read}
-use Rattle.mw_tile.specs.Windows.{SourceWindow, no_window, window_of}
+use Rattle.mw_tile.specs.Windows.{SourceWindow, window_of}
 use Rattle.mw_task.specs.WindowTasks.{FitsStep, KindsFit, SameKind, window_at}
 use Rattle.mw_task.specs.Sources.{AreCut}
 use Rattle.mw_task.proofs.Cut.{fits_cut}
