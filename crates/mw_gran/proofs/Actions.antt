@@ -1,10 +1,10 @@
 -- What single steps do in a plan that grows.
-use Rattle.std.proofs.Common.{◌≡◌, ℕ, zero, suc, ◌+◌, ◌*◌, ◌<◌, ◌≤◌, List, [], ◌∷◌, length, refl, ap, sym, subst, arith, ◌∙◌}
+use Rattle.std.proofs.Common.{◌≡◌, ℕ, zero, suc, ◌+◌, ◌<◌, ◌≤◌, List, [], ◌∷◌, refl, ap, sym, subst, arith, ◌∙◌}
 use Rattle.mw_model.specs.declared.shapes.Kind.{Kind}
 use Rattle.mw_model.specs.declared.shapes.Kind.TheVariants.{Bit, Grey}
 use Rattle.mw_model.specs.declared.places.Offset.{Offset}
 use Rattle.mw_model.specs.Pictures.{Picture, sample, drawn, IsPicture, IsSet}
-use Rattle.mw_model.specs.Flat.{under, least, greatest, erosion, dilation, negated, opening}
+use Rattle.mw_model.specs.Flat.{under, least, greatest, erosion, dilation, negated}
 use Rattle.mw_model.specs.Iterates.{times, residue_mark, skeleton, level_set, union}
 use Rattle.mw_model.specs.PlanSteps.{PlanStep, Join, Blank, Mark, MarkLast, Equal, Sum}
 use Rattle.mw_model.specs.Plans.{plane_of, FromInput}

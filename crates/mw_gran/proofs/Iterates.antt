@@ -1,14 +1,14 @@
 -- Restorations and spectra as they are made, one turn after another.
-use Rattle.std.proofs.Common.{◌≡◌, ℕ, zero, suc, ◌+◌, ◌-◌, ◌<◌, ◌≤◌, List, [], ◌∷◌, ◌++◌, max, refl, ap, sym, arith, ◌∙◌}
+use Rattle.std.proofs.Common.{◌≡◌, ℕ, zero, suc, ◌+◌, ◌<◌, ◌≤◌, List, [], ◌∷◌, ◌++◌, max, refl, ap, sym, arith, ◌∙◌}
 use Rattle.std.proofs.lemmas.List.FromFn.{map-range_with_len_more}
 use Rattle.mw_model.specs.declared.places.Offset.{Offset}
-use Rattle.mw_model.specs.Pictures.{Picture, sample, redrawn}
-use Rattle.mw_model.specs.Flat.{under, greatest, erosion, dilation, negated}
+use Rattle.mw_model.specs.Pictures.{Picture, sample}
+use Rattle.mw_model.specs.Flat.{under, greatest, dilation, negated}
 use Rattle.mw_model.specs.Iterates.{times, level_set, union, restoration, volume, spectrum}
 use Rattle.mw_model.specs.Laws.{SameShape}
 use Rattle.mw_gran.specs.Turns.{restored}
 use Rattle.mw_model.proofs.Covers.{below_greatest, greatest_below}
-use Rattle.mw_model.proofs.ImagePlaces.{drawn_same, sample-redrawn, redrawn_shape, shape_trans, shape_sym, shape_itself}
+use Rattle.mw_model.proofs.ImagePlaces.{drawn_same, redrawn_shape, shape_trans, shape_sym, shape_itself}
 use Rattle.mw_model.proofs.ImageOrder.{sample-dilation}
 use Rattle.mw_model.proofs.Iterated.{dilated_shape}
 use Rattle.mw_model.proofs.SkeletonLaws.{sample-union}

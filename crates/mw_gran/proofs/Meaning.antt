@@ -1,5 +1,5 @@
 -- From plans of one image to plans of operations.
-use Rattle.std.proofs.Common.{◌≡◌, ℕ, ◌+◌, ◌-◌, ◌*◌, ◌/◌, ◌<◌, ◌≤◌, ◌⊎◌, Bool, true, false, List, [], ◌∷◌, length, map, take, Option, Some, None, refl, ap, sym, subst, arith, ◌∙◌}
+use Rattle.std.proofs.Common.{◌≡◌, ℕ, ◌+◌, ◌-◌, ◌*◌, ◌/◌, ◌<◌, ◌≤◌, true, false, List, [], ◌∷◌, length, take, Option, Some, None, refl, ap, sym, subst, arith, ◌∙◌}
 use Rattle.std.specs.Prelude.{count_by, slice_index_or, nat_le, ◌&&◌}
 use Rattle.std.specs.List.{AllByRecursion}
 use Rattle.std.specs.Arc.{arc_value}
@@ -22,19 +22,19 @@ use Rattle.mw_model.specs.Elements.{Figure, holds_origin}
 use Rattle.mw_model.specs.Iterates.{skeleton, restoration, spectrum}
 use Rattle.mw_model.specs.Machine.{as_bits, as_grey}
 use Rattle.mw_model.specs.Pictures.{Picture, IsPicture, IsImage, IsSet, FitsKind}
-use Rattle.mw_model.specs.Plans.{Plan, FromStep, IsSourceAt, no_picture, planes, planes_from, images_of, value_of_planes, numbers_from}
+use Rattle.mw_model.specs.Plans.{Plan, IsSourceAt, no_picture, planes, images_of, value_of_planes}
 use Rattle.mw_model.specs.Refusals.{inputs_wanted, is_binary}
 use Rattle.mw_model.specs.Tasks.{nothing_planned}
 use Rattle.mw_model.specs.Values.{Value, ImageValue, ElementValue, CurveValue, shape_of_picture, result_of}
 use Rattle.mw_plan.specs.declared.faults.PlanFault.TheVariants as fault
 use Rattle.mw_plan.specs.declared.inputs.Input.{Input}
 use Rattle.mw_plan.specs.declared.inputs.Input.TheVariants as input
-use Rattle.mw_plan.specs.Asked.{is_image_input, is_element_input, image_shape, offsets_of_input, fault_in, first_fault, number_fault, shape_made, unless}
+use Rattle.mw_plan.specs.Asked.{is_image_input, is_element_input, image_shape, offsets_of_input, fault_in, first_fault, shape_made, unless}
 use Rattle.mw_plan.specs.PlansOf.{IsValueOf, AreValuesOf, inputs_taken, images_taken, CanBeMade, planes_read, HaveFrame, IsReadBy, IsPlanOf}
 use Rattle.mw_plan.proofs.Fitting.{none_first, count_two, image_shaped}
-use Rattle.mw_gran.specs.Growing.{IsSound, Counts}
+use Rattle.mw_gran.specs.Growing.{IsSound}
 use Rattle.mw_gran.specs.Sizes.{LevelsFit, MakesGran, most_steps, most_steps_by_box}
-use Rattle.mw_gran.specs.Turns.{Draws, Tells, TellsSpectrum}
+use Rattle.mw_gran.specs.Turns.{Draws}
 use Rattle.mw_gran.proofs.Planes.{length-planes}
 
 -- ---- the values of an image and an element

@@ -1,5 +1,5 @@
 -- Full rectangles that hold their origin, as boxes: what is covered by a box whose bounds are multiplied.
-use Rattle.std.proofs.Common.{◌≡◌, ℕ, zero, suc, ◌+◌, ◌-◌, ◌*◌, ◌<◌, ◌≤◌, ◌⊎◌, List, [], ◌∷◌, ◌++◌, map, ℤ, pos, negsuc, ◌+ℤ◌, ◌-ℤ◌, ◌≤ℤ◌, neg_ℤ, ap, subst, sym, arith, ◌∙◌, inl, inr, refl}
+use Rattle.std.proofs.Common.{◌≡◌, ℕ, zero, suc, ◌+◌, ◌*◌, ◌≤◌, List, [], ◌∷◌, ◌++◌, map, ℤ, pos, negsuc, ◌+ℤ◌, ◌-ℤ◌, ◌≤ℤ◌, neg_ℤ, ap, sym, arith, ◌∙◌, inl, inr, refl}
 use Rattle.std.specs.Prelude.{Contains, ◌*ℤ◌}
 use Rattle.std.specs.List.{range_with_len, flat_map}
 use Rattle.std.proofs.lemmas.Int.{ints}
@@ -14,9 +14,8 @@ use Rattle.mw_model.specs.Laws.{HoldsOrigin}
 use Rattle.mw_model.proofs.Covers.{Covers, turned, turned_back}
 use Rattle.mw_gran.specs.Boxes.{multiplied}
 use Rattle.mw_plan.specs.Steps.{turned_box}
-use Rattle.mw_model.proofs.ImageLaws.{erosion_picture, dilation_picture}
-use Rattle.mw_element.specs.Figures.{FillsBox, InBox}
-use Rattle.mw_laws.proofs.BoxLaws.{IsWithin, within, covers_within, times-erosion_box, times-dilation_box, negated_rectangle}
+use Rattle.mw_element.specs.Figures.{FillsBox}
+use Rattle.mw_laws.proofs.BoxLaws.{within, covers_within, times-erosion_box, times-dilation_box, negated_rectangle}
 use Rattle.mw_laws.proofs.Composed.{CoverSame, erosion_same, dilation_same}
 
 -- ---- what an element covers, by its offsets

@@ -1,17 +1,17 @@
 -- What one more step does to a plan that grows.
-use Rattle.std.proofs.Common.{◌≡◌, ℕ, zero, suc, ◌+◌, ◌-◌, ◌*◌, ◌<◌, ◌≤◌, Bool, true, false, List, [], ◌∷◌, ◌++◌, length, map, sum, refl, ap, sym, subst, arith, ◌∙◌, inl, inr, length-append, Result, Ok, Err, IfOk}
+use Rattle.std.proofs.Common.{◌≡◌, ℕ, zero, suc, ◌<◌, ◌≤◌, Bool, true, false, List, [], ◌∷◌, ◌++◌, length, map, sum, refl, ap, sym, subst, arith, ◌∙◌, inl, inr, length-append, Result, Ok, Err, IfOk}
 use Rattle.std.specs.Prelude.{slice_index_or, Contains}
 use Rattle.std.specs.List.{AllByRecursion}
 use Rattle.std.proofs.lemmas.Bool.{cases_lt, cases_eq}
 use Rattle.std.proofs.Math.ListN.{get_or-append}
-use Rattle.std.proofs.Math.Seq.{get_or-append_seam, get_or-append_right}
+use Rattle.std.proofs.Math.Seq.{get_or-append_seam}
 use Rattle.mw_model.specs.Pictures.{Picture}
 use Rattle.mw_model.specs.PlanSteps.{PlanStep}
-use Rattle.mw_model.specs.Plans.{Plan, Planned, Source, FromInput, FromStep, IsSourceAt, plane_of, plane_of_source, planes, planes_from, numbers_from, is_sum, with_number}
+use Rattle.mw_model.specs.Plans.{Plan, Planned, Source, FromInput, FromStep, IsSourceAt, plane_of, planes, numbers_from, is_sum, with_number}
 use Rattle.mw_model.specs.Tasks.{nothing_planned}
 use Rattle.mw_plan.specs.PlansOf.{CanBeMade, IsReadBy, planes_read}
-use Rattle.mw_gran.specs.Growing.{IsFramed, seen_of, IsPushed, Shows, IsSound, Acts, Counts}
-use Rattle.mw_gran.proofs.Planes.{source_kept, source_pushed, numbers-push, length-planes}
+use Rattle.mw_gran.specs.Growing.{seen_of, IsPushed, Shows, IsSound, Acts, Counts}
+use Rattle.mw_gran.proofs.Planes.{source_kept, source_pushed, numbers-push}
 
 -- the step with its sources
 abbrev planned : PlanStep → List Source → Planned

@@ -1,6 +1,6 @@
 -- An element holds its origin where the test says so.
-use Rattle.std.proofs.Common.{◌≡◌, ℕ, zero, suc, ◌<◌, ◌⊎◌, Bool, true, false, List, [], ◌∷◌, length, ℤ, pos, ap, sym, subst, arith, ◌∙◌, inl, inr, refl}
-use Rattle.std.specs.Prelude.{◌||◌, ◌&&◌, Contains}
+use Rattle.std.proofs.Common.{◌≡◌, zero, suc, ◌⊎◌, Bool, true, false, List, [], ◌∷◌, ℤ, pos, ap, sym, arith, ◌∙◌, inl, inr, refl}
+use Rattle.std.specs.Prelude.{◌||◌, ◌&&◌}
 use Rattle.std.specs.Ordering.{int_eq}
 use Rattle.std.proofs.lemmas.Bool.Decides.{Decides-and, Decides-int_eq}
 use Rattle.mw_model.specs.declared.places.Offset.{Offset}

@@ -1,10 +1,9 @@
 -- The planes of a plan that grows step by step, for a command with one image.
-use Rattle.std.proofs.Common.{◌≡◌, ℕ, zero, suc, ◌+◌, ◌-◌, ◌*◌, ◌<◌, ◌≤◌, Bool, true, false, List, [], ◌∷◌, ◌++◌, length, map, sum, refl, ap, sym, subst, arith, ◌∙◌, length-append, append_assoc}
+use Rattle.std.proofs.Common.{◌≡◌, ℕ, ◌+◌, Bool, true, false, List, [], ◌∷◌, ◌++◌, length, map, sum, refl, ap, sym, arith, ◌∙◌, length-append}
 use Rattle.std.specs.Prelude.{slice_index_or}
 use Rattle.std.proofs.Math.ListN.{get_or-append}
 use Rattle.std.proofs.Math.Seq.{get_or-append_seam}
 use Rattle.mw_model.specs.Pictures.{Picture}
-use Rattle.mw_model.specs.PlanSteps.{PlanStep}
 use Rattle.mw_model.specs.Plans.{Source, FromInput, FromStep, Planned, Plan, no_picture, plane_of_source, plane_of, planes_from, planes, IsSourceAt, is_sum, with_number, numbers_from}
 
 -- the plane of one more step

@@ -1,13 +1,13 @@
 -- The planes of single steps, on images of the frame.
-use Rattle.std.proofs.Common.{◌≡◌, ℕ, suc, ◌+◌, ◌*◌, ◌<◌, ◌≤◌, ◌&&◌, ◌==◌, not, Bool, true, false, if◌then◌else◌, List, [], ◌∷◌, length, max, pos, refl, ap, sym, subst, arith, ◌∙◌, inl, inr, eq-eqb}
-use Rattle.std.proofs.lemmas.Bool.{lt-ltb, cases_eq}
+use Rattle.std.proofs.Common.{◌≡◌, ℕ, suc, ◌+◌, ◌<◌, ◌≤◌, ◌&&◌, ◌==◌, not, if◌then◌else◌, List, [], ◌∷◌, max, refl, ap, subst, arith, ◌∙◌, inl, inr}
+use Rattle.std.proofs.lemmas.Bool.{cases_eq}
 use Rattle.mw_model.specs.declared.shapes.Kind.TheVariants.{Bit, Grey}
 use Rattle.mw_model.specs.declared.places.Offset.{Offset}
 use Rattle.mw_model.specs.declared.places.OffsetBox.{OffsetBox}
 use Rattle.mw_model.specs.Places.{box_offsets}
-use Rattle.mw_model.specs.Pictures.{Picture, sample, sample_at, drawn, IsPicture, IsSet}
-use Rattle.mw_model.specs.Flat.{erosion, dilation, negated, opening}
-use Rattle.mw_model.specs.Iterates.{times, is_residue, residue_mark, skeleton, level_set, union}
+use Rattle.mw_model.specs.Pictures.{Picture, sample, sample_at, drawn}
+use Rattle.mw_model.specs.Flat.{erosion, dilation, opening}
+use Rattle.mw_model.specs.Iterates.{times, residue_mark, skeleton, level_set, union}
 use Rattle.mw_model.specs.PlanSteps.{Erode, Dilate, ErodeBox, DilateBox, Join, Blank, Mark, MarkLast, Equal, Sum, here}
 use Rattle.mw_model.specs.Plans.{plane_of}
 use Rattle.mw_gran.specs.Growing.{IsFramed}

@@ -1,16 +1,14 @@
 -- One turn after another: skeletons, restorations and spectra.
-use Rattle.std.proofs.Common.{◌≡◌, ℕ, zero, suc, ◌+◌, ◌-◌, ◌*◌, ◌/◌, ◌<◌, ◌≤◌, ◌⊎◌, false, List, [], ◌∷◌, ◌++◌, length, sum, refl, ap, sym, subst, arith, ◌∙◌, inl, inr, length-append}
-use Rattle.std.specs.Prelude.{Contains}
+use Rattle.std.proofs.Common.{◌≡◌, ℕ, zero, suc, ◌+◌, ◌-◌, ◌*◌, ◌/◌, ◌<◌, ◌≤◌, ◌⊎◌, false, List, [], ◌∷◌, ◌++◌, length, sum, refl, ap, sym, subst, arith, ◌∙◌, inl, inr}
 use Rattle.mw_model.specs.declared.places.Offset.{Offset}
 use Rattle.mw_model.specs.declared.places.OffsetBox.{OffsetBox}
 use Rattle.mw_model.specs.Places.{box_offsets}
 use Rattle.mw_model.specs.Pictures.{Picture, IsPicture, IsSet}
 use Rattle.mw_model.specs.Flat.{erosion, dilation, negated}
-use Rattle.mw_model.specs.Iterates.{times, skeleton, level_set, union, restoration, volume, spectrum}
+use Rattle.mw_model.specs.Iterates.{times, skeleton, level_set, union, restoration, spectrum}
 use Rattle.mw_model.specs.Laws.{HoldsOrigin}
 use Rattle.mw_model.specs.PlanSteps.{PlanStep, Erode, Dilate, ErodeBox, DilateBox, Join, Blank, Mark, MarkLast, Equal, Sum}
-use Rattle.mw_model.specs.Plans.{Plan, Planned, Source, FromInput, FromStep, is_sum}
-use Rattle.mw_model.proofs.Iterated.{times_turn}
+use Rattle.mw_model.specs.Plans.{Plan, Source, FromInput, FromStep, is_sum}
 use Rattle.mw_model.proofs.ImageLaws.{erosion_picture}
 use Rattle.mw_element.specs.Figures.{FillsBox}
 use Rattle.mw_plan.specs.PlansOf.{IsReadBy}
@@ -19,7 +17,7 @@ use Rattle.mw_plan.proofs.Boxes.{box_same, turned_same}
 use Rattle.mw_plan.specs.Steps.{turned_box}
 use Rattle.mw_gran.specs.Boxes.{multiplied}
 use Rattle.mw_plan.specs.Steps.{ActsAs}
-use Rattle.mw_gran.specs.Growing.{IsFramed, IsPushed, Shows, IsSound, Acts, Counts}
+use Rattle.mw_gran.specs.Growing.{IsFramed, IsPushed, Shows, IsSound, Acts}
 use Rattle.mw_gran.specs.Turns.{Slides, Draws, marked, MarksResidues, restored, Restores, Tells, StillShown, spectrum_steps, TellsVolumes, TellsSpectrum}
 use Rattle.mw_gran.proofs.OneMore.{AreShown, none, also, still_shows, now_shows, still_sound, still_read, now_read, still_counts, now_counts, pushed_count}
 use Rattle.mw_gran.proofs.Actions.{times_framed, picture_framed, erosion_framed, dilation_framed, acts_on, acts_equal, acts_sum, acts_join, acts_blank, acts_mark, acts_mark_last, shows_input}

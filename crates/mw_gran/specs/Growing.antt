@@ -1,9 +1,9 @@
 -- Plans that grow step by step, for a command with one image (own).
-use Rattle.std.specs.Prelude.{ℕ, ◌≡◌, ◌<◌, ◌+◌, ◌*◌, List, [], ◌∷◌, ◌++◌, length, map, slice_index_or}
+use Rattle.std.specs.Prelude.{ℕ, ◌≡◌, ◌<◌, ◌*◌, List, [], ◌∷◌, ◌++◌, length, slice_index_or}
 use Rattle.std.specs.List.{AllByRecursion}
 use Rattle.mw_model.specs.Pictures.{Picture}
 use Rattle.mw_model.specs.PlanSteps.{PlanStep}
-use Rattle.mw_model.specs.Plans.{Plan, Planned, Source, FromStep, IsSourceAt, plane_of, plane_of_source, planes, numbers_from}
+use Rattle.mw_model.specs.Plans.{Plan, Source, FromStep, IsSourceAt, plane_of, plane_of_source, planes, numbers_from}
 use Rattle.mw_model.specs.Tasks.{nothing_planned}
 use Rattle.mw_plan.specs.PlansOf.{CanBeMade, planes_read}
 

@@ -1,5 +1,4 @@
 use Rattle.std.proofs.Common.{◌≡◌, ℕ, suc, length, arith, subst}
-use Rattle.mw_task.specs.Meanings.{meaning}
 use Rattle.mw_plan.specs.Seen.{source}
 use Rattle.mw_gran.specs.Turns.{MarksResidues}
 use Rattle.mw_gran.proofs.OneMore.{pushed_empty, pushed_count}

@@ -1,7 +1,5 @@
-use Rattle.std.proofs.Common.{◌≡◌, ℕ, suc, length, arith, subst}
-use Rattle.mw_model.specs.Iterates.{spectrum}
+use Rattle.std.proofs.Common.{◌≡◌, suc, length, arith}
 use Rattle.mw_plan.specs.Seen.{source}
-use Rattle.mw_gran.specs.Turns.{TellsVolumes}
 use Rattle.mw_gran.proofs.OneMore.{pushed_empty, pushed_count}
 use Rattle.mw_gran.proofs.Turns.{spectrum_begins, ends_in}
 use Rattle.mw_gran.proofs.spectra.by_turns.Goals as goal

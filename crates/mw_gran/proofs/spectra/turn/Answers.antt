@@ -1,4 +1,4 @@
-use Rattle.std.proofs.Common.{◌≡◌, suc, ◌+◌, length, arith}
+use Rattle.std.proofs.Common.{◌≡◌, suc, length, arith}
 use Rattle.mw_model.specs.Flat.{erosion}
 use Rattle.mw_model.specs.Iterates.{times, spectrum}
 use Rattle.mw_task.specs.Meanings.{meaning}
