@@ -146,7 +146,7 @@ fn plays(rt: &impl Abort, alloc: Global, seed: u32) -> Result<(), Fail> {
             plain.started.push(task)?;
             running.push(task)?;
         } else if !running.is_empty() {
-            let at = random.below(running.len() as u32) as usize;
+            let at = random.below(ready.running()) as usize;
             assert!(rt; at < running.len());
             let (step, tile) = running.swap_remove(at);
             assert!(rt; ready.is_running(step, tile));
