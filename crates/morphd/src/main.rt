@@ -1,8 +1,9 @@
 // Runs a script of morphology from standard input to standard output.
 #![tactic(auto)]
 
-use mw_cli::{Job, batch, options, words};
-use mw_session::{Sink, Source};
+use mw_batch::batch;
+use mw_cli::{Job, options, words};
+use mw_wire::{Sink, Source};
 use std::process::ExitCode;
 
 fn main(rt: HostRuntime) -> ExitCode {
@@ -15,7 +16,8 @@ fn main(rt: HostRuntime) -> ExitCode {
         Ok(Job::Batch(side)) => {
             let mut source = Source::new(rt.stdin());
             let mut sink = Sink::new(rt.stdout());
-            batch(alloc, &mut source, &mut sink, &mut rt.stderr(), side)
+            let mut faults = Sink::new(rt.stderr());
+            batch(alloc, &mut source, &mut sink, &mut faults, side)
         }
         Err(fault) => match fault.print(&rt) {
             Ok(()) => fault.status(),

@@ -24,9 +24,9 @@ tile_option = record (new_rule (codes "tile")) {
 abbrev pub batch_words : App
 batch_words = with_rule (new_app (codes "batch")) tile_option
 
--- `morphd`, and then one of its jobs
+-- `morphd`, and then one of its jobs; it has a version to show
 abbrev pub program_words : App
-program_words = with_subcommand (on_top (λ s. record s { subcommand_required = true }) (new_app (codes "morphd"))) batch_words.top
+program_words = with_subcommand (on_top (λ s. record s { has_version = true; subcommand_required = true }) (new_app (codes "morphd"))) batch_words.top
 
 -- clap takes the words
 abbrev pub AreTaken : List Text → Type 0

@@ -1,4 +1,4 @@
-//! The command line of the program, and the jobs that it runs.
+//! The command line of the program.
 //!
 //! ```text
 //! let words = words(&rt)?;
@@ -9,11 +9,6 @@
 
 mod fault;
 mod line;
-mod script;
 
 pub use fault::LineFault;
-pub use line::{Job, options, words};
-pub use script::batch;
-
-#[cfg(test)]
-mod tests;
+pub use line::{Job, VERSION, options, words};

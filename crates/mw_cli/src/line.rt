@@ -13,6 +13,9 @@ use std::alloc::{Alloc, AllocError, Global};
 use std::env::{Env, args};
 use std::io;
 
+/// What `--version` shows.
+pub const VERSION: &str = "0.1.0";
+
 /// One whole session, shown by help.
 const EXAMPLE: &str = "\
 A whole session on standard input:
@@ -62,6 +65,7 @@ fn command<'a>(alloc: Global) -> Result<Command<'a>, AllocError>
         .after_help(EXAMPLE)
         .arg(tile)?;
     Command::new(alloc, "morphd")
+        .version(VERSION)
         .about("Flat mathematical morphology of images, by scripts")
         .after_help(EXAMPLE)
         .subcommand_required(true)

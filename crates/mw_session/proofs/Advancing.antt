@@ -1,5 +1,5 @@
 -- One turn of work: what the machine, the log and the counts of tasks come to.
-use Rattle.std.proofs.Common.{◌≡◌, ◌≢◌, ℕ, ◌+◌, ◌*◌, ◌<◌, ◌≤◌, Bool, true, false, ◌⊎◌, inl, inr, List, [], ◌∷◌, ◌++◌, length, set, Option, Some, None, refl, sym, ap, ◌∙◌, subst, arith, append_assoc}
+use Rattle.std.proofs.Common.{◌≡◌, ◌≢◌, ℕ, ◌+◌, ◌*◌, ◌%◌, ◌<◌, ◌≤◌, Bool, true, false, ◌⊎◌, inl, inr, List, [], ◌∷◌, ◌++◌, length, set, Option, Some, None, refl, sym, ap, ◌∙◌, subst, arith, append_assoc}
 use Rattle.std.specs.Prelude.{◌&&◌, not, nat_lt}
 use Rattle.std.specs.Option.{option_map_or}
 use Rattle.std.specs.List.{range_with_len, count_by}
@@ -12,7 +12,7 @@ use Rattle.mw_model.specs.declared.calls.LogItem.TheVariants as item
 use Rattle.mw_model.specs.Refusals.{Table, outcome_at, is_pending}
 use Rattle.mw_model.specs.Machine.{Machine, with_table, killed, settled}
 use Rattle.mw_model.specs.Tasks.{Progress, task_count, flag, tasks_below, is_ready, is_running, running_tasks, remaining_tasks}
-use Rattle.mw_model.specs.Stands.{Seen, IsWork, StandsFor, progress_at, may_run, running_count}
+use Rattle.mw_model.specs.Stands.{Seen, IsWork, StandsFor, progress_at, may_run, ready_count, running_count}
 use Rattle.mw_laws.proofs.RunCascade.{is_killed}
 use Rattle.mw_laws.proofs.RunStates.{reached}
 use Rattle.mw_step.specs.WindowTasks.{WindowTask}
@@ -24,10 +24,11 @@ use Rattle.mw_core.specs.declared.answers.Refusal.{Refusal}
 use Rattle.mw_core.specs.declared.answers.Refusal.TheVariants as refusal
 use Rattle.mw_core.specs.Counts.{NonePending}
 use Rattle.mw_laws.proofs.RunReplay.{run_join}
-use Rattle.mw_session.specs.Work.{tasks_left, Worked, AllWorked}
+use Rattle.mw_core.specs.Turns.{IsAt}
+use Rattle.mw_session.specs.Work.{tasks_left, Worked, AllWorked, Took}
 use Rattle.mw_session.proofs.Totals.{total, total-at, total-falls, total-grows, total-bounded, total-zero, count-some, count-falls, count-grows}
-use Rattle.mw_session.proofs.Working.{works_any_order}
-use Rattle.mw_session.proofs.Finishing.{only_append}
+use Rattle.mw_script_laws.proofs.Working.{works_any_order}
+use Rattle.mw_script_laws.proofs.Finishing.{only_append}
 
 both_left : (a b : Bool) → (a && b) ≡ true → a ≡ true
 both_left true b h = refl
@@ -321,6 +322,35 @@ finish-turn old c new m w f s none b e = finished-turn old c new m w f (began ol
 pub refuse-turn : (old c new : Seen) (m : Machine) (w : WindowTask) (r : Refusal) → StandsFor old m → running_count old ≡ 0 → Begins old m w c → Refuses c m w.task r new → Worked m old new 1
 refuse-turn old c new m w r s none b e = refused-turn old c new m w r (began old m w c s none b) e
 
+-- ---- the place that was taken
+
+took-nothing : (place : ℕ) (old c new : Seen) (t : ℕ) → IsAt old (place % ready_count old) t → c.log ≡ old.log → new.log ≡ c.log → Took place old new
+took-nothing place old c new t at e f = record { ticket = t; taken = at; items = []; log = f ∙ e ∙ sym (append-nil old.log); own = inl refl }
+
+took-killed : (place : ℕ) (old c new : Seen) (m : Machine) (t : ℕ) → IsAt old (place % ready_count old) t → c.log ≡ old.log → Kills c m t new → Took place old new
+took-killed place old c new m t at e k = record { ticket = t; taken = at; items = item.Killed t ∷ []; log = k.log ∙ ap (λ l. l ++ item.Killed t ∷ []) e; own = inr (inr refl) }
+
+took-settled : (place : ℕ) (old c new : Seen) (m : Machine) (w : WindowTask) (t : ℕ) → IsAt old (place % ready_count old) w.task.ticket → c.log ≡ old.log → Settles c m w t new → Took place old new
+took-settled place old c new m w t at e k =
+    let P : ℕ → Type 0 = λ u. IsAt old (place % ready_count old) u in
+    record { ticket = t; taken = subst P (sym k.ticket) at; items = item.Finished t ∷ []; log = k.log ∙ ap (λ l. l ++ item.Finished t ∷ []) e; own = inr (inl refl) }
+
+pub took-death : (place : ℕ) (old new : Seen) (m : Machine) (t : ℕ) → IsAt old (place % ready_count old) t → Kills old m t new → Took place old new
+took-death place old new m t at k = took-killed place old old new m t at refl k
+
+pub took-finish : (place : ℕ) (old c new : Seen) (m : Machine) (w : WindowTask) (f : Finish) → IsAt old (place % ready_count old) w.task.ticket → Begins old m w c → Finishes c m w f new → Took place old new
+took-finish place old c new m w finish.Placed at b e = took-nothing place old c new w.task.ticket at (ap (λ (x : Seen). x.log) b.started) e.log
+took-finish place old c new m w (finish.Settled t) at b e = took-settled place old c new m w t at (ap (λ (x : Seen). x.log) b.started) e
+took-finish place old c new m w finish.Late at b e = took-nothing place old c new w.task.ticket at (ap (λ (x : Seen). x.log) b.started) (ap (λ (x : Seen). x.log) e.1)
+took-finish place old c new m w finish.Stranger at b e = took-nothing place old c new w.task.ticket at (ap (λ (x : Seen). x.log) b.started) (ap (λ (x : Seen). x.log) e.2)
+
+pub took-refuse : (place : ℕ) (old c new : Seen) (m : Machine) (w : WindowTask) (r : Refusal) → IsAt old (place % ready_count old) w.task.ticket → Begins old m w c → Refuses c m w.task r new → Took place old new
+took-refuse place old c new m w (refusal.Killed t) at b e =
+    let P : ℕ → Type 0 = λ u. IsAt old (place % ready_count old) u in
+    took-killed place old c new m t (subst P (sym e.0) at) (ap (λ (x : Seen). x.log) b.started) e.2
+took-refuse place old c new m w refusal.Late at b e = took-nothing place old c new w.task.ticket at (ap (λ (x : Seen). x.log) b.started) (ap (λ (x : Seen). x.log) e.1)
+took-refuse place old c new m w refusal.Stranger at b e = took-nothing place old c new w.task.ticket at (ap (λ (x : Seen). x.log) b.started) (ap (λ (x : Seen). x.log) e.2)
+
 -- some turns and one more
 pub worked-on : (m : Machine) (old c new : Seen) (n : ℕ) → (h : Worked m old c n) → Worked h.state c new 1 → Worked m old new (n + 1)
 worked-on m old c new n h k = record {
@@ -343,6 +373,7 @@ worked-all m old new n s h none = record {
   items = h.items;
   state = h.state;
   log = h.log;
+  only = h.only;
   works = works_any_order h.items m h.state (reached old.log m s.run) h.only h.run none;
   stands = h.stands;
   idle = h.idle;

@@ -1,6 +1,6 @@
 -- How the answers to requests are turns of a script.
 use Rattle.std.proofs.Common.{◌≡◌, ◌≢◌, ℕ, Bool, true, false, ◌⊎◌, inl, inr, List, [], ◌∷◌, ◌++◌, length, Option, Some, None, Result, Ok, Err, refl, sym, ap, ◌∙◌, subst, arith, append_assoc, length-append}
-use Rattle.std.specs.Prelude.{IfOk, OnErr}
+use Rattle.std.specs.Prelude.{IfOk, IsOk, OnErr}
 use Rattle.std.proofs.lemmas.List.{append-nil}
 use Rattle.mw_model.specs.declared.names.Name.{Name}
 use Rattle.mw_model.specs.declared.operations.Op.{Op}
@@ -28,7 +28,9 @@ use Rattle.mw_model.specs.declared.requests.Ask.TheVariants as ask
 use Rattle.mw_model.specs.Lines.{Asked, AskLoad, AskElement, AskAlone}
 use Rattle.mw_model.specs.Replies.{Handed, reply_text, refusal_text, NoValue}
 use Rattle.mw_model.specs.Scripts.{Answers, unread, called, Works, Replies, IsCallOf, runs_work, refused_unread, handed, answer_text}
-use Rattle.mw_session.specs.Marks.{killed_in}
+use Rattle.mw_model.specs.Receipts.{IsCallFor, MayFail}
+use Rattle.mw_script_laws.specs.Marks.{OnlyWork, killed_in}
+use Rattle.mw_session.specs.Turns.{TellsWork, TellsCall, logged, unlogged, MayLack}
 use Rattle.mw_laws.proofs.RunStates.{reached}
 use Rattle.mw_laws.proofs.RunTables.{push_last}
 use Rattle.mw_laws.proofs.RunReplay.{refused_leaves, fetch_leaves}
@@ -37,12 +39,11 @@ use Rattle.mw_core.specs.Events.{Serves, IsFresh, handed_out}
 use Rattle.mw_core.specs.Fetches.{shown_value}
 use Rattle.mw_core.specs.declared.answers.Shown.{Shown}
 use Rattle.mw_core.specs.declared.answers.Shown.TheVariants as shown
-use Rattle.mw_session.specs.declared.fault.SessionFault.{SessionFault}
-use Rattle.mw_session.specs.Writes.{Wrote}
+use Rattle.mw_wire.specs.declared.fault.SessionFault.{SessionFault}
+use Rattle.mw_wire.specs.Writes.{Wrote}
 use Rattle.mw_session.specs.Work.{AllWorked}
 use Rattle.mw_session.specs.Runs.{Answered}
 use Rattle.mw_session.specs.Answering.{ReadsImage, ReadsElement, told_text, fetch_text, SaysFetched}
-use Rattle.mw_session.proofs.Turns.{killed_append}
 use Rattle.mw_session.proofs.Advancing.{under, none-under, count-under, calm}
 
 -- ---- texts
@@ -228,6 +229,7 @@ pub record Ready (m : Machine) (q : Asked) (old mid : Seen) : Type 0 where
   pub items : List LogItem
   pub state : Machine
   pub log : mid.log ≡ old.log ++ items
+  pub tells : TellsWork (runs_work q) (killed_in items) items
   pub works : Works (runs_work q) m (killed_in items) state
   pub stands : StandsFor mid state
   pub idle : running_count mid ≡ 0
@@ -235,44 +237,50 @@ pub record Ready (m : Machine) (q : Asked) (old mid : Seen) : Type 0 where
 pub ready-at-once : (m : Machine) (q : Asked) (c : Seen) → StandsFor c m → running_count c ≡ 0 → runs_work q ≡ false → Ready m q c c
 ready-at-once m q c s none quiet =
     let P : Bool → Type 0 = λ b. Works b m [] m in
-    record { items = []; state = m; log = sym (append-nil c.log); works = subst P (sym quiet) (refl, refl); stands = s; idle = none }
+    let Q : Bool → Type 0 = λ b. TellsWork b [] [] in
+    record { items = []; state = m; log = sym (append-nil c.log); tells = subst Q (sym quiet) refl; works = subst P (sym quiet) (refl, refl); stands = s; idle = none }
 
 pub ready-by-work : (m : Machine) (q : Asked) (old mid : Seen) → AllWorked m old mid → runs_work q ≡ true → Ready m q old mid
 ready-by-work m q old mid w busy =
     let P : Bool → Type 0 = λ b. Works b m (killed_in w.items) w.state in
-    record { items = w.items; state = w.state; log = w.log; works = subst P (sym busy) w.works; stands = w.stands; idle = w.idle }
+    let Q : Bool → Type 0 = λ b. TellsWork b (killed_in w.items) w.items in
+    record { items = w.items; state = w.state; log = w.log; tells = subst Q (sym busy) (w.only, refl); works = subst P (sym busy) w.works; stands = w.stands; idle = w.idle }
 
 -- a request was answered so
 answered : (m : Machine) (q : Asked) (old mid new : Seen) (h : Ready m q old mid) (b : Bool) (text : List ℕ) (n : Machine) (more : List LogItem) (x y : Option (List ℕ)) (res : Result (Unit {0}) SessionFault)
-    → Replies b h.state q text n → StandsFor new n → running_count new ≡ 0 → new.log ≡ mid.log ++ more → killed_in more ≡ [] → Wrote x y text res → Answered m q old new x y res
-answered m q old mid new h b text n more x y res replies stands none log no_kills wrote = record {
+    → Replies b h.state q text n → StandsFor new n → running_count new ≡ 0 → new.log ≡ mid.log ++ more → TellsCall (record { request = q; kills = killed_in h.items; no_memory = b }) more → (b ≡ true → MayLack m q) → Wrote x y text res → Answered m q old new x y res
+answered m q old mid new h b text n more x y res replies stands none log calls lacks wrote = record {
   turn = record { request = q; kills = killed_in h.items; no_memory = b };
   state = n;
   text = text;
+  items = h.items ++ more;
   asked = refl;
-  made = (h.state, h.works, replies);
+  made = record {
+    made = (h.state, h.works, replies);
+    tells = record { before = h.items; call = more; all = refl; work = h.tells; calls = calls };
+    lacks = lacks;
+  };
   stands = stands;
   idle = none;
-  kills = (
-    h.items ++ more,
-    log ∙ ap (λ l. l ++ more) h.log ∙ append_assoc old.log h.items more,
-    killed_append h.items more ∙ ap (λ l. killed_in h.items ++ l) no_kills,
-  );
+  log = log ∙ ap (λ l. l ++ more) h.log ∙ append_assoc old.log h.items more;
   wrote = wrote;
 }
 
+not_marked : {A : Type 0} → false ≡ true → A
+not_marked e = cc
+
 -- a call that hands out no value was made for it, or found no memory
-pub answered-told : {E : Type 0} → (m : Machine) (q : Asked) (old mid new : Seen) (h : Ready m q old mid) (c : Call) (p : Option Value) (told : Result Reply E) (x y : Option (List ℕ)) (res : Result (Unit {0}) SessionFault)
-    → IfOk told (Serves mid c p new) → OnErr told (new ≡ mid)
-    → ((r : Reply) → told ≡ Ok r → Serves mid c p new r → Answers h.state q (reply_text r NoValue) (after h.state c p) × (running_count new ≡ 0))
-    → Wrote x y (told_text told) res → Answered m q old new x y res
-answered-told m q old mid new h c p (Ok r) x y res served failed answers wrote =
+pub answered-told : {E : Type 0} → (m : Machine) (q : Asked) (old mid new : Seen) (h : Ready m q old mid) (c : Call) (p : Option Value) (got : Result Reply E) (x y : Option (List ℕ)) (res : Result (Unit {0}) SessionFault)
+    → IsCallFor q c → ((e : E) → got ≡ Err e → MayLack m q) → IfOk got (Serves mid c p new) → OnErr got (new ≡ mid)
+    → ((r : Reply) → got ≡ Ok r → Serves mid c p new r → Answers h.state q (reply_text r NoValue) (after h.state c p) × (running_count new ≡ 0))
+    → Wrote x y (told_text got) res → Answered m q old new x y res
+answered-told m q old mid new h c p (Ok r) x y res fits lacks served failed answers wrote =
     let a = answers r refl served in
-    answered m q old mid new h false (reply_text r NoValue) (after h.state c p) (item.Call c r ∷ []) x y res a.0 (served.stands h.state h.stands) a.1 served.log refl wrote
-answered-told m q old mid new h c p (Err e) x y res served failed answers wrote =
+    answered m q old mid new h false (reply_text r NoValue) (after h.state c p) (item.Call c r ∷ []) x y res a.0 (served.stands h.state h.stands) a.1 served.log (logged c r fits not_marked refl) not_marked wrote
+answered-told m q old mid new h c p (Err e) x y res fits lacks served failed answers wrote =
     let P : Seen → Type 0 = λ s. StandsFor s h.state in
     let Q : Seen → Type 0 = λ s. running_count s ≡ 0 in
-    answered m q old mid new h true (refusal_text code.Memory) h.state [] x y res (refl, refl) (subst P (sym failed) h.stands) (subst Q (sym failed) h.idle) (ap (λ (s : Seen). s.log) failed ∙ sym (append-nil mid.log)) refl wrote
+    answered m q old mid new h true (refusal_text code.Memory) h.state [] x y res (refl, refl) (subst P (sym failed) h.stands) (subst Q (sym failed) h.idle) (ap (λ (s : Seen). s.log) failed ∙ sym (append-nil mid.log)) (unlogged refl refl) (λ k. lacks e refl) wrote
 
 -- a call that answers what the machine does, where the request calls it
 pub called-plain : (m : Machine) (q : Asked) (c : Call) (p : Option Value) (r : Reply) → IsCallOf q c p → IsPlain c → r ≡ reply_to m c → Answers m q (reply_text r NoValue) (after m c p)
@@ -286,78 +294,79 @@ answered-fetch m name old mid new h r v text x y res served value (inl says) wro
     let told = served.reply h.state h.stands in
     let same : text ≡ answer_text h.state c = says ∙ fetched-text h.state r v value ∙ ap (λ z. reply_text z (handed h.state z)) told in
     answered m (AskAlone (ask.Fetch name)) old mid new h false text (after h.state c None) (item.Call c r ∷ []) x y res (called c None (refl, refl) same refl)
-    (served.stands h.state h.stands) (calm-fetch mid new name r h.state h.stands served h.idle) served.log refl wrote
+    (served.stands h.state h.stands) (calm-fetch mid new name r h.state h.stands served h.idle) served.log (logged c r refl not_marked refl) not_marked wrote
 answered-fetch m name old mid new h r v text x y res served value (inr says) wrote =
     let c = call.Fetch name in
     let P : Machine → Type 0 = λ n. StandsFor new n in
-    answered m (AskAlone (ask.Fetch name)) old mid new h true text h.state (item.Call c r ∷ []) x y res (says, refl)
-    (subst P (fetch_leaves h.state name None) (served.stands h.state h.stands)) (calm-fetch mid new name r h.state h.stands served h.idle) served.log refl wrote
+    answered m (AskAlone (ask.Fetch name)) old mid new h true text h.state (item.Call c r ∷ []) x y res (says.1, refl)
+    (subst P (fetch_leaves h.state name None) (served.stands h.state h.stands)) (calm-fetch mid new name r h.state h.stands served h.idle) served.log (logged c r refl (λ e. says.0) refl) (λ e. tt) wrote
 
 -- it found no memory
-pub answered-memory : (m : Machine) (q : Asked) (old mid new : Seen) (h : Ready m q old mid) (x y : Option (List ℕ)) (res : Result (Unit {0}) SessionFault) → new ≡ mid → Wrote x y (refusal_text code.Memory) res → Answered m q old new x y res
-answered-memory m q old mid new h x y res failed wrote =
+pub answered-memory : (m : Machine) (q : Asked) (old mid new : Seen) (h : Ready m q old mid) (x y : Option (List ℕ)) (res : Result (Unit {0}) SessionFault) → MayLack m q → new ≡ mid → Wrote x y (refusal_text code.Memory) res → Answered m q old new x y res
+answered-memory m q old mid new h x y res lacks failed wrote =
     let P : Seen → Type 0 = λ s. StandsFor s h.state in
     let Q : Seen → Type 0 = λ s. running_count s ≡ 0 in
-    answered m q old mid new h true (refusal_text code.Memory) h.state [] x y res (refl, refl) (subst P (sym failed) h.stands) (subst Q (sym failed) h.idle) (ap (λ (s : Seen). s.log) failed ∙ sym (append-nil mid.log)) refl wrote
+    answered m q old mid new h true (refusal_text code.Memory) h.state [] x y res (refl, refl) (subst P (sym failed) h.stands) (subst Q (sym failed) h.idle) (ap (λ (s : Seen). s.log) failed ∙ sym (append-nil mid.log)) (unlogged refl refl) (λ e. lacks) wrote
 
 -- ---- the kinds of requests
 
-pub answered-load : {E : Type 0} → (m : Machine) (name : Name) (bytes : List ℕ) (image : Result Picture Code) (old new : Seen) (told : Result Reply E) (x y : Option (List ℕ)) (res : Result (Unit {0}) SessionFault)
-    → StandsFor old m → running_count old ≡ 0 → ReadsImage bytes image → IfOk told (Serves old (call.Load name (given_image image)) (image_payload image) new) → IfOk told (λ r. r ≢ reply.Refused code.Memory) → OnErr told (new ≡ old)
-    → Wrote x y (told_text told) res → Answered m (AskLoad name bytes) old new x y res
+pub answered-load : {E : Type 0} → (m : Machine) (name : Name) (bytes : List ℕ) (image : Result Picture Code) (old new : Seen) (got : Result Reply E) (x y : Option (List ℕ)) (res : Result (Unit {0}) SessionFault)
+    → StandsFor old m → running_count old ≡ 0 → ReadsImage bytes image → IfOk got (Serves old (call.Load name (given_image image)) (image_payload image) new) → IfOk got (λ r. r ≢ reply.Refused code.Memory) → OnErr got (new ≡ old)
+    → Wrote x y (told_text got) res → Answered m (AskLoad name bytes) old new x y res
 unfolding ready-at-once
-answered-load {E} m name bytes image old new told x y res s none read served other failed wrote =
+answered-load {E} m name bytes image old new got x y res s none read served other failed wrote =
     let q = AskLoad name bytes in
     let c = call.Load name (given_image image) in
     let P : Result Reply E → Type 0 = λ t. IfOk t (λ r. r ≢ reply.Refused code.Memory) in
-    answered-told m q old old new (ready-at-once m q old s none refl) c (image_payload image) told x y res served failed
+    answered-told m q old old new (ready-at-once m q old s none refl) c (image_payload image) got x y res (given_image image, refl) (λ e is. tt) served failed
     (λ r is h. (load-answers m (after m c (image_payload image)) name bytes image r read (h.reply m s) (subst P is other) refl, calm-load old new name image r m s h none)) wrote
 
-pub answered-element : {E : Type 0} → (m : Machine) (name : Name) (ox oy : ℕ) (bytes : List ℕ) (element : Result Figure Code) (old new : Seen) (told : Result Reply E) (x y : Option (List ℕ)) (res : Result (Unit {0}) SessionFault)
-    → StandsFor old m → running_count old ≡ 0 → ReadsElement bytes ox oy element → IfOk told (Serves old (call.Element name (given_element element)) (element_payload element) new) → IfOk told (λ r. r ≢ reply.Refused code.Memory) → OnErr told (new ≡ old)
-    → Wrote x y (told_text told) res → Answered m (AskElement name ox oy bytes) old new x y res
+pub answered-element : {E : Type 0} → (m : Machine) (name : Name) (ox oy : ℕ) (bytes : List ℕ) (element : Result Figure Code) (old new : Seen) (got : Result Reply E) (x y : Option (List ℕ)) (res : Result (Unit {0}) SessionFault)
+    → StandsFor old m → running_count old ≡ 0 → ReadsElement bytes ox oy element → IfOk got (Serves old (call.Element name (given_element element)) (element_payload element) new) → IfOk got (λ r. r ≢ reply.Refused code.Memory) → OnErr got (new ≡ old)
+    → Wrote x y (told_text got) res → Answered m (AskElement name ox oy bytes) old new x y res
 unfolding ready-at-once
-answered-element {E} m name ox oy bytes element old new told x y res s none read served other failed wrote =
+answered-element {E} m name ox oy bytes element old new got x y res s none read served other failed wrote =
     let q = AskElement name ox oy bytes in
     let c = call.Element name (given_element element) in
     let P : Result Reply E → Type 0 = λ t. IfOk t (λ r. r ≢ reply.Refused code.Memory) in
-    answered-told m q old old new (ready-at-once m q old s none refl) c (element_payload element) told x y res served failed
+    answered-told m q old old new (ready-at-once m q old s none refl) c (element_payload element) got x y res (given_element element, refl) (λ e is. tt) served failed
     (λ r is h. (element-answers m (after m c (element_payload element)) name ox oy bytes element r read (h.reply m s) (subst P is other) refl, calm-element old new name element r m s h none)) wrote
 
-pub answered-run : {E : Type 0} → (m : Machine) (name : Name) (op : Op) (old new : Seen) (told : Result Reply E) (x y : Option (List ℕ)) (res : Result (Unit {0}) SessionFault)
-    → StandsFor old m → running_count old ≡ 0 → IfOk told (Serves old (call.Run name op) None new) → ((t : ℕ) → IfOk told (λ r. r ≡ reply.Accepted t → IsFresh new t)) → OnErr told (new ≡ old)
-    → Wrote x y (told_text told) res → Answered m (AskAlone (ask.Run name op)) old new x y res
+pub answered-run : {E : Type 0} → (m : Machine) (name : Name) (op : Op) (old new : Seen) (got : Result Reply E) (x y : Option (List ℕ)) (res : Result (Unit {0}) SessionFault)
+    → StandsFor old m → running_count old ≡ 0 → IfOk got (Serves old (call.Run name op) None new) → ((t : ℕ) → IfOk got (λ r. r ≡ reply.Accepted t → IsFresh new t)) → OnErr got (new ≡ old)
+    → Wrote x y (told_text got) res → Answered m (AskAlone (ask.Run name op)) old new x y res
 unfolding ready-at-once
-answered-run {E} m name op old new told x y res s none served fresh failed wrote =
+answered-run {E} m name op old new got x y res s none served fresh failed wrote =
     let q = AskAlone (ask.Run name op) in
     let c = call.Run name op in
     let P : ℕ → Result Reply E → Type 0 = λ t r. IfOk r (λ a. a ≡ reply.Accepted t → IsFresh new t) in
-    answered-told m q old old new (ready-at-once m q old s none refl) c None told x y res served failed
+    answered-told m q old old new (ready-at-once m q old s none refl) c None got x y res refl (λ e is. tt) served failed
     (λ r is h. (called-plain m q c None r (refl, refl) tt (h.reply m s), calm-run old new name op r m s h (λ t. subst (P t) is (fresh t)) none)) wrote
 
-pub answered-cancel : {E : Type 0} → (m : Machine) (name : Name) (old new : Seen) (told : Result Reply E) (x y : Option (List ℕ)) (res : Result (Unit {0}) SessionFault)
-    → StandsFor old m → running_count old ≡ 0 → IfOk told (Serves old (call.Cancel name) None new) → OnErr told (new ≡ old) → Wrote x y (told_text told) res → Answered m (AskAlone (ask.Cancel name)) old new x y res
+pub answered-cancel : {E : Type 0} → (m : Machine) (name : Name) (old new : Seen) (got : Result Reply E) (x y : Option (List ℕ)) (res : Result (Unit {0}) SessionFault)
+    → StandsFor old m → running_count old ≡ 0 → (refusal m.table m.payloads (call.Cancel name) ≡ None → IsOk got) → IfOk got (Serves old (call.Cancel name) None new) → OnErr got (new ≡ old) → Wrote x y (told_text got) res → Answered m (AskAlone (ask.Cancel name)) old new x y res
 unfolding ready-at-once
-answered-cancel m name old new told x y res s none served failed wrote =
+answered-cancel {E} m name old new got x y res s none succeeds served failed wrote =
     let q = AskAlone (ask.Cancel name) in
     let c = call.Cancel name in
-    answered-told m q old old new (ready-at-once m q old s none refl) c None told x y res served failed
+    let P : Result Reply E → Type 0 = λ t. IsOk t in
+    answered-told m q old old new (ready-at-once m q old s none refl) c None got x y res refl (λ e is free. let ok = subst P is (succeeds free) in absurd cc) served failed
     (λ r is h. (called-plain m q c None r (refl, refl) tt (h.reply m s), calm-cancel old new name r m s h none)) wrote
 
-pub answered-release : {E : Type 0} → (m : Machine) (name : Name) (old new : Seen) (told : Result Reply E) (x y : Option (List ℕ)) (res : Result (Unit {0}) SessionFault)
-    → StandsFor old m → running_count old ≡ 0 → IfOk told (Serves old (call.Release name) None new) → OnErr told (new ≡ old) → Wrote x y (told_text told) res → Answered m (AskAlone (ask.Release name)) old new x y res
+pub answered-release : {E : Type 0} → (m : Machine) (name : Name) (old new : Seen) (got : Result Reply E) (x y : Option (List ℕ)) (res : Result (Unit {0}) SessionFault)
+    → StandsFor old m → running_count old ≡ 0 → IfOk got (Serves old (call.Release name) None new) → OnErr got (new ≡ old) → Wrote x y (told_text got) res → Answered m (AskAlone (ask.Release name)) old new x y res
 unfolding ready-at-once
-answered-release m name old new told x y res s none served failed wrote =
+answered-release m name old new got x y res s none served failed wrote =
     let q = AskAlone (ask.Release name) in
     let c = call.Release name in
-    answered-told m q old old new (ready-at-once m q old s none refl) c None told x y res served failed
+    answered-told m q old old new (ready-at-once m q old s none refl) c None got x y res refl (λ e is. tt) served failed
     (λ r is h. (called-plain m q c None r (refl, refl) tt (h.reply m s), calm-release old new name r m s h none)) wrote
 
 -- STATUS, and WAIT
-pub answered-status : {E : Type 0} → (m : Machine) (q : Asked) (name : Name) (old mid new : Seen) (told : Result Reply E) (x y : Option (List ℕ)) (res : Result (Unit {0}) SessionFault)
-    → IsCallOf q (call.Status name) None → runs_work q ≡ true → AllWorked m old mid → IfOk told (Serves mid (call.Status name) None new) → OnErr told (new ≡ mid) → Wrote x y (told_text told) res → Answered m q old new x y res
-answered-status m q name old mid new told x y res is busy w served failed wrote =
+pub answered-status : {E : Type 0} → (m : Machine) (q : Asked) (name : Name) (old mid new : Seen) (got : Result Reply E) (x y : Option (List ℕ)) (res : Result (Unit {0}) SessionFault)
+    → IsCallOf q (call.Status name) None → IsCallFor q (call.Status name) → ((e : E) → got ≡ Err e → MayLack m q) → runs_work q ≡ true → AllWorked m old mid → IfOk got (Serves mid (call.Status name) None new) → OnErr got (new ≡ mid) → Wrote x y (told_text got) res → Answered m q old new x y res
+answered-status m q name old mid new got x y res is fits lacks busy w served failed wrote =
     let c = call.Status name in
     let h = ready-by-work m q old mid w busy in
-    answered-told m q old mid new h c None told x y res served failed
+    answered-told m q old mid new h c None got x y res fits lacks served failed
     (λ r same k. (called-plain h.state q c None r is tt (k.reply h.state h.stands), calm-status mid new name r h.state h.stands k h.idle)) wrote

@@ -1,10 +1,7 @@
 pub mod Turns
-pub mod Working
-pub mod Finishing
-pub mod Readings
-pub mod Writing
+pub mod Stops
+pub mod Rooms
 pub mod Sessions
 pub mod Totals
 pub mod Advancing
 pub mod Answering
-pub mod Fronts

@@ -13,11 +13,13 @@ use Rattle.mw_model.specs.NetpbmRefusals.{Refuses}
 use Rattle.mw_model.specs.NetpbmWriting.{text_of}
 use Rattle.mw_model.specs.Machine.{Machine}
 use Rattle.mw_model.specs.Stands.{Seen, StandsFor, running_count}
+use Rattle.mw_model.specs.Receipts.{MayFail}
 use Rattle.mw_model.specs.Replies.{reply_text, refusal_text, NoValue, ImageBytes}
 use Rattle.mw_core.specs.declared.answers.Shown.{Shown}
 use Rattle.mw_core.specs.declared.answers.Shown.TheVariants as shown
-use Rattle.mw_session.specs.declared.fault.SessionFault.{SessionFault}
-use Rattle.mw_session.specs.Runs.{Drains}
+use Rattle.mw_wire.specs.declared.fault.SessionFault.{SessionFault}
+use Rattle.mw_session.specs.Runs.{Drains, WantsRoom}
+use Rattle.mw_wire.specs.Writes.{CutsShort}
 
 -- the payload of a LOAD as an image, or why it is none, or want of memory
 abbrev pub ReadsImage : List ℕ → Result Picture Code → Type 0
@@ -39,18 +41,18 @@ abbrev pub fetch_text : Reply → Shown → List ℕ
 fetch_text r shown.Nothing = reply_text r NoValue
 fetch_text r (shown.Image f) = reply_text r (ImageBytes (text_of f))
 
--- that, or that its text found no memory
+-- that, or that the text of what it hands out found no memory
 abbrev pub SaysFetched : Reply → Shown → List ℕ → Type 0
-SaysFetched r v text = (text ≡ fetch_text r v) ⊎ (text ≡ refusal_text code.Memory)
+SaysFetched r v text = (text ≡ fetch_text r v) ⊎ (MayFail r × (text ≡ refusal_text code.Memory))
 
 -- the end by a refusal, where the session may also go on
 abbrev pub EndedBy : {E : Type 0} → Option (List ℕ) → Option (List ℕ) → Code → Result (Option End) E → Type 0
 EndedBy old new c result =
-    MatchResult result (λ o. (o ≡ Some (Ended c)) × Appends old new (refusal_text c)) (λ _. (k : ℕ) × Appends old new (take k (refusal_text c)))
+    MatchResult result (λ o. (o ≡ Some (Ended c)) × Appends old new (refusal_text c)) (λ _. CutsShort old new (refusal_text c))
 
--- What waited was served from a state, and the core then stands for the state after it.
+-- What waited was served from a state, and the core then stands for the state after it. The rest is what is held.
 pub record Drove (left : Option (List ℕ)) (bytes rest : List ℕ) (m : Machine) (old new : Seen) (before after : Option (List ℕ)) (result : Result (Option End) SessionFault) : Type 0 where
   pub state : Machine
   pub stands : StandsFor new state
   pub idle : running_count new ≡ 0
-  pub drains : Drains left bytes rest m state old.log new.log before after result
+  pub drains : Drains (WantsRoom rest) left bytes rest m state old.log new.log before after result

@@ -1,5 +1,4 @@
-pub mod Marks
-pub mod Writes
+pub mod Turns
 pub mod Work
 pub mod Runs
 pub mod Answering

@@ -1,6 +1,6 @@
 //! One request, and what is written for it.
 
-ghost use Rattle.std.specs.Prelude.{◌≡◌, ◌≢◌, ℕ, List, OnOk, OnErr, Err, true};
+ghost use Rattle.std.specs.Prelude.{◌≡◌, ◌≢◌, OnOk, OnErr, Err, true};
 ghost use Rattle.mw_model.specs.declared.names.Name.{Name};
 ghost use Rattle.mw_model.specs.declared.operations.Op.{Op};
 ghost use Rattle.mw_model.specs.declared.requests.Ask.TheVariants as Ask;
@@ -8,35 +8,16 @@ ghost use Rattle.mw_model.specs.Lines.{AskLoad, AskElement, AskAlone, is_served}
 ghost use Rattle.mw_model.specs.Machine.{Machine};
 ghost use Rattle.mw_model.specs.Stands.{StandsFor, running_count};
 ghost use Rattle.mw_intake.specs.Intake.{asked};
-ghost use Rattle.mw_session.specs.Answering.{told_text, SaysFetched};
 ghost use Rattle.mw_session.specs.Runs.{Answered};
-ghost use Rattle.mw_session.specs.Writes.{Wrote};
 
-use crate::fault::SessionFault;
 use crate::payloads::{read_element, read_image};
-use crate::saying::{say, say_image};
-use crate::sink::Sink;
+use crate::saying::{say_fetched, say_told};
 use crate::work::{Pick, run_all_work};
-use mw_core::{Core, Fetched, Shown};
+use mw_core::Core;
 use mw_model::{Code, Name, NoMemory, Op, Reply, Request};
-use mw_store::Plate;
+use mw_wire::{SessionFault, Sink, say};
 use std::alloc::Global;
 use std::io::Write;
-
-/// Writes the reply to a call, or that it found no memory.
-fn say_told<W: Write>(
-    sink: &mut Sink<W>,
-    reply: Result<Reply, NoMemory>,
-) -> Result<(), SessionFault>
-    ensures wrote { Wrote (W.contents sink.old.inner) (W.contents sink.new.inner) (told_text reply) result }
-    ensures kept { OnOk result (sink.new.failed ≡ sink.old.failed) }
-    ensures flag { OnErr result ((result ≡ Err SessionFault.Write) × (sink.new.failed ≡ true)) }
-{
-    match reply {
-        Ok(reply) => say(sink, reply),
-        Err(NoMemory) => say(sink, Reply::Refused(Code::Memory)),
-    }
-}
 
 fn load<W: Write>(
     alloc: Global,
@@ -128,42 +109,6 @@ fn status<W: Write, P: Pick>(
     run_all_work(alloc, core, pick);
     let reply = core.status(name);
     say_told(sink, reply)
-}
-
-/// Writes an image, or that its text found no memory.
-fn say_plate<W: Write>(
-    alloc: Global,
-    sink: &mut Sink<W>,
-    t: u32,
-    plate: &Plate,
-) -> Result<(), SessionFault>
-    ensures said { (text : List ℕ) × SaysFetched (Reply.Shown t) (Shown.Image plate.now) text × Wrote (W.contents sink.old.inner) (W.contents sink.new.inner) text result }
-    ensures kept { OnOk result (sink.new.failed ≡ sink.old.failed) }
-    ensures flag { OnErr result ((result ≡ Err SessionFault.Write) × (sink.new.failed ≡ true)) }
-{
-    match mw_netpbm::parts(alloc, plate.image()) {
-        Ok(text) => say_image(sink, t, &text.front, text.rest),
-        Err(NoMemory) => say(sink, Reply::Refused(Code::Memory)),
-    }
-}
-
-fn say_fetched<W: Write>(
-    alloc: Global,
-    sink: &mut Sink<W>,
-    fetched: Fetched,
-) -> Result<(), SessionFault>
-    ensures said { (text : List ℕ) × SaysFetched fetched.reply fetched.value text × Wrote (W.contents sink.old.inner) (W.contents sink.new.inner) text result }
-    ensures kept { OnOk result (sink.new.failed ≡ sink.old.failed) }
-    ensures flag { OnErr result ((result ≡ Err SessionFault.Write) × (sink.new.failed ≡ true)) }
-{
-    let Fetched { reply, value } = fetched;
-    match value {
-        Shown::Nothing => say(sink, reply),
-        Shown::Image(plate) => match reply {
-            Reply::Shown(t) => say_plate(alloc, sink, t, &plate),
-            other => say(sink, other),
-        },
-    }
 }
 
 fn fetch<W: Write, P: Pick>(

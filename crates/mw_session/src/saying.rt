@@ -1,83 +1,64 @@
-//! Writing replies, and the refusal that ends a session.
+//! Writing what calls are answered.
 
-ghost use Rattle.std.specs.Prelude.{◌≡◌, ◌++◌, OnOk, OnErr, Err, true};
-ghost use Rattle.mw_model.specs.Replies.{reply_text, handed_text, NoValue, ImageBytes, CurveText};
-ghost use Rattle.mw_session.specs.Writes.{Wrote, EndsBy};
+ghost use Rattle.std.specs.Prelude.{◌≡◌, ℕ, List, OnOk, OnErr, Err, true};
+ghost use Rattle.mw_session.specs.Answering.{told_text, SaysFetched};
+ghost use Rattle.mw_wire.specs.Writes.{Wrote};
 
-use crate::fault::SessionFault;
-use crate::line::ReplyLine;
-use crate::reply::{curve_line, image_line, refusal_line, reply_line};
-use crate::sink::{Sink, send};
-use mw_model::{Code, End, Reply};
+use mw_core::{Fetched, Shown};
+use mw_model::{Code, NoMemory, Reply};
+use mw_store::Plate;
+use mw_wire::{SessionFault, Sink, say, say_image};
+use std::alloc::Global;
 use std::io::Write;
 
-/// Writes a reply that hands out no value. At `Err` a front of its text was written.
-pub fn say<W: Write>(sink: &mut Sink<W>, reply: Reply) -> Result<(), SessionFault>
-    ensures wrote { Wrote (W.contents sink.old.inner) (W.contents sink.new.inner) (reply_text reply NoValue) result }
+/// Writes the reply to a call, or that it found no memory.
+pub(crate) fn say_told<W: Write>(
+    sink: &mut Sink<W>,
+    reply: Result<Reply, NoMemory>,
+) -> Result<(), SessionFault>
+    ensures wrote { Wrote (W.contents sink.old.inner) (W.contents sink.new.inner) (told_text reply) result }
     ensures kept { OnOk result (sink.new.failed ≡ sink.old.failed) }
     ensures flag { OnErr result ((result ≡ Err SessionFault.Write) × (sink.new.failed ≡ true)) }
 {
-    send(sink, reply_line(reply).as_bytes())
+    match reply {
+        Ok(reply) => say(sink, reply),
+        Err(NoMemory) => say(sink, Reply::Refused(Code::Memory)),
+    }
 }
 
-/// Writes the reply that hands out an image, and the bytes of the image, given in two parts.
-pub fn say_image<W: Write>(
+/// Writes an image, or that its text found no memory.
+fn say_plate<W: Write>(
+    alloc: Global,
     sink: &mut Sink<W>,
     t: u32,
-    front: &[u8],
-    rest: &[u8],
+    plate: &Plate,
 ) -> Result<(), SessionFault>
-    ensures wrote { Wrote (W.contents sink.old.inner) (W.contents sink.new.inner) (handed_text t (ImageBytes (front.now ++ rest.now))) result }
+    ensures said { (text : List ℕ) × SaysFetched (Reply.Shown t) (Shown.Image plate.now) text × Wrote (W.contents sink.old.inner) (W.contents sink.new.inner) text result }
     ensures kept { OnOk result (sink.new.failed ≡ sink.old.failed) }
     ensures flag { OnErr result ((result ≡ Err SessionFault.Write) × (sink.new.failed ≡ true)) }
 {
-    send_in_parts(sink, &image_line(t, front.len() + rest.len()), front, rest)
-}
-
-/// Writes the reply that hands out a curve, and the text of the curve.
-pub fn say_curve<W: Write>(sink: &mut Sink<W>, t: u32, text: &[u8]) -> Result<(), SessionFault>
-    ensures wrote { Wrote (W.contents sink.old.inner) (W.contents sink.new.inner) (handed_text t (CurveText text.now)) result }
-    ensures kept { OnOk result (sink.new.failed ≡ sink.old.failed) }
-    ensures flag { OnErr result ((result ≡ Err SessionFault.Write) × (sink.new.failed ≡ true)) }
-{
-    send_both(sink, curve_line(t, text.len()).as_bytes(), text)
-}
-
-fn send_both<W: Write>(sink: &mut Sink<W>, first: &[u8], second: &[u8]) -> Result<(), SessionFault>
-    ensures wrote { Wrote (W.contents sink.old.inner) (W.contents sink.new.inner) (first.now ++ second.now) result }
-    ensures kept { OnOk result (sink.new.failed ≡ sink.old.failed) }
-    ensures flag { OnErr result ((result ≡ Err SessionFault.Write) × (sink.new.failed ≡ true)) }
-{
-    match send(sink, first) {
-        Err(fault) => Err(fault),
-        Ok(()) => send(sink, second),
+    match mw_netpbm::parts(alloc, plate.image()) {
+        Ok(text) => say_image(sink, t, &text.front, text.rest),
+        Err(NoMemory) => say(sink, Reply::Refused(Code::Memory)),
     }
 }
 
-fn send_in_parts<W: Write>(
+/// Writes the reply to a FETCH, and the image that it hands out.
+pub(crate) fn say_fetched<W: Write>(
+    alloc: Global,
     sink: &mut Sink<W>,
-    line: &ReplyLine,
-    front: &[u8],
-    rest: &[u8],
+    fetched: Fetched,
 ) -> Result<(), SessionFault>
-    ensures wrote { Wrote (W.contents sink.old.inner) (W.contents sink.new.inner) (line.now ++ (front.now ++ rest.now)) result }
+    ensures said { (text : List ℕ) × SaysFetched fetched.reply fetched.value text × Wrote (W.contents sink.old.inner) (W.contents sink.new.inner) text result }
     ensures kept { OnOk result (sink.new.failed ≡ sink.old.failed) }
     ensures flag { OnErr result ((result ≡ Err SessionFault.Write) × (sink.new.failed ≡ true)) }
 {
-    match send(sink, line.as_bytes()) {
-        Err(fault) => Err(fault),
-        Ok(()) => send_both(sink, front, rest),
-    }
-}
-
-/// Writes the refusal that ends a session.
-pub fn end_by<W: Write>(sink: &mut Sink<W>, code: Code) -> Result<End, SessionFault>
-    ensures wrote { EndsBy (W.contents sink.old.inner) (W.contents sink.new.inner) code result }
-    ensures kept { OnOk result (sink.new.failed ≡ sink.old.failed) }
-    ensures flag { OnErr result ((result ≡ Err SessionFault.Write) × (sink.new.failed ≡ true)) }
-{
-    match send(sink, refusal_line(code).as_bytes()) {
-        Ok(()) => Ok(End::Ended(code)),
-        Err(fault) => Err(fault),
+    let Fetched { reply, value } = fetched;
+    match value {
+        Shown::Nothing => say(sink, reply),
+        Shown::Image(plate) => match reply {
+            Reply::Shown(t) => say_plate(alloc, sink, t, &plate),
+            other => say(sink, other),
+        },
     }
 }

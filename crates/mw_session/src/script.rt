@@ -1,30 +1,25 @@
 //! A whole script, from a reader to a writer.
 
-ghost use Rattle.std.specs.Prelude.{◌≡◌, ◌≢◌, ◌≤◌, ◌<◌, ◌⊎◌, ◌↔◌, [], ◌++◌, length, ℕ, List, Option, OnOk, OnErr, Ok, Err, IsTrue, false, true};
+ghost use Rattle.std.specs.Prelude.{◌≡◌, ◌≢◌, ◌≤◌, ◌<◌, ◌⊎◌, ◌↔◌, [], ◌++◌, length, ℕ, List, Option, None, OnOk, OnErr, IfOk, Ok, Err, IsTrue, false, true};
 ghost use Rattle.std.specs.Io.KnownBytes.{Appends};
 ghost use Rattle.mw_model.specs.declared.requests.Ask.TheVariants as Ask;
-ghost use Rattle.mw_model.specs.Lines.{AskAlone};
+ghost use Rattle.mw_model.specs.Lines.{AskAlone, Partial};
+ghost use Rattle.mw_intake.specs.Reading.{front};
 ghost use Rattle.mw_model.specs.Machine.{Machine};
 ghost use Rattle.mw_model.specs.Stands.{StandsFor, running_count};
 ghost use Rattle.mw_intake.specs.Intake.{asked};
 ghost use Rattle.mw_session.specs.Answering.{EndedBy, Drove};
 ghost use Rattle.mw_session.specs.Runs.{SessionRan};
-ghost use Rattle.mw_session.specs.Writes.{EndsBy};
+ghost use Rattle.mw_wire.specs.Writes.{EndsBy};
 
 use crate::answer::answer;
-use crate::fault::SessionFault;
-use crate::saying::end_by;
-use crate::sink::Sink;
-use crate::source::{Source, receive};
 use crate::work::Pick;
 use mw_core::Core;
 use mw_intake::Intake;
 use mw_model::{Code, End, Next, NoMemory, Request};
+use mw_wire::{READ_LIMIT, SessionFault, Sink, Source, end_by, receive};
 use std::alloc::Global;
 use std::io::{Read, Write};
-
-/// A session makes at most so many reads.
-const READ_LIMIT: u32 = u32::MAX;
 
 /// How many bytes are read at a time.
 const PIECE: usize = 65536;
@@ -57,6 +52,7 @@ fn drain<W: Write, P: Pick>(
 ) -> Result<Option<End>, SessionFault>
     ensures ran { (left : Option (List ℕ)) (m : Machine) → StandsFor core.old m → running_count core.old ≡ 0
         → Drove left intake.old intake.new m core.old core.new (W.contents sink.old.inner) (W.contents sink.new.inner) result }
+    ensures waits { IfOk result (λ o. o ≡ None → front intake.new ≡ Partial) }
     ensures kept { OnOk result (sink.new.failed ≡ sink.old.failed) }
     ensures flag { OnErr result ((result ≡ Err SessionFault.Write) × (sink.new.failed ≡ true)) }
 {
@@ -79,7 +75,7 @@ fn drain<W: Write, P: Pick>(
 
 /// Serves a piece of the input: feeds it by portions, so that no byte of a payload is copied twice, and serves the
 /// requests that wait after each. Where the session ends, what stands behind is not fed.
-pub fn serve_piece<W: Write, P: Pick>(
+fn serve_piece<W: Write, P: Pick>(
     alloc: Global,
     intake: &mut Intake,
     sink: &mut Sink<W>,
@@ -87,9 +83,11 @@ pub fn serve_piece<W: Write, P: Pick>(
     pick: &mut P,
     piece: &[u8],
 ) -> Result<Option<End>, SessionFault>
-    requires { 0 < length piece.now }
+    requires some { 0 < length piece.now }
+    requires served { front intake.old ≡ Partial }
     ensures ran { (left : Option (List ℕ)) (m : Machine) → StandsFor core.old m → running_count core.old ≡ 0
         → Drove left (intake.old ++ piece.now) intake.new m core.old core.new (W.contents sink.old.inner) (W.contents sink.new.inner) result }
+    ensures waits { IfOk result (λ o. o ≡ None → front intake.new ≡ Partial) }
     ensures kept { OnOk result (sink.new.failed ≡ sink.old.failed) }
     ensures flag { OnErr result ((result ≡ Err SessionFault.Write) × (sink.new.failed ≡ true)) }
 {
@@ -128,7 +126,7 @@ fn end_of_input<W: Write>(sink: &mut Sink<W>, intake: &Intake) -> Result<End, Se
 /// WAIT all work is run, in the order of the picks, and nothing else runs work. Want of memory is `ERR 50 MEMORY` for
 /// that request, and ends the session where a line or a payload is gathered.
 ///
-/// A core for which no task is running is to be handed in. A session makes at most 4,294,967,295 reads.
+/// A session makes at most 4,294,967,295 reads, and makes one again that was interrupted.
 pub fn run_script<R: Read, W: Write, P: Pick>(
     alloc: Global,
     source: &mut Source<R>,
@@ -139,8 +137,9 @@ pub fn run_script<R: Read, W: Write, P: Pick>(
     requires source_clear { source.old.failed ≡ false }
     requires sink_clear { sink.old.failed ≡ false }
     requires unread { source.old.reads ≡ 0 }
-    // What was written is the script of the bytes that were read, or a front of it, and the core stands for the state after it.
-    ensures ran { (m : Machine) → StandsFor core.old m → running_count core.old ≡ 0
+    requires idle { running_count core.old ≡ 0 }
+    // What was written is the script of the bytes that were read, or what a fault left of it, and the core stands for the state after it.
+    ensures ran { (m : Machine) → StandsFor core.old m
         → SessionRan m core.old core.new (R.remaining source.old.inner) (R.remaining source.new.inner) (W.contents sink.old.inner) (W.contents sink.new.inner) result }
     ensures few_reads { source.new.reads ≤ 4294967295 }
     ensures read_fault { result ≡ Err SessionFault.Read → (source.new.failed ≡ true) ⊎ (source.new.reads ≡ 4294967295) }
@@ -153,7 +152,7 @@ pub fn run_script<R: Read, W: Write, P: Pick>(
         Ok(buffer) => buffer,
         Err(_) => return end_by(sink, Code::Memory),
     };
-    'reads: for _turn in 0..READ_LIMIT {
+    'reads: while source.reads() < READ_LIMIT {
         let n = match receive(source, buffer.as_mut_slice()) {
             Err(fault) => return Err(fault),
             Ok(n) => n,

@@ -2,7 +2,7 @@
 
 ghost use Rattle.std.specs.Prelude.{◌≡◌, ◌<◌};
 ghost use Rattle.mw_model.specs.Machine.{Machine};
-ghost use Rattle.mw_model.specs.Stands.{StandsFor, running_count};
+ghost use Rattle.mw_model.specs.Stands.{StandsFor, ready_count, running_count};
 ghost use Rattle.mw_session.specs.Work.{Turned, AllWorked};
 
 use mw_core::{Core, Started};
@@ -10,14 +10,20 @@ use std::alloc::Global;
 
 /// Which ready task is taken next.
 pub trait Pick {
+    ghost use Rattle.std.specs.Prelude.{ℕ};
+
+    /// The place that it gives next among so many.
+    ghost place: { Self → ℕ → ℕ };
+
     /// A place among so many ready tasks, counted from 0 and round again where there are fewer. Any answer is right.
     fn pick(&mut self, count: u64) -> u64
-        requires { 0 < count };
+        requires { 0 < count }
+        ensures { result ≡ place self.old count };
 }
 
-/// Takes a task, runs it and brings its result. Says whether one was ready.
+/// Takes the task of the next place, runs it and brings its result. Says whether one was ready.
 fn run_one<P: Pick>(alloc: Global, core: &mut Core, pick: &mut P) -> bool
-    ensures { (m : Machine) → StandsFor core.old m → running_count core.old ≡ 0 → Turned m core.old core.new result }
+    ensures { (m : Machine) → StandsFor core.old m → running_count core.old ≡ 0 → Turned m (P.place pick.old (ready_count core.old)) core.old core.new result }
 {
     let count = core.ready_count();
     if count == 0 {

@@ -1,5 +1,5 @@
 //! Tests of whole sessions, by values from outside: what they write and how they end, cut into pieces, ended anywhere, and
-//! with readers and writers that fail anywhere.
+//! with readers and writers that fail anywhere; and of the texts of replies, and readers and writers by themselves.
 //!
 //! ```text
 //! rt test     // in this folder
@@ -12,3 +12,5 @@ mod served;
 mod session_ends;
 #[cfg(test)]
 mod sessions;
+#[cfg(test)]
+mod wire;

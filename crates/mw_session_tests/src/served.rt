@@ -1,7 +1,7 @@
 //! A session as the program runs it, over a reader and a writer that end where they are told to.
 
-use mw_cli::batch;
-use mw_session::{Sink, Source};
+use mw_batch::batch;
+use mw_wire::{Sink, Source};
 use std::alloc::{AllocError, Global};
 use std::io;
 use std::io::{ErrorKind, Read, Write};
@@ -16,10 +16,11 @@ pub(crate) const BAR: &[u8] = b"ELEMENT b 1 0 11\nP1\n3 1\n111\n";
 /// `s`: the pixel to the right of the origin alone.
 pub(crate) const RIGHT: &[u8] = b"ELEMENT s 0 0 10\nP1\n2 1\n01\n";
 
-/// How a session is cut: the longest piece that a read gives, and after how many bytes the reader and
-/// the writer fail.
+/// How a session is cut: the longest piece that a read gives, after how many bytes the reader and the writer fail, and
+/// whether every other read is interrupted.
 #[derive(Clone, Copy)]
 pub(crate) struct Cut {
+    pub(crate) interrupted: bool,
     pub(crate) piece: usize,
     pub(crate) read: usize,
     pub(crate) written: usize,
@@ -27,6 +28,7 @@ pub(crate) struct Cut {
 
 /// Nothing fails, and a read gives all that it has room for.
 pub(crate) const WHOLE: Cut = Cut {
+    interrupted: false,
     piece: usize::MAX,
     read: usize::MAX,
     written: usize::MAX,
@@ -35,6 +37,8 @@ pub(crate) const WHOLE: Cut = Cut {
 /// Gives the bytes in pieces, and fails once so many were given.
 #[derive(Drop)]
 struct Pieces<'a> {
+    /// Whether the next read is interrupted, and whether any is.
+    interrupts: (bool, bool),
     bytes: &'a [u8],
     piece: usize,
     left: usize,
@@ -42,6 +46,11 @@ struct Pieces<'a> {
 
 impl Read for Pieces<'_> {
     fn read(&mut self, buf: &mut [u8]) -> io::Result<usize> {
+        let (now, ever) = self.interrupts;
+        self.interrupts = (ever && !now, ever);
+        if now {
+            return Err(io::Error::from(ErrorKind::Interrupted));
+        }
         if self.left == 0 {
             return Err(io::Error::from(ErrorKind::Other));
         }
@@ -92,6 +101,7 @@ pub(crate) struct Left {
 
 pub(crate) fn served(alloc: Global, input: &[u8], cut: Cut) -> Left {
     let mut source = Source::new(Pieces {
+        interrupts: (cut.interrupted, cut.interrupted),
         bytes: input,
         piece: cut.piece,
         left: cut.read,
@@ -100,13 +110,13 @@ pub(crate) fn served(alloc: Global, input: &[u8], cut: Cut) -> Left {
         held: Vec::new(alloc),
         room: cut.written,
     });
-    let mut told = Vec::new(alloc);
-    let status = batch(alloc, &mut source, &mut sink, &mut told, 128);
+    let mut faults = Sink::new(Vec::new(alloc));
+    let status = batch(alloc, &mut source, &mut sink, &mut faults, 128);
     let Short { held, room: _ } = sink.into_inner();
     Left {
         status,
         written: held,
-        told,
+        told: faults.into_inner(),
     }
 }
 

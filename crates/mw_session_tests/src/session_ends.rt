@@ -69,6 +69,26 @@ fn a_reader_that_fails_anywhere(rt: HostRuntime) -> Result<(), Fail> {
 }
 
 #[test]
+fn a_reader_that_is_interrupted(rt: HostRuntime) -> Result<(), Fail> {
+    let input = erosion(rt.alloc())?;
+    for piece in [1, 7, 64] {
+        let cut = Cut {
+            interrupted: true,
+            piece,
+            ..WHOLE
+        };
+        let left = served(rt.alloc(), &input, cut);
+        assert_eq!(rt;
+            left.written.as_slice(),
+            OUTPUT.as_slice(),
+            "in pieces of {piece}"
+        );
+        assert!(rt; left.status == 0 && left.told.is_empty());
+    }
+    Ok(())
+}
+
+#[test]
 fn a_writer_that_fails_anywhere(rt: HostRuntime) -> Result<(), Fail> {
     let input = erosion(rt.alloc())?;
     for written in 0..OUTPUT.len() {

@@ -289,6 +289,12 @@ fn lines_that_end_a_session(rt: HostRuntime) {
 }
 
 #[test]
+fn requests_cut_anywhere(rt: HostRuntime) {
+    let input = b"STATUS f\nLOAD f 10\nP5\n1 1\n9\n\x07RELEASE f\nQUIT\nSTATUS f\n";
+    writes(&rt, rt.alloc(), input, b"ERR 41 UNKNOWN\nOK 0\nOK 0\n", 0);
+}
+
+#[test]
 fn lines_of_200_and_201_bytes(rt: HostRuntime) {
     let long = [b'A'; 201];
     let (front, _) = long.as_slice().split_at(200);

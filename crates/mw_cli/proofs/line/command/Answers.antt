@@ -23,9 +23,11 @@ returns c =
     let batch_head : app_of c.after_help.result ≡ new_app (codes "batch") =
     after_help_keeps_words _ _ _ c.after_help.ensures ∙ about_keeps_words _ _ _ c.about.ensures ∙ c.new-2.ensures.app in
     let batch_is : app_of c.in_ok-batch.batch ≡ batch_words = c.in_ok-batch.ensures.shape (search rules) ∙ ap₂ with_rule batch_head tile_is in
-    let top_head : app_of c.after_help-2.result ≡ new_app (codes "morphd") =
-    after_help_keeps_words _ _ _ c.after_help-2.ensures ∙ about_keeps_words _ _ _ c.about-2.ensures ∙ c.new-3.ensures.app in
-    let top_is : app_of c.subcommand_required.result ≡ on_top (λ (s : Shape). record s { subcommand_required = true }) (new_app (codes "morphd")) =
+    let shown : app_of c.version.result ≡ on_top (λ (s : Shape). record s { has_version = true }) (new_app (codes "morphd")) =
+    ap app_of_fields c.version.ensures ∙ ap (on_top (λ (s : Shape). record s { has_version = true })) c.new-3.ensures.app in
+    let top_head : app_of c.after_help-2.result ≡ on_top (λ (s : Shape). record s { has_version = true }) (new_app (codes "morphd")) =
+    after_help_keeps_words _ _ _ c.after_help-2.ensures ∙ about_keeps_words _ _ _ c.about-2.ensures ∙ shown in
+    let top_is : app_of c.subcommand_required.result ≡ on_top (λ (s : Shape). record s { has_version = true; subcommand_required = true }) (new_app (codes "morphd")) =
     ap app_of_fields c.subcommand_required.ensures ∙ ap (on_top (λ (s : Shape). record s { subcommand_required = true })) top_head in
     let local : (fields_of c.in_ok-batch.batch).has_globals ≡ false = search rules in
     IfOk-weaker c.subcommand.result _ _ (λ r h. h.shape local ∙ ap₂ with_subcommand top_is (ap (λ (a : App). a.top) batch_is)) c.subcommand.ensures

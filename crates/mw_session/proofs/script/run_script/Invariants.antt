@@ -1,7 +1,7 @@
-use Rattle.std.proofs.Common.{◌≡◌, ℕ, List, false, vec_len}
+use Rattle.std.proofs.Common.{◌≡◌, ◌≤◌, ◌-◌, ℕ, List, false, vec_len}
 use Rattle.std.specs.Io.KnownBytes.{Consumes}
 use Rattle.mw_model.specs.Machine.{Machine}
-use Rattle.mw_model.specs.Stands.{StandsFor, running_count}
+use Rattle.mw_model.specs.Stands.{StandsFor}
 use Rattle.mw_model.specs.Lines.{Partial}
 use Rattle.mw_intake.specs.Reading.{front}
 use Rattle.mw_session.proofs.Sessions.{Serving}
@@ -11,10 +11,13 @@ abbrev pub invariant-reads : goal.invariant-reads
 invariant-reads g l = record {
   taken : List ℕ;
   read : Consumes (g.R.Read.remaining l.fn.source.inner) (g.R.Read.remaining l.source.inner) taken;
-  serving : (m : Machine) → StandsFor l.fn.core m → running_count l.fn.core ≡ 0
-      → Serving m l.fn.core l.core taken l.intake (g.W.Write.contents l.fn.sink.inner) (g.W.Write.contents l.sink.inner) × (front l.intake ≡ Partial);
+  serving : (m : Machine) → StandsFor l.fn.core m → Serving m l.fn.core l.core taken l.intake (g.W.Write.contents l.fn.sink.inner) (g.W.Write.contents l.sink.inner);
+  waits : front l.intake ≡ Partial;
   source_clear : l.source.failed ≡ false;
   sink_clear : l.sink.failed ≡ false;
-  reads : l.source.reads ≡ l._turn;
+  reads : l.source.reads ≤ 4294967295;
   buffer : vec_len l.buffer ≡ 65536;
 }
+
+abbrev pub decreases-reads : goal.decreases-reads
+decreases-reads g l = 4294967295 - l.source.reads

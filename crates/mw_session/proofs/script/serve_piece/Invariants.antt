@@ -10,7 +10,8 @@ abbrev pub invariant-portions : goal.invariant-portions
 invariant-portions g l = record {
   within : l.at ≤ length l.fn.piece;
   serving : (m : Machine) → StandsFor l.fn.core m → running_count l.fn.core ≡ 0
-      → Serving m l.fn.core l.core (l.fn.intake ++ take l.at l.fn.piece) l.intake (g.W.Write.contents l.fn.sink.inner) (g.W.Write.contents l.sink.inner) × (0 < l.at → front l.intake ≡ Partial);
+      → Serving m l.fn.core l.core (l.fn.intake ++ take l.at l.fn.piece) l.intake (g.W.Write.contents l.fn.sink.inner) (g.W.Write.contents l.sink.inner);
+  waits : front l.intake ≡ Partial;
   kept : l.sink.failed ≡ l.fn.sink.failed;
 }
 

@@ -1,9 +1,9 @@
-use Rattle.std.proofs.Common.{◌∙◌, refl, sym, subst}
+use Rattle.std.proofs.Common.{◌≡◌, ◌∙◌, ℕ, refl, sym, subst}
 use Rattle.mw_model.specs.declared.tasks.TaskId.{TaskId}
 use Rattle.mw_step.specs.WindowTasks.{WindowTask}
 use Rattle.mw_core.specs.TaskEvents.{Finishes, Refuses}
 use Rattle.mw_core.proofs.IdleLemmas.{nothing-pending}
-use Rattle.mw_session.proofs.Advancing.{death-turn, finish-turn, refuse-turn}
+use Rattle.mw_session.proofs.Advancing.{death-turn, finish-turn, refuse-turn, took-death, took-finish, took-refuse}
 use Rattle.mw_session.proofs.work.run_one.Goals as goal
 
 pub returns-then-count-eq0 : goal.returns-then-count-eq0
@@ -17,16 +17,31 @@ returns-in-Idle g c = λ m s none.
 pub returns-in-Refused : goal.returns-in-Refused
 returns-in-Refused g c = λ m s none.
     let e = c.in-Refused.ensures.task m s in
-    death-turn c.args.core.now c.start.new.self m c.in-Refused.field-0 s none e.1
+    let old = c.args.core.now in
+    let P : ℕ → Type 0 = λ n. c.pick-place.result ≡ g.P.Pick.place c.args.pick.now n in
+    let place = subst P c.ready_count-count.ensures c.pick-place.ensures in
+    (death-turn old c.start.new.self m c.in-Refused.field-0 s none e.1, rw place at (took-death c.pick-place.result old c.start.new.self m c.in-Refused.field-0 c.in-Refused.ensures.turn e.1))
 
 pub returns-in-Ok : goal.returns-in-Ok
 returns-in-Ok g c = λ m s none.
     let b = c.in-Work.ensures.task m s in
+    let old = c.args.core.now in
+    let N : ℕ → Type 0 = λ n. c.pick-place.result ≡ g.P.Pick.place c.args.pick.now n in
+    let place = subst N c.ready_count-count.ensures c.pick-place.ensures in
     let P : WindowTask → Type 0 = λ w. Finishes c.start.new.self m w c.finish-answer.result c.finish-answer.new.self in
-    finish-turn c.args.core.now c.start.new.self c.finish-answer.new.self m c.in-Work.work c.finish-answer.result s none b (subst P c.in-Ok.ensures.done (c.finish-answer.ensures.task m b.stands))
+    let done = subst P c.in-Ok.ensures.done (c.finish-answer.ensures.task m b.stands) in (
+      finish-turn old c.start.new.self c.finish-answer.new.self m c.in-Work.work c.finish-answer.result s none b done,
+      rw place at (took-finish c.pick-place.result old c.start.new.self c.finish-answer.new.self m c.in-Work.work c.finish-answer.result c.in-Work.ensures.turn b done),
+    )
 
 pub returns-in-Err : goal.returns-in-Err
 returns-in-Err g c = λ m s none.
     let b = c.in-Work.ensures.task m s in
+    let old = c.args.core.now in
+    let N : ℕ → Type 0 = λ n. c.pick-place.result ≡ g.P.Pick.place c.args.pick.now n in
+    let place = subst N c.ready_count-count.ensures c.pick-place.ensures in
     let P : TaskId → Type 0 = λ k. Refuses c.start.new.self m k c.refuse-answer.result c.refuse-answer.new.self in
-    refuse-turn c.args.core.now c.start.new.self c.refuse-answer.new.self m c.in-Work.work c.refuse-answer.result s none b (subst P c.in-Err.ensures.refused (c.refuse-answer.ensures.task m b.stands))
+    let over = subst P c.in-Err.ensures.refused (c.refuse-answer.ensures.task m b.stands) in (
+      refuse-turn old c.start.new.self c.refuse-answer.new.self m c.in-Work.work c.refuse-answer.result s none b over,
+      rw place at (took-refuse c.pick-place.result old c.start.new.self c.refuse-answer.new.self m c.in-Work.work c.refuse-answer.result c.in-Work.ensures.turn b over),
+    )

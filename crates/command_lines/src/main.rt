@@ -1,0 +1,80 @@
+// Shows what the words of this process and some command lines ask for, and what is printed of those that ask for no job.
+#![tactic(auto)]
+
+use mw_cli::{Job, LineFault, options, words};
+use std::alloc::{AllocError, Global};
+use std::fmt::Display;
+use std::io;
+use std::io::{Eprint, Print};
+
+/// The command lines that are shown after the words of the process.
+const LINES: [&str; 5] = [
+    "morphd --version",
+    "morphd batch",
+    "morphd batch --tile 1024",
+    "morphd batch --tile 65",
+    "morphd batch --tile x",
+];
+
+/// Prints to standard output what goes to either output.
+#[derive(Drop)]
+struct Shown<'a, R> {
+    rt: &'a R,
+}
+
+impl<R: Print> Eprint for Shown<'_, R> {
+    fn eprint<D: Display + Drop>(&self, value: D) -> io::Result<()> {
+        self.rt.print(value)
+    }
+
+    fn eprintln<D: Display + Drop>(&self, value: D) -> io::Result<()> {
+        self.rt.println(value)
+    }
+}
+
+impl<R: Print> Print for Shown<'_, R> {
+    fn print<D: Display + Drop>(&self, value: D) -> io::Result<()> {
+        self.rt.print(value)
+    }
+
+    fn println<D: Display + Drop>(&self, value: D) -> io::Result<()> {
+        self.rt.println(value)
+    }
+
+    fn write_all(&self, bytes: &[u8]) -> io::Result<()> {
+        self.rt.write_all(bytes)
+    }
+}
+
+/// The words of this command line.
+fn split(alloc: Global, line: &str) -> Result<Vec<String>, AllocError> {
+    let mut words = Vec::new(alloc);
+    for word in line.split(' ') {
+        words.push(String::from_str(alloc, word)?)?;
+    }
+    Ok(words)
+}
+
+/// Prints what was asked for, or what is printed and the status in its place.
+fn show<R: Print>(rt: &R, job: Result<Job, LineFault>) -> io::Result<()> {
+    match job {
+        Ok(Job::Batch(side)) => println!(rt; "a batch with tiles of {side}"),
+        Err(fault) => {
+            fault.print(&Shown { rt })?;
+            println!(rt; "status {}", fault.status())
+        }
+    }
+}
+
+fn main(rt: HostRuntime) -> io::Result<()> {
+    let own = match words(&rt) {
+        Ok(words) => options(rt.alloc(), words.as_slice()),
+        Err(fault) => Err(fault),
+    };
+    show(&rt, own)?;
+    for line in LINES {
+        let words = split(rt.alloc(), line)?;
+        show(&rt, options(rt.alloc(), words.as_slice()))?;
+    }
+    Ok(())
+}

@@ -1,0 +1,82 @@
+-- What a batch leaves behind (own).
+use Rattle.std.specs.Prelude.{◌≡◌, ◌≤◌, ◌⊎◌, ℕ, Bool, true, List, [], Option, Result, Ok, Err, codes}
+use Rattle.std.specs.Io.KnownBytes.{Appends, Consumes, IsAtEnd}
+use Rattle.mw_model.specs.declared.calls.LogItem.{LogItem}
+use Rattle.mw_model.specs.declared.requests.End.{End}
+use Rattle.mw_model.specs.declared.requests.End.TheVariants as end
+use Rattle.mw_model.specs.Machine.{Machine, start_state}
+use Rattle.mw_model.specs.Scripts.{Turn, IsScript, IsBroken}
+use Rattle.mw_wire.specs.Faults.{fault_line}
+use Rattle.mw_wire.specs.Writes.{CutsShort}
+use Rattle.mw_wire.specs.declared.fault.SessionFault.{SessionFault}
+use Rattle.mw_wire.specs.declared.fault.SessionFault.TheVariants as fault
+use Rattle.mw_session.specs.Runs.{LacksRoom, Ran}
+
+-- What is seen of the ends of a session: what is known of what the reader has left, how often it was read and whether it failed; what is known of what the writer holds, and whether it failed; what is known of what the writer of faults holds, and whether it failed.
+pub record Ends : Type 0 where
+  pub left : Option (List ℕ)
+  pub reads : ℕ
+  pub read_failed : Bool
+  pub written : Option (List ℕ)
+  pub write_failed : Bool
+  pub told : Option (List ℕ)
+  pub tell_failed : Bool
+
+-- the exit status of a session that came to this
+abbrev pub end_status : Result End SessionFault → ℕ
+end_status (Ok end.Quit) = 0
+end_status (Ok (end.Ended c)) = 1
+end_status (Err f) = 1
+
+-- the reader failed or was read as often as it may be, or the writer failed
+abbrev pub HasFailed : Ends → SessionFault → Type 0
+HasFailed e fault.Read = (e.read_failed ≡ true) ⊎ (e.reads ≡ 4294967295)
+HasFailed e fault.Write = e.write_failed ≡ true
+
+-- These turns, from the start of the machine, write this text for the bytes and come to this: the text is the whole script, or a front of it and an end has failed.
+abbrev pub ComesTo : Ends → List ℕ → List Turn → Machine → List ℕ → Result End SessionFault → Type 0
+ComesTo new bytes turns m text (Ok e) = IsScript (IsAtEnd new.left) bytes turns start_state m text e
+ComesTo new bytes turns m text (Err f) = IsBroken (IsAtEnd new.left) bytes turns start_state m text × HasFailed new f
+
+-- nothing was told of a fault
+abbrev pub TellsNothing : Ends → Ends → Type 0
+TellsNothing old new = (new.told ≡ old.told) × (new.tell_failed ≡ old.tell_failed)
+
+-- exactly this was told of a fault; or less of it, where the writer of faults failed
+abbrev pub TellsLine : Ends → Ends → List ℕ → Type 0
+TellsLine old new line =
+    (Appends old.told new.told line × (new.tell_failed ≡ old.tell_failed)) ⊎ (CutsShort old.told new.told line × (new.tell_failed ≡ true))
+
+-- the line of the fault was told, and nothing where there was none
+abbrev pub TellsOutcome : Ends → Ends → Result End SessionFault → Type 0
+TellsOutcome old new (Ok e) = TellsNothing old new
+TellsOutcome old new (Err f) = TellsLine old new (fault_line f)
+
+-- the line that tells that there was no memory to begin with
+abbrev pub memory_line : List ℕ
+memory_line = codes "error: memory\n"
+
+-- A session was served: these bytes were read and this text was written, and what it came to gives the status. How it ran from the start of the machine, and where it stopped, the session says.
+pub record Served (old new : Ends) (status : ℕ) : Type 0 where
+  pub bytes : List ℕ
+  pub text : List ℕ
+  pub turns : List Turn
+  pub state : Machine
+  pub log : List LogItem
+  pub outcome : Result End SessionFault
+  pub read : Consumes old.left new.left bytes
+  pub wrote : Appends old.written new.written text
+  pub comes : ComesTo new bytes turns state text outcome
+  pub ran : Ran (LacksRoom bytes) new.left bytes start_state state [] log old.written new.written outcome
+  pub told : TellsOutcome old new outcome
+  pub tells : status ≡ end_status outcome
+  pub few_reads : new.reads ≤ 4294967295
+  pub reader_failed : new.read_failed ≡ true → outcome ≡ Err fault.Read
+  pub writer_failed : new.write_failed ≡ true → outcome ≡ Err fault.Write
+
+-- There was no memory to begin: nothing was read or written.
+pub record Unserved (old new : Ends) (status : ℕ) : Type 0 where
+  pub unread : (new.left ≡ old.left) × (new.reads ≡ old.reads) × (new.read_failed ≡ old.read_failed)
+  pub unwritten : (new.written ≡ old.written) × (new.write_failed ≡ old.write_failed)
+  pub told : TellsLine old new memory_line
+  pub failed : status ≡ 1

@@ -1,0 +1,54 @@
+//! A script from a reader to a writer, and what is told of its faults.
+
+ghost use Rattle.std.specs.Prelude.{◌≡◌, ◌≤◌, ◌%◌, ◌⊎◌, false};
+ghost use Rattle.mw_batch.specs.Batches.{Ends, Served, Unserved};
+
+use mw_core::Core;
+use mw_session::{End, Pick, run_script};
+use mw_wire::{Sink, Source, send, tell};
+use std::alloc::Global;
+use std::io::{Read, Write};
+
+/// Takes the ready task that came first.
+#[derive(Drop)]
+struct First;
+
+impl Pick for First {
+    ghost place = { λ s n. 0 };
+
+    fn pick(&mut self, _count: u64) -> u64 {
+        0
+    }
+}
+
+/// Runs a script on a core of its own, with tiles of this side in pixels, and gives the exit status: 0 after QUIT and
+/// at the end of the input between requests, and else 1. The line of a fault goes to `faults`: `error: input`,
+/// `error: output`, or `error: memory` where there is none to begin with.
+pub fn batch<R: Read, W: Write, F: Write>(
+    alloc: Global,
+    source: &mut Source<R>,
+    sink: &mut Sink<W>,
+    faults: &mut Sink<F>,
+    side: u32,
+) -> u8
+    requires side { (64 ≤ side) × (side ≤ 1024) × (side % 64 ≡ 0) }
+    requires source_clear { source.old.failed ≡ false }
+    requires sink_clear { sink.old.failed ≡ false }
+    requires unread { source.old.reads ≡ 0 }
+    ensures { let old : Ends = record { left = R.remaining source.old.inner; reads = source.old.reads; read_failed = source.old.failed; written = W.contents sink.old.inner; write_failed = sink.old.failed; told = F.contents faults.old.inner; tell_failed = faults.old.failed } in
+        let new : Ends = record { left = R.remaining source.new.inner; reads = source.new.reads; read_failed = source.new.failed; written = W.contents sink.new.inner; write_failed = sink.new.failed; told = F.contents faults.new.inner; tell_failed = faults.new.failed } in
+        Served old new result ⊎ Unserved old new result }
+{
+    let Ok(mut core) = Core::new(alloc, side) else {
+        let _told = send(faults, b"error: memory\n");
+        return 1;
+    };
+    match run_script(alloc, source, sink, &mut core, &mut First) {
+        Ok(End::Quit) => 0,
+        Ok(End::Ended(_)) => 1,
+        Err(fault) => {
+            let _told = tell(faults, fault);
+            1
+        }
+    }
+}

@@ -1,0 +1,151 @@
+//! The command line, and its help.
+
+use clap::error::ErrorKind;
+use mw_cli::{Job, LineFault, VERSION, options, words};
+use std::alloc::Global;
+use std::fmt::Display;
+use std::io;
+use std::io::{Eprint, Print};
+use std::process::Abort;
+
+/// The words of this command line.
+fn split(rt: &impl Abort, alloc: Global, line: &str) -> Vec<String> {
+    let mut words = Vec::new(alloc);
+    for word in line.split(' ') {
+        let word = String::from_str(alloc, word).expect(rt, "memory");
+        words.push(word).expect(rt, "memory");
+    }
+    words
+}
+
+#[test]
+fn side_of_tiles(rt: HostRuntime) {
+    let given = split(&rt, rt.alloc(), "morphd batch");
+    assert!(rt; matches!(options(rt.alloc(), given.as_slice()), Ok(Job::Batch(128))));
+    let given = split(&rt, rt.alloc(), "morphd batch --tile 64");
+    assert!(rt; matches!(options(rt.alloc(), given.as_slice()), Ok(Job::Batch(64))));
+    let given = split(&rt, rt.alloc(), "morphd batch --tile=1024");
+    assert!(rt; matches!(options(rt.alloc(), given.as_slice()), Ok(Job::Batch(1024))));
+    let given = split(&rt, rt.alloc(), "morphd batch --tile 100");
+    assert!(rt; matches!(options(rt.alloc(), given.as_slice()), Err(LineFault::Tile)));
+    let given = split(&rt, rt.alloc(), "morphd batch --tile 0");
+    assert!(rt; matches!(options(rt.alloc(), given.as_slice()), Err(LineFault::Tile)));
+}
+
+#[test]
+fn words_of_the_process(rt: HostRuntime) {
+    let Ok(given) = words(&rt) else {
+        panic!(rt; "no memory");
+    };
+    assert!(rt; !given.is_empty());
+}
+
+#[test]
+fn statuses(rt: HostRuntime) {
+    let given = split(&rt, rt.alloc(), "morphd batch --help");
+    assert!(rt; matches!(options(rt.alloc(), given.as_slice()), Err(fault) if fault.status() == 0));
+    let given = split(&rt, rt.alloc(), "morphd listen");
+    assert!(rt; matches!(options(rt.alloc(), given.as_slice()), Err(fault) if fault.status() == 2));
+    let given = split(&rt, rt.alloc(), "morphd batch --tile 65");
+    assert!(rt; matches!(options(rt.alloc(), given.as_slice()), Err(fault) if fault.status() == 2));
+    assert!(rt; LineFault::NoMemory.status() == 1);
+}
+
+/// Takes this line as that of a fault, and nothing else.
+#[derive(Drop)]
+struct Takes<'a> {
+    alloc: Global,
+    line: &'a str,
+}
+
+impl Eprint for Takes<'_> {
+    fn eprint<D: Display + Drop>(&self, _value: D) -> io::Result<()> {
+        Err(io::Error::from(io::ErrorKind::Other))
+    }
+
+    fn eprintln<D: Display + Drop>(&self, value: D) -> io::Result<()> {
+        match format!(in self.alloc; "{value}") {
+            Ok(text) if text.as_str() == self.line => Ok(()),
+            _ => Err(io::Error::from(io::ErrorKind::Other)),
+        }
+    }
+}
+
+impl Print for Takes<'_> {
+    fn print<D: Display + Drop>(&self, _value: D) -> io::Result<()> {
+        Err(io::Error::from(io::ErrorKind::Other))
+    }
+
+    fn println<D: Display + Drop>(&self, _value: D) -> io::Result<()> {
+        Err(io::Error::from(io::ErrorKind::Other))
+    }
+
+    fn write_all(&self, _bytes: &[u8]) -> io::Result<()> {
+        Err(io::Error::from(io::ErrorKind::Other))
+    }
+}
+
+/// Whether this line alone is told of a fault.
+fn tells(alloc: Global, fault: &LineFault, line: &str) -> bool {
+    fault.print(&Takes { alloc, line }).is_ok()
+}
+
+#[test]
+fn lines_of_faults(rt: HostRuntime) {
+    let tile = "error: tile must be a multiple of 64";
+    assert!(rt; tells(rt.alloc(), &LineFault::Tile, tile));
+    assert!(rt; tells(rt.alloc(), &LineFault::NoMemory, "error: memory"));
+    assert!(rt; !tells(rt.alloc(), &LineFault::NoMemory, tile));
+}
+
+/// The kind of error that clap has for a command line.
+fn kind(rt: &impl Abort, alloc: Global, line: &str) -> Option<ErrorKind> {
+    let given = split(rt, alloc, line);
+    match options(alloc, given.as_slice()) {
+        Err(LineFault::Line(error)) => Some(error.kind()),
+        _ => None,
+    }
+}
+
+#[test]
+fn words_that_clap_refuses(rt: HostRuntime) {
+    assert!(rt; kind(&rt, rt.alloc(), "morphd") == Some(ErrorKind::MissingSubcommand));
+    assert!(rt; kind(&rt, rt.alloc(), "morphd batch --tile x") == Some(ErrorKind::ValueValidation));
+    assert!(rt;
+        kind(&rt, rt.alloc(), "morphd batch --tile 4294967296") == Some(ErrorKind::ValueValidation)
+    );
+    assert!(rt;
+        kind(&rt, rt.alloc(), "morphd batch --tiles 64") == Some(ErrorKind::UnknownArgument)
+    );
+    assert!(rt;
+        kind(&rt, rt.alloc(), "morphd batch --tile 64 --tile 64")
+            == Some(ErrorKind::ArgumentConflict)
+    );
+}
+
+#[test]
+fn help_shows_a_session(rt: HostRuntime) {
+    let given = split(&rt, rt.alloc(), "morphd --help");
+    let Err(LineFault::Line(error)) = options(rt.alloc(), given.as_slice()) else {
+        panic!(rt; "help is asked for");
+    };
+    assert!(rt; error.kind() == ErrorKind::DisplayHelp && !error.use_stderr());
+    let text = format!(in rt.alloc(); "{error}").expect(&rt, "memory");
+    assert!(rt;
+        text.as_str()
+            .contains("LOAD f 19\n  P2\n  5 1\n  9\n  3 1 4 1 5\n")
+    );
+    assert!(rt; text.as_str().contains("FETCH e"));
+}
+
+#[test]
+fn version_is_shown(rt: HostRuntime) {
+    let given = split(&rt, rt.alloc(), "morphd --version");
+    let Err(LineFault::Line(error)) = options(rt.alloc(), given.as_slice()) else {
+        panic!(rt; "the version is asked for");
+    };
+    assert!(rt; error.kind() == ErrorKind::DisplayVersion && !error.use_stderr());
+    let text = format!(in rt.alloc(); "{error}").expect(&rt, "memory");
+    assert_eq!(rt; text.as_str(), "morphd 0.1.0\n");
+    assert_eq!(rt; VERSION, "0.1.0");
+}

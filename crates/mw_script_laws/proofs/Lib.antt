@@ -1,0 +1,4 @@
+pub mod Working
+pub mod Finishing
+pub mod Readings
+pub mod Fronts

@@ -1,0 +1,14 @@
+//! Laws of scripts: an output is a function of the input, marks of memory can be seen, and work comes to the same in any
+//! order.
+//!
+//! ```text
+//! one_output() // two scripts of the same bytes, from one state and without marks, write one text
+//! ```
+#![tactic(auto)]
+
+mod laws;
+
+pub use laws::{
+    marks_are_seen, one_output, work_in_any_order, work_is_lawful, written_is_a_front,
+    written_text_stays,
+};
