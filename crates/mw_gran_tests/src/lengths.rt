@@ -1,0 +1,48 @@
+//! How many steps plans have.
+
+use crate::given::{bar, planned, restore, sides, skeleton, spectrum};
+use mw_gran::GranOp;
+use mw_images_for_tests::bit_row;
+use mw_task::Element;
+use std::alloc::Global;
+use std::process::Abort;
+use std::sync::Arc;
+use std::test::Fail;
+
+/// Stops where the plan of the operation on a set has more steps.
+fn has_at_most(
+    rt: &impl Abort,
+    alloc: Global,
+    op: GranOp,
+    element: &Arc<Element>,
+    most: usize,
+) -> Result<(), Fail> {
+    let set = bit_row(alloc, &[0, 1, 1, 1, 0])?;
+    let plan = planned(alloc, &op, &set, element);
+    let count = plan.ok().ok_or("there is a plan")?.len();
+    assert!(rt; count <= most, "{op:?} in {count} steps");
+    Ok(())
+}
+
+#[test]
+fn three_steps_for_each_level(rt: HostRuntime) -> Result<(), Fail> {
+    let alloc = rt.alloc();
+    let (bar, sides) = (bar(alloc)?, sides(alloc)?);
+    for (levels, skeletons, restorations) in [(1, 5, 4), (2, 8, 7), (10, 32, 31), (254, 764, 763)] {
+        has_at_most(&rt, alloc, skeleton(levels)?, &bar, skeletons)?;
+        has_at_most(&rt, alloc, restore(levels)?, &bar, restorations)?;
+        has_at_most(&rt, alloc, restore(levels)?, &sides, restorations)?;
+    }
+    Ok(())
+}
+
+#[test]
+fn fewer_steps_for_spectra_by_rectangles(rt: HostRuntime) -> Result<(), Fail> {
+    let alloc = rt.alloc();
+    let (bar, sides) = (bar(alloc)?, sides(alloc)?);
+    for (levels, by_box, by_turns) in [(1, 4, 4), (2, 7, 8), (3, 10, 13), (32, 97, 593)] {
+        has_at_most(&rt, alloc, spectrum(levels)?, &bar, by_box)?;
+        has_at_most(&rt, alloc, spectrum(levels)?, &sides, by_turns)?;
+    }
+    Ok(())
+}
