@@ -1,5 +1,5 @@
 -- Planes whose tiles are what a step makes there.
-use Rattle.std.proofs.Common.{◌≡◌, ℕ, ◌+◌, ◌*◌, ◌<◌, ◌≤◌, List, length, Some, false, refl, sym, ap, subst, arith, ◌∙◌}
+use Rattle.std.proofs.Common.{◌≡◌, ℕ, ◌+◌, ◌*◌, ◌<◌, List, length, Some, false, refl, sym, ap, subst, arith, ◌∙◌}
 use Rattle.std.proofs.lemmas.Nat.{mul-add-lt}
 use Rattle.std.proofs.lemmas.Option.{slice_get-get_or}
 use Rattle.mw_model.specs.declared.places.Rect.{Rect}

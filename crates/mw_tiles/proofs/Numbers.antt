@@ -1,6 +1,5 @@
 -- The tile that has a place, and what stands there.
-use Rattle.std.proofs.Common.{◌≡◌, ℕ, ◌+◌, ◌-◌, ◌*◌, ◌/◌, ◌%◌, ◌<◌, ◌≤◌, List, length, Option, Some, None, slice_get, slice_range, get_or, refl, sym, ap, subst, arith, ◌∙◌}
-use Rattle.std.specs.Option.{option_map}
+use Rattle.std.proofs.Common.{◌≡◌, ℕ, ◌+◌, ◌-◌, ◌*◌, ◌/◌, ◌%◌, ◌<◌, ◌≤◌, List, length, Option, Some, None, slice_get, slice_range, get_or, sym, ap, subst, arith, ◌∙◌}
 use Rattle.std.proofs.lemmas.Nat.{div-mul-add, div-add-mod'}
 use Rattle.std.proofs.lemmas.List.{get_or_default}
 use Rattle.mw_model.specs.declared.places.Rect.{Rect}
@@ -12,7 +11,7 @@ use Rattle.mw_grid.proofs.Tiles.{HasTiles}
 use Rattle.mw_tile.specs.Windows.{IsCut}
 use Rattle.mw_tile.specs.Cuts.{view_of}
 use Rattle.mw_tile.proofs.Rows.{get_from_column}
-use Rattle.mw_tiles.specs.Tiles.{cells_of, tile_cells, cells_in_raster, ShowsTiles, StandsIn, HasRun, HasSides}
+use Rattle.mw_tiles.specs.Tiles.{cells_of, ShowsTiles, StandsIn, HasRun, HasSides}
 use Rattle.mw_tiles.proofs.Sides.{cells_at}
 
 column_of_number : (r columns c : ℕ) → c < columns → (r * columns + c) % columns ≡ c

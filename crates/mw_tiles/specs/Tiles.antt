@@ -1,5 +1,5 @@
 -- Planes that are made tile by tile: what is placed of one, and of which whole planes that is a part (own).
-use Rattle.std.specs.Prelude.{◌≡◌, ℕ, ◌+◌, ◌*◌, ◌<◌, List, length, map, replicate, Option, Some, None, IsSome, option_map, slice_get, slice_index_or}
+use Rattle.std.specs.Prelude.{◌≡◌, ℕ, ◌+◌, ◌*◌, ◌<◌, ◌≤◌, ◌++◌, List, length, map, replicate, Option, Some, None, IsSome, option_map, slice_get, slice_index_or}
 use Rattle.mw_model.specs.declared.places.Rect.{Rect}
 use Rattle.mw_model.specs.declared.shapes.Kind.{Kind}
 use Rattle.mw_model.specs.Places.{Holds}
@@ -72,3 +72,19 @@ pub record IsPlaneOf (p : Tiled) (f : Picture) : Type 0 where
 -- each tile that is placed is what the step makes there of the whole planes of its sources
 abbrev pub AreMade : PlanStep → List Picture → Tiled → Type 0
 AreMade s sources p = (i : ℕ) (cells : List ℕ) → i < tile_count p.tiling → tile_cells p.tiles i ≡ Some cells → cells ≡ made_of_planes s sources (tile_at p.tiling i)
+
+-- the tiles under a row are placed, from column x up to column `end`
+abbrev pub HasAlong : {A : Type 0} → Tiling → List (Option (List A)) → ℕ → ℕ → ℕ → Type 0
+HasAlong g tiles x y end = (k : ℕ) → x ≤ k → k < end → HasAt g tiles k y
+
+-- the new cells are the old and behind them n more, which each whole frame with these tiles has from column x of row y on
+pub record Appends {A : Type 0} (g : Tiling) (tiles : List (Option (List A))) (x y n : ℕ) (old new : List A) : Type 0 where
+  pub row : List A
+  pub is : new ≡ old ++ row
+  pub size : length row ≡ n
+  pub shows : (f : Raster A) → ShowsTiles g tiles f → HasRun f x y row
+
+-- a list has the first rows of a rectangle of each whole frame with these tiles
+pub record Begins {A : Type 0} (g : Tiling) (tiles : List (Option (List A))) (r : Rect) (y : ℕ) (cells : List A) : Type 0 where
+  pub size : length cells ≡ y * r.width
+  pub shows : (f : Raster A) → ShowsTiles g tiles f → (i j : ℕ) → i < r.width → j < y → slice_get cells (j * r.width + i) ≡ slice_get f.cells ((r.y + j) * f.width + (r.x + i))

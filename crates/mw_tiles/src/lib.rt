@@ -3,6 +3,8 @@
 //! ```text
 //! let mut plane = TiledPlane::new(alloc, Kind::Grey, 255, grid)?;
 //! plane.place(0, Tile::Grey8(samples, 255));
+//! // once each tile that meets the rectangle is placed:
+//! let window = plane.window(alloc, rect)?;
 //! plane.drop_tile(0);
 //! ```
 #![tactic(auto)]
@@ -10,6 +12,7 @@
 mod laws;
 mod parts;
 mod plane;
+mod rows;
 mod slots;
 mod tile;
 

@@ -1,10 +1,12 @@
 //! Planes that are made tile by tile.
 
 use crate::Tile;
+use crate::rows::joined;
 use crate::slots::{no_tiles, put};
 use mw_grid::Grid;
-use mw_model::{Kind, NoMemory};
+use mw_model::{Kind, NoMemory, Rect};
 use mw_pixel::{Bit, HeldPlane};
+use mw_tile::AnyWindow;
 use std::alloc::Global;
 use std::marker::Model;
 
@@ -39,17 +41,15 @@ impl TiledPlane {
     ghost use Rattle.std.specs.Prelude.{◌≡◌, ◌<◌, IfOk, None, Some, slice_set};
     ghost use Rattle.mw_model.specs.Pictures.{FitsKind};
     ghost use Rattle.mw_grid.specs.Grids.{tile_at, tile_count};
-    ghost use Rattle.mw_tiles.specs.Tiles.{nothing_placed, tile_cells};
+    ghost use Rattle.mw_model.specs.Pictures.{Picture};
+    ghost use Rattle.mw_model.specs.Places.{IsWithin};
+    ghost use Rattle.mw_tile.specs.Windows.{window_of};
+    ghost use Rattle.mw_tiles.specs.Tiles.{HasAll, IsPlaneOf, nothing_placed, tile_cells};
     ghost use Rattle.mw_tiles.specs.Held.{image_of_tile, IsTile};
 
     /// The plane without any tile, with the places for all.
     #[tactic(auto, using(crate::proofs::Sides::no_sets, crate::proofs::Sides::sides_none))]
-    pub fn new(
-        alloc: Global,
-        kind: Kind,
-        maxval: u16,
-        grid: Grid,
-    ) -> Result<TiledPlane, NoMemory>
+    pub fn new(alloc: Global, kind: Kind, maxval: u16, grid: Grid) -> Result<TiledPlane, NoMemory>
         requires { FitsKind kind maxval }
         ensures { IfOk result (λ p. p ≡ nothing_placed kind maxval grid) }
     {
@@ -111,6 +111,29 @@ impl TiledPlane {
                 if let Samples::Grey16(tiles, _) = &mut self.content {
                     put(grid, tiles, i, Some(plane));
                 }
+            }
+        }
+    }
+
+    /// The window of a rectangle, put together from the tiles that meet it.
+    pub fn window(&self, alloc: Global, rect: Rect) -> Result<AnyWindow, NoMemory>
+        requires within { IsWithin rect self.now.tiling.width self.now.tiling.height }
+        requires placed { HasAll self.now.tiling self.now.tiles rect }
+        ensures { IfOk result (λ w. (f : Picture) → IsPlaneOf self.now f → w ≡ window_of rect f) }
+    {
+        let grid = self.grid;
+        match &self.content {
+            Samples::Bits(tiles) => {
+                let window = joined(alloc, grid, tiles, rect)?;
+                Ok(AnyWindow::bits(window))
+            }
+            Samples::Grey8(tiles, maxval) => {
+                let window = joined(alloc, grid, tiles, rect)?;
+                Ok(AnyWindow::grey8(window, *maxval))
+            }
+            Samples::Grey16(tiles, maxval) => {
+                let window = joined(alloc, grid, tiles, rect)?;
+                Ok(AnyWindow::grey16(window, *maxval))
             }
         }
     }
