@@ -82,6 +82,28 @@ impl TiledPlane {
         }
     }
 
+    /// Whether it is a set or in levels of grey.
+    pub fn kind(&self) -> Kind
+        ensures { result ≡ self.now.kind }
+    {
+        match &self.content {
+            Samples::Bits(_) => Kind::Bit,
+            Samples::Grey8(_, _) => Kind::Grey,
+            Samples::Grey16(_, _) => Kind::Grey,
+        }
+    }
+
+    /// The greatest level that a sample may have.
+    pub fn maxval(&self) -> u16
+        ensures { result ≡ self.now.maxval }
+    {
+        match &self.content {
+            Samples::Bits(_) => 1,
+            Samples::Grey8(_, maxval) => u16::from(*maxval),
+            Samples::Grey16(_, maxval) => *maxval,
+        }
+    }
+
     /// Places a tile, of the plane's kind and maxval and of the sides of its place. This takes no memory, and copies
     /// nothing.
     #[tactic(auto, using(crate::proofs::Sides::written_held))]
