@@ -1,0 +1,4 @@
+pub mod Sides
+pub mod Numbers
+pub mod Made
+pub mod Joined

@@ -1,0 +1,90 @@
+-- Lists of tiles, some of which are missing.
+use Rattle.std.proofs.Common.{◌≡◌, ℕ, zero, suc, List, [], ◌∷◌, map, set, length, replicate, Option, Some, None, get_or, true, false, refl, sym, ap, subst, ◌∙◌}
+use Rattle.std.specs.Option.{option_map}
+use Rattle.std.specs.Prelude.{IsSome, IfSome}
+use Rattle.std.proofs.Math.ListN.{get_or-map}
+use Rattle.mw_model.specs.Rasters.{Raster}
+use Rattle.mw_grid.specs.Grids.{Tiling, tile_count, tile_at}
+use Rattle.mw_model.specs.declared.shapes.Kind.{Kind}
+use Rattle.mw_model.specs.declared.shapes.Kind.TheVariants as kind
+use Rattle.mw_model.specs.Pictures.{FitsKind}
+use Rattle.std.proofs.lemmas.List.{length-replicate}
+use Rattle.mw_tiles.specs.Tiles.{Tiled, nothing_placed, cells_of, tile_cells, cells_in_raster, StandsIn, HasSides}
+use Rattle.mw_tiles.specs.Held.{tiled}
+
+-- a plane of these cells
+abbrev with_cells : Kind → ℕ → Tiling → List (Option (List ℕ)) → Tiled
+with_cells k maxval g cells = record { kind = k; maxval = maxval; tiling = g; tiles = cells }
+
+-- the cells of a tile that is placed
+pub cells_at : {A : Type 0} (tiles : List (Option (Raster A))) (i : ℕ) (t : Raster A) → get_or tiles i None ≡ Some t → tile_cells (cells_of tiles) i ≡ Some t.cells
+cells_at tiles i t found = get_or-map (option_map cells_in_raster) tiles i None ∙ ap (option_map cells_in_raster) found
+
+-- a tile without cells is not there
+pub none_there : {A : Type 0} (tiles : List (Option (Raster A))) (i : ℕ) → get_or tiles i None ≡ None → IsSome (tile_cells (cells_of tiles) i) → ⊥
+none_there {A} tiles i none some =
+    let e : tile_cells (cells_of tiles) i ≡ None = get_or-map (option_map cells_in_raster) tiles i None ∙ ap (option_map cells_in_raster) none in
+    let clash : false ≡ true = subst (λ (o : Option (List A)). IsSome o) e some in cc
+
+pub map_set : {A B : Type 0} (f : A → B) (xs : List A) (i : ℕ) (v : A) → map f (set xs i v) ≡ set (map f xs) i (f v)
+map_set f [] i v = refl
+map_set f (x ∷ xs) zero v = refl
+map_set f (x ∷ xs) (suc i) v = ap (λ (t : List _). f x ∷ t) (map_set f xs i v)
+
+pub map_replicate : {A B : Type 0} (f : A → B) (n : ℕ) (v : A) → map f (replicate n v) ≡ replicate n (f v)
+map_replicate f zero v = refl
+map_replicate f (suc n) v = ap (λ (t : List _). f v ∷ t) (map_replicate f n v)
+
+none_in_replicate : {A : Type 0} (n i : ℕ) (v : Option A) → v ≡ None → get_or (replicate n v) i None ≡ None
+none_in_replicate zero i v e = refl
+none_in_replicate (suc n) zero v e = e
+none_in_replicate (suc n) (suc i) v e = none_in_replicate n i v e
+
+-- an element of a list in which one was written over
+one_of : {A : Type 0} (P : ℕ → A → Type 0) (xs : List A) (i j : ℕ) (v d : A) → P i v → P j (get_or xs j d) → P j (get_or (set xs i v) j d)
+one_of P [] i j v d here there = there
+one_of P (x ∷ xs) zero zero v d here there = here
+one_of P (x ∷ xs) zero (suc j) v d here there = there
+one_of P (x ∷ xs) (suc i) zero v d here there = there
+one_of P (x ∷ xs) (suc i) (suc j) v d here there = one_of (λ n a. P (suc n) a) xs i j v d here there
+
+length_set : {A : Type 0} (xs : List A) (i : ℕ) (v : A) → length (set xs i v) ≡ length xs
+length_set [] i v = refl
+length_set (x ∷ xs) zero v = refl
+length_set (x ∷ xs) (suc i) v = ap suc (length_set xs i v)
+
+pub sides_set : {A : Type 0} (g : Tiling) (tiles : List (Option (Raster A))) (i : ℕ) (t : Option (Raster A)) → HasSides g tiles → IfSome t (StandsIn (tile_at g i)) → HasSides g (set tiles i t)
+sides_set {A} g tiles i t has fits = record {
+  count = length_set tiles i t ∙ has.count;
+  sides = λ j. one_of (λ j o. (f : Raster A) → o ≡ Some f → StandsIn (tile_at g j) f) tiles i j t None (λ f e. given t f fits e) (has.sides j);
+}
+  where
+    given : (t : Option (Raster A)) (f : Raster A) → IfSome t (StandsIn (tile_at g i)) → t ≡ Some f → StandsIn (tile_at g i) f
+    given t f fits e = subst (λ (o : Option (Raster A)). IfSome o (StandsIn (tile_at g i))) e fits
+
+pub sides_none : {A : Type 0} (g : Tiling) (tiles : List (Option (Raster A))) (n : ℕ) → tiles ≡ replicate n None → n ≡ tile_count g → HasSides g tiles
+sides_none {A} g tiles n tiles-is n-is = record {
+  count = ap length tiles-is ∙ length-replicate n _ ∙ n-is;
+  sides = λ i f e.
+      let none : get_or tiles i None ≡ None = ap (λ (t : List (Option (Raster A))). get_or t i None) tiles-is ∙ none_in_replicate n i None refl in
+      let clash : None ≡ Some f = sym none ∙ e in absurd cc;
+}
+
+-- a plane without tiles
+none_held : (k : Kind) (maxval : ℕ) (g : Tiling) (tiles : List (Option (Raster ℕ))) (n : ℕ) → tiles ≡ replicate n None → n ≡ tile_count g → tiled k maxval g tiles ≡ nothing_placed k maxval g
+none_held k maxval g tiles n tiles-is n-is = ap (λ (t : List (Option (List ℕ))). with_cells k maxval g t) (ap cells_of tiles-is ∙ map_replicate (option_map cells_in_raster) n None ∙ ap (λ (m : ℕ). replicate m None) n-is)
+
+pub no_sets : (k : Kind) (maxval : ℕ) (g : Tiling) (tiles : List (Option (Raster ℕ))) (n : ℕ) → k ≡ kind.Bit → FitsKind k maxval → tiles ≡ replicate n None → n ≡ tile_count g → tiled kind.Bit 1 g tiles ≡ nothing_placed k maxval g
+no_sets k maxval g tiles n k-is fits tiles-is n-is =
+    let one : maxval ≡ 1 = subst (λ (j : Kind). FitsKind j maxval) k-is fits in
+    none_held kind.Bit 1 g tiles n tiles-is n-is ∙ ap (λ (m : ℕ). nothing_placed kind.Bit m g) (sym one) ∙ ap (λ (j : Kind). nothing_placed j maxval g) (sym k-is)
+
+pub no_levels : (k : Kind) (maxval m : ℕ) (g : Tiling) (tiles : List (Option (Raster ℕ))) (n : ℕ) → k ≡ kind.Grey → m ≡ maxval → tiles ≡ replicate n None → n ≡ tile_count g → tiled kind.Grey m g tiles ≡ nothing_placed k maxval g
+no_levels k maxval m g tiles n k-is m-is tiles-is n-is =
+    none_held kind.Grey m g tiles n tiles-is n-is ∙ ap (λ (m : ℕ). nothing_placed kind.Grey m g) m-is ∙ ap (λ (j : Kind). nothing_placed j maxval g) (sym k-is)
+
+-- a plane in which a tile was written, or dropped
+pub written_held : (k : Kind) (maxval : ℕ) (g : Tiling) (tiles new : List (Option (Raster ℕ))) (i : ℕ) (o : Option (List ℕ)) (p : Tiled) → tiled k maxval g tiles ≡ p → cells_of new ≡ set (cells_of tiles) i o
+    → tiled k maxval g new ≡ record p { tiles = set p.tiles i o }
+written_held k maxval g tiles new i o p view e =
+    subst (λ (q : Tiled). tiled k maxval g new ≡ record q { tiles = set q.tiles i o }) view (ap (λ (t : List (Option (List ℕ))). with_cells k maxval g t) e)

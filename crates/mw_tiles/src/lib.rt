@@ -1,0 +1,23 @@
+//! The plane of a step as a grid of tiles, some of which may be missing.
+//!
+//! ```text
+//! let mut plane = TiledPlane::new(alloc, Kind::Grey, 255, grid)?;
+//! plane.place(0, Tile::Grey8(samples, 255));
+//! // once each tile that meets the rectangle is placed:
+//! let window = plane.window(alloc, rect)?;
+//! plane.drop_tile(0);
+//! ```
+#![tactic(auto)]
+
+mod laws;
+mod parts;
+mod plane;
+mod rows;
+mod slots;
+mod tile;
+
+pub use laws::tiles_are_plane;
+pub use mw_grid::Grid;
+pub use mw_model::{Kind, NoMemory, Rect};
+pub use plane::TiledPlane;
+pub use tile::Tile;

@@ -1,0 +1,176 @@
+//! Planes that are made tile by tile.
+
+use crate::Tile;
+use crate::rows::joined;
+use crate::slots::{no_tiles, put};
+use mw_grid::Grid;
+use mw_model::{Kind, NoMemory, Rect};
+use mw_pixel::{Bit, HeldPlane};
+use mw_tile::AnyWindow;
+use std::alloc::Global;
+use std::marker::Model;
+
+#[derive(Drop)]
+enum Samples {
+    Bits(Vec<Option<HeldPlane<Bit>>>),
+    Grey8(Vec<Option<HeldPlane<u8>>>, u8),
+    Grey16(Vec<Option<HeldPlane<u16>>>, u16),
+}
+
+/// A plane of one kind and maxval on a frame that is cut into tiles. Each tile is placed once it is made, and dropped
+/// once no one reads it any more.
+#[derive(Drop)]
+pub struct TiledPlane {
+    grid: Grid,
+    content: Samples,
+}
+
+impl Model for TiledPlane {
+    ghost use Rattle.mw_tiles.specs.Tiles.{Tiled};
+
+    ghost Value = { Tiled };
+
+    ghost use Rattle.mw_tiles.specs.Held.{tiled_held, IsHeld};
+
+    ghost view = { λ p. tiled_held p.grid p.content };
+
+    ghost invariant = { λ p. IsHeld p.grid p.content };
+}
+
+impl TiledPlane {
+    ghost use Rattle.std.specs.Prelude.{◌≡◌, ◌<◌, IfOk, None, Some, slice_set};
+    ghost use Rattle.mw_model.specs.Pictures.{FitsKind};
+    ghost use Rattle.mw_grid.specs.Grids.{tile_at, tile_count};
+    ghost use Rattle.mw_model.specs.Pictures.{Picture};
+    ghost use Rattle.mw_model.specs.Places.{IsWithin};
+    ghost use Rattle.mw_tile.specs.Windows.{window_of};
+    ghost use Rattle.mw_tiles.specs.Tiles.{HasAll, IsPlaneOf, nothing_placed, tile_cells};
+    ghost use Rattle.mw_tiles.specs.Held.{image_of_tile, IsTile};
+
+    /// The plane without any tile, with the places for all.
+    #[tactic(auto, using(crate::proofs::Sides::no_sets, crate::proofs::Sides::sides_none))]
+    pub fn new(alloc: Global, kind: Kind, maxval: u16, grid: Grid) -> Result<TiledPlane, NoMemory>
+        requires { FitsKind kind maxval }
+        ensures { IfOk result (λ p. p ≡ nothing_placed kind maxval grid) }
+    {
+        let count = grid.len() as usize;
+        match kind {
+            Kind::Bit => {
+                let content = Samples::Bits(no_tiles(alloc, count)?);
+                Ok(TiledPlane { grid, content })
+            }
+            Kind::Grey => {
+                if maxval <= 255 {
+                    let content = Samples::Grey8(no_tiles(alloc, count)?, maxval as u8);
+                    Ok(TiledPlane { grid, content })
+                } else {
+                    let content = Samples::Grey16(no_tiles(alloc, count)?, maxval);
+                    Ok(TiledPlane { grid, content })
+                }
+            }
+        }
+    }
+
+    /// The frame and its tiles.
+    pub fn grid(&self) -> Grid
+        ensures { result ≡ self.now.tiling }
+    {
+        match &self.content {
+            Samples::Bits(_) => self.grid,
+            Samples::Grey8(_, _) => self.grid,
+            Samples::Grey16(_, _) => self.grid,
+        }
+    }
+
+    /// Whether it is a set or in levels of grey.
+    pub fn kind(&self) -> Kind
+        ensures { result ≡ self.now.kind }
+    {
+        match &self.content {
+            Samples::Bits(_) => Kind::Bit,
+            Samples::Grey8(_, _) => Kind::Grey,
+            Samples::Grey16(_, _) => Kind::Grey,
+        }
+    }
+
+    /// The greatest level that a sample may have.
+    pub fn maxval(&self) -> u16
+        ensures { result ≡ self.now.maxval }
+    {
+        match &self.content {
+            Samples::Bits(_) => 1,
+            Samples::Grey8(_, maxval) => u16::from(*maxval),
+            Samples::Grey16(_, maxval) => *maxval,
+        }
+    }
+
+    /// Places a tile, of the plane's kind and maxval and of the sides of its place. This takes no memory, and copies
+    /// nothing.
+    #[tactic(auto, using(crate::proofs::Sides::written_held))]
+    pub fn place(&mut self, i: u32, tile: Tile)
+        requires within { i < tile_count self.old.tiling }
+        requires free { tile_cells self.old.tiles i ≡ None }
+        requires tile { IsTile tile }
+        requires kind { (image_of_tile tile).kind ≡ self.old.kind }
+        requires maxval { (image_of_tile tile).maxval ≡ self.old.maxval }
+        requires width { (image_of_tile tile).width ≡ (tile_at self.old.tiling i).width }
+        requires height { (image_of_tile tile).height ≡ (tile_at self.old.tiling i).height }
+        ensures { self.new ≡ record self.old { tiles = slice_set self.old.tiles i (Some (image_of_tile tile).samples) } }
+    {
+        let grid = self.grid;
+        match tile {
+            Tile::Bits(plane) => {
+                if let Samples::Bits(tiles) = &mut self.content {
+                    put(grid, tiles, i, Some(plane));
+                }
+            }
+            Tile::Grey8(plane, _) => {
+                if let Samples::Grey8(tiles, _) = &mut self.content {
+                    put(grid, tiles, i, Some(plane));
+                }
+            }
+            Tile::Grey16(plane, _) => {
+                if let Samples::Grey16(tiles, _) = &mut self.content {
+                    put(grid, tiles, i, Some(plane));
+                }
+            }
+        }
+    }
+
+    /// The window of a rectangle, put together from the tiles that meet it.
+    pub fn window(&self, alloc: Global, rect: Rect) -> Result<AnyWindow, NoMemory>
+        requires within { IsWithin rect self.now.tiling.width self.now.tiling.height }
+        requires placed { HasAll self.now.tiling self.now.tiles rect }
+        ensures { IfOk result (λ w. (f : Picture) → IsPlaneOf self.now f → w ≡ window_of rect f) }
+    {
+        let grid = self.grid;
+        match &self.content {
+            Samples::Bits(tiles) => {
+                let window = joined(alloc, grid, tiles, rect)?;
+                Ok(AnyWindow::bits(window))
+            }
+            Samples::Grey8(tiles, maxval) => {
+                let window = joined(alloc, grid, tiles, rect)?;
+                Ok(AnyWindow::grey8(window, *maxval))
+            }
+            Samples::Grey16(tiles, maxval) => {
+                let window = joined(alloc, grid, tiles, rect)?;
+                Ok(AnyWindow::grey16(window, *maxval))
+            }
+        }
+    }
+
+    /// Gives up the plane's ownership of a tile.
+    #[tactic(auto, using(crate::proofs::Sides::written_held))]
+    pub fn drop_tile(&mut self, i: u32)
+        requires { i < tile_count self.old.tiling }
+        ensures { self.new ≡ record self.old { tiles = slice_set self.old.tiles i None } }
+    {
+        let grid = self.grid;
+        match &mut self.content {
+            Samples::Bits(tiles) => put(grid, tiles, i, None),
+            Samples::Grey8(tiles, _) => put(grid, tiles, i, None),
+            Samples::Grey16(tiles, _) => put(grid, tiles, i, None),
+        }
+    }
+}

@@ -1,0 +1,40 @@
+//! The places of a grid, each with its tile once that is placed.
+
+ghost use Rattle.std.specs.Prelude.{◌≡◌, ◌<◌, None, IfOk, IfSome, option_map, replicate, slice_set};
+ghost use Rattle.mw_grid.specs.Grids.{tile_at, tile_count};
+ghost use Rattle.mw_tiles.specs.Tiles.{cells_in_raster, cells_of, HasSides, StandsIn};
+
+use mw_grid::Grid;
+use mw_model::NoMemory;
+use mw_pixel::{HeldPlane, Pixel};
+use std::alloc::Global;
+
+/// So many places without a tile.
+pub(crate) fn no_tiles<P: Pixel>(
+    alloc: Global,
+    count: usize,
+) -> Result<Vec<Option<HeldPlane<P>>>, NoMemory>
+    ensures { IfOk result (λ v. v.items ≡ replicate count None) }
+{
+    let mut tiles = Vec::with_capacity(alloc, count)?;
+    for _ in 0..count {
+        tiles.push(None)?;
+    }
+    Ok(tiles)
+}
+
+/// Writes a tile, or that there is none, over what stands in a place.
+pub(crate) fn put<P: Pixel>(
+    grid: Grid,
+    tiles: &mut [Option<HeldPlane<P>>],
+    i: u32,
+    tile: Option<HeldPlane<P>>,
+)
+    requires within { i < tile_count grid }
+    requires sides { HasSides grid tiles.old }
+    requires fits { IfSome tile (StandsIn (tile_at grid i)) }
+    ensures sides { HasSides grid tiles.new }
+    ensures value { cells_of tiles.new ≡ slice_set (cells_of tiles.old) i (option_map cells_in_raster tile) }
+{
+    tiles[i as usize] = tile;
+}
