@@ -1,3 +1,4 @@
+-- An entry that is added: what is found under its name, and that the columns stay whole.
 use Rattle.std.proofs.Common.{◌≡◌, ℕ, ◌<◌, ◌≤◌, Bool, true, false, not, ltb, cond, List, [], ◌∷◌, ◌++◌, length, get_or, Option, Some, None, refl, sym, subst, arith, cond, inl, inr, All}
 use Rattle.std.specs.List.{AllByRecursion, position, position_or_len, list_any}
 use Rattle.std.proofs.lemmas.List.Folds.{list_any_none}

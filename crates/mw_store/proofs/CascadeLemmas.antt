@@ -1,3 +1,4 @@
+-- The cascade: each entry beside its inputs, in ticket order, is the outcomes after a kill.
 use Rattle.std.proofs.Common.{zero, suc, lit≤, count_by, ◌⊎◌, inl, inr, subst, add-zero, length-append, ◌≡◌, ℕ, ◌+◌, ◌<◌, ◌≤◌, Bool, true, cond, List, [], ◌∷◌, ◌++◌, length, take, drop, Option, Some, None, refl, sym, ap, ◌∙◌, arith, find}
 use Rattle.std.specs.List.{AllByRecursion}
 use Rattle.std.specs.Option.{option_map_or}
