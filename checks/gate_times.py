@@ -89,8 +89,8 @@ class Watch:
 
 def listed():
     """The crates of crates.txt in their order, each with its lines and the number of its edits."""
-    rows = [row.partition("#")[0].partition(":")[0].strip() for row in read("crates.txt").splitlines()]
-    return {name: {"lines": lines_of(name), "number": edits_of(name)} for name in rows if name}
+    rows = [row.partition("#")[0].partition(":")[0].split() for row in read("crates.txt").splitlines()]
+    return {row[0]: {"lines": lines_of(row[0]), "number": edits_of(row[0])} for row in rows if row}
 
 
 def lines_of(name):

@@ -32,9 +32,10 @@ def needs_by_crate():
     rows = {}
     with open(f"{ROOT}/crates.txt", encoding="utf-8") as file:
         for line in file:
+            # Behind a crate's name may stand what its verdict may have, as may_wait=15.
             name, _, needs = line.partition("#")[0].partition(":")
             if name.strip():
-                rows[name.strip()] = needs.split()
+                rows[name.split()[0]] = needs.split()
     return {name: [it for it in needs if it in rows] for name, needs in rows.items()}
 
 
@@ -96,7 +97,7 @@ class Crate:
             linked(f"{ROOT}/crates/{name}/out/rlib", f"{self.top}/crates/{name}/out/rlib")
         kept = {self.name, *self.below}
         with open(f"{ROOT}/crates.txt", encoding="utf-8") as rows, open(f"{self.top}/crates.txt", "w", encoding="utf-8") as file:
-            file.writelines(it for it in rows if it.partition(":")[0].strip() in kept)
+            file.writelines(it for it in rows if it.partition(":")[0].split()[:1] and it.split(":")[0].split()[0] in kept)
         if os.path.isdir(f"{self.home}/out"):
             os.rename(f"{self.home}/out", f"{self.place}/out")
 

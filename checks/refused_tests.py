@@ -18,6 +18,7 @@ from refused_memory import HERE, built_refuser, refusing
 MODULES = {
     "mw_memory_tests_tests": ["files", "makers", "results", "sharing"],
     "mw_machine_tests_tests": ["machine_calls", "machine_owners", "machine_results"],
+    "mw_core_tests_tests": ["refused"],
 }
 
 

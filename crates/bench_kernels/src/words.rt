@@ -1,8 +1,8 @@
-//! Times of sets as words: packing, unpacking, and erosions by discs, on the words alone and as a step of a plan takes
-//! them, with each tile cut, packed, eroded, unpacked and pasted.
+//! Times of sets as words: packing, unpacking, erosions by rectangles and discs, on the words alone and, by discs, as a
+//! step of a plan takes them, with each tile cut, packed, eroded, unpacked and pasted.
 ghost use Rattle.std.specs.Prelude.{◌≡◌, ◌*◌, ◌≤◌, ◌%◌, vec_len, IfOk};
 
-use crate::{FRAME, Fault, SIDE, disc, reach};
+use crate::{FRAME, Fault, SIDE, disc, reach, square};
 use mw_bits::Words;
 use mw_grid::Grid;
 use mw_model::Offset;
@@ -88,6 +88,23 @@ fn time_words<R: std::rt::Clock + Print>(
     Ok(())
 }
 
+/// The best of five erosions of the frame by a square of k pixels across, words to words.
+fn time_rectangle<R: std::rt::Clock + Print>(
+    rt: &R,
+    alloc: Global,
+    words: &Words,
+    k: u8,
+) -> Result<(), Fault> {
+    let mut best = u128::MAX;
+    for _ in 0..5 {
+        let start = Instant::now(rt)?;
+        let _made = words.rectangle::<Min>(alloc, square(k), FRAME)?;
+        best = best.min(start.elapsed(rt)?.as_micros());
+    }
+    println!(rt; "rectangle {k} x {k}, a set in words, whole: {best} us")?;
+    Ok(())
+}
+
 /// The best of five erosions by a disc of k pixels across, tile by tile and from samples to samples.
 fn time_steps<R: std::rt::Clock + Print>(
     rt: &R,
@@ -116,6 +133,9 @@ pub(crate) fn time_sets<R: std::rt::Clock + Print>(rt: &R, alloc: Global) -> Res
     time_packing(rt, alloc, &window)?;
     let words = Words::from_plane(alloc, &window)?;
     let plane = words.to_plane(alloc)?;
+    for k in [3u8, 15, 63, 127] {
+        time_rectangle(rt, alloc, &words, k)?;
+    }
     for k in [5u8, 15, 31] {
         time_words(rt, alloc, &words, k)?;
         for side in [128u32, 512, 1024] {

@@ -3,8 +3,7 @@
 ghost use Rattle.std.specs.Prelude.{◌≡◌, ◌≤◌, ◌%◌, ◌⊎◌, false};
 ghost use Rattle.mw_batch.specs.Batches.{Ends, Served, Unserved};
 
-use mw_core::Core;
-use mw_session::{End, Pick, run_script};
+use mw_session::{Core, End, Pick, run_script};
 use mw_wire::{Sink, Source, send, tell};
 use std::alloc::Global;
 use std::io::{Read, Write};

@@ -6,3 +6,5 @@ pub mod Funnels
 pub mod Paddings
 pub mod Trims
 pub mod Laid
+pub mod SlidBoxes
+pub mod Pairings

@@ -14,7 +14,7 @@ ghost use Rattle.mw_run.specs.Runs.{run_offsets, start_of, IsInside, IsWider, Ha
 ghost use Rattle.mw_bits.specs.Packed.{bit_of, stride_of, IsPacked};
 ghost use Rattle.mw_bits.specs.Layouts.{laid_bits, AreNear, IsNear};
 
-use crate::shifting::{combine_ahead, combine_from};
+use crate::shifting::{combine_ahead, combine_both, combine_from};
 use crate::spread::spread;
 use crate::trimming::trimmed;
 use crate::words::{repeated, stride};
@@ -30,9 +30,10 @@ fn combine_two<E: WordExtremum>(cells: &[u64], start: usize, extra: usize, out: 
     requires few { length cells.now < 2 ^ 58 }
     ensures { (q d : ℕ) → q < 64 * length out.old → bit_of out.new q ≡ E.merge (E.merge (bit_of out.old q) (slice_index_or (laid_bits cells.now) (start + q) d)) (slice_index_or (laid_bits cells.now) (start + extra + q) d) }
 {
-    combine_from::<E>(cells, start, out);
     if extra > 0 {
-        combine_from::<E>(cells, start + extra, out);
+        combine_both::<E>(cells, start, start + extra, out);
+    } else {
+        combine_from::<E>(cells, start, out);
     }
 }
 

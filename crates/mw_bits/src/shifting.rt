@@ -29,6 +29,27 @@ pub(crate) fn combine_from<E: WordExtremum>(cells: &[u64], start: usize, out: &m
     }
 }
 
+/// Merges into each bit the ones `start` and `other` places further on in the cells, in one pass.
+pub(crate) fn combine_both<E: WordExtremum>(
+    cells: &[u64],
+    start: usize,
+    other: usize,
+    out: &mut [u64],
+)
+    requires first { start / 64 + length out.old < length cells.now }
+    requires second { other / 64 + length out.old < length cells.now }
+    ensures { (q : ℕ) → q < 64 * length out.old → bit_of out.new q ≡ E.merge (E.merge (bit_of out.old q) (bit_of cells.now (start + q))) (bit_of cells.now (other + q)) }
+{
+    let (first, shift) = (start / 64, (start % 64) as u32);
+    let (second, turn) = (other / 64, (other % 64) as u32);
+    for i in 0..out.len() {
+        let near = funnel(cells[first + i], cells[first + i + 1], shift);
+        let far = funnel(cells[second + i], cells[second + i + 1], turn);
+        let best = E::combine_words(out[i], near);
+        out[i] = E::combine_words(best, far);
+    }
+}
+
 /// Merges with each bit the one `shift` places further on, up to the last words.
 pub(crate) fn combine_ahead<E: WordExtremum>(cells: &mut [u64], shift: usize)
     requires { shift / 64 < length cells.old }

@@ -42,8 +42,8 @@ pub(crate) fn spread<E: WordExtremum>(
     wide: usize,
     high: usize,
 ) -> Result<Vec<u64>, NoMemory>
-    requires few { high ≤ 2 ^ 33 }
-    requires narrow { wide ≤ 2 ^ 27 }
+    requires few { high ≤ 2 ^ 34 }
+    requires narrow { wide ≤ 2 ^ 28 }
     requires low { negsuc (2 ^ 40) ≤ℤ column }
     requires far { column ≤ℤ pos (2 ^ 40) }
     requires near { row ≤ℤ pos (2 ^ 40) }

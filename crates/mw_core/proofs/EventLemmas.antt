@@ -8,7 +8,7 @@ use Rattle.mw_model.specs.Stands.{Seen, StandsFor}
 use Rattle.mw_core.specs.declared.answers.Fetched.{Fetched}
 use Rattle.mw_core.specs.declared.events.Event.{Event}
 use Rattle.mw_core.specs.declared.events.Answer.{Answer}
-use Rattle.mw_core.specs.Events.{Serves, IsFresh, handed_out}
+use Rattle.mw_stands.specs.Events.{Serves, IsFresh, handed_out}
 use Rattle.mw_core.specs.Fetches.{ShowsSome, shown_value}
 use Rattle.mw_core.specs.Happenings.{Replies, Submits, Fetches, Happens, HappensAll, answer_of, fetch_answer_of}
 

@@ -10,17 +10,17 @@ use Rattle.mw_model.specs.declared.calls.Outcome.TheVariants as outcome
 use Rattle.mw_model.specs.declared.calls.Call.TheVariants as call
 use Rattle.mw_model.specs.declared.calls.Reply.{Reply}
 use Rattle.mw_model.specs.declared.calls.Reply.TheVariants as reply
-use Rattle.mw_model.specs.Values.{Value, ImageValue, ElementValue, CurveValue, image_of, value_at, shape_of_figure}
+use Rattle.mw_model.specs.Values.{Value, ImageValue, ElementValue, CurveValue, value_at, shape_of_figure}
 use Rattle.mw_model.specs.Refusals.{Table, ticket, ticket_of, outcome_at, shape_at, is_element, is_done, is_released, is_there, when, refusal}
 use Rattle.mw_model.specs.Machine.{Machine, values, answer, fetch_reply, refused_or, reply_to, reply_from}
 use Rattle.mw_model.specs.Stands.{Seen, StandsFor, is_wanted}
 use Rattle.mw_laws.specs.MachineLaws.{shape_of_value}
 use Rattle.mw_laws.proofs.RunTables.{is_known, ticket_is, ticket_within, when_so}
-use Rattle.mw_core.specs.Events.{handed_out}
-use Rattle.mw_core.specs.Fetches.{IsShown, IsPlateOf, ShowsSome, shown_value}
+use Rattle.mw_stands.specs.Events.{handed_out}
+use Rattle.mw_core.specs.Fetches.{IsShown, ShowsSome, handed_value, shown_value}
 use Rattle.mw_core.specs.declared.answers.Shown.{Shown}
-use Rattle.mw_core.proofs.RefusalLemmas.{some-same}
-use Rattle.mw_core.proofs.StandsLemmas.{stands-sound, stands-reply}
+use Rattle.mw_stands.proofs.RefusalLemmas.{some-same}
+use Rattle.mw_stands.proofs.StandsLemmas.{stands-sound, stands-reply}
 
 -- a value is shown only where the entry is done
 shows-done : (t u : ℕ) (s : Shape) (o : Outcome) → fetch_reply t s o ≡ reply.Shown u → (o ≡ outcome.Done) × (t ≡ u)
@@ -58,21 +58,21 @@ shown-ticket m n t h =
       shape = when_so (is_element (shape_at w.submissions u)) code.Kind known.2;
     })
 
--- a value that is no element and no curve is an image
-must-be-image : (v : Option Value) (s : Shape) → option_map shape_of_value v ≡ Some s → is_element s ≡ false → ((volumes : List ℕ) → v ≢ Some (CurveValue volumes)) → option_map ImageValue (image_of v) ≡ v
-must-be-image None s h e n = refl
-must-be-image (Some (ImageValue f)) s h e n = refl
-must-be-image (Some (ElementValue b)) s h e n = let is : shape_of_figure b ≡ s = cc in let f = ap is_element is in absurd cc
-must-be-image (Some (CurveValue v)) s h e n = absurd (n v refl)
+-- a value that is no element is handed out
+must-be-handed : (v : Option Value) (s : Shape) → option_map shape_of_value v ≡ Some s → is_element s ≡ false → handed_value v ≡ v
+must-be-handed None s h e = refl
+must-be-handed (Some (ImageValue f)) s h e = refl
+must-be-handed (Some (ElementValue b)) s h e = let is : shape_of_figure b ≡ s = cc in let f = ap is_element is in absurd cc
+must-be-handed (Some (CurveValue v)) s h e = refl
 
-shown-value : (c : Seen) (m : Machine) (n : Name) (t : ℕ) (v : Shown) → StandsFor c m → reply_to m (call.Fetch n) ≡ reply.Shown t → IsPlateOf c t v → shown_value v ≡ value_at (values m) t
-shown-value c m n t v s told plate =
+shown-value : (c : Seen) (m : Machine) (n : Name) (t : ℕ) (v : Shown) → StandsFor c m → reply_to m (call.Fetch n) ≡ reply.Shown t → shown_value v ≡ handed_value (value_at c.kept t) → shown_value v ≡ value_at (values m) t
+shown-value c m n t v s told is =
     let done = shown-ticket m n t told in
     let sound = stands-sound c m s in
     let there = s.agrees.done t done.within done.done in
     let same : value_at (values m) t ≡ value_at c.kept t = some-same (value_at c.kept t) (value_at (values m) t) there (λ x e. s.agrees.own t x e) in
     let shaped = ap (option_map shape_of_value) (sym same) ∙ sound.shapes t done.within in
-    plate.value ∙ must-be-image (value_at c.kept t) (shape_at m.table.submissions t) shaped done.shape plate.no_curve ∙ sym same
+    is ∙ must-be-handed (value_at c.kept t) (shape_at m.table.submissions t) shaped done.shape ∙ sym same
 
 by-reply : (c : Seen) (m : Machine) (n : Name) (r : Reply) (v : Shown) → StandsFor c m → r ≡ reply_to m (call.Fetch n) → IsShown c r v → shown_value v ≡ handed_out m r
 by-reply c m n (reply.Accepted t) v s told is = is
@@ -97,10 +97,10 @@ with-shape : (x : Option Value) (s : Shape) → option_map shape_of_value x ≡ 
 with-shape None s h = absurd cc
 with-shape (Some v) s h = refl
 
-something-shown : (c : Seen) (m : Machine) (n : Name) (t : ℕ) (v : Shown) → StandsFor c m → reply_to m (call.Fetch n) ≡ reply.Shown t → IsPlateOf c t v → IsSome (shown_value v)
-something-shown c m n t v s told plate =
+something-shown : (c : Seen) (m : Machine) (n : Name) (t : ℕ) (v : Shown) → StandsFor c m → reply_to m (call.Fetch n) ≡ reply.Shown t → shown_value v ≡ handed_value (value_at c.kept t) → IsSome (shown_value v)
+something-shown c m n t v s told is =
     let P : Option Value → Type 0 = IsSome in
-    subst P (sym (shown-value c m n t v s told plate)) (with-shape (value_at (values m) t) (shape_at m.table.submissions t) ((stands-sound c m s).shapes t (shown-ticket m n t told).within))
+    subst P (sym (shown-value c m n t v s told is)) (with-shape (value_at (values m) t) (shape_at m.table.submissions t) ((stands-sound c m s).shapes t (shown-ticket m n t told).within))
 
 shown-by-reply : (c : Seen) (m : Machine) (n : Name) (r : Reply) (v : Shown) → StandsFor c m → r ≡ reply_to m (call.Fetch n) → IsShown c r v → IsSome (shown_value v) ↔ ShowsSome r
 shown-by-reply c m n (reply.Accepted t) v s told is = nothing-shown (reply.Accepted t) v is (λ h. let e = h.1 in cc)

@@ -1,20 +1,10 @@
-pub mod ElementLemmas
-pub mod SweepLemmas
-pub mod ValueLemmas
-pub mod GivenLemmas
-pub mod RefusalLemmas
-pub mod FateLemmas
-pub mod AgreeLemmas
-pub mod WorkLemmas
-pub mod RunLemmas
-pub mod StandsLemmas
-pub mod PlannedLemmas
-pub mod CallLemmas
-pub mod CountLemmas
-pub mod LimitLemmas
-pub mod SourceLemmas
-pub mod OneTaskLemmas
-pub mod TaskLemmas
-pub mod FetchLemmas
-pub mod IdleLemmas
-pub mod EventLemmas
+-- what other crates may cite
+-- the crate's own
+mod BookLemmas
+mod FaultLemmas
+mod RunLemmas
+mod FetchLemmas
+mod EventLemmas
+mod FilledLemmas
+mod TaskLemmas
+mod FinishLemmas

@@ -1,14 +1,94 @@
--- Runs of one item more, and what follows from an answer.
-use Rattle.std.proofs.Common.{List, [], ◌∷◌, ◌++◌, refl, subst, Result, Ok, Err, OnOk}
-use Rattle.mw_model.specs.declared.calls.LogItem.{LogItem}
-use Rattle.mw_model.specs.Machine.{Machine, Run, Step}
+-- A RUN that is not refused: no fault, and work that is fresh and means the command.
+use Rattle.std.proofs.Common.{◌≡◌, ℕ, ◌<◌, ◌≤◌, ◌++◌, ◌∷◌, [], List, length, Option, Some, None, Result, Ok, Err, IfOk, OnOk, refl, sym, ap, ◌∙◌, subst}
+use Rattle.std.specs.List.{AllByRecursion}
+use Rattle.mw_model.specs.declared.names.Name.{Name}
+use Rattle.mw_model.specs.declared.operations.Op.{Op}
+use Rattle.mw_model.specs.declared.submissions.Submission.{Submission}
+use Rattle.mw_model.specs.declared.codes.Code.{Code}
+use Rattle.mw_model.specs.declared.calls.Outcome.TheVariants as outcome
+use Rattle.mw_model.specs.declared.calls.Call.TheVariants as call
+use Rattle.mw_model.specs.declared.calls.Reply.{Reply}
+use Rattle.mw_model.specs.declared.calls.Reply.TheVariants as reply
+use Rattle.mw_model.specs.declared.calls.LogItem.TheVariants as item
+use Rattle.mw_model.specs.Values.{Value, tickets}
+use Rattle.mw_model.specs.Refusals.{Table, refusal}
+use Rattle.mw_model.specs.Machine.{Machine, values, with_entry, run_submission}
+use Rattle.mw_model.specs.Tasks.{Progress, remaining_tasks, running_tasks, task_count}
+use Rattle.mw_model.specs.Stands.{Seen, StandsFor, progress_at}
+use Rattle.mw_laws.proofs.RunTables.{push_last}
+use Rattle.mw_plan.specs.Tables.{AreValuesAt}
+use Rattle.mw_plan.proofs.Accepted.{machine_values}
+use Rattle.mw_progress.specs.Underway.{Underway}
+use Rattle.mw_store.specs.Stored.{Stored}
+use Rattle.mw_stands.specs.Facts.{IsComplete, stored_of}
+use Rattle.mw_stands.specs.Limits.{ShapesFit}
+use Rattle.mw_stands.specs.Events.{Serves, IsFresh}
+use Rattle.mw_stands.proofs.StandsLemmas.{stands-sound}
+use Rattle.mw_stands.proofs.CallLemmas.{serves-run}
+use Rattle.mw_underway.specs.Planning.{IsPlannedBy}
+use Rattle.mw_underway.proofs.FreshLemmas.{planned-fresh, planned-work}
 
--- a run goes on by one step
-pub run-push : (a b c : Machine) (log : List LogItem) (i : LogItem) → Run a log b → Step b i c → Run a (log ++ i ∷ []) c
-run-push a b c [] i r s = let P : Machine → Type 0 = λ x. Step x i c in (c, subst P r s, refl)
-run-push a b c (j ∷ log) i r s = (r.0, r.1, run-push r.0 b c log i r.2 s)
+-- ---- no fault
 
--- what follows from facts about an answer
-pub on-ok : {A E : Type 0} → (r : Result A E) (P Q : Type 0) → (P → Q) → OnOk r P → OnOk r Q
-on-ok (Ok x) P Q f h = f h
-on-ok (Err e) P Q f h = h
+-- what no values allow, no machine allows that the core stands for
+ruled-out : (c : Seen) (m : Machine) → StandsFor c m → ((vs : List (Option Value)) → AreValuesAt c.table c.kept vs → ⊥) → ⊥
+ruled-out c m s never =
+    let At : Table → Type 0 = λ w. AreValuesAt w c.kept (values m) in
+    never (values m) (subst At (sym s.table) (machine_values m c.kept (stands-sound c m s) s.agrees))
+
+-- so a note of a fault, which cannot be, serves whatever the machine
+pub serves-no-fault : (c new : Seen) (n : Name) (o : Op) (x : Code) → ((vs : List (Option Value)) → AreValuesAt c.table c.kept vs → ⊥)
+    → new ≡ record c { log = c.log ++ item.Call (call.Run n o) (reply.Refused x) ∷ [] } → Serves c (call.Run n o) None new (reply.Refused x)
+serves-no-fault c new n o x never is =
+    record {
+      reply = λ m s. absurd (ruled-out c m s never);
+      stands = λ m s. absurd (ruled-out c m s never);
+      log = ap (λ (d : Seen). d.log) is;
+      work = λ t within pending. ap (λ (d : Seen). progress_at d.work t) is;
+    }
+
+-- ---- the work of an accepted command
+
+pub serves-planned : (c new : Seen) (n : Name) (o : Op) (side : ℕ) (u : Underway) → refusal c.table c.kept (call.Run n o) ≡ None → IsPlannedBy c.table c.kept o (run_submission c.table o) side u → IsComplete c
+    → new.table ≡ with_entry c.table n (run_submission c.table o) outcome.Pending → new.kept ≡ c.kept ++ None ∷ [] → new.work ≡ c.work ++ Some u.progress ∷ []
+    → new.log ≡ c.log ++ item.Call (call.Run n o) (reply.Accepted (length c.table.names)) ∷ [] → Serves c (call.Run n o) None new (reply.Accepted (length c.table.names))
+serves-planned c new n o side u free planned whole = serves-run c new n o u.progress free (λ m st clear. planned-work c m n o side u st free clear planned) whole
+
+-- counts of tasks of which none was started
+abbrev pub AreFresh : Progress → Type 0
+AreFresh p = (1 ≤ remaining_tasks p) × (task_count p ≤ 4194304) × (remaining_tasks p ≡ task_count p) × (running_tasks p ≡ 0)
+
+-- the work of the entry that was added is that of fresh work
+pub added-fresh : (c new : Seen) (p : Progress) (t : ℕ) → IsComplete c → AreFresh p → new.work ≡ c.work ++ Some p ∷ [] → reply.Accepted (length c.table.names) ≡ reply.Accepted t → IsFresh new t
+added-fresh c new p t whole fresh work is =
+    let at : length c.work ≡ t = whole.work ∙ cc in
+    let Few : ℕ → Type 0 = λ n. n ≤ 4194304 in
+    record {
+      progress = p;
+      work = ap (λ ws. progress_at ws t) work ∙ push_last c.work (Some p) None t (sym at);
+      some = fresh.0;
+      bounded = subst Few (sym fresh.2) fresh.1;
+      unfinished = fresh.2;
+      idle = fresh.3;
+    }
+
+-- of an answer: where it is an acceptance the entry is fresh
+pub accepted-fresh : {E : Type 0} → (r : Result Reply E) (c new : Seen) (p : Progress) (t : ℕ) → IsComplete c → AreFresh p → IfOk r (λ y. y ≡ reply.Accepted (length c.table.names)) → OnOk r (new.work ≡ c.work ++ Some p ∷ [])
+    → IfOk r (λ y. y ≡ reply.Accepted t → IsFresh new t)
+accepted-fresh (Ok y) c new p t whole fresh told work = λ is. added-fresh c new p t whole fresh work (sym told ∙ is)
+accepted-fresh (Err e) c new p t whole fresh told work = tt
+
+-- ---- what is told of a store, of what the core shows of it
+
+pub planned-seen : (c : Seen) (s : Stored) (o : Op) (e : Submission) (side : ℕ) (u : Underway) → s ≡ stored_of c → e ≡ run_submission c.table o → IsPlannedBy s.table s.kept o e side u → IsPlannedBy c.table c.kept o (run_submission c.table o) side u
+planned-seen c s o e side u seen is planned =
+    let On : Stored → Type 0 = λ x. IsPlannedBy x.table x.kept o e side u in
+    let Of : Submission → Type 0 = λ x. IsPlannedBy c.table c.kept o x side u in
+    subst Of is (subst On seen planned)
+
+pub fresh-seen : (c : Seen) (s again : Stored) (o : Op) (e : Submission) (side : ℕ) (u : Underway) → ShapesFit c.table → s ≡ stored_of c → again ≡ stored_of c → AllByRecursion (λ i. i < length s.table.names) (tickets e.inputs)
+    → IsPlannedBy again.table again.kept o e side u → AreFresh u.progress
+fresh-seen c s again o e side u fits seen seen_again below planned =
+    let Below : Stored → Type 0 = λ x. AllByRecursion (λ i. i < length x.table.names) (tickets e.inputs) in
+    let On : Stored → Type 0 = λ x. IsPlannedBy x.table x.kept o e side u in
+    planned-fresh c.table c.kept o e side u fits (subst Below seen below) (subst On seen_again planned)

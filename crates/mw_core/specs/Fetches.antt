@@ -1,8 +1,8 @@
 -- What a FETCH hands out.
-use Rattle.std.specs.Prelude.{◌≡◌, ◌≢◌, ℕ, List, Option, Some, None, option_map}
+use Rattle.std.specs.Prelude.{◌≡◌, ℕ, Option, Some, None}
 use Rattle.mw_model.specs.declared.calls.Reply.{Reply}
 use Rattle.mw_model.specs.declared.calls.Reply.TheVariants as reply
-use Rattle.mw_model.specs.Values.{Value, ImageValue, CurveValue, image_of, value_at}
+use Rattle.mw_model.specs.Values.{Value, ImageValue, ElementValue, CurveValue, value_at}
 use Rattle.mw_model.specs.Stands.{Seen}
 use Rattle.mw_core.specs.declared.answers.Shown.{Shown}
 use Rattle.mw_core.specs.declared.answers.Shown.TheVariants as shown
@@ -11,15 +11,16 @@ use Rattle.mw_core.specs.declared.answers.Shown.TheVariants as shown
 abbrev pub shown_value : Shown → Option Value
 shown_value shown.Nothing = None
 shown_value (shown.Image f) = Some (ImageValue f)
+shown_value (shown.Curve volumes) = Some (CurveValue volumes)
 
--- the image that is kept of the ticket that is shown, of which no curve is kept
-pub record IsPlateOf (c : Seen) (t : ℕ) (v : Shown) : Type 0 where
-  pub value : shown_value v ≡ option_map ImageValue (image_of (value_at c.kept t))
-  pub no_curve : (volumes : List ℕ) → value_at c.kept t ≢ Some (CurveValue volumes)
+-- a value that may be handed out: any but an element
+abbrev pub handed_value : Option Value → Option Value
+handed_value (Some (ElementValue b)) = None
+handed_value v = v
 
 -- what the core hands out with this reply
 abbrev pub IsShown : Seen → Reply → Shown → Type 0
-IsShown c (reply.Shown t) v = IsPlateOf c t v
+IsShown c (reply.Shown t) v = shown_value v ≡ handed_value (value_at c.kept t)
 IsShown c r v = shown_value v ≡ None
 
 -- the reply shows a ticket

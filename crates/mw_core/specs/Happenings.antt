@@ -13,7 +13,6 @@ use Rattle.mw_model.specs.Pictures.{IsImage}
 use Rattle.mw_model.specs.Values.{Value}
 use Rattle.mw_model.specs.Refusals.{refusal}
 use Rattle.mw_model.specs.Machine.{Machine, with_table, settled, killed, after, reply_to}
-use Rattle.mw_model.specs.Lines.{is_served}
 use Rattle.mw_model.specs.Stands.{Seen, StandsFor}
 use Rattle.mw_task.specs.WindowTasks.{WindowTask}
 use Rattle.mw_core.specs.declared.answers.Started.{Started}
@@ -27,16 +26,14 @@ use Rattle.mw_core.specs.declared.events.Event.{Event}
 use Rattle.mw_core.specs.declared.events.Event.TheVariants as event
 use Rattle.mw_core.specs.declared.events.Answer.{Answer}
 use Rattle.mw_core.specs.declared.events.Answer.TheVariants as answer
-use Rattle.mw_core.specs.Payloads.{given_image, image_payload, given_element, element_payload}
-use Rattle.mw_core.specs.Events.{WorkStays, IsFresh, handed_out}
-use Rattle.mw_core.specs.TaskEvents.{Starts, Finishes, Refuses}
-use Rattle.mw_core.specs.Turns.{IsTurn}
+use Rattle.mw_stands.specs.Payloads.{given_image, image_payload, given_element, element_payload}
+use Rattle.mw_stands.specs.Events.{WorkStays, IsFresh, handed_out}
+use Rattle.mw_core.specs.TaskAnswers.{Starts, Finishes, Refuses, IsTurn}
 use Rattle.mw_core.specs.Fetches.{ShowsSome, shown_value}
 
--- an image that is loaded is within the limits, and an operation that is run is served
+-- an image that is loaded is within the limits
 abbrev pub IsServable : Event → Type 0
 IsServable (event.Load n g) = ForOk g IsImage
-IsServable (event.Run n o) = is_served o ≡ true
 IsServable e = Unit {0}
 
 -- ---- session calls

@@ -1,15 +1,3 @@
-pub mod Payloads
-pub mod Checks
-pub mod Faults
-pub mod Work
-pub mod Planned
-pub mod Sources
-pub mod KeptTasks
-pub mod Facts
-pub mod Changes
-pub mod Counts
-pub mod Events
-pub mod TaskEvents
-pub mod Turns
+pub mod TaskAnswers
 pub mod Fetches
 pub mod Happenings

@@ -1,5 +1,6 @@
 //! What the events on tasks, and FETCH, answer.
 
+use mw_gran::Curve;
 use mw_model::Reply;
 use mw_store::Plate;
 use mw_task::Work;
@@ -37,11 +38,12 @@ pub enum Refusal {
     Stranger,
 }
 
-/// What a FETCH hands out.
+/// What a FETCH hands out: a share of an image, or a copy of a curve.
 #[derive(Drop)]
 pub enum Shown {
     Nothing,
     Image(Plate),
+    Curve(Curve),
 }
 
 /// The answer to a FETCH.

@@ -3,11 +3,12 @@
 ghost use Rattle.std.specs.Prelude.{◌≡◌, ◌≢◌, ◌++◌, ◌∷◌, [], ℕ, true, OnErr, IfOk, IsOk, Ok, None};
 
 use crate::machine::Core;
-use crate::{checks, plans};
+use mw_ledger::{Counts, Ledger};
 use mw_element::Element;
 use mw_model::{Call, Code, Given, LogItem, Name, NoMemory, Op, Outcome, Reply};
 use mw_pixel::Image;
-use mw_store::{Entry, Store};
+use mw_store::Entry;
+use mw_underway::{Unplanned, planned};
 use std::alloc::Global;
 
 impl Core {
@@ -16,22 +17,21 @@ impl Core {
     ghost use Rattle.mw_model.specs.Machine.{Machine, start_state};
     ghost use Rattle.mw_model.specs.Refusals.{refusal};
     ghost use Rattle.mw_model.specs.Stands.{StandsFor};
-    ghost use Rattle.mw_model.specs.Lines.{is_served};
-    ghost use Rattle.mw_core.specs.Payloads.{given_image, image_payload, given_element, element_payload};
-    ghost use Rattle.mw_core.specs.Faults.{IsFault};
-    ghost use Rattle.mw_core.specs.Events.{Serves, IsFresh};
+    ghost use Rattle.mw_underway.specs.Planning.{IsSide};
+    ghost use Rattle.mw_stands.specs.Payloads.{given_image, image_payload, given_element, element_payload};
+    ghost use Rattle.mw_checks.specs.Faults.{IsFault};
+    ghost use Rattle.mw_stands.specs.Events.{Serves, IsFresh};
 
     /// A core that has accepted nothing yet. The side is that of the tiles, in pixels.
     pub fn new(alloc: Global, side: u32) -> Result<Self, NoMemory>
+        requires { IsSide side }
         ensures stands { IfOk result (λ c. StandsFor c start_state) }
         ensures log { IfOk result (λ c. c.log ≡ []) }
         ensures side { IfOk result (λ c. c.side ≡ side) }
     {
         Ok(Core {
-            store: Store::new(alloc)?,
-            work: Vec::with_capacity(alloc, 16)?,
-            log: Vec::with_capacity(alloc, 16)?,
-            side,
+            ledger: Ledger::new(alloc, side)?,
+            counts: Counts::new(alloc)?,
             alloc,
         })
     }
@@ -43,7 +43,7 @@ impl Core {
         ensures err { OnErr result (self.new ≡ self.old) }
         ensures side { self.new.side ≡ self.old.side }
     {
-        match checks::of_given(&self.store, name, Given::Bad(code)) {
+        match mw_checks::of_given(self.ledger.store(), name, Given::Bad(code)) {
             Err(Code::Memory) => Err(NoMemory),
             Err(code) => self.note(call, Reply::Refused(code)),
             Ok(()) => unreachable!(),
@@ -57,9 +57,10 @@ impl Core {
         ensures err { OnErr result (self.new ≡ self.old) }
         ensures side { self.new.side ≡ self.old.side }
     {
+        self.whole();
         let given = Given::Good(image.shape());
         let call = Call::Load(name, given);
-        match checks::of_given(&self.store, name, given) {
+        match mw_checks::of_given(self.ledger.store(), name, given) {
             Err(code) => self.note(call, Reply::Refused(code)),
             Ok(()) => self.accept(call, name, Entry::Image(image), None),
         }
@@ -85,10 +86,11 @@ impl Core {
         ensures err { OnErr result (self.new ≡ self.old) }
         ensures side { self.new.side ≡ self.old.side }
     {
+        self.whole();
         let _offsets = element.offsets();
         let given = Given::Good(element.shape());
         let call = Call::Element(name, given);
-        match checks::of_given(&self.store, name, given) {
+        match mw_checks::of_given(self.ledger.store(), name, given) {
             Err(code) => self.note(call, Reply::Refused(code)),
             Ok(()) => self.accept(call, name, Entry::Element(element), None),
         }
@@ -107,20 +109,25 @@ impl Core {
         }
     }
 
-    /// RUN, of an operation that is served.
+    /// RUN. Where a command is accepted, its plan, its tasks and the places of its planes are there.
     pub fn run(&mut self, name: Name, op: Op) -> Result<Reply, NoMemory>
-        requires { is_served op ≡ true }
         ensures served { IfOk result (Serves self.old (Call.Run name op) None self.new) }
         ensures fresh { (t : ℕ) → IfOk result (λ r. r ≡ Reply.Accepted t → IsFresh self.new t) }
         ensures err { OnErr result (self.new ≡ self.old) }
         ensures side { self.new.side ≡ self.old.side }
     {
+        self.whole();
         let call = Call::Run(name, op);
-        match checks::of_run(&self.store, name, op) {
+        match mw_checks::of_run(self.ledger.store(), name, op) {
             Err(code) => self.note(call, Reply::Refused(code)),
             Ok(submission) => {
-                let work = plans::underway(&self.store, op, submission)?;
-                self.accept(call, name, Entry::Run(submission), Some(work))
+                let (store, side) = (self.ledger.store(), self.ledger.side());
+                match planned(self.alloc, store, side, name, op, submission) {
+                    Ok(work) => self.accept(call, name, Entry::Run(submission), Some(work)),
+                    Err(Unplanned::NoMemory) => Err(NoMemory),
+                    // No command that is accepted comes to this.
+                    Err(Unplanned::Fault(fault)) => self.note(call, Reply::Refused(fault.code())),
+                }
             }
         }
     }
@@ -131,7 +138,7 @@ impl Core {
         ensures err { OnErr result (self.new ≡ self.old) }
         ensures side { self.new.side ≡ self.old.side }
     {
-        let reply = checks::status_reply(&self.store, name);
+        let reply = mw_checks::status_reply(self.ledger.store(), name);
         self.note(Call::Status(name), reply)
     }
 
@@ -142,8 +149,9 @@ impl Core {
         ensures side { self.new.side ≡ self.old.side }
         ensures succeeds { (m : Machine) → StandsFor self.old m → refusal m.table m.payloads (Call.Cancel name) ≡ None → IsOk result }
     {
+        self.whole();
         let call = Call::Cancel(name);
-        match checks::of_cancel(&self.store, name) {
+        match mw_checks::of_cancel(self.ledger.store(), name) {
             Err(code) => self.note(call, Reply::Refused(code)),
             Ok(t) => {
                 let reply = Reply::Accepted(t);
@@ -159,8 +167,9 @@ impl Core {
         ensures err { OnErr result (self.new ≡ self.old) }
         ensures side { self.new.side ≡ self.old.side }
     {
+        self.whole();
         let call = Call::Release(name);
-        match checks::of_release(&self.store, name) {
+        match mw_checks::of_release(self.ledger.store(), name) {
             Err(code) => self.note(call, Reply::Refused(code)),
             Ok(t) => {
                 let reply = Reply::Accepted(t);

@@ -3,27 +3,38 @@
 ghost use Rattle.std.specs.Prelude.{◌≡◌, ◌↔◌, IsSome, ◌<◌, ℕ, length, OnErr, IfOk, None};
 
 use crate::answers::{Fetched, Shown};
-use crate::checks;
 use crate::machine::Core;
 use mw_model::{Call, Name, NoMemory, Reply};
 
 impl Core {
+    ghost use Rattle.mw_model.specs.Values.{value_at};
     ghost use Rattle.mw_model.specs.Machine.{Machine};
     ghost use Rattle.mw_model.specs.Stands.{StandsFor};
-    ghost use Rattle.mw_core.specs.Events.{Serves, handed_out};
-    ghost use Rattle.mw_core.specs.Fetches.{IsShown, ShowsSome, shown_value};
+    ghost use Rattle.mw_stands.specs.Events.{Serves, handed_out};
+    ghost use Rattle.mw_core.specs.Fetches.{IsShown, ShowsSome, handed_value, shown_value};
+
+    /// The value that is kept of a ticket, unless it is an element.
+    fn value(&self, t: u32) -> Result<Shown, NoMemory>
+        requires { t < length self.now.table.names }
+        ensures { IfOk result (λ v. shown_value v ≡ handed_value (value_at self.now.kept t)) }
+    {
+        let store = self.ledger.store();
+        if let Some(plate) = store.plate(t)? {
+            return Ok(Shown::Image(plate));
+        }
+        match store.curve(self.alloc, t)? {
+            Some(curve) => Ok(Shown::Curve(curve)),
+            None => Ok(Shown::Nothing),
+        }
+    }
 
     /// The value that goes with a reply.
-    fn shown(&mut self, reply: Reply) -> Result<Shown, NoMemory>
-        requires { (t : ℕ) → reply ≡ Reply.Shown t → t < length self.old.table.names }
-        ensures value { IfOk result (IsShown self.old reply) }
-        ensures same { self.new ≡ self.old }
+    fn shown(&self, reply: Reply) -> Result<Shown, NoMemory>
+        requires { (t : ℕ) → reply ≡ Reply.Shown t → t < length self.now.table.names }
+        ensures { IfOk result (IsShown self.now reply) }
     {
         match reply {
-            Reply::Shown(t) => match self.store.plate(t)? {
-                Some(plate) => Ok(Shown::Image(plate)),
-                None => Ok(Shown::Nothing),
-            },
+            Reply::Shown(t) => self.value(t),
             _ => Ok(Shown::Nothing),
         }
     }
@@ -36,7 +47,7 @@ impl Core {
         ensures err { OnErr result (self.new ≡ self.old) }
         ensures side { self.new.side ≡ self.old.side }
     {
-        let reply = checks::fetch_reply(&self.store, name);
+        let reply = mw_checks::fetch_reply(self.ledger.store(), name);
         let value = self.shown(reply)?;
         self.note(Call::Fetch(name), reply)?;
         Ok(Fetched { reply, value })

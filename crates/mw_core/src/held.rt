@@ -3,6 +3,7 @@
 ghost use Rattle.std.specs.Prelude.{◌≡◌, [], IfOk};
 ghost use Rattle.mw_model.specs.Machine.{Machine, start_state};
 ghost use Rattle.mw_model.specs.Stands.{StandsFor};
+ghost use Rattle.mw_underway.specs.Planning.{IsSide};
 
 use crate::Core;
 use crate::events::{Answer, Event, serve};
@@ -21,6 +22,7 @@ impl Held {
 
     /// A core that has accepted nothing yet.
     pub fn new(alloc: Global, side: u32) -> Result<Self, NoMemory>
+        requires { IsSide side }
         ensures stands { IfOk result (λ h. StandsFor h.core start_state) }
         ensures log { IfOk result (λ h. h.core.log ≡ []) }
         ensures side { IfOk result (λ h. h.core.side ≡ side) }

@@ -2,38 +2,31 @@
 //!
 //! Each call is one event. For every state of the machine of one thread that the core stands for, the answer is that
 //! machine's, and the core then stands for the state after the step. `events::serve_all` says so of any list of events,
-//! and `held::Held` keeps it for a core under a lock. No call waits or computes a task, and none copies samples but
-//! `start`, and that only where no other can own the plane of a source: its windows else own it too.
+//! and `held::Held` keeps it for a core under a lock. No call waits, computes a task or copies the samples of a plane:
+//! windows own the tiles that they are. A command of any operation becomes a plan of steps, and each step has one task
+//! for each tile; a task is ready once the tiles under its windows are done.
 //!
 //! ```text
 //! let mut core = Core::new(alloc, 128)?;
 //! core.load(f, Ok(image))?;                           // Reply::Accepted(0)
 //! core.element(b, Ok(element))?;                      // Reply::Accepted(1)
-//! core.run(e, Op::Flat(FlatOp::Erode(f, b)))?;        // Reply::Accepted(2)
-//! if let Started::Work(work) = core.start(0) {
+//! core.run(e, Op::Flat(FlatOp::Opening(f, b)))?;      // Reply::Accepted(2)
+//! while let Started::Work(work) = core.start(0) {
 //!     let done = mw_step::run(alloc, work);           // without the lock
-//!     core.finish(done.ok()?);                        // Finish::Settled(2)
+//!     core.finish(done.ok()?);                        // Finish::Placed, and at last Finish::Settled(2)
 //! }
 //! ```
 #![tactic(auto)]
 
 mod answers;
 mod calls;
-mod checks;
-mod elements;
 pub mod events;
 mod fetch;
-mod fits;
 pub mod held;
 mod machine;
-mod plans;
 mod readers;
 mod ready;
-mod shapes;
-mod sources;
-mod sweep;
 mod tasks;
-mod underway;
 
 pub use answers::{Fetched, Finish, Refusal, Shown, Started};
 pub use machine::Core;

@@ -1,92 +1,107 @@
-//! The core: the store, the work under each pending ticket, and the log.
+//! The core: a ledger, and the counts of its tasks. What is private here is said in plain equations, beside any machine.
 
-ghost use Rattle.std.specs.Prelude.{◌≡◌, ◌+◌, ◌<◌, ◌≤◌, [], ◌∷◌, ◌++◌, length, OnOk, OnErr, IfOk, Some, None, false, slice_set};
+ghost use Rattle.std.specs.Prelude.{◌≡◌, ◌<◌, ◌≤◌, [], ◌∷◌, ◌++◌, length, OnOk, OnErr, IfOk, IfSome, option_map, false};
 
-use crate::sweep::drop_settled;
-use crate::underway::Underway;
+use mw_ledger::{Counts, Ledger};
 use mw_model::{Call, LogItem, Name, NoMemory, Outcome, Reply};
-use mw_pixel::Image;
-use mw_store::{Entry, Kept, Store};
+use mw_progress::PlanProgress;
+use mw_store::Entry;
 use std::alloc::Global;
 use std::marker::Model;
 
 /// The machine, with what it keeps and the work that is under way.
 #[derive(Drop)]
 pub struct Core {
-    pub(crate) store: Store,
-    pub(crate) work: Vec<Option<Underway>>,
-    pub(crate) log: Vec<LogItem>,
-    pub(crate) side: u32,
+    pub(crate) ledger: Ledger,
+    pub(crate) counts: Counts,
     pub(crate) alloc: Global,
 }
 
 impl Model for Core {
-    ghost use Rattle.std.specs.Prelude.{◌+◌, ◌≤◌, ◌≡◌, count_by, vec_len, vec_capacity, length};
-    ghost use Rattle.mw_model.specs.Refusals.{is_pending};
     ghost use Rattle.mw_model.specs.Stands.{Seen};
+    ghost use Rattle.mw_ledger.specs.Books.{seen_of};
+    ghost use Rattle.mw_ledger.specs.Counts.{AreCounts};
 
     ghost Value = { Seen };
 
-    ghost view = { λ c. record { table = c.store.table; kept = c.store.kept; work = c.work.items; log = c.log.items; side = c.side } };
+    ghost view = { λ c. seen_of c.ledger };
 
-    // Each pending entry has a place in the log for its end.
-    ghost invariant = { λ c. (vec_len c.log + count_by is_pending c.store.table.outcomes ≤ vec_capacity c.log)
-        × (vec_len c.work ≡ length c.store.table.names) };
+    ghost invariant = { λ c. AreCounts (seen_of c.ledger) c.counts };
 }
 
 impl Core {
     ghost use Rattle.std.specs.List.{AllByRecursion};
-    ghost use Rattle.mw_model.specs.Values.{ImageValue, tickets};
+    ghost use Rattle.mw_model.specs.Values.{tickets};
     ghost use Rattle.mw_model.specs.Refusals.{ticket_of, outcome_at, is_pending};
     ghost use Rattle.mw_model.specs.Machine.{with_entry, killed, settled};
-    ghost use Rattle.mw_model.specs.Stands.{Seen};
+    ghost use Rattle.mw_model.specs.Tasks.{remaining_tasks, task_count};
     ghost use Rattle.mw_store.specs.Entries.{submission_of, outcome_of, payload_in};
     ghost use Rattle.mw_store.specs.Stored.{DropsSpent};
-    ghost use Rattle.mw_core.specs.Changes.{KeepsWork};
-    ghost use Rattle.mw_core.specs.Facts.{IsComplete};
+    ghost use Rattle.mw_stands.specs.Changes.{KeepsWork};
+    ghost use Rattle.mw_stands.specs.Facts.{IsComplete};
+    ghost use Rattle.mw_stands.specs.Limits.{FitsLimits, ShapesFit};
+    ghost use Rattle.mw_underway.specs.Planning.{IsPlannedOn, IsSide};
+    ghost use Rattle.mw_ledger.specs.Books.{progress_of};
+
+    /// What holds of every core.
+    pub(crate) fn whole(&self)
+        ensures complete { IsComplete self.now }
+        ensures fits { ShapesFit self.now.table }
+        ensures side { IsSide self.now.side }
+    {
+        self.ledger.sound();
+    }
 
     /// Adds the item of a call that changes no entry.
     pub(crate) fn note(&mut self, call: Call, reply: Reply) -> Result<Reply, NoMemory>
         ensures reply { IfOk result (λ r. r ≡ reply) }
         ensures ok { OnOk result (self.new ≡ record self.old { log = self.old.log ++ LogItem.Call call reply ∷ [] }) }
         ensures side { self.new.side ≡ self.old.side }
-        ensures complete { IsComplete self.old }
         ensures err { OnErr result (self.new ≡ self.old) }
     {
-        self.log.reserve(self.store.pending() + 1)?;
-        self.log.push_reserved(LogItem::Call(call, reply));
+        self.ledger.note(call, reply)?;
         Ok(reply)
     }
 
-    /// Adds an entry, its item and a place for its end.
+    /// Adds an entry with its work, its item and a place for its end.
     pub(crate) fn accept(
         &mut self,
         call: Call,
         name: Name,
         entry: Entry,
-        work: Option<Underway>,
+        work: Option<PlanProgress>,
     ) -> Result<Reply, NoMemory>
         requires free { ticket_of self.old.table.names name ≡ None }
         requires room { length self.old.table.names < 65536 }
         requires below { AllByRecursion (λ i. i < length self.old.table.names) (tickets (submission_of entry).inputs) }
+        requires fits { FitsLimits (submission_of entry).shape }
+        requires planned { IfSome work (IsPlannedOn self.old.table (submission_of entry)) }
+        requires left { IfSome work (λ u. 1 ≤ remaining_tasks u.progress) }
+        requires most { IfSome work (λ u. task_count u.progress ≤ 4194304) }
         ensures reply { IfOk result (λ r. r ≡ Reply.Accepted (length self.old.table.names)) }
         ensures table { OnOk result (self.new.table ≡ with_entry self.old.table name (submission_of entry) (outcome_of entry)) }
         ensures kept { OnOk result (self.new.kept ≡ self.old.kept ++ payload_in entry ∷ []) }
-        ensures work { OnOk result (self.new.work ≡ self.old.work ++ work ∷ []) }
+        ensures work { OnOk result (self.new.work ≡ self.old.work ++ option_map progress_of work ∷ []) }
         ensures log { OnOk result (self.new.log ≡ self.old.log ++ LogItem.Call call (Reply.Accepted (length self.old.table.names)) ∷ []) }
         ensures side { self.new.side ≡ self.old.side }
-        ensures complete { IsComplete self.old }
         ensures err { OnErr result (self.new ≡ self.old) }
     {
-        self.log.reserve(self.store.pending() + 2)?;
-        self.work.reserve(1)?;
-        let reply = Reply::Accepted(self.store.add(name, entry)?);
-        self.work.push_reserved(work);
-        self.log.push_reserved(LogItem::Call(call, reply));
-        Ok(reply)
+        self.ledger.sound();
+        self.counts.grow()?;
+        match self.ledger.accept(call, name, entry, work) {
+            Ok(t) => {
+                self.counts.add_last(&self.ledger);
+                Ok(Reply::Accepted(t))
+            }
+            Err(NoMemory) => {
+                self.counts.shrink();
+                Err(NoMemory)
+            }
+        }
     }
 
-    /// Ends a pending ticket by its death, in the place that its item has, and drops what nothing waits for any more.
+    /// Ends a pending ticket by its death, in the place that its item has, and drops what nothing waits for any more. No
+    /// memory is asked for.
     pub(crate) fn end(&mut self, t: u32, cause: Outcome, item: LogItem)
         requires within { t < length self.old.table.names }
         requires pending { outcome_at self.old.table.outcomes t ≡ Outcome.Pending }
@@ -96,32 +111,10 @@ impl Core {
         ensures work { KeepsWork self.new.table self.old.work self.new.work }
         ensures log { self.new.log ≡ self.old.log ++ item ∷ [] }
         ensures side { self.new.side ≡ self.old.side }
-        ensures complete { IsComplete self.old }
     {
-        let _pending = self.store.pending();
-        self.store.kill(t, cause);
-        drop_settled(&self.store, &mut self.work);
-        self.store.forget_spent();
-        self.log.push_reserved(item);
-    }
-
-    /// Ends a pending ticket by its value, in the place that its item has.
-    pub(crate) fn settle_with(&mut self, t: u32, value: Image)
-        requires within { t < length self.old.table.names }
-        requires pending { outcome_at self.old.table.outcomes t ≡ Outcome.Pending }
-        ensures table { self.new.table ≡ settled self.old.table t Outcome.Done }
-        ensures kept { DropsSpent self.new.table (slice_set self.old.kept t (Some (ImageValue value))) self.new.kept }
-        ensures work { self.new.work ≡ slice_set self.old.work t None }
-        ensures log { self.new.log ≡ self.old.log ++ LogItem.Finished t ∷ [] }
-        ensures side { self.new.side ≡ self.old.side }
-        ensures complete { IsComplete self.old }
-    {
-        let _pending = self.store.pending();
-        self.store.settle(t, Outcome::Done);
-        self.store.keep(t, Kept::Image(value));
-        self.store.forget_spent();
-        self.work[t as usize] = None;
-        self.log.push_reserved(LogItem::Finished(t));
+        self.ledger.sound();
+        self.ledger.end(t, cause, item);
+        self.counts.recount(&self.ledger);
     }
 
     /// Lets a done ticket go.
@@ -133,13 +126,9 @@ impl Core {
         ensures work { OnOk result (self.new.work ≡ self.old.work) }
         ensures log { OnOk result (self.new.log ≡ self.old.log ++ item ∷ []) }
         ensures side { self.new.side ≡ self.old.side }
-        ensures complete { IsComplete self.old }
         ensures err { OnErr result (self.new ≡ self.old) }
     {
-        self.log.reserve(self.store.pending() + 1)?;
-        self.store.release(t);
-        self.store.forget_spent();
-        self.log.push_reserved(item);
-        Ok(())
+        self.ledger.sound();
+        self.ledger.let_go(t, item)
     }
 }

@@ -18,17 +18,17 @@ impl Core {
         ensures wanted { (m : Machine) → StandsFor self.now m → t < length self.now.table.names
             → result ≡ (is_done (outcome_at m.table.outcomes t) || (is_released (outcome_at m.table.outcomes t) && is_wanted m.table t)) }
     {
-        if t >= self.store.len() {
+        if t >= self.ledger.store().len() {
             return false;
         }
-        self.store.keeps(t)
+        self.ledger.store().keeps(t)
     }
 
     /// How many items the log has.
     pub fn log_len(&self) -> usize
         ensures { result ≡ length self.now.log }
     {
-        self.log.len()
+        self.ledger.log_len()
     }
 
     /// An item of the log.
@@ -36,6 +36,6 @@ impl Core {
         requires { i < length self.now.log }
         ensures { slice_get self.now.log i ≡ Some result }
     {
-        self.log[i]
+        self.ledger.log_at(i)
     }
 }

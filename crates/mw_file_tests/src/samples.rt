@@ -6,6 +6,7 @@ use mw_pixel::{
 };
 use std::alloc::Global;
 use std::process::Abort;
+use std::sync::Arc;
 use std::test::Fail;
 
 #[test]
@@ -107,15 +108,18 @@ fn planes_that_are_the_same(rt: HostRuntime) -> Result<(), Fail> {
 }
 
 fn grey(alloc: Global) -> Result<Image, NoMemory> {
-    Ok(Image::grey8(Plane::filled(alloc, 5, 2, 7u8)?, 9))
+    let plane = Plane::filled(alloc, 5, 2, 7u8)?;
+    Ok(Image::grey8(Arc::new(alloc, plane)?, 9))
 }
 
 fn deep(alloc: Global) -> Result<Image, NoMemory> {
-    Ok(Image::grey16(Plane::filled(alloc, 5, 2, 700u16)?, 999))
+    let plane = Plane::filled(alloc, 5, 2, 700u16)?;
+    Ok(Image::grey16(Arc::new(alloc, plane)?, 999))
 }
 
 fn set(alloc: Global) -> Result<Image, NoMemory> {
-    Ok(Image::bits(Plane::filled(alloc, 5, 2, Bit::SET)?))
+    let plane = Plane::filled(alloc, 5, 2, Bit::SET)?;
+    Ok(Image::bits(Arc::new(alloc, plane)?))
 }
 
 #[test]

@@ -88,9 +88,9 @@ acts_join Fits first second framed beside kinds maxvals = record {
 
 -- ---- marks
 
-pub acts_blank : (b : List Offset) (depth : ℕ) → Acts IsSet (Blank (depth + 1)) (λ f. []) (marked b depth 0)
-acts_blank b depth = record {
-  made = λ f fits. record { count = refl; kinds = omega arith };
+pub acts_blank : (b : List Offset) (depth : ℕ) → depth < 65535 → Acts IsSet (Blank (depth + 1)) (λ f. []) (marked b depth 0)
+acts_blank b depth low = record {
+  made = λ f fits. record { count = refl; kinds = (omega arith, omega arith) };
   plane = λ f fits. refl;
   framed = λ f fits. drawn_framed Grey f.width f.height (depth + 1) (residue_mark b f 0);
 }
@@ -138,6 +138,7 @@ acts_mark_last b depth = record {
 pub shows_input : (Fits : Picture → Type 0) (p : _) → ((f : Picture) → Fits f → IsPicture f) → Shows Fits p (FromInput 0) (λ f. f)
 shows_input Fits p picture = record {
   here = omega arith;
+  plane = tt;
   is = λ f fits. refl;
   framed = λ f fits. picture_framed f (picture f fits);
 }

@@ -1,12 +1,13 @@
 -- Bounds of boxes, as signed numbers of 32 bits.
-use Rattle.std.proofs.Common.{◌≡◌, ℕ, zero, suc, ◌*◌, ◌≤◌, ℤ, pos, negsuc, ◌-ℤ◌, ◌*ℤ◌, neg_ℤ, ap, sym, arith, ◌∙◌, w32, to_z, of_z}
+use Rattle.std.proofs.Common.{◌≡◌, ℕ, zero, suc, ◌*◌, ◌≤◌, ℤ, pos, negsuc, ◌*ℤ◌, ◌≤ℤ◌, neg_ℤ, ap, sym, arith, ◌∙◌, w32, to_z, of_z}
 use Rattle.std.proofs.lemmas.Int.{ints}
 use Rattle.std.proofs.Math.IntN.{pos-*ℤ-pos, pos-*ℤ-negsuc}
 use Rattle.mw_model.specs.declared.places.OffsetBox.{OffsetBox}
-use Rattle.mw_model.specs.Elements.{Figure, IsFigure}
-use Rattle.mw_element.specs.Figures.{FillsBox}
-use Rattle.mw_plan.proofs.Boxes.{near_box}
-use Rattle.mw_gran.specs.Boxes.{IsNear, IsSmallBox}
+use Rattle.mw_plan.specs.Steps.{IsNearBox}
+
+-- the number stays within the sides of an element
+abbrev pub IsNear : ℤ → Type 0
+IsNear z = (negsuc 253 ≤ℤ z) × (z ≤ℤ pos 254)
 
 mul_below : (n m k : ℕ) → n ≤ k → n * m ≤ k * m
 mul_below zero m k le = omega arith
@@ -42,27 +43,18 @@ product_is n z le near =
     ∙ ap (λ (t : ℤ). to_z w32 (of_z w32 (pos n *ℤ t))) bound
     ∙ fits_product n z le near
 
-pub negated_is : (z : ℤ) → IsNear z → to_z w32 (of_z w32 (pos 0 -ℤ to_z w32 (of_z w32 z))) ≡ neg_ℤ z
-negated_is z near = let low = near.0 in let high = near.1 in omega (arith, ints)
-
 abbrev pub box_of : ℤ → ℤ → ℤ → ℤ → OffsetBox
 box_of a b c d = record { x0 = a; x1 = b; y0 = c; y1 = d }
 
 pub same_box : (a b c d a' b' c' d' : ℤ) → a ≡ a' → b ≡ b' → c ≡ c' → d ≡ d' → box_of a b c d ≡ box_of a' b' c' d'
 same_box a b c d a' b' c' d' p q r s = cc
 
-pub small_box : (box : OffsetBox) (f : Figure) → IsFigure f → FillsBox box f.offsets → IsSmallBox box
-small_box box f figure fills =
-    let near = near_box box f figure fills in
+pub bounds_near : (box : OffsetBox) → IsNearBox box → IsNear box.x0 × IsNear box.x1 × IsNear box.y0 × IsNear box.y1
+bounds_near box near =
     let left = near.left in
     let right = near.right in
     let top = near.top in
     let bottom = near.bottom in
     let wide = near.wide in
     let high = near.high in
-    record {
-      left = (left, omega (arith, ints));
-      right = (omega (arith, ints), right);
-      top = (top, omega (arith, ints));
-      bottom = (omega (arith, ints), bottom);
-    }
+    ((left, omega (arith, ints)), (omega (arith, ints), right), (top, omega (arith, ints)), (omega (arith, ints), bottom))

@@ -1,10 +1,11 @@
-pub mod Planes
-pub mod MultipliedBoxes
-pub mod BoxBounds
-pub mod Origins
-pub mod Iterates
-pub mod StepPlanes
-pub mod OneMore
-pub mod Actions
-pub mod Turns
-pub mod Meaning
+-- the crate's own
+mod Actions
+mod BoxBounds
+mod Iterates
+mod Meaning
+mod MultipliedBoxes
+mod OneMore
+mod Origins
+mod Planes
+mod StepPlanes
+mod Turns

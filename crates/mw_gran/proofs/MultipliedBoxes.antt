@@ -1,6 +1,6 @@
 -- Full rectangles that hold their origin, as boxes: what is covered by a box whose bounds are multiplied.
-use Rattle.std.proofs.Common.{◌≡◌, ℕ, zero, suc, ◌+◌, ◌*◌, ◌≤◌, List, [], ◌∷◌, ◌++◌, map, ℤ, pos, negsuc, ◌+ℤ◌, ◌-ℤ◌, ◌≤ℤ◌, neg_ℤ, ap, sym, arith, ◌∙◌, inl, inr, refl}
-use Rattle.std.specs.Prelude.{Contains, ◌*ℤ◌}
+use Rattle.std.proofs.Common.{◌≡◌, ℕ, zero, suc, ◌+◌, ◌*◌, ◌≤◌, List, [], ◌∷◌, ◌++◌, map, ℤ, pos, negsuc, ◌+ℤ◌, ◌-ℤ◌, ◌≤ℤ◌, neg_ℤ, ap, sym, arith, ◌∙◌, refl}
+use Rattle.std.specs.Prelude.{◌*ℤ◌}
 use Rattle.std.specs.List.{range_with_len, flat_map}
 use Rattle.std.proofs.lemmas.Int.{ints}
 use Rattle.std.proofs.Math.IntN.{pos-*ℤ-pos, pos-*ℤ-negsuc}
@@ -11,33 +11,13 @@ use Rattle.mw_model.specs.Pictures.{Picture, IsPicture}
 use Rattle.mw_model.specs.Flat.{erosion, dilation, negated}
 use Rattle.mw_model.specs.Iterates.{times, rectangle}
 use Rattle.mw_model.specs.Laws.{HoldsOrigin}
-use Rattle.mw_model.proofs.Covers.{Covers, turned, turned_back}
+use Rattle.mw_model.proofs.Covers.{turned, turned_back}
 use Rattle.mw_gran.specs.Boxes.{multiplied}
 use Rattle.mw_plan.specs.Steps.{turned_box}
+use Rattle.mw_plan.proofs.Boxes.{element_covers, of_element}
 use Rattle.mw_element.specs.Figures.{FillsBox}
 use Rattle.mw_laws.proofs.BoxLaws.{within, covers_within, times-erosion_box, times-dilation_box, negated_rectangle}
 use Rattle.mw_laws.proofs.Composed.{CoverSame, erosion_same, dilation_same}
-
--- ---- what an element covers, by its offsets
-
-covers_by : (bs : List Offset) (b : Offset) (x y u v : ℕ) → Contains bs b → pos x +ℤ b.dx ≡ pos u → pos y +ℤ b.dy ≡ pos v → Covers bs x y u v
-covers_by [] b x y u v has across down = absurd (omega (arith, has.1))
-covers_by (a ∷ bs) b x y u v (zero, lt, is) across down = inl (ap (λ (t : Offset). pos x +ℤ t.dx) is ∙ across, ap (λ (t : Offset). pos y +ℤ t.dy) is ∙ down)
-covers_by (a ∷ bs) b x y u v (suc k, lt, is) across down = inr (covers_by bs b x y u v (k, omega arith, is) across down)
-
--- the offset by which the place is covered
-record IsBy (bs : List Offset) (x y u v : ℕ) : Type 0 where
-  by : Offset
-  has : Contains bs by
-  across : pos x +ℤ by.dx ≡ pos u
-  down : pos y +ℤ by.dy ≡ pos v
-
-covered_by : (bs : List Offset) (x y u v : ℕ) → Covers bs x y u v → IsBy bs x y u v
-covered_by [] x y u v c = absurd c
-covered_by (a ∷ bs) x y u v (inl e) = record { by = a; has = (0, omega arith, refl); across = e.0; down = e.1 }
-covered_by (a ∷ bs) x y u v (inr c) =
-    let rest = covered_by bs x y u v c in
-    record { by = rest.by; has = (suc rest.has.0, (let lt = rest.has.1 in omega arith), rest.has.2); across = rest.across; down = rest.down }
 
 -- ---- boxes that hold their origin
 
@@ -52,25 +32,25 @@ pub record Bounds (box : OffsetBox) (l r t d : ℕ) : Type 0 where
 filled_is_rectangle : (box : OffsetBox) (b : List Offset) (l r t d : ℕ) → FillsBox box b → Bounds box l r t d → CoverSame b (rectangle l r t d)
 filled_is_rectangle box b l r t d fills bounds = record {
   to = λ x y u v covers.
-      let by = covered_by b x y u v covers in
-      let inside = (fills by.by).0 by.has in
+      let by = of_element b x y u v covers in
+      let inside = (fills by.by).0 by.holds in
       covers_within l r t d x y u v (record {
-        left_of = low (by.by).dx box.x0 x u l by.across bounds.left inside.left;
-        right_of = high (by.by).dx box.x1 x u r by.across bounds.right inside.right;
-        above = low (by.by).dy box.y0 y v t by.down bounds.top inside.top;
-        below = high (by.by).dy box.y1 y v d by.down bounds.bottom inside.bottom;
+        left_of = low (by.by).dx box.x0 x u l by.leads.0 bounds.left inside.left;
+        right_of = high (by.by).dx box.x1 x u r by.leads.0 bounds.right inside.right;
+        above = low (by.by).dy box.y0 y v t by.leads.1 bounds.top inside.top;
+        below = high (by.by).dy box.y1 y v d by.leads.1 bounds.bottom inside.bottom;
       });
   from = λ x y u v covers.
       let h = within l r t d x y u v covers in
       let a : Offset = record { dx = pos u -ℤ pos x; dy = pos v -ℤ pos y } in
-      covers_by b a x y u v
+      element_covers b a x y u v
       ((fills a).1 (record {
         left = low_back box.x0 x u l bounds.left h.left_of;
         right = high_back box.x1 x u r bounds.right h.right_of;
         top = low_back box.y0 y v t bounds.top h.above;
         bottom = high_back box.y1 y v d bounds.bottom h.below;
       }))
-      (there x u) (there y v);
+      (there x u, there y v);
 }
   where
     low : (z z0 : ℤ) (x u l : ℕ) → pos x +ℤ z ≡ pos u → z0 ≡ neg_ℤ (pos l) → z0 ≤ℤ z → x ≤ u + l

@@ -1,5 +1,5 @@
 -- What one more step does to a plan that grows.
-use Rattle.std.proofs.Common.{◌≡◌, ℕ, zero, suc, ◌<◌, ◌≤◌, Bool, true, false, List, [], ◌∷◌, ◌++◌, length, map, sum, refl, ap, sym, subst, arith, ◌∙◌, inl, inr, length-append, Result, Ok, Err, IfOk}
+use Rattle.std.proofs.Common.{◌≡◌, ℕ, zero, suc, ◌+◌, ◌<◌, ◌≤◌, Bool, true, false, List, [], ◌∷◌, ◌++◌, length, map, sum, refl, ap, sym, subst, arith, ◌∙◌, inl, inr, length-append}
 use Rattle.std.specs.Prelude.{slice_index_or, Contains}
 use Rattle.std.specs.List.{AllByRecursion}
 use Rattle.std.proofs.lemmas.Bool.{cases_lt, cases_eq}
@@ -9,7 +9,7 @@ use Rattle.mw_model.specs.Pictures.{Picture}
 use Rattle.mw_model.specs.PlanSteps.{PlanStep}
 use Rattle.mw_model.specs.Plans.{Plan, Planned, Source, FromInput, FromStep, IsSourceAt, plane_of, planes, numbers_from, is_sum, with_number}
 use Rattle.mw_model.specs.Tasks.{nothing_planned}
-use Rattle.mw_plan.specs.PlansOf.{CanBeMade, IsReadBy, planes_read}
+use Rattle.mw_plan.specs.PlansOf.{CanBeMade, IsPlaneSource, IsReadBy, planes_read}
 use Rattle.mw_gran.specs.Growing.{seen_of, IsPushed, Shows, IsSound, Acts, Counts}
 use Rattle.mw_gran.proofs.Planes.{source_kept, source_pushed, numbers-push}
 
@@ -36,36 +36,16 @@ are_here : {Fits : Picture → Type 0} (p : Plan) (sources : List Source) (shown
 are_here p _ _ none = tt
 are_here p _ _ (also s sources operator shown first rest) = (first.here, are_here p sources shown rest)
 
+are_planes : {Fits : Picture → Type 0} (p : Plan) (sources : List Source) (shown : Picture → List Picture) → AreShown Fits p sources shown → AllByRecursion (IsPlaneSource p) sources
+are_planes p _ _ none = tt
+are_planes p _ _ (also s sources operator shown first rest) = (first.plane, are_planes p sources shown rest)
+
 are_seen : {Fits : Picture → Type 0} (p : Plan) (sources : List Source) (shown : Picture → List Picture) → AreShown Fits p sources shown → (f : Picture) → Fits f → map (seen_of p f) sources ≡ shown f
 are_seen p _ _ none f fits = refl
 are_seen p _ _ (also s sources operator shown first rest) f fits =
     ap (λ (t : Picture). t ∷ map (seen_of p f) sources) (first.is f fits) ∙ ap (λ (t : List Picture). operator f ∷ t) (are_seen p sources shown rest f fits)
 
 -- ---- one more step
-
--- a source shows what it showed
-pub still_shows : (Fits : Picture → Type 0) (p q : Plan) (step : PlanStep) (sources : List Source) (r s : Source) (operator : Picture → Picture)
-    → IsPushed p q step sources r → Shows Fits p s operator → Shows Fits q s operator
-still_shows Fits p q step sources r s operator pushed shows =
-    subst (λ (t : Plan). Shows Fits t s operator) (sym pushed.is) (record {
-      here = later 1 (length p) (length (p ++ planned step sources ∷ [])) s (omega (arith, length-pushed p (planned step sources))) shows.here;
-      is = λ f fits. source_kept p (planned step sources) (f ∷ []) f.width f.height 1 s shows.here ∙ shows.is f fits;
-      framed = shows.framed;
-    })
-
--- the new source shows what the step does
-pub now_shows : (Fits : Picture → Type 0) (p q : Plan) (step : PlanStep) (sources : List Source) (s : Source) (shown : Picture → List Picture) (operator : Picture → Picture)
-    → IsPushed p q step sources s → AreShown Fits p sources shown → Acts Fits step shown operator → Shows Fits q s operator
-now_shows Fits p q step sources s shown operator pushed are acts =
-    subst (λ (t : Source). Shows Fits q t operator) (sym pushed.at)
-    (subst (λ (t : Plan). Shows Fits t (FromStep (length p)) operator) (sym pushed.is) (record {
-      here = omega (arith, length-pushed p (planned step sources));
-      is = λ f fits.
-          source_pushed p (planned step sources) (f ∷ []) f.width f.height
-          ∙ ap (λ (t : List Picture). plane_of step t f.width f.height) (are_seen p sources shown are f fits)
-          ∙ acts.plane f fits;
-      framed = acts.framed;
-    }))
 
 -- where a step of the longer plan stands
 at_front : (p : Plan) (s : Planned) (k : ℕ) → k < length p → slice_index_or (p ++ s ∷ []) k nothing_planned ≡ slice_index_or p k nothing_planned
@@ -79,6 +59,41 @@ behind [] k le = refl
 behind (s ∷ p) zero le = absurd (omega arith)
 behind (s ∷ p) (suc k) le = behind p k (omega arith)
 
+-- a plane stays one
+still_plane : (p : Plan) (x : Planned) (n : ℕ) (s : Source) → n ≤ length p → IsSourceAt 1 n s → IsPlaneSource p s → IsPlaneSource (p ++ x ∷ []) s
+still_plane p x n (FromInput i) le here plane = tt
+still_plane p x n (FromStep i) le here plane = ap (λ (t : Planned). is_sum t.step) (at_front p x i (omega arith)) ∙ plane
+
+still_planes : (p : Plan) (x : Planned) (n : ℕ) (sources : List Source) → n ≤ length p → AllByRecursion (IsSourceAt 1 n) sources → AllByRecursion (IsPlaneSource p) sources → AllByRecursion (IsPlaneSource (p ++ x ∷ [])) sources
+still_planes p x n [] le here planes = tt
+still_planes p x n (s ∷ sources) le here planes = (still_plane p x n s le here.0 planes.0, still_planes p x n sources le here.1 planes.1)
+
+-- a source shows what it showed
+pub still_shows : (Fits : Picture → Type 0) (p q : Plan) (step : PlanStep) (sources : List Source) (r s : Source) (operator : Picture → Picture)
+    → IsPushed p q step sources r → Shows Fits p s operator → Shows Fits q s operator
+still_shows Fits p q step sources r s operator pushed shows =
+    subst (λ (t : Plan). Shows Fits t s operator) (sym pushed.is) (record {
+      here = later 1 (length p) (length (p ++ planned step sources ∷ [])) s (omega (arith, length-pushed p (planned step sources))) shows.here;
+      plane = still_plane p (planned step sources) (length p) s (omega arith) shows.here shows.plane;
+      is = λ f fits. source_kept p (planned step sources) (f ∷ []) f.width f.height 1 s shows.here ∙ shows.is f fits;
+      framed = shows.framed;
+    })
+
+-- the new source shows what the step does
+pub now_shows : (Fits : Picture → Type 0) (p q : Plan) (step : PlanStep) (sources : List Source) (s : Source) (shown : Picture → List Picture) (operator : Picture → Picture)
+    → IsPushed p q step sources s → AreShown Fits p sources shown → Acts Fits step shown operator → is_sum step ≡ false → Shows Fits q s operator
+now_shows Fits p q step sources s shown operator pushed are acts plain =
+    subst (λ (t : Source). Shows Fits q t operator) (sym pushed.at)
+    (subst (λ (t : Plan). Shows Fits t (FromStep (length p)) operator) (sym pushed.is) (record {
+      here = omega (arith, length-pushed p (planned step sources));
+      plane = ap (λ (t : Planned). is_sum t.step) (at_end p (planned step sources) (length p) refl) ∙ plain;
+      is = λ f fits.
+          source_pushed p (planned step sources) (f ∷ []) f.width f.height
+          ∙ ap (λ (t : List Picture). plane_of step t f.width f.height) (are_seen p sources shown are f fits)
+          ∙ acts.plane f fits;
+      framed = acts.framed;
+    }))
+
 same_seen : (n : ℕ) (p : Plan) (s : Planned) (f : Picture) (sources : List Source) → AllByRecursion (IsSourceAt 1 n) sources → n ≤ length p
     → map (seen_of (p ++ s ∷ []) f) sources ≡ map (seen_of p f) sources
 same_seen n p s f [] here le = refl
@@ -90,11 +105,8 @@ same_seen n p s f (r ∷ rs) here le =
 pub still_sound : (Fits : Picture → Type 0) (p q : Plan) (step : PlanStep) (sources : List Source) (s : Source) (shown : Picture → List Picture) (operator : Picture → Picture)
     → IsPushed p q step sources s → AreShown Fits p sources shown → Acts Fits step shown operator → IsSound Fits p → IsSound Fits q
 still_sound Fits p q step sources s shown operator pushed are acts sound =
-    subst (IsSound Fits) (sym pushed.is) (record { sources = source_at; made = made_at })
+    subst (IsSound Fits) (sym pushed.is) (record { sources = source_at; planes = planes_at; made = made_at })
   where
-    x : Planned
-    x = planned step sources
-
     source_at : (k : ℕ) → AllByRecursion (IsSourceAt 1 k) (slice_index_or (p ++ planned step sources ∷ []) k nothing_planned).sources
     source_at k =
         elim (cases_lt k (length p)) [
@@ -102,6 +114,22 @@ still_sound Fits p q step sources s shown operator pushed are acts sound =
           | inr le ↦ elim (cases_eq k (length p)) [
             | inl e ↦ subst (λ (t : Planned). AllByRecursion (IsSourceAt 1 k) t.sources) (sym (at_end p (planned step sources) k e)) (subst (λ (n : ℕ). AllByRecursion (IsSourceAt 1 n) sources) (sym e) (are_here p sources shown are))
             | inr past ↦ subst (λ (t : Planned). AllByRecursion (IsSourceAt 1 k) t.sources) (sym (behind (p ++ planned step sources ∷ []) k (omega (arith, length-pushed p (planned step sources))))) tt
+          ]
+        ]
+
+    planes_at : (k : ℕ) → AllByRecursion (IsPlaneSource (p ++ planned step sources ∷ [])) (slice_index_or (p ++ planned step sources ∷ []) k nothing_planned).sources
+    planes_at k =
+        elim (cases_lt k (length p)) [
+          | inl lt ↦
+              subst (λ (t : Planned). AllByRecursion (IsPlaneSource (p ++ planned step sources ∷ [])) t.sources) (sym (at_front p (planned step sources) k lt))
+              (still_planes p (planned step sources) k (slice_index_or p k nothing_planned).sources (omega arith) (sound.sources k) (sound.planes k))
+          | inr le ↦ elim (cases_eq k (length p)) [
+            | inl e ↦
+                subst (λ (t : Planned). AllByRecursion (IsPlaneSource (p ++ planned step sources ∷ [])) t.sources) (sym (at_end p (planned step sources) k e))
+                (still_planes p (planned step sources) (length p) sources (omega arith) (are_here p sources shown are) (are_planes p sources shown are))
+            | inr past ↦
+                subst (λ (t : Planned). AllByRecursion (IsPlaneSource (p ++ planned step sources ∷ [])) t.sources)
+                (sym (behind (p ++ planned step sources ∷ []) k (omega (arith, length-pushed p (planned step sources))))) tt
           ]
         ]
 
@@ -161,6 +189,9 @@ pushed_count p q step sources s pushed =
     let x : Planned = record { step = step; sources = sources } in
     omega (arith, ap length pushed.is, length-append p (x ∷ []))
 
+pub thrice_count : (p p1 p2 p3 : Plan) (x y z : PlanStep) (xs ys zs : List Source) (r s t : Source) → IsPushed p p1 x xs r → IsPushed p1 p2 y ys s → IsPushed p2 p3 z zs t → length p3 ≡ length p + 3
+thrice_count p p1 p2 p3 x y z xs ys zs r s t first second third = omega (arith, pushed_count p p1 x xs r first, pushed_count p1 p2 y ys s second, pushed_count p2 p3 z zs t third)
+
 -- the same step under another name
 pub with_step : (p q : Plan) (first second : PlanStep) (sources : List Source) (s : Source) → first ≡ second → IsPushed p q first sources s → IsPushed p q second sources s
 with_step p q first second sources s same pushed = subst (λ (t : PlanStep). IsPushed p q t sources s) same pushed
@@ -168,8 +199,3 @@ with_step p q first second sources s same pushed = subst (λ (t : PlanStep). IsP
 -- the first step of a plan
 pub pushed_empty : (p q : Plan) (step : PlanStep) (sources : List Source) (s : Source) → p ≡ [] → IsPushed p q step sources s → IsPushed [] q step sources s
 pushed_empty p q step sources s empty pushed = subst (λ (t : Plan). IsPushed t q step sources s) empty pushed
-
--- of what a call gives, if it gives anything
-pub if_ok : {A E : Type 0} (r : Result A E) (P Q : A → Type 0) → ((a : A) → P a → Q a) → IfOk r P → IfOk r Q
-if_ok (Ok a) P Q each p = each a p
-if_ok (Err e) P Q each p = p

@@ -1,9 +1,10 @@
 -- The planes of a plan that grows step by step, for a command with one image.
-use Rattle.std.proofs.Common.{◌≡◌, ℕ, ◌+◌, Bool, true, false, List, [], ◌∷◌, ◌++◌, length, map, sum, refl, ap, sym, arith, ◌∙◌, length-append}
+use Rattle.std.proofs.Common.{◌≡◌, ℕ, Bool, true, false, List, [], ◌∷◌, ◌++◌, length, map, sum, refl, ap, sym, arith, ◌∙◌}
 use Rattle.std.specs.Prelude.{slice_index_or}
 use Rattle.std.proofs.Math.ListN.{get_or-append}
 use Rattle.std.proofs.Math.Seq.{get_or-append_seam}
 use Rattle.mw_model.specs.Pictures.{Picture}
+use Rattle.mw_plan.proofs.Planes.{length-planes}
 use Rattle.mw_model.specs.Plans.{Source, FromInput, FromStep, Planned, Plan, no_picture, plane_of_source, plane_of, planes_from, planes, IsSourceAt, is_sum, with_number, numbers_from}
 
 -- the plane of one more step
@@ -14,18 +15,6 @@ pub planes_from-push : (p : Plan) (s : Planned) (inputs made : List Picture) (wi
     → planes_from (p ++ s ∷ []) inputs made width height ≡ planes_from p inputs made width height ++ plane_behind inputs (planes_from p inputs made width height) width height s ∷ []
 planes_from-push [] s inputs made width height = refl
 planes_from-push (t ∷ p) s inputs made width height = planes_from-push p s inputs (made ++ plane_behind inputs made width height t ∷ []) width height
-
-pub length-planes_from : (p : Plan) (inputs made : List Picture) (width height : ℕ) → length (planes_from p inputs made width height) ≡ length made + length p
-length-planes_from [] inputs made width height = omega arith
-length-planes_from (t ∷ p) inputs made width height =
-    let plane = plane_behind inputs made width height t in
-    omega (arith, length-planes_from p inputs (made ++ plane ∷ []) width height, length-append made (plane ∷ []))
-
-pub length-planes : (p : Plan) (inputs : List Picture) (width height : ℕ) → length (planes p inputs width height) ≡ length p
-length-planes p inputs width height = length-planes_from p inputs [] width height ∙ none (length p)
-  where
-    none : (n : ℕ) → 0 + n ≡ n
-    none n = omega arith
 
 -- a source of a plan shows the same when a step is added
 pub source_kept : (p : Plan) (s : Planned) (inputs : List Picture) (width height n : ℕ) (r : Source) → IsSourceAt n (length p) r

@@ -1,24 +1,22 @@
 -- One turn after another: skeletons, restorations and spectra.
-use Rattle.std.proofs.Common.{◌≡◌, ℕ, zero, suc, ◌+◌, ◌-◌, ◌*◌, ◌/◌, ◌<◌, ◌≤◌, ◌⊎◌, false, List, [], ◌∷◌, ◌++◌, length, sum, refl, ap, sym, subst, arith, ◌∙◌, inl, inr}
+use Rattle.std.proofs.Common.{◌≡◌, ℕ, zero, suc, ◌+◌, ◌-◌, ◌*◌, ◌/◌, ◌<◌, ◌≤◌, ◌⊎◌, false, List, [], ◌∷◌, ◌++◌, Option, Some, None, length, sum, refl, ap, sym, subst, arith, ◌∙◌, inl, inr}
 use Rattle.mw_model.specs.declared.places.Offset.{Offset}
 use Rattle.mw_model.specs.declared.places.OffsetBox.{OffsetBox}
-use Rattle.mw_model.specs.Places.{box_offsets}
 use Rattle.mw_model.specs.Pictures.{Picture, IsPicture, IsSet}
 use Rattle.mw_model.specs.Flat.{erosion, dilation, negated}
 use Rattle.mw_model.specs.Iterates.{times, skeleton, level_set, union, restoration, spectrum}
 use Rattle.mw_model.specs.Laws.{HoldsOrigin}
-use Rattle.mw_model.specs.PlanSteps.{PlanStep, Erode, Dilate, ErodeBox, DilateBox, Join, Blank, Mark, MarkLast, Equal, Sum}
+use Rattle.mw_model.specs.PlanSteps.{PlanStep, ErodeBox, DilateBox, Join, Blank, Mark, MarkLast, Equal, Sum}
 use Rattle.mw_model.specs.Plans.{Plan, Source, FromInput, FromStep, is_sum}
 use Rattle.mw_model.proofs.ImageLaws.{erosion_picture}
 use Rattle.mw_element.specs.Figures.{FillsBox}
+use Rattle.mw_plan.specs.declared.plans.Source.{Source as Read}
 use Rattle.mw_plan.specs.PlansOf.{IsReadBy}
-use Rattle.mw_laws.proofs.Composed.{erosion_same, dilation_same}
-use Rattle.mw_plan.proofs.Boxes.{box_same, turned_same}
+use Rattle.mw_plan.specs.Seen.{source}
 use Rattle.mw_plan.specs.Steps.{turned_box}
 use Rattle.mw_gran.specs.Boxes.{multiplied}
-use Rattle.mw_plan.specs.Steps.{ActsAs}
-use Rattle.mw_gran.specs.Growing.{IsFramed, IsPushed, Shows, IsSound, Acts}
-use Rattle.mw_gran.specs.Turns.{Slides, Draws, marked, MarksResidues, restored, Restores, Tells, StillShown, spectrum_steps, TellsVolumes, TellsSpectrum}
+use Rattle.mw_gran.specs.Growing.{IsFramed, IsPushed, Shows, IsSound, Acts, GoesOn}
+use Rattle.mw_gran.specs.Turns.{Slides, Draws, marked, AreMarks, MarksResidues, restored, Restores, Tells, StillShown, spectrum_steps, TellsVolumes, TellsSpectrum}
 use Rattle.mw_gran.proofs.OneMore.{AreShown, none, also, still_shows, now_shows, still_sound, still_read, now_read, still_counts, now_counts, pushed_count}
 use Rattle.mw_gran.proofs.Actions.{times_framed, picture_framed, erosion_framed, dilation_framed, acts_on, acts_equal, acts_sum, acts_join, acts_blank, acts_mark, acts_mark_last, shows_input}
 use Rattle.mw_gran.proofs.Iterates.{restored-turn, restored-all, restored_shape, spectrum-more}
@@ -35,78 +33,94 @@ alone : {Fits : Picture → Type 0} (p : Plan) (s : Source) (operator : Picture 
 alone p s operator shows = also s [] operator (λ f. []) shows none
 
 nothing_sound : (Fits : Picture → Type 0) → IsSound Fits []
-nothing_sound Fits = record { sources = λ k. tt; made = λ f fits k lt. absurd (omega arith) }
+nothing_sound Fits = record { sources = λ k. tt; planes = λ k. tt; made = λ f fits k lt. absurd (omega arith) }
 
 itself : (f : Picture) → IsPicture f → IsPicture f
 itself f picture = picture
 
 -- ---- skeletons
 
-pub skeleton_begins : (b : List Offset) (depth : ℕ) (q : Plan) (s : Source) → IsPushed [] q (Blank (depth + 1)) [] s → MarksResidues b depth 0 q (FromInput 0) s
-skeleton_begins b depth q s pushed = record {
-  count = omega (arith, pushed_count [] q (Blank (depth + 1)) [] s pushed);
-  sound = still_sound IsSet [] q (Blank (depth + 1)) [] s (λ f. []) (marked b depth 0) pushed none (acts_blank b depth) (nothing_sound IsSet);
-  read = inl refl;
-  shows_eroded = shows_input IsSet q (λ f set. set.picture);
-  shows_marks = now_shows IsSet [] q (Blank (depth + 1)) [] s (λ f. []) (marked b depth 0) pushed none (acts_blank b depth);
+pub skeleton_begins : (b : List Offset) (depth : ℕ) (p : Plan) → p ≡ [] → MarksResidues b depth 0 p (FromInput 0) None
+skeleton_begins b depth p empty =
+    subst (λ (t : Plan). MarksResidues b depth 0 t (FromInput 0) None) (sym empty) (record {
+      sound = nothing_sound IsSet;
+      read = inl refl;
+      shows_eroded = shows_input IsSet [] (λ f set. set.picture);
+      are_marks = refl;
+    })
+
+pub blank_goes_on : (depth : ℕ) (p q : Plan) (s : Source) → depth < 65535 → IsPushed p q (Blank (depth + 1)) [] s → GoesOn IsSet p q
+blank_goes_on depth p q s low pushed = record {
+  sound = λ sound. still_sound IsSet p q (Blank (depth + 1)) [] s (λ f. []) (marked [] depth 0) pushed none (acts_blank [] depth low) sound;
+  read = still_read p q (Blank (depth + 1)) [] s pushed;
+  shows = λ r operator shows. still_shows IsSet p q (Blank (depth + 1)) [] s r operator pushed shows;
 }
 
-skeleton_turn_more : (b : List Offset) (depth n : ℕ) (p p1 p2 p3 : Plan) (e m s1 s2 s3 : Source) (erode dilate : PlanStep) → Slides b erode dilate → n < depth → MarksResidues b depth n p e m
-    → IsPushed p p1 erode (e ∷ []) s1 → IsPushed p1 p2 dilate (s1 ∷ []) s2 → IsPushed p2 p3 (Mark (n + 1)) (m ∷ e ∷ s2 ∷ []) s3
-    → MarksResidues b depth (suc n) p3 s1 s3
-skeleton_turn_more b depth n p p1 p2 p3 e m s1 s2 s3 erode dilate slides below at push1 push2 push3 =
+pub blank_shows : (b : List Offset) (depth n : ℕ) (p q : Plan) (s : Source) → depth < 65535 → n ≡ 0 → IsPushed p q (Blank (depth + 1)) [] s → Shows IsSet q s (marked b depth n)
+blank_shows b depth n p q s low first pushed =
+    subst (λ (k : ℕ). Shows IsSet q s (marked b depth k)) (sym first) (now_shows IsSet p q (Blank (depth + 1)) [] s (λ f. []) (marked b depth 0) pushed none (acts_blank b depth low) refl)
+
+-- the marks stay
+pub still_marks : (b : List Offset) (depth n : ℕ) (p q : Plan) (step : PlanStep) (sources : List Source) (r : Source) (marks : Option Read) → IsPushed p q step sources r → AreMarks b depth n p marks → AreMarks b depth n q marks
+still_marks b depth n p q step sources r (Some m) pushed are = still_shows IsSet p q step sources r (source m) (marked b depth n) pushed are
+still_marks b depth n p q step sources r None pushed are = are
+
+skeleton_turn_more : (b : List Offset) (depth n : ℕ) (p p1 p2 p3 p4 : Plan) (e m s1 s2 : Source) (before : Option Read) (after : Read) (erode dilate : PlanStep) → Slides b erode dilate → n < depth
+    → MarksResidues b depth n p e before → IsPushed p p1 erode (e ∷ []) s1 → IsPushed p1 p2 dilate (s1 ∷ []) s2 → GoesOn IsSet p2 p3 → Shows IsSet p3 m (marked b depth n)
+    → IsPushed p3 p4 (Mark (n + 1)) (m ∷ e ∷ s2 ∷ []) (source after) → MarksResidues b depth (suc n) p4 s1 (Some after)
+skeleton_turn_more b depth n p p1 p2 p3 p4 e m s1 s2 before after erode dilate slides below at push1 push2 goes_on shows3 push4 =
     let left : Picture → Picture = times n (erosion b) in
     let next : Picture → Picture = λ f. erosion b (left f) in
     let opened : Picture → Picture = λ f. dilation (negated b) (next f) in
     let acts1 = acts_on IsSet erode (erosion b) left slides.erodes (erosion_framed b) at.shows_eroded.framed in
     let shown1 = alone p e left at.shows_eroded in
-    let shows1 = now_shows IsSet p p1 erode (e ∷ []) s1 (λ f. left f ∷ []) next push1 shown1 acts1 in
+    let shows1 = now_shows IsSet p p1 erode (e ∷ []) s1 (λ f. left f ∷ []) next push1 shown1 acts1 slides.erodes.plain in
     let acts2 = acts_on IsSet dilate (dilation (negated b)) next slides.dilates (dilation_framed (negated b)) shows1.framed in
     let shown2 = alone p1 s1 next shows1 in
-    let shows2 = now_shows IsSet p1 p2 dilate (s1 ∷ []) s2 (λ f. next f ∷ []) opened push2 shown2 acts2 in
-    let e2 = still_shows IsSet p1 p2 dilate (s1 ∷ []) s2 e left push2 (still_shows IsSet p p1 erode (e ∷ []) s1 e left push1 at.shows_eroded) in
-    let m2 = still_shows IsSet p1 p2 dilate (s1 ∷ []) s2 m (marked b depth n) push2 (still_shows IsSet p p1 erode (e ∷ []) s1 m (marked b depth n) push1 at.shows_marks) in
-    let acts3 = acts_mark b depth n below in
-    let shown3 : AreShown IsSet p2 (m ∷ e ∷ s2 ∷ []) (λ f. marked b depth n f ∷ left f ∷ opened f ∷ []) =
-    also m (e ∷ s2 ∷ []) (marked b depth n) (λ f. left f ∷ opened f ∷ []) m2 (also e (s2 ∷ []) left (λ f. opened f ∷ []) e2 (alone p2 s2 opened shows2)) in
+    let shows2 = now_shows IsSet p1 p2 dilate (s1 ∷ []) s2 (λ f. next f ∷ []) opened push2 shown2 acts2 slides.dilates.plain in
     let sound1 = still_sound IsSet p p1 erode (e ∷ []) s1 (λ f. left f ∷ []) next push1 shown1 acts1 at.sound in
     let sound2 = still_sound IsSet p1 p2 dilate (s1 ∷ []) s2 (λ f. next f ∷ []) opened push2 shown2 acts2 sound1 in
-    let read1 : IsReadBy p1 0 = read_first at.read in
+    let e2 = still_shows IsSet p1 p2 dilate (s1 ∷ []) s2 e left push2 (still_shows IsSet p p1 erode (e ∷ []) s1 e left push1 at.shows_eroded) in
+    let n2 = still_shows IsSet p1 p2 dilate (s1 ∷ []) s2 s1 next push2 shows1 in
+    let acts4 = acts_mark b depth n below in
+    let shown4 : AreShown IsSet p3 (m ∷ e ∷ s2 ∷ []) (λ f. marked b depth n f ∷ left f ∷ opened f ∷ []) =
+    also m (e ∷ s2 ∷ []) (marked b depth n) (λ f. left f ∷ opened f ∷ []) shows3 (also e (s2 ∷ []) left (λ f. opened f ∷ []) (goes_on.shows e left e2) (alone p3 s2 opened (goes_on.shows s2 opened shows2))) in
     record {
-      count = omega (arith, at.count, pushed_count p p1 erode (e ∷ []) s1 push1, pushed_count p1 p2 dilate (s1 ∷ []) s2 push2, pushed_count p2 p3 (Mark (n + 1)) (m ∷ e ∷ s2 ∷ []) s3 push3);
-      sound = still_sound IsSet p2 p3 (Mark (n + 1)) (m ∷ e ∷ s2 ∷ []) s3 (λ f. marked b depth n f ∷ left f ∷ opened f ∷ []) (marked b depth (suc n)) push3 shown3 acts3 sound2;
-      read = inr (still_read p2 p3 (Mark (n + 1)) (m ∷ e ∷ s2 ∷ []) s3 push3 (still_read p1 p2 dilate (s1 ∷ []) s2 push2 read1));
-      shows_eroded = still_shows IsSet p2 p3 (Mark (n + 1)) (m ∷ e ∷ s2 ∷ []) s3 s1 next push3 (still_shows IsSet p1 p2 dilate (s1 ∷ []) s2 s1 next push2 shows1);
-      shows_marks = now_shows IsSet p2 p3 (Mark (n + 1)) (m ∷ e ∷ s2 ∷ []) s3 (λ f. marked b depth n f ∷ left f ∷ opened f ∷ []) (marked b depth (suc n)) push3 shown3 acts3;
+      sound = still_sound IsSet p3 p4 (Mark (n + 1)) (m ∷ e ∷ s2 ∷ []) (source after) (λ f. marked b depth n f ∷ left f ∷ opened f ∷ []) (marked b depth (suc n)) push4 shown4 acts4 (goes_on.sound sound2);
+      read = inr (still_read p3 p4 (Mark (n + 1)) (m ∷ e ∷ s2 ∷ []) (source after) push4 (goes_on.read (still_read p1 p2 dilate (s1 ∷ []) s2 push2 (read_first at.read))));
+      shows_eroded = still_shows IsSet p3 p4 (Mark (n + 1)) (m ∷ e ∷ s2 ∷ []) (source after) s1 next push4 (goes_on.shows s1 next n2);
+      are_marks = now_shows IsSet p3 p4 (Mark (n + 1)) (m ∷ e ∷ s2 ∷ []) (source after) (λ f. marked b depth n f ∷ left f ∷ opened f ∷ []) (marked b depth (suc n)) push4 shown4 acts4 refl;
     }
   where
     read_first : (e ≡ FromInput 0) ⊎ IsReadBy p 0 → IsReadBy p1 0
     read_first (inl here) = now_read p p1 erode (e ∷ []) s1 push1 (0, omega arith, here)
     read_first (inr read) = still_read p p1 erode (e ∷ []) s1 push1 read
 
-pub skeleton_turn : (b : List Offset) (depth n : ℕ) (p p1 p2 p3 : Plan) (e m s1 s2 s3 : Source) (erode dilate : PlanStep) → Slides b erode dilate → n < depth → MarksResidues b depth n p e m
-    → IsPushed p p1 erode (e ∷ []) s1 → IsPushed p1 p2 dilate (s1 ∷ []) s2 → IsPushed p2 p3 (Mark (n + 1)) (m ∷ e ∷ s2 ∷ []) s3
-    → MarksResidues b depth (n + 1) p3 s1 s3
-skeleton_turn b depth n p p1 p2 p3 e m s1 s2 s3 erode dilate slides below at push1 push2 push3 =
+pub skeleton_turn : (b : List Offset) (depth n : ℕ) (p p1 p2 p3 p4 : Plan) (e m s1 s2 : Source) (before : Option Read) (after : Read) (erode dilate : PlanStep) → Slides b erode dilate → n < depth
+    → MarksResidues b depth n p e before → IsPushed p p1 erode (e ∷ []) s1 → IsPushed p1 p2 dilate (s1 ∷ []) s2 → GoesOn IsSet p2 p3 → Shows IsSet p3 m (marked b depth n)
+    → IsPushed p3 p4 (Mark (n + 1)) (m ∷ e ∷ s2 ∷ []) (source after) → MarksResidues b depth (n + 1) p4 s1 (Some after)
+skeleton_turn b depth n p p1 p2 p3 p4 e m s1 s2 before after erode dilate slides below at push1 push2 goes_on shows3 push4 =
     let more : suc n ≡ n + 1 = omega arith in
-    subst (λ (k : ℕ). MarksResidues b depth k p3 s1 s3) more (skeleton_turn_more b depth n p p1 p2 p3 e m s1 s2 s3 erode dilate slides below at push1 push2 push3)
+    subst (λ (k : ℕ). MarksResidues b depth k p4 s1 (Some after)) more (skeleton_turn_more b depth n p p1 p2 p3 p4 e m s1 s2 before after erode dilate slides below at push1 push2 goes_on shows3 push4)
 
-pub skeleton_ends : (b : List Offset) (depth : ℕ) (p q : Plan) (e m s : Source) → MarksResidues b depth depth p e m → IsPushed p q (MarkLast (depth + 1)) (m ∷ e ∷ []) s → Draws IsSet q (3 * depth + 2) (skeleton b depth)
-skeleton_ends b depth p q e m s at pushed =
+pub skeleton_ends : (b : List Offset) (depth : ℕ) (p q r : Plan) (e m s : Source) (before : Option Read) → length q ≡ 3 * depth + 1 → MarksResidues b depth depth p e before → GoesOn IsSet p q
+    → Shows IsSet q m (marked b depth depth) → IsPushed q r (MarkLast (depth + 1)) (m ∷ e ∷ []) s → Draws IsSet r (3 * depth + 2) (skeleton b depth)
+skeleton_ends b depth p q r e m s before count at goes_on shows_marks pushed =
     let left : Picture → Picture = times depth (erosion b) in
     let last = acts_mark_last b depth in
-    let shown : AreShown IsSet p (m ∷ e ∷ []) (λ f. marked b depth depth f ∷ left f ∷ []) = also m (e ∷ []) (marked b depth depth) (λ f. left f ∷ []) at.shows_marks (alone p e left at.shows_eroded) in
+    let shown : AreShown IsSet q (m ∷ e ∷ []) (λ f. marked b depth depth f ∷ left f ∷ []) =
+    also m (e ∷ []) (marked b depth depth) (λ f. left f ∷ []) shows_marks (alone q e left (goes_on.shows e left at.shows_eroded)) in
     record {
-      count = omega (arith, at.count, pushed_count p q (MarkLast (depth + 1)) (m ∷ e ∷ []) s pushed);
-      sound = still_sound IsSet p q (MarkLast (depth + 1)) (m ∷ e ∷ []) s (λ f. marked b depth depth f ∷ left f ∷ []) (skeleton b depth) pushed shown last at.sound;
+      count = omega (arith, count, pushed_count q r (MarkLast (depth + 1)) (m ∷ e ∷ []) s pushed);
+      sound = still_sound IsSet q r (MarkLast (depth + 1)) (m ∷ e ∷ []) s (λ f. marked b depth depth f ∷ left f ∷ []) (skeleton b depth) pushed shown last (goes_on.sound at.sound);
       read = read_last at.read;
-      shows = subst (λ (t : Source). Shows IsSet q t (skeleton b depth)) (pushed_last p q (MarkLast (depth + 1)) (m ∷ e ∷ []) s pushed)
-          (now_shows IsSet p q (MarkLast (depth + 1)) (m ∷ e ∷ []) s (λ f. marked b depth depth f ∷ left f ∷ []) (skeleton b depth) pushed shown last);
+      shows = subst (λ (t : Source). Shows IsSet r t (skeleton b depth)) (pushed_last q r (MarkLast (depth + 1)) (m ∷ e ∷ []) s pushed)
+          (now_shows IsSet q r (MarkLast (depth + 1)) (m ∷ e ∷ []) s (λ f. marked b depth depth f ∷ left f ∷ []) (skeleton b depth) pushed shown last refl);
     }
   where
-    read_last : (e ≡ FromInput 0) ⊎ IsReadBy p 0 → IsReadBy q 0
-    read_last (inl here) = now_read p q (MarkLast (depth + 1)) (m ∷ e ∷ []) s pushed (1, omega arith, here)
-    read_last (inr read) = still_read p q (MarkLast (depth + 1)) (m ∷ e ∷ []) s pushed read
+    read_last : (e ≡ FromInput 0) ⊎ IsReadBy p 0 → IsReadBy r 0
+    read_last (inl here) = now_read q r (MarkLast (depth + 1)) (m ∷ e ∷ []) s pushed (1, omega arith, here)
+    read_last (inr read) = still_read q r (MarkLast (depth + 1)) (m ∷ e ∷ []) s pushed (goes_on.read read)
 
 -- ---- restorations
 
@@ -120,12 +134,13 @@ restoration_begins b n q s pushed =
       sound = still_sound IsPicture [] q (Equal (n + 1)) (FromInput 0 ∷ []) s (λ f. f ∷ []) (level_set (n + 1)) pushed shown acts (nothing_sound IsPicture);
       read = now_read [] q (Equal (n + 1)) (FromInput 0 ∷ []) s pushed (0, omega arith, refl);
       last = pushed_last [] q (Equal (n + 1)) (FromInput 0 ∷ []) s pushed;
-      shows = now_shows IsPicture [] q (Equal (n + 1)) (FromInput 0 ∷ []) s (λ f. f ∷ []) (level_set (n + 1)) pushed shown acts;
+      shows = now_shows IsPicture [] q (Equal (n + 1)) (FromInput 0 ∷ []) s (λ f. f ∷ []) (level_set (n + 1)) pushed shown acts refl;
     }
 
 same_operator : (p : Plan) (s : Source) (first second : Picture → Picture) → ((f : Picture) → first f ≡ second f) → Shows IsPicture p s first → Shows IsPicture p s second
 same_operator p s first second same shows = record {
   here = shows.here;
+  plane = shows.plane;
   is = λ f fits. shows.is f fits ∙ same f;
   framed = λ f fits. subst (λ (t : Picture). IsFramed t f.width f.height) (same f) (shows.framed f fits);
 }
@@ -140,11 +155,11 @@ restoration_turn_more b n m p p1 p2 p3 s s1 s2 s3 erode dilate slides at push1 p
     let joined : Picture → Picture = λ f. union (level f) (grown f) in
     let acts1 = acts_equal IsPicture (n + 1) itself in
     let shown1 = alone p (FromInput 0) (λ f. f) (shows_input IsPicture p itself) in
-    let shows1 = now_shows IsPicture p p1 (Equal (n + 1)) (FromInput 0 ∷ []) s1 (λ f. f ∷ []) level push1 shown1 acts1 in
+    let shows1 = now_shows IsPicture p p1 (Equal (n + 1)) (FromInput 0 ∷ []) s1 (λ f. f ∷ []) level push1 shown1 acts1 refl in
     let before1 = still_shows IsPicture p p1 (Equal (n + 1)) (FromInput 0 ∷ []) s1 s before push1 at.shows in
     let acts2 = acts_on IsPicture dilate (dilation (negated b)) before slides.dilates (dilation_framed (negated b)) before1.framed in
     let shown2 = alone p1 s before before1 in
-    let shows2 = now_shows IsPicture p1 p2 dilate (s ∷ []) s2 (λ f. before f ∷ []) grown push2 shown2 acts2 in
+    let shows2 = now_shows IsPicture p1 p2 dilate (s ∷ []) s2 (λ f. before f ∷ []) grown push2 shown2 acts2 slides.dilates.plain in
     let level2 = still_shows IsPicture p1 p2 dilate (s ∷ []) s2 s1 level push2 shows1 in
     let acts3 = acts_join IsPicture level grown level2.framed shows2.framed (λ f. sym (restored_shape b (n + 1) m f).kind) (λ f. sym (restored_shape b (n + 1) m f).maxval) in
     let shown3 : AreShown IsPicture p2 (s1 ∷ s2 ∷ []) (λ f. level f ∷ grown f ∷ []) = also s1 (s2 ∷ []) level (λ f. grown f ∷ []) level2 (alone p2 s2 grown shows2) in
@@ -155,7 +170,7 @@ restoration_turn_more b n m p p1 p2 p3 s s1 s2 s3 erode dilate slides at push1 p
       sound = still_sound IsPicture p2 p3 Join (s1 ∷ s2 ∷ []) s3 (λ f. level f ∷ grown f ∷ []) joined push3 shown3 acts3 sound2;
       read = still_read p2 p3 Join (s1 ∷ s2 ∷ []) s3 push3 (still_read p1 p2 dilate (s ∷ []) s2 push2 (still_read p p1 (Equal (n + 1)) (FromInput 0 ∷ []) s1 push1 at.read));
       last = pushed_last p2 p3 Join (s1 ∷ s2 ∷ []) s3 push3;
-      shows = same_operator p3 s3 joined (restored b n (suc m)) (λ f. sym (restored-turn b n m f)) (now_shows IsPicture p2 p3 Join (s1 ∷ s2 ∷ []) s3 (λ f. level f ∷ grown f ∷ []) joined push3 shown3 acts3);
+      shows = same_operator p3 s3 joined (restored b n (suc m)) (λ f. sym (restored-turn b n m f)) (now_shows IsPicture p2 p3 Join (s1 ∷ s2 ∷ []) s3 (λ f. level f ∷ grown f ∷ []) joined push3 shown3 acts3 refl);
     }
 
 pub restoration_turn : (b : List Offset) (n m : ℕ) (p p1 p2 p3 : Plan) (s s1 s2 s3 : Source) (erode dilate : PlanStep) → Slides b erode dilate → Restores b (n + 1) m p s
@@ -200,7 +215,7 @@ tells_no_more p q step r s before operator steps numbers pushed shows acts not t
     read = still_read p q step (r ∷ []) s pushed tells.read;
     counts = still_counts IsPicture p q step (r ∷ []) s numbers pushed not tells.counts;
   },
-  now_shows IsPicture p q step (r ∷ []) s (λ f. before f ∷ []) operator pushed (alone p r before shows) acts,
+  now_shows IsPicture p q step (r ∷ []) s (λ f. before f ∷ []) operator pushed (alone p r before shows) acts not,
 )
 
 -- the sum of what a source shows
@@ -237,7 +252,7 @@ spectrum_turn b n p p1 p2 p3 e s1 s2 s3 erode dilate slides at push1 kept tells 
     let opened : Picture → Picture = λ f. times (n + 1) (dilation (negated b)) (next f) in
     let more : suc n ≡ n + 1 = omega arith in
     let acts1 = acts_on IsPicture erode (erosion b) left slides.erodes (erosion_framed b) at.shows.framed in
-    let shows1 = now_shows IsPicture p p1 erode (e ∷ []) s1 (λ f. left f ∷ []) next push1 (alone p e left at.shows) acts1 in
+    let shows1 = now_shows IsPicture p p1 erode (e ∷ []) s1 (λ f. left f ∷ []) next push1 (alone p e left at.shows) acts1 slides.erodes.plain in
     let shows3 = still_shows IsPicture p2 p3 Sum (s2 ∷ []) s3 s1 next push3 (kept s1 next shows1) in
     record {
       tells = same_tells p3 (suc (suc (spectrum_steps n) + (n + 1))) (spectrum_steps (n + 1)) (λ f. spectrum b n f ++ sum (opened f).samples ∷ []) (spectrum b (n + 1))
@@ -257,7 +272,7 @@ pub dilated_more : (b : List Offset) (k steps : ℕ) (numbers : Picture → List
 dilated_more b k steps numbers before p q r s erode dilate slides tells shows pushed =
     let grown : Picture → Picture = λ f. times k (dilation (negated b)) (before f) in
     let both = tells_no_more p q dilate r s grown (λ f. dilation (negated b) (grown f)) (steps + k) numbers pushed shows
-    (acts_on IsPicture dilate (dilation (negated b)) grown slides.dilates (dilation_framed (negated b)) shows.framed) slides.no_sums.1 tells in
+    (acts_on IsPicture dilate (dilation (negated b)) grown slides.dilates (dilation_framed (negated b)) shows.framed) slides.dilates.plain tells in
     let more : suc k ≡ k + 1 = omega arith in
     let steps_more : suc (steps + k) ≡ steps + (k + 1) = omega arith in
     (subst (λ (n : ℕ). Tells q n numbers) steps_more both.0, subst (λ (n : ℕ). Shows IsPicture q s (λ f. times n (dilation (negated b)) (before f))) more both.1)
@@ -305,30 +320,13 @@ pub turn_erodes : (b : List Offset) (n : ℕ) (p p1 : Plan) (e s1 : Source) (ero
 turn_erodes b n p p1 e s1 erode dilate slides at pushed =
     let left : Picture → Picture = times n (erosion b) in
     tells_no_more p p1 erode e s1 left (λ f. erosion b (left f)) (spectrum_steps n) (spectrum b n) pushed at.shows
-    (acts_on IsPicture erode (erosion b) left slides.erodes (erosion_framed b) at.shows.framed) slides.no_sums.0 at.tells
+    (acts_on IsPicture erode (erosion b) left slides.erodes (erosion_framed b) at.shows.framed) slides.erodes.plain at.tells
 
 pub ends_in : (b : List Offset) (n levels : ℕ) (p : Plan) (e : Source) → n ≡ levels → TellsVolumes b n p e → Tells p (spectrum_steps levels) (spectrum b levels)
 ends_in b n levels p e same at = subst (λ (k : ℕ). Tells p (spectrum_steps k) (spectrum b k)) same at.tells
 
 pub boxes_begin : (b : List Offset) (q : Plan) (s : Source) → IsPushed [] q Sum (FromInput 0 ∷ []) s → Tells q (3 * 0 + 1) (spectrum b 0)
 boxes_begin b q s pushed = (spectrum_begins b q s pushed).tells
-
--- ---- the steps of an element
-
-pub slides_by_box : (box : OffsetBox) (b : List Offset) (dilate : OffsetBox) → FillsBox box b → dilate ≡ turned_box box → Slides b (ErodeBox box) (DilateBox dilate)
-slides_by_box box b dilate fills is = record {
-  erodes = record { made = λ f. record { count = refl; kinds = tt }; plane = λ f. erosion_same (box_offsets box) b f (box_same box b fills) };
-  dilates = subst (λ (t : OffsetBox). ActsAs (DilateBox t) (dilation (negated b))) (sym is)
-      (record { made = λ f. record { count = refl; kinds = tt }; plane = λ f. dilation_same (box_offsets (turned_box box)) (negated b) f (turned_same box b fills) });
-  no_sums = (refl, refl);
-}
-
-pub slides_by_offsets : (b d e : List Offset) → d ≡ b → e ≡ negated b → Slides b (Erode d) (Dilate e)
-slides_by_offsets b d e is turned = record {
-  erodes = subst (λ (t : List Offset). ActsAs (Erode t) (erosion b)) (sym is) (record { made = λ f. record { count = refl; kinds = tt }; plane = λ f. refl });
-  dilates = subst (λ (t : List Offset). ActsAs (Dilate t) (dilation (negated b))) (sym turned) (record { made = λ f. record { count = refl; kinds = tt }; plane = λ f. refl });
-  no_sums = (refl, refl);
-}
 
 -- ---- the steps of a spectrum
 

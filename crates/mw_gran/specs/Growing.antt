@@ -5,7 +5,7 @@ use Rattle.mw_model.specs.Pictures.{Picture}
 use Rattle.mw_model.specs.PlanSteps.{PlanStep}
 use Rattle.mw_model.specs.Plans.{Plan, Source, FromStep, IsSourceAt, plane_of, plane_of_source, planes, numbers_from}
 use Rattle.mw_model.specs.Tasks.{nothing_planned}
-use Rattle.mw_plan.specs.PlansOf.{CanBeMade, planes_read}
+use Rattle.mw_plan.specs.PlansOf.{CanBeMade, IsPlaneSource, IsReadBy, planes_read}
 
 -- the image is of this frame
 pub record IsFramed (f : Picture) (w h : ℕ) : Type 0 where
@@ -22,15 +22,17 @@ pub record IsPushed (p q : Plan) (step : PlanStep) (sources : List Source) (s : 
   pub is : q ≡ p ++ record { step = step; sources = sources } ∷ []
   pub at : s ≡ FromStep (length p)
 
--- of images that fit, the source shows this operator of the image
+-- of images that fit, the source, which is no Sum step, shows this operator of the image
 pub record Shows (Fits : Picture → Type 0) (p : Plan) (s : Source) (operator : Picture → Picture) : Type 0 where
   pub here : IsSourceAt 1 (length p) s
+  pub plane : IsPlaneSource p s
   pub is : (f : Picture) → Fits f → seen_of p f s ≡ operator f
   pub framed : (f : Picture) → Fits f → IsFramed (operator f) f.width f.height
 
--- of images that fit, each step reads what is there, and can be made of that
+-- of images that fit, each step reads planes that are there, and can be made of those
 pub record IsSound (Fits : Picture → Type 0) (p : Plan) : Type 0 where
   pub sources : (k : ℕ) → AllByRecursion (IsSourceAt 1 k) (slice_index_or p k nothing_planned).sources
+  pub planes : (k : ℕ) → AllByRecursion (IsPlaneSource p) (slice_index_or p k nothing_planned).sources
   pub made : (f : Picture) → Fits f → (k : ℕ) → k < length p → CanBeMade (slice_index_or p k nothing_planned).step (planes_read p (f ∷ []) f.width f.height k)
 
 -- of images that fit, the step can be made of what its sources show, and its plane is this operator
@@ -42,3 +44,9 @@ pub record Acts (Fits : Picture → Type 0) (step : PlanStep) (shown : Picture �
 -- of images that fit, the numbers of the Sum steps so far
 abbrev pub Counts : (Picture → Type 0) → Plan → (Picture → List ℕ) → Type 0
 Counts Fits p numbers = (f : Picture) → Fits f → numbers_from p (planes p (f ∷ []) f.width f.height) ≡ numbers f
+
+-- the plan goes on to the second: it stays sound, still reads its image, and its sources show what they showed
+pub record GoesOn (Fits : Picture → Type 0) (p q : Plan) : Type 0 where
+  pub sound : IsSound Fits p → IsSound Fits q
+  pub read : IsReadBy p 0 → IsReadBy q 0
+  pub shows : (s : Source) (operator : Picture → Picture) → Shows Fits p s operator → Shows Fits q s operator

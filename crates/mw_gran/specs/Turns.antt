@@ -1,5 +1,5 @@
 -- What stands after some turns of a plan (own).
-use Rattle.std.specs.Prelude.{ℕ, zero, suc, false, ◌≡◌, ◌+◌, ◌-◌, ◌*◌, ◌/◌, ◌≤◌, ◌⊎◌, List, length}
+use Rattle.std.specs.Prelude.{ℕ, zero, suc, ◌≡◌, ◌+◌, ◌-◌, ◌*◌, ◌/◌, ◌≤◌, ◌⊎◌, List, Option, Some, None, length}
 use Rattle.mw_model.specs.declared.shapes.Kind.TheVariants.{Grey}
 use Rattle.mw_model.specs.declared.places.Offset.{Offset}
 use Rattle.mw_model.specs.declared.places.OffsetBox.{OffsetBox}
@@ -8,8 +8,10 @@ use Rattle.mw_element.specs.Figures.{FillsBox}
 use Rattle.mw_model.specs.Pictures.{Picture, drawn, IsPicture, IsSet}
 use Rattle.mw_model.specs.Flat.{erosion, dilation, negated}
 use Rattle.mw_model.specs.Iterates.{times, residue_mark, level_set, union, spectrum}
-use Rattle.mw_model.specs.Plans.{Plan, Source, FromInput, FromStep, is_sum}
+use Rattle.mw_model.specs.Plans.{Plan, Source, FromInput, FromStep}
+use Rattle.mw_plan.specs.declared.plans.Source.{Source as Read}
 use Rattle.mw_plan.specs.PlansOf.{IsReadBy}
+use Rattle.mw_plan.specs.Seen.{source}
 use Rattle.mw_model.specs.PlanSteps.{PlanStep}
 use Rattle.mw_plan.specs.Steps.{ActsAs}
 use Rattle.mw_gran.specs.Growing.{IsSound, Shows, Counts}
@@ -18,7 +20,6 @@ use Rattle.mw_gran.specs.Growing.{IsSound, Shows, Counts}
 pub record Slides (b : List Offset) (erode dilate : PlanStep) : Type 0 where
   pub erodes : ActsAs erode (erosion b)
   pub dilates : ActsAs dilate (dilation (negated b))
-  pub no_sums : (is_sum erode ≡ false) × (is_sum dilate ≡ false)
 
 -- a plan of so many steps whose last plane is this operator of each image that fits
 pub record Draws (Fits : Picture → Type 0) (p : Plan) (steps : ℕ) (operator : Picture → Picture) : Type 0 where
@@ -31,13 +32,22 @@ pub record Draws (Fits : Picture → Type 0) (p : Plan) (steps : ℕ) (operator 
 abbrev pub marked : List Offset → ℕ → ℕ → Picture → Picture
 marked b depth n f = drawn Grey f.width f.height (depth + 1) (residue_mark b f n)
 
+-- the steps that are wanted before a first mark: the empty marks, where there are none yet
+abbrev pub steps_to_marks : Option Read → ℕ
+steps_to_marks (Some m) = 0
+steps_to_marks None = 1
+
+-- the marks of n turns; before the first there are none
+abbrev pub AreMarks : List Offset → ℕ → ℕ → Plan → Option Read → Type 0
+AreMarks b depth n p (Some m) = Shows IsSet p (source m) (marked b depth n)
+AreMarks b depth n p None = n ≡ 0
+
 -- n turns of a skeleton of this depth: the image is read, or this is the image; what is left of it, and the marks so far
-pub record MarksResidues (b : List Offset) (depth n : ℕ) (p : Plan) (eroded marks : Source) : Type 0 where
-  pub count : length p ≡ 3 * n + 1
+pub record MarksResidues (b : List Offset) (depth n : ℕ) (p : Plan) (eroded : Source) (marks : Option Read) : Type 0 where
   pub sound : IsSound IsSet p
   pub read : (eroded ≡ FromInput 0) ⊎ IsReadBy p 0
   pub shows_eroded : Shows IsSet p eroded (times n (erosion b))
-  pub shows_marks : Shows IsSet p marks (marked b depth n)
+  pub are_marks : AreMarks b depth n p marks
 
 -- what m turns restore of the marks above n
 unfoldable pub restored : List Offset → ℕ → ℕ → Picture → Picture

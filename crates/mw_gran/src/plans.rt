@@ -7,7 +7,7 @@ ghost use Rattle.mw_model.specs.declared.places.OffsetBox.{OffsetBox};
 ghost use Rattle.mw_model.specs.Iterates.{skeleton, restoration};
 ghost use Rattle.mw_model.specs.Laws.{HoldsOrigin};
 ghost use Rattle.mw_model.specs.Pictures.{IsPicture, IsSet};
-ghost use Rattle.mw_plan.specs.Asked.{IsRefusedBy, fault_in, is_element_input, offsets_of_input};
+ghost use Rattle.mw_plan.specs.Asked.{IsRefusedBy, fault_in, offsets_of_input};
 ghost use Rattle.mw_plan.specs.PlansOf.{IsPlanOf};
 ghost use Rattle.mw_gran.specs.Sizes.{LevelsFit, MakesGran, most_steps, most_steps_by_box};
 ghost use Rattle.mw_gran.specs.Turns.{Draws};
@@ -21,17 +21,6 @@ use mw_model::{GranOp, NoMemory, Op};
 use mw_plan::{Input, Plan, PlanFault, shape_of};
 use std::alloc::Global;
 use std::sync::Arc;
-
-/// The element that stands there.
-fn element_in<'a>(input: Input<'a>) -> &'a Arc<Element>
-    requires { is_element_input input ≡ true }
-    ensures { (arc_value result.now).offsets ≡ offsets_of_input input.entry }
-{
-    match input {
-        Input::Element(element) => element,
-        _ => unreachable!(),
-    }
-}
 
 /// The plan of a skeleton by this element.
 fn skeleton_by(alloc: Global, element: &Arc<Element>, levels: u32) -> Result<Plan, NoMemory>
@@ -79,6 +68,5 @@ pub fn plan_of(
     ensures short { IfOk result (λ p. length p ≤ 896) }
 {
     shape_of(&Op::Gran(*op), a, b, c)?;
-    let element = element_in(b);
-    Ok(steps(alloc, op, element)?)
+    Ok(steps(alloc, op, b.element())?)
 }

@@ -2,6 +2,9 @@
 //!
 //! Each turn takes three steps: the next erosion, its dilation, which is the opening of what was left, and the marks of
 //! what the opening has lost. So no erosion is made twice.
+//!
+//! The empty marks come just before the first marks, which are put into them. Of all ready tasks those of the latest step
+//! are taken first: at the head of the plan the empty marks would be taken last of all, and all marks wait for them.
 
 ghost use Rattle.std.specs.Prelude.{◌≡◌, ◌+◌, ◌*◌, ◌<◌, ◌≤◌, ℕ, List, length, IfOk};
 ghost use Rattle.mw_model.specs.declared.places.Offset.{Offset};
@@ -9,7 +12,8 @@ ghost use Rattle.mw_model.specs.Iterates.{skeleton};
 ghost use Rattle.mw_model.specs.Pictures.{IsSet};
 ghost use Rattle.mw_task.specs.Meanings.{meaning};
 ghost use Rattle.mw_plan.specs.Seen.{source};
-ghost use Rattle.mw_gran.specs.Turns.{Draws, MarksResidues, Slides};
+ghost use Rattle.mw_gran.specs.Growing.{GoesOn, Shows};
+ghost use Rattle.mw_gran.specs.Turns.{AreMarks, Draws, MarksResidues, Slides, marked, steps_to_marks};
 
 use crate::growing::add;
 use crate::sliding::SlidingSteps;
@@ -17,25 +21,50 @@ use mw_model::NoMemory;
 use mw_plan::{Plan, Source, Sources, Step};
 use std::alloc::Global;
 
-/// Where the last erosion and the marks so far are read.
+/// Where the last erosion and the marks so far are read: no marks before the first turn.
 #[derive(Clone, Copy)]
 struct Stand {
     eroded: Source,
-    marks: Source,
+    marks: Option<Source>,
+}
+
+/// The marks so far, or the empty marks.
+fn marks_or_blank(plan: &mut Plan, marks: Option<Source>, levels: u16) -> Result<Source, NoMemory>
+    requires few { length plan.old < 65536 }
+    requires small { levels ≤ 254 }
+    ensures count { IfOk result (λ _. length plan.new ≡ length plan.old + steps_to_marks marks) }
+    ensures goes_on { IfOk result (λ _. GoesOn IsSet plan.old plan.new) }
+    ensures shows { (b : List Offset) (n : ℕ) → AreMarks b levels n plan.old marks → IfOk result (λ s. Shows IsSet plan.new (source s) (marked b levels n)) }
+{
+    match marks {
+        Some(marks) => Ok(marks),
+        None => add(plan, Step::Blank(levels + 1), Sources::Nothing),
+    }
 }
 
 /// One turn, behind n others.
-fn turn(plan: &mut Plan, steps: &SlidingSteps, before: Stand, n: u16) -> Result<Stand, NoMemory>
+fn turn(
+    plan: &mut Plan,
+    steps: &SlidingSteps,
+    before: Stand,
+    levels: u16,
+    n: u16,
+) -> Result<Stand, NoMemory>
     requires few { length plan.old < 65000 }
-    requires small { n < 254 }
-    ensures count { IfOk result (λ _. length plan.new ≡ length plan.old + 3) }
-    ensures marks { (b : List Offset) (depth : ℕ) → Slides b (meaning steps.now.erode) (meaning steps.now.dilate) → n < depth → MarksResidues b depth n plan.old (source before.eroded) (source before.marks) → IfOk result (λ t. MarksResidues b depth (n + 1) plan.new (source t.eroded) (source t.marks)) }
+    requires small { levels ≤ 254 }
+    requires below { n < levels }
+    ensures count { IfOk result (λ t. length plan.new + steps_to_marks t.marks ≡ length plan.old + steps_to_marks before.marks + 3) }
+    ensures marks { (b : List Offset) → Slides b (meaning steps.now.erode) (meaning steps.now.dilate) → MarksResidues b levels n plan.old (source before.eroded) before.marks → IfOk result (λ t. MarksResidues b levels (n + 1) plan.new (source t.eroded) t.marks) }
 {
     let eroded = add(plan, steps.erode.share()?, Sources::One(before.eroded))?;
     let opened = add(plan, steps.dilate.share()?, Sources::One(eroded))?;
-    let sources = Sources::Three(before.marks, before.eroded, opened);
-    let marks = add(plan, Step::Mark(n + 1), sources)?;
-    Ok(Stand { eroded, marks })
+    let marks = marks_or_blank(plan, before.marks, levels)?;
+    let sources = Sources::Three(marks, before.eroded, opened);
+    let more = add(plan, Step::Mark(n + 1), sources)?;
+    Ok(Stand {
+        eroded,
+        marks: Some(more),
+    })
 }
 
 /// The plan of a skeleton.
@@ -46,12 +75,13 @@ pub(crate) fn skeleton(alloc: Global, steps: &SlidingSteps, levels: u16) -> Resu
     let mut plan = Plan::with_capacity(alloc, 3 * usize::from(levels) + 2)?;
     let mut last = Stand {
         eroded: Source::Input(0),
-        marks: add(&mut plan, Step::Blank(levels + 1), Sources::Nothing)?,
+        marks: None,
     };
     for n in 0..levels {
-        last = turn(&mut plan, steps, last, n)?;
+        last = turn(&mut plan, steps, last, levels, n)?;
     }
-    let sources = Sources::Two(last.marks, last.eroded);
+    let marks = marks_or_blank(&mut plan, last.marks, levels)?;
+    let sources = Sources::Two(marks, last.eroded);
     add(&mut plan, Step::MarkLast(levels + 1), sources)?;
     Ok(plan)
 }

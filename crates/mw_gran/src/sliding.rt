@@ -6,13 +6,12 @@ ghost use Rattle.mw_element.specs.Figures.{FillsBox};
 ghost use Rattle.mw_model.specs.declared.places.OffsetBox.{OffsetBox};
 ghost use Rattle.mw_model.specs.Laws.{HoldsOrigin};
 ghost use Rattle.mw_task.specs.Meanings.{meaning};
-ghost use Rattle.mw_gran.specs.Boxes.{IsSmallBox};
+ghost use Rattle.mw_plan.specs.Steps.{IsNearBox};
 ghost use Rattle.mw_gran.specs.Turns.{Slides};
 
-use crate::boxes::turned;
 use mw_element::Element;
 use mw_model::{NoMemory, OffsetBox};
-use mw_plan::Step;
+use mw_plan::{Extremum, Input, Step, slide, slide_turned};
 use std::alloc::Global;
 use std::sync::Arc;
 
@@ -23,22 +22,14 @@ pub(crate) struct SlidingSteps {
     pub(crate) dilate: Step,
 }
 
-/// The steps of an element; those of a full rectangle go as its box.
+/// The steps of an element, or `NoMemory`; those of a full rectangle go as its box.
 pub(crate) fn sliding_steps(alloc: Global, element: &Arc<Element>) -> Result<SlidingSteps, NoMemory>
     ensures { IfOk result (λ s. Slides (arc_value element.now).offsets (meaning s.erode) (meaning s.dilate)) }
 {
-    // The bounds of a box stay within the sides of an element.
-    let _figure = element.offsets();
-    if let Some(offsets) = element.as_rectangle() {
-        return Ok(SlidingSteps {
-            erode: Step::ErodeBox(offsets),
-            dilate: Step::DilateBox(turned(offsets)),
-        });
-    }
-    let reflected = element.reflect(alloc)?;
+    let input = Input::Element(element);
     Ok(SlidingSteps {
-        erode: Step::Erode(Arc::try_clone(element)?),
-        dilate: Step::Dilate(Arc::new(alloc, reflected)?),
+        erode: slide(Extremum::Least, input)?,
+        dilate: slide_turned(alloc, Extremum::Greatest, input)?,
     })
 }
 
@@ -46,7 +37,7 @@ pub(crate) fn sliding_steps(alloc: Global, element: &Arc<Element>) -> Result<Sli
 pub(crate) fn rectangle_with_origin(element: &Element) -> Option<OffsetBox>
     ensures fills { IfSome result (λ box. FillsBox box element.now.offsets) }
     ensures holds { IfSome result (λ _. HoldsOrigin element.now.offsets) }
-    ensures near { IfSome result IsSmallBox }
+    ensures near { IfSome result IsNearBox }
     ensures none { IfNone result ((box : OffsetBox) → FillsBox box element.now.offsets → HoldsOrigin element.now.offsets → ⊥) }
 {
     // The bounds of a box stay within the sides of an element.

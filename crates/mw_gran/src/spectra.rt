@@ -14,16 +14,16 @@ ghost use Rattle.mw_model.specs.Laws.{HoldsOrigin};
 ghost use Rattle.mw_model.specs.Pictures.{Picture, IsPicture};
 ghost use Rattle.mw_task.specs.Meanings.{meaning};
 ghost use Rattle.mw_plan.specs.Seen.{source};
-ghost use Rattle.mw_gran.specs.Boxes.{IsSmallBox};
+ghost use Rattle.mw_plan.specs.Steps.{IsNearBox};
 ghost use Rattle.mw_gran.specs.Growing.{Shows};
 ghost use Rattle.mw_gran.specs.Turns.{Slides, StillShown, Tells, TellsSpectrum, TellsVolumes, spectrum_steps};
 
-use crate::boxes::{multiplied, turned};
+use crate::boxes::multiplied;
 use crate::growing::add;
 use crate::sliding::{SlidingSteps, rectangle_with_origin, sliding_steps};
 use mw_element::Element;
 use mw_model::{NoMemory, OffsetBox};
-use mw_plan::{Plan, Source, Sources, Step};
+use mw_plan::{Plan, Source, Sources, Step, turned};
 use std::alloc::Global;
 use std::sync::Arc;
 
@@ -75,7 +75,7 @@ fn by_turns(alloc: Global, steps: &SlidingSteps, levels: u32) -> Result<Plan, No
 fn box_turn(plan: &mut Plan, offsets: OffsetBox, n: u32) -> Result<(), NoMemory>
     requires few { length plan.old < 65000 }
     requires small { n < 32 }
-    requires near { IsSmallBox offsets }
+    requires near { IsNearBox offsets }
     ensures count { IfOk result (λ _. length plan.new ≡ length plan.old + 3) }
     ensures tells { (b : List Offset) → FillsBox offsets b → HoldsOrigin b → Tells plan.old (3 * n + 1) (spectrum b n) → IfOk result (λ _. Tells plan.new (3 * (n + 1) + 1) (spectrum b (n + 1))) }
 {
@@ -90,7 +90,7 @@ fn box_turn(plan: &mut Plan, offsets: OffsetBox, n: u32) -> Result<(), NoMemory>
 /// The plan of a spectrum by a full rectangle that holds its origin.
 fn by_boxes(alloc: Global, offsets: OffsetBox, levels: u32) -> Result<Plan, NoMemory>
     requires small { levels ≤ 32 }
-    requires near { IsSmallBox offsets }
+    requires near { IsNearBox offsets }
     ensures { (b : List Offset) → FillsBox offsets b → HoldsOrigin b → IfOk result (λ p. Tells p (3 * levels + 1) (spectrum b levels)) }
 {
     let mut plan = Plan::with_capacity(alloc, 3 * levels as usize + 1)?;

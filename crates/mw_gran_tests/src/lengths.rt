@@ -1,9 +1,9 @@
-//! How many steps plans have.
+//! How many steps plans have, and where the empty marks stand among them.
 
 use crate::given::{bar, planned, restore, sides, skeleton, spectrum};
 use mw_gran::GranOp;
 use mw_images_for_tests::bit_row;
-use mw_task::Element;
+use mw_task::{Element, Step};
 use std::alloc::Global;
 use std::process::Abort;
 use std::sync::Arc;
@@ -43,6 +43,21 @@ fn fewer_steps_for_spectra_by_rectangles(rt: HostRuntime) -> Result<(), Fail> {
     for (levels, by_box, by_turns) in [(1, 4, 4), (2, 7, 8), (3, 10, 13), (32, 97, 593)] {
         has_at_most(&rt, alloc, spectrum(levels)?, &bar, by_box)?;
         has_at_most(&rt, alloc, spectrum(levels)?, &sides, by_turns)?;
+    }
+    Ok(())
+}
+
+#[test]
+fn empty_marks_stand_third(rt: HostRuntime) -> Result<(), Fail> {
+    let alloc = rt.alloc();
+    let (bar, set) = (bar(alloc)?, bit_row(alloc, &[0, 1, 1, 1, 0])?);
+    for levels in [1, 2, 10] {
+        let plan = planned(alloc, &skeleton(levels)?, &set, &bar);
+        let plan = plan.ok().ok_or("there is a plan")?;
+        for (place, planned) in plan.steps().iter().enumerate() {
+            let blank = matches!(&planned.step, Step::Blank(_));
+            assert!(rt; blank == (place == 2), "step {place} of {levels} levels");
+        }
     }
     Ok(())
 }

@@ -1,3 +1,8 @@
+-- what other crates may cite
+pub mod Counts
 pub mod Lines
-pub mod Tiles
+pub mod Meeting
 pub mod Reaching
+pub mod Tiles
+-- the crate's own
+mod Pieces

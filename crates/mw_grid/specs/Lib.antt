@@ -1,2 +1,4 @@
+pub mod Counts
 pub mod Grids
 pub mod Rectangles
+pub mod Blocks

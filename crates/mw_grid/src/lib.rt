@@ -9,10 +9,12 @@
 //! ```
 #![tactic(auto)]
 
+mod blocks;
 mod grid;
 mod laws;
 mod rectangles;
 
+pub use blocks::Block;
 pub use grid::{Grid, side_ok};
 pub use laws::{tiles_cover_once, window_reaches};
 pub use mw_model::{Offset, Reach, Rect};

@@ -7,13 +7,9 @@ use Rattle.std.proofs.Math.Seq.{take-length}
 use Rattle.std.specs.List.{position_or_len}
 use Rattle.mw_facts.proofs.Positions.{position_length, position_more, position_kept, position_grows, position_take}
 use Rattle.mw_intake.specs.Intake.{IsPayloadLine}
-use Rattle.mw_model.specs.declared.names.Name.{Name}
-use Rattle.mw_model.specs.declared.operations.Op.{Op}
-use Rattle.mw_model.specs.declared.requests.Ask.TheVariants as ask
-use Rattle.mw_model.specs.declared.requests.Awaited.TheVariants as awaited
-use Rattle.mw_intake.proofs.LineLaws.{read_is_said, run_is_served}
+use Rattle.mw_intake.proofs.LineLaws.{read_is_said}
 use Rattle.mw_intake.proofs.SaidLines.{said_is_read}
-use Rattle.mw_model.specs.Lines.{Front, Found, Partial, Fault, Asked, AskAlone, is_served, asked_with, after_head, with_payload, IsSayable, line_of, Says, NoLineEnd, IsFront, too_long, unended, ended, Begins}
+use Rattle.mw_model.specs.Lines.{Front, Found, Partial, Fault, Asked, asked_with, after_head, with_payload, IsSayable, line_of, Says, NoLineEnd, IsFront, too_long, unended, ended, Begins}
 use Rattle.mw_intake.specs.Reading.{is_line_end, front, head_of}
 use Rattle.mw_model.specs.declared.requests.Awaited.{Awaited}
 use Rattle.mw_model.specs.declared.requests.Head.{Head}
@@ -311,34 +307,3 @@ Begins_prefix (r ∷ rs) (q ∷ qs) xs rest end b d h =
     let rec = Begins_prefix rs qs b.0 rest end b.2 (subst (λ l. Begins l qs end) (sym mid) d.2) (omega arith) in
     let tail = rec.1 in
     (rec.0, cc, rec.2)
-
-no_run : (what : Awaited) (payload behind left : List ℕ) (name : Name) (op : Op) → Found (asked_with what payload) behind ≡ Found (AskAlone (ask.Run name op)) left → ⊥
-no_run (awaited.Image n) payload behind left name op e = let bad = found_asked e in cc
-no_run (awaited.Element n ox oy) payload behind left name op e = let bad = found_asked e in cc
-
--- a request to compute was read from its line
-payload_asks : (what : Awaited) (n : ℕ) (behind left : List ℕ) (name : Name) (op : Op) → with_payload what n behind ≡ Found (AskAlone (ask.Run name op)) left → ⊥
-payload_asks what n behind left name op e = elim (cases_lt 134217728 n) [
-  | inl h ↦ let bad = payload_long what n behind h in cc
-  | inr h ↦ elim (cases_lt (length behind) n) [
-    | inl k ↦ let bad = payload_partial what n behind h k in cc
-    | inr k ↦ no_run what (take n behind) (drop n behind) left name op (sym (payload_whole what n behind h k) ∙ e)
-  ]
-]
-
-after_run : (h : Option Head) (behind left : List ℕ) (name : Name) (op : Op) → after_head h behind ≡ Found (AskAlone (ask.Run name op)) left → h ≡ Some (Alone (ask.Run name op))
-after_run None behind left name op e = cc
-after_run (Some (Payload what n)) behind left name op e = absurd (payload_asks what n behind left name op e)
-after_run (Some (Alone a)) behind left name op e = let asks = found_asked e in let same : a ≡ ask.Run name op = cc in ap (λ b. Some (Alone b)) same
-
--- a request to compute asks for an operation that is served
-pub front_served : (xs rest : List ℕ) (name : Name) (op : Op) → front xs ≡ Found (AskAlone (ask.Run name op)) rest → is_served op ≡ true
-front_served xs rest name op e = elim (cases_lt 200 (position_or_len is_line_end xs)) [
-  | inl h ↦ let bad = front_long xs h in cc
-  | inr h ↦ elim (cases_lt (position_or_len is_line_end xs) (length xs)) [
-    | inl k ↦
-        let line = take (position_or_len is_line_end xs) xs in
-        run_is_served line name op (after_run (head_of line) (drop (position_or_len is_line_end xs + 1) xs) rest name op (sym (front_line xs h k) ∙ e))
-    | inr k ↦ let bad = front_open xs h k in cc
-  ]
-]

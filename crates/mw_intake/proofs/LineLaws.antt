@@ -1,5 +1,5 @@
 -- A line is read exactly where it is the line of what is read.
-use Rattle.std.proofs.Common.{◌≡◌, ℕ, ◌<◌, true, List, [], ◌∷◌, map, refl, sym, ap, ◌∙◌, None, Some, inl, inr, codes, decimal}
+use Rattle.std.proofs.Common.{◌≡◌, ℕ, ◌<◌, true, List, [], ◌∷◌, map, refl, sym, ap, ◌∙◌, Some, inl, inr, codes, decimal}
 use Rattle.std.specs.Str.{bytes_eq}
 use Rattle.std.specs.List.{join_with_byte, AllByRecursion}
 use Rattle.std.proofs.lemmas.List.Splits.{join_with_byte-slice_split}
@@ -15,8 +15,8 @@ use Rattle.mw_model.specs.declared.requests.Awaited.TheVariants as awaited
 use Rattle.mw_model.specs.declared.requests.Head.{Head}
 use Rattle.mw_model.specs.declared.requests.Head.TheVariants.{Payload, Alone}
 use Rattle.mw_model.specs.Names.{spelling}
-use Rattle.mw_model.specs.Lines.{Word, Fixed, ForName, ForNumber, Fits, IsName, spelled, op_words, words_of, line_of, AsksServed, is_served, IsSayable}
-use Rattle.mw_intake.specs.Reading.{served, words, word_in, name_in, number_in, rest, at_end, one_name, two_names, three_names, name_and_number, two_names_and_number, name_and_three_numbers, window_op, op_with, run_in, ask_with, head_with, head_of, ◌>>=◌}
+use Rattle.mw_model.specs.Lines.{Word, Fixed, ForName, ForNumber, Fits, IsName, spelled, op_words, words_of, line_of, IsSayable}
+use Rattle.mw_intake.specs.Reading.{words, word_in, name_in, number_in, rest, at_end, one_name, two_names, three_names, name_and_number, two_names_and_number, name_and_three_numbers, window_op, op_with, run_in, ask_with, head_with, head_of, ◌>>=◌}
 use Rattle.mw_intake.proofs.Fields.{if_some, bind_some, text_is, end_some, name_first, number_first}
 
 -- these words are those, and each of them may stand there
@@ -149,48 +149,39 @@ op_says word ws op e = elim (if_some (bytes_eq word (codes "THRESHOLD")) _ _ op 
   ]
 ]
 
--- an operation that is let through is served
-served_is : (o p : Op) → served o ≡ Some p → (o ≡ p) × (is_served p ≡ true)
-served_is o p e = elim (if_some (is_served o) (Some o) None p e) [
-  | inl s ↦ let same : o ≡ p = cc in (same, rw (← same) s.0)
-  | inr e ↦ cc
-]
-
-run_says : (ws : List (List ℕ)) (word : List ℕ) (a : Ask) → bytes_eq word (codes "RUN") ≡ true → run_in ws ≡ Some a → Says (word ∷ ws) (words_of (Alone a)) × AsksServed (Alone a)
+run_says : (ws : List (List ℕ)) (word : List ℕ) (a : Ask) → bytes_eq word (codes "RUN") ≡ true → run_in ws ≡ Some a → Says (word ∷ ws) (words_of (Alone a))
 run_says ws word a h e =
-    let p = name_first ws (λ name. word_in (rest ws) >>= (λ w. op_with w (rest (rest ws)) >>= (λ o. served o >>= (λ op. Some (ask.Run name op))))) a e in
-    let w = bind_some (word_in (rest ws)) (λ w. op_with w (rest (rest ws)) >>= (λ o. served o >>= (λ op. Some (ask.Run p.0 op)))) a p.3 in
-    let r = bind_some (op_with w.0 (rest (rest ws))) (λ o. served o >>= (λ op. Some (ask.Run p.0 op))) a w.2 in
-    let o = bind_some (served r.0) (λ op. Some (ask.Run p.0 op)) a r.2 in
-    let s = served_is r.0 o.0 o.1 in
+    let p = name_first ws (λ name. word_in (rest ws) >>= (λ w. op_with w (rest (rest ws)) >>= (λ op. Some (ask.Run name op)))) a e in
+    let w = bind_some (word_in (rest ws)) (λ w. op_with w (rest (rest ws)) >>= (λ op. Some (ask.Run p.0 op))) a p.3 in
+    let o = bind_some (op_with w.0 (rest (rest ws))) (λ op. Some (ask.Run p.0 op)) a w.2 in
     let same : ask.Run p.0 o.0 ≡ a = cc in
-    let op = op_says w.0 (rest (rest ws)) o.0 (r.1 ∙ ap Some s.0) in
-    rw (← same) (fixed_before h (says_name p.1 p.2 (record { words_are = first_word (rest ws) w.0 w.1 ∙ op.words_are; fit = op.fit })), s.1)
+    let op = op_says w.0 (rest (rest ws)) o.0 o.1 in
+    rw (← same) (fixed_before h (says_name p.1 p.2 (record { words_are = first_word (rest ws) w.0 w.1 ∙ op.words_are; fit = op.fit })))
 
-ask_says : (word : List ℕ) (ws : List (List ℕ)) (a : Ask) → ask_with word ws ≡ Some a → Says (word ∷ ws) (words_of (Alone a)) × AsksServed (Alone a)
+ask_says : (word : List ℕ) (ws : List (List ℕ)) (a : Ask) → ask_with word ws ≡ Some a → Says (word ∷ ws) (words_of (Alone a))
 unfolding ask_with
 ask_says word ws a e = elim (if_some (bytes_eq word (codes "CANCEL")) _ _ a e) [
   | inl s ↦
       let n = bind_some (one_name ws) (λ n. Some (ask.Cancel n)) a s.1 in
-      let o : ask.Cancel n.0 ≡ a = cc in rw (← o) (fixed_before s.0 (one_name_says ws n.0 n.1), tt)
+      let o : ask.Cancel n.0 ≡ a = cc in rw (← o) (fixed_before s.0 (one_name_says ws n.0 n.1))
   | inr e ↦ elim (if_some (bytes_eq word (codes "RELEASE")) _ _ a e) [
     | inl s ↦
         let n = bind_some (one_name ws) (λ n. Some (ask.Release n)) a s.1 in
-        let o : ask.Release n.0 ≡ a = cc in rw (← o) (fixed_before s.0 (one_name_says ws n.0 n.1), tt)
+        let o : ask.Release n.0 ≡ a = cc in rw (← o) (fixed_before s.0 (one_name_says ws n.0 n.1))
     | inr e ↦ elim (if_some (bytes_eq word (codes "STATUS")) _ _ a e) [
       | inl s ↦
           let n = bind_some (one_name ws) (λ n. Some (ask.Status n)) a s.1 in
-          let o : ask.Status n.0 ≡ a = cc in rw (← o) (fixed_before s.0 (one_name_says ws n.0 n.1), tt)
+          let o : ask.Status n.0 ≡ a = cc in rw (← o) (fixed_before s.0 (one_name_says ws n.0 n.1))
       | inr e ↦ elim (if_some (bytes_eq word (codes "FETCH")) _ _ a e) [
         | inl s ↦
             let n = bind_some (one_name ws) (λ n. Some (ask.Fetch n)) a s.1 in
-            let o : ask.Fetch n.0 ≡ a = cc in rw (← o) (fixed_before s.0 (one_name_says ws n.0 n.1), tt)
+            let o : ask.Fetch n.0 ≡ a = cc in rw (← o) (fixed_before s.0 (one_name_says ws n.0 n.1))
         | inr e ↦ elim (if_some (bytes_eq word (codes "WAIT")) _ _ a e) [
           | inl s ↦
               let n = bind_some (one_name ws) (λ n. Some (ask.Wait n)) a s.1 in
-              let o : ask.Wait n.0 ≡ a = cc in rw (← o) (fixed_before s.0 (one_name_says ws n.0 n.1), tt)
+              let o : ask.Wait n.0 ≡ a = cc in rw (← o) (fixed_before s.0 (one_name_says ws n.0 n.1))
           | inr e ↦ elim (if_some (bytes_eq word (codes "QUIT")) _ _ a e) [
-            | inl s ↦ let z = end_some ws ask.Quit a s.1 in rw (← z.1) (fixed_before s.0 (says_none z.0), tt)
+            | inl s ↦ let z = end_some ws ask.Quit a s.1 in rw (← z.1) (fixed_before s.0 (says_none z.0))
             | inr e ↦ cc
           ]
         ]
@@ -199,16 +190,16 @@ ask_says word ws a e = elim (if_some (bytes_eq word (codes "CANCEL")) _ _ a e) [
   ]
 ]
 
-head_says : (word : List ℕ) (ws : List (List ℕ)) (h : Head) → head_with word ws ≡ Some h → Says (word ∷ ws) (words_of h) × AsksServed h
+head_says : (word : List ℕ) (ws : List (List ℕ)) (h : Head) → head_with word ws ≡ Some h → Says (word ∷ ws) (words_of h)
 unfolding head_with
 head_says word ws h e = elim (if_some (bytes_eq word (codes "LOAD")) _ _ h e) [
   | inl s ↦
       let a = bind_some (name_and_number ws) (λ a. Some (Payload (awaited.Image a.0) a.1)) h s.1 in
-      let o : Payload (awaited.Image a.0.0) a.0.1 ≡ h = cc in rw (← o) (fixed_before s.0 (name_and_number_says ws a.0 a.1), tt)
+      let o : Payload (awaited.Image a.0.0) a.0.1 ≡ h = cc in rw (← o) (fixed_before s.0 (name_and_number_says ws a.0 a.1))
   | inr e ↦ elim (if_some (bytes_eq word (codes "ELEMENT")) _ _ h e) [
     | inl s ↦
         let a = bind_some (name_and_three_numbers ws) (λ a. Some (Payload (awaited.Element a.0 a.1 a.2) a.3)) h s.1 in
-        let o : Payload (awaited.Element a.0.0 a.0.1 a.0.2) a.0.3 ≡ h = cc in rw (← o) (fixed_before s.0 (name_and_three_numbers_says ws a.0 a.1), tt)
+        let o : Payload (awaited.Element a.0.0 a.0.1 a.0.2) a.0.3 ≡ h = cc in rw (← o) (fixed_before s.0 (name_and_three_numbers_says ws a.0 a.1))
     | inr e ↦ elim (if_some (bytes_eq word (codes "RUN")) _ _ h e) [
       | inl s ↦
           let a = bind_some (run_in ws) (λ a. Some (Alone a)) h s.1 in
@@ -226,8 +217,4 @@ unfolding head_of
 read_is_said line h e =
     let w = bind_some (word_in (words line)) (λ word. head_with word (rest (words line))) h e in
     let s = head_says w.0 (rest (words line)) h w.2 in
-    (sym (join_with_byte-slice_split 32 line) ∙ ap (join_with_byte 32) (first_word (words line) w.0 w.1 ∙ s.0.words_are), (s.0.fit, s.1))
-
--- a request to compute asks for an operation that is served
-pub run_is_served : (line : List ℕ) (name : Name) (op : Op) → head_of line ≡ Some (Alone (ask.Run name op)) → is_served op ≡ true
-run_is_served line name op e = (read_is_said line (Alone (ask.Run name op)) e).1.1
+    (sym (join_with_byte-slice_split 32 line) ∙ ap (join_with_byte 32) (first_word (words line) w.0 w.1 ∙ s.words_are), s.fit)

@@ -14,7 +14,7 @@ use Rattle.mw_model.specs.declared.requests.Head.{Head}
 use Rattle.mw_model.specs.declared.requests.Head.TheVariants.{Payload, Alone}
 use Rattle.mw_model.specs.Names.{spelling, is_name_byte}
 use Rattle.mw_model.proofs.Spellings.{spelling_of}
-use Rattle.mw_model.specs.Lines.{Word, Fixed, ForName, ForNumber, Fits, IsName, spelled, op_words, words_of, line_of, is_served, IsSayable}
+use Rattle.mw_model.specs.Lines.{Word, Fixed, ForName, ForNumber, Fits, IsName, spelled, op_words, words_of, line_of, IsSayable}
 use Rattle.mw_intake.specs.Reading.{words, is_blank, is_digit, one_name, two_names, three_names, name_and_number, two_names_and_number, name_and_three_numbers, window_op, op_with, run_in, ask_with, head_with, head_of, word_in, rest, ◌>>=◌}
 use Rattle.mw_intake.proofs.Fields.{own, name_spelled, number_spelled}
 
@@ -161,20 +161,20 @@ op_reads (Gran (Skeleton f b levels)) h = rw (two_names_and_number_reads f b lev
 op_reads (Gran (Restore g b levels)) h = rw (two_names_and_number_reads g b levels h.1.0 h.1.1.0 h.1.1.1.0) refl
 op_reads (Gran (Spectrum f b levels)) h = rw (two_names_and_number_reads f b levels h.1.0 h.1.1.0 h.1.1.1.0) refl
 
-run_reads : (name : Name) (op : Op) → IsName name → AllByRecursion Fits (op_words op) → is_served op ≡ true → run_in (spelling name ∷ map spelled (op_words op)) ≡ Some (ask.Run name op)
-run_reads name op h k s = rw (name_spelled name h, op_split op, op_reads op k, s) refl
+run_reads : (name : Name) (op : Op) → IsName name → AllByRecursion Fits (op_words op) → run_in (spelling name ∷ map spelled (op_words op)) ≡ Some (ask.Run name op)
+run_reads name op h k = rw (name_spelled name h, op_split op, op_reads op k) refl
 
 -- the words of what can be said are read as that
 words_read : (h : Head) → IsSayable h → (word_in (map spelled (words_of h)) >>= (λ word. head_with word (rest (map spelled (words_of h))))) ≡ Some h
 unfolding head_with ask_with
-words_read (Payload (awaited.Image name) len) h = rw (name_and_number_reads name len h.0.1.0 h.0.1.1.0) refl
-words_read (Payload (awaited.Element name ox oy) len) h = rw (name_and_three_numbers_reads name ox oy len h.0.1.0 h.0.1.1.0 h.0.1.1.1.0 h.0.1.1.1.1.0) refl
-words_read (Alone (ask.Run name op)) h = rw (run_reads name op h.0.1.0 h.0.1.1 h.1) refl
-words_read (Alone (ask.Cancel name)) h = rw (one_name_reads name h.0.1.0) refl
-words_read (Alone (ask.Release name)) h = rw (one_name_reads name h.0.1.0) refl
-words_read (Alone (ask.Status name)) h = rw (one_name_reads name h.0.1.0) refl
-words_read (Alone (ask.Fetch name)) h = rw (one_name_reads name h.0.1.0) refl
-words_read (Alone (ask.Wait name)) h = rw (one_name_reads name h.0.1.0) refl
+words_read (Payload (awaited.Image name) len) h = rw (name_and_number_reads name len h.1.0 h.1.1.0) refl
+words_read (Payload (awaited.Element name ox oy) len) h = rw (name_and_three_numbers_reads name ox oy len h.1.0 h.1.1.0 h.1.1.1.0 h.1.1.1.1.0) refl
+words_read (Alone (ask.Run name op)) h = rw (run_reads name op h.1.0 h.1.1) refl
+words_read (Alone (ask.Cancel name)) h = rw (one_name_reads name h.1.0) refl
+words_read (Alone (ask.Release name)) h = rw (one_name_reads name h.1.0) refl
+words_read (Alone (ask.Status name)) h = rw (one_name_reads name h.1.0) refl
+words_read (Alone (ask.Fetch name)) h = rw (one_name_reads name h.1.0) refl
+words_read (Alone (ask.Wait name)) h = rw (one_name_reads name h.1.0) refl
 words_read (Alone ask.Quit) h = refl
 
 some_split : (ws : List (List ℕ)) (words_are : List ℕ) (more : List (List ℕ)) → ws ≡ words_are ∷ more → AllByRecursion NoBlank ws → words (join_with_byte 32 ws) ≡ ws
@@ -195,7 +195,7 @@ head_first (Alone ask.Quit) = (_, _, refl)
 head_some : (h : Head) → IsSayable h → words (line_of h) ≡ map spelled (words_of h)
 head_some h s =
     let f = head_first h in
-    some_split (map spelled (words_of h)) f.0 f.1 f.2 (words_open (words_of h) (head_open h) s.0)
+    some_split (map spelled (words_of h)) f.0 f.1 f.2 (words_open (words_of h) (head_open h) s)
 
 -- the line of what can be said is read as that
 pub said_is_read : (h : Head) → IsSayable h → head_of (line_of h) ≡ Some h

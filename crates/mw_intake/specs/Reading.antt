@@ -15,7 +15,7 @@ use Rattle.mw_model.specs.declared.requests.Head.{Head}
 use Rattle.mw_model.specs.declared.requests.Head.TheVariants.{Payload, Alone}
 use Rattle.mw_model.specs.declared.codes.Code.TheVariants as code
 use Rattle.mw_model.specs.Names.{is_name, name_of}
-use Rattle.mw_model.specs.Lines.{is_served, Front, Partial, Fault, after_head}
+use Rattle.mw_model.specs.Lines.{Front, Partial, Fault, after_head}
 
 infixl 10 ◌>>=◌
 -- one reading after another
@@ -141,17 +141,12 @@ op_with word ws =
     else (if bytes_eq word (codes "SPECTRUM") then two_names_and_number ws >>= (λ a. Some (Gran (Spectrum a.0 a.1 a.2)))
     else two_names ws >>= (λ a. window_op word a.0 a.1 >>= (λ op. Some (Flat op))))))))
 
--- the operation, where it is served
-abbrev pub served : Op → Option Op
-served op = if is_served op then Some op else None
-
 -- a RUN: the name of the result, and what is computed
 abbrev pub run_in : List (List ℕ) → Option Ask
 run_in ws = do
   name ← name_in ws
   word ← word_in (rest ws)
-  read ← op_with word (rest (rest ws))
-  op ← served read
+  op ← op_with word (rest (rest ws))
   Some (ask.Run name op)
 
 -- a request without a payload, but RUN: its word, and a name

@@ -1,11 +1,8 @@
 //! Laws of the grammar, over every byte list and every cutting.
 
-ghost use Rattle.std.specs.Prelude.{◌≡◌, ◌++◌, ◌≤◌, ◌↔◌, List, ℕ, length, true, Option};
-ghost use Rattle.mw_model.specs.Lines.{Asked, AskAlone, Front, Found, Fault, IsFront, Begins, Says, is_served};
-ghost use Rattle.mw_model.specs.declared.names.Name.{Name};
-ghost use Rattle.mw_model.specs.declared.operations.Op.{Op};
+ghost use Rattle.std.specs.Prelude.{◌≡◌, ◌++◌, ◌≤◌, ◌↔◌, List, ℕ, length, Option};
+ghost use Rattle.mw_model.specs.Lines.{Asked, Front, Found, Fault, IsFront, Begins, Says};
 ghost use Rattle.mw_model.specs.declared.codes.Code.{Code};
-ghost use Rattle.mw_model.specs.declared.requests.Ask.TheVariants.{Run};
 ghost use Rattle.mw_model.specs.declared.requests.Head.{Head};
 ghost use Rattle.mw_intake.specs.Reading.{head_of, front};
 
@@ -17,11 +14,6 @@ pub fn lines_say_one_thing()
 /// What is read of the front of a byte list is what stands there, and nothing else does.
 pub fn one_front_stands()
     ensures { (bytes : List ℕ) (f : Front) → IsFront bytes f ↔ (f ≡ front bytes) }
-{}
-
-/// A request to compute asks for an operation that is served.
-pub fn runs_are_served()
-    ensures { (xs rest : List ℕ) (name : Name) (op : Op) → IsFront xs (Found (AskAlone (Run name op)) rest) → is_served op ≡ true }
 {}
 
 /// What is cut off stays cut off, whatever bytes follow.

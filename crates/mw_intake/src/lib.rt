@@ -16,6 +16,5 @@ mod line;
 mod words;
 
 pub use intake::Intake;
-pub use laws::{front_stays, lines_say_one_thing, one_front_stands, one_reading, runs_are_served};
-pub use line::is_served;
+pub use laws::{front_stays, lines_say_one_thing, one_front_stands, one_reading};
 pub use mw_model::NoMemory;

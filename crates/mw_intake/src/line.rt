@@ -2,8 +2,7 @@
 
 ghost use Rattle.std.specs.Prelude.{◌≡◌, min};
 ghost use Rattle.std.specs.List.{position_or_len};
-ghost use Rattle.mw_model.specs.Lines.{is_served};
-ghost use Rattle.mw_intake.specs.Reading.{one_name, two_names, three_names, name_and_number, two_names_and_number, name_and_three_numbers, window_op, op_with, run_in, served, ask_with, head_with, head_of, is_line_end};
+ghost use Rattle.mw_intake.specs.Reading.{one_name, two_names, three_names, name_and_number, two_names_and_number, name_and_three_numbers, window_op, op_with, run_in, ask_with, head_with, head_of, is_line_end};
 
 use crate::words::Words;
 use mw_model::{Ask, Awaited, FlatOp, GranOp, Head, Name, Op};
@@ -133,25 +132,8 @@ fn run_in(words: &mut Words) -> Option<Ask>
 {
     let name = words.name()?;
     let word = words.word()?;
-    let read = op_with(word, words)?;
-    let op = served(read)?;
+    let op = op_with(word, words)?;
     Some(Ask::Run(name, op))
-}
-
-fn served(op: Op) -> Option<Op>
-    ensures { result ≡ served op }
-{
-    if is_served(&op) { Some(op) } else { None }
-}
-
-/// Whether a RUN may ask for it.
-pub fn is_served(op: &Op) -> bool
-    ensures { result ≡ is_served op.now }
-{
-    match op {
-        Op::Flat(FlatOp::Erode(_, _) | FlatOp::Dilate(_, _)) => true,
-        _ => false,
-    }
 }
 
 /// A request without a payload, but RUN: its word, and a name.

@@ -28,6 +28,7 @@ pub use laws::{
 };
 pub use mw_model::NoMemory;
 pub use rectangles::rectangle;
+pub use sides::{SeenSide, first_seen, seen_across, seen_down};
 pub use sliding::line;
 pub use steps::Steps;
 pub use window_rows::combine_window_row;

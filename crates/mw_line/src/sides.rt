@@ -7,9 +7,9 @@ use mw_model::{OffsetBox, Rect};
 
 /// The places of a side that are left out at its beginning, and how many from there on are looked at.
 #[derive(Clone, Copy)]
-pub(crate) struct SeenSide {
-    pub(crate) skipped: usize,
-    pub(crate) count: usize,
+pub struct SeenSide {
+    pub skipped: usize,
+    pub count: usize,
 }
 
 /// The number, or 0 below 0.
@@ -57,7 +57,7 @@ fn seen_side(a: i32, b: i32, tile: u32, side: u32, first: u32, len: u32) -> Seen
 }
 
 /// The part of the box's columns by which the tile can see a window at that place.
-pub(crate) fn seen_across(offsets: OffsetBox, tile: Rect, place: Rect) -> SeenSide
+pub fn seen_across(offsets: OffsetBox, tile: Rect, place: Rect) -> SeenSide
     ensures { IsSeenSide tile.x tile.width place.x place.width offsets.x0 offsets.x1 result.skipped result.count }
 {
     seen_side(
@@ -71,7 +71,7 @@ pub(crate) fn seen_across(offsets: OffsetBox, tile: Rect, place: Rect) -> SeenSi
 }
 
 /// The part of the box's rows by which the tile can see a window at that place.
-pub(crate) fn seen_down(offsets: OffsetBox, tile: Rect, place: Rect) -> SeenSide
+pub fn seen_down(offsets: OffsetBox, tile: Rect, place: Rect) -> SeenSide
     ensures { IsSeenSide tile.y tile.height place.y place.height offsets.y0 offsets.y1 result.skipped result.count }
 {
     seen_side(
@@ -85,7 +85,7 @@ pub(crate) fn seen_down(offsets: OffsetBox, tile: Rect, place: Rect) -> SeenSide
 }
 
 /// Where the first place that is looked at from the tile's first place lies in the window.
-pub(crate) fn first_seen(tile: u32, a: i32, skipped: usize, first: u32) -> i64
+pub fn first_seen(tile: u32, a: i32, skipped: usize, first: u32) -> i64
     requires { skipped ≤ 2 ^ 34 }
     ensures value { result ≡ pos tile +ℤ (a +ℤ pos skipped) -ℤ pos first }
     ensures low { negsuc (2 ^ 40) ≤ℤ result }

@@ -4,14 +4,13 @@
 
 use mw_core::{Core, Finish, NoMemory, Refusal, Shown, Started};
 use mw_element::Element;
-use mw_model::{FlatOp, LogItem, Name, Op, Rect, Reply, TaskId};
+use mw_model::{FlatOp, LogItem, Name, OffsetBox, Op, Rect, Reply, TaskId};
 use mw_netpbm::{read, write};
 use mw_step::run;
 use mw_task::{AnyWindow, Step, TaskRefused, TileDone, Work};
 use mw_tile::Window;
 use std::alloc::{AllocError, AllocFailed, Global};
 use std::process::Abort;
-use std::sync::Arc;
 use std::test::Fail;
 
 pub(crate) const ROW: &[u8] = b"P2\n5 1\n9\n3 1 4 1 5\n";
@@ -29,6 +28,7 @@ pub(crate) enum Ask<'a> {
     Element(&'a [u8], &'a [u8], u32),
     Erode(&'a [u8], &'a [u8], &'a [u8]),
     Dilate(&'a [u8], &'a [u8], &'a [u8]),
+    Open(&'a [u8], &'a [u8], &'a [u8]),
     Cancel(&'a [u8]),
     Release(&'a [u8]),
     Status(&'a [u8]),
@@ -120,12 +120,18 @@ fn dilate(core: &mut Core, text: &[u8], f: &[u8], b: &[u8]) -> Result<Reply, Sto
     Ok(core.run(name(text)?, op)?)
 }
 
+fn open(core: &mut Core, text: &[u8], f: &[u8], b: &[u8]) -> Result<Reply, Stop> {
+    let op = Op::Flat(FlatOp::Opening(name(f)?, name(b)?));
+    Ok(core.run(name(text)?, op)?)
+}
+
 fn answer(alloc: Global, core: &mut Core, ask: &Ask) -> Result<Reply, Stop> {
     match ask {
         Ask::Load(text, bytes) => load(alloc, core, text, bytes),
         Ask::Element(text, bytes, ox) => define(alloc, core, text, bytes, *ox),
         Ask::Erode(text, f, b) => erode(core, text, f, b),
         Ask::Dilate(text, f, b) => dilate(core, text, f, b),
+        Ask::Open(text, f, b) => open(core, text, f, b),
         Ask::Cancel(text) => Ok(core.cancel(name(text)?)?),
         Ask::Release(text) => Ok(core.release(name(text)?)?),
         Ask::Status(text) => Ok(core.status(name(text)?)?),
@@ -133,12 +139,21 @@ fn answer(alloc: Global, core: &mut Core, ask: &Ask) -> Result<Reply, Stop> {
 }
 
 /// The text of a value that is handed out.
-pub(crate) fn text_of(alloc: Global, value: &Shown) -> Result<Vec<u8>, Stop> {
+pub(crate) fn text_of(alloc: Global, value: Shown) -> Result<Vec<u8>, Stop> {
     match value {
-        Shown::Image(plate) => Ok(write(alloc, plate.image())?),
+        Shown::Image(plate) => Ok(write(alloc, &plate.into_image(alloc)?)?),
+        Shown::Curve(curve) => Ok(curve.text(alloc)?),
         Shown::Nothing => Ok(Vec::new(alloc)),
     }
 }
+
+/// The offsets of the bar, which is a full rectangle.
+const ACROSS: OffsetBox = OffsetBox {
+    x0: -1,
+    x1: 1,
+    y0: 0,
+    y1: 0,
+};
 
 /// A task of the whole row by the bar.
 fn task_by_hand(alloc: Global, ticket: u32, samples: &[u8]) -> Result<Work, Stop> {
@@ -153,8 +168,7 @@ fn task_by_hand(alloc: Global, ticket: u32, samples: &[u8]) -> Result<Work, Stop
         step: 0,
         tile: 0,
     };
-    let bar = Element::parse(alloc, BAR, 1, 0).ok().ok_or(Stop::Memory)?;
-    let step = Step::Erode(Arc::new(alloc, bar)?);
+    let step = Step::ErodeBox(ACROSS);
     let samples = samples.to_vec(alloc)?;
     if samples.len() != 5 {
         return Err(Stop::List);
@@ -181,7 +195,7 @@ pub(crate) fn by_hand(alloc: Global, ticket: u32, samples: &[u8]) -> Result<Tile
 /// A core, and the tasks that were taken and not brought yet.
 #[derive(Drop)]
 pub(crate) struct Desk {
-    alloc: Global,
+    pub(crate) alloc: Global,
     pub(crate) core: Core,
     pub(crate) taken: Vec<Work>,
 }
@@ -216,6 +230,12 @@ impl Desk {
         Ok(())
     }
 
+    /// The reply to a FETCH, and the text of what it hands out.
+    fn fetched(&mut self, text: &[u8]) -> Result<(Reply, Vec<u8>), Stop> {
+        let fetched = self.core.fetch(name(text)?)?;
+        Ok((fetched.reply, text_of(self.alloc, fetched.value)?))
+    }
+
     fn fetch(
         &mut self,
         rt: &impl Abort,
@@ -223,16 +243,11 @@ impl Desk {
         wanted: Reply,
         bytes: &[u8],
     ) -> Result<(), Stop> {
-        let name = name(text)?;
-        let fetched = match self.core.fetch(name) {
-            Err(NoMemory) => self.core.fetch(name)?,
-            Ok(fetched) => fetched,
-        };
-        assert_eq!(rt; fetched.reply, wanted);
-        let shown = match text_of(self.alloc, &fetched.value) {
-            Err(Stop::Memory) => text_of(self.alloc, &fetched.value)?,
+        let (reply, shown) = match self.fetched(text) {
+            Err(Stop::Memory) => self.fetched(text)?,
             first => first?,
         };
+        assert_eq!(rt; reply, wanted);
         assert_eq!(rt; shown.as_slice(), bytes);
         Ok(())
     }

@@ -80,6 +80,48 @@ fn a_cancelled_command_lets_released_inputs_go(rt: HostRuntime) -> Result<(), Fa
     plays(&rt, rt.alloc(), LET_GO)
 }
 
+const WANTED_TWICE: &[Turn] = &[
+    Turn::Call(Ask::Erode(b"e", b"f", b"b"), Reply::Accepted(2)),
+    Turn::Call(Ask::Dilate(b"g", b"f", b"b"), Reply::Accepted(3)),
+    Turn::Call(Ask::Erode(b"h", b"f", b"b"), Reply::Accepted(4)),
+    Turn::Call(Ask::Release(b"f"), Reply::Accepted(0)),
+    Turn::Take(0, 2),
+    Turn::Bring(Finish::Settled(2)),
+    Turn::Keeps(0, true),
+    Turn::Call(Ask::Cancel(b"g"), Reply::Accepted(3)),
+    Turn::Keeps(0, true),
+    Turn::Call(Ask::Release(b"b"), Reply::Accepted(1)),
+    Turn::Take(0, 4),
+    Turn::Keeps(0, true),
+    Turn::Keeps(1, true),
+    Turn::Bring(Finish::Settled(4)),
+    Turn::Keeps(0, false),
+    Turn::Keeps(1, false),
+    Turn::Fetch(b"h", Reply::Shown(4), ERODED),
+];
+
+#[test]
+fn a_value_stays_until_the_last_that_wants_it_ends(rt: HostRuntime) -> Result<(), Fail> {
+    plays(&rt, rt.alloc(), WANTED_TWICE)
+}
+
+const FAILS_TWO: &[Turn] = &[
+    Turn::Call(Ask::Erode(b"e", b"f", b"b"), Reply::Accepted(2)),
+    Turn::Call(Ask::Erode(b"g", b"e", b"b"), Reply::Accepted(3)),
+    Turn::Call(Ask::Dilate(b"h", b"f", b"b"), Reply::Accepted(4)),
+    Turn::Call(Ask::Release(b"b"), Reply::Accepted(1)),
+    Turn::Call(Ask::Cancel(b"e"), Reply::Accepted(2)),
+    Turn::Keeps(1, true),
+    Turn::Call(Ask::Cancel(b"h"), Reply::Accepted(4)),
+    Turn::Keeps(0, true),
+    Turn::Keeps(1, false),
+];
+
+#[test]
+fn what_a_cascade_fails_wants_nothing_any_more(rt: HostRuntime) -> Result<(), Fail> {
+    plays(&rt, rt.alloc(), FAILS_TWO)
+}
+
 const REFUSED: &[Turn] = &[
     Turn::Call(
         Ask::Erode(b"f", b"zz", b"zz"),
@@ -156,7 +198,7 @@ fn is_work(answer: Option<&Answer>) -> bool {
     matches!(answer, Some(Answer::Started(Started::Work(_))))
 }
 
-fn fetched_of(answer: Option<&Answer>) -> Option<&Fetched> {
+fn fetched_of(answer: Option<Answer>) -> Option<Fetched> {
     match answer {
         Some(Answer::Fetched(fetched)) => Some(fetched),
         _ => None,
@@ -174,11 +216,15 @@ fn are_answers(rt: &impl Abort, answers: &[Answer]) {
 }
 
 /// The last event was handed what the list makes of the row, where all answers before it are as they are to be.
-fn hands_the_eroded_row(rt: &impl Abort, alloc: Global, answers: &[Answer]) -> Result<(), Stop> {
-    are_answers(rt, answers);
-    let fetched = fetched_of(answers.get(5)).ok_or(Stop::List)?;
+fn hands_the_eroded_row(
+    rt: &impl Abort,
+    alloc: Global,
+    mut answers: Vec<Answer>,
+) -> Result<(), Stop> {
+    are_answers(rt, &answers);
+    let fetched = fetched_of(answers.pop()).ok_or(Stop::List)?;
     assert_eq!(rt; fetched.reply, Reply::Shown(2));
-    assert!(rt; text_of(alloc, &fetched.value)?.as_slice() == ERODED);
+    assert!(rt; text_of(alloc, fetched.value)?.as_slice() == ERODED);
     Ok(())
 }
 
@@ -193,7 +239,7 @@ fn serve_list(rt: &impl Abort, alloc: Global) -> Result<(), Stop> {
     if answers.iter().any(|answer| is_in_want(answer)) {
         return Err(Stop::Memory);
     }
-    hands_the_eroded_row(rt, alloc, &answers)
+    hands_the_eroded_row(rt, alloc, answers)
 }
 
 #[test]

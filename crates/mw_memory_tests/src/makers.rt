@@ -1,10 +1,10 @@
-//! Planes, images that may have several owners, and windows: each is exactly as it is to be where memory was refused
+//! Planes, images with several owners, and windows: each is exactly as it is to be where memory was refused
 //! before, and what was lent for it is as it was.
 
 use crate::files::shows;
 use mw_model::{Kind, NoMemory, Rect, Shape};
 use mw_netpbm::{ReadFault, read};
-use mw_pixel::{Bit, HeldPlane, Image, Pixel, Plane, SharedView, copies};
+use mw_pixel::{Bit, Image, Pixel, Plane, SharedView, copies};
 use mw_tile::{Window, cut};
 use std::alloc::Global;
 use std::process::Abort;
@@ -133,28 +133,6 @@ fn windows_of_a_whole_plane(rt: HostRuntime) -> Result<(), Fail> {
     Ok(())
 }
 
-/// The plane, once others may own it. Where memory for that was refused it had one owner, and was the same.
-fn held(rt: &impl Abort, alloc: Global) -> Result<HeldPlane<u16>, Fail> {
-    let held = HeldPlane::alone(six_words(rt, alloc)?).into_shared(alloc);
-    assert_eq!(rt;
-        held.plane().samples(),
-        [100, 200, 300, 400, 500, 600].as_slice()
-    );
-    if held.shared().is_some() {
-        return Ok(held);
-    }
-    Ok(held.into_shared(alloc))
-}
-
-#[test]
-fn planes_may_get_owners(rt: HostRuntime) -> Result<(), Fail> {
-    let held = held(&rt, rt.alloc())?;
-    let owner = held.shared().ok_or("others may own it")?;
-    assert!(rt; owner.width() == 3 && owner.height() == 2);
-    assert_eq!(rt; owner.samples(), [100, 200, 300, 400, 500, 600].as_slice());
-    Ok(())
-}
-
 /// Whether the owner's plane has these sides, maxval and levels.
 fn owns(owner: &SharedView, width: u32, height: u32, maxval: u16, levels: &[u16]) -> bool {
     match owner {
@@ -175,24 +153,23 @@ pub(crate) fn has<P: Pixel>(plane: &Plane<P>, width: u32, height: u32, levels: &
             .all(|(s, level)| s.value() == *level)
 }
 
-/// The image of a file, whose plane others may own. Where memory for that was refused it had one owner, and was the same.
-fn shareable(
+/// The image of a file, and one more owner of its plane.
+fn read_and_shared(
     rt: &impl Abort,
     alloc: Global,
     bytes: &[u8],
     shape: Shape,
     levels: &[u16],
-) -> Result<Image, Fail> {
-    let image = once_more!(ReadFault::NoMemory, read(alloc, bytes)).into_shared(alloc);
+) -> Result<(Image, Image), Fail> {
+    let image = once_more!(ReadFault::NoMemory, read(alloc, bytes));
     assert!(rt; shows(&image, shape, levels));
-    if image.shared().is_some() {
-        return Ok(image);
-    }
-    Ok(image.into_shared(alloc))
+    let other = once_more!(NoMemory, image.share());
+    assert!(rt; shows(&image, shape, levels));
+    Ok((image, other))
 }
 
 #[test]
-fn images_may_get_owners(rt: HostRuntime) -> Result<(), Fail> {
+fn images_get_owners(rt: HostRuntime) -> Result<(), Fail> {
     let images: [(&[u8], Kind, u16, &[u16]); 3] = [
         (b"P1\n3 2\n110\n001\n", Kind::Bit, 1, &[1, 1, 0, 0, 0, 1]),
         (
@@ -210,9 +187,10 @@ fn images_may_get_owners(rt: HostRuntime) -> Result<(), Fail> {
     ];
     for (bytes, kind, maxval, levels) in images {
         let shape = Shape::Image(kind, 3, 2, maxval);
-        let image = shareable(&rt, rt.alloc(), bytes, shape, levels)?;
-        assert!(rt; shows(&image, shape, levels));
-        let owner = image.shared().ok_or("others may own its plane")?;
+        let (image, other) = read_and_shared(&rt, rt.alloc(), bytes, shape, levels)?;
+        assert!(rt; shows(&other, shape, levels));
+        drop(other);
+        let owner = once_more!(NoMemory, image.shared());
         assert!(rt; owns(&owner, 3, 2, maxval, levels));
     }
     Ok(())

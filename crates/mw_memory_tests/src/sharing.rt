@@ -2,6 +2,7 @@
 //! counted. Each test passes whichever one of its allocations is refused.
 
 ghost use Rattle.std.specs.Prelude.{◌≡◌, IfOk, replicate};
+ghost use Rattle.std.specs.Arc.{arc_value};
 ghost use Rattle.mw_model.specs.Rasters.{raster};
 
 use mw_model::NoMemory;
@@ -29,15 +30,21 @@ fn plane_of<P: Pixel>(alloc: Global, sample: P) -> Result<Plane<P>, NoMemory>
     }
 }
 
-/// The image with a plane that others can own. Where memory was refused the image stayed as it was, and is asked once
-/// more.
-fn shareable(alloc: Global, image: Image) -> Image {
-    let image = image.into_shared(alloc);
-    if image.shared().is_some() {
-        image
-    } else {
-        image.into_shared(alloc)
+/// The plane, which others can own. Where memory was refused the plane came back, and is handed over once more.
+fn owned<P: Pixel>(alloc: Global, plane: Plane<P>) -> Result<Arc<Plane<P>>, NoMemory>
+    ensures { IfOk result (λ p. arc_value p ≡ plane) }
+{
+    match Arc::new(alloc, plane) {
+        Ok(plane) => Ok(plane),
+        Err(refused) => Ok(Arc::new(alloc, refused.value)?),
     }
+}
+
+/// A plane of one sample, which others can own.
+fn owned_of<P: Pixel>(alloc: Global, sample: P) -> Result<Arc<Plane<P>>, NoMemory>
+    ensures { IfOk result (λ p. arc_value p ≡ raster 3 2 (replicate 6 sample)) }
+{
+    owned(alloc, plane_of(alloc, sample)?)
 }
 
 /// How many own the plane beside this share.
@@ -74,22 +81,20 @@ fn owned_by_two(rt: &impl Abort, share: SharedView, window: AnyWindow, wanted: &
     assert!(rt; window_of(rt, share).same(wanted));
 }
 
-/// An image, a share and a window own one plane, and it stays where the image goes.
-fn owned_in_turn(
-    rt: &impl Abort,
-    alloc: Global,
-    image: Image,
-    wanted: &AnyWindow,
-) -> Result<(), Fail> {
-    assert!(rt; image.shared().is_none());
-    let image = shareable(alloc, image);
-    let first = image.shared().ok_or("others can own the plane")?;
+/// Two images, a share and a window own one plane, and it stays where the images go.
+fn owned_in_turn(rt: &impl Abort, image: Image, wanted: &AnyWindow) -> Result<(), Fail> {
+    let first = once_more!(NoMemory, image.shared());
     assert!(rt; others(&first) == 1);
-    let second = image.shared().ok_or("others can own the plane")?;
+    let other = once_more!(NoMemory, image.share());
+    assert!(rt; other.same(&image));
+    assert!(rt; others(&first) == 2);
+    drop(image);
+    assert!(rt; others(&first) == 1);
+    let second = once_more!(NoMemory, other.shared());
     assert!(rt; others(&first) == 2);
     let window = window_of(rt, second);
     assert!(rt; others(&first) == 2);
-    drop(image);
+    drop(other);
     owned_by_two(rt, first, window, wanted);
     Ok(())
 }
@@ -97,41 +102,33 @@ fn owned_in_turn(
 #[test]
 fn sets_share_their_planes(rt: HostRuntime) -> Result<(), Fail> {
     let set = AnyWindow::bits(Window::whole(plane_of(rt.alloc(), Bit::SET)?));
-    let image = Image::bits(plane_of(rt.alloc(), Bit::SET)?);
-    owned_in_turn(&rt, rt.alloc(), image, &set)
+    let image = Image::bits(owned_of(rt.alloc(), Bit::SET)?);
+    owned_in_turn(&rt, image, &set)
 }
 
 #[test]
 fn images_of_bytes_share_their_planes(rt: HostRuntime) -> Result<(), Fail> {
     let grey = AnyWindow::grey8(Window::whole(plane_of(rt.alloc(), 7u8)?), 9);
-    let image = Image::grey8(plane_of(rt.alloc(), 7u8)?, 9);
-    owned_in_turn(&rt, rt.alloc(), image, &grey)
+    let image = Image::grey8(owned_of(rt.alloc(), 7u8)?, 9);
+    owned_in_turn(&rt, image, &grey)
 }
 
 #[test]
 fn images_of_two_bytes_share_their_planes(rt: HostRuntime) -> Result<(), Fail> {
     let deep = AnyWindow::grey16(Window::whole(plane_of(rt.alloc(), 700u16)?), 999);
-    let image = Image::grey16(plane_of(rt.alloc(), 700u16)?, 999);
-    owned_in_turn(&rt, rt.alloc(), image, &deep)
-}
-
-/// A plane that others can own, asked for twice: only the first time makes it so.
-fn shared_twice(rt: &impl Abort, alloc: Global) -> Result<HeldPlane<u8>, Fail> {
-    let alone = HeldPlane::alone(plane_of(alloc, 7u8)?);
-    assert!(rt; alone.shared().is_none());
-    Ok(alone.into_shared(alloc).into_shared(alloc))
+    let image = Image::grey16(owned_of(rt.alloc(), 700u16)?, 999);
+    owned_in_turn(&rt, image, &deep)
 }
 
 #[test]
-fn planes_are_shared_once(rt: HostRuntime) -> Result<(), Fail> {
-    let held = shared_twice(&rt, rt.alloc())?;
-    let plane = held.shared().ok_or("others can own the plane")?;
+fn held_planes_have_one_owner_or_several(rt: HostRuntime) -> Result<(), Fail> {
+    let alone = HeldPlane::alone(plane_of(rt.alloc(), 7u8)?);
+    assert_eq!(rt; alone.plane().samples(), [7; 6].as_slice());
+    let plane = owned_of(rt.alloc(), 7u8)?;
+    let held = HeldPlane::sharing(once_more!(_, Arc::try_clone(&plane)));
     assert_eq!(rt; Arc::strong_count(&plane), 2);
-    let other = HeldPlane::sharing(plane).into_shared(rt.alloc());
-    let plane = other.shared().ok_or("others can own the plane")?;
-    assert_eq!(rt; Arc::strong_count(&plane), 3);
+    assert_eq!(rt; held.plane().samples(), [7; 6].as_slice());
     drop(held);
-    assert_eq!(rt; Arc::strong_count(&plane), 2);
-    assert_eq!(rt; other.plane().samples(), [7; 6].as_slice());
+    assert_eq!(rt; Arc::strong_count(&plane), 1);
     Ok(())
 }

@@ -1,5 +1,5 @@
 -- The lines of the protocol, and what they ask for (own).
-use Rattle.std.specs.Prelude.{◌<◌, ◌≤◌, map, decimal, ◌≡◌, ◌≢◌, ℕ, Bool, true, false, if◌then◌else◌, nat_lt, List, [], ◌∷◌, ◌++◌, length, take, drop, Option, None, Some, codes}
+use Rattle.std.specs.Prelude.{◌<◌, ◌≤◌, map, decimal, ◌≡◌, ◌≢◌, ℕ, true, if◌then◌else◌, nat_lt, List, [], ◌∷◌, ◌++◌, length, take, drop, Option, None, Some, codes}
 use Rattle.std.specs.List.{join_with_byte, AllByRecursion}
 use Rattle.mw_model.specs.declared.names.Name.{Name}
 use Rattle.mw_model.specs.declared.operations.Op.{Op}
@@ -72,20 +72,9 @@ words_of (Alone ask.Quit) = Fixed (codes "QUIT") ∷ []
 abbrev pub line_of : Head → List ℕ
 line_of head = join_with_byte 32 (map spelled (words_of head))
 
--- the operations that are served
-abbrev pub is_served : Op → Bool
-is_served (Flat (Erode f b)) = true
-is_served (Flat (Dilate f b)) = true
-is_served op = false
-
--- what it is to compute is served
-abbrev pub AsksServed : Head → Type 0
-AsksServed (Alone (ask.Run name op)) = is_served op ≡ true
-AsksServed head = Unit {0}
-
--- its names are names, its numbers have at most nine digits, and its operation is served
+-- its names are names, and its numbers have at most nine digits
 abbrev pub IsSayable : Head → Type 0
-IsSayable head = AllByRecursion Fits (words_of head) × AsksServed head
+IsSayable head = AllByRecursion Fits (words_of head)
 
 -- what a line says, without its LF: what can be said and has this line, or nothing
 abbrev pub Says : List ℕ → Option Head → Type 0

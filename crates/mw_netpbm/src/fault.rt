@@ -5,7 +5,7 @@ ghost use Rattle.mw_netpbm.specs.declared.fault.ReadFault.TheVariants.{NoMemory}
 ghost use Rattle.mw_netpbm.specs.Faults.{as_bitmap, bitmap_code_of, code_of};
 
 use mw_model::Code;
-use std::alloc::AllocError;
+use std::alloc::{AllocError, AllocFailed};
 
 /// Why bytes are no Netpbm file: the first case that holds, from top to bottom. Memory stands apart.
 #[derive(Clone, Copy, Debug, PartialEq, Eq)]
@@ -42,6 +42,14 @@ impl From<AllocError> for ReadFault {
     ghost from_gives = { λ _ e. e ≡ NoMemory };
 
     fn from(_error: AllocError) -> ReadFault {
+        ReadFault::NoMemory
+    }
+}
+
+impl<T: Drop> From<AllocFailed<T>> for ReadFault {
+    ghost from_gives = { λ _ e. e ≡ NoMemory };
+
+    fn from(_error: AllocFailed<T>) -> ReadFault {
         ReadFault::NoMemory
     }
 }

@@ -17,24 +17,32 @@ use crate::raw;
 use mw_model::{Format, Header};
 use mw_pixel::{Bit, Image, Plane};
 use std::alloc::Global;
+use std::sync::Arc;
 
 /// The set of these pixels.
+#[tactic(auto, using(crate::proofs::Faults::Fails_from))]
 fn set_image(
+    alloc: Global,
     width: u32,
     height: u32,
     found: Result<Vec<Bit>, ReadFault>,
 ) -> Result<Image, ReadFault>
     requires { IfOk found (λ v. IsFit (height * width) 1 v.items) }
-    ensures { result ≡ set_from width height (seen (λ v. v.items) found) }
+    ensures { Gives (λ i. i) result (set_from width height (seen (λ v. v.items) found)) }
 {
     match found {
         Err(fault) => Err(fault),
-        Ok(samples) => Ok(Image::bits(Plane::new(width, height, samples))),
+        Ok(samples) => {
+            let plane = Plane::new(width, height, samples);
+            Ok(Image::bits(Arc::new(alloc, plane)?))
+        }
     }
 }
 
 /// The picture of these samples, of one byte each.
+#[tactic(auto, using(crate::proofs::Faults::Fails_from))]
 fn grey8_image(
+    alloc: Global,
     width: u32,
     height: u32,
     maxval: u8,
@@ -42,16 +50,21 @@ fn grey8_image(
 ) -> Result<Image, ReadFault>
     requires some { 1 ≤ maxval }
     requires fit { IfOk found (λ v. IsFit (height * width) maxval v.items) }
-    ensures { result ≡ grey_from width height maxval (seen (λ v. v.items) found) }
+    ensures { Gives (λ i. i) result (grey_from width height maxval (seen (λ v. v.items) found)) }
 {
     match found {
         Err(fault) => Err(fault),
-        Ok(samples) => Ok(Image::grey8(Plane::new(width, height, samples), maxval)),
+        Ok(samples) => {
+            let plane = Plane::new(width, height, samples);
+            Ok(Image::grey8(Arc::new(alloc, plane)?, maxval))
+        }
     }
 }
 
 /// The picture of these samples, of two bytes each.
+#[tactic(auto, using(crate::proofs::Faults::Fails_from))]
 fn grey16_image(
+    alloc: Global,
     width: u32,
     height: u32,
     maxval: u16,
@@ -59,11 +72,14 @@ fn grey16_image(
 ) -> Result<Image, ReadFault>
     requires deep { 256 ≤ maxval }
     requires fit { IfOk found (λ v. IsFit (height * width) maxval v.items) }
-    ensures { result ≡ grey_from width height maxval (seen (λ v. v.items) found) }
+    ensures { Gives (λ i. i) result (grey_from width height maxval (seen (λ v. v.items) found)) }
 {
     match found {
         Err(fault) => Err(fault),
-        Ok(samples) => Ok(Image::grey16(Plane::new(width, height, samples), maxval)),
+        Ok(samples) => {
+            let plane = Plane::new(width, height, samples);
+            Ok(Image::grey16(Arc::new(alloc, plane)?, maxval))
+        }
     }
 }
 
@@ -84,27 +100,27 @@ fn raster(alloc: Global, head: &Header, raster: &[u8]) -> Result<Image, ReadFaul
     match head.format {
         Format::PlainBits => {
             let found = plain::samples(alloc, Places::Pixels, count, raster);
-            set_image(width, height, found)
+            set_image(alloc, width, height, found)
         }
         Format::RawBits => {
             let found = raw::bits(alloc, width as usize, height as usize, raster);
-            set_image(width, height, found)
+            set_image(alloc, width, height, found)
         }
         Format::PlainGrey if maxval < 256 => {
             let found = plain::samples(alloc, Places::Samples(maxval), count, raster);
-            grey8_image(width, height, maxval as u8, found)
+            grey8_image(alloc, width, height, maxval as u8, found)
         }
         Format::PlainGrey => {
             let found = plain::samples(alloc, Places::Samples(maxval), count, raster);
-            grey16_image(width, height, maxval, found)
+            grey16_image(alloc, width, height, maxval, found)
         }
         Format::RawGrey if maxval < 256 => {
             let found = raw::grey8(alloc, count, maxval as u8, raster);
-            grey8_image(width, height, maxval as u8, found)
+            grey8_image(alloc, width, height, maxval as u8, found)
         }
         Format::RawGrey => {
             let found = raw::grey16(alloc, count, maxval, raster);
-            grey16_image(width, height, maxval, found)
+            grey16_image(alloc, width, height, maxval, found)
         }
     }
 }
@@ -145,21 +161,26 @@ fn whole(alloc: Global, bytes: &[u8]) -> Result<Image, ReadFault>
 }
 
 /// The picture in the raster that begins there, in the vector of the file.
-fn owned_raster(head: &Header, start: usize, file: Vec<u8>) -> Result<Image, ReadFault>
+fn owned_raster(
+    alloc: Global,
+    head: &Header,
+    start: usize,
+    file: Vec<u8>,
+) -> Result<Image, ReadFault>
     requires format { head.now.format ≡ Format.RawGrey }
     requires width { head.now.width ≤ 8192 }
     requires height { head.now.height ≤ 8192 }
     requires some { 1 ≤ head.now.maxval }
     requires maxval { head.now.maxval < 256 }
     requires within { start ≤ length file.items }
-    ensures { result ≡ image_at head.now (drop start file.items) }
+    ensures { Gives (λ i. i) result (image_at head.now (drop start file.items)) }
 {
     let width = head.width as u32;
     let height = head.height as u32;
     let maxval = head.maxval as u8;
     let count = height as usize * width as usize;
     let found = raw::owned_grey8(count, maxval, start, file);
-    grey8_image(width, height, maxval, found)
+    grey8_image(alloc, width, height, maxval, found)
 }
 
 /// The image that the bytes hold. Samples of one byte stay in their vector, unless a header longer than they are would
@@ -174,7 +195,7 @@ fn whole_owned(alloc: Global, bytes: Vec<u8>) -> Result<Image, ReadFault>
             let start = bytes.len() - rest.len();
             match head.format {
                 Format::RawGrey if head.maxval < 256 && start <= rest.len() => {
-                    owned_raster(&head, start, bytes)
+                    owned_raster(alloc, &head, start, bytes)
                 }
                 _ => raster(alloc, &head, rest),
             }

@@ -25,15 +25,15 @@ grey_of p maxval = record { kind = kind.Grey; width = p.width; height = p.height
 
 -- the picture that is held
 abbrev pub picture_of : Samples → Picture
-picture_of (Bits p) = set_of p
-picture_of (Grey8 p maxval) = grey_of p maxval
-picture_of (Grey16 p maxval) = grey_of p maxval
+picture_of (Bits p) = set_of (arc_value p)
+picture_of (Grey8 p maxval) = grey_of (arc_value p) maxval
+picture_of (Grey16 p maxval) = grey_of (arc_value p) maxval
 
 -- no sample is over the maxval, and the maxval is one of its kind of samples
 abbrev pub IsHeld : Samples → Type 0
-IsHeld (Bits p) = All (λ s. s ≤ 1) p.cells
-IsHeld (Grey8 p maxval) = All (λ s. s ≤ maxval) p.cells × (1 ≤ maxval) × (maxval ≤ 255)
-IsHeld (Grey16 p maxval) = All (λ s. s ≤ maxval) p.cells × (256 ≤ maxval)
+IsHeld (Bits p) = All (λ s. s ≤ 1) (arc_value p).cells
+IsHeld (Grey8 p maxval) = All (λ s. s ≤ maxval) (arc_value p).cells × (1 ≤ maxval) × (maxval ≤ 255)
+IsHeld (Grey16 p maxval) = All (λ s. s ≤ maxval) (arc_value p).cells × (256 ≤ maxval)
 
 -- what is looked at is this picture
 abbrev pub Shows : Picture → View → Type 0

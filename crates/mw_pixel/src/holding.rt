@@ -1,10 +1,9 @@
 //! Planes that may have several owners.
 
-ghost use Rattle.std.specs.Prelude.{◌≡◌, IfSome};
+ghost use Rattle.std.specs.Prelude.{◌≡◌};
 ghost use Rattle.std.specs.Arc.{arc_value};
 
 use crate::{Pixel, Plane};
-use std::alloc::Global;
 use std::marker::Model;
 use std::sync::Arc;
 
@@ -55,29 +54,6 @@ impl<P: Pixel> HeldPlane<P> {
         match &self.owners {
             Owners::One(plane) => plane,
             Owners::Several(plane) => plane,
-        }
-    }
-
-    /// The same plane, which others can own from now on. Where memory for that is refused it stays with its one owner.
-    pub fn into_shared(self, alloc: Global) -> HeldPlane<P>
-        ensures { result ≡ self }
-    {
-        match self.owners {
-            Owners::One(plane) => match Arc::new(alloc, plane) {
-                Ok(plane) => HeldPlane::sharing(plane),
-                Err(refused) => HeldPlane::alone(refused.value),
-            },
-            Owners::Several(plane) => HeldPlane::sharing(plane),
-        }
-    }
-
-    /// One more owner of the plane, if others can own it.
-    pub fn shared(&self) -> Option<Arc<Plane<P>>>
-        ensures { IfSome result (λ p. arc_value p ≡ self.now) }
-    {
-        match &self.owners {
-            Owners::One(_) => None,
-            Owners::Several(plane) => Arc::try_clone(plane).ok(),
         }
     }
 }

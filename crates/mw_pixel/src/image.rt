@@ -3,9 +3,8 @@
 ghost use Rattle.std.specs.Prelude.{◌≡◌, ◌↔◌, ◌≤◌, ◌<◌, ◌*◌, ◌+◌, All, IsTrue, length};
 ghost use Rattle.mw_model.specs.Pictures.{IsPicture, sample};
 
-use crate::{Bit, HeldPlane, Pixel, Plane};
-use mw_model::{Kind, Shape};
-use std::alloc::Global;
+use crate::{Bit, Pixel, Plane};
+use mw_model::{Kind, NoMemory, Shape};
 use std::marker::Model;
 use std::sync::Arc;
 
@@ -27,12 +26,12 @@ pub enum SharedView {
 
 #[derive(Drop)]
 enum Samples {
-    Bits(HeldPlane<Bit>),
-    Grey8(HeldPlane<u8>, u8),
-    Grey16(HeldPlane<u16>, u16),
+    Bits(Arc<Plane<Bit>>),
+    Grey8(Arc<Plane<u8>>, u8),
+    Grey16(Arc<Plane<u16>>, u16),
 }
 
-/// A set, or a picture in levels of grey up to its maxval. No sample is over the maxval.
+/// A set, or a picture in levels of grey up to its maxval. No sample is over the maxval. Others may own its plane too.
 #[derive(Drop)]
 pub struct Image {
     content: Samples,
@@ -51,39 +50,40 @@ impl Model for Image {
 }
 
 impl Image {
-    ghost use Rattle.std.specs.Prelude.{◌≡◌, ◌↔◌, ◌≤◌, ◌<◌, ◌*◌, ◌+◌, All, IfSome, IsTrue, length};
+    ghost use Rattle.std.specs.Prelude.{◌≡◌, ◌↔◌, ◌≤◌, ◌<◌, ◌*◌, ◌+◌, All, IfOk, IsTrue, length};
+    ghost use Rattle.std.specs.Arc.{arc_value};
     ghost use Rattle.mw_model.specs.Pictures.{IsPicture, sample};
     ghost use Rattle.mw_pixel.specs.Images.{grey_of, set_of, Shows, SharesAs};
 
     /// A set: 1 for its pixels, 0 for the others, with the maxval 1.
-    pub fn bits(plane: Plane<Bit>) -> Image
-        requires { All (λ s. s ≤ 1) plane.cells }
-        ensures { result ≡ set_of plane }
+    pub fn bits(plane: Arc<Plane<Bit>>) -> Image
+        requires { All (λ s. s ≤ 1) (arc_value plane).cells }
+        ensures { result ≡ set_of (arc_value plane) }
     {
         Image {
-            content: Samples::Bits(HeldPlane::alone(plane)),
+            content: Samples::Bits(plane),
         }
     }
 
     /// A grey image of samples up to a maxval from 1 to 255.
-    pub fn grey8(plane: Plane<u8>, maxval: u8) -> Image
+    pub fn grey8(plane: Arc<Plane<u8>>, maxval: u8) -> Image
         requires some { 1 ≤ maxval }
-        requires within { All (λ s. s ≤ maxval) plane.cells }
-        ensures { result ≡ grey_of plane maxval }
+        requires within { All (λ s. s ≤ maxval) (arc_value plane).cells }
+        ensures { result ≡ grey_of (arc_value plane) maxval }
     {
         Image {
-            content: Samples::Grey8(HeldPlane::alone(plane), maxval),
+            content: Samples::Grey8(plane, maxval),
         }
     }
 
     /// A grey image of samples up to a maxval from 256 to 65,535.
-    pub fn grey16(plane: Plane<u16>, maxval: u16) -> Image
+    pub fn grey16(plane: Arc<Plane<u16>>, maxval: u16) -> Image
         requires high { 256 ≤ maxval }
-        requires within { All (λ s. s ≤ maxval) plane.cells }
-        ensures { result ≡ grey_of plane maxval }
+        requires within { All (λ s. s ≤ maxval) (arc_value plane).cells }
+        ensures { result ≡ grey_of (arc_value plane) maxval }
     {
         Image {
-            content: Samples::Grey16(HeldPlane::alone(plane), maxval),
+            content: Samples::Grey16(plane, maxval),
         }
     }
 
@@ -93,45 +93,41 @@ impl Image {
         ensures picture { IsPicture self.now }
     {
         match &self.content {
-            Samples::Bits(held) => {
-                let plane = held.plane();
+            Samples::Bits(plane) => {
                 let _samples = plane.samples();
                 View::Bits(plane)
             }
-            Samples::Grey8(held, maxval) => {
-                let plane = held.plane();
+            Samples::Grey8(plane, maxval) => {
                 let _samples = plane.samples();
                 View::Grey8(plane, *maxval)
             }
-            Samples::Grey16(held, maxval) => {
-                let plane = held.plane();
+            Samples::Grey16(plane, maxval) => {
                 let _samples = plane.samples();
                 View::Grey16(plane, *maxval)
             }
         }
     }
 
-    /// The same image, whose plane others can own from now on. Where memory for that is refused it stays as it was.
-    pub fn into_shared(self, alloc: Global) -> Image
-        ensures { result ≡ self }
+    /// The same image, as one more owner of its plane. No sample is copied.
+    pub fn share(&self) -> Result<Image, NoMemory>
+        ensures { IfOk result (λ i. i ≡ self.now) }
     {
-        let content = match self.content {
-            Samples::Bits(held) => Samples::Bits(held.into_shared(alloc)),
-            Samples::Grey8(held, maxval) => Samples::Grey8(held.into_shared(alloc), maxval),
-            Samples::Grey16(held, maxval) => Samples::Grey16(held.into_shared(alloc), maxval),
-        };
-        Image { content }
+        Ok(match &self.content {
+            Samples::Bits(plane) => Image::bits(Arc::try_clone(plane)?),
+            Samples::Grey8(plane, maxval) => Image::grey8(Arc::try_clone(plane)?, *maxval),
+            Samples::Grey16(plane, maxval) => Image::grey16(Arc::try_clone(plane)?, *maxval),
+        })
     }
 
-    /// What is inside, with one more owner, if others can own it.
-    pub fn shared(&self) -> Option<SharedView>
-        ensures { IfSome result (SharesAs self.now) }
+    /// What is inside, with one more owner.
+    pub fn shared(&self) -> Result<SharedView, NoMemory>
+        ensures { IfOk result (SharesAs self.now) }
     {
-        match &self.content {
-            Samples::Bits(held) => Some(SharedView::Bits(held.shared()?)),
-            Samples::Grey8(held, maxval) => Some(SharedView::Grey8(held.shared()?, *maxval)),
-            Samples::Grey16(held, maxval) => Some(SharedView::Grey16(held.shared()?, *maxval)),
-        }
+        Ok(match &self.content {
+            Samples::Bits(plane) => SharedView::Bits(Arc::try_clone(plane)?),
+            Samples::Grey8(plane, maxval) => SharedView::Grey8(Arc::try_clone(plane)?, *maxval),
+            Samples::Grey16(plane, maxval) => SharedView::Grey16(Arc::try_clone(plane)?, *maxval),
+        })
     }
 
     /// Whether it is a set or a grey image.
@@ -150,9 +146,9 @@ impl Image {
         ensures { result ≡ self.now.width }
     {
         match &self.content {
-            Samples::Bits(held) => held.plane().width(),
-            Samples::Grey8(held, _) => held.plane().width(),
-            Samples::Grey16(held, _) => held.plane().width(),
+            Samples::Bits(plane) => plane.width(),
+            Samples::Grey8(plane, _) => plane.width(),
+            Samples::Grey16(plane, _) => plane.width(),
         }
     }
 
@@ -161,9 +157,9 @@ impl Image {
         ensures { result ≡ self.now.height }
     {
         match &self.content {
-            Samples::Bits(held) => held.plane().height(),
-            Samples::Grey8(held, _) => held.plane().height(),
-            Samples::Grey16(held, _) => held.plane().height(),
+            Samples::Bits(plane) => plane.height(),
+            Samples::Grey8(plane, _) => plane.height(),
+            Samples::Grey16(plane, _) => plane.height(),
         }
     }
 
@@ -187,9 +183,9 @@ impl Image {
         ensures small { result ≤ self.now.maxval }
     {
         match &self.content {
-            Samples::Bits(held) => held.plane().at(x, y).value(),
-            Samples::Grey8(held, _) => held.plane().at(x, y).value(),
-            Samples::Grey16(held, _) => held.plane().at(x, y).value(),
+            Samples::Bits(plane) => plane.at(x, y).value(),
+            Samples::Grey8(plane, _) => plane.at(x, y).value(),
+            Samples::Grey16(plane, _) => plane.at(x, y).value(),
         }
     }
 
@@ -205,9 +201,9 @@ impl Image {
         ensures { IsTrue result ↔ (self.now ≡ other.now) }
     {
         match (&self.content, &other.content) {
-            (Samples::Bits(a), Samples::Bits(b)) => a.plane().same(b.plane()),
-            (Samples::Grey8(a, m), Samples::Grey8(b, n)) => *m == *n && a.plane().same(b.plane()),
-            (Samples::Grey16(a, m), Samples::Grey16(b, n)) => *m == *n && a.plane().same(b.plane()),
+            (Samples::Bits(a), Samples::Bits(b)) => a.same(b),
+            (Samples::Grey8(a, m), Samples::Grey8(b, n)) => *m == *n && a.same(b),
+            (Samples::Grey16(a, m), Samples::Grey16(b, n)) => *m == *n && a.same(b),
             _ => false,
         }
     }

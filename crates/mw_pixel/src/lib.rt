@@ -2,7 +2,7 @@
 //!
 //! ```text
 //! let plane = Plane::<u8>::filled(alloc, 640, 480, 0)?;
-//! let image = Image::grey8(plane, 255);
+//! let image = Image::grey8(Arc::new(alloc, plane)?, 255);
 //! let corner = image.sample(639, 479);
 //! ```
 #![tactic(auto)]

@@ -16,7 +16,7 @@ use Rattle.mw_task.proofs.Boxes.{box_all, box_at}
 use Rattle.mw_plan.specs.Steps.{IsNearBox, turned_box}
 
 -- the offset leads from (x, y) to (u, v)
-abbrev Leads : Offset → ℕ → ℕ → ℕ → ℕ → Type 0
+abbrev pub Leads : Offset → ℕ → ℕ → ℕ → ℕ → Type 0
 Leads b x y u v = (pos x +ℤ b.dx ≡ pos u) × (pos y +ℤ b.dy ≡ pos v)
 
 each_contained : {A : Type 0} (P : A → Type 0) (xs : List A) → ((x : A) → Contains xs x → P x) → AllByRecursion P xs
@@ -27,10 +27,10 @@ contained : {A : Type 0} (P : A → Type 0) (xs : List A) (x : A) → AllByRecur
 contained P xs x all has = subst P has.2 (all_at P xs has.0 x has.1 all)
 
 -- an offset of the list by which it covers
-record Way (Q : Offset → Type 0) (x y u v : ℕ) : Type 0 where
-  by : Offset
-  leads : Leads by x y u v
-  holds : Q by
+pub record Way (Q : Offset → Type 0) (x y u v : ℕ) : Type 0 where
+  pub by : Offset
+  pub leads : Leads by x y u v
+  pub holds : Q by
 
 way : (Q : Offset → Type 0) (bs : List Offset) (x y u v : ℕ) → AllByRecursion Q bs → Covers bs x y u v → Way Q x y u v
 way Q [] x y u v all c = absurd c
@@ -42,7 +42,7 @@ members [] cs x y u v into = tt
 members (b ∷ bs) cs x y u v into = ((λ leads. into (inl leads)), members bs cs x y u v (λ c. into (inr c)))
 
 -- an offset of the element, or of the box, covers where it leads
-element_covers : (e : List Offset) (b : Offset) (x y u v : ℕ) → Contains e b → Leads b x y u v → Covers e x y u v
+pub element_covers : (e : List Offset) (b : Offset) (x y u v : ℕ) → Contains e b → Leads b x y u v → Covers e x y u v
 element_covers e b x y u v has = contained (λ b. Leads b x y u v → Covers e x y u v) e b (members e e x y u v (λ c. c)) has
 
 box_covers : (box : OffsetBox) (b : Offset) (x y u v : ℕ) → InBox box b → Leads b x y u v → Covers (box_offsets box) x y u v
@@ -51,7 +51,7 @@ box_covers box b x y u v inside = box_at (λ b. Leads b x y u v → Covers (box_
 of_box : (box : OffsetBox) (x y u v : ℕ) → Covers (box_offsets box) x y u v → Way (InBox box) x y u v
 of_box box x y u v c = way (InBox box) (box_offsets box) x y u v (box_all (InBox box) box (λ b inside. inside)) c
 
-of_element : (e : List Offset) (x y u v : ℕ) → Covers e x y u v → Way (Contains e) x y u v
+pub of_element : (e : List Offset) (x y u v : ℕ) → Covers e x y u v → Way (Contains e) x y u v
 of_element e x y u v c = way (Contains e) e x y u v (each_contained (Contains e) e (λ b has. has)) c
 
 pub box_same : (box : OffsetBox) (e : List Offset) → FillsBox box e → CoverSame (box_offsets box) e

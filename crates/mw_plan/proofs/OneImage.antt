@@ -1,12 +1,13 @@
 -- Plans that read one image.
-use Rattle.std.proofs.Common.{◌≡◌, ℕ, zero, suc, ◌<◌, List, [], ◌∷◌, ◌++◌, Result, Ok, Err, IfOk, refl, ap, subst, sym, arith, ◌∙◌}
+use Rattle.std.proofs.Common.{◌≡◌, ℕ, zero, suc, ◌<◌, false, List, [], ◌∷◌, ◌++◌, Result, IfOk, refl, ap, subst, sym, arith, ◌∙◌}
 use Rattle.std.specs.Prelude.{slice_index_or}
 use Rattle.std.specs.List.{AllByRecursion}
+use Rattle.std.proofs.lemmas.Result.{IfOk-weaker}
 use Rattle.mw_model.specs.declared.places.Offset.{Offset}
 use Rattle.mw_model.specs.Pictures.{Picture}
 use Rattle.mw_model.specs.Flat.{negated, minus, erosion, dilation, opening, closing, white_top_hat, black_top_hat}
 use Rattle.mw_model.specs.PlanSteps.{PlanStep, Minus}
-use Rattle.mw_model.specs.Plans.{Plan, Planned, Source, FromInput, FromStep, IsSourceAt, plane_of}
+use Rattle.mw_model.specs.Plans.{Plan, Planned, Source, FromInput, FromStep, IsSourceAt, is_sum, plane_of}
 use Rattle.mw_model.specs.Tasks.{nothing_planned}
 use Rattle.mw_task.proofs.Cut.{plane_of_two}
 use Rattle.mw_plan.specs.declared.extremum.Extremum.{Extremum}
@@ -21,8 +22,10 @@ plane_on s f = plane_of s (f ∷ []) f.width f.height
 pub alone_makes : (s : PlanStep) (operator : Picture → Picture) (plan : Plan) → plan ≡ of_image s ∷ [] → ActsAs s operator → Makes 1 operator plan
 alone_makes s operator plan is acts = subst (Makes 1 operator) (sym is) (record {
   some = omega arith;
+  few = omega arith;
   steps = refl;
   sources = sources;
+  plain = plain;
   read = (0, omega arith, (0, omega arith, refl));
   made = made;
   last = acts.plane;
@@ -32,6 +35,10 @@ alone_makes s operator plan is acts = subst (Makes 1 operator) (sym is) (record 
     sources zero = (omega arith, tt)
     sources (suc k) = tt
 
+    plain : (k : ℕ) → is_sum (slice_index_or (of_image s ∷ []) k nothing_planned).step ≡ false
+    plain zero = acts.plain
+    plain (suc k) = refl
+
     made : (f : Picture) (k : ℕ) → k < 1 → CanBeMade (slice_index_or (of_image s ∷ []) k nothing_planned).step (planes_read (of_image s ∷ []) (f ∷ []) f.width f.height k)
     made f zero lt = acts.made f
     made f (suc k) lt = absurd (omega arith)
@@ -40,8 +47,10 @@ alone_makes s operator plan is acts = subst (Makes 1 operator) (sym is) (record 
 pub in_turn_makes : (s t : PlanStep) (first second : Picture → Picture) → ActsAs s first → ActsAs t second → Makes 2 (λ f. second (first f)) (of_image s ∷ of_step 0 t ∷ [])
 in_turn_makes s t first second acts_first acts_second = record {
   some = omega arith;
+  few = omega arith;
   steps = refl;
   sources = sources;
+  plain = plain;
   read = (0, omega arith, (0, omega arith, refl));
   made = made;
   last = λ f. acts_second.plane (plane_on s f) ∙ ap second (acts_first.plane f);
@@ -51,6 +60,11 @@ in_turn_makes s t first second acts_first acts_second = record {
     sources zero = (omega arith, tt)
     sources (suc zero) = (omega arith, tt)
     sources (suc (suc k)) = tt
+
+    plain : (k : ℕ) → is_sum (slice_index_or (of_image s ∷ of_step 0 t ∷ []) k nothing_planned).step ≡ false
+    plain zero = acts_first.plain
+    plain (suc zero) = acts_second.plain
+    plain (suc (suc k)) = refl
 
     made : (f : Picture) (k : ℕ) → k < 2 → CanBeMade (slice_index_or (of_image s ∷ of_step 0 t ∷ []) k nothing_planned).step (planes_read (of_image s ∷ of_step 0 t ∷ []) (f ∷ []) f.width f.height k)
     made f zero lt = acts_first.made f
@@ -76,6 +90,12 @@ three_sources s second x y two p q (suc zero) = two
 three_sources s second x y two p q (suc (suc zero)) = (p, (q, tt))
 three_sources s second x y two p q (suc (suc (suc k))) = tt
 
+three_plain : (s : PlanStep) (second : Planned) (x y : Source) → is_sum s ≡ false → is_sum second.step ≡ false → (k : ℕ) → is_sum (slice_index_or (three s second x y) k nothing_planned).step ≡ false
+three_plain s second x y p q zero = p
+three_plain s second x y p q (suc zero) = q
+three_plain s second x y p q (suc (suc zero)) = refl
+three_plain s second x y p q (suc (suc (suc k))) = refl
+
 -- the plane of two steps in a row
 abbrev plane_after : PlanStep → PlanStep → Picture → Picture
 plane_after s t f = plane_of t (plane_on s f ∷ []) f.width f.height
@@ -88,8 +108,10 @@ below_makes : (s t : PlanStep) (first second : Picture → Picture) → ActsAs s
     → Makes 3 (λ f. minus f (second (first f))) (three s (of_step 0 t) (FromInput 0) (FromStep 1))
 below_makes s t first second acts_first acts_second alike = record {
   some = omega arith;
+  few = omega arith;
   steps = refl;
   sources = three_sources s (of_step 0 t) (FromInput 0) (FromStep 1) (omega arith, tt) (omega arith) (omega arith);
+  plain = three_plain s (of_step 0 t) (FromInput 0) (FromStep 1) acts_first.plain acts_second.plain;
   read = (0, omega arith, (0, omega arith, refl));
   made = made;
   last = λ f. less_of f (plane_after s t f) refl refl ∙ ap (minus f) (after_is s t first second acts_first acts_second f);
@@ -107,8 +129,10 @@ above_makes : (s t : PlanStep) (first second : Picture → Picture) → ActsAs s
     → Makes 3 (λ f. minus (second (first f)) f) (three s (of_step 0 t) (FromStep 1) (FromInput 0))
 above_makes s t first second acts_first acts_second alike = record {
   some = omega arith;
+  few = omega arith;
   steps = refl;
   sources = three_sources s (of_step 0 t) (FromStep 1) (FromInput 0) (omega arith, tt) (omega arith) (omega arith);
+  plain = three_plain s (of_step 0 t) (FromStep 1) (FromInput 0) acts_first.plain acts_second.plain;
   read = (0, omega arith, (0, omega arith, refl));
   made = made;
   last = λ f. less_of (plane_after s t f) f refl refl ∙ ap (λ (g : Picture). minus g f) (after_is s t first second acts_first acts_second f);
@@ -126,8 +150,10 @@ pub difference_makes : (s t : PlanStep) (first second : Picture → Picture) (pl
     → Makes 3 (λ f. minus (first f) (second f)) plan
 difference_makes s t first second plan is acts_first acts_second alike = subst (Makes 3 (λ f. minus (first f) (second f))) (sym is) (record {
   some = omega arith;
+  few = omega arith;
   steps = refl;
   sources = three_sources s (of_image t) (FromStep 0) (FromStep 1) (omega arith, tt) (omega arith) (omega arith);
+  plain = three_plain s (of_image t) (FromStep 0) (FromStep 1) acts_first.plain acts_second.plain;
   read = (0, omega arith, (0, omega arith, refl));
   made = made;
   last = λ f. less_of (plane_on s f) (plane_on t f) refl refl ∙ ap (λ (g : Picture). minus g (plane_on t f)) (acts_first.plane f) ∙ ap (minus (first f)) (acts_second.plane f);
@@ -165,11 +191,6 @@ three_pushed p0 p1 p2 p3 a b d x y z none first a-is second b-is third d-is =
     let two : p2 ≡ x ∷ y ∷ [] = second ∙ ap (λ (p : Plan). p ++ b ∷ []) one ∙ ap (λ (t : Planned). x ∷ t ∷ []) b-is in
     third ∙ ap (λ (p : Plan). p ++ d ∷ []) two ∙ ap (λ (t : Planned). x ∷ y ∷ t ∷ []) d-is
 
--- what holds of one plan holds of each that is made
-pub if_ok : (A E : Type 0) (r : Result A E) (P Q : A → Type 0) → ((a : A) → P a → Q a) → IfOk r P → IfOk r Q
-if_ok A E (Ok a) P Q each p = each a p
-if_ok A E (Err e) P Q each p = p
-
 -- a plan of one step that acts as an operator, if there was memory for it
 pub alone_if_ok : (E : Type 0) (r : Result Plan E) (s : PlanStep) (operator : Picture → Picture) → ActsAs s operator → IfOk r (λ p. p ≡ of_image s ∷ []) → IfOk r (Makes 1 operator)
-alone_if_ok E r s operator acts = if_ok Plan E r (λ p. p ≡ of_image s ∷ []) (Makes 1 operator) (λ p is. alone_makes s operator p is acts)
+alone_if_ok E r s operator acts = IfOk-weaker r (λ p. p ≡ of_image s ∷ []) (Makes 1 operator) (λ p is. alone_makes s operator p is acts)

@@ -2,6 +2,8 @@
 use Rattle.std.proofs.Common.{◌≡◌, ℕ, zero, suc, ◌+◌, ◌<◌, List, [], ◌∷◌, ◌++◌, length, map, refl, ap, sym, arith, ◌∙◌, length-append}
 use Rattle.std.specs.Prelude.{slice_index_or}
 use Rattle.std.specs.List.{AllByRecursion}
+use Rattle.std.proofs.Math.ListN.{get_or-append}
+use Rattle.std.proofs.Math.Seq.{get_or-append_seam}
 use Rattle.mw_model.specs.Pictures.{Picture}
 use Rattle.mw_model.specs.Plans.{Plan, Planned, Source, FromInput, FromStep, IsSourceAt, no_picture, plane_of, plane_of_source, planes, planes_from}
 use Rattle.mw_model.specs.Tasks.{nothing_planned}
@@ -15,22 +17,13 @@ length-planes_from [] images made width height = omega arith
 length-planes_from (s ∷ ss) images made width height =
     omega (arith, length-planes_from ss images (made ++ next s images made width height ∷ []) width height, length-append made (next s images made width height ∷ []))
 
-append_left : (xs ys : List Picture) (i : ℕ) → i < length xs → slice_index_or (xs ++ ys) i no_picture ≡ slice_index_or xs i no_picture
-append_left [] ys i lt = absurd (omega arith)
-append_left (x ∷ xs) ys zero lt = refl
-append_left (x ∷ xs) ys (suc i) lt = append_left xs ys i (omega arith)
-
-append_last : (xs : List Picture) (y : Picture) → slice_index_or (xs ++ y ∷ []) (length xs) no_picture ≡ y
-append_last [] y = refl
-append_last (x ∷ xs) y = append_last xs y
-
 -- what was made before stays
 before : (plan : Plan) (images made : List Picture) (width height i : ℕ) → i < length made → slice_index_or (planes_from plan images made width height) i no_picture ≡ slice_index_or made i no_picture
 before [] images made width height i lt = refl
 before (s ∷ ss) images made width height i lt =
     let p = next s images made width height in
     before ss images (made ++ p ∷ []) width height i (omega (arith, length-append made (p ∷ [])))
-    ∙ append_left made (p ∷ []) i lt
+    ∙ get_or-append made (p ∷ []) no_picture i lt
 
 -- sources before k are read alike in lists that are alike below k
 same_sources : (images made more : List Picture) (inputs k : ℕ) (sources : List Source) → ((i : ℕ) → i < k → slice_index_or more i no_picture ≡ slice_index_or made i no_picture)
@@ -51,7 +44,7 @@ each_from (s ∷ ss) images made width height zero j inputs at lt all =
     let here : j ≡ length made = omega arith in
     ap (λ (t : ℕ). slice_index_or more t no_picture) here
     ∙ before ss images (made ++ p ∷ []) width height (length made) (omega (arith, length-append made (p ∷ [])))
-    ∙ append_last made p
+    ∙ get_or-append_seam made p [] no_picture
     ∙ ap (λ (t : List Picture). plane_of s.step t width height)
     (same_sources images made more inputs j s.sources (λ i below. before (s ∷ ss) images made width height i (omega arith)) all)
 each_from (s ∷ ss) images made width height (suc k) j inputs at lt all =

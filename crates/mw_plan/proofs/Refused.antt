@@ -1,5 +1,5 @@
 -- The faults of an operation are the refusals of the machine.
-use Rattle.std.proofs.Common.{◌≡◌, ℕ, ◌+◌, Bool, true, false, List, [], ◌∷◌, ◌++◌, length, map, Option, Some, None, unwrap_or, refl, ap, sym, ◌∙◌}
+use Rattle.std.proofs.Common.{◌≡◌, ℕ, ◌+◌, Bool, true, false, List, [], ◌∷◌, ◌++◌, length, map, Option, Some, None, refl, ap, sym, ◌∙◌}
 use Rattle.std.specs.Prelude.{not, ◌&&◌, nat_le, option_map}
 use Rattle.mw_model.specs.declared.names.Name.{Name}
 use Rattle.mw_model.specs.declared.codes.Code.{Code}
@@ -23,6 +23,7 @@ use Rattle.mw_plan.specs.declared.inputs.Input.TheVariants as input
 use Rattle.mw_plan.specs.Faults.{code_of}
 use Rattle.mw_plan.specs.Asked.{is_image_input, is_element_input, image_shape, offsets_of_input, unless, first_fault, kind_fault, kind_faults, op_faults, fault_in, shape_made}
 use Rattle.mw_plan.specs.Tables.{HasShape, IsEntry, AreEntries, name_wanted}
+use Rattle.mw_laws.proofs.RunTables.{ticket_is}
 use Rattle.mw_plan.proofs.Fitting.{none_first}
 
 -- a fault as a refusal, if there is one
@@ -90,10 +91,6 @@ binary_told (input.Element e) s tells = ap is_binary tells
 binary_told input.Curve s tells = ap is_binary tells.1
 binary_told input.Absent s tells = absurd tells
 
--- the ticket of an entry
-ticket_is : (w : Table) (values : List (Option Value)) (n : Name) (i : Input) (e : IsEntry w values n i) → ticket w n ≡ e.number
-ticket_is w values n i e = ap (λ (t : Option ℕ). unwrap_or t 0) e.known
-
 -- an entry is refused for its kind alone
 entry_case : (w : Table) (values : List (Option Value)) (n : Name) (i : Input) (fits : Shape → Bool) (t : Bool) (f : PlanFault) → code_of f ≡ code.Kind → (e : IsEntry w values n i)
     → fits (shape_at w.submissions e.number) ≡ t → input_case w fits n ≡ code_if (unless t f)
@@ -133,7 +130,7 @@ overlap_same e d e' d' first second =
 binary_same : (w : Table) (values : List (Option Value)) (n : Name) (a : Input) → IsEntry w values n a → when (not (is_binary (shape_at w.submissions (ticket w n)))) code.Binary ≡ code_if (unless (is_binary (image_shape a)) fault.Binary)
 binary_same w values n a e =
     case_same (is_binary (image_shape a)) (is_binary (shape_at w.submissions (ticket w n))) fault.Binary code.Binary refl
-    (ap (λ (t : ℕ). is_binary (shape_at w.submissions t)) (ticket_is w values n a e) ∙ binary_told a (shape_at w.submissions e.number) e.tells)
+    (ap (λ (t : ℕ). is_binary (shape_at w.submissions t)) (ticket_is w n e.number e.known) ∙ binary_told a (shape_at w.submissions e.number) e.tells)
 
 cases_of : (w : Table) (values : List (Option Value)) (o : Op) (a b c : Input) → AreEntries w values (inputs_wanted o) (a ∷ b ∷ c ∷ []) → AreCases (op_cases w values o) (op_faults o a b c)
 cases_of w values (op.Flat (flat.Erode f e)) a b c are = tt
@@ -176,7 +173,7 @@ image_is input.Absent s tells there = absurd tells
 first_is : (w : Table) (values : List (Option Value)) (n : Name) (a : Input) (rest : List (Option PlanFault)) → IsEntry w values n a → first_fault (unless (is_image_input a) (fault.Kind 0) ∷ rest) ≡ None
     → shape_at w.submissions (ticket w n) ≡ image_shape a
 first_is w values n a rest e none =
-    ap (shape_at w.submissions) (ticket_is w values n a e) ∙ image_is a (shape_at w.submissions e.number) e.tells (none_first (is_image_input a) (fault.Kind 0) rest none).0
+    ap (shape_at w.submissions) (ticket_is w n e.number e.known) ∙ image_is a (shape_at w.submissions e.number) e.tells (none_first (is_image_input a) (fault.Kind 0) rest none).0
 
 pub shape_same : (w : Table) (values : List (Option Value)) (o : Op) (a b c : Input) → AreEntries w values (inputs_wanted o) (a ∷ b ∷ c ∷ []) → fault_in o a b c ≡ None → shape_of_result w o ≡ shape_made o a
 shape_same w values (op.Flat (flat.Erode f e)) a b c are none = first_is w values f a _ are.0 none

@@ -1,14 +1,15 @@
 -- When a plan is one of an operation (own).
-use Rattle.std.specs.Prelude.{ℕ, ◌≡◌, ◌<◌, ◌≤◌, List, [], ◌∷◌, length, map, take, count_by, Contains, Option, Some, None, slice_index_or}
+use Rattle.std.specs.Prelude.{ℕ, ◌≡◌, ◌-◌, ◌<◌, ◌≤◌, true, false, List, [], ◌∷◌, length, map, take, count_by, Contains, Option, Some, None, slice_index_or}
 use Rattle.std.specs.List.{AllByRecursion}
 use Rattle.std.specs.Arc.{arc_value}
 use Rattle.mw_model.specs.declared.shapes.Kind.TheVariants as kind
 use Rattle.mw_model.specs.declared.operations.Op.{Op}
 use Rattle.mw_model.specs.Pictures.{Picture, IsImage}
 use Rattle.mw_model.specs.Values.{Value, ImageValue, ElementValue, CurveValue, shape_of_picture, result_of}
-use Rattle.mw_model.specs.Refusals.{inputs_wanted}
+use Rattle.mw_model.specs.Refusals.{inputs_wanted, is_image}
 use Rattle.mw_model.specs.PlanSteps.{PlanStep, Minus, Meet, Join, Blank, Mark, MarkLast}
-use Rattle.mw_model.specs.Plans.{Plan, FromInput, IsSourceAt, images_of, no_picture, plane_of_source, planes, value_of_planes}
+use Rattle.mw_model.specs.Plans as model
+use Rattle.mw_model.specs.Plans.{Plan, Source, FromInput, FromStep, IsSourceAt, images_of, is_sum, no_picture, plane_of_source, planes, value_of_planes}
 use Rattle.mw_model.specs.Tasks.{nothing_planned}
 use Rattle.mw_task.specs.WindowTasks.{source_count}
 use Rattle.mw_plan.specs.declared.inputs.Input.{Input}
@@ -49,12 +50,12 @@ picture_at sources k = slice_index_or sources k no_picture
 abbrev pub AreAlike : Picture → Picture → Type 0
 AreAlike f g = (f.kind ≡ g.kind) × (f.maxval ≡ g.maxval)
 
--- images that are put together are of one kind and maxval, marked places are sets, and a mark is a level of what is marked
+-- images that are put together are of one kind and maxval, a blank image has the maxval of an image, marked places are sets, and a mark is a level of what is marked
 abbrev pub KindsAllow : PlanStep → List Picture → Type 0
 KindsAllow Minus sources = AreAlike (picture_at sources 0) (picture_at sources 1)
 KindsAllow Meet sources = AreAlike (picture_at sources 0) (picture_at sources 1)
 KindsAllow Join sources = AreAlike (picture_at sources 0) (picture_at sources 1)
-KindsAllow (Blank m) sources = 1 ≤ m
+KindsAllow (Blank m) sources = (1 ≤ m) × (m ≤ 65535)
 KindsAllow (Mark v) sources = (v ≤ (picture_at sources 0).maxval) × ((picture_at sources 1).kind ≡ kind.Bit) × ((picture_at sources 2).kind ≡ kind.Bit)
 KindsAllow (MarkLast v) sources = (v ≤ (picture_at sources 0).maxval) × ((picture_at sources 1).kind ≡ kind.Bit)
 KindsAllow s sources = Unit {0}
@@ -79,12 +80,21 @@ HaveFrame width height images = AllByRecursion (λ (f : Picture). (f.width ≡ w
 abbrev pub IsReadBy : Plan → ℕ → Type 0
 IsReadBy plan i = (k : ℕ) × (k < length plan) × Contains (slice_index_or plan k nothing_planned).sources (FromInput i)
 
--- Each source is an image among the inputs or an earlier step, each image is read, and whatever images come to stand in the inputs, each step can be made of what it reads, and the planes of the plan mean the operation.
+-- the source is no Sum step, whose numbers are no plane
+abbrev pub IsPlaneSource : Plan → Source → Type 0
+IsPlaneSource plan (FromStep k) = is_sum (slice_index_or plan k nothing_planned).step ≡ false
+IsPlaneSource plan s = Unit {0}
+
+-- The plan has from 1 to 896 steps and reads one image. Each source is that image or an earlier step that makes a plane, an image is what the last step makes, and whatever images come to stand in the inputs, each step can be made of what it reads, and the planes of the plan mean the operation.
 pub record IsPlanOf (o : Op) (a b c : Input) (plan : Plan) : Type 0 where
   pub some : 1 ≤ length plan
+  pub few : length plan ≤ 896
+  pub one : images_taken o a b c ≡ 1
   pub sources : (k : ℕ) → AllByRecursion (IsSourceAt (images_taken o a b c) k) (slice_index_or plan k nothing_planned).sources
+  pub planes : (k : ℕ) → AllByRecursion (IsPlaneSource plan) (slice_index_or plan k nothing_planned).sources
+  pub last : is_image (shape_made o a) ≡ true → is_sum (slice_index_or plan (length plan - 1) nothing_planned).step ≡ false
   pub read : (i : ℕ) → i < images_taken o a b c → IsReadBy plan i
   pub made : (values : List (Option Value)) (width height k : ℕ) → AreValuesOf (inputs_taken o a b c) values → HaveFrame width height (images_of values)
       → k < length plan → CanBeMade (slice_index_or plan k nothing_planned).step (planes_read plan (images_of values) width height k)
   pub means : (values : List (Option Value)) (width height : ℕ) → AreValuesOf (inputs_taken o a b c) values → HaveFrame width height (images_of values)
-      → value_of_planes (shape_made o a) plan (planes plan (images_of values) width height) ≡ result_of o values
+      → value_of_planes (shape_made o a) plan (model.planes plan (images_of values) width height) ≡ result_of o values

@@ -1,5 +1,5 @@
 -- Plans of one image, and what the steps of flat operators do (own).
-use Rattle.std.specs.Prelude.{ℕ, ◌≡◌, true, ◌<◌, ◌≤◌, ◌-◌, List, [], ◌∷◌, length, negsuc, pos, neg_ℤ, ◌≤ℤ◌, slice_index_or}
+use Rattle.std.specs.Prelude.{ℕ, ◌≡◌, true, false, ◌<◌, ◌≤◌, ◌-◌, List, [], ◌∷◌, length, negsuc, pos, neg_ℤ, ◌≤ℤ◌, slice_index_or}
 use Rattle.std.specs.List.{AllByRecursion}
 use Rattle.mw_model.specs.declared.operations.FlatOp.{FlatOp}
 use Rattle.mw_model.specs.declared.operations.FlatOp.TheVariants as flat
@@ -9,7 +9,7 @@ use Rattle.mw_model.specs.Pictures.{Picture}
 use Rattle.mw_model.specs.Flat.{erosion, dilation, negated, opening, closing, white_top_hat, black_top_hat, gradient, rank, threshold, hit_or_miss}
 use Rattle.mw_model.specs.PlanSteps.{PlanStep, Minus}
 use Rattle.mw_model.specs.PlanSteps as step
-use Rattle.mw_model.specs.Plans.{Plan, Planned, Source, FromInput, FromStep, IsSourceAt, no_picture, plane_of, planes}
+use Rattle.mw_model.specs.Plans.{Plan, Planned, Source, FromInput, FromStep, IsSourceAt, is_sum, no_picture, plane_of, planes}
 use Rattle.mw_model.specs.Tasks.{nothing_planned}
 use Rattle.mw_plan.specs.declared.inputs.Input.{Input}
 use Rattle.mw_plan.specs.Asked.{is_element_input}
@@ -66,8 +66,9 @@ turned_box box = record { x0 = neg_ℤ box.x1; x1 = neg_ℤ box.x0; y0 = neg_ℤ
 
 -- ---- steps and plans of one image
 
--- the step can be made of each image, and its plane is this operator of it
+-- the step is no Sum, it can be made of each image, and its plane is this operator of it
 pub record ActsAs (s : PlanStep) (operator : Picture → Picture) : Type 0 where
+  pub plain : is_sum s ≡ false
   pub made : (f : Picture) → CanBeMade s (f ∷ [])
   pub plane : (f : Picture) → plane_of s (f ∷ []) f.width f.height ≡ operator f
 
@@ -99,11 +100,13 @@ last_plane plan f =
     let made = planes plan (f ∷ []) f.width f.height in
     slice_index_or made (length made - 1) no_picture
 
--- the plan of so many steps reads one image and makes this operator of it
+-- the plan of so many steps, none of them a Sum, reads one image and makes this operator of it
 pub record Makes (count : ℕ) (operator : Picture → Picture) (plan : Plan) : Type 0 where
   pub some : 1 ≤ count
+  pub few : count ≤ 896
   pub steps : length plan ≡ count
   pub sources : (k : ℕ) → AllByRecursion (IsSourceAt 1 k) (slice_index_or plan k nothing_planned).sources
+  pub plain : (k : ℕ) → is_sum (slice_index_or plan k nothing_planned).step ≡ false
   pub read : IsReadBy plan 0
   pub made : (f : Picture) (k : ℕ) → k < length plan → CanBeMade (slice_index_or plan k nothing_planned).step (planes_read plan (f ∷ []) f.width f.height k)
   pub last : (f : Picture) → last_plane plan f ≡ operator f

@@ -12,7 +12,7 @@ use std::sync::Arc;
 
 /// What is taken of the samples under an element.
 #[derive(Clone, Copy)]
-pub(crate) enum Extremum {
+pub enum Extremum {
     /// As an erosion takes it.
     Least,
     /// As a dilation takes it.

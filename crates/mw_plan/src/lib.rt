@@ -17,12 +17,16 @@ mod plans;
 mod shapes;
 mod sliding;
 
+pub use extremum::Extremum;
 pub use faults::PlanFault;
 pub use flat::plan_of;
 pub use inputs::Input;
-pub use laws::{faults_are_refusals, planes_are_of_steps, tasks_of_plans_fit};
+pub use laws::{
+    accepted_runs_have_no_fault, faults_are_refusals, planes_are_of_steps, tasks_of_plans_fit,
+};
 pub use mw_laws::laws::hits_of_sets;
 pub use mw_model::{FlatOp, GranOp, NoMemory, OffsetBox, Op, Shape};
 pub use mw_task::{Element, Step};
 pub use plans::{Plan, PlannedStep, Source, Sources};
 pub use shapes::shape_of;
+pub use sliding::{slide, slide_turned, turned};

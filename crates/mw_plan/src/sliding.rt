@@ -17,17 +17,6 @@ use mw_task::Step;
 use std::alloc::Global;
 use std::sync::Arc;
 
-/// The element that stands there.
-fn element<'a>(input: Input<'a>) -> &'a Arc<Element>
-    requires { is_element_input input ≡ true }
-    ensures { (arc_value result.now).offsets ≡ offsets_of_input input.entry }
-{
-    match input {
-        Input::Element(element) => element,
-        _ => unreachable!(),
-    }
-}
-
 /// A bound of a box, seen from the other side.
 fn turn_bound(bound: i32) -> i32
     requires low { negsuc 254 ≤ℤ bound }
@@ -38,9 +27,10 @@ fn turn_bound(bound: i32) -> i32
 }
 
 /// The box turned round its origin.
-fn turn(offsets: OffsetBox) -> OffsetBox
+pub fn turned(offsets: OffsetBox) -> OffsetBox
     requires { IsNearBox offsets }
-    ensures { result ≡ turned_box offsets }
+    ensures value { result ≡ turned_box offsets }
+    ensures near { IsNearBox result }
 {
     OffsetBox {
         x0: turn_bound(offsets.x1),
@@ -57,31 +47,27 @@ fn turned_rectangle(element: &Element) -> Option<OffsetBox>
     // Its bounds stay within the sides of an element.
     let _figure = element.offsets();
     let offsets = element.as_rectangle()?;
-    Some(turn(offsets))
+    Some(turned(offsets))
 }
 
-/// The extremum under the element. A full rectangle goes as its box.
-pub(crate) fn slide(extremum: Extremum, input: Input<'_>) -> Result<Step, NoMemory>
+/// The extremum under the element, or `NoMemory`. A full rectangle goes as its box.
+pub fn slide(extremum: Extremum, input: Input<'_>) -> Result<Step, NoMemory>
     requires { is_element_input input ≡ true }
     ensures { IfOk result (λ s. ActsAs (meaning s) (sliding extremum (offsets_of_input input.entry))) }
 {
-    let element = element(input);
+    let element = input.element();
     Ok(match element.as_rectangle() {
         Some(offsets) => extremum.by_box(offsets),
         None => extremum.by_element(Arc::try_clone(element)?),
     })
 }
 
-/// The extremum under the element turned round.
-pub(crate) fn slide_turned(
-    alloc: Global,
-    extremum: Extremum,
-    input: Input<'_>,
-) -> Result<Step, NoMemory>
+/// The extremum under the element turned round, or `NoMemory`.
+pub fn slide_turned(alloc: Global, extremum: Extremum, input: Input<'_>) -> Result<Step, NoMemory>
     requires { is_element_input input ≡ true }
     ensures { IfOk result (λ s. ActsAs (meaning s) (sliding extremum (negated (offsets_of_input input.entry)))) }
 {
-    let element = element(input);
+    let element = input.element();
     if let Some(offsets) = turned_rectangle(element) {
         return Ok(extremum.by_box(offsets));
     }
@@ -94,5 +80,5 @@ pub(crate) fn rank(input: Input<'_>, k: u32) -> Result<Step, NoMemory>
     requires { is_element_input input ≡ true }
     ensures { IfOk result (λ s. ActsAs (meaning s) (rank (offsets_of_input input.entry) k)) }
 {
-    Ok(Step::Rank(Arc::try_clone(element(input))?, k))
+    Ok(Step::Rank(Arc::try_clone(input.element())?, k))
 }

@@ -80,6 +80,31 @@ fn inputs_of_the_wrong_kind_by_place(rt: HostRuntime) -> Result<(), Fail> {
     Ok(())
 }
 
+/// The input of an entry of which nothing is kept.
+fn not_kept(shape: Shape) -> Input<'static> {
+    Input::of(shape, None)
+}
+
+/// The input of a bar that is kept.
+fn kept(element: &Arc<Element>) -> Input<'_> {
+    Input::of(Shape::Element(3, 1), Some(element))
+}
+
+#[test]
+fn inputs_of_entries(rt: HostRuntime) -> Result<(), Fail> {
+    let n = name()?;
+    let b = bar(rt.alloc())?;
+    let element = kept(&b);
+    let erode = Op::Flat(FlatOp::Erode(n, n));
+    let image = not_kept(Shape::Image(Kind::Grey, 5, 1, 9));
+    let none = not_kept(Shape::Element(3, 1));
+    let curve = not_kept(Shape::Curve(2));
+    assert!(rt; shape_of(&erode, image, element, none).is_ok());
+    refused(&rt, erode, (curve, element, none), PlanFault::Kind(0), 42);
+    refused(&rt, erode, (image, none, none), PlanFault::Kind(1), 42);
+    Ok(())
+}
+
 /// Stops where a rank filter of this number by the element is not refused so.
 fn rank_refused(
     rt: &impl Abort,

@@ -1,117 +1,30 @@
 -- The tasks that read a tile stand in a block of each step.
-use Rattle.std.proofs.Common.{◌≡◌, ℕ, ◌+◌, ◌-◌, ◌*◌, ◌/◌, ◌%◌, ◌<◌, ◌≤◌, min, Bool, true, false, ◌&&◌, List, nat_eq, refl, ap, sym, subst, ◌∙◌, arith, get_or, length, inl, inr}
+use Rattle.std.proofs.Common.{◌≡◌, ℕ, ◌+◌, ◌*◌, ◌%◌, ◌<◌, ◌≤◌, Bool, true, false, ◌&&◌, List, nat_eq, refl, ap, subst, ◌∙◌, arith, get_or, length, inl, inr}
+use Rattle.std.proofs.Math.Bool.{and-false}
 use Rattle.std.proofs.Math.Nat.{mul-le-mul_left}
-use Rattle.std.proofs.lemmas.Bool.{cases_eq, ne_eqb}
-use Rattle.mw_model.specs.declared.places.Reach.{Reach}
+use Rattle.std.proofs.lemmas.Bool.{cases_eq, ne_eqb, and_parts}
 use Rattle.mw_model.specs.Places.{grown}
-use Rattle.mw_model.specs.Tasks.{flag, meets, share}
-use Rattle.mw_grid.specs.Grids.{Tiling, columns_of, rows_of, tile_count, tile_at}
-use Rattle.mw_grid.proofs.Lines.{row_less, piece_begins}
+use Rattle.mw_model.specs.Tasks.{flag, meets}
+use Rattle.mw_grid.specs.Counts.{bit, in_range}
+use Rattle.mw_grid.specs.Grids.{Tiling, tile_count, tile_at}
+use Rattle.mw_grid.specs.declared.blocks.Block.{Block}
+use Rattle.mw_grid.specs.Blocks.{in_block}
+use Rattle.mw_grid.proofs.Counts.{in-high, in-yes}
+use Rattle.mw_grid.proofs.Lines.{row_less}
 use Rattle.mw_ready.specs.declared.need.Need.{Need}
-use Rattle.mw_ready.specs.Queues.{bit, in_range, Queued, Lowers, Waiting}
-use Rattle.mw_ready.specs.Kept.{is_near}
 use Rattle.mw_ready.specs.Boards.{step_of, tile_of_task, step_reads, reads_tile, need_of, no_need}
-use Rattle.mw_ready.proofs.Counts.{in-high, in-yes}
-use Rattle.mw_ready.proofs.Pieces.{share-range, share-turned, and_both}
-use Rattle.mw_ready.proofs.Lowering.{row_is, and_bits, range_more, eq_true, lowers_more}
-use Rattle.mw_ready.proofs.Numbers.{div-of_mod, mod-of_mod, div-twice}
+use Rattle.mw_ready.specs.Kept.{is_near}
+use Rattle.mw_queue.specs.Queues.{Queued}
+use Rattle.mw_ready.specs.Counters.{Lowers, Waiting}
+use Rattle.mw_ready.proofs.Lowering.{and_bits, range_more, eq_true, lowers_more}
 
--- a grid has tiles
-pub record HasTiles (g : Tiling) : Type 0 where
-  pub wide : 1 ≤ g.width
-  pub high : 1 ≤ g.height
-  pub some : 1 ≤ g.side
-
-and-swap : (a b : Bool) → a && b ≡ b && a
-and-swap true true = refl
-and-swap true false = refl
-and-swap false true = refl
-and-swap false false = refl
-
-and-assoc : (a b c : Bool) → (a && b) && c ≡ a && (b && c)
-and-assoc true b c = refl
-and-assoc false b c = refl
-
-column_lt : (g : Tiling) (t : ℕ) → t % columns_of g < columns_of g
-column_lt g t = omega arith
-
-row_lt : (g : Tiling) (t : ℕ) → t < tile_count g → t / columns_of g < rows_of g
-row_lt g t lt = row_less (rows_of g) (columns_of g) t (omega arith) lt
-
-pub row_within : (g : Tiling) (t columns rows : ℕ) → columns ≡ columns_of g → rows ≡ rows_of g → t < tile_count g → t / columns < rows
-row_within g t columns rows columns-is rows-is lt = rw (columns-is, rows-is) (row_lt g t lt)
-
--- the tiles that a window meets
-block_is : (g : Tiling) (reach : Reach) (tile v : ℕ) → HasTiles g → tile < tile_count g → v < tile_count g
-    → in_range ((tile / columns_of g * g.side - reach.up) / g.side) (min (rows_of g) ((tile / columns_of g * g.side + g.side - 1 + reach.down) / g.side + 1)) (v / columns_of g)
-    && in_range ((tile % columns_of g * g.side - reach.left) / g.side) (min (columns_of g) ((tile % columns_of g * g.side + g.side - 1 + reach.right) / g.side + 1)) (v % columns_of g)
-    ≡ meets (grown g.width g.height reach (tile_at g tile)) (tile_at g v)
-block_is g reach tile v has lt v-lt =
-    let columns = columns_of g in
-    let rows = rows_of g in
-    let x = tile % columns in
-    let y = tile / columns in
-    let across = share-range g.width g.side x (v % columns) reach.left reach.right has.some has.wide (column_lt g tile) (column_lt g v) in
-    let down = share-range g.height g.side y (v / columns) reach.up reach.down has.some has.high (row_lt g tile lt) (row_lt g v v-lt) in
-    and-swap (in_range ((y * g.side - reach.up) / g.side) (min rows ((y * g.side + g.side - 1 + reach.down) / g.side + 1)) (v / columns)) (in_range ((x * g.side - reach.left) / g.side) (min columns ((x * g.side + g.side - 1 + reach.right) / g.side + 1)) (v % columns))
-    ∙ ap (λ (b : Bool). b && in_range ((y * g.side - reach.up) / g.side) (min rows ((y * g.side + g.side - 1 + reach.down) / g.side + 1)) (v / columns)) across
-    ∙ ap (λ (b : Bool). share (x * g.side - reach.left) (min (x * g.side + min g.side (g.width - x * g.side) + reach.right) g.width - (x * g.side - reach.left)) (v % columns * g.side) (min g.side (g.width - v % columns * g.side)) && b) down
-
-pub block_given : (g : Tiling) (reach : Reach) (tile columns rows side left right top bottom : ℕ) → HasTiles g → tile < tile_count g → columns ≡ columns_of g → rows ≡ rows_of g → side ≡ g.side
-    → left ≡ (tile % columns * side - reach.left) / side → right ≡ min columns ((tile % columns * side + side - 1 + reach.right) / side + 1)
-    → top ≡ (tile / columns * side - reach.up) / side → bottom ≡ min rows ((tile / columns * side + side - 1 + reach.down) / side + 1)
-    → (v : ℕ) → v < tile_count g → in_range top bottom (v / columns_of g) && in_range left right (v % columns_of g) ≡ meets (grown g.width g.height reach (tile_at g tile)) (tile_at g v)
-block_given g reach tile columns rows side left right top bottom has lt columns-is rows-is side-is left-is right-is top-is bottom-is v v-lt =
-    rw (bottom-is, right-is, top-is, left-is, side-is, rows-is, columns-is) (block_is g reach tile v has lt v-lt)
-
--- a window meets a tile where the window of the tile with the reach turned meets the first one's
-turned_meets : (g : Tiling) (reach : Reach) (tile v : ℕ) → HasTiles g → tile < tile_count g → v < tile_count g
-    → meets (grown g.width g.height (record { left = reach.right; right = reach.left; up = reach.down; down = reach.up }) (tile_at g tile)) (tile_at g v) ≡ meets (grown g.width g.height reach (tile_at g v)) (tile_at g tile)
-turned_meets g reach tile v has lt v-lt =
-    let columns = columns_of g in
-    let x = tile % columns * g.side in
-    let y = tile / columns * g.side in
-    let p = v % columns * g.side in
-    let q = v / columns * g.side in
-    let across = share-turned g.width g.side x p reach.right reach.left has.some (piece_begins g.width g.side (tile % columns) has.some has.wide (column_lt g tile)) (piece_begins g.width g.side (v % columns) has.some has.wide (column_lt g v)) in
-    let down = share-turned g.height g.side y q reach.down reach.up has.some (piece_begins g.height g.side (tile / columns) has.some has.high (row_lt g tile lt)) (piece_begins g.height g.side (v / columns) has.some has.high (row_lt g v v-lt)) in
-    ap (λ (b : Bool). b && share (y - reach.down) (min (y + min g.side (g.height - y) + reach.up) g.height - (y - reach.down)) q (min g.side (g.height - q))) across
-    ∙ ap (λ (b : Bool). share (p - reach.left) (min (p + min g.side (g.width - p) + reach.right) g.width - (p - reach.left)) x (min g.side (g.width - x)) && b) down
-
--- the block of a step whose windows meet a tile
-near_is : (g : Tiling) (reach : Reach) (k tile left right top bottom t : ℕ) → HasTiles g → tile < tile_count g → bottom ≤ rows_of g
-    → ((v : ℕ) → v < tile_count g → in_range top bottom (v / columns_of g) && in_range left right (v % columns_of g) ≡ meets (grown g.width g.height (record { left = reach.right; right = reach.left; up = reach.down; down = reach.up }) (tile_at g tile)) (tile_at g v))
-    → in_range (k * rows_of g + top) (k * rows_of g + bottom) (t / columns_of g) && in_range left right (t % columns_of g) ≡ is_near g reach k tile t
-near_is g reach k tile left right top bottom t has lt low block =
-    let columns = columns_of g in
-    let rows = rows_of g in
-    let c-some : 0 < columns = omega arith in
-    let r-some : 0 < rows = omega arith in
-    let v = t % tile_count g in
-    let v-lt : v < tile_count g = mod_lt t (tile_count g) (omega (arith, lt)) in
-    ap (λ (b : Bool). b && in_range left right (t % columns)) (row_is rows k top bottom (t / columns) r-some low)
-    ∙ and-assoc (nat_eq (t / columns / rows) k) (in_range top bottom (t / columns % rows)) (in_range left right (t % columns))
-    ∙ ap (λ (q : ℕ). nat_eq q k && (in_range top bottom (t / columns % rows) && in_range left right (t % columns))) (sym (div-twice t rows columns r-some c-some))
-    ∙ ap (λ (m : ℕ). nat_eq (step_of g t) k && (in_range top bottom m && in_range left right (t % columns))) (sym (div-of_mod t rows columns r-some c-some))
-    ∙ ap (λ (m : ℕ). nat_eq (step_of g t) k && (in_range top bottom (v / columns) && in_range left right m)) (sym (mod-of_mod t rows columns r-some c-some))
-    ∙ ap (λ (b : Bool). nat_eq (step_of g t) k && b) (block v v-lt ∙ turned_meets g reach tile v has lt v-lt)
+-- a block of a step by what its tiles are
+pub at_step_is : (g : Tiling) (b shifted : Block) (q : ℕ → Bool) (k t : ℕ) → 0 < tile_count g → ((t : ℕ) → in_block g shifted t ≡ nat_eq (step_of g t) k && in_block g b (t % tile_count g))
+    → ((v : ℕ) → v < tile_count g → in_block g b v ≡ q v) → in_block g shifted t ≡ nat_eq (step_of g t) k && q (t % tile_count g)
+at_step_is g b shifted q k t some tasks each = tasks t ∙ ap (λ (v : Bool). nat_eq (step_of g t) k && v) (each (t % tile_count g) (mod_lt t (tile_count g) some))
   where
     mod_lt : (i n : ℕ) → 0 < n → i % n < n
     mod_lt i n some = omega arith
-
-pub near_given : (g : Tiling) (reach back : Reach) (k tile columns rows left right top bottom : ℕ) → HasTiles g → tile < tile_count g → columns ≡ columns_of g → rows ≡ rows_of g → bottom ≤ rows_of g
-    → back ≡ record { left = reach.right; right = reach.left; up = reach.down; down = reach.up }
-    → ((v : ℕ) → v < tile_count g → in_range top bottom (v / columns_of g) && in_range left right (v % columns_of g) ≡ meets (grown g.width g.height back (tile_at g tile)) (tile_at g v))
-    → (t : ℕ) → in_range (k * rows + top) (k * rows + bottom) (t / columns) && in_range left right (t % columns) ≡ is_near g reach k tile t
-near_given g reach back k tile columns rows left right top bottom has lt columns-is rows-is low back-is block t =
-    rw (columns-is, rows-is)
-    (near_is g reach k tile left right top bottom t has lt low (λ v v-lt. block v v-lt ∙ ap (λ (r : Reach). meets (grown g.width g.height r (tile_at g tile)) (tile_at g v)) back-is))
-
-pub lowers_same : (here there : ℕ → Bool) (old now : List ℕ) → ((t : ℕ) → here t ≡ there t) → Lowers here old now → Lowers there old now
-lowers_same here there old now same lowers = record { size = lowers.size; each = λ t lt. omega (arith, lowers.each t lt, ap bit (same t)) }
-
-pub waiting_same : (here there : ℕ → Bool) (q : Queued) → ((t : ℕ) → here t ≡ there t) → Waiting there q → Waiting here q
-waiting_same here there q same waiting = λ t lt so. waiting t lt (sym (same t) ∙ so)
 
 -- what a task of step k reads, where that step has this need
 reads_as : (needs : List Need) (need : Need) (g : Tiling) (k step tile t : ℕ) → step_of g t ≡ k → get_or needs k no_need ≡ need
@@ -119,10 +32,6 @@ reads_as : (needs : List Need) (need : Need) (g : Tiling) (k step tile t : ℕ) 
 reads_as needs need g k step tile t at is =
     let e : need_of needs g t ≡ need = ap (λ (j : ℕ). get_or needs j no_need) at ∙ is in
     ap (λ (n : Need). step_reads n step && meets (grown g.width g.height n.reach (tile_of_task g t)) (tile_at g tile)) e
-
-none_of : (a : Bool) → a && false ≡ false
-none_of true = refl
-none_of false = refl
 
 -- step k is a reader: what it adds is what comes near
 step_yes : (needs : List Need) (need : Need) (g : Tiling) (k step tile t : ℕ) → get_or needs k no_need ≡ need → step_reads need step ≡ true
@@ -137,7 +46,7 @@ step_not : (needs : List Need) (need : Need) (g : Tiling) (k step tile t : ℕ) 
     → nat_eq (step_of g t) k && reads_tile needs g t step tile ≡ false
 step_not needs need g k step tile t is not_so =
     elim (cases_eq (step_of g t) k) [
-      | inl at ↦ rw (reads_as needs need g k step tile t at is, not_so) (none_of (nat_eq (step_of g t) k))
+      | inl at ↦ rw (reads_as needs need g k step tile t at is, not_so) (and-false (nat_eq (step_of g t) k))
       | inr other ↦ rw (ne_eqb (step_of g t) k other) refl
     ]
 
@@ -164,7 +73,7 @@ lowers_skip needs need g k step tile old now is not_so before =
 pub step_waits : (needs : List Need) (need : Need) (g : Tiling) (k step tile : ℕ) (old now : Queued) → get_or needs k no_need ≡ need → step_reads need step ≡ true → now.started ≡ old.started
     → Waiting (λ t. reads_tile needs g t step tile) old → Lowers (readers needs g step tile k) old.waiting now.waiting → Waiting (is_near g need.reach k tile) now
 step_waits needs need g k step tile old now is so started waiting lowers = λ t lt here.
-    let both = and_both (nat_eq (step_of g t) k) (reads_tile needs g t step tile) (step_yes needs need g k step tile t is so ∙ here) in
+    let both = and_parts (nat_eq (step_of g t) k) (reads_tile needs g t step tile) (step_yes needs need g k step tile t is so ∙ here) in
     let at : step_of g t ≡ k = eq_true (step_of g t) k both.0 in
     let t-lt : t < length old.waiting = let e = lowers.size in omega arith in
     let was = waiting t t-lt both.1 in

@@ -1,5 +1,6 @@
 -- The counters of a board are kept.
-use Rattle.std.proofs.Common.{◌≡◌, ◌≢◌, ℕ, ◌+◌, ◌-◌, ◌*◌, ◌/◌, ◌%◌, ◌<◌, ◌≤◌, Bool, true, false, not, ◌&&◌, nat_eq, List, length, refl, ap, sym, subst, ◌∙◌, arith, inl, inr, set, get_or, replicate, ◌^◌, length-set}
+use Rattle.std.specs.List.{list_all}
+use Rattle.std.proofs.Common.{◌≡◌, ◌≢◌, ℕ, ◌+◌, ◌-◌, ◌*◌, ◌/◌, ◌%◌, ◌<◌, ◌≤◌, Bool, true, false, not, ◌&&◌, ◌||◌, nat_eq, List, length, refl, ap, sym, subst, ◌∙◌, arith, inl, inr, set, get_or, replicate, ◌^◌, length-set}
 use Rattle.std.proofs.lemmas.Bool.{cases_eq}
 use Rattle.std.proofs.lemmas.List.{get_or-set_same, get_or-set_other, get_or-replicate, length-replicate}
 use Rattle.std.proofs.Math.Nat.{mul-le-mul_left}
@@ -8,25 +9,28 @@ use Rattle.mw_model.specs.Tasks.{flag}
 use Rattle.mw_grid.specs.Grids.{Tiling, tile_count}
 use Rattle.mw_ready.specs.declared.need.Need.{Need}
 use Rattle.mw_ready.specs.Boards.{Board, task_count, task_number, tasks_below, is_running, is_ready, ready_tasks, step_of, reads, reads_tile, Runs}
-use Rattle.mw_ready.specs.Queues.{bit, count_below, Queued, is_open, Lowers, Waiting}
-use Rattle.mw_ready.specs.Kept.{Keeps, waits_for, read_count, board_of}
-use Rattle.mw_ready.proofs.Counts.{count-none, count-all, count-more, count-same, count-some, bit-at, bit-other, list_all-count}
-use Rattle.mw_ready.proofs.Lowering.{eq_true, and-true}
-use Rattle.mw_ready.proofs.Pieces.{and_both}
-use Rattle.mw_ready.proofs.Numbers.{step_within}
-use Rattle.mw_ready.proofs.Boxes.{lowers_same}
+use Rattle.mw_grid.specs.Counts.{bit, count_below}
+use Rattle.mw_queue.specs.Queues.{Queued, is_open}
+use Rattle.mw_ready.specs.Counters.{Lowers, Waiting}
+use Rattle.mw_ready.specs.Kept.{Keeps, read_count, board_of}
+use Rattle.mw_grid.proofs.Counts.{count-none, count-all, count-more, count-same, count-some, bit-at, bit-other}
+use Rattle.mw_ready.proofs.Counts.{list_all-count}
+use Rattle.std.proofs.Math.Bool.{and-true}
+use Rattle.mw_ready.proofs.Lowering.{eq_true, lowers_same}
+use Rattle.std.proofs.lemmas.Bool.{and_parts}
+use Rattle.mw_grid.proofs.Lines.{number_of}
 
-not_true : (b : Bool) → not b ≡ true → b ≡ false
+pub not_true : (b : Bool) → not b ≡ true → b ≡ false
 not_true true e = absurd (let f : false ≡ true = e in never f)
   where
     never : false ≡ true → ⊥
     never e = cc
 not_true false e = refl
 
--- one task more is finished
-waits_one : (needs : List Need) (g : Tiling) (fin : List Bool) (n task t : ℕ) → task < n → length fin ≡ n → flag fin task ≡ false
-    → waits_for needs g (set fin task true) n t + bit (reads needs g t task) ≡ waits_for needs g fin n t
-waits_one needs g fin n task t lt size open_yet = go (reads needs g t task) refl
+-- one task more is finished, of those that a test tells
+pub finished_one : (p : ℕ → Bool) (fin : List Bool) (n task : ℕ) → task < n → length fin ≡ n → flag fin task ≡ false
+    → count_below (λ u. p u && not (flag (set fin task true) u)) n + bit (p task) ≡ count_below (λ u. p u && not (flag fin u)) n
+finished_one p fin n task lt size open_yet = go (p task) refl
   where
     now : flag (set fin task true) task ≡ true
     now = get_or-set_same fin task true false (omega arith)
@@ -43,27 +47,27 @@ waits_one needs g fin n task t lt size open_yet = go (reads needs g t task) refl
     add : (m k : ℕ) → k ≡ m + 1 → m + 1 ≡ k
     add m k e = sym e
 
-    one : (u : ℕ) → reads needs g t task ≡ true → bit (reads needs g t u && not (flag fin u)) ≡ bit (reads needs g t u && not (flag (set fin task true) u)) + bit (nat_eq u task)
+    one : (u : ℕ) → p task ≡ true → bit (p u && not (flag fin u)) ≡ bit (p u && not (flag (set fin task true) u)) + bit (nat_eq u task)
     one u r = elim (cases_eq u task) [
       | inl here ↦
-          let read : reads needs g t u ≡ true = ap (reads needs g t) here ∙ r in
-          let p : bit (reads needs g t u && not (flag fin u)) ≡ 1 = rw (read, at-old u here) refl in
-          let q : bit (reads needs g t u && not (flag (set fin task true) u)) ≡ 0 = rw (read, at-new u here) refl in
+          let read : p u ≡ true = ap p here ∙ r in
+          let before : bit (p u && not (flag fin u)) ≡ 1 = rw (read, at-old u here) refl in
+          let after : bit (p u && not (flag (set fin task true) u)) ≡ 0 = rw (read, at-new u here) refl in
           omega (arith, bit-at u task here)
       | inr ne ↦
-          let p : bit (reads needs g t u && not (flag (set fin task true) u)) ≡ bit (reads needs g t u && not (flag fin u)) = ap (λ (b : Bool). bit (reads needs g t u && not b)) (other u ne) in
+          let same : bit (p u && not (flag (set fin task true) u)) ≡ bit (p u && not (flag fin u)) = ap (λ (b : Bool). bit (p u && not b)) (other u ne) in
           omega (arith, bit-other u task ne)
     ]
 
-    none : (u : ℕ) → reads needs g t task ≡ false → reads needs g t u && not (flag (set fin task true) u) ≡ reads needs g t u && not (flag fin u)
+    none : (u : ℕ) → p task ≡ false → p u && not (flag (set fin task true) u) ≡ p u && not (flag fin u)
     none u r = elim (cases_eq u task) [
-      | inl here ↦ let read : reads needs g t u ≡ false = ap (reads needs g t) here ∙ r in rw read refl
-      | inr ne ↦ ap (λ (b : Bool). reads needs g t u && not b) (other u ne)
+      | inl here ↦ let read : p u ≡ false = ap p here ∙ r in rw read refl
+      | inr ne ↦ ap (λ (b : Bool). p u && not b) (other u ne)
     ]
 
-    go : (r : Bool) → reads needs g t task ≡ r → waits_for needs g (set fin task true) n t + bit r ≡ waits_for needs g fin n t
-    go true e = sym (count-more (λ u. reads needs g t u && not (flag fin u)) (λ u. reads needs g t u && not (flag (set fin task true) u)) task n lt (λ u u-lt. one u e))
-    go false e = zero_more (waits_for needs g (set fin task true) n t) ∙ count-same (λ u. reads needs g t u && not (flag (set fin task true) u)) (λ u. reads needs g t u && not (flag fin u)) n (λ u u-lt. none u e)
+    go : (r : Bool) → p task ≡ r → count_below (λ u. p u && not (flag (set fin task true) u)) n + bit r ≡ count_below (λ u. p u && not (flag fin u)) n
+    go true e = sym (count-more (λ u. p u && not (flag fin u)) (λ u. p u && not (flag (set fin task true) u)) task n lt (λ u u-lt. one u e))
+    go false e = zero_more (count_below (λ u. p u && not (flag (set fin task true) u)) n) ∙ count-same (λ u. p u && not (flag (set fin task true) u)) (λ u. p u && not (flag fin u)) n (λ u u-lt. none u e)
       where
         zero_more : (m : ℕ) → m + 0 ≡ m
         zero_more m = omega arith
@@ -93,7 +97,7 @@ not_begun b counters active left t keeps lt idle = go (flag b.finished t) refl
 start_keeps : (b : Board) (counters : List ℕ) (active left task : ℕ) → Keeps b counters active left → task < task_count b → is_open b.started counters task ≡ true
     → Keeps (record b { started = set b.started task true }) counters (active + 1) left
 start_keeps b counters active left task keeps lt opened =
-    let parts = and_both (not (flag b.started task)) (nat_eq (get_or counters task 0) 0) opened in
+    let parts = and_parts (not (flag b.started task)) (nat_eq (get_or counters task 0) 0) opened in
     let idle : flag b.started task ≡ false = not_true (flag b.started task) parts.0 in
     let none : get_or counters task 0 ≡ 0 = eq_true (get_or counters task 0) 0 parts.1 in
     let unfinished : flag b.finished task ≡ false = not_begun b counters active left task keeps lt idle in
@@ -131,7 +135,7 @@ start_keeps b counters active left task keeps lt opened =
 finish_keeps : (b : Board) (counters now : List ℕ) (active left task : ℕ) → Keeps b counters active left → task < task_count b → is_running b task ≡ true → Lowers (λ t. reads b.needs b.grid t task) counters now
     → Keeps (record b { finished = set b.finished task true }) now (active - 1) (left - 1)
 finish_keeps b counters now active left task keeps lt running lowers =
-    let parts = and_both (flag b.started task) (not (flag b.finished task)) running in
+    let parts = and_parts (flag b.started task) (not (flag b.finished task)) running in
     let unfinished : flag b.finished task ≡ false = not_true (flag b.finished task) parts.1 in
     let done : flag (set b.finished task true) task ≡ true = get_or-set_same b.finished task true false (let e = keeps.finished in omega arith) in
     let size : length (set b.finished task true) ≡ length b.finished = simp length-set in
@@ -160,7 +164,7 @@ finish_keeps b counters now active left task keeps lt running lowers =
       finished = size ∙ keeps.finished;
       waiting = lowers.size ∙ keeps.waiting;
       small = keeps.small;
-      waits = λ t t-lt. let e = keeps.waiting in omega (arith, lowers.each t (omega arith), keeps.waits t t-lt, waits_one b.needs b.grid b.finished (task_count b) task t lt keeps.finished unfinished);
+      waits = λ t t-lt. let e = keeps.waiting in omega (arith, lowers.each t (omega arith), keeps.waits t t-lt, finished_one (reads b.needs b.grid t) b.finished (task_count b) task lt keeps.finished unfinished);
       calm = λ t t-lt begun. let e = keeps.waiting in omega (arith, lowers.each t (omega arith), keeps.calm t t-lt begun);
       running = let e = keeps.running in omega (arith, less-running);
       remaining = let e = keeps.remaining in omega (arith, less-left);
@@ -174,10 +178,10 @@ finish_keeps b counters now active left task keeps lt running lowers =
 readers_wait : (b : Board) (counters : List ℕ) (active left task : ℕ) → Keeps b counters active left → task < task_count b → is_running b task ≡ true
     → (t : ℕ) → t < length counters → reads b.needs b.grid t task ≡ true → (0 < get_or counters t 0) × (flag b.started t ≡ false)
 readers_wait b counters active left task keeps lt running = λ t t-lt here.
-    let parts = and_both (flag b.started task) (not (flag b.finished task)) running in
+    let parts = and_parts (flag b.started task) (not (flag b.finished task)) running in
     let unfinished : flag b.finished task ≡ false = not_true (flag b.finished task) parts.1 in
     let n-lt : t < task_count b = let e = keeps.waiting in omega arith in
-    let more : 0 < get_or counters t 0 = omega (arith, keeps.waits t n-lt, waits_one b.needs b.grid b.finished (task_count b) task t lt keeps.finished unfinished, ap bit here) in
+    let more : 0 < get_or counters t 0 = omega (arith, keeps.waits t n-lt, finished_one (reads b.needs b.grid t) b.finished (task_count b) task lt keeps.finished unfinished, ap bit here) in
     (more, go t n-lt (flag b.started t) refl more)
   where
     go : (t : ℕ) → t < task_count b → (r : Bool) → flag b.started t ≡ r → 0 < get_or counters t 0 → flag b.started t ≡ false
@@ -187,7 +191,7 @@ readers_wait b counters active left task keeps lt running = λ t t-lt here.
 -- some task is running, so there is one, and it remains
 pub some_run : (b : Board) (counters now : List ℕ) (active left task : ℕ) → Keeps b counters active left → task < task_count b → is_running b task ≡ true → (0 < active) × (0 < left)
 some_run b counters now active left task keeps lt running =
-    let parts = and_both (flag b.started task) (not (flag b.finished task)) running in
+    let parts = and_parts (flag b.started task) (not (flag b.finished task)) running in
     (omega (arith, keeps.running, count-some (is_running b) task (task_count b) lt running), omega (arith, keeps.remaining, count-some (λ t. not (flag b.finished t)) task (task_count b) lt parts.1))
 
 -- the tasks that read a tile, by its step and by its number
@@ -197,7 +201,7 @@ reads-number needs g step tile t lt =
     ∙ ap (reads_tile needs g t step) (mod-mul-add step (tile_count g) tile lt)
 
 pub number_within : (b : Board) (step tile : ℕ) → Runs b step tile → task_number b.grid step tile < task_count b
-number_within b step tile runs = step_within step (length b.needs) (tile_count b.grid) tile runs.within runs.inside
+number_within b step tile runs = number_of (length b.needs) (tile_count b.grid) tile step runs.inside runs.within
 
 pub readers_wait_given : (needs shown : List Need) (g : Tiling) (q : Queued) (finished : List Bool) (active left step tile : ℕ) → Keeps (board_of needs g q finished) q.waiting active left → Runs (board_of needs g q finished) step tile → shown ≡ needs
     → Waiting (λ t. reads_tile shown g t step tile) q
@@ -242,6 +246,18 @@ latest_step b counters active left tiles step n keeps tiles-is latest lt ready =
     let h = latest n (let s = keeps.waiting in omega arith) (ready_is_open b counters active left n keeps lt ∙ ready) in
     omega (arith, ap (λ (k : ℕ). n / k) tiles-is)
 
+-- where nothing is finished
+pub none_finished : (p : ℕ → Bool) (finished : List Bool) (n : ℕ) → finished ≡ replicate n false → count_below p n ≡ count_below (λ u. p u && not (flag finished u)) n
+none_finished p finished n is = count-same p (λ u. p u && not (flag finished u)) n
+    (λ u lt. sym (ap (λ (xs : List Bool). p u && not (flag xs u)) is ∙ ap (λ (b : Bool). p u && not b) (get_or-replicate n u false false lt) ∙ and-true (p u)))
+
+-- a task that was started has all that it reads
+pub has_all : (b : Board) (counters : List ℕ) (active left t : ℕ) → Keeps b counters active left → t < task_count b → flag b.started t ≡ true
+    → list_all (λ u. not (reads b.needs b.grid t u) || flag b.finished u) (tasks_below b) ≡ true
+has_all b counters active left t keeps lt begun =
+    list_all-count (reads b.needs b.grid t) (flag b.finished) (tasks_below b)
+    ∙ ap (λ (n : ℕ). nat_eq n 0) (sym (keeps.waits t lt) ∙ keeps.calm t lt begun)
+
 -- nothing was started
 pub keeps_fresh : (needs : List Need) (g : Tiling) (q : Queued) (finished : List Bool) (left : ℕ) → length needs * tile_count g < 2 ^ 31 → q.started ≡ replicate (length needs * tile_count g) false → finished ≡ replicate (length needs * tile_count g) false
     → length q.waiting ≡ length needs * tile_count g → left ≡ length needs * tile_count g → ((t : ℕ) → t < length needs * tile_count g → get_or q.waiting t 0 ≡ read_count needs g (length needs * tile_count g) t)
@@ -251,7 +267,7 @@ keeps_fresh needs g q finished left small started-is finished-is size left-is ea
   finished = ap (λ (xs : List Bool). length xs) finished-is ∙ length-replicate (length needs * tile_count g) false;
   waiting = size;
   small = small;
-  waits = λ t lt. each t lt ∙ count-same (reads needs g t) (λ u. reads needs g t u && not (flag finished u)) (length needs * tile_count g) (λ u u-lt. sym (ap (λ (b : Bool). reads needs g t u && not b) (unfinished u u-lt) ∙ and-true (reads needs g t u)));
+  waits = λ t lt. each t lt ∙ none_finished (reads needs g t) finished (length needs * tile_count g) finished-is;
   calm = λ t lt begun. absurd (true_or (flag q.started t) begun (idle t lt));
   running = sym (count-none (λ t. flag q.started t && not (flag finished t)) (length needs * tile_count g) (λ t lt. ap (λ (b : Bool). b && not (flag finished t)) (idle t lt)));
   remaining = left-is ∙ sym (count-all (λ t. not (flag finished t)) (length needs * tile_count g) (λ t lt. ap (λ (b : Bool). not b) (unfinished t lt)));

@@ -1,11 +1,10 @@
-pub mod Counts
-pub mod Lists
-pub mod Pieces
-pub mod Lowering
-pub mod Numbers
-pub mod Boxes
-pub mod Orders
-pub mod Opens
-pub mod Keeping
-pub mod Firsts
-pub mod Tied
+-- the crate's own
+mod Counts
+mod Lowering
+mod Numbers
+mod Boxes
+mod Keeping
+mod Firsts
+mod Raising
+mod ReaderCounts
+mod Tied

@@ -1,12 +1,13 @@
 -- Lowering counters, one place, one row, one box after another.
-use Rattle.std.proofs.Common.{◌≡◌, ◌≢◌, ℕ, ◌+◌, ◌*◌, ◌/◌, ◌%◌, ◌<◌, ◌≤◌, Bool, true, false, ◌&&◌, nat_eq, List, length, refl, ap, sym, ◌∙◌, arith, inl, inr}
-use Rattle.std.proofs.lemmas.Bool.{cases_lt, cases_eq, eq-eqb, ne_eqb, eqb-true}
-use Rattle.std.proofs.lemmas.Nat.{div-add-mod'}
-use Rattle.std.proofs.Math.Nat.{mul-le-mul_left}
+use Rattle.std.proofs.Common.{◌≡◌, ◌≢◌, ℕ, ◌+◌, ◌*◌, ◌/◌, ◌%◌, ◌<◌, ◌≤◌, Bool, true, false, ◌&&◌, nat_eq, List, length, refl, ap, sym, ◌∙◌, arith, inl, inr, get_or}
+use Rattle.std.proofs.Math.Bool.{and-false, and-true}
+use Rattle.std.proofs.lemmas.Bool.{cases_lt, cases_eq, eqb-true, and_parts}
 use Rattle.mw_model.specs.Tasks.{flag}
-use Rattle.mw_ready.specs.Queues.{bit, in_range, Lowers, Waiting, Queued}
-use Rattle.mw_ready.proofs.Counts.{bit-at, bit-other, in-yes, in-low, in-high, and-false}
-use Rattle.mw_ready.proofs.Pieces.{and_both}
+use Rattle.mw_grid.specs.Counts.{bit, in_range}
+use Rattle.mw_grid.proofs.Meeting.{row_is}
+use Rattle.mw_grid.proofs.Counts.{bit-at, bit-other, in-yes, in-low, in-high}
+use Rattle.mw_queue.specs.Queues.{Queued}
+use Rattle.mw_ready.specs.Counters.{Lowers, Waiting, Counted}
 
 -- one place more
 pub range_more : (a t x : ℕ) → a ≤ t → bit (in_range a (t + 1) x) ≡ bit (in_range a t x) + bit (nat_eq x t)
@@ -29,45 +30,12 @@ pub lowers_more : (here row more : ℕ → Bool) (old now out : List ℕ) → ((
 lowers_more here row more old now out same before after =
     record { size = after.size ∙ before.size; each = λ x lt. let e = before.size in omega (arith, before.each x lt, after.each x (omega arith), same x) }
 
-pub and-true : (b : Bool) → b && true ≡ b
-and-true true = refl
-and-true false = refl
-
 pub and_bits : (a b c d : Bool) → bit a ≡ bit b + bit c → bit (a && d) ≡ bit (b && d) + bit (c && d)
 and_bits a b c true e = rw (and-true a, and-true b, and-true c) e
 and_bits a b c false e = rw (and-false a, and-false b, and-false c) (none 0)
   where
     none : (k : ℕ) → 0 ≡ 0 + 0
     none k = omega arith
-
--- a place by its row and its column there
-pub row_is : (columns row left right x : ℕ) → 0 < columns → right ≤ columns → in_range (row * columns + left) (row * columns + right) x ≡ nat_eq (x / columns) row && in_range left right (x % columns)
-row_is columns row left right x some le =
-    let q = x / columns in
-    let m = x % columns in
-    let x-is : q * columns + m ≡ x = div-add-mod' x columns in
-    let m-lt : m < columns = omega arith in
-    elim (cases_eq q row) [
-      | inl here ↦
-          let there : row * columns + m ≡ x = ap (λ (k : ℕ). k * columns + m) (sym here) ∙ x-is in
-          rw (eq-eqb q row here) (shifted (row * columns) left right m x there)
-      | inr other ↦ elim (cases_lt q row) [
-        | inl before ↦ rw (ne_eqb q row other) (in-low (row * columns + left) (row * columns + right) x (let up : q + 1 ≤ row = omega arith in omega (arith, mul-le-mul_left columns up)))
-        | inr after ↦ rw (ne_eqb q row other) (in-high (row * columns + left) (row * columns + right) x (let up : row + 1 ≤ q = past row q after other in omega (arith, mul-le-mul_left columns up)))
-      ]
-    ]
-  where
-    past : (row q : ℕ) → row ≤ q → q ≢ row → row + 1 ≤ q
-    past row q le ne = omega arith
-
-    shifted : (a left right m x : ℕ) → a + m ≡ x → in_range (a + left) (a + right) x ≡ in_range left right m
-    shifted a left right m x e = elim (cases_lt m left) [
-      | inl low ↦ in-low (a + left) (a + right) x (omega arith) ∙ sym (in-low left right m low)
-      | inr from ↦ elim (cases_lt m right) [
-        | inl lt ↦ in-yes (a + left) (a + right) x (omega arith) (omega arith) ∙ sym (in-yes left right m from lt)
-        | inr high ↦ in-high (a + left) (a + right) x (omega arith) ∙ sym (in-high left right m high)
-      ]
-    ]
 
 -- one row of a box more
 pub box_more : (columns top row left right x : ℕ) → 0 < columns → right ≤ columns → top ≤ row
@@ -80,15 +48,39 @@ box_more columns top row left right x some le from =
 pub eq_true : (a b : ℕ) → nat_eq a b ≡ true → a ≡ b
 eq_true a b e = eqb-true a b e
 
--- a row of a box that has not been lowered
+-- the next row of a box has not been lowered
+pub row_still : (columns top bottom left right row : ℕ) (old now : List ℕ) → 0 < columns → right ≤ columns → top ≤ row → row < bottom
+    → Lowers (λ t. in_range top row (t / columns) && in_range left right (t % columns)) old now → (t : ℕ) → t < length now → in_range (row * columns + left) (row * columns + right) t ≡ true
+    → (t < length old) × (in_range top bottom (t / columns) && in_range left right (t % columns) ≡ true) × (get_or now t 0 ≡ get_or old t 0)
+row_still columns top bottom left right row old now some le from to lowers t lt here =
+    let both = and_parts (nat_eq (t / columns) row) (in_range left right (t % columns)) (sym (row_is columns row left right t some le) ∙ here) in
+    let r-is : t / columns ≡ row = eq_true (t / columns) row both.0 in
+    let t-lt : t < length old = let e = lowers.size in omega arith in
+    let not_yet : bit (in_range top row (t / columns) && in_range left right (t % columns)) ≡ 0 = rw (in-high top row (t / columns) (omega arith)) refl in
+    (t-lt, rw (in-yes top bottom (t / columns) (omega arith) (omega arith)) both.1, omega (arith, lowers.each t t-lt))
+
 pub row_waits : (columns top bottom left right row : ℕ) (old now : Queued) → 0 < columns → right ≤ columns → top ≤ row → row < bottom → now.started ≡ old.started
     → Waiting (λ t. in_range top bottom (t / columns) && in_range left right (t % columns)) old
     → Lowers (λ t. in_range top row (t / columns) && in_range left right (t % columns)) old.waiting now.waiting
     → Waiting (in_range (row * columns + left) (row * columns + right)) now
 row_waits columns top bottom left right row old now some le from to started waiting lowers = λ t lt here.
-    let both = and_both (nat_eq (t / columns) row) (in_range left right (t % columns)) (sym (row_is columns row left right t some le) ∙ here) in
-    let r-is : t / columns ≡ row = eq_true (t / columns) row both.0 in
-    let t-lt : t < length old.waiting = let e = lowers.size in omega arith in
-    let was = waiting t t-lt (rw (in-yes top bottom (t / columns) (omega arith) (omega arith)) both.1) in
-    let not_yet : bit (in_range top row (t / columns) && in_range left right (t % columns)) ≡ 0 = rw (in-high top row (t / columns) (omega arith)) refl in
-    (omega (arith, lowers.each t t-lt, was.0), ap (λ (xs : List Bool). flag xs t) started ∙ was.1)
+    let still = row_still columns top bottom left right row old.waiting now.waiting some le from to lowers t lt here in
+    let was = waiting t still.0 still.1 in
+    (omega (arith, was.0, still.2), ap (λ (xs : List Bool). flag xs t) started ∙ was.1)
+
+pub row_counted : (columns top bottom left right row : ℕ) (old now : List ℕ) → 0 < columns → right ≤ columns → top ≤ row → row < bottom
+    → Counted (λ t. in_range top bottom (t / columns) && in_range left right (t % columns)) old
+    → Lowers (λ t. in_range top row (t / columns) && in_range left right (t % columns)) old now → Counted (in_range (row * columns + left) (row * columns + right)) now
+row_counted columns top bottom left right row old now some le from to counted lowers = λ t lt here.
+    let still = row_still columns top bottom left right row old now some le from to lowers t lt here in
+    omega (arith, counted t still.0 still.1, still.2)
+
+-- a test that is the same everywhere
+pub lowers_same : (here there : ℕ → Bool) (old now : List ℕ) → ((t : ℕ) → here t ≡ there t) → Lowers here old now → Lowers there old now
+lowers_same here there old now same lowers = record { size = lowers.size; each = λ t lt. omega (arith, lowers.each t lt, ap bit (same t)) }
+
+pub waiting_same : (here there : ℕ → Bool) (q : Queued) → ((t : ℕ) → here t ≡ there t) → Waiting there q → Waiting here q
+waiting_same here there q same waiting = λ t lt so. waiting t lt (sym (same t) ∙ so)
+
+pub counted_same : (here there : ℕ → Bool) (counts : List ℕ) → ((t : ℕ) → here t ≡ there t) → Counted there counts → Counted here counts
+counted_same here there counts same counted = λ t lt so. counted t lt (sym (same t) ∙ so)

@@ -15,8 +15,9 @@ use Rattle.mw_grid.proofs.Lines.{row_less}
 use Rattle.mw_grid.proofs.Tiles.{length-tiles_of, tile_of-tiles_of}
 use Rattle.mw_ready.specs.Boards.{Board, step_reads, need_of, step_of, tile_of_task, place_of_task, reads, task_count, is_ready, is_running}
 use Rattle.mw_ready.specs.Work.{IsBoardOf, SameTasks}
-use Rattle.mw_ready.specs.Queues.{count_below}
-use Rattle.mw_ready.proofs.Counts.{count-same, all-same}
+use Rattle.mw_grid.specs.Counts.{count_below}
+use Rattle.mw_grid.proofs.Counts.{count-same}
+use Rattle.mw_ready.proofs.Counts.{all-same}
 
 tiles_number : (b : Board) (p : Progress) → IsBoardOf b p → length p.tiles ≡ tile_count b.grid
 tiles_number b p of = ap (λ (ts : List Rect). length ts) of.tiles ∙ length-tiles_of b.grid
@@ -76,6 +77,7 @@ running_is b p n of = ap (λ (s : List Bool). flag s n && not (flag p.finished n
 pub same_tasks : (b : Board) (p : Progress) → IsBoardOf b p → SameTasks b p
 same_tasks b p of = record {
   count = count_is b p of;
+  reads = λ n u lt. reads_is b p n u of lt;
   ready = λ n lt. ready_is b p n of lt;
   running = λ n. running_is b p n of;
   ready_tasks = ap (λ (m : ℕ). count_below (tasks.is_ready p) m) (count_is b p of) ∙ count-same (tasks.is_ready p) (is_ready b) (task_count b) (λ n lt. ready_is b p n of lt);

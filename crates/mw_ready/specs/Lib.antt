@@ -1,5 +1,4 @@
 pub mod Boards
 pub mod Work
-pub mod Queues
-pub mod Shown
+pub mod Counters
 pub mod Kept

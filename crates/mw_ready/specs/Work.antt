@@ -8,7 +8,7 @@ use Rattle.mw_model.specs.Tasks as tasks
 use Rattle.mw_model.specs.Tasks.{Progress, nothing_planned, is_step}
 use Rattle.mw_grid.specs.Grids.{tiles_of}
 use Rattle.mw_ready.specs.declared.need.Need.{Need}
-use Rattle.mw_ready.specs.Boards.{Board, step_reads, no_need, task_count, is_ready, is_running, ready_tasks, running_tasks, remaining_tasks}
+use Rattle.mw_ready.specs.Boards.{Board, step_reads, no_need, task_count, reads, is_ready, is_running, ready_tasks, running_tasks, remaining_tasks}
 
 -- the need is that of a planned step: its reach, and the steps among its sources
 pub record IsNeedOf (n : Need) (q : Planned) : Type 0 where
@@ -25,9 +25,10 @@ pub record IsBoardOf (b : Board) (p : Progress) : Type 0 where
   pub started : p.started ≡ b.started
   pub finished : p.finished ≡ b.finished
 
--- the tasks of a board are those of the work: as many, and the same are ready, running and left
+-- the tasks of a board are those of the work: as many, with the same reading what, and the same ready, running and left
 pub record SameTasks (b : Board) (p : Progress) : Type 0 where
   pub count : tasks.task_count p ≡ task_count b
+  pub reads : (n u : ℕ) → n < task_count b → tasks.reads p n u ≡ reads b.needs b.grid n u
   pub ready : (n : ℕ) → n < task_count b → tasks.is_ready p n ≡ is_ready b n
   pub running : (n : ℕ) → tasks.is_running p n ≡ is_running b n
   pub ready_tasks : tasks.ready_tasks p ≡ ready_tasks b

@@ -6,7 +6,8 @@ ghost use Rattle.mw_ready.specs.Work.{IsBoardOf, SameTasks};
 
 use crate::Ready;
 
-/// Where the board shows the work under a ticket, the same tasks are ready, running and left in both.
+/// Where the board shows the work under a ticket, the tasks are the same in both, with what they read, and which
+/// are ready, running and left.
 pub fn tasks_are_those_of_work(ready: &Ready)
     ensures { (p : Progress) → IsBoardOf ready.now.board p → SameTasks ready.now.board p }
 {

@@ -11,14 +11,15 @@
 //! ```
 //!
 //! Each task has a counter of the unfinished tasks that it reads. A finished tile lowers the counters of its readers
-//! alone, and a task whose counter comes to zero joins the list of its step. Eight bytes a task are all that it takes.
+//! alone, and a task whose counter comes to zero joins the list of its step. A second counter has the number of the
+//! unfinished tasks that read the task, so that its tile can be dropped with the last of them. Twelve bytes a task are
+//! all that it takes.
 #![tactic(auto)]
 
 mod laws;
-mod near;
 mod need;
-mod queue;
 mod readers;
+mod reads;
 mod ready;
 mod release;
 mod waits;

@@ -3,12 +3,12 @@
 ghost use Rattle.std.specs.Prelude.{◌≡◌, ℕ, ◌*◌, ◌<◌, ◌≤◌, ◌^◌, length};
 ghost use Rattle.mw_grid.specs.Grids.{tile_count};
 ghost use Rattle.mw_ready.specs.Boards.{reads_tile};
-ghost use Rattle.mw_ready.specs.Queues.{Lowers, Waiting, SameTiles};
+ghost use Rattle.mw_ready.specs.Counters.{Lowers, Waiting, SameTiles};
 
 use crate::need::{Need, does_read};
-use crate::queue::Queue;
 use crate::release::release_tiles;
 use mw_grid::Grid;
+use mw_queue::Queue;
 
 /// One thing less for each task that reads this tile of this step.
 pub(crate) fn release_readers(queue: &mut Queue, needs: &[Need], grid: Grid, step: u32, tile: u32)

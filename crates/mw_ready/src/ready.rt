@@ -3,11 +3,12 @@
 ghost use Rattle.std.specs.Prelude.{◌≡◌, ℕ, ◌+◌, ◌*◌, ◌<◌, ◌≤◌, ◌↔◌, IsTrue, IfOk, length, true, slice_set, slice_index, vec_len};
 
 use crate::need::Need;
-use crate::queue::Queue;
 use crate::readers::release_readers;
+use crate::reads::{first_readers, lower_sources};
 use crate::waits::first_waits;
 use mw_grid::Grid;
 use mw_model::NoMemory;
+use mw_queue::Queue;
 use std::alloc::Global;
 use std::marker::Model;
 
@@ -18,6 +19,7 @@ pub struct Ready {
     needs: Vec<Need>,
     grid: Grid,
     queue: Queue,
+    readers: Vec<u32>,
     finished: Vec<bool>,
     running: u32,
     remaining: u32,
@@ -27,8 +29,8 @@ impl Model for Ready {
     ghost use Rattle.std.specs.Prelude.{◌≡◌, ◌≤◌, length};
     ghost use Rattle.mw_grid.specs.Grids.{tile_count};
     ghost use Rattle.mw_ready.specs.Boards.{Turns};
-    ghost use Rattle.mw_ready.specs.Queues.{order_of};
-    ghost use Rattle.mw_ready.specs.Kept.{Keeps, board_of};
+    ghost use Rattle.mw_queue.specs.Queues.{order_of};
+    ghost use Rattle.mw_ready.specs.Kept.{Keeps, CountsReaders, board_of};
 
     ghost Value = { Turns };
 
@@ -36,19 +38,22 @@ impl Model for Ready {
 
     ghost invariant = { λ a. Keeps (board_of a.needs.items a.grid a.queue a.finished.items) a.queue.waiting a.running a.remaining
         × (a.queue.tiles ≡ tile_count a.grid)
-        × (length a.needs.items ≤ 65535) };
+        × (length a.needs.items ≤ 65535)
+        × CountsReaders (board_of a.needs.items a.grid a.queue a.finished.items) a.readers.items };
 }
 
 impl Ready {
-    ghost use Rattle.std.specs.Prelude.{◌/◌};
+    ghost use Rattle.std.specs.Prelude.{◌/◌, not, ◌&&◌, ◌||◌, slice_index_or};
+    ghost use Rattle.std.specs.List.{list_all, list_any};
+    ghost use Rattle.mw_model.specs.Tasks.{flag};
     ghost use Rattle.mw_grid.specs.Grids.{tile_count};
-    ghost use Rattle.mw_ready.specs.Boards.{task_count, task_number, step_of, is_ready, ready_tasks, running_tasks, remaining_tasks, fresh, Runs};
+    ghost use Rattle.mw_ready.specs.Boards.{task_count, tasks_below, task_number, step_of, no_need, reads, is_ready, ready_tasks, running_tasks, remaining_tasks, fresh, Runs};
 
     /// All tasks of a plan with these needs, none of them started.
     ///
     /// # Errors
     ///
-    /// `NoMemory`, where about eight bytes for each task are not to be had.
+    /// `NoMemory`, where about twelve bytes for each task are not to be had.
     pub fn new(alloc: Global, needs: Vec<Need>, grid: Grid) -> Result<Ready, NoMemory>
         requires { vec_len needs ≤ 65535 }
         ensures { IfOk result (λ r. r.board ≡ fresh needs.items grid) }
@@ -57,11 +62,13 @@ impl Ready {
         let waiting = first_waits(alloc, &needs, grid)?;
         let remaining = waiting.len() as u32;
         let finished = vec![in alloc; false; waiting.len()]?;
+        let readers = first_readers(alloc, &needs, grid)?;
         let queue = Queue::new(alloc, needs.len(), tiles, waiting)?;
         Ok(Ready {
             needs,
             grid,
             queue,
+            readers,
             finished,
             running: 0,
             remaining,
@@ -90,9 +97,10 @@ impl Ready {
         self.remaining
     }
 
-    /// Whether there is such a task, and it is running.
+    /// Whether there is such a task, and it is running. All that a task reads is finished before it is started.
     pub fn is_running(&self, step: u32, tile: u32) -> bool
-        ensures { IsTrue result ↔ Runs self.now.board step tile }
+        ensures value { IsTrue result ↔ Runs self.now.board step tile }
+        ensures calm { (n : ℕ) → n < task_count self.now.board → flag self.now.board.started n ≡ true → list_all (λ u. not (reads self.now.board.needs self.now.board.grid n u) || flag self.now.board.finished u) (tasks_below self.now.board) ≡ true }
     {
         let tiles = self.grid.len();
         if step as usize >= self.needs.len() || tile >= tiles {
@@ -100,6 +108,38 @@ impl Ready {
         }
         let task = step * tiles + tile;
         self.queue.is_started(task) && !self.finished[task as usize]
+    }
+
+    /// Whether an unfinished task reads this tile of this step.
+    pub fn is_read(&self, step: u32, tile: u32) -> bool
+        requires step { step < length self.now.board.needs }
+        requires tile { tile < tile_count self.now.board.grid }
+        ensures { result ≡ list_any (λ u. not (flag self.now.board.finished u) && reads self.now.board.needs self.now.board.grid u (task_number self.now.board.grid step tile)) (tasks_below self.now.board) }
+    {
+        let task = step * self.grid.len() + tile;
+        self.readers[task as usize] > 0
+    }
+
+    /// How many steps the plan has.
+    pub fn steps(&self) -> u32
+        ensures { result ≡ length self.now.board.needs }
+    {
+        self.needs.len() as u32
+    }
+
+    /// What a step needs.
+    pub fn need(&self, step: u32) -> Need
+        requires { step < length self.now.board.needs }
+        ensures { result ≡ slice_index_or self.now.board.needs step no_need }
+    {
+        self.needs[step as usize]
+    }
+
+    /// The tiles of the plan's frame.
+    pub fn grid(&self) -> Grid
+        ensures { result ≡ self.now.board.grid }
+    {
+        self.grid
     }
 
     /// The step and the tile of the ready task that `start` takes at this place. At place 0 it is a task of the latest
@@ -138,6 +178,9 @@ impl Ready {
         self.finished[task as usize] = true;
         self.running -= 1;
         self.remaining -= 1;
+        let need = self.needs[step as usize];
+        let steps = self.needs.len() as u32;
+        lower_sources(&mut self.readers, self.grid, need, steps, tile);
         release_readers(&mut self.queue, &self.needs, self.grid, step, tile);
     }
 }

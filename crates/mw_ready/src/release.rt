@@ -1,14 +1,15 @@
 //! The tasks that wait for a tile are told that it is finished.
 
-ghost use Rattle.std.specs.Prelude.{◌≡◌, ℕ, ◌+◌, ◌*◌, ◌/◌, ◌%◌, ◌<◌, ◌≤◌, ◌^◌, ◌&&◌, length};
+ghost use Rattle.std.specs.Prelude.{◌≡◌, ◌+◌, ◌*◌, ◌<◌, ◌≤◌, ◌^◌, length};
+ghost use Rattle.mw_grid.specs.Counts.{in_range};
 ghost use Rattle.mw_grid.specs.Grids.{columns_of, rows_of, tile_count};
-ghost use Rattle.mw_ready.specs.Queues.{in_range, Lowers, Waiting, SameTiles};
+ghost use Rattle.mw_grid.specs.Blocks.{in_block};
+ghost use Rattle.mw_ready.specs.Counters.{Lowers, Waiting, SameTiles};
 ghost use Rattle.mw_ready.specs.Kept.{is_near};
 
-use crate::near::{met_by, turned};
-use crate::queue::Queue;
-use mw_grid::Grid;
+use mw_grid::{Block, Grid};
 use mw_model::Reach;
+use mw_queue::Queue;
 
 /// One thing less for each task of a row.
 fn release_row(queue: &mut Queue, from: u32, to: u32)
@@ -23,19 +24,23 @@ fn release_row(queue: &mut Queue, from: u32, to: u32)
     }
 }
 
-/// One thing less for each task in some rows and columns.
-fn release_box(queue: &mut Queue, columns: u32, top: u32, bottom: u32, left: u32, right: u32)
-    requires some { 0 < columns }
-    requires ordered { (top ≤ bottom) × (left ≤ right) }
-    requires across { right ≤ columns }
-    requires fits { bottom * columns ≤ length queue.old.waiting }
+/// One thing less for each task of a block.
+fn release_block(queue: &mut Queue, grid: Grid, block: Block)
+    requires ordered { (block.top ≤ block.bottom) × (block.left ≤ block.right) }
+    requires across { block.right ≤ columns_of grid }
+    requires fits { block.bottom * columns_of grid ≤ length queue.old.waiting }
     requires small { length queue.old.waiting < 2 ^ 31 }
-    requires waiting { Waiting (λ t. in_range top bottom (t / columns) && in_range left right (t % columns)) queue.old }
+    requires waiting { Waiting (in_block grid block) queue.old }
     ensures same { SameTiles queue.old queue.new }
-    ensures lowers { Lowers (λ t. in_range top bottom (t / columns) && in_range left right (t % columns)) queue.old.waiting queue.new.waiting }
+    ensures lowers { Lowers (in_block grid block) queue.old.waiting queue.new.waiting }
 {
-    for row in top..bottom {
-        release_row(queue, row * columns + left, row * columns + right);
+    let columns = grid.columns();
+    for row in block.top..block.bottom {
+        release_row(
+            queue,
+            row * columns + block.left,
+            row * columns + block.right,
+        );
     }
 }
 
@@ -48,15 +53,6 @@ pub(crate) fn release_tiles(queue: &mut Queue, grid: Grid, reach: Reach, step: u
     ensures same { SameTiles queue.old queue.new }
     ensures lowers { Lowers (is_near grid reach step tile) queue.old.waiting queue.new.waiting }
 {
-    let columns = grid.columns();
-    let first = step * grid.rows();
-    let block = met_by(grid, turned(reach), tile);
-    release_box(
-        queue,
-        columns,
-        first + block.top,
-        first + block.bottom,
-        block.left,
-        block.right,
-    );
+    let block = Block::meeting(grid, tile, reach);
+    release_block(queue, grid, block.at_step(grid, step));
 }

@@ -1,42 +1,44 @@
 //! For how many others each task waits before anything is finished.
 
 ghost use Rattle.std.specs.Prelude.{◌≡◌, ℕ, ◌+◌, ◌*◌, ◌<◌, ◌≤◌, ◌^◌, length, slice_index, vec_len, IfOk};
-ghost use Rattle.mw_model.specs.Places.{grown};
-ghost use Rattle.mw_model.specs.Tasks.{meets};
-ghost use Rattle.mw_grid.specs.Grids.{tile_count, tile_at};
-ghost use Rattle.mw_ready.specs.Boards.{step_reads};
-ghost use Rattle.mw_ready.specs.Queues.{count_below};
+ghost use Rattle.mw_grid.specs.Grids.{tile_count};
+ghost use Rattle.mw_grid.specs.Blocks.{sees};
+ghost use Rattle.mw_ready.specs.Boards.{is_source, step_reads};
+ghost use Rattle.mw_grid.specs.Counts.{count_below};
 ghost use Rattle.mw_ready.specs.Kept.{read_count};
 
-use crate::near::met_by;
-use crate::need::{Need, does_read};
-use mw_grid::Grid;
+use crate::need::{Need, sources};
+use mw_grid::{Block, Grid};
 use mw_model::{NoMemory, Reach};
 use std::alloc::Global;
+
+/// How many of so many steps this source is: one or none.
+fn is_step(source: Option<u32>, steps: u32) -> u32
+    ensures value { result ≡ count_below (λ s. is_source s source) steps }
+    ensures few { result ≤ 1 }
+{
+    match source {
+        Some(step) => u32::from(step < steps),
+        None => 0,
+    }
+}
 
 /// How many of so many steps are read.
 fn steps_read(need: Need, steps: u32) -> u32
     ensures value { result ≡ count_below (step_reads need) steps }
     ensures most { result ≤ steps }
 {
-    let mut count = 0;
-    for step in 0..steps {
-        if does_read(need, step) {
-            count += 1;
-        }
-    }
-    count
+    let (first, second, third) = sources(need);
+    is_step(first, steps) + is_step(second, steps) + is_step(third, steps)
 }
 
 /// How many tiles the window of a tile meets.
 fn tiles_met(grid: Grid, reach: Reach, tile: u32) -> u32
     requires { tile < tile_count grid }
-    ensures value { result ≡ count_below (λ v. meets (grown grid.width grid.height reach (tile_at grid tile)) (tile_at grid v)) (tile_count grid) }
+    ensures value { result ≡ count_below (sees grid reach tile) (tile_count grid) }
     ensures most { result ≤ tile_count grid }
 {
-    let (_columns, _rows) = (grid.columns(), grid.rows());
-    let block = met_by(grid, reach, tile);
-    (block.bottom - block.top) * (block.right - block.left)
+    Block::met_by(grid, tile, reach).len(grid)
 }
 
 /// For each task, how many others it reads.

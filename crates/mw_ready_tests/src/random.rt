@@ -9,12 +9,16 @@ use std::test::Fail;
 
 /// Numbers without a pattern.
 #[derive(Drop)]
-struct Random {
+pub(crate) struct Random {
     state: u32,
 }
 
 impl Random {
-    fn below(&mut self, bound: u32) -> u32 {
+    pub(crate) fn new(seed: u32) -> Random {
+        Random { state: seed }
+    }
+
+    pub(crate) fn below(&mut self, bound: u32) -> u32 {
         self.state = self
             .state
             .wrapping_mul(1_664_525)
@@ -80,6 +84,26 @@ impl Plain {
         true
     }
 
+    /// Whether an unfinished task reads the tile of a step.
+    fn is_read(&self, rt: &impl Abort, step: u32, tile: u32) -> bool {
+        assert!(rt; tile < self.grid.len());
+        let rect = self.grid.rect(tile);
+        let mut reader = 0u32;
+        for need in &self.needs {
+            if need.steps.iter().any(|source| *source == Some(step)) {
+                for other in 0..self.grid.len() {
+                    if meets(self.grid.window(other, need.reach), rect)
+                        && !has(&self.finished, reader, other)
+                    {
+                        return true;
+                    }
+                }
+            }
+            reader = reader.saturating_add(1);
+        }
+        false
+    }
+
     fn count(&self, rt: &impl Abort) -> u32 {
         let mut count = 0u32;
         let mut step = 0u32;
@@ -120,8 +144,16 @@ fn same_counts(rt: &impl Abort, ready: &Ready, plain: &Plain, running: usize) {
     assert!(rt; ready.remaining() as usize == (30usize).saturating_sub(plain.finished.len()));
 }
 
+fn same_reads(rt: &impl Abort, ready: &Ready, plain: &Plain) {
+    for step in 0..ready.steps() {
+        for tile in 0..ready.grid().len() {
+            assert!(rt; ready.is_read(step, tile) == plain.is_read(rt, step, tile));
+        }
+    }
+}
+
 fn plays(rt: &impl Abort, alloc: Global, seed: u32) -> Result<(), Fail> {
-    let mut random = Random { state: seed };
+    let mut random = Random::new(seed);
     let needs = random_needs(alloc, &mut random)?;
     let grid = Grid::new(170, 120, 64);
     let own = copied(alloc, &needs)?;
@@ -136,6 +168,7 @@ fn plays(rt: &impl Abort, alloc: Global, seed: u32) -> Result<(), Fail> {
     let mut running: Vec<(u32, u32)> = Vec::new(alloc);
     for _ in 0..200 {
         same_counts(rt, &ready, &plain, running.len());
+        same_reads(rt, &ready, &plain);
         let place = random.below(ready.count());
         if place < ready.count() && random.below(2) == 0 {
             let shown = ready.task_at(place);

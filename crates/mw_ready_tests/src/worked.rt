@@ -60,6 +60,37 @@ fn opening_of_three_tiles(rt: HostRuntime) -> Result<(), Fail> {
     Ok(())
 }
 
+/// Which tiles of a step unfinished tasks read.
+fn reads(rt: &impl Abort, ready: &Ready, step: u32, tiles: [bool; 3]) {
+    for tile in 0..3u32 {
+        assert!(rt; step < ready.steps() && tile < ready.grid().len());
+        assert!(rt; ready.is_read(step, tile) == tiles[tile as usize]);
+    }
+}
+
+#[test]
+fn a_tile_is_read_until_its_last_reader_is_finished(rt: HostRuntime) -> Result<(), Fail> {
+    let needs = vec![in rt.alloc(); reading(None), reading(Some(0)), reading(Some(1))]?;
+    let mut ready = Ready::new(rt.alloc(), needs, Grid::new(192, 1, 64))?;
+    for tile in [0u32, 2, 1] {
+        starts(&rt, &mut ready, 0, tile);
+        finishes(&rt, &mut ready, 0, tile);
+    }
+    reads(&rt, &ready, 0, [true, true, true]);
+    starts(&rt, &mut ready, 1, 0);
+    starts(&rt, &mut ready, 1, 2);
+    starts(&rt, &mut ready, 1, 1);
+    finishes(&rt, &mut ready, 1, 0);
+    reads(&rt, &ready, 0, [true, true, true]);
+    finishes(&rt, &mut ready, 1, 1);
+    reads(&rt, &ready, 0, [false, true, true]);
+    finishes(&rt, &mut ready, 1, 2);
+    reads(&rt, &ready, 0, [false, false, false]);
+    reads(&rt, &ready, 1, [true, true, true]);
+    reads(&rt, &ready, 2, [false, false, false]);
+    Ok(())
+}
+
 #[test]
 fn ready_as_soon_as_two_tiles_are_done(rt: HostRuntime) -> Result<(), Fail> {
     let needs = vec![in rt.alloc(); reading(None), reading(Some(0))]?;

@@ -1,7 +1,7 @@
 //! What stands at the front of some bytes: one request, less than one, or a refusal.
 
-use mw_intake::{Intake, is_served};
-use mw_model::{Code, FlatOp, GranOp, Name, Next, Op, Request};
+use mw_intake::Intake;
+use mw_model::{Code, Name, Next, Request};
 use std::alloc::Global;
 use std::process::Abort;
 use std::test::Fail;
@@ -18,13 +18,23 @@ fn front(alloc: Global, bytes: &[u8]) -> Result<Next, Fail> {
 }
 
 /// Stops where something else stands at the front.
-fn is_front(rt: &impl Abort, alloc: Global, bytes: &[u8], wanted: &Next) -> Result<(), Fail> {
+pub(crate) fn is_front(
+    rt: &impl Abort,
+    alloc: Global,
+    bytes: &[u8],
+    wanted: &Next,
+) -> Result<(), Fail> {
     assert!(rt; front(alloc, bytes)? == *wanted, "{bytes:?}");
     Ok(())
 }
 
 /// Stops where one of the texts is not answered so.
-fn are_bad(rt: &impl Abort, alloc: Global, texts: &[&[u8]], code: Code) -> Result<(), Fail> {
+pub(crate) fn are_bad(
+    rt: &impl Abort,
+    alloc: Global,
+    texts: &[&[u8]],
+    code: Code,
+) -> Result<(), Fail> {
     let wanted = Next::Bad(code);
     for text in texts {
         is_front(rt, alloc, text, &wanted)?;
@@ -42,45 +52,12 @@ const NO_LINES: &[&[u8]] = &[
     b"\n",
     b"STATUS X\n",
     b"STATUS\n",
-    b"RUN a ERODE f\n",
-    b"RUN a RANK f b\n",
-    b"RUN a ROTATE f b\n",
     b"LOAD x 1234567890\n",
 ];
 
 #[test]
 fn lines_that_are_none(rt: HostRuntime) -> Result<(), Fail> {
     are_bad(&rt, rt.alloc(), NO_LINES, Code::Line)
-}
-
-/// Lines of operations that have words, and are not served.
-const NOT_SERVED: &[&[u8]] = &[
-    b"RUN a OPEN f b\n",
-    b"RUN a CLOSE f b\n",
-    b"RUN a GRADIENT f b\n",
-    b"RUN a WTOPHAT f b\n",
-    b"RUN a BTOPHAT f b\n",
-    b"RUN a RANK f b 12\n",
-    b"RUN a THRESHOLD f 65536\n",
-    b"RUN a HITMISS f b c\n",
-    b"RUN a SKELETON f b 254\n",
-    b"RUN a RESTORE f b 0\n",
-    b"RUN a SPECTRUM f b 999999999\n",
-];
-
-#[test]
-fn lines_that_are_not_served(rt: HostRuntime) -> Result<(), Fail> {
-    are_bad(&rt, rt.alloc(), NOT_SERVED, Code::Line)
-}
-
-#[test]
-fn operations_that_are_served(rt: HostRuntime) -> Result<(), Fail> {
-    let f = name(b"f")?;
-    assert!(rt; is_served(&Op::Flat(FlatOp::Erode(f, f))));
-    assert!(rt; is_served(&Op::Flat(FlatOp::Dilate(f, f))));
-    assert!(rt; !is_served(&Op::Flat(FlatOp::Opening(f, f))));
-    assert!(rt; !is_served(&Op::Gran(GranOp::Skeleton(f, f, 254))));
-    Ok(())
 }
 
 const TOO_LONG: &[&[u8]] = &[b"LOAD x 134217729\n", b"ELEMENT x 0 0 134217729\n"];
@@ -117,11 +94,4 @@ fn requests_about_a_name(rt: HostRuntime) -> Result<(), Fail> {
         is_front(&rt, rt.alloc(), line, &Next::Request(request))?;
     }
     Ok(())
-}
-
-#[test]
-fn a_dilation(rt: HostRuntime) -> Result<(), Fail> {
-    let (a, f, b) = (name(b"a")?, name(b"f")?, name(b"b")?);
-    let run = Request::Run(a, Op::Flat(FlatOp::Dilate(f, b)));
-    is_front(&rt, rt.alloc(), b"RUN a DILATE f b\n", &Next::Request(run))
 }

@@ -1,4 +1,4 @@
-//! Tests of the intake by values from outside: lines, payloads and refusals, at once, in pieces and by portions.
+//! Tests of the intake by values from outside: lines, operations, payloads and refusals, at once, in pieces and by portions.
 //!
 //! ```text
 //! rt test     // in this folder
@@ -9,5 +9,7 @@
 mod fronts;
 #[cfg(test)]
 mod pieces;
+#[cfg(test)]
+mod runs;
 #[cfg(test)]
 mod session;

@@ -16,15 +16,16 @@ use Rattle.mw_model.specs.Stands.{Seen, IsWork, StandsFor, progress_at, may_run,
 use Rattle.mw_laws.proofs.RunCascade.{is_killed}
 use Rattle.mw_laws.proofs.RunStates.{reached}
 use Rattle.mw_task.specs.WindowTasks.{WindowTask}
-use Rattle.mw_core.specs.Events.{WorkStays}
-use Rattle.mw_core.specs.TaskEvents.{Kills, Begins, IsResult, Settles, Places, IsSettled, Finishes, Refuses}
+use Rattle.mw_stands.specs.Events.{WorkStays}
+use Rattle.mw_stands.specs.TaskEvents.{Kills, Begins, IsResult, Settles, Places, IsSettled}
+use Rattle.mw_core.specs.TaskAnswers.{Finishes, Refuses}
 use Rattle.mw_core.specs.declared.answers.Finish.{Finish}
 use Rattle.mw_core.specs.declared.answers.Finish.TheVariants as finish
 use Rattle.mw_core.specs.declared.answers.Refusal.{Refusal}
 use Rattle.mw_core.specs.declared.answers.Refusal.TheVariants as refusal
-use Rattle.mw_core.specs.Counts.{NonePending}
+use Rattle.mw_stands.specs.Counts.{NonePending}
 use Rattle.mw_laws.proofs.RunReplay.{run_join}
-use Rattle.mw_core.specs.Turns.{IsAt}
+use Rattle.mw_stands.specs.Turns.{IsAt}
 use Rattle.mw_session.specs.Work.{tasks_left, Worked, AllWorked, Took}
 use Rattle.mw_session.proofs.Totals.{total, total-at, total-falls, total-grows, total-bounded, total-zero, count-some, count-falls, count-grows}
 use Rattle.mw_script_laws.proofs.Working.{works_any_order}

@@ -27,23 +27,22 @@ use Rattle.mw_model.specs.Stands.{Seen, StandsFor, running_count}
 use Rattle.mw_model.specs.declared.requests.Ask.TheVariants as ask
 use Rattle.mw_model.specs.Lines.{Asked, AskLoad, AskElement, AskAlone}
 use Rattle.mw_model.specs.Replies.{Handed, reply_text, refusal_text, NoValue}
-use Rattle.mw_model.specs.Scripts.{Answers, unread, called, Works, Replies, IsCallOf, runs_work, refused_unread, handed, answer_text}
-use Rattle.mw_model.specs.Receipts.{IsCallFor, MayFail}
-use Rattle.mw_script_laws.specs.Marks.{OnlyWork, killed_in}
+use Rattle.mw_model.specs.Scripts.{Answers, unread, called, Works, Replies, IsCallOf, runs_work, refused_unread, handed, handed_value, answer_text}
+use Rattle.mw_model.specs.Receipts.{IsCallFor}
+use Rattle.mw_script_laws.specs.Marks.{killed_in}
 use Rattle.mw_session.specs.Turns.{TellsWork, TellsCall, logged, unlogged, MayLack}
 use Rattle.mw_laws.proofs.RunStates.{reached}
 use Rattle.mw_laws.proofs.RunTables.{push_last}
 use Rattle.mw_laws.proofs.RunReplay.{refused_leaves, fetch_leaves}
-use Rattle.mw_core.specs.Payloads.{given_image, image_payload, given_element, element_payload}
-use Rattle.mw_core.specs.Events.{Serves, IsFresh, handed_out}
+use Rattle.mw_stands.specs.Payloads.{given_image, image_payload, given_element, element_payload}
+use Rattle.mw_stands.specs.Events.{Serves, IsFresh, handed_out}
 use Rattle.mw_core.specs.Fetches.{shown_value}
 use Rattle.mw_core.specs.declared.answers.Shown.{Shown}
-use Rattle.mw_core.specs.declared.answers.Shown.TheVariants as shown
 use Rattle.mw_wire.specs.declared.fault.SessionFault.{SessionFault}
-use Rattle.mw_wire.specs.Writes.{Wrote}
+use Rattle.mw_wire.specs.Writes.{Wrote, told_text}
 use Rattle.mw_session.specs.Work.{AllWorked}
 use Rattle.mw_session.specs.Runs.{Answered}
-use Rattle.mw_session.specs.Answering.{ReadsImage, ReadsElement, told_text, fetch_text, SaysFetched}
+use Rattle.mw_session.specs.Answering.{ReadsImage, ReadsElement, fetch_text, SaysFetched}
 use Rattle.mw_session.proofs.Advancing.{under, none-under, count-under, calm}
 
 -- ---- texts
@@ -90,26 +89,21 @@ plain-text : (m : Machine) (c : Call) (r : Reply) → IsPlain c → r ≡ reply_
 plain-text m c r p e =
     ap (λ x. reply_text x NoValue) e ∙ told-alone (reply_to m c) (handed m (reply_to m c)) (λ u. none-shown (refusal m.table m.payloads c) (answer m.table c) u (answer-shows-none m.table c u p))
 
+-- what goes with a reply is the bytes of the value that it hands out
+handed-bytes : (m : Machine) (r : Reply) → handed_value (handed_out m r) ≡ handed m r
+handed-bytes m (reply.Accepted t) = refl
+handed-bytes m (reply.Refused c) = refl
+handed-bytes m (reply.Pending t) = refl
+handed-bytes m (reply.Done t s) = refl
+handed-bytes m (reply.Cancelled t) = refl
+handed-bytes m (reply.OutOfMemory t) = refl
+handed-bytes m (reply.BadInput t s) = refl
+handed-bytes m (reply.Released t) = refl
+handed-bytes m (reply.Shown t) = refl
+
 -- what a FETCH hands out is the machine's
 fetched-text : (m : Machine) (r : Reply) (v : Shown) → shown_value v ≡ handed_out m r → fetch_text r v ≡ reply_text r (handed m r)
-fetched-text m (reply.Accepted t) shown.Nothing e = refl
-fetched-text m (reply.Refused c) shown.Nothing e = refl
-fetched-text m (reply.Pending t) shown.Nothing e = refl
-fetched-text m (reply.Done t s) shown.Nothing e = refl
-fetched-text m (reply.Cancelled t) shown.Nothing e = refl
-fetched-text m (reply.OutOfMemory t) shown.Nothing e = refl
-fetched-text m (reply.BadInput t s) shown.Nothing e = refl
-fetched-text m (reply.Released t) shown.Nothing e = refl
-fetched-text m (reply.Shown t) shown.Nothing e = rw (← e) refl
-fetched-text m (reply.Accepted t) (shown.Image f) e = refl
-fetched-text m (reply.Refused c) (shown.Image f) e = refl
-fetched-text m (reply.Pending t) (shown.Image f) e = refl
-fetched-text m (reply.Done t s) (shown.Image f) e = refl
-fetched-text m (reply.Cancelled t) (shown.Image f) e = refl
-fetched-text m (reply.OutOfMemory t) (shown.Image f) e = refl
-fetched-text m (reply.BadInput t s) (shown.Image f) e = refl
-fetched-text m (reply.Released t) (shown.Image f) e = refl
-fetched-text m (reply.Shown t) (shown.Image f) e = rw (← e) refl
+fetched-text m r v e = ap (λ o. reply_text r (handed_value o)) e ∙ ap (reply_text r) (handed-bytes m r)
 
 -- ---- payloads
 

@@ -1,5 +1,5 @@
 -- What is gathered where want of memory ends a session.
-use Rattle.std.proofs.Common.{◌≡◌, ◌≢◌, ℕ, ◌+◌, ◌<◌, ◌≤◌, ◌⊎◌, inl, inr, Option, Some, None, List, [], ◌∷◌, ◌++◌, length, take, drop, length-drop, min, refl, sym, ◌∙◌, ap, arith, append_assoc, subst}
+use Rattle.std.proofs.Common.{◌≡◌, ◌≢◌, ℕ, ◌+◌, ◌<◌, ◌≤◌, ◌⊎◌, inl, inr, Option, Some, None, List, [], ◌∷◌, ◌++◌, length, take, drop, length-drop, refl, sym, ◌∙◌, ap, arith, append_assoc}
 use Rattle.std.specs.List.{position_or_len}
 use Rattle.std.proofs.lemmas.Bool.{cases_lt, le-ltb}
 use Rattle.std.proofs.lemmas.List.{append-nil}
@@ -11,10 +11,10 @@ use Rattle.mw_model.specs.declared.codes.Code.{Code}
 use Rattle.mw_model.specs.declared.codes.Code.TheVariants.{Line, Memory}
 use Rattle.mw_model.specs.declared.requests.End.TheVariants as end
 use Rattle.mw_model.specs.Lines.{Found, Partial, Fault, asked_with, with_payload, after_head}
-use Rattle.mw_intake.specs.Intake.{AsksForPayload, IsPayloadLine}
+use Rattle.mw_intake.specs.Intake.{AsksForPayload}
 use Rattle.mw_intake.specs.Reading.{front, head_of, is_line_end}
 use Rattle.mw_intake.proofs.Front.{front_long, front_line, front_open, payload_line, payload_long, payload_partial}
-use Rattle.mw_session.specs.Runs.{Gathers, payload, line, WantsRoom, LacksRoom}
+use Rattle.mw_session.specs.Runs.{payload, line, WantsRoom, LacksRoom}
 
 line_fault : Fault Line ≡ Fault Memory → ⊥
 line_fault e = cc

@@ -17,9 +17,9 @@ use Rattle.mw_intake.specs.Reading.{front}
 use Rattle.mw_intake.proofs.Front.{is_front}
 use Rattle.mw_wire.specs.declared.fault.SessionFault.{SessionFault}
 use Rattle.mw_wire.specs.declared.fault.SessionFault.TheVariants as fault
-use Rattle.mw_wire.specs.Writes.{EndsBy, CutsShort}
-use Rattle.mw_session.specs.Runs.{Answered, EndsAt, Finished, CutReply, CutEnd, Stopped, WantsRoom, LacksRoom, SessionRan}
-use Rattle.mw_session.specs.Answering.{EndedBy, Drove}
+use Rattle.mw_wire.specs.Writes.{EndsBy, EndedBy}
+use Rattle.mw_session.specs.Runs.{Answered, EndsAt, Finished, Stopped, WantsRoom, LacksRoom, SessionRan}
+use Rattle.mw_session.specs.Answering.{Drove}
 use Rattle.mw_intake.specs.Intake.{AsksForPayload}
 use Rattle.mw_session.proofs.Rooms.{room-for-portion, room-for-payload, room-more, room-lacks}
 use Rattle.mw_session.proofs.Turns.{Progress, progress-start, progress-more, progress-answered, progress-drained, cut-answered, finished-by, cut-by, finished-on, stopped-on, finished-more, finished-for, cut-reply-more, cut-end-more, cut-end-for}

@@ -1,18 +1,16 @@
 -- What a session leaves is a script, or a front of one; the kills of its turns are those of the log.
-use Rattle.std.proofs.Common.{◌≡◌, ℕ, ◌+◌, ◌<◌, ◌≤◌, Bool, true, false, List, [], ◌∷◌, ◌++◌, length, take, refl, sym, ap, subst, ◌∙◌, append_assoc, Option, inl, inr, arith}
-use Rattle.std.proofs.lemmas.List.{append-nil, take-append-le}
+use Rattle.std.proofs.Common.{◌≡◌, ℕ, ◌+◌, Bool, true, false, List, [], ◌∷◌, ◌++◌, length, take, refl, sym, ap, ◌∙◌, Option, inl, inr}
+use Rattle.std.proofs.lemmas.List.{append-nil}
 use Rattle.std.proofs.Math.Seq.{take-append-add, take-length}
 use Rattle.std.specs.Io.KnownBytes.{Appends, IsAtEnd}
 use Rattle.mw_model.specs.declared.calls.LogItem.{LogItem}
-use Rattle.mw_model.specs.declared.calls.LogItem.TheVariants as item
 use Rattle.mw_model.specs.declared.requests.End.{End}
 use Rattle.mw_model.specs.Machine.{Machine}
-use Rattle.mw_model.specs.Lines.{Asked, Found}
 use Rattle.mw_wire.specs.declared.fault.SessionFault.{SessionFault}
 use Rattle.mw_wire.specs.declared.fault.SessionFault.TheVariants as fault
-use Rattle.mw_model.specs.Scripts.{Turn, IsTurn, AreTurns, Serves, Works, IsScript, IsBroken, runs_work, end_text}
+use Rattle.mw_model.specs.Scripts.{Turn, AreTurns, Serves, Works, IsScript, IsBroken, runs_work, end_text}
 use Rattle.mw_script_laws.specs.Marks.{kills_of, killed_in}
-use Rattle.mw_session.specs.Turns.{TellsWork, TellsCall, logged, unlogged, TellsTurn, TurnMade, TurnsMade, HasServed}
+use Rattle.mw_session.specs.Turns.{TellsWork, TellsCall, logged, unlogged, TurnMade, TurnsMade, HasServed}
 use Rattle.mw_session.specs.Runs.{ShowsKills, Drained, Finished, CutReply, CutEnd, Stopped}
 use Rattle.mw_script_laws.proofs.Finishing.{kills_append}
 use Rattle.mw_session.proofs.Turns.{served_append, served_one}

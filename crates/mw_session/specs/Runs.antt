@@ -1,5 +1,5 @@
 -- What a run of a session says of the bytes, the log and the machine.
-use Rattle.std.specs.Prelude.{◌≡◌, ◌≢◌, ◌<◌, ◌⊎◌, ℕ, List, [], ◌∷◌, ◌++◌, length, take, Option, MatchResult, MatchOption, Result}
+use Rattle.std.specs.Prelude.{◌≡◌, ◌≢◌, ◌<◌, ◌⊎◌, ℕ, List, [], ◌++◌, length, take, Option, MatchResult, MatchOption, Result}
 use Rattle.std.specs.Io.KnownBytes.{Appends, Consumes, IsAtEnd}
 use Rattle.std.specs.List.{position_or_len}
 use Rattle.mw_model.specs.declared.calls.LogItem.{LogItem}

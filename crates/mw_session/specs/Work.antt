@@ -8,8 +8,8 @@ use Rattle.mw_model.specs.Machine.{Machine, Run}
 use Rattle.mw_model.specs.Tasks.{remaining_tasks}
 use Rattle.mw_model.specs.Stands.{Seen, StandsFor, progress_at, ready_count, running_count}
 use Rattle.mw_model.specs.Scripts.{Works}
-use Rattle.mw_core.specs.Counts.{NonePending}
-use Rattle.mw_core.specs.Turns.{IsAt}
+use Rattle.mw_stands.specs.Counts.{NonePending}
+use Rattle.mw_stands.specs.Turns.{IsAt}
 use Rattle.mw_script_laws.specs.Marks.{OnlyWork, killed_in}
 
 -- how many tasks are not finished

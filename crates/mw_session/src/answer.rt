@@ -2,20 +2,19 @@
 
 ghost use Rattle.std.specs.Prelude.{◌≡◌, ◌≢◌, OnOk, OnErr, Err, true};
 ghost use Rattle.mw_model.specs.declared.names.Name.{Name};
-ghost use Rattle.mw_model.specs.declared.operations.Op.{Op};
 ghost use Rattle.mw_model.specs.declared.requests.Ask.TheVariants as Ask;
-ghost use Rattle.mw_model.specs.Lines.{AskLoad, AskElement, AskAlone, is_served};
+ghost use Rattle.mw_model.specs.Lines.{AskLoad, AskElement, AskAlone};
 ghost use Rattle.mw_model.specs.Machine.{Machine};
 ghost use Rattle.mw_model.specs.Stands.{StandsFor, running_count};
 ghost use Rattle.mw_intake.specs.Intake.{asked};
 ghost use Rattle.mw_session.specs.Runs.{Answered};
 
 use crate::payloads::{read_element, read_image};
-use crate::saying::{say_fetched, say_told};
+use crate::saying::say_fetched;
 use crate::work::{Pick, run_all_work};
 use mw_core::Core;
-use mw_model::{Code, Name, NoMemory, Op, Reply, Request};
-use mw_wire::{SessionFault, Sink, say};
+use mw_model::{Name, NoMemory, Op, Request};
+use mw_wire::{SessionFault, Sink, say_told};
 use std::alloc::Global;
 use std::io::Write;
 
@@ -61,7 +60,6 @@ fn run<W: Write>(
     name: Name,
     op: Op,
 ) -> Result<(), SessionFault>
-    requires { is_served op ≡ true }
     ensures answered { (m : Machine) → StandsFor core.old m → running_count core.old ≡ 0
         → Answered m (AskAlone (Ask.Run name op)) core.old core.new (W.contents sink.old.inner) (W.contents sink.new.inner) result }
     ensures kept { OnOk result (sink.new.failed ≡ sink.old.failed) }
@@ -126,7 +124,7 @@ fn fetch<W: Write, P: Pick>(
     run_all_work(alloc, core, pick);
     match core.fetch(name) {
         Ok(fetched) => say_fetched(alloc, sink, fetched),
-        Err(NoMemory) => say(sink, Reply::Refused(Code::Memory)),
+        Err(NoMemory) => say_told(sink, Err(NoMemory)),
     }
 }
 
@@ -138,8 +136,7 @@ pub(crate) fn answer<W: Write, P: Pick>(
     pick: &mut P,
     request: Request,
 ) -> Result<(), SessionFault>
-    requires served { (name : Name) (op : Op) → asked request ≡ AskAlone (Ask.Run name op) → is_served op ≡ true }
-    requires open { asked request ≢ AskAlone Ask.Quit }
+    requires { asked request ≢ AskAlone Ask.Quit }
     ensures answered { (m : Machine) → StandsFor core.old m → running_count core.old ≡ 0
         → Answered m (asked request) core.old core.new (W.contents sink.old.inner) (W.contents sink.new.inner) result }
     ensures kept { OnOk result (sink.new.failed ≡ sink.old.failed) }

@@ -15,6 +15,7 @@ mod script;
 mod work;
 
 pub use laws::{finished_is_script, stopped_is_broken};
+pub use mw_core::Core;
 pub use mw_model::End;
 pub use script::run_script;
 pub use work::Pick;

@@ -1,49 +1,55 @@
-//! Writing what calls are answered.
+//! Writing what a FETCH is answered.
 
 ghost use Rattle.std.specs.Prelude.{◌≡◌, ℕ, List, OnOk, OnErr, Err, true};
-ghost use Rattle.mw_session.specs.Answering.{told_text, SaysFetched};
+ghost use Rattle.mw_session.specs.Answering.{SaysFetched};
 ghost use Rattle.mw_wire.specs.Writes.{Wrote};
 
 use mw_core::{Fetched, Shown};
-use mw_model::{Code, NoMemory, Reply};
+use mw_gran::Curve;
+use mw_model::{NoMemory, Reply};
 use mw_store::Plate;
-use mw_wire::{SessionFault, Sink, say, say_image};
+use mw_wire::{SessionFault, Sink, say, say_curve, say_image, say_told};
 use std::alloc::Global;
 use std::io::Write;
 
-/// Writes the reply to a call, or that it found no memory.
-pub(crate) fn say_told<W: Write>(
-    sink: &mut Sink<W>,
-    reply: Result<Reply, NoMemory>,
-) -> Result<(), SessionFault>
-    ensures wrote { Wrote (W.contents sink.old.inner) (W.contents sink.new.inner) (told_text reply) result }
-    ensures kept { OnOk result (sink.new.failed ≡ sink.old.failed) }
-    ensures flag { OnErr result ((result ≡ Err SessionFault.Write) × (sink.new.failed ≡ true)) }
-{
-    match reply {
-        Ok(reply) => say(sink, reply),
-        Err(NoMemory) => say(sink, Reply::Refused(Code::Memory)),
-    }
-}
-
-/// Writes an image, or that its text found no memory.
+/// Writes an image, or that its one piece or its text found no memory.
 fn say_plate<W: Write>(
     alloc: Global,
     sink: &mut Sink<W>,
     t: u32,
-    plate: &Plate,
+    plate: Plate,
 ) -> Result<(), SessionFault>
-    ensures said { (text : List ℕ) × SaysFetched (Reply.Shown t) (Shown.Image plate.now) text × Wrote (W.contents sink.old.inner) (W.contents sink.new.inner) text result }
+    ensures said { (text : List ℕ) × SaysFetched (Reply.Shown t) (Shown.Image plate) text × Wrote (W.contents sink.old.inner) (W.contents sink.new.inner) text result }
     ensures kept { OnOk result (sink.new.failed ≡ sink.old.failed) }
     ensures flag { OnErr result ((result ≡ Err SessionFault.Write) × (sink.new.failed ≡ true)) }
 {
-    match mw_netpbm::parts(alloc, plate.image()) {
+    let Ok(image) = plate.into_image(alloc) else {
+        return say_told(sink, Err(NoMemory));
+    };
+    match mw_netpbm::parts(alloc, &image) {
         Ok(text) => say_image(sink, t, &text.front, text.rest),
-        Err(NoMemory) => say(sink, Reply::Refused(Code::Memory)),
+        Err(NoMemory) => say_told(sink, Err(NoMemory)),
     }
 }
 
-/// Writes the reply to a FETCH, and the image that it hands out.
+/// Writes a curve, or that its text found no memory.
+fn say_volumes<W: Write>(
+    alloc: Global,
+    sink: &mut Sink<W>,
+    t: u32,
+    curve: &Curve,
+) -> Result<(), SessionFault>
+    ensures said { (text : List ℕ) × SaysFetched (Reply.Shown t) (Shown.Curve curve.now) text × Wrote (W.contents sink.old.inner) (W.contents sink.new.inner) text result }
+    ensures kept { OnOk result (sink.new.failed ≡ sink.old.failed) }
+    ensures flag { OnErr result ((result ≡ Err SessionFault.Write) × (sink.new.failed ≡ true)) }
+{
+    match curve.text(alloc) {
+        Ok(text) => say_curve(sink, t, &text),
+        Err(NoMemory) => say_told(sink, Err(NoMemory)),
+    }
+}
+
+/// Writes the reply to a FETCH, and the image or the curve that it hands out.
 pub(crate) fn say_fetched<W: Write>(
     alloc: Global,
     sink: &mut Sink<W>,
@@ -54,11 +60,9 @@ pub(crate) fn say_fetched<W: Write>(
     ensures flag { OnErr result ((result ≡ Err SessionFault.Write) × (sink.new.failed ≡ true)) }
 {
     let Fetched { reply, value } = fetched;
-    match value {
-        Shown::Nothing => say(sink, reply),
-        Shown::Image(plate) => match reply {
-            Reply::Shown(t) => say_plate(alloc, sink, t, &plate),
-            other => say(sink, other),
-        },
+    match (reply, value) {
+        (Reply::Shown(t), Shown::Image(plate)) => say_plate(alloc, sink, t, plate),
+        (Reply::Shown(t), Shown::Curve(curve)) => say_volumes(alloc, sink, t, &curve),
+        (other, _) => say(sink, other),
     }
 }

@@ -8,7 +8,7 @@ ghost use Rattle.mw_intake.specs.Reading.{front};
 ghost use Rattle.mw_model.specs.Machine.{Machine};
 ghost use Rattle.mw_model.specs.Stands.{StandsFor, running_count};
 ghost use Rattle.mw_intake.specs.Intake.{asked};
-ghost use Rattle.mw_session.specs.Answering.{EndedBy, Drove};
+ghost use Rattle.mw_session.specs.Answering.{Drove};
 ghost use Rattle.mw_session.specs.Runs.{SessionRan};
 ghost use Rattle.mw_wire.specs.Writes.{EndsBy};
 
@@ -17,7 +17,7 @@ use crate::work::Pick;
 use mw_core::Core;
 use mw_intake::Intake;
 use mw_model::{Code, End, Next, NoMemory, Request};
-use mw_wire::{READ_LIMIT, SessionFault, Sink, Source, end_by, receive};
+use mw_wire::{READ_LIMIT, SessionFault, Sink, Source, end_by, end_within, receive};
 use std::alloc::Global;
 use std::io::{Read, Write};
 
@@ -28,18 +28,6 @@ fn is_quit(request: &Request) -> bool
     ensures { IsTrue result ↔ (asked request.now ≡ AskAlone Ask.Quit) }
 {
     matches!(request, Request::Quit)
-}
-
-/// Writes the refusal that ends a session, where requests wait.
-fn end_within<W: Write>(sink: &mut Sink<W>, code: Code) -> Result<Option<End>, SessionFault>
-    ensures wrote { EndedBy (W.contents sink.old.inner) (W.contents sink.new.inner) code result }
-    ensures kept { OnOk result (sink.new.failed ≡ sink.old.failed) }
-    ensures flag { OnErr result ((result ≡ Err SessionFault.Write) × (sink.new.failed ≡ true)) }
-{
-    match end_by(sink, code) {
-        Ok(end) => Ok(Some(end)),
-        Err(fault) => Err(fault),
-    }
 }
 
 /// Serves the requests that wait, and says how the session ends where it does.

@@ -1,5 +1,7 @@
 //! A session as the program runs it, over a reader and a writer that end where they are told to.
 
+ghost use Rattle.std.specs.Prelude.{◌≡◌, ◌≤◌, ◌%◌};
+
 use mw_batch::batch;
 use mw_wire::{Sink, Source};
 use std::alloc::{AllocError, Global};
@@ -99,7 +101,15 @@ pub(crate) struct Left {
     pub(crate) told: Vec<u8>,
 }
 
+/// What the session leaves over tiles of side 128.
 pub(crate) fn served(alloc: Global, input: &[u8], cut: Cut) -> Left {
+    served_in_tiles(alloc, input, cut, 128)
+}
+
+/// What the session leaves over tiles of this side.
+pub(crate) fn served_in_tiles(alloc: Global, input: &[u8], cut: Cut, side: u32) -> Left
+    requires { (64 ≤ side) × (side ≤ 1024) × (side % 64 ≡ 0) }
+{
     let mut source = Source::new(Pieces {
         interrupts: (cut.interrupted, cut.interrupted),
         bytes: input,
@@ -111,7 +121,7 @@ pub(crate) fn served(alloc: Global, input: &[u8], cut: Cut) -> Left {
         room: cut.written,
     });
     let mut faults = Sink::new(Vec::new(alloc));
-    let status = batch(alloc, &mut source, &mut sink, &mut faults, 128);
+    let status = batch(alloc, &mut source, &mut sink, &mut faults, side);
     let Short { held, room: _ } = sink.into_inner();
     Left {
         status,
@@ -127,6 +137,18 @@ pub(crate) fn joined(alloc: Global, parts: &[&[u8]]) -> Result<Vec<u8>, AllocErr
         bytes.extend_from_slice(part)?;
     }
     Ok(bytes)
+}
+
+/// The session writes exactly this over tiles of side 64 and of side 128, and ends with status 0.
+pub(crate) fn writes_in_tiles(rt: &impl Abort, alloc: Global, input: &[u8], output: &[u8]) {
+    for left in [
+        served_in_tiles(alloc, input, WHOLE, 64),
+        served_in_tiles(alloc, input, WHOLE, 128),
+    ] {
+        assert_eq!(rt; left.written.as_slice(), output);
+        assert_eq!(rt; left.status, 0);
+        assert!(rt; left.told.is_empty());
+    }
 }
 
 /// The session writes exactly this and ends with this status, however its input is cut.

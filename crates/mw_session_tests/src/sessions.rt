@@ -269,7 +269,7 @@ fn an_element_larger_than_the_image(rt: HostRuntime) -> Result<(), Fail> {
 
 #[test]
 fn lines_that_end_a_session(rt: HostRuntime) {
-    let ended: [(&[u8], &[u8]); 9] = [
+    let ended: [(&[u8], &[u8]); 10] = [
         (b"LOAD x 5\nabc", b"ERR 12 CUT\n"),
         (b"STATUS x", b"ERR 12 CUT\n"),
         (b"load x 5\nSTATUS x\n", b"ERR 10 LINE\n"),
@@ -278,12 +278,14 @@ fn lines_that_end_a_session(rt: HostRuntime) {
         (b"\n", b"ERR 10 LINE\n"),
         (b"STATUS  x\n", b"ERR 10 LINE\n"),
         (b"STATUS x\r\n", b"ERR 10 LINE\n"),
-        // an operation that is not served yet
-        (b"RUN o OPEN f b\n", b"ERR 10 LINE\n"),
+        // no operation, and too few words for one
+        (b"RUN o OPENING f b\n", b"ERR 10 LINE\n"),
+        (b"RUN m RANK f b\n", b"ERR 10 LINE\n"),
     ];
     for (input, output) in ended {
         writes(&rt, rt.alloc(), input, output, 1);
     }
+    writes(&rt, rt.alloc(), b"RUN o OPEN f b\n", b"ERR 41 UNKNOWN\n", 0);
     writes(&rt, rt.alloc(), b"", b"", 0);
     writes(&rt, rt.alloc(), b"QUIT\nSTATUS x\n", b"", 0);
 }

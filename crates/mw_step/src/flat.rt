@@ -27,6 +27,7 @@ pub(crate) fn slide<E: LevelExtremum>(
     ensures { IfOk result (HoldsImage (tile_drawn window.now.kind window.now.maxval tile (λ x y. E.of_seen window.now.maxval (seen_under (seen_at window.now.view) element.now.offsets x y)))) }
 {
     of_samples!(
+        alloc,
         window,
         |samples, maxval| under_element::<_, E>(alloc, samples, element, maxval, tile)
     )
@@ -42,6 +43,7 @@ pub(crate) fn slide_box<E: LevelExtremum>(
     ensures { IfOk result (HoldsImage (tile_drawn window.now.kind window.now.maxval tile (λ x y. E.of_seen window.now.maxval (seen_under (seen_at window.now.view) (box_offsets offsets) x y)))) }
 {
     of_samples!(
+        alloc,
         window,
         |samples, maxval| under_box::<_, E>(alloc, samples, offsets, maxval, tile)
     )
@@ -59,6 +61,7 @@ pub(crate) fn rank_filter(
 {
     let offsets = element.offsets();
     of_samples!(
+        alloc,
         window,
         |samples, maxval| rank(alloc, samples, offsets, k, tile)
     )

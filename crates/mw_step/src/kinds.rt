@@ -1,31 +1,38 @@
 //! One body for windows of every type of samples.
 //!
 //! ```text
-//! of_samples!(window, |samples, maxval| inverted(alloc, maxval, samples))
+//! of_samples!(alloc, window, |samples, maxval| inverted(alloc, maxval, samples))
 //! ```
 
-ghost use Rattle.std.specs.Prelude.{◌≡◌, ◌≤◌};
+ghost use Rattle.std.specs.Prelude.{◌≡◌, ◌≤◌, IfOk};
 ghost use Rattle.mw_model.specs.declared.shapes.Kind.TheVariants as kind;
+ghost use Rattle.mw_model.specs.Pictures.{Picture};
+ghost use Rattle.mw_pixel.specs.Images.{set_of, grey_of};
+ghost use Rattle.mw_task.specs.Products.{HoldsImage};
 
-use mw_pixel::{Bit, Pixel};
+use mw_model::NoMemory;
+use mw_pixel::{Bit, Pixel, Plane};
+use mw_task::Made;
 use mw_tile::{AnyWindow, Window, WindowView};
+use std::alloc::Global;
+use std::sync::Arc;
 
 /// What is made by one body of the samples of a window and the maxval of its source.
 macro_rules! of_samples {
-    ($window:expr, |$samples:ident, $maxval:ident| $plane:expr) => {
+    ($alloc:expr, $window:expr, |$samples:ident, $maxval:ident| $plane:expr) => {
         match $window.view() {
             mw_tile::WindowView::Bits($samples) => {
                 let $maxval = mw_pixel::Bit::SET;
                 let plane = $plane?;
-                Ok(mw_task::Made::Bits(plane))
+                $crate::kinds::made_bits($alloc, plane)
             }
             mw_tile::WindowView::Grey8($samples, $maxval) => {
                 let plane = $plane?;
-                Ok(mw_task::Made::Grey8(plane, $maxval))
+                $crate::kinds::made_bytes($alloc, plane, $maxval)
             }
             mw_tile::WindowView::Grey16($samples, $maxval) => {
                 let plane = $plane?;
-                Ok(mw_task::Made::Grey16(plane, $maxval))
+                $crate::kinds::made_words($alloc, plane, $maxval)
             }
         }
     };
@@ -33,22 +40,22 @@ macro_rules! of_samples {
 
 /// What is made by one body of the samples of two windows of one kind and maxval.
 macro_rules! of_both {
-    ($a:expr, $b:expr, |$first:ident, $second:ident| $plane:expr) => {
+    ($alloc:expr, $a:expr, $b:expr, |$first:ident, $second:ident| $plane:expr) => {
         match $a.view() {
             mw_tile::WindowView::Bits($first) => {
                 let $second = $crate::kinds::bits_of($b);
                 let plane = $plane?;
-                Ok(mw_task::Made::Bits(plane))
+                $crate::kinds::made_bits($alloc, plane)
             }
             mw_tile::WindowView::Grey8($first, maxval) => {
                 let $second = $crate::kinds::bytes_of($b, maxval);
                 let plane = $plane?;
-                Ok(mw_task::Made::Grey8(plane, maxval))
+                $crate::kinds::made_bytes($alloc, plane, maxval)
             }
             mw_tile::WindowView::Grey16($first, maxval) => {
                 let $second = $crate::kinds::words_of($b);
                 let plane = $plane?;
-                Ok(mw_task::Made::Grey16(plane, maxval))
+                $crate::kinds::made_words($alloc, plane, maxval)
             }
         }
     };
@@ -56,6 +63,29 @@ macro_rules! of_both {
 
 pub(crate) use of_both;
 pub(crate) use of_samples;
+
+/// The set, in a plane that others can own too.
+pub(crate) fn made_bits(alloc: Global, plane: Plane<Bit>) -> Result<Made, NoMemory>
+    ensures { (f : Picture) → f ≡ set_of plane → IfOk result (HoldsImage f) }
+{
+    Ok(Made::Bits(Arc::new(alloc, plane)?))
+}
+
+/// The image of levels of one byte, in a plane that others can own too.
+pub(crate) fn made_bytes(alloc: Global, plane: Plane<u8>, maxval: u8) -> Result<Made, NoMemory>
+    requires { 1 ≤ maxval }
+    ensures { (f : Picture) → f ≡ grey_of plane maxval → IfOk result (HoldsImage f) }
+{
+    Ok(Made::Grey8(Arc::new(alloc, plane)?, maxval))
+}
+
+/// The image of levels of two bytes, in a plane that others can own too.
+pub(crate) fn made_words(alloc: Global, plane: Plane<u16>, maxval: u16) -> Result<Made, NoMemory>
+    requires { 256 ≤ maxval }
+    ensures { (f : Picture) → f ≡ grey_of plane maxval → IfOk result (HoldsImage f) }
+{
+    Ok(Made::Grey16(Arc::new(alloc, plane)?, maxval))
+}
 
 /// The sample of a level that is not over the maxval.
 pub(crate) fn sample_of<P: Pixel>(level: u16, maxval: P) -> P

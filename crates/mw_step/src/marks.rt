@@ -21,6 +21,7 @@ fn mark_places(alloc: Global, v: u16, a: &AnyWindow, places: &[Bit]) -> Result<M
     ensures fills { IfOk result (λ _. length a.now.view.cells ≡ a.now.view.place.height * a.now.view.place.width) }
 {
     of_samples!(
+        alloc,
         a,
         |samples, maxval| marked(alloc, sample_of(v, maxval), samples, places)
     )

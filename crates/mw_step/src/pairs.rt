@@ -18,7 +18,12 @@ pub(crate) fn minus(alloc: Global, a: &AnyWindow, b: &AnyWindow) -> Result<Made,
     requires kinds { SameKind a.now b.now }
     ensures { IfOk result (HoldsImage (both_drawn a.now.kind a.now.maxval (λ m n. m - n) a.now.view b.now.view)) }
 {
-    of_both!(a, b, |first, second| differences(alloc, first, second))
+    of_both!(
+        alloc,
+        a,
+        b,
+        |first, second| differences(alloc, first, second)
+    )
 }
 
 /// The extremum of both samples.
@@ -31,5 +36,10 @@ pub(crate) fn merge<E: LevelExtremum>(
     requires kinds { SameKind a.now b.now }
     ensures { IfOk result (HoldsImage (both_drawn a.now.kind a.now.maxval E.of_two a.now.view b.now.view)) }
 {
-    of_both!(a, b, |first, second| merged::<_, E>(alloc, first, second))
+    of_both!(
+        alloc,
+        a,
+        b,
+        |first, second| merged::<_, E>(alloc, first, second)
+    )
 }

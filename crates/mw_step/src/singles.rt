@@ -4,7 +4,7 @@ ghost use Rattle.std.specs.Prelude.{◌≡◌, ◌-◌, ◌*◌, ◌≤◌, ◌=
 ghost use Rattle.mw_model.specs.declared.shapes.Kind.TheVariants as kind;
 ghost use Rattle.mw_task.specs.Products.{HoldsImage, each_drawn, tile_drawn};
 
-use crate::kinds::of_samples;
+use crate::kinds::{made_bits, made_bytes, made_words, of_samples};
 use crate::pointwise::inverted;
 use crate::thresholds::{level_set, upper_set};
 use mw_model::{NoMemory, Rect};
@@ -17,7 +17,7 @@ use std::alloc::Global;
 pub(crate) fn invert(alloc: Global, a: &AnyWindow) -> Result<Made, NoMemory>
     ensures { IfOk result (HoldsImage (each_drawn a.now.kind a.now.maxval (λ n. a.now.maxval - n) a.now.view)) }
 {
-    of_samples!(a, |samples, maxval| inverted(alloc, maxval, samples))
+    of_samples!(alloc, a, |samples, maxval| inverted(alloc, maxval, samples))
 }
 
 /// The set of the places with level `k` or more.
@@ -25,9 +25,9 @@ pub(crate) fn at_least(alloc: Global, k: u32, a: &AnyWindow) -> Result<Made, NoM
     ensures { IfOk result (HoldsImage (each_drawn kind.Bit 1 (λ n. if nat_le k n then 1 else 0) a.now.view)) }
 {
     match a.view() {
-        WindowView::Bits(samples) => Ok(Made::Bits(upper_set(alloc, k, samples)?)),
-        WindowView::Grey8(samples, _) => Ok(Made::Bits(upper_set(alloc, k, samples)?)),
-        WindowView::Grey16(samples, _) => Ok(Made::Bits(upper_set(alloc, k, samples)?)),
+        WindowView::Bits(samples) => made_bits(alloc, upper_set(alloc, k, samples)?),
+        WindowView::Grey8(samples, _) => made_bits(alloc, upper_set(alloc, k, samples)?),
+        WindowView::Grey16(samples, _) => made_bits(alloc, upper_set(alloc, k, samples)?),
     }
 }
 
@@ -36,9 +36,9 @@ pub(crate) fn equal(alloc: Global, v: u16, a: &AnyWindow) -> Result<Made, NoMemo
     ensures { IfOk result (HoldsImage (each_drawn kind.Bit 1 (λ n. if n == v then 1 else 0) a.now.view)) }
 {
     match a.view() {
-        WindowView::Bits(samples) => Ok(Made::Bits(level_set(alloc, v, samples)?)),
-        WindowView::Grey8(samples, _) => Ok(Made::Bits(level_set(alloc, v, samples)?)),
-        WindowView::Grey16(samples, _) => Ok(Made::Bits(level_set(alloc, v, samples)?)),
+        WindowView::Bits(samples) => made_bits(alloc, level_set(alloc, v, samples)?),
+        WindowView::Grey8(samples, _) => made_bits(alloc, level_set(alloc, v, samples)?),
+        WindowView::Grey16(samples, _) => made_bits(alloc, level_set(alloc, v, samples)?),
     }
 }
 
@@ -49,10 +49,10 @@ pub(crate) fn blank(alloc: Global, maxval: u16, tile: Rect) -> Result<Made, NoMe
 {
     if maxval < 256 {
         let plane = Plane::filled(alloc, tile.width, tile.height, 0u8)?;
-        Ok(Made::Grey8(plane, maxval as u8))
+        made_bytes(alloc, plane, maxval as u8)
     } else {
         let plane = Plane::filled(alloc, tile.width, tile.height, 0u16)?;
-        Ok(Made::Grey16(plane, maxval))
+        made_words(alloc, plane, maxval)
     }
 }
 

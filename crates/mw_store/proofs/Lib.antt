@@ -1,4 +1,9 @@
+-- what other crates may cite
 pub mod RangeLemmas
 pub mod CascadeLemmas
-pub mod AddLemmas
-pub mod WholeWindows
+-- the crate's own
+mod AddLemmas
+mod Counting
+mod Tracking
+mod WholeWindows
+mod Cuts

@@ -1,4 +1,5 @@
--- Windows of whole images.
+-- Windows of images.
+use Rattle.std.specs.Prelude.{◌≡◌, ℕ, ◌+◌, ◌*◌, ◌<◌, slice_get}
 use Rattle.mw_model.specs.declared.places.Rect.{Rect}
 use Rattle.mw_model.specs.Places.{rect}
 use Rattle.mw_model.specs.Rasters.{Raster}
@@ -10,10 +11,6 @@ use Rattle.mw_tile.specs.Windows.{SourceWindow}
 abbrev pub frame_of : Picture → Rect
 frame_of f = rect 0 0 f.width f.height
 
--- the view that has all cells of a raster
-abbrev pub whole_view : {A : Type 0} → Raster A → View A
-whole_view f = record { frame_width = f.width; frame_height = f.height; place = rect 0 0 f.width f.height; cells = f.cells }
-
 -- the window that has all of an image
 abbrev pub whole_window : Picture → SourceWindow
 whole_window f = record {
@@ -21,3 +18,12 @@ whole_window f = record {
   maxval = f.maxval;
   view = record { frame_width = f.width; frame_height = f.height; place = frame_of f; cells = f.samples };
 }
+
+-- the cells are those that the frame has in the place
+abbrev pub HasPart : {A : Type 0} → View A → Raster A → Type 0
+HasPart w f =
+    (i j : ℕ) → i < w.place.width → j < w.place.height → slice_get w.cells (j * w.place.width + i) ≡ slice_get f.cells ((w.place.y + j) * f.width + (w.place.x + i))
+
+-- what is seen of the image through this view
+abbrev pub seen_of : Picture → View ℕ → SourceWindow
+seen_of f w = record { kind = f.kind; maxval = f.maxval; view = w }

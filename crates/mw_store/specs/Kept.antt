@@ -1,16 +1,17 @@
 -- The values that a store keeps.
-use Rattle.std.specs.Prelude.{Option, Some, None}
+use Rattle.std.specs.Prelude.{ℕ, List, Option, Some, None}
 use Rattle.std.specs.Arc.{arc_value}
 use Rattle.mw_model.specs.Elements.{Figure}
-use Rattle.mw_model.specs.Values.{Value, ImageValue, ElementValue}
+use Rattle.mw_model.specs.Values.{Value, ImageValue, ElementValue, CurveValue}
 use Rattle.mw_store.specs.declared.kept.Kept.{Kept}
 use Rattle.mw_store.specs.declared.kept.Kept.TheVariants as kept
 
 -- the value that is kept so
 abbrev pub kept_value : Kept → Value
 kept_value (kept.Image f) = ImageValue f
-kept_value (kept.Shared f) = ImageValue (arc_value f)
+kept_value (kept.Tiles f) = ImageValue f
 kept_value (kept.Element b) = ElementValue (arc_value b)
+kept_value (kept.Curve volumes) = CurveValue volumes
 
 -- the value that stands in the place of what is kept
 abbrev pub one_kept : Kept → Option Value
@@ -20,3 +21,8 @@ one_kept k = Some (kept_value k)
 abbrev pub figure_in : Option Value → Option Figure
 figure_in (Some (ElementValue b)) = Some b
 figure_in v = None
+
+-- the volumes of the curve in the place of a value, if one stands there
+abbrev pub curve_of : Option Value → Option (List ℕ)
+curve_of (Some (CurveValue volumes)) = Some volumes
+curve_of v = None

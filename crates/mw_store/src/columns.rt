@@ -1,17 +1,26 @@
 //! The table of entries, and the values that are kept of them.
 
-ghost use Rattle.std.specs.Prelude.{count_by, true, false, ◌≡◌, ◌↔◌, ℕ, ◌+◌, ◌<◌, ◌≤◌, [], ◌∷◌, ◌++◌, length, OnOk, OnErr, IfOk, IfSome, Some, None, IsTrue, IsSome, is_some, option_map, slice_set};
+ghost use Rattle.std.specs.Prelude.{count_by, true, false, ◌≡◌, ◌&&◌, ℕ, ◌+◌, ◌<◌, ◌≤◌, [], ◌∷◌, ◌++◌, length, nat_eq, OnOk, OnErr, IfOk, IfSome, Some, None, IsSome, is_some, option_map, slice_set};
 
 use crate::cascade::fail_dependents;
-use crate::kept::{Entry, Kept, Plate, made_shared, share};
-use crate::outcomes::{count_pending, one_if_pending};
-use crate::wanted::drop_spent;
+use crate::image_shapes::ImageShape;
+use crate::kept::{Entry, Kept};
+use crate::outcomes::{count_pending, is_pending, is_there, one_if_pending};
+use crate::plates::Plate;
+use crate::spent::{drop_inputs, drop_one, drop_spent};
+use crate::waiting::{
+    Waiters, WaitingList, drop_settled, pending_inputs, push_inputs, reserve_inputs,
+};
+use crate::wanted::{count_wanted, lower_inputs, raise_inputs};
+use crate::windows::{is_window_at, window_at};
 use indexmap::IndexSet;
 use mw_element::Element;
-use mw_model::{Command, Given, Inputs, Name, NoMemory, Op, Outcome, Shape, Submission};
-use mw_pixel::Image;
+use mw_gran::Curve;
+use mw_model::{Command, Given, Inputs, Name, NoMemory, Op, Outcome, Rect, Shape, Submission};
+use mw_tile::AnyWindow;
 use std::alloc::Global;
 use std::marker::Model;
+use std::mem::replace;
 use std::sync::Arc;
 
 /// Names, submissions, outcomes and values, all by ticket.
@@ -21,17 +30,18 @@ pub struct Store {
     submissions: Vec<Submission>,
     outcomes: Vec<Outcome>,
     kept: Vec<Option<Kept>>,
-    // A place for each ticket, in which those that are wanted are marked: to drop values takes no memory.
-    marks: Vec<bool>,
+    // How many pending entries have the ticket as an input, and the lists of those that wait for a pending ticket: so
+    // no call but `kill` looks at all entries.
+    wanted: Vec<u32>,
+    waiting: Vec<WaitingList>,
     pending: usize,
     alloc: Global,
 }
 
 impl Model for Store {
-    ghost use Rattle.std.specs.Prelude.{◌≡◌, count_by, length, map, option_map, vec_len};
-    ghost use Rattle.mw_model.specs.Refusals.{is_pending};
+    ghost use Rattle.std.specs.Prelude.{map, option_map};
     ghost use Rattle.mw_store.specs.Kept.{kept_value};
-    ghost use Rattle.mw_store.specs.Stored.{Stored, IsWhole};
+    ghost use Rattle.mw_store.specs.Stored.{Stored, IsTracked};
 
     ghost Value = { Stored };
 
@@ -44,7 +54,7 @@ impl Model for Store {
       kept = map (option_map kept_value) s.kept.items;
     } };
 
-    ghost invariant = { λ s. IsWhole
+    ghost invariant = { λ s. IsTracked
         (record {
           table = record {
             names = s.names.keys;
@@ -53,20 +63,25 @@ impl Model for Store {
           };
           kept = map (option_map kept_value) s.kept.items;
         })
-        × (vec_len s.marks ≡ length s.names.keys)
-        × (s.pending ≡ count_by is_pending s.outcomes.items) };
+        s.wanted.items
+        s.waiting.items
+        s.pending };
 }
 
 impl Store {
-    ghost use Rattle.std.specs.List.{AllByRecursion};
+    ghost use Rattle.std.specs.List.{AllByRecursion, list_all, list_any};
     ghost use Rattle.std.specs.Arc.{arc_value};
-    ghost use Rattle.std.specs.Option.{option_copied};
-    ghost use Rattle.std.specs.Prelude.{◌≢◌, List};
-    ghost use Rattle.mw_model.specs.Values.{CurveValue, image_of, tickets, value_at};
-    ghost use Rattle.mw_model.specs.Refusals.{is_pending, ticket_of, outcome_at, submission_at, shape_at};
+    ghost use Rattle.std.specs.Prelude.{◌↔◌, IsTrue};
+    ghost use Rattle.mw_model.specs.Pictures.{IsPicture};
+    ghost use Rattle.mw_model.specs.Values.{image_of, option_list, tickets, value_at};
+    ghost use Rattle.mw_model.specs.Refusals.{is_pending, is_released, is_there, ticket_of, outcome_at, submission_at, shape_at};
     ghost use Rattle.mw_model.specs.Machine.{killed, settled, with_entry};
+    ghost use Rattle.mw_model.specs.Stands as stands;
+    ghost use Rattle.mw_model.specs.Places.{IsWithin};
+    ghost use Rattle.mw_tile.specs.Windows.{window_of};
     ghost use Rattle.mw_store.specs.Entries.{op_of, submission_of, outcome_of, payload_in};
-    ghost use Rattle.mw_store.specs.Kept.{kept_value, figure_in};
+    ghost use Rattle.mw_store.specs.ImageShapes.{image_shape_of};
+    ghost use Rattle.mw_store.specs.Kept.{kept_value, curve_of, figure_in};
     ghost use Rattle.mw_store.specs.Stored.{IsWhole, DropsSpent};
 
     /// An empty store with room for 16 entries.
@@ -81,7 +96,8 @@ impl Store {
             submissions: Vec::with_capacity(alloc, 16)?,
             outcomes: Vec::with_capacity(alloc, 16)?,
             kept: Vec::with_capacity(alloc, 16)?,
-            marks: Vec::with_capacity(alloc, 16)?,
+            wanted: Vec::with_capacity(alloc, 16)?,
+            waiting: Vec::with_capacity(alloc, 16)?,
             pending: 0,
             alloc,
         })
@@ -160,44 +176,71 @@ impl Store {
         &self.kept[t as usize]
     }
 
-    /// The image that is kept of an entry.
-    pub fn image(&self, t: u32) -> Option<&Image>
+    /// The shape of the image that is kept of an entry, if one is.
+    pub fn image_shape(&self, t: u32) -> Option<ImageShape>
         requires { t < length self.now.table.names }
-        ensures { option_copied result ≡ image_of (value_at self.now.kept t) }
+        ensures shape { result ≡ option_map image_shape_of (image_of (value_at self.now.kept t)) }
+        ensures picture { IfSome (image_of (value_at self.now.kept t)) IsPicture }
     {
         match self.kept(t) {
-            Some(Kept::Image(image)) => Some(image),
-            Some(Kept::Shared(image)) => Some(&**image),
+            Some(Kept::Image(image)) => Some(ImageShape::of_image(image)),
+            Some(Kept::Tiles(plane)) => Some(ImageShape::of_tiles(plane)),
             _ => None,
         }
     }
 
-    /// One more owner of the image that is kept of an entry, if one is. Where none is, memory is not asked for.
-    pub fn plate(&mut self, t: u32) -> Result<Option<Plate>, NoMemory>
-        requires { t < length self.old.table.names }
-        ensures plate { IfOk result (λ p. p ≡ image_of (value_at self.old.kept t)) }
-        ensures memory { OnErr result (IsSome (image_of (value_at self.old.kept t))) }
-        ensures no_curve { (volumes : List ℕ) → value_at self.old.kept t ≢ Some (CurveValue volumes) }
-        ensures same { self.new ≡ self.old }
+    /// One more owner of the image that is kept of an entry, or of its tiles, if one is. Where none is, memory is not
+    /// asked for.
+    pub fn plate(&self, t: u32) -> Result<Option<Plate>, NoMemory>
+        requires { t < length self.now.table.names }
+        ensures plate { IfOk result (λ p. p ≡ image_of (value_at self.now.kept t)) }
+        ensures memory { OnErr result (IsSome (image_of (value_at self.now.kept t))) }
     {
-        let Some(kept) = self.kept[t as usize].take() else {
-            return Ok(None);
-        };
-        let (kept, plate) = share(self.alloc, kept);
-        self.kept[t as usize] = Some(kept);
-        plate
+        let kept = self.kept(t);
+        match kept {
+            Some(Kept::Image(image)) => Ok(Some(Plate::of_image(image)?)),
+            Some(Kept::Tiles(plane)) => Ok(Some(Plate::of_tiles(self.alloc, plane)?)),
+            _ => Ok(None),
+        }
     }
 
-    /// Windows can own the plane of the image that is kept of an entry from now on, if memory for that is found. What is
-    /// kept stays the same.
-    pub fn share_plane(&mut self, t: u32)
-        requires { t < length self.old.table.names }
-        ensures { self.new ≡ self.old }
+    /// A copy of the curve that is kept of an entry, if one is. Where none is, memory is not asked for.
+    pub fn curve(&self, alloc: Global, t: u32) -> Result<Option<Curve>, NoMemory>
+        requires { t < length self.now.table.names }
+        ensures curve { IfOk result (λ c. c ≡ curve_of (value_at self.now.kept t)) }
+        ensures memory { OnErr result (IsSome (curve_of (value_at self.now.kept t))) }
     {
-        let Some(value) = self.kept[t as usize].take() else {
-            return;
-        };
-        self.kept[t as usize] = Some(made_shared(self.alloc, value));
+        match self.kept(t) {
+            Some(Kept::Curve(curve)) => Ok(Some(Curve::new(alloc, curve.volumes())?)),
+            _ => Ok(None),
+        }
+    }
+
+    /// The window of a rectangle of the image that is kept of an entry, if one is. Where none is, memory is not asked for.
+    pub fn window(&self, alloc: Global, t: u32, rect: Rect) -> Result<Option<AnyWindow>, NoMemory>
+        requires entry { t < length self.now.table.names }
+        requires within { IfSome (image_of (value_at self.now.kept t)) (λ f. IsWithin rect f.width f.height) }
+        ensures window { IfOk result (λ w. w ≡ option_map (window_of rect) (image_of (value_at self.now.kept t))) }
+        ensures memory { OnErr result (IsSome (image_of (value_at self.now.kept t))) }
+    {
+        match self.kept(t) {
+            Some(Kept::Image(image)) => Ok(Some(window_at(alloc, image, rect)?)),
+            Some(Kept::Tiles(plane)) => Ok(Some(plane.window(alloc, rect)?)),
+            _ => Ok(None),
+        }
+    }
+
+    /// Whether a window is that of a rectangle of the image that is kept of an entry.
+    pub fn matches(&self, t: u32, rect: Rect, window: &AnyWindow) -> bool
+        requires entry { t < length self.now.table.names }
+        requires within { IfSome (image_of (value_at self.now.kept t)) (λ f. IsWithin rect f.width f.height) }
+        ensures { IsTrue result ↔ (option_map (window_of rect) (image_of (value_at self.now.kept t)) ≡ Some window.now) }
+    {
+        match self.kept(t) {
+            Some(Kept::Image(image)) => is_window_at(window, image, rect),
+            Some(Kept::Tiles(plane)) => plane.matches(rect, window),
+            _ => false,
+        }
     }
 
     /// The element that is kept of an entry.
@@ -219,74 +262,84 @@ impl Store {
         self.kept[t as usize].is_some()
     }
 
-    /// Gives a pending entry its outcome, and fails what it was an input of, in ticket order.
+    /// Whether a pending entry has the ticket as an input.
+    pub fn is_wanted(&self, t: u32) -> bool
+        requires { t < length self.now.table.names }
+        ensures { result ≡ stands.is_wanted self.now.table t }
+    {
+        self.wanted[t as usize] > 0
+    }
+
+    fn has_input(&self, input: Option<u32>) -> bool
+        requires { AllByRecursion (λ i. i < length self.now.table.names) (option_list input) }
+        ensures { result ≡ list_all (λ i. is_there (outcome_at self.now.table.outcomes i)) (option_list input) }
+    {
+        match input {
+            Some(t) => is_there(self.outcome(t)),
+            None => true,
+        }
+    }
+
+    /// Whether all inputs of the entry's command are done, or released since.
+    pub fn inputs_there(&self, t: u32) -> bool
+        requires { t < length self.now.table.names }
+        ensures { result ≡ stands.inputs_there self.now.table t }
+    {
+        let inputs = self.submission(t).inputs;
+        self.has_input(inputs.a) && self.has_input(inputs.b) && self.has_input(inputs.c)
+    }
+
+    /// Ends a pending entry by its death, and fails what it was an input of, in ticket order. Each value that nothing
+    /// needs any more is dropped. This is the only call that looks at all entries.
     pub fn kill(&mut self, t: u32, cause: Outcome)
-        requires { t < length self.old.table.names }
+        requires within { t < length self.old.table.names }
+        requires pending { outcome_at self.old.table.outcomes t ≡ Outcome.Pending }
+        requires dead { is_pending cause ≡ false }
         ensures table { self.new.table ≡ killed self.old.table t cause }
-        ensures kept { self.new.kept ≡ self.old.kept }
-        ensures pending { is_pending (outcome_at self.old.table.outcomes t) ≡ true → is_pending cause ≡ false
-            → count_by is_pending self.new.table.outcomes + 1 ≤ count_by is_pending self.old.table.outcomes }
+        ensures kept { DropsSpent self.new.table self.old.kept self.new.kept }
+        ensures pending { count_by is_pending self.new.table.outcomes + 1 ≤ count_by is_pending self.old.table.outcomes }
     {
         self.outcomes[t as usize] = cause;
         fail_dependents(&self.submissions, &mut self.outcomes);
         self.pending = count_pending(&self.outcomes);
+        count_wanted(&self.submissions, &self.outcomes, &mut self.wanted);
+        drop_settled(self.alloc, &self.outcomes, &mut self.waiting);
+        drop_spent(&self.outcomes, &self.wanted, &mut self.kept);
     }
 
-    /// Gives an entry its outcome.
-    pub fn settle(&mut self, t: u32, outcome: Outcome)
-        requires { t < length self.old.table.names }
-        ensures table { self.new.table ≡ settled self.old.table t outcome }
-        ensures kept { self.new.kept ≡ self.old.kept }
-        ensures pending { is_pending (outcome_at self.old.table.outcomes t) ≡ true → is_pending outcome ≡ false
-            → count_by is_pending self.new.table.outcomes + 1 ≤ count_by is_pending self.old.table.outcomes }
-        ensures settled_before { is_pending (outcome_at self.old.table.outcomes t) ≡ false → is_pending outcome ≡ false
-            → count_by is_pending self.new.table.outcomes ≡ count_by is_pending self.old.table.outcomes }
+    /// Ends a pending entry by its value, which is kept. Its inputs are dropped where nothing needs them any more. The
+    /// entries that waited for it are handed out: each pending entry that has it as an input is among them. No memory is
+    /// asked for.
+    pub fn settle(&mut self, t: u32, value: Kept) -> Waiters
+        requires within { t < length self.old.table.names }
+        requires pending { outcome_at self.old.table.outcomes t ≡ Outcome.Pending }
+        ensures table { self.new.table ≡ settled self.old.table t Outcome.Done }
+        ensures kept { DropsSpent self.new.table (slice_set self.old.kept t (Some (kept_value value))) self.new.kept }
+        ensures pending { count_by is_pending self.new.table.outcomes + 1 ≡ count_by is_pending self.old.table.outcomes }
+        ensures all { (u : ℕ) → u < length self.old.table.names → (is_pending (outcome_at self.old.table.outcomes u) && list_any (nat_eq t) (stands.inputs_of self.old.table u)) ≡ true
+            → list_any (nat_eq u) result ≡ true }
+        ensures below { AllByRecursion (λ u. u < length self.old.table.names) result }
     {
-        self.outcomes[t as usize] = outcome;
-        self.pending = count_pending(&self.outcomes);
+        let inputs = self.submissions[t as usize].inputs;
+        self.outcomes[t as usize] = Outcome::Done;
+        self.kept[t as usize] = Some(value);
+        let list = replace(&mut self.waiting[t as usize], WaitingList::none(self.alloc));
+        self.pending -= 1;
+        lower_inputs(&mut self.wanted, inputs);
+        drop_inputs(&self.outcomes, &self.wanted, &mut self.kept, inputs);
+        list.into_waiters()
     }
 
-    /// Lets a done entry go. Its value stays until it is forgotten.
+    /// Lets a done entry go. Its value stays while a pending entry has it as an input. No memory is asked for.
     pub fn release(&mut self, t: u32)
         requires within { t < length self.old.table.names }
         requires done { outcome_at self.old.table.outcomes t ≡ Outcome.Done }
         ensures table { self.new.table ≡ settled self.old.table t Outcome.Released }
-        ensures kept { self.new.kept ≡ self.old.kept }
+        ensures kept { DropsSpent self.new.table self.old.kept self.new.kept }
         ensures pending { count_by is_pending self.new.table.outcomes ≡ count_by is_pending self.old.table.outcomes }
     {
-        self.settle(t, Outcome::Released);
-    }
-
-    /// Keeps a value of an entry. No memory is asked for.
-    pub fn keep(&mut self, t: u32, value: Kept)
-        requires { t < length self.old.table.names }
-        ensures table { self.new.table ≡ self.old.table }
-        ensures kept { self.new.kept ≡ slice_set self.old.kept t (Some (kept_value value)) }
-    {
-        self.kept[t as usize] = Some(value);
-    }
-
-    /// Drops what is kept of an entry.
-    pub fn drop_kept(&mut self, t: u32)
-        requires { t < length self.old.table.names }
-        ensures table { self.new.table ≡ self.old.table }
-        ensures kept { self.new.kept ≡ slice_set self.old.kept t None }
-    {
-        self.kept[t as usize] = None;
-    }
-
-    /// Drops each value that is released and that no pending entry has as an input.
-    pub fn forget_spent(&mut self)
-        ensures table { self.new.table ≡ self.old.table }
-        ensures kept { DropsSpent self.old.table self.old.kept self.new.kept }
-        ensures length { length self.new.kept ≡ length self.old.kept }
-    {
-        drop_spent(
-            &self.submissions,
-            &self.outcomes,
-            &mut self.marks,
-            &mut self.kept,
-        );
+        self.outcomes[t as usize] = Outcome::Released;
+        drop_one(&self.outcomes, &self.wanted, &mut self.kept, Some(t));
     }
 
     fn push(
@@ -299,6 +352,7 @@ impl Store {
         requires free { ticket_of self.old.table.names name ≡ None }
         requires room { length self.old.table.names < 65536 }
         requires below { AllByRecursion (λ i. i < length self.old.table.names) (tickets submission.inputs) }
+        requires kept { is_released outcome ≡ false }
         ensures ticket { IfOk result (λ t. t ≡ length self.old.table.names) }
         ensures table { OnOk result (self.new.table ≡ with_entry self.old.table name submission outcome) }
         ensures kept { OnOk result (self.new.kept ≡ self.old.kept ++ option_map kept_value value ∷ []) }
@@ -308,12 +362,18 @@ impl Store {
         self.submissions.reserve(1)?;
         self.outcomes.reserve(1)?;
         self.kept.reserve(1)?;
-        self.marks.reserve(1)?;
+        self.wanted.reserve(1)?;
+        let waited = pending_inputs(&self.outcomes, submission.inputs);
+        reserve_inputs(&mut self.waiting, waited)?;
+        self.waiting.reserve(1)?;
         self.names.insert(name)?;
         self.submissions.push_reserved(submission);
         self.outcomes.push_reserved(outcome);
         self.kept.push_reserved(value);
-        self.marks.push_reserved(false);
+        self.wanted.push_reserved(0);
+        self.waiting.push_reserved(WaitingList::none(self.alloc));
+        raise_inputs(is_pending(outcome), &mut self.wanted, submission.inputs);
+        push_inputs(&mut self.waiting, t, waited);
         self.pending += one_if_pending(outcome);
         Ok(t)
     }

@@ -1,9 +1,13 @@
 //! What the machine keeps: names, submissions, outcomes and values, all by ticket.
 //!
-//! The ticket of an entry is its place in the order of acceptance. An image is shared when it is first handed out, and
-//! windows can own its plane from then on, or from the first `share_plane` on: so no sample is copied. What takes memory
-//! answers `NoMemory`, and the store is then as before. `share_plane` alone answers nothing: where memory is refused,
-//! windows are copies. `keep`, `settle`, `kill`, `release` and what drops values ask for no memory.
+//! The ticket of an entry is its place in the order of acceptance. An image is kept in one piece, or as the tiles that it
+//! was made of; no contract tells which. A share of it owns its plane or its tiles too, and so does a window of its whole
+//! frame or of one tile: these copy no sample. What takes memory answers `NoMemory`, and the store is then as before.
+//! `settle`, `kill` and `release` ask for no memory, and drop what nothing needs any more.
+//!
+//! Beside each ticket stands how many pending entries have it as an input, and beside a pending one the list of these: so
+//! `settle`, which hands this list out, and `release` look at one entry and its inputs, and only `kill` looks at all
+//! entries.
 //!
 //! ```text
 //! let mut store = Store::new(alloc)?;
@@ -14,13 +18,19 @@
 
 mod cascade;
 mod columns;
+mod image_shapes;
 mod kept;
 mod outcomes;
+mod plates;
+mod spent;
+mod waiting;
 mod wanted;
 mod windows;
 
 pub use columns::Store;
-pub use kept::{Entry, Kept, Plate};
+pub use image_shapes::ImageShape;
+pub use kept::{Entry, Kept};
 pub use mw_model::NoMemory;
 pub use outcomes::{is_dead, is_done, is_pending, is_released, is_there};
-pub use windows::{is_whole, whole_window};
+pub use plates::Plate;
+pub use waiting::Waiters;

@@ -1,67 +1,95 @@
-//! Which values a pending entry still needs.
+//! How many pending entries have each ticket as an input. An entry that has it twice counts once.
 
-ghost use Rattle.std.specs.Prelude.{◌≡◌, ◌≤◌, ◌<◌, ◌||◌, ◌&&◌, ℕ, false, nat_eq, length, None, slice_index_or, if◌then◌else◌};
-ghost use Rattle.std.specs.List.{AllByRecursion, list_any};
-ghost use Rattle.mw_model.specs.Values.{tickets, option_list};
+ghost use Rattle.std.specs.Prelude.{◌≡◌, ◌≤◌, ◌<◌, ◌+◌, ◌&&◌, ℕ, true, false, length, slice_index_or};
+ghost use Rattle.std.specs.List.{AllByRecursion};
+ghost use Rattle.mw_model.specs.Values.{option_list};
 ghost use Rattle.mw_store.specs.Stored.{InputsBelow};
-ghost use Rattle.mw_store.specs.Wanted.{wanted_among, spent_among};
+ghost use Rattle.mw_store.specs.Wanted.{is_among, is_at, one_if, wanted_by};
 
-use crate::kept::Kept;
-use crate::outcomes::{is_pending, is_released};
+use crate::outcomes::is_pending;
 use mw_model::{Inputs, Outcome, Submission};
 
-/// Marks an input, if there is one and the entry waits.
-fn mark(waits: bool, marks: &mut [bool], input: Option<u32>)
-    requires { AllByRecursion (λ i. i < length marks.old) (option_list input) }
-    ensures { (k : ℕ) → slice_index_or marks.new k false ≡ (slice_index_or marks.old k false || (waits && list_any (nat_eq k) (option_list input))) }
+/// Whether two inputs are the same ticket.
+fn is_same(a: Option<u32>, b: Option<u32>) -> bool
+    ensures same { result ≡ true → a ≡ b }
+    ensures other { result ≡ false → (t : ℕ) → (is_at a t && is_at b t) ≡ false }
 {
-    if let (true, Some(t)) = (waits, input) {
-        marks[t as usize] = true;
+    match (a, b) {
+        (Some(a), Some(b)) => a == b,
+        _ => false,
     }
 }
 
-/// Marks all inputs of an entry that waits.
-fn mark_inputs(waits: bool, marks: &mut [bool], inputs: Inputs)
-    requires a { AllByRecursion (λ i. i < length marks.old) (option_list inputs.a) }
-    requires b { AllByRecursion (λ i. i < length marks.old) (option_list inputs.b) }
-    requires c { AllByRecursion (λ i. i < length marks.old) (option_list inputs.c) }
-    ensures { (k : ℕ) → slice_index_or marks.new k false ≡ (slice_index_or marks.old k false || (waits && list_any (nat_eq k) (tickets inputs))) }
+/// Whether an entry counts for its second and for its third input: one that stood before counts no more.
+fn counts_for(waits: bool, inputs: Inputs) -> (bool, bool)
+    ensures { (t : ℕ) → one_if (waits && is_at inputs.a t) + one_if (result.0 && is_at inputs.b t) + one_if (result.1 && is_at inputs.c t) ≡ one_if (waits && is_among inputs t) }
 {
-    mark(waits, marks, inputs.a);
-    mark(waits, marks, inputs.b);
-    mark(waits, marks, inputs.c);
+    let second = is_same(inputs.a, inputs.b);
+    let third = is_same(inputs.a, inputs.c);
+    let last = is_same(inputs.b, inputs.c);
+    (waits && !second, waits && !third && !last)
 }
 
-/// Marks each ticket that a pending entry has as an input, and no other.
-fn mark_wanted(submissions: &[Submission], outcomes: &[Outcome], marks: &mut [bool])
-    requires same { length submissions.now ≡ length outcomes.now }
-    requires columns { length marks.old ≡ length outcomes.now }
-    requires below { InputsBelow submissions.now }
-    ensures { (t : ℕ) → slice_index_or marks.new t false ≡ wanted_among submissions.now outcomes.now t }
+/// Counts an entry for an input, if there is one and the entry counts.
+fn raise(counts: bool, wanted: &mut [u32], input: Option<u32>)
+    requires within { AllByRecursion (λ i. i < length wanted.old) (option_list input) }
+    requires small { (t : ℕ) → slice_index_or wanted.old t 0 < 4294967295 }
+    ensures { (t : ℕ) → slice_index_or wanted.new t 0 ≡ slice_index_or wanted.old t 0 + one_if (counts && is_at input t) }
 {
-    marks.fill(false);
+    if let (true, Some(t)) = (counts, input) {
+        wanted[t as usize] += 1;
+    }
+}
+
+/// Counts an entry for its inputs, if it waits.
+pub fn raise_inputs(waits: bool, wanted: &mut [u32], inputs: Inputs)
+    requires a { AllByRecursion (λ i. i < length wanted.old) (option_list inputs.a) }
+    requires b { AllByRecursion (λ i. i < length wanted.old) (option_list inputs.b) }
+    requires c { AllByRecursion (λ i. i < length wanted.old) (option_list inputs.c) }
+    requires small { (t : ℕ) → slice_index_or wanted.old t 0 ≤ 65536 }
+    ensures { (t : ℕ) → slice_index_or wanted.new t 0 ≡ slice_index_or wanted.old t 0 + one_if (waits && is_among inputs t) }
+{
+    let (second, third) = counts_for(waits, inputs);
+    raise(waits, wanted, inputs.a);
+    raise(second, wanted, inputs.b);
+    raise(third, wanted, inputs.c);
+}
+
+/// Counts an entry no more for an input, if there is one and the entry counted.
+fn lower(counts: bool, wanted: &mut [u32], input: Option<u32>)
+    requires within { AllByRecursion (λ i. i < length wanted.old) (option_list input) }
+    requires counted { (t : ℕ) → one_if (counts && is_at input t) ≤ slice_index_or wanted.old t 0 }
+    ensures { (t : ℕ) → slice_index_or wanted.new t 0 + one_if (counts && is_at input t) ≡ slice_index_or wanted.old t 0 }
+{
+    if let (true, Some(t)) = (counts, input) {
+        wanted[t as usize] -= 1;
+    }
+}
+
+/// Counts an entry no more for its inputs.
+pub fn lower_inputs(wanted: &mut [u32], inputs: Inputs)
+    requires a { AllByRecursion (λ i. i < length wanted.old) (option_list inputs.a) }
+    requires b { AllByRecursion (λ i. i < length wanted.old) (option_list inputs.b) }
+    requires c { AllByRecursion (λ i. i < length wanted.old) (option_list inputs.c) }
+    requires counted { (t : ℕ) → one_if (is_among inputs t) ≤ slice_index_or wanted.old t 0 }
+    ensures { (t : ℕ) → slice_index_or wanted.new t 0 + one_if (is_among inputs t) ≡ slice_index_or wanted.old t 0 }
+{
+    let (second, third) = counts_for(true, inputs);
+    lower(true, wanted, inputs.a);
+    lower(second, wanted, inputs.b);
+    lower(third, wanted, inputs.c);
+}
+
+/// Counts the pending entries that have each ticket as an input, whatever was counted before.
+pub fn count_wanted(submissions: &[Submission], outcomes: &[Outcome], wanted: &mut [u32])
+    requires same { length submissions.now ≡ length outcomes.now }
+    requires columns { length wanted.old ≡ length outcomes.now }
+    requires small { length outcomes.now ≤ 65536 }
+    requires below { InputsBelow submissions.now }
+    ensures { (t : ℕ) → slice_index_or wanted.new t 0 ≡ wanted_by submissions.now outcomes.now t }
+{
+    wanted.fill(0);
     for (u, submission) in submissions.iter().enumerate() {
-        mark_inputs(is_pending(outcomes[u]), marks, submission.inputs);
-    }
-}
-
-/// Drops each value that is released and that no pending entry has as an input. The marks tell which ones are wanted.
-pub fn drop_spent(
-    submissions: &[Submission],
-    outcomes: &[Outcome],
-    marks: &mut [bool],
-    kept: &mut [Option<Kept>],
-)
-    requires same { length submissions.now ≡ length outcomes.now }
-    requires marks { length marks.old ≡ length outcomes.now }
-    requires columns { length kept.old ≡ length outcomes.now }
-    requires below { InputsBelow submissions.now }
-    ensures { (t : ℕ) → slice_index_or kept.new t None ≡ (if spent_among submissions.now outcomes.now t then None else slice_index_or kept.old t None) }
-{
-    mark_wanted(submissions, outcomes, marks);
-    for (t, outcome) in outcomes.iter().enumerate() {
-        if is_released(*outcome) && !marks[t] {
-            kept[t] = None;
-        }
+        raise_inputs(is_pending(outcomes[u]), wanted, submission.inputs);
     }
 }

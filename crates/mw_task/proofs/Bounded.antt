@@ -16,7 +16,7 @@ use Rattle.mw_task.specs.WindowTasks.{WindowTask, window_at, KindsFit, IsBounded
 use Rattle.mw_task.proofs.TileCells.{length-cells_in, cells_in_all}
 
 -- nothing that is seen is over the top
-abbrev IsBelow : ℕ → Sight ℕ → Type 0
+abbrev pub IsBelow : ℕ → Sight ℕ → Type 0
 IsBelow top f = (column row : ℤ) (v : ℕ) → f column row ≡ Some v → v ≤ top
 
 none_some : (v : ℕ) → None ≡ Some v → ⊥
@@ -37,16 +37,16 @@ raster_below top f all (pos x) (pos y) v e = go (nat_lt x f.width && nat_lt y f.
         let lt : y * f.width + x < length f.cells = slice_get_within f.cells (y * f.width + x) v e in
         subst (λ n. n ≤ top) (get_or_from_slice_get f.cells (y * f.width + x) v 0 e) (all (y * f.width + x) 0 lt)
 
-window_below : (w : SourceWindow) → IsBounded w → IsBelow w.maxval (seen_at w.view)
+pub window_below : (w : SourceWindow) → IsBounded w → IsBelow w.maxval (seen_at w.view)
 window_below w all column row v e = raster_below w.maxval (raster w.view.place.width w.view.place.height w.view.cells) all (column -ℤ pos w.view.place.x) (row -ℤ pos w.view.place.y) v e
 
 -- each source is bounded, also one that is not there
-window_bounded : (ws : List SourceWindow) (k : ℕ) → AllByRecursion IsBounded ws → IsBounded (window_at ws k)
+pub window_bounded : (ws : List SourceWindow) (k : ℕ) → AllByRecursion IsBounded ws → IsBounded (window_at ws k)
 window_bounded [] k all = λ i d lt. absurd (omega arith)
 window_bounded (w ∷ ws) zero all = all.0
 window_bounded (w ∷ ws) (suc k) all = window_bounded ws k all.1
 
-here_below : (top : ℕ) (f : Sight ℕ) (x y : ℕ) → IsBelow top f → here f x y ≤ top
+pub here_below : (top : ℕ) (f : Sight ℕ) (x y : ℕ) → IsBelow top f → here f x y ≤ top
 here_below top f x y below = go (f (pos x) (pos y)) (λ v e. below (pos x) (pos y) v e)
   where
     go : (o : Option ℕ) → ((v : ℕ) → o ≡ Some v → v ≤ top) → unwrap_or o 0 ≤ top

@@ -1,5 +1,6 @@
 -- What a task makes.
 use Rattle.std.specs.Prelude.{◌≡◌, ℕ, ◌≤◌, true, false, List, [], ◌∷◌}
+use Rattle.std.specs.Arc.{arc_value}
 use Rattle.mw_model.specs.declared.places.Rect.{Rect}
 use Rattle.mw_model.specs.declared.shapes.Kind.{Kind}
 use Rattle.mw_model.specs.Pictures.{Picture}
@@ -14,9 +15,9 @@ use Rattle.mw_task.specs.declared.made.Made.TheVariants.{Bits, Grey8, Grey16, Nu
 
 -- the plane is this image, in samples of the size that its maxval wants
 abbrev pub HoldsImage : Picture → Made → Type 0
-HoldsImage f (Bits p) = f ≡ set_of p
-HoldsImage f (Grey8 p maxval) = (f ≡ grey_of p maxval) × (1 ≤ maxval)
-HoldsImage f (Grey16 p maxval) = (f ≡ grey_of p maxval) × (256 ≤ maxval)
+HoldsImage f (Bits p) = f ≡ set_of (arc_value p)
+HoldsImage f (Grey8 p maxval) = (f ≡ grey_of (arc_value p) maxval) × (1 ≤ maxval)
+HoldsImage f (Grey16 p maxval) = (f ≡ grey_of (arc_value p) maxval) × (256 ≤ maxval)
 HoldsImage f (Number n) = ⊥
 
 -- the number is the only one of the list

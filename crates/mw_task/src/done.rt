@@ -108,7 +108,7 @@ impl TileDone {
         self.made
     }
 
-    /// The image that was made of the tile: of a task for a whole frame, the plane of its step.
+    /// The image that was made of the tile, which owns what was made: of a task for a whole frame, the plane of its step.
     pub fn into_image(self) -> Image
         requires plane { is_sum self.step ≡ false }
         requires bounded { AllByRecursion IsBounded self.windows }

@@ -77,6 +77,26 @@ impl<P: Pixel> Window<P> {
         Window::of_held(HeldPlane::sharing(plane))
     }
 
+    /// The window of a rectangle of a larger frame, as one of the owners of its samples.
+    pub fn standing(
+        frame_width: u32,
+        frame_height: u32,
+        place: Rect,
+        plane: Arc<Plane<P>>,
+    ) -> Window<P>
+        requires within { IsWithin place frame_width frame_height }
+        requires width { (arc_value plane).width ≡ place.width }
+        requires height { (arc_value plane).height ≡ place.height }
+        ensures { result ≡ view_of frame_width frame_height place (arc_value plane).cells }
+    {
+        Window {
+            frame_width,
+            frame_height,
+            place,
+            held: HeldPlane::sharing(plane),
+        }
+    }
+
     fn of_held(held: HeldPlane<P>) -> Window<P>
         ensures value { result ≡ stood_at held (whole_of held) held }
         ensures cut { IsCut result held }

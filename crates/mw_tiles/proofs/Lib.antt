@@ -1,4 +1,10 @@
-pub mod Sides
-pub mod Numbers
+-- what other crates may cite
 pub mod Made
-pub mod Joined
+pub mod Filled
+pub mod Numbers
+pub mod TileTotals
+-- the crate's own
+mod Sides
+mod Joined
+mod Compared
+mod Whole

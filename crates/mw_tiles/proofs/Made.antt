@@ -39,7 +39,7 @@ cut_of_drawn k m w h value r within =
           ∙ sym (slice_get-samples f size (r.x + i) (r.y + j) (omega arith) (omega arith));
     }
 
-shows_drawn : (k : Kind) (m : ℕ) (value : ℕ → ℕ → ℕ) (g : Tiling) (tiles : List (Option (List ℕ))) → HasTiles g
+pub shows_drawn : (k : Kind) (m : ℕ) (value : ℕ → ℕ → ℕ) (g : Tiling) (tiles : List (Option (List ℕ))) → HasTiles g
     → ((i : ℕ) (cells : List ℕ) → i < tile_count g → tile_cells tiles i ≡ Some cells → cells ≡ cells_in (tile_at g i) value) → ShowsTiles g tiles (raster_of (drawn k g.width g.height m value))
 shows_drawn k m value g tiles has made = record {
   width = refl;

@@ -64,7 +64,7 @@ run_of_tile {A} g tiles t i x y r row r-is lt found stands holds fits row-is f s
     back_across x a k le = omega arith
 
 -- the tile that was read from the list
-found_at : {A : Type 0} (g : Tiling) (tiles : List (Option (Raster A))) (i : ℕ) (o : Option (Raster A)) (t p : Raster A) → HasSides g tiles → o ≡ get_or tiles i o → o ≡ Some t → p ≡ t → i < tile_count g → get_or tiles i None ≡ Some p
+pub found_at : {A : Type 0} (g : Tiling) (tiles : List (Option (Raster A))) (i : ℕ) (o : Option (Raster A)) (t p : Raster A) → HasSides g tiles → o ≡ get_or tiles i o → o ≡ Some t → p ≡ t → i < tile_count g → get_or tiles i None ≡ Some p
 found_at g tiles i o t p has read is p-is lt = get_or_default tiles i None o (let count = has.count in omega arith) ∙ sym read ∙ is ∙ ap Some (sym p-is)
 
 pub stands_at : {A : Type 0} (g : Tiling) (tiles : List (Option (Raster A))) (i : ℕ) (o : Option (Raster A)) (t p : Raster A) (r : Rect) → HasSides g tiles → o ≡ get_or tiles i o → o ≡ Some t → p ≡ t → r ≡ tile_at g i → i < tile_count g

@@ -1,5 +1,5 @@
 -- Lists of tiles, some of which are missing.
-use Rattle.std.proofs.Common.{◌≡◌, ℕ, zero, suc, List, [], ◌∷◌, map, set, length, replicate, Option, Some, None, get_or, true, false, refl, sym, ap, subst, ◌∙◌}
+use Rattle.std.proofs.Common.{◌≡◌, ℕ, zero, suc, ◌*◌, ◌≤◌, All, List, [], ◌∷◌, ◌++◌, map, set, take, drop, length, replicate, Option, Some, None, get_or, true, false, refl, sym, ap, subst, ◌∙◌}
 use Rattle.std.specs.Option.{option_map}
 use Rattle.std.specs.Prelude.{IsSome, IfSome}
 use Rattle.std.proofs.Math.ListN.{get_or-map}
@@ -8,9 +8,15 @@ use Rattle.mw_grid.specs.Grids.{Tiling, tile_count, tile_at}
 use Rattle.mw_model.specs.declared.shapes.Kind.{Kind}
 use Rattle.mw_model.specs.declared.shapes.Kind.TheVariants as kind
 use Rattle.mw_model.specs.Pictures.{FitsKind}
-use Rattle.std.proofs.lemmas.List.{length-replicate}
-use Rattle.mw_tiles.specs.Tiles.{Tiled, nothing_placed, cells_of, tile_cells, cells_in_raster, StandsIn, HasSides}
-use Rattle.mw_tiles.specs.Held.{tiled}
+use Rattle.std.proofs.lemmas.List.{length-replicate, length-set}
+use Rattle.std.proofs.lemmas.Option.{same_Some}
+use Rattle.mw_tiles.specs.Tiles.{Tiled, nothing_placed, cells_of, tile_cells, cells_in_raster, StandsIn, HasSides, HasSizes, AreBounded, IsSound}
+use Rattle.mw_grid.proofs.Tiles.{HasTiles}
+use Rattle.mw_tiles.specs.Held.{tiled, tiled_held, image_of_tile, IsHeld}
+use Rattle.mw_tiles.specs.Sums.{alone, summed}
+use Rattle.mw_tiles.specs.declared.tile.Tile.{Tile}
+use Rattle.mw_tiles.specs.declared.plane.Samples.{Samples}
+use Rattle.mw_tiles.specs.declared.plane.Samples.TheVariants.{Bits, Grey8, Grey16}
 
 -- a plane of these cells
 abbrev with_cells : Kind → ℕ → Tiling → List (Option (List ℕ)) → Tiled
@@ -48,14 +54,9 @@ one_of P (x ∷ xs) zero (suc j) v d here there = there
 one_of P (x ∷ xs) (suc i) zero v d here there = there
 one_of P (x ∷ xs) (suc i) (suc j) v d here there = one_of (λ n a. P (suc n) a) xs i j v d here there
 
-length_set : {A : Type 0} (xs : List A) (i : ℕ) (v : A) → length (set xs i v) ≡ length xs
-length_set [] i v = refl
-length_set (x ∷ xs) zero v = refl
-length_set (x ∷ xs) (suc i) v = ap suc (length_set xs i v)
-
 pub sides_set : {A : Type 0} (g : Tiling) (tiles : List (Option (Raster A))) (i : ℕ) (t : Option (Raster A)) → HasSides g tiles → IfSome t (StandsIn (tile_at g i)) → HasSides g (set tiles i t)
 sides_set {A} g tiles i t has fits = record {
-  count = length_set tiles i t ∙ has.count;
+  count = length-set tiles i t ∙ has.count;
   sides = λ j. one_of (λ j o. (f : Raster A) → o ≡ Some f → StandsIn (tile_at g j) f) tiles i j t None (λ f e. given t f fits e) (has.sides j);
 }
   where
@@ -69,6 +70,31 @@ sides_none {A} g tiles n tiles-is n-is = record {
       let none : get_or tiles i None ≡ None = ap (λ (t : List (Option (Raster A))). get_or t i None) tiles-is ∙ none_in_replicate n i None refl in
       let clash : None ≡ Some f = sym none ∙ e in absurd cc;
 }
+
+-- of no tile a sample is over the level
+bounded_none : (level : ℕ) (tiles : List (Option (Raster ℕ))) (n : ℕ) → tiles ≡ replicate n None → AreBounded level (cells_of tiles)
+bounded_none level tiles n tiles-is i cells found =
+    let none : tile_cells (cells_of tiles) i ≡ None =
+    get_or-map (option_map cells_in_raster) tiles i None ∙ ap (λ (t : List (Option (Raster ℕ))). option_map cells_in_raster (get_or t i None)) tiles-is ∙ ap (option_map cells_in_raster) (none_in_replicate n i None refl)
+    in
+    let clash : None ≡ Some cells = sym none ∙ found in absurd cc
+
+pub held_none : (level : ℕ) (g : Tiling) (tiles : List (Option (Raster ℕ))) (n : ℕ) → tiles ≡ replicate n None → n ≡ tile_count g → HasSides g tiles × AreBounded level (cells_of tiles)
+held_none level g tiles n tiles-is n-is = (sides_none g tiles n tiles-is n-is, bounded_none level tiles n tiles-is)
+
+-- a tile was written, or dropped
+pub bounded_set : (level : ℕ) (tiles new : List (Option (List ℕ))) (i : ℕ) (o : Option (List ℕ)) → new ≡ set tiles i o → IfSome o (λ cells. All (λ n. n ≤ level) cells) → AreBounded level tiles → AreBounded level new
+bounded_set level tiles new i o new-is fits before =
+    subst (AreBounded level) (sym new-is) (λ j. one_of (λ j o. (cells : List ℕ) → o ≡ Some cells → All (λ n. n ≤ level) cells) tiles i j o None (λ cells e. subst (λ (o : Option (List ℕ)). IfSome o (λ cells. All (λ n. n ≤ level) cells)) e fits) (before j))
+
+-- the cells that a tile has fill it
+pub sizes_of_sides : {A : Type 0} (g : Tiling) (tiles : List (Option (Raster A))) → HasSides g tiles → HasSizes g (cells_of tiles)
+sizes_of_sides {A} g tiles has i cells lt found =
+    go (get_or tiles i None) refl (sym (get_or-map (option_map cells_in_raster) tiles i None) ∙ found)
+  where
+    go : (o : Option (Raster A)) → get_or tiles i None ≡ o → option_map cells_in_raster o ≡ Some cells → length cells ≡ (tile_at g i).height * (tile_at g i).width
+    go None is e = let clash : None ≡ Some cells = e in absurd cc
+    go (Some t) is e = ap length (sym (same_Some t.cells cells e)) ∙ (has.sides i t is).size
 
 -- a plane without tiles
 none_held : (k : Kind) (maxval : ℕ) (g : Tiling) (tiles : List (Option (Raster ℕ))) (n : ℕ) → tiles ≡ replicate n None → n ≡ tile_count g → tiled k maxval g tiles ≡ nothing_placed k maxval g
@@ -88,3 +114,35 @@ pub written_held : (k : Kind) (maxval : ℕ) (g : Tiling) (tiles new : List (Opt
     → tiled k maxval g new ≡ record p { tiles = set p.tiles i o }
 written_held k maxval g tiles new i o p view e =
     subst (λ (q : Tiled). tiled k maxval g new ≡ record q { tiles = set q.tiles i o }) view (ap (λ (t : List (Option (List ℕ))). with_cells k maxval g t) e)
+
+-- what is held is sound
+pub sound_held : (g : Tiling) (s : Samples) → HasTiles g → IsHeld g s → IsSound (tiled_held g s)
+sound_held g (Bits tiles) has held = record { wide = has.wide; high = has.high; some = has.some; sizes = sizes_of_sides g tiles.items held.0; bounded = held.1 }
+sound_held g (Grey8 tiles m) has held = record { wide = has.wide; high = has.high; some = has.some; sizes = sizes_of_sides g tiles.items held.0; bounded = held.1 }
+sound_held g (Grey16 tiles m) has held = record { wide = has.wide; high = has.high; some = has.some; sizes = sizes_of_sides g tiles.items held.0; bounded = held.1 }
+
+-- all of a list that is read back over the old one
+written_all : {A : Type 0} (n k : ℕ) (new old : List A) → n ≡ length new → take n (new ++ drop k old) ≡ new
+written_all n k [] old e = ap (λ (m : ℕ). take m ([] ++ drop k old)) e
+written_all n k (x ∷ xs) old e = ap (λ (m : ℕ). take m (x ∷ (xs ++ drop k old))) e ∙ ap (λ (t : List _). x ∷ t) (written_all (length xs) k xs old refl)
+
+-- a list of tiles after one was written, or dropped
+pub held_write : (level n i : ℕ) (g : Tiling) (old new : List (Option (Raster ℕ))) (o : Option (List ℕ)) → n ≡ length old → HasSides g old → HasSides g new → cells_of new ≡ set (cells_of old) i o → IfSome o (λ cells. All (λ n. n ≤ level) cells)
+    → AreBounded level (cells_of old) → HasSides g (take n (new ++ drop (length new) old)) × AreBounded level (cells_of (take n (new ++ drop (length new) old)))
+held_write level n i g old new o n-is had has new-is fits before =
+    let all : take n (new ++ drop (length new) old) ≡ new = written_all n (length new) new old (n-is ∙ had.count ∙ sym has.count) in
+    (subst (HasSides g) (sym all) has, subst (λ (t : List (Option (Raster ℕ))). AreBounded level (cells_of t)) (sym all) (bounded_set level (cells_of old) (cells_of new) i o new-is fits before))
+
+-- the samples of a tile that may be placed
+pub bounded_tile : (t : Tile) (level : ℕ) (cells : List ℕ) → All (λ s. s ≤ (image_of_tile t).maxval) (image_of_tile t).samples → (image_of_tile t).samples ≡ cells → (image_of_tile t).maxval ≡ level → All (λ n. n ≤ level) cells
+bounded_tile t level cells all cells-is level-is = subst (λ (m : ℕ). All (λ n. n ≤ m) cells) level-is (subst (λ (c : List ℕ). All (λ n. n ≤ (image_of_tile t).maxval) c) cells-is all)
+
+-- numbers without any, and after one was written
+pub summed_none : (k : Kind) (maxval n : ℕ) (g : Tiling) (numbers : List (Option ℕ)) → numbers ≡ replicate n None → n ≡ tile_count g → summed k maxval g numbers ≡ nothing_placed k maxval g
+summed_none k maxval n g numbers numbers-is n-is =
+    ap (λ (t : List (Option (List ℕ))). with_cells k maxval g t) (ap (λ (t : List (Option ℕ)). map (option_map alone) t) numbers-is ∙ map_replicate (option_map alone) n None ∙ ap (λ (m : ℕ). replicate m None) n-is)
+
+pub summed_set : (k : Kind) (maxval i n : ℕ) (g : Tiling) (numbers : List (Option ℕ)) (p : Tiled) → summed k maxval g numbers ≡ p → summed k maxval g (set numbers i (Some n)) ≡ record p { tiles = set p.tiles i (Some (n ∷ [])) }
+summed_set k maxval i n g numbers p view =
+    subst (λ (q : Tiled). summed k maxval g (set numbers i (Some n)) ≡ record q { tiles = set q.tiles i (Some (n ∷ [])) }) view
+    (ap (λ (t : List (Option (List ℕ))). with_cells k maxval g t) (map_set (option_map alone) numbers i (Some n)))

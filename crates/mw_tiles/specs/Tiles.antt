@@ -1,5 +1,5 @@
 -- Planes that are made tile by tile: what is placed of one, and of which whole planes that is a part (own).
-use Rattle.std.specs.Prelude.{◌≡◌, ℕ, ◌+◌, ◌*◌, ◌<◌, ◌≤◌, ◌++◌, List, length, map, replicate, Option, Some, None, IsSome, option_map, slice_get, slice_index_or}
+use Rattle.std.specs.Prelude.{◌≡◌, ℕ, ◌+◌, ◌*◌, ◌<◌, ◌≤◌, ◌++◌, All, List, length, map, sum, replicate, Option, Some, None, IsSome, option_map, slice_get, slice_index, slice_index_or}
 use Rattle.mw_model.specs.declared.places.Rect.{Rect}
 use Rattle.mw_model.specs.declared.shapes.Kind.{Kind}
 use Rattle.mw_model.specs.Places.{Holds}
@@ -38,11 +38,33 @@ cells_of tiles = map (option_map cells_in_raster) tiles
 pub record StandsIn {A : Type 0} (r : Rect) (f : Raster A) : Type 0 where
   pub width : f.width ≡ r.width
   pub height : f.height ≡ r.height
+  pub size : length f.cells ≡ r.height * r.width
 
 -- each tile of the grid has a place in the list, and each that is placed has its sides
 pub record HasSides {A : Type 0} (g : Tiling) (tiles : List (Option (Raster A))) : Type 0 where
   pub count : length tiles ≡ tile_count g
   pub sides : (i : ℕ) (f : Raster A) → slice_index_or tiles i None ≡ Some f → StandsIn (tile_at g i) f
+
+-- the cells of each tile that is placed fill its rectangle
+abbrev pub HasSizes : {A : Type 0} → Tiling → List (Option (List A)) → Type 0
+HasSizes g tiles = (i : ℕ) (cells : List _) → i < tile_count g → tile_cells tiles i ≡ Some cells → length cells ≡ (tile_at g i).height * (tile_at g i).width
+
+-- no cell that is placed is over this level
+abbrev pub AreBounded : ℕ → List (Option (List ℕ)) → Type 0
+AreBounded level tiles = (i : ℕ) (cells : List ℕ) → tile_cells tiles i ≡ Some cells → All (λ n. n ≤ level) cells
+
+-- what is so of every plane that is made tile by tile: it has a frame and tiles, each that is placed fills its rectangle, and no sample is over the maxval
+pub record IsSound (p : Tiled) : Type 0 where
+  pub wide : 1 ≤ p.tiling.width
+  pub high : 1 ≤ p.tiling.height
+  pub some : 1 ≤ p.tiling.side
+  pub sizes : HasSizes p.tiling p.tiles
+  pub bounded : AreBounded p.maxval p.tiles
+
+-- every tile is placed
+pub record AllPlaced (p : Tiled) : Type 0 where
+  pub count : length p.tiles ≡ tile_count p.tiling
+  pub each : (i : ℕ) → i < tile_count p.tiling → IsSome (tile_cells p.tiles i)
 
 -- the tiles that are placed are what this whole frame has there
 pub record ShowsTiles {A : Type 0} (g : Tiling) (tiles : List (Option (List A))) (f : Raster A) : Type 0 where
@@ -62,6 +84,10 @@ HasAll g tiles r = (x y : ℕ) → Holds r x y → HasAt g tiles x y
 abbrev pub HasRun : {A : Type 0} → Raster A → ℕ → ℕ → List A → Type 0
 HasRun f x y row = (k : ℕ) → k < length row → slice_get row k ≡ slice_get f.cells (y * f.width + (x + k))
 
+-- the cells are what the frame has in the rectangle, by rows
+abbrev pub HasCells : {A : Type 0} → Raster A → Rect → List A → Type 0
+HasCells f r cells = (i j : ℕ) → i < r.width → j < r.height → slice_get cells (j * r.width + i) ≡ slice_get f.cells ((r.y + j) * f.width + (r.x + i))
+
 -- this image is one of those of which the plane is a part: it is of the plane's kind, maxval and frame, and has in each tile that is placed the cells that are placed
 pub record IsPlaneOf (p : Tiled) (f : Picture) : Type 0 where
   pub size : length f.samples ≡ f.height * f.width
@@ -78,13 +104,22 @@ abbrev pub HasAlong : {A : Type 0} → Tiling → List (Option (List A)) → ℕ
 HasAlong g tiles x y end = (k : ℕ) → x ≤ k → k < end → HasAt g tiles k y
 
 -- the new cells are the old and behind them n more, which each whole frame with these tiles has from column x of row y on
-pub record Appends {A : Type 0} (g : Tiling) (tiles : List (Option (List A))) (x y n : ℕ) (old new : List A) : Type 0 where
+pub record HasRowMore {A : Type 0} (g : Tiling) (tiles : List (Option (List A))) (x y n : ℕ) (old new : List A) : Type 0 where
   pub row : List A
   pub is : new ≡ old ++ row
   pub size : length row ≡ n
   pub shows : (f : Raster A) → ShowsTiles g tiles f → HasRun f x y row
 
 -- a list has the first rows of a rectangle of each whole frame with these tiles
-pub record Begins {A : Type 0} (g : Tiling) (tiles : List (Option (List A))) (r : Rect) (y : ℕ) (cells : List A) : Type 0 where
+pub record HasFirstRows {A : Type 0} (g : Tiling) (tiles : List (Option (List A))) (r : Rect) (y : ℕ) (cells : List A) : Type 0 where
   pub size : length cells ≡ y * r.width
   pub shows : (f : Raster A) → ShowsTiles g tiles f → (i j : ℕ) → i < r.width → j < y → slice_get cells (j * r.width + i) ≡ slice_get f.cells ((r.y + j) * f.width + (r.x + i))
+
+-- the first cell of a tile that is placed, or 0
+abbrev pub first_cell : Option (List ℕ) → ℕ
+first_cell None = 0
+first_cell (Some cells) = slice_index cells 0
+
+-- the number that the numbers of the tiles add up to
+abbrev pub number_in : Tiled → ℕ
+number_in p = sum (map first_cell p.tiles)

@@ -5,19 +5,26 @@
 //! plane.place(0, Tile::Grey8(samples, 255));
 //! // once each tile that meets the rectangle is placed:
 //! let window = plane.window(alloc, rect)?;
+//! let unchanged = plane.matches(rect, &window);
 //! plane.drop_tile(0);
 //! ```
 #![tactic(auto)]
 
+mod equal;
 mod laws;
 mod parts;
+mod placed;
 mod plane;
 mod rows;
+mod shown;
 mod slots;
+mod sums;
 mod tile;
 
-pub use laws::tiles_are_plane;
+pub use laws::{plane_is_of_an_image, tile_sums_are_sum_of_plane, tiles_are_plane};
 pub use mw_grid::Grid;
 pub use mw_model::{Kind, NoMemory, Rect};
 pub use plane::TiledPlane;
+pub use shown::WholePlane;
+pub use sums::TileSums;
 pub use tile::Tile;

@@ -1,14 +1,17 @@
 //! Rows of a plane, read tile by tile.
 
-ghost use Rattle.std.specs.Prelude.{◌≡◌, ℕ, ◌+◌, ◌-◌, ◌*◌, ◌<◌, ◌≤◌, length, slice_range};
+ghost use Rattle.std.specs.Prelude.{◌≡◌, ℕ, ◌+◌, ◌-◌, ◌*◌, ◌<◌, ◌≤◌, IfSome, length, slice_range};
 ghost use Rattle.mw_model.specs.Rasters.{Raster};
 ghost use Rattle.mw_model.specs.Places.{Holds};
 ghost use Rattle.mw_grid.specs.Grids.{tile_at, tile_count};
+ghost use Rattle.mw_tile.specs.Windows.{IsCut};
+ghost use Rattle.mw_tile.specs.Cuts.{view_of};
 ghost use Rattle.mw_tiles.specs.Tiles.{cells_of, HasAt, HasRun, HasSides, ShowsTiles, StandsIn};
 
+use crate::placed::Placed;
 use mw_grid::Grid;
 use mw_model::Rect;
-use mw_pixel::{HeldPlane, Pixel, Plane};
+use mw_pixel::{Pixel, Plane};
 
 /// The number of the tile that has column x of row y.
 fn tile_number(grid: Grid, x: u32, y: u32) -> u32
@@ -22,10 +25,33 @@ fn tile_number(grid: Grid, x: u32, y: u32) -> u32
     y / side * columns + x / side
 }
 
+/// The tile that the rectangle is, if it is one, and placed.
+pub(crate) fn whole_tile<P: Pixel>(
+    grid: Grid,
+    tiles: &[Option<Placed<P>>],
+    rect: Rect,
+) -> Option<&Placed<P>>
+    requires { HasSides grid tiles.now }
+    ensures stands { IfSome result (λ t. StandsIn rect t.now) }
+    ensures value { IfSome result (λ t. (f : Raster P) → ShowsTiles grid (cells_of tiles.now) f → IsCut (view_of grid.width grid.height rect t.now.cells) f) }
+{
+    if rect.x >= grid.width() || rect.y >= grid.height() {
+        return None;
+    }
+    let i = tile_number(grid, rect.x, rect.y);
+    if grid.rect(i) != rect {
+        return None;
+    }
+    match &tiles[i as usize] {
+        Some(placed) => Some(placed),
+        None => None,
+    }
+}
+
 /// The samples of row y from column x to the end of the tile there, or to column `end` if that comes first.
 pub(crate) fn part<P: Pixel>(
     grid: Grid,
-    tiles: &[Option<HeldPlane<P>>],
+    tiles: &[Option<Placed<P>>],
     x: u32,
     y: u32,
     end: u32,
@@ -43,7 +69,7 @@ pub(crate) fn part<P: Pixel>(
     let i = tile_number(grid, x, y);
     let tile = grid.rect(i);
     match &tiles[i as usize] {
-        Some(held) => part_in(tile, held.plane(), x, y, end),
+        Some(placed) => part_in(tile, placed.plane(), x, y, end),
         None => &[],
     }
 }

@@ -1,20 +1,22 @@
 //! Planes that are made tile by tile.
 
 use crate::Tile;
-use crate::rows::joined;
-use crate::slots::{no_tiles, put};
+use crate::equal::is_joined;
+use crate::placed::Placed;
+use crate::rows::{joined, shared_plane};
+use crate::slots::{no_tiles, put, share_tiles};
 use mw_grid::Grid;
 use mw_model::{Kind, NoMemory, Rect};
-use mw_pixel::{Bit, HeldPlane};
-use mw_tile::AnyWindow;
+use mw_pixel::{Bit, Image};
+use mw_tile::{AnyWindow, WindowView};
 use std::alloc::Global;
 use std::marker::Model;
 
 #[derive(Drop)]
 enum Samples {
-    Bits(Vec<Option<HeldPlane<Bit>>>),
-    Grey8(Vec<Option<HeldPlane<u8>>>, u8),
-    Grey16(Vec<Option<HeldPlane<u16>>>, u16),
+    Bits(Vec<Option<Placed<Bit>>>),
+    Grey8(Vec<Option<Placed<u8>>>, u8),
+    Grey16(Vec<Option<Placed<u16>>>, u16),
 }
 
 /// A plane of one kind and maxval on a frame that is cut into tiles. Each tile is placed once it is made, and dropped
@@ -38,17 +40,17 @@ impl Model for TiledPlane {
 }
 
 impl TiledPlane {
-    ghost use Rattle.std.specs.Prelude.{◌≡◌, ◌<◌, IfOk, None, Some, slice_set};
-    ghost use Rattle.mw_model.specs.Pictures.{FitsKind};
-    ghost use Rattle.mw_grid.specs.Grids.{tile_at, tile_count};
-    ghost use Rattle.mw_model.specs.Pictures.{Picture};
+    ghost use Rattle.std.specs.Prelude.{◌≡◌, ◌↔◌, ◌<◌, ◌≤◌, All, IfOk, IsTrue, None, Some, slice_set};
+    ghost use Rattle.mw_model.specs.Pictures.{FitsKind, Picture};
     ghost use Rattle.mw_model.specs.Places.{IsWithin};
+    ghost use Rattle.mw_grid.specs.Grids.{tile_at, tile_count};
     ghost use Rattle.mw_tile.specs.Windows.{window_of};
-    ghost use Rattle.mw_tiles.specs.Tiles.{HasAll, IsPlaneOf, nothing_placed, tile_cells};
+    ghost use Rattle.mw_task.specs.WindowTasks.{IsBounded};
+    ghost use Rattle.mw_tiles.specs.Tiles.{AllPlaced, HasAll, IsPlaneOf, IsSound, nothing_placed, tile_cells};
     ghost use Rattle.mw_tiles.specs.Held.{image_of_tile, IsTile};
 
     /// The plane without any tile, with the places for all.
-    #[tactic(auto, using(crate::proofs::Sides::no_sets, crate::proofs::Sides::sides_none))]
+    #[tactic(auto, using(crate::proofs::Sides::no_sets))]
     pub fn new(alloc: Global, kind: Kind, maxval: u16, grid: Grid) -> Result<TiledPlane, NoMemory>
         requires { FitsKind kind maxval }
         ensures { IfOk result (λ p. p ≡ nothing_placed kind maxval grid) }
@@ -111,6 +113,7 @@ impl TiledPlane {
         requires within { i < tile_count self.old.tiling }
         requires free { tile_cells self.old.tiles i ≡ None }
         requires tile { IsTile tile }
+        requires bounded { All (λ s. s ≤ (image_of_tile tile).maxval) (image_of_tile tile).samples }
         requires kind { (image_of_tile tile).kind ≡ self.old.kind }
         requires maxval { (image_of_tile tile).maxval ≡ self.old.maxval }
         requires width { (image_of_tile tile).width ≡ (tile_at self.old.tiling i).width }
@@ -121,24 +124,44 @@ impl TiledPlane {
         match tile {
             Tile::Bits(plane) => {
                 if let Samples::Bits(tiles) = &mut self.content {
-                    put(grid, tiles, i, Some(plane));
+                    put(grid, tiles, i, Some(Placed::new(plane)));
                 }
             }
             Tile::Grey8(plane, _) => {
                 if let Samples::Grey8(tiles, _) = &mut self.content {
-                    put(grid, tiles, i, Some(plane));
+                    put(grid, tiles, i, Some(Placed::new(plane)));
                 }
             }
             Tile::Grey16(plane, _) => {
                 if let Samples::Grey16(tiles, _) = &mut self.content {
-                    put(grid, tiles, i, Some(plane));
+                    put(grid, tiles, i, Some(Placed::new(plane)));
                 }
             }
         }
     }
 
-    /// The window of a rectangle, put together from the tiles that meet it.
+    /// What is so of each plane: a call that is made only for this fact.
+    pub(crate) fn sound(&self)
+        ensures { IsSound self.now }
+    {
+        let _width = self.grid.width();
+        let _height = self.grid.height();
+        let _side = self.grid.side();
+    }
+
+    /// The window of a rectangle. Where that is a tile, the window is one more owner of the tile's samples; else it is put
+    /// together from the tiles that meet it.
     pub fn window(&self, alloc: Global, rect: Rect) -> Result<AnyWindow, NoMemory>
+        requires within { IsWithin rect self.now.tiling.width self.now.tiling.height }
+        requires placed { HasAll self.now.tiling self.now.tiles rect }
+        ensures same { IfOk result (λ w. (f : Picture) → IsPlaneOf self.now f → w ≡ window_of rect f) }
+        ensures bounded { IfOk result IsBounded }
+    {
+        self.sound();
+        Ok(self.put_together(alloc, rect)?)
+    }
+
+    fn put_together(&self, alloc: Global, rect: Rect) -> Result<AnyWindow, NoMemory>
         requires within { IsWithin rect self.now.tiling.width self.now.tiling.height }
         requires placed { HasAll self.now.tiling self.now.tiles rect }
         ensures { IfOk result (λ w. (f : Picture) → IsPlaneOf self.now f → w ≡ window_of rect f) }
@@ -156,6 +179,81 @@ impl TiledPlane {
             Samples::Grey16(tiles, maxval) => {
                 let window = joined(alloc, grid, tiles, rect)?;
                 Ok(AnyWindow::grey16(window, *maxval))
+            }
+        }
+    }
+
+    /// Whether a window is the plane's in a rectangle: of its kind, maxval and frame, and in that place with the same
+    /// samples. They are compared row part by row part, which takes no memory.
+    pub fn matches(&self, rect: Rect, window: &AnyWindow) -> bool
+        requires within { IsWithin rect self.now.tiling.width self.now.tiling.height }
+        requires placed { HasAll self.now.tiling self.now.tiles rect }
+        ensures same { (f : Picture) → IsPlaneOf self.now f → IsTrue result ↔ (window.now ≡ window_of rect f) }
+        ensures level { IsTrue result → (window.now.kind ≡ self.now.kind) × (window.now.maxval ≡ self.now.maxval) }
+        ensures bounded { IsTrue result → IsBounded window.now }
+    {
+        self.sound();
+        self.has_window(rect, window)
+    }
+
+    fn has_window(&self, rect: Rect, window: &AnyWindow) -> bool
+        requires within { IsWithin rect self.now.tiling.width self.now.tiling.height }
+        requires placed { HasAll self.now.tiling self.now.tiles rect }
+        ensures { (f : Picture) → IsPlaneOf self.now f → IsTrue result ↔ (window.now ≡ window_of rect f) }
+    {
+        let grid = self.grid;
+        match (&self.content, window.view()) {
+            (Samples::Bits(tiles), WindowView::Bits(w)) => is_joined(grid, tiles, rect, w),
+            (Samples::Grey8(tiles, m), WindowView::Grey8(w, n)) => {
+                *m == n && is_joined(grid, tiles, rect, w)
+            }
+            (Samples::Grey16(tiles, m), WindowView::Grey16(w, n)) => {
+                *m == n && is_joined(grid, tiles, rect, w)
+            }
+            _ => false,
+        }
+    }
+
+    /// The image in one piece, once every tile is placed.
+    pub fn image(&self, alloc: Global) -> Result<Image, NoMemory>
+        requires { AllPlaced self.now }
+        ensures { IfOk result (λ g. (f : Picture) → IsPlaneOf self.now f → g ≡ f) }
+    {
+        self.sound();
+        let grid = self.grid;
+        match &self.content {
+            Samples::Bits(tiles) => {
+                let plane = shared_plane(alloc, grid, tiles)?;
+                Ok(Image::bits(plane))
+            }
+            Samples::Grey8(tiles, maxval) => {
+                let plane = shared_plane(alloc, grid, tiles)?;
+                Ok(Image::grey8(plane, *maxval))
+            }
+            Samples::Grey16(tiles, maxval) => {
+                let plane = shared_plane(alloc, grid, tiles)?;
+                Ok(Image::grey16(plane, *maxval))
+            }
+        }
+    }
+
+    /// The same plane, as one more owner of each of its tiles.
+    pub fn share(&self, alloc: Global) -> Result<TiledPlane, NoMemory>
+        ensures { IfOk result (λ p. p ≡ self.now) }
+    {
+        let grid = self.grid;
+        match &self.content {
+            Samples::Bits(tiles) => {
+                let content = Samples::Bits(share_tiles(alloc, tiles)?);
+                Ok(TiledPlane { grid, content })
+            }
+            Samples::Grey8(tiles, maxval) => {
+                let content = Samples::Grey8(share_tiles(alloc, tiles)?, *maxval);
+                Ok(TiledPlane { grid, content })
+            }
+            Samples::Grey16(tiles, maxval) => {
+                let content = Samples::Grey16(share_tiles(alloc, tiles)?, *maxval);
+                Ok(TiledPlane { grid, content })
             }
         }
     }

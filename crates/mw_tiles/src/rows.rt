@@ -1,22 +1,26 @@
 //! Rectangles of a plane, put together from its tiles row part by row part.
 
-ghost use Rattle.std.specs.Prelude.{◌≡◌, ℕ, ◌+◌, ◌-◌, ◌<◌, ◌≤◌, IfOk};
+ghost use Rattle.std.specs.Prelude.{◌≡◌, ℕ, ◌+◌, ◌-◌, ◌*◌, ◌<◌, ◌≤◌, IfOk, length};
+ghost use Rattle.std.specs.Arc.{arc_value};
 ghost use Rattle.mw_model.specs.Places.{IsWithin};
 ghost use Rattle.mw_model.specs.Rasters.{Raster};
+ghost use Rattle.mw_grid.specs.Rectangles.{whole_frame};
 ghost use Rattle.mw_tile.specs.Windows.{IsCut};
-ghost use Rattle.mw_tiles.specs.Tiles.{Appends, cells_of, HasAll, HasAlong, HasSides, ShowsTiles};
+ghost use Rattle.mw_tiles.specs.Tiles.{cells_of, HasAll, HasAlong, HasFirstRows, HasRowMore, HasSides, ShowsTiles};
 
-use crate::parts::part;
-use mw_grid::Grid;
+use crate::parts::{part, whole_tile};
+use crate::placed::Placed;
+use mw_grid::{Grid, whole_frame};
 use mw_model::{NoMemory, Rect};
-use mw_pixel::{HeldPlane, Pixel};
+use mw_pixel::{Pixel, Plane};
 use mw_tile::Window;
 use std::alloc::Global;
+use std::sync::Arc;
 
 /// Appends the samples of row y from column x up to column `end`.
 fn push_row<P: Pixel>(
     grid: Grid,
-    tiles: &[Option<HeldPlane<P>>],
+    tiles: &[Option<Placed<P>>],
     samples: &mut Vec<P>,
     x: u32,
     y: u32,
@@ -27,7 +31,7 @@ fn push_row<P: Pixel>(
     requires across { end ≤ grid.width }
     requires down { y < grid.height }
     requires placed { HasAlong grid (cells_of tiles.now) x y end }
-    ensures { IfOk result (λ _. Appends grid (cells_of tiles.now) x y (end - x) samples.old.items samples.new.items) }
+    ensures { IfOk result (λ _. HasRowMore grid (cells_of tiles.now) x y (end - x) samples.old.items samples.new.items) }
 {
     let mut at = x;
     'parts: while at < end {
@@ -38,20 +42,20 @@ fn push_row<P: Pixel>(
     Ok(())
 }
 
-/// The window of a rectangle whose tiles are placed.
-pub(crate) fn joined<P: Pixel>(
+/// The samples of a rectangle whose tiles are placed, by rows.
+fn joined_samples<P: Pixel>(
     alloc: Global,
     grid: Grid,
-    tiles: &[Option<HeldPlane<P>>],
+    tiles: &[Option<Placed<P>>],
     rect: Rect,
-) -> Result<Window<P>, NoMemory>
+) -> Result<Vec<P>, NoMemory>
     requires sides { HasSides grid tiles.now }
     requires within { IsWithin rect grid.width grid.height }
     requires placed { HasAll grid (cells_of tiles.now) rect }
-    ensures place { IfOk result (λ w. w.place ≡ rect) }
-    ensures cut { IfOk result (λ w. (f : Raster P) → ShowsTiles grid (cells_of tiles.now) f → IsCut w f) }
+    ensures { IfOk result (λ v. HasFirstRows grid (cells_of tiles.now) rect rect.height v.items) }
 {
-    let (width, height) = (grid.width(), grid.height());
+    let _width = grid.width();
+    let _height = grid.height();
     let mut samples = Vec::with_capacity(alloc, rect.height as usize * rect.width as usize)?;
     for y in 0..rect.height {
         push_row(
@@ -63,5 +67,56 @@ pub(crate) fn joined<P: Pixel>(
             rect.x + rect.width,
         )?;
     }
+    Ok(samples)
+}
+
+/// The window of a rectangle whose tiles are placed. Where the rectangle is a tile, the window is one more owner of that
+/// tile's samples; else it has samples of its own.
+pub(crate) fn joined<P: Pixel>(
+    alloc: Global,
+    grid: Grid,
+    tiles: &[Option<Placed<P>>],
+    rect: Rect,
+) -> Result<Window<P>, NoMemory>
+    requires sides { HasSides grid tiles.now }
+    requires within { IsWithin rect grid.width grid.height }
+    requires placed { HasAll grid (cells_of tiles.now) rect }
+    ensures place { IfOk result (λ w. w.place ≡ rect) }
+    ensures cut { IfOk result (λ w. (f : Raster P) → ShowsTiles grid (cells_of tiles.now) f → IsCut w f) }
+{
+    let (width, height) = (grid.width(), grid.height());
+    if let Some(tile) = whole_tile(grid, tiles, rect) {
+        return Ok(Window::standing(width, height, rect, tile.owner()?));
+    }
+    let samples = joined_samples(alloc, grid, tiles, rect)?;
     Ok(Window::new(width, height, rect, samples))
+}
+
+/// The plane of a frame whose tiles are all placed.
+fn joined_plane<P: Pixel>(
+    alloc: Global,
+    grid: Grid,
+    tiles: &[Option<Placed<P>>],
+) -> Result<Plane<P>, NoMemory>
+    requires sides { HasSides grid tiles.now }
+    requires placed { HasAll grid (cells_of tiles.now) (whole_frame grid.width grid.height) }
+    ensures { IfOk result (λ p. (f : Raster P) → length f.cells ≡ f.height * f.width → ShowsTiles grid (cells_of tiles.now) f → p ≡ f) }
+{
+    let (width, height) = (grid.width(), grid.height());
+    let samples = joined_samples(alloc, grid, tiles, whole_frame(width, height))?;
+    Ok(Plane::new(width, height, samples))
+}
+
+/// The same plane, which others can own too.
+pub(crate) fn shared_plane<P: Pixel>(
+    alloc: Global,
+    grid: Grid,
+    tiles: &[Option<Placed<P>>],
+) -> Result<Arc<Plane<P>>, NoMemory>
+    requires sides { HasSides grid tiles.now }
+    requires placed { HasAll grid (cells_of tiles.now) (whole_frame grid.width grid.height) }
+    ensures { IfOk result (λ p. (f : Raster P) → length f.cells ≡ f.height * f.width → ShowsTiles grid (cells_of tiles.now) f → arc_value p ≡ f) }
+{
+    let plane = joined_plane(alloc, grid, tiles)?;
+    Ok(Arc::new(alloc, plane)?)
 }

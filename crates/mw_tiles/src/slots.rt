@@ -4,16 +4,17 @@ ghost use Rattle.std.specs.Prelude.{◌≡◌, ◌<◌, None, IfOk, IfSome, opti
 ghost use Rattle.mw_grid.specs.Grids.{tile_at, tile_count};
 ghost use Rattle.mw_tiles.specs.Tiles.{cells_in_raster, cells_of, HasSides, StandsIn};
 
+use crate::placed::Placed;
 use mw_grid::Grid;
 use mw_model::NoMemory;
-use mw_pixel::{HeldPlane, Pixel};
+use mw_pixel::Pixel;
 use std::alloc::Global;
 
 /// So many places without a tile.
 pub(crate) fn no_tiles<P: Pixel>(
     alloc: Global,
     count: usize,
-) -> Result<Vec<Option<HeldPlane<P>>>, NoMemory>
+) -> Result<Vec<Option<Placed<P>>>, NoMemory>
     ensures { IfOk result (λ v. v.items ≡ replicate count None) }
 {
     let mut tiles = Vec::with_capacity(alloc, count)?;
@@ -26,9 +27,9 @@ pub(crate) fn no_tiles<P: Pixel>(
 /// Writes a tile, or that there is none, over what stands in a place.
 pub(crate) fn put<P: Pixel>(
     grid: Grid,
-    tiles: &mut [Option<HeldPlane<P>>],
+    tiles: &mut [Option<Placed<P>>],
     i: u32,
-    tile: Option<HeldPlane<P>>,
+    tile: Option<Placed<P>>,
 )
     requires within { i < tile_count grid }
     requires sides { HasSides grid tiles.old }
@@ -37,4 +38,28 @@ pub(crate) fn put<P: Pixel>(
     ensures value { cells_of tiles.new ≡ slice_set (cells_of tiles.old) i (option_map cells_in_raster tile) }
 {
     tiles[i as usize] = tile;
+}
+
+/// One more owner of each tile, in the same places.
+pub(crate) fn share_tiles<P: Pixel>(
+    alloc: Global,
+    tiles: &[Option<Placed<P>>],
+) -> Result<Vec<Option<Placed<P>>>, NoMemory>
+    ensures { IfOk result (λ v. v.items ≡ tiles.now) }
+{
+    let mut shared = Vec::with_capacity(alloc, tiles.len())?;
+    for tile in tiles {
+        shared.push(share_tile(tile)?)?;
+    }
+    Ok(shared)
+}
+
+/// One more owner of a tile, if it is placed.
+fn share_tile<P: Pixel>(tile: &Option<Placed<P>>) -> Result<Option<Placed<P>>, NoMemory>
+    ensures { IfOk result (λ t. t ≡ tile.now) }
+{
+    match tile {
+        Some(placed) => Ok(Some(Placed::new(placed.owner()?))),
+        None => Ok(None),
+    }
 }

@@ -3,13 +3,13 @@
 ghost use Rattle.std.specs.Prelude.{◌≡◌, ◌++◌, OnOk, OnErr, Err, true};
 ghost use Rattle.mw_model.specs.Replies.{reply_text, handed_text, NoValue, ImageBytes, CurveText};
 ghost use Rattle.mw_wire.specs.Faults.{fault_line};
-ghost use Rattle.mw_wire.specs.Writes.{Wrote, EndsBy};
+ghost use Rattle.mw_wire.specs.Writes.{Wrote, EndsBy, EndedBy, told_text};
 
 use crate::fault::SessionFault;
 use crate::line::ReplyLine;
 use crate::reply::{curve_line, image_line, refusal_line, reply_line};
 use crate::sink::{Sink, send};
-use mw_model::{Code, End, Reply};
+use mw_model::{Code, End, NoMemory, Reply};
 use std::io::Write;
 
 /// Writes a reply that hands out no value. At `Err` a front of its text was written.
@@ -19,6 +19,21 @@ pub fn say<W: Write>(sink: &mut Sink<W>, reply: Reply) -> Result<(), SessionFaul
     ensures flag { OnErr result ((result ≡ Err SessionFault.Write) × (sink.new.failed ≡ true)) }
 {
     send(sink, reply_line(reply).as_bytes())
+}
+
+/// Writes the reply to a call that hands out no value, or that the call found no memory.
+pub fn say_told<W: Write>(
+    sink: &mut Sink<W>,
+    reply: Result<Reply, NoMemory>,
+) -> Result<(), SessionFault>
+    ensures wrote { Wrote (W.contents sink.old.inner) (W.contents sink.new.inner) (told_text reply) result }
+    ensures kept { OnOk result (sink.new.failed ≡ sink.old.failed) }
+    ensures flag { OnErr result ((result ≡ Err SessionFault.Write) × (sink.new.failed ≡ true)) }
+{
+    match reply {
+        Ok(reply) => say(sink, reply),
+        Err(NoMemory) => say(sink, Reply::Refused(Code::Memory)),
+    }
 }
 
 /// Writes the reply that hands out an image, and the bytes of the image, given in two parts.
@@ -79,6 +94,18 @@ pub fn end_by<W: Write>(sink: &mut Sink<W>, code: Code) -> Result<End, SessionFa
 {
     match send(sink, refusal_line(code).as_bytes()) {
         Ok(()) => Ok(End::Ended(code)),
+        Err(fault) => Err(fault),
+    }
+}
+
+/// Writes the refusal that ends a session, where it may also go on.
+pub fn end_within<W: Write>(sink: &mut Sink<W>, code: Code) -> Result<Option<End>, SessionFault>
+    ensures wrote { EndedBy (W.contents sink.old.inner) (W.contents sink.new.inner) code result }
+    ensures kept { OnOk result (sink.new.failed ≡ sink.old.failed) }
+    ensures flag { OnErr result ((result ≡ Err SessionFault.Write) × (sink.new.failed ≡ true)) }
+{
+    match end_by(sink, code) {
+        Ok(end) => Ok(Some(end)),
         Err(fault) => Err(fault),
     }
 }

@@ -6,6 +6,10 @@
 #![tactic(auto)]
 
 #[cfg(test)]
+mod boxes;
+#[cfg(test)]
 mod packed;
+#[cfg(test)]
+mod pairs;
 #[cfg(test)]
 mod words;

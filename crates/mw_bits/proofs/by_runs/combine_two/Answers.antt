@@ -14,8 +14,7 @@ returns-then-extra-gt0 g c = λ q d lt.
     let start = c.args.start in
     let extra = c.args.extra in
     let room = c.requires.room in
-    c.combine_from-then-extra-gt0.ensures q (omega (arith, c.combine_from.auto.out))
-    ∙ ap (λ (t : ℕ). f t (bit_of cells (start + extra + q))) (c.combine_from.ensures q lt)
+    c.combine_both.ensures q lt
     ∙ ap (λ (t : ℕ). f (f (bit_of out q) t) (bit_of cells (start + extra + q))) (sym (laid_bit cells (start + q) d (omega arith)))
     ∙ ap (f (f (bit_of out q) (get_or (laid_bits cells) (start + q) d))) (sym (laid_bit cells (start + extra + q) d (omega arith)))
 

@@ -1,17 +1,13 @@
-use Rattle.std.proofs.Common.{◌≡◌, suc, length, arith, ap}
+use Rattle.std.proofs.Common.{ap}
 use Rattle.mw_model.specs.PlanSteps.{Equal}
 use Rattle.mw_task.specs.Meanings.{meaning}
 use Rattle.mw_plan.specs.Seen.{source}
-use Rattle.mw_gran.proofs.OneMore.{with_step, pushed_count}
+use Rattle.mw_gran.proofs.OneMore.{with_step, thrice_count}
 use Rattle.mw_gran.proofs.Turns.{restoration_turn}
 use Rattle.mw_gran.proofs.restorations.turn.Goals as goal
 
 pub returns-clause-count : goal.returns-clause-count
-returns-clause-count c =
-    let first : length c.add.new.plan ≡ suc (length c.args.plan.now) = pushed_count _ _ _ _ _ c.in_ok-marked.ensures in
-    let second : length c.add-2.new.plan ≡ suc (length c.add.new.plan) = pushed_count _ _ _ _ _ c.in_ok-grown.ensures in
-    let third : length c.add-3.new.plan ≡ suc (length c.add-2.new.plan) = pushed_count _ _ _ _ _ c.in_ok-joined.ensures in
-    omega arith
+returns-clause-count c = thrice_count _ _ _ _ _ _ _ _ _ _ _ _ _ c.in_ok-marked.ensures c.in_ok-grown.ensures c.in_ok-joined.ensures
 
 pub returns-clause-restores : goal.returns-clause-restores
 returns-clause-restores c = λ b n m slides level at.

@@ -1,18 +1,14 @@
-use Rattle.std.proofs.Common.{◌≡◌, suc, ◌+◌, length, arith, ap, ◌∙◌}
+use Rattle.std.proofs.Common.{◌+◌, ap, ◌∙◌}
 use Rattle.mw_model.specs.declared.places.OffsetBox.{OffsetBox}
 use Rattle.mw_model.specs.PlanSteps.{ErodeBox, DilateBox}
 use Rattle.mw_plan.specs.Seen.{source}
 use Rattle.mw_gran.specs.Boxes.{multiplied}
-use Rattle.mw_gran.proofs.OneMore.{with_step, pushed_count}
+use Rattle.mw_gran.proofs.OneMore.{with_step, thrice_count}
 use Rattle.mw_gran.proofs.Turns.{box_turn}
 use Rattle.mw_gran.proofs.spectra.box_turn.Goals as goal
 
 pub returns-clause-count : goal.returns-clause-count
-returns-clause-count c =
-    let first : length c.add.new.plan ≡ suc (length c.args.plan.now) = pushed_count _ _ _ _ _ c.in_ok-eroded.ensures in
-    let second : length c.add-2.new.plan ≡ suc (length c.add.new.plan) = pushed_count _ _ _ _ _ c.in_ok-opened.ensures in
-    let third : length c.add-3.new.plan ≡ suc (length c.add-2.new.plan) = pushed_count _ _ _ _ _ c.in_ok-add.ensures in
-    omega arith
+returns-clause-count c = thrice_count _ _ _ _ _ _ _ _ _ _ _ _ _ c.in_ok-eroded.ensures c.in_ok-opened.ensures c.in_ok-add.ensures
 
 pub returns-clause-tells : goal.returns-clause-tells
 returns-clause-tells c = λ b fills holds tells.

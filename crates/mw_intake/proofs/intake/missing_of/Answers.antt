@@ -1,4 +1,4 @@
-use Rattle.std.proofs.Common.{◌≡◌, ◌++◌, ◌≤◌, ◌+◌, ℕ, List, length, take, drop, sym, arith, length-drop, take-append-drop}
+use Rattle.std.proofs.Common.{◌≡◌, ◌≤◌, ◌+◌, length, take, drop, sym, arith, length-drop, take-append-drop}
 use Rattle.mw_intake.proofs.Misses.{misses_rest, misses_none, cut_misses_none}
 use Rattle.mw_intake.proofs.intake.missing_of.Goals as goal
 

@@ -1,6 +1,9 @@
-use Rattle.std.proofs.Common.{◌≡◌, ◌*◌, true, ltb, drop, refl, sym, ap, ◌∙◌}
+use Rattle.std.proofs.Common.{◌≡◌, ◌*◌, true, ltb, drop, Result, refl, sym, ap, subst, ◌∙◌}
 use Rattle.std.proofs.lemmas.Bool.{lt-ltb}
 use Rattle.mw_model.specs.declared.formats.Format.TheVariants.{RawGrey}
+use Rattle.mw_model.specs.Pictures.{Picture}
+use Rattle.mw_netpbm.specs.declared.fault.ReadFault.{ReadFault}
+use Rattle.mw_netpbm.specs.Reading.{Gives}
 use Rattle.mw_netpbm.specs.Rasters.{grey8_at}
 use Rattle.mw_netpbm.specs.Whole.{grey_from, raster_as}
 use Rattle.mw_netpbm.proofs.Made.{seen_fit}
@@ -23,4 +26,5 @@ returns c =
     let raster = drop c.args.start c.args.file.items in
     let low : ltb m 256 ≡ true = lt-ltb m 256 c.requires.maxval in
     let bytes : raster_as RawGrey w h m raster ≡ grey_from w h m (grey8_at (h * w) m raster) = rw low refl in
-    c.grey8_image.ensures ∙ ap (grey_from w h m) c.owned_grey8-found.ensures ∙ sym bytes ∙ ap (λ f. raster_as f w h m raster) (sym c.requires.format)
+    subst (λ (r : Result Picture ReadFault). Gives (λ i. i) c.grey8_image.result r)
+    (ap (grey_from w h m) c.owned_grey8-found.ensures ∙ sym bytes ∙ ap (λ f. raster_as f w h m raster) (sym c.requires.format)) c.grey8_image.ensures

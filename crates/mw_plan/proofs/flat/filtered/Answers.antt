@@ -1,11 +1,10 @@
-use Rattle.mw_model.specs.declared.memory.NoMemory.{NoMemory}
-use Rattle.mw_model.specs.Plans.{Plan}
+use Rattle.std.proofs.lemmas.Result.{IfOk-weaker}
 use Rattle.mw_plan.specs.Asked.{offsets_of_input}
 use Rattle.mw_plan.specs.Steps.{IsChain, Makes, filtering}
-use Rattle.mw_plan.proofs.OneImage.{chain_makes, if_ok}
+use Rattle.mw_plan.proofs.OneImage.{chain_makes}
 use Rattle.mw_plan.proofs.flat.filtered.Goals as goal
 
 pub returns : goal.returns
 returns c =
     let e = offsets_of_input c.args.b in
-    if_ok Plan NoMemory c.chain.result (IsChain c.args.extremum e) (Makes 2 (filtering c.args.extremum e)) (chain_makes c.args.extremum e) c.chain.ensures
+    IfOk-weaker c.chain.result (IsChain c.args.extremum e) (Makes 2 (filtering c.args.extremum e)) (chain_makes c.args.extremum e) c.chain.ensures

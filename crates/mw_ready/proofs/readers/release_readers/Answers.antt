@@ -1,6 +1,7 @@
 use Rattle.std.proofs.Common.{arith, ◌∙◌, ◌+◌, get_or, sym, ap, subst, refl, length}
 use Rattle.mw_grid.specs.Grids.{columns_of, rows_of}
-use Rattle.mw_ready.specs.Queues.{Queued, Lowers}
+use Rattle.mw_queue.specs.Queues.{Queued}
+use Rattle.mw_ready.specs.Counters.{Lowers}
 use Rattle.mw_ready.specs.Boards.{no_need}
 use Rattle.mw_ready.proofs.Boxes.{lowers_step, lowers_skip, step_waits, lowers_all_given, boxes_fit, readers}
 use Rattle.mw_ready.proofs.readers.release_readers.Goals as goal

@@ -1,4 +1,4 @@
-use Rattle.mw_ready.specs.Queues.{Lowers, SameTiles}
+use Rattle.mw_ready.specs.Counters.{Lowers, SameTiles}
 use Rattle.mw_ready.proofs.Boxes.{readers}
 use Rattle.mw_ready.proofs.readers.release_readers.Given as goal
 

@@ -1,4 +1,5 @@
-use Rattle.mw_ready.specs.Queues.{in_range, Lowers, SameTiles}
+use Rattle.mw_grid.specs.Counts.{in_range}
+use Rattle.mw_ready.specs.Counters.{Lowers, SameTiles}
 use Rattle.mw_ready.proofs.release.release_row.Given as goal
 
 abbrev pub invariant-loop-task : goal.invariant-loop-task

@@ -2,14 +2,14 @@ use Rattle.std.proofs.Common.{◌*◌, ◌<◌, length, refl, arith, get_or}
 use Rattle.mw_grid.specs.Grids.{tile_count}
 use Rattle.mw_ready.specs.Boards.{no_need}
 use Rattle.mw_ready.specs.Kept.{read_count}
-use Rattle.mw_ready.proofs.Numbers.{step_within}
+use Rattle.mw_grid.proofs.Lines.{number_of}
 use Rattle.mw_ready.proofs.Firsts.{read_count-is, each-next}
 use Rattle.mw_ready.proofs.waits.first_waits.Goals as goal
 
 pub push_reserved-requires : goal.push_reserved-requires
 push_reserved-requires c =
     let before = c.loop-tile.invariant in
-    omega (arith, before.size, before.capacity, step_within c.loop-k.k (length c.args.needs.now) (tile_count c.args.grid) c.loop-tile.tile c.loop-k-test.true (omega (arith, c.loop-tile-test.true, c.len-tiles.ensures.value)))
+    omega (arith, before.size, before.capacity, number_of (length c.args.needs.now) (tile_count c.args.grid) c.loop-tile.tile c.loop-k.k (omega (arith, c.loop-tile-test.true, c.len-tiles.ensures.value)) c.loop-k-test.true)
 
 pub loop-tile-preserved : goal.loop-tile-preserved
 loop-tile-preserved c =

@@ -1,19 +1,15 @@
-use Rattle.std.proofs.Common.{arith, sym, ◌∙◌, true, false}
-use Rattle.mw_ready.specs.Boards.{step_reads}
-use Rattle.mw_ready.proofs.Counts.{count-step}
+use Rattle.std.proofs.Common.{arith}
+use Rattle.mw_grid.proofs.Counts.{count-most}
+use Rattle.mw_ready.specs.Boards.{is_source, step_reads}
+use Rattle.mw_ready.proofs.Firsts.{count-three}
 use Rattle.mw_ready.proofs.waits.steps_read.Goals as goal
-use Rattle.mw_ready.proofs.waits.steps_read.Goals.{then-does_read, else-does_read}
 
-pub loop-step-preserved : goal.loop-step-preserved
-loop-step-preserved c =
-    let before = c.loop-step.invariant in
-    elim c.if-does_read.branch [
-      | then-does_read w ↦ record {
-        value = omega (arith, w.count-is, before.value, count-step (step_reads c.args.need) c.loop-step.step true (sym c.does_read.ensures ∙ w.if-does_read.true));
-        most = omega (arith, w.count-is, before.most);
-      }
-      | else-does_read w ↦ record {
-        value = omega (arith, w.count-is, before.value, count-step (step_reads c.args.need) c.loop-step.step false (sym c.does_read.ensures ∙ w.if-does_read.false));
-        most = omega (arith, w.count-is, before.most);
-      }
-    ]
+pub returns : goal.returns
+returns c =
+    let a = c.args in
+    let s = c.sources-first.result in
+    let sum = count-three (step_reads a.need) (λ k. is_source k s.0) (λ k. is_source k s.1) (λ k. is_source k s.2) a.steps c.sources-first.ensures in
+    record {
+      value = omega (arith, sum, c.is_step.ensures.value, c.is_step-2.ensures.value, c.is_step-3.ensures.value);
+      most = omega (arith, sum, c.is_step.ensures.value, c.is_step-2.ensures.value, c.is_step-3.ensures.value, count-most (step_reads a.need) a.steps);
+    }

@@ -15,4 +15,4 @@ pub returns-in-Err-clause-answered : goal.returns-in-Err-clause-answered
 returns-in-Err-clause-answered g c = λ m s none.
     let h = ready-by-work m (AskAlone (ask.Fetch c.args.name)) c.args.core.now c.run_all_work.new.core (c.run_all_work.ensures m s none) refl in
     answered-memory m (AskAlone (ask.Fetch c.args.name)) c.args.core.now c.run_all_work.new.core c.fetch.new.self h
-    (g.W.Write.contents c.args.sink.now.inner) (g.W.Write.contents c.say.new.sink.inner) c.say.result tt c.in-Err.ensures.err c.say.ensures.wrote
+    (g.W.Write.contents c.args.sink.now.inner) (g.W.Write.contents c.say_told.new.sink.inner) c.say_told.result tt c.in-Err.ensures.err c.say_told.ensures.wrote

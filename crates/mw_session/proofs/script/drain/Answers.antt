@@ -1,9 +1,9 @@
-use Rattle.std.proofs.Common.{◌≡◌, ◌≢◌, ℕ, List, None, Ok, ◌∙◌, refl, inl, inr, sym, subst}
+use Rattle.std.proofs.Common.{◌≡◌, ◌≢◌, ℕ, List, None, Ok, ◌∙◌, refl, inl, sym, subst}
 use Rattle.mw_wire.specs.declared.fault.SessionFault.TheVariants.{Write}
 use Rattle.mw_model.specs.declared.requests.Ask.TheVariants as ask
 use Rattle.mw_model.specs.Lines.{AskAlone, Found, Fault}
 use Rattle.mw_intake.specs.Reading.{front}
-use Rattle.mw_intake.proofs.Front.{is_front, front_served}
+use Rattle.mw_intake.proofs.Front.{is_front}
 use Rattle.mw_intake.specs.Intake.{asked}
 use Rattle.mw_session.specs.Answering.{Drove}
 use Rattle.mw_session.proofs.Sessions.{serving-start, serving-answered, drove-partial, drove-quit, drove-ended, drove-broken, drove-unread}
@@ -41,13 +41,8 @@ returns-then-is_quit-clause-ran g c = λ left m s none.
     drove-quit left m c.args.core.now c.requests.core c.args.intake.now c.requests.intake c.next.new.self c.next.new.self
     (g.W.Write.contents c.args.sink.now.inner) (g.W.Write.contents c.requests.sink.inner) (c.requests.invariant.0 m s none) (rw quit at found)
 
-pub answer-requires-clause-served : goal.answer-requires-clause-served
-answer-requires-clause-served g c = λ name op e.
-    let found : front c.requests.intake ≡ Found (asked c.in-Ok-Request.request) c.next.new.self = rw c.in-Ok-Request.field-0-is at c.in-Ok-Request.ensures.ok in
-    front_served c.requests.intake c.next.new.self name op (rw e at found)
-
-pub answer-requires-clause-open : goal.answer-requires-clause-open
-answer-requires-clause-open g c = λ e. let t = c.if-is_quit.ensures.1 e in cc
+pub answer-requires : goal.answer-requires
+answer-requires g c = λ e. let t = c.if-is_quit.ensures.1 e in cc
 
 pub returns-in-Err-answer-clause-ran : goal.returns-in-Err-answer-clause-ran
 returns-in-Err-answer-clause-ran g c = λ left m s none.

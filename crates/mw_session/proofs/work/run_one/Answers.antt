@@ -1,8 +1,8 @@
 use Rattle.std.proofs.Common.{◌≡◌, ◌∙◌, ℕ, refl, sym, subst}
 use Rattle.mw_model.specs.declared.tasks.TaskId.{TaskId}
 use Rattle.mw_task.specs.WindowTasks.{WindowTask}
-use Rattle.mw_core.specs.TaskEvents.{Finishes, Refuses}
-use Rattle.mw_core.proofs.IdleLemmas.{nothing-pending}
+use Rattle.mw_core.specs.TaskAnswers.{Finishes, Refuses}
+use Rattle.mw_stands.proofs.IdleLemmas.{nothing-pending}
 use Rattle.mw_session.proofs.Advancing.{death-turn, finish-turn, refuse-turn, took-death, took-finish, took-refuse}
 use Rattle.mw_session.proofs.work.run_one.Goals as goal
 

@@ -1,12 +1,12 @@
 use Rattle.std.proofs.Common.{◌-◌, ◌≤◌}
-use Rattle.mw_tiles.specs.Tiles.{Appends, cells_of}
+use Rattle.mw_tiles.specs.Tiles.{HasRowMore, cells_of}
 use Rattle.mw_tiles.proofs.rows.push_row.Given as goal
 
 abbrev pub invariant-parts : goal.invariant-parts
 invariant-parts g l = record {
   from : l.x ≤ l.at;
   to : l.at ≤ l.end;
-  appends : Appends l.grid (cells_of l.tiles) l.x l.y (l.at - l.x) l.initial.samples.items l.samples.items;
+  appends : HasRowMore l.grid (cells_of l.tiles) l.x l.y (l.at - l.x) l.initial.samples.items l.samples.items;
 }
 
 abbrev pub decreases-parts : goal.decreases-parts

@@ -8,18 +8,20 @@ use Rattle.mw_model.specs.declared.calls.LogItem.TheVariants as item
 use Rattle.mw_model.specs.Values.{ElementValue, shape_of_figure}
 use Rattle.mw_model.specs.Refusals.{refusal}
 use Rattle.mw_model.specs.Machine.{with_entry, given_submission}
-use Rattle.mw_core.specs.Events.{Serves}
-use Rattle.mw_core.proofs.CallLemmas.{by-two, by-five, serves-refused, serves-element}
+use Rattle.mw_stands.specs.Facts.{stored_of}
+use Rattle.mw_stands.specs.Events.{Serves}
+use Rattle.mw_stands.proofs.CallLemmas.{by-two, by-five, serves-refused, serves-element}
 use Rattle.mw_core.proofs.machine.Core.load_element.Goals as goal
 
 pub returns-in-Err-clause-served : goal.returns-in-Err-clause-served
 returns-in-Err-clause-served c =
     let old = c.args.self.now in
+    let seen = c.store.ensures ∙ ap stored_of c.self.view_is in
     let new = c.note.new.self in
     let v = c.args.element in
     let q = call.Element c.args.name (given.Good c.shape.result) in
     let x = c.in-Err.code in
-    let why = sym (ap (λ d. refusal d.table d.kept q) c.self.view_is) ∙ sym c.in-Err.ensures.element in
+    let why = sym (ap (λ d. refusal d.table d.kept q) seen) ∙ sym c.in-Err.ensures.element in
     let P : Shape → Type 0 = λ s. IfOk c.note.result (Serves old (call.Element c.args.name (given.Good s)) (Some (ElementValue v)) new) in
     subst P c.shape.ensures
     (by-two c.note.result (reply.Refused x) (new ≡ record old { log = old.log ++ item.Call q (reply.Refused x) ∷ [] }) (Serves old q (Some (ElementValue v)) new)
@@ -28,15 +30,16 @@ returns-in-Err-clause-served c =
 pub returns-in-Ok-clause-served : goal.returns-in-Ok-clause-served
 returns-in-Ok-clause-served c =
     let old = c.args.self.now in
+    let seen = c.store.ensures ∙ ap stored_of c.self.view_is in
     let new = c.accept.new.self in
     let v = c.args.element in
     let n = c.args.name in
     let s = shape_of_figure v in
     let q = call.Element n (given.Good c.shape.result) in
     let accepted = reply.Accepted (length old.table.names) in
-    let free = ap (λ d. refusal old.table old.kept (call.Element n (given.Good d))) (sym c.shape.ensures) ∙ sym (ap (λ d. refusal d.table d.kept q) c.self.view_is) ∙ sym c.in-Ok.ensures.element in
+    let free = ap (λ d. refusal old.table old.kept (call.Element n (given.Good d))) (sym c.shape.ensures) ∙ sym (ap (λ d. refusal d.table d.kept q) seen) ∙ sym c.in-Ok.ensures.element in
     by-five c.accept.result accepted (new.table ≡ with_entry old.table n (given_submission (given.Good s)) outcome.Done) (new.kept ≡ old.kept ++ Some (ElementValue v) ∷ [])
     (new.work ≡ old.work ++ None ∷ []) (new.log ≡ old.log ++ item.Call q accepted ∷ []) (Serves old (call.Element n (given.Good s)) (Some (ElementValue v)) new)
     c.accept.ensures.reply c.accept.ensures.table c.accept.ensures.kept c.accept.ensures.work c.accept.ensures.log
-    (λ table kept work log. serves-element old new n v c.offsets-offsets.ensures.figure free c.accept.ensures.complete table kept work
+    (λ table kept work log. serves-element old new n v c.offsets-offsets.ensures.figure free c.whole.ensures.complete table kept work
     (log ∙ ap (λ d. old.log ++ item.Call (call.Element n (given.Good d)) accepted ∷ []) c.shape.ensures))

@@ -4,28 +4,31 @@ use Rattle.mw_model.specs.declared.calls.Call.TheVariants as call
 use Rattle.mw_model.specs.declared.calls.Reply.TheVariants as reply
 use Rattle.mw_model.specs.declared.calls.LogItem.TheVariants as item
 use Rattle.mw_model.specs.Refusals.{refusal, ticket, outcome_at}
-use Rattle.mw_model.specs.Stands.{Seen}
-use Rattle.mw_core.specs.Events.{Serves}
-use Rattle.mw_core.proofs.CallLemmas.{by-two, serves-refused, serves-release}
+use Rattle.mw_store.specs.Stored.{Stored}
+use Rattle.mw_stands.specs.Facts.{stored_of}
+use Rattle.mw_stands.specs.Events.{Serves}
+use Rattle.mw_stands.proofs.CallLemmas.{by-two, serves-refused, serves-release}
 use Rattle.mw_core.proofs.machine.Core.release.Goals as goal
 
 pub returns-in-Err-clause-served : goal.returns-in-Err-clause-served
 returns-in-Err-clause-served c =
     let old = c.args.self.now in
+    let seen = c.store.ensures ∙ ap stored_of c.self.view_is in
     let q = call.Release c.args.name in
     let x = c.in-Err.code in
-    let why = sym (ap (λ v. refusal v.table v.kept q) c.self.view_is) ∙ sym c.in-Err.ensures.code in
+    let why = sym (ap (λ v. refusal v.table v.kept q) seen) ∙ sym c.in-Err.ensures.code in
     by-two c.note.result (reply.Refused x) (c.note.new.self ≡ record old { log = old.log ++ item.Call q (reply.Refused x) ∷ [] }) (Serves old q None c.note.new.self) c.note.ensures.reply c.note.ensures.ok
     (serves-refused old c.note.new.self q None x refl why)
 
 pub returns-in_ok-let_go-in-Ok-clause-served : goal.returns-in_ok-let_go-in-Ok-clause-served
 returns-in_ok-let_go-in-Ok-clause-served c =
     let old = c.args.self.now in
+    let seen = c.store.ensures ∙ ap stored_of c.self.view_is in
     let q = call.Release c.args.name in
     let t = c.in-Ok.t in
-    let free = sym (ap (λ v. refusal v.table v.kept q) c.self.view_is) ∙ sym c.in-Ok.ensures.code in
-    let Within : Seen → Type 0 = λ v. t < length v.table.names in
-    let Done : Seen → Type 0 = λ v. outcome_at v.table.outcomes t ≡ outcome.Done in
+    let free = sym (ap (λ v. refusal v.table v.kept q) seen) ∙ sym c.in-Ok.ensures.code in
+    let Within : Stored → Type 0 = λ v. t < length v.table.names in
+    let Done : Stored → Type 0 = λ v. outcome_at v.table.outcomes t ≡ outcome.Done in
     let got = c.in_ok-let_go-in-Ok.ensures in
-    serves-release old c.let_go.new.self c.args.name t free (c.in-Ok.ensures.ok ∙ ap (λ v. ticket v.table c.args.name) c.self.view_is) got.complete
-    (subst Within c.self.view_is c.in-Ok.ensures.within) (subst Done c.self.view_is c.in-Ok.ensures.done) got.table got.kept got.work got.log
+    serves-release old c.let_go.new.self c.args.name t free (c.in-Ok.ensures.ok ∙ ap (λ v. ticket v.table c.args.name) seen) c.whole.ensures.complete
+    (subst Within seen c.in-Ok.ensures.within) (subst Done seen c.in-Ok.ensures.done) got.table got.kept got.work got.log

@@ -1,40 +1,89 @@
-use Rattle.std.proofs.Common.{◌≡◌, ◌∙◌, ◌++◌, ◌∷◌, [], length, ap, sym, refl, subst, Some, None}
+use Rattle.std.proofs.Common.{◌≡◌, ◌∙◌, ◌++◌, ◌∷◌, [], List, Option, length, ap, sym, refl, subst, Some, None, Err}
 use Rattle.mw_model.specs.declared.submissions.Submission.{Submission}
 use Rattle.mw_model.specs.declared.calls.Outcome.TheVariants as outcome
 use Rattle.mw_model.specs.declared.calls.Call.TheVariants as call
 use Rattle.mw_model.specs.declared.calls.Reply.TheVariants as reply
 use Rattle.mw_model.specs.declared.calls.LogItem.TheVariants as item
+use Rattle.mw_model.specs.Values.{Value}
 use Rattle.mw_model.specs.Refusals.{refusal}
 use Rattle.mw_model.specs.Machine.{with_entry, run_submission}
-use Rattle.mw_model.specs.Stands.{Seen}
-use Rattle.mw_core.specs.Events.{Serves}
-use Rattle.mw_core.specs.Planned.{IsPlanned}
-use Rattle.mw_core.proofs.CallLemmas.{by-two, by-five, serves-refused, serves-run}
+use Rattle.mw_plan.specs.Tables.{AreValuesAt}
+use Rattle.mw_store.specs.Stored.{Stored}
+use Rattle.mw_stands.specs.Facts.{stored_of}
+use Rattle.mw_stands.specs.Limits.{FitsLimits}
+use Rattle.mw_stands.specs.Events.{Serves}
+use Rattle.mw_stands.proofs.CallLemmas.{by-two, by-five, serves-refused}
+use Rattle.mw_stands.proofs.LimitLemmas.{accepted-fits}
+use Rattle.mw_core.proofs.RunLemmas.{serves-no-fault, serves-planned, accepted-fresh, planned-seen, fresh-seen}
 use Rattle.mw_core.proofs.machine.Core.run.Goals as goal
 
 pub returns-in-Err-clause-served : goal.returns-in-Err-clause-served
 returns-in-Err-clause-served c =
     let old = c.args.self.now in
+    let seen = c.store.ensures ∙ ap stored_of c.self.view_is in
     let q = call.Run c.args.name c.args.op in
     let x = c.in-Err.code in
-    let why = sym (ap (λ v. refusal v.table v.kept q) c.self.view_is) ∙ sym c.in-Err.ensures.code in
+    let why = sym (ap (λ v. refusal v.table v.kept q) seen) ∙ sym c.in-Err.ensures.code in
     by-two c.note.result (reply.Refused x) (c.note.new.self ≡ record old { log = old.log ++ item.Call q (reply.Refused x) ∷ [] }) (Serves old q None c.note.new.self) c.note.ensures.reply c.note.ensures.ok
     (serves-refused old c.note.new.self q None x refl why)
 
-pub returns-in_ok-work-in-Ok-clause-served : goal.returns-in_ok-work-in-Ok-clause-served
-returns-in_ok-work-in-Ok-clause-served c =
+pub accept-requires-clause-fits : goal.accept-requires-clause-fits
+accept-requires-clause-fits c =
+    let old = c.args.self.now in
+    let seen = c.store.ensures ∙ ap stored_of c.self.view_is in
+    let q = call.Run c.args.name c.args.op in
+    let is = c.in-Ok.ensures.submission ∙ ap (λ v. run_submission v.table c.args.op) seen in
+    let free = sym (ap (λ v. refusal v.table v.kept q) seen) ∙ sym c.in-Ok.ensures.code in
+    let Fit : Submission → Type 0 = λ e. FitsLimits e.shape in
+    subst Fit (sym is) (accepted-fits old.table old.kept c.args.name c.args.op c.whole.ensures.fits free)
+
+pub accept-requires-clause-left : goal.accept-requires-clause-left
+accept-requires-clause-left c =
+    let seen = c.store.ensures ∙ ap stored_of c.self.view_is in
+    let again = c.store-store.ensures ∙ ap stored_of c.self.view_is in
+    (fresh-seen c.args.self.now c.store.result.now c.store-store.result.now c.args.op c.in-Ok.submission c.side-side.result c.in-Ok-planned.work c.whole.ensures.fits seen again c.in-Ok.ensures.below c.in-Ok-planned.ensures.planned).0
+
+pub accept-requires-clause-most : goal.accept-requires-clause-most
+accept-requires-clause-most c =
+    let seen = c.store.ensures ∙ ap stored_of c.self.view_is in
+    let again = c.store-store.ensures ∙ ap stored_of c.self.view_is in
+    (fresh-seen c.args.self.now c.store.result.now c.store-store.result.now c.args.op c.in-Ok.submission c.side-side.result c.in-Ok-planned.work c.whole.ensures.fits seen again c.in-Ok.ensures.below c.in-Ok-planned.ensures.planned).1
+
+pub returns-in-Ok-planned-clause-served : goal.returns-in-Ok-planned-clause-served
+returns-in-Ok-planned-clause-served c =
     let old = c.args.self.now in
     let new = c.accept.new.self in
+    let seen = c.store.ensures ∙ ap stored_of c.self.view_is in
+    let again = c.store-store.ensures ∙ ap stored_of c.self.view_is in
     let q = call.Run c.args.name c.args.op in
     let e = c.in-Ok.submission in
-    let p = c.in_ok-work-in-Ok.work in
-    let is : e ≡ run_submission old.table c.args.op = c.in-Ok.ensures.submission ∙ ap (λ v. run_submission v.table c.args.op) c.self.view_is in
-    let free = sym (ap (λ v. refusal v.table v.kept q) c.self.view_is) ∙ sym c.in-Ok.ensures.code in
-    let Kept : Seen → Type 0 = λ v. IsPlanned v.kept c.args.op e p in
-    let Made : Submission → Type 0 = λ s. IsPlanned old.kept c.args.op s p in
-    let planned = subst Made is (subst Kept c.self.view_is c.in_ok-work-in-Ok.ensures) in
+    let u = c.in-Ok-planned.work in
+    let is : e ≡ run_submission old.table c.args.op = c.in-Ok.ensures.submission ∙ ap (λ v. run_submission v.table c.args.op) seen in
+    let free = sym (ap (λ v. refusal v.table v.kept q) seen) ∙ sym c.in-Ok.ensures.code in
+    let planned = planned-seen old c.store-store.result.now c.args.op e c.side-side.result u again is c.in-Ok-planned.ensures.planned in
     by-five c.accept.result (reply.Accepted (length old.table.names)) (new.table ≡ with_entry old.table c.args.name e outcome.Pending) (new.kept ≡ old.kept ++ None ∷ [])
-    (new.work ≡ old.work ++ Some p ∷ []) (new.log ≡ old.log ++ item.Call q (reply.Accepted (length old.table.names)) ∷ []) (Serves old q None new)
+    (new.work ≡ old.work ++ Some u.progress ∷ []) (new.log ≡ old.log ++ item.Call q (reply.Accepted (length old.table.names)) ∷ []) (Serves old q None new)
     c.accept.ensures.reply c.accept.ensures.table c.accept.ensures.kept c.accept.ensures.work c.accept.ensures.log
-    (λ table kept work log. serves-run old new c.args.name c.args.op p c.requires free planned c.accept.ensures.complete
+    (λ table kept work log. serves-planned old new c.args.name c.args.op c.side-side.result u free planned c.whole.ensures.complete
     (table ∙ ap (λ s. with_entry old.table c.args.name s outcome.Pending) is) kept work log)
+
+pub returns-in-Ok-planned-clause-fresh : goal.returns-in-Ok-planned-clause-fresh
+returns-in-Ok-planned-clause-fresh c = λ t.
+    let old = c.args.self.now in
+    let u = c.in-Ok-planned.work in
+    let seen = c.store.ensures ∙ ap stored_of c.self.view_is in
+    let again = c.store-store.ensures ∙ ap stored_of c.self.view_is in
+    let fresh = fresh-seen old c.store.result.now c.store-store.result.now c.args.op c.in-Ok.submission c.side-side.result u c.whole.ensures.fits seen again c.in-Ok.ensures.below c.in-Ok-planned.ensures.planned in
+    accepted-fresh c.accept.result old c.accept.new.self u.progress t c.whole.ensures.complete fresh c.accept.ensures.reply c.accept.ensures.work
+
+pub returns-in-Err-Fault-clause-served : goal.returns-in-Err-Fault-clause-served
+returns-in-Err-Fault-clause-served c =
+    let old = c.args.self.now in
+    let new = c.note-in-Err-Fault.new.self in
+    let again = c.store-store.ensures ∙ ap stored_of c.self.view_is in
+    let q = call.Run c.args.name c.args.op in
+    let x = c.code.result in
+    let never : (values : List (Option Value)) → AreValuesAt old.table old.kept values → ⊥
+    = λ values at. let At : Stored → Type 0 = λ v. AreValuesAt v.table v.kept values in c.in-Err-Fault.ensures.faultless values c.in-Err-Fault.fault (subst At (sym again) at) (ap Err c.in-Err-Fault.field-0-is) in
+    by-two c.note-in-Err-Fault.result (reply.Refused x) (new ≡ record old { log = old.log ++ item.Call q (reply.Refused x) ∷ [] }) (Serves old q None new) c.note-in-Err-Fault.ensures.reply c.note-in-Err-Fault.ensures.ok
+    (serves-no-fault old new c.args.name c.args.op x never)

@@ -1,67 +1,94 @@
-use Rattle.std.proofs.Common.{◌≡◌, ◌%◌, ℕ, ◌++◌, ◌∷◌, [], set, Option, Some, None, ap, sym, subst, ◌∙◌}
-use Rattle.mw_model.specs.declared.calls.Outcome.TheVariants as outcome
-use Rattle.mw_model.specs.declared.calls.LogItem.TheVariants as item
-use Rattle.mw_model.specs.Machine.{killed}
-use Rattle.mw_model.specs.Stands.{Seen, progress_at, ready_count}
+use Rattle.std.proofs.Common.{◌≡◌, ◌%◌, ◌<◌, ◌≤◌, ℕ, length, sum, Option, ap, sym, subst, ◌∙◌, arith}
+use Rattle.mw_model.specs.Machine.{Machine}
+use Rattle.mw_model.specs.Stands.{Seen, StandsFor, ready_count, ready_under}
 use Rattle.mw_task.specs.WindowTasks.{WindowTask}
-use Rattle.mw_store.specs.Stored.{DropsSpent}
-use Rattle.mw_core.specs.Changes.{KeepsWork}
-use Rattle.mw_core.specs.KeptTasks.{IsKeptWork, IsPlain, with_started}
-use Rattle.mw_core.specs.TaskEvents.{Kills}
-use Rattle.mw_core.specs.Turns.{IsAt}
-use Rattle.mw_core.proofs.TaskLemmas.{begins, idle-impossible, kills, ready-there}
+use Rattle.mw_stands.specs.Facts.{IsComplete}
+use Rattle.mw_stands.specs.TaskEvents.{Begins, Kills}
+use Rattle.mw_stands.specs.Turns.{IsAt}
+use Rattle.mw_stands.proofs.TaskLemmas.{kills, ready-there}
+use Rattle.mw_ledger.specs.Books.{Book, seen_of}
+use Rattle.mw_ledger.specs.Tasks.{TakesAt}
+use Rattle.mw_core.proofs.BookLemmas.{counted}
+use Rattle.mw_core.proofs.TaskLemmas.{complete-seen, takes-begins, takes-some}
 use Rattle.mw_core.proofs.machine.Core.start.Goals as goal
 
-pub returns-in-Ok-Some-clause-task : goal.returns-in-Ok-Some-clause-task
-returns-in-Ok-Some-clause-task c = λ m s.
-    let found = c.in-Some.ensures in
-    let t = c.in-Some.t in
-    let Work : Option WindowTask → Type 0 = λ w. IsKeptWork c.share_source.new.self t w in
-    let Kept : Seen → Type 0 = λ d. IsKeptWork d t (Some c.in-Ok-Some.work) in
-    let Marked : Seen → Type 0 = λ d. c.mark_started.new.self ≡ record d { work = set d.work t (with_started (progress_at d.work t)) } in
-    begins c.args.self.now c.mark_started.new.self m t c.in-Ok-Some.work s c.ready_ticket.ensures.complete found.within found.ready
-    (subst Kept c.share_source.ensures (subst Work c.in-Ok-Some.field-0-is c.in-Ok-Some.ensures.work)) (subst Marked c.share_source.ensures c.mark_started.ensures)
+pub take-requires-clause-within : goal.take-requires-clause-within
+take-requires-clause-within c =
+    let Below : ℕ → Type 0 = λ n. c.find-t.result.0 < n in
+    subst Below (counted (seen_of c.self.inside.ledger) c.self.inside.counts c.self.invariant) c.find-t.ensures.within
 
-pub returns-in-Ok-Some-clause-idle : goal.returns-in-Ok-Some-clause-idle
-returns-in-Ok-Some-clause-idle c = λ m s. (λ e. absurd cc, λ none. absurd (c.if-count-eq0.false (c.ready_count-count.ensures ∙ none)))
+pub follow-requires-clause-count : goal.follow-requires-clause-count
+follow-requires-clause-count c =
+    let b = c.self.inside.ledger in
+    let Taken : Option WindowTask → Type 0 = λ w. TakesAt b c.find-t.result.0 c.take.new.self w in
+    let took = subst Taken c.in-Ok-Some.field-0-is c.in-Ok-Some.ensures.taken in
+    counted (seen_of b) c.self.inside.counts c.self.invariant ∙ ap (λ (x : Book). length x.table.names) (sym took.book)
+
+pub end-requires-clause-within : goal.end-requires-clause-within
+end-requires-clause-within c =
+    let Below : ℕ → Type 0 = λ n. c.find-t.result.0 < n in
+    subst Below (counted (seen_of c.self.inside.ledger) c.self.inside.counts c.self.invariant ∙ ap (λ (x : Book). length x.table.names) (sym c.in-Err.ensures.same)) c.find-t.ensures.within
+
+pub returns-in-Ok-Some-clause-task : goal.returns-in-Ok-Some-clause-task
+returns-in-Ok-Some-clause-task c =
+    let b = c.self.inside.ledger in
+    let new = c.take.new.self in
+    let t = c.find-t.result.0 in
+    let Taken : Option WindowTask → Type 0 = λ w. TakesAt b t new w in
+    let took = subst Taken c.in-Ok-Some.field-0-is c.in-Ok-Some.ensures.taken in
+    let ready : 1 ≤ ready_under (seen_of b) t = omega (arith, c.find-t.ensures.place (seen_of b) c.self.invariant) in
+    let Begun : Seen → Type 0 = λ x. (m : Machine) → StandsFor x m → Begins x m c.in-Ok-Some.work (seen_of new) in
+    subst Begun c.self.view_is (λ m s. takes-begins b new m t c.in-Ok-Some.work s c.sound.ensures ready took)
 
 pub returns-in-Ok-Some-clause-turn : goal.returns-in-Ok-Some-clause-turn
 returns-in-Ok-Some-clause-turn c =
-    let Work : Option WindowTask → Type 0 = λ w. IsKeptWork c.share_source.new.self c.in-Some.t w in
-    let kept = subst Work c.in-Ok-Some.field-0-is c.in-Ok-Some.ensures.work in
-    let At : ℕ → Type 0 = λ n. IsAt c.args.self.now (c.args.place % n) c.in-Some.t in
-    let Of : ℕ → Type 0 = λ t. IsAt c.args.self.now (c.args.place % ready_count c.args.self.now) t in
-    subst Of (sym (ap (λ (w : WindowTask). w.task.ticket) kept.3)) (subst At c.ready_count-count.ensures c.in-Some.ensures.turn)
+    let b = c.self.inside.ledger in
+    let t = c.find-t.result.0 in
+    let Taken : Option WindowTask → Type 0 = λ w. TakesAt b t c.take.new.self w in
+    let took = subst Taken c.in-Ok-Some.field-0-is c.in-Ok-Some.ensures.taken in
+    let Counted : ℕ → Type 0 = λ n. IsAt (seen_of b) (c.args.place % n) t in
+    let Of : ℕ → Type 0 = λ k. IsAt (seen_of b) (c.args.place % ready_count (seen_of b)) k in
+    let Shown : Seen → Type 0 = λ x. IsAt x (c.args.place % ready_count x) c.in-Ok-Some.work.task.ticket in
+    subst Shown c.self.view_is (subst Of (sym took.takes.ticket) (subst Counted (c.ready-count.ensures ∙ ap sum c.self.invariant.0) (c.find-t.ensures.turn (seen_of b) c.self.invariant)))
 
 pub returns-in-Ok-None-clause-task : goal.returns-in-Ok-None-clause-task
 returns-in-Ok-None-clause-task c = λ m s.
-    let found = c.in-Some.ensures in
-    let t = c.in-Some.t in
-    let Work : Option WindowTask → Type 0 = λ w. IsKeptWork c.share_source.new.self t w in
-    let Kept : Seen → Type 0 = λ d. IsKeptWork d t None in
-    let Plain : Seen → Type 0 = λ d. IsPlain d t in
-    absurd (idle-impossible c.args.self.now m t s (subst Plain c.share_source.ensures c.in-Ok-None.ensures.plain) found.within found.ready
-    (subst Kept c.share_source.ensures (subst Work c.in-Ok-None.field-0-is c.in-Ok-None.ensures.work)))
+    let b = c.self.inside.ledger in
+    let t = c.find-t.result.0 in
+    let Taken : Option WindowTask → Type 0 = λ w. TakesAt b t c.take.new.self w in
+    let took = subst Taken c.in-Ok-None.field-0-is c.in-Ok-None.ensures.taken in
+    let ready : 1 ≤ ready_under (seen_of b) t = omega (arith, c.find-t.ensures.place (seen_of b) c.self.invariant) in
+    let Stands : Seen → Type 0 = λ x. StandsFor x m in
+    absurd (takes-some b c.take.new.self m t (subst Stands (sym c.self.view_is) s) c.sound.ensures ready took)
 
 pub returns-in-Ok-None-clause-idle : goal.returns-in-Ok-None-clause-idle
 returns-in-Ok-None-clause-idle c = λ m s.
-    let found = c.in-Some.ensures in
-    let t = c.in-Some.t in
-    let Work : Option WindowTask → Type 0 = λ w. IsKeptWork c.share_source.new.self t w in
-    let Kept : Seen → Type 0 = λ d. IsKeptWork d t None in
-    let Plain : Seen → Type 0 = λ d. IsPlain d t in
-    absurd (idle-impossible c.args.self.now m t s (subst Plain c.share_source.ensures c.in-Ok-None.ensures.plain) found.within found.ready
-    (subst Kept c.share_source.ensures (subst Work c.in-Ok-None.field-0-is c.in-Ok-None.ensures.work)))
+    let b = c.self.inside.ledger in
+    let t = c.find-t.result.0 in
+    let Taken : Option WindowTask → Type 0 = λ w. TakesAt b t c.take.new.self w in
+    let took = subst Taken c.in-Ok-None.field-0-is c.in-Ok-None.ensures.taken in
+    let ready : 1 ≤ ready_under (seen_of b) t = omega (arith, c.find-t.ensures.place (seen_of b) c.self.invariant) in
+    let Stands : Seen → Type 0 = λ x. StandsFor x m in
+    absurd (takes-some b c.take.new.self m t (subst Stands (sym c.self.view_is) s) c.sound.ensures ready took)
 
 pub returns-in-Err-clause-task : goal.returns-in-Err-clause-task
-returns-in-Err-clause-task c = λ m s.
-    let found = c.in-Some.ensures in
-    let old = c.args.self.now in
-    let new = c.end.new.self in
-    let t = c.in-Some.t in
+returns-in-Err-clause-task c =
+    let b = c.self.inside.ledger in
+    let t = c.find-t.result.0 in
     let e = c.end.ensures in
-    let Gone : Seen → Type 0
-    = λ d. new.table ≡ killed d.table t outcome.Memory → DropsSpent new.table d.kept new.kept → KeepsWork new.table d.work new.work → new.log ≡ d.log ++ item.Killed t ∷ [] → Kills old m t new in (
-      found.ready,
-      subst Gone (sym c.share_source.ensures) (kills old new m t s c.ready_ticket.ensures.complete found.within (ready-there old m t s found.ready).0) e.table e.kept e.work e.log,
-    )
+    let ready : 1 ≤ ready_under (seen_of b) t = omega (arith, c.find-t.ensures.place (seen_of b) c.self.invariant) in
+    let Long : ℕ → Type 0 = λ n. t < n in
+    let within = subst Long (counted (seen_of b) c.self.inside.counts c.self.invariant) c.find-t.ensures.within in
+    let same : seen_of c.take.new.self ≡ seen_of b = ap seen_of c.in-Err.ensures.same in
+    let Killed : Seen → Type 0 = λ x. (m : Machine) → StandsFor x m → (1 ≤ ready_under x t) × Kills x m t c.end.new.self in
+    subst Killed c.self.view_is
+    (subst Killed same (λ m s.
+    let Stands : Seen → Type 0 = λ x. StandsFor x m in
+    let Ready : Seen → Type 0 = λ x. 1 ≤ ready_under x t in
+    let Named : Seen → Type 0 = λ x. t < length x.table.names in
+    let here = subst Ready (sym same) ready in
+    let Complete : Book → Type 0 = λ x. IsComplete (seen_of x) in (
+      here,
+      kills (seen_of c.take.new.self) c.end.new.self m t s (subst Complete (sym c.in-Err.ensures.same) (complete-seen b c.sound.ensures)) (subst Named (sym same) within)
+          (ready-there (seen_of c.take.new.self) m t s here).0 e.table e.kept e.work e.log,
+    )))

@@ -2,15 +2,17 @@ use Rattle.std.proofs.Common.{◌≡◌, ◌∙◌, ◌++◌, ◌∷◌, [], ap,
 use Rattle.mw_model.specs.declared.calls.Call.TheVariants as call
 use Rattle.mw_model.specs.declared.calls.LogItem.TheVariants as item
 use Rattle.mw_model.specs.Machine.{reply_from}
-use Rattle.mw_core.specs.Events.{Serves}
-use Rattle.mw_core.proofs.CallLemmas.{by-two, serves-status}
+use Rattle.mw_stands.specs.Facts.{stored_of}
+use Rattle.mw_stands.specs.Events.{Serves}
+use Rattle.mw_stands.proofs.CallLemmas.{by-two, serves-status}
 use Rattle.mw_core.proofs.machine.Core.status.Goals as goal
 
 pub returns-clause-served : goal.returns-clause-served
 returns-clause-served c =
     let old = c.args.self.now in
+    let seen = c.store.ensures ∙ ap stored_of c.self.view_is in
     let q = call.Status c.args.name in
     let r = c.status_reply-reply.result in
-    let told = c.status_reply-reply.ensures ∙ ap (λ v. reply_from v.table v.kept q) c.self.view_is in
+    let told = c.status_reply-reply.ensures ∙ ap (λ v. reply_from v.table v.kept q) seen in
     by-two c.note.result r (c.note.new.self ≡ record old { log = old.log ++ item.Call q r ∷ [] }) (Serves old q None c.note.new.self) c.note.ensures.reply c.note.ensures.ok
     (serves-status old c.note.new.self c.args.name r told)

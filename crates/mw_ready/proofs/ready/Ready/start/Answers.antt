@@ -1,7 +1,7 @@
 use Rattle.std.proofs.Common.{◌≡◌, ◌<◌, ◌+◌, ◌*◌, ◌∙◌, subst, sym, refl, arith, length, true}
 use Rattle.mw_ready.specs.Boards.{Turns, ready_tasks, is_ready, is_running, task_number, task_count}
 use Rattle.mw_ready.specs.Kept.{board_of}
-use Rattle.mw_ready.proofs.Counts.{count-most}
+use Rattle.mw_grid.proofs.Counts.{count-most}
 use Rattle.mw_ready.proofs.Keeping.{count_is, start_keeps_given, step_of_number, open_number}
 use Rattle.mw_ready.proofs.ready.Ready.start.Goals as goal
 
@@ -26,6 +26,7 @@ invariant_of-self c =
       start_keeps_given b a.queue.waiting c.take-task.new.self.waiting c.take-task.new.self.started a.running a.remaining (c.take-task.result.0 * a.queue.tiles + c.take-task.result.1) c.self.invariant.0 e.within e.opened e.started e.waiting,
       e.tiles ∙ c.self.invariant.1,
       c.self.invariant.2,
+      record { size = c.self.invariant.3.size; each = c.self.invariant.3.each },
     )
 
 pub returns-clause-step : goal.returns-clause-step

@@ -1,15 +1,96 @@
-use Rattle.std.proofs.Common.{◌≡◌, ◌+◌, count_by, [], ◌∷◌, ◌++◌, option_map, ◌<◌, length, length-append, ap, ◌∙◌, sym, refl, subst, arith}
-use Rattle.std.specs.Prelude.{vec_len}
+use Rattle.std.proofs.Common.{◌≡◌, ◌∙◌, ◌+◌, ◌&&◌, ◌<◌, ℕ, [], ◌∷◌, ◌++◌, List, length, length-append, map, slice_index_or, option_map, ap, sym, refl, subst, arith}
 use Rattle.std.specs.List.{AllByRecursion}
 use Rattle.std.proofs.lemmas.List.{map-append}
-use Rattle.mw_model.specs.Refusals.{is_pending, ticket_of}
+use Rattle.mw_model.specs.Refusals.{is_pending, outcome_at, ticket_of}
 use Rattle.mw_model.specs.Names.{same_name}
 use Rattle.mw_model.specs.Values.{tickets}
 use Rattle.mw_store.specs.Kept.{kept_value}
 use Rattle.mw_store.specs.Stored.{Stored}
-use Rattle.mw_store.proofs.AddLemmas.{added, whole-push}
-use Rattle.mw_store.proofs.CascadeLemmas.{count-push}
+use Rattle.mw_store.specs.Waiting.{Waiting, entry_for, waiting_at}
+use Rattle.mw_store.specs.Wanted.{is_among, one_if}
+use Rattle.mw_store.proofs.AddLemmas.{added}
+use Rattle.mw_store.proofs.Tracking.{front, push-tracked, tracked-lists, wanted-small, zero-behind}
 use Rattle.mw_store.proofs.columns.Store.push.Goals as goal
+
+pub invariant_of-self-in_err-reserve_inputs : goal.invariant_of-self-in_err-reserve_inputs
+invariant_of-self-in_err-reserve_inputs c =
+    let a = c.self.inside in
+    let s : Stored = record { table = record { names = a.names.keys; submissions = a.submissions.items; outcomes = a.outcomes.items }; kept = map (option_map kept_value) a.kept.items } in
+    let now = c.reserve_inputs.new.waiting in
+    let same : (k : ℕ) → waiting_at now k ≡ waiting_at a.waiting.items k = λ k. c.reserve_inputs.ensures.tickets k ∙ ap (λ (xs : List Waiting). waiting_at xs k) c.deref_mut.ensures.value in
+    let size : length now ≡ length a.waiting.items = omega (arith, c.reserve_inputs.auto.waiting, ap length c.deref_mut.ensures.value) in
+    rw (c.reserve.ensures.items, c.reserve-2.ensures.items, c.reserve-3.ensures.items, c.reserve-4.ensures.items, front now _ a.waiting.len (omega (arith, c.reserve_inputs.auto.waiting, c.deref_mut.ensures.len)))
+    (tracked-lists s a.wanted.items a.waiting.items now a.pending c.self.invariant size same)
+
+pub invariant_of-self-in_err-reserve-5 : goal.invariant_of-self-in_err-reserve-5
+invariant_of-self-in_err-reserve-5 c =
+    let a = c.self.inside in
+    let s : Stored = record { table = record { names = a.names.keys; submissions = a.submissions.items; outcomes = a.outcomes.items }; kept = map (option_map kept_value) a.kept.items } in
+    let now = c.reserve_inputs.new.waiting in
+    let same : (k : ℕ) → waiting_at now k ≡ waiting_at a.waiting.items k = λ k. c.reserve_inputs.ensures.tickets k ∙ ap (λ (xs : List Waiting). waiting_at xs k) c.deref_mut.ensures.value in
+    let size : length now ≡ length a.waiting.items = omega (arith, c.reserve_inputs.auto.waiting, ap length c.deref_mut.ensures.value) in
+    rw (c.reserve.ensures.items, c.reserve-2.ensures.items, c.reserve-3.ensures.items, c.reserve-4.ensures.items, c.reserve-5.ensures.items, front now _ a.waiting.len (omega (arith, c.reserve_inputs.auto.waiting, c.deref_mut.ensures.len)))
+    (tracked-lists s a.wanted.items a.waiting.items now a.pending c.self.invariant size same)
+
+pub invariant_of-self-in_err-insert : goal.invariant_of-self-in_err-insert
+invariant_of-self-in_err-insert c =
+    let a = c.self.inside in
+    let s : Stored = record { table = record { names = a.names.keys; submissions = a.submissions.items; outcomes = a.outcomes.items }; kept = map (option_map kept_value) a.kept.items } in
+    let now = c.reserve_inputs.new.waiting in
+    let same : (k : ℕ) → waiting_at now k ≡ waiting_at a.waiting.items k = λ k. c.reserve_inputs.ensures.tickets k ∙ ap (λ (xs : List Waiting). waiting_at xs k) c.deref_mut.ensures.value in
+    let size : length now ≡ length a.waiting.items = omega (arith, c.reserve_inputs.auto.waiting, ap length c.deref_mut.ensures.value) in
+    rw (c.in_err-insert.ensures.err, c.reserve.ensures.items, c.reserve-2.ensures.items, c.reserve-3.ensures.items, c.reserve-4.ensures.items, c.reserve-5.ensures.items, front now _ a.waiting.len (omega (arith, c.reserve_inputs.auto.waiting, c.deref_mut.ensures.len)))
+    (tracked-lists s a.wanted.items a.waiting.items now a.pending c.self.invariant size same)
+
+pub raise_inputs-requires-clause-small : goal.raise_inputs-requires-clause-small
+raise_inputs-requires-clause-small c = λ k.
+    let a = c.self.inside in
+    let here : c.deref_mut-2.result.now ≡ a.wanted.items ++ 0 ∷ [] = c.deref_mut-2.ensures.value ∙ c.push_reserved-4.ensures.items ∙ ap (λ (xs : List ℕ). xs ++ 0 ∷ []) c.reserve-4.ensures.items in
+    rw here (omega (arith, zero-behind a.wanted.items k, c.self.invariant.wanted k, wanted-small a.submissions.items a.outcomes.items k, c.self.invariant.whole.outcomes, c.self.invariant.whole.small))
+
+pub invariant_of-self-2 : goal.invariant_of-self-2
+unfolding ticket_of
+invariant_of-self-2 c =
+    let a = c.self.inside in
+    let v = c.self.view_is in
+    let s : Stored = record { table = record { names = a.names.keys; submissions = a.submissions.items; outcomes = a.outcomes.items }; kept = map (option_map kept_value) a.kept.items } in
+    let free = ap (λ w. ticket_of w.table.names c.args.name) v ∙ c.requires.free in
+    let names = c.in_ok-insert.ensures.keys ∙ added (same_name c.args.name) a.names.keys c.args.name free in
+    let below : AllByRecursion (λ i. i < length a.names.keys) (tickets c.args.submission.inputs)
+    = let B : Stored → Type 0 = λ x. AllByRecursion (λ i. i < length x.table.names) (tickets c.args.submission.inputs) in subst B (sym v) c.requires.below in
+    let room : length a.names.keys < 65536 = let R : Stored → Type 0 = λ x. length x.table.names < 65536 in subst R (sym v) c.requires.room in
+    let made = c.reserve_inputs.new.waiting in
+    let now = c.raise_inputs.new.wanted in
+    let rest = c.push_inputs.new.waiting in
+    let waited = c.pending_inputs-waited.result in
+    let counts : c.deref_mut-2.result.now ≡ a.wanted.items ++ 0 ∷ [] = c.deref_mut-2.ensures.value ∙ c.push_reserved-4.ensures.items ∙ ap (λ (xs : List ℕ). xs ++ 0 ∷ []) c.reserve-4.ensures.items in
+    let kept-list = front made _ a.waiting.len (omega (arith, c.reserve_inputs.auto.waiting, c.deref_mut.ensures.len)) in
+    let lists : c.deref_mut-3.result.now ≡ made ++ c.none.result ∷ [] = c.deref_mut-3.ensures.value ∙ c.push_reserved-5.ensures.items ∙ ap (λ (xs : List Waiting). xs ++ c.none.result ∷ []) (c.reserve-5.ensures.items ∙ kept-list) in
+    let same : (k : ℕ) → waiting_at made k ≡ waiting_at a.waiting.items k = λ k. c.reserve_inputs.ensures.tickets k ∙ ap (λ (xs : List Waiting). waiting_at xs k) c.deref_mut.ensures.value in
+    let made-size : length made ≡ length a.waiting.items = omega (arith, c.reserve_inputs.auto.waiting, ap length c.deref_mut.ensures.value) in
+    let tracked = tracked-lists s a.wanted.items a.waiting.items made a.pending c.self.invariant made-size same in
+    let raised : (k : ℕ) → slice_index_or now k 0 ≡ slice_index_or (a.wanted.items ++ 0 ∷ []) k 0 + one_if (is_pending c.args.outcome && is_among c.args.submission.inputs k)
+    = λ k. rw (c.is_pending.ensures, counts) at (c.raise_inputs.ensures k) in
+    let waits : (k : ℕ) → is_among waited k ≡ (is_among c.args.submission.inputs k && is_pending (outcome_at a.outcomes.items k))
+    = λ k. rw (c.deref.ensures.value, c.reserve-2.ensures.items) at (c.pending_inputs-waited.ensures.value k) in
+    let each : (k : ℕ) → waiting_at rest k ≡ waiting_at (made ++ c.none.result ∷ []) k ++ entry_for waited (length a.names.keys) k
+    = λ k. rw (lists, c.len-t.ensures.len) at (c.push_inputs.ensures k) in
+    let counts-size : length now ≡ length a.wanted.items + 1 = omega (arith, c.raise_inputs.auto.wanted, ap length counts, length-append a.wanted.items (0 ∷ [])) in
+    let lists-size : length rest ≡ length made + 1 = omega (arith, c.push_inputs.auto.waiting, ap length lists, length-append made (c.none.result ∷ [])) in
+    rw (
+      names,
+      c.push_reserved.ensures.items,
+      c.push_reserved-2.ensures.items,
+      c.push_reserved-3.ensures.items,
+      c.reserve.ensures.items,
+      c.reserve-2.ensures.items,
+      c.reserve-3.ensures.items,
+      map-append (option_map kept_value) a.kept.items (c.args.value ∷ []),
+      front now _ c.push_reserved-4.new.self.len (omega (arith, c.raise_inputs.auto.wanted, c.deref_mut-2.ensures.len)),
+      front rest _ c.push_reserved-5.new.self.len (omega (arith, c.push_inputs.auto.waiting, c.deref_mut-3.ensures.len)),
+    )
+    (push-tracked s a.wanted.items now made rest a.pending (a.pending + c.one_if_pending.result) c.args.name c.args.submission c.args.outcome (option_map kept_value c.args.value) c.none.result waited
+    tracked room below c.requires.kept c.none.ensures counts-size lists-size raised waits each (ap (λ (n : ℕ). a.pending + n) c.one_if_pending.ensures))
 
 pub returns-clause-table : goal.returns-clause-table
 unfolding ticket_of
@@ -17,17 +98,3 @@ returns-clause-table c =
     let v = c.self.view_is in
     let free = ap (λ w. ticket_of w.table.names c.args.name) c.self.view_is ∙ c.requires.free in
     rw (c.in_ok-insert.ensures.keys, added (same_name c.args.name) c.self.inside.names.keys c.args.name free, c.push_reserved.ensures.items, c.push_reserved-2.ensures.items, c.reserve.ensures.items, c.reserve-2.ensures.items, ← v) refl
-
-pub invariant_of-self-2 : goal.invariant_of-self-2
-unfolding ticket_of
-invariant_of-self-2 c =
-    let v = c.self.view_is in
-    let free = ap (λ w. ticket_of w.table.names c.args.name) c.self.view_is ∙ c.requires.free in
-    let names = c.in_ok-insert.ensures.keys ∙ added (same_name c.args.name) c.self.inside.names.keys c.args.name free in
-    let below : AllByRecursion (λ i. i < length c.self.inside.names.keys) (tickets c.args.submission.inputs)
-    = let B : Stored → Type 0 = λ s. AllByRecursion (λ i. i < length s.table.names) (tickets c.args.submission.inputs) in subst B (sym v) c.requires.below in
-    let room : length c.self.inside.names.keys < 65536 = let R : Stored → Type 0 = λ s. length s.table.names < 65536 in subst R (sym v) c.requires.room in
-    let marks : vec_len c.push_reserved-4.new.self ≡ length (c.self.inside.names.keys ++ c.args.name ∷ []) = omega (arith, c.push_reserved-4.ensures.len, c.reserve-4.ensures.len, c.self.invariant.1, length-append c.self.inside.names.keys (c.args.name ∷ [])) in
-    let pending : c.self.inside.pending + c.one_if_pending.result ≡ count_by is_pending (c.self.inside.outcomes.items ++ c.args.outcome ∷ []) = omega (arith, count-push c.self.inside.outcomes.items c.args.outcome, c.self.invariant.2, c.one_if_pending.ensures) in
-    rw (names, c.push_reserved.ensures.items, c.push_reserved-2.ensures.items, c.push_reserved-3.ensures.items, c.reserve.ensures.items, c.reserve-2.ensures.items, c.reserve-3.ensures.items, map-append (option_map kept_value) c.self.inside.kept.items (c.args.value ∷ []))
-    (whole-push _ c.args.name c.args.submission c.args.outcome (option_map kept_value c.args.value) c.self.invariant.0 room below, marks, pending)

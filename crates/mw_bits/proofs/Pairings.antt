@@ -1,0 +1,54 @@
+-- Sets that are put together place by place.
+use Rattle.std.proofs.Common.{◌≡◌, ℕ, ◌+◌, ◌*◌, ◌<◌, List, length, get_or, map, ap, sym, arith, ◌∙◌}
+use Rattle.std.proofs.lemmas.List.{get_or-map, length-map}
+use Rattle.std.proofs.lemmas.Nat.{mul-add-lt}
+use Rattle.std.proofs.lemmas.Simd.{get_or-zip2, length-zip2}
+use Rattle.mw_line.proofs.Rows.{rows_fit}
+use Rattle.mw_bits.specs.Packed.{bit_of, stride_of, samples_of, IsPacked}
+use Rattle.mw_bits.proofs.Bits.{length-samples_of, sample_is_bit, samples_are_bits}
+use Rattle.mw_bits.proofs.Packs.{stride_wide}
+use lib.Lanes.{zip2}
+
+-- a place of a row lies in the words
+place_lies : (w h x y : ℕ) → x < 64 * stride_of w → y < h → y * (64 * stride_of w) + x < 64 * (h * stride_of w)
+place_lies w h x y lt row_lt = let fits = rows_fit y h (64 * stride_of w) row_lt in omega (arith, fits)
+
+pub paired_samples : (f : ℕ → ℕ → ℕ) (w h : ℕ) (a b made : List ℕ) → ((q : ℕ) → q < 64 * (h * stride_of w) → bit_of made q ≡ f (bit_of a q) (bit_of b q))
+    → samples_of w h made ≡ zip2 f (samples_of w h a) (samples_of w h b)
+paired_samples f w h a b made made-is =
+    let first = length-samples_of w h a in
+    let second = length-samples_of w h b in
+    sym (samples_are_bits w h made (zip2 f (samples_of w h a) (samples_of w h b)) (length-zip2 f (samples_of w h a) (samples_of w h b) (first ∙ sym second) ∙ first)
+    (λ x y less row_less.
+    let at = y * w + x in
+    let inside : at < h * w = omega (arith, mul-add-lt y w x h row_less less) in
+    get_or-zip2 f (samples_of w h a) (samples_of w h b) at 0 0 0 (omega (arith, first, inside)) (omega (arith, second, inside))
+    ∙ ap (λ (t : ℕ). f t (get_or (samples_of w h b) at 0)) (sample_is_bit w h a x y less row_less)
+    ∙ ap (f (bit_of a (y * (64 * stride_of w) + x))) (sample_is_bit w h b x y less row_less)
+    ∙ sym (made-is (y * (64 * stride_of w) + x) (place_lies w h x y (stride_wide w x less) row_less))))
+
+pub paired_packed : (f : ℕ → ℕ → ℕ) (w h : ℕ) (a b made : List ℕ) → f 0 0 ≡ 0 → length made ≡ length a → IsPacked w h a → IsPacked w h b
+    → ((q : ℕ) → q < 64 * (h * stride_of w) → bit_of made q ≡ f (bit_of a q) (bit_of b q)) → IsPacked w h made
+paired_packed f w h a b made none size first second made-is = record {
+  size = size ∙ first.size;
+  clean = λ x y row_less past less.
+      made-is (y * (64 * stride_of w) + x) (place_lies w h x y less row_less)
+      ∙ ap (λ (t : ℕ). f t (bit_of b (y * (64 * stride_of w) + x))) (first.clean x y row_less past less)
+      ∙ ap (f 0) (second.clean x y row_less past less)
+      ∙ none;
+}
+
+-- samples that are made from those of other words, place by place
+pub mapped_samples : (f : ℕ → ℕ) (w h : ℕ) (a made : List ℕ)
+    → ((x y : ℕ) → x < w → y < h → bit_of made (y * (64 * stride_of w) + x) ≡ f (bit_of a (y * (64 * stride_of w) + x)))
+    → samples_of w h made ≡ map f (samples_of w h a)
+mapped_samples f w h a made made-is =
+    let size = length-samples_of w h a in
+    sym (samples_are_bits w h made (map f (samples_of w h a)) (length-map (samples_of w h a) f ∙ size)
+    (λ x y less row_less.
+    let at = y * w + x in
+    let inside : at < h * w = omega (arith, mul-add-lt y w x h row_less less) in
+    get_or-map f (samples_of w h a) at 0 0 (omega (arith, size, inside)) ∙ ap f (sample_is_bit w h a x y less row_less) ∙ sym (made-is x y less row_less)))
+
+pub flipped_place : (w h x y n : ℕ) → n ≡ h * stride_of w → x < w → y < h → y * (64 * stride_of w) + x < 64 * n
+flipped_place w h x y n n-is less row_less = let lies = place_lies w h x y (stride_wide w x less) row_less in omega (arith, lies, n-is)

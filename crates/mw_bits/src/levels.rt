@@ -1,0 +1,103 @@
+//! Sets of the places of a grey window that have a level, or a level or more, as words: a row of samples is tested into a
+//! line of pixels, which is packed, so that no plane of one byte a pixel is made.
+ghost use Rattle.std.specs.Prelude.{◌≡◌, ℕ, ◌*◌, ◌==◌, length, map, cond, nat_le, if◌then◌else◌, IfOk};
+ghost use Rattle.mw_tile.specs.Cuts.{view_of};
+ghost use Rattle.mw_bits.specs.Packed.{stride_of, IsPacked, samples_of};
+
+use crate::Words;
+use crate::packing::pack_row;
+use crate::words::{repeated, stride};
+use mw_model::NoMemory;
+use mw_pixel::{Bit, Pixel, copies};
+use mw_tile::Window;
+use std::alloc::Global;
+
+/// Whether a level belongs to a set that a number picks.
+pub(crate) trait LevelTest {
+    ghost is_in: { ℕ → ℕ → ℕ };
+
+    fn holds(k: u32, level: u16) -> bool
+        ensures { cond result 1 0 ≡ is_in k level };
+}
+
+/// The level is the number or more.
+pub(crate) struct FromLevel;
+
+/// The level is the number.
+pub(crate) struct OfLevel;
+
+impl LevelTest for FromLevel {
+    ghost is_in = { λ (k n : ℕ). if nat_le k n then 1 else 0 };
+
+    #[inline(always)]
+    fn holds(k: u32, level: u16) -> bool {
+        u32::from(level) >= k
+    }
+}
+
+impl LevelTest for OfLevel {
+    ghost is_in = { λ (k n : ℕ). if n == k then 1 else 0 };
+
+    #[inline(always)]
+    fn holds(k: u32, level: u16) -> bool {
+        u32::from(level) == k
+    }
+}
+
+/// Puts those places into the line whose sample is in the set.
+fn test_row<P: Pixel, T: LevelTest>(src: &[P], k: u32, line: &mut [Bit])
+    requires { length line.old ≡ length src.now }
+    ensures { line.new ≡ map (λ s. T.is_in k (P.level s)) src.now }
+{
+    for i in 0..src.len() {
+        line[i] = Bit::new(T::holds(k, src[i].value()));
+    }
+}
+
+/// Tests and packs each row of the window.
+fn test_rows<P: Pixel, T: LevelTest>(window: &Window<P>, k: u32, line: &mut [Bit], out: &mut [u64])
+    requires line { length line.old ≡ window.now.place.width }
+    requires room { length out.old ≡ window.now.place.height * stride_of window.now.place.width }
+    ensures packed { IsPacked window.now.place.width window.now.place.height out.new }
+    ensures samples { samples_of window.now.place.width window.now.place.height out.new ≡ map (λ s. T.is_in k (P.level s)) window.now.cells }
+{
+    let place = window.place();
+    let _samples = window.samples();
+    let stride = stride(place.width);
+    for y in 0..place.height {
+        let start = y as usize * stride;
+        test_row::<P, T>(window.row(y), k, line);
+        pack_row(line, &mut out[start..start + stride]);
+    }
+}
+
+impl Words {
+    /// The places of a window whose sample is in the set.
+    fn tested<P: Pixel, T: LevelTest>(
+        alloc: Global,
+        window: &Window<P>,
+        k: u32,
+    ) -> Result<Words, NoMemory>
+        ensures { IfOk result (λ w. w ≡ view_of window.now.frame_width window.now.frame_height window.now.place (map (λ s. T.is_in k (P.level s)) window.now.cells)) }
+    {
+        let place = window.place();
+        let mut line = copies(alloc, place.width as usize, Bit::new(false))?;
+        let mut words = repeated(alloc, place.height as usize * stride(place.width), 0u64)?;
+        test_rows::<P, T>(window, k, line.as_mut_slice(), words.as_mut_slice());
+        Ok(Words::new(window.frame_width(), window.frame_height(), place, words))
+    }
+
+    /// The places of a window with level `k` or more. It may want memory (`NoMemory`).
+    pub fn at_least<P: Pixel>(alloc: Global, window: &Window<P>, k: u32) -> Result<Words, NoMemory>
+        ensures { IfOk result (λ w. w ≡ view_of window.now.frame_width window.now.frame_height window.now.place (map (λ s. if nat_le k (P.level s) then 1 else 0) window.now.cells)) }
+    {
+        Words::tested::<P, FromLevel>(alloc, window, k)
+    }
+
+    /// The places of a window with level `v`. It may want memory (`NoMemory`).
+    pub fn equal<P: Pixel>(alloc: Global, window: &Window<P>, v: u32) -> Result<Words, NoMemory>
+        ensures { IfOk result (λ w. w ≡ view_of window.now.frame_width window.now.frame_height window.now.place (map (λ s. if P.level s == v then 1 else 0) window.now.cells)) }
+    {
+        Words::tested::<P, OfLevel>(alloc, window, v)
+    }
+}

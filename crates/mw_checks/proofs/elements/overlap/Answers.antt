@@ -1,0 +1,11 @@
+use Rattle.std.proofs.Common.{sym, ap, ◌∙◌}
+use Rattle.mw_model.specs.Elements.{overlaps}
+use Rattle.mw_model.specs.Values.{value_at}
+use Rattle.mw_checks.specs.Checks.{kept_offsets}
+use Rattle.mw_checks.proofs.ElementLemmas.{overlaps-none, no-offsets}
+use Rattle.mw_checks.proofs.elements.overlap.Goals as goal
+
+pub returns-in_default-element : goal.returns-in_default-element
+returns-in_default-element c =
+    let kept = c.args.store.now.kept in
+    sym (ap (overlaps (kept_offsets kept c.args.first)) (no-offsets (value_at kept c.args.second) (sym c.in_default-element.ensures)) ∙ overlaps-none (kept_offsets kept c.args.first))

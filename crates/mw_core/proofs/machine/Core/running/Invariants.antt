@@ -1,7 +1,0 @@
-use Rattle.std.proofs.Common.{◌≡◌, ◌≤◌, map, sum}
-use Rattle.std.specs.List.{range_with_len}
-use Rattle.mw_core.specs.Counts.{running_under}
-use Rattle.mw_core.proofs.machine.Core.running.Given as goal
-
-abbrev pub invariant-loop-t : goal.invariant-loop-t
-invariant-loop-t l = (l.count ≡ sum (map (running_under l.self) (range_with_len 0 l.t))) × (l.count ≤ l.t)

@@ -1,0 +1,10 @@
+-- what other crates may cite
+pub mod CountLemmas
+-- the crate's own
+mod Anew
+mod OrderLemmas
+mod ReadyLemmas
+mod Rows
+mod SettleLemmas
+mod SweepLemmas
+mod WorkLemmas

@@ -1,0 +1,22 @@
+use Rattle.std.proofs.Common.{length, refl, ap, arith}
+use Rattle.mw_model.specs.Refusals.{Table}
+use Rattle.mw_ledger.specs.Books.{Book}
+use Rattle.mw_ledger.proofs.OrderLemmas.{follows-orderly}
+use Rattle.mw_ledger.proofs.ledger.Ledger.let_go.Goals as goal
+
+pub invariant_of-self-2 : goal.invariant_of-self-2
+invariant_of-self-2 c =
+    let b = c.self.inside in
+    let table = c.release.ensures.table in
+    let old : Book = record { table = b.store.table; kept = b.store.kept; works = b.works.items; log = b.log.items; side = b.side } in
+    let new : Book = record { table = c.release.new.self.table; kept = c.release.new.self.kept; works = b.works.items; log = c.push_reserved.new.self.items; side = b.side } in (
+      omega (arith, c.pending.ensures.value, c.in_ok-reserve.ensures.ok, c.in_ok-reserve.ensures.len, c.release.ensures.pending, c.push_reserved.ensures.len, c.push_reserved.ensures.capacity),
+      follows-orderly old new c.self.invariant.1 (record {
+        stored = c.pending-whole.ensures.whole;
+        submissions = ap (λ (w : Table). w.submissions) table;
+        names = ap (λ (w : Table). length w.names) table;
+        count = refl;
+        works = λ t u h. h;
+        side = refl;
+      }),
+    )

@@ -1,0 +1,28 @@
+use Rattle.std.proofs.Common.{◌<◌, length, refl, ap, subst, arith}
+use Rattle.std.specs.List.{AllByRecursion}
+use Rattle.mw_model.specs.Refusals.{Table}
+use Rattle.mw_ledger.specs.Books.{Book}
+use Rattle.mw_ledger.proofs.OrderLemmas.{follows-orderly}
+use Rattle.mw_ledger.proofs.ledger.Ledger.settle.Goals as goal
+
+pub invariant_of-self : goal.invariant_of-self
+invariant_of-self c =
+    let b = c.self.inside in
+    let told = c.settle-waiters.ensures in
+    let old : Book = record { table = b.store.table; kept = b.store.kept; works = b.works.items; log = b.log.items; side = b.side } in
+    let new : Book = record { table = c.settle-waiters.new.self.table; kept = c.settle-waiters.new.self.kept; works = b.works.items; log = c.push_reserved.new.self.items; side = b.side } in (
+      omega (arith, told.pending, c.push_reserved.ensures.len, c.push_reserved.ensures.capacity, c.self.invariant.0),
+      follows-orderly old new c.self.invariant.1 (record {
+        stored = c.pending-whole.ensures.whole;
+        submissions = ap (λ (w : Table). w.submissions) told.table;
+        names = ap (λ (w : Table). length w.names) told.table;
+        count = refl;
+        works = λ t u h. h;
+        side = refl;
+      }),
+    )
+
+pub returns-clause-below : goal.returns-clause-below
+returns-clause-below c =
+    let P : Book → Type 0 = λ v. AllByRecursion (λ u. u < length v.table.names) c.settle-waiters.result in
+    subst P c.self.view_is c.settle-waiters.ensures.below

@@ -1,0 +1,49 @@
+-- What a ledger shows, and what holds of it beside any machine.
+use Rattle.std.specs.Prelude.{ℕ, ◌≡◌, ◌≤◌, List, [], length, map, Option, Some, None, option_map, slice_index_or}
+use Rattle.mw_model.specs.declared.calls.LogItem.{LogItem}
+use Rattle.mw_model.specs.Values.{Value}
+use Rattle.mw_model.specs.Refusals.{Table}
+use Rattle.mw_model.specs.Stands.{Seen}
+use Rattle.mw_model.specs.Tasks.{Progress, remaining_tasks, task_count}
+use Rattle.mw_progress.specs.Underway.{Underway}
+use Rattle.mw_store.specs.Stored.{Stored, IsWhole}
+use Rattle.mw_stands.specs.Limits.{ShapesFit}
+use Rattle.mw_underway.specs.Planning.{IsPlannedAt, IsSide}
+
+-- What a ledger shows: its table, the value that it keeps of each ticket, the work under each, with the planes that its tasks have made, its log, and the side of its tiles in pixels.
+pub record Book : Type 0 where
+  pub table : Table
+  pub kept : List (Option Value)
+  pub works : List (Option Underway)
+  pub log : List LogItem
+  pub side : ℕ
+
+-- the work under a ticket, if there is any
+abbrev pub work_at : List (Option Underway) → ℕ → Option Underway
+work_at works t = slice_index_or works t None
+
+-- what is known of the tasks of work, without its planes
+abbrev pub progress_of : Underway → Progress
+progress_of u = u.progress
+
+-- what a core shows of it
+abbrev pub seen_of : Book → Seen
+seen_of b = record { table = b.table; kept = b.kept; work = map (option_map progress_of) b.works; log = b.log; side = b.side }
+
+-- the part that its store shows
+abbrev pub stored_in : Book → Stored
+stored_in b = record { table = b.table; kept = b.kept }
+
+-- nothing was accepted yet
+abbrev pub empty_book : ℕ → Book
+empty_book side = record { table = record { names = []; submissions = []; outcomes = [] }; kept = []; works = []; log = []; side = side }
+
+-- The store is whole, each shape is within the limits, there is a place for work with each name, and what stands there is planned for its ticket, is not finished, and has at most 4,194,304 tasks.
+pub record IsOrderly (b : Book) : Type 0 where
+  pub stored : IsWhole (stored_in b)
+  pub works : length b.works ≡ length b.table.names
+  pub fits : ShapesFit b.table
+  pub planned : (t : ℕ) (u : Underway) → work_at b.works t ≡ Some u → IsPlannedAt b.table t u
+  pub left : (t : ℕ) (u : Underway) → work_at b.works t ≡ Some u → 1 ≤ remaining_tasks u.progress
+  pub most : (t : ℕ) (u : Underway) → work_at b.works t ≡ Some u → task_count u.progress ≤ 4194304
+  pub side : IsSide b.side

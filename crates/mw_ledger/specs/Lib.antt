@@ -1,0 +1,4 @@
+pub mod Books
+pub mod Changes
+pub mod Counts
+pub mod Tasks

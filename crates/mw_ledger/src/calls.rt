@@ -1,0 +1,98 @@
+//! Session calls: entries are added, die, and are let go, and each call has its item in the log.
+
+ghost use Rattle.std.specs.Prelude.{◌≡◌, ◌<◌, ◌≤◌, ◌++◌, ◌∷◌, [], length, OnOk, OnErr, IfOk, IfSome, None, false};
+
+use crate::ledger::Ledger;
+use crate::sweep::drop_settled;
+use mw_model::{Call, LogItem, Name, NoMemory, Outcome, Reply};
+use mw_progress::PlanProgress;
+use mw_store::Entry;
+
+impl Ledger {
+    ghost use Rattle.std.specs.List.{AllByRecursion};
+    ghost use Rattle.mw_model.specs.Values.{tickets};
+    ghost use Rattle.mw_model.specs.Refusals.{ticket_of, outcome_at, is_pending};
+    ghost use Rattle.mw_model.specs.Machine.{killed, settled};
+    ghost use Rattle.mw_model.specs.Tasks.{remaining_tasks, task_count};
+    ghost use Rattle.mw_store.specs.Entries.{submission_of};
+    ghost use Rattle.mw_store.specs.Stored.{DropsSpent};
+    ghost use Rattle.mw_stands.specs.Limits.{FitsLimits};
+    ghost use Rattle.mw_underway.specs.Planning.{IsPlannedOn};
+    ghost use Rattle.mw_ledger.specs.Changes.{KeepsWorks, noted, with_accepted};
+
+    /// Adds the item of a call that changes no entry.
+    pub fn note(&mut self, call: Call, reply: Reply) -> Result<(), NoMemory>
+        ensures ok { OnOk result (self.new ≡ noted self.old (LogItem.Call call reply)) }
+        ensures err { OnErr result (self.new ≡ self.old) }
+    {
+        self.log.reserve(self.store.pending() + 1)?;
+        self.log.push_reserved(LogItem::Call(call, reply));
+        Ok(())
+    }
+
+    /// Adds an entry with its work, its item and a place for its end, and answers its ticket.
+    pub fn accept(
+        &mut self,
+        call: Call,
+        name: Name,
+        entry: Entry,
+        work: Option<PlanProgress>,
+    ) -> Result<u32, NoMemory>
+        requires free { ticket_of self.old.table.names name ≡ None }
+        requires room { length self.old.table.names < 65536 }
+        requires below { AllByRecursion (λ i. i < length self.old.table.names) (tickets (submission_of entry).inputs) }
+        requires fits { FitsLimits (submission_of entry).shape }
+        requires planned { IfSome work (IsPlannedOn self.old.table (submission_of entry)) }
+        requires left { IfSome work (λ u. 1 ≤ remaining_tasks u.progress) }
+        requires most { IfSome work (λ u. task_count u.progress ≤ 4194304) }
+        ensures ticket { IfOk result (λ t. t ≡ length self.old.table.names) }
+        ensures ok { OnOk result (self.new ≡ with_accepted self.old call name entry work) }
+        ensures err { OnErr result (self.new ≡ self.old) }
+    {
+        self.log.reserve(self.store.pending() + 2)?;
+        self.works.reserve(1)?;
+        let t = self.store.add(name, entry)?;
+        let _whole = self.store.pending();
+        self.works.push_reserved(work);
+        self.log
+            .push_reserved(LogItem::Call(call, Reply::Accepted(t)));
+        Ok(t)
+    }
+
+    /// Ends a pending ticket by its death, in the place that its item has, and drops what nothing waits for any more. This
+    /// is the only call that looks at all entries. No memory is asked for.
+    pub fn end(&mut self, t: u32, cause: Outcome, item: LogItem)
+        requires within { t < length self.old.table.names }
+        requires pending { outcome_at self.old.table.outcomes t ≡ Outcome.Pending }
+        requires dead { is_pending cause ≡ false }
+        ensures table { self.new.table ≡ killed self.old.table t cause }
+        ensures kept { DropsSpent self.new.table self.old.kept self.new.kept }
+        ensures works { KeepsWorks self.new.table self.old.works self.new.works }
+        ensures log { self.new.log ≡ self.old.log ++ item ∷ [] }
+        ensures side { self.new.side ≡ self.old.side }
+    {
+        let _pending = self.store.pending();
+        self.store.kill(t, cause);
+        let _whole = self.store.pending();
+        drop_settled(&self.store, &mut self.works);
+        self.log.push_reserved(item);
+    }
+
+    /// Lets a done ticket go.
+    pub fn let_go(&mut self, t: u32, item: LogItem) -> Result<(), NoMemory>
+        requires within { t < length self.old.table.names }
+        requires done { outcome_at self.old.table.outcomes t ≡ Outcome.Done }
+        ensures table { OnOk result (self.new.table ≡ settled self.old.table t Outcome.Released) }
+        ensures kept { OnOk result (DropsSpent self.new.table self.old.kept self.new.kept) }
+        ensures works { OnOk result (self.new.works ≡ self.old.works) }
+        ensures log { OnOk result (self.new.log ≡ self.old.log ++ item ∷ []) }
+        ensures side { self.new.side ≡ self.old.side }
+        ensures err { OnErr result (self.new ≡ self.old) }
+    {
+        self.log.reserve(self.store.pending() + 1)?;
+        self.store.release(t);
+        let _whole = self.store.pending();
+        self.log.push_reserved(item);
+        Ok(())
+    }
+}

@@ -1,0 +1,4 @@
+-- the crate's own
+mod AuditLemmas
+mod KeptLemmas
+mod NameLemmas

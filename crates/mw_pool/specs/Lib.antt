@@ -1,0 +1,4 @@
+pub mod Passes
+pub mod Payloads
+pub mod Tickets
+pub mod Blocks

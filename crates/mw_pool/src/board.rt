@@ -1,0 +1,218 @@
+//! The board: a core behind a lock, for sessions and workers in threads.
+
+ghost use Rattle.std.specs.Prelude.{◌≡◌, ◌↔◌, [], true, IfOk, OnErr, IsTrue, IsSome};
+
+use crate::kept::Kept;
+use crate::pass::Pass;
+use crate::payloads::{read_element, read_image};
+use mw_core::{Core, Fetched, Finish, Refusal, Started};
+use mw_model::{Name, NoMemory, Op, Reply};
+use mw_task::{TaskRefused, TileDone, Work};
+use std::alloc::Global;
+use std::sync::{Condvar, Mutex, MutexGuard, Wait};
+
+/// A core that threads share.
+#[derive(Drop)]
+pub struct Board {
+    kept: Mutex<Kept>,
+    /// Workers sleep here until a task is ready.
+    ready: Condvar,
+    /// Sessions sleep here until an entry is settled.
+    settled: Condvar,
+    alloc: Global,
+}
+
+/// A session call reads its payload without the lock. Then it is one call of the pass, in one hold of the lock. No contract
+/// says what the core was at that moment: what is known is the receipt.
+impl Board {
+    ghost use Rattle.mw_model.specs.declared.calls.Given.{Given};
+    ghost use Rattle.mw_model.specs.declared.calls.Call.TheVariants as call;
+    ghost use Rattle.mw_model.specs.Machine.{Machine};
+    ghost use Rattle.mw_model.specs.Stands.{Seen, StandsFor};
+    ghost use Rattle.mw_model.specs.Receipts.{Covers};
+    ghost use Rattle.mw_core.specs.Fetches.{ShowsSome, shown_value};
+    ghost use Rattle.mw_pool.specs.Passes.{AddsReceipt};
+    ghost use Rattle.mw_pool.specs.Payloads.{TellsImage, TellsElement};
+
+    /// An open board over a core that stands for some state of the machine, as a new one does.
+    pub fn new(alloc: Global, core: Core) -> Board
+        requires { (m : Machine) × StandsFor core m }
+    {
+        Board {
+            kept: Mutex::new(Kept::new(core)),
+            ready: Condvar::new(),
+            settled: Condvar::new(),
+            alloc,
+        }
+    }
+
+    /// A pass without receipts.
+    pub fn pass(&self) -> Pass
+        ensures { result ≡ [] }
+    {
+        Pass::new(self.alloc)
+    }
+
+    /// LOAD of the bytes of a file.
+    pub fn load<R: Wait>(
+        &self,
+        rt: &R,
+        pass: &mut Pass,
+        name: Name,
+        bytes: &[u8],
+    ) -> Result<Reply, NoMemory>
+        ensures receipt { IfOk result (λ r. (g : Given) × TellsImage bytes.now g × AddsReceipt pass.old pass.new (call.Load name g) r) }
+        ensures err { OnErr result (pass.new ≡ pass.old) }
+    {
+        let image = read_image(self.alloc, bytes);
+        self.kept.lock(rt).load(pass, name, image)
+    }
+
+    /// ELEMENT of the bytes of a plain bitmap, with its origin in this column and row.
+    pub fn element<R: Wait>(
+        &self,
+        rt: &R,
+        pass: &mut Pass,
+        name: Name,
+        origin: (u32, u32),
+        bytes: &[u8],
+    ) -> Result<Reply, NoMemory>
+        ensures receipt { IfOk result (λ r. (g : Given) × TellsElement bytes.now origin.0 origin.1 g × AddsReceipt pass.old pass.new (call.Element name g) r) }
+        ensures err { OnErr result (pass.new ≡ pass.old) }
+    {
+        let element = read_element(self.alloc, bytes, origin.0, origin.1);
+        self.kept.lock(rt).element(pass, name, element)
+    }
+
+    /// RUN. As many sleeping workers are woken as tasks are ready.
+    pub fn run<R: Wait>(
+        &self,
+        rt: &R,
+        pass: &mut Pass,
+        name: Name,
+        op: Op,
+    ) -> Result<Reply, NoMemory>
+        ensures receipt { IfOk result (λ r. AddsReceipt pass.old pass.new (call.Run name op) r) }
+        ensures err { OnErr result (pass.new ≡ pass.old) }
+    {
+        let mut kept = self.kept.lock(rt);
+        let reply = kept.run(pass, name, op);
+        let wanted = kept.wanted_workers(0);
+        drop(kept);
+        self.wake_workers(wanted);
+        reply
+    }
+
+    /// CANCEL. Sessions that wait look again.
+    pub fn cancel<R: Wait>(&self, rt: &R, pass: &mut Pass, name: Name) -> Result<Reply, NoMemory>
+        ensures receipt { IfOk result (λ r. AddsReceipt pass.old pass.new (call.Cancel name) r) }
+        ensures err { OnErr result (pass.new ≡ pass.old) }
+    {
+        let reply = self.kept.lock(rt).cancel(pass, name);
+        self.settled.notify_all();
+        reply
+    }
+
+    /// RELEASE.
+    pub fn release<R: Wait>(&self, rt: &R, pass: &mut Pass, name: Name) -> Result<Reply, NoMemory>
+        ensures receipt { IfOk result (λ r. AddsReceipt pass.old pass.new (call.Release name) r) }
+        ensures err { OnErr result (pass.new ≡ pass.old) }
+    {
+        self.kept.lock(rt).release(pass, name)
+    }
+
+    /// STATUS.
+    pub fn status<R: Wait>(&self, rt: &R, pass: &mut Pass, name: Name) -> Result<Reply, NoMemory>
+        ensures receipt { IfOk result (λ r. AddsReceipt pass.old pass.new (call.Status name) r) }
+        ensures err { OnErr result (pass.new ≡ pass.old) }
+    {
+        self.kept.lock(rt).status(pass, name)
+    }
+
+    /// STATUS, in the first hold of the lock in which the name has no pending entry or the board is closed.
+    pub fn wait<R: Wait>(&self, rt: &R, pass: &mut Pass, name: Name) -> Result<Reply, NoMemory>
+        ensures receipt { IfOk result (λ r. AddsReceipt pass.old pass.new (call.Status name) r) }
+        ensures err { OnErr result (pass.new ≡ pass.old) }
+    {
+        let kept = self.kept.lock(rt);
+        let first = kept.place_of(name);
+        let mut kept = self
+            .settled
+            .wait_while(rt, kept, |kept| kept.awaits(name, first));
+        kept.end_wait(pass, name)
+    }
+
+    /// FETCH. A value is handed out exactly where the reply is `Shown`.
+    pub fn fetch<R: Wait>(&self, rt: &R, pass: &mut Pass, name: Name) -> Result<Fetched, NoMemory>
+        ensures receipt { IfOk result (λ f. AddsReceipt pass.old pass.new (call.Fetch name) f.reply) }
+        ensures shown { IfOk result (λ f. IsSome (shown_value f.value) ↔ ShowsSome f.reply) }
+        ensures err { OnErr result (pass.new ≡ pass.old) }
+    {
+        self.kept.lock(rt).fetch(pass, name)
+    }
+
+    /// Workers take no task any more, and no session waits.
+    pub fn close<R: Wait>(&self, rt: &R) {
+        self.kept.lock(rt).closed = true;
+        self.ready.notify_all();
+        self.settled.notify_all();
+    }
+
+    /// Whether the passes cover the log. Then there is a state of the machine whose run has all their calls, each once, and
+    /// those of each pass in the pass's order.
+    pub fn audit_all<R: Wait>(&self, rt: &R, passes: &[Pass]) -> bool
+        ensures { IsTrue result → (core : Seen) × ∥ ((m : Machine) × StandsFor core m) ∥₁ × Covers core.log passes.now }
+    {
+        self.kept.lock(rt).audit(passes)
+    }
+
+    fn wake_workers(&self, wanted: u64) {
+        for _ in 0..wanted {
+            self.ready.notify_one();
+        }
+    }
+
+    /// A task to compute, or none once the board is closed. Sleeps while nothing is ready.
+    pub(crate) fn take<R: Wait>(&self, rt: &R) -> Option<Work> {
+        for _ in rt.forever() {
+            let mut kept = self.kept.lock(rt);
+            if kept.closed {
+                return None;
+            }
+            match kept.start() {
+                Started::Work(work) => return Some(work),
+                Started::Refused(_) => self.settled.notify_all(),
+                Started::Idle => self.sleep(rt, kept),
+            }
+        }
+        None
+    }
+
+    /// Sleeps until a task may be ready.
+    fn sleep<'b, R: Wait>(&'b self, rt: &R, mut kept: MutexGuard<'b, Kept>) {
+        kept.asleep = kept.asleep.saturating_add(1);
+        let mut kept = self.ready.wait(rt, kept);
+        kept.asleep = kept.asleep.saturating_sub(1);
+    }
+
+    /// A worker brings a result, and takes one of the ready tasks itself. Where the result was the last of its ticket, the
+    /// others wake sleeping workers, and sessions that wait look again.
+    pub(crate) fn finish<R: Wait>(&self, rt: &R, done: TileDone) {
+        let mut kept = self.kept.lock(rt);
+        let answer = kept.finish(done);
+        let wanted = kept.wanted_workers(1);
+        drop(kept);
+        if let Finish::Settled(_) = answer {
+            self.settled.notify_all();
+        }
+        self.wake_workers(wanted);
+    }
+
+    /// A worker found no memory for a task.
+    pub(crate) fn refuse<R: Wait>(&self, rt: &R, refused: TaskRefused) {
+        let answer = self.kept.lock(rt).refuse(refused);
+        if let Refusal::Killed(_) = answer {
+            self.settled.notify_all();
+        }
+    }
+}

@@ -1,0 +1,203 @@
+//! What the lock of a board keeps.
+
+ghost use Rattle.std.specs.Prelude.{◌≡◌, ◌≢◌, ◌↔◌, ◌-◌, min, ℕ, true, false, length, IfOk, OnErr, IsTrue, IsSome, None};
+ghost use Rattle.mw_model.specs.Machine.{Machine};
+ghost use Rattle.mw_model.specs.Stands.{StandsFor, ready_count};
+
+use crate::auditing::audit;
+use crate::pass::Pass;
+use crate::tickets::{is_awaited, place_of};
+use mw_core::{Core, Fetched, Finish, Refusal, Started};
+use mw_element::Element;
+use mw_model::{Code, Name, NoMemory, Op, Reply};
+use mw_pixel::Image;
+use mw_task::{TaskRefused, TileDone};
+
+/// A core that stands for some state of the machine: so its log is a run of the machine of one thread that ends in that
+/// state, and each logged reply is that machine's. It is so whenever the lock is free.
+#[derive(Drop)]
+pub(crate) struct Kept {
+    pub core: Core,
+    /// No worker takes a task any more, and no session waits.
+    pub closed: bool,
+    /// How many workers sleep.
+    pub asleep: u64,
+    pub ghost stands: { ∥ ((m : Machine) × StandsFor core m) ∥₁ },
+}
+
+/// Each of these is one event of the core, or none.
+impl Kept {
+    ghost use Rattle.std.specs.Result.{ForOk};
+    ghost use Rattle.mw_model.specs.Pictures.{IsImage};
+    ghost use Rattle.mw_model.specs.declared.calls.Call.TheVariants as call;
+    ghost use Rattle.mw_model.specs.Receipts.{Covers};
+    ghost use Rattle.mw_stands.specs.Payloads.{given_image, image_payload, given_element, element_payload};
+    ghost use Rattle.mw_stands.specs.Events.{Serves};
+    ghost use Rattle.mw_core.specs.TaskAnswers.{Starts, Finishes, Refuses};
+    ghost use Rattle.mw_core.specs.Fetches.{ShowsSome, shown_value};
+    ghost use Rattle.mw_pool.specs.Passes.{with_receipt};
+    ghost use Rattle.mw_pool.specs.Tickets.{told_at, IsAwaited};
+
+    /// An open board's, before any worker sleeps.
+    pub fn new(core: Core) -> Kept
+        requires { (m : Machine) × StandsFor core m }
+        ensures core { result.core ≡ core }
+        ensures open_still { result.closed ≡ false }
+    {
+        Kept {
+            core,
+            closed: false,
+            asleep: 0,
+        }
+    }
+
+    pub fn load(
+        &mut self,
+        pass: &mut Pass,
+        name: Name,
+        image: Result<Image, Code>,
+    ) -> Result<Reply, NoMemory>
+        requires { ForOk image IsImage }
+        ensures served { IfOk result (Serves self.old.core (call.Load name (given_image image)) (image_payload image) self.new.core) }
+        ensures receipt { IfOk result (λ r. pass.new ≡ with_receipt pass.old (length self.old.core.log) (call.Load name (given_image image)) r) }
+        ensures core_stays { OnErr result (self.new.core ≡ self.old.core) }
+        ensures pass_stays { OnErr result (pass.new ≡ pass.old) }
+        ensures rest { (self.new.closed ≡ self.old.closed) × (self.new.asleep ≡ self.old.asleep) }
+    {
+        pass.load(&mut self.core, name, image)
+    }
+
+    pub fn element(
+        &mut self,
+        pass: &mut Pass,
+        name: Name,
+        element: Result<Element, Code>,
+    ) -> Result<Reply, NoMemory>
+        ensures served { IfOk result (Serves self.old.core (call.Element name (given_element element)) (element_payload element) self.new.core) }
+        ensures receipt { IfOk result (λ r. pass.new ≡ with_receipt pass.old (length self.old.core.log) (call.Element name (given_element element)) r) }
+        ensures core_stays { OnErr result (self.new.core ≡ self.old.core) }
+        ensures pass_stays { OnErr result (pass.new ≡ pass.old) }
+        ensures rest { (self.new.closed ≡ self.old.closed) × (self.new.asleep ≡ self.old.asleep) }
+    {
+        pass.element(&mut self.core, name, element)
+    }
+
+    pub fn run(&mut self, pass: &mut Pass, name: Name, op: Op) -> Result<Reply, NoMemory>
+        ensures served { IfOk result (Serves self.old.core (call.Run name op) None self.new.core) }
+        ensures receipt { IfOk result (λ r. pass.new ≡ with_receipt pass.old (length self.old.core.log) (call.Run name op) r) }
+        ensures core_stays { OnErr result (self.new.core ≡ self.old.core) }
+        ensures pass_stays { OnErr result (pass.new ≡ pass.old) }
+        ensures rest { (self.new.closed ≡ self.old.closed) × (self.new.asleep ≡ self.old.asleep) }
+    {
+        pass.run(&mut self.core, name, op)
+    }
+
+    pub fn cancel(&mut self, pass: &mut Pass, name: Name) -> Result<Reply, NoMemory>
+        ensures served { IfOk result (Serves self.old.core (call.Cancel name) None self.new.core) }
+        ensures receipt { IfOk result (λ r. pass.new ≡ with_receipt pass.old (length self.old.core.log) (call.Cancel name) r) }
+        ensures core_stays { OnErr result (self.new.core ≡ self.old.core) }
+        ensures pass_stays { OnErr result (pass.new ≡ pass.old) }
+        ensures rest { (self.new.closed ≡ self.old.closed) × (self.new.asleep ≡ self.old.asleep) }
+    {
+        pass.cancel(&mut self.core, name)
+    }
+
+    pub fn release(&mut self, pass: &mut Pass, name: Name) -> Result<Reply, NoMemory>
+        ensures served { IfOk result (Serves self.old.core (call.Release name) None self.new.core) }
+        ensures receipt { IfOk result (λ r. pass.new ≡ with_receipt pass.old (length self.old.core.log) (call.Release name) r) }
+        ensures core_stays { OnErr result (self.new.core ≡ self.old.core) }
+        ensures pass_stays { OnErr result (pass.new ≡ pass.old) }
+        ensures rest { (self.new.closed ≡ self.old.closed) × (self.new.asleep ≡ self.old.asleep) }
+    {
+        pass.release(&mut self.core, name)
+    }
+
+    pub fn status(&mut self, pass: &mut Pass, name: Name) -> Result<Reply, NoMemory>
+        ensures served { IfOk result (Serves self.old.core (call.Status name) None self.new.core) }
+        ensures receipt { IfOk result (λ r. pass.new ≡ with_receipt pass.old (length self.old.core.log) (call.Status name) r) }
+        ensures core_stays { OnErr result (self.new.core ≡ self.old.core) }
+        ensures pass_stays { OnErr result (pass.new ≡ pass.old) }
+        ensures rest { (self.new.closed ≡ self.old.closed) × (self.new.asleep ≡ self.old.asleep) }
+    {
+        pass.status(&mut self.core, name)
+    }
+
+    pub fn fetch(&mut self, pass: &mut Pass, name: Name) -> Result<Fetched, NoMemory>
+        ensures served { IfOk result (λ f. Serves self.old.core (call.Fetch name) None self.new.core f.reply) }
+        ensures shown { IfOk result (λ f. IsSome (shown_value f.value) ↔ ShowsSome f.reply) }
+        ensures receipt { IfOk result (λ f. pass.new ≡ with_receipt pass.old (length self.old.core.log) (call.Fetch name) f.reply) }
+        ensures core_stays { OnErr result (self.new.core ≡ self.old.core) }
+        ensures pass_stays { OnErr result (pass.new ≡ pass.old) }
+        ensures rest { (self.new.closed ≡ self.old.closed) × (self.new.asleep ≡ self.old.asleep) }
+    {
+        pass.fetch(&mut self.core, name)
+    }
+
+    /// The place in the log where the entry of a name is looked for first.
+    pub fn place_of(&self, name: Name) -> usize
+        ensures { told_at self.now.core.log name result ≡ None → (place : ℕ) → told_at self.now.core.log name place ≡ None }
+    {
+        place_of(&self.core, name)
+    }
+
+    /// Whether who waits for the name waits on: the board is open, and the name's entry is pending.
+    pub fn awaits(&self, name: Name, first: usize) -> bool
+        ensures { (m : Machine) → StandsFor self.now.core m → IsTrue result ↔ ((self.now.closed ≡ false) × IsAwaited m.table name) }
+    {
+        !self.closed && is_awaited(&self.core, name, first)
+    }
+
+    /// The STATUS that ends a wait. On an open board it never tells that the entry is pending.
+    pub fn end_wait(&mut self, pass: &mut Pass, name: Name) -> Result<Reply, NoMemory>
+        requires { (m : Machine) → StandsFor self.old.core m → (self.old.closed ≡ false) × IsAwaited m.table name → ⊥ }
+        ensures settled { self.old.closed ≡ false → IfOk result (λ r. (t : ℕ) → r ≢ Reply.Pending t) }
+        ensures served { IfOk result (Serves self.old.core (call.Status name) None self.new.core) }
+        ensures receipt { IfOk result (λ r. pass.new ≡ with_receipt pass.old (length self.old.core.log) (call.Status name) r) }
+        ensures core_stays { OnErr result (self.new.core ≡ self.old.core) }
+        ensures pass_stays { OnErr result (pass.new ≡ pass.old) }
+        ensures rest { (self.new.closed ≡ self.old.closed) × (self.new.asleep ≡ self.old.asleep) }
+    {
+        pass.status(&mut self.core, name)
+    }
+
+    /// The first ready task in ticket order is taken.
+    pub fn start(&mut self) -> Started
+        ensures task { (m : Machine) → StandsFor self.old.core m → Starts self.old.core m result self.new.core }
+        ensures rest { (self.new.closed ≡ self.old.closed) × (self.new.asleep ≡ self.old.asleep) }
+    {
+        self.core.start(0)
+    }
+
+    pub fn finish(&mut self, done: TileDone) -> Finish
+        ensures task { (m : Machine) → StandsFor self.old.core m → Finishes self.old.core m done result self.new.core }
+        ensures rest { (self.new.closed ≡ self.old.closed) × (self.new.asleep ≡ self.old.asleep) }
+    {
+        self.core.finish(done)
+    }
+
+    pub fn refuse(&mut self, refused: TaskRefused) -> Refusal
+        ensures task { (m : Machine) → StandsFor self.old.core m → Refuses self.old.core m refused.task result self.new.core }
+        ensures rest { (self.new.closed ≡ self.old.closed) × (self.new.asleep ≡ self.old.asleep) }
+    {
+        self.core.refuse(refused)
+    }
+
+    /// How many sleeping workers have something to do, where so many of the ready tasks are taken by others. Tasks are
+    /// counted only where a worker sleeps.
+    pub fn wanted_workers(&self, taken: u64) -> u64
+        ensures { result ≡ min self.now.asleep (ready_count self.now.core - taken) }
+    {
+        if self.asleep == 0 {
+            return 0;
+        }
+        self.asleep
+            .min(self.core.ready_count().saturating_sub(taken))
+    }
+
+    /// Whether the passes cover the log.
+    pub fn audit(&self, passes: &[Pass]) -> bool
+        ensures { IsTrue result ↔ Covers self.now.core.log passes.now }
+    {
+        audit(&self.core, passes)
+    }
+}

@@ -1,0 +1,38 @@
+//! One core that sessions and workers share: a board, which is a lock round the core; passes, which keep a receipt of
+//! each call; and the audit of passes against the log.
+//!
+//! Each hold of the lock is one event of the core. No pixel is computed, no payload is read and no text is made under
+//! it, and nothing waits there.
+//!
+//! ```text
+//! let board = Board::new(alloc, Core::new(alloc, 128)?);
+//! // each worker, in a thread of its own, until the board is closed:
+//! work(&rt, &board, &gate);
+//! // each session, in a thread of its own, with a pass of its own:
+//! let mut pass = board.pass();
+//! board.load(&rt, &mut pass, f, b"P2\n5 1\n9\n3 1 4 1 5\n")?;               // Reply::Accepted(0)
+//! board.element(&rt, &mut pass, b, 1, 0, b"P1\n3 1\n111\n")?;              // Reply::Accepted(1)
+//! board.run(&rt, &mut pass, e, Op::Flat(FlatOp::Erode(f, b)))?;            // Reply::Accepted(2)
+//! board.wait(&rt, &mut pass, e)?;                                          // Reply::Done(2, ..)
+//! // once all are joined:
+//! board.close(&rt);
+//! board.audit_all(&rt, passes.as_slice());                                 // the passes cover the log
+//! ```
+#![tactic(auto)]
+
+mod auditing;
+mod blocks;
+mod board;
+mod kept;
+mod pass;
+mod payloads;
+mod places;
+mod same;
+mod tickets;
+mod workers;
+
+pub use auditing::audit;
+pub use board::Board;
+pub use mw_core::{Core, Fetched, Finish, NoMemory, Shown, Started};
+pub use pass::Pass;
+pub use workers::{Gate, work};

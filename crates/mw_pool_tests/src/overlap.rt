@@ -1,0 +1,100 @@
+//! Workers compute beside one another, without the lock.
+
+use crate::desk::{DILATED, ERODED, Stop, dilate, erode, fetch, load_both, name, new_board};
+use mw_model::{Kind, Reply, Shape};
+use mw_pool::{Board, Gate, Pass, work};
+use mw_task::{TaskRefused, TileDone, Work};
+use std::alloc::Global;
+use std::sync::Wait;
+use std::sync::atomic::{AtomicU64, Ordering};
+use std::test::Fail;
+use std::thread;
+use std::thread::Threads;
+
+/// The first task is held until another one has ended.
+#[derive(Drop)]
+struct Meeting {
+    alloc: Global,
+    entered: AtomicU64,
+    ended: AtomicU64,
+    limit_met: AtomicU64,
+}
+
+impl Meeting {
+    fn new(alloc: Global) -> Meeting {
+        Meeting {
+            alloc,
+            entered: AtomicU64::new(0),
+            ended: AtomicU64::new(0),
+            limit_met: AtomicU64::new(0),
+        }
+    }
+
+    /// For so many turns at most.
+    fn hold(&self) {
+        for _ in 0..10_000_000u32 {
+            if self.ended.load(Ordering::SeqCst) > 0 {
+                return;
+            }
+            thread::yield_now();
+        }
+        self.limit_met.store(1, Ordering::SeqCst);
+    }
+}
+
+impl Gate for Meeting {
+    fn compute(&self, work: Work) -> Result<TileDone, TaskRefused> {
+        if self.entered.fetch_add(1, Ordering::SeqCst) == 0 {
+            self.hold();
+        }
+        let done = mw_step::run(self.alloc, work);
+        self.ended.fetch_add(1, Ordering::SeqCst);
+        done
+    }
+}
+
+/// Waits for both entries, and closes the board.
+fn wait_for_both<R: Wait>(rt: &R, board: &Board, pass: &mut Pass) -> Result<(Reply, Reply), Stop> {
+    let d = board.wait(rt, pass, name(b"d")?)?;
+    let e = board.wait(rt, pass, name(b"e")?)?;
+    Ok((d, e))
+}
+
+fn meet<R: Threads + Wait + Sync>(
+    rt: &R,
+    board: &Board,
+    gate: &Meeting,
+    pass: &mut Pass,
+) -> Result<(Reply, Reply), Stop> {
+    thread::scope(thread::scope_env(), rt, |scope| {
+        for _ in 0..2u8 {
+            let _ = scope.spawn(move || work(rt, board, gate));
+        }
+        let replies = wait_for_both(rt, board, pass);
+        board.close(rt);
+        replies
+    })
+}
+
+fn done(t: u32) -> Reply {
+    Reply::Done(t, Shape::Image(Kind::Grey, 5, 1, 9))
+}
+
+#[test]
+fn two_workers_overlap(rt: HostRuntime) -> Result<(), Fail> {
+    let alloc = rt.alloc();
+    let board = new_board(alloc)?;
+    let gate = Meeting::new(alloc);
+    let mut pass = board.pass();
+    load_both(&rt, &board, &mut pass)?;
+    erode(&rt, &board, &mut pass, b"d")?;
+    dilate(&rt, &board, &mut pass, b"e")?;
+    let replies = meet(&rt, &board, &gate, &mut pass)?;
+    assert_eq!(rt; replies, (done(2), done(3)));
+    assert_eq!(rt; gate.limit_met.load(Ordering::SeqCst), 0);
+    let eroded = fetch(&rt, alloc, &board, &mut pass, b"d")?;
+    assert_eq!(rt; eroded.as_slice(), ERODED);
+    let dilated = fetch(&rt, alloc, &board, &mut pass, b"e")?;
+    assert_eq!(rt; dilated.as_slice(), DILATED);
+    Ok(())
+}

@@ -1,0 +1,81 @@
+-- Windows of planes that are open.
+use Rattle.std.proofs.Common.{◌≡◌, ◌≢◌, ℕ, zero, suc, ◌<◌, ◌≤◌, Bool, true, false, List, length, get_or, replicate, Option, None, refl, sym, ap, subst, ◌∙◌, arith}
+use Rattle.std.specs.Prelude.{IsSome}
+use Rattle.std.proofs.lemmas.List.{length-map, get_or_read}
+use Rattle.mw_model.specs.declared.places.Rect.{Rect}
+use Rattle.mw_model.specs.Places.{Holds, IsWithin}
+use Rattle.mw_model.specs.Plans.{Plan, is_sum}
+use Rattle.mw_model.specs.Tasks.{nothing_planned}
+use Rattle.mw_grid.specs.Grids.{Tiling, tile_count, tile_at}
+use Rattle.mw_grid.proofs.Tiles.{HasTiles, cover_once, length-tiles_of, tile_of-tiles_of}
+use Rattle.mw_ready.specs.Boards.{Turns}
+use Rattle.mw_tiles.specs.Tiles.{Tiled, HasAll, tile_cells}
+use Rattle.mw_progress.specs.Levels.{Level}
+use Rattle.mw_progress.specs.Underway.{Underway, IsFramed, IsWhole, plane_at, closed_plane}
+use Rattle.mw_progress.specs.Places.{shown, form, IsFormOf, no_place, place_at, planes_shown, underway_kept, IsPlaced}
+use Rattle.mw_progress.specs.declared.places.Place.{Place}
+use Rattle.mw_progress.specs.declared.places.Place.TheVariants.{Closed, Plane, Sums}
+use Rattle.mw_progress.proofs.Opened.{shown_at}
+
+-- a rectangle of the plane of a step, all of which is placed
+pub record Asked (u : Underway) (step : ℕ) (rect : Rect) : Type 0 where
+  pub known : step < length u.progress.plan
+  pub plane : is_sum (get_or u.progress.plan step nothing_planned).step ≡ false
+  pub wide : 1 ≤ rect.width
+  pub high : 1 ≤ rect.height
+  pub within : IsWithin rect u.tiling.width u.tiling.height
+  pub placed : HasAll u.tiling (plane_at u step).tiles rect
+
+no_form : (place : Place) → ((p : Tiled) → place ≡ Plane p → ⊥) → form place ≢ 2 → (l : Level) × (place ≡ Closed l)
+no_form (Closed l) h two = (l, refl)
+no_form (Plane p) h two = absurd (h p refl)
+no_form (Sums p) h two = absurd (two refl)
+
+none_placed : (n i : ℕ) (o : Option (List ℕ)) → o ≡ None → get_or (replicate n o) i None ≡ None
+none_placed zero i o e = refl
+none_placed (suc n) zero o e = e
+none_placed (suc n) (suc i) o e = none_placed n i o e
+
+no_some : (o : Option (List ℕ)) → o ≡ None → IsSome o → ⊥
+no_some o e some = let f : false ≡ true = subst (λ (p : Option (List ℕ)). IsSome p) e some in cc
+
+-- a plane without tiles has no rectangle
+no_rect : (g : Tiling) (l : Level) (r : Rect) → IsFramed g → 1 ≤ r.width → 1 ≤ r.height → IsWithin r g.width g.height → HasAll g (closed_plane g l).tiles r → ⊥
+no_rect g l r framed wide high within all =
+    let has : HasTiles g = record { wide = framed.wide; high = framed.high; some = (let e = framed.least in omega arith) } in
+    let across : r.x < g.width = (let e = within.across in omega arith) in
+    let down : r.y < g.height = (let e = within.down in omega arith) in
+    let found = (cover_once g has).once r.x r.y across down in
+    let n = found.tile in
+    let lt : n < tile_count g = (let e = found.here in omega (arith, length-tiles_of g)) in
+    let there : Holds (tile_at g n) r.x r.y = subst (λ (t : Rect). Holds t r.x r.y) (tile_of-tiles_of g n lt) found.holds in
+    let some = all r.x r.y (record { left = omega arith; right = omega arith; top = omega arith; bottom = omega arith }) n lt there in
+    no_some (tile_cells (closed_plane g l).tiles n) (none_placed (tile_count g) n None refl) some
+
+pub place_of : (plan : Plan) (input : Level) (g : Tiling) (turns : Turns) (places : List Place) (step : ℕ) (place : Place) → IsWhole (underway_kept plan input g turns places) → step < length plan → place ≡ get_or places step place
+    → plane_at (underway_kept plan input g turns places) step ≡ shown g place
+place_of plan input g turns places step place whole lt was =
+    let size : length (planes_shown g places) ≡ length plan = whole.planes in
+    shown_at g places step ∙ ap (shown g) (sym (get_or_read places step place (omega (arith, size, length-map places (shown g))) was no_place))
+
+-- the place is that of a plane
+pub is_open : (plan : Plan) (input : Level) (g : Tiling) (turns : Turns) (places : List Place) (step : ℕ) (rect : Rect) (place : Place) → IsWhole (underway_kept plan input g turns places) → IsPlaced plan g turns.board.started places
+    → Asked (underway_kept plan input g turns places) step rect → place ≡ get_or places step place → ((p : Tiled) → place ≡ Plane p → ⊥) → ⊥
+is_open plan input g turns places step rect place whole placed asked was h =
+    let size : length (planes_shown g places) ≡ length plan = whole.planes in
+    let lt : step < length places = omega (arith, asked.known, size, length-map places (shown g)) in
+    let two : form place ≢ 2 = subst (λ (p : Place). form p ≢ 2) (sym (get_or_read places step place lt was no_place)) (subst (λ (b : Bool). IsFormOf b (form (place_at places step))) asked.plane (placed.forms step asked.known)) in
+    let c = no_form place h two in
+    no_rect g c.0 rect whole.tiling asked.wide asked.high asked.within
+    (subst (λ (p : Tiled). HasAll g p.tiles rect) (place_of plan input g turns places step place whole asked.known was ∙ ap (shown g) c.1) asked.placed)
+
+-- what is asked of it is there
+pub asked_of : (plan : Plan) (input : Level) (g : Tiling) (turns : Turns) (places : List Place) (step : ℕ) (rect : Rect) (place : Place) (p : Tiled) → IsWhole (underway_kept plan input g turns places)
+    → Asked (underway_kept plan input g turns places) step rect → place ≡ get_or places step place → place ≡ Plane p → IsWithin rect p.tiling.width p.tiling.height × HasAll p.tiling p.tiles rect × (plane_at (underway_kept plan input g turns places) step ≡ p)
+asked_of plan input g turns places step rect place p whole asked was is =
+    let same : plane_at (underway_kept plan input g turns places) step ≡ p = place_of plan input g turns places step place whole asked.known was ∙ ap (shown g) is in
+    let tiling : g ≡ p.tiling = sym (whole.tilings step) ∙ ap (λ (q : Tiled). q.tiling) same in (
+      subst (λ (t : Tiling). IsWithin rect t.width t.height) tiling asked.within,
+      subst (λ (t : Tiling). HasAll t p.tiles rect) tiling (subst (λ (q : Tiled). HasAll g q.tiles rect) same asked.placed),
+      same,
+    )

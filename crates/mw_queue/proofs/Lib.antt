@@ -1,0 +1,5 @@
+-- the crate's own
+mod Counts
+mod Lists
+mod Opens
+mod Orders

@@ -1,0 +1,3 @@
+//! For which states of the machine a core stands, and how that goes on: lemmas on what a core shows before and after each
+//! change that it can make. There is no code here. What the core does, beside any machine, is said in `mw_ledger`.
+#![tactic(auto)]

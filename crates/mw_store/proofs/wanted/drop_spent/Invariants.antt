@@ -1,9 +1,0 @@
-use Rattle.std.proofs.Common.{◌≡◌, ℕ, ◌<◌, ◌≤◌, length, None, if◌then◌else◌, slice_index_or}
-use Rattle.mw_store.specs.Wanted.{spent_among}
-use Rattle.mw_store.proofs.wanted.drop_spent.Given as goal
-
-abbrev pub invariant-loop-t : goal.invariant-loop-t
-invariant-loop-t l =
-    (length l.kept ≡ length l.fn.kept)
-    × ((k : ℕ) → k < l.t → slice_index_or l.kept k None ≡ (if spent_among l.submissions l.outcomes k then None else slice_index_or l.fn.kept k None))
-    × ((k : ℕ) → l.t ≤ k → slice_index_or l.kept k None ≡ slice_index_or l.fn.kept k None)

@@ -1,0 +1,62 @@
+//! Shares of images that are kept.
+
+ghost use Rattle.std.specs.Prelude.{◌≡◌, IfOk};
+
+use mw_model::NoMemory;
+use mw_pixel::Image;
+use mw_tiles::WholePlane;
+use std::alloc::Global;
+use std::marker::Model;
+
+/// What is shared: the image's one plane, or each of its tiles.
+#[derive(Drop)]
+enum Share {
+    Image(Image),
+    Tiles(WholePlane),
+}
+
+/// A share of a done image. It stays good whatever becomes of the entry.
+#[derive(Drop)]
+pub struct Plate {
+    share: Share,
+}
+
+impl Model for Plate {
+    ghost use Rattle.mw_model.specs.Pictures.{Picture};
+    ghost use Rattle.mw_store.specs.Plates.{picture_shared};
+
+    ghost Value = { Picture };
+
+    ghost view = { λ p. picture_shared p.share };
+}
+
+impl Plate {
+    /// An image in one piece, as one more owner of its plane.
+    pub(crate) fn of_image(image: &Image) -> Result<Plate, NoMemory>
+        ensures { IfOk result (λ p. p ≡ image.now) }
+    {
+        Ok(Plate {
+            share: Share::Image(image.share()?),
+        })
+    }
+
+    /// An image in tiles, as one more owner of each of them.
+    pub(crate) fn of_tiles(alloc: Global, plane: &WholePlane) -> Result<Plate, NoMemory>
+        ensures { IfOk result (λ p. p ≡ plane.now) }
+    {
+        Ok(Plate {
+            share: Share::Tiles(plane.share(alloc)?),
+        })
+    }
+
+    /// The image in one piece. One that stands in tiles is put together; else others may own its plane too, and no
+    /// sample is copied.
+    pub fn into_image(self, alloc: Global) -> Result<Image, NoMemory>
+        ensures { IfOk result (λ f. f ≡ self) }
+    {
+        match self.share {
+            Share::Image(image) => Ok(image),
+            Share::Tiles(plane) => plane.image(alloc),
+        }
+    }
+}

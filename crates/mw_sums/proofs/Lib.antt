@@ -1,0 +1,4 @@
+-- the crate's own
+mod Spans
+mod Nodes
+mod Leaves

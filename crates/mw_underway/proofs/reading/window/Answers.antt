@@ -1,0 +1,13 @@
+use Rattle.std.proofs.Common.{ℕ, ap, sym, subst}
+use Rattle.mw_model.specs.Plans.{Source}
+use Rattle.mw_plan.specs.Seen.{source}
+use Rattle.mw_tiles.specs.Tiles.{HasAll}
+use Rattle.mw_progress.specs.Underway.{plane_at}
+use Rattle.mw_underway.specs.SourceWindows.{CanRead}
+use Rattle.mw_underway.proofs.reading.window.Goals as goal
+
+pub window-requires-in-Step-clause-placed : goal.window-requires-in-Step-clause-placed
+window-requires-in-Step-clause-placed c =
+    let Reads : Source → Type 0 = λ s. CanRead c.args.work.now c.args.reading.place s in
+    let Placed : ℕ → Type 0 = λ k. HasAll c.args.work.now.tiling (plane_at c.args.work.now k).tiles c.args.reading.place in
+    subst Placed (sym c.from.ensures) (subst Reads (ap source c.in-Step.is) c.requires.there).2

@@ -1,0 +1,3 @@
+pub mod SourceWindows
+pub mod Planning
+pub mod Results

@@ -1,0 +1,13 @@
+//! The work under a ticket, beside what is kept of its inputs: how an accepted command becomes work, which windows a task
+//! of it reads, and whether a result is that of a running task.
+#![tactic(auto)]
+
+mod planning;
+mod reading;
+mod results;
+mod taking;
+
+pub use mw_model::NoMemory;
+pub use planning::{Unplanned, planned};
+pub use results::is_result;
+pub use taking::begin;

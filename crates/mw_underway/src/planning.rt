@@ -1,0 +1,103 @@
+//! The work that an accepted command gets.
+
+ghost use Rattle.std.specs.Prelude.{◌≡◌, ◌<◌, List, Option, IfOk, IfSome, Err, None, length};
+ghost use Rattle.std.specs.List.{AllByRecursion};
+ghost use Rattle.mw_model.specs.Values.{Value, tickets};
+ghost use Rattle.mw_model.specs.Refusals.{refusal};
+ghost use Rattle.mw_model.specs.Machine.{run_submission};
+ghost use Rattle.mw_plan.specs.Asked.{IsRefusedBy, fault_in};
+ghost use Rattle.mw_plan.specs.PlansOf.{IsPlanOf};
+ghost use Rattle.mw_plan.specs.Tables.{AreValuesAt};
+ghost use Rattle.mw_stands.specs.Limits.{ShapesFit};
+ghost use Rattle.mw_underway.specs.Planning.{IsLookedUp, IsPlannedBy, IsSide, unplanned_of};
+
+use mw_grid::Grid;
+use mw_model::{Call, Name, NoMemory, Op, Shape, Submission};
+use mw_plan::{Input, Plan, PlanFault};
+use mw_progress::PlanProgress;
+use mw_store::Store;
+use std::alloc::Global;
+
+/// Why an accepted command gets no work.
+#[derive(Clone, Copy, PartialEq, Eq, Debug)]
+pub enum Unplanned {
+    NoMemory,
+    /// There is no plan of its inputs. No command that is accepted comes to this.
+    Fault(PlanFault),
+}
+
+/// Why there is no work, where there is no plan.
+fn unplanned_of(fault: PlanFault) -> Unplanned
+    ensures { result ≡ unplanned_of fault }
+{
+    match fault {
+        PlanFault::NoMemory => Unplanned::NoMemory,
+        _ => Unplanned::Fault(fault),
+    }
+}
+
+/// What a plan is told of the input under a ticket; nothing where the operation takes no input there.
+fn input_of(store: &Store, ticket: Option<u32>) -> Input<'_>
+    requires { IfSome ticket (λ t. t < length store.now.table.names) }
+    ensures { IsLookedUp store.now.table store.now.kept ticket result }
+{
+    match ticket {
+        Some(t) => Input::of(store.shape(t), store.element(t)),
+        None => Input::Absent,
+    }
+}
+
+/// The plan of an operation on these inputs.
+fn plan_of(
+    alloc: Global,
+    op: Op,
+    a: Input<'_>,
+    b: Input<'_>,
+    c: Input<'_>,
+) -> Result<Plan, PlanFault>
+    ensures refused { IsRefusedBy (fault_in op a.entry b.entry c.entry) result }
+    ensures plan { IfOk result (IsPlanOf op a.entry b.entry c.entry) }
+{
+    match op {
+        Op::Flat(flat) => mw_plan::plan_of(alloc, &flat, a, b, c),
+        Op::Gran(gran) => mw_gran::plan_of(alloc, &gran, a, b, c),
+    }
+}
+
+/// The work of a command that is accepted as this submission, on tiles of this side.
+pub fn planned(
+    alloc: Global,
+    store: &Store,
+    side: u32,
+    name: Name,
+    op: Op,
+    submission: Submission,
+) -> Result<PlanProgress, Unplanned>
+    requires accepted { refusal store.now.table store.now.kept (Call.Run name op) ≡ None }
+    requires submission { submission ≡ run_submission store.now.table op }
+    requires below { AllByRecursion (λ i. i < length store.now.table.names) (tickets submission.inputs) }
+    requires fits { ShapesFit store.now.table }
+    requires side { IsSide side }
+    ensures planned { IfOk result (IsPlannedBy store.now.table store.now.kept op submission side) }
+    ensures faultless { (values : List (Option Value)) (f : PlanFault) → AreValuesAt store.now.table store.now.kept values → result ≡ Err (Unplanned.Fault f) → ⊥ }
+{
+    let inputs = submission.inputs;
+    let Some(first) = inputs.a else {
+        unreachable!()
+    };
+    let Shape::Image(kind, width, height, maxval) = store.shape(first) else {
+        unreachable!()
+    };
+    let a = input_of(store, inputs.a);
+    let b = input_of(store, inputs.b);
+    let c = input_of(store, inputs.c);
+    let plan = match plan_of(alloc, op, a, b, c) {
+        Ok(plan) => plan,
+        Err(fault) => return Err(unplanned_of(fault)),
+    };
+    let grid = Grid::new(width, height, side);
+    match PlanProgress::new(alloc, plan, grid, kind, maxval) {
+        Ok(work) => Ok(work),
+        Err(NoMemory) => Err(Unplanned::NoMemory),
+    }
+}

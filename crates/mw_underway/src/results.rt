@@ -1,0 +1,124 @@
+//! Whether a result is that of a running task.
+
+ghost use Rattle.std.specs.Prelude.{◌≡◌, ◌<◌, ◌≤◌, ◌↔◌, length, map, IsTrue, List};
+ghost use Rattle.mw_model.specs.Pictures.{Picture};
+ghost use Rattle.mw_model.specs.Places.{IsWithin};
+ghost use Rattle.mw_model.specs.Values.{image_of, value_at};
+ghost use Rattle.mw_plan.specs.Seen.{source, sources};
+ghost use Rattle.mw_tile.specs.Windows.{window_of};
+ghost use Rattle.mw_underway.specs.SourceWindows.{AreSources, CanRead, CanReadAll, IsSource};
+ghost use Rattle.mw_underway.specs.Results.{AreShown, HasLevel, IsFoundOf, IsResultOf, IsShown};
+
+use crate::reading::{Reading, has_frame};
+use mw_model::Rect;
+use mw_plan::{Source, Sources};
+use mw_progress::PlanProgress;
+use mw_store::Store;
+use mw_task::{AnyWindow, TileDone};
+
+/// Whether the image that is kept of the ticket, if one is, has the level that the work reads.
+fn has_level(store: &Store, work: &PlanProgress, image: u32) -> bool
+    requires { image < length store.now.table.names }
+    ensures { IsTrue result ↔ HasLevel (image_of (value_at store.now.kept image)) work.now }
+{
+    let (kind, maxval) = work.input();
+    match store.image_shape(image) {
+        Some(shape) => shape.kind == kind && shape.maxval == maxval,
+        None => true,
+    }
+}
+
+/// Whether the window is that of the source.
+fn is_window(
+    store: &Store,
+    work: &PlanProgress,
+    reading: Reading,
+    from: Source,
+    window: &AnyWindow,
+) -> bool
+    requires image { reading.image < length store.now.table.names }
+    requires some { (1 ≤ reading.place.width) × (1 ≤ reading.place.height) }
+    requires within { IsWithin reading.place work.now.tiling.width work.now.tiling.height }
+    requires there { CanRead work.now reading.place (source from) }
+    ensures shown { IsTrue result → IsShown (image_of (value_at store.now.kept reading.image)) work.now reading.place (source from) window.now }
+    ensures all { (f : Picture) → IsSource (image_of (value_at store.now.kept reading.image)) work.now (source from) f → HasLevel (image_of (value_at store.now.kept reading.image)) work.now → window.now ≡ window_of reading.place f → IsTrue result }
+{
+    // What is known of the work, for the levels of its planes.
+    let _whole = work.remaining();
+    match from {
+        Source::Input(_) => {
+            if !has_frame(store, work, reading.image) {
+                return false;
+            }
+            if !has_level(store, work, reading.image) {
+                return false;
+            }
+            let _picture = store.image_shape(reading.image);
+            store.matches(reading.image, reading.place, window)
+        }
+        Source::Step(step) => work.matches(u32::from(step), reading.place, window),
+    }
+}
+
+/// Whether the windows are those of the sources, in order.
+fn are_windows(
+    store: &Store,
+    work: &PlanProgress,
+    reading: Reading,
+    from: Sources,
+    windows: &[AnyWindow],
+) -> bool
+    requires image { reading.image < length store.now.table.names }
+    requires some { (1 ≤ reading.place.width) × (1 ≤ reading.place.height) }
+    requires within { IsWithin reading.place work.now.tiling.width work.now.tiling.height }
+    requires there { CanReadAll work.now reading.place (sources from) }
+    ensures shown { IsTrue result → AreShown (image_of (value_at store.now.kept reading.image)) work.now reading.place (sources from) windows.now }
+    ensures all { (fs : List Picture) → AreSources (image_of (value_at store.now.kept reading.image)) work.now (sources from) fs → HasLevel (image_of (value_at store.now.kept reading.image)) work.now → windows.now ≡ map (window_of reading.place) fs → IsTrue result }
+{
+    match (from, windows) {
+        (Sources::Nothing, []) => true,
+        (Sources::One(a), [v]) => is_window(store, work, reading, a, v),
+        (Sources::Two(a, b), [v, w]) => {
+            is_window(store, work, reading, a, v) && is_window(store, work, reading, b, w)
+        }
+        (Sources::Three(a, b, c), [v, w, x]) => {
+            is_window(store, work, reading, a, v)
+                && is_window(store, work, reading, b, w)
+                && is_window(store, work, reading, c, x)
+        }
+        _ => false,
+    }
+}
+
+/// Whether the result is that of this rectangle.
+fn is_made_at(done: &TileDone, rect: Rect) -> bool
+    ensures { IsTrue result ↔ (done.now.rect ≡ rect) }
+{
+    done.rect() == rect
+}
+
+/// Whether a result is that of a running task of the work, made from what is kept of its sources. No memory is asked for.
+pub fn is_result(store: &Store, image: u32, work: &PlanProgress, done: &TileDone) -> bool
+    requires image { image < length store.now.table.names }
+    ensures result { IsTrue result → IsResultOf (image_of (value_at store.now.kept image)) work.now done.now }
+    ensures all { IsFoundOf (image_of (value_at store.now.kept image)) work.now done.now → IsTrue result }
+{
+    // Its tiles are placed, as a fact of the work.
+    mw_work::true_tasks();
+    let _whole = work.remaining();
+    let id = done.task();
+    if !work.is_running(id.step, id.tile) {
+        return false;
+    }
+    let planned = work.step(id.step);
+    let grid = work.grid();
+    let place = grid.window(id.tile, planned.step.reach());
+    if !is_made_at(done, grid.rect(id.tile)) {
+        return false;
+    }
+    if !done.step().same(&planned.step) {
+        return false;
+    }
+    let reading = Reading { image, place };
+    are_windows(store, work, reading, planned.sources, done.windows())
+}

@@ -1,0 +1,136 @@
+//! Sets in words that are put together, turned round and made of levels, beside the kernels over samples.
+
+use mw_bits::Words;
+use mw_images_for_tests::{noise, plane_of};
+use mw_lane::{combine_rows, subtract_rows, threshold_row};
+use mw_model::{Kind, NoMemory};
+use mw_pixel::{Bit, Extremum, Max, Min, copies};
+use mw_tile::Window;
+use std::alloc::Global;
+use std::process::Abort;
+use std::test::Fail;
+
+const WIDTHS: [u32; 7] = [1, 63, 64, 65, 127, 128, 129];
+
+/// A picture of ten levels without a pattern.
+fn levels(alloc: Global, width: u32) -> Result<Window<u8>, Fail> {
+    let picture = noise(alloc, Kind::Grey, width, 3, 9)?;
+    Ok(Window::whole(plane_of::<u8>(alloc, &picture)?))
+}
+
+/// The places with level `k` or more, by the kernel over samples.
+fn upper(alloc: Global, window: &Window<u8>, k: u16) -> Result<Vec<Bit>, NoMemory> {
+    let levels = window.samples();
+    let mut places = copies(alloc, levels.len(), Bit::new(false))?;
+    threshold_row(levels, k, places.as_mut_slice());
+    Ok(places)
+}
+
+/// The pixels of the first set that are not in the second, by the kernel over samples.
+fn less(alloc: Global, first: &[Bit], second: &[Bit]) -> Result<Vec<Bit>, NoMemory> {
+    let mut made = Vec::from_slice(alloc, first)?;
+    if first.len() == second.len() {
+        subtract_rows(made.as_mut_slice(), second);
+    }
+    Ok(made)
+}
+
+/// The extremum of each pair of pixels, by the kernel over samples.
+fn merged<E: Extremum<Bit>>(
+    alloc: Global,
+    first: &[Bit],
+    second: &[Bit],
+) -> Result<Vec<Bit>, NoMemory> {
+    let mut made = Vec::from_slice(alloc, first)?;
+    if first.len() == second.len() {
+        combine_rows::<Bit, E>(made.as_mut_slice(), second);
+    }
+    Ok(made)
+}
+
+/// Whether the words have these pixels.
+fn shows(alloc: Global, words: &Words, pixels: &[Bit]) -> Result<bool, NoMemory> {
+    Ok(words.to_plane(alloc)?.samples() == pixels)
+}
+
+/// Stops where the sets that are made of levels have other pixels than by the kernels over samples.
+fn agree_on_levels(rt: &impl Abort, alloc: Global, window: &Window<u8>) -> Result<(), Fail> {
+    let from = upper(alloc, window, 5)?;
+    let above = upper(alloc, window, 6)?;
+    let level = less(alloc, from.as_slice(), above.as_slice())?;
+    assert!(rt; shows(alloc, &Words::at_least(alloc, window, 5)?, from.as_slice())?);
+    assert!(rt; shows(alloc, &Words::equal(alloc, window, 5)?, level.as_slice())?);
+    assert_eq!(rt; Words::at_least(alloc, window, 65536)?.count(), 0);
+    Ok(())
+}
+
+#[test]
+fn sets_of_levels_agree_with_samples(rt: HostRuntime) -> Result<(), Fail> {
+    for width in WIDTHS {
+        agree_on_levels(&rt, rt.alloc(), &levels(rt.alloc(), width)?)?;
+    }
+    Ok(())
+}
+
+/// A set in words, and its pixels.
+#[derive(Drop)]
+struct Both {
+    words: Words,
+    pixels: Vec<Bit>,
+}
+
+/// The places with level `k` or more.
+fn from_level(alloc: Global, window: &Window<u8>, k: u16) -> Result<Both, NoMemory> {
+    Ok(Both {
+        words: Words::at_least(alloc, window, u32::from(k))?,
+        pixels: upper(alloc, window, k)?,
+    })
+}
+
+/// The places that are not in the set.
+fn turned(alloc: Global, set: &Both) -> Result<Both, NoMemory> {
+    let all = copies(alloc, set.pixels.len(), Bit::SET)?;
+    Ok(Both {
+        words: set.words.invert(alloc)?,
+        pixels: less(alloc, all.as_slice(), set.pixels.as_slice())?,
+    })
+}
+
+/// Stops where two sets are put together otherwise than by the kernels over samples.
+fn agree_on_sets(rt: &impl Abort, alloc: Global, a: &Both, b: &Both) -> Result<(), Fail> {
+    if a.words.place() != b.words.place() {
+        return Err("other places".into());
+    }
+    let (first, second) = (a.pixels.as_slice(), b.pixels.as_slice());
+    let minus = a.words.minus(alloc, &b.words)?;
+    assert!(rt; shows(alloc, &minus, less(alloc, first, second)?.as_slice())?);
+    let meet = a.words.meet(alloc, &b.words)?;
+    assert!(rt;
+        shows(
+            alloc,
+            &meet,
+            merged::<Min>(alloc, first, second)?.as_slice()
+        )?
+    );
+    let join = a.words.join(alloc, &b.words)?;
+    assert!(rt;
+        shows(
+            alloc,
+            &join,
+            merged::<Max>(alloc, first, second)?.as_slice()
+        )?
+    );
+    Ok(())
+}
+
+#[test]
+fn sets_that_are_put_together_agree_with_samples(rt: HostRuntime) -> Result<(), Fail> {
+    for width in WIDTHS {
+        let window = levels(rt.alloc(), width)?;
+        let a = from_level(rt.alloc(), &window, 4)?;
+        let b = turned(rt.alloc(), &from_level(rt.alloc(), &window, 8)?)?;
+        assert!(&rt; shows(rt.alloc(), &b.words, b.pixels.as_slice())?);
+        agree_on_sets(&rt, rt.alloc(), &a, &b)?;
+    }
+    Ok(())
+}

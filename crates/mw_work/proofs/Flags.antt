@@ -1,0 +1,57 @@
+-- Flags of tasks, and tests over the numbers of a range.
+use Rattle.std.proofs.Common.{◌≡◌, ℕ, zero, suc, ◌+◌, ◌<◌, ◌≤◌, Bool, true, false, not, inl, inr, List, length, set, refl, sym, ap, ◌∙◌, subst, arith}
+use Rattle.std.specs.Prelude.{count_by, Contains}
+use Rattle.std.specs.List.{range_with_len, list_all, list_any}
+use Rattle.std.proofs.lemmas.Bool.{cases_lt, cases_eq, cases_Bool, and_parts, or_left, or_right, eq-eqb}
+use Rattle.std.proofs.lemmas.List.{get_or_past, get_or-set_same, get_or-set_other}
+use Rattle.std.proofs.lemmas.List.Folds.{list_any_at}
+use Rattle.mw_facts.proofs.Counts.{count_by-some}
+use Rattle.mw_model.specs.Plans.{Source, FromStep}
+use Rattle.mw_model.specs.Tasks.{flag, is_step}
+
+-- ---- flags
+
+pub flag-past : (flags : List Bool) (n : ℕ) → flag flags n ≡ true → n < length flags
+flag-past flags n h =
+    elim (cases_lt n (length flags)) [ inl l ↦ l | inr past ↦ let e : flag flags n ≡ false = get_or_past flags n false past in absurd cc ]
+
+-- a flag that is set stays so where one is set
+pub flag-set : (flags : List Bool) (n k : ℕ) → flag flags k ≡ true → flag (set flags n true) k ≡ true
+flag-set flags n k h =
+    elim (cases_eq k n) [
+      | inl e ↦
+          let within : n < length flags = flag-past flags n (subst (λ (x : ℕ). flag flags x ≡ true) e h) in
+          subst (λ (x : ℕ). flag (set flags n true) x ≡ true) (sym e) (get_or-set_same flags n true false within)
+      | inr d ↦ get_or-set_other flags n k true false d ∙ h
+    ]
+
+-- ---- tests over a range
+
+pub list_all-range : (p : ℕ → Bool) (a n k : ℕ) → list_all p (range_with_len a n) ≡ true → a ≤ k → k < a + n → p k ≡ true
+list_all-range p a zero k h from to = absurd (omega arith)
+list_all-range p a (suc n) k h from to =
+    let parts = and_parts (p a) (list_all p (range_with_len (a + 1) n)) h in
+    elim (cases_lt a k) [
+      | inl less ↦ list_all-range p (a + 1) n k parts.1 (omega arith) (omega arith)
+      | inr there ↦ let e : a ≡ k = omega arith in subst (λ (x : ℕ). p x ≡ true) e parts.0
+    ]
+
+pub list_any-range : (p : ℕ → Bool) (a n k : ℕ) → a ≤ k → k < a + n → p k ≡ true → list_any p (range_with_len a n) ≡ true
+list_any-range p a zero k from to h = absurd (omega arith)
+list_any-range p a (suc n) k from to h =
+    elim (cases_lt a k) [
+      | inl less ↦ or_right (p a) (list_any p (range_with_len (a + 1) n)) (list_any-range p (a + 1) n k (omega arith) (omega arith) h)
+      | inr there ↦ let e : k ≡ a = omega arith in or_left (p a) (list_any p (range_with_len (a + 1) n)) (subst (λ (x : ℕ). p x ≡ true) e h)
+    ]
+
+-- where no number passes the negated test, each passes the test
+pub count_by-not_none : (p : ℕ → Bool) (n k : ℕ) → count_by (λ i. not (p i)) (range_with_len 0 n) ≡ 0 → k < n → p k ≡ true
+count_by-not_none p n k none within =
+    elim (cases_Bool (p k)) [
+      | inl h ↦ h
+      | inr h ↦ absurd (omega (arith, none, count_by-some (λ i. not (p i)) n k within (ap not h)))
+    ]
+
+-- a step among the sources is found there
+pub list_any-is_step : (k : ℕ) (sources : List Source) → Contains sources (FromStep k) → list_any (is_step k) sources ≡ true
+list_any-is_step k sources has = list_any_at (is_step k) sources has.0 (FromStep k) has.1 (ap (is_step k) has.2 ∙ eq-eqb k k refl)
