@@ -3,8 +3,8 @@
 ghost use Rattle.std.specs.Prelude.{◌≡◌, ◌≢◌, ◌++◌, ◌∷◌, [], ℕ, true, OnErr, IfOk, IsOk, Ok, None};
 
 use crate::machine::Core;
-use mw_ledger::{Counts, Ledger};
 use mw_element::Element;
+use mw_ledger::{Counts, Ledger};
 use mw_model::{Call, Code, Given, LogItem, Name, NoMemory, Op, Outcome, Reply};
 use mw_pixel::Image;
 use mw_store::Entry;
