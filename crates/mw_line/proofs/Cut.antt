@@ -19,13 +19,13 @@ div_ceil-block at m k whole some short =
     let bounds = div_ceil_times (at + m) k (omega arith) in
     elim (cases_lt blocks next) [
       | inl more ↦ elim (cases_lt (blocks + 1) next) [
-          | inl too_many ↦
-              let le : blocks + 2 ≤ next = omega arith in
-              omega (arith, whole, bounds.1, mul-le-mul_right k le)
-          | inr this ↦
-              let same : next ≡ blocks + 1 = omega arith in
-              ap (λ (t : ℕ). t * k) same ∙ omega (arith, whole)
-        ]
+        | inl too_many ↦
+            let le : blocks + 2 ≤ next = omega arith in
+            omega (arith, whole, bounds.1, mul-le-mul_right k le)
+        | inr this ↦
+            let same : next ≡ blocks + 1 = omega arith in
+            ap (λ (t : ℕ). t * k) same ∙ omega (arith, whole)
+      ]
       | inr few ↦ omega (arith, whole, bounds.0, mul-le-mul_right k few)
     ]
 
