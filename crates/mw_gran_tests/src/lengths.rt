@@ -103,7 +103,10 @@ fn levels_rise_before_the_turns(rt: HostRuntime) -> Result<(), Fail> {
             } else {
                 None
             };
-            assert!(rt; level_of(&planned.step) == wanted, "step {place} of {levels} levels");
+            assert!(rt;
+                level_of(&planned.step) == wanted,
+                "step {place} of {levels} levels"
+            );
         }
     }
     Ok(())
