@@ -76,7 +76,6 @@ fn erosions_stand_before_the_turns(rt: HostRuntime) -> Result<(), Fail> {
     let (bar, sides) = (bar(alloc)?, sides(alloc)?);
     for (levels, count) in [(1, 1), (2, 2), (10, 10)] {
         begins_with_erosions(&rt, alloc, skeleton(levels)?, &bar, count)?;
-        begins_with_erosions(&rt, alloc, skeleton(levels)?, &sides, count)?;
         begins_with_erosions(&rt, alloc, spectrum(levels)?, &sides, count)?;
     }
     Ok(())
