@@ -1,8 +1,11 @@
 //! Sessions without a pattern, with much work that waits at once: a crew of any size writes what one worker writes.
 
-use crate::served::{BAR, WHOLE, joined, served_by};
+use crate::served::{BAR, WHOLE, joined, served, served_by};
+use mw_batch::Crew;
 use std::alloc::{AllocError, Global};
+use std::process::Abort;
 use std::test::Fail;
+use std::thread::Threads;
 
 /// `c`: a cross of five pixels, with the origin in its middle.
 const CROSS: &[u8] = b"ELEMENT c 1 1 19\nP1\n3 3\n010 111 010\n";
@@ -38,7 +41,7 @@ impl Noise {
 
 /// `r0`: a picture of 150 x 90 samples.
 fn picture(alloc: Global, noise: &mut Noise) -> Result<Vec<u8>, AllocError> {
-    let mut bytes = joined(alloc, &[b"LOAD r0 13515\nP5\n150 90\n255\n"])?;
+    let mut bytes = joined(alloc, &[b"LOAD r0 13514\nP5\n150 90\n255\n"])?;
     for _ in 0..13500u32 {
         bytes.push((noise.next() % 256) as u8)?;
     }
@@ -82,13 +85,19 @@ fn script(alloc: Global, seed: u32) -> Result<Vec<u8>, AllocError> {
 }
 
 /// Each crew writes the same, over tiles of two sides.
-fn agree(rt: &HostRuntime, input: &[u8]) {
-    let wanted = served_by(rt, 1, input, WHOLE, 1024);
+fn agree(rt: &(impl Abort + Threads + Sync), alloc: Global, input: &[u8]) {
+    let alone = Crew {
+        alloc,
+        rt,
+        workers: 1,
+    };
+    let wanted = served_by(alone, input, WHOLE, 1024);
     assert_eq!(rt; wanted.status, 0);
     for workers in [1, 2, 4, 7] {
+        let crew = Crew { workers, ..alone };
         for left in [
-            served_by(rt, workers, input, WHOLE, 64),
-            served_by(rt, workers, input, WHOLE, 128),
+            served_by(crew, input, WHOLE, 64),
+            served_by(crew, input, WHOLE, 128),
         ] {
             assert!(rt; left.written == wanted.written, "by {workers}");
             assert_eq!(rt; left.status, 0, "by {workers}");
@@ -101,7 +110,7 @@ fn agree(rt: &HostRuntime, input: &[u8]) {
 fn scripts_by_several_workers(rt: HostRuntime) -> Result<(), Fail> {
     for seed in 1..=6 {
         let input = script(rt.alloc(), seed)?;
-        agree(&rt, input.as_slice());
+        agree(&rt, rt.alloc(), input.as_slice());
     }
     Ok(())
 }
@@ -109,7 +118,7 @@ fn scripts_by_several_workers(rt: HostRuntime) -> Result<(), Fail> {
 #[test]
 fn a_script_that_hands_out_much(rt: HostRuntime) -> Result<(), Fail> {
     let input = script(rt.alloc(), 7)?;
-    let left = served_by(&rt, 4, &input, WHOLE, 64);
+    let left = served(&rt, rt.alloc(), &input, WHOLE);
     assert!(rt; left.written.len() > 10_000);
     Ok(())
 }

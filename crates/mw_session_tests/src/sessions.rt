@@ -2,26 +2,28 @@
 
 use crate::served::{BAR, FIVE, RIGHT, joined, writes};
 use std::alloc::Global;
+use std::process::Abort;
 use std::test::Fail;
+use std::thread::Threads;
 
 /// Where `f` (0), `b` (1) and `s` (2) are there, these lines are answered so.
-fn answers(rt: &HostRuntime, alloc: Global, lines: &[u8], replies: &[u8]) -> Result<(), Fail> {
+fn answers(rt: &(impl Abort + Threads + Sync), alloc: Global, lines: &[u8], replies: &[u8]) -> Result<(), Fail> {
     let input = joined(alloc, &[FIVE, BAR, RIGHT, lines])?;
     let output = joined(alloc, &[b"OK 0\nOK 1\nOK 2\n", replies])?;
-    writes(rt, &input, &output, 0);
+    writes(rt, alloc, &input, &output, 0);
     Ok(())
 }
 
 /// A LOAD of this payload, and then a FETCH of it.
 fn is_read_as(
-    rt: &HostRuntime,
+    rt: &(impl Abort + Threads + Sync),
     alloc: Global,
     head: &[u8],
     payload: &[u8],
     replies: &[u8],
 ) -> Result<(), Fail> {
     let input = joined(alloc, &[head, payload, b"FETCH x\n"])?;
-    writes(rt, &input, replies, 0);
+    writes(rt, alloc, &input, replies, 0);
     Ok(())
 }
 
@@ -29,7 +31,7 @@ fn is_read_as(
 fn erosion_of_five_samples(rt: HostRuntime) -> Result<(), Fail> {
     let input = joined(rt.alloc(), &[FIVE, BAR, b"RUN e ERODE f b\nFETCH e\n"])?;
     let output = b"OK 0\nOK 1\nOK 2\nIMAGE 2 14\nP5\n5 1\n9\n\x01\x01\x01\x01\x01";
-    writes(&rt, &input, output, 0);
+    writes(&rt, rt.alloc(), &input, output, 0);
     Ok(())
 }
 
@@ -88,7 +90,7 @@ fn released_entries(rt: HostRuntime) -> Result<(), Fail> {
     let output = b"OK 0\nOK 1\nOK 2\nERR 52 PENDING\nOK 0\nERR 51 RELEASED\nRELEASED 0\n\
 IMAGE 2 14\nP5\n5 1\n9\n\x01\x01\x01\x01\x01ERR 51 RELEASED\nERR 40 NAME_TAKEN\nERR 49 SETTLED\n\
 OK 2\nRELEASED 2\nERR 41 UNKNOWN\nOK 1\nERR 42 KIND\n";
-    writes(&rt, &input, output, 0);
+    writes(&rt, rt.alloc(), &input, output, 0);
     answers(
         &rt,
         rt.alloc(),
@@ -157,7 +159,7 @@ fn payloads_that_are_no_image(rt: HostRuntime) -> Result<(), Fail> {
         (b"LOAD x 0\n", b"ERR 20 MAGIC\n"),
     ];
     for (input, output) in refused {
-        writes(&rt, input, output, 0);
+        writes(&rt, rt.alloc(), input, output, 0);
     }
     Ok(())
 }
@@ -174,16 +176,16 @@ fn sets_are_eroded_and_dilated(rt: HostRuntime) -> Result<(), Fail> {
         ],
     )?;
     let output = b"OK 0\nOK 1\nOK 2\nIMAGE 2 8\nP4\n7 1\n\x20";
-    writes(&rt, &input, output, 0);
+    writes(&rt, rt.alloc(), &input, output, 0);
     // one pixel, the first behind 64 others
     let set = b"LOAD x 17\nP4\n65 1\n\x00\x00\x00\x00\x00\x00\x00\x00\x80";
     let dilate = b"RUN d DILATE x b\nFETCH d\n";
     let input = joined(alloc, &[set, BAR, dilate])?;
     let output = b"OK 0\nOK 1\nOK 2\nIMAGE 2 17\nP4\n65 1\n\x00\x00\x00\x00\x00\x00\x00\x01\x80";
-    writes(&rt, &input, output, 0);
+    writes(&rt, rt.alloc(), &input, output, 0);
     let input = joined(alloc, &[set, b"ELEMENT b 1 0 11\nP1\n3 1\n101\n", dilate])?;
     let output = b"OK 0\nOK 1\nOK 2\nIMAGE 2 17\nP4\n65 1\n\x00\x00\x00\x00\x00\x00\x00\x01\x00";
-    writes(&rt, &input, output, 0);
+    writes(&rt, rt.alloc(), &input, output, 0);
     Ok(())
 }
 
@@ -209,7 +211,7 @@ fn a_sample_behind_the_seam(rt: HostRuntime) -> Result<(), Fail> {
             b"\x09\x09",
         ],
     )?;
-    writes(&rt, &input, &output, 0);
+    writes(&rt, rt.alloc(), &input, &output, 0);
     Ok(())
 }
 
@@ -241,7 +243,7 @@ fn a_long_line_on_a_long_row(rt: HostRuntime) -> Result<(), Fail> {
             &greatest,
         ],
     )?;
-    writes(&rt, &input, &output, 0);
+    writes(&rt, rt.alloc(), &input, &output, 0);
     Ok(())
 }
 
@@ -262,7 +264,7 @@ fn an_element_larger_than_the_image(rt: HostRuntime) -> Result<(), Fail> {
     )?;
     let output =
         b"OK 0\nOK 1\nOK 2\nOK 3\nIMAGE 2 10\nP5\n1 1\n9\n\x05IMAGE 3 10\nP5\n1 1\n9\n\x05";
-    writes(&rt, &input, output, 0);
+    writes(&rt, rt.alloc(), &input, output, 0);
     Ok(())
 }
 
@@ -282,23 +284,23 @@ fn lines_that_end_a_session(rt: HostRuntime) {
         (b"RUN m RANK f b\n", b"ERR 10 LINE\n"),
     ];
     for (input, output) in ended {
-        writes(&rt, input, output, 1);
+        writes(&rt, rt.alloc(), input, output, 1);
     }
-    writes(&rt, b"RUN o OPEN f b\n", b"ERR 41 UNKNOWN\n", 0);
-    writes(&rt, b"", b"", 0);
-    writes(&rt, b"QUIT\nSTATUS x\n", b"", 0);
+    writes(&rt, rt.alloc(), b"RUN o OPEN f b\n", b"ERR 41 UNKNOWN\n", 0);
+    writes(&rt, rt.alloc(), b"", b"", 0);
+    writes(&rt, rt.alloc(), b"QUIT\nSTATUS x\n", b"", 0);
 }
 
 #[test]
 fn requests_cut_anywhere(rt: HostRuntime) {
     let input = b"STATUS f\nLOAD f 10\nP5\n1 1\n9\n\x07RELEASE f\nQUIT\nSTATUS f\n";
-    writes(&rt, input, b"ERR 41 UNKNOWN\nOK 0\nOK 0\n", 0);
+    writes(&rt, rt.alloc(), input, b"ERR 41 UNKNOWN\nOK 0\nOK 0\n", 0);
 }
 
 #[test]
 fn lines_of_200_and_201_bytes(rt: HostRuntime) {
     let long = [b'A'; 201];
     let (front, _) = long.as_slice().split_at(200);
-    writes(&rt, long.as_slice(), b"ERR 10 LINE\n", 1);
-    writes(&rt, front, b"ERR 12 CUT\n", 1);
+    writes(&rt, rt.alloc(), long.as_slice(), b"ERR 10 LINE\n", 1);
+    writes(&rt, rt.alloc(), front, b"ERR 12 CUT\n", 1);
 }

@@ -1,6 +1,6 @@
 //! Who runs the work.
 
-use std::alloc::Global;
+use std::alloc::{AllocError, Global};
 
 /// Tasks of a wave for each worker. A thread costs some 30 microseconds, and so do the tasks of a wave together that
 /// are small; with more tasks the answers of a wave are held longer before they are handed back.
@@ -14,13 +14,19 @@ pub struct Crew<'r, T> {
     pub workers: usize,
 }
 
+impl<T> Copy for Crew<'_, T> {}
+
 impl<T> Clone for Crew<'_, T> {
-    fn clone(&self) -> Self {
-        *self
+    ghost use Rattle.std.specs.Prelude.{◌≡◌};
+
+    ghost is_clone = { λ x y. y ≡ x };
+
+    ghost is_infallible = { λ _. ⊤ };
+
+    fn clone(&self) -> Result<Self, AllocError> {
+        Ok(*self)
     }
 }
-
-impl<T> Copy for Crew<'_, T> {}
 
 impl<T> Crew<'_, T> {
     ghost use Rattle.std.specs.Prelude.{◌≤◌};
