@@ -17,7 +17,7 @@ pub struct Crew<'r, T> {
 impl<T> Copy for Crew<'_, T> {}
 
 impl<T> Clone for Crew<'_, T> {
-    ghost use Rattle.std.specs.Prelude.{◌≡◌};
+    ghost use Rattle.std.specs.Prelude.{◌≡◌, ⊤};
 
     ghost is_clone = { λ x y. y ≡ x };
 
@@ -33,7 +33,7 @@ impl<T> Crew<'_, T> {
 
     /// How many tasks are taken at once.
     pub(crate) fn wave(self) -> usize
-        ensures { self.workers ≤ result }
+        ensures { self.entry.workers ≤ result }
     {
         self.workers.saturating_mul(TASKS_PER_WORKER)
     }

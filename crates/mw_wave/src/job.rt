@@ -7,9 +7,8 @@ ghost use Rattle.mw_wave.specs.Jobs.{IsAnswered};
 use crate::Crew;
 use mw_task::{TaskRefused, TileDone, Work};
 use std::alloc::Global;
-use std::mem;
-use std::thread;
 use std::thread::Threads;
+use std::{mem, thread};
 
 /// A place of a wave: a task that was taken from the core, or its answer. `Nothing` stands there while a task is run.
 #[derive(Drop)]

@@ -72,7 +72,7 @@ fn hand_all(alloc: Global, core: &mut Core, jobs: Vec<Job>)
 /// An empty list for the tasks of a wave. There is none for one worker, for a task that has no other beside it, and where
 /// memory is refused.
 fn list<T>(crew: Crew<T>, others: u64) -> Option<Vec<Job>>
-    ensures { IfSome result (λ v. (v.items ≡ []) × (1 ≤ vec_capacity v) × (0 < crew.workers)) }
+    ensures { IfSome result (λ v. (v.items ≡ []) × (1 ≤ vec_capacity v) × (0 < crew.entry.workers)) }
 {
     if crew.workers <= 1 || others == 0 {
         return None;
@@ -85,12 +85,7 @@ fn list<T>(crew: Crew<T>, others: u64) -> Option<Vec<Job>>
 
 /// Runs a task that was taken, and up to `crew.wave() - 1` others beside it. Where there is no list for them it is run
 /// alone.
-fn run_beside<P: Pick, T: Threads + Sync>(
-    crew: Crew<T>,
-    core: &mut Core,
-    pick: &mut P,
-    first: Work,
-)
+fn run_beside<P: Pick, T: Threads + Sync>(crew: Crew<T>, core: &mut Core, pick: &mut P, first: Work)
     ensures { (m : Machine) (old : Seen) → Underway m old core.old (Job.Waits first ∷ []) 1 → Underway m old core.new [] 1 }
 {
     match list(crew, core.ready_count()) {

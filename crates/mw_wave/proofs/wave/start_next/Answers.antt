@@ -1,4 +1,4 @@
-use Rattle.std.proofs.Common.{◌≡◌, ℕ, sym, ap, ◌∙◌, subst}
+use Rattle.std.proofs.Common.{◌≡◌, ℕ, subst}
 use Rattle.mw_core.specs.TaskAnswers.{IsTurn}
 use Rattle.mw_wave.proofs.Waving.{take}
 use Rattle.mw_wave.proofs.wave.start_next.Goals as goal
