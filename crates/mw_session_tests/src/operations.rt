@@ -37,7 +37,12 @@ fn makes(
 }
 
 /// It hands out a row of 60 samples 0, and then these.
-fn makes_row(rt: &(impl Abort + Threads + Sync), alloc: Global, line: &[u8], end: &[u8]) -> Result<(), Fail> {
+fn makes_row(
+    rt: &(impl Abort + Threads + Sync),
+    alloc: Global,
+    line: &[u8],
+    end: &[u8],
+) -> Result<(), Fail> {
     let front = joined(alloc, &[b"IMAGE 4 77\nP5\n67 1\n9\n", &[0; 60]])?;
     makes(rt, alloc, line, &front, end)
 }
@@ -74,7 +79,12 @@ fn threshold_of_a_row(rt: HostRuntime) -> Result<(), Fail> {
 }
 
 /// Where `x` (0) and `b` (1) are there, these lines are answered so.
-fn answers(rt: &(impl Abort + Threads + Sync), alloc: Global, lines: &[u8], replies: &[&[u8]]) -> Result<(), Fail> {
+fn answers(
+    rt: &(impl Abort + Threads + Sync),
+    alloc: Global,
+    lines: &[u8],
+    replies: &[&[u8]],
+) -> Result<(), Fail> {
     let input = joined(alloc, &[RUNS, BAR, lines])?;
     let output = joined(alloc, replies)?;
     writes_by_crews(rt, alloc, &input, &output);

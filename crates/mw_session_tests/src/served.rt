@@ -104,16 +104,20 @@ pub(crate) struct Left {
 
 /// What the session leaves over tiles of side 128, by one worker.
 pub(crate) fn served(rt: &(impl Threads + Sync), alloc: Global, input: &[u8], cut: Cut) -> Left {
-    served_by(Crew { alloc, rt, workers: 1 }, input, cut, 128)
+    served_by(
+        Crew {
+            alloc,
+            rt,
+            workers: 1,
+        },
+        input,
+        cut,
+        128,
+    )
 }
 
 /// What the session leaves by this crew over tiles of this side.
-pub(crate) fn served_by<T: Threads + Sync>(
-    crew: Crew<T>,
-    input: &[u8],
-    cut: Cut,
-    side: u32,
-) -> Left
+pub(crate) fn served_by<T: Threads + Sync>(crew: Crew<T>, input: &[u8], cut: Cut, side: u32) -> Left
     requires { (64 ≤ side) × (side ≤ 1024) × (side % 64 ≡ 0) }
 {
     let alloc = crew.alloc;

@@ -7,7 +7,12 @@ use std::test::Fail;
 use std::thread::Threads;
 
 /// Where `f` (0), `b` (1) and `s` (2) are there, these lines are answered so.
-fn answers(rt: &(impl Abort + Threads + Sync), alloc: Global, lines: &[u8], replies: &[u8]) -> Result<(), Fail> {
+fn answers(
+    rt: &(impl Abort + Threads + Sync),
+    alloc: Global,
+    lines: &[u8],
+    replies: &[u8],
+) -> Result<(), Fail> {
     let input = joined(alloc, &[FIVE, BAR, RIGHT, lines])?;
     let output = joined(alloc, &[b"OK 0\nOK 1\nOK 2\n", replies])?;
     writes(rt, alloc, &input, &output, 0);
