@@ -1,12 +1,11 @@
 -- The ends of a bar, cut to a line, and the combines of windows by blocks.
-use Rattle.std.proofs.Common.{◌≡◌, ℕ, ◌+◌, ◌-◌, ◌*◌, ◌<◌, ◌≤◌, ◌^◌, List, length, take, drop, fold, slice_range, min, max, ℤ, pos, negsuc, ◌+ℤ◌, ◌-ℤ◌, ◌≤ℤ◌, to_z, of_z, w32, w64, length-drop, refl, ap, sym, arith, ◌∙◌, inl, inr}
+use Rattle.std.proofs.Common.{◌≡◌, ℕ, ◌+◌, ◌-◌, ◌*◌, ◌<◌, ◌≤◌, List, length, take, drop, fold, slice_range, min, ℤ, pos, negsuc, ◌+ℤ◌, ◌-ℤ◌, ◌≤ℤ◌, to_z, of_z, w32, w64, length-drop, refl, ap, sym, arith, ◌∙◌, inl, inr}
 use Rattle.std.proofs.Math.Nat.{mul-le-mul_right}
 use Rattle.std.proofs.lemmas.Bool.{cases_lt}
 use Rattle.std.proofs.lemmas.Grind.{div_ceil_times}
 use Rattle.std.proofs.lemmas.Int.{ints, clamps}
 use Rattle.std.proofs.lemmas.List.{drop_min, take_min}
 use Rattle.std.specs.Int.{div_ceil, int_max, int_min}
-use borrow.Author.Differences.{up, down}
 use Rattle.mw_line.specs.Line.{combines, cut_to, line_at, places_within, samples_between}
 use Rattle.mw_line.proofs.Padded.{nonnegative_is, size_positive}
 use Rattle.mw_model.specs.Places.{nonnegative, span}

@@ -1,4 +1,4 @@
-use Rattle.std.proofs.Common.{◌≡◌, ℕ, ◌≤ℤ◌, ◌-ℤ◌, pos, negsuc, ℤ, min, ap, arith, ◌∙◌, to_z, of_z, w64}
+use Rattle.std.proofs.Common.{◌≡◌, ◌-ℤ◌, pos, ℤ, min, ap, arith, ◌∙◌, to_z, of_z, w64}
 use Rattle.std.specs.Int.{int_max, int_min}
 use Rattle.std.proofs.lemmas.Int.{ints}
 use Rattle.mw_line.proofs.Cut.{cut_fits}
