@@ -1,9 +1,9 @@
 //! The erosions at the head of a plan, each of what the one before it leaves.
 //!
 //! Of all ready tasks those of the latest step are taken first. So what turns have in common stands before all of them:
-//! an erosion is made only where no turn can go on, and its plane is given back once the turns that read it are done.
-//! Where each erosion stood in its turn, behind the turns before it, the erosions ran ahead of the turns to the last one,
-//! and their planes were kept all that time.
+//! an erosion is made only where no turn can go on, and its plane is dropped once the turns that read it are done. If each
+//! stood in its turn, behind the turns before it, the erosions would run ahead of the turns that read them, and their
+//! planes would be kept all that time.
 
 ghost use Rattle.std.specs.Prelude.{◌≡◌, ◌≤◌, List, length, IfOk};
 ghost use Rattle.mw_model.specs.declared.places.Offset.{Offset};

@@ -5,7 +5,7 @@
 //!
 //! The sets of all levels come first, rising, and then the turns. Of all ready tasks those of the latest step are taken
 //! first: so the set of a level is made only where no turn can go on without it, and the one that is wanted next is made
-//! next. Where it stood in its turn, all sets were made and kept before the first dilation.
+//! next. If it stood in its turn, all sets would be made and kept before the first dilation.
 
 ghost use Rattle.std.specs.Prelude.{◌≡◌, ◌+◌, ◌*◌, ◌<◌, ◌≤◌, ℕ, List, length, IfOk};
 ghost use Rattle.mw_model.specs.declared.places.Offset.{Offset};

@@ -1,4 +1,4 @@
-use Rattle.std.proofs.Common.{◌≡◌, ℕ, ◌+◌, ◌-◌, length, arith, subst}
+use Rattle.std.proofs.Common.{◌≡◌, ℕ, ◌+◌, ◌-◌, arith, subst}
 use Rattle.mw_plan.specs.Seen.{source}
 use Rattle.mw_model.specs.Plans.{FromStep}
 use Rattle.mw_gran.specs.Turns.{Restores}

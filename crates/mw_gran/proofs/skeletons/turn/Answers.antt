@@ -1,4 +1,4 @@
-use Rattle.std.proofs.Common.{◌≡◌, ◌+◌, suc, length, arith}
+use Rattle.std.proofs.Common.{◌≡◌, suc, length, arith}
 use Rattle.mw_task.specs.Meanings.{meaning}
 use Rattle.mw_plan.specs.Seen.{source}
 use Rattle.mw_gran.proofs.OneMore.{with_step, pushed_count}

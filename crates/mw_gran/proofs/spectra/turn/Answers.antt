@@ -5,7 +5,7 @@ use Rattle.mw_model.specs.Pictures.{IsPicture}
 use Rattle.mw_model.specs.Plans.{Source}
 use Rattle.mw_plan.specs.Seen.{source}
 use Rattle.mw_gran.specs.Growing.{Shows}
-use Rattle.mw_gran.specs.Turns.{after_erosions, volume_steps}
+use Rattle.mw_gran.specs.Turns.{volume_steps}
 use Rattle.mw_gran.proofs.OneMore.{pushed_count}
 use Rattle.mw_gran.proofs.Turns.{spectrum_turn}
 use Rattle.mw_gran.proofs.spectra.turn.Goals as goal
