@@ -2,22 +2,22 @@
 #![tactic(auto)]
 
 use mw_batch::batch;
-use mw_cli::{Job, options, words};
+use mw_cli::{Job, options, processors, words};
 use mw_wire::{Sink, Source};
 use std::process::ExitCode;
 
 fn main(rt: HostRuntime) -> ExitCode {
     let alloc = rt.alloc();
     let job = match words(&rt) {
-        Ok(words) => options(alloc, words.as_slice()),
+        Ok(words) => options(alloc, words.as_slice(), processors(&rt)),
         Err(fault) => Err(fault),
     };
     let status = match job {
-        Ok(Job::Batch(side)) => {
+        Ok(Job::Batch(given)) => {
             let mut source = Source::new(rt.stdin());
             let mut sink = Sink::new(rt.stdout());
             let mut faults = Sink::new(rt.stderr());
-            batch(alloc, &mut source, &mut sink, &mut faults, side)
+            batch(alloc, &mut source, &mut sink, &mut faults, given.side)
         }
         Err(fault) => match fault.print(&rt) {
             Ok(()) => fault.status(),

@@ -3,6 +3,8 @@ use Rattle.std.specs.Prelude.{◌≡◌, ◌≤◌, ◌<◌, ◌^◌, ◌%◌, �
 use Rattle.std.specs.Str.Parse.{IsNumeral, digits_value, without_leading_plus}
 use Rattle.clap.specs.Words.{App, IsAmong, Row, Rule, Text, fault_of, kind_of, new_app, new_rule, one_of, subcommand_of, with_rule, with_subcommand}
 use Rattle.clap.specs.Simple.{on_top}
+use Rattle.clap.specs.declared.builder.command.Command.{Command}
+use Rattle.clap.specs.declared.builder.command.Command.TheViews.{out-Command as fields_of}
 use Rattle.clap.specs.declared.builder.value_parser.ValueParser.TheVariants as parser
 use Rattle.clap.specs.declared.error.kind.ErrorKind.{ErrorKind}
 use Rattle.clap.specs.declared.error.kind.ErrorKind.TheVariants as kind
@@ -11,22 +13,21 @@ use Rattle.mw_cli.specs.declared.line.Job.TheVariants as job
 use Rattle.mw_cli.specs.declared.fault.LineFault.{LineFault}
 use Rattle.mw_cli.specs.declared.fault.LineFault.TheVariants as fault
 
--- `--tile S`: a number of 32 bits, 128 where it is left out
-abbrev pub tile_option : Rule
-tile_option = record (new_rule (codes "tile")) {
-  long = Some (codes "tile");
-  defaults = codes "128" ∷ [];
+-- `--NAME`, with a number of 32 bits behind it
+abbrev pub number_option : Text → Rule
+number_option name = record (new_rule name) {
+  long = Some name;
   parser = Some (parser.Signed (pos 0) (pos 4294967295));
   value_names = 1;
 }
 
--- `--workers W`: a number of 32 bits; clap has none for it where it is left out
+-- `--tile S`, 128 where it is left out
+abbrev pub tile_option : Rule
+tile_option = record (number_option (codes "tile")) { defaults = codes "128" ∷ [] }
+
+-- `--workers W`; clap has no number for it where it is left out
 abbrev pub workers_option : Rule
-workers_option = record (new_rule (codes "workers")) {
-  long = Some (codes "workers");
-  parser = Some (parser.Signed (pos 0) (pos 4294967295));
-  value_names = 1;
-}
+workers_option = number_option (codes "workers")
 
 -- `batch [--tile S] [--workers W]`
 abbrev pub batch_words : App
@@ -35,6 +36,10 @@ batch_words = with_rule (with_rule (new_app (codes "batch")) tile_option) worker
 -- `morphd`, and then one of its jobs; it has a version to show
 abbrev pub program_words : App
 program_words = with_subcommand (on_top (λ s. record s { has_version = true; subcommand_required = true }) (new_app (codes "morphd"))) batch_words.top
+
+-- no option of the command is one of its jobs too
+abbrev pub HasNoGlobals : Command → Type 0
+HasNoGlobals c = (fields_of c).has_globals ≡ false
 
 -- clap takes the words
 abbrev pub AreTaken : List Text → Type 0
@@ -101,17 +106,17 @@ AsksNoCrew processors text = (n : ℕ) → AsksWorkers processors text n → IsC
 abbrev pub IsAsked : ℕ → List Text → Job → Type 0
 IsAsked processors words (job.Batch given) =
     AreTaken words
-    × (Writes (side_text words) given.side × IsTileSide given.side)
-    × AsksWorkers processors (workers_text words) given.workers × IsCrew given.workers
+    × (AsksWorkers processors (workers_text words) given.workers × IsCrew given.workers)
+    × Writes (side_text words) given.side × IsTileSide given.side
 
 -- the words are refused so; memory may be refused for any words
 abbrev pub IsRefused : ℕ → List Text → LineFault → Type 0
 IsRefused processors words (fault.Line e) = IsAmong (kind_of e) (fault_of program_words words)
-IsRefused processors words fault.Tile = AreTaken words × WritesNoSide (side_text words)
-IsRefused processors words fault.Workers =
+IsRefused processors words fault.Workers = AreTaken words × AsksNoCrew processors (workers_text words)
+IsRefused processors words fault.Tile =
     AreTaken words
-    × ((side : ℕ) × Writes (side_text words) side × IsTileSide side)
-    × AsksNoCrew processors (workers_text words)
+    × ((n : ℕ) × AsksWorkers processors (workers_text words) n × IsCrew n)
+    × WritesNoSide (side_text words)
 IsRefused processors words fault.NoMemory = Unit {0}
 
 -- a word is no text, or memory was refused

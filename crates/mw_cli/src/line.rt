@@ -1,8 +1,8 @@
 //! What the command line asks for.
 
-ghost use Rattle.std.specs.Prelude.{◌≡◌, ◌≤◌, ◌↔◌, codes, IfOk, IfErr, IsTrue, map};
-ghost use Rattle.clap.specs.Words.{app_of, subcommand_rows_of};
-ghost use Rattle.mw_cli.specs.CommandLine.{AsksNoCrew, AsksWorkers, IsAsked, IsCrew, IsNoText, IsRefused, IsTileSide, Reads, Writes, WritesNoSide, program_words, text_in, usual_workers};
+ghost use Rattle.std.specs.Prelude.{◌≡◌, ◌≤◌, false, ◌↔◌, codes, IfOk, IfErr, IsTrue, map};
+ghost use Rattle.clap.specs.Words.{app_of, rule_of, subcommand_rows_of};
+ghost use Rattle.mw_cli.specs.CommandLine.{AsksNoCrew, AsksWorkers, HasNoGlobals, IsAsked, IsCrew, IsNoText, IsRefused, IsTileSide, Reads, Writes, WritesNoSide, batch_words, number_option, program_words, text_in, usual_workers};
 ghost use Rattle.std.specs.String.{string_bytes};
 
 use crate::fault::LineFault;
@@ -56,35 +56,44 @@ pub enum Job {
 #[derive(Clone, Copy, Debug, PartialEq, Eq)]
 pub struct BatchOptions {
     pub side: u32,
-    pub workers: u32,
+    pub workers: usize,
+}
+
+// `--NAME`, with a number of 32 bits behind it.
+fn number_option<'a>(alloc: Global, name: &'a str, value: &'a str, help: &'a str) -> Arg<'a>
+    ensures rule { rule_of result ≡ number_option name.now }
+    ensures local { result.global ≡ false }
+{
+    Arg::new(alloc, name)
+        .long(name)
+        .value_name(value)
+        .value_parser(value_parser!(u32))
+        .help(help)
+}
+
+// `batch`, and what may stand behind it.
+fn batch_command<'a>(alloc: Global) -> Result<Command<'a>, AllocError>
+    ensures { IfOk result (λ c. (app_of c ≡ batch_words) × HasNoGlobals c) }
+{
+    let side = "The side of a tile: a multiple of 64 from 64 to 1024";
+    let crew = "How many workers compute: 1 to 64 [default: as many as processors, at most 16]";
+    Command::new(alloc, "batch")
+        .about("Runs a script from standard input to standard output")
+        .after_help(EXAMPLE)
+        .arg(number_option(alloc, "tile", "S", side).default_value("128"))?
+        .arg(number_option(alloc, "workers", "W", crew))
 }
 
 // The command line as clap knows it.
 fn command<'a>(alloc: Global) -> Result<Command<'a>, AllocError>
     ensures { IfOk result (λ c. app_of c ≡ program_words) }
 {
-    let tile = Arg::new(alloc, "tile")
-        .long("tile")
-        .value_name("S")
-        .value_parser(value_parser!(u32))
-        .default_value("128")
-        .help("The side of a tile: a multiple of 64 from 64 to 1024");
-    let workers = Arg::new(alloc, "workers")
-        .long("workers")
-        .value_name("W")
-        .value_parser(value_parser!(u32))
-        .help("How many workers compute: 1 to 64 [default: one a processor, at most 16]");
-    let batch = Command::new(alloc, "batch")
-        .about("Runs a script from standard input to standard output")
-        .after_help(EXAMPLE)
-        .arg(tile)?
-        .arg(workers)?;
     Command::new(alloc, "morphd")
         .version(VERSION)
         .about("Flat mathematical morphology of images, by scripts")
         .after_help(EXAMPLE)
         .subcommand_required(true)
-        .subcommand(batch)
+        .subcommand(batch_command(alloc)?)
 }
 
 // The number that clap read for an option of the job; none where the option is left out.
@@ -109,10 +118,10 @@ fn side_of(matches: &ArgMatches<'_>) -> Result<u32, LineFault>
 }
 
 // As many workers as processors, from 1 to 16.
-fn usual_workers(processors: usize) -> u32
+fn usual_workers(processors: usize) -> usize
     ensures { result ≡ usual_workers processors }
 {
-    processors.max(1).min(16) as u32
+    processors.max(1).min(16)
 }
 
 // Whether there may be so many workers.
@@ -124,13 +133,13 @@ fn workers_ok(workers: u32) -> bool
 
 // How many workers compute.
 #[tactic(auto, using(crate::proofs::CommandReads::no_other_crew, crate::proofs::CommandReads::unread_is_no_crew, crate::proofs::CommandReads::asks_usual, crate::proofs::CommandReads::asks_written))]
-fn workers_of(matches: &ArgMatches<'_>, processors: usize) -> Result<u32, LineFault>
+fn workers_of(matches: &ArgMatches<'_>, processors: usize) -> Result<usize, LineFault>
     ensures ok { IfOk result (λ n. AsksWorkers processors (text_in (codes "workers") (subcommand_rows_of matches.now)) n × IsCrew n) }
     ensures err { IfErr result (λ e. (e ≡ LineFault.Workers) × AsksNoCrew processors (text_in (codes "workers") (subcommand_rows_of matches.now))) }
 {
     match number_of(matches, "workers") {
         Ok(None) => Ok(usual_workers(processors)),
-        Ok(Some(workers)) if workers_ok(workers) => Ok(workers),
+        Ok(Some(workers)) if workers_ok(workers) => Ok(workers as usize),
         _ => Err(LineFault::Workers),
     }
 }
@@ -168,9 +177,9 @@ fn not_text(alloc: Global) -> LineFault
     }
 }
 
-/// What the words ask for; the first of them is the program's name. Clap reads them first, and then
-/// the side of the tiles is tested, and then how many workers there are to be. Left out, these are as
-/// many as there are processors, and at most 16.
+/// What the words ask for; the first of them is the program's name. Clap reads them first, then the
+/// number of workers is tested, and then the side of the tiles. Left out, the workers are as many as
+/// there are processors, and at most 16.
 pub fn options(alloc: Global, words: &[String], processors: usize) -> Result<Job, LineFault>
     ensures job { IfOk result (IsAsked processors (map string_bytes words.now)) }
     ensures fault { IfErr result (IsRefused processors (map string_bytes words.now)) }
@@ -180,8 +189,8 @@ pub fn options(alloc: Global, words: &[String], processors: usize) -> Result<Job
     };
     match command.try_get_matches_from(words) {
         Ok(matches) => {
-            let side = side_of(&matches)?;
             let workers = workers_of(&matches, processors)?;
+            let side = side_of(&matches)?;
             Ok(Job::Batch(BatchOptions { side, workers }))
         }
         Err(error) => {
