@@ -11,7 +11,7 @@ use std::sync::Wait;
 
 pub(crate) const SESSIONS: u32 = 8;
 
-const CALLS: u32 = 200;
+const CALLS: u32 = 2000;
 
 /// An image that was handed out, and the ticket that it was told to have.
 #[derive(Drop)]
