@@ -17,7 +17,7 @@ use std::time::{Duration, Instant};
 
 /// Times of one thread.
 #[derive(Clone, Copy)]
-pub(crate) struct Alone {
+pub(crate) struct SoloTimes {
     /// From the first command to the last result.
     pub(crate) all: Duration,
     /// In `start` and `finish` alone.
@@ -79,7 +79,12 @@ fn one_task<R: Clock>(rt: &R, alloc: Global, core: &mut Core) -> Result<Option<D
     }
 }
 
-fn work_off<R: Clock>(rt: &R, alloc: Global, core: &mut Core, job: Job) -> Result<Alone, Fault> {
+fn work_off<R: Clock>(
+    rt: &R,
+    alloc: Global,
+    core: &mut Core,
+    job: Job,
+) -> Result<SoloTimes, Fault> {
     let start = Instant::now(rt)?;
     submit(core, job)?;
     let (mut total, mut tasks) = (Duration::ZERO, 0u32);
@@ -91,7 +96,7 @@ fn work_off<R: Clock>(rt: &R, alloc: Global, core: &mut Core, job: Job) -> Resul
         total = total.saturating_add(time);
         tasks = tasks.saturating_add(1);
     }
-    Ok(Alone {
+    Ok(SoloTimes {
         all: start.elapsed(rt)?,
         core: total,
         tasks,
@@ -103,7 +108,7 @@ fn load_and_work_off<R: Clock>(
     alloc: Global,
     core: &mut Core,
     job: Job,
-) -> Result<Alone, Fault> {
+) -> Result<SoloTimes, Fault> {
     load(alloc, core, job)?;
     work_off(rt, alloc, core, job)
 }
@@ -114,7 +119,7 @@ pub(crate) fn alone<R: Clock>(
     alloc: Global,
     job: Job,
     side: Side,
-) -> Result<Alone, Fault> {
+) -> Result<SoloTimes, Fault> {
     match side.core(alloc) {
         Ok(mut core) => load_and_work_off(rt, alloc, &mut core, job),
         Err(NoMemory) => Err(Fault::Memory),

@@ -17,7 +17,7 @@ use std::time::{Duration, Instant};
 
 /// Times of workers.
 #[derive(Clone, Copy)]
-pub(crate) struct Beside {
+pub(crate) struct CrewTimes {
     /// From the first command to the last result.
     pub(crate) all: Duration,
     /// In the gate, of all workers together.
@@ -76,12 +76,7 @@ fn load<R: Wait>(
 }
 
 /// Submits the commands and waits for all of them.
-fn submit_and_wait<R: Wait>(
-    rt: &R,
-    board: &Board,
-    pass: &mut Pass,
-    job: Job,
-) -> Result<(), Fault> {
+fn submit_and_wait<R: Wait>(rt: &R, board: &Board, pass: &mut Pass, job: Job) -> Result<(), Fault> {
     for command in 0..job.commands() {
         accepted(board.run(rt, pass, made_name(command)?, job.op()?)?)?;
     }
@@ -95,7 +90,7 @@ fn submit_and_wait<R: Wait>(
 }
 
 /// The time from the first command to the last result, of workers that sleep when it begins.
-fn timed<R: Wait + Clock>(
+fn time_job<R: Wait + Clock>(
     rt: &R,
     board: &Board,
     pass: &mut Pass,
@@ -109,40 +104,41 @@ fn timed<R: Wait + Clock>(
 
 fn with_workers<R: Threads + Wait + Clock + Sync>(
     rt: &R,
-    alloc: Global,
     board: &Board,
+    gate: &Timed<'_, R>,
     pass: &mut Pass,
     shift: Shift,
-) -> Result<Beside, Fault> {
-    let gate = Timed {
-        rt,
-        alloc,
-        nanoseconds: AtomicU64::new(0),
-    };
-    let door = &gate;
-    let all = thread::scope(thread::scope_env(), rt, |scope| {
+) -> Result<Duration, Fault> {
+    thread::scope(thread::scope_env(), rt, |scope| {
         for _ in 0..shift.workers {
-            let _ = scope.spawn(move || work(rt, board, door));
+            let _ = scope.spawn(move || work(rt, board, gate));
         }
-        let all = timed(rt, board, pass, shift.job);
+        let all = time_job(rt, board, pass, shift.job);
         board.close(rt);
         all
-    })?;
-    Ok(Beside {
-        all,
-        computing: gate.total(),
     })
 }
 
+/// The clock is the runtime once more: the check of borrows wants a second reference to it.
 fn load_and_work_off<R: Threads + Wait + Clock + Sync>(
     rt: &R,
+    clock: &R,
     alloc: Global,
     board: &Board,
     shift: Shift,
-) -> Result<Beside, Fault> {
+) -> Result<CrewTimes, Fault> {
     let mut pass = board.pass();
     load(rt, alloc, board, &mut pass, shift.job)?;
-    with_workers(rt, alloc, board, &mut pass, shift)
+    let gate = Timed {
+        rt: clock,
+        alloc,
+        nanoseconds: AtomicU64::new(0),
+    };
+    let all = with_workers(rt, board, &gate, &mut pass, shift)?;
+    Ok(CrewTimes {
+        all,
+        computing: gate.total(),
+    })
 }
 
 /// A board over a new core with tiles of this side.
@@ -159,9 +155,9 @@ pub(crate) fn beside<R: Threads + Wait + Clock + Sync>(
     alloc: Global,
     shift: Shift,
     side: Side,
-) -> Result<Beside, Fault> {
+) -> Result<CrewTimes, Fault> {
     match new_board(alloc, side) {
-        Ok(board) => load_and_work_off(rt, alloc, &board, shift),
+        Ok(board) => load_and_work_off(rt, rt, alloc, &board, shift),
         Err(NoMemory) => Err(Fault::Memory),
     }
 }

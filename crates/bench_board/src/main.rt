@@ -3,7 +3,7 @@
 //!
 //! Of each row the time goes from the first RUN to the last result, in the best of three rounds on new boards. In one
 //! thread the clock also stands at each call of `start` and `finish` of the core: that is how long a worker holds the
-//! lock for its tasks. Beside workers a gate adds up what each task takes to compute. What is left of the workers' time,
+//! lock for its tasks. CrewTimes workers a gate adds up what each task takes to compute. What is left of the workers' time,
 //! their number times that of the row, they are in the board: they hold its lock, wait for it, or sleep since no task is
 //! ready. The last column is that less what one thread needs in `start` and `finish`, so what goes into waiting and sleep.
 //!
@@ -17,9 +17,9 @@ mod fault;
 mod jobs;
 mod side;
 
-use alone::{Alone, alone};
+use alone::{SoloTimes, alone};
 use audits::{PASSES, audit_time};
-use beside::{Beside, Shift, beside};
+use beside::{CrewTimes, Shift, beside};
 use fault::Fault;
 use jobs::{JOBS, Job};
 use side::{SIDES, Side};
@@ -38,7 +38,7 @@ fn thousandths(part: Duration, whole: Duration) -> u64 {
     u64::try_from(part.saturating_mul(1000) / whole).unwrap_or(0)
 }
 
-fn best_alone<R: Clock>(rt: &R, alloc: Global, job: Job, side: Side) -> Result<Alone, Fault> {
+fn best_alone<R: Clock>(rt: &R, alloc: Global, job: Job, side: Side) -> Result<SoloTimes, Fault> {
     let mut best = alone(rt, alloc, job, side)?;
     for _ in 1..ROUNDS {
         let next = alone(rt, alloc, job, side)?;
@@ -54,7 +54,7 @@ fn best_beside<R: Threads + Wait + Clock + Sync>(
     alloc: Global,
     shift: Shift,
     side: Side,
-) -> Result<Beside, Fault> {
+) -> Result<CrewTimes, Fault> {
     let mut best = beside(rt, alloc, shift, side)?;
     for _ in 1..ROUNDS {
         let next = beside(rt, alloc, shift, side)?;
@@ -66,7 +66,7 @@ fn best_beside<R: Threads + Wait + Clock + Sync>(
 }
 
 /// The row of one thread: its time, and that of the core for one task.
-fn print_alone<R: Print>(rt: &R, job: Job, side: Side, one: Alone) -> Result<(), Fault> {
+fn print_alone<R: Print>(rt: &R, job: Job, side: Side, one: SoloTimes) -> Result<(), Fault> {
     let each = one.core / one.tasks.max(1);
     let held = thousandths(one.core, one.all);
     println!(rt;
@@ -88,9 +88,9 @@ fn print_alone<R: Print>(rt: &R, job: Job, side: Side, one: Alone) -> Result<(),
 /// and there waiting.
 fn print_beside<R: Print>(
     rt: &R,
-    one: Alone,
+    one: SoloTimes,
     workers: u32,
-    many: Beside,
+    many: CrewTimes,
 ) -> Result<(), Fault> {
     let faster = thousandths(one.all, many.all);
     let whole = many.all.saturating_mul(workers);
@@ -135,11 +135,7 @@ fn measure_job<R: Threads + Wait + Clock + Print + Sync>(
 fn measure<R: Threads + Wait + Clock + Print + Sync>(rt: &R, alloc: Global) -> Result<(), Fault> {
     println!(rt;
         "| {:<19} | side | {:>6} | {:<10} | {:>6} | fast | {:>6} | % in it | % waiting |",
-        "4096 x 4096",
-        "tasks",
-        "",
-        "ms",
-        "us held"
+        "4096 x 4096", "tasks", "", "ms", "us held"
     )?;
     for job in JOBS {
         for side in SIDES {
@@ -147,7 +143,10 @@ fn measure<R: Threads + Wait + Clock + Print + Sync>(rt: &R, alloc: Global) -> R
         }
     }
     let audit = audit_time(rt, alloc)?;
-    println!(rt; "audit of 1,000,000 items and {PASSES} passes: {} ms", audit.as_millis())?;
+    println!(rt;
+        "audit of 1,000,000 items and {PASSES} passes: {} ms",
+        audit.as_millis()
+    )?;
     Ok(())
 }
 

@@ -38,9 +38,12 @@ impl Gate for Grudging {
 /// Eight sessions, once all of them are joined.
 fn all_played<R: Threads + Wait + Abort + Sync>(rt: &R, desk: Desk<'_>) -> Vec<Played> {
     let at = &desk;
-    map_indices(rt, desk.alloc, SESSIONS as usize, &|i| {
-        at.play(rt, i as u32)
-    })
+    map_indices(
+        rt,
+        desk.alloc,
+        SESSIONS as usize,
+        &|i| { at.play(rt, i as u32) },
+    )
     .expect(rt, "memory")
 }
 

@@ -42,7 +42,8 @@ pub(crate) fn accepted(rt: &impl Abort, alloc: Global, passes: &[Pass]) -> Vec<O
     for pass in passes {
         for receipt in pass.receipts() {
             if let (Reply::Accepted(t), Some(_)) = (receipt.reply, name_given(&receipt.call)) {
-                *calls.get_mut(t as usize).expect(rt, "a ticket") = Some(receipt.call);
+                let place = usize::try_from(t).expect(rt, "a place");
+                *calls.get_mut(place).expect(rt, "a ticket") = Some(receipt.call);
             }
         }
     }
@@ -156,11 +157,9 @@ impl Entries {
 
     /// Whether each image that was handed out is that of the plain program.
     pub(crate) fn have_all(&self, handed: &[Handed]) -> bool {
-        handed
-            .iter()
-            .all(|it| match self.values.get(it.ticket as usize) {
-                Some(Value::Image(image)) => is_same(&it.image, image),
-                _ => false,
-            })
+        handed.iter().all(|it| match self.values.get(it.ticket as usize) {
+            Some(Value::Image(image)) => is_same(&it.image, image),
+            _ => false,
+        })
     }
 }
