@@ -1,6 +1,8 @@
 //! Large planes whose samples rise with each column and each row. So the least, the greatest and the middle sample under
 //! an element are known: they stand in a corner or in the middle of it.
 
+ghost use Rattle.std.specs.Prelude.{◌≡◌};
+
 use mw_model::Rect;
 use mw_pixel::{Pixel, Plane};
 use std::alloc::Global;
@@ -25,7 +27,9 @@ pub(crate) const WIDE: Sides = Sides {
 
 impl Sides {
     /// The rectangle that the frame is.
-    pub(crate) fn frame(self) -> Rect {
+    pub(crate) fn frame(self) -> Rect
+        ensures { result ≡ record { x = 0; y = 0; width = self.width; height = self.height } }
+    {
         Rect {
             x: 0,
             y: 0,
@@ -111,10 +115,14 @@ pub(crate) fn is_row<P: Pixel>(row: &[P], width: u32, look: Look, y: u32) -> boo
 
 /// Whether a plane has at each place the sample that is looked for from there.
 pub(crate) fn shows<P: Pixel>(made: &Plane<P>, sides: Sides, look: Look) -> bool {
-    made.width() == sides.width
-        && made.height() == sides.height
-        && (0..made.height()).all(|y| {
-            let from = look.row(y, sides.height);
-            is_row(made.row(y), sides.width, look, from)
-        })
+    if made.width() != sides.width || made.height() != sides.height {
+        return false;
+    }
+    for y in 0..made.height() {
+        let from = look.row(y, sides.height);
+        if !is_row(made.row(y), sides.width, look, from) {
+            return false;
+        }
+    }
+    true
 }
