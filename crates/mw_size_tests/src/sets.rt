@@ -8,15 +8,15 @@ use mw_tile::Window;
 use std::alloc::Global;
 use std::process::Abort;
 
-/// The offsets from a place to itself and its eight neighbours, without the one below.
+/// The offsets from a place to itself and its neighbours, without the upper right one.
 const EIGHT: [Offset; 8] = [
     Offset { dx: -1, dy: -1 },
     Offset { dx: 0, dy: -1 },
-    Offset { dx: 1, dy: -1 },
     Offset { dx: -1, dy: 0 },
     Offset { dx: 0, dy: 0 },
     Offset { dx: 1, dy: 0 },
     Offset { dx: -1, dy: 1 },
+    Offset { dx: 0, dy: 1 },
     Offset { dx: 1, dy: 1 },
 ];
 
