@@ -23,6 +23,9 @@ import plain_model
 HERE = pathlib.Path(__file__).resolve().parent
 LETTERS = "abcdefghijklmnopqrstuvwxyz0123456789_-"
 SIDES = (64, 128, 1024)
+# Lines that end a session.
+NO_LINES = (b"", b"quit", b"FETCH  a", b"RUN a ERODE b", b"LOAD a 07", b"x" * 300, b"STATUS " + b"a" * 33, b"STATUS A",
+            b"STATUS \xe4", b"QUIT ", b"LOAD a 1000000000", b"LOAD a 134217729")
 
 
 class Writer:
@@ -173,9 +176,7 @@ class Writer:
         if kind < 8:
             self.parts.append(b"QUIT\n")
         elif kind == 8:
-            self.parts.append(b"%s\n" % self.chance.choice((b"", b"quit", b"FETCH  a", b"RUN a ERODE b", b"LOAD a 07", b"x" * 300,
-                                                             b"STATUS " + b"a" * 33, b"LOAD a 134217729", b"QUIT ",
-                                                             b"LOAD a 1000000000", b"STATUS A", b"STATUS \xe4")))
+            self.parts.append(self.chance.choice(NO_LINES) + b"\n")
         data = b"".join(self.parts)
         return data[:self.chance.randrange(len(data) + 1)] if kind == 9 else data
 
