@@ -1,6 +1,6 @@
 # `make demo` builds morphd and shows it at work; `make test` is the gate; `make memory` refuses each allocation in turn;
-# `make bench` takes times.
-.PHONY: demo morphd test memory bench toolchain python compiler
+# `make soak` runs random sessions beside a plain model; `make bench` takes times.
+.PHONY: demo morphd test memory soak bench toolchain python compiler
 
 MORPHD = crates/morphd/out/morphd
 
@@ -35,6 +35,13 @@ memory: toolchain python compiler
 	@python3 -B checks/refused_memory.py $(MORPHD)
 	@python3 -B checks/refused_tests.py crates/mw_memory_tests/out/mw_memory_tests_tests
 	@python3 -B checks/refused_tests.py crates/mw_machine_tests/out/mw_machine_tests_tests
+
+# As long as is asked for: make soak FOR=600
+FOR = 60
+
+soak: toolchain python
+	@python3 -B checks/prove.py morphd
+	@python3 -B checks/soak.py $(MORPHD) $(FOR)
 
 # Best on a machine that does nothing else: each line is the best of five runs in one thread (of `bench_core` and
 # `bench_board` the best of three, of the latter also with workers). The C library is told to
