@@ -81,6 +81,14 @@ pub(crate) fn wait<R: Wait + Abort>(rt: &R, board: &Board, pass: &mut Pass, text
     board.wait(rt, pass, name(rt, text)).expect(rt, "memory")
 }
 
+/// Both passes, for an audit.
+pub(crate) fn both(rt: &impl Abort, alloc: Global, one: Pass, other: Pass) -> Vec<Pass> {
+    let mut passes = Vec::new(alloc);
+    passes.push(one).expect(rt, "memory");
+    passes.push(other).expect(rt, "memory");
+    passes
+}
+
 /// Loads the row under `f`, ticket 0, and the bar under `b`, ticket 1.
 pub(crate) fn load_both<R: Wait + Abort>(rt: &R, board: &Board, pass: &mut Pass) {
     board

@@ -3,7 +3,7 @@
 ghost use Rattle.std.specs.Result.{ForOk};
 ghost use Rattle.mw_model.specs.Pictures.{IsImage};
 
-use crate::desk::{BAR, ERODED, ROW, erosion, name, new_core, text_of};
+use crate::desk::{BAR, ERODED, ROW, both, erosion, name, new_core, text_of};
 use mw_element::Element;
 use mw_model::{Code, Name, Reply};
 use mw_netpbm::read;
@@ -11,6 +11,7 @@ use mw_pixel::Image;
 use mw_pool::{Core, Finish, Pass, Started, audit};
 use std::alloc::Global;
 use std::process::Abort;
+use std::slice;
 
 fn image(alloc: Global) -> Result<Image, Code>
     ensures { ForOk result IsImage }
@@ -77,13 +78,13 @@ fn a_lent_core_is_audited(rt: HostRuntime) {
     assert_eq!(rt; text.as_slice(), ERODED);
     assert_eq!(rt; (core.log_len(), pass.receipts().len()), (7, 6));
     assert!(rt; !audit(&core, &[]));
-    assert!(rt; audit(&core, &[pass]));
+    assert!(rt; audit(&core, slice::from_ref(&pass)));
 }
 
 /// Whether a pass that asked another core covers the log of this one.
-fn covers(rt: &impl Abort, core: &mut Core, pass: Pass) -> bool {
+fn covers(rt: &impl Abort, core: &mut Core, pass: &Pass) -> bool {
     core.cancel(name(rt, b"f")).expect(rt, "memory");
-    audit(core, &[pass])
+    audit(core, slice::from_ref(pass))
 }
 
 /// A pass that asked a core of its own.
@@ -97,8 +98,9 @@ fn stray_pass(rt: &impl Abort, alloc: Global) -> Pass {
 #[test]
 fn receipts_of_another_core_cover_nothing(rt: HostRuntime) {
     let alloc = rt.alloc();
+    let pass = stray_pass(&rt, alloc);
     let mut core = new_core(&rt, alloc);
-    assert!(rt; !covers(&rt, &mut core, stray_pass(&rt, alloc)));
+    assert!(rt; !covers(&rt, &mut core, &pass));
 }
 
 fn ask(rt: &impl Abort, core: &mut Core, pass: &mut Pass, unknown: Name) {
@@ -114,16 +116,17 @@ fn by_turns(
     left_out: Option<usize>,
 ) -> bool {
     let unknown = name(rt, b"x");
-    let mut passes = [Pass::new(alloc), Pass::new(alloc), Pass::new(alloc)];
-    let mut lost = Pass::new(alloc);
+    let (mut one, mut other, mut lost) = (Pass::new(alloc), Pass::new(alloc), Pass::new(alloc));
     for i in 0..calls {
         if Some(i) == left_out {
             ask(rt, core, &mut lost, unknown);
+        } else if i % 3 == 0 {
+            ask(rt, core, &mut one, unknown);
         } else {
-            ask(rt, core, &mut passes[i % 3], unknown);
+            ask(rt, core, &mut other, unknown);
         }
     }
-    audit(core, &passes)
+    audit(core, &both(rt, alloc, one, other))
 }
 
 fn is_audited(rt: &impl Abort, alloc: Global, calls: usize, left_out: Option<usize>) -> bool {

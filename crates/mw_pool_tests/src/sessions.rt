@@ -1,15 +1,15 @@
 //! One session or two, and a board that is closed under one.
 
 use crate::desk::{
-    ERODED, Kernels, LOADED, done, erosion, fetch, load_both, name, new_board, run, wait,
+    ERODED, Kernels, LOADED, both, done, erosion, fetch, load_both, name, new_board, run, wait,
 };
 use mw_model::Reply;
 use mw_pool::{Board, Pass, work};
 use std::alloc::Global;
 use std::process::Abort;
 use std::sync::Wait;
-use std::thread;
 use std::thread::{Threads, join};
+use std::{slice, thread};
 
 /// One session: an erosion that no worker takes is waited for.
 fn wait_for_erosion<R: Wait + Abort>(rt: &R, board: &Board) -> (Pass, Reply) {
@@ -38,7 +38,7 @@ fn close_ends_a_wait(rt: HostRuntime) {
         move || close_later(host, shared),
     );
     assert_eq!(rt; (reply, pass.receipts().len()), (Reply::Pending(2), 4));
-    assert!(rt; board.audit_all(&rt, &[pass]));
+    assert!(rt; board.audit_all(&rt, slice::from_ref(&pass)));
 }
 
 fn cancel<R: Wait + Abort>(rt: &R, board: &Board, pass: &mut Pass) -> Reply {
@@ -74,7 +74,7 @@ fn waits_end_without_workers(rt: HostRuntime) {
     assert_eq!(rt; replies, wanted);
     assert_eq!(rt; pass.receipts().len(), 7);
     assert!(rt; !board.audit_all(&rt, &[]));
-    assert!(rt; board.audit_all(&rt, &[pass]));
+    assert!(rt; board.audit_all(&rt, slice::from_ref(&pass)));
 }
 
 /// A session that loads the row.
@@ -103,11 +103,9 @@ fn two_sessions<R: Threads + Wait + Abort + Sync>(rt: &R, board: &Board) -> (Pas
 fn reply_without_asking_core(rt: HostRuntime) {
     let board = new_board(&rt, rt.alloc());
     let (one, two, _) = two_sessions(&rt, &board);
-    let (first, second) = ([one], [two]);
-    assert!(rt; !board.audit_all(&rt, &first));
-    assert!(rt; !board.audit_all(&rt, &second));
-    let ([one], [two]) = (first, second);
-    assert!(rt; board.audit_all(&rt, &[one, two]));
+    assert!(rt; !board.audit_all(&rt, slice::from_ref(&one)));
+    assert!(rt; !board.audit_all(&rt, slice::from_ref(&two)));
+    assert!(rt; board.audit_all(&rt, &both(&rt, rt.alloc(), one, two)));
 }
 
 /// What one session did is what another is told: a board with a core for each pass fails.
@@ -116,7 +114,7 @@ fn core_for_each_pass(rt: HostRuntime) {
     let board = new_board(&rt, rt.alloc());
     let (one, two, reply) = two_sessions(&rt, &board);
     assert_eq!(rt; reply, done(0));
-    assert!(rt; board.audit_all(&rt, &[one, two]));
+    assert!(rt; board.audit_all(&rt, &both(&rt, rt.alloc(), one, two)));
 }
 
 /// A row is loaded and eroded, and both images are fetched.
