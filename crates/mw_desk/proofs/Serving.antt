@@ -1,0 +1,1 @@
+-- What the loops of a session keep, and what they end with.
