@@ -1,5 +1,5 @@
 -- Stretches of a session, put together, up to its end or to where it broke off.
-use Rattle.std.proofs.Common.{◌≡◌, ◌≢◌, ℕ, List, [], ◌∷◌, ◌++◌, take, append_assoc, Option, Result, Ok, Err, inl, inr}
+use Rattle.std.proofs.Common.{◌≡◌, ◌≢◌, ℕ, List, [], ◌∷◌, ◌++◌, take, append_assoc, Option, inl, inr}
 use Rattle.std.specs.Io.KnownBytes.{Appends, IsAtEnd}
 use Rattle.std.proofs.KnownBytes.{Appends-trans, Appends-nil}
 use Rattle.mw_model.specs.declared.requests.Ask.TheVariants as ask
@@ -9,7 +9,7 @@ use Rattle.mw_model.specs.Lines.{Asked, AskAlone, Found, Fault}
 use Rattle.mw_model.specs.Scripts.{Ends, end_text}
 use Rattle.mw_intake.specs.Reading.{front}
 use Rattle.mw_intake.proofs.Front.{is_front, front_is, front_found, front_fault}
-use Rattle.mw_wire.specs.Writes.{CutsShort, Wrote}
+use Rattle.mw_wire.specs.Writes.{CutsShort}
 use Rattle.mw_wire.specs.declared.fault.SessionFault.{SessionFault}
 use Rattle.mw_wire.specs.declared.fault.SessionFault.TheVariants as fault
 use Rattle.mw_desk.specs.Rooms.{EndsAt}
