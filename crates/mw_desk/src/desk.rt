@@ -8,7 +8,6 @@ ghost use Rattle.mw_wire.specs.Writes.{Wrote};
 
 use mw_model::Request;
 use mw_wire::{SessionFault, Sink};
-use std::alloc::Global;
 use std::io::Write;
 
 /// Answers requests one by one. What a request may read and change is kept beside it: a core, or the receipts of a pass.
@@ -26,7 +25,6 @@ pub trait Desk {
     /// answer was written.
     fn answer<W: Write>(
         &mut self,
-        alloc: Global,
         sink: &mut Sink<W>,
         kept: &mut Self::Kept,
         request: Request,

@@ -27,7 +27,6 @@ fn is_quit(request: &Request) -> bool
 
 /// Answers the requests that wait, and says how the session ends where it does.
 fn drain<W: Write, D: Desk>(
-    alloc: Global,
     intake: &mut Intake,
     sink: &mut Sink<W>,
     desk: &mut D,
@@ -47,7 +46,7 @@ fn drain<W: Write, D: Desk>(
                 if is_quit(&request) {
                     return Ok(Some(End::Quit));
                 }
-                if let Err(fault) = desk.answer(alloc, sink, kept, request) {
+                if let Err(fault) = desk.answer(sink, kept, request) {
                     return Err(fault);
                 }
             }
@@ -58,7 +57,6 @@ fn drain<W: Write, D: Desk>(
 /// Serves a piece of the input: feeds it by portions, so that no byte of a payload is copied twice, and answers the
 /// requests that wait after each. Where the session ends, what stands behind is not fed.
 fn serve_piece<W: Write, D: Desk>(
-    alloc: Global,
     intake: &mut Intake,
     sink: &mut Sink<W>,
     desk: &mut D,
@@ -81,7 +79,7 @@ fn serve_piece<W: Write, D: Desk>(
             Err(NoMemory) => return end_within(sink, Code::Memory),
             Ok(()) => {}
         }
-        match drain(alloc, intake, sink, desk, kept) {
+        match drain(intake, sink, desk, kept) {
             Err(fault) => return Err(fault),
             Ok(Some(end)) => return Ok(Some(end)),
             Ok(None) => at += n,
@@ -138,7 +136,7 @@ pub fn run_session<R: Read, W: Write, D: Desk>(
         if n == 0 {
             return end_of_input(sink, &intake);
         }
-        match serve_piece(alloc, &mut intake, sink, desk, kept, &buffer[..n]) {
+        match serve_piece(&mut intake, sink, desk, kept, &buffer[..n]) {
             Err(fault) => return Err(fault),
             Ok(Some(end)) => return Ok(end),
             Ok(None) => {}
