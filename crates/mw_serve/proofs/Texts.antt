@@ -1,0 +1,52 @@
+-- One request at a board: its receipt, and what is written for it.
+use Rattle.std.proofs.Common.{◌≡◌, ◌↔◌, ℕ, List, Option, Some, None, Result, Ok, Err, IfOk, OnErr, refl, sym, ◌∙◌, inl, inr}
+use Rattle.std.specs.Prelude.{IsSome}
+use Rattle.mw_model.specs.declared.names.Name.{Name}
+use Rattle.mw_model.specs.declared.calls.Call.{Call}
+use Rattle.mw_model.specs.declared.calls.Call.TheVariants as call
+use Rattle.mw_model.specs.declared.calls.Reply.{Reply}
+use Rattle.mw_model.specs.declared.calls.Reply.TheVariants as reply
+use Rattle.mw_model.specs.declared.receipts.Receipt.{Receipt}
+use Rattle.mw_model.specs.declared.requests.Ask.TheVariants as ask
+use Rattle.mw_model.specs.Lines.{Asked, AskAlone}
+use Rattle.mw_model.specs.Replies.{Handed, NoValue, reply_text}
+use Rattle.mw_model.specs.Receipts.{MayHand, IsTextOf}
+use Rattle.mw_model.specs.Scripts.{handed_value}
+use Rattle.mw_core.specs.declared.answers.Shown.{Shown}
+use Rattle.mw_core.specs.declared.answers.Shown.TheVariants as shown
+use Rattle.mw_core.specs.Fetches.{ShowsSome, shown_value}
+use Rattle.mw_fetched.specs.Texts.{SaysFetched}
+use Rattle.mw_pool.specs.Passes.{AddsReceipt}
+use Rattle.mw_wire.specs.Writes.{told_text}
+use Rattle.mw_serve.specs.Serving.{Makes, Served, refused, received}
+
+-- no value goes with a reply that shows none
+no-value : (a : Reply) → (ShowsSome a → ⊥) → MayHand a NoValue
+no-value (reply.Accepted t) none = refl
+no-value (reply.Refused c) none = refl
+no-value (reply.Pending t) none = refl
+no-value (reply.Done t s) none = refl
+no-value (reply.Cancelled t) none = refl
+no-value (reply.OutOfMemory t) none = refl
+no-value (reply.BadInput t i) none = refl
+no-value (reply.Released t) none = refl
+no-value (reply.Shown t) none = absurd (none (t, refl))
+
+pub served-told : {E : Type 0} (q : Asked) (old new : List Receipt) (r : Result Reply E) → IfOk r (λ a. (c : Call) × Makes q c × AddsReceipt old new c a) → IfOk r (λ a. ShowsSome a → ⊥) → OnErr r (new ≡ old) → Served old q (told_text r) new
+served-told q old new (Ok a) made none stays = received made.0 a made.1 made.2 (inl (NoValue, no-value a none, refl))
+served-told q old new (Err e) made none stays = refused stays refl
+
+-- what a FETCH hands out goes with its reply
+may-hand : (a : Reply) (v : Shown) → IsSome (shown_value v) ↔ ShowsSome a → MayHand a (handed_value (shown_value v))
+may-hand a shown.Nothing h = no-value a (λ w. let e = h.1 w in absurd cc)
+may-hand a (shown.Image f) h =
+    let w = h.0 refl in
+    let P : Reply → Type 0 = λ r. MayHand r (handed_value (shown_value (shown.Image f))) in
+    rw w.1 (inl (f, refl))
+may-hand a (shown.Curve volumes) h =
+    let w = h.0 refl in
+    rw w.1 (inr (volumes, refl))
+
+pub served-fetched : (name : Name) (old new : List Receipt) (a : Reply) (v : Shown) (text : List ℕ) → AddsReceipt old new (call.Fetch name) a → IsSome (shown_value v) ↔ ShowsSome a → SaysFetched a v text → Served old (AskAlone (ask.Fetch name)) text new
+served-fetched name old new a v text adds h (inl e) = received (call.Fetch name) a refl adds (inl (handed_value (shown_value v), may-hand a v h, e))
+served-fetched name old new a v text adds h (inr e) = received (call.Fetch name) a refl adds (inr e)
