@@ -59,34 +59,16 @@ impl<'b, R: Wait> Desk for Counter<'b, R> {
     ) -> Result<(), SessionFault> {
         let (rt, board) = (self.rt, self.board);
         match request {
-            Request::Load(name, payload) => {
-                let reply = board.load(rt, pass, name, &payload);
-                say_told(sink, reply)
-            }
-            Request::Element(name, ox, oy, payload) => {
-                let reply = board.element(rt, pass, name, (ox, oy), &payload);
-                say_told(sink, reply)
-            }
-            Request::Run(name, op) => {
-                let reply = board.run(rt, pass, name, op);
-                say_told(sink, reply)
-            }
-            Request::Cancel(name) => {
-                let reply = board.cancel(rt, pass, name);
-                say_told(sink, reply)
-            }
-            Request::Release(name) => {
-                let reply = board.release(rt, pass, name);
-                say_told(sink, reply)
-            }
-            Request::Status(name) => {
-                let reply = board.status(rt, pass, name);
-                say_told(sink, reply)
-            }
-            Request::Wait(name) => {
-                let reply = board.wait(rt, pass, name);
-                say_told(sink, reply)
-            }
+            Request::Load(name, payload) => say_told(sink, board.load(rt, pass, name, &payload)),
+            Request::Element(name, ox, oy, payload) => say_told(
+                sink,
+                board.element(rt, pass, name, (ox, oy), &payload),
+            ),
+            Request::Run(name, op) => say_told(sink, board.run(rt, pass, name, op)),
+            Request::Cancel(name) => say_told(sink, board.cancel(rt, pass, name)),
+            Request::Release(name) => say_told(sink, board.release(rt, pass, name)),
+            Request::Status(name) => say_told(sink, board.status(rt, pass, name)),
+            Request::Wait(name) => say_told(sink, board.wait(rt, pass, name)),
             Request::Fetch(name) => self.fetch(sink, pass, name),
             Request::Quit => Ok(()),
         }
