@@ -1,10 +1,13 @@
 // Runs a script of morphology from standard input to standard output.
 #![tactic(auto)]
 
-use mw_batch::batch;
+use mw_batch::{Crew, batch};
 use mw_cli::{Job, options, words};
 use mw_wire::{Sink, Source};
 use std::process::ExitCode;
+
+/// How many workers run the work of a script.
+const WORKERS: usize = 1;
 
 fn main(rt: HostRuntime) -> ExitCode {
     let alloc = rt.alloc();
@@ -14,10 +17,15 @@ fn main(rt: HostRuntime) -> ExitCode {
     };
     let status = match job {
         Ok(Job::Batch(side)) => {
+            let crew = Crew {
+                alloc,
+                rt: &rt,
+                workers: WORKERS,
+            };
             let mut source = Source::new(rt.stdin());
             let mut sink = Sink::new(rt.stdout());
             let mut faults = Sink::new(rt.stderr());
-            batch(alloc, &mut source, &mut sink, &mut faults, side)
+            batch(crew, &mut source, &mut sink, &mut faults, side)
         }
         Err(fault) => match fault.print(&rt) {
             Ok(()) => fault.status(),

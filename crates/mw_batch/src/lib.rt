@@ -1,12 +1,14 @@
 //! A batch: one script from a reader to a writer, on a core of its own.
 //!
 //! ```
+//! let crew = Crew { alloc, rt: &rt, workers: 1 };
 //! let mut source = Source::new(rt.stdin());
 //! let mut sink = Sink::new(rt.stdout());
-//! let status = batch(alloc, &mut source, &mut sink, &mut faults, 128);
+//! let status = batch(crew, &mut source, &mut sink, &mut faults, 128);
 //! ```
 #![tactic(auto)]
 
 mod script;
 
+pub use mw_session::Crew;
 pub use script::batch;

@@ -3,10 +3,10 @@
 ghost use Rattle.std.specs.Prelude.{◌≡◌, ◌≤◌, ◌%◌, ◌⊎◌, false};
 ghost use Rattle.mw_batch.specs.Batches.{Ends, Served, Unserved};
 
-use mw_session::{Core, End, Pick, run_script};
+use mw_session::{Core, Crew, End, Pick, run_script};
 use mw_wire::{Sink, Source, send, tell};
-use std::alloc::Global;
 use std::io::{Read, Write};
+use std::thread::Threads;
 
 /// Takes the ready task that came first.
 #[derive(Drop)]
@@ -20,11 +20,11 @@ impl Pick for First {
     }
 }
 
-/// Runs a script on a core of its own, with tiles of this side in pixels, and gives the exit status: 0 after QUIT and
-/// at the end of the input between requests, and else 1. The line of a fault goes to `faults`: `error: input`,
+/// Runs a script on a core of its own by this crew, with tiles of this side in pixels, and gives the exit status: 0 after
+/// QUIT and at the end of the input between requests, and else 1. The line of a fault goes to `faults`: `error: input`,
 /// `error: output`, or `error: memory` where there is none to begin with.
-pub fn batch<R: Read, W: Write, F: Write>(
-    alloc: Global,
+pub fn batch<R: Read, W: Write, F: Write, T: Threads + Sync>(
+    crew: Crew<T>,
     source: &mut Source<R>,
     sink: &mut Sink<W>,
     faults: &mut Sink<F>,
@@ -38,11 +38,11 @@ pub fn batch<R: Read, W: Write, F: Write>(
         let new : Ends = record { left = R.remaining source.new.inner; reads = source.new.reads; read_failed = source.new.failed; written = W.contents sink.new.inner; write_failed = sink.new.failed; told = F.contents faults.new.inner; tell_failed = faults.new.failed } in
         Served old new result ⊎ Unserved old new result }
 {
-    let Ok(mut core) = Core::new(alloc, side) else {
+    let Ok(mut core) = Core::new(crew.alloc, side) else {
         let _told = send(faults, b"error: memory\n");
         return 1;
     };
-    match run_script(alloc, source, sink, &mut core, &mut First) {
+    match run_script(crew, source, sink, &mut core, &mut First) {
         Ok(End::Quit) => 0,
         Ok(End::Ended(_)) => 1,
         Err(fault) => {

@@ -40,10 +40,10 @@ use Rattle.mw_core.specs.Fetches.{shown_value}
 use Rattle.mw_core.specs.declared.answers.Shown.{Shown}
 use Rattle.mw_wire.specs.declared.fault.SessionFault.{SessionFault}
 use Rattle.mw_wire.specs.Writes.{Wrote, told_text}
-use Rattle.mw_session.specs.Work.{AllWorked}
+use Rattle.mw_wave.specs.Work.{AllWorked}
 use Rattle.mw_session.specs.Runs.{Answered}
 use Rattle.mw_session.specs.Answering.{ReadsImage, ReadsElement, fetch_text, SaysFetched}
-use Rattle.mw_session.proofs.Advancing.{under, none-under, count-under, calm}
+use Rattle.mw_wave.proofs.TicketCounts.{under, none-under, count-under, calm}
 
 -- ---- texts
 

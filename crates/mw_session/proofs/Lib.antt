@@ -2,6 +2,4 @@ pub mod Turns
 pub mod Stops
 pub mod Rooms
 pub mod Sessions
-pub mod Totals
-pub mod Advancing
 pub mod Answering

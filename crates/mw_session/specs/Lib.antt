@@ -1,4 +1,3 @@
 pub mod Turns
-pub mod Work
 pub mod Runs
 pub mod Answering

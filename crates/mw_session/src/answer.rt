@@ -11,12 +11,13 @@ ghost use Rattle.mw_session.specs.Runs.{Answered};
 
 use crate::payloads::{read_element, read_image};
 use crate::saying::say_fetched;
-use crate::work::{Pick, run_all_work};
 use mw_core::Core;
 use mw_model::{Name, NoMemory, Op, Request};
+use mw_wave::{Crew, Pick, run_all_work};
 use mw_wire::{SessionFault, Sink, say_told};
 use std::alloc::Global;
 use std::io::Write;
+use std::thread::Threads;
 
 fn load<W: Write>(
     alloc: Global,
@@ -90,8 +91,8 @@ fn release<W: Write>(sink: &mut Sink<W>, core: &mut Core, name: Name) -> Result<
 }
 
 /// STATUS, and WAIT, which has nothing left to wait for.
-fn status<W: Write, P: Pick>(
-    alloc: Global,
+fn status<W: Write, P: Pick, T: Threads + Sync>(
+    crew: Crew<T>,
     sink: &mut Sink<W>,
     core: &mut Core,
     pick: &mut P,
@@ -104,13 +105,13 @@ fn status<W: Write, P: Pick>(
     ensures kept { OnOk result (sink.new.failed ≡ sink.old.failed) }
     ensures flag { OnErr result ((result ≡ Err SessionFault.Write) × (sink.new.failed ≡ true)) }
 {
-    run_all_work(alloc, core, pick);
+    run_all_work(crew, core, pick);
     let reply = core.status(name);
     say_told(sink, reply)
 }
 
-fn fetch<W: Write, P: Pick>(
-    alloc: Global,
+fn fetch<W: Write, P: Pick, T: Threads + Sync>(
+    crew: Crew<T>,
     sink: &mut Sink<W>,
     core: &mut Core,
     pick: &mut P,
@@ -121,16 +122,16 @@ fn fetch<W: Write, P: Pick>(
     ensures kept { OnOk result (sink.new.failed ≡ sink.old.failed) }
     ensures flag { OnErr result ((result ≡ Err SessionFault.Write) × (sink.new.failed ≡ true)) }
 {
-    run_all_work(alloc, core, pick);
+    run_all_work(crew, core, pick);
     match core.fetch(name) {
-        Ok(fetched) => say_fetched(alloc, sink, fetched),
+        Ok(fetched) => say_fetched(crew.alloc, sink, fetched),
         Err(NoMemory) => say_told(sink, Err(NoMemory)),
     }
 }
 
 /// Serves one request, which is not QUIT.
-pub(crate) fn answer<W: Write, P: Pick>(
-    alloc: Global,
+pub(crate) fn answer<W: Write, P: Pick, T: Threads + Sync>(
+    crew: Crew<T>,
     sink: &mut Sink<W>,
     core: &mut Core,
     pick: &mut P,
@@ -143,16 +144,16 @@ pub(crate) fn answer<W: Write, P: Pick>(
     ensures flag { OnErr result ((result ≡ Err SessionFault.Write) × (sink.new.failed ≡ true)) }
 {
     match request {
-        Request::Load(name, payload) => load(alloc, sink, core, name, payload),
+        Request::Load(name, payload) => load(crew.alloc, sink, core, name, payload),
         Request::Element(name, ox, oy, payload) => {
-            element(alloc, sink, core, name, (ox, oy), &payload)
+            element(crew.alloc, sink, core, name, (ox, oy), &payload)
         }
         Request::Run(name, op) => run(sink, core, name, op),
         Request::Cancel(name) => cancel(sink, core, name),
         Request::Release(name) => release(sink, core, name),
-        Request::Status(name) => status(alloc, sink, core, pick, name),
-        Request::Wait(name) => status(alloc, sink, core, pick, name),
-        Request::Fetch(name) => fetch(alloc, sink, core, pick, name),
+        Request::Status(name) => status(crew, sink, core, pick, name),
+        Request::Wait(name) => status(crew, sink, core, pick, name),
+        Request::Fetch(name) => fetch(crew, sink, core, pick, name),
         Request::Quit => Ok(()),
     }
 }

@@ -3,7 +3,7 @@
 //! ```
 //! let mut source = Source::new(reader);
 //! let mut sink = Sink::new(writer);
-//! let end = run_script(alloc, &mut source, &mut sink, &mut core, &mut pick)?;
+//! let end = run_script(crew, &mut source, &mut sink, &mut core, &mut pick)?;
 //! ```
 #![tactic(auto)]
 
@@ -12,10 +12,9 @@ mod laws;
 mod payloads;
 mod saying;
 mod script;
-mod work;
 
 pub use laws::{finished_is_script, stopped_is_broken};
 pub use mw_core::Core;
 pub use mw_model::End;
+pub use mw_wave::{Crew, Pick};
 pub use script::run_script;
-pub use work::Pick;

@@ -13,13 +13,13 @@ ghost use Rattle.mw_session.specs.Runs.{SessionRan};
 ghost use Rattle.mw_wire.specs.Writes.{EndsBy};
 
 use crate::answer::answer;
-use crate::work::Pick;
 use mw_core::Core;
 use mw_intake::Intake;
 use mw_model::{Code, End, Next, NoMemory, Request};
+use mw_wave::{Crew, Pick};
 use mw_wire::{READ_LIMIT, SessionFault, Sink, Source, end_by, end_within, receive};
-use std::alloc::Global;
 use std::io::{Read, Write};
+use std::thread::Threads;
 
 /// How many bytes are read at a time.
 const PIECE: usize = 65536;
@@ -31,8 +31,8 @@ fn is_quit(request: &Request) -> bool
 }
 
 /// Serves the requests that wait, and says how the session ends where it does.
-fn drain<W: Write, P: Pick>(
-    alloc: Global,
+fn drain<W: Write, P: Pick, T: Threads + Sync>(
+    crew: Crew<T>,
     intake: &mut Intake,
     sink: &mut Sink<W>,
     core: &mut Core,
@@ -53,7 +53,7 @@ fn drain<W: Write, P: Pick>(
                 if is_quit(&request) {
                     return Ok(Some(End::Quit));
                 }
-                if let Err(fault) = answer(alloc, sink, core, pick, request) {
+                if let Err(fault) = answer(crew, sink, core, pick, request) {
                     return Err(fault);
                 }
             }
@@ -63,8 +63,8 @@ fn drain<W: Write, P: Pick>(
 
 /// Serves a piece of the input: feeds it by portions, so that no byte of a payload is copied twice, and serves the
 /// requests that wait after each. Where the session ends, what stands behind is not fed.
-fn serve_piece<W: Write, P: Pick>(
-    alloc: Global,
+fn serve_piece<W: Write, P: Pick, T: Threads + Sync>(
+    crew: Crew<T>,
     intake: &mut Intake,
     sink: &mut Sink<W>,
     core: &mut Core,
@@ -88,7 +88,7 @@ fn serve_piece<W: Write, P: Pick>(
             Err(NoMemory) => return end_within(sink, Code::Memory),
             Ok(()) => {}
         }
-        match drain(alloc, intake, sink, core, pick) {
+        match drain(crew, intake, sink, core, pick) {
             Err(fault) => return Err(fault),
             Ok(Some(end)) => return Ok(Some(end)),
             Ok(None) => at += n,
@@ -111,12 +111,12 @@ fn end_of_input<W: Write>(sink: &mut Sink<W>, intake: &Intake) -> Result<End, Se
 }
 
 /// Serves a script: reads to the end, to QUIT or to a fault, and writes what is answered. Before each STATUS, FETCH and
-/// WAIT all work is run, in the order of the picks, and nothing else runs work. Want of memory is `ERR 50 MEMORY` for
+/// WAIT all work is run by the crew, in the order of the picks, and nothing else runs work. Want of memory is `ERR 50 MEMORY` for
 /// that request, and ends the session where a line or a payload is gathered.
 ///
 /// A session makes at most 4,294,967,295 reads, and makes one again that was interrupted.
-pub fn run_script<R: Read, W: Write, P: Pick>(
-    alloc: Global,
+pub fn run_script<R: Read, W: Write, P: Pick, T: Threads + Sync>(
+    crew: Crew<T>,
     source: &mut Source<R>,
     sink: &mut Sink<W>,
     core: &mut Core,
@@ -135,8 +135,8 @@ pub fn run_script<R: Read, W: Write, P: Pick>(
     ensures reader_failed { source.new.failed ≡ true → result ≡ Err SessionFault.Read }
     ensures writer_failed { sink.new.failed ≡ true → result ≡ Err SessionFault.Write }
 {
-    let mut intake = Intake::new(alloc);
-    let mut buffer = match Vec::from_elem(alloc, 0u8, PIECE) {
+    let mut intake = Intake::new(crew.alloc);
+    let mut buffer = match Vec::from_elem(crew.alloc, 0u8, PIECE) {
         Ok(buffer) => buffer,
         Err(_) => return end_by(sink, Code::Memory),
     };
@@ -148,7 +148,7 @@ pub fn run_script<R: Read, W: Write, P: Pick>(
         if n == 0 {
             return end_of_input(sink, &intake);
         }
-        match serve_piece(alloc, &mut intake, sink, core, pick, &buffer[..n]) {
+        match serve_piece(crew, &mut intake, sink, core, pick, &buffer[..n]) {
             Err(fault) => return Err(fault),
             Ok(Some(end)) => return Ok(end),
             Ok(None) => {}

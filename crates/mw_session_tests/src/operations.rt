@@ -1,9 +1,11 @@
-//! Sessions of each operation over tiles of two sides: of side 64 the pictures lie on two tiles, of side 128 on one.
+//! Sessions of each operation over tiles of two sides, by crews of several sizes: of side 64 the pictures lie on two tiles, of
+//! side 128 on one.
 
-use crate::served::{BAR, joined, writes_in_tiles};
+use crate::served::{BAR, joined, writes_by_crews};
 use std::alloc::Global;
 use std::process::Abort;
 use std::test::Fail;
+use std::thread::Threads;
 
 /// `f`: a row of 61 samples 0, and then 3 1 4, 5 9 1, with a tile that begins at the 5.
 const ROW: [&[u8]; 3] = [
@@ -20,7 +22,7 @@ const RUNS: &[u8] = b"LOAD x 18\nP4\n80 1\n\x00\x00\x00\x00\x00\x00\x00\x0f\xf8\
 
 /// A command on the row hands out an image of this front and this end.
 fn makes(
-    rt: &impl Abort,
+    rt: &(impl Abort + Threads + Sync),
     alloc: Global,
     line: &[u8],
     front: &[u8],
@@ -30,12 +32,17 @@ fn makes(
     let lines = b"FETCH r\n";
     let input = joined(alloc, &[head, zeros, samples, BAR, PAIR, line, lines])?;
     let output = joined(alloc, &[b"OK 0\nOK 1\nOK 2\nOK 3\nOK 4\n", front, end])?;
-    writes_in_tiles(rt, alloc, &input, &output);
+    writes_by_crews(rt, alloc, &input, &output);
     Ok(())
 }
 
 /// It hands out a row of 60 samples 0, and then these.
-fn makes_row(rt: &impl Abort, alloc: Global, line: &[u8], end: &[u8]) -> Result<(), Fail> {
+fn makes_row(
+    rt: &(impl Abort + Threads + Sync),
+    alloc: Global,
+    line: &[u8],
+    end: &[u8],
+) -> Result<(), Fail> {
     let front = joined(alloc, &[b"IMAGE 4 77\nP5\n67 1\n9\n", &[0; 60]])?;
     makes(rt, alloc, line, &front, end)
 }
@@ -72,10 +79,15 @@ fn threshold_of_a_row(rt: HostRuntime) -> Result<(), Fail> {
 }
 
 /// Where `x` (0) and `b` (1) are there, these lines are answered so.
-fn answers(rt: &impl Abort, alloc: Global, lines: &[u8], replies: &[&[u8]]) -> Result<(), Fail> {
+fn answers(
+    rt: &(impl Abort + Threads + Sync),
+    alloc: Global,
+    lines: &[u8],
+    replies: &[&[u8]],
+) -> Result<(), Fail> {
     let input = joined(alloc, &[RUNS, BAR, lines])?;
     let output = joined(alloc, replies)?;
-    writes_in_tiles(rt, alloc, &input, &output);
+    writes_by_crews(rt, alloc, &input, &output);
     Ok(())
 }
 

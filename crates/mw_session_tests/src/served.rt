@@ -2,12 +2,13 @@
 
 ghost use Rattle.std.specs.Prelude.{◌≡◌, ◌≤◌, ◌%◌};
 
-use mw_batch::batch;
+use mw_batch::{Crew, batch};
 use mw_wire::{Sink, Source};
 use std::alloc::{AllocError, Global};
 use std::io;
 use std::io::{ErrorKind, Read, Write};
 use std::process::Abort;
+use std::thread::Threads;
 
 /// `f`: five samples, 3 1 4 1 5.
 pub(crate) const FIVE: &[u8] = b"LOAD f 19\nP2\n5 1\n9\n3 1 4 1 5\n";
@@ -101,15 +102,25 @@ pub(crate) struct Left {
     pub(crate) told: Vec<u8>,
 }
 
-/// What the session leaves over tiles of side 128.
-pub(crate) fn served(alloc: Global, input: &[u8], cut: Cut) -> Left {
-    served_in_tiles(alloc, input, cut, 128)
+/// What the session leaves over tiles of side 128, by one worker.
+pub(crate) fn served(rt: &(impl Threads + Sync), alloc: Global, input: &[u8], cut: Cut) -> Left {
+    served_by(
+        Crew {
+            alloc,
+            rt,
+            workers: 1,
+        },
+        input,
+        cut,
+        128,
+    )
 }
 
-/// What the session leaves over tiles of this side.
-pub(crate) fn served_in_tiles(alloc: Global, input: &[u8], cut: Cut, side: u32) -> Left
+/// What the session leaves by this crew over tiles of this side.
+pub(crate) fn served_by<T: Threads + Sync>(crew: Crew<T>, input: &[u8], cut: Cut, side: u32) -> Left
     requires { (64 ≤ side) × (side ≤ 1024) × (side % 64 ≡ 0) }
 {
+    let alloc = crew.alloc;
     let mut source = Source::new(Pieces {
         interrupts: (cut.interrupted, cut.interrupted),
         bytes: input,
@@ -121,7 +132,7 @@ pub(crate) fn served_in_tiles(alloc: Global, input: &[u8], cut: Cut, side: u32) 
         room: cut.written,
     });
     let mut faults = Sink::new(Vec::new(alloc));
-    let status = batch(alloc, &mut source, &mut sink, &mut faults, side);
+    let status = batch(crew, &mut source, &mut sink, &mut faults, side);
     let Short { held, room: _ } = sink.into_inner();
     Left {
         status,
@@ -139,22 +150,36 @@ pub(crate) fn joined(alloc: Global, parts: &[&[u8]]) -> Result<Vec<u8>, AllocErr
     Ok(bytes)
 }
 
-/// The session writes exactly this over tiles of side 64 and of side 128, and ends with status 0.
-pub(crate) fn writes_in_tiles(rt: &impl Abort, alloc: Global, input: &[u8], output: &[u8]) {
-    for left in [
-        served_in_tiles(alloc, input, WHOLE, 64),
-        served_in_tiles(alloc, input, WHOLE, 128),
-    ] {
-        assert_eq!(rt; left.written.as_slice(), output);
-        assert_eq!(rt; left.status, 0);
-        assert!(rt; left.told.is_empty());
+/// The session writes exactly this by crews of several sizes over tiles of side 64 and of side 128, and ends with status 0.
+pub(crate) fn writes_by_crews(
+    rt: &(impl Abort + Threads + Sync),
+    alloc: Global,
+    input: &[u8],
+    output: &[u8],
+) {
+    for workers in [0, 1, 2, 4, 7] {
+        let crew = Crew { alloc, rt, workers };
+        for left in [
+            served_by(crew, input, WHOLE, 64),
+            served_by(crew, input, WHOLE, 128),
+        ] {
+            assert_eq!(rt; left.written.as_slice(), output, "by {workers}");
+            assert_eq!(rt; left.status, 0, "by {workers}");
+            assert!(rt; left.told.is_empty(), "by {workers}");
+        }
     }
 }
 
 /// The session writes exactly this and ends with this status, however its input is cut.
-pub(crate) fn writes(rt: &impl Abort, alloc: Global, input: &[u8], output: &[u8], status: u8) {
+pub(crate) fn writes(
+    rt: &(impl Abort + Threads + Sync),
+    alloc: Global,
+    input: &[u8],
+    output: &[u8],
+    status: u8,
+) {
     for piece in [usize::MAX, 64, 5, 3, 2, 1] {
-        let left = served(alloc, input, Cut { piece, ..WHOLE });
+        let left = served(rt, alloc, input, Cut { piece, ..WHOLE });
         assert_eq!(rt; left.written.as_slice(), output, "in pieces of {piece}");
         assert_eq!(rt; left.status, status, "in pieces of {piece}");
         assert!(rt; left.told.is_empty());

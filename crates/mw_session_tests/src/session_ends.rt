@@ -33,7 +33,7 @@ fn every_prefix_of_a_session(rt: HostRuntime) -> Result<(), Fail> {
         let (written, between) = written_for(n);
         let end: &[u8] = if between { b"" } else { b"ERR 12 CUT\n" };
         let wanted = joined(rt.alloc(), &[written, end])?;
-        let left = served(rt.alloc(), &input[..n], WHOLE);
+        let left = served(&rt, rt.alloc(), &input[..n], WHOLE);
         assert_eq!(rt; left.written.as_slice(), wanted.as_slice(), "at {n}");
         assert_eq!(rt; left.status == 0, between, "at {n}");
         assert!(rt; left.status <= 1 && left.told.is_empty(), "at {n}");
@@ -47,6 +47,7 @@ fn a_reader_that_fails_anywhere(rt: HostRuntime) -> Result<(), Fail> {
     for read in 0..=input.len() {
         for piece in [1, 7, 64] {
             let left = served(
+                &rt,
                 rt.alloc(),
                 &input,
                 Cut {
@@ -77,7 +78,7 @@ fn a_reader_that_is_interrupted(rt: HostRuntime) -> Result<(), Fail> {
             piece,
             ..WHOLE
         };
-        let left = served(rt.alloc(), &input, cut);
+        let left = served(&rt, rt.alloc(), &input, cut);
         assert_eq!(rt;
             left.written.as_slice(),
             OUTPUT.as_slice(),
@@ -92,7 +93,7 @@ fn a_reader_that_is_interrupted(rt: HostRuntime) -> Result<(), Fail> {
 fn a_writer_that_fails_anywhere(rt: HostRuntime) -> Result<(), Fail> {
     let input = erosion(rt.alloc())?;
     for written in 0..OUTPUT.len() {
-        let left = served(rt.alloc(), &input, Cut { written, ..WHOLE });
+        let left = served(&rt, rt.alloc(), &input, Cut { written, ..WHOLE });
         assert_eq!(rt; left.written.as_slice(), &OUTPUT[..written], "at {written}");
         assert_eq!(rt; left.status, 1, "at {written}");
         assert_eq!(rt;
@@ -102,6 +103,7 @@ fn a_writer_that_fails_anywhere(rt: HostRuntime) -> Result<(), Fail> {
         );
     }
     let left = served(
+        &rt,
         rt.alloc(),
         &input,
         Cut {
@@ -126,7 +128,7 @@ fn as_many_entries_as_there_may_be(rt: HostRuntime) -> Result<(), Fail> {
     }
     input.extend_from_slice(b"LOAD m 1\nxRUN m ERODE zz zz\nLOAD n0 1\nx")?;
     wanted.push_str("ERR 48 FULL\nERR 48 FULL\nERR 40 NAME_TAKEN\n")?;
-    let left = served(rt.alloc(), &input, WHOLE);
+    let left = served(&rt, rt.alloc(), &input, WHOLE);
     assert!(rt; left.written.as_slice() == wanted.as_bytes());
     assert!(rt; left.status == 0 && left.told.is_empty());
     Ok(())

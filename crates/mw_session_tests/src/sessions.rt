@@ -4,9 +4,15 @@ use crate::served::{BAR, FIVE, RIGHT, joined, writes};
 use std::alloc::Global;
 use std::process::Abort;
 use std::test::Fail;
+use std::thread::Threads;
 
 /// Where `f` (0), `b` (1) and `s` (2) are there, these lines are answered so.
-fn answers(rt: &impl Abort, alloc: Global, lines: &[u8], replies: &[u8]) -> Result<(), Fail> {
+fn answers(
+    rt: &(impl Abort + Threads + Sync),
+    alloc: Global,
+    lines: &[u8],
+    replies: &[u8],
+) -> Result<(), Fail> {
     let input = joined(alloc, &[FIVE, BAR, RIGHT, lines])?;
     let output = joined(alloc, &[b"OK 0\nOK 1\nOK 2\n", replies])?;
     writes(rt, alloc, &input, &output, 0);
@@ -15,7 +21,7 @@ fn answers(rt: &impl Abort, alloc: Global, lines: &[u8], replies: &[u8]) -> Resu
 
 /// A LOAD of this payload, and then a FETCH of it.
 fn is_read_as(
-    rt: &impl Abort,
+    rt: &(impl Abort + Threads + Sync),
     alloc: Global,
     head: &[u8],
     payload: &[u8],
@@ -175,16 +181,16 @@ fn sets_are_eroded_and_dilated(rt: HostRuntime) -> Result<(), Fail> {
         ],
     )?;
     let output = b"OK 0\nOK 1\nOK 2\nIMAGE 2 8\nP4\n7 1\n\x20";
-    writes(&rt, alloc, &input, output, 0);
+    writes(&rt, rt.alloc(), &input, output, 0);
     // one pixel, the first behind 64 others
     let set = b"LOAD x 17\nP4\n65 1\n\x00\x00\x00\x00\x00\x00\x00\x00\x80";
     let dilate = b"RUN d DILATE x b\nFETCH d\n";
     let input = joined(alloc, &[set, BAR, dilate])?;
     let output = b"OK 0\nOK 1\nOK 2\nIMAGE 2 17\nP4\n65 1\n\x00\x00\x00\x00\x00\x00\x00\x01\x80";
-    writes(&rt, alloc, &input, output, 0);
+    writes(&rt, rt.alloc(), &input, output, 0);
     let input = joined(alloc, &[set, b"ELEMENT b 1 0 11\nP1\n3 1\n101\n", dilate])?;
     let output = b"OK 0\nOK 1\nOK 2\nIMAGE 2 17\nP4\n65 1\n\x00\x00\x00\x00\x00\x00\x00\x01\x00";
-    writes(&rt, alloc, &input, output, 0);
+    writes(&rt, rt.alloc(), &input, output, 0);
     Ok(())
 }
 
@@ -210,7 +216,7 @@ fn a_sample_behind_the_seam(rt: HostRuntime) -> Result<(), Fail> {
             b"\x09\x09",
         ],
     )?;
-    writes(&rt, alloc, &input, &output, 0);
+    writes(&rt, rt.alloc(), &input, &output, 0);
     Ok(())
 }
 
@@ -242,7 +248,7 @@ fn a_long_line_on_a_long_row(rt: HostRuntime) -> Result<(), Fail> {
             &greatest,
         ],
     )?;
-    writes(&rt, alloc, &input, &output, 0);
+    writes(&rt, rt.alloc(), &input, &output, 0);
     Ok(())
 }
 
@@ -263,7 +269,7 @@ fn an_element_larger_than_the_image(rt: HostRuntime) -> Result<(), Fail> {
     )?;
     let output =
         b"OK 0\nOK 1\nOK 2\nOK 3\nIMAGE 2 10\nP5\n1 1\n9\n\x05IMAGE 3 10\nP5\n1 1\n9\n\x05";
-    writes(&rt, alloc, &input, output, 0);
+    writes(&rt, rt.alloc(), &input, output, 0);
     Ok(())
 }
 

@@ -42,7 +42,7 @@ returns-then-is_quit-clause-ran g c = λ left m s none.
     (g.W.Write.contents c.args.sink.now.inner) (g.W.Write.contents c.requests.sink.inner) (c.requests.invariant.0 m s none) (rw quit at found)
 
 pub answer-requires : goal.answer-requires
-answer-requires g c = λ e. let t = c.if-is_quit.ensures.1 e in cc
+answer-requires g c = (c.type_bounds.sync-T, λ e. let t = c.if-is_quit.ensures.1 e in cc)
 
 pub returns-in-Err-answer-clause-ran : goal.returns-in-Err-answer-clause-ran
 returns-in-Err-answer-clause-ran g c = λ left m s none.

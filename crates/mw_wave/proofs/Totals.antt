@@ -1,7 +1,7 @@
 -- Sums over the first numbers.
 use Rattle.std.proofs.Common.{◌≡◌, ◌≢◌, ℕ, zero, suc, ◌+◌, ◌*◌, ◌<◌, ◌≤◌, Bool, true, false, cond, map, sum, inl, inr, refl, sym, ap, ◌∙◌, arith}
 use Rattle.std.specs.List.{range_with_len, count_by}
-use Rattle.std.proofs.lemmas.Bool.{cases_lt, cases_eq}
+use Rattle.std.proofs.lemmas.Bool.{cases_lt}
 use Rattle.std.proofs.lemmas.List.Sums.{sum-map}
 use Rattle.mw_stands.proofs.CountLemmas.{sum-more}
 
@@ -36,16 +36,6 @@ total-falls f g (suc n) u d l s h = elim (cases_lt u n) [
       omega (arith, total-suc f n, total-suc g n, total-le f g n (λ t k. h t (omega arith) (λ e'. omega (arith, e, e'))), last)
 ]
 
--- where one term grows by d at most
-pub total-grows : (f g : ℕ → ℕ) (n u d : ℕ) → f u ≤ g u + d → ((t : ℕ) → t < n → t ≢ u → f t ≤ g t) → total f n ≤ total g n + d
-total-grows f g zero u d s h = omega arith
-total-grows f g (suc n) u d s h = elim (cases_eq n u) [
-  | inl e ↦
-      let last : f n ≤ g n + d = rw e s in
-      omega (arith, total-suc f n, total-suc g n, total-le f g n (λ t k. h t (omega arith) (λ e'. omega (arith, e, e'))), last)
-  | inr other ↦ omega (arith, total-suc f n, total-suc g n, total-grows f g n u d s (λ t k. h t (omega arith)), h n (omega arith) other)
-]
-
 -- none of the terms is over b
 pub total-bounded : (f : ℕ → ℕ) (n : ℕ) → ((t : ℕ) → t < n → f t ≤ 4194304) → total f n ≤ n * 4194304
 total-bounded f zero h = omega arith
@@ -70,10 +60,6 @@ total-zero f (suc n) h = omega (arith, total-suc f n, total-zero f n (λ t l. h 
 pub count-none : (p : ℕ → Bool) (n : ℕ) → ((t : ℕ) → t < n → p t ≡ false) → count_by p (range_with_len 0 n) ≡ 0
 count-none p n h = count-total p n ∙ total-zero (λ t. cond (p t) 1 0) n (λ t l. rw (h t l) refl)
 
-at_most_one : (b : Bool) → cond b 1 0 ≤ 1
-at_most_one true = omega arith
-at_most_one false = omega arith
-
 -- where one number passes no more, and the others as before
 pub count-falls : (p q : ℕ → Bool) (n k : ℕ) → k < n → p k ≡ false → q k ≡ true → ((t : ℕ) → t ≢ k → p t ≡ q t) → count_by p (range_with_len 0 n) + 1 ≤ count_by q (range_with_len 0 n)
 count-falls p q n k l out inside same =
@@ -82,11 +68,3 @@ count-falls p q n k l out inside same =
     let zero_here : f k ≡ 0 = rw out refl in
     let one_here : g k ≡ 1 = rw inside refl in
     omega (arith, count-total p n, count-total q n, total-falls f g n k 1 l (omega (arith, zero_here, one_here)) (λ t h other. let e : f t ≡ g t = rw (same t other) refl in omega (arith, e)))
-
--- where one number may pass that did not, and the others as before
-pub count-grows : (p q : ℕ → Bool) (n k : ℕ) → ((t : ℕ) → t ≢ k → p t ≡ q t) → count_by p (range_with_len 0 n) ≤ count_by q (range_with_len 0 n) + 1
-count-grows p q n k same =
-    let f : ℕ → ℕ = λ t. cond (p t) 1 0 in
-    let g : ℕ → ℕ = λ t. cond (q t) 1 0 in
-    let one_here : f k ≤ 1 = at_most_one (p k) in
-    omega (arith, count-total p n, count-total q n, total-grows f g n k 1 (omega (arith, one_here)) (λ t h other. let e : f t ≡ g t = rw (same t other) refl in omega (arith, e)))

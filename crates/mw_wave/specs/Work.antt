@@ -1,22 +1,20 @@
 -- What running work does.
-use Rattle.std.specs.Prelude.{ℕ, ◌≡◌, ◌+◌, ◌%◌, ◌≤◌, ◌⊎◌, Bool, true, false, List, [], ◌∷◌, ◌++◌, map, sum, length}
+use Rattle.std.specs.Prelude.{ℕ, ◌≡◌, ◌+◌, ◌≤◌, Bool, true, false, List, ◌++◌, map, sum, length}
 use Rattle.std.specs.Option.{option_map_or}
 use Rattle.std.specs.List.{range_with_len}
 use Rattle.mw_model.specs.declared.calls.LogItem.{LogItem}
-use Rattle.mw_model.specs.declared.calls.LogItem.TheVariants as item
 use Rattle.mw_model.specs.Machine.{Machine, Run}
 use Rattle.mw_model.specs.Tasks.{remaining_tasks}
-use Rattle.mw_model.specs.Stands.{Seen, StandsFor, progress_at, ready_count, running_count}
+use Rattle.mw_model.specs.Stands.{Seen, StandsFor, progress_at, running_count}
 use Rattle.mw_model.specs.Scripts.{Works}
 use Rattle.mw_stands.specs.Counts.{NonePending}
-use Rattle.mw_stands.specs.Turns.{IsAt}
 use Rattle.mw_script_laws.specs.Marks.{OnlyWork, killed_in}
 
 -- how many tasks are not finished
 abbrev pub tasks_left : Seen → ℕ
 tasks_left c = sum (map (λ t. option_map_or remaining_tasks (progress_at c.work t) 0) (range_with_len 0 (length c.table.names)))
 
--- The log went on by work alone, and the machine with it. No task is running, and so many tasks fewer are left.
+-- The log went on by work alone, and the machine with it. No task is running, and at least so many tasks fewer are left.
 pub record Worked (m : Machine) (old new : Seen) (done : ℕ) : Type 0 where
   pub items : List LogItem
   pub state : Machine
@@ -27,18 +25,10 @@ pub record Worked (m : Machine) (old new : Seen) (done : ℕ) : Type 0 where
   pub idle : running_count new ≡ 0
   pub fewer : tasks_left new + done ≤ tasks_left old
 
--- The ready task at this place was taken, counted round again where there are fewer: the log tells of no other ticket than its own.
-pub record Took (place : ℕ) (old new : Seen) : Type 0 where
-  pub ticket : ℕ
-  pub taken : IsAt old (place % ready_count old) ticket
-  pub items : List LogItem
-  pub log : new.log ≡ old.log ++ items
-  pub own : (items ≡ []) ⊎ (items ≡ item.Finished ticket ∷ []) ⊎ (items ≡ item.Killed ticket ∷ [])
-
--- the task at this place was run, or none is pending
-abbrev pub Turned : Machine → ℕ → Seen → Seen → Bool → Type 0
-Turned m place old new true = Worked m old new 1 × Took place old new
-Turned m place old new false = (new ≡ old) × NonePending m.table
+-- tasks were run that were ready, or none is pending
+abbrev pub Turned : Machine → Seen → Seen → Bool → Type 0
+Turned m old new true = Worked m old new 1
+Turned m old new false = (new ≡ old) × NonePending m.table
 
 -- All work was run: the kills that the log tells came first, and then everything pending was done.
 pub record AllWorked (m : Machine) (old new : Seen) : Type 0 where

@@ -1,0 +1,20 @@
+use Rattle.std.proofs.Common.{◌∷◌, subst}
+use Rattle.std.specs.Prelude.{Result}
+use Rattle.mw_task.specs.WindowTasks.{WindowTask}
+use Rattle.mw_task.specs.declared.done.TaskRefused.{TaskRefused}
+use Rattle.mw_wave.specs.declared.job.Job.TheVariants as job
+use Rattle.mw_wave.specs.Waves.{Underway}
+use Rattle.mw_wave.proofs.Waving.{finish-hand, refuse-hand}
+use Rattle.mw_wave.proofs.wave.hand_in.Goals as goal
+
+pub returns-in-Ok : goal.returns-in-Ok
+returns-in-Ok c = λ m old jobs n small h.
+    let P : Result WindowTask TaskRefused → Type 0 = λ a. Underway m old c.args.core.now (job.Ran a ∷ jobs) n in
+    let k = subst P c.in-Ok.is h in
+    finish-hand m old c.args.core.now c.finish-answer.new.self c.in-Ok.done jobs n c.finish-answer.result small k (c.finish-answer.ensures.task k.state k.stands)
+
+pub returns-in-Err : goal.returns-in-Err
+returns-in-Err c = λ m old jobs n small h.
+    let P : Result WindowTask TaskRefused → Type 0 = λ a. Underway m old c.args.core.now (job.Ran a ∷ jobs) n in
+    let k = subst P c.in-Err.is h in
+    refuse-hand m old c.args.core.now c.refuse-answer.new.self c.in-Err.refused jobs n c.refuse-answer.result small k (c.refuse-answer.ensures.task k.state k.stands)

@@ -1,0 +1,29 @@
+-- The places of a wave, and the answers to its tasks (own).
+use Rattle.std.specs.Prelude.{◌≡◌, Result, Ok, Err, List, [], ◌∷◌, ◌⊎◌}
+use Rattle.mw_task.specs.WindowTasks.{WindowTask}
+use Rattle.mw_task.specs.declared.done.TaskRefused.{TaskRefused}
+use Rattle.mw_wave.specs.declared.job.Job.{Job}
+use Rattle.mw_wave.specs.declared.job.Job.TheVariants as job
+
+-- the task is done, with what its step makes of its windows; or it was refused under its numbers
+abbrev pub IsAnswerTo : WindowTask → Result WindowTask TaskRefused → Type 0
+IsAnswerTo w (Ok d) = d ≡ w
+IsAnswerTo w (Err r) = r.task ≡ w.task
+
+-- the place is that of this task, and holds it or its answer
+abbrev pub IsOf : Job → WindowTask → Type 0
+IsOf (job.Waits v) w = v ≡ w
+IsOf (job.Ran a) w = IsAnswerTo w a
+IsOf job.Nothing w = ⊥
+
+-- one of the places is that of this task
+abbrev pub HasTask : List Job → WindowTask → Type 0
+HasTask [] w = ⊥
+HasTask (j ∷ jobs) w = IsOf j w ⊎ HasTask jobs w
+
+-- a task that waited in the place has its answer there, and all else stays
+abbrev pub IsAnswered : Job → Job → Type 0
+IsAnswered (job.Waits w) (job.Ran a) = IsAnswerTo w a
+IsAnswered (job.Waits w) j = ⊥
+IsAnswered (job.Ran a) j = j ≡ job.Ran a
+IsAnswered job.Nothing j = j ≡ job.Nothing

@@ -1,0 +1,19 @@
+//! All work of a core, run by one worker or by several: tasks are taken from the core, run, and handed back. With several
+//! workers up to 16 for each are taken at once and run side by side in threads. Only one thread has the core, so nothing
+//! is locked.
+//!
+//! ```
+//! let crew = Crew { alloc, rt: &rt, workers: 4 };
+//! run_all_work(crew, &mut core, &mut pick);
+//! ```
+#![tactic(auto)]
+
+mod crew;
+mod job;
+mod pick;
+mod wave;
+mod work;
+
+pub use crew::Crew;
+pub use pick::Pick;
+pub use work::run_all_work;
