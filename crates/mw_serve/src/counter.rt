@@ -16,6 +16,7 @@ use std::io::Write;
 use std::sync::Wait;
 
 /// Answers by calls of the board. Each is one hold of the lock; what is written is made and written without it.
+#[derive(Drop)]
 pub(crate) struct Counter<'b, R> {
     pub rt: &'b R,
     pub alloc: Global,

@@ -121,6 +121,7 @@ fn fetch<W: Write, P: Pick, T: Threads + Sync>(
 }
 
 /// Answers from a core, whose work is run by a crew in the order of the picks.
+#[derive(Drop)]
 pub(crate) struct Clerk<'r, 'p, P, T> {
     pub crew: Crew<'r, T>,
     pub pick: &'p mut P,
