@@ -8,9 +8,9 @@
 
 mod counter;
 mod laws;
-mod serve;
+mod session;
 
 pub use laws::{ended_is_served, stopped_is_served};
 pub use mw_model::End;
 pub use mw_pool::{Board, Pass};
-pub use serve::serve;
+pub use session::serve;
