@@ -57,7 +57,7 @@ served-alone q c old new (Err e) calls adds none stays = refused stays refl
 
 -- what a FETCH hands out goes with its reply
 may-hand : (a : Reply) (v : Shown) → IsSome (shown_value v) ↔ ShowsSome a → MayHand a (handed_value (shown_value v))
-may-hand a shown.Nothing h = no-value a (λ w. let e = h.1 w in absurd cc)
+may-hand a shown.Nothing h = no-value a (λ w. let e = h.1 w in cc)
 may-hand a (shown.Image f) h =
     let w = h.0 refl in
     rw w.1 (inl (f, refl))
