@@ -6,7 +6,7 @@ use crate::fault::ListenFault;
 use mw_pool::{Board, Gate, Pass, work};
 use mw_serve::serve;
 use mw_wire::{Sink, Source};
-use std::alloc::Global;
+use std::alloc::{AllocError, Global};
 use std::net::{TcpListener, TcpStream};
 use std::sync::Wait;
 use std::thread;
@@ -29,7 +29,7 @@ impl<R, G> Clone for Hall<'_, R, G> {
 
     ghost is_infallible = { λ _. ⊤ };
 
-    fn clone(&self) -> Result<Self, std::alloc::AllocError> {
+    fn clone(&self) -> Result<Self, AllocError> {
         Ok(*self)
     }
 }
@@ -95,16 +95,22 @@ fn join_all<R: Threads>(
 {
     let mut kept = true;
     for handle in handles {
-        let pass = handle.join(rt);
-        kept &= passes.push(pass).is_ok();
+        if passes.push(handle.join(rt)).is_err() {
+            kept = false;
+        }
     }
-    if kept { Ok(passes) } else { Err(ListenFault::Memory) }
+    if kept {
+        Ok(passes)
+    } else {
+        Err(ListenFault::Memory)
+    }
 }
 
-/// Serves so many sessions beside so many workers, and gives the sessions' passes. All threads that were started are
-/// joined, whatever fails: the sessions first, and then the workers, for which the board is closed.
-pub(crate) fn serve_sessions<R: Threads + Wait + Sync, G: Gate + Sync>(
-    hall: Hall<'_, R, G>,
+/// Serves so many sessions beside so many workers, and gives the sessions' passes. All sessions that were started are
+/// joined, whatever fails, and then the board is closed, so that the workers end.
+fn serve_within<'h, E: 'h, R: Threads + Wait + Sync, G: Gate + Sync>(
+    scope: &Scope<'h, E>,
+    hall: Hall<'h, R, G>,
     listener: &TcpListener,
     workers: usize,
     sessions: usize,
@@ -117,16 +123,28 @@ pub(crate) fn serve_sessions<R: Threads + Wait + Sync, G: Gate + Sync>(
     let Ok(passes) = Vec::with_capacity(hall.alloc, sessions) else {
         return Err(ListenFault::Memory);
     };
+    let accepted = match start_workers(scope, hall, workers) {
+        Ok(()) => accept_all(scope, hall, listener, sessions, &mut handles),
+        Err(fault) => Err(fault),
+    };
+    let joined = join_all(hall.rt, handles, passes);
+    hall.board.close(hall.rt);
+    match accepted {
+        Ok(()) => joined,
+        Err(fault) => Err(fault),
+    }
+}
+
+/// The same, in threads that are all joined when it returns.
+pub(crate) fn serve_sessions<R: Threads + Wait + Sync, G: Gate + Sync>(
+    hall: Hall<'_, R, G>,
+    listener: &TcpListener,
+    workers: usize,
+    sessions: usize,
+) -> Result<Vec<Pass>, ListenFault>
+    ensures { IfOk result (λ passes. length passes.items ≡ sessions) }
+{
     thread::scope(thread::scope_env(), hall.rt, |scope| {
-        let accepted = match start_workers(scope, hall, workers) {
-            Ok(()) => accept_all(scope, hall, listener, sessions, &mut handles),
-            Err(fault) => Err(fault),
-        };
-        let joined = join_all(hall.rt, handles, passes);
-        hall.board.close(hall.rt);
-        match accepted {
-            Ok(()) => joined,
-            Err(fault) => Err(fault),
-        }
+        serve_within(scope, hall, listener, workers, sessions)
     })
 }

@@ -9,7 +9,7 @@ use mw_pool::{Board, Core, Gate};
 use mw_wire::{Sink, send};
 use std::alloc::Global;
 use std::io::Write;
-use std::net::{Ipv4Addr, Net, SocketAddr, SocketAddrV4, TcpListener, TcpStream};
+use std::net::{Ipv4Addr, Net, TcpListener, TcpStream};
 use std::sync::Wait;
 use std::thread::Threads;
 
@@ -23,12 +23,10 @@ pub struct Service {
 }
 
 /// Serves the sessions of a service on a board of its own, and audits them.
-fn serve_all<R: Net<Listener = TcpListener, Stream = TcpStream> + Threads + Wait + Sync, G: Gate + Sync>(
-    rt: &R,
-    alloc: Global,
-    service: Service,
-    gate: &G,
-) -> Result<(), ListenFault>
+fn serve_all<
+    R: Net<Listener = TcpListener, Stream = TcpStream> + Threads + Wait + Sync,
+    G: Gate + Sync,
+>(rt: &R, alloc: Global, service: Service, gate: &G) -> Result<(), ListenFault>
     requires side { (64 ≤ service.side) × (service.side ≤ 1024) × (service.side % 64 ≡ 0) }
     ensures { IfOk result (λ _. Audited service.sessions) }
 {
@@ -36,8 +34,7 @@ fn serve_all<R: Net<Listener = TcpListener, Stream = TcpStream> + Threads + Wait
         return Err(ListenFault::Memory);
     };
     let board = Board::new(alloc, core);
-    let place = SocketAddr::V4(SocketAddrV4::new(Ipv4Addr::LOCALHOST, service.port));
-    let Ok(listener) = TcpListener::bind(rt, place) else {
+    let Ok(listener) = TcpListener::bind(rt, (Ipv4Addr::LOCALHOST, service.port)) else {
         return Err(ListenFault::Socket);
     };
     let hall = Hall {
@@ -61,13 +58,7 @@ pub fn listen<
     R: Net<Listener = TcpListener, Stream = TcpStream> + Threads + Wait + Sync,
     F: Write,
     G: Gate + Sync,
->(
-    rt: &R,
-    alloc: Global,
-    service: Service,
-    faults: &mut Sink<F>,
-    gate: &G,
-) -> u8
+>(rt: &R, alloc: Global, service: Service, faults: &mut Sink<F>, gate: &G) -> u8
     requires port { 1 ≤ service.port }
     requires workers { (1 ≤ service.workers) × (service.workers ≤ 64) }
     requires sessions { (1 ≤ service.sessions) × (service.sessions ≤ 64) }
