@@ -169,6 +169,7 @@ fn is_up_to(number: u32, most: u32) -> bool
 }
 
 // The number of an option; none where it is not from 1 to the most that there may be.
+#[tactic(auto, using(crate::proofs::CommandReads::unread_is_none, crate::proofs::CommandReads::missing_is_none, crate::proofs::CommandReads::no_other))]
 fn number_up_to(matches: &ArgMatches<'_>, id: &str, most: u32) -> Option<u32>
     ensures some { IfSome result (λ n. Writes (text_in id.now (subcommand_rows_of matches.now)) n × IsUpTo most n) }
     ensures none { result ≡ None → WritesNone most (text_in id.now (subcommand_rows_of matches.now)) }
@@ -226,6 +227,7 @@ fn listen_of(matches: &ArgMatches<'_>) -> Result<ListenOptions, LineFault>
 }
 
 // Whether the job is `listen`.
+#[tactic(auto, using(crate::proofs::CommandReads::listens_named))]
 fn is_listen(matches: &ArgMatches<'_>) -> bool
     ensures { IsTrue result ↔ AreListens (subcommand_rows_of matches.now) }
 {
