@@ -1,4 +1,5 @@
-use Rattle.std.proofs.Common.{ap, ap₂, codes, true, Bool, ◌||◌, ◌≡◌, ◌∙◌, ◌∷◌, []}
+use Rattle.std.proofs.Common.{ap, ap₂, codes, true, Bool, ◌≡◌, ◌∙◌, ◌∷◌, []}
+use Rattle.std.specs.Prelude.{◌||◌}
 use Rattle.std.proofs.lemmas.Result.{IfOk-weaker}
 use Rattle.clap.specs.Words.{Rule, app_of, new_app, rule_of, with_rule}
 use Rattle.clap.specs.declared.builder.arg.Arg.{Arg}
