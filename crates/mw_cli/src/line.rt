@@ -11,10 +11,9 @@ use clap::{Arg, ArgMatches, Command, value_parser};
 use mw_grid::side_ok;
 use std::alloc::{Alloc, AllocError, Global};
 use std::env::{Env, args};
-use std::io;
 use std::num::ParseIntError;
-use std::thread;
 use std::thread::Threads;
+use std::{io, thread};
 
 /// What `--version` shows.
 pub const VERSION: &str = "0.1.0";
