@@ -74,7 +74,10 @@ fn split(alloc: Global, line: &str) -> Result<Vec<String>, AllocError> {
 fn show<R: Print>(rt: &R, job: Result<Job, LineFault>) -> io::Result<()> {
     match job {
         Ok(Job::Batch(given)) => {
-            println!(rt; "a batch with tiles of {} and {} workers", given.side, given.workers)
+            println!(rt;
+                "a batch with tiles of {} and {} workers",
+                given.side, given.workers
+            )
         }
         Ok(Job::Listen(given)) => {
             println!(rt; "port {}, {} workers, {} sessions, tiles of {}", given.port, given.workers, given.sessions, given.side)

@@ -19,12 +19,7 @@ fn split(rt: &impl Abort, alloc: Global, line: &str) -> Vec<String> {
 }
 
 /// What a command line asks for on a machine of so many processors.
-fn asked(
-    rt: &impl Abort,
-    alloc: Global,
-    line: &str,
-    processors: usize,
-) -> Result<Job, LineFault> {
+fn asked(rt: &impl Abort, alloc: Global, line: &str, processors: usize) -> Result<Job, LineFault> {
     let given = split(rt, alloc, line);
     options(alloc, given.as_slice(), processors)
 }
