@@ -1,7 +1,5 @@
 //! The threads of a server: its workers, and one for each connection.
 
-ghost use Rattle.std.specs.Prelude.{◌≡◌, ◌+◌, length, IfOk};
-
 use crate::fault::ListenFault;
 use mw_pool::{Board, Gate, Pass, work};
 use mw_serve::serve;
@@ -23,7 +21,7 @@ pub(crate) struct Hall<'h, R, G> {
 impl<R, G> Copy for Hall<'_, R, G> {}
 
 impl<R, G> Clone for Hall<'_, R, G> {
-    ghost use Rattle.std.specs.Prelude.{⊤};
+    ghost use Rattle.std.specs.Prelude.{◌≡◌, ⊤};
 
     ghost is_clone = { λ x y. y ≡ x };
 
@@ -67,9 +65,7 @@ fn accept_all<'h, E: 'h, R: Wait + Sync, G: Sync>(
     listener: &TcpListener,
     sessions: usize,
     handles: &mut Vec<JoinHandle<Pass>>,
-) -> Result<(), ListenFault>
-    ensures { IfOk result (λ _. length handles.new.items ≡ length handles.old.items + sessions) }
-{
+) -> Result<(), ListenFault> {
     let (rt, alloc, board) = (hall.rt, hall.alloc, hall.board);
     for _ in 0..sessions {
         let Ok((stream, _)) = listener.accept() else {
@@ -90,9 +86,7 @@ fn join_all<R: Threads>(
     rt: &R,
     handles: Vec<JoinHandle<Pass>>,
     mut passes: Vec<Pass>,
-) -> Result<Vec<Pass>, ListenFault>
-    ensures { IfOk result (λ all. length all.items ≡ length passes.items + length handles.items) }
-{
+) -> Result<Vec<Pass>, ListenFault> {
     let mut kept = true;
     for handle in handles {
         if passes.push(handle.join(rt)).is_err() {
@@ -114,9 +108,7 @@ fn serve_within<'h, E: 'h, R: Threads + Wait + Sync, G: Gate + Sync>(
     listener: &TcpListener,
     workers: usize,
     sessions: usize,
-) -> Result<Vec<Pass>, ListenFault>
-    ensures { IfOk result (λ passes. length passes.items ≡ sessions) }
-{
+) -> Result<Vec<Pass>, ListenFault> {
     let Ok(mut handles) = Vec::with_capacity(hall.alloc, sessions) else {
         return Err(ListenFault::Memory);
     };
@@ -141,9 +133,7 @@ pub(crate) fn serve_sessions<R: Threads + Wait + Sync, G: Gate + Sync>(
     listener: &TcpListener,
     workers: usize,
     sessions: usize,
-) -> Result<Vec<Pass>, ListenFault>
-    ensures { IfOk result (λ passes. length passes.items ≡ sessions) }
-{
+) -> Result<Vec<Pass>, ListenFault> {
     thread::scope(thread::scope_env(), hall.rt, |scope| {
         serve_within(scope, hall, listener, workers, sessions)
     })

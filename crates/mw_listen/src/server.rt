@@ -44,7 +44,8 @@ fn serve_all<
         gate,
     };
     let passes = serve_sessions(hall, &listener, service.workers, service.sessions)?;
-    if !board.audit_all(rt, passes.as_slice()) {
+    // That each session has left its pass is looked at here too: no clause of a scope tells what its threads leave.
+    if passes.len() != service.sessions || !board.audit_all(rt, passes.as_slice()) {
         return Err(ListenFault::Audit);
     }
     Ok(())
