@@ -1,6 +1,6 @@
 //! Each test has a port of its own.
 
-ghost use Rattle.std.specs.Prelude.{◌≡◌};
+ghost use Rattle.std.specs.Prelude.{◌≡◌, ◌≤◌};
 
 use mw_listen::{Kernels, Service, listen};
 use mw_pool::Gate;
@@ -27,7 +27,9 @@ const BOTH: &[u8] = b"LOAD f 19\nP2\n5 1\n9\n3 1 4 1 5\nELEMENT b 1 0 11\nP1\n3 
 const DILATED: &[u8] = b"OK 0\nOK 1\nOK 2\nOK 3\nDONE 2 GREY 5 1 9\nDONE 3 GREY 5 1 9\nIMAGE 3 14\nP5\n5 1\n9\n\x03\x04\x04\x05\x05";
 
 /// Two workers and one session.
-fn service(port: u16) -> Service {
+fn service(port: u16) -> Service
+    ensures { (result.port ≡ port) × (result.workers ≡ 2) × (result.sessions ≡ 1) × (result.side ≡ 128) }
+{
     Service {
         port,
         workers: 2,
@@ -97,14 +99,15 @@ fn answers<R: Net<Stream = TcpStream>>(
     sent: &[u8],
 ) -> io::Result<Vec<u8>> {
     let stream = connect(rt, port)?;
-    (&stream).write_all(sent)?;
+    let mut wire = &stream;
+    wire.write_all(sent)?;
     stream.shutdown(Shutdown::Write)?;
     let mut all = Vec::new(alloc);
-    (&stream).read_to_end(&mut all)?;
+    wire.read_to_end(&mut all)?;
     Ok(all)
 }
 
-/// The exit status of a server beside its clients, the line that it tells, and what the clients read.
+/// The exit status of a server beside its client, the line that it tells, and what the client reads.
 struct Seen {
     status: u8,
     told: Vec<u8>,
@@ -115,12 +118,15 @@ struct Seen {
 fn serve_one<
     R: Net<Listener = TcpListener, Stream = TcpStream> + Threads + Wait + Sync,
     G: Gate + Sync,
->(rt: &R, alloc: Global, port: u16, gate: &G, sent: &[u8]) -> Seen {
+>(rt: &R, alloc: Global, port: u16, gate: &G, sent: &[u8]) -> Seen
+    requires { 1 ≤ port }
+{
+    let given = service(port);
     let mut faults = Sink::new(Vec::new(alloc));
     let (read, status) = thread::join(
         rt,
         || answers(rt, alloc, port, sent),
-        || listen(rt, alloc, service(port), &mut faults, gate),
+        || listen(rt, alloc, given, &mut faults, gate),
     );
     Seen {
         status,
@@ -132,10 +138,11 @@ fn serve_one<
 #[test]
 fn one_session(rt: HostRuntime) -> Result<(), Fail> {
     let alloc = rt.alloc();
-    let seen = serve_one(&rt, alloc, 7001, &Kernels { alloc }, ERODE);
-    assert_eq!(rt; seen.status, 0);
-    assert!(rt; seen.told.is_empty());
-    assert_eq!(rt; seen.read?.as_slice(), ERODED);
+    let Seen { status, told, read } = serve_one(&rt, alloc, 7001, &Kernels { alloc }, ERODE);
+    let read = read?;
+    assert_eq!(rt; status, 0);
+    assert!(rt; told.is_empty());
+    assert_eq!(rt; read.as_slice(), ERODED);
     Ok(())
 }
 
@@ -143,10 +150,12 @@ fn one_session(rt: HostRuntime) -> Result<(), Fail> {
 fn workers_overlap(rt: HostRuntime) -> Result<(), Fail> {
     let alloc = rt.alloc();
     let gate = Meeting::new(alloc);
-    let seen = serve_one(&rt, alloc, 7002, &gate, BOTH);
-    assert_eq!(rt; seen.status, 0);
+    let Seen { status, told, read } = serve_one(&rt, alloc, 7002, &gate, BOTH);
+    let read = read?;
+    assert_eq!(rt; status, 0);
+    assert!(rt; told.is_empty());
     assert_eq!(rt; gate.limit_met.load(Ordering::SeqCst), 0);
-    assert_eq!(rt; seen.read?.as_slice(), DILATED);
+    assert_eq!(rt; read.as_slice(), DILATED);
     Ok(())
 }
 
@@ -160,15 +169,18 @@ fn two_answers<R: Net<Stream = TcpStream>>(rt: &R, alloc: Global) -> io::Result<
 #[test]
 fn two_sessions_share_names(rt: HostRuntime) -> Result<(), Fail> {
     let alloc = rt.alloc();
-    let service = Service {
+    let given = Service {
+        port: 7003,
+        workers: 2,
         sessions: 2,
-        ..service(7003)
+        side: 128,
     };
+    let gate = Kernels { alloc };
     let mut faults = Sink::new(Vec::new(alloc));
     let (read, status) = thread::join(
         &rt,
         || two_answers(&rt, alloc),
-        || listen(&rt, alloc, service, &mut faults, &Kernels { alloc }),
+        || listen(&rt, alloc, given, &mut faults, &gate),
     );
     let (first, second) = read?;
     assert_eq!(rt; status, 0);
