@@ -1,5 +1,5 @@
 -- What clap reads of a command stays when a text of its help is set, and what is read of the texts of a job's options.
-use Rattle.std.proofs.Common.{◌≡◌, ℕ, ap, refl, codes, Option, Some, None, List, option_map, sym, ◌∙◌, IfSome, subst, inl, inr}
+use Rattle.std.proofs.Common.{◌≡◌, ℕ, ap, refl, codes, Option, Some, None, List, option_map, sym, ◌∙◌, subst, inl, inr}
 use Rattle.std.specs.Prelude.{◌↔◌, Box, option_and_then, Result, Ok, Err}
 use Rattle.std.specs.Str.Parse.{ParsesUnsigned}
 use Rattle.clap.specs.Matches.{TriesOne}

@@ -90,9 +90,19 @@ fn numbers_of_a_server(rt: HostRuntime) {
     assert!(rt; (given.port, given.workers, given.sessions, given.side) == (1, 64, 64, 1024));
     let fault = asked(&rt, alloc, "morphd listen --port 0 --workers 0", 1);
     assert!(rt; matches!(fault, Err(LineFault::Port)));
-    let fault = asked(&rt, alloc, "morphd listen --port 7001 --workers 65 --sessions 0", 1);
+    let fault = asked(
+        &rt,
+        alloc,
+        "morphd listen --port 7001 --workers 65 --sessions 0",
+        1,
+    );
     assert!(rt; matches!(fault, Err(LineFault::Workers)));
-    let fault = asked(&rt, alloc, "morphd listen --port 7001 --sessions 0 --tile 1", 1);
+    let fault = asked(
+        &rt,
+        alloc,
+        "morphd listen --port 7001 --sessions 0 --tile 1",
+        1,
+    );
     assert!(rt; matches!(fault, Err(LineFault::Sessions)));
     let fault = asked(&rt, alloc, "morphd listen --port 7001 --tile 100", 1);
     assert!(rt; matches!(fault, Err(LineFault::Tile)));
@@ -182,9 +192,7 @@ fn kind(rt: &impl Abort, alloc: Global, line: &str) -> Option<ErrorKind> {
 #[test]
 fn words_that_clap_refuses(rt: HostRuntime) {
     assert!(rt; kind(&rt, rt.alloc(), "morphd") == Some(ErrorKind::MissingSubcommand));
-    assert!(rt;
-        kind(&rt, rt.alloc(), "morphd listen") == Some(ErrorKind::MissingRequiredArgument)
-    );
+    assert!(rt; kind(&rt, rt.alloc(), "morphd listen") == Some(ErrorKind::MissingRequiredArgument));
     assert!(rt; kind(&rt, rt.alloc(), "morphd batch --tile x") == Some(ErrorKind::ValueValidation));
     assert!(rt;
         kind(&rt, rt.alloc(), "morphd batch --tile 4294967296") == Some(ErrorKind::ValueValidation)

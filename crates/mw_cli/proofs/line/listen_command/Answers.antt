@@ -3,7 +3,7 @@ use Rattle.std.specs.Prelude.{◌||◌}
 use Rattle.std.proofs.lemmas.Result.{IfOk-weaker}
 use Rattle.clap.specs.Words.{Rule, app_of, new_app, rule_of, with_rule}
 use Rattle.clap.specs.declared.builder.arg.Arg.{Arg}
-use Rattle.mw_cli.specs.CommandLine.{HasNoGlobals, crew_option, listen_words, port_option, sessions_option, tile_option}
+use Rattle.mw_cli.specs.CommandLine.{HasNoGlobals, crew_option, port_option, sessions_option}
 use Rattle.mw_cli.proofs.CommandReads.{about_has_no_globals, about_keeps_words}
 use Rattle.mw_cli.proofs.line.listen_command.Goals as goal
 

@@ -2,9 +2,8 @@ use Rattle.std.proofs.Common.{◌≡◌, [], true, map, List, Option, refl, subs
 use Rattle.std.proofs.lemmas.Result.{IfErr-weaker}
 use Rattle.std.specs.String.{string_bytes}
 use Rattle.clap.specs.Faults.{fault_of, is_simple_and_free}
-use Rattle.clap.specs.Simple.{is_simple}
-use Rattle.clap.specs.Words.{App, HasMatchesOf, Row, Text, subcommand_of, subcommand_rows_of}
-use Rattle.mw_cli.specs.CommandLine.{AreTaken, Faults, program_words}
+use Rattle.clap.specs.Words.{App, HasMatchesOf, Row, Text}
+use Rattle.mw_cli.specs.CommandLine.{AreTaken, Faults}
 use Rattle.mw_cli.proofs.CommandReads.{faults_refuse}
 use Rattle.mw_cli.proofs.line.options.Goals as goal
 
