@@ -80,7 +80,10 @@ fn show<R: Print>(rt: &R, job: Result<Job, LineFault>) -> io::Result<()> {
             )
         }
         Ok(Job::Listen(given)) => {
-            println!(rt; "port {}, {} workers, {} sessions, tiles of {}", given.port, given.workers, given.sessions, given.side)
+            println!(rt;
+                "port {}, {} workers, {} sessions, tiles of {}",
+                given.port, given.workers, given.sessions, given.side
+            )
         }
         Err(fault) => {
             fault.print(&Shown { rt })?;
