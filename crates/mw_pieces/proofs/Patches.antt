@@ -1,5 +1,5 @@
 -- Windows in pieces: what they show, and how they are put together and compared.
-use Rattle.std.proofs.Common.{◌≡◌, ◌↔◌, ℕ, zero, suc, ◌+◌, ◌-◌, ◌*◌, ◌<◌, ◌≤◌, Bool, true, false, ◌&&◌, ◌||◌, cond, nat_le, nat_lt, List, [], ◌∷◌, ◌++◌, length, get_or, slice_get, take, drop, Option, Some, None, unwrap_or, refl, sym, ap, subst, arith, rules, ◌∙◌, inl, inr, ◌⊎◌, length-append}
+use Rattle.std.proofs.Common.{◌≡◌, ◌↔◌, ℕ, zero, suc, ◌+◌, ◌-◌, ◌*◌, ◌<◌, ◌≤◌, Bool, true, false, ◌&&◌, ◌||◌, cond, nat_le, nat_lt, List, [], ◌∷◌, ◌++◌, length, get_or, slice_get, slice_range, take, drop, Option, Some, None, unwrap_or, refl, sym, ap, subst, arith, rules, ◌∙◌, inl, inr, ◌⊎◌, length-append}
 use Rattle.std.specs.List.{AllByRecursion, list_any}
 use Rattle.std.proofs.lemmas.Bool.{cases_lt}
 use Rattle.std.proofs.lemmas.Nat.{mul-add-lt}
@@ -8,8 +8,11 @@ use Rattle.std.proofs.lemmas.List.{append_assoc, append-nil, get_or_default, tak
 use Rattle.mw_facts.proofs.Alls.{all-get_or, all-push, all-weaker}
 use Rattle.mw_facts.proofs.Elements.{slice_get-append_left, slice_get-append-add, same_elements}
 use Rattle.mw_model.specs.declared.places.Rect.{Rect}
-use Rattle.mw_model.specs.Places.{Holds}
-use Rattle.mw_pieces.specs.Patches.{Patch, patch_at, no_patch, cell_of, has_place, held_in, value_in, overlap_of, IsFull, IsPatchOf, ShowsIn, Covers, Joint, IsJoint, HasValues, HasRowMore}
+use Rattle.mw_model.specs.Places.{Holds, IsWithin}
+use Rattle.mw_model.specs.Rasters.{Raster}
+use Rattle.mw_grid.specs.Rectangles.{whole_frame}
+use Rattle.mw_tile.proofs.Rows.{get_from_column}
+use Rattle.mw_pieces.specs.Patches.{Patch, patch_at, no_patch, cell_of, has_place, held_in, value_in, overlap_of, patch, IsFull, IsInside, IsPatchOf, ShowsIn, Covers, Joint, IsJoint, HasValues, HasRowMore, ShowsFrame, frame_value}
 
 -- ---- places of a rectangle
 
@@ -100,18 +103,21 @@ above_more r value p y row held row-is held-is same before x q holds lt =
     ]
 
 -- where the piece has these values, so has each of its rows
+pub row_shows : {A : Type 0} (r place : Rect) (value : ℕ → ℕ → Option A) (p : Patch A) (y : ℕ) (row : List A) → r ≡ overlap_of place p.place → r.y ≤ y → y < r.y + r.height → RowIs (cell_of p) r.x y r.width row → ShowsIn place value p
+    → RowIs value r.x y r.width row
+row_shows r place value p y row r-is top bottom row-is shows k lt =
+    let a = ap (λ (q : Rect). q.x) r-is in
+    let b = ap (λ (q : Rect). q.y) r-is in
+    let c = ap (λ (q : Rect). q.width) r-is in
+    let d = ap (λ (q : Rect). q.height) r-is in
+    let first : Holds place (r.x + k) y = record { left = omega arith; right = omega arith; top = omega arith; bottom = omega arith } in
+    let second : Holds p.place (r.x + k) y = record { left = omega arith; right = omega arith; top = omega arith; bottom = omega arith } in
+    row-is k lt ∙ shows (r.x + k) y first second
+
 pub row_same : {A : Type 0} (r place : Rect) (value : ℕ → ℕ → Option A) (p : Patch A) (y : ℕ) (row held : List A) → r ≡ overlap_of place p.place → r.y ≤ y → y < r.y + r.height → length row ≡ r.width → length held ≡ r.width
     → RowIs (cell_of p) r.x y r.width row → RowIs value r.x y r.width held → ShowsIn place value p → row ≡ held
 row_same r place value p y row held r-is top bottom row-size held-size row-is held-is shows =
-    same_elements row held (row-size ∙ sym held-size) (λ k lt. row-is k (omega arith) ∙ shows (r.x + k) y (inside k (omega arith)).0 (inside k (omega arith)).1 ∙ sym (held-is k (omega arith)))
-  where
-    inside : (k : ℕ) → k < r.width → Holds place (r.x + k) y × Holds p.place (r.x + k) y
-    inside k lt =
-        let a = ap (λ (q : Rect). q.x) r-is in
-        let b = ap (λ (q : Rect). q.y) r-is in
-        let c = ap (λ (q : Rect). q.width) r-is in
-        let d = ap (λ (q : Rect). q.height) r-is in
-        (record { left = omega arith; right = omega arith; top = omega arith; bottom = omega arith }, record { left = omega arith; right = omega arith; top = omega arith; bottom = omega arith })
+    same_elements row held (row-size ∙ sym held-size) (λ k lt. row_shows r place value p y row r-is top bottom row-is shows k (omega arith) ∙ sym (held-is k (omega arith)))
 
 both_hold : (r a b : Rect) (x y : ℕ) → r ≡ overlap_of a b → Holds a x y → Holds b x y → Holds r x y
 both_hold r a b x y r-is first second =
@@ -218,3 +224,69 @@ part_shows j k p x y count part joint lt is left right top bottom holds p-right 
     let shows : ShowsIn j.place (value_in j.pieces) p = subst (ShowsIn j.place (value_in j.pieces)) (sym is) (all-get_or (ShowsIn j.place (value_in j.pieces)) j.pieces k no_patch lt joint.agree) in
     let a = holds.left in
     row i i-lt ∙ shows (x + i) y (record { left = omega arith; right = omega arith; top = top; bottom = bottom }) (record { left = omega arith; right = omega arith; top = holds.top; bottom = holds.bottom })
+
+pub within_as : {A : Type 0} (j : Joint A) (r : Rect) (m n : ℕ) → IsJoint j → r ≡ j.place → m ≡ j.frame_width → n ≡ j.frame_height → IsWithin r m n
+within_as j r m n joint r-is m-is n-is = rw (r-is, m-is, n-is) joint.within
+
+-- ---- compared with a plane
+
+-- the rows of a plane that stands in a rectangle
+pub row_of_plane : {A : Type 0} (cells row : List A) (at : Rect) (x y n w : ℕ) → w ≡ at.width → at.x ≤ x → row ≡ slice_range cells ((y - at.y) * w + (x - at.x)) ((y - at.y) * w + (x - at.x) + n) → RowIs (cell_of (patch at cells)) x y n row
+row_of_plane cells row at x y n w w-is le row-is k lt =
+    get_from_column cells row ((y - at.y) * w) (x - at.x) n k row-is lt ∙ ap (λ (t : ℕ). slice_get cells ((y - at.y) * t + (x - at.x + k))) w-is ∙ ap (λ (t : ℕ). slice_get cells ((y - at.y) * at.width + t)) (again x at.x k le)
+  where
+    again : (x a k : ℕ) → a ≤ x → x - a + k ≡ x + k - a
+    again x a k le = omega arith
+
+pub overlap_begins : (r place p at : Rect) → r ≡ overlap_of place p → IsInside p at → at.x ≤ r.x
+overlap_begins r place p at r-is inside = let xs = ap (λ (q : Rect). q.x) r-is in let left = inside.left in omega arith
+
+-- a plane that stands in its whole frame
+abbrev pub at_frame : {A : Type 0} → Rect → Raster A → ℕ → ℕ → Option A
+at_frame r f = cell_of (patch r f.cells)
+
+frame_is : {A : Type 0} (f : Raster A) (r : Rect) (x y : ℕ) → r ≡ whole_frame f.width f.height → at_frame r f x y ≡ frame_value f x y
+frame_is f r x y r-is = ap (λ (q : Rect). at_frame q f x y) r-is ∙ ap (λ (t : ℕ). slice_get f.cells (t * f.width + (x - 0))) (all y) ∙ ap (λ (t : ℕ). slice_get f.cells (y * f.width + t)) (all x)
+  where
+    all : (n : ℕ) → n - 0 ≡ n
+    all n = omega arith
+
+pub frame_at : (w h m n : ℕ) (r : Rect) → r ≡ whole_frame w h → w ≡ m → h ≡ n → r ≡ whole_frame m n
+frame_at w h m n r r-is w-is h-is = rw (← w-is, ← h-is) r-is
+
+pub inside_frame : {A : Type 0} (m n : ℕ) (p : Patch A) (r : Rect) → IsPatchOf m n p → r ≡ whole_frame m n → IsInside p.place r
+inside_frame m n p r of r-is =
+    let across = of.within.across in
+    let down = of.within.down in
+    let xs = ap (λ (q : Rect). q.x) r-is in
+    let ys = ap (λ (q : Rect). q.y) r-is in
+    let ws = ap (λ (q : Rect). q.width) r-is in
+    let hs = ap (λ (q : Rect). q.height) r-is in
+    record { left = omega arith; right = omega arith; top = omega arith; bottom = omega arith }
+
+pub shown_by : {A : Type 0} (j : Joint A) (f : Raster A) (r at : Rect) → IsJoint j → r ≡ j.place → at ≡ whole_frame f.width f.height → j.frame_width ≡ f.width → j.frame_height ≡ f.height → AllByRecursion (ShowsIn r (at_frame at f)) j.pieces
+    → ShowsFrame f j
+shown_by {A} j f r at joint r-is at-is width height all = record {
+  width = width;
+  height = height;
+  same = λ x y holds. values_of_shows (at_frame at f) j.place j.pieces joint.covers (subst (λ (s : Rect). AllByRecursion (ShowsIn s (at_frame at f)) j.pieces) r-is all) x y holds ∙ frame_is f at x y at-is;
+}
+
+-- where the window shows what the frame has, so does each piece
+pub each_shows : {A : Type 0} (j : Joint A) (f : Raster A) (r at : Rect) (k : ℕ) (p : Patch A) → IsJoint j → r ≡ j.place → at ≡ whole_frame f.width f.height → k < length j.pieces → p ≡ patch_at j.pieces k → ShowsFrame f j → ShowsIn r (at_frame at f) p
+each_shows {A} j f r at k p joint r-is at-is lt is shows =
+    let all : AllByRecursion (ShowsIn j.place (at_frame at f)) j.pieces = shows_of_values (at_frame at f) j.place j.pieces joint.agree (λ x y holds. shows.same x y holds ∙ sym (frame_is f at x y at-is)) in
+    subst (λ (s : Rect). ShowsIn s (at_frame at f) p) (sym r-is) (subst (ShowsIn j.place (at_frame at f)) (sym is) (all-get_or (ShowsIn j.place (at_frame at f)) j.pieces k no_patch lt all))
+
+-- of a whole frame
+pub shown_plain : {A : Type 0} (j : Joint A) (f : Raster A) (r : Rect) → IsJoint j → r ≡ j.place → j.frame_width ≡ f.width → j.frame_height ≡ f.height → AllByRecursion (ShowsIn r (frame_value f)) j.pieces → ShowsFrame f j
+shown_plain {A} j f r joint r-is width height all = record {
+  width = width;
+  height = height;
+  same = values_of_shows (frame_value f) j.place j.pieces joint.covers (subst (λ (s : Rect). AllByRecursion (ShowsIn s (frame_value f)) j.pieces) r-is all);
+}
+
+pub each_plain : {A : Type 0} (j : Joint A) (f : Raster A) (r : Rect) (k : ℕ) (p : Patch A) → IsJoint j → r ≡ j.place → k < length j.pieces → p ≡ patch_at j.pieces k → ShowsFrame f j → ShowsIn r (frame_value f) p
+each_plain {A} j f r k p joint r-is lt is shows =
+    let all : AllByRecursion (ShowsIn j.place (frame_value f)) j.pieces = shows_of_values (frame_value f) j.place j.pieces joint.agree shows.same in
+    subst (λ (s : Rect). ShowsIn s (frame_value f) p) (sym r-is) (subst (ShowsIn j.place (frame_value f)) (sym is) (all-get_or (ShowsIn j.place (frame_value f)) j.pieces k no_patch lt all))

@@ -1,5 +1,5 @@
 -- Windows in pieces as windows of sources.
-use Rattle.std.proofs.Common.{◌≡◌, ℕ, ◌+◌, ◌-◌, ◌*◌, ◌<◌, ◌≤◌, List, length, get_or, slice_get, Option, Some, unwrap_or, refl, sym, ap, subst, arith, ◌∙◌}
+use Rattle.std.proofs.Common.{◌≡◌, ◌↔◌, ℕ, ◌+◌, ◌-◌, ◌*◌, ◌<◌, ◌≤◌, List, length, get_or, slice_get, Option, Some, unwrap_or, refl, sym, ap, subst, arith, ◌∙◌}
 use Rattle.mw_model.specs.declared.places.Rect.{Rect}
 use Rattle.mw_model.specs.declared.shapes.Kind.{Kind}
 use Rattle.mw_model.specs.Places.{Holds, IsWithin}
@@ -94,3 +94,13 @@ joined_is k m j w joint joined =
     each i q across down =
         let found = value_some j.frame_width j.frame_height j.pieces (j.place.x + i) (j.place.y + q) joint.patches (joint.covers (j.place.x + i) (j.place.y + q) (at j.place i q across down)) in
         joined.values.same i q across down ∙ there (value_in j.pieces (j.place.x + i) (j.place.y + q)) found.0 found.1
+
+-- pieces that stand in the rectangle are the window of an image exactly where they show what it has
+pub window_matches : (k : Kind) (m : ℕ) (j : Joint ℕ) (r : Rect) (f g : Picture) (s : SourceWindow) (P : Type 0) → IsJoint j → f ≡ g → length f.samples ≡ f.height * f.width → IsWithin r f.width f.height → g.kind ≡ k → g.maxval ≡ m → s ≡ source_joint k m j → s.view.place ≡ r
+    → P ↔ ShowsFrame (raster_of g) j → P ↔ (s ≡ window_of r f)
+window_matches k m j r f g s P joint same size within kind-is maxval-is is place-is tells = (
+  λ p.
+      let shows : ShowsFrame (raster_of f) j = subst (λ (h : Picture). ShowsFrame (raster_of h) j) (sym same) (tells.0 p) in
+      is ∙ window_is k m j r f (ap (λ (h : Picture). h.kind) same ∙ kind-is) (ap (λ (h : Picture). h.maxval) same ∙ maxval-is) size within (ap (λ (t : SourceWindow). t.view.place) (sym is) ∙ place-is) shows,
+  λ e. tells.1 (subst (λ (h : Picture). ShowsFrame (raster_of h) j) same (window_shows k m j r f joint size (sym is ∙ e))),
+)

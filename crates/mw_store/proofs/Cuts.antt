@@ -16,7 +16,7 @@ use Rattle.mw_pixel.proofs.Cells.{slice_get-samples}
 use Rattle.mw_tile.specs.Windows.{IsCut, SourceWindow, window_of}
 use Rattle.mw_tile.specs.Cuts.{view_of}
 use Rattle.mw_tile.proofs.Rows.{get_from_column, get_row}
-use Rattle.mw_task.proofs.TileCells.{cells_in_are, cells_in_at, length-cells_in}
+use Rattle.mw_pieces.proofs.TileCells.{cells_in_are, cells_in_at, length-cells_in}
 use Rattle.mw_store.specs.Frames.{HasPart, seen_of}
 
 -- a cut of an image is the image's window there

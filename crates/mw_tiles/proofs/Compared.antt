@@ -17,7 +17,7 @@ use Rattle.mw_pixel.proofs.Cells.{slice_get-samples}
 use Rattle.mw_tile.specs.Windows.{IsCut, SourceWindow, window_of}
 use Rattle.mw_tile.specs.Cuts.{view_of}
 use Rattle.mw_tile.proofs.Rows.{get_row}
-use Rattle.mw_task.proofs.TileCells.{length-cells_in, cells_in_at}
+use Rattle.mw_pieces.proofs.TileCells.{length-cells_in, cells_in_at}
 use Rattle.mw_tiles.specs.Held.{tiled}
 use Rattle.mw_tiles.specs.Tiles.{Tiled, HasCells, HasRun, IsPlaneOf, ShowsTiles, cells_of}
 use Rattle.mw_tiles.proofs.Joined.{source_window, window_of_cut}

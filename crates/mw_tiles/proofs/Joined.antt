@@ -17,7 +17,7 @@ use Rattle.mw_model.specs.Tasks.{cells_in}
 use Rattle.mw_pixel.specs.Images.{raster_of}
 use Rattle.mw_pixel.proofs.Cells.{slice_get-samples}
 use Rattle.mw_tile.specs.Windows.{SourceWindow, window_of}
-use Rattle.mw_task.proofs.TileCells.{cells_in_are}
+use Rattle.mw_pieces.proofs.TileCells.{cells_in_are}
 use Rattle.mw_tiles.specs.Held.{tiled}
 use Rattle.mw_tiles.specs.Tiles.{Tiled, IsPlaneOf, cells_of, HasAll, ShowsTiles, HasRun, HasRowMore, HasFirstRows}
 

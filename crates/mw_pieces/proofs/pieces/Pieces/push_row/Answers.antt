@@ -50,5 +50,6 @@ parts-preserved g c =
       from = omega arith;
       to = omega arith;
       appends = appends_more (value_in j.pieces) j.place.x c.args.y c.parts.at (c.parts.at - j.place.x) (c.min-stop.result - j.place.x) c.args.samples.now.items c.parts.samples.items c.part.result.now _
-          c.in_ok-extend_from_slice.ensures.items (omega arith) (let count = c.part.ensures.count in omega arith) c.parts.invariant.appends ?;
+          c.in_ok-extend_from_slice.ensures.items (omega arith) (let count = c.part.ensures.count in omega arith) c.parts.invariant.appends
+          (λ k lt. part_shows j c.find-k.result p c.parts.at c.args.y (c.min-stop.result - c.parts.at) c.part.result.now c.pieces-pieces.ensures.joint c.find-k.ensures.within is from (omega arith) c.requires.top c.requires.bottom holds (omega arith) c.part.ensures.value k (let count = c.part.ensures.count in omega arith));
     }

@@ -8,7 +8,7 @@ use Rattle.mw_task.specs.WindowTasks.{window_at, KindsFit}
 use Rattle.mw_task.specs.Products.{HoldsImage, IsMade}
 use Rattle.mw_step.proofs.Images.{if_ok, made_of_one, tile_by}
 use Rattle.mw_step.proofs.OfTasks.{made_of_here, sum_of_here}
-use Rattle.mw_step.proofs.make.make.Goals as goal
+use Rattle.mw_step.proofs.make.made_of.Goals as goal
 
 pub returns-in-Erode : goal.returns-in-Erode
 returns-in-Erode c =
