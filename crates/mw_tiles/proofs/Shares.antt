@@ -2,6 +2,7 @@
 use Rattle.std.proofs.Common.{◌≡◌, ◌↔◌, ℕ, ◌+◌, ◌-◌, ◌*◌, ◌/◌, ◌<◌, ◌≤◌, Bool, true, false, ◌||◌, IsTrue, List, [], ◌∷◌, ◌++◌, length, get_or, slice_get, Option, Some, None, IsSome, refl, sym, ap, subst, arith, rules, ◌∙◌, inl, inr}
 use Rattle.std.specs.List.{AllByRecursion, list_any}
 use Rattle.std.proofs.lemmas.Bool.{cases_lt}
+use Rattle.std.proofs.lemmas.List.{get_or_default}
 use Rattle.std.proofs.lemmas.List.Folds.{list_any-append}
 use Rattle.std.proofs.lemmas.Nat.{le-div}
 use Rattle.std.proofs.Math.Nat.{div-mul-le_self}
@@ -235,3 +236,6 @@ shared_matches k m g tiles p j r s P view within joint is place-is tells f plane
 -- a window of another place, kind or maxval is no window of such an image
 pub other_place : (p : Tiled) (s : SourceWindow) (r q : Rect) → q ≡ s.view.place → (q ≡ r → ⊥) → (f : Picture) → IsPlaneOf p f → IsTrue false ↔ (s ≡ window_of r f)
 other_place p s r q q-is other f plane = ((λ no. absurd cc), (λ e. absurd (other (q-is ∙ ap (λ (t : SourceWindow). t.view.place) e))))
+
+pub missing_at : {A : Type 0} (g : Tiling) (tiles : List (Option (Raster A))) (i : ℕ) (o : Option (Raster A)) → HasSides g tiles → o ≡ get_or tiles i o → o ≡ None → i < tile_count g → IsSome (tile_cells (cells_of tiles) i) → ⊥
+missing_at g tiles i o has read is lt = none_there tiles i (get_or_default tiles i None o (let count = has.count in omega arith) ∙ sym read ∙ is)

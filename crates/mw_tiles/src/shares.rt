@@ -30,7 +30,8 @@ fn push_tile<P: Pixel>(
         Some(placed) => {
             let place = grid.rect(i);
             let plane = placed.owner()?;
-            pieces.push(Piece::new(place, plane))?;
+            let piece = Piece::new(place, plane);
+            pieces.push(piece)?;
             Ok(())
         }
         None => Ok(()),
