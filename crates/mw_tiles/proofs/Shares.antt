@@ -17,14 +17,14 @@ use Rattle.mw_grid.proofs.Tiles.{HasTiles, tile_within}
 use Rattle.mw_pixel.specs.Images.{raster_of}
 use Rattle.mw_tile.specs.Windows.{IsCut, SourceWindow, window_of}
 use Rattle.mw_tile.specs.Cuts.{view_of}
-use Rattle.mw_pieces.specs.Patches.{Patch, Joint, IsJoint, IsFull, IsPatchOf, ShowsFrame, ShowsIn, Covers, cell_of, frame_value, has_place, held_in, joint, patch, value_in}
+use Rattle.mw_pieces.specs.Patches.{Patch, Joint, IsJoint, IsInside, IsPatchOf, ShowsFrame, ShowsIn, Covers, cell_of, frame_value, has_place, held_in, joint, overlap_of, patch, value_in}
 use Rattle.mw_pieces.specs.Shared.{source_joint}
 use Rattle.mw_pieces.proofs.Patches.{agree, has_yes, values_of_shows}
 use Rattle.mw_pieces.proofs.Windows.{window_is, window_matches}
 use Rattle.mw_tiles.specs.Held.{tiled}
 use Rattle.mw_tiles.specs.Filled.{number_at}
 use Rattle.mw_tiles.specs.Shares.{AddsTiles, AreTilesMet, IsTileOf}
-use Rattle.mw_tiles.specs.Tiles.{HasAll, HasSides, HasSizes, IsPlaneOf, ShowsTiles, StandsIn, Tiled, cells_of, tile_cells}
+use Rattle.mw_tiles.specs.Tiles.{HasAll, HasAlong, HasSides, HasSizes, IsPlaneOf, ShowsTiles, StandsIn, Tiled, cells_of, tile_cells}
 use Rattle.mw_tiles.proofs.Filled.{number_only}
 use Rattle.mw_tiles.proofs.Numbers.{number_holds, number_within}
 use Rattle.mw_tiles.proofs.Sides.{cells_at, none_there, sizes_of_sides}
@@ -152,8 +152,8 @@ tile_shows g tiles r p some of x y inside holds =
     ∙ ap (λ (o : Option (List _)). cell_there o ((y - t.y) * t.width + (x - t.x))) (sym of.cells)
     ∙ ap (λ (n : ℕ). cell_there (tile_cells tiles n) ((y - (tile_at g n).y) * (tile_at g n).width + (x - (tile_at g n).x))) (sym (number_only g i x y some here))
 
-pub cut_cell : {A : Type 0} (f : Raster A) (p : Patch A) (x y : ℕ) → IsCut (view_of f.width f.height p.place p.cells) f → Holds p.place x y → cell_of p x y ≡ frame_value f x y
-cut_cell f p x y cut holds =
+pub cut_cell : {A : Type 0} (f : Raster A) (m n : ℕ) (p : Patch A) (x y : ℕ) → IsCut (view_of m n p.place p.cells) f → Holds p.place x y → cell_of p x y ≡ frame_value f x y
+cut_cell f m n p x y cut holds =
     let left = holds.left in
     let right = holds.right in
     let top = holds.top in
@@ -169,7 +169,7 @@ cut_cell f p x y cut holds =
 tile_of_frame : {A : Type 0} (g : Tiling) (tiles : List (Option (List A))) (f : Raster A) (r : Rect) (p : Patch A) → ShowsTiles g tiles f → IsTileOf g tiles p → ShowsIn r (frame_value f) p
 tile_of_frame {A} g tiles f r p shows of x y inside holds =
     let cut : IsCut (view_of f.width f.height p.place p.cells) f = subst (λ (q : Rect). IsCut (view_of f.width f.height q p.cells) f) (sym of.place) (shows.shown of.number p.cells of.within of.cells) in
-    cut_cell f p x y cut holds
+    cut_cell f f.width f.height p x y cut holds
 
 tile_patch : {A : Type 0} (g : Tiling) (tiles : List (Option (List A))) (p : Patch A) → HasTiles g → HasSizes g tiles → IsTileOf g tiles p → IsPatchOf g.width g.height p
 tile_patch g tiles p has sizes of = record {
@@ -239,3 +239,39 @@ other_place p s r q q-is other f plane = ((λ no. absurd cc), (λ e. absurd (oth
 
 pub missing_at : {A : Type 0} (g : Tiling) (tiles : List (Option (Raster A))) (i : ℕ) (o : Option (Raster A)) → HasSides g tiles → o ≡ get_or tiles i o → o ≡ None → i < tile_count g → IsSome (tile_cells (cells_of tiles) i) → ⊥
 missing_at g tiles i o has read is lt = none_there tiles i (get_or_default tiles i None o (let count = has.count in omega arith) ∙ sym read ∙ is)
+
+-- a piece that stands in the place of a tile
+pub agrees_tile : {A : Type 0} (f t : Raster A) (m n : ℕ) (place at : Rect) (p : Patch A) (P : Type 0) → at ≡ p.place → IsCut (view_of m n at t.cells) f → P ↔ ShowsIn place (cell_of (patch at t.cells)) p → P ↔ ShowsIn place (frame_value f) p
+agrees_tile f t m n place at p P at-is cut tells = (
+  λ yes x y first second. tells.0 yes x y first second ∙ there x y second,
+  λ shows. tells.1 (λ x y first second. shows x y first second ∙ sym (there x y second)),
+)
+  where
+    there : (x y : ℕ) → Holds p.place x y → cell_of (patch at t.cells) x y ≡ frame_value f x y
+    there x y holds = cut_cell f m n (patch at t.cells) x y cut (subst (λ (r : Rect). Holds r x y) (sym at-is) holds)
+
+-- a row of a piece lies where the tiles are placed
+pub row_within : {A : Type 0} (g : Tiling) (tiles : List (Option (List A))) (r place : Rect) (p : Patch A) (y n : ℕ) → r ≡ overlap_of place p.place → IsWithin place g.width g.height → HasAll g tiles place → r.y ≤ y → y < r.y + r.height → 1 ≤ r.width → n ≡ r.width
+    → (r.x + n ≤ g.width) × (y < g.height) × HasAlong g tiles r.x y (r.x + n)
+row_within g tiles r place p y n r-is within placed top bottom some n-is =
+    let a = ap (λ (q : Rect). q.x) r-is in
+    let b = ap (λ (q : Rect). q.y) r-is in
+    let c = ap (λ (q : Rect). q.width) r-is in
+    let d = ap (λ (q : Rect). q.height) r-is in
+    let across = within.across in
+    let down = within.down in
+    (omega arith, omega arith, (λ k le lt. placed k y (record { left = omega arith; right = omega arith; top = omega arith; bottom = omega arith })))
+
+pub within_of : (k : Kind) (m : ℕ) (g : Tiling) (tiles : List (Option (Raster ℕ))) (p : Tiled) (r q : Rect) → tiled k m g tiles ≡ p → q ≡ r → IsWithin r p.tiling.width p.tiling.height → IsWithin q g.width g.height
+within_of k m g tiles p r q view q-is within = subst (λ (t : Tiled). IsWithin q t.tiling.width t.tiling.height) (sym view) (subst (λ (s : Rect). IsWithin s p.tiling.width p.tiling.height) (sym q-is) within)
+
+pub placed_of : (k : Kind) (m : ℕ) (g : Tiling) (tiles : List (Option (Raster ℕ))) (p : Tiled) (r q : Rect) → tiled k m g tiles ≡ p → q ≡ r → HasAll p.tiling p.tiles r → HasAll g (cells_of tiles) q
+placed_of k m g tiles p r q view q-is placed = subst (λ (t : Tiled). HasAll t.tiling t.tiles q) (sym view) (subst (λ (s : Rect). HasAll p.tiling p.tiles s) (sym q-is) placed)
+
+pub inside_itself : (r s : Rect) → s ≡ r → IsInside r s
+inside_itself r s e =
+    let xs = ap (λ (q : Rect). q.x) e in
+    let ys = ap (λ (q : Rect). q.y) e in
+    let ws = ap (λ (q : Rect). q.width) e in
+    let hs = ap (λ (q : Rect). q.height) e in
+    record { left = omega arith; right = omega arith; top = omega arith; bottom = omega arith }

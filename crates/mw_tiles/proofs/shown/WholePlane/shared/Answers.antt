@@ -2,7 +2,7 @@ use Rattle.std.proofs.Common.{◌∙◌, ap}
 use Rattle.mw_tile.specs.Windows.{window_of}
 use Rattle.mw_tiles.specs.Filled.{filled}
 use Rattle.mw_tiles.proofs.Filled.{filled_is_plane}
-use Rattle.mw_tiles.proofs.shown.WholePlane.window.Goals as goal
+use Rattle.mw_tiles.proofs.shown.WholePlane.shared.Goals as goal
 
 pub returns : goal.returns
 returns c =
