@@ -8,4 +8,4 @@ mod Sides
 mod Joined
 mod Compared
 mod Whole
-mod Shares
+mod Sharing

@@ -16,11 +16,11 @@ pub record IsTileOf {A : Type 0} (g : Tiling) (tiles : List (Option (List A))) (
 
 -- the new pieces are the old and placed tiles, among them each that is placed of these numbers
 pub record AddsTiles {A : Type 0} (g : Tiling) (tiles : List (Option (List A))) (first end : ℕ) (old new : List (Patch A)) : Type 0 where
-  pub tiles : AllByRecursion (IsTileOf g tiles) old → AllByRecursion (IsTileOf g tiles) new
+  pub all : AllByRecursion (IsTileOf g tiles) old → AllByRecursion (IsTileOf g tiles) new
   pub kept : (x y : ℕ) → held_in old x y ≡ true → held_in new x y ≡ true
   pub added : (i x y : ℕ) → first ≤ i → i < end → Holds (tile_at g i) x y → IsSome (tile_cells tiles i) → held_in new x y ≡ true
 
 -- the pieces are placed tiles, among them each that is placed and has a place of the rectangle
 pub record AreTilesMet {A : Type 0} (g : Tiling) (tiles : List (Option (List A))) (r : Rect) (ps : List (Patch A)) : Type 0 where
-  pub tiles : AllByRecursion (IsTileOf g tiles) ps
+  pub all : AllByRecursion (IsTileOf g tiles) ps
   pub met : (i x y : ℕ) → i < tile_count g → Holds r x y → Holds (tile_at g i) x y → IsSome (tile_cells tiles i) → held_in ps x y ≡ true

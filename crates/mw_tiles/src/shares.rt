@@ -80,11 +80,13 @@ fn tiles_met<P: Pixel>(
     ensures { IfOk result (λ v. AreTilesMet grid (cells_of tiles.now) rect v.items) }
 {
     let (_width, _height, side) = (grid.width(), grid.height(), grid.side());
-    let (columns, _rows) = (grid.columns(), grid.rows());
-    let (left, right) = (rect.x / side, end_of(side, rect.x, rect.width));
-    let (top, bottom) = (rect.y / side, end_of(side, rect.y, rect.height));
-    let count = (bottom - top) * (right - left);
-    let mut pieces = Vec::with_capacity(alloc, count as usize)?;
+    let (columns, _rows, _count) = (grid.columns(), grid.rows(), grid.len());
+    let left = rect.x / side;
+    let right = end_of(side, rect.x, rect.width);
+    let top = rect.y / side;
+    let bottom = end_of(side, rect.y, rect.height);
+    let count = (bottom - top) as usize * (right - left) as usize;
+    let mut pieces = Vec::with_capacity(alloc, count)?;
     for row in top..bottom {
         push_tiles(
             grid,

@@ -1,8 +1,13 @@
 use Rattle.std.proofs.Common.{◌≡◌, ◌<◌, ◌≤◌, length, List, ap, sym, subst, arith, rules, ◌∙◌}
 use Rattle.std.specs.List.{AllByRecursion}
+use Rattle.mw_model.specs.declared.places.Rect.{Rect}
 use Rattle.mw_pieces.specs.Patches.{frame_value, IsPatchOf, Patch, ShowsIn}
 use Rattle.mw_pieces.proofs.Patches.{all_next, all_whole, each_plain, patch_of, read_at, shown_plain}
+use Rattle.mw_tiles.specs.Tiles.{cells_of, HasAll}
 use Rattle.mw_tiles.proofs.equal.are_tiles.Goals as goal
+
+pub is_piece-requires-clause-placed : goal.is_piece-requires-clause-placed
+is_piece-requires-clause-placed g c = subst (λ (r : Rect). HasAll c.args.grid (cells_of c.args.tiles.now) r) (sym c.place-place.ensures) c.requires.placed
 
 pub loop-piece-preserved : goal.loop-piece-preserved
 loop-piece-preserved g c = λ f shows.

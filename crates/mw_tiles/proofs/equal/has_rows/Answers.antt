@@ -2,7 +2,7 @@ use Rattle.std.proofs.Common.{◌≡◌, ◌+◌, ◌<◌, ◌≤◌, length, re
 use Rattle.mw_pieces.specs.Patches.{frame_value, overlap_of}
 use Rattle.mw_pieces.proofs.Patches.{above_end, above_more, above_none, row_shows, RowIs}
 use Rattle.mw_tiles.specs.Tiles.{HasRun, cells_of}
-use Rattle.mw_tiles.proofs.Shares.{row_within}
+use Rattle.mw_tiles.proofs.Sharing.{row_within}
 use Rattle.mw_tiles.proofs.equal.has_rows.Goals as goal
 
 pub is_row-requires : goal.is_row-requires

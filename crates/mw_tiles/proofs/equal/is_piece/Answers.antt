@@ -3,7 +3,7 @@ use Rattle.mw_model.specs.declared.places.Rect.{Rect}
 use Rattle.mw_model.specs.Rasters.{Raster}
 use Rattle.mw_tile.specs.Windows.{IsCut}
 use Rattle.mw_tile.specs.Cuts.{view_of}
-use Rattle.mw_tiles.proofs.Shares.{agrees_tile, inside_itself}
+use Rattle.mw_tiles.proofs.Sharing.{agrees_tile, inside_itself}
 use Rattle.mw_tiles.proofs.equal.is_piece.Goals as goal
 
 pub agrees-requires : goal.agrees-requires

@@ -1,7 +1,7 @@
 use Rattle.std.proofs.Common.{◌≡◌, ◌+◌, ◌≤◌, sym, arith, ◌∙◌}
 use Rattle.mw_grid.proofs.Tiles.{HasTiles}
 use Rattle.mw_tiles.specs.Tiles.{cells_of}
-use Rattle.mw_tiles.proofs.Shares.{joint_of_tiles, shown_of_tiles}
+use Rattle.mw_tiles.proofs.Sharing.{joint_of_tiles, shown_of_tiles}
 use Rattle.mw_tiles.proofs.shares.pieces_of.Goals as goal
 
 pub new-requires : goal.new-requires

@@ -1,5 +1,5 @@
 use Rattle.mw_tiles.specs.Tiles.{cells_of}
-use Rattle.mw_tiles.proofs.Shares.{HasRowsMet}
+use Rattle.mw_tiles.proofs.Sharing.{HasRowsMet}
 use Rattle.mw_tiles.proofs.shares.tiles_met.Given as goal
 
 abbrev pub invariant-loop-row : goal.invariant-loop-row

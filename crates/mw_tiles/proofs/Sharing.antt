@@ -12,7 +12,8 @@ use Rattle.mw_model.specs.declared.shapes.Kind.{Kind}
 use Rattle.mw_model.specs.Pictures.{Picture}
 use Rattle.mw_model.specs.Places.{Holds, IsWithin}
 use Rattle.mw_model.specs.Rasters.{Raster}
-use Rattle.mw_grid.specs.Grids.{Tiling, columns_of, tile_at, tile_count}
+use Rattle.mw_grid.specs.Grids.{Tiling, columns_of, rows_of, tile_at, tile_count}
+use Rattle.mw_grid.proofs.Lines.{number_of}
 use Rattle.mw_grid.proofs.Tiles.{HasTiles, tile_within}
 use Rattle.mw_pixel.specs.Images.{raster_of}
 use Rattle.mw_tile.specs.Windows.{IsCut, SourceWindow, window_of}
@@ -46,12 +47,12 @@ held_new ps p x y holds =
     list_any-append (λ (q : Patch _). has_place q.place x y) ps (p ∷ []) ∙ or_right (held_in ps x y) (held_in (p ∷ []) x y) (or_left (has_place p.place x y) false (has_yes p.place x y holds))
 
 pub adds_none : {A : Type 0} (g : Tiling) (tiles : List (Option (List A))) (first end : ℕ) (ps : List (Patch A)) → end ≤ first → AddsTiles g tiles first end ps ps
-adds_none g tiles first end ps past = record { tiles = λ all. all; kept = λ x y held. held; added = λ i x y from to. absurd (omega arith) }
+adds_none g tiles first end ps past = record { all = λ all. all; kept = λ x y held. held; added = λ i x y from to. absurd (omega arith) }
 
 pub adds_tile : {A : Type 0} (g : Tiling) (tiles : List (Option (List A))) (i : ℕ) (old new : List (Patch A)) (p : Patch A) → i < tile_count g → p.place ≡ tile_at g i → tile_cells tiles i ≡ Some p.cells → new ≡ old ++ p ∷ [] → AddsTiles g tiles i (i + 1) old new
 adds_tile {A} g tiles i old new p lt place-is cells-is new-is =
     subst (λ (t : List (Patch A)). AddsTiles g tiles i (i + 1) old t) (sym new-is) (record {
-      tiles = λ all. all-push (IsTileOf g tiles) old p all (record { number = i; within = lt; place = place-is; cells = cells-is });
+      all = λ all. all-push (IsTileOf g tiles) old p all (record { number = i; within = lt; place = place-is; cells = cells-is });
       kept = λ x y held. held_old old (p ∷ []) x y held;
       added = λ k x y from to holds some.
           let k-is : k ≡ i = omega arith in
@@ -60,7 +61,7 @@ adds_tile {A} g tiles i old new p lt place-is cells-is new-is =
 
 pub adds_missing : {A : Type 0} (g : Tiling) (tiles : List (Option (List A))) (i : ℕ) (ps : List (Patch A)) → (IsSome (tile_cells tiles i) → ⊥) → AddsTiles g tiles i (i + 1) ps ps
 adds_missing g tiles i ps missing = record {
-  tiles = λ all. all;
+  all = λ all. all;
   kept = λ x y held. held;
   added = λ k x y from to holds some.
       let k-is : k ≡ i = omega arith in
@@ -69,7 +70,7 @@ adds_missing g tiles i ps missing = record {
 
 pub adds_more : {A : Type 0} (g : Tiling) (tiles : List (Option (List A))) (first mid end : ℕ) (old now new : List (Patch A)) → AddsTiles g tiles first mid old now → AddsTiles g tiles mid end now new → AddsTiles g tiles first end old new
 adds_more g tiles first mid end old now new before after = record {
-  tiles = λ all. after.tiles (before.tiles all);
+  all = λ all. after.all (before.all all);
   kept = λ x y held. after.kept x y (before.kept x y held);
   added = λ i x y from to holds some. elim (cases_lt i mid) [
     | inl early ↦ after.kept x y (before.added i x y from early holds some)
@@ -84,18 +85,18 @@ div_rises a b k some le = le-div (a / k) b k some (omega (arith, div-mul-le_self
 
 -- the tiles of these columns are there up to this row
 pub record HasRowsMet {A : Type 0} (g : Tiling) (tiles : List (Option (List A))) (left right top row : ℕ) (ps : List (Patch A)) : Type 0 where
-  pub tiles : AllByRecursion (IsTileOf g tiles) ps
+  pub all : AllByRecursion (IsTileOf g tiles) ps
   pub met : (c r x y : ℕ) → left ≤ c → c < right → top ≤ r → r < row → Holds (tile_at g (r * columns_of g + c)) x y → IsSome (tile_cells tiles (r * columns_of g + c)) → held_in ps x y ≡ true
 
 pub no_rows_met : {A : Type 0} (g : Tiling) (tiles : List (Option (List A))) (left right top : ℕ) → HasRowsMet g tiles left right top top []
-no_rows_met g tiles left right top = record { tiles = tt; met = λ c r x y a b from to. absurd (omega arith) }
+no_rows_met g tiles left right top = record { all = tt; met = λ c r x y a b from to. absurd (omega arith) }
 
 pub row_met : {A : Type 0} (g : Tiling) (tiles : List (Option (List A))) (left right top row columns : ℕ) (now new : List (Patch A)) → columns ≡ columns_of g → HasRowsMet g tiles left right top row now
     → AddsTiles g tiles (row * columns + left) (row * columns + right) now new → HasRowsMet g tiles left right top (row + 1) new
 row_met {A} g tiles left right top row columns now new columns-is before adds =
     let adds' : AddsTiles g tiles (row * columns_of g + left) (row * columns_of g + right) now new = subst (λ n. AddsTiles g tiles (row * n + left) (row * n + right) now new) columns-is adds in
     record {
-      tiles = adds'.tiles before.tiles;
+      all = adds'.all before.all;
       met = λ c r x y a b from to holds some. elim (cases_lt r row) [
         | inl early ↦ adds'.kept x y (before.met c r x y a b from early holds some)
         | inr late ↦
@@ -113,7 +114,7 @@ row_met {A} g tiles left right top row columns now new columns-is before adds =
 pub rows_are_met : {A : Type 0} (g : Tiling) (tiles : List (Option (List A))) (r : Rect) (side left right top bottom : ℕ) (ps : List (Patch A)) → HasTiles g → IsWithin r g.width g.height → side ≡ g.side → left ≡ r.x / side → right ≡ (r.x + r.width - 1) / side + 1
     → top ≡ r.y / side → bottom ≡ (r.y + r.height - 1) / side + 1 → HasRowsMet g tiles left right top bottom ps → AreTilesMet g tiles r ps
 rows_are_met g tiles r side left right top bottom ps has within side-is left-is right-is top-is bottom-is rows = record {
-  tiles = rows.tiles;
+  all = rows.all;
   met = λ i x y lt holds here some.
       let k = g.side in
       let some-k : 0 < k = has.some in
@@ -196,9 +197,9 @@ joint_of_tiles {A} g tiles r ps w h has sides within placed met w-is h-is =
     let covers = covered g (cells_of tiles) r ps has within placed met in
     let there : IsJoint (joint g.width g.height r ps) = record {
       within = within;
-      patches = all-weaker (IsTileOf g (cells_of tiles)) (IsPatchOf g.width g.height) ps (λ p of. tile_patch g (cells_of tiles) p has (sizes_of_sides g tiles sides) of) met.tiles;
+      patches = all-weaker (IsTileOf g (cells_of tiles)) (IsPatchOf g.width g.height) ps (λ p of. tile_patch g (cells_of tiles) p has (sizes_of_sides g tiles sides) of) met.all;
       covers = covers;
-      agree = agree (tile_value g (cells_of tiles)) r ps covers (all-weaker (IsTileOf g (cells_of tiles)) (ShowsIn r (tile_value g (cells_of tiles))) ps (λ p of. tile_shows g (cells_of tiles) r p has.some of) met.tiles);
+      agree = agree (tile_value g (cells_of tiles)) r ps covers (all-weaker (IsTileOf g (cells_of tiles)) (ShowsIn r (tile_value g (cells_of tiles))) ps (λ p of. tile_shows g (cells_of tiles) r p has.some of) met.all);
     } in
     rw (w-is, h-is) there
 
@@ -208,7 +209,7 @@ shown_of_tiles {A} g tiles r ps w h j has within placed met w-is h-is j-is f sho
     subst (ShowsFrame f) (sym j-is) (record {
       width = w-is ∙ sym shows.width;
       height = h-is ∙ sym shows.height;
-      same = values_of_shows (frame_value f) r ps (covered g tiles r ps has within placed met) (all-weaker (IsTileOf g tiles) (ShowsIn r (frame_value f)) ps (λ p of. tile_of_frame g tiles f r p shows of) met.tiles);
+      same = values_of_shows (frame_value f) r ps (covered g tiles r ps has within placed met) (all-weaker (IsTileOf g tiles) (ShowsIn r (frame_value f)) ps (λ p of. tile_of_frame g tiles f r p shows of) met.all);
     })
 
 -- ---- windows of planes
@@ -275,3 +276,32 @@ inside_itself r s e =
     let ws = ap (λ (q : Rect). q.width) e in
     let hs = ap (λ (q : Rect). q.height) e in
     record { left = omega arith; right = omega arith; top = omega arith; bottom = omega arith }
+
+-- the columns and rows of the tiles that a rectangle meets
+pub record IsMetBlock (g : Tiling) (left right top bottom : ℕ) : Type 0 where
+  pub across : left ≤ right
+  pub down : top ≤ bottom
+  pub some : 1 ≤ right
+  pub wide : right ≤ columns_of g
+  pub high : bottom ≤ rows_of g
+
+pub met_block : (g : Tiling) (r : Rect) (side left right top bottom : ℕ) → HasTiles g → IsWithin r g.width g.height → 1 ≤ r.width → 1 ≤ r.height → side ≡ g.side → left ≡ r.x / side → right ≡ (r.x + r.width - 1) / side + 1 → top ≡ r.y / side
+    → bottom ≡ (r.y + r.height - 1) / side + 1 → IsMetBlock g left right top bottom
+met_block g r side left right top bottom has within wide high side-is left-is right-is top-is bottom-is =
+    let k = g.side in
+    let some : 0 < k = has.some in
+    let across = within.across in
+    let down = within.down in
+    let x = div_rises r.x (r.x + r.width - 1) k some (omega arith) in
+    let y = div_rises r.y (r.y + r.height - 1) k some (omega arith) in
+    let to-x = div_rises (r.x + r.width - 1) (g.width - 1) k some (omega arith) in
+    let to-y = div_rises (r.y + r.height - 1) (g.height - 1) k some (omega arith) in
+    rw (left-is, right-is, top-is, bottom-is, side-is) (record { across = omega arith; down = omega arith; some = omega arith; wide = omega arith; high = omega arith })
+
+pub row_numbers : (g : Tiling) (left right top bottom row columns : ℕ) → columns ≡ columns_of g → row < bottom → IsMetBlock g left right top bottom → row * columns + right ≤ tile_count g
+row_numbers g left right top bottom row columns columns-is lt block =
+    let some = block.some in
+    let wide = block.wide in
+    let high = block.high in
+    let last = number_of (rows_of g) (columns_of g) (right - 1) row (omega arith) (omega arith) in
+    rw columns-is (omega arith)
