@@ -85,16 +85,14 @@ fn tiles_met<P: Pixel>(
     let right = end_of(side, rect.x, rect.width);
     let top = rect.y / side;
     let bottom = end_of(side, rect.y, rect.height);
-    let count = (bottom - top) as usize * (right - left) as usize;
-    let mut pieces = Vec::with_capacity(alloc, count)?;
+    let high = bottom - top;
+    let wide = right - left;
+    let mut pieces = Vec::with_capacity(alloc, high as usize * wide as usize)?;
     for row in top..bottom {
-        push_tiles(
-            grid,
-            tiles,
-            row * columns + left,
-            row * columns + right,
-            &mut pieces,
-        )?;
+        let first = row * columns;
+        let from = first + left;
+        let to = first + right;
+        push_tiles(grid, tiles, from, to, &mut pieces)?;
     }
     Ok(pieces)
 }
