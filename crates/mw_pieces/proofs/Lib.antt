@@ -1,0 +1,5 @@
+-- what other crates may cite
+pub mod TileCells
+pub mod Patches
+pub mod Windows
+-- the crate's own
