@@ -352,10 +352,8 @@ fn text_of(alloc: Global, head: &[u8], count: u32, byte: u8) -> Result<Vec<u8>, 
 fn with_opening(alloc: Global, mut core: Core) -> Result<Core, Fault> {
     let levels = text_of(alloc, b"P5\n2048 2048\n255\n", 4194304, 7)?;
     let pixels = text_of(alloc, b"P1\n15 15\n", 225, b'1')?;
-    let (Ok(image), Ok(square)) = (
-        read(alloc, &levels),
-        Element::parse(alloc, &pixels, 7, 7),
-    ) else {
+    let (Ok(image), Ok(square)) = (read(alloc, &levels), Element::parse(alloc, &pixels, 7, 7))
+    else {
         return Err(Fault::Memory);
     };
     let (f, b) = (name(b'f', 0)?, name(b'b', 0)?);
@@ -388,11 +386,7 @@ fn one_task<R: Clock>(
 }
 
 /// Works the command of ticket 2 off: the time that the core took, and how many tasks there were.
-fn all_tasks<R: Clock>(
-    rt: &R,
-    alloc: Global,
-    mut core: Core,
-) -> Result<(Duration, u32), Fault> {
+fn all_tasks<R: Clock>(rt: &R, alloc: Global, mut core: Core) -> Result<(Duration, u32), Fault> {
     let (mut total, mut count) = (Duration::ZERO, 0u32);
     // No command has more tasks.
     for place in 0..4194304u64 {

@@ -177,10 +177,7 @@ fn task_by_hand(alloc: Global, ticket: u32, samples: &[u8]) -> Result<Work, Stop
     }
     let mut windows = Vec::with_capacity(alloc, 1)?;
     let plane = Arc::new(alloc, Plane::new(5, 1, samples))?;
-    windows.push(SharedWindow::grey8(
-        Pieces::of_plane(alloc, plane, place)?,
-        9,
-    ))?;
+    windows.push(SharedWindow::grey8(Pieces::of_plane(alloc, plane, place)?, 9))?;
     Work::new(task, place, step, windows).ok_or(Stop::List)
 }
 

@@ -2,4 +2,5 @@
 pub mod TileCells
 pub mod Patches
 pub mod Windows
+
 -- the crate's own

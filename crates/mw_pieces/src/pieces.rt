@@ -36,12 +36,7 @@ impl<P: Pixel> Pieces<P> {
     ghost use Rattle.mw_pieces.specs.Patches.{joint, IsFull, IsInside, IsJoint, ShowsFrame};
 
     /// The window that these pieces make.
-    pub fn new(
-        frame_width: u32,
-        frame_height: u32,
-        place: Rect,
-        pieces: Vec<Piece<P>>,
-    ) -> Pieces<P>
+    pub fn new(frame_width: u32, frame_height: u32, place: Rect, pieces: Vec<Piece<P>>) -> Pieces<P>
         requires { IsJoint (joint frame_width frame_height place pieces.items) }
         ensures { result ≡ joint frame_width frame_height place pieces.items }
     {
@@ -72,11 +67,7 @@ impl<P: Pixel> Pieces<P> {
     }
 
     /// The window of a rectangle of a whole frame that is there as one plane.
-    pub fn of_plane(
-        alloc: Global,
-        plane: Arc<Plane<P>>,
-        place: Rect,
-    ) -> Result<Pieces<P>, NoMemory>
+    pub fn of_plane(alloc: Global, plane: Arc<Plane<P>>, place: Rect) -> Result<Pieces<P>, NoMemory>
         requires { IsWithin place (arc_value plane).width (arc_value plane).height }
         ensures place { IfOk result (λ r. r.place ≡ place) }
         ensures shows { IfOk result (ShowsFrame (arc_value plane)) }

@@ -73,7 +73,11 @@ fn window<P: Pixel>(rt: &impl Abort, alloc: Global, image: &PlainImage) -> Resul
 }
 
 /// The window that has the whole image.
-pub(crate) fn whole(rt: &impl Abort, alloc: Global, image: &PlainImage) -> Result<SharedWindow, Fail> {
+pub(crate) fn whole(
+    rt: &impl Abort,
+    alloc: Global,
+    image: &PlainImage,
+) -> Result<SharedWindow, Fail> {
     let maxval = image.maxval();
     assert!(rt; 1 <= maxval);
     match image.kind() {

@@ -54,8 +54,18 @@ fn made_of(alloc: Global, work: &Work, windows: &[AnyWindow]) -> Result<Made, No
     match work.step() {
         Step::Erode(element) => slide::<Min>(alloc, source(work, windows, 0), element, tile),
         Step::Dilate(element) => slide::<Max>(alloc, source(work, windows, 0), element, tile),
-        Step::ErodeBox(offsets) => slide_box::<Min>(alloc, source(work, windows, 0), *offsets, tile),
-        Step::DilateBox(offsets) => slide_box::<Max>(alloc, source(work, windows, 0), *offsets, tile),
+        Step::ErodeBox(offsets) => slide_box::<Min>(
+            alloc,
+            source(work, windows, 0),
+            *offsets,
+            tile,
+        ),
+        Step::DilateBox(offsets) => slide_box::<Max>(
+            alloc,
+            source(work, windows, 0),
+            *offsets,
+            tile,
+        ),
         Step::Rank(element, k) => rank_filter(alloc, source(work, windows, 0), element, *k, tile),
         Step::Minus => minus(alloc, source(work, windows, 0), source(work, windows, 1)),
         Step::AtLeast(k) => at_least(alloc, *k, source(work, windows, 0)),
@@ -66,8 +76,19 @@ fn made_of(alloc: Global, work: &Work, windows: &[AnyWindow]) -> Result<Made, No
             let _fits = work.windows();
             blank(alloc, *maxval, tile)
         }
-        Step::Mark(v) => mark(alloc, *v, source(work, windows, 0), source(work, windows, 1), source(work, windows, 2)),
-        Step::MarkLast(v) => mark_last(alloc, *v, source(work, windows, 0), source(work, windows, 1)),
+        Step::Mark(v) => mark(
+            alloc,
+            *v,
+            source(work, windows, 0),
+            source(work, windows, 1),
+            source(work, windows, 2),
+        ),
+        Step::MarkLast(v) => mark_last(
+            alloc,
+            *v,
+            source(work, windows, 0),
+            source(work, windows, 1),
+        ),
         Step::Equal(v) => equal(alloc, *v, source(work, windows, 0)),
         Step::Sum => Ok(Made::Number(sum_up(source(work, windows, 0)))),
     }

@@ -2,9 +2,9 @@
 
 use mw_images_for_tests::{element, row_of, whole_window};
 use mw_model::{Rect, TaskId};
+use mw_pieces::Pieces;
 use mw_pixel::{Bit, Pixel, Plane};
 use mw_step::run;
-use mw_pieces::Pieces;
 use mw_task::{Element, Made, SharedWindow, Step, TileDone, Work};
 use std::alloc::Global;
 use std::process::Abort;

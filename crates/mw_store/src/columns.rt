@@ -230,9 +230,7 @@ impl Store {
         ensures memory { OnErr result (IsSome (image_of (value_at self.now.kept t))) }
     {
         match self.kept(t) {
-            Some(Kept::Image(image)) => {
-                Ok(Some(SharedWindow::of_image(alloc, image, rect)?))
-            }
+            Some(Kept::Image(image)) => { Ok(Some(SharedWindow::of_image(alloc, image, rect)?)) }
             Some(Kept::Tiles(plane)) => Ok(Some(plane.shared(alloc, rect)?)),
             _ => Ok(None),
         }

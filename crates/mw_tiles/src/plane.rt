@@ -8,8 +8,8 @@ use crate::shares::pieces_of;
 use crate::slots::{no_tiles, put, share_tiles};
 use mw_grid::Grid;
 use mw_model::{Kind, NoMemory, Rect};
-use mw_pixel::{Bit, Image};
 use mw_pieces::{PiecesView, SharedWindow};
+use mw_pixel::{Bit, Image};
 use std::alloc::Global;
 use std::marker::Model;
 

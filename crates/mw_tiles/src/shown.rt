@@ -9,8 +9,8 @@ ghost use Rattle.mw_tiles.specs.Filled.{filled};
 
 use crate::TiledPlane;
 use mw_model::{Kind, NoMemory, Rect};
-use mw_pixel::Image;
 use mw_pieces::SharedWindow;
+use mw_pixel::Image;
 use std::alloc::Global;
 use std::marker::Model;
 

@@ -18,9 +18,11 @@ pub returns-then-not-is_row : goal.returns-then-not-is_row
 returns-then-not-is_row g c = λ f shows.
     let r = c.overlap-here.result in
     let p = c.args.piece.now in
-    let r-is : r ≡ overlap_of c.args.place p.place = c.overlap-here.ensures ∙ ap (overlap_of c.args.place) c.place.ensures in
-    ((λ no. absurd cc), (λ whole. (c.if-not-is_row.ensures f shows).1 (λ k lt.
-    row_shows r c.args.place (frame_value f) p c.loop-y.y c.part-row.result.now r-is (let from = c.loop-y.auto.y in omega arith) (let test = c.loop-y-test.true in omega arith) c.part-row.ensures.value whole k (let count = c.part-row.ensures.count in omega arith))))
+    let r-is : r ≡ overlap_of c.args.place p.place = c.overlap-here.ensures ∙ ap (overlap_of c.args.place) c.place.ensures in (
+      (λ no. absurd cc),
+      (λ whole. (c.if-not-is_row.ensures f shows).1 (λ k lt.
+          row_shows r c.args.place (frame_value f) p c.loop-y.y c.part-row.result.now r-is (let from = c.loop-y.auto.y in omega arith) (let test = c.loop-y-test.true in omega arith) c.part-row.ensures.value whole k (let count = c.part-row.ensures.count in omega arith))),
+    )
 
 pub loop-y-preserved : goal.loop-y-preserved
 loop-y-preserved g c = λ f shows.
