@@ -1,5 +1,9 @@
 //! Eight sessions in threads of their own, and four workers that now and then find no memory.
 
+ghost use Rattle.std.specs.Prelude.{◌≡◌};
+ghost use Rattle.mw_model.specs.Machine.{start_state};
+ghost use Rattle.mw_model.specs.Stands.{StandsFor};
+
 use crate::given::{BITMAPS, PICTURES, bitmap_name, picture_name, pictures};
 use crate::play::{Desk, Handed, Played, SESSIONS};
 use crate::replay::{Entries, accepted, replay};
