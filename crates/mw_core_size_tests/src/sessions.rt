@@ -49,7 +49,7 @@ fn the_longest_payloads_are_read(rt: HostRuntime) {
         b"ELEMENT x 0 0 134217728\n",
         b"P1\n2 2\n11",
     );
-    let output = b"ERR 24 SHORT\nOK 0\nERR 41 UNKNOWN\nDONE 0 GREY 1 1 9\n";
+    let output = b"ERR 25 SAMPLE\nOK 0\nERR 41 UNKNOWN\nDONE 0 GREY 1 1 9\n";
     writes(&rt, rt.alloc(), &input, output, 128);
 }
 
