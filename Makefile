@@ -1,6 +1,6 @@
 # `make demo` builds morphd and shows it at work; `make test` is the gate; `make memory` refuses each allocation in turn;
-# `make bench` takes times.
-.PHONY: demo morphd test memory bench toolchain python compiler
+# `make soak` runs random sessions beside a plain model; `make bench` takes times.
+.PHONY: demo morphd test memory soak bench toolchain python compiler
 
 MORPHD = crates/morphd/out/morphd
 
@@ -36,15 +36,24 @@ memory: toolchain python compiler
 	@python3 -B checks/refused_tests.py crates/mw_memory_tests/out/mw_memory_tests_tests
 	@python3 -B checks/refused_tests.py crates/mw_machine_tests/out/mw_machine_tests_tests
 
-# Best on a machine that does nothing else: each line is the best of five runs in one thread. The C library is told to
+# As long as is asked for: make soak FOR=600
+FOR = 60
+
+soak: toolchain python
+	@python3 -B checks/prove.py morphd
+	@python3 -B checks/soak.py $(MORPHD) $(FOR)
+
+# Best on a machine that does nothing else: each line is the best of five runs in one thread (of `bench_core` and
+# `bench_board` the best of three, of the latter also with workers). The C library is told to
 # keep what is freed, so that copies, reads and writes alike find memory that the system has given already. Without the
 # word `measure`, as where they are built, the programs end at once.
 KEEP = MALLOC_MMAP_MAX_=0 MALLOC_TRIM_THRESHOLD_=17179869184
 
 bench: toolchain python
-	@python3 -B checks/prove.py morphd bench_files bench_kernels bench_core
+	@python3 -B checks/prove.py morphd bench_files bench_kernels bench_core bench_board
 	$(KEEP) crates/bench_files/out/bench_files measure
 	$(KEEP) crates/bench_kernels/out/bench_kernels measure all
 	crates/bench_core/out/bench_core measure
+	crates/bench_board/out/bench_board measure
 	python3 bench/command.py $(MORPHD)
 	@/usr/bin/python3 bench/peers.py || echo "the peers were not measured" >&2

@@ -7,13 +7,20 @@ use std::fmt::Display;
 use std::io;
 use std::io::{Eprint, Print};
 
+/// As many processors as these command lines are read for.
+const PROCESSORS: usize = 3;
+
 /// The command lines that are shown after the words of the process.
-const LINES: [&str; 5] = [
+const LINES: [&str; 9] = [
     "morphd --version",
     "morphd batch",
     "morphd batch --tile 1024",
     "morphd batch --tile 65",
     "morphd batch --tile x",
+    "morphd batch --workers 64",
+    "morphd batch --workers 65",
+    "morphd batch --workers 0 --tile 65",
+    "morphd batch --workers x",
 ];
 
 /// Prints to standard output what goes to either output.
@@ -58,7 +65,12 @@ fn split(alloc: Global, line: &str) -> Result<Vec<String>, AllocError> {
 /// Prints what was asked for, or what is printed and the status in its place.
 fn show<R: Print>(rt: &R, job: Result<Job, LineFault>) -> io::Result<()> {
     match job {
-        Ok(Job::Batch(side)) => println!(rt; "a batch with tiles of {side}"),
+        Ok(Job::Batch(given)) => {
+            println!(rt;
+                "a batch with tiles of {} and {} workers",
+                given.side, given.workers
+            )
+        }
         Err(fault) => {
             fault.print(&Shown { rt })?;
             println!(rt; "status {}", fault.status())
@@ -68,13 +80,13 @@ fn show<R: Print>(rt: &R, job: Result<Job, LineFault>) -> io::Result<()> {
 
 fn main(rt: HostRuntime) -> io::Result<()> {
     let own = match words(&rt) {
-        Ok(words) => options(rt.alloc(), words.as_slice()),
+        Ok(words) => options(rt.alloc(), words.as_slice(), PROCESSORS),
         Err(fault) => Err(fault),
     };
     show(&rt, own)?;
     for line in LINES {
         let words = split(rt.alloc(), line)?;
-        show(&rt, options(rt.alloc(), words.as_slice()))?;
+        show(&rt, options(rt.alloc(), words.as_slice(), PROCESSORS))?;
     }
     Ok(())
 }

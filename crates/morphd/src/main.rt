@@ -2,30 +2,27 @@
 #![tactic(auto)]
 
 use mw_batch::{Crew, batch};
-use mw_cli::{Job, options, words};
+use mw_cli::{Job, options, processors, words};
 use mw_wire::{Sink, Source};
 use std::process::ExitCode;
-
-/// How many workers run the work of a script.
-const WORKERS: usize = 1;
 
 fn main(rt: HostRuntime) -> ExitCode {
     let alloc = rt.alloc();
     let job = match words(&rt) {
-        Ok(words) => options(alloc, words.as_slice()),
+        Ok(words) => options(alloc, words.as_slice(), processors(&rt)),
         Err(fault) => Err(fault),
     };
     let status = match job {
-        Ok(Job::Batch(side)) => {
+        Ok(Job::Batch(given)) => {
             let crew = Crew {
                 alloc,
                 rt: &rt,
-                workers: WORKERS,
+                workers: given.workers as usize,
             };
             let mut source = Source::new(rt.stdin());
             let mut sink = Sink::new(rt.stdout());
             let mut faults = Sink::new(rt.stderr());
-            batch(crew, &mut source, &mut sink, &mut faults, side)
+            batch(crew, &mut source, &mut sink, &mut faults, given.side)
         }
         Err(fault) => match fault.print(&rt) {
             Ok(()) => fault.status(),

@@ -1,8 +1,10 @@
 -- The command line of the program (own): what clap is to read of it, and which job its words ask for.
-use Rattle.std.specs.Prelude.{◌≡◌, ◌≤◌, ◌<◌, ◌^◌, ◌%◌, ℕ, Bool, true, false, if◌then◌else◌, List, [], ◌∷◌, Option, Some, None, codes, option_and_then, pos}
+use Rattle.std.specs.Prelude.{◌≡◌, ◌≤◌, ◌<◌, ◌^◌, ◌%◌, ℕ, Bool, true, false, if◌then◌else◌, nat_lt, Result, Ok, Err, List, [], ◌∷◌, Option, Some, None, codes, option_and_then, pos}
 use Rattle.std.specs.Str.Parse.{IsNumeral, digits_value, without_leading_plus}
 use Rattle.clap.specs.Words.{App, IsAmong, Row, Rule, Text, fault_of, kind_of, new_app, new_rule, one_of, subcommand_of, with_rule, with_subcommand}
 use Rattle.clap.specs.Simple.{on_top}
+use Rattle.clap.specs.declared.builder.command.Command.{Command}
+use Rattle.clap.specs.declared.builder.command.Command.TheViews.{out-Command as fields_of}
 use Rattle.clap.specs.declared.builder.value_parser.ValueParser.TheVariants as parser
 use Rattle.clap.specs.declared.error.kind.ErrorKind.{ErrorKind}
 use Rattle.clap.specs.declared.error.kind.ErrorKind.TheVariants as kind
@@ -11,34 +13,53 @@ use Rattle.mw_cli.specs.declared.line.Job.TheVariants as job
 use Rattle.mw_cli.specs.declared.fault.LineFault.{LineFault}
 use Rattle.mw_cli.specs.declared.fault.LineFault.TheVariants as fault
 
--- `--tile S`: a number of 32 bits, 128 where it is left out
-abbrev pub tile_option : Rule
-tile_option = record (new_rule (codes "tile")) {
-  long = Some (codes "tile");
-  defaults = codes "128" ∷ [];
+-- `--NAME`, with a number of 32 bits behind it
+abbrev pub number_option : Text → Rule
+number_option name = record (new_rule name) {
+  long = Some name;
   parser = Some (parser.Signed (pos 0) (pos 4294967295));
   value_names = 1;
 }
 
--- `batch [--tile S]`
+-- `--tile S`, 128 where it is left out
+abbrev pub tile_option : Rule
+tile_option = record (number_option (codes "tile")) { defaults = codes "128" ∷ [] }
+
+-- `--workers W`; clap has no number for it where it is left out
+abbrev pub workers_option : Rule
+workers_option = number_option (codes "workers")
+
+-- `batch [--tile S] [--workers W]`
 abbrev pub batch_words : App
-batch_words = with_rule (new_app (codes "batch")) tile_option
+batch_words = with_rule (with_rule (new_app (codes "batch")) tile_option) workers_option
 
 -- `morphd`, and then one of its jobs; it has a version to show
 abbrev pub program_words : App
 program_words = with_subcommand (on_top (λ s. record s { has_version = true; subcommand_required = true }) (new_app (codes "morphd"))) batch_words.top
 
+-- no option of the command is one of its jobs too
+abbrev pub HasNoGlobals : Command → Type 0
+HasNoGlobals c = (fields_of c).has_globals ≡ false
+
 -- clap takes the words
 abbrev pub AreTaken : List Text → Type 0
 AreTaken words = fault_of program_words words ≡ []
 
--- the text of `--tile` in a job's rows
-abbrev pub tile_in : Option (Text × List Row) → Option Text
-tile_in = option_and_then (λ p. one_of (codes "tile") p.1)
+-- the text of an option in a job's rows
+abbrev pub text_in : Text → Option (Text × List Row) → Option Text
+text_in id = option_and_then (λ p. one_of id p.1)
+
+-- the text that the words give for an option
+abbrev pub text_for : Text → List Text → Option Text
+text_for id words = text_in id (subcommand_of program_words words)
 
 -- the text that the words give as the side of the tiles
 abbrev pub side_text : List Text → Option Text
-side_text words = tile_in (subcommand_of program_words words)
+side_text words = text_for (codes "tile") words
+
+-- the text that the words give as the number of workers
+abbrev pub workers_text : List Text → Option Text
+workers_text words = text_for (codes "workers") words
 
 -- there is a text, and it writes this number of 32 bits
 abbrev pub Writes : Option Text → ℕ → Type 0
@@ -46,6 +67,12 @@ Writes None n = ⊥
 Writes (Some text) n =
     let digits = without_leading_plus text in
     IsNumeral 10 digits × (digits_value 10 digits < 2 ^ 32) × (n ≡ digits_value 10 digits)
+
+-- what a text is read as: its number; nothing where there is no text; an error where it writes no number
+abbrev pub Reads : {E : Type 0} → Option Text → Result (Option ℕ) E → Type 0
+Reads text (Ok (Some n)) = Writes text n
+Reads text (Ok None) = text ≡ None
+Reads text (Err e) = (text ≡ None → ⊥) × ((n : ℕ) → Writes text n → ⊥)
 
 -- tiles may have this side
 abbrev pub IsTileSide : ℕ → Type 0
@@ -55,20 +82,48 @@ IsTileSide side = (64 ≤ side) × (side ≤ 1024) × (side % 64 ≡ 0)
 abbrev pub WritesNoSide : Option Text → Type 0
 WritesNoSide text = (side : ℕ) → Writes text side → IsTileSide side → ⊥
 
--- the words ask for this job
-abbrev pub IsAsked : List Text → Job → Type 0
-IsAsked words (job.Batch side) = AreTaken words × Writes (side_text words) side × IsTileSide side
+-- there may be so many workers
+abbrev pub IsCrew : ℕ → Type 0
+IsCrew workers = (1 ≤ workers) × (workers ≤ 64)
+
+-- as many workers as processors, from 1 to 16
+abbrev pub usual_workers : ℕ → ℕ
+usual_workers processors =
+    if nat_lt processors 1 then 1
+    else if nat_lt 16 processors then 16
+    else processors
+
+-- the text asks for so many workers; left out, it asks for the usual ones
+abbrev pub AsksWorkers : ℕ → Option Text → ℕ → Type 0
+AsksWorkers processors None n = n ≡ usual_workers processors
+AsksWorkers processors (Some text) n = Writes (Some text) n
+
+-- the text asks for no number of workers that there may be
+abbrev pub AsksNoCrew : ℕ → Option Text → Type 0
+AsksNoCrew processors text = (n : ℕ) → AsksWorkers processors text n → IsCrew n → ⊥
+
+-- the words ask for this job, where there are so many processors
+abbrev pub IsAsked : ℕ → List Text → Job → Type 0
+IsAsked processors words (job.Batch given) =
+    AreTaken words
+    × (AsksWorkers processors (workers_text words) given.workers × IsCrew given.workers)
+    × Writes (side_text words) given.side × IsTileSide given.side
 
 -- the words are refused so; memory may be refused for any words
-abbrev pub IsRefused : List Text → LineFault → Type 0
-IsRefused words (fault.Line e) = IsAmong (kind_of e) (fault_of program_words words)
-IsRefused words fault.Tile = AreTaken words × WritesNoSide (side_text words)
-IsRefused words fault.NoMemory = Unit {0}
+abbrev pub IsRefused : ℕ → List Text → LineFault → Type 0
+IsRefused processors words (fault.Line e) = IsAmong (kind_of e) (fault_of program_words words)
+IsRefused processors words fault.Workers = AreTaken words × AsksNoCrew processors (workers_text words)
+IsRefused processors words fault.Tile =
+    AreTaken words
+    × ((n : ℕ) × AsksWorkers processors (workers_text words) n × IsCrew n)
+    × WritesNoSide (side_text words)
+IsRefused processors words fault.NoMemory = Unit {0}
 
 -- a word is no text, or memory was refused
 abbrev pub IsNoText : LineFault → Type 0
 IsNoText (fault.Line e) = kind_of e ≡ kind.InvalidValue
 IsNoText fault.Tile = ⊥
+IsNoText fault.Workers = ⊥
 IsNoText fault.NoMemory = Unit {0}
 
 -- the kinds of what was asked for, and not refused
@@ -81,4 +136,5 @@ is_text k = false
 abbrev pub fault_status : LineFault → ℕ
 fault_status (fault.Line e) = if is_text (kind_of e) then 0 else 2
 fault_status fault.Tile = 2
+fault_status fault.Workers = 2
 fault_status fault.NoMemory = 1

@@ -2,8 +2,8 @@
 //!
 //! ```text
 //! let words = words(&rt)?;
-//! match options(alloc, words.as_slice())? {
-//!     Job::Batch(side) => batch(alloc, &mut source, &mut sink, &mut faults, side),
+//! match options(alloc, words.as_slice(), processors(&rt))? {
+//!     Job::Batch(given) => batch(alloc, &mut source, &mut sink, &mut faults, given.side),
 //! ```
 #![tactic(auto)]
 
@@ -11,4 +11,4 @@ mod fault;
 mod line;
 
 pub use fault::LineFault;
-pub use line::{Job, VERSION, options, words};
+pub use line::{BatchOptions, Job, VERSION, options, processors, words};

@@ -1,7 +1,7 @@
 //! The command line, and its help.
 
 use clap::error::ErrorKind;
-use mw_cli::{Job, LineFault, VERSION, options, words};
+use mw_cli::{Job, LineFault, VERSION, options, processors, words};
 use std::alloc::Global;
 use std::fmt::Display;
 use std::io;
@@ -18,18 +18,53 @@ fn split(rt: &impl Abort, alloc: Global, line: &str) -> Vec<String> {
     words
 }
 
+/// What a command line asks for on a machine of so many processors.
+fn asked(rt: &impl Abort, alloc: Global, line: &str, processors: usize) -> Result<Job, LineFault> {
+    let given = split(rt, alloc, line);
+    options(alloc, given.as_slice(), processors)
+}
+
+/// The side and the workers of a batch; 0 and 0 where none is asked for.
+fn batch_of(rt: &impl Abort, alloc: Global, line: &str, processors: usize) -> (u32, usize) {
+    match asked(rt, alloc, line, processors) {
+        Ok(Job::Batch(given)) => (given.side, given.workers),
+        _ => (0, 0),
+    }
+}
+
+/// The exit status of a command line that asks for no job, and 255 of one that does.
+fn status_of(rt: &impl Abort, alloc: Global, line: &str) -> u8 {
+    match asked(rt, alloc, line, 1) {
+        Ok(_) => 255,
+        Err(fault) => fault.status(),
+    }
+}
+
 #[test]
 fn side_of_tiles(rt: HostRuntime) {
-    let given = split(&rt, rt.alloc(), "morphd batch");
-    assert!(rt; matches!(options(rt.alloc(), given.as_slice()), Ok(Job::Batch(128))));
-    let given = split(&rt, rt.alloc(), "morphd batch --tile 64");
-    assert!(rt; matches!(options(rt.alloc(), given.as_slice()), Ok(Job::Batch(64))));
-    let given = split(&rt, rt.alloc(), "morphd batch --tile=1024");
-    assert!(rt; matches!(options(rt.alloc(), given.as_slice()), Ok(Job::Batch(1024))));
-    let given = split(&rt, rt.alloc(), "morphd batch --tile 100");
-    assert!(rt; matches!(options(rt.alloc(), given.as_slice()), Err(LineFault::Tile)));
-    let given = split(&rt, rt.alloc(), "morphd batch --tile 0");
-    assert!(rt; matches!(options(rt.alloc(), given.as_slice()), Err(LineFault::Tile)));
+    let alloc = rt.alloc();
+    assert!(rt; batch_of(&rt, alloc, "morphd batch", 1) == (128, 1));
+    assert!(rt; batch_of(&rt, alloc, "morphd batch --tile 64", 1) == (64, 1));
+    assert!(rt; batch_of(&rt, alloc, "morphd batch --tile=1024", 1) == (1024, 1));
+    let fault = asked(&rt, alloc, "morphd batch --tile 100", 1);
+    assert!(rt; matches!(fault, Err(LineFault::Tile)));
+    let fault = asked(&rt, alloc, "morphd batch --tile 0 --workers 2", 1);
+    assert!(rt; matches!(fault, Err(LineFault::Tile)));
+}
+
+#[test]
+fn workers(rt: HostRuntime) {
+    let alloc = rt.alloc();
+    assert!(rt; batch_of(&rt, alloc, "morphd batch", 0) == (128, 1));
+    assert!(rt; batch_of(&rt, alloc, "morphd batch", 16) == (128, 16));
+    assert!(rt; batch_of(&rt, alloc, "morphd batch", 17) == (128, 16));
+    assert!(rt; batch_of(&rt, alloc, "morphd batch --workers 1", 8) == (128, 1));
+    assert!(rt; batch_of(&rt, alloc, "morphd batch --workers 64", 8) == (128, 64));
+    let fault = asked(&rt, alloc, "morphd batch --tile 0 --workers 0", 8);
+    assert!(rt; matches!(fault, Err(LineFault::Workers)));
+    let fault = asked(&rt, alloc, "morphd batch --workers 65", 8);
+    assert!(rt; matches!(fault, Err(LineFault::Workers)));
+    assert!(rt; processors(&rt) >= 1);
 }
 
 #[test]
@@ -42,12 +77,11 @@ fn words_of_the_process(rt: HostRuntime) {
 
 #[test]
 fn statuses(rt: HostRuntime) {
-    let given = split(&rt, rt.alloc(), "morphd batch --help");
-    assert!(rt; matches!(options(rt.alloc(), given.as_slice()), Err(fault) if fault.status() == 0));
-    let given = split(&rt, rt.alloc(), "morphd listen");
-    assert!(rt; matches!(options(rt.alloc(), given.as_slice()), Err(fault) if fault.status() == 2));
-    let given = split(&rt, rt.alloc(), "morphd batch --tile 65");
-    assert!(rt; matches!(options(rt.alloc(), given.as_slice()), Err(fault) if fault.status() == 2));
+    let alloc = rt.alloc();
+    assert!(rt; status_of(&rt, alloc, "morphd batch --help") == 0);
+    assert!(rt; status_of(&rt, alloc, "morphd listen") == 2);
+    assert!(rt; status_of(&rt, alloc, "morphd batch --tile 65") == 2);
+    assert!(rt; status_of(&rt, alloc, "morphd batch --workers 65") == 2);
     assert!(rt; LineFault::NoMemory.status() == 1);
 }
 
@@ -94,14 +128,15 @@ fn tells(alloc: Global, fault: &LineFault, line: &str) -> bool {
 fn lines_of_faults(rt: HostRuntime) {
     let tile = "error: tile must be a multiple of 64";
     assert!(rt; tells(rt.alloc(), &LineFault::Tile, tile));
+    let workers = "error: workers must be from 1 to 64";
+    assert!(rt; tells(rt.alloc(), &LineFault::Workers, workers));
     assert!(rt; tells(rt.alloc(), &LineFault::NoMemory, "error: memory"));
     assert!(rt; !tells(rt.alloc(), &LineFault::NoMemory, tile));
 }
 
 /// The kind of error that clap has for a command line.
 fn kind(rt: &impl Abort, alloc: Global, line: &str) -> Option<ErrorKind> {
-    let given = split(rt, alloc, line);
-    match options(alloc, given.as_slice()) {
+    match asked(rt, alloc, line, 1) {
         Err(LineFault::Line(error)) => Some(error.kind()),
         _ => None,
     }
@@ -125,8 +160,7 @@ fn words_that_clap_refuses(rt: HostRuntime) {
 
 #[test]
 fn help_shows_a_session(rt: HostRuntime) {
-    let given = split(&rt, rt.alloc(), "morphd --help");
-    let Err(LineFault::Line(error)) = options(rt.alloc(), given.as_slice()) else {
+    let Err(LineFault::Line(error)) = asked(&rt, rt.alloc(), "morphd --help", 1) else {
         panic!(rt; "help is asked for");
     };
     assert!(rt; error.kind() == ErrorKind::DisplayHelp && !error.use_stderr());
@@ -140,8 +174,7 @@ fn help_shows_a_session(rt: HostRuntime) {
 
 #[test]
 fn version_is_shown(rt: HostRuntime) {
-    let given = split(&rt, rt.alloc(), "morphd --version");
-    let Err(LineFault::Line(error)) = options(rt.alloc(), given.as_slice()) else {
+    let Err(LineFault::Line(error)) = asked(&rt, rt.alloc(), "morphd --version", 1) else {
         panic!(rt; "the version is asked for");
     };
     assert!(rt; error.kind() == ErrorKind::DisplayVersion && !error.use_stderr());

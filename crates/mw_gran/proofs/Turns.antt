@@ -1,5 +1,6 @@
 -- One turn after another: skeletons, restorations and spectra.
 use Rattle.std.proofs.Common.{◌≡◌, ℕ, zero, suc, ◌+◌, ◌-◌, ◌*◌, ◌/◌, ◌<◌, ◌≤◌, ◌⊎◌, false, List, [], ◌∷◌, ◌++◌, Option, Some, None, length, sum, refl, ap, sym, subst, arith, ◌∙◌, inl, inr}
+use Rattle.std.proofs.lemmas.Bool.{cases_eq}
 use Rattle.mw_model.specs.declared.places.Offset.{Offset}
 use Rattle.mw_model.specs.declared.places.OffsetBox.{OffsetBox}
 use Rattle.mw_model.specs.Pictures.{Picture, IsPicture, IsSet}
@@ -16,7 +17,7 @@ use Rattle.mw_plan.specs.Seen.{source}
 use Rattle.mw_plan.specs.Steps.{turned_box}
 use Rattle.mw_gran.specs.Boxes.{multiplied}
 use Rattle.mw_gran.specs.Growing.{IsFramed, IsPushed, Shows, IsSound, Acts, GoesOn}
-use Rattle.mw_gran.specs.Turns.{Slides, Draws, marked, AreMarks, MarksResidues, restored, Restores, Tells, StillShown, spectrum_steps, TellsVolumes, TellsSpectrum}
+use Rattle.mw_gran.specs.Turns.{Slides, after_erosions, Erodes, Draws, marked, AreMarks, MarksResidues, restored, HasLevels, Restores, Tells, StillShown, volume_steps, TellsVolumes, TellsSpectrum}
 use Rattle.mw_gran.proofs.OneMore.{AreShown, none, also, still_shows, now_shows, still_sound, still_read, now_read, still_counts, now_counts, pushed_count}
 use Rattle.mw_gran.proofs.Actions.{times_framed, picture_framed, erosion_framed, dilation_framed, acts_on, acts_equal, acts_sum, acts_join, acts_blank, acts_mark, acts_mark_last, shows_input}
 use Rattle.mw_gran.proofs.Iterates.{restored-turn, restored-all, restored_shape, spectrum-more}
@@ -38,16 +39,71 @@ nothing_sound Fits = record { sources = λ k. tt; planes = λ k. tt; made = λ f
 itself : (f : Picture) → IsPicture f → IsPicture f
 itself f picture = picture
 
+-- ---- erosions
+
+pub nothing_eroded : (b : List Offset) (p : Plan) → p ≡ [] → Erodes b 0 p
+nothing_eroded b p empty =
+    subst (Erodes b 0) (sym empty) (record {
+      count = refl;
+      sound = nothing_sound IsPicture;
+      read = inl refl;
+      shows = λ k le.
+          let first : 0 ≡ k = omega arith in
+          subst (λ (t : ℕ). Shows IsPicture [] (after_erosions t) (times t (erosion b))) first (shows_input IsPicture [] itself);
+      counts = λ f fits. refl;
+    })
+
+erodes_one : (b : List Offset) (n : ℕ) (p q : Plan) (s : Source) (erode dilate : PlanStep) → Slides b erode dilate → Erodes b n p → IsPushed p q erode (after_erosions n ∷ []) s → Erodes b (suc n) q
+erodes_one b n p q s erode dilate slides at pushed =
+    let e = after_erosions n in
+    let left : Picture → Picture = times n (erosion b) in
+    let next : Picture → Picture = λ f. erosion b (left f) in
+    let before = at.shows n (omega arith) in
+    let acts = acts_on IsPicture erode (erosion b) left slides.erodes (erosion_framed b) before.framed in
+    let shown = alone p e left before in
+    let here : s ≡ FromStep n = pushed.at ∙ ap FromStep at.count in
+    let now = subst (λ (t : Source). Shows IsPicture q t next) here (now_shows IsPicture p q erode (e ∷ []) s (λ f. left f ∷ []) next pushed shown acts slides.erodes.plain) in
+    record {
+      count = omega (arith, at.count, pushed_count p q erode (e ∷ []) s pushed);
+      sound = still_sound IsPicture p q erode (e ∷ []) s (λ f. left f ∷ []) next pushed shown acts at.sound;
+      read = inr (read_first at.read);
+      shows = λ k le. elim (cases_eq k (suc n)) [
+        | inl last ↦ subst (λ (t : ℕ). Shows IsPicture q (after_erosions t) (times t (erosion b))) (sym last) now
+        | inr other ↦ still_shows IsPicture p q erode (e ∷ []) s (after_erosions k) (times k (erosion b)) pushed (at.shows k (omega arith))
+      ];
+      counts = still_counts IsPicture p q erode (e ∷ []) s (λ f. []) pushed slides.erodes.plain at.counts;
+    }
+  where
+    read_first : (after_erosions n ≡ FromInput 0) ⊎ IsReadBy p 0 → IsReadBy q 0
+    read_first (inl here) = now_read p q erode (after_erosions n ∷ []) s pushed (0, omega arith, here)
+    read_first (inr read) = still_read p q erode (after_erosions n ∷ []) s pushed read
+
+pub erodes_more : (b : List Offset) (n : ℕ) (p q : Plan) (r s : Source) (erode dilate : PlanStep) → Slides b erode dilate → r ≡ after_erosions n → Erodes b n p → IsPushed p q erode (r ∷ []) s → Erodes b (n + 1) q
+erodes_more b n p q r s erode dilate slides from at pushed =
+    let more : suc n ≡ n + 1 = omega arith in
+    subst (λ (k : ℕ). Erodes b k q) more (erodes_one b n p q s erode dilate slides at (subst (λ (t : Source). IsPushed p q erode (t ∷ []) s) from pushed))
+
+-- what holds of pictures holds of sets
+sound_of_sets : (p : Plan) → IsSound IsPicture p → IsSound IsSet p
+sound_of_sets p sound = record { sources = sound.sources; planes = sound.planes; made = λ f set. sound.made f set.picture }
+
+shows_of_sets : (p : Plan) (s : Source) (operator : Picture → Picture) → Shows IsPicture p s operator → Shows IsSet p s operator
+shows_of_sets p s operator shows = record {
+  here = shows.here;
+  plane = shows.plane;
+  is = λ f set. shows.is f set.picture;
+  framed = λ f set. shows.framed f set.picture;
+}
+
 -- ---- skeletons
 
-pub skeleton_begins : (b : List Offset) (depth : ℕ) (p : Plan) → p ≡ [] → MarksResidues b depth 0 p (FromInput 0) None
-skeleton_begins b depth p empty =
-    subst (λ (t : Plan). MarksResidues b depth 0 t (FromInput 0) None) (sym empty) (record {
-      sound = nothing_sound IsSet;
-      read = inl refl;
-      shows_eroded = shows_input IsSet [] (λ f set. set.picture);
-      are_marks = refl;
-    })
+pub skeleton_begins : (b : List Offset) (depth : ℕ) (p : Plan) → Erodes b depth p → MarksResidues b depth 0 p None
+skeleton_begins b depth p at = record {
+  sound = sound_of_sets p at.sound;
+  read = at.read;
+  shows_eroded = λ k le. shows_of_sets p (after_erosions k) (times k (erosion b)) (at.shows k le);
+  are_marks = refl;
+}
 
 pub blank_goes_on : (depth : ℕ) (p q : Plan) (s : Source) → depth < 65535 → IsPushed p q (Blank (depth + 1)) [] s → GoesOn IsSet p q
 blank_goes_on depth p q s low pushed = record {
@@ -65,51 +121,56 @@ pub still_marks : (b : List Offset) (depth n : ℕ) (p q : Plan) (step : PlanSte
 still_marks b depth n p q step sources r (Some m) pushed are = still_shows IsSet p q step sources r (source m) (marked b depth n) pushed are
 still_marks b depth n p q step sources r None pushed are = are
 
-skeleton_turn_more : (b : List Offset) (depth n : ℕ) (p p1 p2 p3 p4 : Plan) (e m s1 s2 : Source) (before : Option Read) (after : Read) (erode dilate : PlanStep) → Slides b erode dilate → n < depth
-    → MarksResidues b depth n p e before → IsPushed p p1 erode (e ∷ []) s1 → IsPushed p1 p2 dilate (s1 ∷ []) s2 → GoesOn IsSet p2 p3 → Shows IsSet p3 m (marked b depth n)
-    → IsPushed p3 p4 (Mark (n + 1)) (m ∷ e ∷ s2 ∷ []) (source after) → MarksResidues b depth (suc n) p4 s1 (Some after)
-skeleton_turn_more b depth n p p1 p2 p3 p4 e m s1 s2 before after erode dilate slides below at push1 push2 goes_on shows3 push4 =
+skeleton_turn_more : (b : List Offset) (depth n : ℕ) (p p1 p2 p3 : Plan) (m o : Source) (before : Option Read) (after : Read) (erode dilate : PlanStep) → Slides b erode dilate → n < depth
+    → MarksResidues b depth n p before → IsPushed p p1 dilate (after_erosions (suc n) ∷ []) o → GoesOn IsSet p1 p2 → Shows IsSet p2 m (marked b depth n)
+    → IsPushed p2 p3 (Mark (n + 1)) (m ∷ after_erosions n ∷ o ∷ []) (source after) → MarksResidues b depth (suc n) p3 (Some after)
+skeleton_turn_more b depth n p p1 p2 p3 m o before after erode dilate slides below at push1 goes_on shows2 push3 =
+    let e = after_erosions n in
+    let s = after_erosions (suc n) in
     let left : Picture → Picture = times n (erosion b) in
     let next : Picture → Picture = λ f. erosion b (left f) in
     let opened : Picture → Picture = λ f. dilation (negated b) (next f) in
-    let acts1 = acts_on IsSet erode (erosion b) left slides.erodes (erosion_framed b) at.shows_eroded.framed in
-    let shown1 = alone p e left at.shows_eroded in
-    let shows1 = now_shows IsSet p p1 erode (e ∷ []) s1 (λ f. left f ∷ []) next push1 shown1 acts1 slides.erodes.plain in
-    let acts2 = acts_on IsSet dilate (dilation (negated b)) next slides.dilates (dilation_framed (negated b)) shows1.framed in
-    let shown2 = alone p1 s1 next shows1 in
-    let shows2 = now_shows IsSet p1 p2 dilate (s1 ∷ []) s2 (λ f. next f ∷ []) opened push2 shown2 acts2 slides.dilates.plain in
-    let sound1 = still_sound IsSet p p1 erode (e ∷ []) s1 (λ f. left f ∷ []) next push1 shown1 acts1 at.sound in
-    let sound2 = still_sound IsSet p1 p2 dilate (s1 ∷ []) s2 (λ f. next f ∷ []) opened push2 shown2 acts2 sound1 in
-    let e2 = still_shows IsSet p1 p2 dilate (s1 ∷ []) s2 e left push2 (still_shows IsSet p p1 erode (e ∷ []) s1 e left push1 at.shows_eroded) in
-    let n2 = still_shows IsSet p1 p2 dilate (s1 ∷ []) s2 s1 next push2 shows1 in
-    let acts4 = acts_mark b depth n below in
-    let shown4 : AreShown IsSet p3 (m ∷ e ∷ s2 ∷ []) (λ f. marked b depth n f ∷ left f ∷ opened f ∷ []) =
-    also m (e ∷ s2 ∷ []) (marked b depth n) (λ f. left f ∷ opened f ∷ []) shows3 (also e (s2 ∷ []) left (λ f. opened f ∷ []) (goes_on.shows e left e2) (alone p3 s2 opened (goes_on.shows s2 opened shows2))) in
+    let shows_next : Shows IsSet p s next = at.shows_eroded (suc n) (omega arith) in
+    let acts1 = acts_on IsSet dilate (dilation (negated b)) next slides.dilates (dilation_framed (negated b)) shows_next.framed in
+    let shown1 = alone p s next shows_next in
+    let shows1 = now_shows IsSet p p1 dilate (s ∷ []) o (λ f. next f ∷ []) opened push1 shown1 acts1 slides.dilates.plain in
+    let sound1 = still_sound IsSet p p1 dilate (s ∷ []) o (λ f. next f ∷ []) opened push1 shown1 acts1 at.sound in
+    let left1 = still_shows IsSet p p1 dilate (s ∷ []) o e left push1 (at.shows_eroded n (omega arith)) in
+    let acts3 = acts_mark b depth n below in
+    let shown3 : AreShown IsSet p2 (m ∷ e ∷ o ∷ []) (λ f. marked b depth n f ∷ left f ∷ opened f ∷ []) =
+    also m (e ∷ o ∷ []) (marked b depth n) (λ f. left f ∷ opened f ∷ []) shows2 (also e (o ∷ []) left (λ f. opened f ∷ []) (goes_on.shows e left left1) (alone p2 o opened (goes_on.shows o opened shows1))) in
     record {
-      sound = still_sound IsSet p3 p4 (Mark (n + 1)) (m ∷ e ∷ s2 ∷ []) (source after) (λ f. marked b depth n f ∷ left f ∷ opened f ∷ []) (marked b depth (suc n)) push4 shown4 acts4 (goes_on.sound sound2);
-      read = inr (still_read p3 p4 (Mark (n + 1)) (m ∷ e ∷ s2 ∷ []) (source after) push4 (goes_on.read (still_read p1 p2 dilate (s1 ∷ []) s2 push2 (read_first at.read))));
-      shows_eroded = still_shows IsSet p3 p4 (Mark (n + 1)) (m ∷ e ∷ s2 ∷ []) (source after) s1 next push4 (goes_on.shows s1 next n2);
-      are_marks = now_shows IsSet p3 p4 (Mark (n + 1)) (m ∷ e ∷ s2 ∷ []) (source after) (λ f. marked b depth n f ∷ left f ∷ opened f ∷ []) (marked b depth (suc n)) push4 shown4 acts4 refl;
+      sound = still_sound IsSet p2 p3 (Mark (n + 1)) (m ∷ e ∷ o ∷ []) (source after) (λ f. marked b depth n f ∷ left f ∷ opened f ∷ []) (marked b depth (suc n)) push3 shown3 acts3 (goes_on.sound sound1);
+      read = read_still at.read;
+      shows_eroded = λ k le.
+          let r = after_erosions k in
+          let kept = times k (erosion b) in
+          still_shows IsSet p2 p3 (Mark (n + 1)) (m ∷ e ∷ o ∷ []) (source after) r kept push3 (goes_on.shows r kept (still_shows IsSet p p1 dilate (s ∷ []) o r kept push1 (at.shows_eroded k le)));
+      are_marks = now_shows IsSet p2 p3 (Mark (n + 1)) (m ∷ e ∷ o ∷ []) (source after) (λ f. marked b depth n f ∷ left f ∷ opened f ∷ []) (marked b depth (suc n)) push3 shown3 acts3 refl;
     }
   where
-    read_first : (e ≡ FromInput 0) ⊎ IsReadBy p 0 → IsReadBy p1 0
-    read_first (inl here) = now_read p p1 erode (e ∷ []) s1 push1 (0, omega arith, here)
-    read_first (inr read) = still_read p p1 erode (e ∷ []) s1 push1 read
+    read_still : (after_erosions depth ≡ FromInput 0) ⊎ IsReadBy p 0 → (after_erosions depth ≡ FromInput 0) ⊎ IsReadBy p3 0
+    read_still (inl here) = inl here
+    read_still (inr read) = inr (still_read p2 p3 (Mark (n + 1)) (m ∷ after_erosions n ∷ o ∷ []) (source after) push3 (goes_on.read (still_read p p1 dilate (after_erosions (suc n) ∷ []) o push1 read)))
 
-pub skeleton_turn : (b : List Offset) (depth n : ℕ) (p p1 p2 p3 p4 : Plan) (e m s1 s2 : Source) (before : Option Read) (after : Read) (erode dilate : PlanStep) → Slides b erode dilate → n < depth
-    → MarksResidues b depth n p e before → IsPushed p p1 erode (e ∷ []) s1 → IsPushed p1 p2 dilate (s1 ∷ []) s2 → GoesOn IsSet p2 p3 → Shows IsSet p3 m (marked b depth n)
-    → IsPushed p3 p4 (Mark (n + 1)) (m ∷ e ∷ s2 ∷ []) (source after) → MarksResidues b depth (n + 1) p4 s1 (Some after)
-skeleton_turn b depth n p p1 p2 p3 p4 e m s1 s2 before after erode dilate slides below at push1 push2 goes_on shows3 push4 =
+pub skeleton_turn : (b : List Offset) (depth n : ℕ) (p p1 p2 p3 : Plan) (r e m o : Source) (before : Option Read) (after : Read) (erode dilate : PlanStep) → Slides b erode dilate → n < depth
+    → MarksResidues b depth n p before → r ≡ after_erosions (n + 1) → e ≡ after_erosions n → IsPushed p p1 dilate (r ∷ []) o → GoesOn IsSet p1 p2 → Shows IsSet p2 m (marked b depth n)
+    → IsPushed p2 p3 (Mark (n + 1)) (m ∷ e ∷ o ∷ []) (source after) → MarksResidues b depth (n + 1) p3 (Some after)
+skeleton_turn b depth n p p1 p2 p3 r e m o before after erode dilate slides below at r-is e-is push1 goes_on shows2 push3 =
     let more : suc n ≡ n + 1 = omega arith in
-    subst (λ (k : ℕ). MarksResidues b depth k p4 s1 (Some after)) more (skeleton_turn_more b depth n p p1 p2 p3 p4 e m s1 s2 before after erode dilate slides below at push1 push2 goes_on shows3 push4)
+    let next : r ≡ after_erosions (suc n) = r-is ∙ ap after_erosions (sym more) in
+    subst (λ (k : ℕ). MarksResidues b depth k p3 (Some after)) more
+    (skeleton_turn_more b depth n p p1 p2 p3 m o before after erode dilate slides below at (subst (λ (t : Source). IsPushed p p1 dilate (t ∷ []) o) next push1) goes_on shows2
+    (subst (λ (t : Source). IsPushed p2 p3 (Mark (n + 1)) (m ∷ t ∷ o ∷ []) (source after)) e-is push3))
 
-pub skeleton_ends : (b : List Offset) (depth : ℕ) (p q r : Plan) (e m s : Source) (before : Option Read) → length q ≡ 3 * depth + 1 → MarksResidues b depth depth p e before → GoesOn IsSet p q
-    → Shows IsSet q m (marked b depth depth) → IsPushed q r (MarkLast (depth + 1)) (m ∷ e ∷ []) s → Draws IsSet r (3 * depth + 2) (skeleton b depth)
-skeleton_ends b depth p q r e m s before count at goes_on shows_marks pushed =
+skeleton_ends_at : (b : List Offset) (depth : ℕ) (p q r : Plan) (m s : Source) (before : Option Read) → length q ≡ 3 * depth + 1 → MarksResidues b depth depth p before → GoesOn IsSet p q
+    → Shows IsSet q m (marked b depth depth) → IsPushed q r (MarkLast (depth + 1)) (m ∷ after_erosions depth ∷ []) s → Draws IsSet r (3 * depth + 2) (skeleton b depth)
+skeleton_ends_at b depth p q r m s before count at goes_on shows_marks pushed =
+    let e = after_erosions depth in
     let left : Picture → Picture = times depth (erosion b) in
     let last = acts_mark_last b depth in
     let shown : AreShown IsSet q (m ∷ e ∷ []) (λ f. marked b depth depth f ∷ left f ∷ []) =
-    also m (e ∷ []) (marked b depth depth) (λ f. left f ∷ []) shows_marks (alone q e left (goes_on.shows e left at.shows_eroded)) in
+    also m (e ∷ []) (marked b depth depth) (λ f. left f ∷ []) shows_marks (alone q e left (goes_on.shows e left (at.shows_eroded depth (omega arith)))) in
     record {
       count = omega (arith, count, pushed_count q r (MarkLast (depth + 1)) (m ∷ e ∷ []) s pushed);
       sound = still_sound IsSet q r (MarkLast (depth + 1)) (m ∷ e ∷ []) s (λ f. marked b depth depth f ∷ left f ∷ []) (skeleton b depth) pushed shown last (goes_on.sound at.sound);
@@ -118,23 +179,52 @@ skeleton_ends b depth p q r e m s before count at goes_on shows_marks pushed =
           (now_shows IsSet q r (MarkLast (depth + 1)) (m ∷ e ∷ []) s (λ f. marked b depth depth f ∷ left f ∷ []) (skeleton b depth) pushed shown last refl);
     }
   where
-    read_last : (e ≡ FromInput 0) ⊎ IsReadBy p 0 → IsReadBy r 0
-    read_last (inl here) = now_read q r (MarkLast (depth + 1)) (m ∷ e ∷ []) s pushed (1, omega arith, here)
-    read_last (inr read) = still_read q r (MarkLast (depth + 1)) (m ∷ e ∷ []) s pushed (goes_on.read read)
+    read_last : (after_erosions depth ≡ FromInput 0) ⊎ IsReadBy p 0 → IsReadBy r 0
+    read_last (inl here) = now_read q r (MarkLast (depth + 1)) (m ∷ after_erosions depth ∷ []) s pushed (1, omega arith, here)
+    read_last (inr read) = still_read q r (MarkLast (depth + 1)) (m ∷ after_erosions depth ∷ []) s pushed (goes_on.read read)
+
+pub skeleton_ends : (b : List Offset) (depth : ℕ) (p q r : Plan) (e m s : Source) (before : Option Read) → length q ≡ 3 * depth + 1 → MarksResidues b depth depth p before → GoesOn IsSet p q
+    → Shows IsSet q m (marked b depth depth) → e ≡ after_erosions depth → IsPushed q r (MarkLast (depth + 1)) (m ∷ e ∷ []) s → Draws IsSet r (3 * depth + 2) (skeleton b depth)
+skeleton_ends b depth p q r e m s before count at goes_on shows_marks e-is pushed =
+    skeleton_ends_at b depth p q r m s before count at goes_on shows_marks (subst (λ (t : Source). IsPushed q r (MarkLast (depth + 1)) (m ∷ t ∷ []) s) e-is pushed)
 
 -- ---- restorations
 
-pub restoration_begins : (b : List Offset) (n : ℕ) (q : Plan) (s : Source) → IsPushed [] q (Equal (n + 1)) (FromInput 0 ∷ []) s → Restores b n 0 q s
-unfolding restored
-restoration_begins b n q s pushed =
+pub no_levels : (p : Plan) → p ≡ [] → HasLevels 0 p
+no_levels p empty = subst (HasLevels 0) (sym empty) (record {
+  count = refl;
+  sound = nothing_sound IsPicture;
+  read = λ some. absurd (omega arith);
+  shows = λ k lt. absurd (omega arith);
+})
+
+pub levels_more : (n : ℕ) (p q : Plan) (s : Source) → HasLevels n p → IsPushed p q (Equal (n + 1)) (FromInput 0 ∷ []) s → HasLevels (n + 1) q
+levels_more n p q s at pushed =
     let acts = acts_equal IsPicture (n + 1) itself in
-    let shown = alone [] (FromInput 0) (λ f. f) (shows_input IsPicture [] itself) in
+    let shown = alone p (FromInput 0) (λ f. f) (shows_input IsPicture p itself) in
+    let here : s ≡ FromStep n = pushed.at ∙ ap FromStep at.count in
+    let now = subst (λ (t : Source). Shows IsPicture q t (level_set (n + 1))) here (now_shows IsPicture p q (Equal (n + 1)) (FromInput 0 ∷ []) s (λ f. f ∷ []) (level_set (n + 1)) pushed shown acts refl) in
     record {
-      count = omega (arith, pushed_count [] q (Equal (n + 1)) (FromInput 0 ∷ []) s pushed);
-      sound = still_sound IsPicture [] q (Equal (n + 1)) (FromInput 0 ∷ []) s (λ f. f ∷ []) (level_set (n + 1)) pushed shown acts (nothing_sound IsPicture);
-      read = now_read [] q (Equal (n + 1)) (FromInput 0 ∷ []) s pushed (0, omega arith, refl);
-      last = pushed_last [] q (Equal (n + 1)) (FromInput 0 ∷ []) s pushed;
-      shows = now_shows IsPicture [] q (Equal (n + 1)) (FromInput 0 ∷ []) s (λ f. f ∷ []) (level_set (n + 1)) pushed shown acts refl;
+      count = omega (arith, at.count, pushed_count p q (Equal (n + 1)) (FromInput 0 ∷ []) s pushed);
+      sound = still_sound IsPicture p q (Equal (n + 1)) (FromInput 0 ∷ []) s (λ f. f ∷ []) (level_set (n + 1)) pushed shown acts at.sound;
+      read = λ some. now_read p q (Equal (n + 1)) (FromInput 0 ∷ []) s pushed (0, omega arith, refl);
+      shows = λ k lt. elim (cases_eq k n) [
+        | inl last ↦ subst (λ (t : ℕ). Shows IsPicture q (FromStep t) (level_set (t + 1))) (sym last) now
+        | inr other ↦ still_shows IsPicture p q (Equal (n + 1)) (FromInput 0 ∷ []) s (FromStep k) (level_set (k + 1)) pushed (at.shows k (omega arith))
+      ];
+    }
+
+pub restoration_begins : (b : List Offset) (depth : ℕ) (p : Plan) → HasLevels (depth + 1) p → Restores b depth depth 0 p (FromStep depth)
+unfolding restored
+restoration_begins b depth p at =
+    let last : depth ≡ length p - 1 = omega (arith, at.count) in
+    record {
+      count = omega (arith, at.count);
+      sound = at.sound;
+      read = at.read (omega arith);
+      last = ap FromStep last;
+      levels = λ k le. at.shows k (omega arith);
+      shows = at.shows depth (omega arith);
     }
 
 same_operator : (p : Plan) (s : Source) (first second : Picture → Picture) → ((f : Picture) → first f ≡ second f) → Shows IsPicture p s first → Shows IsPicture p s second
@@ -145,44 +235,42 @@ same_operator p s first second same shows = record {
   framed = λ f fits. subst (λ (t : Picture). IsFramed t f.width f.height) (same f) (shows.framed f fits);
 }
 
-restoration_turn_more : (b : List Offset) (n m : ℕ) (p p1 p2 p3 : Plan) (s s1 s2 s3 : Source) (erode dilate : PlanStep) → Slides b erode dilate → Restores b (n + 1) m p s
-    → IsPushed p p1 (Equal (n + 1)) (FromInput 0 ∷ []) s1 → IsPushed p1 p2 dilate (s ∷ []) s2 → IsPushed p2 p3 Join (s1 ∷ s2 ∷ []) s3
-    → Restores b n (suc m) p3 s3
-restoration_turn_more b n m p p1 p2 p3 s s1 s2 s3 erode dilate slides at push1 push2 push3 =
+restoration_turn_more : (b : List Offset) (depth n m : ℕ) (p p1 p2 : Plan) (s s1 s2 : Source) (erode dilate : PlanStep) → Slides b erode dilate → n < depth → Restores b depth (n + 1) m p s
+    → IsPushed p p1 dilate (s ∷ []) s1 → IsPushed p1 p2 Join (FromStep n ∷ s1 ∷ []) s2
+    → Restores b depth n (suc m) p2 s2
+restoration_turn_more b depth n m p p1 p2 s s1 s2 erode dilate slides below at push1 push2 =
+    let mark = FromStep n in
     let level : Picture → Picture = level_set (n + 1) in
     let before : Picture → Picture = restored b (n + 1) m in
     let grown : Picture → Picture = λ f. dilation (negated b) (before f) in
     let joined : Picture → Picture = λ f. union (level f) (grown f) in
-    let acts1 = acts_equal IsPicture (n + 1) itself in
-    let shown1 = alone p (FromInput 0) (λ f. f) (shows_input IsPicture p itself) in
-    let shows1 = now_shows IsPicture p p1 (Equal (n + 1)) (FromInput 0 ∷ []) s1 (λ f. f ∷ []) level push1 shown1 acts1 refl in
-    let before1 = still_shows IsPicture p p1 (Equal (n + 1)) (FromInput 0 ∷ []) s1 s before push1 at.shows in
-    let acts2 = acts_on IsPicture dilate (dilation (negated b)) before slides.dilates (dilation_framed (negated b)) before1.framed in
-    let shown2 = alone p1 s before before1 in
-    let shows2 = now_shows IsPicture p1 p2 dilate (s ∷ []) s2 (λ f. before f ∷ []) grown push2 shown2 acts2 slides.dilates.plain in
-    let level2 = still_shows IsPicture p1 p2 dilate (s ∷ []) s2 s1 level push2 shows1 in
-    let acts3 = acts_join IsPicture level grown level2.framed shows2.framed (λ f. sym (restored_shape b (n + 1) m f).kind) (λ f. sym (restored_shape b (n + 1) m f).maxval) in
-    let shown3 : AreShown IsPicture p2 (s1 ∷ s2 ∷ []) (λ f. level f ∷ grown f ∷ []) = also s1 (s2 ∷ []) level (λ f. grown f ∷ []) level2 (alone p2 s2 grown shows2) in
-    let sound1 = still_sound IsPicture p p1 (Equal (n + 1)) (FromInput 0 ∷ []) s1 (λ f. f ∷ []) level push1 shown1 acts1 at.sound in
-    let sound2 = still_sound IsPicture p1 p2 dilate (s ∷ []) s2 (λ f. before f ∷ []) grown push2 shown2 acts2 sound1 in
+    let acts1 = acts_on IsPicture dilate (dilation (negated b)) before slides.dilates (dilation_framed (negated b)) at.shows.framed in
+    let shown1 = alone p s before at.shows in
+    let shows1 = now_shows IsPicture p p1 dilate (s ∷ []) s1 (λ f. before f ∷ []) grown push1 shown1 acts1 slides.dilates.plain in
+    let level1 = still_shows IsPicture p p1 dilate (s ∷ []) s1 mark level push1 (at.levels n (omega arith)) in
+    let acts2 = acts_join IsPicture level grown level1.framed shows1.framed (λ f. sym (restored_shape b (n + 1) m f).kind) (λ f. sym (restored_shape b (n + 1) m f).maxval) in
+    let shown2 : AreShown IsPicture p1 (mark ∷ s1 ∷ []) (λ f. level f ∷ grown f ∷ []) = also mark (s1 ∷ []) level (λ f. grown f ∷ []) level1 (alone p1 s1 grown shows1) in
+    let sound1 = still_sound IsPicture p p1 dilate (s ∷ []) s1 (λ f. before f ∷ []) grown push1 shown1 acts1 at.sound in
     record {
-      count = omega (arith, at.count, pushed_count p p1 (Equal (n + 1)) (FromInput 0 ∷ []) s1 push1, pushed_count p1 p2 dilate (s ∷ []) s2 push2, pushed_count p2 p3 Join (s1 ∷ s2 ∷ []) s3 push3);
-      sound = still_sound IsPicture p2 p3 Join (s1 ∷ s2 ∷ []) s3 (λ f. level f ∷ grown f ∷ []) joined push3 shown3 acts3 sound2;
-      read = still_read p2 p3 Join (s1 ∷ s2 ∷ []) s3 push3 (still_read p1 p2 dilate (s ∷ []) s2 push2 (still_read p p1 (Equal (n + 1)) (FromInput 0 ∷ []) s1 push1 at.read));
-      last = pushed_last p2 p3 Join (s1 ∷ s2 ∷ []) s3 push3;
-      shows = same_operator p3 s3 joined (restored b n (suc m)) (λ f. sym (restored-turn b n m f)) (now_shows IsPicture p2 p3 Join (s1 ∷ s2 ∷ []) s3 (λ f. level f ∷ grown f ∷ []) joined push3 shown3 acts3 refl);
+      count = omega (arith, at.count, pushed_count p p1 dilate (s ∷ []) s1 push1, pushed_count p1 p2 Join (mark ∷ s1 ∷ []) s2 push2);
+      sound = still_sound IsPicture p1 p2 Join (mark ∷ s1 ∷ []) s2 (λ f. level f ∷ grown f ∷ []) joined push2 shown2 acts2 sound1;
+      read = still_read p1 p2 Join (mark ∷ s1 ∷ []) s2 push2 (still_read p p1 dilate (s ∷ []) s1 push1 at.read);
+      last = pushed_last p1 p2 Join (mark ∷ s1 ∷ []) s2 push2;
+      levels = λ k le. still_shows IsPicture p1 p2 Join (mark ∷ s1 ∷ []) s2 (FromStep k) (level_set (k + 1)) push2 (still_shows IsPicture p p1 dilate (s ∷ []) s1 (FromStep k) (level_set (k + 1)) push1 (at.levels k le));
+      shows = same_operator p2 s2 joined (restored b n (suc m)) (λ f. sym (restored-turn b n m f)) (now_shows IsPicture p1 p2 Join (mark ∷ s1 ∷ []) s2 (λ f. level f ∷ grown f ∷ []) joined push2 shown2 acts2 refl);
     }
 
-pub restoration_turn : (b : List Offset) (n m : ℕ) (p p1 p2 p3 : Plan) (s s1 s2 s3 : Source) (erode dilate : PlanStep) → Slides b erode dilate → Restores b (n + 1) m p s
-    → IsPushed p p1 (Equal (n + 1)) (FromInput 0 ∷ []) s1 → IsPushed p1 p2 dilate (s ∷ []) s2 → IsPushed p2 p3 Join (s1 ∷ s2 ∷ []) s3
-    → Restores b n (m + 1) p3 s3
-restoration_turn b n m p p1 p2 p3 s s1 s2 s3 erode dilate slides at push1 push2 push3 =
+pub restoration_turn : (b : List Offset) (depth n m k : ℕ) (p p1 p2 : Plan) (s s1 s2 : Source) (erode dilate : PlanStep) → Slides b erode dilate → n < depth → Restores b depth (n + 1) m p s → k ≡ n
+    → IsPushed p p1 dilate (s ∷ []) s1 → IsPushed p1 p2 Join (FromStep k ∷ s1 ∷ []) s2
+    → Restores b depth n (m + 1) p2 s2
+restoration_turn b depth n m k p p1 p2 s s1 s2 erode dilate slides below at same push1 push2 =
     let more : suc m ≡ m + 1 = omega arith in
-    subst (λ (k : ℕ). Restores b n k p3 s3) more (restoration_turn_more b n m p p1 p2 p3 s s1 s2 s3 erode dilate slides at push1 push2 push3)
+    subst (λ (j : ℕ). Restores b depth n j p2 s2) more
+    (restoration_turn_more b depth n m p p1 p2 s s1 s2 erode dilate slides below at push1 (subst (λ (j : ℕ). IsPushed p1 p2 Join (FromStep j ∷ s1 ∷ []) s2) same push2))
 
-pub restoration_ends : (b : List Offset) (depth : ℕ) (p : Plan) (s : Source) → Restores b 0 depth p s → Draws IsPicture p (3 * depth + 1) (restoration b depth)
+pub restoration_ends : (b : List Offset) (depth : ℕ) (p : Plan) (s : Source) → Restores b depth 0 depth p s → Draws IsPicture p (3 * depth + 1) (restoration b depth)
 restoration_ends b depth p s at = record {
-  count = at.count;
+  count = omega (arith, at.count);
   sound = at.sound;
   read = at.read;
   shows = same_operator p (FromStep (length p - 1)) (restored b 0 depth) (restoration b depth) (restored-all b depth) (subst (λ (t : Source). Shows IsPicture p t (restored b 0 depth)) at.last at.shows);
@@ -190,18 +278,18 @@ restoration_ends b depth p s at = record {
 
 -- ---- spectra
 
-pub spectrum_begins : (b : List Offset) (q : Plan) (s : Source) → IsPushed [] q Sum (FromInput 0 ∷ []) s → TellsVolumes b 0 q (FromInput 0)
-spectrum_begins b q s pushed =
-    let shown = alone [] (FromInput 0) (λ f. f) (shows_input IsPicture [] itself) in
-    let acts = acts_sum IsPicture (λ f. f) (shows_input IsPicture [] itself).framed in
+pub spectrum_begins : (b : List Offset) (depth : ℕ) (p q : Plan) (s : Source) → Erodes b depth p → IsPushed p q Sum (FromInput 0 ∷ []) s → TellsVolumes b depth 0 q
+spectrum_begins b depth p q s at pushed =
+    let shown = alone p (FromInput 0) (λ f. f) (shows_input IsPicture p itself) in
+    let acts = acts_sum IsPicture (λ f. f) (shows_input IsPicture p itself).framed in
     record {
       tells = record {
-        count = omega (arith, pushed_count [] q Sum (FromInput 0 ∷ []) s pushed);
-        sound = still_sound IsPicture [] q Sum (FromInput 0 ∷ []) s (λ f. f ∷ []) (λ f. f) pushed shown acts (nothing_sound IsPicture);
-        read = now_read [] q Sum (FromInput 0 ∷ []) s pushed (0, omega arith, refl);
-        counts = now_counts IsPicture [] q Sum (FromInput 0 ∷ []) s (λ f. f ∷ []) (λ f. f) (λ f. []) pushed shown acts refl (λ f fits. refl);
+        count = omega (arith, at.count, pushed_count p q Sum (FromInput 0 ∷ []) s pushed);
+        sound = still_sound IsPicture p q Sum (FromInput 0 ∷ []) s (λ f. f ∷ []) (λ f. f) pushed shown acts at.sound;
+        read = now_read p q Sum (FromInput 0 ∷ []) s pushed (0, omega arith, refl);
+        counts = now_counts IsPicture p q Sum (FromInput 0 ∷ []) s (λ f. f ∷ []) (λ f. f) (λ f. []) pushed shown acts refl at.counts;
       };
-      shows = shows_input IsPicture q itself;
+      shows = λ k le. still_shows IsPicture p q Sum (FromInput 0 ∷ []) s (after_erosions k) (times k (erosion b)) pushed (at.shows k le);
     }
 
 -- a step that tells no number
@@ -241,29 +329,23 @@ same_tells p steps more numbers others e same tells = record {
   counts = λ f fits. tells.counts f fits ∙ same f;
 }
 
-pub spectrum_turn : (b : List Offset) (n : ℕ) (p p1 p2 p3 : Plan) (e s1 s2 s3 : Source) (erode dilate : PlanStep) → Slides b erode dilate → TellsVolumes b n p e
-    → IsPushed p p1 erode (e ∷ []) s1
-    → StillShown p1 p2 → Tells p2 (suc (spectrum_steps n) + (n + 1)) (spectrum b n) → Shows IsPicture p2 s2 (λ f. times (n + 1) (dilation (negated b)) (erosion b (times n (erosion b) f)))
-    → IsPushed p2 p3 Sum (s2 ∷ []) s3
-    → TellsVolumes b (n + 1) p3 s1
-spectrum_turn b n p p1 p2 p3 e s1 s2 s3 erode dilate slides at push1 kept tells shows push3 =
-    let left : Picture → Picture = times n (erosion b) in
-    let next : Picture → Picture = λ f. erosion b (left f) in
-    let opened : Picture → Picture = λ f. times (n + 1) (dilation (negated b)) (next f) in
+pub spectrum_turn : (b : List Offset) (depth n : ℕ) (p p1 p2 : Plan) (s1 s2 : Source) → TellsVolumes b depth n p → StillShown p p1
+    → Tells p1 (depth + volume_steps n + (n + 1)) (spectrum b n) → Shows IsPicture p1 s1 (λ f. times (n + 1) (dilation (negated b)) (times (n + 1) (erosion b) f))
+    → IsPushed p1 p2 Sum (s1 ∷ []) s2
+    → TellsVolumes b depth (n + 1) p2
+spectrum_turn b depth n p p1 p2 s1 s2 at kept tells shows push2 =
+    let opened : Picture → Picture = λ f. times (n + 1) (dilation (negated b)) (times (n + 1) (erosion b) f) in
     let more : suc n ≡ n + 1 = omega arith in
-    let acts1 = acts_on IsPicture erode (erosion b) left slides.erodes (erosion_framed b) at.shows.framed in
-    let shows1 = now_shows IsPicture p p1 erode (e ∷ []) s1 (λ f. left f ∷ []) next push1 (alone p e left at.shows) acts1 slides.erodes.plain in
-    let shows3 = still_shows IsPicture p2 p3 Sum (s2 ∷ []) s3 s1 next push3 (kept s1 next shows1) in
     record {
-      tells = same_tells p3 (suc (suc (spectrum_steps n) + (n + 1))) (spectrum_steps (n + 1)) (λ f. spectrum b n f ++ sum (opened f).samples ∷ []) (spectrum b (n + 1))
-          (ap_steps (spectrum_steps n) n ∙ ap spectrum_steps more)
-          (λ f. ap (λ (k : ℕ). spectrum b n f ++ sum (times (n + 1) (dilation (negated b)) (times k (erosion b) f)).samples ∷ []) more ∙ sym (spectrum-more b n f))
-          (tells_sum p2 p3 s2 s3 opened (suc (spectrum_steps n) + (n + 1)) (spectrum b n) push3 shows tells);
-      shows = subst (λ (k : ℕ). Shows IsPicture p3 s1 (times k (erosion b))) more shows3;
+      tells = same_tells p2 (suc (depth + volume_steps n + (n + 1))) (depth + volume_steps (n + 1)) (λ f. spectrum b n f ++ sum (opened f).samples ∷ []) (spectrum b (n + 1))
+          (one_more depth (volume_steps n) n ∙ ap (λ (k : ℕ). depth + volume_steps k) more)
+          (λ f. sym (spectrum-more b n f))
+          (tells_sum p1 p2 s1 s2 opened (depth + volume_steps n + (n + 1)) (spectrum b n) push2 shows tells);
+      shows = λ k le. still_shows IsPicture p1 p2 Sum (s1 ∷ []) s2 (after_erosions k) (times k (erosion b)) push2 (kept (after_erosions k) (times k (erosion b)) (at.shows k le));
     }
   where
-    ap_steps : (a n : ℕ) → suc (suc a + (n + 1)) ≡ a + n + 3
-    ap_steps a n = omega arith
+    one_more : (d a n : ℕ) → suc (d + a + (n + 1)) ≡ d + (a + n + 2)
+    one_more d a n = omega arith
 
 -- n dilations one behind another
 pub dilated_more : (b : List Offset) (k steps : ℕ) (numbers : Picture → List ℕ) (before : Picture → Picture) (p q : Plan) (r s : Source) (erode dilate : PlanStep) → Slides b erode dilate
@@ -277,14 +359,9 @@ dilated_more b k steps numbers before p q r s erode dilate slides tells shows pu
     let steps_more : suc (steps + k) ≡ steps + (k + 1) = omega arith in
     (subst (λ (n : ℕ). Tells q n numbers) steps_more both.0, subst (λ (n : ℕ). Shows IsPicture q s (λ f. times n (dilation (negated b)) (before f))) more both.1)
 
--- the plan stays short
-pub spectrum_steps_few : (n : ℕ) → n ≤ 32 → spectrum_steps n ≤ 1 + 34 * n
-spectrum_steps_few zero le = omega arith
-spectrum_steps_few (suc n) le = omega (arith, spectrum_steps_few n (omega arith))
-
-pub spectrum_steps_twice : (n : ℕ) → 2 * spectrum_steps n ≡ n * (n + 1) + 4 * n + 2
-spectrum_steps_twice zero = omega arith
-spectrum_steps_twice (suc n) = omega (arith, spectrum_steps_twice n)
+volume_steps_twice : (n : ℕ) → 2 * volume_steps n ≡ n * (n + 1) + 2 * n + 2
+volume_steps_twice zero = omega arith
+volume_steps_twice (suc n) = omega (arith, volume_steps_twice n)
 
 -- ---- spectra by boxes
 
@@ -314,19 +391,11 @@ box_turn b box n p p1 p2 p3 s1 s2 s3 fills holds tells push1 push2 push3 =
     let steps : suc (suc (suc (3 * n + 1))) ≡ 3 * (n + 1) + 1 = omega arith in
     same_tells p3 (suc (suc (suc (3 * n + 1)))) (3 * (n + 1) + 1) (λ f. spectrum b n f ++ sum (opened f).samples ∷ []) (spectrum b (n + 1)) steps (λ f. sym (spectrum-more b n f)) third
 
--- the erosion that a turn begins with
-pub turn_erodes : (b : List Offset) (n : ℕ) (p p1 : Plan) (e s1 : Source) (erode dilate : PlanStep) → Slides b erode dilate → TellsVolumes b n p e → IsPushed p p1 erode (e ∷ []) s1
-    → Tells p1 (suc (spectrum_steps n)) (spectrum b n) × Shows IsPicture p1 s1 (λ f. erosion b (times n (erosion b) f))
-turn_erodes b n p p1 e s1 erode dilate slides at pushed =
-    let left : Picture → Picture = times n (erosion b) in
-    tells_no_more p p1 erode e s1 left (λ f. erosion b (left f)) (spectrum_steps n) (spectrum b n) pushed at.shows
-    (acts_on IsPicture erode (erosion b) left slides.erodes (erosion_framed b) at.shows.framed) slides.erodes.plain at.tells
-
-pub ends_in : (b : List Offset) (n levels : ℕ) (p : Plan) (e : Source) → n ≡ levels → TellsVolumes b n p e → Tells p (spectrum_steps levels) (spectrum b levels)
-ends_in b n levels p e same at = subst (λ (k : ℕ). Tells p (spectrum_steps k) (spectrum b k)) same at.tells
+pub ends_in : (b : List Offset) (n levels : ℕ) (p : Plan) → n ≡ levels → TellsVolumes b levels n p → Tells p (levels + volume_steps levels) (spectrum b levels)
+ends_in b n levels p same at = subst (λ (k : ℕ). Tells p (levels + volume_steps k) (spectrum b k)) same at.tells
 
 pub boxes_begin : (b : List Offset) (q : Plan) (s : Source) → IsPushed [] q Sum (FromInput 0 ∷ []) s → Tells q (3 * 0 + 1) (spectrum b 0)
-boxes_begin b q s pushed = (spectrum_begins b q s pushed).tells
+boxes_begin b q s pushed = (spectrum_begins b 0 [] q s (nothing_eroded b [] refl) pushed).tells
 
 -- ---- the steps of a spectrum
 
@@ -334,10 +403,10 @@ half : (a : ℕ) → 2 * a / 2 ≡ a
 half a = omega arith
 
 -- the steps of all turns
-steps_are : (n : ℕ) → spectrum_steps n ≡ n + n * (n + 1) / 2 + n + 1
-steps_are n = go (spectrum_steps n) (n * (n + 1)) (n * (n + 1) / 2) n (spectrum_steps_twice n) refl
+steps_are : (n : ℕ) → n + volume_steps n ≡ n + n * (n + 1) / 2 + n + 1
+steps_are n = go (volume_steps n) (n * (n + 1)) (n * (n + 1) / 2) n (volume_steps_twice n) refl
   where
-    go : (s m h n : ℕ) → 2 * s ≡ m + 4 * n + 2 → h ≡ m / 2 → s ≡ n + h + n + 1
+    go : (s m h n : ℕ) → 2 * s ≡ m + 2 * n + 2 → h ≡ m / 2 → n + s ≡ n + h + n + 1
     go s m h n twice is = omega arith
 
 few_by_boxes : (n : ℕ) → 3 * n + 1 ≤ n + n * (n + 1) / 2 + n + 1
@@ -360,9 +429,9 @@ told_by_boxes b levels p tells = record {
   boxed = λ box fills holds. tells.count;
 }
 
-pub told_by_turns : (b : List Offset) (levels : ℕ) (p : Plan) → ((box : OffsetBox) → FillsBox box b → HoldsOrigin b → ⊥) → Tells p (spectrum_steps levels) (spectrum b levels) → TellsSpectrum b levels p
+pub told_by_turns : (b : List Offset) (levels : ℕ) (p : Plan) → ((box : OffsetBox) → FillsBox box b → HoldsOrigin b → ⊥) → Tells p (levels + volume_steps levels) (spectrum b levels) → TellsSpectrum b levels p
 told_by_turns b levels p no_box tells = record {
-  tells = same_length p (spectrum_steps levels) (spectrum b levels) tells;
+  tells = same_length p (levels + volume_steps levels) (spectrum b levels) tells;
   few = (let are = steps_are levels in let is = tells.count in omega arith);
   boxed = λ box fills holds. absurd (no_box box fills holds);
 }

@@ -1,5 +1,5 @@
 -- What stands after some turns of a plan (own).
-use Rattle.std.specs.Prelude.{ℕ, zero, suc, ◌≡◌, ◌+◌, ◌-◌, ◌*◌, ◌/◌, ◌≤◌, ◌⊎◌, List, Option, Some, None, length}
+use Rattle.std.specs.Prelude.{ℕ, zero, suc, ◌≡◌, ◌+◌, ◌-◌, ◌*◌, ◌/◌, ◌<◌, ◌≤◌, ◌⊎◌, List, [], Option, Some, None, length}
 use Rattle.mw_model.specs.declared.shapes.Kind.TheVariants.{Grey}
 use Rattle.mw_model.specs.declared.places.Offset.{Offset}
 use Rattle.mw_model.specs.declared.places.OffsetBox.{OffsetBox}
@@ -20,6 +20,19 @@ use Rattle.mw_gran.specs.Growing.{IsSound, Shows, Counts}
 pub record Slides (b : List Offset) (erode dilate : PlanStep) : Type 0 where
   pub erodes : ActsAs erode (erosion b)
   pub dilates : ActsAs dilate (dilation (negated b))
+
+-- where is read what n erosions leave of the image, in a plan that begins with them
+abbrev pub after_erosions : ℕ → Source
+after_erosions zero = FromInput 0
+after_erosions (suc n) = FromStep n
+
+-- a plan of n erosions, each of what the one before it leaves; they read the image, if there are any
+pub record Erodes (b : List Offset) (n : ℕ) (p : Plan) : Type 0 where
+  pub count : length p ≡ n
+  pub sound : IsSound IsPicture p
+  pub read : (after_erosions n ≡ FromInput 0) ⊎ IsReadBy p 0
+  pub shows : (k : ℕ) → k ≤ n → Shows IsPicture p (after_erosions k) (times k (erosion b))
+  pub counts : Counts IsPicture p (λ f. [])
 
 -- a plan of so many steps whose last plane is this operator of each image that fits
 pub record Draws (Fits : Picture → Type 0) (p : Plan) (steps : ℕ) (operator : Picture → Picture) : Type 0 where
@@ -42,11 +55,11 @@ abbrev pub AreMarks : List Offset → ℕ → ℕ → Plan → Option Read → T
 AreMarks b depth n p (Some m) = Shows IsSet p (source m) (marked b depth n)
 AreMarks b depth n p None = n ≡ 0
 
--- n turns of a skeleton of this depth: the image is read, or this is the image; what is left of it, and the marks so far
-pub record MarksResidues (b : List Offset) (depth n : ℕ) (p : Plan) (eroded : Source) (marks : Option Read) : Type 0 where
+-- n turns of a skeleton of this depth, behind its erosions: those, and the marks so far
+pub record MarksResidues (b : List Offset) (depth n : ℕ) (p : Plan) (marks : Option Read) : Type 0 where
   pub sound : IsSound IsSet p
-  pub read : (eroded ≡ FromInput 0) ⊎ IsReadBy p 0
-  pub shows_eroded : Shows IsSet p eroded (times n (erosion b))
+  pub read : (after_erosions depth ≡ FromInput 0) ⊎ IsReadBy p 0
+  pub shows_eroded : (k : ℕ) → k ≤ depth → Shows IsSet p (after_erosions k) (times k (erosion b))
   pub are_marks : AreMarks b depth n p marks
 
 -- what m turns restore of the marks above n
@@ -54,12 +67,20 @@ unfoldable pub restored : List Offset → ℕ → ℕ → Picture → Picture
 restored b n zero g = level_set (n + 1) g
 restored b n (suc m) g = union (restored b n m g) (times (suc m) (dilation (negated b)) (level_set (n + m + 2) g))
 
--- m turns of a restoration, and n to come
-pub record Restores (b : List Offset) (n m : ℕ) (p : Plan) (s : Source) : Type 0 where
-  pub count : length p ≡ 3 * m + 1
+-- a plan of the sets of the first n levels, rising
+pub record HasLevels (n : ℕ) (p : Plan) : Type 0 where
+  pub count : length p ≡ n
+  pub sound : IsSound IsPicture p
+  pub read : 0 < n → IsReadBy p 0
+  pub shows : (k : ℕ) → k < n → Shows IsPicture p (FromStep k) (level_set (k + 1))
+
+-- m turns of a restoration of this depth, behind the sets of its levels, and n to come
+pub record Restores (b : List Offset) (depth n m : ℕ) (p : Plan) (s : Source) : Type 0 where
+  pub count : length p ≡ depth + 1 + 2 * m
   pub sound : IsSound IsPicture p
   pub read : IsReadBy p 0
   pub last : s ≡ FromStep (length p - 1)
+  pub levels : (k : ℕ) → k ≤ depth → Shows IsPicture p (FromStep k) (level_set (k + 1))
   pub shows : Shows IsPicture p s (restored b n m)
 
 -- a plan of so many steps with these numbers
@@ -73,15 +94,15 @@ pub record Tells (p : Plan) (steps : ℕ) (numbers : Picture → List ℕ) : Typ
 abbrev pub StillShown : Plan → Plan → Type 0
 StillShown p q = (s : Source) (operator : Picture → Picture) → Shows IsPicture p s operator → Shows IsPicture q s operator
 
--- the steps of n turns of a spectrum
-abbrev pub spectrum_steps : ℕ → ℕ
-spectrum_steps zero = 1
-spectrum_steps (suc n) = spectrum_steps n + n + 3
+-- the steps of n turns of a spectrum, behind its erosions
+abbrev pub volume_steps : ℕ → ℕ
+volume_steps zero = 1
+volume_steps (suc n) = volume_steps n + n + 2
 
--- n turns of a spectrum: what is left of the image, and the volumes so far
-pub record TellsVolumes (b : List Offset) (n : ℕ) (p : Plan) (eroded : Source) : Type 0 where
-  pub tells : Tells p (spectrum_steps n) (spectrum b n)
-  pub shows : Shows IsPicture p eroded (times n (erosion b))
+-- n turns of a spectrum of this depth: its erosions, and the volumes so far
+pub record TellsVolumes (b : List Offset) (depth n : ℕ) (p : Plan) : Type 0 where
+  pub tells : Tells p (depth + volume_steps n) (spectrum b n)
+  pub shows : (k : ℕ) → k ≤ depth → Shows IsPicture p (after_erosions k) (times k (erosion b))
 
 -- a plan with the volumes as its numbers; by a full rectangle that holds its origin it has three steps for each volume but the first
 pub record TellsSpectrum (b : List Offset) (levels : ℕ) (p : Plan) : Type 0 where

@@ -9,6 +9,7 @@
 
 mod boxes;
 mod curves;
+mod eroding;
 mod growing;
 pub mod laws;
 mod plans;

@@ -1,12 +1,12 @@
 //! Skeletons, after Lantuejoul: the residues of the erosions.
 //!
-//! Each turn takes three steps: the next erosion, its dilation, which is the opening of what was left, and the marks of
-//! what the opening has lost. So no erosion is made twice.
+//! All erosions come first (`erosions` says why), and then the turns. A turn takes two steps: the dilation of its erosion,
+//! which is the opening of what was left before, and the marks of what the opening has lost. So no erosion is made twice.
 //!
 //! The empty marks come just before the first marks, which are put into them. Of all ready tasks those of the latest step
 //! are taken first: at the head of the plan the empty marks would be taken last of all, and all marks wait for them.
 
-ghost use Rattle.std.specs.Prelude.{◌≡◌, ◌+◌, ◌*◌, ◌<◌, ◌≤◌, ℕ, List, length, IfOk};
+ghost use Rattle.std.specs.Prelude.{◌≡◌, ◌+◌, ◌*◌, ◌<◌, ◌≤◌, ℕ, List, Some, length, IfOk};
 ghost use Rattle.mw_model.specs.declared.places.Offset.{Offset};
 ghost use Rattle.mw_model.specs.Iterates.{skeleton};
 ghost use Rattle.mw_model.specs.Pictures.{IsSet};
@@ -15,18 +15,12 @@ ghost use Rattle.mw_plan.specs.Seen.{source};
 ghost use Rattle.mw_gran.specs.Growing.{GoesOn, Shows};
 ghost use Rattle.mw_gran.specs.Turns.{AreMarks, Draws, MarksResidues, Slides, marked, steps_to_marks};
 
+use crate::eroding::{eroded, erosions};
 use crate::growing::add;
 use crate::sliding::SlidingSteps;
 use mw_model::NoMemory;
 use mw_plan::{Plan, Source, Sources, Step};
 use std::alloc::Global;
-
-/// Where the last erosion and the marks so far are read: no marks before the first turn.
-#[derive(Clone, Copy)]
-struct Stand {
-    eroded: Source,
-    marks: Option<Source>,
-}
 
 /// The marks so far, or the empty marks.
 fn marks_or_blank(plan: &mut Plan, marks: Option<Source>, levels: u16) -> Result<Source, NoMemory>
@@ -42,29 +36,25 @@ fn marks_or_blank(plan: &mut Plan, marks: Option<Source>, levels: u16) -> Result
     }
 }
 
-/// One turn, behind n others.
+/// One turn, behind n others: where its marks are read.
 fn turn(
     plan: &mut Plan,
     steps: &SlidingSteps,
-    before: Stand,
+    marks: Option<Source>,
     levels: u16,
     n: u16,
-) -> Result<Stand, NoMemory>
+) -> Result<Source, NoMemory>
     requires few { length plan.old < 65000 }
     requires small { levels ≤ 254 }
     requires below { n < levels }
-    ensures count { IfOk result (λ t. length plan.new + steps_to_marks t.marks ≡ length plan.old + steps_to_marks before.marks + 3) }
-    ensures marks { (b : List Offset) → Slides b (meaning steps.now.erode) (meaning steps.now.dilate) → MarksResidues b levels n plan.old (source before.eroded) before.marks → IfOk result (λ t. MarksResidues b levels (n + 1) plan.new (source t.eroded) t.marks) }
+    ensures count { IfOk result (λ _. length plan.new ≡ length plan.old + steps_to_marks marks + 2) }
+    ensures marks { (b : List Offset) → Slides b (meaning steps.now.erode) (meaning steps.now.dilate) → MarksResidues b levels n plan.old marks → IfOk result (λ m. MarksResidues b levels (n + 1) plan.new (Some m)) }
 {
-    let eroded = add(plan, steps.erode.share()?, Sources::One(before.eroded))?;
-    let opened = add(plan, steps.dilate.share()?, Sources::One(eroded))?;
-    let marks = marks_or_blank(plan, before.marks, levels)?;
-    let sources = Sources::Three(marks, before.eroded, opened);
+    let opened = add(plan, steps.dilate.share()?, Sources::One(eroded(n + 1)))?;
+    let blank = marks_or_blank(plan, marks, levels)?;
+    let sources = Sources::Three(blank, eroded(n), opened);
     let more = add(plan, Step::Mark(n + 1), sources)?;
-    Ok(Stand {
-        eroded,
-        marks: Some(more),
-    })
+    Ok(more)
 }
 
 /// The plan of a skeleton.
@@ -72,16 +62,14 @@ pub(crate) fn skeleton(alloc: Global, steps: &SlidingSteps, levels: u16) -> Resu
     requires { levels ≤ 254 }
     ensures { (b : List Offset) → Slides b (meaning steps.now.erode) (meaning steps.now.dilate) → IfOk result (λ p. Draws IsSet p (3 * levels + 2) (skeleton b levels)) }
 {
-    let mut plan = Plan::with_capacity(alloc, 3 * usize::from(levels) + 2)?;
-    let mut last = Stand {
-        eroded: Source::Input(0),
-        marks: None,
-    };
+    let mut plan = erosions(alloc, steps, levels, 3 * usize::from(levels) + 2)?;
+    let mut last = None;
     for n in 0..levels {
-        last = turn(&mut plan, steps, last, levels, n)?;
+        let more = turn(&mut plan, steps, last, levels, n)?;
+        last = Some(more);
     }
-    let marks = marks_or_blank(&mut plan, last.marks, levels)?;
-    let sources = Sources::Two(marks, last.eroded);
+    let marks = marks_or_blank(&mut plan, last, levels)?;
+    let sources = Sources::Two(marks, eroded(levels));
     add(&mut plan, Step::MarkLast(levels + 1), sources)?;
     Ok(plan)
 }

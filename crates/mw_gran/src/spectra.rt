@@ -1,7 +1,7 @@
 //! Spectra of granulometries, after Matheron: the volumes of the openings by more and more erosions.
 //!
-//! An erosion goes on from the one before it. Its dilations do not, save for full rectangles that hold their origin,
-//! whose n dilations are one by a box (`by_boxes`).
+//! An erosion goes on from the one before it, and all of them come first (`erosions` says why). Its dilations do not go on,
+//! save for full rectangles that hold their origin, whose n dilations are one by a box (`by_boxes`).
 
 ghost use Rattle.std.specs.Prelude.{◌≡◌, ◌+◌, ◌*◌, ◌/◌, ◌<◌, ◌≤◌, ℕ, List, length, IfOk};
 ghost use Rattle.std.specs.Arc.{arc_value};
@@ -16,9 +16,10 @@ ghost use Rattle.mw_task.specs.Meanings.{meaning};
 ghost use Rattle.mw_plan.specs.Seen.{source};
 ghost use Rattle.mw_plan.specs.Steps.{IsNearBox};
 ghost use Rattle.mw_gran.specs.Growing.{Shows};
-ghost use Rattle.mw_gran.specs.Turns.{Slides, StillShown, Tells, TellsSpectrum, TellsVolumes, spectrum_steps};
+ghost use Rattle.mw_gran.specs.Turns.{Slides, StillShown, Tells, TellsSpectrum, TellsVolumes, volume_steps};
 
 use crate::boxes::multiplied;
+use crate::eroding::{eroded, erosions};
 use crate::growing::add;
 use crate::sliding::{SlidingSteps, rectangle_with_origin, sliding_steps};
 use mw_element::Element;
@@ -42,31 +43,30 @@ fn dilated(plan: &mut Plan, steps: &SlidingSteps, from: Source, n: u32) -> Resul
     Ok(grown)
 }
 
-/// One turn, behind n others: the next erosion, as many dilations, and their sum.
-fn turn(plan: &mut Plan, steps: &SlidingSteps, eroded: Source, n: u32) -> Result<Source, NoMemory>
+/// One turn, behind n others: as many dilations of the next erosion as it has erosions, and their sum.
+fn turn(plan: &mut Plan, steps: &SlidingSteps, n: u32) -> Result<(), NoMemory>
     requires few { length plan.old < 64000 }
     requires small { n < 32 }
-    ensures count { IfOk result (λ _. length plan.new ≡ length plan.old + n + 3) }
-    ensures tells { (b : List Offset) → Slides b (meaning steps.now.erode) (meaning steps.now.dilate) → TellsVolumes b n plan.old (source eroded) → IfOk result (λ s. TellsVolumes b (n + 1) plan.new (source s)) }
+    ensures count { IfOk result (λ _. length plan.new ≡ length plan.old + n + 2) }
+    ensures tells { (b : List Offset) (depth : ℕ) → Slides b (meaning steps.now.erode) (meaning steps.now.dilate) → n < depth → TellsVolumes b depth n plan.old → IfOk result (λ _. TellsVolumes b depth (n + 1) plan.new) }
 {
-    let next = add(plan, steps.erode.share()?, Sources::One(eroded))?;
+    let next = eroded((n + 1) as u16);
     let opened = dilated(plan, steps, next, n + 1)?;
     add(plan, Step::Sum, Sources::One(opened))?;
-    Ok(next)
+    Ok(())
 }
 
 /// The plan of a spectrum by any element.
 fn by_turns(alloc: Global, steps: &SlidingSteps, levels: u32) -> Result<Plan, NoMemory>
     requires { levels ≤ 32 }
-    ensures { (b : List Offset) → Slides b (meaning steps.now.erode) (meaning steps.now.dilate) → IfOk result (λ p. Tells p (spectrum_steps levels) (spectrum b levels)) }
+    ensures { (b : List Offset) → Slides b (meaning steps.now.erode) (meaning steps.now.dilate) → IfOk result (λ p. Tells p (levels + volume_steps levels) (spectrum b levels)) }
 {
     let n = levels as usize;
     let count = 2 * n + n * (n + 1) / 2 + 1;
-    let mut plan = Plan::with_capacity(alloc, count)?;
+    let mut plan = erosions(alloc, steps, levels as u16, count)?;
     add(&mut plan, Step::Sum, Sources::One(Source::Input(0)))?;
-    let mut eroded = Source::Input(0);
     for n in 0..levels {
-        eroded = turn(&mut plan, steps, eroded, n)?;
+        turn(&mut plan, steps, n)?;
     }
     Ok(plan)
 }

@@ -1,4 +1,4 @@
-//! How many steps plans have, and where the empty marks stand among them.
+//! How many steps plans have, and what stands before all turns.
 
 use crate::given::{bar, planned, restore, sides, skeleton, spectrum};
 use mw_gran::GranOp;
@@ -47,8 +47,72 @@ fn fewer_steps_for_spectra_by_rectangles(rt: HostRuntime) -> Result<(), Fail> {
     Ok(())
 }
 
+/// Whether the step is an erosion.
+fn erodes(step: &Step) -> bool {
+    matches!(step, Step::Erode(_) | Step::ErodeBox(_))
+}
+
+/// Stops where not so many erosions are the first steps of the plan, or one comes later.
+fn begins_with_erosions(
+    rt: &impl Abort,
+    alloc: Global,
+    op: GranOp,
+    element: &Arc<Element>,
+    count: usize,
+) -> Result<(), Fail> {
+    let set = bit_row(alloc, &[0, 1, 1, 1, 0])?;
+    let plan = planned(alloc, &op, &set, element);
+    let plan = plan.ok().ok_or("there is a plan")?;
+    for (place, planned) in plan.steps().iter().enumerate() {
+        let here = erodes(&planned.step);
+        assert!(rt; here == (place < count), "{op:?}, step {place}");
+    }
+    Ok(())
+}
+
 #[test]
-fn empty_marks_stand_third(rt: HostRuntime) -> Result<(), Fail> {
+fn erosions_stand_before_the_turns(rt: HostRuntime) -> Result<(), Fail> {
+    let alloc = rt.alloc();
+    let (bar, sides) = (bar(alloc)?, sides(alloc)?);
+    for (levels, count) in [(1, 1), (2, 2), (10, 10)] {
+        begins_with_erosions(&rt, alloc, skeleton(levels)?, &bar, count)?;
+        begins_with_erosions(&rt, alloc, spectrum(levels)?, &sides, count)?;
+    }
+    Ok(())
+}
+
+/// The level that the step marks.
+fn level_of(step: &Step) -> Option<u16> {
+    match step {
+        Step::Equal(level) => Some(*level),
+        _ => None,
+    }
+}
+
+#[test]
+fn levels_rise_before_the_turns(rt: HostRuntime) -> Result<(), Fail> {
+    let alloc = rt.alloc();
+    let (bar, set) = (bar(alloc)?, bit_row(alloc, &[0, 1, 1, 1, 0])?);
+    for levels in [1, 2, 10] {
+        let plan = planned(alloc, &restore(levels)?, &set, &bar);
+        let plan = plan.ok().ok_or("there is a plan")?;
+        for (place, planned) in plan.steps().iter().enumerate() {
+            let wanted = if place <= levels as usize {
+                u16::try_from(place + 1).ok()
+            } else {
+                None
+            };
+            assert!(rt;
+                level_of(&planned.step) == wanted,
+                "step {place} of {levels} levels"
+            );
+        }
+    }
+    Ok(())
+}
+
+#[test]
+fn empty_marks_stand_before_the_first_marks(rt: HostRuntime) -> Result<(), Fail> {
     let alloc = rt.alloc();
     let (bar, set) = (bar(alloc)?, bit_row(alloc, &[0, 1, 1, 1, 0])?);
     for levels in [1, 2, 10] {
@@ -56,7 +120,8 @@ fn empty_marks_stand_third(rt: HostRuntime) -> Result<(), Fail> {
         let plan = plan.ok().ok_or("there is a plan")?;
         for (place, planned) in plan.steps().iter().enumerate() {
             let blank = matches!(&planned.step, Step::Blank(_));
-            assert!(rt; blank == (place == 2), "step {place} of {levels} levels");
+            let wanted = place == levels as usize + 1;
+            assert!(rt; blank == wanted, "step {place} of {levels} levels");
         }
     }
     Ok(())

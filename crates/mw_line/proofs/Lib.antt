@@ -6,6 +6,7 @@ pub mod Padded
 pub mod Rows
 pub mod Tiles
 -- the crate's own
+mod Cut
 mod Seen
 mod SlidRows
 mod Spans

@@ -1,8 +1,8 @@
 //! Sliding extrema: along a line, with a count of its combines, and over rectangles on a window.
 //!
 //! Both give the extremum of the neutral sample and the samples that exist, for every length, origin and direction. Lines
-//! go by forward and backward passes over blocks (van Herk 1992, Gil and Werman 1993), in at most 3n + 4k combines;
-//! rectangles go by doubling with shifted rows, by vector code, and columns grow as their rows are made.
+//! go by forward and backward passes over blocks (van Herk 1992, Gil and Werman 1993), in at most 3n + k combines, of which
+//! each is counted; rectangles go by doubling with shifted rows, by vector code, and columns grow as their rows are made.
 //!
 //! ```text
 //! line::<u8, Min>(alloc, &row, -7, 7, maxval, &mut out, &mut steps)?;   // out[i] = min of row[i - 7 ..= i + 7]

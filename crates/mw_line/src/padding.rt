@@ -1,11 +1,20 @@
 //! A line with neutral samples before and after it, so that each place has all of its neighbours.
 ghost use Rattle.std.specs.Prelude.{◌≡◌, ℕ, ◌+◌, ◌*◌, ◌<◌, ◌≤◌, ◌^◌, ◌≤ℤ◌, ◌+ℤ◌, pos, ◌++◌, length, drop, min, replicate, IfOk};
 ghost use lib.IntN.{neg_ℤ};
+ghost use Rattle.mw_line.specs.Line.{cut_to};
 ghost use Rattle.mw_model.specs.Places.{nonnegative, span};
 
 use crate::NoMemory;
 use mw_pixel::{Pixel, copies};
 use std::alloc::Global;
+
+/// An end of a bar, cut to a line of n samples: from further on than n places no sample is seen.
+pub(crate) fn cut_to(n: usize, end: i32) -> i32
+    ensures { result ≡ cut_to n end }
+{
+    let most = n.min(1 << 31) as i64;
+    i64::from(end).min(most).max(-most) as i32
+}
 
 /// How many places a window has before its own.
 pub(crate) fn places_before(a: i32) -> usize

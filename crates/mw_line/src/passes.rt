@@ -1,5 +1,6 @@
 //! The passes over blocks, after van Herk (1992) and Gil and Werman (1993).
 ghost use Rattle.std.specs.Prelude.{◌≡◌, ℕ, ◌+◌, ◌*◌, ◌<◌, ◌≤◌, ◌^◌, length, drop, take, fold, slice_index_or, slice_range};
+ghost use Rattle.mw_line.specs.Line.{combines};
 
 use crate::steps::Counted;
 
@@ -56,8 +57,7 @@ pub(crate) fn slide<P: Copy, C: Counted<P>>(
     requires wide { length out.old + k ≤ length padded.now }
     requires room { C.count counter.old + (3 * length out.old + k) < 2 ^ 64 }
     ensures value { (i : ℕ) → i < length out.old → slice_index_or out.new i neutral ≡ fold C.merge neutral (slice_range padded.now i (i + k)) }
-    ensures cost { C.count counter.new ≤ C.count counter.old + (3 * length out.old + k) }
-    ensures counted { C.count counter.old + 3 * length out.old ≤ C.count counter.new }
+    ensures counted { C.count counter.new ≡ C.count counter.old + combines (length out.old) k }
 {
     let mut at = 0usize;
     'chunks: while at < out.len() {

@@ -86,8 +86,8 @@ fn lines(rt: HostRuntime) -> Result<(), Fail> {
         line::<u8, Min>(rt.alloc(), &FIVE, -1, 1, 9, &mut out, &mut steps)?;
     }
     assert_eq!(rt; out, [1, 1, 1, 1, 1]);
-    // at least three combines a sample, and at most three a sample and four a place of the bar
-    assert!(rt; 115 <= steps.count && steps.count <= 127);
+    // two blocks of three places, and two combines for each of five samples
+    assert_eq!(rt; steps.count, 116);
     Ok(())
 }
 

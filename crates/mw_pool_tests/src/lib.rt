@@ -1,5 +1,6 @@
-//! Tests of the board: what no contract of a running thread can say. Workers overlap, waits end, the board hands on the
-//! pixels that it was given, and many sessions at once are one history. Each test ends by itself, whatever the schedule.
+//! Tests of the board: what no contract of a running thread can say. Workers overlap, waits end, and the board hands on
+//! the pixels that it was given. Some tests are named by the wrong board that they would find. Each ends by itself,
+//! whatever the schedule.
 //!
 //! ```text
 //! rt test     // in this folder
@@ -9,11 +10,7 @@
 #[cfg(test)]
 mod desk;
 #[cfg(test)]
-mod history;
-#[cfg(test)]
 mod lent;
-#[cfg(test)]
-mod many;
 #[cfg(test)]
 mod overlap;
 #[cfg(test)]

@@ -1,13 +1,15 @@
 //! Workers compute beside one another, without the lock.
 
-use crate::desk::{DILATED, ERODED, Stop, dilate, erode, fetch, load_both, name, new_board};
-use mw_model::{Kind, Reply, Shape};
+use crate::desk::{
+    DILATED, ERODED, dilation, done, erosion, fetch, load_both, new_board, run, wait,
+};
+use mw_model::Reply;
 use mw_pool::{Board, Gate, Pass, work};
 use mw_task::{TaskRefused, TileDone, Work};
 use std::alloc::Global;
+use std::process::Abort;
 use std::sync::Wait;
 use std::sync::atomic::{AtomicU64, Ordering};
-use std::test::Fail;
 use std::thread;
 use std::thread::Threads;
 
@@ -54,47 +56,48 @@ impl Gate for Meeting {
 }
 
 /// Waits for both entries, and closes the board.
-fn wait_for_both<R: Wait>(rt: &R, board: &Board, pass: &mut Pass) -> Result<(Reply, Reply), Stop> {
-    let d = board.wait(rt, pass, name(b"d")?)?;
-    let e = board.wait(rt, pass, name(b"e")?)?;
-    Ok((d, e))
+fn wait_for_both<R: Wait + Abort>(rt: &R, board: &Board, pass: &mut Pass) -> (Reply, Reply) {
+    let d = wait(rt, board, pass, b"d");
+    let e = wait(rt, board, pass, b"e");
+    board.close(rt);
+    (d, e)
 }
 
-fn meet<R: Threads + Wait + Sync>(
+fn meet<R: Threads + Wait + Abort + Sync>(
     rt: &R,
     board: &Board,
     gate: &Meeting,
     pass: &mut Pass,
-) -> Result<(Reply, Reply), Stop> {
+) -> (Reply, Reply) {
     thread::scope(thread::scope_env(), rt, |scope| {
         for _ in 0..2u8 {
             let _ = scope.spawn(move || work(rt, board, gate));
         }
-        let replies = wait_for_both(rt, board, pass);
-        board.close(rt);
-        replies
+        wait_for_both(rt, board, pass)
     })
 }
 
-fn done(t: u32) -> Reply {
-    Reply::Done(t, Shape::Image(Kind::Grey, 5, 1, 9))
+/// An erosion and a dilation, which wait for workers.
+fn lay_out<R: Wait + Abort>(rt: &R, board: &Board) -> Pass {
+    let mut pass = board.pass();
+    load_both(rt, board, &mut pass);
+    run(rt, board, &mut pass, b"d", erosion(rt));
+    run(rt, board, &mut pass, b"e", dilation(rt));
+    pass
 }
 
+/// So no board computes under its lock, or has one worker for all.
 #[test]
-fn two_workers_overlap(rt: HostRuntime) -> Result<(), Fail> {
+fn two_workers_overlap(rt: HostRuntime) {
     let alloc = rt.alloc();
-    let board = new_board(alloc)?;
+    let board = new_board(&rt, alloc);
     let gate = Meeting::new(alloc);
-    let mut pass = board.pass();
-    load_both(&rt, &board, &mut pass)?;
-    erode(&rt, &board, &mut pass, b"d")?;
-    dilate(&rt, &board, &mut pass, b"e")?;
-    let replies = meet(&rt, &board, &gate, &mut pass)?;
+    let mut pass = lay_out(&rt, &board);
+    let replies = meet(&rt, &board, &gate, &mut pass);
     assert_eq!(rt; replies, (done(2), done(3)));
     assert_eq!(rt; gate.limit_met.load(Ordering::SeqCst), 0);
-    let eroded = fetch(&rt, alloc, &board, &mut pass, b"d")?;
+    let eroded = fetch(&rt, alloc, &board, &mut pass, b"d");
     assert_eq!(rt; eroded.as_slice(), ERODED);
-    let dilated = fetch(&rt, alloc, &board, &mut pass, b"e")?;
+    let dilated = fetch(&rt, alloc, &board, &mut pass, b"e");
     assert_eq!(rt; dilated.as_slice(), DILATED);
-    Ok(())
 }

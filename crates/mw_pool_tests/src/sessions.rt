@@ -1,21 +1,23 @@
-//! Two sessions, and a board that is closed under one.
+//! One session or two, and a board that is closed under one.
 
-use crate::desk::{ERODED, Kernels, Stop, erode, fetch, is_covered, load_both, name, new_board};
-use mw_model::{Kind, Reply, Shape};
+use crate::desk::{
+    ERODED, Kernels, LOADED, both, done, erosion, fetch, load_both, name, new_board, run, wait,
+};
+use mw_model::Reply;
 use mw_pool::{Board, Pass, work};
 use std::alloc::Global;
+use std::process::Abort;
 use std::sync::Wait;
-use std::test::Fail;
-use std::thread;
 use std::thread::{Threads, join};
+use std::{slice, thread};
 
 /// One session: an erosion that no worker takes is waited for.
-fn wait_for_erosion<R: Wait>(rt: &R, board: &Board) -> Result<(Pass, Reply), Stop> {
+fn wait_for_erosion<R: Wait + Abort>(rt: &R, board: &Board) -> (Pass, Reply) {
     let mut pass = board.pass();
-    load_both(rt, board, &mut pass)?;
-    erode(rt, board, &mut pass, b"e")?;
-    let reply = board.wait(rt, &mut pass, name(b"e")?)?;
-    Ok((pass, reply))
+    load_both(rt, board, &mut pass);
+    run(rt, board, &mut pass, b"e", erosion(rt));
+    let reply = wait(rt, board, &mut pass, b"e");
+    (pass, reply)
 }
 
 /// Closes the board once the other thread has had time to wait.
@@ -27,104 +29,127 @@ fn close_later<R: Wait>(rt: &R, board: &Board) {
 }
 
 #[test]
-fn close_ends_a_wait(rt: HostRuntime) -> Result<(), Fail> {
-    let alloc = rt.alloc();
-    let board = new_board(alloc)?;
+fn close_ends_a_wait(rt: HostRuntime) {
+    let board = new_board(&rt, rt.alloc());
     let (host, shared) = (&rt, &board);
-    let (session, ()) = join(
+    let ((pass, reply), ()) = join(
         &rt,
         move || wait_for_erosion(host, shared),
         move || close_later(host, shared),
     );
-    let (pass, reply) = session?;
-    assert_eq!(rt; reply, Reply::Pending(2));
-    assert_eq!(rt; pass.receipts().len(), 4);
-    assert!(rt; is_covered(&rt, alloc, &board, pass, None)?);
-    Ok(())
+    assert_eq!(rt; (reply, pass.receipts().len()), (Reply::Pending(2), 4));
+    assert!(rt; board.audit_all(&rt, slice::from_ref(&pass)));
+}
+
+fn cancel<R: Wait + Abort>(rt: &R, board: &Board, pass: &mut Pass) -> Reply {
+    let e = name(rt, b"e");
+    board.cancel(rt, pass, e).expect(rt, "memory")
+}
+
+/// One session on a board without workers, which is closed at its end.
+fn without_workers<R: Wait + Abort>(rt: &R, board: &Board, pass: &mut Pass) -> [Reply; 5] {
+    load_both(rt, board, pass);
+    let first = run(rt, board, pass, b"e", erosion(rt));
+    let cancelled = cancel(rt, board, pass);
+    let waited = wait(rt, board, pass, b"e");
+    let second = run(rt, board, pass, b"g", erosion(rt));
+    board.close(rt);
+    let pending = wait(rt, board, pass, b"g");
+    [first, cancelled, waited, second, pending]
+}
+
+/// A wait ends for an entry that is cancelled, and at once on a closed board.
+#[test]
+fn waits_end_without_workers(rt: HostRuntime) {
+    let board = new_board(&rt, rt.alloc());
+    let mut pass = board.pass();
+    let replies = without_workers(&rt, &board, &mut pass);
+    let wanted = [
+        Reply::Accepted(2),
+        Reply::Accepted(2),
+        Reply::Cancelled(2),
+        Reply::Accepted(3),
+        Reply::Pending(3),
+    ];
+    assert_eq!(rt; replies, wanted);
+    assert_eq!(rt; pass.receipts().len(), 7);
+    assert!(rt; !board.audit_all(&rt, &[]));
+    assert!(rt; board.audit_all(&rt, slice::from_ref(&pass)));
 }
 
 /// A session that loads the row.
-fn load_session<R: Wait>(rt: &R, board: &Board) -> Result<Pass, Stop> {
+fn load_session<R: Wait + Abort>(rt: &R, board: &Board) -> Pass {
     let mut pass = board.pass();
-    load_both(rt, board, &mut pass)?;
-    Ok(pass)
+    load_both(rt, board, &mut pass);
+    pass
 }
 
 /// A session that asks how the row stands.
-fn status_session<R: Wait>(rt: &R, board: &Board) -> Result<(Pass, Reply), Stop> {
+fn status_session<R: Wait + Abort>(rt: &R, board: &Board) -> (Pass, Reply) {
     let mut pass = board.pass();
-    let reply = board.status(rt, &mut pass, name(b"f")?)?;
-    Ok((pass, reply))
+    let reply = board.status(rt, &mut pass, name(rt, b"f"));
+    (pass, reply.expect(rt, "memory"))
 }
 
-/// Two sessions in threads of their own, one after the other.
-fn two_sessions<R: Threads + Wait + Sync>(
-    rt: &R,
-    board: &Board,
-) -> Result<(Pass, Pass, Reply), Stop> {
+/// Two sessions in threads of their own, one after the other, and what the second is told.
+fn two_sessions<R: Threads + Wait + Abort + Sync>(rt: &R, board: &Board) -> (Pass, Pass, Reply) {
     let (one, ()) = join(rt, move || load_session(rt, board), || ());
-    let (two, ()) = join(rt, move || status_session(rt, board), || ());
-    let (two, reply) = two?;
-    Ok((one?, two, reply))
+    let ((two, reply), ()) = join(rt, move || status_session(rt, board), || ());
+    (one, two, reply)
 }
 
-/// What one session did is what another is told, and the log has the calls of both: so it is no board that answers
-/// without asking its core, or that has a core for each pass.
+/// The log has the calls of both passes, and not those of one alone: a board that answers without asking its core fails.
 #[test]
-fn passes_share_one_core(rt: HostRuntime) -> Result<(), Fail> {
-    let alloc = rt.alloc();
-    let board = new_board(alloc)?;
-    let (one, two, reply) = two_sessions(&rt, &board)?;
-    assert_eq!(rt; reply, Reply::Done(0, Shape::Image(Kind::Grey, 5, 1, 9)));
-    assert!(rt; is_covered(&rt, alloc, &board, one, Some(two))?);
-    Ok(())
+fn reply_without_asking_core(rt: HostRuntime) {
+    let board = new_board(&rt, rt.alloc());
+    let (one, two, _) = two_sessions(&rt, &board);
+    assert!(rt; !board.audit_all(&rt, slice::from_ref(&one)));
+    assert!(rt; !board.audit_all(&rt, slice::from_ref(&two)));
+    assert!(rt; board.audit_all(&rt, &both(&rt, rt.alloc(), one, two)));
 }
 
+/// What one session did is what another is told: a board with a core for each pass fails.
 #[test]
-fn one_pass_alone_covers_nothing(rt: HostRuntime) -> Result<(), Fail> {
-    let alloc = rt.alloc();
-    let board = new_board(alloc)?;
-    let (one, _, _) = two_sessions(&rt, &board)?;
-    assert!(rt; !is_covered(&rt, alloc, &board, one, None)?);
-    Ok(())
+fn core_for_each_pass(rt: HostRuntime) {
+    let board = new_board(&rt, rt.alloc());
+    let (one, two, reply) = two_sessions(&rt, &board);
+    assert_eq!(rt; reply, done(0));
+    assert!(rt; board.audit_all(&rt, &both(&rt, rt.alloc(), one, two)));
 }
 
-/// What is fetched is made from the bytes that were loaded.
-fn fetch_erosion<R: Wait>(
-    rt: &R,
-    alloc: Global,
-    board: &Board,
-    pass: &mut Pass,
-) -> Result<Vec<u8>, Stop> {
-    load_both(rt, board, pass)?;
-    erode(rt, board, pass, b"e")?;
-    board.wait(rt, pass, name(b"e")?)?;
-    fetch(rt, alloc, board, pass, b"e")
+/// A row is loaded and eroded, and both images are fetched.
+fn fetch_both<R: Wait + Abort>(rt: &R, alloc: Global, board: &Board) -> (Vec<u8>, Vec<u8>) {
+    let mut pass = board.pass();
+    load_both(rt, board, &mut pass);
+    run(rt, board, &mut pass, b"e", erosion(rt));
+    wait(rt, board, &mut pass, b"e");
+    let loaded = fetch(rt, alloc, board, &mut pass, b"f");
+    let eroded = fetch(rt, alloc, board, &mut pass, b"e");
+    (loaded, eroded)
 }
 
 /// A session beside one worker, which ends with it.
-fn served<R: Threads + Wait + Sync>(
+fn served<R: Threads + Wait + Abort + Sync>(
     rt: &R,
     alloc: Global,
     board: &Board,
-    pass: &mut Pass,
-) -> Result<Vec<u8>, Stop> {
+) -> (Vec<u8>, Vec<u8>) {
     let gate = Kernels { alloc };
     let door = &gate;
     thread::scope(thread::scope_env(), rt, |scope| {
         let _ = scope.spawn(move || work(rt, board, door));
-        let text = fetch_erosion(rt, alloc, board, pass);
+        let texts = fetch_both(rt, alloc, board);
         board.close(rt);
-        text
+        texts
     })
 }
 
+/// What is fetched is what was loaded, or was made of it: a board that hands on other pixels fails.
 #[test]
-fn pixels_are_handed_on(rt: HostRuntime) -> Result<(), Fail> {
+fn board_swaps_pixels(rt: HostRuntime) {
     let alloc = rt.alloc();
-    let board = new_board(alloc)?;
-    let mut pass = board.pass();
-    let text = served(&rt, alloc, &board, &mut pass)?;
-    assert_eq!(rt; text.as_slice(), ERODED);
-    Ok(())
+    let board = new_board(&rt, alloc);
+    let (loaded, eroded) = served(&rt, alloc, &board);
+    assert_eq!(rt; loaded.as_slice(), LOADED);
+    assert_eq!(rt; eroded.as_slice(), ERODED);
 }

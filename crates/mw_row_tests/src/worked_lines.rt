@@ -60,9 +60,9 @@ fn long_line<E: Extremum<u16>>(alloc: Global, neutral: u16) -> Result<([u16; 200
 }
 
 #[test]
-fn few_combines_by_the_least(rt: HostRuntime) -> Result<(), Fail> {
+fn combines_by_the_least(rt: HostRuntime) -> Result<(), Fail> {
     let (out, count) = long_line::<Min>(rt.alloc(), 255)?;
-    assert!(rt; count <= 1620);
+    assert_eq!(rt; count, 655);
     for (x, level) in out.iter().enumerate() {
         assert_eq!(rt; usize::from(*level), x.saturating_sub(127));
     }
@@ -70,12 +70,28 @@ fn few_combines_by_the_least(rt: HostRuntime) -> Result<(), Fail> {
 }
 
 #[test]
-fn few_combines_by_the_greatest(rt: HostRuntime) -> Result<(), Fail> {
+fn combines_by_the_greatest(rt: HostRuntime) -> Result<(), Fail> {
     let (out, count) = long_line::<Max>(rt.alloc(), 0)?;
-    assert!(rt; count <= 1620);
+    assert_eq!(rt; count, 655);
     for (x, level) in out.iter().enumerate() {
         assert_eq!(rt; usize::from(*level), x.saturating_add(127).min(199));
     }
+    Ok(())
+}
+
+#[test]
+fn bars_past_the_row(rt: HostRuntime) -> Result<(), Fail> {
+    let mut out = [7u8; 2];
+    let mut steps = Steps { count: 0 };
+    let alloc = rt.alloc();
+    line::<u8, Min>(alloc, &[3, 1], i32::MIN, i32::MAX, 9, &mut out, &mut steps)?;
+    assert_eq!(rt; out, [1, 1]);
+    // a block of five places, and two combines for each of two samples
+    assert_eq!(rt; steps.count, 9);
+    line::<u8, Min>(alloc, &[3, 1], i32::MIN, -3, 9, &mut out, &mut steps)?;
+    assert_eq!(rt; out, [9, 9]);
+    // two blocks of one place, and two combines for each of two samples
+    assert_eq!(rt; steps.count, 15);
     Ok(())
 }
 

@@ -2,8 +2,8 @@
 
 use std::alloc::{AllocError, Global};
 
-/// Tasks of a wave for each worker. A thread costs some 30 microseconds, and so do the tasks of a wave together that
-/// are small; with more tasks the answers of a wave are held longer before they are handed back.
+/// Tasks of a wave for each worker. Fewer would start threads more often; more would hold more results that wait to be
+/// handed back.
 const TASKS_PER_WORKER: usize = 16;
 
 /// Who runs the work: the allocator, the handle that starts threads, and how many of them may run at once, the one that

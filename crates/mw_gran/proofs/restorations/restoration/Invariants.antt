@@ -7,6 +7,6 @@ use Rattle.mw_gran.proofs.restorations.restoration.Given as goal
 
 abbrev pub invariant-loop-done : goal.invariant-loop-done
 invariant-loop-done l = record {
-  count : length l.plan ≡ 3 * l.done + 1;
-  restores : (b : List Offset) → Slides b (meaning l.steps.erode) (meaning l.steps.dilate) → Restores b (l.levels - l.done) l.done l.plan (source l.restored);
+  count : length l.plan ≡ l.levels + 1 + 2 * l.done;
+  restores : (b : List Offset) → Slides b (meaning l.steps.erode) (meaning l.steps.dilate) → Restores b l.levels (l.levels - l.done) l.done l.plan (source l.restored);
 }

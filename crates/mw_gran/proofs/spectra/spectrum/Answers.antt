@@ -6,7 +6,7 @@ use Rattle.mw_model.specs.declared.places.OffsetBox.{OffsetBox}
 use Rattle.mw_model.specs.Elements.{Figure}
 use Rattle.mw_model.specs.Iterates.{spectrum}
 use Rattle.mw_model.specs.Laws.{HoldsOrigin}
-use Rattle.mw_gran.specs.Turns.{Tells, TellsSpectrum, spectrum_steps}
+use Rattle.mw_gran.specs.Turns.{Tells, TellsSpectrum, volume_steps}
 use Rattle.mw_gran.proofs.Turns.{told_by_boxes, told_by_turns}
 use Rattle.mw_gran.proofs.spectra.spectrum.Goals as goal
 
@@ -21,4 +21,4 @@ pub returns : goal.returns
 returns c =
     let b = (arc_value c.args.element.now).offsets in
     let no_box = subst (λ (g : Figure). (box : OffsetBox) → FillsBox box g.offsets → HoldsOrigin g.offsets → ⊥) c.deref.ensures c.in_default.ensures.none in
-    IfOk-weaker c.by_turns.result (λ p. Tells p (spectrum_steps c.args.levels) (spectrum b c.args.levels)) (TellsSpectrum b c.args.levels) (λ p tells. told_by_turns b c.args.levels p no_box tells) (c.by_turns.ensures b c.in_ok-steps.ensures)
+    IfOk-weaker c.by_turns.result (λ p. Tells p (c.args.levels + volume_steps c.args.levels) (spectrum b c.args.levels)) (TellsSpectrum b c.args.levels) (λ p tells. told_by_turns b c.args.levels p no_box tells) (c.by_turns.ensures b c.in_ok-steps.ensures)

@@ -1,12 +1,13 @@
 use Rattle.std.proofs.Common.{◌≡◌, ℕ, ◌+◌, ◌-◌, ◌*◌, ◌<◌, ◌≤◌, length, fold, get_or, slice_range}
+use Rattle.std.specs.Int.{div_ceil}
+use Rattle.mw_line.specs.Line.{combines}
 use Rattle.mw_line.proofs.passes.slide.Given as goal
 
 abbrev pub invariant-chunks : goal.invariant-chunks
 invariant-chunks g l = record {
   within : l.at ≤ length l.out;
-  going : l.at < length l.out → g.C.Counted.count l.counter ≤ g.C.Counted.count l.fn.counter + 3 * l.at;
-  cost : g.C.Counted.count l.counter ≤ g.C.Counted.count l.fn.counter + (3 * l.at + l.k);
-  counted : g.C.Counted.count l.fn.counter + 3 * l.at ≤ g.C.Counted.count l.counter;
+  whole : l.at < length l.out → div_ceil l.at l.k * l.k ≡ l.at;
+  counted : g.C.Counted.count l.counter ≡ g.C.Counted.count l.fn.counter + combines l.at l.k;
   done : (i : ℕ) → i < l.at → get_or l.out i l.neutral ≡ fold g.C.Counted.merge l.neutral (slice_range l.padded i (i + l.k));
 }
 

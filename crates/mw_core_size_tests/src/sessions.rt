@@ -1,0 +1,87 @@
+//! Sessions with the longest payload, and with the greatest tiles.
+
+use crate::served::writes;
+use std::alloc::Global;
+use std::process::Abort;
+
+fn push(rt: &impl Abort, bytes: &mut Vec<u8>, more: &[u8]) {
+    bytes.extend_from_slice(more).ok().expect(rt, "memory");
+}
+
+/// The payload of 134,217,728 bytes that has this front and zeros behind it.
+fn push_longest(rt: &impl Abort, bytes: &mut Vec<u8>, front: &[u8]) {
+    push(rt, bytes, front);
+    let mut left = 134217728usize.saturating_sub(front.len());
+    for _ in 0..2048u32 {
+        let n = left.min(65536);
+        push(rt, bytes, &[0u8; 65536][..n]);
+        left = left.saturating_sub(n);
+    }
+}
+
+/// A session whose first payload is as long as may be, and whose second is short.
+fn session(rt: &impl Abort, alloc: Global, line: &[u8], front: &[u8]) -> Vec<u8> {
+    let mut bytes = Vec::new(alloc);
+    push(rt, &mut bytes, line);
+    push_longest(rt, &mut bytes, front);
+    push(
+        rt,
+        &mut bytes,
+        b"LOAD f 11\nP2\n1 1\n9\n5\nSTATUS x\nSTATUS f\n",
+    );
+    bytes
+}
+
+/// The longest payload is refused for what is in it, and the session goes on.
+#[test]
+fn the_longest_payloads_are_read(rt: HostRuntime) {
+    let input = session(
+        &rt,
+        rt.alloc(),
+        b"LOAD x 134217728\n",
+        b"P5\n4096 4096\n255\n",
+    );
+    let output = b"ERR 26 TRAILING\nOK 0\nERR 41 UNKNOWN\nDONE 0 GREY 1 1 9\n";
+    writes(&rt, rt.alloc(), &input, output, 128);
+    let input = session(
+        &rt,
+        rt.alloc(),
+        b"ELEMENT x 0 0 134217728\n",
+        b"P1\n2 2\n11",
+    );
+    let output = b"ERR 25 SAMPLE\nOK 0\nERR 41 UNKNOWN\nDONE 0 GREY 1 1 9\n";
+    writes(&rt, rt.alloc(), &input, output, 128);
+}
+
+/// The levels of a row of 2,000 samples: 0 in the middle, and 9 elsewhere.
+fn row_with(rt: &impl Abort, alloc: Global, low: u32) -> Vec<u8> {
+    let mut bytes = b"P5\n2000 1\n9\n".to_vec(alloc).ok().expect(rt, "memory");
+    for x in 0..2000u32 {
+        let level: u8 = if x.abs_diff(1000) <= low { 0 } else { 9 };
+        push(rt, &mut bytes, &[level]);
+    }
+    bytes
+}
+
+/// The erosion of the row by three pixels, over several tiles.
+#[test]
+fn tiles_of_each_side(rt: HostRuntime) {
+    let mut input = b"LOAD f 2012\n"
+        .to_vec(rt.alloc())
+        .ok()
+        .expect(&rt, "memory");
+    push(&rt, &mut input, &row_with(&rt, rt.alloc(), 0));
+    push(
+        &rt,
+        &mut input,
+        b"ELEMENT b 1 0 11\nP1\n3 1\n111\nRUN e ERODE f b\nFETCH e\nQUIT\n",
+    );
+    let mut output = b"OK 0\nOK 1\nOK 2\nIMAGE 2 2012\n"
+        .to_vec(rt.alloc())
+        .ok()
+        .expect(&rt, "memory");
+    push(&rt, &mut output, &row_with(&rt, rt.alloc(), 1));
+    for k in 1..=16u32 {
+        writes(&rt, rt.alloc(), &input, &output, k * 64);
+    }
+}

@@ -1,0 +1,130 @@
+//! Files of 16,777,216 samples, read and written.
+
+use crate::slopes::{Look, SQUARE, Sides, WIDE, shows, slope};
+use mw_netpbm::{parts, read, read_owned, write};
+use mw_pixel::{Bit, Image, Pixel, Plane, View};
+use std::alloc::Global;
+use std::process::Abort;
+
+fn push_all(rt: &impl Abort, bytes: &mut Vec<u8>, more: &[u8]) {
+    bytes.extend_from_slice(more).expect(rt, "memory");
+}
+
+/// A raw file of levels of one byte or of two.
+fn raw(rt: &impl Abort, alloc: Global, sides: Sides, maxval: u16) -> Vec<u8> {
+    let Sides { width, height } = sides;
+    let head = format!(in alloc; "P5\n{width} {height}\n{maxval}\n").expect(rt, "memory");
+    let mut bytes = head.into_bytes();
+    if maxval < 256 {
+        push_all(rt, &mut bytes, slope::<u8>(rt, alloc, sides).samples());
+        return bytes;
+    }
+    for level in slope::<u16>(rt, alloc, sides).samples() {
+        push_all(rt, &mut bytes, &level.to_be_bytes());
+    }
+    bytes
+}
+
+/// The pixels of eight columns of a row, the first one the highest bit.
+fn eight(row: &[Bit]) -> u8 {
+    let mut byte = 0u8;
+    for bit in row {
+        byte = (byte << 1) | bit.number();
+    }
+    byte
+}
+
+/// A raw file of a set whose width is a multiple of 8.
+fn raw_set(rt: &impl Abort, alloc: Global, sides: Sides) -> Vec<u8> {
+    let Sides { width, height } = sides;
+    let head = format!(in alloc; "P4\n{width} {height}\n").expect(rt, "memory");
+    let mut bytes = head.into_bytes();
+    for row in slope::<Bit>(rt, alloc, sides).samples().chunks(8) {
+        bytes.push(eight(row)).expect(rt, "memory");
+    }
+    bytes
+}
+
+/// Whether the image has the levels of the slope.
+fn is_slope(image: &Image, sides: Sides) -> bool {
+    match image.view() {
+        View::Bits(plane) => shows(plane, sides, Look::Here),
+        View::Grey8(plane, maxval) => maxval == 255 && shows(plane, sides, Look::Here),
+        View::Grey16(plane, maxval) => maxval == 65535 && shows(plane, sides, Look::Here),
+    }
+}
+
+/// The file is the slope, and is the one text of it.
+fn is_file(rt: &impl Abort, alloc: Global, bytes: Vec<u8>, sides: Sides) {
+    let image = read(alloc, &bytes).expect(rt, "an image");
+    assert!(rt; is_slope(&image, sides));
+    let text = parts(alloc, &image).expect(rt, "memory");
+    let (front, rest) = bytes.split_at(text.front.len().min(bytes.len()));
+    assert!(rt; text.front.as_slice() == front && text.rest == rest);
+    drop(text);
+    assert!(rt; write(alloc, &image).expect(rt, "memory") == bytes);
+    drop(image);
+    let image = read_owned(alloc, bytes).expect(rt, "an image");
+    assert!(rt; is_slope(&image, sides));
+}
+
+#[test]
+fn raw_files_of_bytes(rt: HostRuntime) {
+    for sides in [SQUARE, WIDE] {
+        is_file(&rt, rt.alloc(), raw(&rt, rt.alloc(), sides, 255), sides);
+    }
+}
+
+#[test]
+fn raw_files_of_words(rt: HostRuntime) {
+    for sides in [SQUARE, WIDE] {
+        is_file(&rt, rt.alloc(), raw(&rt, rt.alloc(), sides, 65535), sides);
+    }
+}
+
+#[test]
+fn raw_files_of_sets(rt: HostRuntime) {
+    for sides in [SQUARE, WIDE] {
+        is_file(&rt, rt.alloc(), raw_set(&rt, rt.alloc(), sides), sides);
+    }
+}
+
+/// A plain file of one digit a sample.
+fn plain(rt: &impl Abort, alloc: Global, magic: &str, maxval: &str, sides: Sides) -> Vec<u8> {
+    let Sides { width, height } = sides;
+    let head = format!(in alloc; "{magic}\n{width} {height}\n{maxval}").expect(rt, "memory");
+    let mut bytes = head.into_bytes();
+    for bit in slope::<Bit>(rt, alloc, sides).samples() {
+        push_all(rt, &mut bytes, &[b'0' | bit.number(), b' ']);
+    }
+    bytes
+}
+
+fn are_pixels<P: Pixel>(plane: &Plane<P>, wanted: &Plane<Bit>) -> bool {
+    let (found, wanted) = (plane.samples(), wanted.samples());
+    found.len() == wanted.len()
+        && found
+            .iter()
+            .zip(wanted)
+            .all(|(s, t)| s.value() == t.value())
+}
+
+/// Whether the image has the pixels of the set as its levels.
+fn has_pixels(image: &Image, set: &Plane<Bit>) -> bool {
+    match image.view() {
+        View::Bits(plane) => are_pixels(plane, set),
+        View::Grey8(plane, _) => are_pixels(plane, set),
+        View::Grey16(plane, _) => are_pixels(plane, set),
+    }
+}
+
+/// A plain set, and plain levels of one byte and of two.
+#[test]
+fn plain_files(rt: HostRuntime) {
+    let set = slope::<Bit>(&rt, rt.alloc(), SQUARE);
+    for (magic, maxval) in [("P1", ""), ("P2", "9\n"), ("P2", "300\n")] {
+        let bytes = plain(&rt, rt.alloc(), magic, maxval, SQUARE);
+        let image = read(rt.alloc(), &bytes).expect(&rt, "an image");
+        assert!(rt; has_pixels(&image, &set), "{magic} {maxval}");
+    }
+}
