@@ -3,7 +3,8 @@
 //! few tasks and of one of many: each is taken and brought, and the clock stands while it is computed. Last comes a whole
 //! session.
 //!
-//! It measures only when it is given the word `measure`, and else ends at once: times differ from run to run. Each line
+//! It measures only when it is given the word `measure`, or `tasks` for the tasks alone, and else ends at once: times
+//! differ from run to run. Each line
 //! has the mean over a row of calls, in the best of three rows, each on new cores.
 #![tactic(auto)]
 
@@ -338,6 +339,30 @@ fn with_skeleton(alloc: Global, skeleton: Skeleton) -> Result<Core, Fault> {
     Ok(core)
 }
 
+/// A text with a head and so many bytes of one kind behind it.
+fn text_of(alloc: Global, head: &[u8], count: u32, byte: u8) -> Result<Vec<u8>, Fault> {
+    let mut bytes = head.to_vec(alloc)?;
+    for _ in 0..count {
+        bytes.push(byte)?;
+    }
+    Ok(bytes)
+}
+
+/// A core of tiles of this side, on which an image of 2048 by 2048 levels is to be opened by a square of 15 by 15.
+fn with_opening(alloc: Global, mut core: Core) -> Result<Core, Fault> {
+    let levels = text_of(alloc, b"P5\n2048 2048\n255\n", 4194304, 7)?;
+    let pixels = text_of(alloc, b"P1\n15 15\n", 225, b'1')?;
+    let (Ok(image), Ok(square)) = (read(alloc, &levels), Element::parse(alloc, &pixels, 7, 7))
+    else {
+        return Err(Fault::Memory);
+    };
+    let (f, b) = (name(b'f', 0)?, name(b'b', 0)?);
+    accepted(core.load(f, Ok(image))?)?;
+    accepted(core.element(b, Ok(square))?)?;
+    accepted(core.run(name(b'o', 0)?, Op::Flat(FlatOp::Opening(f, b)))?)?;
+    Ok(core)
+}
+
 /// Takes a task, computes it and brings it: the time that the core took, if there was one.
 fn one_task<R: Clock>(
     rt: &R,
@@ -360,13 +385,8 @@ fn one_task<R: Clock>(
     }
 }
 
-/// Works the skeleton off: the time that the core took, and how many tasks there were.
-fn all_tasks<R: Clock>(
-    rt: &R,
-    alloc: Global,
-    skeleton: Skeleton,
-) -> Result<(Duration, u32), Fault> {
-    let mut core = with_skeleton(alloc, skeleton)?;
+/// Works the command of ticket 2 off: the time that the core took, and how many tasks there were.
+fn all_tasks<R: Clock>(rt: &R, alloc: Global, mut core: Core) -> Result<(Duration, u32), Fault> {
     let (mut total, mut count) = (Duration::ZERO, 0u32);
     // No command has more tasks.
     for place in 0..4194304u64 {
@@ -446,10 +466,15 @@ fn print_row<R: Print>(rt: &R, text: &str, calls: u32, total: Duration) -> Resul
 /// Prints the time that the core takes for one task of a command of few tasks, and of one of many.
 fn show_tasks<R: Clock + Print>(rt: &R, alloc: Global) -> Result<(), Fault> {
     for skeleton in [FEW_TASKS, MANY_TASKS] {
-        let (total, count) = all_tasks(rt, alloc, skeleton)?;
+        let (total, count) = all_tasks(rt, alloc, with_skeleton(alloc, skeleton)?)?;
         print_row(rt, "tasks, start and finish of one", count, total)?;
     }
-    Ok(())
+    let small = with_opening(alloc, Core::new(alloc, 128)?)?;
+    let (total, count) = all_tasks(rt, alloc, small)?;
+    print_row(rt, "tiles of 128, start and finish of one", count, total)?;
+    let large = with_opening(alloc, Core::new(alloc, 1024)?)?;
+    let (total, count) = all_tasks(rt, alloc, large)?;
+    print_row(rt, "tiles of 1024, start and finish of one", count, total)
 }
 
 /// The rows of calls that end an entry or begin a task, on tables of one size.
@@ -529,17 +554,20 @@ fn measure<R: Clock + Print>(rt: &R, alloc: Global) -> Result<(), Fault> {
     )
 }
 
-/// Whether the program's first word asks for times.
-fn is_asked(rt: &HostRuntime) -> Result<bool, Fault> {
+/// Whether the program's first word is this one.
+fn is_asked(rt: &HostRuntime, asked: &str) -> Result<bool, Fault> {
     match env::args(rt)?.nth(1) {
         None => Ok(false),
-        Some(word) => Ok(word.as_str() == "measure"),
+        Some(word) => Ok(word.as_str() == asked),
     }
 }
 
 fn main(rt: HostRuntime) -> Result<(), Fault> {
-    if is_asked(&rt)? {
+    if is_asked(&rt, "measure")? {
         measure(&rt, rt.alloc())?;
+    }
+    if is_asked(&rt, "tasks")? {
+        show_tasks(&rt, rt.alloc())?;
     }
     Ok(())
 }

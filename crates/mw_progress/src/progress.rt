@@ -14,10 +14,10 @@ use crate::needs::needs_of;
 use crate::places::{Place, closed};
 use mw_grid::Grid;
 use mw_model::{Kind, NoMemory, Rect};
+use mw_pieces::SharedWindow;
 use mw_plan::{Plan, PlannedStep};
 use mw_ready::{Ready, tasks_are_those_of_work};
 use mw_task::{Made, Step};
-use mw_tile::AnyWindow;
 use mw_tiles::TiledPlane;
 use std::alloc::Global;
 use std::marker::Model;
@@ -228,12 +228,13 @@ impl PlanProgress {
         self.ready.is_running(step, tile)
     }
 
-    /// The window of a rectangle in the plane of a step, of which each tile that meets the rectangle is placed.
+    /// The window of a rectangle in the plane of a step, of which each tile that meets the rectangle is placed, as one
+    /// more owner of those tiles.
     ///
     /// # Errors
     ///
     /// `NoMemory`, where there is none for the window.
-    pub fn window(&self, alloc: Global, step: u32, rect: Rect) -> Result<AnyWindow, NoMemory>
+    pub fn window(&self, alloc: Global, step: u32, rect: Rect) -> Result<SharedWindow, NoMemory>
         requires step { step < length self.now.progress.plan }
         requires plane { is_sum (slice_index_or self.now.progress.plan step nothing_planned).step ≡ false }
         requires some { (1 ≤ rect.width) × (1 ≤ rect.height) }
@@ -243,14 +244,14 @@ impl PlanProgress {
         ensures bounded { IfOk result IsBounded }
     {
         match &self.places[step as usize] {
-            Place::Plane(plane) => plane.window(alloc, rect),
+            Place::Plane(plane) => plane.shared(alloc, rect),
             _ => unreachable!(),
         }
     }
 
     /// Whether the window shows what stands there of the plane of a step, of which each tile that meets the rectangle is
     /// placed.
-    pub fn matches(&self, step: u32, rect: Rect, window: &AnyWindow) -> bool
+    pub fn matches(&self, step: u32, rect: Rect, window: &SharedWindow) -> bool
         requires step { step < length self.now.progress.plan }
         requires plane { is_sum (slice_index_or self.now.progress.plan step nothing_planned).step ≡ false }
         requires some { (1 ≤ rect.width) × (1 ≤ rect.height) }

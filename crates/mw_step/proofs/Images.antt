@@ -13,7 +13,7 @@ use Rattle.mw_task.specs.WindowTasks.{WindowTask, window_at, tile_made}
 use Rattle.mw_task.specs.Products.{HoldsImage, IsMade, tile_drawn}
 use Rattle.mw_task.specs.declared.made.Made.{Made}
 use Rattle.mw_task.specs.declared.made.Made.TheVariants.{Bits, Grey8, Grey16, Number}
-use Rattle.mw_task.proofs.TileCells.{cells_in_are}
+use Rattle.mw_pieces.proofs.TileCells.{cells_in_are}
 
 abbrev pub picture : Kind → ℕ → ℕ → ℕ → List ℕ → Picture
 picture kind width height maxval samples = record { kind = kind; width = width; height = height; maxval = maxval; samples = samples }

@@ -2,8 +2,8 @@
 
 use crate::{Made, Step, Work};
 use mw_model::{Rect, TaskId};
+use mw_pieces::SharedWindow;
 use mw_pixel::Image;
-use mw_tile::AnyWindow;
 use std::marker::Model;
 
 /// A task that is done, with what it made: what its step makes of its windows, and nothing else.
@@ -87,7 +87,7 @@ impl TileDone {
     }
 
     /// The windows that the task was made from.
-    pub fn windows(&self) -> &[AnyWindow]
+    pub fn windows(&self) -> &[SharedWindow]
         ensures value { result.now ≡ self.now.windows }
         ensures fits { FitsStep self.now.step self.now.rect self.now.windows }
     {

@@ -23,6 +23,6 @@ pub use laws::{
 pub use made::Made;
 pub use mw_element::Element;
 pub use mw_model::{NoMemory, Offset, OffsetBox, Reach, Rect, TaskId};
-pub use mw_tile::AnyWindow;
+pub use mw_pieces::SharedWindow;
 pub use step::Step;
 pub use work::Work;

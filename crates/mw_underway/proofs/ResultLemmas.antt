@@ -26,7 +26,7 @@ use Rattle.mw_task.specs.declared.made.Made.{Made}
 use Rattle.mw_task.specs.Products.{IsMade}
 use Rattle.mw_task.specs.Sources.{HasFrame}
 use Rattle.mw_task.specs.WindowTasks.{FitsStep, IsBounded, WindowTask, tile_made, window_at}
-use Rattle.mw_task.proofs.TileCells.{cells_in_all, length-cells_in}
+use Rattle.mw_pieces.proofs.TileCells.{cells_in_all, length-cells_in}
 use Rattle.mw_plan.specs.PlansOf.{planes_read}
 use Rattle.mw_plan.proofs.Planes.{plane_is}
 use Rattle.mw_progress.specs.Levels.{Level, level_of, level_of_source, level_of_step, levels, no_level}

@@ -24,7 +24,7 @@ use Rattle.mw_task.specs.Products.{HoldsImage, IsMade}
 use Rattle.mw_task.specs.WindowTasks.{WindowTask, IsBounded, KindsFit, made_of_windows, tile_made, window_at}
 use Rattle.mw_task.proofs.Bounded.{here_below, window_below, window_bounded, made_below}
 use Rattle.mw_task.proofs.Cut.{made_of_cut}
-use Rattle.mw_task.proofs.TileCells.{cells_in_all, length-cells_in}
+use Rattle.mw_pieces.proofs.TileCells.{cells_in_all, length-cells_in}
 use Rattle.mw_progress.specs.Levels.{Level, IsLevel, level_of, levels, no_level}
 use Rattle.mw_progress.specs.Underway.{Underway, IsFinished, IsWhole, Fits, IsSmallNumber, cells_of_made, image_of_made, level_of_plane, plane_at}
 use Rattle.mw_work.specs.Works.{Finishes, IsTrueWork, true_sources, true_task}

@@ -3,8 +3,8 @@ use Rattle.mw_progress.specs.Underway.{Underway}
 use Rattle.mw_progress.proofs.Windows.{Asked, is_open, asked_of}
 use Rattle.mw_progress.proofs.progress.PlanProgress.window.Goals as goal
 
-pub window-requires-clause-placed : goal.window-requires-clause-placed
-window-requires-clause-placed c =
+pub shared-requires-clause-placed : goal.shared-requires-clause-placed
+shared-requires-clause-placed c =
     let i = c.self.inside in
     let asked : Asked c.args.self.now c.args.step c.args.rect = record { known = c.requires.step; plane = c.requires.plane; wide = c.requires.some.0; high = c.requires.some.1; within = c.requires.within; placed = c.requires.placed } in
     let here = subst (λ (u : Underway). Asked u c.args.step c.args.rect) (sym c.self.view_is) asked in
