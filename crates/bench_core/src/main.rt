@@ -348,7 +348,7 @@ fn text_of(alloc: Global, head: &[u8], count: u32, byte: u8) -> Result<Vec<u8>, 
     Ok(bytes)
 }
 
-/// A core of tiles of this side, on which an image of 2048 by 2048 levels is to be opened by a square of 15 by 15.
+/// The core, which is to open an image of 2048 by 2048 levels by a square of 15 by 15.
 fn with_opening(alloc: Global, mut core: Core) -> Result<Core, Fault> {
     let levels = text_of(alloc, b"P5\n2048 2048\n255\n", 4194304, 7)?;
     let pixels = text_of(alloc, b"P1\n15 15\n", 225, b'1')?;
