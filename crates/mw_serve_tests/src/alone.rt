@@ -1,0 +1,106 @@
+//! Sessions at a board without workers.
+
+use crate::room::{GIVEN, Left, Once, new_board, served};
+use mw_model::Code;
+use mw_serve::{End, Pass};
+use mw_wire::SessionFault;
+use std::alloc::{AllocError, Global};
+use std::process::Abort;
+use std::sync::Wait;
+use std::test::Fail;
+
+/// The parts one after another.
+fn joined(alloc: Global, parts: &[&[u8]]) -> Result<Vec<u8>, AllocError> {
+    let mut bytes = Vec::new(alloc);
+    for part in parts {
+        bytes.extend_from_slice(part)?;
+    }
+    Ok(bytes)
+}
+
+/// What a session at a board of its own leaves, and how many receipts.
+fn left_alone<R: Wait>(rt: &R, alloc: Global, input: Once<'_>) -> Option<(Left, usize)> {
+    let board = new_board(alloc).ok()?;
+    let mut pass = board.pass();
+    let left = served(rt, alloc, &board, &mut pass, input);
+    Some((left, count(&pass)))
+}
+
+fn count(pass: &Pass) -> usize {
+    pass.receipts().len()
+}
+
+/// The session writes exactly this, ends so, and has so many receipts.
+fn leaves<R: Wait + Abort>(
+    rt: &R,
+    alloc: Global,
+    input: Once<'_>,
+    output: &[u8],
+    ended: Result<End, SessionFault>,
+) -> usize {
+    let (left, receipts) = left_alone(rt, alloc, input).expect(rt, "memory");
+    assert_eq!(rt; left.written.as_slice(), output);
+    assert_eq!(rt; left.ended, ended);
+    receipts
+}
+
+const ASKS: &[u8] = b"RUN a ERODE f b\nRUN c DILATE a b\nCANCEL a\nSTATUS a\nSTATUS c\nRUN d OPEN c b\nRUN a OPEN f b\nCANCEL a\nSTATUS f\nFETCH b\nSTATUS z\n";
+
+const ANSWERS: &[u8] = b"OK 0\nOK 1\nOK 2\nOK 3\nOK 2\nCANCELLED 2\nFAILED 3 INPUT 2\nERR 43 DEAD\nERR 40 NAME_TAKEN\nERR 49 SETTLED\nDONE 0 GREY 5 1 9\nERR 42 KIND\nERR 41 UNKNOWN\n";
+
+#[test]
+fn cancel_fails_dependents(rt: HostRuntime) -> Result<(), Fail> {
+    let alloc = rt.alloc();
+    let input = joined(alloc, &[GIVEN, ASKS])?;
+    let piece = Once {
+        piece: &input,
+        fails: false,
+    };
+    let receipts = leaves(&rt, alloc, piece, ANSWERS, Ok(End::Quit));
+    assert_eq!(rt; receipts, 13);
+    Ok(())
+}
+
+/// The reader fails behind QUIT, and is not asked; what stands behind QUIT is not answered.
+#[test]
+fn quit_stops_reading(rt: HostRuntime) {
+    let piece = Once {
+        piece: b"STATUS x\nQUIT\nSTATUS y\n",
+        fails: true,
+    };
+    let receipts = leaves(&rt, rt.alloc(), piece, b"ERR 41 UNKNOWN\n", Ok(End::Quit));
+    assert_eq!(rt; receipts, 1);
+}
+
+/// A client that sends one line and waits has its answer: it is written before more is read.
+#[test]
+fn each_answer_comes_before_the_next_read(rt: HostRuntime) {
+    let piece = Once {
+        piece: b"STATUS x\nSTATUS",
+        fails: true,
+    };
+    let fault = Err(SessionFault::Read);
+    let receipts = leaves(&rt, rt.alloc(), piece, b"ERR 41 UNKNOWN\n", fault);
+    assert_eq!(rt; receipts, 1);
+}
+
+/// Lines that are none, and an input that is cut short.
+#[test]
+fn faults_end_a_session(rt: HostRuntime) {
+    let cases: [(&[u8], &[u8], End); 6] = [
+        (b"LOAD x 5\nabc", b"ERR 12 CUT\n", End::Ended(Code::Cut)),
+        (b"STATUS x", b"ERR 12 CUT\n", End::Ended(Code::Cut)),
+        (b"load x 5\n", b"ERR 10 LINE\n", End::Ended(Code::Line)),
+        (b"LOAD x 07\n", b"ERR 10 LINE\n", End::Ended(Code::Line)),
+        (b"LOAD x 134217729\n", b"ERR 11 LENGTH\n", End::Ended(Code::Length)),
+        (b"", b"", End::Quit),
+    ];
+    for (piece, output, end) in cases {
+        let once = Once {
+            piece,
+            fails: false,
+        };
+        let receipts = leaves(&rt, rt.alloc(), once, output, Ok(end));
+        assert_eq!(rt; receipts, 0);
+    }
+}

@@ -1,0 +1,124 @@
+-- Answers of a core, one after another, are the turns of a script.
+use Rattle.std.proofs.Common.{◌≡◌, ℕ, List, [], ◌∷◌, ◌++◌, refl, sym, ap, ◌∙◌, subst, Option, Result, Ok, Err, inl, inr}
+use Rattle.std.proofs.lemmas.List.{append-nil}
+use Rattle.std.specs.Io.KnownBytes.{IsAtEnd}
+use Rattle.mw_model.specs.declared.calls.LogItem.{LogItem}
+use Rattle.mw_model.specs.declared.requests.End.{End}
+use Rattle.mw_model.specs.Machine.{Machine}
+use Rattle.mw_model.specs.Stands.{Seen, StandsFor, running_count}
+use Rattle.mw_model.specs.Lines.{Asked, Begins}
+use Rattle.mw_model.specs.Scripts.{Turn, NoQuit, requests}
+use Rattle.mw_wire.specs.declared.fault.SessionFault.{SessionFault}
+use Rattle.mw_wire.specs.declared.fault.SessionFault.TheVariants as fault
+use Rattle.mw_desk.specs.Rooms.{LacksRoom}
+use Rattle.mw_desk.specs.Chains.{NoneQuits, AreAnswered, HasAnswered}
+use Rattle.mw_desk.specs.Runs.{DeskRan}
+use Rattle.mw_session.specs.Turns.{TurnsMade, HasServed}
+use Rattle.mw_session.specs.Answering.{Answered, ScriptAnswer}
+use Rattle.mw_session.specs.Runs.{SessionRan}
+use Rattle.mw_session.proofs.Turns.{logs_on}
+
+-- The turns that were made, from this state on, of requests that were answered so.
+record TurnsOf (asked : List Asked) (m : Machine) (old : Seen) (text : List ℕ) (new : Seen) : Type 0 where
+  turns : List Turn
+  items : List LogItem
+  state : Machine
+  same : requests turns ≡ asked
+  made : TurnsMade m turns text items state
+  stands : StandsFor new state
+  idle : running_count new ≡ 0
+  log : new.log ≡ old.log ++ items
+
+turns-of : (rs : List Asked) (m : Machine) (old new : Seen) (text : List ℕ) → AreAnswered ScriptAnswer old rs text new → StandsFor old m → running_count old ≡ 0 → TurnsOf rs m old text new
+turns-of [] m old new text (none, same) s idle =
+    let P : Seen → Type 0 = λ c. StandsFor c m in
+    let Q : Seen → Type 0 = λ c. running_count c ≡ 0 in
+    record { turns = []; items = []; state = m; same = refl; made = (none, refl, refl); stands = subst P (sym same) s; idle = subst Q (sym same) idle; log = ap (λ (c : Seen). c.log) same ∙ sym (append-nil old.log) }
+turns-of (r ∷ rs) m old new text (mid, front, rest, one, more, texts) s idle =
+    let a = one m s idle in
+    let h = turns-of rs a.state mid new rest more a.stands a.idle in
+    record {
+      turns = a.turn ∷ h.turns;
+      items = a.items ++ h.items;
+      state = h.state;
+      same = ap (λ q. q ∷ requests h.turns) a.asked ∙ ap (λ l. r ∷ l) h.same;
+      made = (a.state, front, rest, a.items, h.items, a.made, h.made, texts, refl);
+      stands = h.stands;
+      idle = h.idle;
+      log = logs_on old.log mid.log new.log a.items h.items a.log h.log;
+    }
+
+none-quits : (ts : List Turn) → NoneQuits (requests ts) → NoQuit ts
+none-quits [] h = tt
+none-quits (t ∷ ts) h = (h.0, none-quits ts h.1)
+
+served-of : (bytes rest text : List ℕ) (rs : List Asked) (m : Machine) (old new : Seen) → HasAnswered ScriptAnswer bytes rs rest old text new → (h : TurnsOf rs m old text new) → HasServed bytes h.turns rest m text h.items h.state
+served-of bytes rest text rs m old new a h =
+    let P : List Asked → Type 0 = λ l. Begins bytes l rest in
+    record { cut = subst P (sym h.same) a.cut; open_still = none-quits h.turns (subst NoneQuits (sym h.same) a.open_still); turns_made = h.made }
+
+-- a session over a core is a script
+pub session-ran : (m : Machine) (old new : Seen) (had left x y : Option (List ℕ)) (result : Result End SessionFault) → DeskRan ScriptAnswer old new had left x y result → StandsFor old m → running_count old ≡ 0 → SessionRan m old new had left x y result
+session-ran m old new had left x y (Ok e) d s idle =
+    let f = d.ran in
+    let h = turns-of f.asked m old new f.text f.made.answered s idle in
+    record {
+      taken = d.taken;
+      state = h.state;
+      read = d.read;
+      stands = h.stands;
+      idle = h.idle;
+      ran = record { turns = h.turns; rest = f.rest; text = f.text; items = h.items; served = served-of d.taken f.rest f.text f.asked m old new f.made h; ends = f.ends; log = h.log; wrote = f.wrote };
+    }
+session-ran m old new had left x y (Err fault.Read) d s idle =
+    let f = d.ran.1 in
+    let h = turns-of f.asked m old new f.text f.made.answered s idle in
+    record {
+      taken = d.taken;
+      state = h.state;
+      read = d.read;
+      stands = h.stands;
+      idle = h.idle;
+      ran = (d.ran.0, record { turns = h.turns; text = f.text; items = h.items; served = served-of d.taken d.ran.0 f.text f.asked m old new f.made h; open_still = f.open_still; log = h.log; wrote = f.wrote });
+    }
+session-ran m old new had left x y (Err fault.Write) d s idle = elim d.ran [
+  | inl f ↦
+      let h = turns-of f.asked m old f.mid f.text f.made.answered s idle in
+      let a = f.answer h.state h.stands h.idle in
+      record {
+        taken = d.taken;
+        state = a.state;
+        read = d.read;
+        stands = a.stands;
+        idle = a.idle;
+        ran = inl (record {
+          turns = h.turns;
+          rest = f.rest;
+          text = f.text;
+          items = h.items;
+          state = h.state;
+          served = served-of d.taken f.rest f.text f.asked m old f.mid f.made h;
+          last = a.turn;
+          behind = f.behind;
+          next = rw a.asked f.next;
+          open_still = rw a.asked f.open_still;
+          reply = f.reply;
+          told = a.items;
+          made = a.made;
+          log = logs_on old.log f.mid.log new.log h.items a.items h.log a.log;
+          count = f.count;
+          less = f.less;
+          wrote = f.wrote;
+        });
+      }
+  | inr f ↦
+      let h = turns-of f.asked m old new f.text f.made.answered s idle in
+      record {
+        taken = d.taken;
+        state = h.state;
+        read = d.read;
+        stands = h.stands;
+        idle = h.idle;
+        ran = inr (record { turns = h.turns; rest = f.rest; text = f.text; items = h.items; served = served-of d.taken f.rest f.text f.asked m old new f.made h; end = f.end; ends = f.ends; log = h.log; count = f.count; less = f.less; wrote = f.wrote });
+      }
+]
