@@ -1,0 +1,9 @@
+//! Tests of a server with its clients in one process, over the loopback.
+//!
+//! ```text
+//! rt test     // in this folder
+//! ```
+#![tactic(auto)]
+
+#[cfg(test)]
+mod loopback;
