@@ -1,7 +1,7 @@
 //! Results and refusals of tasks that the core does not wait for: each is told its fault, and changes nothing.
 
 ghost use Rattle.std.specs.List.{AllByRecursion};
-ghost use Rattle.mw_core.specs.Happenings.{IsServable};
+ghost use Rattle.mw_core.specs.EventEffects.{IsServable};
 
 use crate::desk::{BAR, bring, define, erode, load, name, ran, small_core, take};
 use mw_core::events::{Answer, Event, serve, serve_all};

@@ -7,7 +7,7 @@ use mw_model::{Kind, TaskId};
 use mw_pixel::{Bit, Pixel, Plane};
 use mw_plan::{PlannedStep, Source};
 use mw_step::run;
-use mw_task::{Made, SharedWindow, Work};
+use mw_task::{SharedWindow, TileResult, Work};
 use std::alloc::Global;
 use std::test::Fail;
 
@@ -89,12 +89,17 @@ impl Trace {
     }
 
     /// Puts what a step made behind the others.
-    fn put(&mut self, alloc: Global, made: &Made) -> Result<(), Fail> {
+    fn put(&mut self, alloc: Global, made: &TileResult) -> Result<(), Fail> {
         let plane = match made {
-            Made::Bits(plane) => Some(image_of(alloc, Kind::Bit, 1, plane)?),
-            Made::Grey8(plane, top) => Some(image_of(alloc, Kind::Grey, u16::from(*top), plane)?),
-            Made::Grey16(plane, top) => Some(image_of(alloc, Kind::Grey, *top, plane)?),
-            Made::Number(number) => {
+            TileResult::Bits(plane) => Some(image_of(alloc, Kind::Bit, 1, plane)?),
+            TileResult::Grey8(plane, top) => Some(image_of(
+                alloc,
+                Kind::Grey,
+                u16::from(*top),
+                plane,
+            )?),
+            TileResult::Grey16(plane, top) => Some(image_of(alloc, Kind::Grey, *top, plane)?),
+            TileResult::Number(number) => {
                 self.numbers.push(*number)?;
                 None
             }

@@ -4,7 +4,7 @@ use Rattle.std.specs.Io.KnownBytes.{Appends}
 use Rattle.mw_model.specs.declared.receipts.Receipt.{Receipt}
 use Rattle.mw_model.specs.Machine.{Machine}
 use Rattle.mw_model.specs.Receipts.{Covers}
-use Rattle.mw_model.specs.Stands.{Seen, StandsFor}
+use Rattle.mw_model.specs.Stands.{CoreView, StandsFor}
 use Rattle.mw_wire.specs.Writes.{CutsShort}
 use Rattle.mw_listen.specs.declared.fault.ListenFault.{ListenFault}
 use Rattle.mw_listen.specs.declared.fault.ListenFault.TheVariants as fault
@@ -28,7 +28,7 @@ TellsLine old new line =
 
 -- So many sessions were joined. Their passes cover the log of a core that stands for some state of the machine: that state's run has all their calls, each once.
 pub record Audited (sessions : ℕ) : Type 0 where
-  pub core : Seen
+  pub core : CoreView
   pub stands : ∥ ((m : Machine) × StandsFor core m) ∥₁
   pub passes : List (List Receipt)
   pub joined : length passes ≡ sessions

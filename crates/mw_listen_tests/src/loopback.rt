@@ -7,24 +7,27 @@ use mw_pool::Gate;
 use mw_task::{TaskRefused, TileDone, Work};
 use mw_wire::Sink;
 use std::alloc::Global;
-use std::io;
 use std::io::{Read, Write};
 use std::net::{Ipv4Addr, Net, Shutdown, TcpListener, TcpStream};
 use std::sync::Wait;
 use std::sync::atomic::{AtomicU64, Ordering};
 use std::test::Fail;
-use std::thread;
 use std::thread::Threads;
+use std::{io, thread};
 
 /// Five samples, three pixels in a row, an erosion of the one by the other, and what comes of it.
-const ERODE: &[u8] = b"LOAD f 19\nP2\n5 1\n9\n3 1 4 1 5\nELEMENT b 1 0 11\nP1\n3 1\n111\nRUN e ERODE f b\nWAIT e\nFETCH e\n";
+const ERODE: &[u8] =
+    b"LOAD f 19\nP2\n5 1\n9\n3 1 4 1 5\nELEMENT b 1 0 11\nP1\n3 1\n111\nRUN e ERODE f b\nWAIT e\nFETCH e\n";
 
-const ERODED: &[u8] = b"OK 0\nOK 1\nOK 2\nDONE 2 GREY 5 1 9\nIMAGE 2 14\nP5\n5 1\n9\n\x01\x01\x01\x01\x01";
+const ERODED: &[u8] =
+    b"OK 0\nOK 1\nOK 2\nDONE 2 GREY 5 1 9\nIMAGE 2 14\nP5\n5 1\n9\n\x01\x01\x01\x01\x01";
 
 /// Two commands that workers compute beside one another.
-const BOTH: &[u8] = b"LOAD f 19\nP2\n5 1\n9\n3 1 4 1 5\nELEMENT b 1 0 11\nP1\n3 1\n111\nRUN e ERODE f b\nRUN h DILATE f b\nWAIT e\nWAIT h\nFETCH h\nQUIT\n";
+const BOTH: &[u8] =
+    b"LOAD f 19\nP2\n5 1\n9\n3 1 4 1 5\nELEMENT b 1 0 11\nP1\n3 1\n111\nRUN e ERODE f b\nRUN h DILATE f b\nWAIT e\nWAIT h\nFETCH h\nQUIT\n";
 
-const DILATED: &[u8] = b"OK 0\nOK 1\nOK 2\nOK 3\nDONE 2 GREY 5 1 9\nDONE 3 GREY 5 1 9\nIMAGE 3 14\nP5\n5 1\n9\n\x03\x04\x04\x05\x05";
+const DILATED: &[u8] =
+    b"OK 0\nOK 1\nOK 2\nOK 3\nDONE 2 GREY 5 1 9\nDONE 3 GREY 5 1 9\nIMAGE 3 14\nP5\n5 1\n9\n\x03\x04\x04\x05\x05";
 
 /// Two workers and one session.
 fn service(port: u16) -> Service
@@ -160,7 +163,10 @@ fn workers_overlap(rt: HostRuntime) -> Result<(), Fail> {
 }
 
 /// Two clients, one after the other.
-fn two_answers<R: Net<Stream = TcpStream>>(rt: &R, alloc: Global) -> io::Result<(Vec<u8>, Vec<u8>)> {
+fn two_answers<R: Net<Stream = TcpStream>>(
+    rt: &R,
+    alloc: Global,
+) -> io::Result<(Vec<u8>, Vec<u8>)> {
     let first = answers(rt, alloc, 7003, b"LOAD f 19\nP2\n5 1\n9\n3 1 4 1 5\nQUIT\n")?;
     let second = answers(rt, alloc, 7003, b"STATUS f\nQUIT\n")?;
     Ok((first, second))

@@ -7,7 +7,7 @@ use mw_model::plain::PlainImage;
 use mw_model::{Kind, Shape};
 use mw_pieces::Pieces;
 use mw_pixel::{Bit, Pixel, Plane};
-use mw_task::{Element, Made, SharedWindow};
+use mw_task::{Element, SharedWindow, TileResult};
 use std::alloc::Global;
 use std::process::Abort;
 use std::sync::Arc;
@@ -114,11 +114,17 @@ fn image_of<P: Pixel>(
 }
 
 /// The image that a step made.
-pub(crate) fn made(rt: &impl Abort, alloc: Global, made: &Made) -> Result<PlainImage, Fail> {
+pub(crate) fn made(rt: &impl Abort, alloc: Global, made: &TileResult) -> Result<PlainImage, Fail> {
     match made {
-        Made::Bits(plane) => image_of(rt, alloc, Kind::Bit, 1, plane),
-        Made::Grey8(plane, maxval) => image_of(rt, alloc, Kind::Grey, u16::from(*maxval), plane),
-        Made::Grey16(plane, maxval) => image_of(rt, alloc, Kind::Grey, *maxval, plane),
-        Made::Number(_) => Err("a step that makes an image".into()),
+        TileResult::Bits(plane) => image_of(rt, alloc, Kind::Bit, 1, plane),
+        TileResult::Grey8(plane, maxval) => image_of(
+            rt,
+            alloc,
+            Kind::Grey,
+            u16::from(*maxval),
+            plane,
+        ),
+        TileResult::Grey16(plane, maxval) => image_of(rt, alloc, Kind::Grey, *maxval, plane),
+        TileResult::Number(_) => Err("a step that makes an image".into()),
     }
 }

@@ -28,7 +28,7 @@ impl Board {
     ghost use Rattle.mw_model.specs.declared.calls.Given.{Given};
     ghost use Rattle.mw_model.specs.declared.calls.Call.TheVariants as call;
     ghost use Rattle.mw_model.specs.Machine.{Machine};
-    ghost use Rattle.mw_model.specs.Stands.{Seen, StandsFor};
+    ghost use Rattle.mw_model.specs.Stands.{CoreView, StandsFor};
     ghost use Rattle.mw_model.specs.Receipts.{Covers};
     ghost use Rattle.mw_core.specs.Fetches.{ShowsSome, shown_value};
     ghost use Rattle.mw_pool.specs.Passes.{AddsReceipt};
@@ -168,7 +168,7 @@ impl Board {
     /// Whether the passes cover the log. Then there is a state of the machine whose run has all their calls, each once, and
     /// those of each pass in the pass's order.
     pub fn audit_all<R: Wait>(&self, rt: &R, passes: &[Pass]) -> bool
-        ensures { IsTrue result → (core : Seen) × ∥ ((m : Machine) × StandsFor core m) ∥₁ × Covers core.log passes.now }
+        ensures { IsTrue result → (core : CoreView) × ∥ ((m : Machine) × StandsFor core m) ∥₁ × Covers core.log passes.now }
     {
         self.kept.lock(rt).audit(passes)
     }

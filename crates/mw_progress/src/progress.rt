@@ -5,7 +5,7 @@ ghost use Rattle.mw_model.specs.Plans.{is_sum};
 ghost use Rattle.mw_model.specs.Tasks.{nothing_planned};
 ghost use Rattle.mw_grid.specs.Grids.{tile_count};
 ghost use Rattle.mw_task.specs.Meanings.{meaning};
-ghost use Rattle.mw_progress.specs.Underway.{numbers_of};
+ghost use Rattle.mw_progress.specs.ProgressView.{numbers_of};
 ghost use Rattle.mw_progress.specs.Places.{is_read, form, IsFormOf, place_at, planes_shown};
 
 use crate::dropping::drop_read;
@@ -17,7 +17,7 @@ use mw_model::{Kind, NoMemory, Rect};
 use mw_pieces::SharedWindow;
 use mw_plan::{Plan, PlannedStep};
 use mw_ready::{Ready, tasks_are_those_of_work};
-use mw_task::{Made, Step};
+use mw_task::{Step, TileResult};
 use mw_tiles::TiledPlane;
 use std::alloc::Global;
 use std::marker::Model;
@@ -35,9 +35,9 @@ pub struct PlanProgress {
 
 impl Model for PlanProgress {
     ghost use Rattle.std.specs.Prelude.{◌≡◌, ◌≤◌, [], length, vec_capacity};
-    ghost use Rattle.mw_progress.specs.Underway.{Underway, IsWhole};
+    ghost use Rattle.mw_progress.specs.ProgressView.{ProgressView, IsWhole};
 
-    ghost Value = { Underway };
+    ghost Value = { ProgressView };
 
     ghost use Rattle.mw_progress.specs.Places.{underway_kept, IsBoarded, IsPlaced};
 
@@ -88,7 +88,7 @@ fn add_numbers(plan: &Plan, places: &[Place], grid: Grid, numbers: &mut Vec<u64>
 }
 
 /// What nobody reads is given up.
-fn let_go(_made: Made) {}
+fn let_go(_made: TileResult) {}
 
 impl PlanProgress {
     ghost use Rattle.std.specs.Prelude.{ℕ, ◌+◌, ◌-◌, ◌*◌, ◌<◌, ◌≤◌, ◌↔◌, IsTrue, IfOk, OnOk, OnErr, true, false, length, map, slice_index, slice_index_or};
@@ -100,7 +100,7 @@ impl PlanProgress {
     ghost use Rattle.mw_tiles.specs.Tiles.{HasAll, IsPlaneOf, nothing_placed};
     ghost use Rattle.mw_plan.specs.Seen.{planned};
     ghost use Rattle.mw_progress.specs.Levels.{levels};
-    ghost use Rattle.mw_progress.specs.Underway.{IsWorkable, IsWhole, IsStarted, IsFinished, Fits, cells_of_made, fresh, number_of, numbers_of, plane_at, closed_plane};
+    ghost use Rattle.mw_progress.specs.ProgressView.{IsWorkable, IsWhole, IsStarted, IsFinished, Fits, cells_of_made, fresh, number_of, numbers_of, plane_at, closed_plane};
 
     /// The work of a plan that reads one image of this kind and maxval, on a frame of the grid. Nothing of it was started.
     ///
@@ -269,7 +269,7 @@ impl PlanProgress {
 
     /// A running task is finished. What it made is placed if anyone still reads it, and each tile that it was the last to
     /// read is dropped. This takes no memory.
-    pub fn finish(&mut self, step: u32, tile: u32, made: Made)
+    pub fn finish(&mut self, step: u32, tile: u32, made: TileResult)
         requires running { is_running self.old.progress (number_of self.old.progress step tile) ≡ true }
         requires fits { Fits self.old step tile made }
         ensures finished { IsFinished self.old self.new (number_of self.old.progress step tile) (cells_of_made made) }

@@ -44,9 +44,11 @@ fn leaves<R: Wait + Abort>(
     receipts
 }
 
-const ASKS: &[u8] = b"RUN a ERODE f b\nRUN c DILATE a b\nCANCEL a\nSTATUS a\nSTATUS c\nRUN d OPEN c b\nRUN a OPEN f b\nCANCEL a\nSTATUS f\nFETCH b\nSTATUS z\n";
+const ASKS: &[u8] =
+    b"RUN a ERODE f b\nRUN c DILATE a b\nCANCEL a\nSTATUS a\nSTATUS c\nRUN d OPEN c b\nRUN a OPEN f b\nCANCEL a\nSTATUS f\nFETCH b\nSTATUS z\n";
 
-const ANSWERS: &[u8] = b"OK 0\nOK 1\nOK 2\nOK 3\nOK 2\nCANCELLED 2\nFAILED 3 INPUT 2\nERR 43 DEAD\nERR 40 NAME_TAKEN\nERR 49 SETTLED\nDONE 0 GREY 5 1 9\nERR 42 KIND\nERR 41 UNKNOWN\n";
+const ANSWERS: &[u8] =
+    b"OK 0\nOK 1\nOK 2\nOK 3\nOK 2\nCANCELLED 2\nFAILED 3 INPUT 2\nERR 43 DEAD\nERR 40 NAME_TAKEN\nERR 49 SETTLED\nDONE 0 GREY 5 1 9\nERR 42 KIND\nERR 41 UNKNOWN\n";
 
 #[test]
 fn cancel_fails_dependents(rt: HostRuntime) -> Result<(), Fail> {
@@ -92,7 +94,11 @@ fn faults_end_a_session(rt: HostRuntime) {
         (b"STATUS x", b"ERR 12 CUT\n", End::Ended(Code::Cut)),
         (b"load x 5\n", b"ERR 10 LINE\n", End::Ended(Code::Line)),
         (b"LOAD x 07\n", b"ERR 10 LINE\n", End::Ended(Code::Line)),
-        (b"LOAD x 134217729\n", b"ERR 11 LENGTH\n", End::Ended(Code::Length)),
+        (
+            b"LOAD x 134217729\n",
+            b"ERR 11 LENGTH\n",
+            End::Ended(Code::Length),
+        ),
         (b"", b"", End::Quit),
     ];
     for (piece, output, end) in cases {

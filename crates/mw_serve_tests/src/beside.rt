@@ -79,7 +79,8 @@ fn scripted<R: Threads + Sync>(rt: &R, alloc: Global, input: &[u8]) -> Vec<u8> {
     sink.into_inner()
 }
 
-const OPERATIONS: &[u8] = b"LOAD f 19\nP2\n5 1\n9\n3 1 4 1 5\nELEMENT b 1 0 11\nP1\n3 1\n111\nRUN e ERODE f b\nRUN d DILATE e b\nRUN o OPEN f b\nRUN c CLOSE d b\nRUN g GRADIENT c b\nRUN w WTOPHAT f b\nRUN k BTOPHAT f b\nRUN r RANK f b 2\nRUN t THRESHOLD f 4\nRUN s SKELETON t b 2\nRUN p SPECTRUM f b 2\nWAIT e\nFETCH e\nWAIT d\nFETCH d\nWAIT o\nFETCH o\nWAIT c\nFETCH c\nWAIT g\nFETCH g\nWAIT w\nFETCH w\nWAIT k\nFETCH k\nWAIT r\nFETCH r\nWAIT t\nFETCH t\nWAIT s\nFETCH s\nWAIT p\nFETCH p\nQUIT\n";
+const OPERATIONS: &[u8] =
+    b"LOAD f 19\nP2\n5 1\n9\n3 1 4 1 5\nELEMENT b 1 0 11\nP1\n3 1\n111\nRUN e ERODE f b\nRUN d DILATE e b\nRUN o OPEN f b\nRUN c CLOSE d b\nRUN g GRADIENT c b\nRUN w WTOPHAT f b\nRUN k BTOPHAT f b\nRUN r RANK f b 2\nRUN t THRESHOLD f 4\nRUN s SKELETON t b 2\nRUN p SPECTRUM f b 2\nWAIT e\nFETCH e\nWAIT d\nFETCH d\nWAIT o\nFETCH o\nWAIT c\nFETCH c\nWAIT g\nFETCH g\nWAIT w\nFETCH w\nWAIT k\nFETCH k\nWAIT r\nFETCH r\nWAIT t\nFETCH t\nWAIT s\nFETCH s\nWAIT p\nFETCH p\nQUIT\n";
 
 /// With a WAIT before each FETCH it is written what a script writes, and the pass covers the log.
 #[test]
@@ -94,7 +95,8 @@ fn a_session_beside_workers_writes_as_a_script(rt: HostRuntime) -> Result<(), Fa
     Ok(())
 }
 
-const EROSION: &[u8] = b"LOAD f 19\nP2\n5 1\n9\n3 1 4 1 5\nELEMENT b 1 0 11\nP1\n3 1\n111\nRUN e ERODE f b\nSTATUS f\nWAIT e\nFETCH e\n";
+const EROSION: &[u8] =
+    b"LOAD f 19\nP2\n5 1\n9\n3 1 4 1 5\nELEMENT b 1 0 11\nP1\n3 1\n111\nRUN e ERODE f b\nSTATUS f\nWAIT e\nFETCH e\n";
 
 const ERODED: &[u8] =
     b"OK 0\nOK 1\nOK 2\nDONE 0 GREY 5 1 9\nDONE 2 GREY 5 1 9\nIMAGE 2 14\nP5\n5 1\n9\n\x01\x01\x01\x01\x01";

@@ -5,7 +5,7 @@ use Rattle.std.specs.Io.KnownBytes.{IsAtEnd}
 use Rattle.mw_model.specs.declared.calls.LogItem.{LogItem}
 use Rattle.mw_model.specs.declared.requests.End.{End}
 use Rattle.mw_model.specs.Machine.{Machine}
-use Rattle.mw_model.specs.Stands.{Seen, StandsFor, running_count}
+use Rattle.mw_model.specs.Stands.{CoreView, StandsFor, running_count}
 use Rattle.mw_model.specs.Lines.{Asked, Begins}
 use Rattle.mw_model.specs.Scripts.{Turn, NoQuit, requests}
 use Rattle.mw_wire.specs.declared.fault.SessionFault.{SessionFault}
@@ -19,7 +19,7 @@ use Rattle.mw_session.specs.Runs.{SessionRan}
 use Rattle.mw_session.proofs.Turns.{logs_on}
 
 -- The turns that were made, from this state on, of requests that were answered so.
-record TurnsOf (asked : List Asked) (m : Machine) (old : Seen) (text : List ℕ) (new : Seen) : Type 0 where
+record TurnsOf (asked : List Asked) (m : Machine) (old : CoreView) (text : List ℕ) (new : CoreView) : Type 0 where
   turns : List Turn
   items : List LogItem
   state : Machine
@@ -29,11 +29,11 @@ record TurnsOf (asked : List Asked) (m : Machine) (old : Seen) (text : List ℕ)
   idle : running_count new ≡ 0
   log : new.log ≡ old.log ++ items
 
-turns-of : (rs : List Asked) (m : Machine) (old new : Seen) (text : List ℕ) → AreAnswered ScriptAnswer old rs text new → StandsFor old m → running_count old ≡ 0 → TurnsOf rs m old text new
+turns-of : (rs : List Asked) (m : Machine) (old new : CoreView) (text : List ℕ) → AreAnswered ScriptAnswer old rs text new → StandsFor old m → running_count old ≡ 0 → TurnsOf rs m old text new
 turns-of [] m old new text (none, same) s idle =
-    let P : Seen → Type 0 = λ c. StandsFor c m in
-    let Q : Seen → Type 0 = λ c. running_count c ≡ 0 in
-    record { turns = []; items = []; state = m; same = refl; made = (none, refl, refl); stands = subst P (sym same) s; idle = subst Q (sym same) idle; log = ap (λ (c : Seen). c.log) same ∙ sym (append-nil old.log) }
+    let P : CoreView → Type 0 = λ c. StandsFor c m in
+    let Q : CoreView → Type 0 = λ c. running_count c ≡ 0 in
+    record { turns = []; items = []; state = m; same = refl; made = (none, refl, refl); stands = subst P (sym same) s; idle = subst Q (sym same) idle; log = ap (λ (c : CoreView). c.log) same ∙ sym (append-nil old.log) }
 turns-of (r ∷ rs) m old new text (mid, front, rest, one, more, texts) s idle =
     let a = one m s idle in
     let h = turns-of rs a.state mid new rest more a.stands a.idle in
@@ -52,13 +52,13 @@ none-quits : (ts : List Turn) → NoneQuits (requests ts) → NoQuit ts
 none-quits [] h = tt
 none-quits (t ∷ ts) h = (h.0, none-quits ts h.1)
 
-served-of : (bytes rest text : List ℕ) (rs : List Asked) (m : Machine) (old new : Seen) → HasAnswered ScriptAnswer bytes rs rest old text new → (h : TurnsOf rs m old text new) → HasServed bytes h.turns rest m text h.items h.state
+served-of : (bytes rest text : List ℕ) (rs : List Asked) (m : Machine) (old new : CoreView) → HasAnswered ScriptAnswer bytes rs rest old text new → (h : TurnsOf rs m old text new) → HasServed bytes h.turns rest m text h.items h.state
 served-of bytes rest text rs m old new a h =
     let P : List Asked → Type 0 = λ l. Begins bytes l rest in
     record { cut = subst P (sym h.same) a.cut; open_still = none-quits h.turns (subst NoneQuits (sym h.same) a.open_still); turns_made = h.made }
 
 -- a session over a core is a script
-pub session-ran : (m : Machine) (old new : Seen) (had left x y : Option (List ℕ)) (result : Result End SessionFault) → DeskRan ScriptAnswer old new had left x y result → StandsFor old m → running_count old ≡ 0 → SessionRan m old new had left x y result
+pub session-ran : (m : Machine) (old new : CoreView) (had left x y : Option (List ℕ)) (result : Result End SessionFault) → DeskRan ScriptAnswer old new had left x y result → StandsFor old m → running_count old ≡ 0 → SessionRan m old new had left x y result
 session-ran m old new had left x y (Ok e) d s idle =
     let f = d.ran in
     let h = turns-of f.asked m old new f.text f.made.answered s idle in

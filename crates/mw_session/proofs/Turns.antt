@@ -8,7 +8,7 @@ use Rattle.mw_model.specs.declared.requests.Ask.TheVariants as ask
 use Rattle.mw_model.specs.declared.requests.End.{End}
 use Rattle.mw_model.specs.declared.requests.End.TheVariants as end
 use Rattle.mw_model.specs.Machine.{Machine}
-use Rattle.mw_model.specs.Stands.{Seen}
+use Rattle.mw_model.specs.Stands.{CoreView}
 use Rattle.mw_model.specs.Lines.{Asked, AskAlone, Found, Fault, Begins}
 use Rattle.mw_intake.specs.Reading.{front}
 use Rattle.mw_wire.specs.Writes.{CutsShort}

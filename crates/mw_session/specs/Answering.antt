@@ -10,7 +10,7 @@ use Rattle.mw_model.specs.Machine.{Machine}
 use Rattle.mw_model.specs.declared.calls.LogItem.{LogItem}
 use Rattle.mw_model.specs.Lines.{Asked}
 use Rattle.mw_model.specs.Scripts.{Turn}
-use Rattle.mw_model.specs.Stands.{Seen, StandsFor, running_count}
+use Rattle.mw_model.specs.Stands.{CoreView, StandsFor, running_count}
 use Rattle.mw_session.specs.Turns.{TurnMade}
 
 -- the payload of a LOAD as an image, or why it is none, or want of memory
@@ -24,7 +24,7 @@ ReadsElement bytes ox oy (Ok b) = IsElement bytes ox oy b
 ReadsElement bytes ox oy (Err c) = (c ≡ code.Memory) ⊎ ElementRefuses bytes ox oy c
 
 -- One request was answered by this text: a turn from this state, after which the core stands for the state that it leads to, and no task is running.
-pub record Answered (m : Machine) (old : Seen) (r : Asked) (text : List ℕ) (new : Seen) : Type 0 where
+pub record Answered (m : Machine) (old : CoreView) (r : Asked) (text : List ℕ) (new : CoreView) : Type 0 where
   pub turn : Turn
   pub state : Machine
   pub items : List LogItem
@@ -35,5 +35,5 @@ pub record Answered (m : Machine) (old : Seen) (r : Asked) (text : List ℕ) (ne
   pub log : new.log ≡ old.log ++ items
 
 -- so it was from each state that the core stands for, where no task was running
-abbrev pub ScriptAnswer : Seen → Asked → List ℕ → Seen → Type 0
+abbrev pub ScriptAnswer : CoreView → Asked → List ℕ → CoreView → Type 0
 ScriptAnswer old r text new = (m : Machine) → StandsFor old m → running_count old ≡ 0 → Answered m old r text new

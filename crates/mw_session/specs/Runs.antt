@@ -5,7 +5,7 @@ use Rattle.mw_model.specs.declared.calls.LogItem.{LogItem}
 use Rattle.mw_model.specs.declared.requests.Ask.TheVariants.{Quit}
 use Rattle.mw_model.specs.declared.requests.End.{End}
 use Rattle.mw_model.specs.Machine.{Machine}
-use Rattle.mw_model.specs.Stands.{Seen, StandsFor, running_count}
+use Rattle.mw_model.specs.Stands.{CoreView, StandsFor, running_count}
 use Rattle.mw_model.specs.Lines.{AskAlone, Found, Partial}
 use Rattle.mw_intake.specs.Reading.{front}
 use Rattle.mw_model.specs.Scripts.{Turn, end_text}
@@ -95,7 +95,7 @@ Ran lacks left bytes m n old new before after result =
     MatchResult result (λ end. Finished lacks left bytes m n old new before after end) (λ f. Stopped lacks left bytes m n old new before after f)
 
 -- A whole session was served: of what the reader had these bytes were taken, the core then stands for the state after them, and no task is running.
-pub record SessionRan (m : Machine) (old new : Seen) (had left before after : Option (List ℕ)) (result : Result End SessionFault) : Type 0 where
+pub record SessionRan (m : Machine) (old new : CoreView) (had left before after : Option (List ℕ)) (result : Result End SessionFault) : Type 0 where
   pub taken : List ℕ
   pub state : Machine
   pub read : Consumes had left taken

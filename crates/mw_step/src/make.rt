@@ -10,7 +10,7 @@ use crate::pairs::{merge, minus};
 use crate::singles::{at_least, blank, equal, invert, sum_up};
 use mw_model::NoMemory;
 use mw_pixel::{Max, Min};
-use mw_task::{Made, Step, TaskRefused, TileDone, Work};
+use mw_task::{Step, TaskRefused, TileDone, TileResult, Work};
 use mw_tile::AnyWindow;
 use std::alloc::Global;
 
@@ -38,7 +38,7 @@ pub fn run(alloc: Global, work: Work) -> Result<TileDone, TaskRefused>
 }
 
 /// Puts the windows together, and makes of them what the step makes in the tile.
-fn make(alloc: Global, work: &Work) -> Result<Made, NoMemory>
+fn make(alloc: Global, work: &Work) -> Result<TileResult, NoMemory>
     ensures { IfOk result (IsMade work.now) }
 {
     let windows = work.joined(alloc)?;
@@ -46,7 +46,7 @@ fn make(alloc: Global, work: &Work) -> Result<Made, NoMemory>
 }
 
 /// What the step makes of the windows in the tile.
-fn made_of(alloc: Global, work: &Work, windows: &[AnyWindow]) -> Result<Made, NoMemory>
+fn made_of(alloc: Global, work: &Work, windows: &[AnyWindow]) -> Result<TileResult, NoMemory>
     requires { windows.now ≡ work.now.windows }
     ensures { IfOk result (IsMade work.now) }
 {
@@ -90,6 +90,6 @@ fn made_of(alloc: Global, work: &Work, windows: &[AnyWindow]) -> Result<Made, No
             source(work, windows, 1),
         ),
         Step::Equal(v) => equal(alloc, *v, source(work, windows, 0)),
-        Step::Sum => Ok(Made::Number(sum_up(source(work, windows, 0)))),
+        Step::Sum => Ok(TileResult::Number(sum_up(source(work, windows, 0)))),
     }
 }

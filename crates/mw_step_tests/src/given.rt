@@ -5,7 +5,7 @@ use mw_model::{Rect, TaskId};
 use mw_pieces::Pieces;
 use mw_pixel::{Bit, Pixel, Plane};
 use mw_step::run;
-use mw_task::{Element, Made, SharedWindow, Step, TileDone, Work};
+use mw_task::{Element, SharedWindow, Step, TileDone, TileResult, Work};
 use std::alloc::Global;
 use std::process::Abort;
 use std::sync::Arc;
@@ -84,21 +84,21 @@ pub(crate) fn done(alloc: Global, work: Work) -> Result<TileDone, Fail> {
 }
 
 /// What a step makes of these windows.
-fn made(alloc: Global, step: Step, windows: Vec<SharedWindow>) -> Result<Made, Fail> {
+fn made(alloc: Global, step: Step, windows: Vec<SharedWindow>) -> Result<TileResult, Fail> {
     let work = work(step, windows).ok_or("the windows fit the step")?;
     Ok(done(alloc, work)?.into_made())
 }
 
-fn is_grey(made: &Made, levels: &[u8; 5], maxval: u8) -> bool {
+fn is_grey(made: &TileResult, levels: &[u8; 5], maxval: u8) -> bool {
     match made {
-        Made::Grey8(plane, top) => plane.samples() == levels.as_slice() && *top == maxval,
+        TileResult::Grey8(plane, top) => plane.samples() == levels.as_slice() && *top == maxval,
         _ => false,
     }
 }
 
-fn is_set(made: &Made, pixels: &[u8; 5]) -> bool {
+fn is_set(made: &TileResult, pixels: &[u8; 5]) -> bool {
     match made {
-        Made::Bits(plane) => plane.samples().len() == 5
+        TileResult::Bits(plane) => plane.samples().len() == 5
             && plane
                 .samples()
                 .iter()
@@ -138,7 +138,7 @@ pub(crate) fn makes_set(
 /// The number that a step makes.
 pub(crate) fn number(alloc: Global, step: Step, windows: Vec<SharedWindow>) -> Result<u64, Fail> {
     match made(alloc, step, windows)? {
-        Made::Number(total) => Ok(total),
+        TileResult::Number(total) => Ok(total),
         _ => Err("a number".into()),
     }
 }

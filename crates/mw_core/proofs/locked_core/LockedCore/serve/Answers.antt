@@ -1,5 +1,5 @@
 use Rattle.std.proofs.Math.Logic.{∥∥₁_map}
-use Rattle.mw_core.proofs.held.Held.serve.Goals as goal
+use Rattle.mw_core.proofs.locked_core.LockedCore.serve.Goals as goal
 
 pub invariant_of-self : goal.invariant_of-self
 invariant_of-self c = record {

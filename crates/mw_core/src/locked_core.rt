@@ -12,13 +12,13 @@ use std::alloc::Global;
 
 /// A core that stands for some state of the machine. Each hold of the lock is one event.
 #[derive(Drop)]
-pub struct Held {
+pub struct LockedCore {
     pub core: Core,
     pub ghost stands: { ∥ ((m : Machine) × StandsFor core m) ∥₁ },
 }
 
-impl Held {
-    ghost use Rattle.mw_core.specs.Happenings.{IsServable, Happens};
+impl LockedCore {
+    ghost use Rattle.mw_core.specs.EventEffects.{IsServable, HasEffect};
 
     /// A core that has accepted nothing yet.
     pub fn new(alloc: Global, side: u32) -> Result<Self, NoMemory>
@@ -27,7 +27,7 @@ impl Held {
         ensures log { IfOk result (λ h. h.core.log ≡ []) }
         ensures side { IfOk result (λ h. h.core.side ≡ side) }
     {
-        Ok(Held {
+        Ok(LockedCore {
             core: Core::new(alloc, side)?,
         })
     }
@@ -35,7 +35,7 @@ impl Held {
     /// One event.
     pub fn serve(&mut self, event: Event) -> Answer
         requires { IsServable event }
-        ensures happens { (m : Machine) → StandsFor self.old.core m → (n : Machine) × Happens self.old.core m event result self.new.core n × StandsFor self.new.core n }
+        ensures happens { (m : Machine) → StandsFor self.old.core m → (n : Machine) × HasEffect self.old.core m event result self.new.core n × StandsFor self.new.core n }
         ensures side { self.new.core.side ≡ self.old.core.side }
     {
         serve(&mut self.core, event)

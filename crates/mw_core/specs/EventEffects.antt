@@ -13,7 +13,7 @@ use Rattle.mw_model.specs.Pictures.{IsImage}
 use Rattle.mw_model.specs.Values.{Value}
 use Rattle.mw_model.specs.Refusals.{refusal}
 use Rattle.mw_model.specs.Machine.{Machine, with_table, settled, killed, after, reply_to}
-use Rattle.mw_model.specs.Stands.{Seen, StandsFor}
+use Rattle.mw_model.specs.Stands.{CoreView, StandsFor}
 use Rattle.mw_task.specs.WindowTasks.{WindowTask}
 use Rattle.mw_core.specs.declared.answers.Started.{Started}
 use Rattle.mw_core.specs.declared.answers.Started.TheVariants as started
@@ -28,7 +28,7 @@ use Rattle.mw_core.specs.declared.events.Answer.{Answer}
 use Rattle.mw_core.specs.declared.events.Answer.TheVariants as answer
 use Rattle.mw_stands.specs.Payloads.{given_image, image_payload, given_element, element_payload}
 use Rattle.mw_stands.specs.Events.{WorkStays, IsFresh, handed_out}
-use Rattle.mw_core.specs.TaskAnswers.{Starts, Finishes, Refuses, IsTurn}
+use Rattle.mw_core.specs.TaskAnswers.{Starts, Finishes, Refuses, Picks}
 use Rattle.mw_core.specs.Fetches.{ShowsSome, shown_value}
 
 -- an image that is loaded is within the limits
@@ -39,39 +39,39 @@ IsServable e = Unit {0}
 -- ---- session calls
 
 -- the core and the machine are as before
-abbrev pub Stays : Seen → Machine → Seen → Machine → Type 0
+abbrev pub Stays : CoreView → Machine → CoreView → Machine → Type 0
 Stays old m new n = (new ≡ old) × (n ≡ m)
 
 -- The reply is the machine's, the machine goes on by the call, the log tells both, and the work of each ticket that goes on pending stays.
-pub record Replies (old : Seen) (m : Machine) (c : Call) (payload : Option Value) (r : Reply) (new : Seen) (n : Machine) : Type 0 where
+pub record Replies (old : CoreView) (m : Machine) (c : Call) (payload : Option Value) (r : Reply) (new : CoreView) (n : Machine) : Type 0 where
   pub reply : r ≡ reply_to m c
   pub machine : n ≡ after m c payload
   pub log : new.log ≡ old.log ++ item.Call c r ∷ []
   pub work : WorkStays old new
 
 -- a session call that answers by a reply, or found no memory
-abbrev pub Calls : Seen → Machine → Call → Option Value → Answer → Seen → Machine → Type 0
+abbrev pub Calls : CoreView → Machine → Call → Option Value → Answer → CoreView → Machine → Type 0
 Calls old m c p (answer.Reply r) new n = Replies old m c p r new n
 Calls old m c p answer.NoMemory new n = Stays old m new n
 Calls old m c p a new n = ⊥
 
 -- a LOAD or an ELEMENT: that memory was refused is never told by a reply
-abbrev pub Loads : Seen → Machine → Call → Option Value → Answer → Seen → Machine → Type 0
+abbrev pub Loads : CoreView → Machine → Call → Option Value → Answer → CoreView → Machine → Type 0
 Loads old m c p (answer.Reply r) new n = Replies old m c p r new n × (r ≢ reply.Refused code.Memory)
 Loads old m c p a new n = Calls old m c p a new n
 
 -- a RUN: no task of the command that it accepts was started
-abbrev pub Submits : Seen → Machine → Call → Answer → Seen → Machine → Type 0
+abbrev pub Submits : CoreView → Machine → Call → Answer → CoreView → Machine → Type 0
 Submits old m c (answer.Reply r) new n = Replies old m c None r new n × ((t : ℕ) → r ≡ reply.Accepted t → IsFresh new t)
 Submits old m c a new n = Calls old m c None a new n
 
 -- a CANCEL: memory may be wanting only where it is refused
-abbrev pub Cancels : Seen → Machine → Call → Answer → Seen → Machine → Type 0
+abbrev pub Cancels : CoreView → Machine → Call → Answer → CoreView → Machine → Type 0
 Cancels old m c answer.NoMemory new n = (refusal m.table m.payloads c ≢ None) × Stays old m new n
 Cancels old m c a new n = Calls old m c None a new n
 
 -- a FETCH, with the value that it hands out
-abbrev pub Fetches : Seen → Machine → Call → Answer → Seen → Machine → Type 0
+abbrev pub Fetches : CoreView → Machine → Call → Answer → CoreView → Machine → Type 0
 Fetches old m c (answer.Fetched f) new n = Replies old m c None f.reply new n × (shown_value f.value ≡ handed_out m f.reply) × (IsSome (shown_value f.value) ↔ ShowsSome f.reply)
 Fetches old m c answer.NoMemory new n = Stays old m new n
 Fetches old m c a new n = ⊥
@@ -94,42 +94,42 @@ after_refusal m (refusal.Killed t) = with_table m (killed m.table t outcome.Memo
 after_refusal m r = m
 
 -- the ready task of this place is taken, or its ticket is killed for want of memory; or no task is ready
-abbrev pub Takes : Seen → Machine → ℕ → Answer → Seen → Machine → Type 0
-Takes old m place (answer.Started s) new n = IsTurn old place s × Starts old m s new × (n ≡ after_start m s)
+abbrev pub Takes : CoreView → Machine → ℕ → Answer → CoreView → Machine → Type 0
+Takes old m place (answer.Started s) new n = Picks old place s × Starts old m s new × (n ≡ after_start m s)
 Takes old m place a new n = ⊥
 
 -- the result of a running task is taken; any other is late, or a stranger's
-abbrev pub Brings : Seen → Machine → WindowTask → Answer → Seen → Machine → Type 0
+abbrev pub Brings : CoreView → Machine → WindowTask → Answer → CoreView → Machine → Type 0
 Brings old m d (answer.Finish f) new n = Finishes old m d f new × (n ≡ after_finish m f)
 Brings old m d a new n = ⊥
 
 -- the ticket of a running task is killed for want of memory; any other task is late, or a stranger's
-abbrev pub GivesUp : Seen → Machine → TaskId → Answer → Seen → Machine → Type 0
+abbrev pub GivesUp : CoreView → Machine → TaskId → Answer → CoreView → Machine → Type 0
 GivesUp old m k (answer.Refusal r) new n = Refuses old m k r new × (n ≡ after_refusal m r)
 GivesUp old m k a new n = ⊥
 
 -- ---- events
 
 -- at an event with this answer a core that shows old, and stands for m, comes to show new, and the machine to be n
-abbrev pub Happens : Seen → Machine → Event → Answer → Seen → Machine → Type 0
-Happens old m (event.Load x g) a new n = Loads old m (call.Load x (given_image g)) (image_payload g) a new n
-Happens old m (event.Element x g) a new n = Loads old m (call.Element x (given_element g)) (element_payload g) a new n
-Happens old m (event.Run x o) a new n = Submits old m (call.Run x o) a new n
-Happens old m (event.Cancel x) a new n = Cancels old m (call.Cancel x) a new n
-Happens old m (event.Release x) a new n = Calls old m (call.Release x) None a new n
-Happens old m (event.Status x) a new n = Calls old m (call.Status x) None a new n
-Happens old m (event.Fetch x) a new n = Fetches old m (call.Fetch x) a new n
-Happens old m (event.Start place) a new n = Takes old m place a new n
-Happens old m (event.Finish d) a new n = Brings old m d a new n
-Happens old m (event.Refuse k) a new n = GivesUp old m k.task a new n
+abbrev pub HasEffect : CoreView → Machine → Event → Answer → CoreView → Machine → Type 0
+HasEffect old m (event.Load x g) a new n = Loads old m (call.Load x (given_image g)) (image_payload g) a new n
+HasEffect old m (event.Element x g) a new n = Loads old m (call.Element x (given_element g)) (element_payload g) a new n
+HasEffect old m (event.Run x o) a new n = Submits old m (call.Run x o) a new n
+HasEffect old m (event.Cancel x) a new n = Cancels old m (call.Cancel x) a new n
+HasEffect old m (event.Release x) a new n = Calls old m (call.Release x) None a new n
+HasEffect old m (event.Status x) a new n = Calls old m (call.Status x) None a new n
+HasEffect old m (event.Fetch x) a new n = Fetches old m (call.Fetch x) a new n
+HasEffect old m (event.Start place) a new n = Takes old m place a new n
+HasEffect old m (event.Finish d) a new n = Brings old m d a new n
+HasEffect old m (event.Refuse k) a new n = GivesUp old m k.task a new n
 
 -- these answers are given to these events, one after another: between any two the core stands for the machine there, and keeps its side
-abbrev pub HappensAll : Seen → Machine → List Event → List Answer → Seen → Machine → Type 0
-HappensAll old m [] [] new n = Stays old m new n
-HappensAll old m (e ∷ es) (a ∷ answers) new n =
-    (between : Seen) × (k : Machine) × Happens old m e a between k × StandsFor between k × (between.side ≡ old.side) × HappensAll between k es answers new n
-HappensAll old m [] (a ∷ answers) new n = ⊥
-HappensAll old m (e ∷ es) [] new n = ⊥
+abbrev pub HaveEffects : CoreView → Machine → List Event → List Answer → CoreView → Machine → Type 0
+HaveEffects old m [] [] new n = Stays old m new n
+HaveEffects old m (e ∷ es) (a ∷ answers) new n =
+    (between : CoreView) × (k : Machine) × HasEffect old m e a between k × StandsFor between k × (between.side ≡ old.side) × HaveEffects between k es answers new n
+HaveEffects old m [] (a ∷ answers) new n = ⊥
+HaveEffects old m (e ∷ es) [] new n = ⊥
 
 -- the answer that a session call gives
 abbrev pub answer_of : {E : Type 0} → Result Reply E → Answer

@@ -9,13 +9,13 @@ use Rattle.mw_model.specs.Tasks.{Progress, flag, task_count, tasks_below, nothin
 use Rattle.mw_grid.specs.Grids.{Tiling, tile_at, tile_count, tiles_of}
 use Rattle.mw_pixel.specs.Images.{set_of, grey_of}
 use Rattle.mw_task.specs.Products.{HoldsImage}
-use Rattle.mw_task.specs.declared.made.Made.{Made}
-use Rattle.mw_task.specs.declared.made.Made.TheVariants as made
+use Rattle.mw_task.specs.declared.tile_result.TileResult.{TileResult}
+use Rattle.mw_task.specs.declared.tile_result.TileResult.TheVariants as made
 use Rattle.mw_tiles.specs.Tiles.{Tiled, nothing_placed, number_in}
 use Rattle.mw_progress.specs.Levels.{Level, IsLevel, levels}
 
 -- What is known of the work under a ticket: its tasks, the level of the image that it reads, the frame with its tiles, what is kept of the plane of each step (of a Sum step the number of each tile, as its only cell), and the order in which ready tasks are handed out.
-pub record Underway : Type 0 where
+pub record ProgressView : Type 0 where
   pub progress : Progress
   pub input : Level
   pub tiling : Tiling
@@ -48,7 +48,7 @@ abbrev pub no_plane : Tiling → Tiled
 no_plane g = nothing_placed kind.Bit 0 g
 
 -- what is kept of the plane of a step
-abbrev pub plane_at : Underway → ℕ → Tiled
+abbrev pub plane_at : ProgressView → ℕ → Tiled
 plane_at u k = slice_index_or u.planes k (no_plane u.tiling)
 
 -- the plane of a step of which no tile is placed
@@ -81,7 +81,7 @@ pub record IsFramed (g : Tiling) : Type 0 where
   pub most : g.side ≤ 1024
 
 -- The parts agree: the plan can be worked off, the planes are those of its steps on the tiles of the frame, what started tasks read is finished, and what is needed is kept.
-pub record IsWhole (u : Underway) : Type 0 where
+pub record IsWhole (u : ProgressView) : Type 0 where
   pub workable : IsWorkable u.progress.plan u.input
   pub tiling : IsFramed u.tiling
   pub width : u.progress.width ≡ u.tiling.width
@@ -113,19 +113,19 @@ fresh plan input g = record {
 -- ---- what tasks make
 
 -- the image that was made of a tile
-abbrev pub image_of_made : Made → Picture
+abbrev pub image_of_made : TileResult → Picture
 image_of_made (made.Bits p) = set_of (arc_value p)
 image_of_made (made.Grey8 p maxval) = grey_of (arc_value p) maxval
 image_of_made (made.Grey16 p maxval) = grey_of (arc_value p) maxval
 image_of_made (made.Number n) = no_picture
 
 -- its samples; or the number, alone
-abbrev pub cells_of_made : Made → List ℕ
+abbrev pub cells_of_made : TileResult → List ℕ
 cells_of_made (made.Number n) = n ∷ []
 cells_of_made m = (image_of_made m).samples
 
 -- the image may be placed in this tile of the plane: it has the plane's kind and maxval and the sides of the tile, and no sample is over the maxval
-pub record IsTileFor (p : Tiled) (i : ℕ) (m : Made) : Type 0 where
+pub record IsTileFor (p : Tiled) (i : ℕ) (m : TileResult) : Type 0 where
   pub held : HoldsImage (image_of_made m) m
   pub bounded : All (λ n. n ≤ (image_of_made m).maxval) (image_of_made m).samples
   pub kind : (image_of_made m).kind ≡ p.kind
@@ -134,13 +134,13 @@ pub record IsTileFor (p : Tiled) (i : ℕ) (m : Made) : Type 0 where
   pub height : (image_of_made m).height ≡ (tile_at p.tiling i).height
 
 -- what was made is a number of less than 2 to the 40, the sum of a tile
-pub record IsSmallNumber (m : Made) : Type 0 where
+pub record IsSmallNumber (m : TileResult) : Type 0 where
   pub number : ℕ
   pub is : m ≡ made.Number number
   pub small : number < 2 ^ 40
 
 -- what was made fits the step and the tile
-pub record Fits (u : Underway) (step tile : ℕ) (m : Made) : Type 0 where
+pub record Fits (u : ProgressView) (step tile : ℕ) (m : TileResult) : Type 0 where
   pub within : step < length u.progress.plan
   pub inside : tile < tile_count u.tiling
   pub number : is_sum (slice_index_or u.progress.plan step nothing_planned).step ≡ true → IsSmallNumber m
@@ -149,14 +149,14 @@ pub record Fits (u : Underway) (step tile : ℕ) (m : Made) : Type 0 where
 -- ---- events
 
 -- The task of this number is started, and nothing else changes but the order of ready tasks.
-pub record IsStarted (old new : Underway) (n : ℕ) : Type 0 where
+pub record IsStarted (old new : ProgressView) (n : ℕ) : Type 0 where
   pub progress : new.progress ≡ record old.progress { started = slice_set old.progress.started n true }
   pub input : new.input ≡ old.input
   pub tiling : new.tiling ≡ old.tiling
   pub planes : new.planes ≡ old.planes
 
 -- The task of this number is finished. It made these cells, and nothing else is kept that was not kept before.
-pub record IsFinished (old new : Underway) (n : ℕ) (cells : List ℕ) : Type 0 where
+pub record IsFinished (old new : ProgressView) (n : ℕ) (cells : List ℕ) : Type 0 where
   pub finished : new.progress.finished ≡ slice_set old.progress.finished n true
   pub started : new.progress.started ≡ old.progress.started
   pub plan : new.progress.plan ≡ old.progress.plan
