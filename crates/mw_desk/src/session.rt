@@ -32,6 +32,7 @@ fn drain<W: Write, D: Desk>(
     desk: &mut D,
     kept: &mut D::Kept,
 ) -> Result<Option<End>, SessionFault>
+    requires { D.ready }
     ensures ran { (left : Option (List ℕ)) → Drains D.Answer left intake.old intake.new kept.old kept.new (W.contents sink.old.inner) (W.contents sink.new.inner) result }
     ensures waits { IfOk result (λ o. o ≡ None → front intake.new ≡ Partial) }
     ensures same { OnOk result (sink.new.failed ≡ sink.old.failed) }
@@ -63,6 +64,7 @@ fn serve_piece<W: Write, D: Desk>(
     kept: &mut D::Kept,
     piece: &[u8],
 ) -> Result<Option<End>, SessionFault>
+    requires ready { D.ready }
     requires some { 0 < length piece.now }
     requires served { front intake.old ≡ Partial }
     ensures ran { (left : Option (List ℕ)) → Drains D.Answer left (intake.old ++ piece.now) intake.new kept.old kept.new (W.contents sink.old.inner) (W.contents sink.new.inner) result }
@@ -112,6 +114,7 @@ pub fn run_session<R: Read, W: Write, D: Desk>(
     desk: &mut D,
     kept: &mut D::Kept,
 ) -> Result<End, SessionFault>
+    requires ready { D.ready }
     requires source_clear { source.old.failed ≡ false }
     requires sink_clear { sink.old.failed ≡ false }
     requires unread { source.old.reads ≡ 0 }

@@ -1,12 +1,13 @@
 //! Sessions at a board without workers.
 
-use crate::room::{GIVEN, Left, Once, new_board, served};
+use crate::room::{Client, Ear, GIVEN, Left, Once, new_board, served};
 use mw_model::Code;
-use mw_serve::{End, Pass};
-use mw_wire::SessionFault;
+use mw_serve::{End, Pass, serve};
+use mw_wire::{SessionFault, Sink, Source};
 use std::alloc::{AllocError, Global};
 use std::process::Abort;
 use std::sync::Wait;
+use std::sync::atomic::{AtomicU64, Ordering};
 use std::test::Fail;
 
 /// The parts one after another.
@@ -74,9 +75,38 @@ fn quit_stops_reading(rt: HostRuntime) {
     assert_eq!(rt; receipts, 1);
 }
 
-/// A client that sends one line and waits has its answer: it is written before more is read.
+/// How many bytes the client hears before it sends each line of its session.
+const TALK: [(u64, &[u8]); 7] = [
+    (0, b"LOAD f 19\n"),
+    (0, b"P2\n5 1\n9\n3 1 4 1 5\n"),
+    (5, b"STATUS f\n"),
+    (23, b"FETCH f\nSTATUS x\nCANC"),
+    (63, b"EL f\n"),
+    (78, b"RELEASE f\n"),
+    (83, b"STATUS f\n"),
+];
+
+/// A client that waits for each answer has it: it is written before more is read.
 #[test]
-fn each_answer_comes_before_the_next_read(rt: HostRuntime) {
+fn each_answer_comes_before_the_next_read(rt: HostRuntime) -> Result<(), Fail> {
+    let board = new_board(rt.alloc())?;
+    let mut pass = board.pass();
+    let heard = AtomicU64::new(0);
+    let mut source = Source::new(Client {
+        lines: &TALK,
+        heard: &heard,
+    });
+    let mut sink = Sink::new(Ear { heard: &heard });
+    let ended = serve(&rt, rt.alloc(), &mut source, &mut sink, &board, &mut pass);
+    assert_eq!(rt; ended, Ok(End::Quit));
+    assert_eq!(rt; heard.load(Ordering::SeqCst), 94);
+    assert_eq!(rt; count(&pass), 7);
+    Ok(())
+}
+
+/// A reader that fails behind whole requests and within one: all that was due is written.
+#[test]
+fn a_reader_that_fails(rt: HostRuntime) {
     let piece = Once {
         piece: b"STATUS x\nSTATUS",
         fails: true,

@@ -10,8 +10,9 @@ use mw_serve::{End, serve};
 use mw_wire::{SessionFault, Sink, Source};
 use std::alloc::Global;
 use std::io;
-use std::io::{ErrorKind, Read};
+use std::io::{ErrorKind, Read, Write};
 use std::sync::Wait;
+use std::sync::atomic::{AtomicU64, Ordering};
 
 /// `f`, a row of five samples, and `b`, three pixels in a row with the origin in the middle.
 pub(crate) const GIVEN: &[u8] =
@@ -34,6 +35,44 @@ impl Read for Once<'_> {
         buf[..n].copy_from_slice(front);
         self.piece = rest;
         Ok(n)
+    }
+}
+
+/// A client that sends the next line once it has heard so many bytes in all, and else hangs up.
+#[derive(Drop)]
+pub(crate) struct Client<'a> {
+    pub(crate) lines: &'a [(u64, &'a [u8])],
+    pub(crate) heard: &'a AtomicU64,
+}
+
+impl Read for Client<'_> {
+    fn read(&mut self, buf: &mut [u8]) -> io::Result<usize> {
+        let Some((&(awaited, line), rest)) = self.lines.split_first() else {
+            return Ok(0);
+        };
+        if self.heard.load(Ordering::SeqCst) != awaited || buf.len() < line.len() {
+            return Err(io::Error::from(ErrorKind::Other));
+        }
+        buf[..line.len()].copy_from_slice(line);
+        self.lines = rest;
+        Ok(line.len())
+    }
+}
+
+/// What a client hears.
+#[derive(Drop)]
+pub(crate) struct Ear<'a> {
+    pub(crate) heard: &'a AtomicU64,
+}
+
+impl Write for Ear<'_> {
+    fn write(&mut self, buf: &[u8]) -> io::Result<usize> {
+        self.heard.fetch_add(buf.len() as u64, Ordering::SeqCst);
+        Ok(buf.len())
+    }
+
+    fn flush(&mut self) -> io::Result<()> {
+        Ok(())
     }
 }
 

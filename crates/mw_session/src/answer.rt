@@ -1,7 +1,6 @@
 //! One request, and what is written for it.
 
 ghost use Rattle.std.specs.Prelude.{◌≡◌, ℕ, List, OnOk, OnErr, Err, true};
-ghost use Rattle.std.specs.Thread.{IsSync};
 ghost use Rattle.mw_model.specs.declared.names.Name.{Name};
 ghost use Rattle.mw_model.specs.declared.requests.Ask.TheVariants as Ask;
 ghost use Rattle.mw_model.specs.Lines.{AskLoad, AskElement, AskAlone};
@@ -123,18 +122,20 @@ fn fetch<W: Write, P: Pick, T: Threads + Sync>(
 
 /// Answers from a core, whose work is run by a crew in the order of the picks.
 #[derive(Drop)]
-pub(crate) struct Clerk<'r, 'p, P, T: Threads> {
+pub(crate) struct Clerk<'r, 'p, P, T> {
     pub crew: Crew<'r, T>,
     pub pick: &'p mut P,
-    pub ghost shared: { IsSync T.row },
 }
 
 impl<P: Pick, T: Threads + Sync> Desk for Clerk<'_, '_, P, T> {
+    ghost use Rattle.std.specs.Thread.{IsSync};
     ghost use Rattle.mw_session.specs.Answering.{ScriptAnswer};
 
     type Kept = Core;
 
     ghost Answer = { ScriptAnswer };
+
+    ghost ready = { IsSync T.row };
 
     fn answer<W: Write>(
         &mut self,
