@@ -39,8 +39,8 @@ returns-then-is_quit-clause-ran g c = λ left.
     drains-quit g.D.Desk.Answer left c.args.intake.now c.requests.intake c.next.new.self c.next.new.self c.args.kept.now c.requests.kept
     (g.W.Write.contents c.args.sink.now.inner) (g.W.Write.contents c.requests.sink.inner) c.requests.invariant.0 (rw quit at found)
 
-pub answer-requires-open_still : goal.answer-requires-open_still
-answer-requires-open_still g c = λ e. let t = c.if-is_quit.ensures.1 e in cc
+pub answer-requires-clause-open_still : goal.answer-requires-clause-open_still
+answer-requires-clause-open_still g c = λ e. let t = c.if-is_quit.ensures.1 e in cc
 
 pub returns-in-Err-answer-clause-ran : goal.returns-in-Err-answer-clause-ran
 returns-in-Err-answer-clause-ran g c = λ left.
