@@ -1,5 +1,6 @@
-# `make demo` builds morphd and shows it at work; `make test` is the gate; `make memory` refuses each allocation in turn;
-# `make soak` runs random sessions beside a plain model; `make bench` takes times.
+# `make demo` builds morphd and shows it at work; `make test` is the gate; `make memory` refuses each allocation and each
+# start of a thread in turn; `make soak` runs random sessions beside a plain model, and a server with good and bad clients;
+# `make bench` takes times.
 .PHONY: demo morphd test memory soak bench toolchain python compiler
 
 MORPHD = crates/morphd/out/morphd
@@ -36,12 +37,14 @@ memory: toolchain python compiler
 	@python3 -B checks/refused_tests.py crates/mw_memory_tests/out/mw_memory_tests_tests
 	@python3 -B checks/refused_tests.py crates/mw_machine_tests/out/mw_machine_tests_tests
 
-# As long as is asked for: make soak FOR=600
+# Each of the two soaks for as long as is asked for, and by a seed if one is given: make soak FOR=600 SEED=one
 FOR = 60
 
 soak: toolchain python
 	@python3 -B checks/prove.py morphd
-	@python3 -B checks/soak.py $(MORPHD) $(FOR)
+	@python3 -B checks/bad_peers.py $(MORPHD)
+	@python3 -B checks/soak.py $(MORPHD) $(FOR) $(SEED)
+	@python3 -B checks/soak_listen.py $(MORPHD) $(FOR) $(SEED)
 
 # Best on a machine that does nothing else: each line is the best of five runs in one thread (of `bench_core` and
 # `bench_board` the best of three, of the latter also with workers). The C library is told to
@@ -56,4 +59,6 @@ bench: toolchain python
 	crates/bench_core/out/bench_core measure
 	crates/bench_board/out/bench_board measure
 	python3 bench/command.py $(MORPHD)
+	python3 bench/workers.py $(MORPHD)
+	python3 -B bench/listen.py $(MORPHD)
 	@/usr/bin/python3 bench/peers.py || echo "the peers were not measured" >&2

@@ -13,7 +13,7 @@ import subprocess
 import sys
 import tempfile
 
-from refused_memory import HERE, built_refuser, refusing
+from refused_memory import built_refuser, counted, refusing
 
 MODULES = {
     "mw_memory_tests_tests": ["files", "makers", "results", "sharing"],
@@ -31,15 +31,15 @@ def names(program, module):
 
 def refused(program, name, count):
     """Runs a test with each of its allocations refused: how many there were, and in how many of the runs it failed."""
-    bad = 0
+    bad = last = 0
     for number in itertools.count(0):
         made = subprocess.run([program, name], capture_output=True, env=refusing(number, count), timeout=60)
-        with open(count) as file:
-            calls = int(file.read())
+        calls, _ = counted(count)
+        last = max(last, calls)
         if made.returncode:
             bad += 1
             print("FAILS: %s, allocation %d: %r" % (name, number, made.stdout[-200:] + made.stderr[-200:]))
-        if number > calls:
+        if number > last:
             return number - 1, bad
 
 

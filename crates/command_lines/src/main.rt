@@ -11,7 +11,7 @@ use std::io::{Eprint, Print};
 const PROCESSORS: usize = 3;
 
 /// The command lines that are shown after the words of the process.
-const LINES: [&str; 9] = [
+const LINES: [&str; 17] = [
     "morphd --version",
     "morphd batch",
     "morphd batch --tile 1024",
@@ -21,6 +21,14 @@ const LINES: [&str; 9] = [
     "morphd batch --workers 65",
     "morphd batch --workers 0 --tile 65",
     "morphd batch --workers x",
+    "morphd listen --port 7001",
+    "morphd listen --port 65535 --workers 64 --sessions 64 --tile 64",
+    "morphd listen",
+    "morphd listen --port 0 --workers 0",
+    "morphd listen --port 65536",
+    "morphd listen --port 7001 --workers 0 --sessions 0",
+    "morphd listen --port 7001 --sessions 65 --tile 65",
+    "morphd listen --port 7001 --tile 100",
 ];
 
 /// Prints to standard output what goes to either output.
@@ -69,6 +77,12 @@ fn show<R: Print>(rt: &R, job: Result<Job, LineFault>) -> io::Result<()> {
             println!(rt;
                 "a batch with tiles of {} and {} workers",
                 given.side, given.workers
+            )
+        }
+        Ok(Job::Listen(given)) => {
+            println!(rt;
+                "port {}, {} workers, {} sessions, tiles of {}",
+                given.port, given.workers, given.sessions, given.side
             )
         }
         Err(fault) => {

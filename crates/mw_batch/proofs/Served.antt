@@ -7,13 +7,14 @@ use Rattle.mw_model.specs.declared.calls.LogItem.{LogItem}
 use Rattle.mw_model.specs.declared.requests.End.{End}
 use Rattle.mw_model.specs.Machine.{start_state}
 use Rattle.mw_model.specs.Refusals.{Table}
-use Rattle.mw_model.specs.Stands.{Seen, StandsFor, progress_at, running_count}
+use Rattle.mw_model.specs.Stands.{CoreView, StandsFor, progress_at, running_count}
 use Rattle.mw_model.specs.Tasks.{running_tasks}
 use Rattle.mw_wire.specs.Faults.{fault_line}
 use Rattle.mw_wire.specs.Writes.{Wrote}
 use Rattle.mw_wire.specs.declared.fault.SessionFault.{SessionFault}
 use Rattle.mw_wire.specs.declared.fault.SessionFault.TheVariants as fault
-use Rattle.mw_session.specs.Runs.{LacksRoom, Ran, SessionRan}
+use Rattle.mw_desk.specs.Rooms.{LacksRoom}
+use Rattle.mw_session.specs.Runs.{Ran, SessionRan}
 use Rattle.mw_session.proofs.Stops.{finished_script, stopped_broken}
 use Rattle.mw_batch.specs.Batches.{Ends, Served, HasFailed, TellsLine, TellsOutcome, end_status}
 
@@ -23,7 +24,7 @@ ends-of left reads read_failed written write_failed told tell_failed =
     record { left = left; reads = reads; read_failed = read_failed; written = written; write_failed = write_failed; told = told; tell_failed = tell_failed }
 
 -- no task is running in a new core
-pub idle-start : (c : Seen) → StandsFor c start_state → running_count c ≡ 0
+pub idle-start : (c : CoreView) → StandsFor c start_state → running_count c ≡ 0
 idle-start c s = ap (λ (w : Table). sum (map (λ t. option_map_or running_tasks (progress_at c.work t) 0) (range_with_len 0 (length w.names)))) s.table
 
 -- a line that was sent is told
@@ -43,7 +44,7 @@ pub record Held (new : Ends) (outcome : Result End SessionFault) : Type 0 where
   pub reader_failed : new.read_failed ≡ true → outcome ≡ Err fault.Read
   pub writer_failed : new.write_failed ≡ true → outcome ≡ Err fault.Write
 
-pub served-session : (old new : Ends) (o p : Seen) (outcome : Result End SessionFault) (status : ℕ) → o.log ≡ [] → SessionRan start_state o p old.left new.left old.written new.written outcome
+pub served-session : (old new : Ends) (o p : CoreView) (outcome : Result End SessionFault) (status : ℕ) → o.log ≡ [] → SessionRan start_state o p old.left new.left old.written new.written outcome
     → TellsOutcome old new outcome → Held new outcome → status ≡ end_status outcome → Served old new status
 served-session old new o p (Ok e) status none s told h is =
     let f = finished_script (LacksRoom s.taken) new.left s.taken start_state s.state o.log p.log old.written new.written e s.ran in

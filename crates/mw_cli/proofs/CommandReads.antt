@@ -1,16 +1,25 @@
 -- What clap reads of a command stays when a text of its help is set, and what is read of the texts of a job's options.
-use Rattle.std.proofs.Common.{◌≡◌, ℕ, ap, refl, Option, Some, None, List, option_map, sym, ◌∙◌, subst}
-use Rattle.std.specs.Prelude.{option_and_then, Result, Ok, Err}
+use Rattle.std.proofs.Common.{◌≡◌, ℕ, ap, refl, codes, Option, Some, None, List, option_map, sym, ◌∙◌, subst, inl, inr}
+use Rattle.std.specs.Prelude.{◌↔◌, Box, option_and_then, Result, Ok, Err}
 use Rattle.std.specs.Str.Parse.{ParsesUnsigned}
 use Rattle.clap.specs.Matches.{TriesOne}
-use Rattle.clap.specs.Words.{Row, Text, app_of, one_of}
-use Rattle.clap.specs.Simple.{app_of_fields}
+use Rattle.clap.specs.Words.{Row, Text, app_of, one_of, subcommand_name_of, subcommand_of, subcommand_rows_of}
+use Rattle.clap.specs.Simple.{app_of_fields, subcommand_rows}
+use Rattle.clap.specs.declared.parser.matches.ArgMatches.{ArgMatches}
+use Rattle.clap.specs.declared.parser.matches.ArgMatches.TheViews.{out-ArgMatches, out-SubCommand}
+use Rattle.clap.specs.declared.parser.matches.SubCommand.{SubCommand}
+use Rattle.std.specs.Box.{box_value}
 use Rattle.clap.specs.declared.builder.command.Command.{Command}
 use Rattle.clap.specs.declared.builder.command.Command.TheViews.{out-Command as fields_of}
-use Rattle.mw_cli.specs.CommandLine.{AsksNoCrew, AsksWorkers, IsCrew, IsTileSide, Reads, Writes, WritesNoSide, text_in, usual_workers}
+use Rattle.mw_cli.specs.CommandLine.{AreListens, AreTaken, AsksNoCrew, AsksWorkers, Faults, HasNoGlobals, IsCrew, IsRefused, IsTileSide, IsUpTo, Reads, Writes, WritesNone, WritesNoSide, program_words, text_in, usual_workers}
+use Rattle.mw_cli.specs.declared.fault.LineFault.{LineFault}
+use Rattle.mw_cli.specs.declared.fault.LineFault.TheVariants as fault
 
 pub about_keeps_words : (old new : Command) (text : _) → fields_of new ≡ record (fields_of old) { about = text } → app_of new ≡ app_of old
 about_keeps_words old new text e = ap app_of_fields e
+
+pub about_has_no_globals : (old new : Command) (text : _) → fields_of new ≡ record (fields_of old) { about = text } → HasNoGlobals old → HasNoGlobals new
+about_has_no_globals old new text e own = ap (λ f. f.has_globals) e ∙ own
 
 pub after_help_keeps_words : (old new : Command) (text : _) → fields_of new ≡ record (fields_of old) { after_help = text } → app_of new ≡ app_of old
 after_help_keeps_words old new text e = ap app_of_fields e
@@ -68,3 +77,33 @@ no_other_crew processors (Some t) m w bad n asked ok = bad (subst IsCrew (one_nu
 pub unread_is_no_crew : (E : Type 0) (processors : ℕ) (text : Option Text) (x : E) → Reads text (Err x) → AsksNoCrew processors text
 unread_is_no_crew E processors None x h n asked ok = h.0 refl
 unread_is_no_crew E processors (Some t) x h n asked ok = h.1 n asked
+
+pub unread_is_none : (E : Type 0) (most : ℕ) (text : Option Text) (x : E) → Reads text (Err x) → WritesNone most text
+unread_is_none E most text x h n w ok = h.1 n w
+
+pub missing_is_none : (most : ℕ) (text : Option Text) → text ≡ None → WritesNone most text
+missing_is_none most None e n w ok = w
+missing_is_none most (Some t) e n w ok = cc
+
+pub no_other : (most : ℕ) (text : Option Text) (m : ℕ) → Writes text m → (IsUpTo most m → ⊥) → WritesNone most text
+no_other most text m v bad n w ok = bad (subst (IsUpTo most) (one_number text n m w v) ok)
+
+-- the name of the job that the matches have
+pub name-rows : (m : ArgMatches) → subcommand_name_of m ≡ option_map (λ p. p.0) (subcommand_rows_of m)
+name-rows m = go (out-ArgMatches m).subcommand
+  where
+    go : {Z : Type 0} (o : Option (Box SubCommand Z)) → option_map (λ b. (out-SubCommand (box_value b)).name.now) o ≡ option_map (λ p. p.0) (subcommand_rows o)
+    go None = refl
+    go (Some b) = refl
+
+pub listens_named : (m : ArgMatches) → (subcommand_name_of m ≡ Some (codes "listen")) ↔ AreListens (subcommand_rows_of m)
+listens_named m = (λ h. sym (name-rows m) ∙ h, λ h. name-rows m ∙ h)
+
+-- a fault of the numbers refuses the words
+pub faults_refuse : (processors : ℕ) (words : List Text) (f : LineFault) → AreTaken words → Faults processors (subcommand_of program_words words) f → IsRefused processors words f
+faults_refuse processors words (fault.Line e) taken h = elim h [ inl other ↦ absurd other.1 | inr own ↦ absurd own.1 ]
+faults_refuse processors words fault.Port taken h = (taken, h)
+faults_refuse processors words fault.Workers taken h = (taken, h)
+faults_refuse processors words fault.Sessions taken h = (taken, h)
+faults_refuse processors words fault.Tile taken h = (taken, h)
+faults_refuse processors words fault.NoMemory taken h = tt

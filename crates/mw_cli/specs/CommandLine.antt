@@ -1,5 +1,5 @@
 -- The command line of the program (own): what clap is to read of it, and which job its words ask for.
-use Rattle.std.specs.Prelude.{◌≡◌, ◌≤◌, ◌<◌, ◌^◌, ◌%◌, ℕ, Bool, true, false, if◌then◌else◌, nat_lt, Result, Ok, Err, List, [], ◌∷◌, Option, Some, None, codes, option_and_then, pos}
+use Rattle.std.specs.Prelude.{◌≡◌, ◌≤◌, ◌<◌, ◌^◌, ◌%◌, ℕ, Bool, true, false, if◌then◌else◌, nat_lt, Result, Ok, Err, List, [], ◌∷◌, Option, Some, None, codes, option_and_then, option_map, pos, ◌⊎◌}
 use Rattle.std.specs.Str.Parse.{IsNumeral, digits_value, without_leading_plus}
 use Rattle.clap.specs.Words.{App, IsAmong, Row, Rule, Text, fault_of, kind_of, new_app, new_rule, one_of, subcommand_of, with_rule, with_subcommand}
 use Rattle.clap.specs.Simple.{on_top}
@@ -8,8 +8,10 @@ use Rattle.clap.specs.declared.builder.command.Command.TheViews.{out-Command as 
 use Rattle.clap.specs.declared.builder.value_parser.ValueParser.TheVariants as parser
 use Rattle.clap.specs.declared.error.kind.ErrorKind.{ErrorKind}
 use Rattle.clap.specs.declared.error.kind.ErrorKind.TheVariants as kind
+use Rattle.mw_cli.specs.declared.line.BatchOptions.{BatchOptions}
 use Rattle.mw_cli.specs.declared.line.Job.{Job}
 use Rattle.mw_cli.specs.declared.line.Job.TheVariants as job
+use Rattle.mw_cli.specs.declared.line.ListenOptions.{ListenOptions}
 use Rattle.mw_cli.specs.declared.fault.LineFault.{LineFault}
 use Rattle.mw_cli.specs.declared.fault.LineFault.TheVariants as fault
 
@@ -33,9 +35,29 @@ workers_option = number_option (codes "workers")
 abbrev pub batch_words : App
 batch_words = with_rule (with_rule (new_app (codes "batch")) tile_option) workers_option
 
+-- `--port P`; clap refuses words without it
+abbrev pub port_option : Rule
+port_option = record (number_option (codes "port")) { required = true }
+
+-- `--workers W` of a server, 2 where it is left out
+abbrev pub crew_option : Rule
+crew_option = record (number_option (codes "workers")) { defaults = codes "2" ∷ [] }
+
+-- `--sessions C`, 1 where it is left out
+abbrev pub sessions_option : Rule
+sessions_option = record (number_option (codes "sessions")) { defaults = codes "1" ∷ [] }
+
+-- `listen --port P [--workers W] [--sessions C] [--tile S]`
+abbrev pub listen_words : App
+listen_words =
+    with_rule (with_rule (with_rule (with_rule (new_app (codes "listen")) port_option) crew_option) sessions_option) tile_option
+
 -- `morphd`, and then one of its jobs; it has a version to show
 abbrev pub program_words : App
-program_words = with_subcommand (on_top (λ s. record s { has_version = true; subcommand_required = true }) (new_app (codes "morphd"))) batch_words.top
+program_words =
+    with_subcommand
+    (with_subcommand (on_top (λ s. record s { has_version = true; subcommand_required = true }) (new_app (codes "morphd"))) batch_words.top)
+    listen_words.top
 
 -- no option of the command is one of its jobs too
 abbrev pub HasNoGlobals : Command → Type 0
@@ -49,17 +71,9 @@ AreTaken words = fault_of program_words words ≡ []
 abbrev pub text_in : Text → Option (Text × List Row) → Option Text
 text_in id = option_and_then (λ p. one_of id p.1)
 
--- the text that the words give for an option
-abbrev pub text_for : Text → List Text → Option Text
-text_for id words = text_in id (subcommand_of program_words words)
-
--- the text that the words give as the side of the tiles
-abbrev pub side_text : List Text → Option Text
-side_text words = text_for (codes "tile") words
-
--- the text that the words give as the number of workers
-abbrev pub workers_text : List Text → Option Text
-workers_text words = text_for (codes "workers") words
+-- the rows are those of `listen`
+abbrev pub AreListens : Option (Text × List Row) → Type 0
+AreListens rows = option_map (λ p. p.0) rows ≡ Some (codes "listen")
 
 -- there is a text, and it writes this number of 32 bits
 abbrev pub Writes : Option Text → ℕ → Type 0
@@ -82,9 +96,21 @@ IsTileSide side = (64 ≤ side) × (side ≤ 1024) × (side % 64 ≡ 0)
 abbrev pub WritesNoSide : Option Text → Type 0
 WritesNoSide text = (side : ℕ) → Writes text side → IsTileSide side → ⊥
 
+-- a number from 1 to the most that there may be
+abbrev pub IsUpTo : ℕ → ℕ → Type 0
+IsUpTo most n = (1 ≤ n) × (n ≤ most)
+
+-- the text writes such a number
+abbrev pub WritesUpTo : ℕ → Option Text → Type 0
+WritesUpTo most text = (n : ℕ) × Writes text n × IsUpTo most n
+
+-- the text writes no such number
+abbrev pub WritesNone : ℕ → Option Text → Type 0
+WritesNone most text = (n : ℕ) → Writes text n → IsUpTo most n → ⊥
+
 -- there may be so many workers
 abbrev pub IsCrew : ℕ → Type 0
-IsCrew workers = (1 ≤ workers) × (workers ≤ 64)
+IsCrew workers = IsUpTo 64 workers
 
 -- as many workers as processors, from 1 to 16
 abbrev pub usual_workers : ℕ → ℕ
@@ -102,29 +128,69 @@ AsksWorkers processors (Some text) n = Writes (Some text) n
 abbrev pub AsksNoCrew : ℕ → Option Text → Type 0
 AsksNoCrew processors text = (n : ℕ) → AsksWorkers processors text n → IsCrew n → ⊥
 
--- the words ask for this job, where there are so many processors
+-- the rows ask for this batch, where there are so many processors
+abbrev pub AsksBatch : ℕ → Option (Text × List Row) → BatchOptions → Type 0
+AsksBatch processors rows given =
+    (AsksWorkers processors (text_in (codes "workers") rows) given.workers × IsCrew given.workers)
+    × Writes (text_in (codes "tile") rows) given.side × IsTileSide given.side
+
+-- the rows ask for this server
+abbrev pub AsksListen : Option (Text × List Row) → ListenOptions → Type 0
+AsksListen rows given =
+    (Writes (text_in (codes "port") rows) given.port × IsUpTo 65535 given.port)
+    × (Writes (text_in (codes "workers") rows) given.workers × IsCrew given.workers)
+    × (Writes (text_in (codes "sessions") rows) given.sessions × IsUpTo 64 given.sessions)
+    × Writes (text_in (codes "tile") rows) given.side × IsTileSide given.side
+
+-- the rows ask for this job
+abbrev pub Asks : ℕ → Option (Text × List Row) → Job → Type 0
+Asks processors rows (job.Batch given) = (AreListens rows → ⊥) × AsksBatch processors rows given
+Asks processors rows (job.Listen given) = AreListens rows × AsksListen rows given
+
+-- the words ask for this job
 abbrev pub IsAsked : ℕ → List Text → Job → Type 0
-IsAsked processors words (job.Batch given) =
-    AreTaken words
-    × (AsksWorkers processors (workers_text words) given.workers × IsCrew given.workers)
-    × Writes (side_text words) given.side × IsTileSide given.side
+IsAsked processors words asked = AreTaken words × Asks processors (subcommand_of program_words words) asked
+
+-- this is the first fault of a batch's numbers
+abbrev pub FaultsBatch : ℕ → Option (Text × List Row) → LineFault → Type 0
+FaultsBatch processors rows fault.Workers = AsksNoCrew processors (text_in (codes "workers") rows)
+FaultsBatch processors rows fault.Tile =
+    ((n : ℕ) × AsksWorkers processors (text_in (codes "workers") rows) n × IsCrew n)
+    × WritesNoSide (text_in (codes "tile") rows)
+FaultsBatch processors rows f = ⊥
+
+-- this is the first fault of a server's numbers
+abbrev pub FaultsListen : Option (Text × List Row) → LineFault → Type 0
+FaultsListen rows fault.Port = WritesNone 65535 (text_in (codes "port") rows)
+FaultsListen rows fault.Workers =
+    WritesUpTo 65535 (text_in (codes "port") rows)
+    × WritesNone 64 (text_in (codes "workers") rows)
+FaultsListen rows fault.Sessions =
+    WritesUpTo 65535 (text_in (codes "port") rows)
+    × WritesUpTo 64 (text_in (codes "workers") rows)
+    × WritesNone 64 (text_in (codes "sessions") rows)
+FaultsListen rows fault.Tile =
+    WritesUpTo 65535 (text_in (codes "port") rows)
+    × WritesUpTo 64 (text_in (codes "workers") rows)
+    × WritesUpTo 64 (text_in (codes "sessions") rows)
+    × WritesNoSide (text_in (codes "tile") rows)
+FaultsListen rows f = ⊥
+
+-- this is the first fault of the job's numbers
+abbrev pub Faults : ℕ → Option (Text × List Row) → LineFault → Type 0
+Faults processors rows f = ((AreListens rows → ⊥) × FaultsBatch processors rows f) ⊎ (AreListens rows × FaultsListen rows f)
 
 -- the words are refused so; memory may be refused for any words
 abbrev pub IsRefused : ℕ → List Text → LineFault → Type 0
 IsRefused processors words (fault.Line e) = IsAmong (kind_of e) (fault_of program_words words)
-IsRefused processors words fault.Workers = AreTaken words × AsksNoCrew processors (workers_text words)
-IsRefused processors words fault.Tile =
-    AreTaken words
-    × ((n : ℕ) × AsksWorkers processors (workers_text words) n × IsCrew n)
-    × WritesNoSide (side_text words)
 IsRefused processors words fault.NoMemory = Unit {0}
+IsRefused processors words f = AreTaken words × Faults processors (subcommand_of program_words words) f
 
 -- a word is no text, or memory was refused
 abbrev pub IsNoText : LineFault → Type 0
 IsNoText (fault.Line e) = kind_of e ≡ kind.InvalidValue
-IsNoText fault.Tile = ⊥
-IsNoText fault.Workers = ⊥
 IsNoText fault.NoMemory = Unit {0}
+IsNoText f = ⊥
 
 -- the kinds of what was asked for, and not refused
 abbrev pub is_text : ErrorKind → Bool
@@ -135,6 +201,5 @@ is_text k = false
 -- the exit status of words that ask for no job
 abbrev pub fault_status : LineFault → ℕ
 fault_status (fault.Line e) = if is_text (kind_of e) then 0 else 2
-fault_status fault.Tile = 2
-fault_status fault.Workers = 2
 fault_status fault.NoMemory = 1
+fault_status f = 2

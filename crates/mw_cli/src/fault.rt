@@ -6,13 +6,15 @@ ghost use Rattle.mw_cli.specs.CommandLine.{fault_status};
 use std::io;
 use std::io::{Eprint, Print};
 
-/// Clap refuses the words or answers them by a text, or the side of the tiles is none, or there may
-/// not be so many workers, or there is no memory.
+/// Clap refuses the words or answers them by a text, or a number is none that there may be, or there is
+/// no memory.
 #[derive(Drop)]
 pub enum LineFault {
     Line(clap::Error),
-    Tile,
+    Port,
     Workers,
+    Sessions,
+    Tile,
     NoMemory,
 }
 
@@ -24,9 +26,8 @@ impl LineFault {
     {
         match self {
             LineFault::Line(error) => { if error.use_stderr() { 2 } else { 0 } }
-            LineFault::Tile => 2,
-            LineFault::Workers => 2,
             LineFault::NoMemory => 1,
+            _ => 2,
         }
     }
 
@@ -34,8 +35,10 @@ impl LineFault {
     pub fn print<R: Print + Eprint>(&self, rt: &R) -> io::Result<()> {
         match self {
             LineFault::Line(error) => error.print(rt),
-            LineFault::Tile => eprintln!(rt; "error: tile must be a multiple of 64"),
+            LineFault::Port => eprintln!(rt; "error: port must be from 1 to 65535"),
             LineFault::Workers => eprintln!(rt; "error: workers must be from 1 to 64"),
+            LineFault::Sessions => eprintln!(rt; "error: sessions must be from 1 to 64"),
+            LineFault::Tile => eprintln!(rt; "error: tile must be a multiple of 64"),
             LineFault::NoMemory => eprintln!(rt; "error: memory"),
         }
     }

@@ -4,6 +4,8 @@
 //! let words = words(&rt)?;
 //! match options(alloc, words.as_slice(), processors(&rt))? {
 //!     Job::Batch(given) => batch(alloc, &mut source, &mut sink, &mut faults, given.side),
+//!     Job::Listen(given) => listen(&rt, alloc, service, &mut faults, &gate),
+//! }
 //! ```
 #![tactic(auto)]
 
@@ -11,4 +13,4 @@ mod fault;
 mod line;
 
 pub use fault::LineFault;
-pub use line::{BatchOptions, Job, VERSION, options, processors, words};
+pub use line::{BatchOptions, Job, ListenOptions, VERSION, options, processors, words};

@@ -1,8 +1,8 @@
 //! What the command line asks for.
 
-ghost use Rattle.std.specs.Prelude.{◌≡◌, ◌≤◌, false, ◌↔◌, codes, IfOk, IfErr, IsTrue, map};
+ghost use Rattle.std.specs.Prelude.{◌≡◌, ◌≤◌, false, ◌↔◌, codes, IfOk, IfErr, IfSome, IsTrue, None, map};
 ghost use Rattle.clap.specs.Words.{app_of, rule_of, subcommand_rows_of};
-ghost use Rattle.mw_cli.specs.CommandLine.{AsksNoCrew, AsksWorkers, HasNoGlobals, IsAsked, IsCrew, IsNoText, IsRefused, IsTileSide, Reads, Writes, WritesNoSide, batch_words, number_option, program_words, text_in, usual_workers};
+ghost use Rattle.mw_cli.specs.CommandLine.{AreListens, Asks, AsksBatch, AsksListen, AsksNoCrew, AsksWorkers, Faults, FaultsBatch, FaultsListen, HasNoGlobals, IsAsked, IsCrew, IsNoText, IsRefused, IsTileSide, IsUpTo, Reads, Writes, WritesNone, WritesNoSide, batch_words, listen_words, number_option, program_words, text_in, tile_option, usual_workers};
 ghost use Rattle.std.specs.String.{string_bytes};
 
 use crate::fault::LineFault;
@@ -45,10 +45,12 @@ and what is written to standard output, where \\1 is a byte of value 1:
   9
   \\1\\1\\1\\1\\1";
 
-/// What the program is asked to do: a script from standard input to standard output.
+/// What the program is asked to do: a script from standard input to standard output, or sessions over
+/// TCP.
 #[derive(Clone, Copy, Debug, PartialEq, Eq)]
 pub enum Job {
     Batch(BatchOptions),
+    Listen(ListenOptions),
 }
 
 /// The side of the tiles, and how many workers compute them.
@@ -56,6 +58,16 @@ pub enum Job {
 pub struct BatchOptions {
     pub side: u32,
     pub workers: usize,
+}
+
+/// The port to listen on, how many workers compute, how many sessions are served, and the side of the
+/// tiles.
+#[derive(Clone, Copy, Debug, PartialEq, Eq)]
+pub struct ListenOptions {
+    pub port: u16,
+    pub workers: usize,
+    pub sessions: usize,
+    pub side: u32,
 }
 
 // `--NAME`, with a number of 32 bits behind it.
@@ -70,17 +82,41 @@ fn number_option<'a>(alloc: Global, name: &'a str, value: &'a str, help: &'a str
         .help(help)
 }
 
+// `--tile`, with the side of the tiles behind it.
+fn tile_option<'a>(alloc: Global) -> Arg<'a>
+    ensures rule { rule_of result ≡ tile_option }
+    ensures local { result.global ≡ false }
+{
+    let help = "The side of a tile: a multiple of 64 from 64 to 1024";
+    number_option(alloc, "tile", "S", help).default_value("128")
+}
+
 // `batch`, and what may stand behind it.
 fn batch_command<'a>(alloc: Global) -> Result<Command<'a>, AllocError>
     ensures { IfOk result (λ c. (app_of c ≡ batch_words) × HasNoGlobals c) }
 {
-    let side = "The side of a tile: a multiple of 64 from 64 to 1024";
     let crew = "How many workers compute: 1 to 64 [default: as many as processors, at most 16]";
     Command::new(alloc, "batch")
         .about("Runs a script from standard input to standard output")
         .after_help(EXAMPLE)
-        .arg(number_option(alloc, "tile", "S", side).default_value("128"))?
+        .arg(tile_option(alloc))?
         .arg(number_option(alloc, "workers", "W", crew))
+}
+
+// `listen`, and what may stand behind it.
+fn listen_command<'a>(alloc: Global) -> Result<Command<'a>, AllocError>
+    ensures { IfOk result (λ c. (app_of c ≡ listen_words) × HasNoGlobals c) }
+{
+    let port = number_option(alloc, "port", "P", "The port: 1 to 65535").required(true);
+    let crew = number_option(alloc, "workers", "W", "How many workers compute: 1 to 64");
+    let served = "How many sessions are served, each by a connection: 1 to 64";
+    let sessions = number_option(alloc, "sessions", "C", served);
+    Command::new(alloc, "listen")
+        .about("Serves sessions over TCP on 127.0.0.1, all of them on one table of names")
+        .arg(port)?
+        .arg(crew.default_value("2"))?
+        .arg(sessions.default_value("1"))?
+        .arg(tile_option(alloc))
 }
 
 // The command line as clap knows it.
@@ -92,7 +128,8 @@ fn command<'a>(alloc: Global) -> Result<Command<'a>, AllocError>
         .about("Flat mathematical morphology of images, by scripts")
         .after_help(EXAMPLE)
         .subcommand_required(true)
-        .subcommand(batch_command(alloc)?)
+        .subcommand(batch_command(alloc)?)?
+        .subcommand(listen_command(alloc)?)
 }
 
 // The number that clap read for an option of the job; none where the option is left out.
@@ -123,14 +160,26 @@ fn usual_workers(processors: usize) -> usize
     processors.max(1).min(16)
 }
 
-// Whether there may be so many workers.
-fn workers_ok(workers: u32) -> bool
-    ensures { IsTrue result ↔ IsCrew workers }
+// Whether a number is from 1 to the most that there may be.
+fn is_up_to(number: u32, most: u32) -> bool
+    ensures { IsTrue result ↔ IsUpTo most number }
 {
-    1 <= workers && workers <= 64
+    1 <= number && number <= most
 }
 
-// How many workers compute.
+// The number of an option; none where it is not from 1 to the most that there may be.
+#[tactic(auto, using(crate::proofs::CommandReads::unread_is_none, crate::proofs::CommandReads::missing_is_none, crate::proofs::CommandReads::no_other))]
+fn number_up_to(matches: &ArgMatches<'_>, id: &str, most: u32) -> Option<u32>
+    ensures some { IfSome result (λ n. Writes (text_in id.now (subcommand_rows_of matches.now)) n × IsUpTo most n) }
+    ensures none { result ≡ None → WritesNone most (text_in id.now (subcommand_rows_of matches.now)) }
+{
+    match number_of(matches, id) {
+        Ok(Some(number)) if is_up_to(number, most) => Some(number),
+        _ => None,
+    }
+}
+
+// How many workers compute a batch.
 #[tactic(auto, using(crate::proofs::CommandReads::no_other_crew, crate::proofs::CommandReads::unread_is_no_crew, crate::proofs::CommandReads::asks_usual, crate::proofs::CommandReads::asks_written))]
 fn workers_of(matches: &ArgMatches<'_>, processors: usize) -> Result<usize, LineFault>
     ensures ok { IfOk result (λ n. AsksWorkers processors (text_in (codes "workers") (subcommand_rows_of matches.now)) n × IsCrew n) }
@@ -138,9 +187,61 @@ fn workers_of(matches: &ArgMatches<'_>, processors: usize) -> Result<usize, Line
 {
     match number_of(matches, "workers") {
         Ok(None) => Ok(usual_workers(processors)),
-        Ok(Some(workers)) if workers_ok(workers) => Ok(workers as usize),
+        Ok(Some(workers)) if is_up_to(workers, 64) => Ok(workers as usize),
         _ => Err(LineFault::Workers),
     }
+}
+
+// What a batch is asked to do.
+fn batch_of(matches: &ArgMatches<'_>, processors: usize) -> Result<BatchOptions, LineFault>
+    ensures ok { IfOk result (AsksBatch processors (subcommand_rows_of matches.now)) }
+    ensures err { IfErr result (FaultsBatch processors (subcommand_rows_of matches.now)) }
+{
+    let workers = workers_of(matches, processors)?;
+    let side = side_of(matches)?;
+    Ok(BatchOptions { side, workers })
+}
+
+// What a server is asked to do.
+fn listen_of(matches: &ArgMatches<'_>) -> Result<ListenOptions, LineFault>
+    ensures ok { IfOk result (AsksListen (subcommand_rows_of matches.now)) }
+    ensures err { IfErr result (FaultsListen (subcommand_rows_of matches.now)) }
+{
+    let Some(port) = number_up_to(matches, "port", 65535) else {
+        return Err(LineFault::Port);
+    };
+    let Some(workers) = number_up_to(matches, "workers", 64) else {
+        return Err(LineFault::Workers);
+    };
+    let Some(sessions) = number_up_to(matches, "sessions", 64) else {
+        return Err(LineFault::Sessions);
+    };
+    let side = side_of(matches)?;
+    Ok(ListenOptions {
+        port: port as u16,
+        workers: workers as usize,
+        sessions: sessions as usize,
+        side,
+    })
+}
+
+// Whether the job is `listen`.
+#[tactic(auto, using(crate::proofs::CommandReads::listens_named))]
+fn is_listen(matches: &ArgMatches<'_>) -> bool
+    ensures { IsTrue result ↔ AreListens (subcommand_rows_of matches.now) }
+{
+    matches.subcommand_matches("listen").is_some()
+}
+
+// The job of words that clap took.
+fn job_of(matches: &ArgMatches<'_>, processors: usize) -> Result<Job, LineFault>
+    ensures ok { IfOk result (Asks processors (subcommand_rows_of matches.now)) }
+    ensures err { IfErr result (Faults processors (subcommand_rows_of matches.now)) }
+{
+    if is_listen(matches) {
+        return Ok(Job::Listen(listen_of(matches)?));
+    }
+    Ok(Job::Batch(batch_of(matches, processors)?))
 }
 
 /// How many processors this process may use; 1 where the system does not say.
@@ -177,8 +278,8 @@ fn not_text(alloc: Global) -> LineFault
 }
 
 /// What the words ask for; the first of them is the program's name. Clap reads them first, then the
-/// number of workers is tested, and then the side of the tiles. Left out, the workers are as many as
-/// there are processors, and at most 16.
+/// numbers are tested: the port, the workers, the sessions, and then the side of the tiles. Left out,
+/// the workers of a batch are as many as there are processors, and at most 16.
 pub fn options(alloc: Global, words: &[String], processors: usize) -> Result<Job, LineFault>
     ensures job { IfOk result (IsAsked processors (map string_bytes words.now)) }
     ensures fault { IfErr result (IsRefused processors (map string_bytes words.now)) }
@@ -187,11 +288,7 @@ pub fn options(alloc: Global, words: &[String], processors: usize) -> Result<Job
         return Err(LineFault::NoMemory);
     };
     match command.try_get_matches_from(words) {
-        Ok(matches) => {
-            let workers = workers_of(&matches, processors)?;
-            let side = side_of(&matches)?;
-            Ok(Job::Batch(BatchOptions { side, workers }))
-        }
+        Ok(matches) => job_of(&matches, processors),
         Err(error) => {
             if error.kind() == ErrorKind::OutOfMemory {
                 return Err(LineFault::NoMemory);

@@ -1,7 +1,7 @@
 //! The command line, and its help.
 
 use clap::error::ErrorKind;
-use mw_cli::{Job, LineFault, VERSION, options, processors, words};
+use mw_cli::{Job, LineFault, ListenOptions, VERSION, options, processors, words};
 use std::alloc::Global;
 use std::fmt::Display;
 use std::io;
@@ -29,6 +29,19 @@ fn batch_of(rt: &impl Abort, alloc: Global, line: &str, processors: usize) -> (u
     match asked(rt, alloc, line, processors) {
         Ok(Job::Batch(given)) => (given.side, given.workers),
         _ => (0, 0),
+    }
+}
+
+/// What a server is asked to do; port 0 where none is asked for.
+fn listen_of(rt: &impl Abort, alloc: Global, line: &str) -> ListenOptions {
+    match asked(rt, alloc, line, 1) {
+        Ok(Job::Listen(given)) => given,
+        _ => ListenOptions {
+            port: 0,
+            workers: 0,
+            sessions: 0,
+            side: 0,
+        },
     }
 }
 
@@ -68,6 +81,34 @@ fn workers(rt: HostRuntime) {
 }
 
 #[test]
+fn numbers_of_a_server(rt: HostRuntime) {
+    let alloc = rt.alloc();
+    let given = listen_of(&rt, alloc, "morphd listen --port 7001");
+    assert!(rt; (given.port, given.workers, given.sessions, given.side) == (7001, 2, 1, 128));
+    let line = "morphd listen --port=1 --workers 64 --sessions 64 --tile 1024";
+    let given = listen_of(&rt, alloc, line);
+    assert!(rt; (given.port, given.workers, given.sessions, given.side) == (1, 64, 64, 1024));
+    let fault = asked(&rt, alloc, "morphd listen --port 0 --workers 0", 1);
+    assert!(rt; matches!(fault, Err(LineFault::Port)));
+    let fault = asked(
+        &rt,
+        alloc,
+        "morphd listen --port 7001 --workers 65 --sessions 0",
+        1,
+    );
+    assert!(rt; matches!(fault, Err(LineFault::Workers)));
+    let fault = asked(
+        &rt,
+        alloc,
+        "morphd listen --port 7001 --sessions 0 --tile 1",
+        1,
+    );
+    assert!(rt; matches!(fault, Err(LineFault::Sessions)));
+    let fault = asked(&rt, alloc, "morphd listen --port 7001 --tile 100", 1);
+    assert!(rt; matches!(fault, Err(LineFault::Tile)));
+}
+
+#[test]
 fn words_of_the_process(rt: HostRuntime) {
     let Ok(given) = words(&rt) else {
         panic!(rt; "no memory");
@@ -79,7 +120,9 @@ fn words_of_the_process(rt: HostRuntime) {
 fn statuses(rt: HostRuntime) {
     let alloc = rt.alloc();
     assert!(rt; status_of(&rt, alloc, "morphd batch --help") == 0);
+    assert!(rt; status_of(&rt, alloc, "morphd listen --help") == 0);
     assert!(rt; status_of(&rt, alloc, "morphd listen") == 2);
+    assert!(rt; status_of(&rt, alloc, "morphd listen --port 0") == 2);
     assert!(rt; status_of(&rt, alloc, "morphd batch --tile 65") == 2);
     assert!(rt; status_of(&rt, alloc, "morphd batch --workers 65") == 2);
     assert!(rt; LineFault::NoMemory.status() == 1);
@@ -128,6 +171,10 @@ fn tells(alloc: Global, fault: &LineFault, line: &str) -> bool {
 fn lines_of_faults(rt: HostRuntime) {
     let tile = "error: tile must be a multiple of 64";
     assert!(rt; tells(rt.alloc(), &LineFault::Tile, tile));
+    let port = "error: port must be from 1 to 65535";
+    assert!(rt; tells(rt.alloc(), &LineFault::Port, port));
+    let sessions = "error: sessions must be from 1 to 64";
+    assert!(rt; tells(rt.alloc(), &LineFault::Sessions, sessions));
     let workers = "error: workers must be from 1 to 64";
     assert!(rt; tells(rt.alloc(), &LineFault::Workers, workers));
     assert!(rt; tells(rt.alloc(), &LineFault::NoMemory, "error: memory"));
@@ -145,6 +192,7 @@ fn kind(rt: &impl Abort, alloc: Global, line: &str) -> Option<ErrorKind> {
 #[test]
 fn words_that_clap_refuses(rt: HostRuntime) {
     assert!(rt; kind(&rt, rt.alloc(), "morphd") == Some(ErrorKind::MissingSubcommand));
+    assert!(rt; kind(&rt, rt.alloc(), "morphd listen") == Some(ErrorKind::MissingRequiredArgument));
     assert!(rt; kind(&rt, rt.alloc(), "morphd batch --tile x") == Some(ErrorKind::ValueValidation));
     assert!(rt;
         kind(&rt, rt.alloc(), "morphd batch --tile 4294967296") == Some(ErrorKind::ValueValidation)

@@ -4,36 +4,36 @@ use Rattle.mw_model.specs.declared.calls.Call.{Call}
 use Rattle.mw_model.specs.declared.calls.Reply.{Reply}
 use Rattle.mw_model.specs.declared.calls.Reply.TheVariants as reply
 use Rattle.mw_model.specs.Machine.{Machine, after}
-use Rattle.mw_model.specs.Stands.{Seen, StandsFor}
+use Rattle.mw_model.specs.Stands.{CoreView, StandsFor}
 use Rattle.mw_core.specs.declared.answers.Fetched.{Fetched}
 use Rattle.mw_core.specs.declared.events.Event.{Event}
 use Rattle.mw_core.specs.declared.events.Answer.{Answer}
 use Rattle.mw_stands.specs.Events.{Serves, IsFresh, handed_out}
 use Rattle.mw_core.specs.Fetches.{ShowsSome, shown_value}
-use Rattle.mw_core.specs.Happenings.{Replies, Submits, Fetches, Happens, HappensAll, answer_of, fetch_answer_of}
+use Rattle.mw_core.specs.EventEffects.{Replies, Submits, Fetches, HasEffect, HaveEffects, answer_of, fetch_answer_of}
 
-replies : (m : Machine) (c : Call) (r : Reply) (old new : Seen) → StandsFor old m → Serves old c None new r → Replies old m c None r new (after m c None)
+replies : (m : Machine) (c : Call) (r : Reply) (old new : CoreView) → StandsFor old m → Serves old c None new r → Replies old m c None r new (after m c None)
 replies m c r old new s served = record { reply = served.reply m s; machine = refl; log = served.log; work = served.work }
 
-stays : (m : Machine) (old new : Seen) → StandsFor old m → new ≡ old → StandsFor new m
-stays m old new s e = let P : Seen → Type 0 = λ x. StandsFor x m in subst P (sym e) s
+stays : (m : Machine) (old new : CoreView) → StandsFor old m → new ≡ old → StandsFor new m
+stays m old new s e = let P : CoreView → Type 0 = λ x. StandsFor x m in subst P (sym e) s
 
-pub run-happens : {E : Type 0} → (m : Machine) (c : Call) (r : Result Reply E) (old new : Seen) → StandsFor old m → IfOk r (Serves old c None new) → ((t : ℕ) → IfOk r (λ x. x ≡ reply.Accepted t → IsFresh new t)) → OnErr r (new ≡ old)
+pub run-happens : {E : Type 0} → (m : Machine) (c : Call) (r : Result Reply E) (old new : CoreView) → StandsFor old m → IfOk r (Serves old c None new) → ((t : ℕ) → IfOk r (λ x. x ≡ reply.Accepted t → IsFresh new t)) → OnErr r (new ≡ old)
     → (n : Machine) × Submits old m c (answer_of r) new n × StandsFor new n
 run-happens m c (Ok x) old new s served fresh err = (after m c None, (replies m c x old new s served, fresh), served.stands m s)
 run-happens m c (Err e) old new s served fresh err = (m, (err, refl), stays m old new s err)
 
-pub fetch-happens : {E : Type 0} → (m : Machine) (c : Call) (r : Result Fetched E) (old new : Seen) → StandsFor old m → IfOk r (λ f. Serves old c None new f.reply)
+pub fetch-happens : {E : Type 0} → (m : Machine) (c : Call) (r : Result Fetched E) (old new : CoreView) → StandsFor old m → IfOk r (λ f. Serves old c None new f.reply)
     → IfOk r (λ f. shown_value f.value ≡ handed_out m f.reply) → IfOk r (λ f. IsSome (shown_value f.value) ↔ ShowsSome f.reply) → OnErr r (new ≡ old) → (n : Machine) × Fetches old m c (fetch_answer_of r) new n × StandsFor new n
 fetch-happens m c (Ok f) old new s served value shown err = (after m c None, (replies m c f.reply old new s served, value, shown), served.stands m s)
 fetch-happens m c (Err e) old new s served value shown err = (m, (err, refl), stays m old new s err)
 
 -- one event more
-pub happens-push : (old between new : Seen) (m k n : Machine) (es : List Event) (answers : List Answer) (e : Event) (a : Answer) → HappensAll old m es answers between k → Happens between k e a new n → StandsFor new n → new.side ≡ between.side
-    → HappensAll old m (es ++ e ∷ []) (answers ++ a ∷ []) new n
+pub happens-push : (old between new : CoreView) (m k n : Machine) (es : List Event) (answers : List Answer) (e : Event) (a : Answer) → HaveEffects old m es answers between k → HasEffect between k e a new n → StandsFor new n → new.side ≡ between.side
+    → HaveEffects old m (es ++ e ∷ []) (answers ++ a ∷ []) new n
 happens-push old between new m k n [] [] e a h step s side =
-    let P : Seen → Type 0 = λ x. Happens x k e a new n × (new.side ≡ x.side) in
-    let Q : Machine → Type 0 = λ x. Happens old x e a new n in
+    let P : CoreView → Type 0 = λ x. HasEffect x k e a new n × (new.side ≡ x.side) in
+    let Q : Machine → Type 0 = λ x. HasEffect old x e a new n in
     let first = subst P h.0 (step, side) in
     (new, n, subst Q h.1 first.0, s, first.1, (refl, refl))
 happens-push old between new m k n [] (b ∷ answers) e a h step s side = absurd h

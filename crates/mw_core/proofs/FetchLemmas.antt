@@ -13,7 +13,7 @@ use Rattle.mw_model.specs.declared.calls.Reply.TheVariants as reply
 use Rattle.mw_model.specs.Values.{Value, ImageValue, ElementValue, CurveValue, value_at, shape_of_figure}
 use Rattle.mw_model.specs.Refusals.{Table, ticket, ticket_of, outcome_at, shape_at, is_element, is_done, is_released, is_there, when, refusal}
 use Rattle.mw_model.specs.Machine.{Machine, values, answer, fetch_reply, refused_or, reply_to, reply_from}
-use Rattle.mw_model.specs.Stands.{Seen, StandsFor, is_wanted}
+use Rattle.mw_model.specs.Stands.{CoreView, StandsFor, is_wanted}
 use Rattle.mw_laws.specs.MachineLaws.{shape_of_value}
 use Rattle.mw_laws.proofs.RunTables.{is_known, ticket_is, ticket_within, when_so}
 use Rattle.mw_stands.specs.Events.{handed_out}
@@ -65,7 +65,7 @@ must-be-handed (Some (ImageValue f)) s h e = refl
 must-be-handed (Some (ElementValue b)) s h e = let is : shape_of_figure b ≡ s = cc in let f = ap is_element is in absurd cc
 must-be-handed (Some (CurveValue v)) s h e = refl
 
-shown-value : (c : Seen) (m : Machine) (n : Name) (t : ℕ) (v : Shown) → StandsFor c m → reply_to m (call.Fetch n) ≡ reply.Shown t → shown_value v ≡ handed_value (value_at c.kept t) → shown_value v ≡ value_at (values m) t
+shown-value : (c : CoreView) (m : Machine) (n : Name) (t : ℕ) (v : Shown) → StandsFor c m → reply_to m (call.Fetch n) ≡ reply.Shown t → shown_value v ≡ handed_value (value_at c.kept t) → shown_value v ≡ value_at (values m) t
 shown-value c m n t v s told is =
     let done = shown-ticket m n t told in
     let sound = stands-sound c m s in
@@ -74,7 +74,7 @@ shown-value c m n t v s told is =
     let shaped = ap (option_map shape_of_value) (sym same) ∙ sound.shapes t done.within in
     is ∙ must-be-handed (value_at c.kept t) (shape_at m.table.submissions t) shaped done.shape ∙ sym same
 
-by-reply : (c : Seen) (m : Machine) (n : Name) (r : Reply) (v : Shown) → StandsFor c m → r ≡ reply_to m (call.Fetch n) → IsShown c r v → shown_value v ≡ handed_out m r
+by-reply : (c : CoreView) (m : Machine) (n : Name) (r : Reply) (v : Shown) → StandsFor c m → r ≡ reply_to m (call.Fetch n) → IsShown c r v → shown_value v ≡ handed_out m r
 by-reply c m n (reply.Accepted t) v s told is = is
 by-reply c m n (reply.Refused x) v s told is = is
 by-reply c m n (reply.Pending t) v s told is = is
@@ -85,7 +85,7 @@ by-reply c m n (reply.BadInput t i) v s told is = is
 by-reply c m n (reply.Released t) v s told is = is
 by-reply c m n (reply.Shown t) v s told is = shown-value c m n t v s (sym told) is
 
-pub fetched-value : (c : Seen) (m : Machine) (n : Name) (r : Reply) (v : Shown) → StandsFor c m → r ≡ reply_from c.table c.kept (call.Fetch n) → IsShown c r v → shown_value v ≡ handed_out m r
+pub fetched-value : (c : CoreView) (m : Machine) (n : Name) (r : Reply) (v : Shown) → StandsFor c m → r ≡ reply_from c.table c.kept (call.Fetch n) → IsShown c r v → shown_value v ≡ handed_out m r
 fetched-value c m n r v s told is = by-reply c m n r v s (told ∙ stands-reply c m (call.Fetch n) s) is
 
 -- ---- whether something is handed out
@@ -97,12 +97,12 @@ with-shape : (x : Option Value) (s : Shape) → option_map shape_of_value x ≡ 
 with-shape None s h = absurd cc
 with-shape (Some v) s h = refl
 
-something-shown : (c : Seen) (m : Machine) (n : Name) (t : ℕ) (v : Shown) → StandsFor c m → reply_to m (call.Fetch n) ≡ reply.Shown t → shown_value v ≡ handed_value (value_at c.kept t) → IsSome (shown_value v)
+something-shown : (c : CoreView) (m : Machine) (n : Name) (t : ℕ) (v : Shown) → StandsFor c m → reply_to m (call.Fetch n) ≡ reply.Shown t → shown_value v ≡ handed_value (value_at c.kept t) → IsSome (shown_value v)
 something-shown c m n t v s told is =
     let P : Option Value → Type 0 = IsSome in
     subst P (sym (shown-value c m n t v s told is)) (with-shape (value_at (values m) t) (shape_at m.table.submissions t) ((stands-sound c m s).shapes t (shown-ticket m n t told).within))
 
-shown-by-reply : (c : Seen) (m : Machine) (n : Name) (r : Reply) (v : Shown) → StandsFor c m → r ≡ reply_to m (call.Fetch n) → IsShown c r v → IsSome (shown_value v) ↔ ShowsSome r
+shown-by-reply : (c : CoreView) (m : Machine) (n : Name) (r : Reply) (v : Shown) → StandsFor c m → r ≡ reply_to m (call.Fetch n) → IsShown c r v → IsSome (shown_value v) ↔ ShowsSome r
 shown-by-reply c m n (reply.Accepted t) v s told is = nothing-shown (reply.Accepted t) v is (λ h. let e = h.1 in cc)
 shown-by-reply c m n (reply.Refused x) v s told is = nothing-shown (reply.Refused x) v is (λ h. let e = h.1 in cc)
 shown-by-reply c m n (reply.Pending t) v s told is = nothing-shown (reply.Pending t) v is (λ h. let e = h.1 in cc)
@@ -114,7 +114,7 @@ shown-by-reply c m n (reply.Released t) v s told is = nothing-shown (reply.Relea
 shown-by-reply c m n (reply.Shown t) v s told is = (λ some. (t, refl), λ h. something-shown c m n t v s (sym told) is)
 
 -- a value is handed out exactly where the reply shows a ticket
-pub fetched-shown : (c : Seen) (m : Machine) (n : Name) (r : Reply) (v : Shown) → StandsFor c m → r ≡ reply_from c.table c.kept (call.Fetch n) → IsShown c r v → IsSome (shown_value v) ↔ ShowsSome r
+pub fetched-shown : (c : CoreView) (m : Machine) (n : Name) (r : Reply) (v : Shown) → StandsFor c m → r ≡ reply_from c.table c.kept (call.Fetch n) → IsShown c r v → IsSome (shown_value v) ↔ ShowsSome r
 fetched-shown c m n r v s told is = shown-by-reply c m n r v s (told ∙ stands-reply c m (call.Fetch n) s) is
 
 -- ---- what is kept
@@ -139,7 +139,7 @@ keeps-by (Some v) outcome.Memory wanted there done released = absurd (let e = th
 keeps-by (Some v) (outcome.Input i) wanted there done released = absurd (let e = there v refl in cc)
 keeps-by (Some v) outcome.Released wanted there done released = sym ((released refl).0 refl)
 
-pub keeps-wanted : (c : Seen) (m : Machine) (t : ℕ) → StandsFor c m → t < length c.table.names
+pub keeps-wanted : (c : CoreView) (m : Machine) (t : ℕ) → StandsFor c m → t < length c.table.names
     → is_some (value_at c.kept t) ≡ (is_done (outcome_at m.table.outcomes t) || (is_released (outcome_at m.table.outcomes t) && is_wanted m.table t))
 keeps-wanted c m t s within =
     let Named : Table → Type 0 = λ w. t < length w.names in

@@ -12,11 +12,11 @@ use Rattle.mw_model.specs.Values.{ImageValue, value_at}
 use Rattle.mw_model.specs.Refusals.{Table, is_element, is_pending, outcome_at, shape_at, submission_at}
 use Rattle.mw_model.specs.Machine.{Machine, values}
 use Rattle.mw_model.specs.Tasks.{flag, remaining_tasks}
-use Rattle.mw_model.specs.Stands.{Seen, StandsFor, inputs_there}
+use Rattle.mw_model.specs.Stands.{CoreView, StandsFor, inputs_there}
 use Rattle.mw_grid.proofs.Tiles.{HasTiles}
 use Rattle.mw_task.specs.Products.{IsMade}
 use Rattle.mw_task.specs.WindowTasks.{WindowTask}
-use Rattle.mw_progress.specs.Underway.{Underway, cells_of_made, plane_at}
+use Rattle.mw_progress.specs.ProgressView.{ProgressView, cells_of_made, plane_at}
 use Rattle.mw_work.specs.Works.{Finishes, IsTrueWork, IsUnder, true_task}
 use Rattle.mw_work.proofs.Curves.{result-curve}
 use Rattle.mw_work.proofs.Going.{true-finished, true-under, under-finished}
@@ -35,7 +35,7 @@ use Rattle.mw_core.proofs.FilledLemmas.{full-filled}
 use Rattle.mw_core.proofs.TaskLemmas.{complete-seen, progress-seen, seen-set, under-work, work-shown}
 
 -- the result is that of the true task of its numbers
-abbrev pub IsTrueResult : Machine → WindowTask → Underway → Type 0
+abbrev pub IsTrueResult : Machine → WindowTask → ProgressView → Type 0
 IsTrueResult m d u = d ≡ true_task m d.task.ticket u.progress (result_number u d)
 
 -- it is that of a running task
@@ -55,20 +55,20 @@ result-under : (b : Book) (m : Machine) (d : WindowTask) → StandsFor (seen_of 
 result-under b m d s orderly r = under-work b m d.task.ticket r.work r.image s orderly r.at r.pending
 
 -- what was made is what the task makes by the definitions
-finishes-here : (b : Book) (m : Machine) (d : WindowTask) (v : Underway) → StandsFor (seen_of b) m → IsOrderly b → (f : FinishesAt b d v) → IsTrueResult m d f.was.work
+finishes-here : (b : Book) (m : Machine) (d : WindowTask) (v : ProgressView) → StandsFor (seen_of b) m → IsOrderly b → (f : FinishesAt b d v) → IsTrueResult m d f.was.work
     → Finishes m d.task.ticket f.was.work v (result_number f.was.work d)
 finishes-here b m d v s orderly f task =
     let t = d.task.ticket in
     let u = f.was.work in
     let n = result_number u d in
-    let Made : WindowTask → Type 0 = λ x. IsMade x f.made in
-    finishes-made m t u v n f.made (true-under m t u (result-under b m d s orderly f.was)) (running-here b d f.was).in_plan f.was.result.running (subst Made task f.is) f.finished f.whole
+    let TileResult : WindowTask → Type 0 = λ x. IsMade x f.made in
+    finishes-made m t u v n f.made (true-under m t u (result-under b m d s orderly f.was)) (running-here b d f.was).in_plan f.was.result.running (subst TileResult task f.is) f.finished f.whole
 
 -- ---- others of the ticket are not finished
 
 pub places-at : (b new : Book) (m : Machine) (d : WindowTask) → StandsFor (seen_of b) m → IsOrderly b → (p : PlacesAt b d new) → IsTrueResult m d p.finishes.was.work → Places (seen_of b) m d (seen_of new)
 places-at b new m d s orderly p task =
-    let c : Seen = seen_of b in
+    let c : CoreView = seen_of b in
     let f = p.finishes in
     let t = d.task.ticket in
     let u = f.was.work in
@@ -84,7 +84,7 @@ placed-under b new d p k same = p.book ∙ ap (λ (x : TaskId). record b { works
 -- ---- it was the last of its ticket
 
 -- a pending ticket is no element
-no-element : (c : Seen) (m : Machine) (t : ℕ) → StandsFor c m → t < length c.table.names → outcome_at c.table.outcomes t ≡ outcome.Pending → is_element (shape_at c.table.submissions t) ≡ false
+no-element : (c : CoreView) (m : Machine) (t : ℕ) → StandsFor c m → t < length c.table.names → outcome_at c.table.outcomes t ≡ outcome.Pending → is_element (shape_at c.table.submissions t) ≡ false
 no-element c m t s within pending =
     elim (cases_Bool (is_element (shape_at c.table.submissions t))) [
       | inl element ↦
@@ -98,7 +98,7 @@ no-element c m t s within pending =
     ]
 
 -- what finished work has made is the value under the ticket
-value-made : (m : Machine) (t : ℕ) (v : Underway) (e : Shape) → (submission_at m.table.submissions t).shape ≡ e → is_element e ≡ false → IsTrueWork m t v → remaining_tasks v.progress ≡ 0
+value-made : (m : Machine) (t : ℕ) (v : ProgressView) (e : Shape) → (submission_at m.table.submissions t).shape ≡ e → is_element e ≡ false → IsTrueWork m t v → remaining_tasks v.progress ≡ 0
     → value_at (values m) t ≡ Some (value_made e v)
 value-made m t v (shape.Image k w h x) is other work none =
     let result = result-image m t v k w h x work none is in
@@ -111,7 +111,7 @@ value-made m t v (shape.Curve n) is other work none = result-curve m t v n work 
 pub settles-at : (b new : Book) (m : Machine) (d : WindowTask) → StandsFor (seen_of b) m → IsOrderly b → (p : SettlesAt b d new) → IsTrueResult m d p.finishes.was.work
     → Settles (seen_of b) m d d.task.ticket (seen_of new)
 settles-at b new m d s orderly p task =
-    let c : Seen = seen_of b in
+    let c : CoreView = seen_of b in
     let f = p.finishes in
     let t = d.task.ticket in
     let u = f.was.work in
@@ -138,7 +138,7 @@ result-at b m d s orderly r =
 -- and each of the machine's is found
 pub found-at : (b : Book) (m : Machine) (d : WindowTask) → StandsFor (seen_of b) m → IsOrderly b → IsResult (seen_of b) m d → IsFoundAt b d
 found-at b m d s orderly r =
-    let c : Seen = seen_of b in
+    let c : CoreView = seen_of b in
     let t = d.task.ticket in
     let shown = work-shown b.works t r.progress r.work in
     let u = shown.0 in

@@ -14,11 +14,11 @@ use Rattle.mw_model.specs.Values.{Value, tickets}
 use Rattle.mw_model.specs.Refusals.{Table, refusal}
 use Rattle.mw_model.specs.Machine.{Machine, values, with_entry, run_submission}
 use Rattle.mw_model.specs.Tasks.{Progress, remaining_tasks, running_tasks, task_count}
-use Rattle.mw_model.specs.Stands.{Seen, StandsFor, progress_at}
+use Rattle.mw_model.specs.Stands.{CoreView, StandsFor, progress_at}
 use Rattle.mw_laws.proofs.RunTables.{push_last}
 use Rattle.mw_plan.specs.Tables.{AreValuesAt}
 use Rattle.mw_plan.proofs.Accepted.{machine_values}
-use Rattle.mw_progress.specs.Underway.{Underway}
+use Rattle.mw_progress.specs.ProgressView.{ProgressView}
 use Rattle.mw_store.specs.Stored.{Stored}
 use Rattle.mw_stands.specs.Facts.{IsComplete, stored_of}
 use Rattle.mw_stands.specs.Limits.{ShapesFit}
@@ -31,25 +31,25 @@ use Rattle.mw_underway.proofs.FreshLemmas.{planned-fresh, planned-work}
 -- ---- no fault
 
 -- what no values allow, no machine allows that the core stands for
-ruled-out : (c : Seen) (m : Machine) → StandsFor c m → ((vs : List (Option Value)) → AreValuesAt c.table c.kept vs → ⊥) → ⊥
+ruled-out : (c : CoreView) (m : Machine) → StandsFor c m → ((vs : List (Option Value)) → AreValuesAt c.table c.kept vs → ⊥) → ⊥
 ruled-out c m s never =
     let At : Table → Type 0 = λ w. AreValuesAt w c.kept (values m) in
     never (values m) (subst At (sym s.table) (machine_values m c.kept (stands-sound c m s) s.agrees))
 
 -- so a note of a fault, which cannot be, serves whatever the machine
-pub serves-no-fault : (c new : Seen) (n : Name) (o : Op) (x : Code) → ((vs : List (Option Value)) → AreValuesAt c.table c.kept vs → ⊥)
+pub serves-no-fault : (c new : CoreView) (n : Name) (o : Op) (x : Code) → ((vs : List (Option Value)) → AreValuesAt c.table c.kept vs → ⊥)
     → new ≡ record c { log = c.log ++ item.Call (call.Run n o) (reply.Refused x) ∷ [] } → Serves c (call.Run n o) None new (reply.Refused x)
 serves-no-fault c new n o x never is =
     record {
       reply = λ m s. absurd (ruled-out c m s never);
       stands = λ m s. absurd (ruled-out c m s never);
-      log = ap (λ (d : Seen). d.log) is;
-      work = λ t within pending. ap (λ (d : Seen). progress_at d.work t) is;
+      log = ap (λ (d : CoreView). d.log) is;
+      work = λ t within pending. ap (λ (d : CoreView). progress_at d.work t) is;
     }
 
 -- ---- the work of an accepted command
 
-pub serves-planned : (c new : Seen) (n : Name) (o : Op) (side : ℕ) (u : Underway) → refusal c.table c.kept (call.Run n o) ≡ None → IsPlannedBy c.table c.kept o (run_submission c.table o) side u → IsComplete c
+pub serves-planned : (c new : CoreView) (n : Name) (o : Op) (side : ℕ) (u : ProgressView) → refusal c.table c.kept (call.Run n o) ≡ None → IsPlannedBy c.table c.kept o (run_submission c.table o) side u → IsComplete c
     → new.table ≡ with_entry c.table n (run_submission c.table o) outcome.Pending → new.kept ≡ c.kept ++ None ∷ [] → new.work ≡ c.work ++ Some u.progress ∷ []
     → new.log ≡ c.log ++ item.Call (call.Run n o) (reply.Accepted (length c.table.names)) ∷ [] → Serves c (call.Run n o) None new (reply.Accepted (length c.table.names))
 serves-planned c new n o side u free planned whole = serves-run c new n o u.progress free (λ m st clear. planned-work c m n o side u st free clear planned) whole
@@ -59,7 +59,7 @@ abbrev pub AreFresh : Progress → Type 0
 AreFresh p = (1 ≤ remaining_tasks p) × (task_count p ≤ 4194304) × (remaining_tasks p ≡ task_count p) × (running_tasks p ≡ 0)
 
 -- the work of the entry that was added is that of fresh work
-pub added-fresh : (c new : Seen) (p : Progress) (t : ℕ) → IsComplete c → AreFresh p → new.work ≡ c.work ++ Some p ∷ [] → reply.Accepted (length c.table.names) ≡ reply.Accepted t → IsFresh new t
+pub added-fresh : (c new : CoreView) (p : Progress) (t : ℕ) → IsComplete c → AreFresh p → new.work ≡ c.work ++ Some p ∷ [] → reply.Accepted (length c.table.names) ≡ reply.Accepted t → IsFresh new t
 added-fresh c new p t whole fresh work is =
     let at : length c.work ≡ t = whole.work ∙ cc in
     let Few : ℕ → Type 0 = λ n. n ≤ 4194304 in
@@ -73,20 +73,20 @@ added-fresh c new p t whole fresh work is =
     }
 
 -- of an answer: where it is an acceptance the entry is fresh
-pub accepted-fresh : {E : Type 0} → (r : Result Reply E) (c new : Seen) (p : Progress) (t : ℕ) → IsComplete c → AreFresh p → IfOk r (λ y. y ≡ reply.Accepted (length c.table.names)) → OnOk r (new.work ≡ c.work ++ Some p ∷ [])
+pub accepted-fresh : {E : Type 0} → (r : Result Reply E) (c new : CoreView) (p : Progress) (t : ℕ) → IsComplete c → AreFresh p → IfOk r (λ y. y ≡ reply.Accepted (length c.table.names)) → OnOk r (new.work ≡ c.work ++ Some p ∷ [])
     → IfOk r (λ y. y ≡ reply.Accepted t → IsFresh new t)
 accepted-fresh (Ok y) c new p t whole fresh told work = λ is. added-fresh c new p t whole fresh work (sym told ∙ is)
 accepted-fresh (Err e) c new p t whole fresh told work = tt
 
 -- ---- what is told of a store, of what the core shows of it
 
-pub planned-seen : (c : Seen) (s : Stored) (o : Op) (e : Submission) (side : ℕ) (u : Underway) → s ≡ stored_of c → e ≡ run_submission c.table o → IsPlannedBy s.table s.kept o e side u → IsPlannedBy c.table c.kept o (run_submission c.table o) side u
+pub planned-seen : (c : CoreView) (s : Stored) (o : Op) (e : Submission) (side : ℕ) (u : ProgressView) → s ≡ stored_of c → e ≡ run_submission c.table o → IsPlannedBy s.table s.kept o e side u → IsPlannedBy c.table c.kept o (run_submission c.table o) side u
 planned-seen c s o e side u seen is planned =
     let On : Stored → Type 0 = λ x. IsPlannedBy x.table x.kept o e side u in
     let Of : Submission → Type 0 = λ x. IsPlannedBy c.table c.kept o x side u in
     subst Of is (subst On seen planned)
 
-pub fresh-seen : (c : Seen) (s again : Stored) (o : Op) (e : Submission) (side : ℕ) (u : Underway) → ShapesFit c.table → s ≡ stored_of c → again ≡ stored_of c → AllByRecursion (λ i. i < length s.table.names) (tickets e.inputs)
+pub fresh-seen : (c : CoreView) (s again : Stored) (o : Op) (e : Submission) (side : ℕ) (u : ProgressView) → ShapesFit c.table → s ≡ stored_of c → again ≡ stored_of c → AllByRecursion (λ i. i < length s.table.names) (tickets e.inputs)
     → IsPlannedBy again.table again.kept o e side u → AreFresh u.progress
 fresh-seen c s again o e side u fits seen seen_again below planned =
     let Below : Stored → Type 0 = λ x. AllByRecursion (λ i. i < length x.table.names) (tickets e.inputs) in

@@ -9,9 +9,9 @@ use Rattle.mw_model.specs.Refusals.{Table, outcome_at}
 use Rattle.mw_model.specs.Machine.{Machine}
 use Rattle.mw_model.specs.Plans.{images_of}
 use Rattle.mw_model.specs.Tasks.{Progress, planned_of, sources_of, task_count}
-use Rattle.mw_model.specs.Stands.{Seen, StandsFor, inputs_there, input_values, progress_at, ready_under, true_planes}
+use Rattle.mw_model.specs.Stands.{CoreView, StandsFor, inputs_there, input_values, progress_at, ready_under, true_planes}
 use Rattle.mw_task.specs.WindowTasks.{WindowTask}
-use Rattle.mw_progress.specs.Underway.{Underway}
+use Rattle.mw_progress.specs.ProgressView.{ProgressView}
 use Rattle.mw_work.specs.Works.{IsTrueWork, IsUnder}
 use Rattle.mw_work.proofs.Going.{true-under, under-started}
 use Rattle.mw_work.proofs.Numbers.{some-whole, step_number-within}
@@ -31,14 +31,14 @@ use Rattle.mw_ledger.specs.Tasks.{IsAtWork, TakesAt}
 
 -- ---- what a core shows of a ledger
 
-pub progress-seen : (works : List (Option Underway)) (t : ℕ) (u : Underway) → work_at works t ≡ Some u → progress_at (map (option_map progress_of) works) t ≡ Some u.progress
+pub progress-seen : (works : List (Option ProgressView)) (t : ℕ) (u : ProgressView) → work_at works t ≡ Some u → progress_at (map (option_map progress_of) works) t ≡ Some u.progress
 progress-seen works t u e = get_or-map (option_map progress_of) works t None ∙ ap (option_map progress_of) e
 
 -- behind what is shown of work there is work
-pub work-shown : (works : List (Option Underway)) (t : ℕ) (p : Progress) → progress_at (map (option_map progress_of) works) t ≡ Some p → (u : Underway) × (work_at works t ≡ Some u) × (u.progress ≡ p)
+pub work-shown : (works : List (Option ProgressView)) (t : ℕ) (p : Progress) → progress_at (map (option_map progress_of) works) t ≡ Some p → (u : ProgressView) × (work_at works t ≡ Some u) × (u.progress ≡ p)
 work-shown works t p e = go (work_at works t) (sym (get_or-map (option_map progress_of) works t None) ∙ e)
   where
-    go : (o : Option Underway) → option_map progress_of o ≡ Some p → (u : Underway) × (o ≡ Some u) × (u.progress ≡ p)
+    go : (o : Option ProgressView) → option_map progress_of o ≡ Some p → (u : ProgressView) × (o ≡ Some u) × (u.progress ≡ p)
     go None h = absurd cc
     go (Some u) h = (u, refl, cc)
 
@@ -46,14 +46,14 @@ pub complete-seen : (b : Book) → IsOrderly b → IsComplete (seen_of b)
 complete-seen b orderly = record { stored = orderly.stored; work = length-map b.works (option_map progress_of) ∙ orderly.works }
 
 -- other work under one ticket
-pub seen-set : (b new : Book) (t : ℕ) (x : Option Underway) → new ≡ record b { works = set b.works t x } → seen_of new ≡ (let c : Seen = seen_of b in record c { work = set c.work t (option_map progress_of x) })
-seen-set b new t x is = ap seen_of is ∙ ap (λ (ws : List (Option Progress)). let c : Seen = seen_of b in record c { work = ws }) (map-set (option_map progress_of) b.works t x)
+pub seen-set : (b new : Book) (t : ℕ) (x : Option ProgressView) → new ≡ record b { works = set b.works t x } → seen_of new ≡ (let c : CoreView = seen_of b in record c { work = set c.work t (option_map progress_of x) })
+seen-set b new t x is = ap seen_of is ∙ ap (λ (ws : List (Option Progress)). let c : CoreView = seen_of b in record c { work = ws }) (map-set (option_map progress_of) b.works t x)
 
 -- ---- what is known of the work under a pending ticket
 
-pub under-work : (b : Book) (m : Machine) (t : ℕ) (u : Underway) (image : ℕ) → StandsFor (seen_of b) m → IsOrderly b → IsAtWork b t u image → outcome_at b.table.outcomes t ≡ outcome.Pending → IsUnder m t u
+pub under-work : (b : Book) (m : Machine) (t : ℕ) (u : ProgressView) (image : ℕ) → StandsFor (seen_of b) m → IsOrderly b → IsAtWork b t u image → outcome_at b.table.outcomes t ≡ outcome.Pending → IsUnder m t u
 under-work b m t u image s orderly at pending =
-    let c : Seen = seen_of b in
+    let c : CoreView = seen_of b in
     let Named : Table → Type 0 = λ w. t < length w.names in
     let Planned : Table → Type 0 = λ w. IsPlannedAt w t u in
     record {
@@ -63,16 +63,16 @@ under-work b m t u image s orderly at pending =
     }
 
 -- the sources that are kept are those by the definitions
-sources-here : (c : Seen) (m : Machine) (t : ℕ) (u : Underway) (n image : ℕ) → ReadsKept c m t u image → IsTrueWork m t u → n < task_count u.progress
+sources-here : (c : CoreView) (m : Machine) (t : ℕ) (u : ProgressView) (n image : ℕ) → ReadsKept c m t u image → IsTrueWork m t u → n < task_count u.progress
     → AreSources (image_of (value_at c.kept image)) u (planned_of u.progress n).sources (sources_of u.progress (images_of (input_values m t)) (true_planes m t u.progress) n)
 sources-here c m t u n image reads work within =
     sources-true c m t u n image reads work.whole (step_number-within u.progress n (some-whole u work.whole) within) (λ j l. plane-true m t u j work l)
 
 -- what the work of a ticket that may run reads
-reads-first : (b : Book) (m : Machine) (t : ℕ) (u : Underway) (image : ℕ) → StandsFor (seen_of b) m → IsOrderly b → IsAtWork b t u image → outcome_at b.table.outcomes t ≡ outcome.Pending
+reads-first : (b : Book) (m : Machine) (t : ℕ) (u : ProgressView) (image : ℕ) → StandsFor (seen_of b) m → IsOrderly b → IsAtWork b t u image → outcome_at b.table.outcomes t ≡ outcome.Pending
     → inputs_there m.table t ≡ true → ReadsKept (seen_of b) m t u image
 reads-first b m t u image s orderly at pending there =
-    let c : Seen = seen_of b in
+    let c : CoreView = seen_of b in
     let reads = (orderly.planned t u at.work).input in
     let same : reads.image ≡ image = cc (reads.first, at.first) in
     let Reads : ℕ → Type 0 = λ i. ReadsKept c m t u i in
@@ -83,7 +83,7 @@ reads-first b m t u image s orderly at pending there =
 pub takes-begins : (b new : Book) (m : Machine) (t : ℕ) (w : WindowTask) → StandsFor (seen_of b) m → IsOrderly b → 1 ≤ ready_under (seen_of b) t → TakesAt b t new (Some w)
     → Begins (seen_of b) m w (seen_of new)
 takes-begins b new m t w s orderly ready took =
-    let c : Seen = seen_of b in
+    let c : CoreView = seen_of b in
     let u = took.before in
     let v = took.after in
     let n = took.number in
@@ -98,7 +98,7 @@ takes-begins b new m t w s orderly ready took =
 -- a task that is ready has windows that fit its step
 pub takes-some : (b new : Book) (m : Machine) (t : ℕ) → StandsFor (seen_of b) m → IsOrderly b → 1 ≤ ready_under (seen_of b) t → TakesAt b t new None → ⊥
 takes-some b new m t s orderly ready took =
-    let c : Seen = seen_of b in
+    let c : CoreView = seen_of b in
     let u = took.before in
     let n = took.number in
     let none = took.takes in

@@ -3,7 +3,7 @@ use Rattle.std.specs.Prelude.{◌≡◌, ℕ, Option, Some, None}
 use Rattle.mw_model.specs.declared.calls.Reply.{Reply}
 use Rattle.mw_model.specs.declared.calls.Reply.TheVariants as reply
 use Rattle.mw_model.specs.Values.{Value, ImageValue, ElementValue, CurveValue, value_at}
-use Rattle.mw_model.specs.Stands.{Seen}
+use Rattle.mw_model.specs.Stands.{CoreView}
 use Rattle.mw_core.specs.declared.answers.Shown.{Shown}
 use Rattle.mw_core.specs.declared.answers.Shown.TheVariants as shown
 
@@ -19,7 +19,7 @@ handed_value (Some (ElementValue b)) = None
 handed_value v = v
 
 -- what the core hands out with this reply
-abbrev pub IsShown : Seen → Reply → Shown → Type 0
+abbrev pub IsShown : CoreView → Reply → Shown → Type 0
 IsShown c (reply.Shown t) v = shown_value v ≡ handed_value (value_at c.kept t)
 IsShown c r v = shown_value v ≡ None
 

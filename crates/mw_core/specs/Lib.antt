@@ -1,3 +1,3 @@
 pub mod TaskAnswers
 pub mod Fetches
-pub mod Happenings
+pub mod EventEffects

@@ -2,7 +2,7 @@
 use Rattle.std.specs.Prelude.{ℕ, ◌≡◌, ◌≤◌, ◌%◌}
 use Rattle.mw_model.specs.declared.tasks.TaskId.{TaskId}
 use Rattle.mw_model.specs.Machine.{Machine}
-use Rattle.mw_model.specs.Stands.{Seen, ready_under, ready_count}
+use Rattle.mw_model.specs.Stands.{CoreView, ready_under, ready_count}
 use Rattle.mw_task.specs.WindowTasks.{WindowTask}
 use Rattle.mw_stands.specs.TaskEvents.{Begins, Kills, Places, Settles, IsResult, IsOpen, IsSettled, IsUnderway}
 use Rattle.mw_stands.specs.Turns.{IsAt}
@@ -14,26 +14,26 @@ use Rattle.mw_core.specs.declared.answers.Refusal.{Refusal}
 use Rattle.mw_core.specs.declared.answers.Refusal.TheVariants as refusal
 
 -- work for a ready task; or the death of a ticket that has one; or nothing, where no task is ready
-abbrev pub Starts : Seen → Machine → Started → Seen → Type 0
+abbrev pub Starts : CoreView → Machine → Started → CoreView → Type 0
 Starts old m (started.Work w) new = Begins old m w new
 Starts old m (started.Refused t) new = (1 ≤ ready_under old t) × Kills old m t new
 Starts old m started.Idle new = (ready_count old ≡ 0) × (new ≡ old)
 
 -- the task is the one of the place, counted round again where there are fewer
-abbrev pub IsTurn : Seen → ℕ → Started → Type 0
-IsTurn c place (started.Work w) = IsAt c (place % ready_count c) w.task.ticket
-IsTurn c place (started.Refused t) = IsAt c (place % ready_count c) t
-IsTurn c place started.Idle = Unit {0}
+abbrev pub Picks : CoreView → ℕ → Started → Type 0
+Picks c place (started.Work w) = IsAt c (place % ready_count c) w.task.ticket
+Picks c place (started.Refused t) = IsAt c (place % ready_count c) t
+Picks c place started.Idle = Unit {0}
 
 -- the result is taken, and is the last of its ticket or not; or it is late, or a stranger's
-abbrev pub Finishes : Seen → Machine → WindowTask → Finish → Seen → Type 0
+abbrev pub Finishes : CoreView → Machine → WindowTask → Finish → CoreView → Type 0
 Finishes old m d finish.Placed new = Places old m d new
 Finishes old m d (finish.Settled t) new = Settles old m d t new
 Finishes old m d finish.Late new = IsSettled old d.task.ticket × (new ≡ old)
 Finishes old m d finish.Stranger new = IsOpen old d.task.ticket × (IsResult old m d → ⊥) × (new ≡ old)
 
 -- the ticket of the running task is killed; or the refusal is late, or a stranger's
-abbrev pub Refuses : Seen → Machine → TaskId → Refusal → Seen → Type 0
+abbrev pub Refuses : CoreView → Machine → TaskId → Refusal → CoreView → Type 0
 Refuses old m k (refusal.Killed t) new = (t ≡ k.ticket) × IsUnderway old k × Kills old m t new
 Refuses old m k refusal.Late new = IsSettled old k.ticket × (new ≡ old)
 Refuses old m k refusal.Stranger new = IsOpen old k.ticket × (IsUnderway old k → ⊥) × (new ≡ old)

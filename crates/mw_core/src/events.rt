@@ -4,7 +4,7 @@ ghost use Rattle.std.specs.Prelude.{◌≡◌, IfOk, OnErr};
 ghost use Rattle.std.specs.List.{AllByRecursion};
 ghost use Rattle.mw_model.specs.Machine.{Machine};
 ghost use Rattle.mw_model.specs.Stands.{StandsFor};
-ghost use Rattle.mw_core.specs.Happenings.{IsServable, Happens, HappensAll, answer_of, fetch_answer_of};
+ghost use Rattle.mw_core.specs.EventEffects.{IsServable, HasEffect, HaveEffects, answer_of, fetch_answer_of};
 
 use crate::{Core, Fetched, Finish, Refusal, Started};
 use mw_element::Element;
@@ -61,7 +61,7 @@ fn handed(answer: Result<Fetched, NoMemory>) -> Answer
 /// it, whatever the machine that it stood for.
 pub fn serve(core: &mut Core, event: Event) -> Answer
     requires { IsServable event }
-    ensures happens { (m : Machine) → StandsFor core.old m → (n : Machine) × Happens core.old m event result core.new n × StandsFor core.new n }
+    ensures happens { (m : Machine) → StandsFor core.old m → (n : Machine) × HasEffect core.old m event result core.new n × StandsFor core.new n }
     ensures side { core.new.side ≡ core.old.side }
 {
     match event {
@@ -87,7 +87,7 @@ pub fn serve_all(
 ) -> Result<Vec<Answer>, NoMemory>
     requires { AllByRecursion IsServable events.items }
     ensures ok { (m : Machine) → StandsFor core.old m
-        → IfOk result (λ answers. (n : Machine) × HappensAll core.old m events.items answers.items core.new n × StandsFor core.new n) }
+        → IfOk result (λ answers. (n : Machine) × HaveEffects core.old m events.items answers.items core.new n × StandsFor core.new n) }
     ensures err { OnErr result (core.new ≡ core.old) }
     ensures side { core.new.side ≡ core.old.side }
 {

@@ -18,11 +18,11 @@ pub struct Core {
 }
 
 impl Model for Core {
-    ghost use Rattle.mw_model.specs.Stands.{Seen};
+    ghost use Rattle.mw_model.specs.Stands.{CoreView};
     ghost use Rattle.mw_ledger.specs.Books.{seen_of};
     ghost use Rattle.mw_ledger.specs.Counts.{AreCounts};
 
-    ghost Value = { Seen };
+    ghost Value = { CoreView };
 
     ghost view = { λ c. seen_of c.ledger };
 

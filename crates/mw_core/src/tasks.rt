@@ -11,14 +11,14 @@ use mw_task::{TaskRefused, TileDone};
 impl Core {
     ghost use Rattle.mw_model.specs.Machine.{Machine};
     ghost use Rattle.mw_model.specs.Stands.{StandsFor, ready_count};
-    ghost use Rattle.mw_core.specs.TaskAnswers.{Starts, Finishes, Refuses, IsTurn};
+    ghost use Rattle.mw_core.specs.TaskAnswers.{Starts, Finishes, Refuses, Picks};
 
     /// A worker takes the ready task of this place. Places are counted from 0 in ticket order, and round again where
     /// there are fewer. `Idle` is answered exactly where no task is ready.
     pub fn start(&mut self, place: u64) -> Started
         ensures task { (m : Machine) → StandsFor self.old m → Starts self.old m result self.new }
         ensures idle { (m : Machine) → StandsFor self.old m → (result ≡ Started.Idle) ↔ (ready_count self.old ≡ 0) }
-        ensures turn { IsTurn self.old place result }
+        ensures turn { Picks self.old place result }
         ensures side { self.new.side ≡ self.old.side }
     {
         let count = self.counts.ready();

@@ -1,16 +1,18 @@
 //! Results and refusals of tasks that the core does not wait for: each is told its fault, and changes nothing.
 
 ghost use Rattle.std.specs.List.{AllByRecursion};
-ghost use Rattle.mw_core.specs.Happenings.{IsServable};
+ghost use Rattle.mw_core.specs.EventEffects.{IsServable};
 
 use crate::desk::{BAR, bring, define, erode, load, name, ran, small_core, take};
 use mw_core::events::{Answer, Event, serve, serve_all};
 use mw_core::{Core, Finish, Refusal};
 use mw_model::{OffsetBox, Rect, Reply, TaskId};
-use mw_task::{AnyWindow, Step, TaskRefused, TileDone, Work};
-use mw_tile::Window;
+use mw_pieces::{Pieces, SharedWindow};
+use mw_pixel::Plane;
+use mw_task::{Step, TaskRefused, TileDone, Work};
 use std::alloc::Global;
 use std::process::Abort;
+use std::sync::Arc;
 
 const ROW: &[u8] = b"P2\n5 1\n9\n3 1 4 1 5\n";
 
@@ -36,8 +38,16 @@ fn by_hand(rt: &impl Abort, alloc: Global, task: TaskId, row: [u8; 5]) -> Work {
     let samples = row.to_vec(alloc).ok().expect(rt, "memory");
     assert_eq!(rt; samples.len(), 5);
     let mut windows = Vec::new(alloc);
-    let window = AnyWindow::grey8(Window::new(5, 1, PLACE, samples), 9);
-    windows.push(window).ok().expect(rt, "memory");
+    let plane = Arc::new(alloc, Plane::new(5, 1, samples))
+        .ok()
+        .expect(rt, "memory");
+    let pieces = Pieces::of_plane(alloc, plane, PLACE)
+        .ok()
+        .expect(rt, "memory");
+    windows
+        .push(SharedWindow::grey8(pieces, 9))
+        .ok()
+        .expect(rt, "memory");
     Work::new(task, PLACE, Step::ErodeBox(ACROSS), windows).expect(rt, "a task")
 }
 

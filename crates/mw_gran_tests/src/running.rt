@@ -1,14 +1,13 @@
 //! Runs plans step by step over whole planes.
 
 use mw_gran::Plan;
-use mw_images_for_tests::{image, plane_of, rect};
+use mw_images_for_tests::{image, plane_of, rect, whole_window};
 use mw_model::plain::PlainImage;
 use mw_model::{Kind, TaskId};
 use mw_pixel::{Bit, Pixel, Plane};
 use mw_plan::{PlannedStep, Source};
 use mw_step::run;
-use mw_task::{AnyWindow, Made, Work};
-use mw_tile::Window;
+use mw_task::{SharedWindow, TileResult, Work};
 use std::alloc::Global;
 use std::test::Fail;
 
@@ -25,26 +24,26 @@ struct Trace {
     numbers: Vec<u64>,
 }
 
-fn levels_8(alloc: Global, image: &PlainImage) -> Result<AnyWindow, Fail> {
+fn levels_8(alloc: Global, image: &PlainImage) -> Result<SharedWindow, Fail> {
     let maxval = u8::try_from(image.maxval()).ok().ok_or("a low maxval")?;
     if maxval == 0 {
         return Err("a maxval".into());
     }
     let plane = plane_of::<u8>(alloc, image)?;
-    Ok(AnyWindow::grey8(Window::whole(plane), maxval))
+    Ok(SharedWindow::grey8(whole_window(alloc, plane)?, maxval))
 }
 
 /// The window that has the whole image.
-fn whole(alloc: Global, image: &PlainImage) -> Result<AnyWindow, Fail> {
+fn whole(alloc: Global, image: &PlainImage) -> Result<SharedWindow, Fail> {
     if image.kind() == Kind::Bit {
         let plane = plane_of::<Bit>(alloc, image)?;
-        return Ok(AnyWindow::bits(Window::whole(plane)));
+        return Ok(SharedWindow::bits(whole_window(alloc, plane)?));
     }
     if image.maxval() < 256 {
         return levels_8(alloc, image);
     }
     let plane = plane_of::<u16>(alloc, image)?;
-    Ok(AnyWindow::grey16(Window::whole(plane), image.maxval()))
+    Ok(SharedWindow::grey16(whole_window(alloc, plane)?, image.maxval()))
 }
 
 /// The plane with its maxval.
@@ -80,7 +79,7 @@ impl Trace {
         alloc: Global,
         planned: &PlannedStep,
         image: &PlainImage,
-    ) -> Result<Vec<AnyWindow>, Fail> {
+    ) -> Result<Vec<SharedWindow>, Fail> {
         let mut windows = Vec::new(alloc);
         for k in 0..planned.sources.len() {
             let source = planned.sources.get(k).ok_or("a source in each place")?;
@@ -90,12 +89,17 @@ impl Trace {
     }
 
     /// Puts what a step made behind the others.
-    fn put(&mut self, alloc: Global, made: &Made) -> Result<(), Fail> {
+    fn put(&mut self, alloc: Global, made: &TileResult) -> Result<(), Fail> {
         let plane = match made {
-            Made::Bits(plane) => Some(image_of(alloc, Kind::Bit, 1, plane)?),
-            Made::Grey8(plane, top) => Some(image_of(alloc, Kind::Grey, u16::from(*top), plane)?),
-            Made::Grey16(plane, top) => Some(image_of(alloc, Kind::Grey, *top, plane)?),
-            Made::Number(number) => {
+            TileResult::Bits(plane) => Some(image_of(alloc, Kind::Bit, 1, plane)?),
+            TileResult::Grey8(plane, top) => Some(image_of(
+                alloc,
+                Kind::Grey,
+                u16::from(*top),
+                plane,
+            )?),
+            TileResult::Grey16(plane, top) => Some(image_of(alloc, Kind::Grey, *top, plane)?),
+            TileResult::Number(number) => {
                 self.numbers.push(*number)?;
                 None
             }

@@ -14,9 +14,9 @@ use Rattle.mw_model.specs.declared.calls.Outcome.TheVariants as outcome
 use Rattle.mw_model.specs.declared.names.Name.{Name}
 use Rattle.mw_model.specs.Machine.{settled}
 use Rattle.mw_model.specs.Refusals.{Table, outcome_at, is_pending}
-use Rattle.mw_model.specs.Stands.{Seen, progress_at, inputs_of, ready_under, running_count}
+use Rattle.mw_model.specs.Stands.{CoreView, progress_at, inputs_of, ready_under, running_count}
 use Rattle.mw_model.specs.Tasks.{Progress, is_running, running_tasks, task_count, tasks_below}
-use Rattle.mw_progress.specs.Underway.{Underway}
+use Rattle.mw_progress.specs.ProgressView.{ProgressView}
 use Rattle.mw_stands.proofs.CountLemmas.{sum-more}
 use Rattle.mw_stands.specs.Counts.{running_under}
 use Rattle.mw_store.specs.declared.kept.Entry.{Entry}
@@ -29,12 +29,12 @@ use Rattle.mw_ledger.proofs.Rows.{row, row-at, row-is, row-set, sum-set, sum-at,
 
 -- ---- how many are running
 
-running-alike : (c new : Seen) (v : ℕ) → progress_at new.work v ≡ progress_at c.work v → running_under new v ≡ running_under c v
+running-alike : (c new : CoreView) (v : ℕ) → progress_at new.work v ≡ progress_at c.work v → running_under new v ≡ running_under c v
 running-alike c new v same = ap (λ (o : Option Progress). option_map_or running_tasks o 0) same
 
 running-some : (b : Book) (t : ℕ) → IsOrderly b → running_under (seen_of b) t ≤ 4194304
 running-some b t orderly =
-    let under : Option Underway → ℕ = λ o. option_map_or running_tasks (option_map progress_of o) 0 in
+    let under : Option ProgressView → ℕ = λ o. option_map_or running_tasks (option_map progress_of o) 0 in
     let seen : running_under (seen_of b) t ≡ under (work_at b.works t) = ap (λ (o : Option Progress). option_map_or running_tasks o 0) (work-seen b t) in
     elim (option_cases (work_at b.works t)) [
       | inl none ↦ let e : under (work_at b.works t) ≡ 0 = ap under none in omega (arith, seen, e)
@@ -68,7 +68,7 @@ running-set b new t was running now orderly within long was-is others running-is
 -- ---- changes of a ledger
 
 -- the work under one ticket has changed
-pub counts-followed : (b new : Book) (old k : Tally) (t was : ℕ) (x : Option Underway) → IsOrderly b → t < length new.table.names → AreCounts (seen_of b) old → new ≡ record b { works = set b.works t x } → was ≡ running_under (seen_of b) t
+pub counts-followed : (b new : Book) (old k : Tally) (t was : ℕ) (x : Option ProgressView) → IsOrderly b → t < length new.table.names → AreCounts (seen_of b) old → new ≡ record b { works = set b.works t x } → was ≡ running_under (seen_of b) t
     → k.ready ≡ set old.ready t (ready_under (seen_of new) t) → (old.running ≤ 2 ^ 63 → k.running ≡ old.running - was + running_under (seen_of new) t) → AreCounts (seen_of new) k
 counts-followed b new old k t was x orderly in-new counts is was-is ready running =
     let n = length b.table.names in
@@ -84,7 +84,7 @@ counts-followed b new old k t was x orderly in-new counts is was-is ready runnin
     )
 
 -- an entry was added
-pub counts-added : (b new : Book) (before old k : Tally) (t : ℕ) (c : Call) (n : Name) (e : Entry) (u : Option Underway) → IsOrderly b → AreCounts (seen_of b) before → old ≡ grown before → new ≡ with_accepted b c n e u → t + 1 ≡ length old.ready
+pub counts-added : (b new : Book) (before old k : Tally) (t : ℕ) (c : Call) (n : Name) (e : Entry) (u : Option ProgressView) → IsOrderly b → AreCounts (seen_of b) before → old ≡ grown before → new ≡ with_accepted b c n e u → t + 1 ≡ length old.ready
     → k.ready ≡ set old.ready t (ready_under (seen_of new) t) → (old.running ≤ 2 ^ 63 → k.running ≡ old.running - 0 + running_under (seen_of new) t) → AreCounts (seen_of new) k
 counts-added b new before old k t c n e u orderly counts old-is is last ready running =
     let m = length b.table.names in
@@ -164,7 +164,7 @@ counts-released b new t k orderly counts within done table works =
     let ready : row (ready_under (seen_of b)) n ≡ row (ready_under (seen_of new)) n =
     row-is (row (ready_under (seen_of b)) n) (ready_under (seen_of new)) n (length-map-range_with_len (ready_under (seen_of b)) 0 n) (λ v lt. row-at (ready_under (seen_of b)) n v lt ∙ sym (ready-released b new t v orderly within done table works))
     in
-    let running : row (running_under (seen_of b)) n ≡ row (running_under (seen_of new)) n = ap (λ (ws : List (Option Underway)). row (running_under (seen_of (record b { works = ws }))) n) (sym works) in (
+    let running : row (running_under (seen_of b)) n ≡ row (running_under (seen_of new)) n = ap (λ (ws : List (Option ProgressView)). row (running_under (seen_of (record b { works = ws }))) n) (sym works) in (
       counts.0 ∙ ready ∙ ap (row (ready_under (seen_of new))) (sym long),
       counts.1 ∙ ap (λ (xs : List ℕ). sum xs) running ∙ ap (λ (j : ℕ). sum (row (running_under (seen_of new)) j)) (sym long),
     )

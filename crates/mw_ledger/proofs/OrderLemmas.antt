@@ -16,7 +16,7 @@ use Rattle.mw_model.specs.Values.{Value, option_list, tickets}
 use Rattle.mw_model.specs.Refusals.{Table, is_element, no_submission, submission_at, shape_at}
 use Rattle.mw_model.specs.Machine.{with_entry}
 use Rattle.mw_model.specs.Tasks.{Progress, remaining_tasks, task_count}
-use Rattle.mw_progress.specs.Underway.{Underway, IsFinished, IsStarted}
+use Rattle.mw_progress.specs.ProgressView.{ProgressView, IsFinished, IsStarted}
 use Rattle.mw_store.specs.Stored.{IsWhole}
 use Rattle.mw_stands.specs.Limits.{FitsLimits, ShapesFit}
 use Rattle.mw_underway.specs.Planning.{IsPlannedAt, IsPlannedOn, IsSide}
@@ -43,10 +43,10 @@ pub record Follows (old new : Book) : Type 0 where
   pub submissions : new.table.submissions ≡ old.table.submissions
   pub names : length new.table.names ≡ length old.table.names
   pub count : length new.works ≡ length old.works
-  pub works : (t : ℕ) (u : Underway) → work_at new.works t ≡ Some u → work_at old.works t ≡ Some u
+  pub works : (t : ℕ) (u : ProgressView) → work_at new.works t ≡ Some u → work_at old.works t ≡ Some u
   pub side : new.side ≡ old.side
 
-planned-table : (w v : Table) (t : ℕ) (u : Underway) → v.submissions ≡ w.submissions → IsPlannedAt w t u → IsPlannedAt v t u
+planned-table : (w v : Table) (t : ℕ) (u : ProgressView) → v.submissions ≡ w.submissions → IsPlannedAt w t u → IsPlannedAt v t u
 planned-table w v t u same h =
     let P : List Submission → Type 0 = λ ss. IsPlannedAt (record { names = v.names; submissions = ss; outcomes = v.outcomes }) t u in
     subst P (sym same) (record { input = record { image = h.input.image; first = h.input.first; shape = h.input.shape; second = h.input.second; third = h.input.third }; allowed = h.allowed; last = h.last })
@@ -64,12 +64,12 @@ follows-orderly old new o f = record {
   side = subst IsSide (sym f.side) o.side;
 }
 
-kept-was : (b : Bool) (o : Option Underway) (u : Underway) → cond b o None ≡ Some u → o ≡ Some u
+kept-was : (b : Bool) (o : Option ProgressView) (u : ProgressView) → cond b o None ≡ Some u → o ≡ Some u
 kept-was true o u e = e
 kept-was false o u e = absurd cc
 
 -- work that is kept under some tickets only was there before
-pub swept-was : (b : Bool) (new old : Option Underway) (u : Underway) → new ≡ cond b old None → new ≡ Some u → old ≡ Some u
+pub swept-was : (b : Bool) (new old : Option ProgressView) (u : ProgressView) → new ≡ cond b old None → new ≡ Some u → old ≡ Some u
 swept-was b new old u e h = kept-was b old u (sym e ∙ h)
 
 -- ---- an entry more
@@ -98,7 +98,7 @@ first-below P i x first all =
     there.0
 
 -- work that is planned for a command stays so when an entry is added
-planned-stays : (w : Table) (n : Name) (e : Submission) (o : Outcome) (s : Submission) (u : Underway) → AllByRecursion (λ i. i < length w.submissions) (tickets s.inputs) → IsPlannedOn w s u
+planned-stays : (w : Table) (n : Name) (e : Submission) (o : Outcome) (s : Submission) (u : ProgressView) → AllByRecursion (λ i. i < length w.submissions) (tickets s.inputs) → IsPlannedOn w s u
     → IsPlannedOn (with_entry w n e o) s u
 planned-stays w n e o s u below h =
     let P : ℕ → Type 0 = λ i. i < length w.submissions in
@@ -117,7 +117,7 @@ planned-stays w n e o s u below h =
       last = h.last;
     }
 
-work-cases : (ws : List (Option Underway)) (o : Option Underway) (t : ℕ) (u : Underway) → work_at (ws ++ o ∷ []) t ≡ Some u → ((t < length ws) × (work_at ws t ≡ Some u)) ⊎ ((t ≡ length ws) × (o ≡ Some u))
+work-cases : (ws : List (Option ProgressView)) (o : Option ProgressView) (t : ℕ) (u : ProgressView) → work_at (ws ++ o ∷ []) t ≡ Some u → ((t < length ws) × (work_at ws t ≡ Some u)) ⊎ ((t ≡ length ws) × (o ≡ Some u))
 work-cases ws o t u e =
     elim (cases_lt t (length ws + 1)) [
       | inl l ↦
@@ -136,7 +136,7 @@ last-entry : (ss : List Submission) (e : Submission) (t : ℕ) → t ≡ length 
 last-entry ss e t is = get_or-push_last ss e no_submission t is
 
 -- What is asked of an entry that is added, with its work.
-pub record CanJoin (b : Book) (e : Submission) (u : Option Underway) : Type 0 where
+pub record CanJoin (b : Book) (e : Submission) (u : Option ProgressView) : Type 0 where
   pub below : AllByRecursion (λ i. i < length b.table.names) (tickets e.inputs)
   pub fits : FitsLimits e.shape
   pub planned : IfSome u (IsPlannedOn b.table e)
@@ -144,10 +144,10 @@ pub record CanJoin (b : Book) (e : Submission) (u : Option Underway) : Type 0 wh
   pub most : IfSome u (λ v. task_count v.progress ≤ 4194304)
 
 -- the same book with an entry more
-abbrev pub joined : Book → Name → Submission → Outcome → List (Option Value) → Option Underway → List LogItem → Book
+abbrev pub joined : Book → Name → Submission → Outcome → List (Option Value) → Option ProgressView → List LogItem → Book
 joined b n e o kept u log = record { table = with_entry b.table n e o; kept = kept; works = b.works ++ u ∷ []; log = log; side = b.side }
 
-planned-joined : (b : Book) (n : Name) (e : Submission) (o : Outcome) (u : Option Underway) → IsOrderly b → CanJoin b e u → (t : ℕ) (v : Underway) → work_at (b.works ++ u ∷ []) t ≡ Some v
+planned-joined : (b : Book) (n : Name) (e : Submission) (o : Outcome) (u : Option ProgressView) → IsOrderly b → CanJoin b e u → (t : ℕ) (v : ProgressView) → work_at (b.works ++ u ∷ []) t ≡ Some v
     → IsPlannedAt (with_entry b.table n e o) t v
 planned-joined b n e o u k j t v h =
     let ss = b.table.submissions in
@@ -176,7 +176,7 @@ fits-joined b n e o k fits t l =
     ]
 
 -- an entry that may be added leaves the book in order
-pub joined-orderly : (b : Book) (n : Name) (e : Submission) (o : Outcome) (kept : List (Option Value)) (u : Option Underway) (log : List LogItem) → IsOrderly b → CanJoin b e u
+pub joined-orderly : (b : Book) (n : Name) (e : Submission) (o : Outcome) (kept : List (Option Value)) (u : Option ProgressView) (log : List LogItem) → IsOrderly b → CanJoin b e u
     → IsWhole (stored_in (joined b n e o kept u log)) → IsOrderly (joined b n e o kept u log)
 joined-orderly b n e o kept u log k j whole = record {
   stored = whole;
@@ -186,12 +186,12 @@ joined-orderly b n e o kept u log k j whole = record {
   left = λ t v h.
       elim (work-cases b.works u t v h) [
         | inl l ↦ k.left t v l.1
-        | inr l ↦ some-has (λ (x : Underway). 1 ≤ remaining_tasks x.progress) u v l.1 j.left
+        | inr l ↦ some-has (λ (x : ProgressView). 1 ≤ remaining_tasks x.progress) u v l.1 j.left
       ];
   most = λ t v h.
       elim (work-cases b.works u t v h) [
         | inl l ↦ k.most t v l.1
-        | inr l ↦ some-has (λ (x : Underway). task_count x.progress ≤ 4194304) u v l.1 j.most
+        | inr l ↦ some-has (λ (x : ProgressView). task_count x.progress ≤ 4194304) u v l.1 j.most
       ];
   side = k.side;
 }
@@ -199,13 +199,13 @@ joined-orderly b n e o kept u log k j whole = record {
 -- ---- work that goes on
 
 -- the plan, what it reads and its frame stay
-pub record GoesOn (old new : Underway) : Type 0 where
+pub record GoesOn (old new : ProgressView) : Type 0 where
   pub plan : new.progress.plan ≡ old.progress.plan
   pub tiles : new.progress.tiles ≡ old.progress.tiles
   pub input : new.input ≡ old.input
   pub tiling : new.tiling ≡ old.tiling
 
-pub started-goes_on : (old new : Underway) (n : ℕ) → IsStarted old new n → GoesOn old new
+pub started-goes_on : (old new : ProgressView) (n : ℕ) → IsStarted old new n → GoesOn old new
 started-goes_on old new n s = record {
   plan = ap (λ (p : Progress). p.plan) s.progress;
   tiles = ap (λ (p : Progress). p.tiles) s.progress;
@@ -213,10 +213,10 @@ started-goes_on old new n s = record {
   tiling = s.tiling;
 }
 
-pub finished-goes_on : (old new : Underway) (n : ℕ) (cells : List ℕ) → IsFinished old new n cells → GoesOn old new
+pub finished-goes_on : (old new : ProgressView) (n : ℕ) (cells : List ℕ) → IsFinished old new n cells → GoesOn old new
 finished-goes_on old new n cells f = record { plan = f.plan; tiles = f.tiles; input = f.input; tiling = f.tiling }
 
-planned-on : (w : Table) (s : Submission) (old new : Underway) → GoesOn old new → IsPlannedOn w s old → IsPlannedOn w s new
+planned-on : (w : Table) (s : Submission) (old new : ProgressView) → GoesOn old new → IsPlannedOn w s old → IsPlannedOn w s new
 planned-on w s old new g h =
     let r = h.input in
     record {
@@ -225,14 +225,14 @@ planned-on w s old new g h =
       last = rw g.plan h.last;
     }
 
-count-same : (old new : Underway) → GoesOn old new → task_count new.progress ≡ task_count old.progress
+count-same : (old new : ProgressView) → GoesOn old new → task_count new.progress ≡ task_count old.progress
 count-same old new g = rw (g.plan, g.tiles) refl
 
 -- the book with this work under the ticket, or none
-abbrev pub with_work : Book → ℕ → Option Underway → Book
+abbrev pub with_work : Book → ℕ → Option ProgressView → Book
 with_work b t u = record b { works = set b.works t u }
 
-set-cases : (ws : List (Option Underway)) (t : ℕ) (o : Option Underway) (k : ℕ) (v : Underway) → t < length ws → work_at (set ws t o) k ≡ Some v → ((k ≡ t) × (o ≡ Some v)) ⊎ (work_at ws k ≡ Some v)
+set-cases : (ws : List (Option ProgressView)) (t : ℕ) (o : Option ProgressView) (k : ℕ) (v : ProgressView) → t < length ws → work_at (set ws t o) k ≡ Some v → ((k ≡ t) × (o ≡ Some v)) ⊎ (work_at ws k ≡ Some v)
 set-cases ws t o k v within h =
     elim (cases_eq k t) [
       | inl e ↦ inl (e, sym (get_or-set_same ws t o None within) ∙ ap (λ i. work_at (set ws t o) i) (sym e) ∙ h)
@@ -242,7 +242,7 @@ set-cases ws t o k v within h =
 -- without the work under a ticket
 pub without-orderly : (b : Book) (t : ℕ) → IsOrderly b → t < length b.works → IsOrderly (with_work b t None)
 without-orderly b t k within =
-    let was : (i : ℕ) (u : Underway) → work_at (set b.works t None) i ≡ Some u → work_at b.works i ≡ Some u
+    let was : (i : ℕ) (u : ProgressView) → work_at (set b.works t None) i ≡ Some u → work_at b.works i ≡ Some u
     = λ i u h. elim (set-cases b.works t None i u within h) [ inl l ↦ let no = l.1 in absurd cc | inr e ↦ e ] in
     record {
       stored = k.stored;
@@ -255,30 +255,30 @@ without-orderly b t k within =
     }
 
 -- with work that went on there
-pub with-orderly : (b : Book) (t : ℕ) (old new : Underway) → IsOrderly b → t < length b.works → work_at b.works t ≡ Some old → GoesOn old new → 1 ≤ remaining_tasks new.progress
+pub with-orderly : (b : Book) (t : ℕ) (old new : ProgressView) → IsOrderly b → t < length b.works → work_at b.works t ≡ Some old → GoesOn old new → 1 ≤ remaining_tasks new.progress
     → IsOrderly (with_work b t (Some new))
 with-orderly b t old new k within there g left =
     let At : ℕ → Type 0 = λ i. IsPlannedAt b.table i new in
     let here : IsPlannedAt b.table t new = planned-on b.table (submission_at b.table.submissions t) old new g (k.planned t old there) in
     let most : task_count new.progress ≤ 4194304 = omega (arith, k.most t old there, count-same old new g) in
-    let of : (P : Underway → Type 0) (v : Underway) → Some new ≡ Some v → P new → P v = λ P v e p. some-has P (Some new) v e p in
+    let of : (P : ProgressView → Type 0) (v : ProgressView) → Some new ≡ Some v → P new → P v = λ P v e p. some-has P (Some new) v e p in
     record {
       stored = k.stored;
       works = length-set b.works t (Some new) ∙ k.works;
       fits = k.fits;
       planned = λ i u h.
           elim (set-cases b.works t (Some new) i u within h) [
-            | inl l ↦ of (λ (v : Underway). IsPlannedAt b.table i v) u l.1 (subst At (sym l.0) here)
+            | inl l ↦ of (λ (v : ProgressView). IsPlannedAt b.table i v) u l.1 (subst At (sym l.0) here)
             | inr e ↦ k.planned i u e
           ];
       left = λ i u h.
           elim (set-cases b.works t (Some new) i u within h) [
-            | inl l ↦ of (λ (v : Underway). 1 ≤ remaining_tasks v.progress) u l.1 left
+            | inl l ↦ of (λ (v : ProgressView). 1 ≤ remaining_tasks v.progress) u l.1 left
             | inr e ↦ k.left i u e
           ];
       most = λ i u h.
           elim (set-cases b.works t (Some new) i u within h) [
-            | inl l ↦ of (λ (v : Underway). task_count v.progress ≤ 4194304) u l.1 most
+            | inl l ↦ of (λ (v : ProgressView). task_count v.progress ≤ 4194304) u l.1 most
             | inr e ↦ k.most i u e
           ];
       side = k.side;

@@ -14,10 +14,10 @@ use Rattle.mw_model.specs.declared.calls.Outcome.TheVariants as outcome
 use Rattle.mw_model.specs.declared.names.Name.{Name}
 use Rattle.mw_model.specs.Machine.{settled}
 use Rattle.mw_model.specs.Refusals.{Table, no_submission, outcome_at, submission_at, is_pending, is_there}
-use Rattle.mw_model.specs.Stands.{Seen, progress_at, inputs_of, inputs_there, may_run, ready_under}
+use Rattle.mw_model.specs.Stands.{CoreView, progress_at, inputs_of, inputs_there, may_run, ready_under}
 use Rattle.mw_model.specs.Tasks.{ready_tasks}
 use Rattle.mw_model.specs.Values.{tickets}
-use Rattle.mw_progress.specs.Underway.{Underway}
+use Rattle.mw_progress.specs.ProgressView.{ProgressView}
 use Rattle.mw_store.specs.declared.kept.Entry.{Entry}
 use Rattle.mw_store.specs.Entries.{submission_of, outcome_of}
 use Rattle.mw_ledger.specs.Books.{Book, IsOrderly, progress_of, seen_of, work_at}
@@ -31,8 +31,8 @@ pub work-alike : (b new : Book) (v : ℕ) → work_at new.works v ≡ work_at b.
 work-alike b new v same = work-seen new v ∙ ap (option_map progress_of) same ∙ sym (work-seen b v)
 
 -- work is written under another ticket
-pub work-other : (b new : Book) (t v : ℕ) (x : Option Underway) → new.works ≡ set b.works t x → v ≢ t → progress_at (seen_of new).work v ≡ progress_at (seen_of b).work v
-work-other b new t v x is other = work-alike b new v (ap (λ (ws : List (Option Underway)). work_at ws v) is ∙ get_or-set_other b.works t v x None other)
+pub work-other : (b new : Book) (t v : ℕ) (x : Option ProgressView) → new.works ≡ set b.works t x → v ≢ t → progress_at (seen_of new).work v ≡ progress_at (seen_of b).work v
+work-other b new t v x is other = work-alike b new v (ap (λ (ws : List (Option ProgressView)). work_at ws v) is ∙ get_or-set_other b.works t v x None other)
 
 -- ---- tests on inputs
 
@@ -62,23 +62,23 @@ may-run-alike w new v pending submission inputs =
     in
     ap (λ (b : Bool). b && inputs_there new v) pending ∙ ap (λ (b : Bool). is_pending (outcome_at w.outcomes v) && b) there
 
-ready-alike : (c new : Seen) (v : ℕ) → may_run new.table v ≡ may_run c.table v → progress_at new.work v ≡ progress_at c.work v → ready_under new v ≡ ready_under c v
+ready-alike : (c new : CoreView) (v : ℕ) → may_run new.table v ≡ may_run c.table v → progress_at new.work v ≡ progress_at c.work v → ready_under new v ≡ ready_under c v
 ready-alike c new v may work =
     ap (λ (b : Bool). if b then option_map_or ready_tasks (progress_at new.work v) 0 else 0) may
     ∙ ap (λ o. if may_run c.table v then option_map_or ready_tasks o 0 else 0) work
 
 -- none is ready under a ticket that is not pending
-ready-none : (c : Seen) (v : ℕ) → is_pending (outcome_at c.table.outcomes v) ≡ false → ready_under c v ≡ 0
+ready-none : (c : CoreView) (v : ℕ) → is_pending (outcome_at c.table.outcomes v) ≡ false → ready_under c v ≡ 0
 ready-none c v settled_now = ap (λ (b : Bool). if b && inputs_there c.table v then option_map_or ready_tasks (progress_at c.work v) 0 else 0) settled_now
 
 -- ---- changes of a ledger
 
 -- the work under another ticket has changed
-pub ready-other : (b new : Book) (t v : ℕ) (x : Option Underway) → new.table ≡ b.table → new.works ≡ set b.works t x → v ≢ t → ready_under (seen_of new) v ≡ ready_under (seen_of b) v
+pub ready-other : (b new : Book) (t v : ℕ) (x : Option ProgressView) → new.table ≡ b.table → new.works ≡ set b.works t x → v ≢ t → ready_under (seen_of new) v ≡ ready_under (seen_of b) v
 ready-other b new t v x table works other = ready-alike (seen_of b) (seen_of new) v (ap (λ (w : Table). may_run w v) table) (work-other b new t v x works other)
 
 -- an entry was added behind the ticket
-pub ready-before : (b : Book) (c : Call) (n : Name) (e : Entry) (u : Option Underway) (v : ℕ) → IsOrderly b → v < length b.table.names → ready_under (seen_of (with_accepted b c n e u)) v ≡ ready_under (seen_of b) v
+pub ready-before : (b : Book) (c : Call) (n : Name) (e : Entry) (u : Option ProgressView) (v : ℕ) → IsOrderly b → v < length b.table.names → ready_under (seen_of (with_accepted b c n e u)) v ≡ ready_under (seen_of b) v
 ready-before b c n e u v orderly within =
     let whole = orderly.stored in
     let new = with_accepted b c n e u in
@@ -135,4 +135,4 @@ ready-released b new t v orderly within done table works =
     let inputs = all-each (λ (i : ℕ). is_there (outcome_at new.table.outcomes i) ≡ is_there (outcome_at b.table.outcomes i)) (inputs_of b.table v) (alike is_there refl) in
     ready-alike (seen_of b) (seen_of new) v
     (may-run-alike b.table new.table v (alike is_pending refl v) (ap (λ s. submission_at s v) submissions) inputs)
-    (ap (λ (ws : List (Option Underway)). progress_at (seen_of (record b { works = ws })).work v) works)
+    (ap (λ (ws : List (Option ProgressView)). progress_at (seen_of (record b { works = ws })).work v) works)

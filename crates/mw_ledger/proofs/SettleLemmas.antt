@@ -9,10 +9,10 @@ use Rattle.mw_model.specs.Refusals.{is_image, shape_at}
 use Rattle.mw_model.specs.Machine.{settled}
 use Rattle.mw_model.specs.Plans.{is_sum}
 use Rattle.mw_model.specs.Tasks.{is_running, nothing_planned, remaining_tasks}
-use Rattle.mw_task.specs.declared.made.Made.{Made}
+use Rattle.mw_task.specs.declared.tile_result.TileResult.{TileResult}
 use Rattle.mw_task.specs.Products.{IsMade}
 use Rattle.mw_task.specs.WindowTasks.{FitsStep, WindowTask}
-use Rattle.mw_progress.specs.Underway.{Underway, Fits, IsFinished, IsWhole, cells_of_made, number_of}
+use Rattle.mw_progress.specs.ProgressView.{ProgressView, Fits, IsFinished, IsWhole, cells_of_made, number_of}
 use Rattle.mw_store.specs.Stored.{DropsSpent}
 use Rattle.mw_underway.proofs.ResultLemmas.{result-fits}
 use Rattle.mw_ledger.specs.Books.{Book, IsOrderly, work_at}
@@ -26,26 +26,26 @@ set-again (x ∷ xs) zero a b = refl
 set-again (x ∷ xs) (suc i) a b = ap (λ ys. x ∷ ys) (set-again xs i a b)
 
 -- the ledger is in order with the work after a task of it was finished, where tasks are left
-pub finished-orderly : (b : Book) (d : WindowTask) (after : Underway) → IsOrderly b → FinishesAt b d after → 1 ≤ remaining_tasks after.progress → IsOrderly (with_work b d.task.ticket (Some after))
+pub finished-orderly : (b : Book) (d : WindowTask) (after : ProgressView) → IsOrderly b → FinishesAt b d after → 1 ≤ remaining_tasks after.progress → IsOrderly (with_work b d.task.ticket (Some after))
 finished-orderly b d after o f left =
     let at = f.was.at in
     let on = finished-goes_on f.was.work after _ _ f.finished in
     with-orderly b d.task.ticket f.was.work after o (omega (arith, at.within, o.works)) at.work on left
 
 -- its last step is then still no Sum step, where the result is an image
-pub finished-plane : (b : Book) (d : WindowTask) (after : Underway) → IsOrderly b → FinishesAt b d after → is_image (shape_at b.table.submissions d.task.ticket) ≡ true
+pub finished-plane : (b : Book) (d : WindowTask) (after : ProgressView) → IsOrderly b → FinishesAt b d after → is_image (shape_at b.table.submissions d.task.ticket) ≡ true
     → is_sum (get_or after.progress.plan (length after.progress.plan - 1) nothing_planned).step ≡ false
 finished-plane b d after o f image = rw f.finished.plan ((o.planned d.task.ticket f.was.work f.was.at.work).last image)
 
 -- the work stands there again
-pub put-back : (old mid : Book) (t : ℕ) (u : Underway) → mid ≡ with_work old t None → with_work mid t (Some u) ≡ with_work old t (Some u)
-put-back old mid t u is = ap (λ (b : Book). with_work b t (Some u)) is ∙ ap (λ (ws : List (Option Underway)). record old { works = ws }) (set-again old.works t None (Some u))
+pub put-back : (old mid : Book) (t : ℕ) (u : ProgressView) → mid ≡ with_work old t None → with_work mid t (Some u) ≡ with_work old t (Some u)
+put-back old mid t u is = ap (λ (b : Book). with_work b t (Some u)) is ∙ ap (λ (ws : List (Option ProgressView)). record old { works = ws }) (set-again old.works t None (Some u))
 
 -- the same, where the ticket is known by another name
-pub back-at : (old mid : Book) (t s : ℕ) (u : Underway) → s ≡ t → mid ≡ with_work old t None → with_work mid s (Some u) ≡ with_work old t (Some u)
+pub back-at : (old mid : Book) (t s : ℕ) (u : ProgressView) → s ≡ t → mid ≡ with_work old t None → with_work mid s (Some u) ≡ with_work old t (Some u)
 back-at old mid t s u e is = ap (λ (i : ℕ). with_work mid i (Some u)) e ∙ put-back old mid t u is
 
-pub places-at : (old mid : Book) (d : WindowTask) (s : ℕ) (after : Underway) → s ≡ d.task.ticket → FinishesAt old d after → mid ≡ with_work old d.task.ticket None → 1 ≤ remaining_tasks after.progress
+pub places-at : (old mid : Book) (d : WindowTask) (s : ℕ) (after : ProgressView) → s ≡ d.task.ticket → FinishesAt old d after → mid ≡ with_work old d.task.ticket None → 1 ≤ remaining_tasks after.progress
     → PlacesAt old d (with_work mid s (Some after))
 places-at old mid d s after e f is left = record { after = after; finishes = f; left = left; book = back-at old mid d.task.ticket s after e is }
 
@@ -57,7 +57,7 @@ pub record IsSettledWith (mid : Book) (t : ℕ) (v : Value) (new : Book) : Type 
   pub log : new.log ≡ mid.log ++ item.Finished t ∷ []
   pub side : new.side ≡ mid.side
 
-pub settles-at : (old mid : Book) (d : WindowTask) (s : ℕ) (after : Underway) (new : Book) (x : Shape) (v : Value) → s ≡ d.task.ticket → FinishesAt old d after → mid ≡ with_work old d.task.ticket None
+pub settles-at : (old mid : Book) (d : WindowTask) (s : ℕ) (after : ProgressView) (new : Book) (x : Shape) (v : Value) → s ≡ d.task.ticket → FinishesAt old d after → mid ≡ with_work old d.task.ticket None
     → remaining_tasks after.progress ≡ 0 → x ≡ shape_at mid.table.submissions s → v ≡ value_made x after → IsSettledWith mid s v new → SettlesAt old d new
 settles-at old mid d s after new x v e f is last shaped made told =
     let t = d.task.ticket in
@@ -73,28 +73,28 @@ settles-at old mid d s after new x v e f is last shaped made told =
 -- ---- the work of a result
 
 -- the work that a look finds is the one that the result is of
-pub work-of : (b : Book) (d : WindowTask) (k : TaskId) (u : Underway) (r : IsResultAt b d) → k ≡ d.task → work_at b.works k.ticket ≡ Some u → u ≡ r.work
+pub work-of : (b : Book) (d : WindowTask) (k : TaskId) (u : ProgressView) (r : IsResultAt b d) → k ≡ d.task → work_at b.works k.ticket ≡ Some u → u ≡ r.work
 work-of b d k u r e there =
     let same = ap (λ (i : TaskId). work_at b.works i.ticket) e in
     let work = r.at.work in
     cc
 
-pub fits-at : (b : Book) (d : WindowTask) (k : TaskId) (u : Underway) (x : Made) (r : IsResultAt b d) → IsOrderly b → k ≡ d.task → u ≡ r.work → FitsStep d.step d.rect d.windows → IsMade d x → Fits u k.step k.tile x
+pub fits-at : (b : Book) (d : WindowTask) (k : TaskId) (u : ProgressView) (x : TileResult) (r : IsResultAt b d) → IsOrderly b → k ≡ d.task → u ≡ r.work → FitsStep d.step d.rect d.windows → IsMade d x → Fits u k.step k.tile x
 fits-at b d k u x r o e is fits made =
     let allowed = (o.planned d.task.ticket r.work r.at.work).allowed in
-    let Of : Underway → Type 0 = λ v. Fits v d.task.step d.task.tile x in
+    let Of : ProgressView → Type 0 = λ v. Fits v d.task.step d.task.tile x in
     let At : TaskId → Type 0 = λ i. Fits u i.step i.tile x in
     subst At (sym e) (subst Of (sym is) (result-fits (image_of (value_at b.kept r.image)) r.work d x r.at.whole allowed r.result fits made))
 
-pub runs-at : (b : Book) (d : WindowTask) (k : TaskId) (u : Underway) (r : IsResultAt b d) → k ≡ d.task → u ≡ r.work → is_running u.progress (number_of u.progress k.step k.tile) ≡ true
+pub runs-at : (b : Book) (d : WindowTask) (k : TaskId) (u : ProgressView) (r : IsResultAt b d) → k ≡ d.task → u ≡ r.work → is_running u.progress (number_of u.progress k.step k.tile) ≡ true
 runs-at b d k u r e is =
-    let Of : Underway → Type 0 = λ v. is_running v.progress (number_of v.progress d.task.step d.task.tile) ≡ true in
+    let Of : ProgressView → Type 0 = λ v. is_running v.progress (number_of v.progress d.task.step d.task.tile) ≡ true in
     let At : TaskId → Type 0 = λ i. is_running u.progress (number_of u.progress i.step i.tile) ≡ true in
     subst At (sym e) (subst Of (sym is) r.result.running)
 
-pub finishes-at : (b : Book) (d : WindowTask) (k : TaskId) (u after : Underway) (x : Made) (r : IsResultAt b d) → k ≡ d.task → u ≡ r.work → IsMade d x → IsFinished u after (number_of u.progress k.step k.tile) (cells_of_made x)
+pub finishes-at : (b : Book) (d : WindowTask) (k : TaskId) (u after : ProgressView) (x : TileResult) (r : IsResultAt b d) → k ≡ d.task → u ≡ r.work → IsMade d x → IsFinished u after (number_of u.progress k.step k.tile) (cells_of_made x)
     → IsWhole after → FinishesAt b d after
 finishes-at b d k u after x r e is made f whole =
     let At : TaskId → Type 0 = λ i. IsFinished u after (number_of u.progress i.step i.tile) (cells_of_made x) in
-    let Of : Underway → Type 0 = λ v. IsFinished v after (number_of v.progress d.task.step d.task.tile) (cells_of_made x) in
+    let Of : ProgressView → Type 0 = λ v. IsFinished v after (number_of v.progress d.task.step d.task.tile) (cells_of_made x) in
     record { was = r; made = x; is = made; finished = subst Of is (subst At e f); whole = whole }

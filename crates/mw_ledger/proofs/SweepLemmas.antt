@@ -1,16 +1,16 @@
 -- One ticket more whose work is dropped or stays.
 use Rattle.std.proofs.Common.{◌≡◌, ◌≢◌, ℕ, ◌+◌, ◌<◌, ◌≤◌, Bool, true, false, cond, List, length, get_or, set, Option, None, ◌∙◌, arith, below_more}
 use Rattle.std.proofs.lemmas.List.{get_or-set_same, get_or-set_other, length-set}
-use Rattle.mw_progress.specs.Underway.{Underway}
+use Rattle.mw_progress.specs.ProgressView.{ProgressView}
 
 -- below t each place holds what it held where the test passes, and from t on all places do
-abbrev pub SweptTo : (ℕ → Bool) → List (Option Underway) → List (Option Underway) → ℕ → Type 0
+abbrev pub SweptTo : (ℕ → Bool) → List (Option ProgressView) → List (Option ProgressView) → ℕ → Type 0
 SweptTo keeps old now t =
     (length now ≡ length old)
     × ((k : ℕ) → k < t → get_or now k None ≡ cond (keeps k) (get_or old k None) None)
     × ((k : ℕ) → t ≤ k → get_or now k None ≡ get_or old k None)
 
-pub swept-dropped : (keeps : ℕ → Bool) (old now : List (Option Underway)) (t : ℕ) → t < length now → keeps t ≡ false → SweptTo keeps old now t → SweptTo keeps old (set now t None) (t + 1)
+pub swept-dropped : (keeps : ℕ → Bool) (old now : List (Option ProgressView)) (t : ℕ) → t < length now → keeps t ≡ false → SweptTo keeps old now t → SweptTo keeps old (set now t None) (t + 1)
 swept-dropped keeps old now t within out h = (
   length-set now t None ∙ h.0,
   below_more _ _
@@ -19,10 +19,10 @@ swept-dropped keeps old now t within out h = (
   λ k l. let other : k ≢ t = omega arith in get_or-set_other now t k None None other ∙ h.2 k (omega arith),
 )
 
-pub swept-kept : (keeps : ℕ → Bool) (old now : List (Option Underway)) (t : ℕ) → keeps t ≡ true → SweptTo keeps old now t → SweptTo keeps old now (t + 1)
+pub swept-kept : (keeps : ℕ → Bool) (old now : List (Option ProgressView)) (t : ℕ) → keeps t ≡ true → SweptTo keeps old now t → SweptTo keeps old now (t + 1)
 swept-kept keeps old now t in_place h = (h.0, below_more _ _ h.1 (rw in_place (h.2 t (omega arith))), λ k l. h.2 k (omega arith))
 
-pub swept-more : (keeps : ℕ → Bool) (old now : List (Option Underway)) (t : ℕ) → t < length now → (b : Bool) → keeps t ≡ b → SweptTo keeps old now t
+pub swept-more : (keeps : ℕ → Bool) (old now : List (Option ProgressView)) (t : ℕ) → t < length now → (b : Bool) → keeps t ≡ b → SweptTo keeps old now t
     → SweptTo keeps old (cond b now (set now t None)) (t + 1)
 swept-more keeps old now t within true e h = swept-kept keeps old now t e h
 swept-more keeps old now t within false e h = swept-dropped keeps old now t within e h

@@ -16,7 +16,7 @@ use Rattle.mw_model.specs.Stands.{may_run, progress_at, ready_under}
 use Rattle.mw_model.specs.Tasks.{Progress, is_running, ready_tasks, remaining_tasks}
 use Rattle.mw_grid.specs.Grids.{tile_count}
 use Rattle.mw_task.specs.WindowTasks.{WindowTask}
-use Rattle.mw_progress.specs.Underway.{Underway, IsWhole, number_of}
+use Rattle.mw_progress.specs.ProgressView.{ProgressView, IsWhole, number_of}
 use Rattle.mw_work.proofs.Numbers.{length-tiles, number_of-numbers, number_of-within, some-whole, step_number-number_of, step_number-within, tile_number-number_of, tile_number-within}
 use Rattle.mw_stands.specs.TaskEvents.{IsUnderway}
 use Rattle.mw_underway.specs.Results.{IsFoundOf}
@@ -28,18 +28,18 @@ use Rattle.mw_ledger.proofs.OrderLemmas.{GoesOn, started-goes_on, with_work}
 -- ---- what stands there
 
 -- what a look at an index finds
-pub found : (ws : List (Option Underway)) (t : ℕ) (o : Option Underway) (u : Underway) → t < length ws → o ≡ get_or ws t o → o ≡ Some u → work_at ws t ≡ Some u
+pub found : (ws : List (Option ProgressView)) (t : ℕ) (o : Option ProgressView) (u : ProgressView) → t < length ws → o ≡ get_or ws t o → o ≡ Some u → work_at ws t ≡ Some u
 found ws t o u l e is = sym (get_or_read ws t o l e None) ∙ is
 
 -- a slice of all elements, written back
-pub written-back : (n : ℕ) (ws xs : List (Option Underway)) → n ≡ length ws → take n (ws ++ xs) ≡ ws
+pub written-back : (n : ℕ) (ws xs : List (Option ProgressView)) → n ≡ length ws → take n (ws ++ xs) ≡ ws
 written-back n ws xs e = rw e (take-append_seam ws xs)
 
 -- what a core shows of the work under a ticket
-pub progress-shown : (ws : List (Option Underway)) (t : ℕ) → progress_at (map (option_map progress_of) ws) t ≡ option_map progress_of (work_at ws t)
+pub progress-shown : (ws : List (Option ProgressView)) (t : ℕ) → progress_at (map (option_map progress_of) ws) t ≡ option_map progress_of (work_at ws t)
 progress-shown ws t = get_or-map (option_map progress_of) ws t None
 
-pub progress-there : (ws : List (Option Underway)) (t : ℕ) (u : Underway) → work_at ws t ≡ Some u → progress_at (map (option_map progress_of) ws) t ≡ Some u.progress
+pub progress-there : (ws : List (Option ProgressView)) (t : ℕ) (u : ProgressView) → work_at ws t ≡ Some u → progress_at (map (option_map progress_of) ws) t ≡ Some u.progress
 progress-there ws t u e = progress-shown ws t ∙ ap (option_map progress_of) e
 
 pub count-below : (q : ℕ → Bool) (n : ℕ) → count_by q (range_with_len 0 n) ≤ n
@@ -48,10 +48,10 @@ count-below q n = omega (arith, count_by-le-length q (range_with_len 0 n), lengt
 -- ---- running tasks
 
 -- there is such a task in the work, and it is running
-abbrev pub Runs : Underway → TaskId → Type 0
+abbrev pub Runs : ProgressView → TaskId → Type 0
 Runs u k = (k.step < length u.progress.plan) × (k.tile < tile_count u.tiling) × (is_running u.progress (number_of u.progress k.step k.tile) ≡ true)
 
-pub runs-underway : (b : Book) (k : TaskId) (u : Underway) → work_at b.works k.ticket ≡ Some u → IsWhole u → Runs u k → IsUnderway (seen_of b) k
+pub runs-underway : (b : Book) (k : TaskId) (u : ProgressView) → work_at b.works k.ticket ≡ Some u → IsWhole u → Runs u k → IsUnderway (seen_of b) k
 runs-underway b k u there whole r =
     let inside : k.tile < length u.progress.tiles = omega (arith, r.1, length-tiles u whole) in
     record {
@@ -64,7 +64,7 @@ runs-underway b k u there whole r =
       tile = sym (tile_number-number_of u.progress k.step k.tile inside);
     }
 
-pub underway-runs : (b : Book) (k : TaskId) (u : Underway) → work_at b.works k.ticket ≡ Some u → IsWhole u → IsUnderway (seen_of b) k → Runs u k
+pub underway-runs : (b : Book) (k : TaskId) (u : ProgressView) → work_at b.works k.ticket ≡ Some u → IsWhole u → IsUnderway (seen_of b) k → Runs u k
 underway-runs b k u there whole w =
     let told = progress-there b.works k.ticket u there in
     let work = w.work in
@@ -90,7 +90,7 @@ run-ready true None place l = absurd (omega arith)
 run-ready false o place l = absurd (omega arith)
 
 -- a ready task is one of the work that stands there
-pub ready-there : (b : Book) (t place : ℕ) (u : Underway) → work_at b.works t ≡ Some u → place < ready_under (seen_of b) t → place < ready_tasks u.progress
+pub ready-there : (b : Book) (t place : ℕ) (u : ProgressView) → work_at b.works t ≡ Some u → place < ready_under (seen_of b) t → place < ready_tasks u.progress
 ready-there b t place u there ready =
     let found = run-ready (may_run b.table t) (progress_at (map (option_map progress_of) b.works) t) place ready in
     let told = progress-there b.works t u there in
@@ -98,7 +98,7 @@ ready-there b t place u there ready =
     let same : found.0 ≡ u.progress = cc in
     rw (← same) found.2
 
-none-shown : (o : Option Underway) (p : Progress) → option_map progress_of o ≡ Some p → (u : Underway) × (o ≡ Some u)
+none-shown : (o : Option ProgressView) (p : Progress) → option_map progress_of o ≡ Some p → (u : ProgressView) × (o ≡ Some u)
 none-shown (Some u) p e = (u, refl)
 none-shown None p e = absurd cc
 
@@ -113,30 +113,30 @@ ready-first b t place s o ready is none =
 
 -- ---- a task that is taken
 
-stays : (u : Underway) (v : Underway) → v ≡ u → GoesOn u v × (remaining_tasks v.progress ≡ remaining_tasks u.progress)
-stays u v e = (record { plan = ap (λ (w : Underway). w.progress.plan) e; tiles = ap (λ (w : Underway). w.progress.tiles) e; input = ap (λ (w : Underway). w.input) e; tiling = ap (λ (w : Underway). w.tiling) e }, ap (λ (w : Underway). remaining_tasks w.progress) e)
+stays : (u : ProgressView) (v : ProgressView) → v ≡ u → GoesOn u v × (remaining_tasks v.progress ≡ remaining_tasks u.progress)
+stays u v e = (record { plan = ap (λ (w : ProgressView). w.progress.plan) e; tiles = ap (λ (w : ProgressView). w.progress.tiles) e; input = ap (λ (w : ProgressView). w.input) e; tiling = ap (λ (w : ProgressView). w.tiling) e }, ap (λ (w : ProgressView). remaining_tasks w.progress) e)
 
-pub taken-goes_on : {E : Type 0} (b : Book) (t image : ℕ) (old : Underway) (n : ℕ) (new : Underway) (r : Result (Option WindowTask) E) → IfOk r (Takes (image_of (value_at b.kept image)) t old n new) → OnErr r (new ≡ old)
+pub taken-goes_on : {E : Type 0} (b : Book) (t image : ℕ) (old : ProgressView) (n : ℕ) (new : ProgressView) (r : Result (Option WindowTask) E) → IfOk r (Takes (image_of (value_at b.kept image)) t old n new) → OnErr r (new ≡ old)
     → GoesOn old new × (remaining_tasks new.progress ≡ remaining_tasks old.progress)
 taken-goes_on b t image old n new (Ok (Some w)) h s = (started-goes_on old new n h.started, ap (λ (p : Progress). remaining_tasks p) h.started.progress)
 taken-goes_on b t image old n new (Ok None) h s = stays old new h.3
 taken-goes_on b t image old n new (Err e) h s = stays old new s
 
-pub takes-at : {E : Type 0} (b : Book) (t image : ℕ) (old : Underway) (n : ℕ) (new : Underway) (r : Result (Option WindowTask) E) → IsAtWork b t old image → IfOk r (Takes (image_of (value_at b.kept image)) t old n new)
+pub takes-at : {E : Type 0} (b : Book) (t image : ℕ) (old : ProgressView) (n : ℕ) (new : ProgressView) (r : Result (Option WindowTask) E) → IsAtWork b t old image → IfOk r (Takes (image_of (value_at b.kept image)) t old n new)
     → IfOk r (TakesAt b t (with_work b t (Some new)))
 takes-at b t image old n new (Ok w) at h = record { before = old; after = new; image = image; number = n; at = at; takes = h; book = refl }
 takes-at b t image old n new (Err e) at h = tt
 
-pub same-at : {E X : Type 0} (b : Book) (t : ℕ) (old new : Underway) (r : Result X E) → work_at b.works t ≡ Some old → OnErr r (new ≡ old) → OnErr r (with_work b t (Some new) ≡ b)
+pub same-at : {E X : Type 0} (b : Book) (t : ℕ) (old new : ProgressView) (r : Result X E) → work_at b.works t ≡ Some old → OnErr r (new ≡ old) → OnErr r (with_work b t (Some new) ≡ b)
 same-at b t old new (Ok w) there h = tt
 same-at b t old new (Err e) there h =
-    let works : set b.works t (Some new) ≡ b.works = ap (λ (u : Underway). set b.works t (Some u)) h ∙ ap (λ (o : Option Underway). set b.works t o) (sym there) ∙ set-get_or b.works t None in
-    ap (λ (ws : List (Option Underway)). record b { works = ws }) works
+    let works : set b.works t (Some new) ≡ b.works = ap (λ (u : ProgressView). set b.works t (Some u)) h ∙ ap (λ (o : Option ProgressView). set b.works t o) (sym there) ∙ set-get_or b.works t None in
+    ap (λ (ws : List (Option ProgressView)). record b { works = ws }) works
 
 -- ---- results
 
 -- where a result is one of the work under its ticket, it is one of the work and the image that a look finds there
-pub found-of : (b : Book) (d : WindowTask) (k : TaskId) (image : ℕ) (u : Underway) → k ≡ d.task → work_at b.works k.ticket ≡ Some u → (submission_at b.table.submissions k.ticket).inputs.a ≡ Some image → IsWhole u
+pub found-of : (b : Book) (d : WindowTask) (k : TaskId) (image : ℕ) (u : ProgressView) → k ≡ d.task → work_at b.works k.ticket ≡ Some u → (submission_at b.table.submissions k.ticket).inputs.a ≡ Some image → IsWhole u
     → IsFoundAt b d → IsFoundOf (image_of (value_at b.kept image)) u d
 found-of b d k image u is there first whole f =
     let same = ap (λ (i : TaskId). work_at b.works i.ticket) is in
@@ -146,5 +146,5 @@ found-of b d k image u is there first whole f =
     let w : f.work ≡ u = cc in
     let i : f.image ≡ image = cc in
     let Read : ℕ → Type 0 = λ j. IsFoundOf (image_of (value_at b.kept j)) u d in
-    let Of : Underway → Type 0 = λ v. IsWhole v → IsFoundOf (image_of (value_at b.kept f.image)) v d in
+    let Of : ProgressView → Type 0 = λ v. IsWhole v → IsFoundOf (image_of (value_at b.kept f.image)) v d in
     subst Read i (subst Of w f.found whole)

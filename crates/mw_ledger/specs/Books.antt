@@ -3,9 +3,9 @@ use Rattle.std.specs.Prelude.{ℕ, ◌≡◌, ◌≤◌, List, [], length, map, 
 use Rattle.mw_model.specs.declared.calls.LogItem.{LogItem}
 use Rattle.mw_model.specs.Values.{Value}
 use Rattle.mw_model.specs.Refusals.{Table}
-use Rattle.mw_model.specs.Stands.{Seen}
+use Rattle.mw_model.specs.Stands.{CoreView}
 use Rattle.mw_model.specs.Tasks.{Progress, remaining_tasks, task_count}
-use Rattle.mw_progress.specs.Underway.{Underway}
+use Rattle.mw_progress.specs.ProgressView.{ProgressView}
 use Rattle.mw_store.specs.Stored.{Stored, IsWhole}
 use Rattle.mw_stands.specs.Limits.{ShapesFit}
 use Rattle.mw_underway.specs.Planning.{IsPlannedAt, IsSide}
@@ -14,20 +14,20 @@ use Rattle.mw_underway.specs.Planning.{IsPlannedAt, IsSide}
 pub record Book : Type 0 where
   pub table : Table
   pub kept : List (Option Value)
-  pub works : List (Option Underway)
+  pub works : List (Option ProgressView)
   pub log : List LogItem
   pub side : ℕ
 
 -- the work under a ticket, if there is any
-abbrev pub work_at : List (Option Underway) → ℕ → Option Underway
+abbrev pub work_at : List (Option ProgressView) → ℕ → Option ProgressView
 work_at works t = slice_index_or works t None
 
 -- what is known of the tasks of work, without its planes
-abbrev pub progress_of : Underway → Progress
+abbrev pub progress_of : ProgressView → Progress
 progress_of u = u.progress
 
 -- what a core shows of it
-abbrev pub seen_of : Book → Seen
+abbrev pub seen_of : Book → CoreView
 seen_of b = record { table = b.table; kept = b.kept; work = map (option_map progress_of) b.works; log = b.log; side = b.side }
 
 -- the part that its store shows
@@ -43,7 +43,7 @@ pub record IsOrderly (b : Book) : Type 0 where
   pub stored : IsWhole (stored_in b)
   pub works : length b.works ≡ length b.table.names
   pub fits : ShapesFit b.table
-  pub planned : (t : ℕ) (u : Underway) → work_at b.works t ≡ Some u → IsPlannedAt b.table t u
-  pub left : (t : ℕ) (u : Underway) → work_at b.works t ≡ Some u → 1 ≤ remaining_tasks u.progress
-  pub most : (t : ℕ) (u : Underway) → work_at b.works t ≡ Some u → task_count u.progress ≤ 4194304
+  pub planned : (t : ℕ) (u : ProgressView) → work_at b.works t ≡ Some u → IsPlannedAt b.table t u
+  pub left : (t : ℕ) (u : ProgressView) → work_at b.works t ≡ Some u → 1 ≤ remaining_tasks u.progress
+  pub most : (t : ℕ) (u : ProgressView) → work_at b.works t ≡ Some u → task_count u.progress ≤ 4194304
   pub side : IsSide b.side

@@ -7,7 +7,7 @@ use Rattle.mw_model.specs.declared.calls.LogItem.{LogItem}
 use Rattle.mw_model.specs.declared.calls.LogItem.TheVariants as item
 use Rattle.mw_model.specs.Refusals.{Table, outcome_at, is_pending}
 use Rattle.mw_model.specs.Machine.{with_entry}
-use Rattle.mw_progress.specs.Underway.{Underway}
+use Rattle.mw_progress.specs.ProgressView.{ProgressView}
 use Rattle.mw_store.specs.declared.kept.Entry.{Entry}
 use Rattle.mw_store.specs.Entries.{submission_of, outcome_of, payload_in}
 use Rattle.mw_ledger.specs.Books.{Book, work_at}
@@ -17,7 +17,7 @@ abbrev pub noted : Book → LogItem → Book
 noted b i = record b { log = b.log ++ i ∷ [] }
 
 -- one entry more, with its work and the item of its call
-abbrev pub with_accepted : Book → Call → Name → Entry → Option Underway → Book
+abbrev pub with_accepted : Book → Call → Name → Entry → Option ProgressView → Book
 with_accepted b c n e u = record {
   table = with_entry b.table n (submission_of e) (outcome_of e);
   kept = b.kept ++ payload_in e ∷ [];
@@ -27,5 +27,5 @@ with_accepted b c n e u = record {
 }
 
 -- the work under each ticket that is pending stays, and no other has any
-abbrev pub KeepsWorks : Table → List (Option Underway) → List (Option Underway) → Type 0
+abbrev pub KeepsWorks : Table → List (Option ProgressView) → List (Option ProgressView) → Type 0
 KeepsWorks w old new = (t : ℕ) → work_at new t ≡ (if is_pending (outcome_at w.outcomes t) then work_at old t else None)

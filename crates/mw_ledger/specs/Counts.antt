@@ -2,7 +2,7 @@
 use Rattle.std.specs.Prelude.{ℕ, ◌≡◌, ◌<◌, ◌++◌, ◌∷◌, ◌&&◌, [], true, nat_eq, List, length, map}
 use Rattle.std.specs.List.{list_any, range_with_len}
 use Rattle.mw_model.specs.Refusals.{outcome_at, is_pending}
-use Rattle.mw_model.specs.Stands.{Seen, inputs_of, ready_under, running_count}
+use Rattle.mw_model.specs.Stands.{CoreView, inputs_of, ready_under, running_count}
 use Rattle.mw_ledger.specs.Books.{Book}
 
 -- How many tasks of each ticket are ready, and how many of all are running.
@@ -19,7 +19,7 @@ abbrev pub grown : Tally → Tally
 grown k = record k { ready = k.ready ++ 0 ∷ [] }
 
 -- the counts are those of what the core shows
-abbrev pub AreCounts : Seen → Tally → Type 0
+abbrev pub AreCounts : CoreView → Tally → Type 0
 AreCounts c k = (k.ready ≡ map (ready_under c) (range_with_len 0 (length c.table.names))) × (k.running ≡ running_count c)
 
 -- among these are all pending entries that have the ticket as an input

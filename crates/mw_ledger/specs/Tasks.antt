@@ -8,18 +8,18 @@ use Rattle.mw_model.specs.Values.{Value, ImageValue, CurveValue, image_of, value
 use Rattle.mw_model.specs.Refusals.{outcome_at, submission_at, shape_at}
 use Rattle.mw_model.specs.Machine.{settled}
 use Rattle.mw_model.specs.Tasks.{remaining_tasks}
-use Rattle.mw_task.specs.declared.made.Made.{Made}
+use Rattle.mw_task.specs.declared.tile_result.TileResult.{TileResult}
 use Rattle.mw_task.specs.Products.{IsMade}
 use Rattle.mw_task.specs.WindowTasks.{WindowTask}
 use Rattle.mw_tiles.specs.Filled.{filled}
-use Rattle.mw_progress.specs.Underway.{Underway, IsFinished, IsWhole, cells_of_made, numbers_of, plane_at}
+use Rattle.mw_progress.specs.ProgressView.{ProgressView, IsFinished, IsWhole, cells_of_made, numbers_of, plane_at}
 use Rattle.mw_store.specs.Stored.{DropsSpent}
 use Rattle.mw_underway.specs.Results.{IsFoundOf, IsResultOf, result_number}
 use Rattle.mw_underway.specs.SourceWindows.{Takes}
 use Rattle.mw_ledger.specs.Books.{Book, work_at}
 
 -- There is work under the ticket, on the image under the first of its inputs.
-pub record IsAtWork (b : Book) (t : ℕ) (u : Underway) (image : ℕ) : Type 0 where
+pub record IsAtWork (b : Book) (t : ℕ) (u : ProgressView) (image : ℕ) : Type 0 where
   pub within : t < length b.table.names
   pub work : work_at b.works t ≡ Some u
   pub whole : IsWhole u
@@ -27,8 +27,8 @@ pub record IsAtWork (b : Book) (t : ℕ) (u : Underway) (image : ℕ) : Type 0 w
 
 -- A ready task of the ticket is taken; or there is none, and nothing changes.
 pub record TakesAt (old : Book) (t : ℕ) (new : Book) (w : Option WindowTask) : Type 0 where
-  pub before : Underway
-  pub after : Underway
+  pub before : ProgressView
+  pub after : ProgressView
   pub image : ℕ
   pub number : ℕ
   pub at : IsAtWork old t before image
@@ -37,7 +37,7 @@ pub record TakesAt (old : Book) (t : ℕ) (new : Book) (w : Option WindowTask) :
 
 -- The result is that of a running task under a pending ticket, on what is kept.
 pub record IsResultAt (b : Book) (d : WindowTask) : Type 0 where
-  pub work : Underway
+  pub work : ProgressView
   pub image : ℕ
   pub at : IsAtWork b d.task.ticket work image
   pub pending : outcome_at b.table.outcomes d.task.ticket ≡ outcome.Pending
@@ -45,7 +45,7 @@ pub record IsResultAt (b : Book) (d : WindowTask) : Type 0 where
 
 -- There are sources on which it is, where the work is whole, as all work of a ledger is.
 pub record IsFoundAt (b : Book) (d : WindowTask) : Type 0 where
-  pub work : Underway
+  pub work : ProgressView
   pub image : ℕ
   pub within : d.task.ticket < length b.table.names
   pub at : work_at b.works d.task.ticket ≡ Some work
@@ -54,28 +54,28 @@ pub record IsFoundAt (b : Book) (d : WindowTask) : Type 0 where
   pub found : IsWhole work → IsFoundOf (image_of (value_at b.kept image)) work d
 
 -- The task of a result is finished, with what was made.
-pub record FinishesAt (old : Book) (d : WindowTask) (after : Underway) : Type 0 where
+pub record FinishesAt (old : Book) (d : WindowTask) (after : ProgressView) : Type 0 where
   pub was : IsResultAt old d
-  pub made : Made
+  pub made : TileResult
   pub is : IsMade d made
   pub finished : IsFinished was.work after (result_number was.work d) (cells_of_made made)
   pub whole : IsWhole after
 
 -- others of its ticket are not
 pub record PlacesAt (old : Book) (d : WindowTask) (new : Book) : Type 0 where
-  pub after : Underway
+  pub after : ProgressView
   pub finishes : FinishesAt old d after
   pub left : 1 ≤ remaining_tasks after.progress
   pub book : new ≡ record old { works = slice_set old.works d.task.ticket (Some after) }
 
 -- the value that finished work has made: of an image the plane of its last step, of a curve its numbers
-abbrev pub value_made : Shape → Underway → Value
+abbrev pub value_made : Shape → ProgressView → Value
 value_made (shape.Image k w h m) u = ImageValue (filled (plane_at u (length u.progress.plan - 1)))
 value_made s u = CurveValue (numbers_of u.progress.plan u.planes)
 
 -- it was the last of its ticket, which is settled with what was made
 pub record SettlesAt (old : Book) (d : WindowTask) (new : Book) : Type 0 where
-  pub after : Underway
+  pub after : ProgressView
   pub finishes : FinishesAt old d after
   pub last : remaining_tasks after.progress ≡ 0
   pub table : new.table ≡ settled old.table d.task.ticket outcome.Done

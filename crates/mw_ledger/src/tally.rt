@@ -27,8 +27,8 @@ impl Counts {
     ghost use Rattle.std.specs.List.{AllByRecursion};
     ghost use Rattle.mw_model.specs.declared.calls.Call.{Call};
     ghost use Rattle.mw_model.specs.declared.names.Name.{Name};
-    ghost use Rattle.mw_model.specs.Stands.{Seen, ready_under};
-    ghost use Rattle.mw_progress.specs.Underway.{Underway};
+    ghost use Rattle.mw_model.specs.Stands.{CoreView, ready_under};
+    ghost use Rattle.mw_progress.specs.ProgressView.{ProgressView};
     ghost use Rattle.mw_stands.specs.Counts.{running_under};
     ghost use Rattle.mw_stands.specs.Turns.{IsAt};
     ghost use Rattle.mw_store.specs.declared.kept.Entry.{Entry};
@@ -84,7 +84,7 @@ impl Counts {
     pub fn add_last(&mut self, ledger: &Ledger)
         requires some { 1 ≤ length ledger.now.table.names }
         requires count { length self.old.ready ≡ length ledger.now.table.names }
-        ensures { (b : Book) (k : Tally) (c : Call) (n : Name) (e : Entry) (u : Option Underway) → IsOrderly b → AreCounts (seen_of b) k → self.old ≡ grown k → ledger.now ≡ with_accepted b c n e u
+        ensures { (b : Book) (k : Tally) (c : Call) (n : Name) (e : Entry) (u : Option ProgressView) → IsOrderly b → AreCounts (seen_of b) k → self.old ≡ grown k → ledger.now ≡ with_accepted b c n e u
             → AreCounts (seen_of ledger.now) self.new }
     {
         let last = self.ready.len() - 1;
@@ -95,7 +95,7 @@ impl Counts {
     pub fn follow(&mut self, ledger: &Ledger, t: u32, was: u32)
         requires within { t < length ledger.now.table.names }
         requires count { length self.old.ready ≡ length ledger.now.table.names }
-        ensures { (b : Book) (x : Option Underway) → IsOrderly b → AreCounts (seen_of b) self.old → ledger.now ≡ record b { works = slice_set b.works t x } → was ≡ running_under (seen_of b) t
+        ensures { (b : Book) (x : Option ProgressView) → IsOrderly b → AreCounts (seen_of b) self.old → ledger.now ≡ record b { works = slice_set b.works t x } → was ≡ running_under (seen_of b) t
             → AreCounts (seen_of ledger.now) self.new }
     {
         self.count(ledger, t, was);
@@ -146,8 +146,8 @@ impl Counts {
     pub fn find(&self, position: u64) -> (u32, u32)
         requires { position < sum self.now.ready }
         ensures within { result.0 < length self.now.ready }
-        ensures turn { (c : Seen) → AreCounts c self.now → IsAt c position result.0 }
-        ensures place { (c : Seen) → AreCounts c self.now → result.1 < ready_under c result.0 }
+        ensures turn { (c : CoreView) → AreCounts c self.now → IsAt c position result.0 }
+        ensures place { (c : CoreView) → AreCounts c self.now → result.1 < ready_under c result.0 }
     {
         let (t, place) = self.ready.find(position);
         (t, place as u32)

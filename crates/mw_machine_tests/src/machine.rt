@@ -6,11 +6,13 @@ use mw_core::{Core, Finish, NoMemory, Refusal, Shown, Started};
 use mw_element::Element;
 use mw_model::{FlatOp, LogItem, Name, OffsetBox, Op, Rect, Reply, TaskId};
 use mw_netpbm::{read, write};
+use mw_pieces::Pieces;
+use mw_pixel::Plane;
 use mw_step::run;
-use mw_task::{AnyWindow, Step, TaskRefused, TileDone, Work};
-use mw_tile::Window;
+use mw_task::{SharedWindow, Step, TaskRefused, TileDone, Work};
 use std::alloc::{AllocError, AllocFailed, Global};
 use std::process::Abort;
+use std::sync::Arc;
 use std::test::Fail;
 
 pub(crate) const ROW: &[u8] = b"P2\n5 1\n9\n3 1 4 1 5\n";
@@ -174,7 +176,8 @@ fn task_by_hand(alloc: Global, ticket: u32, samples: &[u8]) -> Result<Work, Stop
         return Err(Stop::List);
     }
     let mut windows = Vec::with_capacity(alloc, 1)?;
-    windows.push(AnyWindow::grey8(Window::new(5, 1, place, samples), 9))?;
+    let plane = Arc::new(alloc, Plane::new(5, 1, samples))?;
+    windows.push(SharedWindow::grey8(Pieces::of_plane(alloc, plane, place)?, 9))?;
     Work::new(task, place, step, windows).ok_or(Stop::List)
 }
 

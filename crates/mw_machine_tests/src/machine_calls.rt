@@ -2,11 +2,11 @@
 
 ghost use Rattle.std.specs.Prelude.{IfOk};
 ghost use Rattle.std.specs.List.{AllByRecursion};
-ghost use Rattle.mw_core.specs.Happenings.{IsServable};
+ghost use Rattle.mw_core.specs.EventEffects.{IsServable};
 
 use crate::machine::{Ask, BAR, Desk, ERODED, ROW, Stop, Turn, by_hand, name, plays, text_of};
 use mw_core::events::{Answer, Event, serve_all};
-use mw_core::held::Held;
+use mw_core::locked_core::LockedCore;
 use mw_core::{Fetched, Finish, NoMemory, Started};
 use mw_model::{Code, Name, Reply, Shape};
 use std::alloc::Global;
@@ -252,18 +252,18 @@ fn lists_of_events_are_served(rt: HostRuntime) -> Result<(), Fail> {
     Ok(())
 }
 
-fn held_core(alloc: Global) -> Result<Held, Fail> {
-    match Held::new(alloc, 128) {
-        Err(NoMemory) => Ok(Held::new(alloc, 128)?),
+fn held_core(alloc: Global) -> Result<LockedCore, Fail> {
+    match LockedCore::new(alloc, 128) {
+        Err(NoMemory) => Ok(LockedCore::new(alloc, 128)?),
         Ok(held) => Ok(held),
     }
 }
 
-fn status(held: &mut Held, name: Name) -> Answer {
+fn status(held: &mut LockedCore, name: Name) -> Answer {
     held.serve(Event::Status(name))
 }
 
-fn start(held: &mut Held) -> Answer {
+fn start(held: &mut LockedCore) -> Answer {
     held.serve(Event::Start(0))
 }
 

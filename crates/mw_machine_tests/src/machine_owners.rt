@@ -6,7 +6,7 @@ use mw_core::{Finish, NoMemory, Shown};
 use mw_model::Reply;
 use mw_pixel::{Plane, SharedView};
 use mw_step::run;
-use mw_task::{Made, TileDone};
+use mw_task::{TileDone, TileResult};
 use std::alloc::Global;
 use std::process::Abort;
 use std::sync::Arc;
@@ -51,7 +51,7 @@ struct Watched {
 impl Watched {
     fn of(done: &TileDone) -> Result<Watched, Stop> {
         match done.made() {
-            Made::Grey8(plane, _) => Ok(Watched {
+            TileResult::Grey8(plane, _) => Ok(Watched {
                 tile: Arc::try_clone(plane)?,
             }),
             _ => Err(Stop::List),

@@ -13,7 +13,7 @@ use Rattle.mw_model.specs.Plans.{IsSourceAt, images_of, planes, value_of_planes}
 use Rattle.mw_model.specs.Tasks.{Progress, nothing_planned, task_count, flag, planned_of, tile_of_task, sources_of, made_of_planes, is_ready, is_needed, ready_tasks, running_tasks, remaining_tasks}
 
 -- What a core shows: its table, the value that it keeps of each ticket, the work under each pending ticket, its log, and the side of tiles that it was made with, in pixels, which no reply depends on.
-pub record Seen : Type 0 where
+pub record CoreView : Type 0 where
   pub table : Table
   pub kept : List (Option Value)
   pub work : List (Option Progress)
@@ -74,7 +74,7 @@ pub record Agrees (kept : List (Option Value)) (m : Machine) : Type 0 where
   pub released : (t : ℕ) → t < length m.table.names → outcome_at m.table.outcomes t ≡ outcome.Released → (IsSome (value_at kept t) ↔ (is_wanted m.table t ≡ true))
 
 -- The core stands for this state of the machine.
-pub record StandsFor (c : Seen) (m : Machine) : Type 0 where
+pub record StandsFor (c : CoreView) (m : Machine) : Type 0 where
   -- its log, with the payloads of the state, is a run that ends there
   pub run : Run start_state c.log m
   pub table : c.table ≡ m.table
@@ -90,21 +90,21 @@ abbrev pub may_run : Table → ℕ → Bool
 may_run w t = is_pending (outcome_at w.outcomes t) && inputs_there w t
 
 -- task n of ticket t is ready: the ticket is pending, its inputs are there, and the task is ready in its plan
-abbrev pub is_ready_at : Seen → ℕ → ℕ → Bool
+abbrev pub is_ready_at : CoreView → ℕ → ℕ → Bool
 is_ready_at c t n = may_run c.table t && option_map_or (λ p. nat_lt n (task_count p) && is_ready p n) (progress_at c.work t) false
 
 -- how many tasks of the ticket are ready
-abbrev pub ready_under : Seen → ℕ → ℕ
+abbrev pub ready_under : CoreView → ℕ → ℕ
 ready_under c t = if may_run c.table t then option_map_or ready_tasks (progress_at c.work t) 0 else 0
 
 -- how many tasks are ready
-abbrev pub ready_count : Seen → ℕ
+abbrev pub ready_count : CoreView → ℕ
 ready_count c = sum (map (ready_under c) (range_with_len 0 (length c.table.names)))
 
 -- how many tasks of pending tickets are running
-abbrev pub running_count : Seen → ℕ
+abbrev pub running_count : CoreView → ℕ
 running_count c = sum (map (λ t. option_map_or running_tasks (progress_at c.work t) 0) (range_with_len 0 (length c.table.names)))
 
 -- how many tasks of a pending ticket are not finished
-abbrev pub remaining_of : Seen → ℕ → Option ℕ
+abbrev pub remaining_of : CoreView → ℕ → Option ℕ
 remaining_of c t = option_map remaining_tasks (progress_at c.work t)

@@ -2,11 +2,12 @@
 
 ghost use Rattle.std.specs.Prelude.{◌≤◌, ◌↔◌, IsTrue, All};
 
+use mw_grid::whole_frame;
 use mw_model::plain::PlainImage;
-use mw_model::{Kind, Rect, Shape};
+use mw_model::{Kind, Shape};
+use mw_pieces::Pieces;
 use mw_pixel::{Bit, Pixel, Plane};
-use mw_task::{AnyWindow, Element, Made};
-use mw_tile::Window;
+use mw_task::{Element, SharedWindow, TileResult};
 use std::alloc::Global;
 use std::process::Abort;
 use std::sync::Arc;
@@ -63,32 +64,31 @@ fn samples_of<P: Pixel>(alloc: Global, levels: &[u16]) -> Result<Vec<P>, Fail> {
     Ok(samples)
 }
 
-fn window<P: Pixel>(rt: &impl Abort, alloc: Global, image: &PlainImage) -> Result<Window<P>, Fail> {
+fn window<P: Pixel>(rt: &impl Abort, alloc: Global, image: &PlainImage) -> Result<Pieces<P>, Fail> {
     let samples = samples_of::<P>(alloc, image.samples())?;
     let (width, height) = (image.width(), image.height());
     assert_eq!(rt; samples.len(), height as usize * width as usize);
-    let place = Rect {
-        x: 0,
-        y: 0,
-        width,
-        height,
-    };
-    Ok(Window::new(width, height, place, samples))
+    let plane = Arc::new(alloc, Plane::new(width, height, samples))?;
+    Ok(Pieces::of_plane(alloc, plane, whole_frame(width, height))?)
 }
 
 /// The window that has the whole image.
-pub(crate) fn whole(rt: &impl Abort, alloc: Global, image: &PlainImage) -> Result<AnyWindow, Fail> {
+pub(crate) fn whole(
+    rt: &impl Abort,
+    alloc: Global,
+    image: &PlainImage,
+) -> Result<SharedWindow, Fail> {
     let maxval = image.maxval();
     assert!(rt; 1 <= maxval);
     match image.kind() {
-        Kind::Bit => Ok(AnyWindow::bits(window::<Bit>(rt, alloc, image)?)),
+        Kind::Bit => Ok(SharedWindow::bits(window::<Bit>(rt, alloc, image)?)),
         Kind::Grey => {
             if maxval <= 255 {
                 let levels = window::<u8>(rt, alloc, image)?;
-                Ok(AnyWindow::grey8(levels, maxval as u8))
+                Ok(SharedWindow::grey8(levels, maxval as u8))
             } else {
                 let levels = window::<u16>(rt, alloc, image)?;
-                Ok(AnyWindow::grey16(levels, maxval))
+                Ok(SharedWindow::grey16(levels, maxval))
             }
         }
     }
@@ -114,11 +114,17 @@ fn image_of<P: Pixel>(
 }
 
 /// The image that a step made.
-pub(crate) fn made(rt: &impl Abort, alloc: Global, made: &Made) -> Result<PlainImage, Fail> {
+pub(crate) fn made(rt: &impl Abort, alloc: Global, made: &TileResult) -> Result<PlainImage, Fail> {
     match made {
-        Made::Bits(plane) => image_of(rt, alloc, Kind::Bit, 1, plane),
-        Made::Grey8(plane, maxval) => image_of(rt, alloc, Kind::Grey, u16::from(*maxval), plane),
-        Made::Grey16(plane, maxval) => image_of(rt, alloc, Kind::Grey, *maxval, plane),
-        Made::Number(_) => Err("a step that makes an image".into()),
+        TileResult::Bits(plane) => image_of(rt, alloc, Kind::Bit, 1, plane),
+        TileResult::Grey8(plane, maxval) => image_of(
+            rt,
+            alloc,
+            Kind::Grey,
+            u16::from(*maxval),
+            plane,
+        ),
+        TileResult::Grey16(plane, maxval) => image_of(rt, alloc, Kind::Grey, *maxval, plane),
+        TileResult::Number(_) => Err("a step that makes an image".into()),
     }
 }

@@ -6,7 +6,7 @@ use mw_model::plain::PlainImage;
 use mw_model::{FlatOp, Op, Rect, TaskId};
 use mw_plan::{Input, Plan, PlannedStep, Source, plan_of, shape_of};
 use mw_step::run;
-use mw_task::{AnyWindow, Element, Work};
+use mw_task::{Element, SharedWindow, Work};
 use std::alloc::Global;
 use std::process::Abort;
 use std::sync::Arc;
@@ -38,7 +38,7 @@ fn windows(
     planned: &PlannedStep,
     image: &PlainImage,
     planes: &[PlainImage],
-) -> Result<Vec<AnyWindow>, Fail> {
+) -> Result<Vec<SharedWindow>, Fail> {
     let mut windows = Vec::new(alloc);
     for k in 0..planned.sources.len() {
         let source = planned.sources.get(k).ok_or("a source in each place")?;

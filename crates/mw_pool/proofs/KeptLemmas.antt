@@ -4,6 +4,7 @@ use Rattle.std.specs.Prelude.{IsSome}
 use mathlib.Core.HLevel.{⊥_prop}
 use Rattle.std.proofs.Math.Logic.{∥∥₁_map, ∥∥₁_elim}
 use Rattle.mw_model.specs.declared.names.Name.{Name}
+use Rattle.mw_model.specs.declared.codes.Code.{Code}
 use Rattle.mw_model.specs.declared.codes.Code.TheVariants as code
 use Rattle.mw_model.specs.declared.shapes.Shape.{Shape}
 use Rattle.mw_model.specs.declared.calls.Outcome.{Outcome}
@@ -14,9 +15,9 @@ use Rattle.mw_model.specs.declared.calls.Reply.{Reply}
 use Rattle.mw_model.specs.declared.calls.Reply.TheVariants as reply
 use Rattle.mw_model.specs.declared.tasks.TaskId.{TaskId}
 use Rattle.mw_model.specs.Values.{Value}
-use Rattle.mw_model.specs.Refusals.{ticket_of, outcome_at}
-use Rattle.mw_model.specs.Machine.{Machine, after, reply_to, status_reply}
-use Rattle.mw_model.specs.Stands.{Seen, StandsFor}
+use Rattle.mw_model.specs.Refusals.{Table, ticket_of, outcome_at, refusal}
+use Rattle.mw_model.specs.Machine.{Machine, after, answer, refused_or, reply_to, status_reply}
+use Rattle.mw_model.specs.Stands.{CoreView, StandsFor}
 use Rattle.mw_task.specs.WindowTasks.{WindowTask}
 use Rattle.mw_core.specs.declared.answers.Started.{Started}
 use Rattle.mw_core.specs.declared.answers.Started.TheVariants as started
@@ -30,51 +31,51 @@ use Rattle.mw_core.specs.Fetches.{ShowsSome}
 use Rattle.mw_pool.specs.Tickets.{IsAwaited}
 
 -- it stands for some state
-abbrev pub Stands : Seen → Type 0
+abbrev pub Stands : CoreView → Type 0
 Stands c = ∥ ((m : Machine) × StandsFor c m) ∥₁
 
 -- ---- events
 
-pub stands-served : {A E : Type 0} → (told : A → Reply) (r : Result A E) (old new : Seen) (c : Call) (p : Option Value) → Stands old → IfOk r (λ a. Serves old c p new (told a)) → OnErr r (new ≡ old) → Stands new
+pub stands-served : {A E : Type 0} → (told : A → Reply) (r : Result A E) (old new : CoreView) (c : Call) (p : Option Value) → Stands old → IfOk r (λ a. Serves old c p new (told a)) → OnErr r (new ≡ old) → Stands new
 stands-served told (Ok a) old new c p s served stays = ∥∥₁_map s (λ w. (after w.0 c p, served.stands w.0 w.1))
 stands-served told (Err e) old new c p s served stays = subst Stands (sym stays) s
 
-started-state : (old new : Seen) (m : Machine) (a : Started) → StandsFor old m → Starts old m a new → (n : Machine) × StandsFor new n
+started-state : (old new : CoreView) (m : Machine) (a : Started) → StandsFor old m → Starts old m a new → (n : Machine) × StandsFor new n
 started-state old new m (started.Work w) s h = (m, h.stands)
 started-state old new m (started.Refused t) s h = (_, h.1.stands)
-started-state old new m started.Idle s h = let P : Seen → Type 0 = λ c. StandsFor c m in (m, subst P (sym h.1) s)
+started-state old new m started.Idle s h = let P : CoreView → Type 0 = λ c. StandsFor c m in (m, subst P (sym h.1) s)
 
-pub stands-started : (old new : Seen) (a : Started) → Stands old → ((m : Machine) → StandsFor old m → Starts old m a new) → Stands new
+pub stands-started : (old new : CoreView) (a : Started) → Stands old → ((m : Machine) → StandsFor old m → Starts old m a new) → Stands new
 stands-started old new a s h = ∥∥₁_map s (λ w. started-state old new w.0 a w.1 (h w.0 w.1))
 
-finished-state : (old new : Seen) (m : Machine) (d : WindowTask) (a : Finish) → StandsFor old m → Finishes old m d a new → (n : Machine) × StandsFor new n
+finished-state : (old new : CoreView) (m : Machine) (d : WindowTask) (a : Finish) → StandsFor old m → Finishes old m d a new → (n : Machine) × StandsFor new n
 finished-state old new m d finish.Placed s h = (m, h.stands)
 finished-state old new m d (finish.Settled t) s h = (_, h.stands)
-finished-state old new m d finish.Late s h = let P : Seen → Type 0 = λ c. StandsFor c m in (m, subst P (sym h.1) s)
-finished-state old new m d finish.Stranger s h = let P : Seen → Type 0 = λ c. StandsFor c m in (m, subst P (sym h.2) s)
+finished-state old new m d finish.Late s h = let P : CoreView → Type 0 = λ c. StandsFor c m in (m, subst P (sym h.1) s)
+finished-state old new m d finish.Stranger s h = let P : CoreView → Type 0 = λ c. StandsFor c m in (m, subst P (sym h.2) s)
 
-pub stands-finished : (old new : Seen) (d : WindowTask) (a : Finish) → Stands old → ((m : Machine) → StandsFor old m → Finishes old m d a new) → Stands new
+pub stands-finished : (old new : CoreView) (d : WindowTask) (a : Finish) → Stands old → ((m : Machine) → StandsFor old m → Finishes old m d a new) → Stands new
 stands-finished old new d a s h = ∥∥₁_map s (λ w. finished-state old new w.0 d a w.1 (h w.0 w.1))
 
-refused-state : (old new : Seen) (m : Machine) (k : TaskId) (a : Refusal) → StandsFor old m → Refuses old m k a new → (n : Machine) × StandsFor new n
+refused-state : (old new : CoreView) (m : Machine) (k : TaskId) (a : Refusal) → StandsFor old m → Refuses old m k a new → (n : Machine) × StandsFor new n
 refused-state old new m k (refusal.Killed t) s h = (_, h.2.stands)
-refused-state old new m k refusal.Late s h = let P : Seen → Type 0 = λ c. StandsFor c m in (m, subst P (sym h.1) s)
-refused-state old new m k refusal.Stranger s h = let P : Seen → Type 0 = λ c. StandsFor c m in (m, subst P (sym h.2) s)
+refused-state old new m k refusal.Late s h = let P : CoreView → Type 0 = λ c. StandsFor c m in (m, subst P (sym h.1) s)
+refused-state old new m k refusal.Stranger s h = let P : CoreView → Type 0 = λ c. StandsFor c m in (m, subst P (sym h.2) s)
 
-pub stands-refused : (old new : Seen) (k : TaskId) (a : Refusal) → Stands old → ((m : Machine) → StandsFor old m → Refuses old m k a new) → Stands new
+pub stands-refused : (old new : CoreView) (k : TaskId) (a : Refusal) → Stands old → ((m : Machine) → StandsFor old m → Refuses old m k a new) → Stands new
 stands-refused old new k a s h = ∥∥₁_map s (λ w. refused-state old new w.0 k a w.1 (h w.0 w.1))
 
 -- ---- what is handed out
 
 -- what some state tells, where it cannot be
-pub no-state : (c : Seen) → Stands c → ((m : Machine) → StandsFor c m → ⊥) → ⊥
+pub no-state : (c : CoreView) → Stands c → ((m : Machine) → StandsFor c m → ⊥) → ⊥
 no-state c s h = ∥∥₁_elim s ⊥_prop (λ w. h w.0 w.1)
 
-other-reply : (c : Seen) (v : Value) (r : Reply) → Stands c → (ShowsSome r → ⊥) → ((m : Machine) → StandsFor c m → IsSome (Some v) ↔ ShowsSome r) → IsSome (Some v) ↔ ShowsSome r
+other-reply : (c : CoreView) (v : Value) (r : Reply) → Stands c → (ShowsSome r → ⊥) → ((m : Machine) → StandsFor c m → IsSome (Some v) ↔ ShowsSome r) → IsSome (Some v) ↔ ShowsSome r
 other-reply c v r s none h = absurd (no-state c s (λ m st. none ((h m st).0 refl)))
 
 -- a value is handed out exactly where the reply is `Shown`, since it is so for some state
-pub shows-some : (c : Seen) (o : Option Value) (r : Reply) → Stands c → ((m : Machine) → StandsFor c m → IsSome o ↔ ShowsSome r) → IsSome o ↔ ShowsSome r
+pub shows-some : (c : CoreView) (o : Option Value) (r : Reply) → Stands c → ((m : Machine) → StandsFor c m → IsSome o ↔ ShowsSome r) → IsSome o ↔ ShowsSome r
 shows-some c None r s h = (λ e. absurd cc, λ w. absurd (no-state c s (λ m st. let e = (h m st).1 w in cc)))
 shows-some c (Some v) (reply.Shown t) s h = (λ e. (t, refl), λ w. refl)
 shows-some c (Some v) (reply.Accepted t) s h = other-reply c v (reply.Accepted t) s (λ w. let e = w.1 in cc) h
@@ -86,10 +87,42 @@ shows-some c (Some v) (reply.OutOfMemory t) s h = other-reply c v (reply.OutOfMe
 shows-some c (Some v) (reply.BadInput t i) s h = other-reply c v (reply.BadInput t i) s (λ w. let e = w.1 in cc) h
 shows-some c (Some v) (reply.Released t) s h = other-reply c v (reply.Released t) s (λ w. let e = w.1 in cc) h
 
-pub shows-some-if : {E : Type 0} → {A : Type 0} (value : A → Option Value) (told : A → Reply) (r : Result A E) (c : Seen) → Stands c
+pub shows-some-if : {E : Type 0} → {A : Type 0} (value : A → Option Value) (told : A → Reply) (r : Result A E) (c : CoreView) → Stands c
     → ((m : Machine) → StandsFor c m → IfOk r (λ a. IsSome (value a) ↔ ShowsSome (told a))) → IfOk r (λ a. IsSome (value a) ↔ ShowsSome (told a))
 shows-some-if value told (Ok a) c s h = shows-some c (value a) (told a) s h
 shows-some-if value told (Err e) c s h = tt
+
+-- a call that hands out no value
+abbrev pub IsPlain : Call → Type 0
+IsPlain (call.Fetch n) = ⊥
+IsPlain c = Unit {0}
+
+status-shows-none : (t : ℕ) (s : Shape) (o : Outcome) (u : ℕ) → status_reply t s o ≢ reply.Shown u
+status-shows-none t s outcome.Pending u h = cc
+status-shows-none t s outcome.Done u h = cc
+status-shows-none t s outcome.Cancelled u h = cc
+status-shows-none t s outcome.Memory u h = cc
+status-shows-none t s (outcome.Input i) u h = cc
+status-shows-none t s outcome.Released u h = cc
+
+answer-shows-none : (w : Table) (c : Call) (u : ℕ) → IsPlain c → answer w c ≢ reply.Shown u
+answer-shows-none w (call.Load n g) u p h = cc
+answer-shows-none w (call.Element n g) u p h = cc
+answer-shows-none w (call.Run n o) u p h = cc
+answer-shows-none w (call.Cancel n) u p h = cc
+answer-shows-none w (call.Release n) u p h = cc
+answer-shows-none w (call.Status n) u p h = status-shows-none _ _ _ u h
+answer-shows-none w (call.Fetch n) u p h = absurd p
+
+none-shown : (x : Option Code) (a : Reply) (u : ℕ) → a ≢ reply.Shown u → refused_or x a ≢ reply.Shown u
+none-shown None a u n h = n h
+none-shown (Some c) a u n h = cc
+
+-- no call but FETCH is answered by `Shown`
+pub plain-shows-nothing : {E : Type 0} → (r : Result Reply E) (old new : CoreView) (c : Call) (p : Option Value) → IsPlain c → Stands old → IfOk r (Serves old c p new) → IfOk r (λ a. ShowsSome a → ⊥)
+plain-shows-nothing (Ok a) old new c p plain s served = λ w.
+    no-state old s (λ m st. none-shown (refusal m.table m.payloads c) (answer m.table c) w.0 (answer-shows-none m.table c w.0 plain) (sym (served.reply m st) ∙ w.1))
+plain-shows-nothing (Err e) old new c p plain s served = tt
 
 -- ---- the end of a wait
 
@@ -106,7 +139,7 @@ tells-awaited : (m : Machine) (n : Name) (u : ℕ) (o : Option ℕ) → ticket_o
 tells-awaited m n u None e h = let none : reply.Refused code.Unknown ≡ reply.Pending u = rw e at h in absurd cc
 tells-awaited m n u (Some t) e h = (t, e, status-pending t u _ (outcome_at m.table.outcomes t) (rw e at h))
 
-pub no-pending : {E : Type 0} → (r : Result Reply E) (old new : Seen) (n : Name) → Stands old → ((m : Machine) → StandsFor old m → IsAwaited m.table n → ⊥)
+pub no-pending : {E : Type 0} → (r : Result Reply E) (old new : CoreView) (n : Name) → Stands old → ((m : Machine) → StandsFor old m → IsAwaited m.table n → ⊥)
     → IfOk r (Serves old (call.Status n) None new) → IfOk r (λ a. (u : ℕ) → a ≢ reply.Pending u)
 no-pending (Ok a) old new n s free served = λ u e. no-state old s (λ m st. free m st (tells-awaited m n u (ticket_of m.table.names n) refl (sym (served.reply m st) ∙ e)))
 no-pending (Err x) old new n s free served = tt

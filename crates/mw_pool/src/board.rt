@@ -28,7 +28,7 @@ impl Board {
     ghost use Rattle.mw_model.specs.declared.calls.Given.{Given};
     ghost use Rattle.mw_model.specs.declared.calls.Call.TheVariants as call;
     ghost use Rattle.mw_model.specs.Machine.{Machine};
-    ghost use Rattle.mw_model.specs.Stands.{Seen, StandsFor};
+    ghost use Rattle.mw_model.specs.Stands.{CoreView, StandsFor};
     ghost use Rattle.mw_model.specs.Receipts.{Covers};
     ghost use Rattle.mw_core.specs.Fetches.{ShowsSome, shown_value};
     ghost use Rattle.mw_pool.specs.Passes.{AddsReceipt};
@@ -62,6 +62,7 @@ impl Board {
         bytes: &[u8],
     ) -> Result<Reply, NoMemory>
         ensures receipt { IfOk result (λ r. (g : Given) × TellsImage bytes.now g × AddsReceipt pass.old pass.new (call.Load name g) r) }
+        ensures shows_nothing { IfOk result (λ r. ¬ ShowsSome r) }
         ensures err { OnErr result (pass.new ≡ pass.old) }
     {
         let image = read_image(self.alloc, bytes);
@@ -78,6 +79,7 @@ impl Board {
         bytes: &[u8],
     ) -> Result<Reply, NoMemory>
         ensures receipt { IfOk result (λ r. (g : Given) × TellsElement bytes.now origin.0 origin.1 g × AddsReceipt pass.old pass.new (call.Element name g) r) }
+        ensures shows_nothing { IfOk result (λ r. ¬ ShowsSome r) }
         ensures err { OnErr result (pass.new ≡ pass.old) }
     {
         let element = read_element(self.alloc, bytes, origin.0, origin.1);
@@ -93,6 +95,7 @@ impl Board {
         op: Op,
     ) -> Result<Reply, NoMemory>
         ensures receipt { IfOk result (λ r. AddsReceipt pass.old pass.new (call.Run name op) r) }
+        ensures shows_nothing { IfOk result (λ r. ¬ ShowsSome r) }
         ensures err { OnErr result (pass.new ≡ pass.old) }
     {
         let mut kept = self.kept.lock(rt);
@@ -106,6 +109,7 @@ impl Board {
     /// CANCEL. Sessions that wait look again.
     pub fn cancel<R: Wait>(&self, rt: &R, pass: &mut Pass, name: Name) -> Result<Reply, NoMemory>
         ensures receipt { IfOk result (λ r. AddsReceipt pass.old pass.new (call.Cancel name) r) }
+        ensures shows_nothing { IfOk result (λ r. ¬ ShowsSome r) }
         ensures err { OnErr result (pass.new ≡ pass.old) }
     {
         let reply = self.kept.lock(rt).cancel(pass, name);
@@ -116,6 +120,7 @@ impl Board {
     /// RELEASE.
     pub fn release<R: Wait>(&self, rt: &R, pass: &mut Pass, name: Name) -> Result<Reply, NoMemory>
         ensures receipt { IfOk result (λ r. AddsReceipt pass.old pass.new (call.Release name) r) }
+        ensures shows_nothing { IfOk result (λ r. ¬ ShowsSome r) }
         ensures err { OnErr result (pass.new ≡ pass.old) }
     {
         self.kept.lock(rt).release(pass, name)
@@ -124,6 +129,7 @@ impl Board {
     /// STATUS.
     pub fn status<R: Wait>(&self, rt: &R, pass: &mut Pass, name: Name) -> Result<Reply, NoMemory>
         ensures receipt { IfOk result (λ r. AddsReceipt pass.old pass.new (call.Status name) r) }
+        ensures shows_nothing { IfOk result (λ r. ¬ ShowsSome r) }
         ensures err { OnErr result (pass.new ≡ pass.old) }
     {
         self.kept.lock(rt).status(pass, name)
@@ -132,6 +138,7 @@ impl Board {
     /// STATUS, in the first hold of the lock in which the name has no pending entry or the board is closed.
     pub fn wait<R: Wait>(&self, rt: &R, pass: &mut Pass, name: Name) -> Result<Reply, NoMemory>
         ensures receipt { IfOk result (λ r. AddsReceipt pass.old pass.new (call.Status name) r) }
+        ensures shows_nothing { IfOk result (λ r. ¬ ShowsSome r) }
         ensures err { OnErr result (pass.new ≡ pass.old) }
     {
         let kept = self.kept.lock(rt);
@@ -161,7 +168,7 @@ impl Board {
     /// Whether the passes cover the log. Then there is a state of the machine whose run has all their calls, each once, and
     /// those of each pass in the pass's order.
     pub fn audit_all<R: Wait>(&self, rt: &R, passes: &[Pass]) -> bool
-        ensures { IsTrue result → (core : Seen) × ∥ ((m : Machine) × StandsFor core m) ∥₁ × Covers core.log passes.now }
+        ensures { IsTrue result → (core : CoreView) × ∥ ((m : Machine) × StandsFor core m) ∥₁ × Covers core.log passes.now }
     {
         self.kept.lock(rt).audit(passes)
     }

@@ -59,6 +59,7 @@ impl Kept {
     ) -> Result<Reply, NoMemory>
         requires { ForOk image IsImage }
         ensures served { IfOk result (Serves self.old.core (call.Load name (given_image image)) (image_payload image) self.new.core) }
+        ensures shows_nothing { IfOk result (λ r. ¬ ShowsSome r) }
         ensures receipt { IfOk result (λ r. pass.new ≡ with_receipt pass.old (length self.old.core.log) (call.Load name (given_image image)) r) }
         ensures core_stays { OnErr result (self.new.core ≡ self.old.core) }
         ensures pass_stays { OnErr result (pass.new ≡ pass.old) }
@@ -74,6 +75,7 @@ impl Kept {
         element: Result<Element, Code>,
     ) -> Result<Reply, NoMemory>
         ensures served { IfOk result (Serves self.old.core (call.Element name (given_element element)) (element_payload element) self.new.core) }
+        ensures shows_nothing { IfOk result (λ r. ¬ ShowsSome r) }
         ensures receipt { IfOk result (λ r. pass.new ≡ with_receipt pass.old (length self.old.core.log) (call.Element name (given_element element)) r) }
         ensures core_stays { OnErr result (self.new.core ≡ self.old.core) }
         ensures pass_stays { OnErr result (pass.new ≡ pass.old) }
@@ -84,6 +86,7 @@ impl Kept {
 
     pub fn run(&mut self, pass: &mut Pass, name: Name, op: Op) -> Result<Reply, NoMemory>
         ensures served { IfOk result (Serves self.old.core (call.Run name op) None self.new.core) }
+        ensures shows_nothing { IfOk result (λ r. ¬ ShowsSome r) }
         ensures receipt { IfOk result (λ r. pass.new ≡ with_receipt pass.old (length self.old.core.log) (call.Run name op) r) }
         ensures core_stays { OnErr result (self.new.core ≡ self.old.core) }
         ensures pass_stays { OnErr result (pass.new ≡ pass.old) }
@@ -94,6 +97,7 @@ impl Kept {
 
     pub fn cancel(&mut self, pass: &mut Pass, name: Name) -> Result<Reply, NoMemory>
         ensures served { IfOk result (Serves self.old.core (call.Cancel name) None self.new.core) }
+        ensures shows_nothing { IfOk result (λ r. ¬ ShowsSome r) }
         ensures receipt { IfOk result (λ r. pass.new ≡ with_receipt pass.old (length self.old.core.log) (call.Cancel name) r) }
         ensures core_stays { OnErr result (self.new.core ≡ self.old.core) }
         ensures pass_stays { OnErr result (pass.new ≡ pass.old) }
@@ -104,6 +108,7 @@ impl Kept {
 
     pub fn release(&mut self, pass: &mut Pass, name: Name) -> Result<Reply, NoMemory>
         ensures served { IfOk result (Serves self.old.core (call.Release name) None self.new.core) }
+        ensures shows_nothing { IfOk result (λ r. ¬ ShowsSome r) }
         ensures receipt { IfOk result (λ r. pass.new ≡ with_receipt pass.old (length self.old.core.log) (call.Release name) r) }
         ensures core_stays { OnErr result (self.new.core ≡ self.old.core) }
         ensures pass_stays { OnErr result (pass.new ≡ pass.old) }
@@ -114,6 +119,7 @@ impl Kept {
 
     pub fn status(&mut self, pass: &mut Pass, name: Name) -> Result<Reply, NoMemory>
         ensures served { IfOk result (Serves self.old.core (call.Status name) None self.new.core) }
+        ensures shows_nothing { IfOk result (λ r. ¬ ShowsSome r) }
         ensures receipt { IfOk result (λ r. pass.new ≡ with_receipt pass.old (length self.old.core.log) (call.Status name) r) }
         ensures core_stays { OnErr result (self.new.core ≡ self.old.core) }
         ensures pass_stays { OnErr result (pass.new ≡ pass.old) }
@@ -152,6 +158,7 @@ impl Kept {
         requires { (m : Machine) → StandsFor self.old.core m → (self.old.closed ≡ false) × IsAwaited m.table name → ⊥ }
         ensures settled { self.old.closed ≡ false → IfOk result (λ r. (t : ℕ) → r ≢ Reply.Pending t) }
         ensures served { IfOk result (Serves self.old.core (call.Status name) None self.new.core) }
+        ensures shows_nothing { IfOk result (λ r. ¬ ShowsSome r) }
         ensures receipt { IfOk result (λ r. pass.new ≡ with_receipt pass.old (length self.old.core.log) (call.Status name) r) }
         ensures core_stays { OnErr result (self.new.core ≡ self.old.core) }
         ensures pass_stays { OnErr result (pass.new ≡ pass.old) }

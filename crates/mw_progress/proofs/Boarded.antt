@@ -10,7 +10,7 @@ use Rattle.mw_ready.specs.Boards.{Board, Runs, task_number, task_count, is_ready
 use Rattle.mw_ready.specs.Work.{IsBoardOf, SameTasks}
 use Rattle.mw_tiles.specs.Tiles.{Tiled}
 use Rattle.mw_progress.specs.Levels.{Level}
-use Rattle.mw_progress.specs.Underway.{number_of}
+use Rattle.mw_progress.specs.ProgressView.{number_of}
 use Rattle.mw_progress.specs.Places.{underway, IsBoarded}
 
 pub board_shows : (plan : Plan) (input : Level) (g : Tiling) (b : Board) (planes : List Tiled) (order : List ℕ) → IsBoarded plan g b → IsBoardOf b (underway plan input g b.started b.finished planes order).progress

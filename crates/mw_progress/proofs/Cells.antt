@@ -5,7 +5,7 @@ use Rattle.std.proofs.lemmas.List.{length-append, get_or_append_left, get_or-app
 use Rattle.std.proofs.lemmas.Nat.{div-add-mod'}
 use Rattle.mw_grid.proofs.Lines.{row_less}
 use Rattle.mw_tiles.specs.Tiles.{Tiled}
-use Rattle.mw_progress.specs.Underway.{cells_of_planes}
+use Rattle.mw_progress.specs.ProgressView.{cells_of_planes}
 
 -- the plane has so many tiles
 abbrev pub HasCount : ℕ → Tiled → Type 0

@@ -10,7 +10,7 @@ use Rattle.mw_grid.proofs.Tiles.{length-tiles_of}
 use Rattle.mw_ready.specs.Boards.{Turns}
 use Rattle.mw_tiles.specs.Tiles.{Tiled}
 use Rattle.mw_progress.specs.Levels.{Level}
-use Rattle.mw_progress.specs.Underway.{IsWhole, plane_at}
+use Rattle.mw_progress.specs.ProgressView.{IsWhole, plane_at}
 use Rattle.mw_progress.specs.Places.{shown, form, no_place, place_at, planes_shown, underway_kept, IsPlaced}
 use Rattle.mw_progress.specs.declared.places.Place.{Place}
 use Rattle.mw_progress.specs.declared.places.Place.TheVariants.{Closed, Plane, Sums}

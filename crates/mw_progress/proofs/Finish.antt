@@ -13,7 +13,7 @@ use Rattle.mw_grid.proofs.Tiles.{length-tiles_of}
 use Rattle.mw_ready.specs.Boards.{Board, Turns, task_number}
 use Rattle.mw_ready.specs.Boards as boards
 use Rattle.mw_progress.specs.Levels.{Level}
-use Rattle.mw_progress.specs.Underway.{IsWhole, IsFinished, number_of, no_plane, cells_of_planes}
+use Rattle.mw_progress.specs.ProgressView.{IsWhole, IsFinished, number_of, no_plane, cells_of_planes}
 use Rattle.mw_progress.specs.Places.{shown, form, IsFormOf, no_place, place_at, planes_shown, underway, underway_kept, IsBoarded, IsPlaced, is_read}
 use Rattle.mw_progress.specs.declared.places.Place.{Place}
 use Rattle.mw_progress.proofs.Boarded.{IsTied, same_work, number_lt}

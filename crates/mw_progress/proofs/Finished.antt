@@ -10,7 +10,7 @@ use Rattle.mw_grid.specs.Grids.{Tiling}
 use Rattle.mw_grid.proofs.Lines.{row_less}
 use Rattle.mw_tiles.specs.Tiles.{Tiled}
 use Rattle.mw_progress.specs.Levels.{Level}
-use Rattle.mw_progress.specs.Underway.{IsWorkable, IsPlaneSource, IsWhole, KeepsNeeded, no_plane, cells_of_planes, level_of_plane}
+use Rattle.mw_progress.specs.ProgressView.{IsWorkable, IsPlaneSource, IsWhole, KeepsNeeded, no_plane, cells_of_planes, level_of_plane}
 use Rattle.mw_progress.specs.Places.{underway}
 
 -- ---- tests over the tasks

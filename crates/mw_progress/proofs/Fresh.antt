@@ -9,7 +9,7 @@ use Rattle.mw_grid.specs.Grids.{Tiling, tile_count, tiles_of}
 use Rattle.mw_grid.proofs.Tiles.{length-tiles_of}
 use Rattle.mw_tiles.specs.Tiles.{Tiled}
 use Rattle.mw_progress.specs.Levels.{Level, no_level, level_of_source, level_of_step, levels, levels_from}
-use Rattle.mw_progress.specs.Underway.{IsWorkable, IsFramed, IsWhole, closed_plane, cells_of_planes, level_of_plane, fresh}
+use Rattle.mw_progress.specs.ProgressView.{IsWorkable, IsFramed, IsWhole, closed_plane, cells_of_planes, level_of_plane, fresh}
 use Rattle.mw_ready.specs.declared.need.Need.{Need}
 use Rattle.mw_ready.specs.Boards.{Board, Turns, no_need}
 use Rattle.mw_ready.specs.Boards as boards

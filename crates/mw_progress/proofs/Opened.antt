@@ -14,7 +14,7 @@ use Rattle.mw_ready.specs.Boards.{Board, Turns, task_number, task_count}
 use Rattle.mw_ready.specs.Boards as boards
 use Rattle.mw_tiles.specs.Tiles.{Tiled}
 use Rattle.mw_progress.specs.Levels.{Level, no_level, levels, IsLevel}
-use Rattle.mw_progress.specs.Underway.{IsWhole, IsStarted, no_plane, level_of_plane}
+use Rattle.mw_progress.specs.ProgressView.{IsWhole, IsStarted, no_plane, level_of_plane}
 use Rattle.mw_progress.specs.Places.{shown, form, IsFormOf, no_place, place_at, planes_shown, underway, underway_kept, IsBoarded, IsPlaced}
 use Rattle.mw_progress.specs.declared.places.Place.{Place}
 use Rattle.mw_progress.proofs.Fresh.{length-levels}

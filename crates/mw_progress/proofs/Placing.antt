@@ -10,10 +10,10 @@ use Rattle.mw_grid.specs.Grids.{Tiling, tile_count, tile_at, tiles_of}
 use Rattle.mw_grid.proofs.Lines.{number_of as number_of_cell}
 use Rattle.mw_grid.proofs.Tiles.{length-tiles_of}
 use Rattle.mw_ready.specs.Boards.{Turns}
-use Rattle.mw_task.specs.declared.made.Made.{Made}
+use Rattle.mw_task.specs.declared.tile_result.TileResult.{TileResult}
 use Rattle.mw_tiles.specs.Tiles.{Tiled, tile_cells}
 use Rattle.mw_progress.specs.Levels.{Level}
-use Rattle.mw_progress.specs.Underway.{IsWhole, IsTileFor, IsSmallNumber, Fits, no_plane, number_of}
+use Rattle.mw_progress.specs.ProgressView.{IsWhole, IsTileFor, IsSmallNumber, Fits, no_plane, number_of}
 use Rattle.mw_progress.specs.Places.{shown, form, IsFormOf, Suits, place_at, planes_shown, underway, underway_kept, IsPlaced, Swept, SweptAll}
 use Rattle.mw_progress.specs.declared.places.Place.{Place}
 use Rattle.mw_progress.specs.declared.places.Place.TheVariants.{Closed, Plane, Sums}
@@ -63,7 +63,7 @@ is_sums : (n : ℕ) (b : Bool) → b ≡ true → IsFormOf b n → 1 ≤ n → n
 is_sums n true e suits one two = omega (arith, suits)
 is_sums n false e suits one two = absurd (let f : false ≡ true = e in cc)
 
-suits_plane : (g : Tiling) (place : Place) (old : Tiled) (tile : ℕ) (m : Made) (gone : ℕ → Bool) → form place ≡ 1 → Swept gone old (shown g place) → IsTileFor old tile m → Suits g place tile m
+suits_plane : (g : Tiling) (place : Place) (old : Tiled) (tile : ℕ) (m : TileResult) (gone : ℕ → Bool) → form place ≡ 1 → Swept gone old (shown g place) → IsTileFor old tile m → Suits g place tile m
 suits_plane g (Closed l) old tile m gone e s t = absurd (omega arith)
 suits_plane g (Plane p) old tile m gone e s t = record {
   held = t.held;
@@ -75,13 +75,13 @@ suits_plane g (Plane p) old tile m gone e s t = record {
 }
 suits_plane g (Sums p) old tile m gone e s t = absurd (omega arith)
 
-suits_sums : (g : Tiling) (place : Place) (tile : ℕ) (m : Made) → form place ≡ 2 → IsSmallNumber m → Suits g place tile m
+suits_sums : (g : Tiling) (place : Place) (tile : ℕ) (m : TileResult) → form place ≡ 2 → IsSmallNumber m → Suits g place tile m
 suits_sums g (Closed l) tile m e s = absurd (omega arith)
 suits_sums g (Plane p) tile m e s = absurd (omega arith)
 suits_sums g (Sums p) tile m e s = s
 
 -- what is to be placed, once what nobody reads was dropped
-pub record Putting (plan : Plan) (input : Level) (g : Tiling) (turns : Turns) (places swept : List Place) (step tile : ℕ) (m : Made) : Type 0 where
+pub record Putting (plan : Plan) (input : Level) (g : Tiling) (turns : Turns) (places swept : List Place) (step tile : ℕ) (m : TileResult) : Type 0 where
   pub gone : ℕ → ℕ → Bool
   pub running : is_running (underway_kept plan input g turns places).progress (number_of (underway_kept plan input g turns places).progress step tile) ≡ true
   pub fits : Fits (underway_kept plan input g turns places) step tile m
@@ -91,12 +91,12 @@ cond_of : (b : Bool) (o : Option (List ℕ)) → o ≡ None → cond b None o �
 cond_of true o e = refl
 cond_of false o e = e
 
-pub record Ready (g : Tiling) (place : Place) (tile : ℕ) (m : Made) : Type 0 where
+pub record Ready (g : Tiling) (place : Place) (tile : ℕ) (m : TileResult) : Type 0 where
   pub tiling : (shown g place).tiling ≡ g
   pub free : tile_cells (shown g place).tiles tile ≡ None
   pub suits : Suits g place tile m
 
-pub put_ready : (plan : Plan) (input : Level) (g : Tiling) (turns : Turns) (places swept : List Place) (step tile : ℕ) (m : Made) → IsWhole (underway_kept plan input g turns places) → IsPlaced plan g turns.board.started places
+pub put_ready : (plan : Plan) (input : Level) (g : Tiling) (turns : Turns) (places swept : List Place) (step tile : ℕ) (m : TileResult) → IsWhole (underway_kept plan input g turns places) → IsPlaced plan g turns.board.started places
     → Putting plan input g turns places swept step tile m → Ready g (place_at swept step) tile m
 put_ready plan input g turns places swept step tile m whole placed p =
     let b = turns.board in

@@ -21,7 +21,7 @@ use Rattle.mw_ready.specs.Boards as boards
 use Rattle.mw_ready.specs.Work.{SameTasks}
 use Rattle.mw_tiles.specs.Tiles.{Tiled}
 use Rattle.mw_progress.specs.Levels.{Level, no_level}
-use Rattle.mw_progress.specs.Underway.{IsWhole, number_of, no_plane, cells_of_planes, level_of_plane}
+use Rattle.mw_progress.specs.ProgressView.{IsWhole, number_of, no_plane, cells_of_planes, level_of_plane}
 use Rattle.mw_progress.specs.Places.{shown, form, IsFormOf, place_at, planes_shown, underway, underway_kept, IsBoarded, IsPlaced, Swept, SweptAll, is_read, placed_in}
 use Rattle.mw_progress.specs.declared.places.Place.{Place}
 use Rattle.mw_progress.proofs.Boarded.{IsTied, same_work}

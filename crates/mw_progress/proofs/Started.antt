@@ -7,7 +7,7 @@ use Rattle.mw_model.specs.Tasks.{flag, is_ready}
 use Rattle.mw_grid.specs.Grids.{Tiling}
 use Rattle.mw_tiles.specs.Tiles.{Tiled}
 use Rattle.mw_progress.specs.Levels.{Level}
-use Rattle.mw_progress.specs.Underway.{IsWhole, has_all_read}
+use Rattle.mw_progress.specs.ProgressView.{IsWhole, has_all_read}
 use Rattle.mw_progress.specs.Places.{underway}
 
 pub still_marked : (flags : List Bool) (n k : ℕ) → n < length flags → flag flags k ≡ true → flag (set flags n true) k ≡ true

@@ -11,14 +11,14 @@ use Rattle.mw_grid.proofs.Tiles.{HasTiles, cover_once, length-tiles_of, tile_of-
 use Rattle.mw_ready.specs.Boards.{Turns}
 use Rattle.mw_tiles.specs.Tiles.{Tiled, HasAll, tile_cells}
 use Rattle.mw_progress.specs.Levels.{Level}
-use Rattle.mw_progress.specs.Underway.{Underway, IsFramed, IsWhole, plane_at, closed_plane}
+use Rattle.mw_progress.specs.ProgressView.{ProgressView, IsFramed, IsWhole, plane_at, closed_plane}
 use Rattle.mw_progress.specs.Places.{shown, form, IsFormOf, no_place, place_at, planes_shown, underway_kept, IsPlaced}
 use Rattle.mw_progress.specs.declared.places.Place.{Place}
 use Rattle.mw_progress.specs.declared.places.Place.TheVariants.{Closed, Plane, Sums}
 use Rattle.mw_progress.proofs.Opened.{shown_at}
 
 -- a rectangle of the plane of a step, all of which is placed
-pub record Asked (u : Underway) (step : ℕ) (rect : Rect) : Type 0 where
+pub record Asked (u : ProgressView) (step : ℕ) (rect : Rect) : Type 0 where
   pub known : step < length u.progress.plan
   pub plane : is_sum (get_or u.progress.plan step nothing_planned).step ≡ false
   pub wide : 1 ≤ rect.width

@@ -1,3 +1,3 @@
 pub mod Levels
-pub mod Underway
+pub mod ProgressView
 pub mod Places

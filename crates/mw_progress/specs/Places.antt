@@ -7,10 +7,10 @@ use Rattle.mw_grid.specs.Grids.{Tiling, tile_count, tiles_of}
 use Rattle.mw_ready.specs.Boards.{Board, Turns, no_need}
 use Rattle.mw_ready.specs.Boards as boards
 use Rattle.mw_ready.specs.Work.{IsNeedOf}
-use Rattle.mw_task.specs.declared.made.Made.{Made}
+use Rattle.mw_task.specs.declared.tile_result.TileResult.{TileResult}
 use Rattle.mw_tiles.specs.Tiles.{Tiled, tile_cells}
 use Rattle.mw_progress.specs.Levels.{Level, no_level}
-use Rattle.mw_progress.specs.Underway.{Underway, closed_plane, cells_of_planes, IsTileFor, IsSmallNumber}
+use Rattle.mw_progress.specs.ProgressView.{ProgressView, closed_plane, cells_of_planes, IsTileFor, IsSmallNumber}
 use Rattle.mw_progress.specs.declared.places.Place.{Place}
 use Rattle.mw_progress.specs.declared.places.Place.TheVariants.{Closed, Plane, Sums}
 
@@ -38,7 +38,7 @@ abbrev pub placed_in : Tiled → ℕ → List ℕ → Tiled
 placed_in p i cells = record p { tiles = slice_set p.tiles i (Some cells) }
 
 -- what was made can be placed there
-abbrev pub Suits : Tiling → Place → ℕ → Made → Type 0
+abbrev pub Suits : Tiling → Place → ℕ → TileResult → Type 0
 Suits g (Closed l) i m = ⊥
 Suits g (Plane p) i m = IsTileFor p i m
 Suits g (Sums p) i m = IsSmallNumber m
@@ -77,7 +77,7 @@ is_read b step tile = list_any (λ u. not (flag b.finished u) && boards.reads b.
 -- ---- how the work is kept
 
 -- the work of these parts
-abbrev pub underway : Plan → Level → Tiling → List Bool → List Bool → List Tiled → List ℕ → Underway
+abbrev pub underway : Plan → Level → Tiling → List Bool → List Bool → List Tiled → List ℕ → ProgressView
 underway plan input g started finished planes order = record {
   progress = record {
     width = g.width;
@@ -95,7 +95,7 @@ underway plan input g started finished planes order = record {
 }
 
 -- the same, of tasks in turn and of the places of planes
-abbrev pub underway_kept : Plan → Level → Tiling → Turns → List Place → Underway
+abbrev pub underway_kept : Plan → Level → Tiling → Turns → List Place → ProgressView
 underway_kept plan input g turns places =
     underway plan input g turns.board.started turns.board.finished (planes_shown g places) turns.order
 

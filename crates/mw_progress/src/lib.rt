@@ -24,8 +24,8 @@ mod progress;
 
 pub use mw_grid::Grid;
 pub use mw_model::{Kind, NoMemory, Rect};
+pub use mw_pieces::SharedWindow;
 pub use mw_plan::{Plan, PlannedStep};
-pub use mw_task::Made;
-pub use mw_tile::AnyWindow;
+pub use mw_task::TileResult;
 pub use mw_tiles::TiledPlane;
 pub use progress::PlanProgress;

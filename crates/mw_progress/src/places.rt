@@ -5,13 +5,13 @@ ghost use Rattle.mw_model.specs.Pictures.{FitsKind};
 ghost use Rattle.mw_grid.specs.Grids.{tile_count};
 ghost use Rattle.mw_tiles.specs.Tiles.{number_in, tile_cells};
 ghost use Rattle.mw_progress.specs.Levels.{IsLevel};
-ghost use Rattle.mw_progress.specs.Underway.{cells_of_made, level_of_plane};
+ghost use Rattle.mw_progress.specs.ProgressView.{cells_of_made, level_of_plane};
 ghost use Rattle.mw_progress.specs.Places.{shown, form, IsFormOf, placed_in, Suits};
 
 use crate::levels::PlaneLevel;
 use mw_grid::Grid;
 use mw_model::NoMemory;
-use mw_task::Made;
+use mw_task::TileResult;
 use mw_tiles::{Tile, TileSums, TiledPlane};
 use std::alloc::Global;
 
@@ -48,7 +48,7 @@ impl Place {
     }
 
     /// Places what was made of a tile. This takes no memory.
-    pub(crate) fn put(&mut self, grid: Grid, tile: u32, made: Made)
+    pub(crate) fn put(&mut self, grid: Grid, tile: u32, made: TileResult)
         requires within { tile < tile_count grid }
         requires tiling { (shown grid self.old).tiling ≡ grid }
         requires free { tile_cells (shown grid self.old).tiles tile ≡ None }
@@ -58,15 +58,17 @@ impl Place {
     {
         match self {
             Place::Plane(plane) => match made {
-                Made::Bits(samples) => plane.place(tile, Tile::Bits(samples)),
-                Made::Grey8(samples, maxval) => { plane.place(tile, Tile::Grey8(samples, maxval)) }
-                Made::Grey16(samples, maxval) => {
+                TileResult::Bits(samples) => plane.place(tile, Tile::Bits(samples)),
+                TileResult::Grey8(samples, maxval) => {
+                    plane.place(tile, Tile::Grey8(samples, maxval))
+                }
+                TileResult::Grey16(samples, maxval) => {
                     plane.place(tile, Tile::Grey16(samples, maxval))
                 }
-                Made::Number(_) => unreachable!(),
+                TileResult::Number(_) => unreachable!(),
             },
             Place::Sums(sums) => match made {
-                Made::Number(number) => sums.place(tile, number),
+                TileResult::Number(number) => sums.place(tile, number),
                 _ => unreachable!(),
             },
             Place::Closed(_) => unreachable!(),

@@ -5,7 +5,7 @@ ghost use Rattle.mw_model.specs.Plans.{is_sum};
 ghost use Rattle.mw_model.specs.Tasks.{nothing_planned};
 ghost use Rattle.mw_grid.specs.Grids.{tile_count};
 ghost use Rattle.mw_task.specs.Meanings.{meaning};
-ghost use Rattle.mw_progress.specs.Underway.{numbers_of};
+ghost use Rattle.mw_progress.specs.ProgressView.{numbers_of};
 ghost use Rattle.mw_progress.specs.Places.{is_read, form, IsFormOf, place_at, planes_shown};
 
 use crate::dropping::drop_read;
@@ -14,10 +14,10 @@ use crate::needs::needs_of;
 use crate::places::{Place, closed};
 use mw_grid::Grid;
 use mw_model::{Kind, NoMemory, Rect};
+use mw_pieces::SharedWindow;
 use mw_plan::{Plan, PlannedStep};
 use mw_ready::{Ready, tasks_are_those_of_work};
-use mw_task::{Made, Step};
-use mw_tile::AnyWindow;
+use mw_task::{Step, TileResult};
 use mw_tiles::TiledPlane;
 use std::alloc::Global;
 use std::marker::Model;
@@ -35,9 +35,9 @@ pub struct PlanProgress {
 
 impl Model for PlanProgress {
     ghost use Rattle.std.specs.Prelude.{◌≡◌, ◌≤◌, [], length, vec_capacity};
-    ghost use Rattle.mw_progress.specs.Underway.{Underway, IsWhole};
+    ghost use Rattle.mw_progress.specs.ProgressView.{ProgressView, IsWhole};
 
-    ghost Value = { Underway };
+    ghost Value = { ProgressView };
 
     ghost use Rattle.mw_progress.specs.Places.{underway_kept, IsBoarded, IsPlaced};
 
@@ -88,7 +88,7 @@ fn add_numbers(plan: &Plan, places: &[Place], grid: Grid, numbers: &mut Vec<u64>
 }
 
 /// What nobody reads is given up.
-fn let_go(_made: Made) {}
+fn let_go(_made: TileResult) {}
 
 impl PlanProgress {
     ghost use Rattle.std.specs.Prelude.{ℕ, ◌+◌, ◌-◌, ◌*◌, ◌<◌, ◌≤◌, ◌↔◌, IsTrue, IfOk, OnOk, OnErr, true, false, length, map, slice_index, slice_index_or};
@@ -100,7 +100,7 @@ impl PlanProgress {
     ghost use Rattle.mw_tiles.specs.Tiles.{HasAll, IsPlaneOf, nothing_placed};
     ghost use Rattle.mw_plan.specs.Seen.{planned};
     ghost use Rattle.mw_progress.specs.Levels.{levels};
-    ghost use Rattle.mw_progress.specs.Underway.{IsWorkable, IsWhole, IsStarted, IsFinished, Fits, cells_of_made, fresh, number_of, numbers_of, plane_at, closed_plane};
+    ghost use Rattle.mw_progress.specs.ProgressView.{IsWorkable, IsWhole, IsStarted, IsFinished, Fits, cells_of_made, fresh, number_of, numbers_of, plane_at, closed_plane};
 
     /// The work of a plan that reads one image of this kind and maxval, on a frame of the grid. Nothing of it was started.
     ///
@@ -228,12 +228,13 @@ impl PlanProgress {
         self.ready.is_running(step, tile)
     }
 
-    /// The window of a rectangle in the plane of a step, of which each tile that meets the rectangle is placed.
+    /// The window of a rectangle in the plane of a step, of which each tile that meets the rectangle is placed, as one
+    /// more owner of those tiles.
     ///
     /// # Errors
     ///
     /// `NoMemory`, where there is none for the window.
-    pub fn window(&self, alloc: Global, step: u32, rect: Rect) -> Result<AnyWindow, NoMemory>
+    pub fn window(&self, alloc: Global, step: u32, rect: Rect) -> Result<SharedWindow, NoMemory>
         requires step { step < length self.now.progress.plan }
         requires plane { is_sum (slice_index_or self.now.progress.plan step nothing_planned).step ≡ false }
         requires some { (1 ≤ rect.width) × (1 ≤ rect.height) }
@@ -243,14 +244,14 @@ impl PlanProgress {
         ensures bounded { IfOk result IsBounded }
     {
         match &self.places[step as usize] {
-            Place::Plane(plane) => plane.window(alloc, rect),
+            Place::Plane(plane) => plane.shared(alloc, rect),
             _ => unreachable!(),
         }
     }
 
     /// Whether the window shows what stands there of the plane of a step, of which each tile that meets the rectangle is
     /// placed.
-    pub fn matches(&self, step: u32, rect: Rect, window: &AnyWindow) -> bool
+    pub fn matches(&self, step: u32, rect: Rect, window: &SharedWindow) -> bool
         requires step { step < length self.now.progress.plan }
         requires plane { is_sum (slice_index_or self.now.progress.plan step nothing_planned).step ≡ false }
         requires some { (1 ≤ rect.width) × (1 ≤ rect.height) }
@@ -268,7 +269,7 @@ impl PlanProgress {
 
     /// A running task is finished. What it made is placed if anyone still reads it, and each tile that it was the last to
     /// read is dropped. This takes no memory.
-    pub fn finish(&mut self, step: u32, tile: u32, made: Made)
+    pub fn finish(&mut self, step: u32, tile: u32, made: TileResult)
         requires running { is_running self.old.progress (number_of self.old.progress step tile) ≡ true }
         requires fits { Fits self.old step tile made }
         ensures finished { IsFinished self.old self.new (number_of self.old.progress step tile) (cells_of_made made) }

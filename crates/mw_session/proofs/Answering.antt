@@ -23,7 +23,7 @@ use Rattle.mw_model.specs.Values.{Value, ImageValue, ElementValue, shape_of_pict
 use Rattle.mw_model.specs.Refusals.{Table, outcome_at, is_pending, first_of, name_taken, no_room, refusal}
 use Rattle.mw_model.specs.Machine.{Machine, status_reply, answer, refused_or, reply_to, changed, unless_refused, with_entry, killed, after}
 use Rattle.mw_model.specs.Tasks.{running_tasks}
-use Rattle.mw_model.specs.Stands.{Seen, StandsFor, running_count}
+use Rattle.mw_model.specs.Stands.{CoreView, StandsFor, running_count}
 use Rattle.mw_model.specs.declared.requests.Ask.TheVariants as ask
 use Rattle.mw_model.specs.Lines.{Asked, AskLoad, AskElement, AskAlone}
 use Rattle.mw_model.specs.Replies.{Handed, reply_text, refusal_text, NoValue}
@@ -38,11 +38,10 @@ use Rattle.mw_stands.specs.Payloads.{given_image, image_payload, given_element, 
 use Rattle.mw_stands.specs.Events.{Serves, IsFresh, handed_out}
 use Rattle.mw_core.specs.Fetches.{shown_value}
 use Rattle.mw_core.specs.declared.answers.Shown.{Shown}
-use Rattle.mw_wire.specs.declared.fault.SessionFault.{SessionFault}
-use Rattle.mw_wire.specs.Writes.{Wrote, told_text}
+use Rattle.mw_wire.specs.Writes.{told_text}
 use Rattle.mw_wave.specs.Work.{AllWorked}
-use Rattle.mw_session.specs.Runs.{Answered}
-use Rattle.mw_session.specs.Answering.{ReadsImage, ReadsElement, fetch_text, SaysFetched}
+use Rattle.mw_fetched.specs.Texts.{fetch_text, SaysFetched}
+use Rattle.mw_session.specs.Answering.{ReadsImage, ReadsElement, Answered}
 use Rattle.mw_wave.proofs.TicketCounts.{under, none-under, count-under, calm}
 
 -- ---- texts
@@ -154,7 +153,7 @@ unless-cases None a b = inr (refl, refl)
 unless-cases (Some c) a b = inl refl
 
 -- where no entry is added
-calm-old : (old new : Seen) (c : Call) (p : Option Value) (r : Reply) (m : Machine) → StandsFor old m → Serves old c p new r → running_count old ≡ 0 → length (changed m.table c).names ≡ length m.table.names → running_count new ≡ 0
+calm-old : (old new : CoreView) (c : Call) (p : Option Value) (r : Reply) (m : Machine) → StandsFor old m → Serves old c p new r → running_count old ≡ 0 → length (changed m.table c).names ≡ length m.table.names → running_count new ≡ 0
 calm-old old new c p r m s e none same =
     let stands = e.stands m s in
     let names : length new.table.names ≡ length m.table.names = elim (unless-cases (refusal m.table m.payloads c) m.table (changed m.table c)) [
@@ -164,7 +163,7 @@ calm-old old new c p r m s e none same =
     calm old new (after m c p) stands e.work none (λ u past l. absurd (omega (arith, past, l, names, ap (λ (w : Table). length w.names) s.table)))
 
 -- where an entry is added under which no task is running
-calm-more : (old new : Seen) (c : Call) (p : Option Value) (r : Reply) (m : Machine) (name : Name) (e : Submission) (o : Outcome) → StandsFor old m → Serves old c p new r → running_count old ≡ 0
+calm-more : (old new : CoreView) (c : Call) (p : Option Value) (r : Reply) (m : Machine) (name : Name) (e : Submission) (o : Outcome) → StandsFor old m → Serves old c p new r → running_count old ≡ 0
     → changed m.table c ≡ with_entry m.table name e o → (refusal m.table m.payloads c ≡ None → (u : ℕ) → u ≡ length m.table.names → under running_tasks new u ≡ 0) → running_count new ≡ 0
 calm-more old new c p r m name e o s h none same rests =
     let stands = h.stands m s in
@@ -177,7 +176,7 @@ calm-more old new c p r m name e o s h none same rests =
     ])
 
 -- a given entry is done at once
-given-rests : (old new : Seen) (c : Call) (p : Option Value) (r : Reply) (m : Machine) (name : Name) (e : Submission) → StandsFor old m → Serves old c p new r → changed m.table c ≡ with_entry m.table name e outcome.Done
+given-rests : (old new : CoreView) (c : Call) (p : Option Value) (r : Reply) (m : Machine) (name : Name) (e : Submission) → StandsFor old m → Serves old c p new r → changed m.table c ≡ with_entry m.table name e outcome.Done
     → refusal m.table m.payloads c ≡ None → (u : ℕ) → u ≡ length m.table.names → under running_tasks new u ≡ 0
 given-rests old new c p r m name e s h same free u last =
     let sound = reached old.log m s.run in
@@ -185,17 +184,17 @@ given-rests old new c p r m name e s h same free u last =
     let done : outcome_at (m.table.outcomes ++ outcome.Done ∷ []) u ≡ outcome.Done = push_last m.table.outcomes outcome.Done outcome.Pending u (omega (arith, last, sound.lengths.outcomes)) in
     none-under running_tasks new (after m c p) u (h.stands m s) (ap (λ (w : Table). is_pending (outcome_at w.outcomes u)) next ∙ ap is_pending done)
 
-pub calm-load : (old new : Seen) (name : Name) (image : Result Picture Code) (r : Reply) (m : Machine) → StandsFor old m → Serves old (call.Load name (given_image image)) (image_payload image) new r → running_count old ≡ 0 → running_count new ≡ 0
+pub calm-load : (old new : CoreView) (name : Name) (image : Result Picture Code) (r : Reply) (m : Machine) → StandsFor old m → Serves old (call.Load name (given_image image)) (image_payload image) new r → running_count old ≡ 0 → running_count new ≡ 0
 calm-load old new name image r m s h none =
     let c = call.Load name (given_image image) in
     calm-more old new c (image_payload image) r m name _ outcome.Done s h none refl (given-rests old new c (image_payload image) r m name _ s h refl)
 
-pub calm-element : (old new : Seen) (name : Name) (element : Result Figure Code) (r : Reply) (m : Machine) → StandsFor old m → Serves old (call.Element name (given_element element)) (element_payload element) new r → running_count old ≡ 0 → running_count new ≡ 0
+pub calm-element : (old new : CoreView) (name : Name) (element : Result Figure Code) (r : Reply) (m : Machine) → StandsFor old m → Serves old (call.Element name (given_element element)) (element_payload element) new r → running_count old ≡ 0 → running_count new ≡ 0
 calm-element old new name element r m s h none =
     let c = call.Element name (given_element element) in
     calm-more old new c (element_payload element) r m name _ outcome.Done s h none refl (given-rests old new c (element_payload element) r m name _ s h refl)
 
-pub calm-run : (old new : Seen) (name : Name) (op : Op) (r : Reply) (m : Machine) → StandsFor old m → Serves old (call.Run name op) None new r → ((t : ℕ) → r ≡ reply.Accepted t → IsFresh new t) → running_count old ≡ 0 → running_count new ≡ 0
+pub calm-run : (old new : CoreView) (name : Name) (op : Op) (r : Reply) (m : Machine) → StandsFor old m → Serves old (call.Run name op) None new r → ((t : ℕ) → r ≡ reply.Accepted t → IsFresh new t) → running_count old ≡ 0 → running_count new ≡ 0
 calm-run old new name op r m s h fresh none =
     let c = call.Run name op in
     calm-more old new c None r m name _ outcome.Pending s h none refl (λ free u last.
@@ -203,23 +202,23 @@ calm-run old new name op r m s h fresh none =
     let f = fresh (length m.table.names) told in
     rw last (count-under running_tasks new (length m.table.names) f.progress f.work ∙ f.idle))
 
-pub calm-cancel : (old new : Seen) (name : Name) (r : Reply) (m : Machine) → StandsFor old m → Serves old (call.Cancel name) None new r → running_count old ≡ 0 → running_count new ≡ 0
+pub calm-cancel : (old new : CoreView) (name : Name) (r : Reply) (m : Machine) → StandsFor old m → Serves old (call.Cancel name) None new r → running_count old ≡ 0 → running_count new ≡ 0
 unfolding killed
 calm-cancel old new name r m s h none = calm-old old new (call.Cancel name) None r m s h none refl
 
-pub calm-release : (old new : Seen) (name : Name) (r : Reply) (m : Machine) → StandsFor old m → Serves old (call.Release name) None new r → running_count old ≡ 0 → running_count new ≡ 0
+pub calm-release : (old new : CoreView) (name : Name) (r : Reply) (m : Machine) → StandsFor old m → Serves old (call.Release name) None new r → running_count old ≡ 0 → running_count new ≡ 0
 calm-release old new name r m s h none = calm-old old new (call.Release name) None r m s h none refl
 
-pub calm-status : (old new : Seen) (name : Name) (r : Reply) (m : Machine) → StandsFor old m → Serves old (call.Status name) None new r → running_count old ≡ 0 → running_count new ≡ 0
+pub calm-status : (old new : CoreView) (name : Name) (r : Reply) (m : Machine) → StandsFor old m → Serves old (call.Status name) None new r → running_count old ≡ 0 → running_count new ≡ 0
 calm-status old new name r m s h none = calm-old old new (call.Status name) None r m s h none refl
 
-pub calm-fetch : (old new : Seen) (name : Name) (r : Reply) (m : Machine) → StandsFor old m → Serves old (call.Fetch name) None new r → running_count old ≡ 0 → running_count new ≡ 0
+pub calm-fetch : (old new : CoreView) (name : Name) (r : Reply) (m : Machine) → StandsFor old m → Serves old (call.Fetch name) None new r → running_count old ≡ 0 → running_count new ≡ 0
 calm-fetch old new name r m s h none = calm-old old new (call.Fetch name) None r m s h none refl
 
 -- ---- turns
 
 -- What stands before a request is answered: the work before it was run, where it runs any.
-pub record Ready (m : Machine) (q : Asked) (old mid : Seen) : Type 0 where
+pub record Ready (m : Machine) (q : Asked) (old mid : CoreView) : Type 0 where
   pub items : List LogItem
   pub state : Machine
   pub log : mid.log ≡ old.log ++ items
@@ -228,25 +227,24 @@ pub record Ready (m : Machine) (q : Asked) (old mid : Seen) : Type 0 where
   pub stands : StandsFor mid state
   pub idle : running_count mid ≡ 0
 
-pub ready-at-once : (m : Machine) (q : Asked) (c : Seen) → StandsFor c m → running_count c ≡ 0 → runs_work q ≡ false → Ready m q c c
+pub ready-at-once : (m : Machine) (q : Asked) (c : CoreView) → StandsFor c m → running_count c ≡ 0 → runs_work q ≡ false → Ready m q c c
 ready-at-once m q c s none quiet =
     let P : Bool → Type 0 = λ b. Works b m [] m in
     let Q : Bool → Type 0 = λ b. TellsWork b [] [] in
     record { items = []; state = m; log = sym (append-nil c.log); tells = subst Q (sym quiet) refl; works = subst P (sym quiet) (refl, refl); stands = s; idle = none }
 
-pub ready-by-work : (m : Machine) (q : Asked) (old mid : Seen) → AllWorked m old mid → runs_work q ≡ true → Ready m q old mid
+pub ready-by-work : (m : Machine) (q : Asked) (old mid : CoreView) → AllWorked m old mid → runs_work q ≡ true → Ready m q old mid
 ready-by-work m q old mid w busy =
     let P : Bool → Type 0 = λ b. Works b m (killed_in w.items) w.state in
     let Q : Bool → Type 0 = λ b. TellsWork b (killed_in w.items) w.items in
     record { items = w.items; state = w.state; log = w.log; tells = subst Q (sym busy) (w.only, refl); works = subst P (sym busy) w.works; stands = w.stands; idle = w.idle }
 
 -- a request was answered so
-answered : (m : Machine) (q : Asked) (old mid new : Seen) (h : Ready m q old mid) (b : Bool) (text : List ℕ) (n : Machine) (more : List LogItem) (x y : Option (List ℕ)) (res : Result (Unit {0}) SessionFault)
-    → Replies b h.state q text n → StandsFor new n → running_count new ≡ 0 → new.log ≡ mid.log ++ more → TellsCall (record { request = q; kills = killed_in h.items; no_memory = b }) more → (b ≡ true → MayLack m q) → Wrote x y text res → Answered m q old new x y res
-answered m q old mid new h b text n more x y res replies stands none log calls lacks wrote = record {
+answered : (m : Machine) (q : Asked) (old mid new : CoreView) (h : Ready m q old mid) (b : Bool) (text : List ℕ) (n : Machine) (more : List LogItem)
+    → Replies b h.state q text n → StandsFor new n → running_count new ≡ 0 → new.log ≡ mid.log ++ more → TellsCall (record { request = q; kills = killed_in h.items; no_memory = b }) more → (b ≡ true → MayLack m q) → Answered m old q text new
+answered m q old mid new h b text n more replies stands none log calls lacks = record {
   turn = record { request = q; kills = killed_in h.items; no_memory = b };
   state = n;
-  text = text;
   items = h.items ++ more;
   asked = refl;
   made = record {
@@ -257,110 +255,109 @@ answered m q old mid new h b text n more x y res replies stands none log calls l
   stands = stands;
   idle = none;
   log = log ∙ ap (λ l. l ++ more) h.log ∙ append_assoc old.log h.items more;
-  wrote = wrote;
 }
 
 not_marked : {A : Type 0} → false ≡ true → A
 not_marked e = cc
 
 -- a call that hands out no value was made for it, or found no memory
-pub answered-told : {E : Type 0} → (m : Machine) (q : Asked) (old mid new : Seen) (h : Ready m q old mid) (c : Call) (p : Option Value) (got : Result Reply E) (x y : Option (List ℕ)) (res : Result (Unit {0}) SessionFault)
+pub answered-told : {E : Type 0} → (m : Machine) (q : Asked) (old mid new : CoreView) (h : Ready m q old mid) (c : Call) (p : Option Value) (got : Result Reply E)
     → IsCallFor q c → ((e : E) → got ≡ Err e → MayLack m q) → IfOk got (Serves mid c p new) → OnErr got (new ≡ mid)
     → ((r : Reply) → got ≡ Ok r → Serves mid c p new r → Answers h.state q (reply_text r NoValue) (after h.state c p) × (running_count new ≡ 0))
-    → Wrote x y (told_text got) res → Answered m q old new x y res
-answered-told m q old mid new h c p (Ok r) x y res fits lacks served failed answers wrote =
+    → Answered m old q (told_text got) new
+answered-told m q old mid new h c p (Ok r) fits lacks served failed answers =
     let a = answers r refl served in
-    answered m q old mid new h false (reply_text r NoValue) (after h.state c p) (item.Call c r ∷ []) x y res a.0 (served.stands h.state h.stands) a.1 served.log (logged c r fits not_marked refl) not_marked wrote
-answered-told m q old mid new h c p (Err e) x y res fits lacks served failed answers wrote =
-    let P : Seen → Type 0 = λ s. StandsFor s h.state in
-    let Q : Seen → Type 0 = λ s. running_count s ≡ 0 in
-    answered m q old mid new h true (refusal_text code.Memory) h.state [] x y res (refl, refl) (subst P (sym failed) h.stands) (subst Q (sym failed) h.idle) (ap (λ (s : Seen). s.log) failed ∙ sym (append-nil mid.log)) (unlogged refl refl) (λ k. lacks e refl) wrote
+    answered m q old mid new h false (reply_text r NoValue) (after h.state c p) (item.Call c r ∷ []) a.0 (served.stands h.state h.stands) a.1 served.log (logged c r fits not_marked refl) not_marked
+answered-told m q old mid new h c p (Err e) fits lacks served failed answers =
+    let P : CoreView → Type 0 = λ s. StandsFor s h.state in
+    let Q : CoreView → Type 0 = λ s. running_count s ≡ 0 in
+    answered m q old mid new h true (refusal_text code.Memory) h.state [] (refl, refl) (subst P (sym failed) h.stands) (subst Q (sym failed) h.idle) (ap (λ (s : CoreView). s.log) failed ∙ sym (append-nil mid.log)) (unlogged refl refl) (λ k. lacks e refl)
 
 -- a call that answers what the machine does, where the request calls it
 pub called-plain : (m : Machine) (q : Asked) (c : Call) (p : Option Value) (r : Reply) → IsCallOf q c p → IsPlain c → r ≡ reply_to m c → Answers m q (reply_text r NoValue) (after m c p)
 called-plain m q c p r is plain told = called c p is (plain-text m c r plain told) refl
 
 -- a FETCH was answered
-pub answered-fetch : (m : Machine) (name : Name) (old mid new : Seen) (h : Ready m (AskAlone (ask.Fetch name)) old mid) (r : Reply) (v : Shown) (text : List ℕ) (x y : Option (List ℕ)) (res : Result (Unit {0}) SessionFault)
-    → Serves mid (call.Fetch name) None new r → shown_value v ≡ handed_out h.state r → SaysFetched r v text → Wrote x y text res → Answered m (AskAlone (ask.Fetch name)) old new x y res
-answered-fetch m name old mid new h r v text x y res served value (inl says) wrote =
+pub answered-fetch : (m : Machine) (name : Name) (old mid new : CoreView) (h : Ready m (AskAlone (ask.Fetch name)) old mid) (r : Reply) (v : Shown) (text : List ℕ)
+    → Serves mid (call.Fetch name) None new r → shown_value v ≡ handed_out h.state r → SaysFetched r v text → Answered m old (AskAlone (ask.Fetch name)) text new
+answered-fetch m name old mid new h r v text served value (inl says) =
     let c = call.Fetch name in
     let told = served.reply h.state h.stands in
     let same : text ≡ answer_text h.state c = says ∙ fetched-text h.state r v value ∙ ap (λ z. reply_text z (handed h.state z)) told in
-    answered m (AskAlone (ask.Fetch name)) old mid new h false text (after h.state c None) (item.Call c r ∷ []) x y res (called c None (refl, refl) same refl)
-    (served.stands h.state h.stands) (calm-fetch mid new name r h.state h.stands served h.idle) served.log (logged c r refl not_marked refl) not_marked wrote
-answered-fetch m name old mid new h r v text x y res served value (inr says) wrote =
+    answered m (AskAlone (ask.Fetch name)) old mid new h false text (after h.state c None) (item.Call c r ∷ []) (called c None (refl, refl) same refl)
+    (served.stands h.state h.stands) (calm-fetch mid new name r h.state h.stands served h.idle) served.log (logged c r refl not_marked refl) not_marked
+answered-fetch m name old mid new h r v text served value (inr says) =
     let c = call.Fetch name in
     let P : Machine → Type 0 = λ n. StandsFor new n in
-    answered m (AskAlone (ask.Fetch name)) old mid new h true text h.state (item.Call c r ∷ []) x y res (says.1, refl)
-    (subst P (fetch_leaves h.state name None) (served.stands h.state h.stands)) (calm-fetch mid new name r h.state h.stands served h.idle) served.log (logged c r refl (λ e. says.0) refl) (λ e. tt) wrote
+    answered m (AskAlone (ask.Fetch name)) old mid new h true text h.state (item.Call c r ∷ []) (says.1, refl)
+    (subst P (fetch_leaves h.state name None) (served.stands h.state h.stands)) (calm-fetch mid new name r h.state h.stands served h.idle) served.log (logged c r refl (λ e. says.0) refl) (λ e. tt)
 
 -- it found no memory
-pub answered-memory : (m : Machine) (q : Asked) (old mid new : Seen) (h : Ready m q old mid) (x y : Option (List ℕ)) (res : Result (Unit {0}) SessionFault) → MayLack m q → new ≡ mid → Wrote x y (refusal_text code.Memory) res → Answered m q old new x y res
-answered-memory m q old mid new h x y res lacks failed wrote =
-    let P : Seen → Type 0 = λ s. StandsFor s h.state in
-    let Q : Seen → Type 0 = λ s. running_count s ≡ 0 in
-    answered m q old mid new h true (refusal_text code.Memory) h.state [] x y res (refl, refl) (subst P (sym failed) h.stands) (subst Q (sym failed) h.idle) (ap (λ (s : Seen). s.log) failed ∙ sym (append-nil mid.log)) (unlogged refl refl) (λ e. lacks) wrote
+pub answered-memory : (m : Machine) (q : Asked) (old mid new : CoreView) (h : Ready m q old mid) → MayLack m q → new ≡ mid → Answered m old q (refusal_text code.Memory) new
+answered-memory m q old mid new h lacks failed =
+    let P : CoreView → Type 0 = λ s. StandsFor s h.state in
+    let Q : CoreView → Type 0 = λ s. running_count s ≡ 0 in
+    answered m q old mid new h true (refusal_text code.Memory) h.state [] (refl, refl) (subst P (sym failed) h.stands) (subst Q (sym failed) h.idle) (ap (λ (s : CoreView). s.log) failed ∙ sym (append-nil mid.log)) (unlogged refl refl) (λ e. lacks)
 
 -- ---- the kinds of requests
 
-pub answered-load : {E : Type 0} → (m : Machine) (name : Name) (bytes : List ℕ) (image : Result Picture Code) (old new : Seen) (got : Result Reply E) (x y : Option (List ℕ)) (res : Result (Unit {0}) SessionFault)
+pub answered-load : {E : Type 0} → (m : Machine) (name : Name) (bytes : List ℕ) (image : Result Picture Code) (old new : CoreView) (got : Result Reply E)
     → StandsFor old m → running_count old ≡ 0 → ReadsImage bytes image → IfOk got (Serves old (call.Load name (given_image image)) (image_payload image) new) → IfOk got (λ r. r ≢ reply.Refused code.Memory) → OnErr got (new ≡ old)
-    → Wrote x y (told_text got) res → Answered m (AskLoad name bytes) old new x y res
+    → Answered m old (AskLoad name bytes) (told_text got) new
 unfolding ready-at-once
-answered-load {E} m name bytes image old new got x y res s none read served other failed wrote =
+answered-load {E} m name bytes image old new got s none read served other failed =
     let q = AskLoad name bytes in
     let c = call.Load name (given_image image) in
     let P : Result Reply E → Type 0 = λ t. IfOk t (λ r. r ≢ reply.Refused code.Memory) in
-    answered-told m q old old new (ready-at-once m q old s none refl) c (image_payload image) got x y res (given_image image, refl) (λ e is. tt) served failed
-    (λ r is h. (load-answers m (after m c (image_payload image)) name bytes image r read (h.reply m s) (subst P is other) refl, calm-load old new name image r m s h none)) wrote
+    answered-told m q old old new (ready-at-once m q old s none refl) c (image_payload image) got (given_image image, refl) (λ e is. tt) served failed
+    (λ r is h. (load-answers m (after m c (image_payload image)) name bytes image r read (h.reply m s) (subst P is other) refl, calm-load old new name image r m s h none))
 
-pub answered-element : {E : Type 0} → (m : Machine) (name : Name) (ox oy : ℕ) (bytes : List ℕ) (element : Result Figure Code) (old new : Seen) (got : Result Reply E) (x y : Option (List ℕ)) (res : Result (Unit {0}) SessionFault)
+pub answered-element : {E : Type 0} → (m : Machine) (name : Name) (ox oy : ℕ) (bytes : List ℕ) (element : Result Figure Code) (old new : CoreView) (got : Result Reply E)
     → StandsFor old m → running_count old ≡ 0 → ReadsElement bytes ox oy element → IfOk got (Serves old (call.Element name (given_element element)) (element_payload element) new) → IfOk got (λ r. r ≢ reply.Refused code.Memory) → OnErr got (new ≡ old)
-    → Wrote x y (told_text got) res → Answered m (AskElement name ox oy bytes) old new x y res
+    → Answered m old (AskElement name ox oy bytes) (told_text got) new
 unfolding ready-at-once
-answered-element {E} m name ox oy bytes element old new got x y res s none read served other failed wrote =
+answered-element {E} m name ox oy bytes element old new got s none read served other failed =
     let q = AskElement name ox oy bytes in
     let c = call.Element name (given_element element) in
     let P : Result Reply E → Type 0 = λ t. IfOk t (λ r. r ≢ reply.Refused code.Memory) in
-    answered-told m q old old new (ready-at-once m q old s none refl) c (element_payload element) got x y res (given_element element, refl) (λ e is. tt) served failed
-    (λ r is h. (element-answers m (after m c (element_payload element)) name ox oy bytes element r read (h.reply m s) (subst P is other) refl, calm-element old new name element r m s h none)) wrote
+    answered-told m q old old new (ready-at-once m q old s none refl) c (element_payload element) got (given_element element, refl) (λ e is. tt) served failed
+    (λ r is h. (element-answers m (after m c (element_payload element)) name ox oy bytes element r read (h.reply m s) (subst P is other) refl, calm-element old new name element r m s h none))
 
-pub answered-run : {E : Type 0} → (m : Machine) (name : Name) (op : Op) (old new : Seen) (got : Result Reply E) (x y : Option (List ℕ)) (res : Result (Unit {0}) SessionFault)
+pub answered-run : {E : Type 0} → (m : Machine) (name : Name) (op : Op) (old new : CoreView) (got : Result Reply E)
     → StandsFor old m → running_count old ≡ 0 → IfOk got (Serves old (call.Run name op) None new) → ((t : ℕ) → IfOk got (λ r. r ≡ reply.Accepted t → IsFresh new t)) → OnErr got (new ≡ old)
-    → Wrote x y (told_text got) res → Answered m (AskAlone (ask.Run name op)) old new x y res
+    → Answered m old (AskAlone (ask.Run name op)) (told_text got) new
 unfolding ready-at-once
-answered-run {E} m name op old new got x y res s none served fresh failed wrote =
+answered-run {E} m name op old new got s none served fresh failed =
     let q = AskAlone (ask.Run name op) in
     let c = call.Run name op in
     let P : ℕ → Result Reply E → Type 0 = λ t r. IfOk r (λ a. a ≡ reply.Accepted t → IsFresh new t) in
-    answered-told m q old old new (ready-at-once m q old s none refl) c None got x y res refl (λ e is. tt) served failed
-    (λ r is h. (called-plain m q c None r (refl, refl) tt (h.reply m s), calm-run old new name op r m s h (λ t. subst (P t) is (fresh t)) none)) wrote
+    answered-told m q old old new (ready-at-once m q old s none refl) c None got refl (λ e is. tt) served failed
+    (λ r is h. (called-plain m q c None r (refl, refl) tt (h.reply m s), calm-run old new name op r m s h (λ t. subst (P t) is (fresh t)) none))
 
-pub answered-cancel : {E : Type 0} → (m : Machine) (name : Name) (old new : Seen) (got : Result Reply E) (x y : Option (List ℕ)) (res : Result (Unit {0}) SessionFault)
-    → StandsFor old m → running_count old ≡ 0 → (refusal m.table m.payloads (call.Cancel name) ≡ None → IsOk got) → IfOk got (Serves old (call.Cancel name) None new) → OnErr got (new ≡ old) → Wrote x y (told_text got) res → Answered m (AskAlone (ask.Cancel name)) old new x y res
+pub answered-cancel : {E : Type 0} → (m : Machine) (name : Name) (old new : CoreView) (got : Result Reply E)
+    → StandsFor old m → running_count old ≡ 0 → (refusal m.table m.payloads (call.Cancel name) ≡ None → IsOk got) → IfOk got (Serves old (call.Cancel name) None new) → OnErr got (new ≡ old) → Answered m old (AskAlone (ask.Cancel name)) (told_text got) new
 unfolding ready-at-once
-answered-cancel {E} m name old new got x y res s none succeeds served failed wrote =
+answered-cancel {E} m name old new got s none succeeds served failed =
     let q = AskAlone (ask.Cancel name) in
     let c = call.Cancel name in
     let P : Result Reply E → Type 0 = λ t. IsOk t in
-    answered-told m q old old new (ready-at-once m q old s none refl) c None got x y res refl (λ e is free. let ok = subst P is (succeeds free) in absurd cc) served failed
-    (λ r is h. (called-plain m q c None r (refl, refl) tt (h.reply m s), calm-cancel old new name r m s h none)) wrote
+    answered-told m q old old new (ready-at-once m q old s none refl) c None got refl (λ e is free. let ok = subst P is (succeeds free) in absurd cc) served failed
+    (λ r is h. (called-plain m q c None r (refl, refl) tt (h.reply m s), calm-cancel old new name r m s h none))
 
-pub answered-release : {E : Type 0} → (m : Machine) (name : Name) (old new : Seen) (got : Result Reply E) (x y : Option (List ℕ)) (res : Result (Unit {0}) SessionFault)
-    → StandsFor old m → running_count old ≡ 0 → IfOk got (Serves old (call.Release name) None new) → OnErr got (new ≡ old) → Wrote x y (told_text got) res → Answered m (AskAlone (ask.Release name)) old new x y res
+pub answered-release : {E : Type 0} → (m : Machine) (name : Name) (old new : CoreView) (got : Result Reply E)
+    → StandsFor old m → running_count old ≡ 0 → IfOk got (Serves old (call.Release name) None new) → OnErr got (new ≡ old) → Answered m old (AskAlone (ask.Release name)) (told_text got) new
 unfolding ready-at-once
-answered-release m name old new got x y res s none served failed wrote =
+answered-release m name old new got s none served failed =
     let q = AskAlone (ask.Release name) in
     let c = call.Release name in
-    answered-told m q old old new (ready-at-once m q old s none refl) c None got x y res refl (λ e is. tt) served failed
-    (λ r is h. (called-plain m q c None r (refl, refl) tt (h.reply m s), calm-release old new name r m s h none)) wrote
+    answered-told m q old old new (ready-at-once m q old s none refl) c None got refl (λ e is. tt) served failed
+    (λ r is h. (called-plain m q c None r (refl, refl) tt (h.reply m s), calm-release old new name r m s h none))
 
 -- STATUS, and WAIT
-pub answered-status : {E : Type 0} → (m : Machine) (q : Asked) (name : Name) (old mid new : Seen) (got : Result Reply E) (x y : Option (List ℕ)) (res : Result (Unit {0}) SessionFault)
-    → IsCallOf q (call.Status name) None → IsCallFor q (call.Status name) → ((e : E) → got ≡ Err e → MayLack m q) → runs_work q ≡ true → AllWorked m old mid → IfOk got (Serves mid (call.Status name) None new) → OnErr got (new ≡ mid) → Wrote x y (told_text got) res → Answered m q old new x y res
-answered-status m q name old mid new got x y res is fits lacks busy w served failed wrote =
+pub answered-status : {E : Type 0} → (m : Machine) (q : Asked) (name : Name) (old mid new : CoreView) (got : Result Reply E)
+    → IsCallOf q (call.Status name) None → IsCallFor q (call.Status name) → ((e : E) → got ≡ Err e → MayLack m q) → runs_work q ≡ true → AllWorked m old mid → IfOk got (Serves mid (call.Status name) None new) → OnErr got (new ≡ mid) → Answered m old q (told_text got) new
+answered-status m q name old mid new got is fits lacks busy w served failed =
     let c = call.Status name in
     let h = ready-by-work m q old mid w busy in
-    answered-told m q old mid new h c None got x y res fits lacks served failed
-    (λ r same k. (called-plain h.state q c None r is tt (k.reply h.state h.stands), calm-status mid new name r h.state h.stands k h.idle)) wrote
+    answered-told m q old mid new h c None got fits lacks served failed
+    (λ r same k. (called-plain h.state q c None r is tt (k.reply h.state h.stands), calm-status mid new name r h.state h.stands k h.idle))

@@ -1,5 +1,4 @@
 pub mod Turns
 pub mod Stops
-pub mod Rooms
-pub mod Sessions
+pub mod Chains
 pub mod Answering

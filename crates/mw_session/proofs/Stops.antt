@@ -96,8 +96,21 @@ end_broken lacks left bytes m n old new before after s = (
   shows_kills bytes s.turns s.rest m n s.text s.items old new s.served s.log,
 )
 
+finished_broken : (lacks : List ℕ → Type 0) (left : Option (List ℕ)) (bytes : List ℕ) (m n : Machine) (old new : List LogItem) (before after : Option (List ℕ)) (e : End) → Finished lacks left bytes m n old new before after e
+    → (turns : List Turn) × (text : List ℕ) × IsBroken (IsAtEnd left) bytes turns m n text × Appends before after text × ShowsKills turns old new
+finished_broken lacks left bytes m n old new before after e f =
+    let all = f.text ++ end_text e in (
+      f.turns,
+      all,
+      (f.rest, f.text, end_text e, length all, served_serves bytes f.turns f.rest m n f.text f.items f.served, inr (e, f.ends.0, refl), sym (take-length all)),
+      f.wrote,
+      shows_kills bytes f.turns f.rest m n f.text f.items old new f.served f.log,
+    )
+
 pub stopped_broken : (lacks : List ℕ → Type 0) (left : Option (List ℕ)) (bytes : List ℕ) (m n : Machine) (old new : List LogItem) (before after : Option (List ℕ)) (f : SessionFault) → Stopped lacks left bytes m n old new before after f
     → (turns : List Turn) × (text : List ℕ) × IsBroken (IsAtEnd left) bytes turns m n text × Appends before after text × ShowsKills turns old new
 stopped_broken lacks left bytes m n old new before after fault.Read s = said_broken left bytes m n old new before after s.0 s.1
 stopped_broken lacks left bytes m n old new before after fault.Write (inl s) = reply_broken left bytes m n old new before after s
-stopped_broken lacks left bytes m n old new before after fault.Write (inr s) = end_broken lacks left bytes m n old new before after s
+stopped_broken lacks left bytes m n old new before after fault.Write (inr (inl s)) = end_broken lacks left bytes m n old new before after s
+stopped_broken lacks left bytes m n old new before after fault.Write (inr (inr (inl s))) = said_broken left bytes m n old new before after s.0 s.1
+stopped_broken lacks left bytes m n old new before after fault.Write (inr (inr (inr s))) = finished_broken lacks left bytes m n old new before after s.0 s.1

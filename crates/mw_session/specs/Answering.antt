@@ -1,22 +1,17 @@
--- What reading payloads, answering a request and serving what waits say.
-use Rattle.std.specs.Prelude.{◌≡◌, ◌⊎◌, ℕ, List, Option, Result, Ok, Err}
+-- What reading payloads and answering a request say.
+use Rattle.std.specs.Prelude.{◌≡◌, ◌⊎◌, ◌++◌, ℕ, List, Result, Ok, Err}
 use Rattle.mw_model.specs.declared.codes.Code.{Code}
 use Rattle.mw_model.specs.declared.codes.Code.TheVariants as code
-use Rattle.mw_model.specs.declared.calls.Reply.{Reply}
-use Rattle.mw_model.specs.declared.requests.End.{End}
 use Rattle.mw_model.specs.Pictures.{Picture, IsImage}
 use Rattle.mw_model.specs.Elements.{Figure, IsElement, ElementRefuses}
 use Rattle.mw_model.specs.NetpbmGrammar.{IsFile}
 use Rattle.mw_model.specs.NetpbmRefusals.{Refuses}
 use Rattle.mw_model.specs.Machine.{Machine}
-use Rattle.mw_model.specs.Stands.{Seen, StandsFor, running_count}
-use Rattle.mw_model.specs.Receipts.{MayFail}
-use Rattle.mw_model.specs.Scripts.{handed_value}
-use Rattle.mw_model.specs.Replies.{reply_text, refusal_text}
-use Rattle.mw_core.specs.declared.answers.Shown.{Shown}
-use Rattle.mw_core.specs.Fetches.{shown_value}
-use Rattle.mw_wire.specs.declared.fault.SessionFault.{SessionFault}
-use Rattle.mw_session.specs.Runs.{Drains, WantsRoom}
+use Rattle.mw_model.specs.declared.calls.LogItem.{LogItem}
+use Rattle.mw_model.specs.Lines.{Asked}
+use Rattle.mw_model.specs.Scripts.{Turn}
+use Rattle.mw_model.specs.Stands.{CoreView, StandsFor, running_count}
+use Rattle.mw_session.specs.Turns.{TurnMade}
 
 -- the payload of a LOAD as an image, or why it is none, or want of memory
 abbrev pub ReadsImage : List ℕ → Result Picture Code → Type 0
@@ -28,17 +23,17 @@ abbrev pub ReadsElement : List ℕ → ℕ → ℕ → Result Figure Code → Ty
 ReadsElement bytes ox oy (Ok b) = IsElement bytes ox oy b
 ReadsElement bytes ox oy (Err c) = (c ≡ code.Memory) ⊎ ElementRefuses bytes ox oy c
 
--- what is written for a FETCH: the reply, and the bytes of the value that it hands out
-abbrev pub fetch_text : Reply → Shown → List ℕ
-fetch_text r v = reply_text r (handed_value (shown_value v))
-
--- that, or that the bytes of what it hands out found no memory
-abbrev pub SaysFetched : Reply → Shown → List ℕ → Type 0
-SaysFetched r v text = (text ≡ fetch_text r v) ⊎ (MayFail r × (text ≡ refusal_text code.Memory))
-
--- What waited was served from a state, and the core then stands for the state after it. The rest is what is held.
-pub record Drove (left : Option (List ℕ)) (bytes rest : List ℕ) (m : Machine) (old new : Seen) (before after : Option (List ℕ)) (result : Result (Option End) SessionFault) : Type 0 where
+-- One request was answered by this text: a turn from this state, after which the core stands for the state that it leads to, and no task is running.
+pub record Answered (m : Machine) (old : CoreView) (r : Asked) (text : List ℕ) (new : CoreView) : Type 0 where
+  pub turn : Turn
   pub state : Machine
+  pub items : List LogItem
+  pub asked : turn.request ≡ r
+  pub made : TurnMade m turn text items state
   pub stands : StandsFor new state
   pub idle : running_count new ≡ 0
-  pub drains : Drains (WantsRoom rest) left bytes rest m state old.log new.log before after result
+  pub log : new.log ≡ old.log ++ items
+
+-- so it was from each state that the core stands for, where no task was running
+abbrev pub ScriptAnswer : CoreView → Asked → List ℕ → CoreView → Type 0
+ScriptAnswer old r text new = (m : Machine) → StandsFor old m → running_count old ≡ 0 → Answered m old r text new

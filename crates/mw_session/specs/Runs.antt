@@ -1,42 +1,19 @@
 -- What a run of a session says of the bytes, the log and the machine.
-use Rattle.std.specs.Prelude.{◌≡◌, ◌≢◌, ◌<◌, ◌⊎◌, ℕ, List, [], ◌++◌, length, take, Option, MatchResult, MatchOption, Result}
+use Rattle.std.specs.Prelude.{◌≡◌, ◌≢◌, ◌<◌, ◌⊎◌, ℕ, List, ◌++◌, length, take, Option, MatchResult, Result}
 use Rattle.std.specs.Io.KnownBytes.{Appends, Consumes, IsAtEnd}
-use Rattle.std.specs.List.{position_or_len}
 use Rattle.mw_model.specs.declared.calls.LogItem.{LogItem}
-use Rattle.mw_model.specs.declared.codes.Code.TheVariants.{Memory}
 use Rattle.mw_model.specs.declared.requests.Ask.TheVariants.{Quit}
 use Rattle.mw_model.specs.declared.requests.End.{End}
-use Rattle.mw_model.specs.declared.requests.End.TheVariants.{Ended}
 use Rattle.mw_model.specs.Machine.{Machine}
-use Rattle.mw_model.specs.Stands.{Seen, StandsFor, running_count}
-use Rattle.mw_model.specs.Lines.{Asked, AskAlone, Found, Partial}
-use Rattle.mw_intake.specs.Intake.{AsksForPayload}
-use Rattle.mw_intake.specs.Reading.{front, is_line_end}
-use Rattle.mw_model.specs.Scripts.{Turn, Ends, end_text}
+use Rattle.mw_model.specs.Stands.{CoreView, StandsFor, running_count}
+use Rattle.mw_model.specs.Lines.{AskAlone, Found, Partial}
+use Rattle.mw_intake.specs.Reading.{front}
+use Rattle.mw_model.specs.Scripts.{Turn, end_text}
 use Rattle.mw_script_laws.specs.Marks.{kills_of, killed_in}
+use Rattle.mw_desk.specs.Rooms.{EndsAt, LacksRoom}
 use Rattle.mw_session.specs.Turns.{TurnMade, HasServed}
-use Rattle.mw_wire.specs.Writes.{Wrote}
 use Rattle.mw_wire.specs.declared.fault.SessionFault.{SessionFault}
 use Rattle.mw_wire.specs.declared.fault.SessionFault.TheVariants as fault
-
--- ---- ends
-
--- What is gathered where bytes are held and others wait to be taken: the payload that the line at the front awaits; or a line, whose LF has not been taken.
-pub data Gathers (held waiting : List ℕ) : Type 0 where
-  payload : AsksForPayload held → Gathers held waiting
-  line : front held ≡ Partial → position_or_len is_line_end held ≡ length held → waiting ≢ [] → Gathers held waiting
-
--- want of memory may end a session where these bytes are left and those of them are held: a payload or a line is gathered
-abbrev pub WantsRoom : List ℕ → List ℕ → Type 0
-WantsRoom held rest = (waiting : List ℕ) × (rest ≡ held ++ waiting) × Gathers held waiting
-
--- so it may where some of them are held; or before anything was read
-abbrev pub LacksRoom : List ℕ → List ℕ → Type 0
-LacksRoom bytes rest = (bytes ≡ []) ⊎ ((held : List ℕ) × WantsRoom held rest)
-
--- the session may end so where these bytes are left, and by want of memory only where it lacks room
-abbrev pub EndsAt : (List ℕ → Type 0) → Type 0 → List ℕ → End → Type 0
-EndsAt lacks whole rest e = Ends whole rest e × (e ≡ Ended Memory → lacks rest)
 
 -- ---- where a run stands
 
@@ -105,10 +82,15 @@ pub record CutEnd (lacks : List ℕ → Type 0) (left : Option (List ℕ)) (byte
   pub less : count < length (end_text end)
   pub wrote : Appends before after (text ++ take count (end_text end))
 
+-- All that was due was handed to the writer, and it failed to pass that on.
+abbrev pub NotPassedOn : (List ℕ → Type 0) → Option (List ℕ) → List ℕ → Machine → Machine → List LogItem → List LogItem → Option (List ℕ) → Option (List ℕ) → Type 0
+NotPassedOn lacks left bytes m n old new before after =
+    SaidAll bytes m n old new before after ⊎ ((end : End) × Finished lacks left bytes m n old new before after end)
+
 -- where a fault stops a run
 abbrev pub Stopped : (List ℕ → Type 0) → Option (List ℕ) → List ℕ → Machine → Machine → List LogItem → List LogItem → Option (List ℕ) → Option (List ℕ) → SessionFault → Type 0
 Stopped lacks left bytes m n old new before after fault.Read = SaidAll bytes m n old new before after
-Stopped lacks left bytes m n old new before after fault.Write = CutReply bytes m n old new before after ⊎ CutEnd lacks left bytes m n old new before after
+Stopped lacks left bytes m n old new before after fault.Write = CutReply bytes m n old new before after ⊎ CutEnd lacks left bytes m n old new before after ⊎ NotPassedOn lacks left bytes m n old new before after
 
 -- ---- runs
 
@@ -117,28 +99,8 @@ abbrev pub Ran : (List ℕ → Type 0) → Option (List ℕ) → List ℕ → Ma
 Ran lacks left bytes m n old new before after result =
     MatchResult result (λ end. Finished lacks left bytes m n old new before after end) (λ f. Stopped lacks left bytes m n old new before after f)
 
--- what waited was served, up to the end of the session where it came
-abbrev pub Drains : (List ℕ → Type 0) → Option (List ℕ) → List ℕ → List ℕ → Machine → Machine → List LogItem → List LogItem → Option (List ℕ) → Option (List ℕ) → Result (Option End) SessionFault → Type 0
-Drains lacks left bytes rest m n old new before after result =
-    MatchResult result
-    (λ o. MatchOption o (Drained bytes rest m n old new before after) (λ end. Finished lacks left bytes m n old new before after end))
-    (λ f. Stopped lacks left bytes m n old new before after f)
-
--- One request was served: a turn from this state, after which the core stands for the state that it leads to, and no task is running.
-pub record Answered (m : Machine) (r : Asked) (old new : Seen) (before after : Option (List ℕ)) (result : Result (Unit {0}) SessionFault) : Type 0 where
-  pub turn : Turn
-  pub state : Machine
-  pub text : List ℕ
-  pub items : List LogItem
-  pub asked : turn.request ≡ r
-  pub made : TurnMade m turn text items state
-  pub stands : StandsFor new state
-  pub idle : running_count new ≡ 0
-  pub log : new.log ≡ old.log ++ items
-  pub wrote : Wrote before after text result
-
 -- A whole session was served: of what the reader had these bytes were taken, the core then stands for the state after them, and no task is running.
-pub record SessionRan (m : Machine) (old new : Seen) (had left before after : Option (List ℕ)) (result : Result End SessionFault) : Type 0 where
+pub record SessionRan (m : Machine) (old new : CoreView) (had left before after : Option (List ℕ)) (result : Result End SessionFault) : Type 0 where
   pub taken : List ℕ
   pub state : Machine
   pub read : Consumes had left taken

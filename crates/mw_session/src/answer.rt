@@ -1,17 +1,16 @@
 //! One request, and what is written for it.
 
-ghost use Rattle.std.specs.Prelude.{◌≡◌, ◌≢◌, OnOk, OnErr, Err, true};
+ghost use Rattle.std.specs.Prelude.{◌≡◌, ℕ, List, OnOk, OnErr, Err, true};
 ghost use Rattle.mw_model.specs.declared.names.Name.{Name};
 ghost use Rattle.mw_model.specs.declared.requests.Ask.TheVariants as Ask;
 ghost use Rattle.mw_model.specs.Lines.{AskLoad, AskElement, AskAlone};
-ghost use Rattle.mw_model.specs.Machine.{Machine};
-ghost use Rattle.mw_model.specs.Stands.{StandsFor, running_count};
-ghost use Rattle.mw_intake.specs.Intake.{asked};
-ghost use Rattle.mw_session.specs.Runs.{Answered};
+ghost use Rattle.mw_session.specs.Answering.{ScriptAnswer};
+ghost use Rattle.mw_wire.specs.Writes.{Wrote};
 
 use crate::payloads::{read_element, read_image};
-use crate::saying::say_fetched;
 use mw_core::Core;
+use mw_desk::Desk;
+use mw_fetched::say_fetched;
 use mw_model::{Name, NoMemory, Op, Request};
 use mw_wave::{Crew, Pick, run_all_work};
 use mw_wire::{SessionFault, Sink, say_told};
@@ -26,8 +25,7 @@ fn load<W: Write>(
     name: Name,
     payload: Vec<u8>,
 ) -> Result<(), SessionFault>
-    ensures answered { (m : Machine) → StandsFor core.old m → running_count core.old ≡ 0
-        → Answered m (AskLoad name payload.items) core.old core.new (W.contents sink.old.inner) (W.contents sink.new.inner) result }
+    ensures answered { (text : List ℕ) × ScriptAnswer core.old (AskLoad name payload.items) text core.new × Wrote (W.contents sink.old.inner) (W.contents sink.new.inner) text result }
     ensures kept { OnOk result (sink.new.failed ≡ sink.old.failed) }
     ensures flag { OnErr result ((result ≡ Err SessionFault.Write) × (sink.new.failed ≡ true)) }
 {
@@ -45,8 +43,7 @@ fn element<W: Write>(
     origin: (u32, u32),
     payload: &[u8],
 ) -> Result<(), SessionFault>
-    ensures answered { (m : Machine) → StandsFor core.old m → running_count core.old ≡ 0
-        → Answered m (AskElement name origin.0 origin.1 payload.now) core.old core.new (W.contents sink.old.inner) (W.contents sink.new.inner) result }
+    ensures answered { (text : List ℕ) × ScriptAnswer core.old (AskElement name origin.0 origin.1 payload.now) text core.new × Wrote (W.contents sink.old.inner) (W.contents sink.new.inner) text result }
     ensures kept { OnOk result (sink.new.failed ≡ sink.old.failed) }
     ensures flag { OnErr result ((result ≡ Err SessionFault.Write) × (sink.new.failed ≡ true)) }
 {
@@ -61,8 +58,7 @@ fn run<W: Write>(
     name: Name,
     op: Op,
 ) -> Result<(), SessionFault>
-    ensures answered { (m : Machine) → StandsFor core.old m → running_count core.old ≡ 0
-        → Answered m (AskAlone (Ask.Run name op)) core.old core.new (W.contents sink.old.inner) (W.contents sink.new.inner) result }
+    ensures answered { (text : List ℕ) × ScriptAnswer core.old (AskAlone (Ask.Run name op)) text core.new × Wrote (W.contents sink.old.inner) (W.contents sink.new.inner) text result }
     ensures kept { OnOk result (sink.new.failed ≡ sink.old.failed) }
     ensures flag { OnErr result ((result ≡ Err SessionFault.Write) × (sink.new.failed ≡ true)) }
 {
@@ -71,8 +67,7 @@ fn run<W: Write>(
 }
 
 fn cancel<W: Write>(sink: &mut Sink<W>, core: &mut Core, name: Name) -> Result<(), SessionFault>
-    ensures answered { (m : Machine) → StandsFor core.old m → running_count core.old ≡ 0
-        → Answered m (AskAlone (Ask.Cancel name)) core.old core.new (W.contents sink.old.inner) (W.contents sink.new.inner) result }
+    ensures answered { (text : List ℕ) × ScriptAnswer core.old (AskAlone (Ask.Cancel name)) text core.new × Wrote (W.contents sink.old.inner) (W.contents sink.new.inner) text result }
     ensures kept { OnOk result (sink.new.failed ≡ sink.old.failed) }
     ensures flag { OnErr result ((result ≡ Err SessionFault.Write) × (sink.new.failed ≡ true)) }
 {
@@ -81,8 +76,7 @@ fn cancel<W: Write>(sink: &mut Sink<W>, core: &mut Core, name: Name) -> Result<(
 }
 
 fn release<W: Write>(sink: &mut Sink<W>, core: &mut Core, name: Name) -> Result<(), SessionFault>
-    ensures answered { (m : Machine) → StandsFor core.old m → running_count core.old ≡ 0
-        → Answered m (AskAlone (Ask.Release name)) core.old core.new (W.contents sink.old.inner) (W.contents sink.new.inner) result }
+    ensures answered { (text : List ℕ) × ScriptAnswer core.old (AskAlone (Ask.Release name)) text core.new × Wrote (W.contents sink.old.inner) (W.contents sink.new.inner) text result }
     ensures kept { OnOk result (sink.new.failed ≡ sink.old.failed) }
     ensures flag { OnErr result ((result ≡ Err SessionFault.Write) × (sink.new.failed ≡ true)) }
 {
@@ -98,10 +92,8 @@ fn status<W: Write, P: Pick, T: Threads + Sync>(
     pick: &mut P,
     name: Name,
 ) -> Result<(), SessionFault>
-    ensures status { (m : Machine) → StandsFor core.old m → running_count core.old ≡ 0
-        → Answered m (AskAlone (Ask.Status name)) core.old core.new (W.contents sink.old.inner) (W.contents sink.new.inner) result }
-    ensures wait { (m : Machine) → StandsFor core.old m → running_count core.old ≡ 0
-        → Answered m (AskAlone (Ask.Wait name)) core.old core.new (W.contents sink.old.inner) (W.contents sink.new.inner) result }
+    ensures status { (text : List ℕ) × ScriptAnswer core.old (AskAlone (Ask.Status name)) text core.new × Wrote (W.contents sink.old.inner) (W.contents sink.new.inner) text result }
+    ensures wait { (text : List ℕ) × ScriptAnswer core.old (AskAlone (Ask.Wait name)) text core.new × Wrote (W.contents sink.old.inner) (W.contents sink.new.inner) text result }
     ensures kept { OnOk result (sink.new.failed ≡ sink.old.failed) }
     ensures flag { OnErr result ((result ≡ Err SessionFault.Write) × (sink.new.failed ≡ true)) }
 {
@@ -117,8 +109,7 @@ fn fetch<W: Write, P: Pick, T: Threads + Sync>(
     pick: &mut P,
     name: Name,
 ) -> Result<(), SessionFault>
-    ensures answered { (m : Machine) → StandsFor core.old m → running_count core.old ≡ 0
-        → Answered m (AskAlone (Ask.Fetch name)) core.old core.new (W.contents sink.old.inner) (W.contents sink.new.inner) result }
+    ensures answered { (text : List ℕ) × ScriptAnswer core.old (AskAlone (Ask.Fetch name)) text core.new × Wrote (W.contents sink.old.inner) (W.contents sink.new.inner) text result }
     ensures kept { OnOk result (sink.new.failed ≡ sink.old.failed) }
     ensures flag { OnErr result ((result ≡ Err SessionFault.Write) × (sink.new.failed ≡ true)) }
 {
@@ -129,31 +120,42 @@ fn fetch<W: Write, P: Pick, T: Threads + Sync>(
     }
 }
 
-/// Serves one request, which is not QUIT.
-pub(crate) fn answer<W: Write, P: Pick, T: Threads + Sync>(
-    crew: Crew<T>,
-    sink: &mut Sink<W>,
-    core: &mut Core,
-    pick: &mut P,
-    request: Request,
-) -> Result<(), SessionFault>
-    requires { asked request ≢ AskAlone Ask.Quit }
-    ensures answered { (m : Machine) → StandsFor core.old m → running_count core.old ≡ 0
-        → Answered m (asked request) core.old core.new (W.contents sink.old.inner) (W.contents sink.new.inner) result }
-    ensures kept { OnOk result (sink.new.failed ≡ sink.old.failed) }
-    ensures flag { OnErr result ((result ≡ Err SessionFault.Write) × (sink.new.failed ≡ true)) }
-{
-    match request {
-        Request::Load(name, payload) => load(crew.alloc, sink, core, name, payload),
-        Request::Element(name, ox, oy, payload) => {
-            element(crew.alloc, sink, core, name, (ox, oy), &payload)
+/// Answers from a core, whose work is run by a crew in the order of the picks.
+#[derive(Drop)]
+pub(crate) struct Clerk<'r, 'p, P, T> {
+    pub crew: Crew<'r, T>,
+    pub pick: &'p mut P,
+}
+
+impl<P: Pick, T: Threads + Sync> Desk for Clerk<'_, '_, P, T> {
+    ghost use Rattle.std.specs.Thread.{IsSync};
+    ghost use Rattle.mw_session.specs.Answering.{ScriptAnswer};
+
+    type Kept = Core;
+
+    ghost Answer = { ScriptAnswer };
+
+    ghost ready = { IsSync T.row };
+
+    fn answer<W: Write>(
+        &mut self,
+        sink: &mut Sink<W>,
+        core: &mut Core,
+        request: Request,
+    ) -> Result<(), SessionFault> {
+        let crew = self.crew;
+        match request {
+            Request::Load(name, payload) => load(crew.alloc, sink, core, name, payload),
+            Request::Element(name, ox, oy, payload) => {
+                element(crew.alloc, sink, core, name, (ox, oy), &payload)
+            }
+            Request::Run(name, op) => run(sink, core, name, op),
+            Request::Cancel(name) => cancel(sink, core, name),
+            Request::Release(name) => release(sink, core, name),
+            Request::Status(name) => status(crew, sink, core, self.pick, name),
+            Request::Wait(name) => status(crew, sink, core, self.pick, name),
+            Request::Fetch(name) => fetch(crew, sink, core, self.pick, name),
+            Request::Quit => Ok(()),
         }
-        Request::Run(name, op) => run(sink, core, name, op),
-        Request::Cancel(name) => cancel(sink, core, name),
-        Request::Release(name) => release(sink, core, name),
-        Request::Status(name) => status(crew, sink, core, pick, name),
-        Request::Wait(name) => status(crew, sink, core, pick, name),
-        Request::Fetch(name) => fetch(crew, sink, core, pick, name),
-        Request::Quit => Ok(()),
     }
 }

@@ -10,7 +10,6 @@
 mod answer;
 mod laws;
 mod payloads;
-mod saying;
 mod script;
 
 pub use laws::{finished_is_script, stopped_is_broken};

@@ -1,114 +1,18 @@
 //! A whole script, from a reader to a writer.
 
-ghost use Rattle.std.specs.Prelude.{◌≡◌, ◌≢◌, ◌≤◌, ◌<◌, ◌⊎◌, ◌↔◌, [], ◌++◌, length, ℕ, List, Option, None, OnOk, OnErr, IfOk, Ok, Err, IsTrue, false, true};
-ghost use Rattle.std.specs.Io.KnownBytes.{Appends};
-ghost use Rattle.mw_model.specs.declared.requests.Ask.TheVariants as Ask;
-ghost use Rattle.mw_model.specs.Lines.{AskAlone, Partial};
-ghost use Rattle.mw_intake.specs.Reading.{front};
+ghost use Rattle.std.specs.Prelude.{◌≡◌, ◌≤◌, ◌⊎◌, Err, false, true};
 ghost use Rattle.mw_model.specs.Machine.{Machine};
 ghost use Rattle.mw_model.specs.Stands.{StandsFor, running_count};
-ghost use Rattle.mw_intake.specs.Intake.{asked};
-ghost use Rattle.mw_session.specs.Answering.{Drove};
 ghost use Rattle.mw_session.specs.Runs.{SessionRan};
-ghost use Rattle.mw_wire.specs.Writes.{EndsBy};
 
-use crate::answer::answer;
+use crate::answer::Clerk;
 use mw_core::Core;
-use mw_intake::Intake;
-use mw_model::{Code, End, Next, NoMemory, Request};
+use mw_desk::run_session;
+use mw_model::End;
 use mw_wave::{Crew, Pick};
-use mw_wire::{READ_LIMIT, SessionFault, Sink, Source, end_by, end_within, receive};
+use mw_wire::{SessionFault, Sink, Source};
 use std::io::{Read, Write};
 use std::thread::Threads;
-
-/// How many bytes are read at a time.
-const PIECE: usize = 65536;
-
-fn is_quit(request: &Request) -> bool
-    ensures { IsTrue result ↔ (asked request.now ≡ AskAlone Ask.Quit) }
-{
-    matches!(request, Request::Quit)
-}
-
-/// Serves the requests that wait, and says how the session ends where it does.
-fn drain<W: Write, P: Pick, T: Threads + Sync>(
-    crew: Crew<T>,
-    intake: &mut Intake,
-    sink: &mut Sink<W>,
-    core: &mut Core,
-    pick: &mut P,
-) -> Result<Option<End>, SessionFault>
-    ensures ran { (left : Option (List ℕ)) (m : Machine) → StandsFor core.old m → running_count core.old ≡ 0
-        → Drove left intake.old intake.new m core.old core.new (W.contents sink.old.inner) (W.contents sink.new.inner) result }
-    ensures waits { IfOk result (λ o. o ≡ None → front intake.new ≡ Partial) }
-    ensures kept { OnOk result (sink.new.failed ≡ sink.old.failed) }
-    ensures flag { OnErr result ((result ≡ Err SessionFault.Write) × (sink.new.failed ≡ true)) }
-{
-    'requests: loop {
-        match intake.next() {
-            Err(NoMemory) => return end_within(sink, Code::Memory),
-            Ok(Next::More) => return Ok(None),
-            Ok(Next::Bad(code)) => return end_within(sink, code),
-            Ok(Next::Request(request)) => {
-                if is_quit(&request) {
-                    return Ok(Some(End::Quit));
-                }
-                if let Err(fault) = answer(crew, sink, core, pick, request) {
-                    return Err(fault);
-                }
-            }
-        }
-    }
-}
-
-/// Serves a piece of the input: feeds it by portions, so that no byte of a payload is copied twice, and serves the
-/// requests that wait after each. Where the session ends, what stands behind is not fed.
-fn serve_piece<W: Write, P: Pick, T: Threads + Sync>(
-    crew: Crew<T>,
-    intake: &mut Intake,
-    sink: &mut Sink<W>,
-    core: &mut Core,
-    pick: &mut P,
-    piece: &[u8],
-) -> Result<Option<End>, SessionFault>
-    requires some { 0 < length piece.now }
-    requires served { front intake.old ≡ Partial }
-    ensures ran { (left : Option (List ℕ)) (m : Machine) → StandsFor core.old m → running_count core.old ≡ 0
-        → Drove left (intake.old ++ piece.now) intake.new m core.old core.new (W.contents sink.old.inner) (W.contents sink.new.inner) result }
-    ensures waits { IfOk result (λ o. o ≡ None → front intake.new ≡ Partial) }
-    ensures kept { OnOk result (sink.new.failed ≡ sink.old.failed) }
-    ensures flag { OnErr result ((result ≡ Err SessionFault.Write) × (sink.new.failed ≡ true)) }
-{
-    let mut at = 0;
-    'portions: while at < piece.len() {
-        let (_, rest) = piece.split_at(at);
-        let n = intake.portion(rest);
-        let (portion, _) = rest.split_at(n);
-        match intake.feed(portion) {
-            Err(NoMemory) => return end_within(sink, Code::Memory),
-            Ok(()) => {}
-        }
-        match drain(crew, intake, sink, core, pick) {
-            Err(fault) => return Err(fault),
-            Ok(Some(end)) => return Ok(Some(end)),
-            Ok(None) => at += n,
-        }
-    }
-    Ok(None)
-}
-
-/// Ends a session at the end of the input.
-fn end_of_input<W: Write>(sink: &mut Sink<W>, intake: &Intake) -> Result<End, SessionFault>
-    ensures quit { intake.now ≡ [] → (result ≡ Ok End.Quit) × Appends (W.contents sink.old.inner) (W.contents sink.new.inner) [] }
-    ensures cut { intake.now ≢ [] → EndsBy (W.contents sink.old.inner) (W.contents sink.new.inner) Code.Cut result }
-    ensures kept { OnOk result (sink.new.failed ≡ sink.old.failed) }
-    ensures flag { OnErr result ((result ≡ Err SessionFault.Write) × (sink.new.failed ≡ true)) }
-{
-    if intake.at_boundary() {
-        return Ok(End::Quit);
-    }
-    end_by(sink, Code::Cut)
-}
 
 /// Serves a script: reads to the end, to QUIT or to a fault, and writes what is answered. Before each STATUS, FETCH and
 /// WAIT all work is run by the crew, in the order of the picks, and nothing else runs work. Want of memory is `ERR 50 MEMORY` for
@@ -135,24 +39,6 @@ pub fn run_script<R: Read, W: Write, P: Pick, T: Threads + Sync>(
     ensures reader_failed { source.new.failed ≡ true → result ≡ Err SessionFault.Read }
     ensures writer_failed { sink.new.failed ≡ true → result ≡ Err SessionFault.Write }
 {
-    let mut intake = Intake::new(crew.alloc);
-    let mut buffer = match Vec::from_elem(crew.alloc, 0u8, PIECE) {
-        Ok(buffer) => buffer,
-        Err(_) => return end_by(sink, Code::Memory),
-    };
-    'reads: while source.reads() < READ_LIMIT {
-        let n = match receive(source, buffer.as_mut_slice()) {
-            Err(fault) => return Err(fault),
-            Ok(n) => n,
-        };
-        if n == 0 {
-            return end_of_input(sink, &intake);
-        }
-        match serve_piece(crew, &mut intake, sink, core, pick, &buffer[..n]) {
-            Err(fault) => return Err(fault),
-            Ok(Some(end)) => return Ok(end),
-            Ok(None) => {}
-        }
-    }
-    Err(SessionFault::Read)
+    let mut clerk = Clerk { crew, pick };
+    run_session(crew.alloc, source, sink, &mut clerk, core)
 }

@@ -22,7 +22,7 @@ use Rattle.mw_model.specs.Refusals.{Table, Wanted, AnImage, AnElement, ticket, t
 use Rattle.mw_model.specs.Machine.{Machine, IsWith, reply_to, reply_from, after, with_entry, with_table, killed, settled, given_submission, run_submission, ticket_wanted, unless_refused}
 use Rattle.mw_model.specs.Tasks.{Progress}
 use Rattle.mw_laws.specs.MachineLaws.{IsSound}
-use Rattle.mw_model.specs.Stands.{Seen, StandsFor, Agrees, progress_at, IsWork}
+use Rattle.mw_model.specs.Stands.{CoreView, StandsFor, Agrees, progress_at, IsWork}
 use Rattle.mw_laws.proofs.RunTables.{push_front, first_none, inputs_all, is_known, when_so}
 use Rattle.mw_laws.proofs.RunSteps.{pushed}
 use Rattle.mw_store.specs.Stored.{DropsSpent}
@@ -48,20 +48,20 @@ by-each (Err e) Q P S q s f = tt
 
 -- ---- calls that change no entry
 
-quiet-work : (c new : Seen) (q : Call) (r : Reply) → new ≡ record c { log = c.log ++ item.Call q r ∷ [] } → WorkStays c new
-quiet-work c new q r is t within pending = ap (λ (d : Seen). progress_at d.work t) is
+quiet-work : (c new : CoreView) (q : Call) (r : Reply) → new ≡ record c { log = c.log ++ item.Call q r ∷ [] } → WorkStays c new
+quiet-work c new q r is t within pending = ap (λ (d : CoreView). progress_at d.work t) is
 
-pub serves-quiet : (c new : Seen) (q : Call) (v : Option Value) (r : Reply) → IsWith q v → ((m : Machine) → StandsFor c m → after m q v ≡ m) → ((m : Machine) → StandsFor c m → r ≡ reply_to m q)
+pub serves-quiet : (c new : CoreView) (q : Call) (v : Option Value) (r : Reply) → IsWith q v → ((m : Machine) → StandsFor c m → after m q v ≡ m) → ((m : Machine) → StandsFor c m → r ≡ reply_to m q)
     → new ≡ record c { log = c.log ++ item.Call q r ∷ [] } → Serves c q v new r
 serves-quiet c new q v r with same told is =
     record {
       reply = told;
       stands = λ m s. stands-quiet c new m q v r (same m s) with s (told m s) is;
-      log = ap (λ (d : Seen). d.log) is;
+      log = ap (λ (d : CoreView). d.log) is;
       work = quiet-work c new q r is;
     }
 
-pub serves-refused : (c new : Seen) (q : Call) (v : Option Value) (x : Code) → IsWith q v → refusal c.table c.kept q ≡ Some x
+pub serves-refused : (c new : CoreView) (q : Call) (v : Option Value) (x : Code) → IsWith q v → refusal c.table c.kept q ≡ Some x
     → new ≡ record c { log = c.log ++ item.Call q (reply.Refused x) ∷ [] } → Serves c q v new (reply.Refused x)
 serves-refused c new q v x with why is =
     let case : (m : Machine) → StandsFor c m → refusal m.table m.payloads q ≡ Some x = λ m s. sym (stands-refusal c m q s) ∙ why in
@@ -71,26 +71,26 @@ unchanged : (r : Option Code) (m : Machine) → record { table = unless_refused 
 unchanged None m = rw (append-nil m.payloads) refl
 unchanged (Some c) m = refl
 
-pub serves-status : (c new : Seen) (n : Name) (r : Reply) → r ≡ reply_from c.table c.kept (call.Status n)
+pub serves-status : (c new : CoreView) (n : Name) (r : Reply) → r ≡ reply_from c.table c.kept (call.Status n)
     → new ≡ record c { log = c.log ++ item.Call (call.Status n) r ∷ [] } → Serves c (call.Status n) None new r
 serves-status c new n r told is =
     serves-quiet c new (call.Status n) None r refl (λ m s. unchanged (refusal m.table m.payloads (call.Status n)) m) (λ m s. told ∙ stands-reply c m (call.Status n) s) is
 
-pub serves-fetch : (c new : Seen) (n : Name) (r : Reply) → r ≡ reply_from c.table c.kept (call.Fetch n)
+pub serves-fetch : (c new : CoreView) (n : Name) (r : Reply) → r ≡ reply_from c.table c.kept (call.Fetch n)
     → new ≡ record c { log = c.log ++ item.Call (call.Fetch n) r ∷ [] } → Serves c (call.Fetch n) None new r
 serves-fetch c new n r told is =
     serves-quiet c new (call.Fetch n) None r refl (λ m s. unchanged (refusal m.table m.payloads (call.Fetch n)) m) (λ m s. told ∙ stands-reply c m (call.Fetch n) s) is
 
 -- ---- one entry more
 
-added-work : (c new : Seen) (x : Option Progress) → IsComplete c → new.work ≡ c.work ++ x ∷ [] → WorkStays c new
+added-work : (c new : CoreView) (x : Option Progress) → IsComplete c → new.work ≡ c.work ++ x ∷ [] → WorkStays c new
 added-work c new x whole work t within pending = ap (λ ws. progress_at ws t) work ∙ push_front c.work x None t (omega (arith, whole.work))
 
 none-some : (p : Progress) (o : Outcome) → None ≡ Some p → o ≡ outcome.Pending
 none-some p o h = absurd cc
 
 -- a payload is accepted
-pub serves-given : (c new : Seen) (q : Call) (n : Name) (s : Shape) (v : Value) → IsWith q (Some v) → refusal c.table c.kept q ≡ None
+pub serves-given : (c new : CoreView) (q : Call) (n : Name) (s : Shape) (v : Value) → IsWith q (Some v) → refusal c.table c.kept q ≡ None
     → ((m : Machine) → refusal m.table m.payloads q ≡ None → after m q (Some v) ≡ pushed m n (given_submission (given.Good s)) outcome.Done (Some v))
     → ((m : Machine) → refusal m.table m.payloads q ≡ None → reply_to m q ≡ reply.Accepted (length m.table.names))
     → IsComplete c → new.table ≡ with_entry c.table n (given_submission (given.Good s)) outcome.Done → new.kept ≡ c.kept ++ Some v ∷ [] → new.work ≡ c.work ++ None ∷ []
@@ -138,7 +138,7 @@ asked m n o free =
     (first_none (first_of (map (wanted_case m.table) (inputs_wanted o))) _ y.1).0
 
 -- A command is accepted with work that means it.
-pub stands-run : (c new : Seen) (m : Machine) (n : Name) (o : Op) (p : Progress) → refusal m.table m.payloads (call.Run n o) ≡ None
+pub stands-run : (c new : CoreView) (m : Machine) (n : Name) (o : Op) (p : Progress) → refusal m.table m.payloads (call.Run n o) ≡ None
     → ((t : ℕ) → t + 1 ≡ length (pushed m n (run_submission m.table o) outcome.Pending None).table.names → IsWork (pushed m n (run_submission m.table o) outcome.Pending None) t p)
     → IsComplete c → StandsFor c m → reply.Accepted (length c.table.names) ≡ reply_to m (call.Run n o)
     → new.table ≡ with_entry c.table n (run_submission c.table o) outcome.Pending → new.kept ≡ c.kept ++ None ∷ [] → new.work ≡ c.work ++ Some p ∷ []
@@ -156,7 +156,7 @@ stands-run c new m n o p free works whole st told table kept work log =
     (table ∙ ap (λ w. with_entry c.table n (run_submission w o) outcome.Pending) st.table) kept work log
 
 -- the work of the command is told for each machine that the core stands for
-pub serves-run : (c new : Seen) (n : Name) (o : Op) (p : Progress) → refusal c.table c.kept (call.Run n o) ≡ None
+pub serves-run : (c new : CoreView) (n : Name) (o : Op) (p : Progress) → refusal c.table c.kept (call.Run n o) ≡ None
     → ((m : Machine) → StandsFor c m → refusal m.table m.payloads (call.Run n o) ≡ None → (t : ℕ) → t + 1 ≡ length (pushed m n (run_submission m.table o) outcome.Pending None).table.names
     → IsWork (pushed m n (run_submission m.table o) outcome.Pending None) t p)
     → IsComplete c → new.table ≡ with_entry c.table n (run_submission c.table o) outcome.Pending → new.kept ≡ c.kept ++ None ∷ [] → new.work ≡ c.work ++ Some p ∷ []
@@ -175,14 +175,14 @@ serves-run c new n o p free works whole table kept work log =
 
 -- ---- payloads
 
-pub serves-load : (c new : Seen) (n : Name) (f : Picture) → IsImage f → refusal c.table c.kept (call.Load n (given.Good (shape_of_picture f))) ≡ None → IsComplete c
+pub serves-load : (c new : CoreView) (n : Name) (f : Picture) → IsImage f → refusal c.table c.kept (call.Load n (given.Good (shape_of_picture f))) ≡ None → IsComplete c
     → new.table ≡ with_entry c.table n (given_submission (given.Good (shape_of_picture f))) outcome.Done → new.kept ≡ c.kept ++ Some (ImageValue f) ∷ [] → new.work ≡ c.work ++ None ∷ []
     → new.log ≡ c.log ++ item.Call (call.Load n (given.Good (shape_of_picture f))) (reply.Accepted (length c.table.names)) ∷ []
     → Serves c (call.Load n (given.Good (shape_of_picture f))) (Some (ImageValue f)) new (reply.Accepted (length c.table.names))
 serves-load c new n f image free whole =
     serves-given c new (call.Load n (given.Good (shape_of_picture f))) n (shape_of_picture f) (ImageValue f) (f, refl, image, refl) free (λ m r. rw r refl) (λ m r. rw r refl) whole
 
-pub serves-element : (c new : Seen) (n : Name) (b : Figure) → IsFigure b → refusal c.table c.kept (call.Element n (given.Good (shape_of_figure b))) ≡ None → IsComplete c
+pub serves-element : (c new : CoreView) (n : Name) (b : Figure) → IsFigure b → refusal c.table c.kept (call.Element n (given.Good (shape_of_figure b))) ≡ None → IsComplete c
     → new.table ≡ with_entry c.table n (given_submission (given.Good (shape_of_figure b))) outcome.Done → new.kept ≡ c.kept ++ Some (ElementValue b) ∷ [] → new.work ≡ c.work ++ None ∷ []
     → new.log ≡ c.log ++ item.Call (call.Element n (given.Good (shape_of_figure b))) (reply.Accepted (length c.table.names)) ∷ []
     → Serves c (call.Element n (given.Good (shape_of_figure b))) (Some (ElementValue b)) new (reply.Accepted (length c.table.names))
@@ -191,10 +191,10 @@ serves-element c new n b figure free whole =
 
 -- ---- cancel
 
-pub dies-work : (c new : Seen) → KeepsWork new.table c.work new.work → WorkStays c new
+pub dies-work : (c new : CoreView) → KeepsWork new.table c.work new.work → WorkStays c new
 dies-work c new work t within pending = work t ∙ ap (λ b. cond b (progress_at c.work t) None) pending
 
-pub serves-cancel : (c new : Seen) (n : Name) (t : ℕ) → refusal c.table c.kept (call.Cancel n) ≡ None → t ≡ ticket c.table n → IsComplete c → t < length c.table.names
+pub serves-cancel : (c new : CoreView) (n : Name) (t : ℕ) → refusal c.table c.kept (call.Cancel n) ≡ None → t ≡ ticket c.table n → IsComplete c → t < length c.table.names
     → outcome_at c.table.outcomes t ≡ outcome.Pending → new.table ≡ killed c.table t outcome.Cancelled → DropsSpent new.table c.kept new.kept → KeepsWork new.table c.work new.work
     → new.log ≡ c.log ++ item.Call (call.Cancel n) (reply.Accepted t) ∷ [] → Serves c (call.Cancel n) None new (reply.Accepted t)
 serves-cancel c new n t free at whole within pending table kept work log =
@@ -220,10 +220,10 @@ some-or-none : (x : Option Progress) → ((p : Progress) → x ≡ Some p → �
 some-or-none None f = refl
 some-or-none (Some p) f = absurd (f p refl)
 
-no-work : (c : Seen) (m : Machine) (t : ℕ) → StandsFor c m → outcome_at m.table.outcomes t ≡ outcome.Done → progress_at c.work t ≡ None
+no-work : (c : CoreView) (m : Machine) (t : ℕ) → StandsFor c m → outcome_at m.table.outcomes t ≡ outcome.Done → progress_at c.work t ≡ None
 no-work c m t s done = some-or-none (progress_at c.work t) (λ p h. let e = ap is_pending (sym (s.idle t p h) ∙ done) in cc)
 
-pub serves-release : (c new : Seen) (n : Name) (t : ℕ) → refusal c.table c.kept (call.Release n) ≡ None → t ≡ ticket c.table n → IsComplete c → t < length c.table.names
+pub serves-release : (c new : CoreView) (n : Name) (t : ℕ) → refusal c.table c.kept (call.Release n) ≡ None → t ≡ ticket c.table n → IsComplete c → t < length c.table.names
     → outcome_at c.table.outcomes t ≡ outcome.Done → new.table ≡ settled c.table t outcome.Released → DropsSpent new.table c.kept new.kept → new.work ≡ c.work
     → new.log ≡ c.log ++ item.Call (call.Release n) (reply.Accepted t) ∷ [] → Serves c (call.Release n) None new (reply.Accepted t)
 serves-release c new n t free at whole within done table kept work log =

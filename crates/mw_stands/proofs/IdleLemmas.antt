@@ -11,7 +11,7 @@ use Rattle.mw_model.specs.Refusals.{Table, outcome_at, is_pending, is_there}
 use Rattle.mw_model.specs.Machine.{Machine}
 use Rattle.mw_model.specs.Plans.{Source, FromInput, FromStep, IsSourceAt, images_of}
 use Rattle.mw_model.specs.Tasks.{Progress, flag, task_count, step_number, planned_of, is_step, meets, reads, place_of_task, tile_of_task, is_ready, is_running, ready_tasks, running_tasks}
-use Rattle.mw_model.specs.Stands.{Seen, StandsFor, IsWork, inputs_of, inputs_there, input_values, may_run, ready_under, ready_count, running_count}
+use Rattle.mw_model.specs.Stands.{CoreView, StandsFor, IsWork, inputs_of, inputs_there, input_values, may_run, ready_under, ready_count, running_count}
 use Rattle.mw_stands.specs.Counts.{NonePending}
 use Rattle.mw_laws.proofs.RunWaiting.{one_can_finish}
 use Rattle.mw_stands.specs.Counts.{running_under}
@@ -132,7 +132,7 @@ goes-on m t p w =
 -- ---- all tickets
 
 -- Where nothing is ready and nothing is running, nothing is pending.
-pub nothing-pending : (c : Seen) (m : Machine) → StandsFor c m → ready_count c ≡ 0 → running_count c ≡ 0 → NonePending m.table
+pub nothing-pending : (c : CoreView) (m : Machine) → StandsFor c m → ready_count c ≡ 0 → running_count c ≡ 0 → NonePending m.table
 nothing-pending c m s ready running t within pending =
     let sound = stands-sound c m s in
     let found = one_can_finish m t sound within pending in

@@ -14,7 +14,7 @@ use Rattle.mw_model.specs.Values.{Value}
 use Rattle.mw_model.specs.Refusals.{Table, outcome_at, is_pending, is_dead, is_there, refusal}
 use Rattle.mw_model.specs.Machine.{Machine, Run, Step, IsWith, start_state, answer, refused_or, reply_from, reply_to, after, with_entry, with_table, killed, settled}
 use Rattle.mw_model.specs.Tasks.{Progress}
-use Rattle.mw_model.specs.Stands.{Seen, StandsFor, Agrees, IsWork, progress_at}
+use Rattle.mw_model.specs.Stands.{CoreView, StandsFor, Agrees, IsWork, progress_at}
 use Rattle.mw_laws.specs.MachineLaws.{IsSound}
 use Rattle.mw_laws.proofs.RunStates.{reached}
 use Rattle.mw_laws.proofs.RunTables.{push_front, push_last, last_or_before}
@@ -32,25 +32,25 @@ use Rattle.mw_stands.proofs.WorkLemmas.{work-pushed, work-killed, work-settled}
 
 -- ---- what is known of the machine
 
-pub stands-sound : (c : Seen) (m : Machine) → StandsFor c m → IsSound m
+pub stands-sound : (c : CoreView) (m : Machine) → StandsFor c m → IsSound m
 stands-sound c m s = reached c.log m s.run
 
 -- the refusal and the reply are the machine's
-pub stands-refusal : (c : Seen) (m : Machine) (q : Call) → StandsFor c m → refusal c.table c.kept q ≡ refusal m.table m.payloads q
+pub stands-refusal : (c : CoreView) (m : Machine) (q : Call) → StandsFor c m → refusal c.table c.kept q ≡ refusal m.table m.payloads q
 stands-refusal c m q s =
     ap (λ w. refusal w c.kept q) s.table ∙ refusal-kept c.kept m q (stands-sound c m s) (elements-given c.log m s.run) s.agrees
 
-pub stands-reply : (c : Seen) (m : Machine) (q : Call) → StandsFor c m → reply_from c.table c.kept q ≡ reply_to m q
+pub stands-reply : (c : CoreView) (m : Machine) (q : Call) → StandsFor c m → reply_from c.table c.kept q ≡ reply_to m q
 stands-reply c m q s = ap (λ w. reply_from w c.kept q) s.table
     ∙ ap (λ r. refused_or r (answer m.table q)) (refusal-kept c.kept m q (stands-sound c m s) (elements-given c.log m s.run) s.agrees)
 
 -- ---- calls that change no entry
 
-pub stands-quiet : (c new : Seen) (m : Machine) (q : Call) (v : Option Value) (r : Reply) → after m q v ≡ m → IsWith q v → StandsFor c m → r ≡ reply_to m q
+pub stands-quiet : (c new : CoreView) (m : Machine) (q : Call) (v : Option Value) (r : Reply) → after m q v ≡ m → IsWith q v → StandsFor c m → r ≡ reply_to m q
     → new ≡ record c { log = c.log ++ item.Call q r ∷ [] } → StandsFor new (after m q v)
 stands-quiet c new m q v r same with s told is =
     let P : Machine → Type 0 = λ n. StandsFor (record c { log = c.log ++ item.Call q r ∷ [] }) n in
-    let Q : Seen → Type 0 = λ d. StandsFor d (after m q v) in
+    let Q : CoreView → Type 0 = λ d. StandsFor d (after m q v) in
     subst Q (sym is) (subst P (sym same) (record {
       run = run-push start_state m m c.log (item.Call q r) s.run (v, with, told, sym same);
       table = s.table;
@@ -65,7 +65,7 @@ stands-quiet c new m q v r same with s told is =
 abbrev pub HasWork : Machine → Option Progress → Outcome → Type 0
 HasWork k x o = (o ≡ outcome.Pending → (p : Progress) × (x ≡ Some p) × ((t : ℕ) → t + 1 ≡ length k.table.names → IsWork k t p)) × ((p : Progress) → x ≡ Some p → o ≡ outcome.Pending)
 
-pub stands-added : (c new : Seen) (m : Machine) (q : Call) (n : Name) (e : Submission) (o : Outcome) (v : Option Value) (x : Option Progress) (r : Reply)
+pub stands-added : (c new : CoreView) (m : Machine) (q : Call) (n : Name) (e : Submission) (o : Outcome) (v : Option Value) (x : Option Progress) (r : Reply)
     → IsComplete c → StandsFor c m → IsWith q v → r ≡ reply_to m q → after m q v ≡ pushed m n e o v
     → Agrees (c.kept ++ v ∷ []) (pushed m n e o v) → HasWork (pushed m n e o v) x o
     → new.table ≡ with_entry c.table n e o → new.kept ≡ c.kept ++ v ∷ [] → new.work ≡ c.work ++ x ∷ [] → new.log ≡ c.log ++ item.Call q r ∷ []
@@ -105,7 +105,7 @@ kept-where : (b : Bool) (x : Option Progress) (p : Progress) → cond b x None �
 kept-where true x p h = (refl, h)
 kept-where false x p h = absurd cc
 
-pub stands-dies : (c new : Seen) (m : Machine) (t : ℕ) (cause : Outcome) (i : LogItem) → IsComplete c → StandsFor c m → t < length c.table.names
+pub stands-dies : (c new : CoreView) (m : Machine) (t : ℕ) (cause : Outcome) (i : LogItem) → IsComplete c → StandsFor c m → t < length c.table.names
     → outcome_at c.table.outcomes t ≡ outcome.Pending → is_dead cause ≡ true → Step m i (with_table m (killed m.table t cause))
     → new.table ≡ killed c.table t cause → DropsSpent new.table c.kept new.kept → KeepsWork new.table c.work new.work → new.log ≡ c.log ++ i ∷ []
     → StandsFor new (with_table m (killed m.table t cause))
@@ -140,7 +140,7 @@ stands-dies c new m t cause i whole s named pending dead step table kept work lo
 -- ---- a ticket is done, or is let go
 
 -- the work under a ticket that is settled is gone
-pub stands-settled : (c new : Seen) (m : Machine) (t : ℕ) (o : Outcome) (kept : List (Option Value)) (i : LogItem) → IsComplete c → StandsFor c m → t < length c.table.names
+pub stands-settled : (c new : CoreView) (m : Machine) (t : ℕ) (o : Outcome) (kept : List (Option Value)) (i : LogItem) → IsComplete c → StandsFor c m → t < length c.table.names
     → is_there o ≡ true → is_pending o ≡ false → Step m i (with_table m (settled m.table t o)) → AgreesBefore kept (with_table m (settled m.table t o))
     → new.table ≡ settled c.table t o → DropsSpent new.table kept new.kept → new.log ≡ c.log ++ i ∷ []
     → progress_at new.work t ≡ None → ((u : ℕ) → u ≢ t → progress_at new.work u ≡ progress_at c.work u)

@@ -9,7 +9,7 @@ use Rattle.mw_model.specs.declared.calls.LogItem.TheVariants as item
 use Rattle.mw_model.specs.Refusals.{Table, outcome_at, is_pending}
 use Rattle.mw_model.specs.Machine.{Machine, CanDie, killed}
 use Rattle.mw_model.specs.Tasks.{Progress, ready_tasks, remaining_tasks}
-use Rattle.mw_model.specs.Stands.{Seen, StandsFor, IsWork, may_run, progress_at, inputs_there, input_values, ready_under, remaining_of}
+use Rattle.mw_model.specs.Stands.{CoreView, StandsFor, IsWork, may_run, progress_at, inputs_there, input_values, ready_under, remaining_of}
 use Rattle.mw_laws.proofs.RunCascade.{pending_is}
 use Rattle.mw_store.specs.Stored.{DropsSpent}
 use Rattle.mw_stands.specs.Facts.{IsComplete}
@@ -22,7 +22,7 @@ use Rattle.mw_stands.proofs.StandsLemmas.{stands-sound, stands-dies}
 -- ---- what the core and the machine have under a ticket
 
 -- the work under a pending ticket is work by the definitions
-pub work-of : (c : Seen) (m : Machine) (t : ℕ) (p : Progress) → StandsFor c m → t < length c.table.names → outcome_at c.table.outcomes t ≡ outcome.Pending → progress_at c.work t ≡ Some p → IsWork m t p
+pub work-of : (c : CoreView) (m : Machine) (t : ℕ) (p : Progress) → StandsFor c m → t < length c.table.names → outcome_at c.table.outcomes t ≡ outcome.Pending → progress_at c.work t ≡ Some p → IsWork m t p
 work-of c m t p s within pending work =
     let Named : Table → Type 0 = λ w. t < length w.names in
     let Pends : Table → Type 0 = λ w. outcome_at w.outcomes t ≡ outcome.Pending in
@@ -31,14 +31,14 @@ work-of c m t p s within pending work =
     let P : Progress → Type 0 = λ q. IsWork m t q in
     subst P same has.2
 
-pub has-work : (c : Seen) (m : Machine) (t : ℕ) → StandsFor c m → t < length c.table.names → outcome_at c.table.outcomes t ≡ outcome.Pending → (p : Progress) × (progress_at c.work t ≡ Some p) × IsWork m t p
+pub has-work : (c : CoreView) (m : Machine) (t : ℕ) → StandsFor c m → t < length c.table.names → outcome_at c.table.outcomes t ≡ outcome.Pending → (p : Progress) × (progress_at c.work t ≡ Some p) × IsWork m t p
 has-work c m t s within pending =
     let Named : Table → Type 0 = λ w. t < length w.names in
     let Pends : Table → Type 0 = λ w. outcome_at w.outcomes t ≡ outcome.Pending in
     s.work t (subst Named s.table within) (subst Pends s.table pending)
 
 -- the inputs that are kept are the inputs
-pub kept-images : (c : Seen) (m : Machine) (t : ℕ) → StandsFor c m → t < length c.table.names → outcome_at c.table.outcomes t ≡ outcome.Pending → inputs_there m.table t ≡ true
+pub kept-images : (c : CoreView) (m : Machine) (t : ℕ) → StandsFor c m → t < length c.table.names → outcome_at c.table.outcomes t ≡ outcome.Pending → inputs_there m.table t ≡ true
     → kept_inputs c.table c.kept t ≡ input_values m t
 kept-images c m t s within pending there =
     let sound = stands-sound c m s in
@@ -49,14 +49,14 @@ kept-images c m t s within pending there =
 
 -- ---- what may run
 
-pub may-run : (c : Seen) (t : ℕ) → 1 ≤ ready_under c t → may_run c.table t ≡ true
+pub may-run : (c : CoreView) (t : ℕ) → 1 ≤ ready_under c t → may_run c.table t ≡ true
 may-run c t e = go (may_run c.table t) (option_map_or ready_tasks (progress_at c.work t) 0) e
   where
     go : (b : Bool) (n : ℕ) → 1 ≤ cond b n 0 → b ≡ true
     go true n e = refl
     go false n e = absurd (omega (arith, e))
 
-pub ready-tasks : (c : Seen) (t : ℕ) (p : Progress) → progress_at c.work t ≡ Some p → 1 ≤ ready_under c t → 1 ≤ ready_tasks p
+pub ready-tasks : (c : CoreView) (t : ℕ) (p : Progress) → progress_at c.work t ≡ Some p → 1 ≤ ready_under c t → 1 ≤ ready_tasks p
 ready-tasks c t p work e =
     let runs = may-run c t e in
     let P : Option Progress → Type 0 = λ x. 1 ≤ option_map_or ready_tasks x 0 in
@@ -68,13 +68,13 @@ both true b h = (refl, h)
 both false b h = absurd cc
 
 -- the inputs of a ready ticket are there, and it is pending
-pub ready-there : (c : Seen) (m : Machine) (t : ℕ) → StandsFor c m → 1 ≤ ready_under c t → (outcome_at c.table.outcomes t ≡ outcome.Pending) × (inputs_there m.table t ≡ true)
+pub ready-there : (c : CoreView) (m : Machine) (t : ℕ) → StandsFor c m → 1 ≤ ready_under c t → (outcome_at c.table.outcomes t ≡ outcome.Pending) × (inputs_there m.table t ≡ true)
 ready-there c m t s ready =
     let parts = both (is_pending (outcome_at c.table.outcomes t)) (inputs_there c.table t) (may-run c t ready) in
     (pending_is (outcome_at c.table.outcomes t) parts.0, ap (λ w. inputs_there w t) (sym s.table) ∙ parts.1)
 
 -- work stands under a ticket that is there
-pub work-within : (c : Seen) (t : ℕ) (p : Progress) → IsComplete c → progress_at c.work t ≡ Some p → t < length c.table.names
+pub work-within : (c : CoreView) (t : ℕ) (p : Progress) → IsComplete c → progress_at c.work t ≡ Some p → t < length c.table.names
 work-within c t p complete work =
     elim (cases_lt t (length c.table.names)) [
       | inl l ↦ l
@@ -82,7 +82,7 @@ work-within c t p complete work =
     ]
 
 -- a ticket has work exactly where it is pending
-pub remaining-pending : (c : Seen) (m : Machine) (t : ℕ) → StandsFor c m → IsComplete c → IsSome (remaining_of c t) ↔ ((t < length m.table.names) × (is_pending (outcome_at m.table.outcomes t) ≡ true))
+pub remaining-pending : (c : CoreView) (m : Machine) (t : ℕ) → StandsFor c m → IsComplete c → IsSome (remaining_of c t) ↔ ((t < length m.table.names) × (is_pending (outcome_at m.table.outcomes t) ≡ true))
 remaining-pending c m t s complete =
     let Named : Table → Type 0 = λ w. t < length w.names in (
       λ some.
@@ -101,12 +101,12 @@ remaining-pending c m t s complete =
 -- ---- a task is started
 
 -- the core with the task started
-pub stands-started : (c new : Seen) (m : Machine) (t : ℕ) (p q : Progress) → StandsFor c m → IsComplete c → t < length c.table.names → IsWork m t q → progress_at c.work t ≡ Some p
+pub stands-started : (c new : CoreView) (m : Machine) (t : ℕ) (p q : Progress) → StandsFor c m → IsComplete c → t < length c.table.names → IsWork m t q → progress_at c.work t ≡ Some p
     → new ≡ record c { work = set c.work t (Some q) } → StandsFor new m
 stands-started c new m t p q s complete within work was is =
     let in_work : t < length c.work = omega (arith, within, complete.work) in
-    let d : Seen = record c { work = set c.work t (Some q) } in
-    let P : Seen → Type 0 = λ x. StandsFor x m in
+    let d : CoreView = record c { work = set c.work t (Some q) } in
+    let P : CoreView → Type 0 = λ x. StandsFor x m in
     subst P (sym is) (record {
       run = s.run;
       table = s.table;
@@ -126,7 +126,7 @@ stands-started c new m t p q s complete within work was is =
 
 -- ---- deaths for want of memory
 
-pub kills : (c new : Seen) (m : Machine) (t : ℕ) → StandsFor c m → IsComplete c → t < length c.table.names → outcome_at c.table.outcomes t ≡ outcome.Pending
+pub kills : (c new : CoreView) (m : Machine) (t : ℕ) → StandsFor c m → IsComplete c → t < length c.table.names → outcome_at c.table.outcomes t ≡ outcome.Pending
     → new.table ≡ killed c.table t outcome.Memory → DropsSpent new.table c.kept new.kept → KeepsWork new.table c.work new.work → new.log ≡ c.log ++ item.Killed t ∷ [] → Kills c m t new
 kills c new m t s complete within pending table kept work log =
     let sound = stands-sound c m s in

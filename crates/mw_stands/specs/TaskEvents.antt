@@ -6,13 +6,13 @@ use Rattle.mw_model.specs.declared.tasks.TaskId.{TaskId}
 use Rattle.mw_model.specs.Refusals.{outcome_at, is_pending}
 use Rattle.mw_model.specs.Machine.{Machine, CanFinish, CanDie, with_table, killed, settled}
 use Rattle.mw_model.specs.Tasks.{Progress, task_count, is_running, step_number, tile_number, remaining_tasks}
-use Rattle.mw_model.specs.Stands.{Seen, StandsFor, progress_at, is_ready_at, ready_under, ready_count}
+use Rattle.mw_model.specs.Stands.{CoreView, StandsFor, progress_at, is_ready_at, ready_under, ready_count}
 use Rattle.mw_task.specs.WindowTasks.{WindowTask}
 use Rattle.mw_work.specs.Works.{true_task}
 use Rattle.mw_stands.specs.Events.{WorkStays}
 
 -- The ticket is killed for want of memory: this is a step of the machine, and the log tells it.
-pub record Kills (old : Seen) (m : Machine) (t : ℕ) (new : Seen) : Type 0 where
+pub record Kills (old : CoreView) (m : Machine) (t : ℕ) (new : CoreView) : Type 0 where
   pub can : CanDie m.table t
   pub stands : StandsFor new (with_table m (killed m.table t outcome.Memory))
   pub log : new.log ≡ old.log ++ item.Killed t ∷ []
@@ -21,7 +21,7 @@ pub record Kills (old : Seen) (m : Machine) (t : ℕ) (new : Seen) : Type 0 wher
 -- ---- start
 
 -- The task is ready, it is the true task of its numbers, and it is running from then on; nothing else changes.
-pub record Begins (old : Seen) (m : Machine) (w : WindowTask) (new : Seen) : Type 0 where
+pub record Begins (old : CoreView) (m : Machine) (w : WindowTask) (new : CoreView) : Type 0 where
   pub progress : Progress
   pub number : ℕ
   pub within : w.task.ticket < length old.table.names
@@ -34,7 +34,7 @@ pub record Begins (old : Seen) (m : Machine) (w : WindowTask) (new : Seen) : Typ
 -- ---- finish
 
 -- The result is that of a running task: it bears the task's numbers, and was made from its tile, its step and its windows.
-pub record IsResult (c : Seen) (m : Machine) (d : WindowTask) : Type 0 where
+pub record IsResult (c : CoreView) (m : Machine) (d : WindowTask) : Type 0 where
   pub progress : Progress
   pub number : ℕ
   pub work : progress_at c.work d.task.ticket ≡ Some progress
@@ -43,7 +43,7 @@ pub record IsResult (c : Seen) (m : Machine) (d : WindowTask) : Type 0 where
   pub task : d ≡ true_task m d.task.ticket progress number
 
 -- The ticket settles: this was its last task.
-pub record Settles (old : Seen) (m : Machine) (d : WindowTask) (t : ℕ) (new : Seen) : Type 0 where
+pub record Settles (old : CoreView) (m : Machine) (d : WindowTask) (t : ℕ) (new : CoreView) : Type 0 where
   pub ticket : t ≡ d.task.ticket
   pub result : IsResult old m d
   pub last : remaining_tasks result.progress ≡ 1
@@ -53,7 +53,7 @@ pub record Settles (old : Seen) (m : Machine) (d : WindowTask) (t : ℕ) (new : 
   pub work : WorkStays old new
 
 -- The task is finished, and others of its ticket are not: nothing else changes that the machine knows.
-pub record Places (old : Seen) (m : Machine) (d : WindowTask) (new : Seen) : Type 0 where
+pub record Places (old : CoreView) (m : Machine) (d : WindowTask) (new : CoreView) : Type 0 where
   pub result : IsResult old m d
   pub left : 2 ≤ remaining_tasks result.progress
   pub after : Progress
@@ -69,18 +69,18 @@ pub record Places (old : Seen) (m : Machine) (d : WindowTask) (new : Seen) : Typ
   pub stands : StandsFor new m
 
 -- the ticket is none, or it is pending: for a task that is not running
-abbrev pub IsOpen : Seen → ℕ → Type 0
+abbrev pub IsOpen : CoreView → ℕ → Type 0
 IsOpen c t = (length c.table.names ≤ t) ⊎ (is_pending (outcome_at c.table.outcomes t) ≡ true)
 
 -- the ticket is there and settled
-pub record IsSettled (c : Seen) (t : ℕ) : Type 0 where
+pub record IsSettled (c : CoreView) (t : ℕ) : Type 0 where
   pub within : t < length c.table.names
   pub settled : is_pending (outcome_at c.table.outcomes t) ≡ false
 
 -- ---- refuse
 
 -- the task of these numbers is running
-pub record IsUnderway (c : Seen) (k : TaskId) : Type 0 where
+pub record IsUnderway (c : CoreView) (k : TaskId) : Type 0 where
   pub progress : Progress
   pub number : ℕ
   pub work : progress_at c.work k.ticket ≡ Some progress

@@ -11,9 +11,9 @@ use Rattle.mw_model.specs.Tasks.{made_in}
 use Rattle.mw_tile.specs.Windows.{SourceWindow}
 use Rattle.mw_task.specs.WindowTasks.{WindowTask, window_at, tile_made}
 use Rattle.mw_task.specs.Products.{HoldsImage, IsMade, tile_drawn}
-use Rattle.mw_task.specs.declared.made.Made.{Made}
-use Rattle.mw_task.specs.declared.made.Made.TheVariants.{Bits, Grey8, Grey16, Number}
-use Rattle.mw_task.proofs.TileCells.{cells_in_are}
+use Rattle.mw_task.specs.declared.tile_result.TileResult.{TileResult}
+use Rattle.mw_task.specs.declared.tile_result.TileResult.TheVariants.{Bits, Grey8, Grey16, Number}
+use Rattle.mw_pieces.proofs.TileCells.{cells_in_are}
 
 abbrev pub picture : Kind → ℕ → ℕ → ℕ → List ℕ → Picture
 picture kind width height maxval samples = record { kind = kind; width = width; height = height; maxval = maxval; samples = samples }
@@ -40,14 +40,14 @@ tile_is t s u v w step first second third =
     ∙ ap (λ (r : SourceWindow). tile_by s u r (window_at t.windows 2) t.rect) second
     ∙ ap (λ (r : SourceWindow). tile_by s u v r t.rect) third
 
-pub made_image : (t : WindowTask) (f : Picture) (m : Made) → is_sum t.step ≡ false → tile_made t ≡ f → HoldsImage f m → IsMade t m
+pub made_image : (t : WindowTask) (f : Picture) (m : TileResult) → is_sum t.step ≡ false → tile_made t ≡ f → HoldsImage f m → IsMade t m
 made_image t f (Bits p) not is holds = (not, is ∙ holds)
 made_image t f (Grey8 p maxval) not is holds = (not, (is ∙ holds.0, holds.1))
 made_image t f (Grey16 p maxval) not is holds = (not, (is ∙ holds.0, holds.1))
 made_image t f (Number n) not is holds = absurd holds
 
 -- the same of a step of one source
-pub made_of_one : (t : WindowTask) (s : PlanStep) (u : SourceWindow) (tile : Rect) (m : Made) → is_sum s ≡ false → t.step ≡ s → u ≡ window_at t.windows 0 → tile ≡ t.rect
+pub made_of_one : (t : WindowTask) (s : PlanStep) (u : SourceWindow) (tile : Rect) (m : TileResult) → is_sum s ≡ false → t.step ≡ s → u ≡ window_at t.windows 0 → tile ≡ t.rect
     → HoldsImage (tile_by s u (window_at t.windows 1) (window_at t.windows 2) tile) m → IsMade t m
 made_of_one t s u tile m not step first tile-is holds =
     made_image t (tile_by s u (window_at t.windows 1) (window_at t.windows 2) tile) m (ap is_sum step ∙ not)

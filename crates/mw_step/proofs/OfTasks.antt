@@ -12,8 +12,8 @@ use Rattle.mw_model.specs.Tasks.{cells_in, place_read}
 use Rattle.mw_task.specs.WindowTasks.{made_of_windows, WindowTask, window_at, IsRead}
 use Rattle.mw_tile.specs.Windows.{SourceWindow}
 use Rattle.mw_task.specs.Products.{HoldsImage, IsMade}
-use Rattle.mw_task.specs.declared.made.Made.{Made}
-use Rattle.mw_task.specs.declared.made.Made.TheVariants.{Number}
+use Rattle.mw_task.specs.declared.tile_result.TileResult.{TileResult}
+use Rattle.mw_task.specs.declared.tile_result.TileResult.TheVariants.{Number}
 use Rattle.mw_step.proofs.Images.{tile_by, tile_is, made_image}
 use Rattle.mw_step.proofs.PlaceByPlace.{Fills, three_cells}
 
@@ -35,7 +35,7 @@ place_is_tile s m n tile at within =
 pub window_place : (t : WindowTask) (s : PlanStep) (m n : ℕ) (u : SourceWindow) → looks_at s ≡ origin → t.step ≡ s → IsRead t.step t.rect m n u → u.view.place ≡ t.rect
 window_place t s m n u at step read = read.place ∙ place_is_tile t.step m n t.rect (ap looks_at step ∙ at) read.within
 
-pub made_of_here : (t : WindowTask) (s : PlanStep) (u v w : SourceWindow) (m n : ℕ) (made : Made) → is_sum s ≡ false → looks_at s ≡ origin → t.step ≡ s → u ≡ window_at t.windows 0 → v ≡ window_at t.windows 1 → w ≡ window_at t.windows 2
+pub made_of_here : (t : WindowTask) (s : PlanStep) (u v w : SourceWindow) (m n : ℕ) (made : TileResult) → is_sum s ≡ false → looks_at s ≡ origin → t.step ≡ s → u ≡ window_at t.windows 0 → v ≡ window_at t.windows 1 → w ≡ window_at t.windows 2
     → IsRead t.step t.rect m n u → HoldsImage (tile_by s u v w u.view.place) made → IsMade t made
 made_of_here t s u v w m n made not at step first second third read holds =
     made_image t (tile_by s u v w u.view.place) made (ap is_sum step ∙ not)

@@ -13,7 +13,7 @@ use crate::sliding::{under_box, under_element};
 use mw_element::Element;
 use mw_model::{NoMemory, OffsetBox, Rect};
 use mw_rank::rank;
-use mw_task::Made;
+use mw_task::TileResult;
 use mw_tile::AnyWindow;
 use std::alloc::Global;
 
@@ -23,7 +23,7 @@ pub(crate) fn slide<E: LevelExtremum>(
     window: &AnyWindow,
     element: &Element,
     tile: Rect,
-) -> Result<Made, NoMemory>
+) -> Result<TileResult, NoMemory>
     ensures { IfOk result (HoldsImage (tile_drawn window.now.kind window.now.maxval tile (λ x y. E.of_seen window.now.maxval (seen_under (seen_at window.now.view) element.now.offsets x y)))) }
 {
     of_samples!(
@@ -39,7 +39,7 @@ pub(crate) fn slide_box<E: LevelExtremum>(
     window: &AnyWindow,
     offsets: OffsetBox,
     tile: Rect,
-) -> Result<Made, NoMemory>
+) -> Result<TileResult, NoMemory>
     ensures { IfOk result (HoldsImage (tile_drawn window.now.kind window.now.maxval tile (λ x y. E.of_seen window.now.maxval (seen_under (seen_at window.now.view) (box_offsets offsets) x y)))) }
 {
     of_samples!(
@@ -56,7 +56,7 @@ pub(crate) fn rank_filter(
     element: &Element,
     k: u32,
     tile: Rect,
-) -> Result<Made, NoMemory>
+) -> Result<TileResult, NoMemory>
     ensures { IfOk result (HoldsImage (tile_drawn window.now.kind window.now.maxval tile (λ x y. ranked k (seen_under (seen_at window.now.view) element.now.offsets x y)))) }
 {
     let offsets = element.offsets();

@@ -12,7 +12,7 @@ ghost use Rattle.mw_task.specs.Products.{HoldsImage};
 
 use mw_model::NoMemory;
 use mw_pixel::{Bit, Pixel, Plane};
-use mw_task::Made;
+use mw_task::TileResult;
 use mw_tile::{AnyWindow, Window, WindowView};
 use std::alloc::Global;
 use std::sync::Arc;
@@ -65,26 +65,34 @@ pub(crate) use of_both;
 pub(crate) use of_samples;
 
 /// The set, in a plane that others can own too.
-pub(crate) fn made_bits(alloc: Global, plane: Plane<Bit>) -> Result<Made, NoMemory>
+pub(crate) fn made_bits(alloc: Global, plane: Plane<Bit>) -> Result<TileResult, NoMemory>
     ensures { (f : Picture) → f ≡ set_of plane → IfOk result (HoldsImage f) }
 {
-    Ok(Made::Bits(Arc::new(alloc, plane)?))
+    Ok(TileResult::Bits(Arc::new(alloc, plane)?))
 }
 
 /// The image of levels of one byte, in a plane that others can own too.
-pub(crate) fn made_bytes(alloc: Global, plane: Plane<u8>, maxval: u8) -> Result<Made, NoMemory>
+pub(crate) fn made_bytes(
+    alloc: Global,
+    plane: Plane<u8>,
+    maxval: u8,
+) -> Result<TileResult, NoMemory>
     requires { 1 ≤ maxval }
     ensures { (f : Picture) → f ≡ grey_of plane maxval → IfOk result (HoldsImage f) }
 {
-    Ok(Made::Grey8(Arc::new(alloc, plane)?, maxval))
+    Ok(TileResult::Grey8(Arc::new(alloc, plane)?, maxval))
 }
 
 /// The image of levels of two bytes, in a plane that others can own too.
-pub(crate) fn made_words(alloc: Global, plane: Plane<u16>, maxval: u16) -> Result<Made, NoMemory>
+pub(crate) fn made_words(
+    alloc: Global,
+    plane: Plane<u16>,
+    maxval: u16,
+) -> Result<TileResult, NoMemory>
     requires { 256 ≤ maxval }
     ensures { (f : Picture) → f ≡ grey_of plane maxval → IfOk result (HoldsImage f) }
 {
-    Ok(Made::Grey16(Arc::new(alloc, plane)?, maxval))
+    Ok(TileResult::Grey16(Arc::new(alloc, plane)?, maxval))
 }
 
 /// The sample of a level that is not over the maxval.

@@ -10,17 +10,20 @@ use crate::pairs::{merge, minus};
 use crate::singles::{at_least, blank, equal, invert, sum_up};
 use mw_model::NoMemory;
 use mw_pixel::{Max, Min};
-use mw_task::{AnyWindow, Made, Step, TaskRefused, TileDone, Work};
+use mw_task::{Step, TaskRefused, TileDone, TileResult, Work};
+use mw_tile::AnyWindow;
 use std::alloc::Global;
 
-/// The window of a source of the task.
-fn source(work: &Work, k: usize) -> &AnyWindow
-    requires { k < source_count work.now.step }
+/// The window of a source of the task, among its windows.
+fn source<'a>(work: &Work, windows: &'a [AnyWindow], k: usize) -> &'a AnyWindow
+    requires number { k < source_count work.now.step }
+    requires windows { windows.now ≡ work.now.windows }
     ensures window { result.now ≡ window_at work.now.windows k }
     ensures read { IsRead work.now.step work.now.rect (window_at work.now.windows 0).view.frame_width (window_at work.now.windows 0).view.frame_height result.now }
     ensures kinds { KindsFit work.now.step work.now.windows }
 {
-    &work.windows()[k]
+    let _fits = work.windows();
+    &windows[k]
 }
 
 /// Makes what the step makes of the windows in the tile. Refused where memory is.
@@ -34,29 +37,59 @@ pub fn run(alloc: Global, work: Work) -> Result<TileDone, TaskRefused>
     }
 }
 
+/// Puts the windows together, and makes of them what the step makes in the tile.
+fn make(alloc: Global, work: &Work) -> Result<TileResult, NoMemory>
+    ensures { IfOk result (IsMade work.now) }
+{
+    let windows = work.joined(alloc)?;
+    made_of(alloc, work, &windows)
+}
+
 /// What the step makes of the windows in the tile.
-fn make(alloc: Global, work: &Work) -> Result<Made, NoMemory>
+fn made_of(alloc: Global, work: &Work, windows: &[AnyWindow]) -> Result<TileResult, NoMemory>
+    requires { windows.now ≡ work.now.windows }
     ensures { IfOk result (IsMade work.now) }
 {
     let tile = work.rect();
     match work.step() {
-        Step::Erode(element) => slide::<Min>(alloc, source(work, 0), element, tile),
-        Step::Dilate(element) => slide::<Max>(alloc, source(work, 0), element, tile),
-        Step::ErodeBox(offsets) => slide_box::<Min>(alloc, source(work, 0), *offsets, tile),
-        Step::DilateBox(offsets) => slide_box::<Max>(alloc, source(work, 0), *offsets, tile),
-        Step::Rank(element, k) => rank_filter(alloc, source(work, 0), element, *k, tile),
-        Step::Minus => minus(alloc, source(work, 0), source(work, 1)),
-        Step::AtLeast(k) => at_least(alloc, *k, source(work, 0)),
-        Step::Invert => invert(alloc, source(work, 0)),
-        Step::Meet => merge::<Min>(alloc, source(work, 0), source(work, 1)),
-        Step::Join => merge::<Max>(alloc, source(work, 0), source(work, 1)),
+        Step::Erode(element) => slide::<Min>(alloc, source(work, windows, 0), element, tile),
+        Step::Dilate(element) => slide::<Max>(alloc, source(work, windows, 0), element, tile),
+        Step::ErodeBox(offsets) => slide_box::<Min>(
+            alloc,
+            source(work, windows, 0),
+            *offsets,
+            tile,
+        ),
+        Step::DilateBox(offsets) => slide_box::<Max>(
+            alloc,
+            source(work, windows, 0),
+            *offsets,
+            tile,
+        ),
+        Step::Rank(element, k) => rank_filter(alloc, source(work, windows, 0), element, *k, tile),
+        Step::Minus => minus(alloc, source(work, windows, 0), source(work, windows, 1)),
+        Step::AtLeast(k) => at_least(alloc, *k, source(work, windows, 0)),
+        Step::Invert => invert(alloc, source(work, windows, 0)),
+        Step::Meet => merge::<Min>(alloc, source(work, windows, 0), source(work, windows, 1)),
+        Step::Join => merge::<Max>(alloc, source(work, windows, 0), source(work, windows, 1)),
         Step::Blank(maxval) => {
             let _fits = work.windows();
             blank(alloc, *maxval, tile)
         }
-        Step::Mark(v) => mark(alloc, *v, source(work, 0), source(work, 1), source(work, 2)),
-        Step::MarkLast(v) => mark_last(alloc, *v, source(work, 0), source(work, 1)),
-        Step::Equal(v) => equal(alloc, *v, source(work, 0)),
-        Step::Sum => Ok(Made::Number(sum_up(source(work, 0)))),
+        Step::Mark(v) => mark(
+            alloc,
+            *v,
+            source(work, windows, 0),
+            source(work, windows, 1),
+            source(work, windows, 2),
+        ),
+        Step::MarkLast(v) => mark_last(
+            alloc,
+            *v,
+            source(work, windows, 0),
+            source(work, windows, 1),
+        ),
+        Step::Equal(v) => equal(alloc, *v, source(work, windows, 0)),
+        Step::Sum => Ok(TileResult::Number(sum_up(source(work, windows, 0)))),
     }
 }

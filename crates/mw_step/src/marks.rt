@@ -9,12 +9,12 @@ use crate::kinds::{bits_of, of_samples, sample_of};
 use crate::painting::{marked, without};
 use mw_model::NoMemory;
 use mw_pixel::Bit;
-use mw_task::Made;
+use mw_task::TileResult;
 use mw_tile::AnyWindow;
 use std::alloc::Global;
 
 /// The samples, with level `v` in each place of the set.
-fn mark_places(alloc: Global, v: u16, a: &AnyWindow, places: &[Bit]) -> Result<Made, NoMemory>
+fn mark_places(alloc: Global, v: u16, a: &AnyWindow, places: &[Bit]) -> Result<TileResult, NoMemory>
     requires size { length places.now ≡ a.now.view.place.height * a.now.view.place.width }
     requires level { v ≤ a.now.maxval }
     ensures held { IfOk result (HoldsImage (plane_drawn a.now.kind a.now.maxval a.now.view.place (zip2 (λ s m. if m == 1 then v else s) a.now.view.cells places.now))) }
@@ -33,7 +33,7 @@ pub(crate) fn mark_last(
     v: u16,
     a: &AnyWindow,
     set: &AnyWindow,
-) -> Result<Made, NoMemory>
+) -> Result<TileResult, NoMemory>
     requires place { a.now.view.place ≡ set.now.view.place }
     requires level { v ≤ a.now.maxval }
     requires set { set.now.kind ≡ kind.Bit }
@@ -50,7 +50,7 @@ pub(crate) fn mark(
     a: &AnyWindow,
     set: &AnyWindow,
     other: &AnyWindow,
-) -> Result<Made, NoMemory>
+) -> Result<TileResult, NoMemory>
     requires place { a.now.view.place ≡ set.now.view.place }
     requires other_place { set.now.view.place ≡ other.now.view.place }
     requires level { v ≤ a.now.maxval }

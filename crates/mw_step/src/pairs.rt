@@ -8,12 +8,12 @@ use crate::extrema::LevelExtremum;
 use crate::kinds::of_both;
 use crate::pointwise::{differences, merged};
 use mw_model::NoMemory;
-use mw_task::Made;
+use mw_task::TileResult;
 use mw_tile::AnyWindow;
 use std::alloc::Global;
 
 /// Each sample of the first source less that of the second, stopping at 0.
-pub(crate) fn minus(alloc: Global, a: &AnyWindow, b: &AnyWindow) -> Result<Made, NoMemory>
+pub(crate) fn minus(alloc: Global, a: &AnyWindow, b: &AnyWindow) -> Result<TileResult, NoMemory>
     requires place { a.now.view.place ≡ b.now.view.place }
     requires kinds { SameKind a.now b.now }
     ensures { IfOk result (HoldsImage (both_drawn a.now.kind a.now.maxval (λ m n. m - n) a.now.view b.now.view)) }
@@ -31,7 +31,7 @@ pub(crate) fn merge<E: LevelExtremum>(
     alloc: Global,
     a: &AnyWindow,
     b: &AnyWindow,
-) -> Result<Made, NoMemory>
+) -> Result<TileResult, NoMemory>
     requires place { a.now.view.place ≡ b.now.view.place }
     requires kinds { SameKind a.now b.now }
     ensures { IfOk result (HoldsImage (both_drawn a.now.kind a.now.maxval E.of_two a.now.view b.now.view)) }

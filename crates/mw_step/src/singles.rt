@@ -9,19 +9,19 @@ use crate::pointwise::inverted;
 use crate::thresholds::{level_set, upper_set};
 use mw_model::{NoMemory, Rect};
 use mw_pixel::{Bit, Pixel, Plane};
-use mw_task::Made;
+use mw_task::TileResult;
 use mw_tile::{AnyWindow, WindowView};
 use std::alloc::Global;
 
 /// The maxval less each sample.
-pub(crate) fn invert(alloc: Global, a: &AnyWindow) -> Result<Made, NoMemory>
+pub(crate) fn invert(alloc: Global, a: &AnyWindow) -> Result<TileResult, NoMemory>
     ensures { IfOk result (HoldsImage (each_drawn a.now.kind a.now.maxval (λ n. a.now.maxval - n) a.now.view)) }
 {
     of_samples!(alloc, a, |samples, maxval| inverted(alloc, maxval, samples))
 }
 
 /// The set of the places with level `k` or more.
-pub(crate) fn at_least(alloc: Global, k: u32, a: &AnyWindow) -> Result<Made, NoMemory>
+pub(crate) fn at_least(alloc: Global, k: u32, a: &AnyWindow) -> Result<TileResult, NoMemory>
     ensures { IfOk result (HoldsImage (each_drawn kind.Bit 1 (λ n. if nat_le k n then 1 else 0) a.now.view)) }
 {
     match a.view() {
@@ -32,7 +32,7 @@ pub(crate) fn at_least(alloc: Global, k: u32, a: &AnyWindow) -> Result<Made, NoM
 }
 
 /// The set of the places with level `v`.
-pub(crate) fn equal(alloc: Global, v: u16, a: &AnyWindow) -> Result<Made, NoMemory>
+pub(crate) fn equal(alloc: Global, v: u16, a: &AnyWindow) -> Result<TileResult, NoMemory>
     ensures { IfOk result (HoldsImage (each_drawn kind.Bit 1 (λ n. if n == v then 1 else 0) a.now.view)) }
 {
     match a.view() {
@@ -43,7 +43,7 @@ pub(crate) fn equal(alloc: Global, v: u16, a: &AnyWindow) -> Result<Made, NoMemo
 }
 
 /// Level 0 everywhere.
-pub(crate) fn blank(alloc: Global, maxval: u16, tile: Rect) -> Result<Made, NoMemory>
+pub(crate) fn blank(alloc: Global, maxval: u16, tile: Rect) -> Result<TileResult, NoMemory>
     requires { 1 ≤ maxval }
     ensures { IfOk result (HoldsImage (tile_drawn kind.Grey maxval tile (λ x y. 0))) }
 {

@@ -1,11 +1,11 @@
 //! What the tests of steps are given: rows of five samples as windows, elements, and what a step makes of them.
 
-use mw_images_for_tests::{element, row_of};
+use mw_images_for_tests::{element, row_of, whole_window};
 use mw_model::{Rect, TaskId};
+use mw_pieces::Pieces;
 use mw_pixel::{Bit, Pixel, Plane};
 use mw_step::run;
-use mw_task::{AnyWindow, Element, Made, Step, TileDone, Work};
-use mw_tile::Window;
+use mw_task::{Element, SharedWindow, Step, TileDone, TileResult, Work};
 use std::alloc::Global;
 use std::process::Abort;
 use std::sync::Arc;
@@ -25,31 +25,31 @@ pub(crate) const TASK: TaskId = TaskId {
 };
 
 /// Five samples of these levels in a row.
-fn row<P: Pixel>(alloc: Global, levels: &[u16; 5]) -> Result<Window<P>, Fail> {
+fn row<P: Pixel>(alloc: Global, levels: &[u16; 5]) -> Result<Pieces<P>, Fail> {
     let samples = row_of::<P>(alloc, levels)?;
     if samples.len() != 5 {
         return Err("five samples".into());
     }
-    Ok(Window::whole(Plane::new(5, 1, samples)))
+    whole_window(alloc, Plane::new(5, 1, samples))
 }
 
-pub(crate) fn levels(alloc: Global, levels: &[u16; 5], maxval: u8) -> Result<AnyWindow, Fail> {
+pub(crate) fn levels(alloc: Global, levels: &[u16; 5], maxval: u8) -> Result<SharedWindow, Fail> {
     if maxval == 0 {
         return Err("a maxval".into());
     }
-    Ok(AnyWindow::grey8(row::<u8>(alloc, levels)?, maxval))
+    Ok(SharedWindow::grey8(row::<u8>(alloc, levels)?, maxval))
 }
 
-pub(crate) fn set(alloc: Global, pixels: &[u16; 5]) -> Result<AnyWindow, Fail> {
-    Ok(AnyWindow::bits(row::<Bit>(alloc, pixels)?))
+pub(crate) fn set(alloc: Global, pixels: &[u16; 5]) -> Result<SharedWindow, Fail> {
+    Ok(SharedWindow::bits(row::<Bit>(alloc, pixels)?))
 }
 
 /// The row of the worked examples, of maxval 9.
-pub(crate) fn five(alloc: Global) -> Result<Vec<AnyWindow>, Fail> {
+pub(crate) fn five(alloc: Global) -> Result<Vec<SharedWindow>, Fail> {
     one(alloc, levels(alloc, &[3, 1, 4, 1, 5], 9)?)
 }
 
-pub(crate) fn one(alloc: Global, window: AnyWindow) -> Result<Vec<AnyWindow>, Fail> {
+pub(crate) fn one(alloc: Global, window: SharedWindow) -> Result<Vec<SharedWindow>, Fail> {
     let mut windows = Vec::new(alloc);
     windows.push(window)?;
     Ok(windows)
@@ -75,7 +75,7 @@ pub(crate) fn right(alloc: Global) -> Result<Arc<Element>, Fail> {
 }
 
 /// The task of a step on these windows, in all of the row.
-pub(crate) fn work(step: Step, windows: Vec<AnyWindow>) -> Option<Work> {
+pub(crate) fn work(step: Step, windows: Vec<SharedWindow>) -> Option<Work> {
     Work::new(TASK, FIVE, step, windows)
 }
 
@@ -84,21 +84,21 @@ pub(crate) fn done(alloc: Global, work: Work) -> Result<TileDone, Fail> {
 }
 
 /// What a step makes of these windows.
-fn made(alloc: Global, step: Step, windows: Vec<AnyWindow>) -> Result<Made, Fail> {
+fn made(alloc: Global, step: Step, windows: Vec<SharedWindow>) -> Result<TileResult, Fail> {
     let work = work(step, windows).ok_or("the windows fit the step")?;
     Ok(done(alloc, work)?.into_made())
 }
 
-fn is_grey(made: &Made, levels: &[u8; 5], maxval: u8) -> bool {
+fn is_grey(made: &TileResult, levels: &[u8; 5], maxval: u8) -> bool {
     match made {
-        Made::Grey8(plane, top) => plane.samples() == levels.as_slice() && *top == maxval,
+        TileResult::Grey8(plane, top) => plane.samples() == levels.as_slice() && *top == maxval,
         _ => false,
     }
 }
 
-fn is_set(made: &Made, pixels: &[u8; 5]) -> bool {
+fn is_set(made: &TileResult, pixels: &[u8; 5]) -> bool {
     match made {
-        Made::Bits(plane) => plane.samples().len() == 5
+        TileResult::Bits(plane) => plane.samples().len() == 5
             && plane
                 .samples()
                 .iter()
@@ -113,7 +113,7 @@ pub(crate) fn makes_levels(
     rt: &impl Abort,
     alloc: Global,
     step: Step,
-    windows: Vec<AnyWindow>,
+    windows: Vec<SharedWindow>,
     wanted: (&[u8; 5], u8),
 ) -> Result<(), Fail> {
     let (levels, maxval) = wanted;
@@ -127,7 +127,7 @@ pub(crate) fn makes_set(
     rt: &impl Abort,
     alloc: Global,
     step: Step,
-    windows: Vec<AnyWindow>,
+    windows: Vec<SharedWindow>,
     wanted: &[u8; 5],
 ) -> Result<(), Fail> {
     let made = made(alloc, step, windows)?;
@@ -136,9 +136,9 @@ pub(crate) fn makes_set(
 }
 
 /// The number that a step makes.
-pub(crate) fn number(alloc: Global, step: Step, windows: Vec<AnyWindow>) -> Result<u64, Fail> {
+pub(crate) fn number(alloc: Global, step: Step, windows: Vec<SharedWindow>) -> Result<u64, Fail> {
     match made(alloc, step, windows)? {
-        Made::Number(total) => Ok(total),
+        TileResult::Number(total) => Ok(total),
         _ => Err("a number".into()),
     }
 }

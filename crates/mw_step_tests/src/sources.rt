@@ -1,13 +1,13 @@
 //! Steps that go sample by sample, on one, two, three rows or none.
 
 use crate::given::{five, levels, makes_levels, makes_set, number, one, set};
-use mw_task::{AnyWindow, Step};
+use mw_task::{SharedWindow, Step};
 use std::alloc::Global;
 use std::process::Abort;
 use std::test::Fail;
 
 /// The row of the worked examples and another of maxval 9.
-fn two_rows(alloc: Global) -> Result<Vec<AnyWindow>, Fail> {
+fn two_rows(alloc: Global) -> Result<Vec<SharedWindow>, Fail> {
     let mut rows = five(alloc)?;
     rows.push(levels(alloc, &[2, 7, 1, 8, 2], 9)?)?;
     Ok(rows)
@@ -47,7 +47,7 @@ fn sum_of_five_samples(rt: HostRuntime) -> Result<(), Fail> {
 }
 
 /// A row of maxval 3 without marks, and a set.
-fn unmarked(alloc: Global) -> Result<Vec<AnyWindow>, Fail> {
+fn unmarked(alloc: Global) -> Result<Vec<SharedWindow>, Fail> {
     let mut sources = one(alloc, levels(alloc, &[0; 5], 3)?)?;
     sources.push(set(alloc, &[1, 1, 0, 0, 1])?)?;
     Ok(sources)

@@ -5,7 +5,7 @@ use crate::given::{FIVE, TASK, bar, done, five, framed_bar, levels, one, work};
 use mw_pixel::{Image, Kind};
 use mw_step::run;
 use mw_task::{
-    AnyWindow, Step, Work, cut_windows_are_bounded, cut_windows_fit, made_is_bounded,
+    SharedWindow, Step, Work, cut_windows_are_bounded, cut_windows_fit, made_is_bounded,
     planes_are_operators, tile_of_windows_is_tile_of_planes, whole_tile_is_plane,
 };
 use std::alloc::Global;
@@ -48,7 +48,7 @@ fn image_of_a_blank_frame(rt: HostRuntime) -> Result<(), Fail> {
 }
 
 /// Two rows with different maxvals.
-fn unlike(alloc: Global) -> Result<Vec<AnyWindow>, Fail> {
+fn unlike(alloc: Global) -> Result<Vec<SharedWindow>, Fail> {
     let mut rows = one(alloc, levels(alloc, &[0; 5], 3)?)?;
     rows.push(levels(alloc, &[0; 5], 4)?)?;
     Ok(rows)

@@ -5,5 +5,3 @@ pub mod CascadeLemmas
 mod AddLemmas
 mod Counting
 mod Tracking
-mod WholeWindows
-mod Cuts

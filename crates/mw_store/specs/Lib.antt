@@ -5,4 +5,3 @@ pub mod Entries
 pub mod Wanted
 pub mod Waiting
 pub mod Stored
-pub mod Frames

@@ -12,12 +12,11 @@ use crate::waiting::{
     Waiters, WaitingList, drop_settled, pending_inputs, push_inputs, reserve_inputs,
 };
 use crate::wanted::{count_wanted, lower_inputs, raise_inputs};
-use crate::windows::{is_window_at, window_at};
 use indexmap::IndexSet;
 use mw_element::Element;
 use mw_gran::Curve;
 use mw_model::{Command, Given, Inputs, Name, NoMemory, Op, Outcome, Rect, Shape, Submission};
-use mw_tile::AnyWindow;
+use mw_pieces::SharedWindow;
 use std::alloc::Global;
 use std::marker::Model;
 use std::mem::replace;
@@ -216,28 +215,35 @@ impl Store {
         }
     }
 
-    /// The window of a rectangle of the image that is kept of an entry, if one is. Where none is, memory is not asked for.
-    pub fn window(&self, alloc: Global, t: u32, rect: Rect) -> Result<Option<AnyWindow>, NoMemory>
+    /// The window of a rectangle of the image that is kept of an entry, if one is, as one more owner of its samples. Where
+    /// none is, memory is not asked for.
+    pub fn window(
+        &self,
+        alloc: Global,
+        t: u32,
+        rect: Rect,
+    ) -> Result<Option<SharedWindow>, NoMemory>
         requires entry { t < length self.now.table.names }
+        requires some { (1 ≤ rect.width) × (1 ≤ rect.height) }
         requires within { IfSome (image_of (value_at self.now.kept t)) (λ f. IsWithin rect f.width f.height) }
         ensures window { IfOk result (λ w. w ≡ option_map (window_of rect) (image_of (value_at self.now.kept t))) }
         ensures memory { OnErr result (IsSome (image_of (value_at self.now.kept t))) }
     {
         match self.kept(t) {
-            Some(Kept::Image(image)) => Ok(Some(window_at(alloc, image, rect)?)),
-            Some(Kept::Tiles(plane)) => Ok(Some(plane.window(alloc, rect)?)),
+            Some(Kept::Image(image)) => { Ok(Some(SharedWindow::of_image(alloc, image, rect)?)) }
+            Some(Kept::Tiles(plane)) => Ok(Some(plane.shared(alloc, rect)?)),
             _ => Ok(None),
         }
     }
 
     /// Whether a window is that of a rectangle of the image that is kept of an entry.
-    pub fn matches(&self, t: u32, rect: Rect, window: &AnyWindow) -> bool
+    pub fn matches(&self, t: u32, rect: Rect, window: &SharedWindow) -> bool
         requires entry { t < length self.now.table.names }
         requires within { IfSome (image_of (value_at self.now.kept t)) (λ f. IsWithin rect f.width f.height) }
         ensures { IsTrue result ↔ (option_map (window_of rect) (image_of (value_at self.now.kept t)) ≡ Some window.now) }
     {
         match self.kept(t) {
-            Some(Kept::Image(image)) => is_window_at(window, image, rect),
+            Some(Kept::Image(image)) => window.is_of_image(image, rect),
             Some(Kept::Tiles(plane)) => plane.matches(rect, window),
             _ => false,
         }

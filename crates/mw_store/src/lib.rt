@@ -1,8 +1,8 @@
 //! What the machine keeps: names, submissions, outcomes and values, all by ticket.
 //!
 //! The ticket of an entry is its place in the order of acceptance. An image is kept in one piece, or as the tiles that it
-//! was made of; no contract tells which. A share of it owns its plane or its tiles too, and so does a window of its whole
-//! frame or of one tile: these copy no sample. What takes memory answers `NoMemory`, and the store is then as before.
+//! was made of; no contract tells which. A share of it owns its plane or its tiles too, and so does a window of any
+//! rectangle of it: these copy no sample. What takes memory answers `NoMemory`, and the store is then as before.
 //! `settle`, `kill` and `release` ask for no memory, and drop what nothing needs any more.
 //!
 //! Beside each ticket stands how many pending entries have it as an input, and beside a pending one the list of these: so
@@ -25,7 +25,6 @@ mod plates;
 mod spent;
 mod waiting;
 mod wanted;
-mod windows;
 
 pub use columns::Store;
 pub use image_shapes::ImageShape;

@@ -28,7 +28,7 @@ use Rattle.mw_tile.proofs.Shown.{agrees}
 use Rattle.mw_task.specs.Sources.{HasFrame, AreCut}
 use Rattle.std.proofs.lemmas.Grind.{get_or_default_zero}
 use Rattle.std.proofs.lemmas.List.{length-map}
-use Rattle.mw_task.proofs.TileCells.{length-cells_in, cells_in_at, cells_in_same, cells_in_all}
+use Rattle.mw_pieces.proofs.TileCells.{length-cells_in, cells_in_at, cells_in_same, cells_in_all}
 
 -- the samples of a picture, written out
 abbrev whole : Picture → Raster ℕ

@@ -10,25 +10,25 @@ use Rattle.mw_model.specs.Plans.{is_sum}
 use Rattle.mw_model.specs.Tasks.{cells_in}
 use Rattle.mw_task.specs.WindowTasks.{made_of_windows, WindowTask, tile_made}
 use Rattle.mw_pixel.specs.Images.{set_of, grey_of}
-use Rattle.mw_task.specs.declared.made.Made.{Made}
-use Rattle.mw_task.specs.declared.made.Made.TheVariants.{Bits, Grey8, Grey16, Number}
+use Rattle.mw_task.specs.declared.tile_result.TileResult.{TileResult}
+use Rattle.mw_task.specs.declared.tile_result.TileResult.TheVariants.{Bits, Grey8, Grey16, Number}
 
 -- the plane is this image, in samples of the size that its maxval wants
-abbrev pub HoldsImage : Picture → Made → Type 0
+abbrev pub HoldsImage : Picture → TileResult → Type 0
 HoldsImage f (Bits p) = f ≡ set_of (arc_value p)
 HoldsImage f (Grey8 p maxval) = (f ≡ grey_of (arc_value p) maxval) × (1 ≤ maxval)
 HoldsImage f (Grey16 p maxval) = (f ≡ grey_of (arc_value p) maxval) × (256 ≤ maxval)
 HoldsImage f (Number n) = ⊥
 
 -- the number is the only one of the list
-abbrev pub HoldsNumber : List ℕ → Made → Type 0
+abbrev pub HoldsNumber : List ℕ → TileResult → Type 0
 HoldsNumber ns (Bits p) = ⊥
 HoldsNumber ns (Grey8 p maxval) = ⊥
 HoldsNumber ns (Grey16 p maxval) = ⊥
 HoldsNumber ns (Number n) = ns ≡ n ∷ []
 
 -- what was made is the sum of the tile for a Sum step, and for each other the image of the tile
-abbrev pub IsMade : WindowTask → Made → Type 0
+abbrev pub IsMade : WindowTask → TileResult → Type 0
 IsMade t (Bits p) = (is_sum t.step ≡ false) × HoldsImage (tile_made t) (Bits p)
 IsMade t (Grey8 p maxval) = (is_sum t.step ≡ false) × HoldsImage (tile_made t) (Grey8 p maxval)
 IsMade t (Grey16 p maxval) = (is_sum t.step ≡ false) × HoldsImage (tile_made t) (Grey16 p maxval)

@@ -1,16 +1,16 @@
 //! Tasks that were run.
 
-use crate::{Made, Step, Work};
+use crate::{Step, TileResult, Work};
 use mw_model::{Rect, TaskId};
+use mw_pieces::SharedWindow;
 use mw_pixel::Image;
-use mw_tile::AnyWindow;
 use std::marker::Model;
 
 /// A task that is done, with what it made: what its step makes of its windows, and nothing else.
 #[derive(Drop)]
 pub struct TileDone {
     work: Work,
-    made: Made,
+    made: TileResult,
 }
 
 impl Model for TileDone {
@@ -58,7 +58,7 @@ impl TileDone {
     ghost use Rattle.mw_task.specs.Products.{IsMade};
 
     /// The work, with what its step makes of its windows.
-    pub fn new(work: Work, made: Made) -> TileDone
+    pub fn new(work: Work, made: TileResult) -> TileDone
         requires { IsMade work made }
         ensures { result ≡ work }
     {
@@ -87,7 +87,7 @@ impl TileDone {
     }
 
     /// The windows that the task was made from.
-    pub fn windows(&self) -> &[AnyWindow]
+    pub fn windows(&self) -> &[SharedWindow]
         ensures value { result.now ≡ self.now.windows }
         ensures fits { FitsStep self.now.step self.now.rect self.now.windows }
     {
@@ -95,14 +95,14 @@ impl TileDone {
     }
 
     /// What was made, to be looked at.
-    pub fn made(&self) -> &Made
+    pub fn made(&self) -> &TileResult
         ensures { IsMade self.now result.now }
     {
         &self.made
     }
 
     /// What was made.
-    pub fn into_made(self) -> Made
+    pub fn into_made(self) -> TileResult
         ensures { IsMade self result }
     {
         self.made
@@ -116,10 +116,10 @@ impl TileDone {
     {
         let TileDone { work, made } = self;
         match made {
-            Made::Bits(plane) => Image::bits(plane),
-            Made::Grey8(plane, maxval) => Image::grey8(plane, maxval),
-            Made::Grey16(plane, maxval) => Image::grey16(plane, maxval),
-            Made::Number(_) => unreachable!(),
+            TileResult::Bits(plane) => Image::bits(plane),
+            TileResult::Grey8(plane, maxval) => Image::grey8(plane, maxval),
+            TileResult::Grey16(plane, maxval) => Image::grey16(plane, maxval),
+            TileResult::Number(_) => unreachable!(),
         }
     }
 }

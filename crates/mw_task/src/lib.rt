@@ -9,10 +9,10 @@
 
 mod done;
 mod laws;
-mod made;
 mod offsets;
 mod reads;
 mod step;
+mod tile_result;
 mod work;
 
 pub use done::{TaskRefused, TileDone};
@@ -20,9 +20,9 @@ pub use laws::{
     cut_windows_are_bounded, cut_windows_fit, made_is_bounded, planes_are_operators,
     tile_of_windows_is_tile_of_planes, whole_tile_is_plane,
 };
-pub use made::Made;
 pub use mw_element::Element;
 pub use mw_model::{NoMemory, Offset, OffsetBox, Reach, Rect, TaskId};
-pub use mw_tile::AnyWindow;
+pub use mw_pieces::SharedWindow;
 pub use step::Step;
+pub use tile_result::TileResult;
 pub use work::Work;

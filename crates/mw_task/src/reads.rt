@@ -9,7 +9,7 @@ ghost use Rattle.mw_task.specs.WindowTasks.{FitsStep, IsRead, KindsFit, SameKind
 
 use crate::Step;
 use mw_model::{Kind, Rect};
-use mw_tile::AnyWindow;
+use mw_pieces::SharedWindow;
 
 /// The tile grown by the reach of the step and cut to the frame.
 fn place_read(step: &Step, width: u32, height: u32, tile: Rect) -> Rect
@@ -42,7 +42,7 @@ fn within(tile: Rect, width: u32, height: u32) -> bool
 }
 
 /// Whether the window is what the step reads for the tile in a frame of these sides.
-fn is_read(step: &Step, tile: Rect, width: u32, height: u32, window: &AnyWindow) -> bool
+fn is_read(step: &Step, tile: Rect, width: u32, height: u32, window: &SharedWindow) -> bool
     ensures { IsTrue result ↔ IsRead (meaning step.now) tile width height window.now }
 {
     window.frame_width() == width
@@ -54,7 +54,7 @@ fn is_read(step: &Step, tile: Rect, width: u32, height: u32, window: &AnyWindow)
 }
 
 /// Whether each window is what the step reads for the tile in a frame of these sides.
-fn all_read(step: &Step, tile: Rect, width: u32, height: u32, windows: &[AnyWindow]) -> bool
+fn all_read(step: &Step, tile: Rect, width: u32, height: u32, windows: &[SharedWindow]) -> bool
     ensures { IsTrue result ↔ AllByRecursion (IsRead (meaning step.now) tile width height) windows.now }
 {
     for window in windows {
@@ -65,20 +65,20 @@ fn all_read(step: &Step, tile: Rect, width: u32, height: u32, windows: &[AnyWind
     true
 }
 
-fn is_set(window: &AnyWindow) -> bool
+fn is_set(window: &SharedWindow) -> bool
     ensures { IsTrue result ↔ IsSetWindow window.now }
 {
     window.kind() == Kind::Bit
 }
 
-fn same_kind(a: &AnyWindow, b: &AnyWindow) -> bool
+fn same_kind(a: &SharedWindow, b: &SharedWindow) -> bool
     ensures { IsTrue result ↔ SameKind a.now b.now }
 {
     a.kind() == b.kind() && a.maxval() == b.maxval()
 }
 
 /// Whether the kinds and maxvals of the sources are such that the step can be made of them.
-fn kinds_fit(step: &Step, windows: &[AnyWindow]) -> bool
+fn kinds_fit(step: &Step, windows: &[SharedWindow]) -> bool
     requires { length windows.now ≡ source_count (meaning step.now) }
     ensures { IsTrue result ↔ KindsFit (meaning step.now) windows.now }
 {
@@ -96,7 +96,7 @@ fn kinds_fit(step: &Step, windows: &[AnyWindow]) -> bool
 }
 
 /// Whether the windows are those that the step reads for the tile.
-pub(crate) fn windows_fit(step: &Step, tile: Rect, windows: &[AnyWindow]) -> bool
+pub(crate) fn windows_fit(step: &Step, tile: Rect, windows: &[SharedWindow]) -> bool
     ensures { IsTrue result ↔ FitsStep (meaning step.now) tile windows.now }
 {
     if windows.len() != step.source_count() || tile.width == 0 || tile.height == 0 {

@@ -1,18 +1,34 @@
 //! Tasks that are to be run.
 
+ghost use Rattle.std.specs.Prelude.{◌≡◌, IfOk};
+
 use crate::Step;
 use crate::reads::windows_fit;
-use mw_model::{Rect, TaskId};
+use mw_model::{NoMemory, Rect, TaskId};
+use mw_pieces::SharedWindow;
 use mw_tile::AnyWindow;
+use std::alloc::Global;
 use std::marker::Model;
 
-/// A task with all that it reads: its step, its tile, and a window of each source.
+/// Windows, put together in order.
+fn joined(alloc: Global, windows: &[SharedWindow]) -> Result<Vec<AnyWindow>, NoMemory>
+    ensures { IfOk result (λ v. v.items ≡ windows.now) }
+{
+    let mut joined = Vec::with_capacity(alloc, windows.len())?;
+    for window in windows {
+        joined.push(window.joined(alloc)?)?;
+    }
+    Ok(joined)
+}
+
+/// A task with all that it reads: its step, its tile, and a window of each source. A window is held as the pieces of
+/// planes that it is made of, so that making a task copies no sample.
 #[derive(Drop)]
 pub struct Work {
     task: TaskId,
     rect: Rect,
     step: Step,
-    windows: Vec<AnyWindow>,
+    windows: Vec<SharedWindow>,
 }
 
 impl Model for Work {
@@ -29,13 +45,13 @@ impl Model for Work {
 }
 
 impl Work {
-    ghost use Rattle.std.specs.Prelude.{◌≡◌, ◌↔◌, IsSome, IfSome};
+    ghost use Rattle.std.specs.Prelude.{◌≡◌, ◌↔◌, IsSome, IfOk, IfSome};
     ghost use Rattle.mw_task.specs.Meanings.{meaning};
     ghost use Rattle.mw_task.specs.WindowTasks.{FitsStep};
 
     /// A task of these windows; None where they are not those that the step reads for the tile, or their kinds and
     /// maxvals do not fit the step.
-    pub fn new(task: TaskId, rect: Rect, step: Step, windows: Vec<AnyWindow>) -> Option<Work>
+    pub fn new(task: TaskId, rect: Rect, step: Step, windows: Vec<SharedWindow>) -> Option<Work>
         ensures fits { IsSome result ↔ FitsStep (meaning step) rect windows.items }
         ensures value { IfSome result (λ w. w ≡ record { task = task; rect = rect; step = meaning step; windows = windows.items }) }
     {
@@ -73,10 +89,17 @@ impl Work {
     }
 
     /// A window of each source.
-    pub fn windows(&self) -> &[AnyWindow]
+    pub fn windows(&self) -> &[SharedWindow]
         ensures value { result.now ≡ self.now.windows }
         ensures fits { FitsStep self.now.step self.now.rect self.now.windows }
     {
         &self.windows
+    }
+
+    /// The windows, put together.
+    pub fn joined(&self, alloc: Global) -> Result<Vec<AnyWindow>, NoMemory>
+        ensures { IfOk result (λ v. v.items ≡ self.now.windows) }
+    {
+        joined(alloc, &self.windows)
     }
 }

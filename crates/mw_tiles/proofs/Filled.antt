@@ -14,12 +14,12 @@ use Rattle.mw_grid.proofs.Lines.{piece_only}
 use Rattle.mw_grid.proofs.Tiles.{HasTiles}
 use Rattle.mw_tile.specs.Windows.{SourceWindow, window_of}
 use Rattle.mw_task.specs.WindowTasks.{IsBounded}
-use Rattle.mw_task.proofs.TileCells.{length-cells_in, cells_in_is, cells_in_all}
+use Rattle.mw_pieces.proofs.TileCells.{length-cells_in, cells_in_is, cells_in_all}
 use Rattle.mw_tiles.specs.Tiles.{Tiled, tile_cells, HasSizes, AreBounded, IsSound, IsPlaneOf}
 use Rattle.mw_tiles.specs.Filled.{number_at, cell_or, cell_in, filled_value, filled}
 use Rattle.mw_tiles.proofs.Made.{shows_drawn}
 
-number_only : (g : Tiling) (i x y : ℕ) → 0 < g.side → Holds (tile_at g i) x y → number_at g x y ≡ i
+pub number_only : (g : Tiling) (i x y : ℕ) → 0 < g.side → Holds (tile_at g i) x y → number_at g x y ≡ i
 number_only g i x y some holds =
     let left = holds.left in
     let right = holds.right in

@@ -5,24 +5,11 @@ use Rattle.std.proofs.lemmas.Nat.{mul-add-lt}
 use Rattle.std.proofs.lemmas.List.{append_assoc, append-nil}
 use Rattle.mw_facts.proofs.Elements.{slice_get-append_left, slice_get-append-add}
 use Rattle.mw_model.specs.declared.places.Rect.{Rect}
-use Rattle.mw_model.specs.Places.{IsWithin}
+use Rattle.mw_model.specs.declared.shapes.Kind.{Kind}
 use Rattle.mw_model.specs.Rasters.{Raster}
 use Rattle.mw_grid.specs.Grids.{Tiling}
-use Rattle.mw_tile.specs.Windows.{IsCut}
-use Rattle.mw_tile.specs.Cuts.{view_of}
-use Rattle.mw_model.specs.declared.shapes.Kind.{Kind}
-use Rattle.mw_model.specs.Pictures.{Picture, sample}
-use Rattle.mw_model.specs.Windows.{View}
-use Rattle.mw_model.specs.Tasks.{cells_in}
-use Rattle.mw_pixel.specs.Images.{raster_of}
-use Rattle.mw_pixel.proofs.Cells.{slice_get-samples}
-use Rattle.mw_tile.specs.Windows.{SourceWindow, window_of}
-use Rattle.mw_task.proofs.TileCells.{cells_in_are}
 use Rattle.mw_tiles.specs.Held.{tiled}
-use Rattle.mw_tiles.specs.Tiles.{Tiled, IsPlaneOf, cells_of, HasAll, ShowsTiles, HasRun, HasRowMore, HasFirstRows}
-
-abbrev pub source_window : Kind → ℕ → View ℕ → SourceWindow
-source_window k m w = record { kind = k; maxval = m; view = w }
+use Rattle.mw_tiles.specs.Tiles.{Tiled, cells_of, HasAll, ShowsTiles, HasRun, HasRowMore, HasFirstRows}
 
 run_more : {A : Type 0} (f : Raster A) (x y n : ℕ) (rest row : List A) → length rest ≡ n → HasRun f x y rest → HasRun f (x + n) y row → HasRun f x y (rest ++ row)
 run_more f x y n rest row size first then k lt =
@@ -69,39 +56,6 @@ begins_more g tiles r y n now out n-is before more = record {
 
     below : (j w i y : ℕ) → j < y → i < w → j * w + i < y * w
     below j w i y lt across = omega (arith, mul-add-lt j w i y lt across)
-
-pub cut_of_begun : {A : Type 0} (g : Tiling) (tiles : List (Option (List A))) (r : Rect) (cells : List A) (w h : ℕ) → w ≡ g.width → h ≡ g.height → IsWithin r g.width g.height → HasFirstRows g tiles r r.height cells
-    → (f : Raster A) → ShowsTiles g tiles f → IsCut (view_of w h r cells) f
-cut_of_begun g tiles r cells w h w-is h-is within begun f shows = record {
-  frame_width = w-is ∙ sym shows.width;
-  frame_height = h-is ∙ sym shows.height;
-  within = (let across = within.across in let down = within.down in let width = shows.width in let height = shows.height in record { across = omega arith; down = omega arith });
-  size = begun.size;
-  same = begun.shows f shows;
-}
-
--- a cut of an image at a rectangle is the image's window there
-pub window_of_cut : (k : Kind) (m : ℕ) (w : View ℕ) (r : Rect) (f : Picture) → f.kind ≡ k → f.maxval ≡ m → length f.samples ≡ f.height * f.width → w.place ≡ r → IsCut w (raster_of f) → source_window k m w ≡ window_of r f
-window_of_cut k m w r f kind-is maxval-is size place-is whole =
-    let cut : IsCut (view_of w.frame_width w.frame_height r w.cells) (raster_of f) = subst (λ (q : Rect). IsCut (view_of w.frame_width w.frame_height q w.cells) (raster_of f)) place-is whole in
-    let across = cut.within.across in
-    let down = cut.within.down in
-    let cells : w.cells ≡ cells_in r (sample f) =
-    sym (cells_in_are r (sample f) w.cells cut.size (λ i j i-lt j-lt. cut.same i j i-lt j-lt ∙ slice_get-samples f size (r.x + i) (r.y + j) (omega arith) (omega arith)))
-    in
-    ap (λ (t : Kind). source_window t m w) (sym kind-is)
-    ∙ ap (λ (t : ℕ). source_window f.kind t w) (sym maxval-is)
-    ∙ ap (λ (t : ℕ). source_window f.kind f.maxval (view_of t w.frame_height w.place w.cells)) cut.frame_width
-    ∙ ap (λ (t : ℕ). source_window f.kind f.maxval (view_of f.width t w.place w.cells)) cut.frame_height
-    ∙ ap (λ (t : Rect). source_window f.kind f.maxval (view_of f.width f.height t w.cells)) place-is
-    ∙ ap (λ (t : List ℕ). source_window f.kind f.maxval (view_of f.width f.height r t)) cells
-
--- a cut of each whole frame with these tiles is the window of each image with them
-pub window_is : (k : Kind) (m : ℕ) (g : Tiling) (tiles : List (Option (Raster ℕ))) (p : Tiled) (w : View ℕ) (r : Rect) → tiled k m g tiles ≡ p → w.place ≡ r → ((f : Raster ℕ) → ShowsTiles g (cells_of tiles) f → IsCut w f)
-    → (f : Picture) → IsPlaneOf p f → source_window k m w ≡ window_of r f
-window_is k m g tiles p w r view place-is cut-of f plane =
-    let is : IsPlaneOf (tiled k m g tiles) f = subst (λ (q : Tiled). IsPlaneOf q f) (sym view) plane in
-    window_of_cut k m w r f is.kind is.maxval is.size place-is (cut-of (raster_of f) is.shows)
 
 pub all_placed : (k : Kind) (m : ℕ) (g : Tiling) (tiles : List (Option (Raster ℕ))) (p : Tiled) (r : Rect) → tiled k m g tiles ≡ p → HasAll p.tiling p.tiles r → HasAll g (cells_of tiles) r
 all_placed k m g tiles p r view has = subst (λ (q : Tiled). HasAll q.tiling q.tiles r) (sym view) has

@@ -8,3 +8,4 @@ mod Sides
 mod Joined
 mod Compared
 mod Whole
+mod Sharing

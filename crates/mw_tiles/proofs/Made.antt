@@ -17,7 +17,7 @@ use Rattle.mw_pixel.specs.Images.{raster_of}
 use Rattle.mw_pixel.proofs.Cells.{slice_get-samples}
 use Rattle.mw_tile.specs.Windows.{IsCut}
 use Rattle.mw_tile.specs.Cuts.{view_of}
-use Rattle.mw_task.proofs.TileCells.{length-cells_in, cells_in_at}
+use Rattle.mw_pieces.proofs.TileCells.{length-cells_in, cells_in_at}
 use Rattle.mw_tiles.specs.Tiles.{Tiled, tile_cells, ShowsTiles, IsPlaneOf, AreMade}
 
 -- the values of a rectangle are a cut of the whole drawing

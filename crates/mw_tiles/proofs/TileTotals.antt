@@ -17,7 +17,7 @@ use Rattle.mw_model.specs.Tasks.{cells_in}
 use Rattle.mw_model.proofs.Covers.{sample_at_in}
 use Rattle.mw_grid.specs.Grids.{Tiling, columns_of, rows_of, tile_count, tile_at}
 use Rattle.mw_grid.proofs.Tiles.{HasTiles, column_of_number}
-use Rattle.mw_task.proofs.TileCells.{cells_in_is}
+use Rattle.mw_pieces.proofs.TileCells.{cells_in_is}
 use Rattle.mw_tiles.specs.Tiles.{Tiled, tile_cells, AreMade, AllPlaced, first_cell, number_in}
 use Rattle.mw_tiles.specs.Sums.{alone, number_or_zero}
 

@@ -31,14 +31,6 @@ whole_shows {A} g tiles i o t q r has read is q-is same lt f shows =
     (ap (λ (s : Rect). view_of f.width f.height s t.cells) (sym q-is ∙ same) ∙ ap (λ (m : ℕ). view_of m f.height r t.cells) shows.width ∙ ap (λ (n : ℕ). view_of g.width n r t.cells) shows.height)
     cut
 
--- so is a window of it
-pub standing_is_cut : {A : Type 0} (g : Tiling) (tiles : List (Option (List A))) (r : Rect) (t owner : Raster A) (w : View A) (m n : ℕ) → m ≡ g.width → n ≡ g.height → w ≡ view_of m n r owner.cells → owner ≡ t
-    → ((f : Raster A) → ShowsTiles g tiles f → IsCut (view_of g.width g.height r t.cells) f) → (f : Raster A) → ShowsTiles g tiles f → IsCut w f
-standing_is_cut {A} g tiles r t owner w m n m-is n-is w-is same cut f shows =
-    subst (λ (v : View A). IsCut v f)
-    (sym (w-is ∙ ap (λ (m : ℕ). view_of m n r owner.cells) m-is ∙ ap (λ (n : ℕ). view_of g.width n r owner.cells) n-is ∙ ap (λ (q : Raster A). view_of g.width g.height r q.cells) same))
-    (cut f shows)
-
 pub frame_is : (g : Tiling) (r : Rect) (w h : ℕ) → r ≡ whole_frame w h → w ≡ g.width → h ≡ g.height → r ≡ whole_frame g.width g.height
 frame_is g r w h r-is w-is h-is = r-is ∙ ap (λ (t : ℕ). whole_frame t h) w-is ∙ ap (λ (t : ℕ). whole_frame g.width t) h-is
 

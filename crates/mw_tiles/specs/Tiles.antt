@@ -84,10 +84,6 @@ HasAll g tiles r = (x y : ℕ) → Holds r x y → HasAt g tiles x y
 abbrev pub HasRun : {A : Type 0} → Raster A → ℕ → ℕ → List A → Type 0
 HasRun f x y row = (k : ℕ) → k < length row → slice_get row k ≡ slice_get f.cells (y * f.width + (x + k))
 
--- the cells are what the frame has in the rectangle, by rows
-abbrev pub HasCells : {A : Type 0} → Raster A → Rect → List A → Type 0
-HasCells f r cells = (i j : ℕ) → i < r.width → j < r.height → slice_get cells (j * r.width + i) ≡ slice_get f.cells ((r.y + j) * f.width + (r.x + i))
-
 -- this image is one of those of which the plane is a part: it is of the plane's kind, maxval and frame, and has in each tile that is placed the cells that are placed
 pub record IsPlaneOf (p : Tiled) (f : Picture) : Type 0 where
   pub size : length f.samples ≡ f.height * f.width

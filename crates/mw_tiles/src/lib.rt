@@ -4,7 +4,7 @@
 //! let mut plane = TiledPlane::new(alloc, Kind::Grey, 255, grid)?;
 //! plane.place(0, Tile::Grey8(samples, 255));
 //! // once each tile that meets the rectangle is placed:
-//! let window = plane.window(alloc, rect)?;
+//! let window = plane.shared(alloc, rect)?;            // no sample is copied
 //! let unchanged = plane.matches(rect, &window);
 //! plane.drop_tile(0);
 //! ```
@@ -16,6 +16,7 @@ mod parts;
 mod placed;
 mod plane;
 mod rows;
+mod shares;
 mod shown;
 mod slots;
 mod sums;

@@ -1,14 +1,15 @@
 //! Planes that are made tile by tile.
 
 use crate::Tile;
-use crate::equal::is_joined;
+use crate::equal::are_tiles;
 use crate::placed::Placed;
-use crate::rows::{joined, shared_plane};
+use crate::rows::shared_plane;
+use crate::shares::pieces_of;
 use crate::slots::{no_tiles, put, share_tiles};
 use mw_grid::Grid;
 use mw_model::{Kind, NoMemory, Rect};
+use mw_pieces::{PiecesView, SharedWindow};
 use mw_pixel::{Bit, Image};
-use mw_tile::{AnyWindow, WindowView};
 use std::alloc::Global;
 use std::marker::Model;
 
@@ -149,19 +150,20 @@ impl TiledPlane {
         let _side = self.grid.side();
     }
 
-    /// The window of a rectangle. Where that is a tile, the window is one more owner of the tile's samples; else it is put
-    /// together from the tiles that meet it.
-    pub fn window(&self, alloc: Global, rect: Rect) -> Result<AnyWindow, NoMemory>
+    /// The window of a rectangle, as one more owner of each tile that meets it. No sample is copied.
+    pub fn shared(&self, alloc: Global, rect: Rect) -> Result<SharedWindow, NoMemory>
+        requires some { (1 ≤ rect.width) × (1 ≤ rect.height) }
         requires within { IsWithin rect self.now.tiling.width self.now.tiling.height }
         requires placed { HasAll self.now.tiling self.now.tiles rect }
         ensures same { IfOk result (λ w. (f : Picture) → IsPlaneOf self.now f → w ≡ window_of rect f) }
         ensures bounded { IfOk result IsBounded }
     {
         self.sound();
-        Ok(self.put_together(alloc, rect)?)
+        Ok(self.in_pieces(alloc, rect)?)
     }
 
-    fn put_together(&self, alloc: Global, rect: Rect) -> Result<AnyWindow, NoMemory>
+    fn in_pieces(&self, alloc: Global, rect: Rect) -> Result<SharedWindow, NoMemory>
+        requires some { (1 ≤ rect.width) × (1 ≤ rect.height) }
         requires within { IsWithin rect self.now.tiling.width self.now.tiling.height }
         requires placed { HasAll self.now.tiling self.now.tiles rect }
         ensures { IfOk result (λ w. (f : Picture) → IsPlaneOf self.now f → w ≡ window_of rect f) }
@@ -169,23 +171,23 @@ impl TiledPlane {
         let grid = self.grid;
         match &self.content {
             Samples::Bits(tiles) => {
-                let window = joined(alloc, grid, tiles, rect)?;
-                Ok(AnyWindow::bits(window))
+                let pieces = pieces_of(alloc, grid, tiles, rect)?;
+                Ok(SharedWindow::bits(pieces))
             }
             Samples::Grey8(tiles, maxval) => {
-                let window = joined(alloc, grid, tiles, rect)?;
-                Ok(AnyWindow::grey8(window, *maxval))
+                let pieces = pieces_of(alloc, grid, tiles, rect)?;
+                Ok(SharedWindow::grey8(pieces, *maxval))
             }
             Samples::Grey16(tiles, maxval) => {
-                let window = joined(alloc, grid, tiles, rect)?;
-                Ok(AnyWindow::grey16(window, *maxval))
+                let pieces = pieces_of(alloc, grid, tiles, rect)?;
+                Ok(SharedWindow::grey16(pieces, *maxval))
             }
         }
     }
 
     /// Whether a window is the plane's in a rectangle: of its kind, maxval and frame, and in that place with the same
-    /// samples. They are compared row part by row part, which takes no memory.
-    pub fn matches(&self, rect: Rect, window: &AnyWindow) -> bool
+    /// samples. They are compared piece by piece, which takes no memory.
+    pub fn matches(&self, rect: Rect, window: &SharedWindow) -> bool
         requires within { IsWithin rect self.now.tiling.width self.now.tiling.height }
         requires placed { HasAll self.now.tiling self.now.tiles rect }
         ensures same { (f : Picture) → IsPlaneOf self.now f → IsTrue result ↔ (window.now ≡ window_of rect f) }
@@ -196,19 +198,22 @@ impl TiledPlane {
         self.has_window(rect, window)
     }
 
-    fn has_window(&self, rect: Rect, window: &AnyWindow) -> bool
+    fn has_window(&self, rect: Rect, window: &SharedWindow) -> bool
         requires within { IsWithin rect self.now.tiling.width self.now.tiling.height }
         requires placed { HasAll self.now.tiling self.now.tiles rect }
         ensures { (f : Picture) → IsPlaneOf self.now f → IsTrue result ↔ (window.now ≡ window_of rect f) }
     {
         let grid = self.grid;
+        if window.place() != rect {
+            return false;
+        }
         match (&self.content, window.view()) {
-            (Samples::Bits(tiles), WindowView::Bits(w)) => is_joined(grid, tiles, rect, w),
-            (Samples::Grey8(tiles, m), WindowView::Grey8(w, n)) => {
-                *m == n && is_joined(grid, tiles, rect, w)
+            (Samples::Bits(tiles), PiecesView::Bits(w)) => are_tiles(grid, tiles, w),
+            (Samples::Grey8(tiles, m), PiecesView::Grey8(w, n)) => {
+                *m == n && are_tiles(grid, tiles, w)
             }
-            (Samples::Grey16(tiles, m), WindowView::Grey16(w, n)) => {
-                *m == n && is_joined(grid, tiles, rect, w)
+            (Samples::Grey16(tiles, m), PiecesView::Grey16(w, n)) => {
+                *m == n && are_tiles(grid, tiles, w)
             }
             _ => false,
         }

@@ -1,19 +1,17 @@
-//! Rectangles of a plane, put together from its tiles row part by row part.
+//! The samples of a plane, put together from its tiles row part by row part.
 
 ghost use Rattle.std.specs.Prelude.{◌≡◌, ℕ, ◌+◌, ◌-◌, ◌*◌, ◌<◌, ◌≤◌, IfOk, length};
 ghost use Rattle.std.specs.Arc.{arc_value};
 ghost use Rattle.mw_model.specs.Places.{IsWithin};
 ghost use Rattle.mw_model.specs.Rasters.{Raster};
 ghost use Rattle.mw_grid.specs.Rectangles.{whole_frame};
-ghost use Rattle.mw_tile.specs.Windows.{IsCut};
 ghost use Rattle.mw_tiles.specs.Tiles.{cells_of, HasAll, HasAlong, HasFirstRows, HasRowMore, HasSides, ShowsTiles};
 
-use crate::parts::{part, whole_tile};
+use crate::parts::part;
 use crate::placed::Placed;
 use mw_grid::{Grid, whole_frame};
 use mw_model::{NoMemory, Rect};
 use mw_pixel::{Pixel, Plane};
-use mw_tile::Window;
 use std::alloc::Global;
 use std::sync::Arc;
 
@@ -68,28 +66,6 @@ fn joined_samples<P: Pixel>(
         )?;
     }
     Ok(samples)
-}
-
-/// The window of a rectangle whose tiles are placed. Where the rectangle is a tile, the window is one more owner of that
-/// tile's samples; else it has samples of its own.
-pub(crate) fn joined<P: Pixel>(
-    alloc: Global,
-    grid: Grid,
-    tiles: &[Option<Placed<P>>],
-    rect: Rect,
-) -> Result<Window<P>, NoMemory>
-    requires sides { HasSides grid tiles.now }
-    requires within { IsWithin rect grid.width grid.height }
-    requires placed { HasAll grid (cells_of tiles.now) rect }
-    ensures place { IfOk result (λ w. w.place ≡ rect) }
-    ensures cut { IfOk result (λ w. (f : Raster P) → ShowsTiles grid (cells_of tiles.now) f → IsCut w f) }
-{
-    let (width, height) = (grid.width(), grid.height());
-    if let Some(tile) = whole_tile(grid, tiles, rect) {
-        return Ok(Window::standing(width, height, rect, tile.owner()?));
-    }
-    let samples = joined_samples(alloc, grid, tiles, rect)?;
-    Ok(Window::new(width, height, rect, samples))
 }
 
 /// The plane of a frame whose tiles are all placed.

@@ -1,6 +1,6 @@
 //! Planes whose tiles are all placed, seen as the image that they show.
 
-ghost use Rattle.std.specs.Prelude.{◌≡◌, ◌↔◌, IfOk, IsTrue};
+ghost use Rattle.std.specs.Prelude.{◌≡◌, ◌↔◌, ◌≤◌, IfOk, IsTrue};
 ghost use Rattle.mw_model.specs.Pictures.{IsPicture};
 ghost use Rattle.mw_model.specs.Places.{IsWithin};
 ghost use Rattle.mw_tile.specs.Windows.{window_of};
@@ -9,8 +9,8 @@ ghost use Rattle.mw_tiles.specs.Filled.{filled};
 
 use crate::TiledPlane;
 use mw_model::{Kind, NoMemory, Rect};
+use mw_pieces::SharedWindow;
 use mw_pixel::Image;
-use mw_tile::AnyWindow;
 use std::alloc::Global;
 use std::marker::Model;
 
@@ -76,18 +76,18 @@ impl WholePlane {
         self.plane.grid().height()
     }
 
-    /// The window of a rectangle. Where that is a tile, the window is one more owner of the tile's samples; else it is put
-    /// together from the tiles that meet it.
-    pub fn window(&self, alloc: Global, rect: Rect) -> Result<AnyWindow, NoMemory>
-        requires { IsWithin rect self.now.width self.now.height }
+    /// The window of a rectangle, as one more owner of each tile that meets it. No sample is copied.
+    pub fn shared(&self, alloc: Global, rect: Rect) -> Result<SharedWindow, NoMemory>
+        requires some { (1 ≤ rect.width) × (1 ≤ rect.height) }
+        requires within { IsWithin rect self.now.width self.now.height }
         ensures { IfOk result (λ w. w ≡ window_of rect self.now) }
     {
-        let window = self.plane.window(alloc, rect)?;
+        let window = self.plane.shared(alloc, rect)?;
         Ok(window)
     }
 
     /// Whether a window is the image's in a rectangle. This takes no memory.
-    pub fn matches(&self, rect: Rect, window: &AnyWindow) -> bool
+    pub fn matches(&self, rect: Rect, window: &SharedWindow) -> bool
         requires { IsWithin rect self.now.width self.now.height }
         ensures { IsTrue result ↔ (window.now ≡ window_of rect self.now) }
     {

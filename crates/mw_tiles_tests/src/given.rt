@@ -11,8 +11,9 @@ use mw_grid::{Grid, is_within};
 use mw_images_for_tests::plane_of;
 use mw_model::plain::PlainImage;
 use mw_model::{Kind, Rect};
+use mw_pieces::{Pieces, SharedWindow};
 use mw_pixel::{Bit, Pixel, Plane};
-use mw_tile::{AnyWindow, Window, cut};
+use mw_tile::cut;
 use mw_tiles::{Tile, TiledPlane};
 use std::alloc::Global;
 use std::sync::Arc;
@@ -194,18 +195,26 @@ pub(crate) fn one_tile(alloc: Global, tile: Arc<Plane<u8>>) -> Result<TiledPlane
 }
 
 /// The window of a rectangle of a plane whose tiles are all placed.
-pub(crate) fn window_in(alloc: Global, plane: &TiledPlane, rect: Rect) -> Result<AnyWindow, Fail>
+pub(crate) fn window_in(alloc: Global, plane: &TiledPlane, rect: Rect) -> Result<SharedWindow, Fail>
     requires { AllPlaced plane.now }
 {
     let grid = plane.grid();
     if !is_within(rect, grid.width(), grid.height()) {
         return Err("a rectangle of the frame".into());
     }
-    Ok(plane.window(alloc, rect)?)
+    if rect.width == 0 || rect.height == 0 {
+        return Err("a rectangle of some places".into());
+    }
+    Ok(plane.shared(alloc, rect)?)
+}
+
+/// Whether both windows show the same, put together.
+pub(crate) fn same(alloc: Global, a: &SharedWindow, b: &SharedWindow) -> Result<bool, Fail> {
+    Ok(a.joined(alloc)?.same(&b.joined(alloc)?))
 }
 
 /// Whether a window is that of a rectangle of such a plane.
-pub(crate) fn matches_in(plane: &TiledPlane, rect: Rect, window: &AnyWindow) -> bool
+pub(crate) fn matches_in(plane: &TiledPlane, rect: Rect, window: &SharedWindow) -> bool
     requires { AllPlaced plane.now }
 {
     let grid = plane.grid();
@@ -213,26 +222,27 @@ pub(crate) fn matches_in(plane: &TiledPlane, rect: Rect, window: &AnyWindow) -> 
 }
 
 /// The window of a rectangle that is cut out of the image.
-fn cut_window<P: Pixel>(alloc: Global, image: &PlainImage, rect: Rect) -> Result<Window<P>, Fail> {
+fn cut_window<P: Pixel>(alloc: Global, image: &PlainImage, rect: Rect) -> Result<Pieces<P>, Fail> {
     let plane = plane_of::<P>(alloc, image)?;
     if !is_within(rect, plane.width(), plane.height()) {
         return Err("a rectangle of the image".into());
     }
-    Ok(Window::cut(alloc, &plane, rect)?)
+    let plane = Arc::new(alloc, plane)?;
+    Ok(Pieces::of_plane(alloc, plane, rect)?)
 }
 
 /// The window of a rectangle that is cut out of the image, with its kind and maxval.
-pub(crate) fn wanted(alloc: Global, image: &PlainImage, rect: Rect) -> Result<AnyWindow, Fail> {
+pub(crate) fn wanted(alloc: Global, image: &PlainImage, rect: Rect) -> Result<SharedWindow, Fail> {
     let maxval = image.maxval();
     match image.kind() {
-        Kind::Bit => Ok(AnyWindow::bits(cut_window::<Bit>(alloc, image, rect)?)),
+        Kind::Bit => Ok(SharedWindow::bits(cut_window::<Bit>(alloc, image, rect)?)),
         Kind::Grey => {
             if 1 <= maxval && maxval <= 255 {
                 let window = cut_window::<u8>(alloc, image, rect)?;
-                Ok(AnyWindow::grey8(window, maxval as u8))
+                Ok(SharedWindow::grey8(window, maxval as u8))
             } else if maxval >= 256 {
                 let window = cut_window::<u16>(alloc, image, rect)?;
-                Ok(AnyWindow::grey16(window, maxval))
+                Ok(SharedWindow::grey16(window, maxval))
             } else {
                 Err("a maxval of the kind".into())
             }

@@ -1,6 +1,6 @@
 //! Who owns the samples of a tile.
 
-use crate::given::{one_tile, window_in};
+use crate::given::{one_tile, same, window_in};
 use mw_images_for_tests::{noise, plane_of, rect};
 use mw_model::Kind;
 use std::sync::Arc;
@@ -14,9 +14,14 @@ fn windows_and_shares_own_a_tile(rt: HostRuntime) -> Result<(), Fail> {
     assert_eq!(rt; Arc::strong_count(&owner), 2);
     let window = window_in(rt.alloc(), &plane, rect(0, 0, 22, 12))?;
     assert_eq!(rt; Arc::strong_count(&owner), 3);
-    let copied = window_in(rt.alloc(), &plane, rect(0, 0, 21, 12))?;
-    assert_eq!(rt; Arc::strong_count(&owner), 3);
-    drop(copied);
+    let part = window_in(rt.alloc(), &plane, rect(0, 0, 21, 12))?;
+    assert_eq!(rt; Arc::strong_count(&owner), 4);
+    let copied = part.joined(rt.alloc())?;
+    assert_eq!(rt; Arc::strong_count(&owner), 4);
+    drop((part, copied));
+    let whole = window.joined(rt.alloc())?;
+    assert_eq!(rt; Arc::strong_count(&owner), 4);
+    drop(whole);
     let shared = plane.share(rt.alloc())?;
     assert_eq!(rt; Arc::strong_count(&owner), 4);
     if plane.grid().len() > 0 {
@@ -25,7 +30,7 @@ fn windows_and_shares_own_a_tile(rt: HostRuntime) -> Result<(), Fail> {
     assert_eq!(rt; Arc::strong_count(&owner), 3);
     let again = window_in(rt.alloc(), &shared, rect(0, 0, 22, 12))?;
     assert_eq!(rt; Arc::strong_count(&owner), 4);
-    assert!(rt; again.same(&window));
+    assert!(rt; same(rt.alloc(), &again, &window)?);
     drop((window, again, shared));
     assert_eq!(rt; Arc::strong_count(&owner), 1);
     Ok(())

@@ -1,6 +1,6 @@
 //! Windows over the seams of tiles, of all kinds of samples.
 
-use crate::given::{matches_in, tiled, wanted, window_in};
+use crate::given::{matches_in, same, tiled, wanted, window_in};
 use mw_images_for_tests::{are_levels, image, noise, rect};
 use mw_model::plain::PlainImage;
 use mw_model::{Kind, Rect};
@@ -33,7 +33,7 @@ fn same_windows(rt: &impl Abort, alloc: Global, image: &PlainImage) -> Result<()
     for place in rectangles() {
         let expected = wanted(alloc, image, place)?;
         let window = window_in(alloc, &plane, place)?;
-        assert!(rt; window.same(&expected));
+        assert!(rt; same(alloc, &window, &expected)?);
         assert!(rt; matches_in(&plane, place, &expected));
     }
     Ok(())
@@ -56,7 +56,7 @@ fn frames_of_one_pixel(rt: HostRuntime) -> Result<(), Fail> {
         plane_is_of_an_image(&plane);
         let expected = wanted(rt.alloc(), &image, rect(0, 0, 1, 1))?;
         let window = window_in(rt.alloc(), &plane, rect(0, 0, 1, 1))?;
-        assert!(rt; window.same(&expected));
+        assert!(rt; same(rt.alloc(), &window, &expected)?);
         assert!(rt; matches_in(&plane, rect(0, 0, 1, 1), &window));
     }
     Ok(())

@@ -17,7 +17,7 @@ use Rattle.mw_model.specs.Values.{Value, option_list, shape_of_picture, tickets,
 use Rattle.mw_model.specs.Refusals.{Table, inputs_wanted, refusal}
 use Rattle.mw_model.specs.Machine.{Machine, inputs_from, run_submission, values}
 use Rattle.mw_model.specs.Plans.{images_of}
-use Rattle.mw_model.specs.Stands.{Agrees, IsWork, Seen, StandsFor}
+use Rattle.mw_model.specs.Stands.{Agrees, IsWork, CoreView, StandsFor}
 use Rattle.mw_model.specs.Tasks.{Progress, flag, is_running, remaining_tasks, running_tasks, task_count}
 use Rattle.mw_laws.specs.MachineLaws.{IsSound}
 use Rattle.mw_laws.proofs.RunSteps.{pushed}
@@ -27,7 +27,7 @@ use Rattle.mw_plan.specs.declared.inputs.Input.TheVariants as input
 use Rattle.mw_plan.specs.PlansOf.{AreValuesOf, HaveFrame, inputs_taken}
 use Rattle.mw_plan.specs.Tables.{IsInputOf}
 use Rattle.mw_plan.proofs.Accepted.{accepted_faultless, accepted_values, machine_values}
-use Rattle.mw_progress.specs.Underway.{Underway}
+use Rattle.mw_progress.specs.ProgressView.{ProgressView}
 use Rattle.mw_work.proofs.Fresh.{get_or-replicate_same, only-image, tile_count-most, work-fresh}
 use Rattle.mw_work.proofs.Numbers.{some-tiles, task_count-whole}
 use Rattle.mw_stands.specs.Limits.{FitsLimits, ShapesFit}
@@ -39,14 +39,14 @@ use Rattle.mw_underway.proofs.PlanningLemmas.{each-ticket, first-there, image-to
 
 -- ---- tasks
 
-area-input : (w : Table) (e : Submission) (u : Underway) → ShapesFit w → AllByRecursion (λ i. i < length w.names) (tickets e.inputs) → IsInput w e u → u.tiling.height * u.tiling.width ≤ 16777216
+area-input : (w : Table) (e : Submission) (u : ProgressView) → ShapesFit w → AllByRecursion (λ i. i < length w.names) (tickets e.inputs) → IsInput w e u → u.tiling.height * u.tiling.width ≤ 16777216
 area-input w e u fit below reads =
     let P : Option ℕ → Type 0 = λ x. AllByRecursion (λ i. i < length w.names) (option_list x) in
     let within = (subst P reads.first (each-ticket (λ i. i < length w.names) e.inputs below).first).0 in
     (subst FitsLimits reads.shape (fit reads.image within)).3
 
 -- all tasks are left and none is running
-pub planned-fresh : (w : Table) (kept : List (Option Value)) (o : Op) (e : Submission) (side : ℕ) (u : Underway) → ShapesFit w → AllByRecursion (λ i. i < length w.names) (tickets e.inputs) → IsPlannedBy w kept o e side u
+pub planned-fresh : (w : Table) (kept : List (Option Value)) (o : Op) (e : Submission) (side : ℕ) (u : ProgressView) → ShapesFit w → AllByRecursion (λ i. i < length w.names) (tickets e.inputs) → IsPlannedBy w kept o e side u
     → (1 ≤ remaining_tasks u.progress) × (task_count u.progress ≤ 4194304) × (remaining_tasks u.progress ≡ task_count u.progress) × (running_tasks u.progress ≡ 0)
 planned-fresh w kept o e side u fit below by =
     let p = u.progress in
@@ -72,11 +72,11 @@ only-shape (suc n) s rest (v ∷ vs) f all is =
     let same : f ≡ all.0.0 = cc in
     ap shape_of_picture same ∙ all.0.3
 
-frame-of : (f : Picture) (u : Underway) → shape_of_picture f ≡ shape.Image u.input.kind u.tiling.width u.tiling.height u.input.maxval → HaveFrame u.tiling.width u.tiling.height (f ∷ [])
+frame-of : (f : Picture) (u : ProgressView) → shape_of_picture f ≡ shape.Image u.input.kind u.tiling.width u.tiling.height u.input.maxval → HaveFrame u.tiling.width u.tiling.height (f ∷ [])
 frame-of f u is = ((cc, cc), tt)
 
 -- the images that the command takes have the frame of its work
-planned-frames : (m : Machine) (kept : List (Option Value)) (n : Name) (o : Op) (side : ℕ) (u : Underway) → IsSound m → Agrees kept m → refusal m.table kept (call.Run n o) ≡ None
+planned-frames : (m : Machine) (kept : List (Option Value)) (n : Name) (o : Op) (side : ℕ) (u : ProgressView) → IsSound m → Agrees kept m → refusal m.table kept (call.Run n o) ≡ None
     → IsPlannedBy m.table kept o (run_submission m.table o) side u → HaveFrame u.tiling.width u.tiling.height (images_of (map (value_at (values m)) (tickets (inputs_from m.table (inputs_wanted o)))))
 planned-frames m kept n o side u sound agrees free by =
     let w = m.table in
@@ -95,7 +95,7 @@ planned-frames m kept n o side u sound agrees free by =
     subst Frame (sym only.1) (frame-of only.0 u shaped)
 
 -- what is planned is work of the machine that the command leads to
-pub planned-work : (c : Seen) (m : Machine) (n : Name) (o : Op) (side : ℕ) (u : Underway) → StandsFor c m → refusal c.table c.kept (call.Run n o) ≡ None → refusal m.table m.payloads (call.Run n o) ≡ None
+pub planned-work : (c : CoreView) (m : Machine) (n : Name) (o : Op) (side : ℕ) (u : ProgressView) → StandsFor c m → refusal c.table c.kept (call.Run n o) ≡ None → refusal m.table m.payloads (call.Run n o) ≡ None
     → IsPlannedBy c.table c.kept o (run_submission c.table o) side u → (t : ℕ) → t + 1 ≡ length (pushed m n (run_submission m.table o) outcome.Pending None).table.names
     → IsWork (pushed m n (run_submission m.table o) outcome.Pending None) t u.progress
 planned-work c m n o side u stands free_kept free planned t last =

@@ -12,7 +12,7 @@ use Rattle.mw_model.specs.Machine.{Machine, values}
 use Rattle.mw_model.specs.Plans.{images_of}
 use Rattle.mw_model.specs.Stands.{input_values}
 use Rattle.mw_laws.specs.MachineLaws.{IsSound, shape_of_value}
-use Rattle.mw_progress.specs.Underway.{Underway}
+use Rattle.mw_progress.specs.ProgressView.{ProgressView}
 use Rattle.mw_underway.specs.SourceWindows.{IsInputAt}
 
 -- an entry of an element's shape has no image
@@ -38,7 +38,7 @@ only-image : (v : Option Value) (f : Picture) (vs : List (Option Value)) → v �
 only-image v f vs e none = rw e (ap (λ fs. f ∷ fs) none)
 
 -- what is known of the image that a task reads
-pub record ReadsImage (m : Machine) (t : ℕ) (u : Underway) (image : ℕ) : Type 0 where
+pub record ReadsImage (m : Machine) (t : ℕ) (u : ProgressView) (image : ℕ) : Type 0 where
   pub within : image < length m.table.names
   pub picture : Picture
   pub value : value_at (values m) image ≡ Some (ImageValue picture)
@@ -53,7 +53,7 @@ both-lists P [] ys a b = b
 both-lists P (x ∷ xs) ys a b = (a.0, both-lists P xs ys a.1 b)
 
 -- the command of a ticket that is there reads one image, its first input
-pub reads-image : (m : Machine) (t : ℕ) (u : Underway) → IsSound m → t < length m.table.names → (r : IsInputAt m.table t u) → ReadsImage m t u r.image
+pub reads-image : (m : Machine) (t : ℕ) (u : ProgressView) → IsSound m → t < length m.table.names → (r : IsInputAt m.table t u) → ReadsImage m t u r.image
 reads-image m t u s within r =
     let inputs = (submission_at m.table.submissions t).inputs in
     let i = r.image in

@@ -10,9 +10,9 @@ use Rattle.mw_model.specs.Refusals.{Table, outcome_at, is_pending, is_there}
 use Rattle.mw_model.specs.Machine.{Machine, values, CanFinish, settled}
 use Rattle.mw_model.specs.Tasks.{Progress, task_count, planned_of, sources_of, is_ready, is_running, remaining_tasks}
 use Rattle.mw_model.specs.Plans.{images_of}
-use Rattle.mw_model.specs.Stands.{Seen, StandsFor, IsWork, progress_at, inputs_of, inputs_there, input_values, true_planes, ready_under, is_ready_at, may_run}
+use Rattle.mw_model.specs.Stands.{CoreView, StandsFor, IsWork, progress_at, inputs_of, inputs_there, input_values, true_planes, ready_under, is_ready_at, may_run}
 use Rattle.mw_task.specs.WindowTasks.{WindowTask}
-use Rattle.mw_progress.specs.Underway.{Underway, IsStarted, IsFinished}
+use Rattle.mw_progress.specs.ProgressView.{ProgressView, IsStarted, IsFinished}
 use Rattle.mw_store.specs.Stored.{DropsSpent}
 use Rattle.mw_stands.specs.Facts.{IsComplete}
 use Rattle.mw_work.specs.Works.{true_task}
@@ -26,16 +26,16 @@ use Rattle.mw_stands.proofs.TaskLemmas.{may-run}
 
 -- ---- the true task
 
-task-is-true : (m : Machine) (image : Option Picture) (t : ℕ) (u : Underway) (n : ℕ) (w : WindowTask) → IsTaskOf image t u n w
+task-is-true : (m : Machine) (image : Option Picture) (t : ℕ) (u : ProgressView) (n : ℕ) (w : WindowTask) → IsTaskOf image t u n w
     → AreSources image u (planned_of u.progress n).sources (sources_of u.progress (images_of (input_values m t)) (true_planes m t u.progress) n) → w ≡ true_task m t u.progress n
 task-is-true m image t u n w is sources = is (sources_of u.progress (images_of (input_values m t)) (true_planes m t u.progress) n) sources
 
 -- ---- start
 
-ready-here : (c : Seen) (t : ℕ) (p : Progress) (n : ℕ) → may_run c.table t ≡ true → progress_at c.work t ≡ Some p → n < task_count p → is_ready p n ≡ true → is_ready_at c t n ≡ true
+ready-here : (c : CoreView) (t : ℕ) (p : Progress) (n : ℕ) → may_run c.table t ≡ true → progress_at c.work t ≡ Some p → n < task_count p → is_ready p n ≡ true → is_ready_at c t n ≡ true
 ready-here c t p n runs work within ready = rw (runs, work, lt-ltb n (task_count p) within) ready
 
-pub begins : (c new : Seen) (m : Machine) (t : ℕ) (u v : Underway) (n : ℕ) (image : Option Picture) (w : WindowTask) → StandsFor c m → IsComplete c → t < length c.table.names → 1 ≤ ready_under c t
+pub begins : (c new : CoreView) (m : Machine) (t : ℕ) (u v : ProgressView) (n : ℕ) (image : Option Picture) (w : WindowTask) → StandsFor c m → IsComplete c → t < length c.table.names → 1 ≤ ready_under c t
     → progress_at c.work t ≡ Some u.progress → n < task_count u.progress → is_ready u.progress n ≡ true → IsWork m t v.progress → IsTaskOf image t u n w
     → AreSources image u (planned_of u.progress n).sources (sources_of u.progress (images_of (input_values m t)) (true_planes m t u.progress) n)
     → IsStarted u v n → new ≡ record c { work = set c.work t (Some v.progress) } → Begins c m w new
@@ -56,14 +56,14 @@ begins c new m t u v n image w s complete within ready work in_plan is_ready aft
 -- ---- finish
 
 -- the result is that of a running task of the work
-pub record IsResultOn (c : Seen) (d : WindowTask) (u : Underway) (n : ℕ) : Type 0 where
+pub record IsResultOn (c : CoreView) (d : WindowTask) (u : ProgressView) (n : ℕ) : Type 0 where
   pub within : d.task.ticket < length c.table.names
   pub pending : outcome_at c.table.outcomes d.task.ticket ≡ outcome.Pending
   pub work : progress_at c.work d.task.ticket ≡ Some u.progress
   pub in_plan : n < task_count u.progress
   pub running : is_running u.progress n ≡ true
 
-abbrev pub result-on : (c : Seen) (m : Machine) (d : WindowTask) (u : Underway) (n : ℕ) → IsResultOn c d u n → d ≡ true_task m d.task.ticket u.progress n → IsResult c m d
+abbrev pub result-on : (c : CoreView) (m : Machine) (d : WindowTask) (u : ProgressView) (n : ℕ) → IsResultOn c d u n → d ≡ true_task m d.task.ticket u.progress n → IsResult c m d
 result-on c m d u n r task = record {
   progress = u.progress;
   number = n;
@@ -73,25 +73,25 @@ result-on c m d u n r task = record {
   task = task;
 }
 
-pub places : (c new : Seen) (m : Machine) (d : WindowTask) (u v : Underway) (n : ℕ) (cells : List ℕ) → StandsFor c m → IsComplete c → (r : IsResultOn c d u n)
+pub places : (c new : CoreView) (m : Machine) (d : WindowTask) (u v : ProgressView) (n : ℕ) (cells : List ℕ) → StandsFor c m → IsComplete c → (r : IsResultOn c d u n)
     → d ≡ true_task m d.task.ticket u.progress n → IsFinished u v n cells → IsWork m d.task.ticket v.progress → new ≡ record c { work = set c.work d.task.ticket (Some v.progress) } → Places c m d new
 places c new m d u v n cells s complete r task done after is = record {
   result = result-on c m d u n r task;
   left = omega (arith, done.lowered, after.unfinished);
   after = v.progress;
   lowered = done.lowered;
-  work = ap (λ (k : Seen). k.work) is;
+  work = ap (λ (k : CoreView). k.work) is;
   finished = done.finished;
   started = done.started;
   plan = done.plan;
   tiles = done.tiles;
   width = done.width;
   height = done.height;
-  log = ap (λ (k : Seen). k.log) is;
+  log = ap (λ (k : CoreView). k.log) is;
   stands = stands-started c new m d.task.ticket u.progress v.progress s complete r.within after r.work is;
 }
 
-pub settles : (c new : Seen) (m : Machine) (d : WindowTask) (u : Underway) (n : ℕ) (x : Value) → StandsFor c m → IsComplete c → IsResultOn c d u n → d ≡ true_task m d.task.ticket u.progress n
+pub settles : (c new : CoreView) (m : Machine) (d : WindowTask) (u : ProgressView) (n : ℕ) (x : Value) → StandsFor c m → IsComplete c → IsResultOn c d u n → d ≡ true_task m d.task.ticket u.progress n
     → inputs_there m.table d.task.ticket ≡ true → remaining_tasks u.progress ≡ 1 → value_at (values m) d.task.ticket ≡ Some x
     → new.table ≡ settled c.table d.task.ticket outcome.Done → DropsSpent new.table (set c.kept d.task.ticket (Some x)) new.kept → new.work ≡ set c.work d.task.ticket None
     → new.log ≡ c.log ++ item.Finished d.task.ticket ∷ [] → Settles c m d d.task.ticket new

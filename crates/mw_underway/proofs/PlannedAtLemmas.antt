@@ -8,7 +8,7 @@ use Rattle.mw_model.specs.Tasks.{nothing_planned}
 use Rattle.mw_laws.specs.MachineLaws.{IsSound, WithinLimits}
 use Rattle.mw_plan.specs.PlansOf.{CanBeMade, planes_read}
 use Rattle.mw_progress.specs.Levels.{Level, level_of}
-use Rattle.mw_progress.specs.Underway.{Underway, IsWhole}
+use Rattle.mw_progress.specs.ProgressView.{ProgressView, IsWhole}
 use Rattle.mw_work.specs.Works.{IsPlanned}
 use Rattle.mw_underway.specs.Planning.{IsAllowed, IsPlannedAt}
 use Rattle.mw_underway.proofs.AllowedLemmas.{made-allowed}
@@ -21,7 +21,7 @@ level-is f l w h e =
     λ i. record { kind = sym k i; maxval = sym m i }
 
 -- what the core knows of the work is what is planned
-pub planned-at : (m : Machine) (t : ℕ) (u : Underway) → IsSound m → t < length m.table.names → IsPlannedAt m.table t u → IsWhole u → IsPlanned m t u
+pub planned-at : (m : Machine) (t : ℕ) (u : ProgressView) → IsSound m → t < length m.table.names → IsPlannedAt m.table t u → IsWhole u → IsPlanned m t u
 planned-at m t u s within at whole =
     let reads = reads-image m t u s within at.input in
     let f = reads.picture in
@@ -30,12 +30,12 @@ planned-at m t u s within at whole =
     let Limits : Option Value → Type 0 = WithinLimits in
     let level = level-is f u.input u.tiling.width u.tiling.height reads.shape in
     let Allowed : Level → Type 0 = λ l. IsAllowed p.plan l in
-    let Made : List Picture → Type 0 = λ fs. (k : ℕ) → k < length p.plan → CanBeMade (get_or p.plan k nothing_planned).step (planes_read p.plan fs p.width p.height k) in
+    let TileResult : List Picture → Type 0 = λ fs. (k : ℕ) → k < length p.plan → CanBeMade (get_or p.plan k nothing_planned).step (planes_read p.plan fs p.width p.height k) in
     record {
       image = f;
       images = reads.images;
       limits = subst Limits reads.value (s.limits i reads.within);
       input = level;
-      made = subst Made (sym reads.images) (λ k l. made-allowed p.plan f p.width p.height k whole.workable.sources (subst Allowed level at.allowed) l);
+      made = subst TileResult (sym reads.images) (λ k l. made-allowed p.plan f p.width p.height k whole.workable.sources (subst Allowed level at.allowed) l);
       last = at.last;
     }

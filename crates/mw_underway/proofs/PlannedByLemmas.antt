@@ -23,7 +23,7 @@ use Rattle.mw_plan.specs.PlansOf.{IsPlanOf}
 use Rattle.mw_plan.specs.Tables.{AreInputsOf, AreValuesAt, IsInputOf}
 use Rattle.mw_plan.proofs.Accepted.{accepted_faultless}
 use Rattle.mw_progress.specs.Levels.{Level}
-use Rattle.mw_progress.specs.Underway.{IsWhole, IsWorkable, Underway, fresh}
+use Rattle.mw_progress.specs.ProgressView.{IsWhole, IsWorkable, ProgressView, fresh}
 use Rattle.mw_stands.specs.Limits.{ShapesFit}
 use Rattle.mw_underway.specs.SourceWindows.{IsInput}
 use Rattle.mw_underway.specs.Planning.{IsAllowed, IsLookedUp, IsPlannedBy, level_of_shape}
@@ -88,13 +88,13 @@ shape-told w kept n o e t s a b c l none =
 -- ---- the work
 
 -- Work of this plan, as it is made: on tiles of a frame of this shape, and nothing of it is started.
-pub record IsMadeOf (plan : Plan) (kind : Kind) (width height maxval side : ℕ) (u : Underway) : Type 0 where
+pub record IsMadeOf (plan : Plan) (kind : Kind) (width height maxval side : ℕ) (u : ProgressView) : Type 0 where
   pub input : u.input ≡ record { kind = kind; maxval = maxval }
   pub tiling : u.tiling ≡ tiling width height side
   pub progress : u.progress ≡ fresh plan u.input u.tiling
   pub whole : IsWhole u
 
-reads-first : (w : Table) (kept : List (Option Value)) (n : Name) (o : Op) (e : Submission) (t : ℕ) (kind : Kind) (width height maxval side : ℕ) (a b c : Input) (plan : Plan) (u : Underway)
+reads-first : (w : Table) (kept : List (Option Value)) (n : Name) (o : Op) (e : Submission) (t : ℕ) (kind : Kind) (width height maxval side : ℕ) (a b c : Input) (plan : Plan) (u : ProgressView)
     → LooksUp w kept n o e t (shape.Image kind width height maxval) a b c → IsMadeOf plan kind width height maxval side u → IsInput w e u
 reads-first w kept n o e t kind width height maxval side a b c plan u l made =
     let takes = accepted-takes w kept n o l.accepted in
@@ -108,7 +108,7 @@ reads-first w kept n o e t kind width height maxval side a b c plan u l made =
       third = subst Q (sym l.submission) takes.third;
     }
 
-pub planned-by : (w : Table) (kept : List (Option Value)) (n : Name) (o : Op) (e : Submission) (t : ℕ) (kind : Kind) (width height maxval side : ℕ) (a b c : Input) (plan : Plan) (u : Underway)
+pub planned-by : (w : Table) (kept : List (Option Value)) (n : Name) (o : Op) (e : Submission) (t : ℕ) (kind : Kind) (width height maxval side : ℕ) (a b c : Input) (plan : Plan) (u : ProgressView)
     → LooksUp w kept n o e t (shape.Image kind width height maxval) a b c → fault_in o a b c ≡ None → IsPlanOf o a b c plan → IsMadeOf plan kind width height maxval side u → IsPlannedBy w kept o e side u
 planned-by w kept n o e t kind width height maxval side a b c plan u l none planned made =
     let s = shape.Image kind width height maxval in

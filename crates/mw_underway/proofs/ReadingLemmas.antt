@@ -15,7 +15,7 @@ use Rattle.mw_grid.specs.Grids.{Tiling, tile_at, tile_count}
 use Rattle.mw_grid.proofs.Tiles.{HasTiles, tile_begins, tile_within}
 use Rattle.mw_task.specs.WindowTasks.{FitsStep, WindowTask}
 use Rattle.mw_tile.specs.Windows.{SourceWindow, window_of}
-use Rattle.mw_progress.specs.Underway.{Underway, IsWhole, number_of}
+use Rattle.mw_progress.specs.ProgressView.{ProgressView, IsWhole, number_of}
 use Rattle.mw_work.specs.Works.{IsReadyOrRuns}
 use Rattle.mw_work.proofs.Reading.{source-placed, source-plane, source-within}
 use Rattle.mw_work.proofs.Windows.{place_of_task-number_of, task_of-number_of}
@@ -28,13 +28,13 @@ grown-some w h r t inside wide high =
     let down = inside.down in
     (omega (arith, across, wide), omega (arith, down, high))
 
-can-read : (u : Underway) (place : Rect) (all ss : List Source) → ((s : Source) → Contains ss s → Contains all s) → ((k : ℕ) → Contains all (FromStep k) → CanRead u place (FromStep k)) → CanReadAll u place ss
+can-read : (u : ProgressView) (place : Rect) (all ss : List Source) → ((s : Source) → Contains ss s → Contains all s) → ((k : ℕ) → Contains all (FromStep k) → CanRead u place (FromStep k)) → CanReadAll u place ss
 can-read u place all [] within there = tt
 can-read u place all (FromInput i ∷ ss) within there = (tt, can-read u place all ss (λ s has. within s (contains-cons (FromInput i) s ss has)) there)
 can-read u place all (FromStep k ∷ ss) within there = (there k (within (FromStep k) (0, omega arith, refl)), can-read u place all ss (λ s has. within s (contains-cons (FromStep k) s ss has)) there)
 
 -- the task reads what is there
-pub task-can-read : (u : Underway) (n : ℕ) → IsWhole u → n < task_count u.progress → IsReadyOrRuns u.progress n → CanReadAll u (place_of_task u.progress n) (planned_of u.progress n).sources
+pub task-can-read : (u : ProgressView) (n : ℕ) → IsWhole u → n < task_count u.progress → IsReadyOrRuns u.progress n → CanReadAll u (place_of_task u.progress n) (planned_of u.progress n).sources
 task-can-read u n whole within runs =
     let ss = (planned_of u.progress n).sources in
     can-read u (place_of_task u.progress n) ss ss (λ s has. has) (λ k has. (source-within u n k whole within has, source-plane u n k whole has, source-placed u n k whole within runs has))
@@ -42,14 +42,14 @@ task-can-read u n whole within runs =
 -- ---- the parts of a task
 
 -- the rectangle that is read, off the grid and the step
-pub place-is : (u : Underway) (step tile : ℕ) (g : Tiling) (r : Reach) (q : Planned) (place : Rect) → IsWhole u → tile < tile_count u.tiling → g ≡ u.tiling → q ≡ get_or u.progress.plan step nothing_planned
+pub place-is : (u : ProgressView) (step tile : ℕ) (g : Tiling) (r : Reach) (q : Planned) (place : Rect) → IsWhole u → tile < tile_count u.tiling → g ≡ u.tiling → q ≡ get_or u.progress.plan step nothing_planned
     → r ≡ reach_of (looks_at q.step) → place ≡ grown g.width g.height r (tile_at g tile) → place ≡ place_of_task u.progress (number_of u.progress step tile)
 place-is u step tile g r q place whole inside grid planned reach is =
     is ∙ ap (λ (x : Tiling). grown x.width x.height r (tile_at x tile)) grid ∙ ap (λ (x : Reach). grown u.tiling.width u.tiling.height x (tile_at u.tiling tile)) reach
     ∙ ap (λ (x : Planned). place_read x.step u.tiling.width u.tiling.height (tile_at u.tiling tile)) planned ∙ sym (place_of_task-number_of u step tile whole inside)
 
 -- the task of these windows is that on these sources
-pub task-is : (t : ℕ) (u : Underway) (step tile : ℕ) (g : Tiling) (r : Rect) (s : PlanStep) (q : Planned) (ws : List SourceWindow) (fs : List Picture) → IsWhole u → tile < tile_count u.tiling → g ≡ u.tiling
+pub task-is : (t : ℕ) (u : ProgressView) (step tile : ℕ) (g : Tiling) (r : Rect) (s : PlanStep) (q : Planned) (ws : List SourceWindow) (fs : List Picture) → IsWhole u → tile < tile_count u.tiling → g ≡ u.tiling
     → q ≡ get_or u.progress.plan step nothing_planned → s ≡ q.step → r ≡ tile_at g tile → ws ≡ map (window_of (place_of_task u.progress (number_of u.progress step tile))) fs
     → record { task = record { ticket = t; step = step; tile = tile }; rect = r; step = s; windows = ws } ≡ task_on t u (number_of u.progress step tile) fs
 task-is t u step tile g r s q ws fs whole inside grid planned same rect windows =
@@ -59,7 +59,7 @@ task-is t u step tile g r s q ws fs whole inside grid planned same rect windows 
     ∙ sym (task_of-number_of t u step tile (map (window_of (place_of_task u.progress (number_of u.progress step tile))) fs) whole inside)
 
 -- a task is made exactly of windows that fit
-pub task-or-none : (image : Option Picture) (t : ℕ) (u : Underway) (n : ℕ) (w : Option WindowTask) (d : WindowTask) → IsSome w ↔ FitsStep d.step d.rect d.windows → IfSome w (λ x. x ≡ d) → d.task.ticket ≡ t
+pub task-or-none : (image : Option Picture) (t : ℕ) (u : ProgressView) (n : ℕ) (w : Option WindowTask) (d : WindowTask) → IsSome w ↔ FitsStep d.step d.rect d.windows → IfSome w (λ x. x ≡ d) → d.task.ticket ≡ t
     → ((fs : List Picture) → AreSources image u (planned_of u.progress n).sources fs → d ≡ task_on t u n fs) → IsTaskOrNone image t u n w
 task-or-none image t u n None d fits value ticket is = λ fs sources read.
     let P : WindowTask → Type 0 = λ x. FitsStep x.step x.rect x.windows in
@@ -68,7 +68,7 @@ task-or-none image t u n None d fits value ticket is = λ fs sources read.
 task-or-none image t u n (Some w) d fits value ticket is = (λ fs sources. value ∙ is fs sources, ap (λ (x : WindowTask). x.task.ticket) value ∙ ticket)
 
 -- the rectangle that is read has a place
-pub place-some : (u : Underway) (tile : ℕ) (g : Tiling) (r : Reach) (place : Rect) → IsWhole u → tile < tile_count u.tiling → g ≡ u.tiling → place ≡ grown g.width g.height r (tile_at g tile)
+pub place-some : (u : ProgressView) (tile : ℕ) (g : Tiling) (r : Reach) (place : Rect) → IsWhole u → tile < tile_count u.tiling → g ≡ u.tiling → place ≡ grown g.width g.height r (tile_at g tile)
     → (1 ≤ place.width) × (1 ≤ place.height)
 place-some u tile g r place whole inside grid is =
     let h = u.tiling in

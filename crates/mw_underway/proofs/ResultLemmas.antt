@@ -16,21 +16,21 @@ use Rattle.mw_model.specs.Places.{IsWithin, grown}
 use Rattle.mw_model.specs.PlanSteps.{PlanStep, looks_at}
 use Rattle.mw_model.specs.Plans.{Plan, Planned, Source, FromInput, FromStep, IsSourceAt, images_of, planes}
 use Rattle.mw_model.specs.Refusals.{Table, outcome_at, submission_at}
-use Rattle.mw_model.specs.Stands.{Seen, StandsFor, inputs_there, input_values, progress_at, true_planes}
+use Rattle.mw_model.specs.Stands.{CoreView, StandsFor, inputs_there, input_values, progress_at, true_planes}
 use Rattle.mw_model.specs.Tasks.{Progress, cells_in, flag, is_running, nothing_planned, place_of_task, planned_of, sources_of, task_count}
 use Rattle.mw_model.specs.Values.{image_of, value_at}
 use Rattle.mw_grid.specs.Grids.{Tiling, tile_at, tile_count}
 use Rattle.mw_tile.specs.Windows.{SourceWindow, window_of}
 use Rattle.mw_tiles.specs.Tiles.{IsPlaneOf}
-use Rattle.mw_task.specs.declared.made.Made.{Made}
+use Rattle.mw_task.specs.declared.tile_result.TileResult.{TileResult}
 use Rattle.mw_task.specs.Products.{IsMade}
 use Rattle.mw_task.specs.Sources.{HasFrame}
 use Rattle.mw_task.specs.WindowTasks.{FitsStep, IsBounded, WindowTask, tile_made, window_at}
-use Rattle.mw_task.proofs.TileCells.{cells_in_all, length-cells_in}
+use Rattle.mw_pieces.proofs.TileCells.{cells_in_all, length-cells_in}
 use Rattle.mw_plan.specs.PlansOf.{planes_read}
 use Rattle.mw_plan.proofs.Planes.{plane_is}
 use Rattle.mw_progress.specs.Levels.{Level, level_of, level_of_source, level_of_step, levels, no_level}
-use Rattle.mw_progress.specs.Underway.{Fits, IsWhole, Underway, level_of_plane, number_of, plane_at}
+use Rattle.mw_progress.specs.ProgressView.{Fits, IsWhole, ProgressView, level_of_plane, number_of, plane_at}
 use Rattle.mw_work.specs.Works.{true_task}
 use Rattle.mw_work.proofs.Going.{true-under}
 use Rattle.mw_work.proofs.Leveled.{get_or-map-level_of, level_of-plane_of, levels-planes}
@@ -59,7 +59,7 @@ window-bounded f place picture within = λ k d lt.
     subst P (sym (get_or_default_zero (cells_in place (sample f)) k d lt))
     (cells_in_all P place (sample f) (λ i j a b. sample_bounded f picture (place.x + i) (place.y + j) (omega arith) (omega arith)) k (omega (arith, length-cells_in place (sample f))))
 
-pub input-shown : (image : Option Picture) (u : Underway) (place : Rect) (k : ℕ) (w : SourceWindow) → IfSome image (HasFrame u.tiling.width u.tiling.height) → HasLevel image u → IfSome image IsPicture
+pub input-shown : (image : Option Picture) (u : ProgressView) (place : Rect) (k : ℕ) (w : SourceWindow) → IfSome image (HasFrame u.tiling.width u.tiling.height) → HasLevel image u → IfSome image IsPicture
     → IsWithin place u.tiling.width u.tiling.height → option_map (window_of place) image ≡ Some w → IsShown image u place (FromInput k) w
 input-shown None u place k w frame level picture within is = absurd (none-is-some is)
 input-shown (Some f) u place k w frame level picture within is =
@@ -72,7 +72,7 @@ input-shown (Some f) u place k w frame level picture within is =
       bounded = subst IsBounded same (window-bounded f place picture (subst Wide (sym frame.width) (subst High (sym frame.height) within)));
     }
 
-pub step-shown : (image : Option Picture) (u : Underway) (place : Rect) (k : ℕ) (w : SourceWindow) → IsWhole u → k < length u.progress.plan → ((f : Picture) → IsPlaneOf (plane_at u k) f → w ≡ window_of place f)
+pub step-shown : (image : Option Picture) (u : ProgressView) (place : Rect) (k : ℕ) (w : SourceWindow) → IsWhole u → k < length u.progress.plan → ((f : Picture) → IsPlaneOf (plane_at u k) f → w ≡ window_of place f)
     → (w.kind ≡ (plane_at u k).kind) × (w.maxval ≡ (plane_at u k).maxval) → IsBounded w → IsShown image u place (FromStep k) w
 step-shown image u place k w whole within is level bounded =
     let same : level_of_window w ≡ level_of_plane (plane_at u k) = λ i. record { kind = level.0 i; maxval = level.1 i } in
@@ -84,7 +84,7 @@ step-shown image u place k w whole within is level bounded =
 
 -- ---- the windows of all sources
 
-shown-windows : (image : Option Picture) (u : Underway) (place : Rect) (ss : List Source) (ws : List SourceWindow) (fs : List Picture) → AreShown image u place ss ws → AreSources image u ss fs → ws ≡ map (window_of place) fs
+shown-windows : (image : Option Picture) (u : ProgressView) (place : Rect) (ss : List Source) (ws : List SourceWindow) (fs : List Picture) → AreShown image u place ss ws → AreSources image u ss fs → ws ≡ map (window_of place) fs
 shown-windows image u place [] [] [] shown sources = refl
 shown-windows image u place [] [] (f ∷ fs) shown sources = absurd sources
 shown-windows image u place [] (w ∷ ws) fs shown sources = absurd shown
@@ -96,7 +96,7 @@ shown-windows image u place (s ∷ ss) (w ∷ ws) (f ∷ fs) shown sources =
     let rest = shown-windows image u place ss ws fs shown.1 sources.1 in
     λ i. first i ∷ rest i
 
-shown-levels : (image : Option Picture) (u : Underway) (place : Rect) (ss : List Source) (ws : List SourceWindow) → AreShown image u place ss ws → map level_of_window ws ≡ map (level_of_source u.input (levels u.progress.plan u.input)) ss
+shown-levels : (image : Option Picture) (u : ProgressView) (place : Rect) (ss : List Source) (ws : List SourceWindow) → AreShown image u place ss ws → map level_of_window ws ≡ map (level_of_source u.input (levels u.progress.plan u.input)) ss
 shown-levels image u place [] [] shown = refl
 shown-levels image u place [] (w ∷ ws) shown = absurd shown
 shown-levels image u place (s ∷ ss) [] shown = absurd shown
@@ -105,7 +105,7 @@ shown-levels image u place (s ∷ ss) (w ∷ ws) shown =
     let rest = shown-levels image u place ss ws shown.1 in
     λ i. first i ∷ rest i
 
-shown-bounded : (image : Option Picture) (u : Underway) (place : Rect) (ss : List Source) (ws : List SourceWindow) → AreShown image u place ss ws → AllByRecursion IsBounded ws
+shown-bounded : (image : Option Picture) (u : ProgressView) (place : Rect) (ss : List Source) (ws : List SourceWindow) → AreShown image u place ss ws → AllByRecursion IsBounded ws
 shown-bounded image u place [] [] shown = tt
 shown-bounded image u place [] (w ∷ ws) shown = absurd shown
 shown-bounded image u place (s ∷ ss) [] shown = absurd shown
@@ -114,7 +114,7 @@ shown-bounded image u place (s ∷ ss) (w ∷ ws) shown = (shown.0.bounded, show
 -- ---- a result, part by part
 
 -- what is looked up of the work for a result: its tiles, its step, and the rectangle that it reads
-pub record IsLookedUp (u : Underway) (d : WindowTask) (g : Tiling) (q : Planned) (place : Rect) : Type 0 where
+pub record IsLookedUp (u : ProgressView) (d : WindowTask) (g : Tiling) (q : Planned) (place : Rect) : Type 0 where
   pub whole : IsWhole u
   pub grid : g ≡ u.tiling
   pub planned : q ≡ get_or u.progress.plan d.task.step nothing_planned
@@ -124,7 +124,7 @@ pub record IsLookedUp (u : Underway) (d : WindowTask) (g : Tiling) (q : Planned)
   pub running : is_running u.progress (result_number u d) ≡ true
 
 -- the same of what was asked of the work, by the numbers that the result bears
-pub looked-up : (u : Underway) (d : WindowTask) (id : TaskId) (g : Tiling) (r : Reach) (q : Planned) (place : Rect) → id ≡ d.task → IsWhole u → g ≡ u.tiling → q ≡ get_or u.progress.plan id.step nothing_planned
+pub looked-up : (u : ProgressView) (d : WindowTask) (id : TaskId) (g : Tiling) (r : Reach) (q : Planned) (place : Rect) → id ≡ d.task → IsWhole u → g ≡ u.tiling → q ≡ get_or u.progress.plan id.step nothing_planned
     → r ≡ reach_of (looks_at q.step) → place ≡ grown g.width g.height r (tile_at g id.tile)
     → (id.step < length u.progress.plan) × (id.tile < tile_count u.tiling) × (is_running u.progress (number_of u.progress id.step id.tile) ≡ true) → IsLookedUp u d g q place
 looked-up u d id g r q place same whole grid planned reach is runs =
@@ -143,14 +143,14 @@ looked-up u d id g r q place same whole grid planned reach is runs =
       running = running.2;
     }
 
-counted-in : (u : Underway) (d : WindowTask) → IsWhole u → d.task.tile < tile_count u.tiling → d.task.tile < length u.progress.tiles
+counted-in : (u : ProgressView) (d : WindowTask) → IsWhole u → d.task.tile < tile_count u.tiling → d.task.tile < length u.progress.tiles
 counted-in u d whole inside = omega (arith, inside, length-tiles u whole)
 
 -- the step that a result names
-planned-is : (u : Underway) (d : WindowTask) → IsWhole u → d.task.tile < tile_count u.tiling → planned_of u.progress (result_number u d) ≡ get_or u.progress.plan d.task.step nothing_planned
+planned-is : (u : ProgressView) (d : WindowTask) → IsWhole u → d.task.tile < tile_count u.tiling → planned_of u.progress (result_number u d) ≡ get_or u.progress.plan d.task.step nothing_planned
 planned-is u d whole inside = planned_of-number_of u.progress d.task.step d.task.tile (counted-in u d whole inside)
 
-pub result-of : (image : Option Picture) (u : Underway) (d : WindowTask) (g : Tiling) (q : Planned) (place : Rect) → IsLookedUp u d g q place → d.rect ≡ tile_at g d.task.tile → d.step ≡ q.step
+pub result-of : (image : Option Picture) (u : ProgressView) (d : WindowTask) (g : Tiling) (q : Planned) (place : Rect) → IsLookedUp u d g q place → d.rect ≡ tile_at g d.task.tile → d.step ≡ q.step
     → AreShown image u place q.sources d.windows → IsResultOf image u d
 result-of image u d g q place at rect step shown =
     let n = result_number u d in
@@ -169,20 +169,20 @@ result-of image u d g q place at rect step shown =
       bounded = shown-bounded image u place q.sources d.windows shown;
     }
 
-pub found-rect : (image : Option Picture) (u : Underway) (d : WindowTask) (g : Tiling) → IsWhole u → g ≡ u.tiling → IsFoundOf image u d → d.rect ≡ tile_at g d.task.tile
+pub found-rect : (image : Option Picture) (u : ProgressView) (d : WindowTask) (g : Tiling) → IsWhole u → g ≡ u.tiling → IsFoundOf image u d → d.rect ≡ tile_at g d.task.tile
 found-rect image u d g whole grid found =
     ap (λ (x : WindowTask). x.rect) found.is ∙ tile_of_task-number_of u d.task.step d.task.tile whole found.inside ∙ ap (λ (x : Tiling). tile_at x d.task.tile) (sym grid)
 
-pub found-sources : (image : Option Picture) (u : Underway) (d : WindowTask) (q : Planned) → IsWhole u → q ≡ get_or u.progress.plan d.task.step nothing_planned → (found : IsFoundOf image u d) → AreSources image u q.sources found.sources
+pub found-sources : (image : Option Picture) (u : ProgressView) (d : WindowTask) (q : Planned) → IsWhole u → q ≡ get_or u.progress.plan d.task.step nothing_planned → (found : IsFoundOf image u d) → AreSources image u q.sources found.sources
 found-sources image u d q whole planned found =
     let Of : Planned → Type 0 = λ x. AreSources image u x.sources found.sources in
     subst Of (planned-is u d whole found.inside ∙ sym planned) found.are
 
-pub found-windows : (image : Option Picture) (u : Underway) (d : WindowTask) (place : Rect) → place ≡ place_of_task u.progress (result_number u d) → (found : IsFoundOf image u d) → d.windows ≡ map (window_of place) found.sources
+pub found-windows : (image : Option Picture) (u : ProgressView) (d : WindowTask) (place : Rect) → place ≡ place_of_task u.progress (result_number u d) → (found : IsFoundOf image u d) → d.windows ≡ map (window_of place) found.sources
 found-windows image u d place is found = ap (λ (x : WindowTask). x.windows) found.is ∙ ap (λ (r : Rect). map (window_of r) found.sources) (sym is)
 
 -- what the task reads is there
-pub looked-up-there : (u : Underway) (d : WindowTask) (g : Tiling) (q : Planned) (place : Rect) → IsLookedUp u d g q place → CanReadAll u place q.sources
+pub looked-up-there : (u : ProgressView) (d : WindowTask) (g : Tiling) (q : Planned) (place : Rect) → IsLookedUp u d g q place → CanReadAll u place q.sources
 looked-up-there u d g q place at =
     let n = result_number u d in
     let known = number_of-within u.progress d.task.step d.task.tile at.within (counted-in u d at.whole at.inside) in
@@ -220,7 +220,7 @@ level-made d =
     sym (ap (λ (l : Level). level_of_step d.step (l ∷ [])) first)
 
 -- what was made of a result fits its step and its tile
-pub result-fits : (image : Option Picture) (u : Underway) (d : WindowTask) (x : Made) → IsWhole u → IsAllowed u.progress.plan u.input → IsResultOf image u d → FitsStep d.step d.rect d.windows → IsMade d x
+pub result-fits : (image : Option Picture) (u : ProgressView) (d : WindowTask) (x : TileResult) → IsWhole u → IsAllowed u.progress.plan u.input → IsResultOf image u d → FitsStep d.step d.rect d.windows → IsMade d x
     → Fits u d.task.step d.task.tile x
 result-fits image u d x whole allowed r fits is =
     let k = d.task.step in
@@ -243,12 +243,12 @@ result-fits image u d x whole allowed r fits is =
 -- ---- results that are true
 
 -- what the work under a ticket reads, where its inputs are there
-record ReadsTrue (c : Seen) (m : Machine) (t : ℕ) (u : Underway) (image : ℕ) : Type 0 where
+record ReadsTrue (c : CoreView) (m : Machine) (t : ℕ) (u : ProgressView) (image : ℕ) : Type 0 where
   pub level : HasLevel (image_of (value_at c.kept image)) u
   pub sources : (n : ℕ) → n < task_count u.progress → AreSources (image_of (value_at c.kept image)) u (planned_of u.progress n).sources (sources_of u.progress (images_of (input_values m t)) (true_planes m t u.progress) n)
 
 -- the work is pending under the ticket, as it was planned, and reads this image
-record IsPendingOn (c : Seen) (m : Machine) (t : ℕ) (u : Underway) (image : ℕ) : Type 0 where
+record IsPendingOn (c : CoreView) (m : Machine) (t : ℕ) (u : ProgressView) (image : ℕ) : Type 0 where
   pub stands : StandsFor c m
   pub within : t < length c.table.names
   pub pending : outcome_at c.table.outcomes t ≡ outcome.Pending
@@ -258,14 +258,14 @@ record IsPendingOn (c : Seen) (m : Machine) (t : ℕ) (u : Underway) (image : �
   pub first : (submission_at c.table.submissions t).inputs.a ≡ Some image
 
 -- the image that is read is that of the first input
-kept-of : (c : Seen) (m : Machine) (t : ℕ) (u : Underway) (image : ℕ) → IsPendingOn c m t u image → inputs_there m.table t ≡ true → ReadsKept c m t u image
+kept-of : (c : CoreView) (m : Machine) (t : ℕ) (u : ProgressView) (image : ℕ) → IsPendingOn c m t u image → inputs_there m.table t ≡ true → ReadsKept c m t u image
 kept-of c m t u image p there =
     let told = p.planned.input in
     let same : told.image ≡ image = cc (told.first, p.first) in
     let Kept : ℕ → Type 0 = λ i. ReadsKept c m t u i in
     subst Kept same (reads-kept c m t u p.stands p.within p.pending there told)
 
-reads-true : (c : Seen) (m : Machine) (t : ℕ) (u : Underway) (image n : ℕ) → IsPendingOn c m t u image → is_running u.progress n ≡ true → ReadsTrue c m t u image
+reads-true : (c : CoreView) (m : Machine) (t : ℕ) (u : ProgressView) (image n : ℕ) → IsPendingOn c m t u image → is_running u.progress n ≡ true → ReadsTrue c m t u image
 reads-true c m t u image n p runs =
     let s = p.stands in
     let work = work-of c m t u.progress s p.within p.pending p.work in
@@ -282,7 +282,7 @@ reads-true c m t u image n p runs =
     }
 
 -- a result that is tested against what is kept is the true task
-pub result-true : (c : Seen) (m : Machine) (u : Underway) (image : ℕ) (d : WindowTask) → StandsFor c m → d.task.ticket < length c.table.names → outcome_at c.table.outcomes d.task.ticket ≡ outcome.Pending
+pub result-true : (c : CoreView) (m : Machine) (u : ProgressView) (image : ℕ) (d : WindowTask) → StandsFor c m → d.task.ticket < length c.table.names → outcome_at c.table.outcomes d.task.ticket ≡ outcome.Pending
     → progress_at c.work d.task.ticket ≡ Some u.progress → IsWhole u → IsPlannedAt c.table d.task.ticket u → (submission_at c.table.submissions d.task.ticket).inputs.a ≡ Some image
     → IsResultOf (image_of (value_at c.kept image)) u d → d ≡ true_task m d.task.ticket u.progress (result_number u d)
 result-true c m u image d s within pending work whole planned first r =
@@ -294,11 +294,11 @@ result-true c m u image d s within pending work whole planned first r =
     r.task (sources_of u.progress (images_of (input_values m t)) (true_planes m t u.progress) n) (reads.sources n known)
 
 -- the true task of a number, as a result, has this number
-number-true : (m : Machine) (u : Underway) (t n : ℕ) (d : WindowTask) → d ≡ true_task m t u.progress n → result_number u d ≡ n
+number-true : (m : Machine) (u : ProgressView) (t n : ℕ) (d : WindowTask) → d ≡ true_task m t u.progress n → result_number u d ≡ n
 number-true m u t n d is = ap (λ (x : WindowTask). number_of u.progress x.task.step x.task.tile) is ∙ number_of-numbers u.progress n
 
 -- a true result is found in what is kept
-pub result-found : (c : Seen) (m : Machine) (u : Underway) (image : ℕ) (d : WindowTask) → StandsFor c m → d.task.ticket < length c.table.names → outcome_at c.table.outcomes d.task.ticket ≡ outcome.Pending
+pub result-found : (c : CoreView) (m : Machine) (u : ProgressView) (image : ℕ) (d : WindowTask) → StandsFor c m → d.task.ticket < length c.table.names → outcome_at c.table.outcomes d.task.ticket ≡ outcome.Pending
     → progress_at c.work d.task.ticket ≡ Some u.progress → IsWhole u → IsPlannedAt c.table d.task.ticket u → (submission_at c.table.submissions d.task.ticket).inputs.a ≡ Some image
     → IsResult c m d → IsFoundOf (image_of (value_at c.kept image)) u d
 result-found c m u image d s within pending work whole planned first r =

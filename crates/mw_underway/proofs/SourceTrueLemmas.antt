@@ -10,10 +10,10 @@ use Rattle.mw_model.specs.Refusals.{Table, outcome_at, submission_at}
 use Rattle.mw_model.specs.Machine.{Machine, values}
 use Rattle.mw_model.specs.Plans.{Source, FromInput, FromStep, IsSourceAt, images_of, is_sum, no_picture, plane_of_source}
 use Rattle.mw_model.specs.Tasks.{nothing_planned, planned_of, sources_of, step_number}
-use Rattle.mw_model.specs.Stands.{Seen, StandsFor, inputs_of, inputs_there, input_values, true_planes}
+use Rattle.mw_model.specs.Stands.{CoreView, StandsFor, inputs_of, inputs_there, input_values, true_planes}
 use Rattle.mw_task.specs.Sources.{HasFrame}
 use Rattle.mw_tiles.specs.Tiles.{IsPlaneOf}
-use Rattle.mw_progress.specs.Underway.{Underway, IsWhole, IsPlaneSource, plane_at}
+use Rattle.mw_progress.specs.ProgressView.{ProgressView, IsWhole, IsPlaneSource, plane_at}
 use Rattle.mw_stands.proofs.KeptInputs.{kept_inputs}
 use Rattle.mw_underway.specs.SourceWindows.{IsInputAt, AreSources}
 use Rattle.mw_underway.proofs.InputLemmas.{reads-image}
@@ -24,7 +24,7 @@ heads : (f g : ℕ → Option Value) (x : ℕ) (xs : List ℕ) → map f (x ∷ 
 heads f g x xs e = cc
 
 -- the image that a ticket reads is kept, once its inputs are there
-pub kept-first : (c : Seen) (m : Machine) (t : ℕ) (u : Underway) → StandsFor c m → t < length c.table.names → outcome_at c.table.outcomes t ≡ outcome.Pending → inputs_there m.table t ≡ true
+pub kept-first : (c : CoreView) (m : Machine) (t : ℕ) (u : ProgressView) → StandsFor c m → t < length c.table.names → outcome_at c.table.outcomes t ≡ outcome.Pending → inputs_there m.table t ≡ true
     → (r : IsInputAt c.table t u) → value_at c.kept r.image ≡ value_at (values m) r.image
 kept-first c m t u s within pending there r =
     let inputs = (submission_at c.table.submissions t).inputs in
@@ -37,7 +37,7 @@ kept-first c m t u s within pending there r =
 
 -- ---- sources
 
-sources-are : (u : Underway) (f : Picture) (made : List Picture) (k : ℕ) → HasFrame u.tiling.width u.tiling.height f → k < length u.progress.plan
+sources-are : (u : ProgressView) (f : Picture) (made : List Picture) (k : ℕ) → HasFrame u.tiling.width u.tiling.height f → k < length u.progress.plan
     → ((j : ℕ) → j < length u.progress.plan → is_sum (get_or u.progress.plan j nothing_planned).step ≡ false → IsPlaneOf (plane_at u j) (get_or made j no_picture))
     → (ss : List Source) → AllByRecursion (IsSourceAt 1 k) ss → AllByRecursion (IsPlaneSource u.progress.plan) ss → AreSources (Some f) u ss (map (plane_of_source (f ∷ []) made) ss)
 sources-are u f made k frame within planes [] before apart = tt
@@ -49,14 +49,14 @@ frame-of : (f : Picture) (k : Kind) (w h m : ℕ) → shape_of_picture f ≡ sha
 frame-of f k w h m e = record { width = cc; height = cc }
 
 -- the image that a ticket reads, on both sides
-pub record ReadsKept (c : Seen) (m : Machine) (t : ℕ) (u : Underway) (image : ℕ) : Type 0 where
+pub record ReadsKept (c : CoreView) (m : Machine) (t : ℕ) (u : ProgressView) (image : ℕ) : Type 0 where
   pub picture : Picture
   pub kept : image_of (value_at c.kept image) ≡ Some picture
   pub images : images_of (input_values m t) ≡ picture ∷ []
   pub shape : shape_of_picture picture ≡ shape.Image u.input.kind u.tiling.width u.tiling.height u.input.maxval
   pub frame : HasFrame u.tiling.width u.tiling.height picture
 
-pub reads-kept : (c : Seen) (m : Machine) (t : ℕ) (u : Underway) → StandsFor c m → t < length c.table.names → outcome_at c.table.outcomes t ≡ outcome.Pending → inputs_there m.table t ≡ true
+pub reads-kept : (c : CoreView) (m : Machine) (t : ℕ) (u : ProgressView) → StandsFor c m → t < length c.table.names → outcome_at c.table.outcomes t ≡ outcome.Pending → inputs_there m.table t ≡ true
     → (r : IsInputAt c.table t u) → ReadsKept c m t u r.image
 reads-kept c m t u s within pending there r =
     let Named : Table → Type 0 = λ w. t < length w.names in
@@ -73,7 +73,7 @@ reads-kept c m t u s within pending there r =
     }
 
 -- the sources of each task are those by the definitions, where the planes are
-pub sources-true : (c : Seen) (m : Machine) (t : ℕ) (u : Underway) (n image : ℕ) → ReadsKept c m t u image → IsWhole u → step_number u.progress n < length u.progress.plan
+pub sources-true : (c : CoreView) (m : Machine) (t : ℕ) (u : ProgressView) (n image : ℕ) → ReadsKept c m t u image → IsWhole u → step_number u.progress n < length u.progress.plan
     → ((j : ℕ) → j < length u.progress.plan → is_sum (get_or u.progress.plan j nothing_planned).step ≡ false → IsPlaneOf (plane_at u j) (get_or (true_planes m t u.progress) j no_picture))
     → AreSources (image_of (value_at c.kept image)) u (planned_of u.progress n).sources (sources_of u.progress (images_of (input_values m t)) (true_planes m t u.progress) n)
 sources-true c m t u n image reads whole within planes =

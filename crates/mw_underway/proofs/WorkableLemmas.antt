@@ -15,7 +15,7 @@ use Rattle.mw_plan.specs.PlansOf.{AreValuesOf, CanBeMade, HaveFrame, IsPlanOf, I
 use Rattle.mw_plan.specs.declared.inputs.Input.{Input}
 use Rattle.mw_plan.specs.declared.inputs.Input.TheVariants as input
 use Rattle.mw_progress.specs.Levels.{Level, level_of}
-use Rattle.mw_progress.specs.Underway.{IsWorkable}
+use Rattle.mw_progress.specs.ProgressView.{IsWorkable}
 use Rattle.mw_work.proofs.Fresh.{only-image}
 use Rattle.mw_work.proofs.Workable.{IsOnImage, levels-fit}
 use Rattle.mw_underway.specs.Planning.{IsAllowed, level_of_shape}
@@ -102,9 +102,9 @@ workable o a b c plan s is first fits =
     let same : level_of f ≡ level_of_shape s = ap level_of (first-image n s (b ∷ c ∷ []) f (subst Taken first only.1)) ∙ blank-level s shaped.1 in
     let Frame : List Picture → Type 0 = HaveFrame f.width f.height in
     let frame : HaveFrame f.width f.height (images_of vs) = subst Frame (sym only.1) ((refl, refl), tt) in
-    let Made : List Picture → Type 0 = λ fs. (k : ℕ) → k < length plan → CanBeMade (get_or plan k nothing_planned).step (planes_read plan fs f.width f.height k) in
+    let TileResult : List Picture → Type 0 = λ fs. (k : ℕ) → k < length plan → CanBeMade (get_or plan k nothing_planned).step (planes_read plan fs f.width f.height k) in
     let sources : (k : ℕ) → AllByRecursion (IsSourceAt 1 k) (get_or plan k nothing_planned).sources = λ k. subst (λ (x : ℕ). AllByRecursion (IsSourceAt x k) (get_or plan k nothing_planned).sources) is.one (is.sources k) in
-    let made = subst Made only.1 (λ k within. is.made vs f.width f.height k values frame within) in
+    let made = subst TileResult only.1 (λ k within. is.made vs f.width f.height k values frame within) in
     let on : IsOnImage plan f f.width f.height = record { image = only.2; sources = sources; made = made } in
     let Both : Level → Type 0 = λ l. IsWorkable plan l × IsAllowed plan l in
     subst Both same (

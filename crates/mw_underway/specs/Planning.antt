@@ -13,7 +13,7 @@ use Rattle.mw_model.specs.Machine.{inputs_from}
 use Rattle.mw_model.specs.Tasks.{nothing_planned}
 use Rattle.mw_task.specs.WindowTasks.{source_count}
 use Rattle.mw_progress.specs.Levels.{Level, no_level, level_of_source, levels}
-use Rattle.mw_progress.specs.Underway.{Underway, IsWhole, fresh}
+use Rattle.mw_progress.specs.ProgressView.{ProgressView, IsWhole, fresh}
 use Rattle.mw_plan.specs.PlansOf.{IsPlanOf}
 use Rattle.mw_plan.specs.Tables.{AreInputsOf, IsInputOf}
 use Rattle.mw_plan.specs.declared.inputs.Input.{Input}
@@ -57,13 +57,13 @@ pub record IsAllowed (plan : Plan) (input : Level) : Type 0 where
   pub kinds : (k : ℕ) → k < length plan → LevelsAllow (slice_index_or plan k nothing_planned).step (levels_read plan input k)
 
 -- The work of a command that stands so in the table reads its first input, each of its steps can be made of what it reads, and the last one makes an image where the result is one.
-pub record IsPlannedOn (w : Table) (e : Submission) (u : Underway) : Type 0 where
+pub record IsPlannedOn (w : Table) (e : Submission) (u : ProgressView) : Type 0 where
   pub input : IsInput w e u
   pub allowed : IsAllowed u.progress.plan u.input
   pub last : is_image e.shape ≡ true → is_sum (slice_index_or u.progress.plan (length u.progress.plan - 1) nothing_planned).step ≡ false
 
 -- the same of the work under a ticket
-abbrev pub IsPlannedAt : Table → ℕ → Underway → Type 0
+abbrev pub IsPlannedAt : Table → ℕ → ProgressView → Type 0
 IsPlannedAt w t u = IsPlannedOn w (submission_at w.submissions t) u
 
 -- ---- commands that are accepted
@@ -88,7 +88,7 @@ pub record IsPlannedRun (w : Table) (kept : List (Option Value)) (o : Op) (a b c
   pub plan_of : IsPlanOf o a b c plan
 
 -- The work of a command that is accepted: its plan is made of what the table and what is kept tell of its inputs, its tiles have this side, and nothing of it was started.
-pub record IsPlannedBy (w : Table) (kept : List (Option Value)) (o : Op) (e : Submission) (side : ℕ) (u : Underway) : Type 0 where
+pub record IsPlannedBy (w : Table) (kept : List (Option Value)) (o : Op) (e : Submission) (side : ℕ) (u : ProgressView) : Type 0 where
   pub a : Input
   pub b : Input
   pub c : Input

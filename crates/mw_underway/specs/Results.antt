@@ -9,7 +9,7 @@ use Rattle.mw_grid.specs.Grids.{tile_count}
 use Rattle.mw_tile.specs.Windows.{SourceWindow}
 use Rattle.mw_task.specs.WindowTasks.{WindowTask, IsBounded}
 use Rattle.mw_progress.specs.Levels.{Level, level_of, level_of_source, levels}
-use Rattle.mw_progress.specs.Underway.{Underway, number_of}
+use Rattle.mw_progress.specs.ProgressView.{ProgressView, number_of}
 use Rattle.mw_underway.specs.SourceWindows.{AreSources, IsTaskOf, IsWindowOf, task_on}
 use Rattle.mw_underway.specs.Planning.{levels_read}
 
@@ -18,28 +18,28 @@ abbrev pub level_of_window : SourceWindow → Level
 level_of_window w = record { kind = w.kind; maxval = w.maxval }
 
 -- the number of the task that a result is of
-abbrev pub result_number : Underway → WindowTask → ℕ
+abbrev pub result_number : ProgressView → WindowTask → ℕ
 result_number u d = number_of u.progress d.task.step d.task.tile
 
 -- The window is that of the source, if it may be that of any; it is of the level that is read there, and has no sample over its maxval.
-pub record IsShown (image : Option Picture) (u : Underway) (place : Rect) (s : Source) (w : SourceWindow) : Type 0 where
+pub record IsShown (image : Option Picture) (u : ProgressView) (place : Rect) (s : Source) (w : SourceWindow) : Type 0 where
   pub window : IsWindowOf image u place s (Some w)
   pub level : level_of_window w ≡ level_of_source u.input (levels u.progress.plan u.input) s
   pub bounded : IsBounded w
 
 -- the same of all sources, in order
-abbrev pub AreShown : Option Picture → Underway → Rect → List Source → List SourceWindow → Type 0
+abbrev pub AreShown : Option Picture → ProgressView → Rect → List Source → List SourceWindow → Type 0
 AreShown image u place [] [] = Unit {0}
 AreShown image u place [] (w ∷ ws) = ⊥
 AreShown image u place (s ∷ ss) [] = ⊥
 AreShown image u place (s ∷ ss) (w ∷ ws) = IsShown image u place s w × AreShown image u place ss ws
 
 -- the image that is kept, if one is, is of the level that the work reads
-abbrev pub HasLevel : Option Picture → Underway → Type 0
+abbrev pub HasLevel : Option Picture → ProgressView → Type 0
 HasLevel image u = IfSome image (λ f. level_of f ≡ u.input)
 
 -- The result is that of a running task, on windows of its sources, of the levels that its step reads.
-pub record IsResultOf (image : Option Picture) (u : Underway) (d : WindowTask) : Type 0 where
+pub record IsResultOf (image : Option Picture) (u : ProgressView) (d : WindowTask) : Type 0 where
   pub within : d.task.step < length u.progress.plan
   pub inside : d.task.tile < tile_count u.tiling
   pub running : is_running u.progress (result_number u d) ≡ true
@@ -50,7 +50,7 @@ pub record IsResultOf (image : Option Picture) (u : Underway) (d : WindowTask) :
   pub bounded : AllByRecursion IsBounded d.windows
 
 -- There are sources on which the result is that of a running task, and the image that is kept, if one is, is of the level that the work reads.
-pub record IsFoundOf (image : Option Picture) (u : Underway) (d : WindowTask) : Type 0 where
+pub record IsFoundOf (image : Option Picture) (u : ProgressView) (d : WindowTask) : Type 0 where
   pub within : d.task.step < length u.progress.plan
   pub inside : d.task.tile < tile_count u.tiling
   pub running : is_running u.progress (result_number u d) ≡ true

@@ -14,7 +14,7 @@ use mw_model::{NoMemory, Rect};
 use mw_plan::{Source, Sources};
 use mw_progress::PlanProgress;
 use mw_store::Store;
-use mw_task::AnyWindow;
+use mw_task::SharedWindow;
 use std::alloc::Global;
 
 /// Where a task reads: the ticket of the image among the inputs of its command, and the rectangle of the frame.
@@ -44,7 +44,7 @@ fn window(
     work: &PlanProgress,
     reading: Reading,
     from: Source,
-) -> Result<Option<AnyWindow>, NoMemory>
+) -> Result<Option<SharedWindow>, NoMemory>
     requires image { reading.image < length store.now.table.names }
     requires some { (1 ≤ reading.place.width) × (1 ≤ reading.place.height) }
     requires within { IsWithin reading.place work.now.tiling.width work.now.tiling.height }
@@ -72,7 +72,7 @@ fn add(
     work: &PlanProgress,
     reading: Reading,
     from: Source,
-    found: &mut Vec<AnyWindow>,
+    found: &mut Vec<SharedWindow>,
 ) -> Result<bool, NoMemory>
     requires image { reading.image < length store.now.table.names }
     requires some { (1 ≤ reading.place.width) × (1 ≤ reading.place.height) }
@@ -94,7 +94,7 @@ pub(crate) fn windows(
     work: &PlanProgress,
     reading: Reading,
     from: Sources,
-) -> Result<Option<Vec<AnyWindow>>, NoMemory>
+) -> Result<Option<Vec<SharedWindow>>, NoMemory>
     requires image { reading.image < length store.now.table.names }
     requires some { (1 ≤ reading.place.width) × (1 ≤ reading.place.height) }
     requires within { IsWithin reading.place work.now.tiling.width work.now.tiling.height }

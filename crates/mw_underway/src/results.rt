@@ -14,7 +14,7 @@ use mw_model::Rect;
 use mw_plan::{Source, Sources};
 use mw_progress::PlanProgress;
 use mw_store::Store;
-use mw_task::{AnyWindow, TileDone};
+use mw_task::{SharedWindow, TileDone};
 
 /// Whether the image that is kept of the ticket, if one is, has the level that the work reads.
 fn has_level(store: &Store, work: &PlanProgress, image: u32) -> bool
@@ -34,7 +34,7 @@ fn is_window(
     work: &PlanProgress,
     reading: Reading,
     from: Source,
-    window: &AnyWindow,
+    window: &SharedWindow,
 ) -> bool
     requires image { reading.image < length store.now.table.names }
     requires some { (1 ≤ reading.place.width) × (1 ≤ reading.place.height) }
@@ -66,7 +66,7 @@ fn are_windows(
     work: &PlanProgress,
     reading: Reading,
     from: Sources,
-    windows: &[AnyWindow],
+    windows: &[SharedWindow],
 ) -> bool
     requires image { reading.image < length store.now.table.names }
     requires some { (1 ≤ reading.place.width) × (1 ≤ reading.place.height) }

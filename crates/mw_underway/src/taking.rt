@@ -4,7 +4,7 @@ ghost use Rattle.std.specs.Prelude.{◌≡◌, ◌<◌, length, slice_index, IfO
 ghost use Rattle.mw_model.specs.Values.{image_of, value_at};
 ghost use Rattle.mw_model.specs.Tasks.{ready_tasks};
 ghost use Rattle.mw_grid.specs.Grids.{tile_count};
-ghost use Rattle.mw_progress.specs.Underway.{number_of};
+ghost use Rattle.mw_progress.specs.ProgressView.{number_of};
 ghost use Rattle.mw_work.specs.Works.{IsReadyOrRuns};
 ghost use Rattle.mw_underway.specs.SourceWindows.{IsTaskOrNone, Takes};
 

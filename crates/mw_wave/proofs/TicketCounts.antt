@@ -9,7 +9,7 @@ use Rattle.std.proofs.lemmas.List.FromFn.{length-range_with_len}
 use Rattle.mw_model.specs.Refusals.{Table, outcome_at, is_pending}
 use Rattle.mw_model.specs.Machine.{Machine}
 use Rattle.mw_model.specs.Tasks.{Progress, task_count, flag, tasks_below, running_tasks, remaining_tasks}
-use Rattle.mw_model.specs.Stands.{Seen, IsWork, StandsFor, progress_at, running_count}
+use Rattle.mw_model.specs.Stands.{CoreView, IsWork, StandsFor, progress_at, running_count}
 use Rattle.mw_laws.proofs.RunStates.{reached}
 use Rattle.mw_stands.specs.Events.{WorkStays}
 use Rattle.mw_wave.specs.Work.{tasks_left}
@@ -26,10 +26,10 @@ both_right false b h = cc
 -- ---- counts under tickets
 
 -- a count of the tasks under a ticket, and over all tickets
-abbrev pub under : (Progress → ℕ) → Seen → ℕ → ℕ
+abbrev pub under : (Progress → ℕ) → CoreView → ℕ → ℕ
 under f c t = option_map_or f (progress_at c.work t) 0
 
-abbrev pub over_all : (Progress → ℕ) → Seen → ℕ
+abbrev pub over_all : (Progress → ℕ) → CoreView → ℕ
 over_all f c = total (under f c) (length c.table.names)
 
 pub progress_cases : (o : Option Progress) → (o ≡ None) ⊎ ((p : Progress) × (o ≡ Some p))
@@ -37,17 +37,17 @@ progress_cases None = inl refl
 progress_cases (Some p) = inr (p, refl)
 
 -- a settled ticket has no work
-no-work : (c : Seen) (m : Machine) (u : ℕ) → StandsFor c m → is_pending (outcome_at m.table.outcomes u) ≡ false → progress_at c.work u ≡ None
+no-work : (c : CoreView) (m : Machine) (u : ℕ) → StandsFor c m → is_pending (outcome_at m.table.outcomes u) ≡ false → progress_at c.work u ≡ None
 no-work c m u s settled_now = elim (progress_cases (progress_at c.work u)) [
   | inl none ↦ none
   | inr some ↦ let e = ap is_pending (s.idle u some.0 some.1) in absurd cc
 ]
 
-pub none-under : (f : Progress → ℕ) (c : Seen) (m : Machine) (u : ℕ) → StandsFor c m → is_pending (outcome_at m.table.outcomes u) ≡ false → under f c u ≡ 0
+pub none-under : (f : Progress → ℕ) (c : CoreView) (m : Machine) (u : ℕ) → StandsFor c m → is_pending (outcome_at m.table.outcomes u) ≡ false → under f c u ≡ 0
 none-under f c m u s settled_now = ap (λ o. option_map_or f o 0) (no-work c m u s settled_now)
 
 -- work that stays, or goes
-under-falls : (f : Progress → ℕ) (c new : Seen) (n : Machine) (u : ℕ) → StandsFor new n → WorkStays c new → u < length c.table.names → under f new u ≤ under f c u
+under-falls : (f : Progress → ℕ) (c new : CoreView) (n : Machine) (u : ℕ) → StandsFor new n → WorkStays c new → u < length c.table.names → under f new u ≤ under f c u
 under-falls f c new n u s stays l = elim (cases_Bool (is_pending (outcome_at new.table.outcomes u))) [
   | inl p ↦ let e : under f new u ≡ under f c u = ap (λ o. option_map_or f o 0) (stays u l p) in omega (arith, e)
   | inr p ↦
@@ -56,7 +56,7 @@ under-falls f c new n u s stays l = elim (cases_Bool (is_pending (outcome_at new
 ]
 
 -- a ticket that settles takes its tasks with it
-pub falls : (f : Progress → ℕ) (c new : Seen) (n : Machine) (t d : ℕ) → StandsFor new n → WorkStays c new → length new.table.names ≡ length c.table.names → t < length c.table.names
+pub falls : (f : Progress → ℕ) (c new : CoreView) (n : Machine) (t d : ℕ) → StandsFor new n → WorkStays c new → length new.table.names ≡ length c.table.names → t < length c.table.names
     → is_pending (outcome_at n.table.outcomes t) ≡ false → d ≤ under f c t → over_all f new + d ≤ over_all f c
 falls f c new n t d s stays long l settled_now some =
     let none : under f new t ≡ 0 = none-under f new n t s settled_now in
@@ -65,7 +65,7 @@ falls f c new n t d s stays long l settled_now some =
     omega (arith, same, fewer)
 
 -- where no task was running, and none is under a new ticket, none is running
-pub calm : (c new : Seen) (n : Machine) → StandsFor new n → WorkStays c new → running_count c ≡ 0
+pub calm : (c new : CoreView) (n : Machine) → StandsFor new n → WorkStays c new → running_count c ≡ 0
     → ((u : ℕ) → length c.table.names ≤ u → u < length new.table.names → under running_tasks new u ≡ 0) → running_count new ≡ 0
 calm c new n s stays none fresh = total-zero (under running_tasks new) (length new.table.names) (λ u l. elim (cases_lt u (length c.table.names)) [
   | inl b ↦ omega (arith, under-falls running_tasks c new n u s stays b, total-at (under running_tasks c) (length c.table.names) u b, none)
@@ -73,7 +73,7 @@ calm c new n s stays none fresh = total-zero (under running_tasks new) (length n
 ])
 
 -- the work under a pending ticket
-pub work-under : (c : Seen) (m : Machine) (t : ℕ) (p : Progress) → StandsFor c m → t < length c.table.names → progress_at c.work t ≡ Some p → IsWork m t p
+pub work-under : (c : CoreView) (m : Machine) (t : ℕ) (p : Progress) → StandsFor c m → t < length c.table.names → progress_at c.work t ≡ Some p → IsWork m t p
 work-under c m t p s l e =
     let named : t < length m.table.names = omega (arith, ap (λ (w : Table). length w.names) s.table, l) in
     let has = s.work t named (s.idle t p e) in
@@ -81,7 +81,7 @@ work-under c m t p s l e =
     let P : Progress → Type 0 = λ q. IsWork m t q in
     subst P same has.2
 
-pub count-under : (f : Progress → ℕ) (c : Seen) (t : ℕ) (p : Progress) → progress_at c.work t ≡ Some p → under f c t ≡ f p
+pub count-under : (f : Progress → ℕ) (c : CoreView) (t : ℕ) (p : Progress) → progress_at c.work t ≡ Some p → under f c t ≡ f p
 count-under f c t p e = ap (λ o. option_map_or f o 0) e
 
 -- a place that holds work is there
@@ -96,7 +96,7 @@ not_true true h = cc
 not_true false h = refl
 
 -- at most so many tasks are left
-pub few-left : (c : Seen) (m : Machine) → StandsFor c m → tasks_left c ≤ 65536 * 4194304
+pub few-left : (c : CoreView) (m : Machine) → StandsFor c m → tasks_left c ≤ 65536 * 4194304
 few-left c m s =
     let sound = reached c.log m s.run in
     let names = ap (λ (w : Table). length w.names) s.table in

@@ -2,7 +2,7 @@
 use Rattle.std.proofs.Common.{◌≡◌, ℕ, ◌+◌, ◌≤◌, [], ◌++◌, refl, sym, ap, ◌∙◌, arith, append_assoc}
 use Rattle.std.proofs.lemmas.List.{append-nil}
 use Rattle.mw_model.specs.Machine.{Machine}
-use Rattle.mw_model.specs.Stands.{Seen, StandsFor, running_count}
+use Rattle.mw_model.specs.Stands.{CoreView, StandsFor, running_count}
 use Rattle.mw_laws.proofs.RunStates.{reached}
 use Rattle.mw_laws.proofs.RunReplay.{run_join}
 use Rattle.mw_stands.specs.Counts.{NonePending}
@@ -12,7 +12,7 @@ use Rattle.mw_wave.specs.Work.{Worked, AllWorked}
 use Rattle.mw_wave.proofs.TicketCounts.{few-left}
 
 -- some turns and one more
-pub worked-on : (m : Machine) (old c new : Seen) (n : ℕ) → (h : Worked m old c n) → Worked h.state c new 1 → Worked m old new (n + 1)
+pub worked-on : (m : Machine) (old c new : CoreView) (n : ℕ) → (h : Worked m old c n) → Worked h.state c new 1 → Worked m old new (n + 1)
 worked-on m old c new n h k = record {
   items = h.items ++ k.items;
   state = k.state;
@@ -24,11 +24,11 @@ worked-on m old c new n h k = record {
   fewer = omega (arith, h.fewer, k.fewer);
 }
 
-pub worked-none : (m : Machine) (c : Seen) → StandsFor c m → running_count c ≡ 0 → Worked m c c 0
+pub worked-none : (m : Machine) (c : CoreView) → StandsFor c m → running_count c ≡ 0 → Worked m c c 0
 worked-none m c s none = record { items = []; state = m; log = sym (append-nil c.log); only = tt; run = refl; stands = s; idle = none; fewer = omega arith }
 
 -- when none is pending any more, all work was run
-pub worked-all : (m : Machine) (old new : Seen) (n : ℕ) → StandsFor old m → (h : Worked m old new n) → NonePending h.state.table → AllWorked m old new
+pub worked-all : (m : Machine) (old new : CoreView) (n : ℕ) → StandsFor old m → (h : Worked m old new n) → NonePending h.state.table → AllWorked m old new
 worked-all m old new n s h none = record {
   items = h.items;
   state = h.state;
@@ -40,5 +40,5 @@ worked-all m old new n s h none = record {
 }
 
 -- there are fewer tasks than turns
-pub worked-long : (m : Machine) (old new : Seen) (n : ℕ) → StandsFor old m → 18446744073709551615 ≤ n → Worked m old new n → ⊥
+pub worked-long : (m : Machine) (old new : CoreView) (n : ℕ) → StandsFor old m → 18446744073709551615 ≤ n → Worked m old new n → ⊥
 worked-long m old new n s many h = absurd (omega (arith, h.fewer, many, few-left old m s))

@@ -12,7 +12,7 @@ use Rattle.mw_model.specs.declared.tasks.TaskId.{TaskId}
 use Rattle.mw_model.specs.Refusals.{Table, outcome_at, is_pending}
 use Rattle.mw_model.specs.Machine.{Machine, Run, with_table, killed, settled}
 use Rattle.mw_model.specs.Tasks.{Progress, task_count, flag, is_ready, is_running, running_tasks, remaining_tasks}
-use Rattle.mw_model.specs.Stands.{Seen, StandsFor, progress_at, may_run, running_count}
+use Rattle.mw_model.specs.Stands.{CoreView, StandsFor, progress_at, may_run, running_count}
 use Rattle.mw_laws.proofs.RunCascade.{is_killed}
 use Rattle.mw_laws.proofs.RunStates.{reached}
 use Rattle.mw_laws.proofs.RunReplay.{run_join}
@@ -46,12 +46,12 @@ same-task : (m n : Machine) (t : ℕ) (p : Progress) (k : ℕ) → n.table.submi
 same-task m n t p k e f = rw (e, f) refl
 
 -- one that is running is counted
-runs-counted : (c : Seen) (t k : ℕ) (p : Progress) → Runs c t k p → 1 ≤ running_count c
+runs-counted : (c : CoreView) (t k : ℕ) (p : Progress) → Runs c t k p → 1 ≤ running_count c
 runs-counted c t k p r =
     omega (arith, count-under running_tasks c t p r.work, count-some (is_running p) (task_count p) k r.number r.runs, total-at (under running_tasks c) (length c.table.names) t r.within)
 
 -- where none is, none is counted
-none-counted : (c : Seen) → ((t k : ℕ) (p : Progress) → Runs c t k p → ⊥) → running_count c ≡ 0
+none-counted : (c : CoreView) → ((t k : ℕ) (p : Progress) → Runs c t k p → ⊥) → running_count c ≡ 0
 none-counted c none = total-zero (under running_tasks c) (length c.table.names) (λ t l. elim (progress_cases (progress_at c.work t)) [
   | inl e ↦ ap (λ o. option_map_or running_tasks o 0) e
   | inr has ↦ count-under running_tasks c t has.0 has.1 ∙ count-none (is_running has.0) (task_count has.0) (λ k b. elim (cases_Bool (is_running has.0 k)) [
@@ -61,7 +61,7 @@ none-counted c none = total-zero (under running_tasks c) (length c.table.names) 
 ])
 
 -- the ticket of a running task is pending
-runs-pending : (c : Seen) (m : Machine) (t k : ℕ) (p : Progress) → StandsFor c m → Runs c t k p → is_pending (outcome_at c.table.outcomes t) ≡ true
+runs-pending : (c : CoreView) (m : Machine) (t k : ℕ) (p : Progress) → StandsFor c m → Runs c t k p → is_pending (outcome_at c.table.outcomes t) ≡ true
 runs-pending c m t k p s r = ap (λ (w : Table). is_pending (outcome_at w.outcomes t)) s.table ∙ ap is_pending (s.idle t p r.work)
 
 -- a task is that of its numbers alone
@@ -69,7 +69,7 @@ same-number : (a b l : ℕ) → a / l ≡ b / l → a % l ≡ b % l → a ≡ b
 same-number a b l e f = sym (div-add-mod' a l) ∙ rw (e, f) (div-add-mod' b l)
 
 -- the task was running before, and is the same task
-record Ran (c : Seen) (m : Machine) (t k : ℕ) (w : WindowTask) : Type 0 where
+record Ran (c : CoreView) (m : Machine) (t k : ℕ) (w : WindowTask) : Type 0 where
   progress : Progress
   runs : Runs c t k progress
   task : w ≡ true_task m t progress k
@@ -77,7 +77,7 @@ record Ran (c : Seen) (m : Machine) (t k : ℕ) (w : WindowTask) : Type 0 where
 -- ---- tasks that end
 
 -- The task of these numbers is not running any more, or was not; each that is running was.
-record Ended (c : Seen) (m : Machine) (id : TaskId) (new : Seen) : Type 0 where
+record Ended (c : CoreView) (m : Machine) (id : TaskId) (new : CoreView) : Type 0 where
   items : List LogItem
   state : Machine
   log : new.log ≡ c.log ++ items
@@ -89,7 +89,7 @@ record Ended (c : Seen) (m : Machine) (id : TaskId) (new : Seen) : Type 0 where
   other : (t k : ℕ) (p : Progress) → Runs new t k p → (true_task state t p k).task ≡ id → ⊥
 
 -- what was running, where work stays or goes
-stays-ran : (c new : Seen) (m n : Machine) → StandsFor new n → WorkStays c new → length new.table.names ≡ length c.table.names → n.table.submissions ≡ m.table.submissions → n.payloads ≡ m.payloads
+stays-ran : (c new : CoreView) (m n : Machine) → StandsFor new n → WorkStays c new → length new.table.names ≡ length c.table.names → n.table.submissions ≡ m.table.submissions → n.payloads ≡ m.payloads
     → (t k : ℕ) (p : Progress) → Runs new t k p → Ran c m t k (true_task n t p k)
 stays-ran c new m n s stays long es ep t k p r =
     let within : t < length c.table.names = omega (arith, long, r.within) in
@@ -97,7 +97,7 @@ stays-ran c new m n s stays long es ep t k p r =
     record { progress = p; runs = record { within = within; work = work; number = r.number; runs = r.runs }; task = same-task m n t p k es ep }
 
 -- a settled ticket has no task that is running
-settled-other : (new : Seen) (n : Machine) (t : ℕ) (id : TaskId) → StandsFor new n → id.ticket ≡ t → is_pending (outcome_at n.table.outcomes t) ≡ false
+settled-other : (new : CoreView) (n : Machine) (t : ℕ) (id : TaskId) → StandsFor new n → id.ticket ≡ t → is_pending (outcome_at n.table.outcomes t) ≡ false
     → (u k : ℕ) (p : Progress) → Runs new u k p → (true_task n u p k).task ≡ id → ⊥
 settled-other new n t id s named settled_now u k p r e =
     let same : u ≡ t = ap (λ (x : TaskId). x.ticket) e ∙ named in
@@ -105,7 +105,7 @@ settled-other new n t id s named settled_now u k p r e =
     let not_so : is_pending (outcome_at n.table.outcomes u) ≡ false = ap (λ x. is_pending (outcome_at n.table.outcomes x)) same ∙ settled_now in
     absurd cc
 
-kills-ended : (c new : Seen) (m : Machine) (t : ℕ) (id : TaskId) → StandsFor c m → id.ticket ≡ t → Kills c m t new → Ended c m id new
+kills-ended : (c new : CoreView) (m : Machine) (t : ℕ) (id : TaskId) → StandsFor c m → id.ticket ≡ t → Kills c m t new → Ended c m id new
 kills-ended c new m t id s named k =
     let sound = reached c.log m s.run in
     let names = ap (λ (w : Table). length w.names) s.table in
@@ -128,7 +128,7 @@ kills-ended c new m t id s named k =
       other = settled-other new n t id k.stands named settled_now;
     }
 
-settles-ended : (c new : Seen) (m : Machine) (d : WindowTask) (t : ℕ) → StandsFor c m → d.task.ticket < length c.table.names → Settles c m d t new → Ended c m d.task new
+settles-ended : (c new : CoreView) (m : Machine) (d : WindowTask) (t : ℕ) → StandsFor c m → d.task.ticket < length c.table.names → Settles c m d t new → Ended c m d.task new
 settles-ended c new m d t s here e =
     let n = with_table m (settled m.table t outcome.Done) in
     let within : t < length c.table.names = omega (arith, e.ticket, here) in
@@ -155,7 +155,7 @@ none_runs false b h = refl
 same-plan : (m : Machine) (t k : ℕ) (p q : Progress) → q.plan ≡ p.plan → q.tiles ≡ p.tiles → q.width ≡ p.width → q.height ≡ p.height → true_task m t q k ≡ true_task m t p k
 same-plan m t k p q a b c d = rw (a, b, c, d) refl
 
-places-ended : (c new : Seen) (m : Machine) (d : WindowTask) → StandsFor c m → d.task.ticket < length c.table.names → Places c m d new → Ended c m d.task new
+places-ended : (c new : CoreView) (m : Machine) (d : WindowTask) → StandsFor c m → d.task.ticket < length c.table.names → Places c m d new → Ended c m d.task new
 places-ended c new m d s here e =
     let t = d.task.ticket in
     let p = e.result.progress in
@@ -220,12 +220,12 @@ places-ended c new m d s here e =
 
 -- ---- the wave goes on
 
-less-gone : (old c new : Seen) (n a : ℕ) → a ≤ 1 → GoneOn old c n → tasks_left new + 1 ≤ tasks_left c → GoneOn old new a
+less-gone : (old c new : CoreView) (n a : ℕ) → a ≤ 1 → GoneOn old c n → tasks_left new + 1 ≤ tasks_left c → GoneOn old new a
 less-gone old c new n a small (inl g) l = inl (omega (arith, small, g, l))
 less-gone old c new n a small (inr g) l = inl (omega (arith, small, g.0, l))
 
 -- an answer is handed back, and its task has ended
-hand-on : (m : Machine) (old c new : Seen) (j : Job) (jobs : List Job) (n : ℕ) (id : TaskId) → n ≤ 1 → (h : Underway m old c (j ∷ jobs) n) → Ended c h.state id new
+hand-on : (m : Machine) (old c new : CoreView) (j : Job) (jobs : List Job) (n : ℕ) (id : TaskId) → n ≤ 1 → (h : Underway m old c (j ∷ jobs) n) → Ended c h.state id new
     → ((w : WindowTask) → IsOf j w → w.task ≡ id) → Underway m old new jobs n
 hand-on m old c new j jobs n id small h e bears = record {
   items = h.items ++ e.items;
@@ -247,7 +247,7 @@ hand-on m old c new j jobs n id small h e bears = record {
 }
 
 -- a ticket dies, and no answer is handed back
-die-on : (m : Machine) (old c new : Seen) (jobs : List Job) (n : ℕ) (id : TaskId) → (h : Underway m old c jobs n) → Ended c h.state id new → Underway m old new jobs 1
+die-on : (m : Machine) (old c new : CoreView) (jobs : List Job) (n : ℕ) (id : TaskId) → (h : Underway m old c jobs n) → Ended c h.state id new → Underway m old new jobs 1
 die-on m old c new jobs n id h e = record {
   items = h.items ++ e.items;
   state = e.state;
@@ -263,7 +263,7 @@ die-on m old c new jobs n id h e = record {
 }
 
 -- an answer is handed back that none waits for
-hand-none : (m : Machine) (old c : Seen) (j : Job) (jobs : List Job) (n : ℕ) → (h : Underway m old c (j ∷ jobs) n)
+hand-none : (m : Machine) (old c : CoreView) (j : Job) (jobs : List Job) (n : ℕ) → (h : Underway m old c (j ∷ jobs) n)
     → ((t k : ℕ) (p : Progress) → Runs c t k p → IsOf j (true_task h.state t p k) → ⊥) → Underway m old c jobs n
 hand-none m old c j jobs n h none = record {
   items = h.items;
@@ -279,29 +279,29 @@ hand-none m old c j jobs n h none = record {
   gone = h.gone;
 }
 
-late-none : (c : Seen) (m : Machine) (id : TaskId) → StandsFor c m → IsSettled c id.ticket → (t k : ℕ) (p : Progress) → Runs c t k p → (true_task m t p k).task ≡ id → ⊥
+late-none : (c : CoreView) (m : Machine) (id : TaskId) → StandsFor c m → IsSettled c id.ticket → (t k : ℕ) (p : Progress) → Runs c t k p → (true_task m t p k).task ≡ id → ⊥
 late-none c m id s late t k p r e =
     let same : t ≡ id.ticket = ap (λ (x : TaskId). x.ticket) e in
     let pends = runs-pending c m t k p s r in
     let not_so : is_pending (outcome_at c.table.outcomes t) ≡ false = ap (λ x. is_pending (outcome_at c.table.outcomes x)) same ∙ late.settled in
     absurd cc
 
-running-result : (c : Seen) (m : Machine) (d : WindowTask) (t k : ℕ) (p : Progress) → Runs c t k p → d ≡ true_task m t p k → IsResult c m d
+running-result : (c : CoreView) (m : Machine) (d : WindowTask) (t k : ℕ) (p : Progress) → Runs c t k p → d ≡ true_task m t p k → IsResult c m d
 running-result c m d t k p r e =
     let P : WindowTask → Type 0 = λ w. IsResult c m w in
     subst P (sym e) (record { progress = p; number = k; work = r.work; within = r.number; running = r.runs; task = refl })
 
-running-underway : (c : Seen) (m : Machine) (id : TaskId) (t k : ℕ) (p : Progress) → Runs c t k p → id ≡ (true_task m t p k).task → IsUnderway c id
+running-underway : (c : CoreView) (m : Machine) (id : TaskId) (t k : ℕ) (p : Progress) → Runs c t k p → id ≡ (true_task m t p k).task → IsUnderway c id
 running-underway c m id t k p r e =
     let P : TaskId → Type 0 = λ x. IsUnderway c x in
     subst P (sym e) (record { progress = p; number = k; work = r.work; within = r.number; running = r.runs; step = refl; tile = refl })
 
-same-gone : (old c new : Seen) (n : ℕ) → GoneOn old c n → tasks_left new ≤ tasks_left c → running_count c ≤ running_count new → GoneOn old new n
+same-gone : (old c new : CoreView) (n : ℕ) → GoneOn old c n → tasks_left new ≤ tasks_left c → running_count c ≤ running_count new → GoneOn old new n
 same-gone old c new n (inl g) l r = inl (omega (arith, g, l))
 same-gone old c new n (inr g) l r = inr (omega (arith, g.0, l), omega (arith, g.1, r))
 
 -- what is placed behind the tickets changes nothing that is counted
-places-past : (m : Machine) (old c new : Seen) (d : WindowTask) (jobs : List Job) (n : ℕ) → (h : Underway m old c (job.Ran (Ok d) ∷ jobs) n) → length c.table.names ≤ d.task.ticket
+places-past : (m : Machine) (old c new : CoreView) (d : WindowTask) (jobs : List Job) (n : ℕ) → (h : Underway m old c (job.Ran (Ok d) ∷ jobs) n) → length c.table.names ≤ d.task.ticket
     → Places c h.state d new → Underway m old new jobs n
 places-past m old c new d jobs n h past e =
     let t = d.task.ticket in
@@ -329,7 +329,7 @@ places-past m old c new d jobs n h past e =
     }
 
 -- a result is handed back
-pub finish-hand : (m : Machine) (old c new : Seen) (d : WindowTask) (jobs : List Job) (n : ℕ) (f : Finish) → n ≤ 1 → (h : Underway m old c (job.Ran (Ok d) ∷ jobs) n) → Finishes c h.state d f new → Underway m old new jobs n
+pub finish-hand : (m : Machine) (old c new : CoreView) (d : WindowTask) (jobs : List Job) (n : ℕ) (f : Finish) → n ≤ 1 → (h : Underway m old c (job.Ran (Ok d) ∷ jobs) n) → Finishes c h.state d f new → Underway m old new jobs n
 finish-hand m old c new d jobs n finish.Placed small h e = elim (cases_lt d.task.ticket (length c.table.names)) [
   | inl here ↦ hand-on m old c new (job.Ran (Ok d)) jobs n d.task small h (places-ended c new h.state d h.stands here e) (λ w is. ap (λ (v : WindowTask). v.task) (sym is))
   | inr past ↦ places-past m old c new d jobs n h past e
@@ -339,30 +339,30 @@ finish-hand m old c new d jobs n (finish.Settled t) small h e =
     let here : d.task.ticket < length c.table.names = omega (arith, e.ticket, e.can.within, sound.lengths.outcomes, ap (λ (w : Table). length w.names) h.stands.table) in
     hand-on m old c new (job.Ran (Ok d)) jobs n d.task small h (settles-ended c new h.state d t h.stands here e) (λ w is. ap (λ (v : WindowTask). v.task) (sym is))
 finish-hand m old c new d jobs n finish.Late small h e =
-    let P : Seen → Type 0 = λ x. Underway m old x jobs n in
+    let P : CoreView → Type 0 = λ x. Underway m old x jobs n in
     subst P (sym e.1) (hand-none m old c (job.Ran (Ok d)) jobs n h (λ t k p r is. late-none c h.state d.task h.stands e.0 t k p r (ap (λ (v : WindowTask). v.task) (sym is))))
 finish-hand m old c new d jobs n finish.Stranger small h e =
-    let P : Seen → Type 0 = λ x. Underway m old x jobs n in
+    let P : CoreView → Type 0 = λ x. Underway m old x jobs n in
     subst P (sym e.2) (hand-none m old c (job.Ran (Ok d)) jobs n h (λ t k p r is. e.1 (running-result c h.state d t k p r is)))
 
 -- a refusal is handed back
-pub refuse-hand : (m : Machine) (old c new : Seen) (r : TaskRefused) (jobs : List Job) (n : ℕ) (a : Refusal) → n ≤ 1 → (h : Underway m old c (job.Ran (Err r) ∷ jobs) n) → Refuses c h.state r.task a new → Underway m old new jobs n
+pub refuse-hand : (m : Machine) (old c new : CoreView) (r : TaskRefused) (jobs : List Job) (n : ℕ) (a : Refusal) → n ≤ 1 → (h : Underway m old c (job.Ran (Err r) ∷ jobs) n) → Refuses c h.state r.task a new → Underway m old new jobs n
 refuse-hand m old c new r jobs n (refusal.Killed t) small h e =
     hand-on m old c new (job.Ran (Err r)) jobs n r.task small h (kills-ended c new h.state t r.task h.stands (sym e.0) e.2) (λ w is. sym is)
 refuse-hand m old c new r jobs n refusal.Late small h e =
-    let P : Seen → Type 0 = λ x. Underway m old x jobs n in
+    let P : CoreView → Type 0 = λ x. Underway m old x jobs n in
     subst P (sym e.1) (hand-none m old c (job.Ran (Err r)) jobs n h (λ t k p x is. late-none c h.state r.task h.stands e.0 t k p x (sym is)))
 refuse-hand m old c new r jobs n refusal.Stranger small h e =
-    let P : Seen → Type 0 = λ x. Underway m old x jobs n in
+    let P : CoreView → Type 0 = λ x. Underway m old x jobs n in
     subst P (sym e.2) (hand-none m old c (job.Ran (Err r)) jobs n h (λ t k p x is. e.1 (running-underway c h.state r.task t k p x is)))
 
 -- an empty place is passed over
-pub nothing-hand : (m : Machine) (old c : Seen) (jobs : List Job) (n : ℕ) → Underway m old c (job.Nothing ∷ jobs) n → Underway m old c jobs n
+pub nothing-hand : (m : Machine) (old c : CoreView) (jobs : List Job) (n : ℕ) → Underway m old c (job.Nothing ∷ jobs) n → Underway m old c jobs n
 nothing-hand m old c jobs n h = hand-none m old c job.Nothing jobs n h (λ t k p r is. is)
 
 -- ---- a task is taken
 
-take-work : (m : Machine) (old c new : Seen) (jobs : List Job) (n : ℕ) (w : WindowTask) → (h : Underway m old c jobs n) → Begins c h.state w new → Underway m old new (job.Waits w ∷ jobs) 1
+take-work : (m : Machine) (old c new : CoreView) (jobs : List Job) (n : ℕ) (w : WindowTask) → (h : Underway m old c jobs n) → Begins c h.state w new → Underway m old new (job.Waits w ∷ jobs) 1
 take-work m old c new jobs n w h b =
     let t = w.task.ticket in
     let p = b.progress in
@@ -379,8 +379,8 @@ take-work m old c new jobs n w h b =
       | inl f ↦ let g = work.begun i f in absurd cc
       | inr f ↦ f
     ] in
-    let places : new.work ≡ set c.work t (Some q) = ap (λ (x : Seen). x.work) b.started in
-    let tables : new.table ≡ c.table = ap (λ (x : Seen). x.table) b.started in
+    let places : new.work ≡ set c.work t (Some q) = ap (λ (x : CoreView). x.work) b.started in
+    let tables : new.table ≡ c.table = ap (λ (x : CoreView). x.table) b.started in
     let names : length new.table.names ≡ length c.table.names = ap (λ (x : Table). length x.names) tables in
     let mine : progress_at new.work t ≡ Some q = ap (λ x. progress_at x t) places ∙ get_or-set_same c.work t (Some q) None (has-place c.work t p b.work) in
     let other : (u : ℕ) → u ≢ t → progress_at new.work u ≡ progress_at c.work u = λ u e. ap (λ x. progress_at x u) places ∙ get_or-set_other c.work t u (Some q) None e in
@@ -399,7 +399,7 @@ take-work m old c new jobs n w h b =
     record {
       items = h.items;
       state = h.state;
-      log = ap (λ (x : Seen). x.log) b.started ∙ h.log;
+      log = ap (λ (x : CoreView). x.log) b.started ∙ h.log;
       only = h.only;
       run = h.run;
       stands = b.stands;
@@ -422,14 +422,14 @@ take-work m old c new jobs n w h b =
     }
 
 -- what the core answers to a worker that asks for a task
-pub take : (m : Machine) (old c new : Seen) (jobs : List Job) (n : ℕ) (s : Started) → (h : Underway m old c jobs n) → Starts c h.state s new → Took m old c jobs s new
+pub take : (m : Machine) (old c new : CoreView) (jobs : List Job) (n : ℕ) (s : Started) → (h : Underway m old c jobs n) → Starts c h.state s new → Took m old c jobs s new
 take m old c new jobs n (started.Work w) h e = take-work m old c new jobs n w h e
 take m old c new jobs n (started.Refused t) h e = die-on m old c new jobs n (record { ticket = t; step = 0; tile = 0 }) h (kills-ended c new h.state t (record { ticket = t; step = 0; tile = 0 }) h.stands refl e.1)
 take m old c new jobs n started.Idle h e = e
 
 -- ---- the whole wave
 
-pub wave-begins : (m : Machine) (c : Seen) → StandsFor c m → running_count c ≡ 0 → Underway m c c [] 0
+pub wave-begins : (m : Machine) (c : CoreView) → StandsFor c m → running_count c ≡ 0 → Underway m c c [] 0
 wave-begins m c s none = record {
   items = [];
   state = m;
@@ -441,7 +441,7 @@ wave-begins m c s none = record {
   gone = inl (omega arith);
 }
 
-pub wave-pushed : (m : Machine) (old c : Seen) (j : Job) (jobs : List Job) (n : ℕ) → Underway m old c (j ∷ jobs) n → Underway m old c (jobs ++ j ∷ []) n
+pub wave-pushed : (m : Machine) (old c : CoreView) (j : Job) (jobs : List Job) (n : ℕ) → Underway m old c (j ∷ jobs) n → Underway m old c (jobs ++ j ∷ []) n
 wave-pushed m old c j jobs n h = record {
   items = h.items;
   state = h.state;
@@ -453,7 +453,7 @@ wave-pushed m old c j jobs n h = record {
   gone = h.gone;
 }
 
-pub wave-run : (m : Machine) (old c : Seen) (jobs : List Job) (n : ℕ) (w : WindowTask) (a : Result WindowTask TaskRefused) → IsAnswerTo w a → Underway m old c (job.Waits w ∷ jobs) n → Underway m old c (job.Ran a ∷ jobs) n
+pub wave-run : (m : Machine) (old c : CoreView) (jobs : List Job) (n : ℕ) (w : WindowTask) (a : Result WindowTask TaskRefused) → IsAnswerTo w a → Underway m old c (job.Waits w ∷ jobs) n → Underway m old c (job.Ran a ∷ jobs) n
 wave-run m old c jobs n w a answered h = record {
   items = h.items;
   state = h.state;
@@ -468,7 +468,7 @@ wave-run m old c jobs n w a answered h = record {
   gone = h.gone;
 }
 
-pub wave-answered : (m : Machine) (old c : Seen) (jobs after : List Job) (n : ℕ) → AllZip IsAnswered jobs after → Underway m old c jobs n → Underway m old c after n
+pub wave-answered : (m : Machine) (old c : CoreView) (jobs after : List Job) (n : ℕ) → AllZip IsAnswered jobs after → Underway m old c jobs n → Underway m old c after n
 wave-answered m old c jobs after n a h = record {
   items = h.items;
   state = h.state;
@@ -480,7 +480,7 @@ wave-answered m old c jobs after n a h = record {
   gone = h.gone;
 }
 
-pub wave-ends : (m : Machine) (old new : Seen) → Underway m old new [] 1 → Worked m old new 1
+pub wave-ends : (m : Machine) (old new : CoreView) → Underway m old new [] 1 → Worked m old new 1
 wave-ends m old new h =
     let idle = none-counted new (λ t k p r. h.running t k p r) in
     record {

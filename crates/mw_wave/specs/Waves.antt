@@ -3,7 +3,7 @@ use Rattle.std.specs.Prelude.{ℕ, ◌≡◌, ◌+◌, ◌≤◌, ◌<◌, ◌++
 use Rattle.mw_model.specs.declared.calls.LogItem.{LogItem}
 use Rattle.mw_model.specs.Machine.{Machine, Run}
 use Rattle.mw_model.specs.Tasks.{Progress, task_count, is_running}
-use Rattle.mw_model.specs.Stands.{Seen, StandsFor, progress_at, ready_count, running_count}
+use Rattle.mw_model.specs.Stands.{CoreView, StandsFor, progress_at, ready_count, running_count}
 use Rattle.mw_work.specs.Works.{true_task}
 use Rattle.mw_core.specs.declared.answers.Started.{Started}
 use Rattle.mw_core.specs.declared.answers.Started.TheVariants as started
@@ -14,18 +14,18 @@ use Rattle.mw_wave.specs.declared.job.Job.TheVariants as job
 use Rattle.mw_wave.specs.Jobs.{HasTask}
 
 -- n tasks fewer are left, or n are running
-abbrev pub GoneOn : Seen → Seen → ℕ → Type 0
+abbrev pub GoneOn : CoreView → CoreView → ℕ → Type 0
 GoneOn old new n = (tasks_left new + n ≤ tasks_left old) ⊎ ((tasks_left new ≤ tasks_left old) × (n ≤ running_count new))
 
 -- task k of ticket t is running
-pub record Runs (c : Seen) (t k : ℕ) (p : Progress) : Type 0 where
+pub record Runs (c : CoreView) (t k : ℕ) (p : Progress) : Type 0 where
   pub within : t < length c.table.names
   pub work : progress_at c.work t ≡ Some p
   pub number : k < task_count p
   pub runs : is_running p k ≡ true
 
 -- The log went on by work alone, and the machine with it. Each task that is running has its place among the jobs.
-pub record Underway (m : Machine) (old new : Seen) (jobs : List Job) (n : ℕ) : Type 0 where
+pub record Underway (m : Machine) (old new : CoreView) (jobs : List Job) (n : ℕ) : Type 0 where
   pub items : List LogItem
   pub state : Machine
   pub log : new.log ≡ old.log ++ items
@@ -36,7 +36,7 @@ pub record Underway (m : Machine) (old new : Seen) (jobs : List Job) (n : ℕ) :
   pub gone : GoneOn old new n
 
 -- one more task is running, or a ticket died; or none was ready
-abbrev pub Took : Machine → Seen → Seen → List Job → Started → Seen → Type 0
+abbrev pub Took : Machine → CoreView → CoreView → List Job → Started → CoreView → Type 0
 Took m old c jobs (started.Work w) new = Underway m old new (job.Waits w ∷ jobs) 1
 Took m old c jobs (started.Refused t) new = Underway m old new jobs 1
 Took m old c jobs started.Idle new = (ready_count c ≡ 0) × (new ≡ c)

@@ -2,8 +2,8 @@
 
 ghost use Rattle.std.specs.Prelude.{◌≡◌, ◌<◌, ◌≤◌, ◌+◌, ◌∷◌, [], ℕ, List, IfSome, vec_len, vec_capacity};
 ghost use Rattle.mw_model.specs.Machine.{Machine};
-ghost use Rattle.mw_model.specs.Stands.{Seen, StandsFor, ready_count, running_count};
-ghost use Rattle.mw_core.specs.TaskAnswers.{IsTurn};
+ghost use Rattle.mw_model.specs.Stands.{CoreView, StandsFor, ready_count, running_count};
+ghost use Rattle.mw_core.specs.TaskAnswers.{Picks};
 ghost use Rattle.mw_wave.specs.declared.job.Job.{Job};
 ghost use Rattle.mw_wave.specs.Waves.{Underway, Took};
 ghost use Rattle.mw_wave.specs.Work.{Turned};
@@ -17,8 +17,8 @@ use std::thread::Threads;
 
 /// Takes the ready task of the next place, if one is ready.
 fn start_next<P: Pick>(core: &mut Core, pick: &mut P) -> Started
-    ensures took { (m : Machine) (old : Seen) (jobs : List Job) (n : ℕ) → Underway m old core.old jobs n → Took m old core.old jobs result core.new }
-    ensures turn { IsTurn core.old (P.place pick.old (ready_count core.old)) result }
+    ensures took { (m : Machine) (old : CoreView) (jobs : List Job) (n : ℕ) → Underway m old core.old jobs n → Took m old core.old jobs result core.new }
+    ensures turn { Picks core.old (P.place pick.old (ready_count core.old)) result }
 {
     let count = core.ready_count();
     if count == 0 {
@@ -31,7 +31,7 @@ fn start_next<P: Pick>(core: &mut Core, pick: &mut P) -> Started
 /// Takes up to so many ready tasks more, for which there is room.
 fn take_more<P: Pick>(core: &mut Core, pick: &mut P, most: usize, jobs: &mut Vec<Job>)
     requires { vec_len jobs.old + most ≤ vec_capacity jobs.old }
-    ensures { (m : Machine) (old : Seen) → Underway m old core.old jobs.old.items 1 → Underway m old core.new jobs.new.items 1 }
+    ensures { (m : Machine) (old : CoreView) → Underway m old core.old jobs.old.items 1 → Underway m old core.new jobs.new.items 1 }
 {
     'tasks: for _taken in 0..most {
         match start_next(core, pick) {
@@ -44,7 +44,7 @@ fn take_more<P: Pick>(core: &mut Core, pick: &mut P, most: usize, jobs: &mut Vec
 
 /// Hands the answer to a task back.
 fn hand_in(core: &mut Core, answer: Result<TileDone, TaskRefused>)
-    ensures { (m : Machine) (old : Seen) (jobs : List Job) (n : ℕ) → n ≤ 1 → Underway m old core.old (Job.Ran answer ∷ jobs) n → Underway m old core.new jobs n }
+    ensures { (m : Machine) (old : CoreView) (jobs : List Job) (n : ℕ) → n ≤ 1 → Underway m old core.old (Job.Ran answer ∷ jobs) n → Underway m old core.new jobs n }
 {
     match answer {
         Ok(done) => {
@@ -58,7 +58,7 @@ fn hand_in(core: &mut Core, answer: Result<TileDone, TaskRefused>)
 
 /// Hands all answers back, in the order in which their tasks were taken.
 fn hand_all(alloc: Global, core: &mut Core, jobs: Vec<Job>)
-    ensures { (m : Machine) (old : Seen) → Underway m old core.old jobs.items 1 → Underway m old core.new [] 1 }
+    ensures { (m : Machine) (old : CoreView) → Underway m old core.old jobs.items 1 → Underway m old core.new [] 1 }
 {
     for job in jobs {
         match job {
@@ -86,7 +86,7 @@ fn list<T>(crew: Crew<T>, others: u64) -> Option<Vec<Job>>
 /// Runs a task that was taken, and up to `crew.wave() - 1` others beside it. Where there is no list for them it is run
 /// alone.
 fn run_beside<P: Pick, T: Threads + Sync>(crew: Crew<T>, core: &mut Core, pick: &mut P, first: Work)
-    ensures { (m : Machine) (old : Seen) → Underway m old core.old (Job.Waits first ∷ []) 1 → Underway m old core.new [] 1 }
+    ensures { (m : Machine) (old : CoreView) → Underway m old core.old (Job.Waits first ∷ []) 1 → Underway m old core.new [] 1 }
 {
     match list(crew, core.ready_count()) {
         Some(mut jobs) => {

@@ -72,6 +72,18 @@ impl<W: Write> Write for Sink<W> {
     }
 }
 
+/// Has the writer pass on all that it still holds.
+pub fn pass_on<W: Write>(sink: &mut Sink<W>) -> Result<(), SessionFault>
+    ensures same_bytes { Keeps (W.contents sink.old.inner) (W.contents sink.new.inner) }
+    ensures kept { OnOk result (sink.new.failed ≡ sink.old.failed) }
+    ensures flag { OnErr result ((result ≡ Err SessionFault.Write) × (sink.new.failed ≡ true)) }
+{
+    match sink.flush() {
+        Ok(()) => Ok(()),
+        Err(_) => Err(SessionFault::Write),
+    }
+}
+
 /// Writes all the bytes. At `Err` a front of them was written.
 pub fn send<W: Write>(sink: &mut Sink<W>, bytes: &[u8]) -> Result<(), SessionFault>
     ensures wrote { Wrote (W.contents sink.old.inner) (W.contents sink.new.inner) bytes.now result }

@@ -18,7 +18,7 @@ use Rattle.mw_task.specs.WindowTasks.{source_count}
 use Rattle.mw_task.proofs.Cut.{plane_of_one}
 use Rattle.mw_tiles.specs.Tiles.{AreMade, Tiled, number_in}
 use Rattle.mw_tiles.proofs.TileTotals.{tiles_add_up}
-use Rattle.mw_progress.specs.Underway.{Underway, no_plane, numbers_of, plane_at}
+use Rattle.mw_progress.specs.ProgressView.{ProgressView, no_plane, numbers_of, plane_at}
 use Rattle.mw_work.specs.Works.{IsTrueWork, true_sources}
 use Rattle.mw_work.proofs.Fresh.{one-of-list}
 use Rattle.mw_work.proofs.Making.{sum-is}
@@ -54,7 +54,7 @@ sum-plane f width height picture frame =
     ∙ redrawn_itself f picture.size
 
 -- the numbers of its tiles add up to the sum of its true plane
-sum-true : (m : Machine) (t : ℕ) (u : Underway) (k : ℕ) → IsTrueWork m t u → remaining_tasks u.progress ≡ 0 → k < length u.progress.plan → is_sum (get_or u.progress.plan k nothing_planned).step ≡ true
+sum-true : (m : Machine) (t : ℕ) (u : ProgressView) (k : ℕ) → IsTrueWork m t u → remaining_tasks u.progress ≡ 0 → k < length u.progress.plan → is_sum (get_or u.progress.plan k nothing_planned).step ≡ true
     → number_in (plane_at u k) ≡ sum (get_or (true_planes m t u.progress) k no_picture).samples
 sum-true m t u k w none within sums =
     let p = u.progress in
@@ -80,7 +80,7 @@ sum-true m t u k w none within sums =
 -- ---- curves
 
 -- the numbers that are kept are the curve that stands under the ticket
-pub result-curve : (m : Machine) (t : ℕ) (u : Underway) (n : ℕ) → IsTrueWork m t u → remaining_tasks u.progress ≡ 0 → (submission_at m.table.submissions t).shape ≡ shape.Curve n
+pub result-curve : (m : Machine) (t : ℕ) (u : ProgressView) (n : ℕ) → IsTrueWork m t u → remaining_tasks u.progress ≡ 0 → (submission_at m.table.submissions t).shape ≡ shape.Curve n
     → value_at (values m) t ≡ Some (CurveValue (numbers_of u.progress.plan u.planes))
 result-curve m t u n w none shaped =
     let p = u.progress in

@@ -23,7 +23,7 @@ use Rattle.mw_plan.specs.PlansOf.{AreValuesOf, HaveFrame, inputs_taken}
 use Rattle.mw_plan.specs.declared.inputs.Input.{Input}
 use Rattle.mw_plan.specs.declared.inputs.Input.TheVariants as input
 use Rattle.mw_progress.specs.Levels.{Level}
-use Rattle.mw_progress.specs.Underway.{IsFramed, fresh}
+use Rattle.mw_progress.specs.ProgressView.{IsFramed, fresh}
 use Rattle.mw_work.specs.Works.{IsAccepted}
 use Rattle.mw_work.proofs.Numbers.{has-tiles, some-tiles}
 

@@ -12,7 +12,7 @@ use Rattle.mw_model.specs.Plans.{IsSourceAt, Plan, images_of, is_sum, planes, va
 use Rattle.mw_model.specs.Tasks.{Progress, flag, task_count, nothing_planned, planned_of, tile_of_task, sources_of, made_of_planes, is_needed, remaining_tasks}
 use Rattle.mw_model.specs.Stands.{IsWork, inputs_there, input_values, true_cells}
 use Rattle.mw_plan.specs.PlansOf.{CanBeMade, planes_read}
-use Rattle.mw_progress.specs.Underway.{Underway, IsWhole, IsStarted, IsFinished}
+use Rattle.mw_progress.specs.ProgressView.{ProgressView, IsWhole, IsStarted, IsFinished}
 use Rattle.mw_work.specs.Works.{Finishes, GoesOnUnder, IsPlanned, KeepsTrue, IsTrueWork, IsUnder}
 use Rattle.mw_work.proofs.Flags.{flag-past, flag-set}
 use Rattle.mw_work.proofs.Numbers.{length-placed}
@@ -42,21 +42,21 @@ work-same m n t p on w =
       needed = w.needed;
     }
 
-pub planned-same : (m n : Machine) (t : ℕ) (u : Underway) → GoesOnUnder m n t → IsPlanned m t u → IsPlanned n t u
+pub planned-same : (m n : Machine) (t : ℕ) (u : ProgressView) → GoesOnUnder m n t → IsPlanned m t u → IsPlanned n t u
 planned-same m n t u on w =
     let p = u.progress in
-    let Made : List (Option Value) → Type 0 = λ vs. (k : ℕ) → k < length p.plan → CanBeMade (get_or p.plan k nothing_planned).step (planes_read p.plan (images_of vs) p.width p.height k) in
+    let TileResult : List (Option Value) → Type 0 = λ vs. (k : ℕ) → k < length p.plan → CanBeMade (get_or p.plan k nothing_planned).step (planes_read p.plan (images_of vs) p.width p.height k) in
     let Last : Submission → Type 0 = λ e. is_image e.shape ≡ true → is_sum (get_or p.plan (length p.plan - 1) nothing_planned).step ≡ false in
     record {
       image = w.image;
       images = ap images_of on.inputs ∙ w.images;
       limits = w.limits;
       input = w.input;
-      made = subst Made (sym on.inputs) w.made;
+      made = subst TileResult (sym on.inputs) w.made;
       last = subst Last (sym on.submission) w.last;
     }
 
-pub under-same : (m n : Machine) (t : ℕ) (u : Underway) → GoesOnUnder m n t → IsUnder m t u → IsUnder n t u
+pub under-same : (m n : Machine) (t : ℕ) (u : ProgressView) → GoesOnUnder m n t → IsUnder m t u → IsUnder n t u
 under-same m n t u on w = record { whole = w.whole; planned = planned-same m n t u on w.planned; work = work-same m n t u.progress on w.work }
 
 -- ---- a task is started
@@ -78,30 +78,30 @@ work-set_started m t p n w there = record {
   needed = w.needed;
 }
 
-pub work-started : (m : Machine) (t : ℕ) (u v : Underway) (n : ℕ) → IsWork m t u.progress → inputs_there m.table t ≡ true → IsStarted u v n → IsWork m t v.progress
+pub work-started : (m : Machine) (t : ℕ) (u v : ProgressView) (n : ℕ) → IsWork m t u.progress → inputs_there m.table t ≡ true → IsStarted u v n → IsWork m t v.progress
 work-started m t u v n w there s = subst (λ (p : Progress). IsWork m t p) (sym s.progress) (work-set_started m t u.progress n w there)
 
 -- what was planned stays where the plan, the frame and the level stay
-planned-stays : (m : Machine) (t : ℕ) (u v : Underway) → v.progress.plan ≡ u.progress.plan → v.progress.width ≡ u.progress.width → v.progress.height ≡ u.progress.height → v.input ≡ u.input → IsPlanned m t u → IsPlanned m t v
+planned-stays : (m : Machine) (t : ℕ) (u v : ProgressView) → v.progress.plan ≡ u.progress.plan → v.progress.width ≡ u.progress.width → v.progress.height ≡ u.progress.height → v.input ≡ u.input → IsPlanned m t u → IsPlanned m t v
 planned-stays m t u v plan wide high input w =
     let p = u.progress in
-    let Made : Plan → ℕ → ℕ → Type 0 = λ q width height. (k : ℕ) → k < length q → CanBeMade (get_or q k nothing_planned).step (planes_read q (images_of (input_values m t)) width height k) in
+    let TileResult : Plan → ℕ → ℕ → Type 0 = λ q width height. (k : ℕ) → k < length q → CanBeMade (get_or q k nothing_planned).step (planes_read q (images_of (input_values m t)) width height k) in
     let Last : Plan → Type 0 = λ q. is_image (submission_at m.table.submissions t).shape ≡ true → is_sum (get_or q (length q - 1) nothing_planned).step ≡ false in
     record {
       image = w.image;
       images = w.images;
       limits = w.limits;
       input = input ∙ w.input;
-      made = subst (λ (q : Plan). Made q v.progress.width v.progress.height) (sym plan)
-          (subst (λ (n : ℕ). Made p.plan n v.progress.height) (sym wide) (subst (λ (n : ℕ). Made p.plan p.width n) (sym high) w.made));
+      made = subst (λ (q : Plan). TileResult q v.progress.width v.progress.height) (sym plan)
+          (subst (λ (n : ℕ). TileResult p.plan n v.progress.height) (sym wide) (subst (λ (n : ℕ). TileResult p.plan p.width n) (sym high) w.made));
       last = subst Last (sym plan) w.last;
     }
 
-planned-started : (m : Machine) (t : ℕ) (u v : Underway) (n : ℕ) → IsStarted u v n → IsPlanned m t u → IsPlanned m t v
+planned-started : (m : Machine) (t : ℕ) (u v : ProgressView) (n : ℕ) → IsStarted u v n → IsPlanned m t u → IsPlanned m t v
 planned-started m t u v n s w =
     planned-stays m t u v (ap (λ (p : Progress). p.plan) s.progress) (ap (λ (p : Progress). p.width) s.progress) (ap (λ (p : Progress). p.height) s.progress) s.input w
 
-pub under-started : (m : Machine) (t : ℕ) (u v : Underway) (n : ℕ) → IsUnder m t u → inputs_there m.table t ≡ true → IsWhole v → IsStarted u v n → IsUnder m t v
+pub under-started : (m : Machine) (t : ℕ) (u v : ProgressView) (n : ℕ) → IsUnder m t u → inputs_there m.table t ≡ true → IsWhole v → IsStarted u v n → IsUnder m t v
 under-started m t u v n w there whole s = record { whole = whole; planned = planned-started m t u v n s w.planned; work = work-started m t u v n w.work there s }
 
 -- ---- a task is finished
@@ -110,7 +110,7 @@ under-started m t u v n w there whole s = record { whole = whole; planned = plan
 abbrev after : Progress → ℕ → List (Option (List ℕ)) → Progress
 after p n placed = record p { finished = set p.finished n true; placed = placed }
 
-progress-finished : (old new : Underway) (n : ℕ) (cells : List ℕ) → IsFinished old new n cells → new.progress ≡ after old.progress n new.progress.placed
+progress-finished : (old new : ProgressView) (n : ℕ) (cells : List ℕ) → IsFinished old new n cells → new.progress ≡ after old.progress n new.progress.placed
 progress-finished old new n cells f = λ i. record {
   width = f.width i;
   height = f.height i;
@@ -125,7 +125,7 @@ progress-finished old new n cells f = λ i. record {
 abbrev StaysOrIs : Machine → ℕ → Progress → ℕ → List (Option (List ℕ)) → Type 0
 StaysOrIs m t p n placed = (k : ℕ) (found : List ℕ) → get_or placed k None ≡ Some found → ((k ≡ n) × (found ≡ true_cells m t p n)) ⊎ (get_or p.placed k None ≡ Some found)
 
-stays-or-is : (m : Machine) (t : ℕ) (old new : Underway) (n : ℕ) (cells : List ℕ) → IsFinished old new n cells → cells ≡ true_cells m t old.progress n → StaysOrIs m t old.progress n new.progress.placed
+stays-or-is : (m : Machine) (t : ℕ) (old new : ProgressView) (n : ℕ) (cells : List ℕ) → IsFinished old new n cells → cells ≡ true_cells m t old.progress n → StaysOrIs m t old.progress n new.progress.placed
 stays-or-is m t old new n cells f is k found h = elim (f.placed k found h) [ inl here ↦ inl (here.0, here.1 ∙ is) | inr was ↦ inr was ]
 
 keeps-after : (m : Machine) (t : ℕ) (p : Progress) (n : ℕ) (placed : List (Option (List ℕ))) → KeepsTrue m t p → StaysOrIs m t p n placed → KeepsTrue m t (after p n placed)
@@ -139,7 +139,7 @@ keeps-after m t p n placed w stays = record {
 pub keeps-work : (m : Machine) (t : ℕ) (p : Progress) → IsWork m t p → KeepsTrue m t p
 keeps-work m t p w = record { means = w.means; frames = w.frames; sources = w.sources; placed = λ k found h. (w.placed k found h).1 }
 
-pub keeps-finished : (m : Machine) (t : ℕ) (old new : Underway) (n : ℕ) (cells : List ℕ) → KeepsTrue m t old.progress → IsFinished old new n cells → cells ≡ true_cells m t old.progress n → KeepsTrue m t new.progress
+pub keeps-finished : (m : Machine) (t : ℕ) (old new : ProgressView) (n : ℕ) (cells : List ℕ) → KeepsTrue m t old.progress → IsFinished old new n cells → cells ≡ true_cells m t old.progress n → KeepsTrue m t new.progress
 keeps-finished m t old new n cells w f is =
     subst (λ (p : Progress). KeepsTrue m t p) (sym (progress-finished old new n cells f)) (keeps-after m t old.progress n new.progress.placed w (stays-or-is m t old new n cells f is))
 
@@ -176,10 +176,10 @@ work-after m t p n placed w stays is = record {
 }
 
 -- what is needed of a finished task is kept
-needed-whole : (u : Underway) → IsWhole u → (k : ℕ) → flag u.progress.finished k ≡ true → is_needed u.progress k ≡ true → IsSome (get_or u.progress.placed k None)
+needed-whole : (u : ProgressView) → IsWhole u → (k : ℕ) → flag u.progress.finished k ≡ true → is_needed u.progress k ≡ true → IsSome (get_or u.progress.placed k None)
 needed-whole u whole k finished needed = (whole.needed k (subst (λ (x : ℕ). k < x) whole.finished (flag-past u.progress.finished k finished))).1 (finished, needed)
 
-pub work-finished : (m : Machine) (t : ℕ) (old new : Underway) (n : ℕ) → IsWork m t old.progress → Finishes m t old new n → 1 ≤ remaining_tasks new.progress → IsWork m t new.progress
+pub work-finished : (m : Machine) (t : ℕ) (old new : ProgressView) (n : ℕ) → IsWork m t old.progress → Finishes m t old new n → 1 ≤ remaining_tasks new.progress → IsWork m t new.progress
 work-finished m t old new n w f left =
     let p = old.progress in
     let q = new.progress in
@@ -194,16 +194,16 @@ work-finished m t old new n w f left =
     subst (λ (x : Progress). IsWork m t x) (sym shape)
     (work-after m t p n q.placed w (stays-or-is m t old new n f.cells f.finished f.is) (subst (λ (x : Progress). IsAfter p n x) shape is))
 
-planned-finished : (m : Machine) (t : ℕ) (old new : Underway) (n : ℕ) (cells : List ℕ) → IsFinished old new n cells → IsPlanned m t old → IsPlanned m t new
+planned-finished : (m : Machine) (t : ℕ) (old new : ProgressView) (n : ℕ) (cells : List ℕ) → IsFinished old new n cells → IsPlanned m t old → IsPlanned m t new
 planned-finished m t old new n cells f w = planned-stays m t old new f.plan f.width f.height f.input w
 
-pub true-under : (m : Machine) (t : ℕ) (u : Underway) → IsUnder m t u → IsTrueWork m t u
+pub true-under : (m : Machine) (t : ℕ) (u : ProgressView) → IsUnder m t u → IsTrueWork m t u
 true-under m t u w = record { whole = w.whole; planned = w.planned; keeps = keeps-work m t u.progress w.work }
 
-pub true-finished : (m : Machine) (t : ℕ) (old new : Underway) (n : ℕ) → IsTrueWork m t old → Finishes m t old new n → IsTrueWork m t new
+pub true-finished : (m : Machine) (t : ℕ) (old new : ProgressView) (n : ℕ) → IsTrueWork m t old → Finishes m t old new n → IsTrueWork m t new
 true-finished m t old new n w f =
     record { whole = f.whole; planned = planned-finished m t old new n f.cells f.finished w.planned; keeps = keeps-finished m t old new n f.cells w.keeps f.finished f.is }
 
-pub under-finished : (m : Machine) (t : ℕ) (old new : Underway) (n : ℕ) → IsUnder m t old → Finishes m t old new n → 1 ≤ remaining_tasks new.progress → IsUnder m t new
+pub under-finished : (m : Machine) (t : ℕ) (old new : ProgressView) (n : ℕ) → IsUnder m t old → Finishes m t old new n → 1 ≤ remaining_tasks new.progress → IsUnder m t new
 under-finished m t old new n w f left =
     record { whole = f.whole; planned = planned-finished m t old new n f.cells f.finished w.planned; work = work-finished m t old new n w.work f left }

@@ -13,7 +13,7 @@ use Rattle.mw_model.specs.Machine.{Machine, values}
 use Rattle.mw_model.specs.Stands.{inputs_of}
 use Rattle.mw_laws.specs.MachineLaws.{GoesOn, GrowsTo, IsSound, MayBecome}
 use Rattle.mw_laws.proofs.RunValues.{length_values}
-use Rattle.mw_progress.specs.Underway.{Underway}
+use Rattle.mw_progress.specs.ProgressView.{ProgressView}
 use Rattle.mw_work.specs.Works.{GoesOnUnder, IsUnder}
 use Rattle.mw_work.proofs.Going.{under-same}
 
@@ -60,5 +60,5 @@ goes-on m n t s g within =
     }
 
 -- so it is work in all later states
-pub under-later : (m n : Machine) (t : ℕ) (u : Underway) → IsSound m → GrowsTo m n → t < length m.table.names → IsUnder m t u → IsUnder n t u
+pub under-later : (m n : Machine) (t : ℕ) (u : ProgressView) → IsSound m → GrowsTo m n → t < length m.table.names → IsUnder m t u → IsUnder n t u
 under-later m n t u s g within w = under-same m n t u (goes-on m n t s g within) w

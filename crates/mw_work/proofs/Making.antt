@@ -18,15 +18,15 @@ use Rattle.mw_model.specs.Tasks.{is_running, cells_in, nothing_planned, task_cou
 use Rattle.mw_model.specs.Machine.{Machine}
 use Rattle.mw_model.specs.Stands.{input_values, true_planes, true_cells}
 use Rattle.mw_grid.specs.Grids.{Tiling, tile_at, tile_count}
-use Rattle.mw_task.specs.declared.made.Made.{Made}
-use Rattle.mw_task.specs.declared.made.Made.TheVariants as made
+use Rattle.mw_task.specs.declared.tile_result.TileResult.{TileResult}
+use Rattle.mw_task.specs.declared.tile_result.TileResult.TheVariants as made
 use Rattle.mw_task.specs.Products.{HoldsImage, IsMade}
 use Rattle.mw_task.specs.WindowTasks.{WindowTask, IsBounded, KindsFit, made_of_windows, tile_made, window_at}
 use Rattle.mw_task.proofs.Bounded.{here_below, window_below, window_bounded, made_below}
 use Rattle.mw_task.proofs.Cut.{made_of_cut}
-use Rattle.mw_task.proofs.TileCells.{cells_in_all, length-cells_in}
+use Rattle.mw_pieces.proofs.TileCells.{cells_in_all, length-cells_in}
 use Rattle.mw_progress.specs.Levels.{Level, IsLevel, level_of, levels, no_level}
-use Rattle.mw_progress.specs.Underway.{Underway, IsFinished, IsWhole, Fits, IsSmallNumber, cells_of_made, image_of_made, level_of_plane, plane_at}
+use Rattle.mw_progress.specs.ProgressView.{ProgressView, IsFinished, IsWhole, Fits, IsSmallNumber, cells_of_made, image_of_made, level_of_plane, plane_at}
 use Rattle.mw_work.specs.Works.{Finishes, IsTrueWork, true_sources, true_task}
 use Rattle.mw_work.proofs.Numbers.{length-tiles, some-whole, step_number-within, tile_number-within, tile_of_task-whole}
 use Rattle.mw_work.proofs.Pictured.{true_task-bounded}
@@ -35,14 +35,14 @@ use Rattle.mw_work.proofs.Windows.{level-window, true_task-cut, true_task-fits}
 
 -- ---- the cells
 
-made-cells : (d : WindowTask) (x : Made) → IsMade d x → cells_of_made x ≡ made_of_windows d.step d.windows d.rect
+made-cells : (d : WindowTask) (x : TileResult) → IsMade d x → cells_of_made x ≡ made_of_windows d.step d.windows d.rect
 made-cells d (made.Bits p) is = sym (ap (λ (f : Picture). f.samples) is.1)
 made-cells d (made.Grey8 p maxval) is = sym (ap (λ (f : Picture). f.samples) is.1.0)
 made-cells d (made.Grey16 p maxval) is = sym (ap (λ (f : Picture). f.samples) is.1.0)
 made-cells d (made.Number n) is = sym is.1
 
 -- what a true task makes are the cells of the definitions
-pub made-true : (m : Machine) (t : ℕ) (u : Underway) (n : ℕ) (x : Made) → IsTrueWork m t u → n < task_count u.progress → IsMade (true_task m t u.progress n) x → cells_of_made x ≡ true_cells m t u.progress n
+pub made-true : (m : Machine) (t : ℕ) (u : ProgressView) (n : ℕ) (x : TileResult) → IsTrueWork m t u → n < task_count u.progress → IsMade (true_task m t u.progress n) x → cells_of_made x ≡ true_cells m t u.progress n
 made-true m t u n x w within is =
     let p = u.progress in
     let d = true_task m t p n in
@@ -51,14 +51,14 @@ made-true m t u n x w within is =
 
 -- ---- the image
 
-image-made : (d : WindowTask) (x : Made) → is_sum d.step ≡ false → IsMade d x → (tile_made d ≡ image_of_made x) × HoldsImage (image_of_made x) x
+image-made : (d : WindowTask) (x : TileResult) → is_sum d.step ≡ false → IsMade d x → (tile_made d ≡ image_of_made x) × HoldsImage (image_of_made x) x
 image-made d (made.Bits p) plane is = (is.1, refl)
 image-made d (made.Grey8 p maxval) plane is = (is.1.0, (refl, is.1.1))
 image-made d (made.Grey16 p maxval) plane is = (is.1.0, (refl, is.1.1))
 image-made d (made.Number n) plane is = let number = is.0 in absurd cc
 
 -- the level of what a true task makes is that of its step's plane
-level-made : (m : Machine) (t : ℕ) (u : Underway) (n : ℕ) → IsTrueWork m t u → n < task_count u.progress
+level-made : (m : Machine) (t : ℕ) (u : ProgressView) (n : ℕ) → IsTrueWork m t u → n < task_count u.progress
     → level_of (tile_made (true_task m t u.progress n)) ≡ level_of_plane (plane_at u (step_number u.progress n))
 level-made m t u n w within =
     let p = u.progress in
@@ -118,7 +118,7 @@ level-small l is = go l.kind l.maxval is
     go kind.Bit m h = omega arith
     go kind.Grey m h = h.1
 
-level-at : (u : Underway) (k : ℕ) → IsWhole u → k < length u.progress.plan → IsLevel (level_of_plane (plane_at u k))
+level-at : (u : ProgressView) (k : ℕ) → IsWhole u → k < length u.progress.plan → IsLevel (level_of_plane (plane_at u k))
 level-at u k whole within =
     let p = u.progress in
     let long : length u.planes ≡ length (levels p.plan u.input) = sym (length-map u.planes level_of_plane) ∙ ap (λ (ls : List Level). length ls) whole.levels in
@@ -130,7 +130,7 @@ small h w m high wide top =
     omega (arith, mul-le (h * w) m (1024 * 1024) 65535 area top)
 
 -- The task is one of this step and tile of the work, on bounded windows of which the step makes what is of the level of its plane.
-pub record IsTaskAt (u : Underway) (step tile : ℕ) (d : WindowTask) : Type 0 where
+pub record IsTaskAt (u : ProgressView) (step tile : ℕ) (d : WindowTask) : Type 0 where
   pub within : step < length u.progress.plan
   pub inside : tile < tile_count u.tiling
   pub same : d.step ≡ (get_or u.progress.plan step nothing_planned).step
@@ -140,7 +140,7 @@ pub record IsTaskAt (u : Underway) (step tile : ℕ) (d : WindowTask) : Type 0 w
   pub bounded : AllByRecursion IsBounded d.windows
 
 -- the number that such a task of a Sum step makes is small
-number-made : (u : Underway) (step tile : ℕ) (d : WindowTask) (x : Made) → IsWhole u → IsTaskAt u step tile d → is_sum d.step ≡ true → IsMade d x → IsSmallNumber x
+number-made : (u : ProgressView) (step tile : ℕ) (d : WindowTask) (x : TileResult) → IsWhole u → IsTaskAt u step tile d → is_sum d.step ≡ true → IsMade d x → IsSmallNumber x
 number-made u step tile d (made.Bits p) whole at sums is = let plane = is.0 in absurd cc
 number-made u step tile d (made.Grey8 p maxval) whole at sums is = let plane = is.0 in absurd cc
 number-made u step tile d (made.Grey16 p maxval) whole at sums is = let plane = is.0 in absurd cc
@@ -158,7 +158,7 @@ number-made u step tile d (made.Number found) whole at sums is =
 -- ---- what was made fits
 
 -- what a task of a step and tile makes fits them, whatever its windows show
-pub fits-made : (u : Underway) (step tile : ℕ) (d : WindowTask) (x : Made) → IsWhole u → IsTaskAt u step tile d → IsMade d x → Fits u step tile x
+pub fits-made : (u : ProgressView) (step tile : ℕ) (d : WindowTask) (x : TileResult) → IsWhole u → IsTaskAt u step tile d → IsMade d x → Fits u step tile x
 fits-made u step tile d x whole at is =
     let Sums : PlanStep → Bool → Type 0 = λ s b. is_sum s ≡ b in
     record {
@@ -180,7 +180,7 @@ fits-made u step tile d x whole at is =
     }
 
 -- so does what a true task makes
-pub made-fits : (m : Machine) (t : ℕ) (u : Underway) (n : ℕ) (x : Made) → IsTrueWork m t u → n < task_count u.progress → IsMade (true_task m t u.progress n) x
+pub made-fits : (m : Machine) (t : ℕ) (u : ProgressView) (n : ℕ) (x : TileResult) → IsTrueWork m t u → n < task_count u.progress → IsMade (true_task m t u.progress n) x
     → Fits u (step_number u.progress n) (tile_number u.progress n) x
 made-fits m t u n x w within is =
     let p = u.progress in
@@ -200,7 +200,7 @@ made-fits m t u n x w within is =
 -- ---- events
 
 -- a running task that made what it makes by its windows is finished as the definitions have it
-pub finishes-made : (m : Machine) (t : ℕ) (old new : Underway) (n : ℕ) (x : Made) → IsTrueWork m t old → n < task_count old.progress → is_running old.progress n ≡ true → IsMade (true_task m t old.progress n) x
+pub finishes-made : (m : Machine) (t : ℕ) (old new : ProgressView) (n : ℕ) (x : TileResult) → IsTrueWork m t old → n < task_count old.progress → is_running old.progress n ≡ true → IsMade (true_task m t old.progress n) x
     → IsFinished old new n (cells_of_made x) → IsWhole new → Finishes m t old new n
 finishes-made m t old new n x w within running is finished whole =
     record { cells = cells_of_made x; is = made-true m t old n x w within is; finished = finished; within = within; running = running; whole = whole }

@@ -8,7 +8,7 @@ use Rattle.mw_model.specs.Tasks.{Progress, task_count, step_number, tile_number,
 use Rattle.mw_grid.specs.Grids.{Tiling, tile_at, tile_count}
 use Rattle.mw_grid.proofs.Tiles.{HasTiles, length-tiles_of, tile_of-tiles_of, tile_within}
 use Rattle.mw_tiles.specs.Tiles.{Tiled, tile_cells}
-use Rattle.mw_progress.specs.Underway.{IsFramed, Underway, IsWhole, cells_of_planes, no_plane, number_of, plane_at}
+use Rattle.mw_progress.specs.ProgressView.{IsFramed, ProgressView, IsWhole, cells_of_planes, no_plane, number_of, plane_at}
 
 -- ---- what is kept of planes of one number of tiles
 
@@ -41,10 +41,10 @@ get_or-cells_of_planes (p ∷ ps) d n (suc k) i each lt inside =
 pub has-tiles : (g : Tiling) → IsFramed g → HasTiles g
 has-tiles g is = let wide = is.wide in let high = is.high in let least = is.least in record { wide = wide; high = high; some = omega arith }
 
-pub length-tiles : (u : Underway) → IsWhole u → length u.progress.tiles ≡ tile_count u.tiling
+pub length-tiles : (u : ProgressView) → IsWhole u → length u.progress.tiles ≡ tile_count u.tiling
 length-tiles u whole = ap (λ (ts : List Rect). length ts) whole.tiles ∙ length-tiles_of u.tiling
 
-pub task_count-whole : (u : Underway) → IsWhole u → task_count u.progress ≡ length u.progress.plan * tile_count u.tiling
+pub task_count-whole : (u : ProgressView) → IsWhole u → task_count u.progress ≡ length u.progress.plan * tile_count u.tiling
 task_count-whole u whole = ap (λ (n : ℕ). length u.progress.plan * n) (length-tiles u whole)
 
 pub some-tiles : (g : Tiling) → 1 ≤ tile_count g
@@ -72,7 +72,7 @@ step_number-within p n some within = div_below n (length p.tiles) (length p.plan
 pub tile_number-within : (p : Progress) (n : ℕ) → 1 ≤ length p.tiles → tile_number p n < length p.tiles
 tile_number-within p n some = mod_below n (length p.tiles) some
 
-pub some-whole : (u : Underway) → IsWhole u → 1 ≤ length u.progress.tiles
+pub some-whole : (u : ProgressView) → IsWhole u → 1 ≤ length u.progress.tiles
 some-whole u whole = omega (arith, length-tiles u whole, some-tiles u.tiling)
 
 -- ---- the step and the tile of a task
@@ -80,18 +80,18 @@ some-whole u whole = omega (arith, length-tiles u whole, some-tiles u.tiling)
 pub planned_of-number_of : (p : Progress) (step tile : ℕ) → tile < length p.tiles → planned_of p (number_of p step tile) ≡ get_or p.plan step nothing_planned
 planned_of-number_of p step tile inside = ap (λ (k : ℕ). get_or p.plan k nothing_planned) (step_number-number_of p step tile inside)
 
-pub tile_of_task-whole : (u : Underway) (n : ℕ) → IsWhole u → tile_of_task u.progress n ≡ tile_at u.tiling (tile_number u.progress n)
+pub tile_of_task-whole : (u : ProgressView) (n : ℕ) → IsWhole u → tile_of_task u.progress n ≡ tile_at u.tiling (tile_number u.progress n)
 tile_of_task-whole u n whole =
     let inside = tile_number-within u.progress n (some-whole u whole) in
     ap (λ (ts : List Rect). tile_of ts (tile_number u.progress n)) whole.tiles
     ∙ tile_of-tiles_of u.tiling (tile_number u.progress n) (omega (arith, inside, length-tiles u whole))
 
-pub tile_of_task-number_of : (u : Underway) (step tile : ℕ) → IsWhole u → tile < tile_count u.tiling → tile_of_task u.progress (number_of u.progress step tile) ≡ tile_at u.tiling tile
+pub tile_of_task-number_of : (u : ProgressView) (step tile : ℕ) → IsWhole u → tile < tile_count u.tiling → tile_of_task u.progress (number_of u.progress step tile) ≡ tile_at u.tiling tile
 tile_of_task-number_of u step tile whole inside =
     tile_of_task-whole u (number_of u.progress step tile) whole
     ∙ ap (tile_at u.tiling) (tile_number-number_of u.progress step tile (omega (arith, inside, length-tiles u whole)))
 
-pub tile_of_task-within : (u : Underway) (n : ℕ) → IsWhole u → IsWithin (tile_of_task u.progress n) u.tiling.width u.tiling.height
+pub tile_of_task-within : (u : ProgressView) (n : ℕ) → IsWhole u → IsWithin (tile_of_task u.progress n) u.tiling.width u.tiling.height
 tile_of_task-within u n whole =
     let inside = tile_number-within u.progress n (some-whole u whole) in
     subst (λ (r : Rect). IsWithin r u.tiling.width u.tiling.height) (sym (tile_of_task-whole u n whole))
@@ -99,7 +99,7 @@ tile_of_task-within u n whole =
 
 -- ---- what is kept of a task
 
-pub length-placed : (u : Underway) → IsWhole u → length u.progress.placed ≡ task_count u.progress
+pub length-placed : (u : ProgressView) → IsWhole u → length u.progress.placed ≡ task_count u.progress
 length-placed u whole =
     ap (λ (cs : List (Option (List ℕ))). length cs) whole.placed
     ∙ length-cells_of_planes u.planes (no_plane u.tiling) (tile_count u.tiling) whole.counts
@@ -107,7 +107,7 @@ length-placed u whole =
     ∙ sym (task_count-whole u whole)
 
 -- it is the tile of its step's plane
-pub placed-number_of : (u : Underway) (step tile : ℕ) → IsWhole u → step < length u.progress.plan → tile < tile_count u.tiling
+pub placed-number_of : (u : ProgressView) (step tile : ℕ) → IsWhole u → step < length u.progress.plan → tile < tile_count u.tiling
     → get_or u.progress.placed (number_of u.progress step tile) None ≡ tile_cells (plane_at u step).tiles tile
 placed-number_of u step tile whole within inside =
     ap (λ (cs : List (Option (List ℕ))). get_or cs (number_of u.progress step tile) None) whole.placed

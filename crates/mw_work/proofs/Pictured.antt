@@ -19,7 +19,7 @@ use Rattle.mw_task.proofs.Cut.{bounded_cut, made_of_cut}
 use Rattle.mw_plan.specs.PlansOf.{CanBeMade}
 use Rattle.mw_plan.proofs.WindowsFit.{made_fits}
 use Rattle.mw_progress.specs.Levels.{Level}
-use Rattle.mw_progress.specs.Underway.{Underway}
+use Rattle.mw_progress.specs.ProgressView.{ProgressView}
 use Rattle.mw_work.specs.Works.{IsTrueWork, true_source, true_sources, true_task}
 use Rattle.mw_work.proofs.Numbers.{some-whole, step_number-within}
 use Rattle.mw_work.proofs.Truth.{true_plane-is}
@@ -65,7 +65,7 @@ plane-picture s sources width height sides frames pictures can no_sum =
 
 -- ---- the sources of the steps of work
 
-sides-of : (m : Machine) (t : ℕ) (u : Underway) → IsTrueWork m t u → HasSides u.progress.width u.progress.height
+sides-of : (m : Machine) (t : ℕ) (u : ProgressView) → IsTrueWork m t u → HasSides u.progress.width u.progress.height
 sides-of m t u w =
     let a = w.whole.width in
     let b = w.whole.height in
@@ -76,7 +76,7 @@ sides-of m t u w =
     let low = is.low in
     record { wide = omega arith; narrow = omega arith; high = omega arith; low = omega arith }
 
-pictures-before : (m : Machine) (t : ℕ) (u : Underway) (k : ℕ) (sources : List Source) → IsTrueWork m t u → k < length u.progress.plan
+pictures-before : (m : Machine) (t : ℕ) (u : ProgressView) (k : ℕ) (sources : List Source) → IsTrueWork m t u → k < length u.progress.plan
     → ((j : ℕ) → j < k → is_sum (get_or u.progress.plan j nothing_planned).step ≡ false → IsPicture (get_or (true_planes m t u.progress) j no_picture)) → AllByRecursion (IsSourceOf u k) sources
     → AllByRecursion IsPicture (map (true_source m t u.progress) sources)
 pictures-before m t u k [] w within before all = tt
@@ -88,7 +88,7 @@ pictures-before m t u k (FromInput i ∷ ss) w within before all =
 pictures-before m t u k (FromStep j ∷ ss) w within before all = (before j all.0.0 all.0.1, pictures-before m t u k ss w within before all.1)
 
 -- the true plane of a step that makes one is a picture
-pub true_plane-picture : (m : Machine) (t : ℕ) (u : Underway) (k : ℕ) → IsTrueWork m t u → k < length u.progress.plan → is_sum (get_or u.progress.plan k nothing_planned).step ≡ false
+pub true_plane-picture : (m : Machine) (t : ℕ) (u : ProgressView) (k : ℕ) → IsTrueWork m t u → k < length u.progress.plan → is_sum (get_or u.progress.plan k nothing_planned).step ≡ false
     → IsPicture (get_or (true_planes m t u.progress) k no_picture)
 true_plane-picture m t u k w =
     let p = u.progress in
@@ -100,12 +100,12 @@ true_plane-picture m t u k w =
     (pictures-before m t u j s.sources w within (λ i lt. before i lt (omega (arith, lt, within))) (sources-at u j w.whole)) (w.planned.made j within) no_sum)) k
 
 -- and so is each plane that a step reads
-pub true_sources-pictures : (m : Machine) (t : ℕ) (u : Underway) (k : ℕ) → IsTrueWork m t u → k < length u.progress.plan → AllByRecursion IsPicture (true_sources m t u.progress k)
+pub true_sources-pictures : (m : Machine) (t : ℕ) (u : ProgressView) (k : ℕ) → IsTrueWork m t u → k < length u.progress.plan → AllByRecursion IsPicture (true_sources m t u.progress k)
 true_sources-pictures m t u k w within =
     pictures-before m t u k (get_or u.progress.plan k nothing_planned).sources w within (λ j lt no_sum. true_plane-picture m t u j w (omega (arith, lt, within)) no_sum) (sources-at u k w.whole)
 
 -- no sample of the windows of a true task is over the maxval
-pub true_task-bounded : (m : Machine) (t : ℕ) (u : Underway) (n : ℕ) → IsTrueWork m t u → n < task_count u.progress → AllByRecursion IsBounded (true_task m t u.progress n).windows
+pub true_task-bounded : (m : Machine) (t : ℕ) (u : ProgressView) (n : ℕ) → IsTrueWork m t u → n < task_count u.progress → AllByRecursion IsBounded (true_task m t u.progress n).windows
 true_task-bounded m t u n w within =
     let p = u.progress in
     let k = step_number p n in

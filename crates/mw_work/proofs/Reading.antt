@@ -12,14 +12,14 @@ use Rattle.mw_model.specs.Plans.{FromStep, IsSourceAt, is_sum}
 use Rattle.mw_model.specs.Tasks.{flag, task_count, nothing_planned, planned_of, step_number, place_of_task, tile_of_task, place_read, is_step, share, meets, reads, tasks_below, is_needed}
 use Rattle.mw_grid.proofs.Reaching.{stays_within}
 use Rattle.mw_tiles.specs.Tiles.{HasAll}
-use Rattle.mw_progress.specs.Underway.{Underway, IsPlaneSource, IsWhole, has_all_read, number_of, plane_at}
+use Rattle.mw_progress.specs.ProgressView.{ProgressView, IsPlaneSource, IsWhole, has_all_read, number_of, plane_at}
 use Rattle.mw_work.specs.Works.{IsReadyOrRuns}
 use Rattle.mw_work.proofs.Flags.{list_all-range, list_any-range, list_any-is_step}
 use Rattle.mw_work.proofs.Numbers.{length-tiles, some-whole, step_number-number_of, number_of-within, step_number-within, tile_of_task-number_of, tile_of_task-within, placed-number_of}
 
 -- ---- tasks that are ready or run
 
-pub unfinished : (u : Underway) (n : ℕ) → IsWhole u → IsReadyOrRuns u.progress n → flag u.progress.finished n ≡ false
+pub unfinished : (u : ProgressView) (n : ℕ) → IsWhole u → IsReadyOrRuns u.progress n → flag u.progress.finished n ≡ false
 unfinished u n whole (inl ready) =
     let p = u.progress in
     let idle : flag p.started n ≡ false = not-true (flag p.started n) (and_parts (not (flag p.started n)) (has_all_read p n) ready).0 in
@@ -28,12 +28,12 @@ unfinished u n whole (inr runs) =
     let p = u.progress in
     not-true (flag p.finished n) (and_parts (flag p.started n) (not (flag p.finished n)) runs).1
 
-pub has-all-read : (u : Underway) (n : ℕ) → IsWhole u → n < task_count u.progress → IsReadyOrRuns u.progress n → has_all_read u.progress n ≡ true
+pub has-all-read : (u : ProgressView) (n : ℕ) → IsWhole u → n < task_count u.progress → IsReadyOrRuns u.progress n → has_all_read u.progress n ≡ true
 has-all-read u n whole within (inl ready) = let p = u.progress in (and_parts (not (flag p.started n)) (has_all_read p n) ready).1
 has-all-read u n whole within (inr runs) = let p = u.progress in whole.calm n within (and_parts (flag p.started n) (not (flag p.finished n)) runs).0
 
 -- what it reads is finished
-read-finished : (u : Underway) (n k : ℕ) → IsWhole u → n < task_count u.progress → k < task_count u.progress → IsReadyOrRuns u.progress n → reads u.progress n k ≡ true → flag u.progress.finished k ≡ true
+read-finished : (u : ProgressView) (n k : ℕ) → IsWhole u → n < task_count u.progress → k < task_count u.progress → IsReadyOrRuns u.progress n → reads u.progress n k ≡ true → flag u.progress.finished k ≡ true
 read-finished u n k whole within other runs read =
     let p = u.progress in
     let each : (not (reads p n k) || flag p.finished k) ≡ true
@@ -44,7 +44,7 @@ read-finished u n k whole within other runs read =
     ]
 
 -- and is kept
-read-kept : (u : Underway) (n k : ℕ) → IsWhole u → n < task_count u.progress → k < task_count u.progress → IsReadyOrRuns u.progress n → reads u.progress n k ≡ true → IsSome (get_or u.progress.placed k None)
+read-kept : (u : ProgressView) (n k : ℕ) → IsWhole u → n < task_count u.progress → k < task_count u.progress → IsReadyOrRuns u.progress n → reads u.progress n k ≡ true → IsSome (get_or u.progress.placed k None)
 read-kept u n k whole within other runs read =
     let p = u.progress in
     let left : flag p.finished n ≡ false = unfinished u n whole runs in
@@ -66,7 +66,7 @@ meets-holds r q x y a b =
     shared a n b m k from to start end = and_from (nat_lt a (b + m)) (nat_lt b (a + n)) (lt-ltb a (b + m) (omega arith)) (lt-ltb b (a + n) (omega arith))
 
 -- the rectangle that a task reads lies in the frame
-pub place_of_task-within : (u : Underway) (n : ℕ) → IsWhole u → IsWithin (place_of_task u.progress n) u.tiling.width u.tiling.height
+pub place_of_task-within : (u : ProgressView) (n : ℕ) → IsWhole u → IsWithin (place_of_task u.progress n) u.tiling.width u.tiling.height
 place_of_task-within u n whole =
     let p = u.progress in
     let tile = tile_of_task p n in
@@ -81,20 +81,20 @@ place_of_task-within u n whole =
 -- ---- the tiles under a task's window
 
 -- a step that is read is one of the plan before the task's
-pub source-before : (u : Underway) (n k : ℕ) → IsWhole u → Contains (planned_of u.progress n).sources (FromStep k) → k < step_number u.progress n
+pub source-before : (u : ProgressView) (n k : ℕ) → IsWhole u → Contains (planned_of u.progress n).sources (FromStep k) → k < step_number u.progress n
 source-before u n k whole has =
     all-contains (IsSourceAt 1 (step_number u.progress n)) (planned_of u.progress n).sources (FromStep k) (whole.workable.sources (step_number u.progress n)) has
 
-pub source-within : (u : Underway) (n k : ℕ) → IsWhole u → n < task_count u.progress → Contains (planned_of u.progress n).sources (FromStep k) → k < length u.progress.plan
+pub source-within : (u : ProgressView) (n k : ℕ) → IsWhole u → n < task_count u.progress → Contains (planned_of u.progress n).sources (FromStep k) → k < length u.progress.plan
 source-within u n k whole within has =
     omega (arith, source-before u n k whole has, step_number-within u.progress n (some-whole u whole) within)
 
 -- and makes a plane
-pub source-plane : (u : Underway) (n k : ℕ) → IsWhole u → Contains (planned_of u.progress n).sources (FromStep k) → is_sum (get_or u.progress.plan k nothing_planned).step ≡ false
+pub source-plane : (u : ProgressView) (n k : ℕ) → IsWhole u → Contains (planned_of u.progress n).sources (FromStep k) → is_sum (get_or u.progress.plan k nothing_planned).step ≡ false
 source-plane u n k whole has = all-contains (IsPlaneSource u.progress.plan) (planned_of u.progress n).sources (FromStep k) (whole.workable.planes (step_number u.progress n)) has
 
 -- all tiles of a source that a ready or running task reads are placed
-pub source-placed : (u : Underway) (n k : ℕ) → IsWhole u → n < task_count u.progress → IsReadyOrRuns u.progress n → Contains (planned_of u.progress n).sources (FromStep k)
+pub source-placed : (u : ProgressView) (n k : ℕ) → IsWhole u → n < task_count u.progress → IsReadyOrRuns u.progress n → Contains (planned_of u.progress n).sources (FromStep k)
     → HasAll u.tiling (plane_at u k).tiles (place_of_task u.progress n)
 source-placed u n k whole within runs has x y here i inside there =
     let p = u.progress in

@@ -13,7 +13,7 @@ use Rattle.mw_model.specs.Tasks.{Progress, flag, task_count, nothing_planned, pl
 use Rattle.mw_model.specs.Stands.{true_planes}
 use Rattle.mw_grid.specs.Grids.{Tiling, tile_count}
 use Rattle.mw_tiles.specs.Tiles.{AllPlaced, tile_cells}
-use Rattle.mw_progress.specs.Underway.{Underway, IsWhole, number_of, plane_at}
+use Rattle.mw_progress.specs.ProgressView.{ProgressView, IsWhole, number_of, plane_at}
 use Rattle.mw_work.specs.Works.{IsTrueWork, IsResultImage}
 use Rattle.mw_work.proofs.Flags.{count_by-not_none}
 use Rattle.mw_work.proofs.Numbers.{length-tiles, number_of-within, planned_of-number_of, placed-number_of, step_number-number_of}
@@ -24,7 +24,7 @@ pub all-finished : (p : Progress) (n : ℕ) → remaining_tasks p ≡ 0 → n < 
 all-finished p n none within = count_by-not_none (flag p.finished) (task_count p) n none within
 
 -- a tile that is needed is then placed
-tile-placed : (u : Underway) (k i : ℕ) → IsWhole u → remaining_tasks u.progress ≡ 0 → k < length u.progress.plan → i < tile_count u.tiling → is_needed u.progress (number_of u.progress k i) ≡ true
+tile-placed : (u : ProgressView) (k i : ℕ) → IsWhole u → remaining_tasks u.progress ≡ 0 → k < length u.progress.plan → i < tile_count u.tiling → is_needed u.progress (number_of u.progress k i) ≡ true
     → IsSome (tile_cells (plane_at u k).tiles i)
 tile-placed u k i whole none within inside needed =
     let p = u.progress in
@@ -32,11 +32,11 @@ tile-placed u k i whole none within inside needed =
     let counted : n < task_count p = number_of-within p k i within (omega (arith, inside, length-tiles u whole)) in
     subst (λ (o : Option (List ℕ)). IsSome o) (placed-number_of u k i whole within inside) ((whole.needed n counted).1 (all-finished p n none counted, needed))
 
-all-placed : (u : Underway) (k : ℕ) → IsWhole u → ((i : ℕ) → i < tile_count (plane_at u k).tiling → IsSome (tile_cells (plane_at u k).tiles i)) → AllPlaced (plane_at u k)
+all-placed : (u : ProgressView) (k : ℕ) → IsWhole u → ((i : ℕ) → i < tile_count (plane_at u k).tiling → IsSome (tile_cells (plane_at u k).tiles i)) → AllPlaced (plane_at u k)
 all-placed u k whole each = record { count = whole.counts k ∙ ap tile_count (sym (whole.tilings k)); each = each }
 
 -- all tiles of the last step
-pub last-full : (u : Underway) → IsWhole u → remaining_tasks u.progress ≡ 0 → AllPlaced (plane_at u (length u.progress.plan - 1))
+pub last-full : (u : ProgressView) → IsWhole u → remaining_tasks u.progress ≡ 0 → AllPlaced (plane_at u (length u.progress.plan - 1))
 last-full u whole none = all-placed u (length u.progress.plan - 1) whole (λ i below.
     let p = u.progress in
     let k = length p.plan - 1 in
@@ -51,7 +51,7 @@ last-full u whole none = all-placed u (length u.progress.plan - 1) whole (λ i b
     tile-placed u k i whole none (omega arith) inside needed)
 
 -- all tiles of a Sum step
-pub sum-full : (u : Underway) (k : ℕ) → IsWhole u → remaining_tasks u.progress ≡ 0 → k < length u.progress.plan → is_sum (get_or u.progress.plan k nothing_planned).step ≡ true → AllPlaced (plane_at u k)
+pub sum-full : (u : ProgressView) (k : ℕ) → IsWhole u → remaining_tasks u.progress ≡ 0 → k < length u.progress.plan → is_sum (get_or u.progress.plan k nothing_planned).step ≡ true → AllPlaced (plane_at u k)
 sum-full u k whole none within sums = all-placed u k whole (λ i below.
     let p = u.progress in
     let inside : i < tile_count u.tiling = subst (λ (g : Tiling). i < tile_count g) (whole.tilings k) below in
@@ -65,7 +65,7 @@ sum-full u k whole none within sums = all-placed u k whole (λ i below.
 -- ---- images
 
 -- the plane of the last step is the image that stands under the ticket
-pub result-image : (m : Machine) (t : ℕ) (u : Underway) (k : Kind) (w h x : ℕ) → IsTrueWork m t u → remaining_tasks u.progress ≡ 0 → (submission_at m.table.submissions t).shape ≡ shape.Image k w h x → IsResultImage m t u
+pub result-image : (m : Machine) (t : ℕ) (u : ProgressView) (k : Kind) (w h x : ℕ) → IsTrueWork m t u → remaining_tasks u.progress ≡ 0 → (submission_at m.table.submissions t).shape ≡ shape.Image k w h x → IsResultImage m t u
 result-image m t u k w h x work none shaped =
     let p = u.progress in
     let last = length p.plan - 1 in

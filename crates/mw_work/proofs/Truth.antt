@@ -10,7 +10,7 @@ use Rattle.mw_tiles.specs.Tiles.{AreMade, IsPlaneOf, Tiled}
 use Rattle.mw_tiles.proofs.Made.{plane_is_made}
 use Rattle.mw_plan.proofs.Planes.{length-planes, plane_is}
 use Rattle.mw_progress.specs.Levels.{Level, level_of, levels, no_level}
-use Rattle.mw_progress.specs.Underway.{Underway, IsWhole, level_of_plane, number_of, plane_at, no_plane}
+use Rattle.mw_progress.specs.ProgressView.{ProgressView, IsWhole, level_of_plane, number_of, plane_at, no_plane}
 use Rattle.mw_work.specs.Works.{KeepsTrue, IsTrueWork, true_sources}
 use Rattle.mw_work.proofs.Leveled.{get_or-map-level_of, levels-planes}
 use Rattle.mw_work.proofs.Numbers.{has-tiles, length-tiles, placed-number_of, planned_of-number_of, tile_of_task-number_of}
@@ -32,12 +32,12 @@ get_or-levels [] d l k within = absurd (omega arith)
 get_or-levels (p ∷ ps) d l zero within = refl
 get_or-levels (p ∷ ps) d l (suc k) within = get_or-levels ps d l k (omega arith)
 
-pub plane_at-level : (u : Underway) (k : ℕ) → IsWhole u → k < length u.progress.plan → level_of_plane (plane_at u k) ≡ get_or (levels u.progress.plan u.input) k no_level
+pub plane_at-level : (u : ProgressView) (k : ℕ) → IsWhole u → k < length u.progress.plan → level_of_plane (plane_at u k) ≡ get_or (levels u.progress.plan u.input) k no_level
 plane_at-level u k whole within =
     get_or-levels u.planes (no_plane u.tiling) no_level k (omega (arith, within, whole.planes)) ∙ ap (λ (ls : List Level). get_or ls k no_level) whole.levels
 
 -- it is the level of the true plane
-pub plane_at-true_level : (m : Machine) (t : ℕ) (u : Underway) (k : ℕ) → IsTrueWork m t u → k < length u.progress.plan
+pub plane_at-true_level : (m : Machine) (t : ℕ) (u : ProgressView) (k : ℕ) → IsTrueWork m t u → k < length u.progress.plan
     → level_of_plane (plane_at u k) ≡ level_of (get_or (true_planes m t u.progress) k no_picture)
 plane_at-true_level m t u k w within =
     let p = u.progress in
@@ -52,7 +52,7 @@ plane_at-true_level m t u k w within =
 -- ---- what is kept is true
 
 -- a tile of a step that is kept is what the step makes there of the true planes
-pub tile-made : (m : Machine) (t : ℕ) (u : Underway) (k : ℕ) → IsTrueWork m t u → k < length u.progress.plan
+pub tile-made : (m : Machine) (t : ℕ) (u : ProgressView) (k : ℕ) → IsTrueWork m t u → k < length u.progress.plan
     → AreMade (get_or u.progress.plan k nothing_planned).step (true_sources m t u.progress k) (plane_at u k)
 tile-made m t u k w within i cells below found =
     let p = u.progress in
@@ -66,7 +66,7 @@ tile-made m t u k w within i cells below found =
     ∙ ap (made_of_planes (get_or p.plan k nothing_planned).step (true_sources m t p k)) (tile_of_task-number_of u k i whole inside ∙ ap (λ (g : Tiling). tile_at g i) (sym (whole.tilings k)))
 
 -- what is kept of a step that makes a plane is part of its true plane
-pub plane-true : (m : Machine) (t : ℕ) (u : Underway) (k : ℕ) → IsTrueWork m t u → k < length u.progress.plan
+pub plane-true : (m : Machine) (t : ℕ) (u : ProgressView) (k : ℕ) → IsTrueWork m t u → k < length u.progress.plan
     → is_sum (get_or u.progress.plan k nothing_planned).step ≡ false → IsPlaneOf (plane_at u k) (get_or (true_planes m t u.progress) k no_picture)
 plane-true m t u k w within no_sum =
     let p = u.progress in

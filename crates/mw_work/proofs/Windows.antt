@@ -15,7 +15,7 @@ use Rattle.mw_task.specs.Sources.{AreCut, HasFrame}
 use Rattle.mw_task.specs.WindowTasks.{FitsStep, window_at}
 use Rattle.mw_plan.proofs.WindowsFit.{made_fits}
 use Rattle.mw_progress.specs.Levels.{Level, level_of}
-use Rattle.mw_progress.specs.Underway.{Underway, number_of, IsWhole, IsPlaneSource}
+use Rattle.mw_progress.specs.ProgressView.{ProgressView, number_of, IsWhole, IsPlaneSource}
 use Rattle.mw_work.specs.Works.{AreWindowsOfSources, IsWindowOfSource, IsTrueWork, task_of, true_source, true_task}
 use Rattle.mw_work.proofs.Numbers.{has-tiles, length-tiles, some-whole, step_number-within, tile_number-within, tile_of_task-whole, tile_of_task-within, planned_of-number_of, step_number-number_of, tile_number-number_of, tile_of_task-number_of}
 use Rattle.mw_work.proofs.Truth.{plane-true, true_plane-is}
@@ -27,16 +27,16 @@ level_of_window w = record { kind = w.kind; maxval = w.maxval }
 -- ---- what is known of what the sources of a task are
 
 -- a source of step k of this work
-abbrev pub IsSourceOf : Underway → ℕ → Source → Type 0
+abbrev pub IsSourceOf : ProgressView → ℕ → Source → Type 0
 IsSourceOf u k s = IsSourceAt 1 k s × IsPlaneSource u.progress.plan s
 
-pub sources-at : (u : Underway) (k : ℕ) → IsWhole u → AllByRecursion (IsSourceOf u k) (get_or u.progress.plan k nothing_planned).sources
+pub sources-at : (u : ProgressView) (k : ℕ) → IsWhole u → AllByRecursion (IsSourceOf u k) (get_or u.progress.plan k nothing_planned).sources
 sources-at u k whole =
     all-both (IsSourceAt 1 k) (IsPlaneSource u.progress.plan) (IsSourceOf u k) (get_or u.progress.plan k nothing_planned).sources (λ s a b. (a, b)) (whole.workable.sources k) (whole.workable.planes k)
 
 -- ---- windows of sources are those of the true planes
 
-window-true : (m : Machine) (t : ℕ) (u : Underway) (place : Rect) (k : ℕ) (s : Source) (v : SourceWindow) → (w : IsTrueWork m t u) → k < length u.progress.plan → IsSourceOf u k s
+window-true : (m : Machine) (t : ℕ) (u : ProgressView) (place : Rect) (k : ℕ) (s : Source) (v : SourceWindow) → (w : IsTrueWork m t u) → k < length u.progress.plan → IsSourceOf u k s
     → IsWindowOfSource u w.planned.image place s v → v ≡ window_of place (true_source m t u.progress s)
 window-true m t u place k (FromInput i) v w within source is =
     let first : i ≡ 0 = omega (arith, source.0) in
@@ -45,7 +45,7 @@ window-true m t u place k (FromInput i) v w within source is =
 window-true m t u place k (FromStep i) v w within source is =
     is (get_or (true_planes m t u.progress) i no_picture) (plane-true m t u i w (omega (arith, source.0)) source.1)
 
-windows-true : (m : Machine) (t : ℕ) (u : Underway) (place : Rect) (k : ℕ) (sources : List Source) (ws : List SourceWindow) → (w : IsTrueWork m t u) → k < length u.progress.plan
+windows-true : (m : Machine) (t : ℕ) (u : ProgressView) (place : Rect) (k : ℕ) (sources : List Source) (ws : List SourceWindow) → (w : IsTrueWork m t u) → k < length u.progress.plan
     → AllByRecursion (IsSourceOf u k) sources → AreWindowsOfSources u w.planned.image place sources ws → ws ≡ map (window_of place) (map (true_source m t u.progress) sources)
 windows-true m t u place k [] [] w within all is = refl
 windows-true m t u place k [] (v ∷ ws) w within all is = absurd is
@@ -56,7 +56,7 @@ windows-true m t u place k (s ∷ ss) (v ∷ ws) w within all is =
 
 -- ---- tasks by their step and tile
 
-pub place_of_task-number_of : (u : Underway) (step tile : ℕ) → IsWhole u → tile < tile_count u.tiling
+pub place_of_task-number_of : (u : ProgressView) (step tile : ℕ) → IsWhole u → tile < tile_count u.tiling
     → place_of_task u.progress (number_of u.progress step tile) ≡ place_read (get_or u.progress.plan step nothing_planned).step u.tiling.width u.tiling.height (tile_at u.tiling tile)
 place_of_task-number_of u step tile whole inside =
     let p = u.progress in
@@ -67,7 +67,7 @@ place_of_task-number_of u step tile whole inside =
     ∙ ap (λ (h : ℕ). place_read s.step u.tiling.width h (tile_of_task p n)) whole.height
     ∙ ap (place_read s.step u.tiling.width u.tiling.height) (tile_of_task-number_of u step tile whole inside)
 
-pub task_of-number_of : (t : ℕ) (u : Underway) (step tile : ℕ) (ws : List SourceWindow) → IsWhole u → tile < tile_count u.tiling
+pub task_of-number_of : (t : ℕ) (u : ProgressView) (step tile : ℕ) (ws : List SourceWindow) → IsWhole u → tile < tile_count u.tiling
     → task_of t u.progress (number_of u.progress step tile) ws
     ≡ record { task = record { ticket = t; step = step; tile = tile }; rect = tile_at u.tiling tile; step = (get_or u.progress.plan step nothing_planned).step; windows = ws }
 task_of-number_of t u step tile ws whole inside =
@@ -82,7 +82,7 @@ task_of-number_of t u step tile ws whole inside =
 -- ---- tasks on true windows
 
 -- a task whose windows are those of its sources is the true one
-pub task-true : (m : Machine) (t : ℕ) (u : Underway) (n : ℕ) (ws : List SourceWindow) → (w : IsTrueWork m t u) → n < task_count u.progress
+pub task-true : (m : Machine) (t : ℕ) (u : ProgressView) (n : ℕ) (ws : List SourceWindow) → (w : IsTrueWork m t u) → n < task_count u.progress
     → AreWindowsOfSources u w.planned.image (place_of_task u.progress n) (planned_of u.progress n).sources ws → task_of t u.progress n ws ≡ true_task m t u.progress n
 task-true m t u n ws w within is =
     let p = u.progress in
@@ -98,7 +98,7 @@ level-window place (f ∷ fs) zero = refl
 level-window place (f ∷ fs) (suc k) = level-window place fs k
 
 -- the frame of a source
-frame-of : (m : Machine) (t : ℕ) (u : Underway) (k : ℕ) (s : Source) → IsTrueWork m t u → k < length u.progress.plan → IsSourceOf u k s
+frame-of : (m : Machine) (t : ℕ) (u : ProgressView) (k : ℕ) (s : Source) → IsTrueWork m t u → k < length u.progress.plan → IsSourceOf u k s
     → HasFrame u.progress.width u.progress.height (true_source m t u.progress s)
 frame-of m t u k (FromInput i) w within source =
     let p = u.progress in
@@ -112,13 +112,13 @@ frame-of m t u k (FromStep i) w within source =
     let p = u.progress in
     subst (HasFrame p.width p.height) (sym (true_plane-is m t p i w.keeps (omega (arith, source.0)))) (record { width = refl; height = refl })
 
-pub frames-of : (m : Machine) (t : ℕ) (u : Underway) (k : ℕ) (sources : List Source) → IsTrueWork m t u → k < length u.progress.plan → AllByRecursion (IsSourceOf u k) sources
+pub frames-of : (m : Machine) (t : ℕ) (u : ProgressView) (k : ℕ) (sources : List Source) → IsTrueWork m t u → k < length u.progress.plan → AllByRecursion (IsSourceOf u k) sources
     → AllByRecursion (HasFrame u.progress.width u.progress.height) (map (true_source m t u.progress) sources)
 frames-of m t u k [] w within all = tt
 frames-of m t u k (s ∷ ss) w within all = (frame-of m t u k s w within all.0, frames-of m t u k ss w within all.1)
 
 -- the windows of a true task were cut from the true planes of its sources
-pub true_task-cut : (m : Machine) (t : ℕ) (u : Underway) (n : ℕ) → IsTrueWork m t u → n < task_count u.progress
+pub true_task-cut : (m : Machine) (t : ℕ) (u : ProgressView) (n : ℕ) → IsTrueWork m t u → n < task_count u.progress
     → AreCut (planned_of u.progress n).step (sources_of u.progress (images_of (input_values m t)) (true_planes m t u.progress) n) u.progress.width u.progress.height (tile_of_task u.progress n) (true_task m t u.progress n).windows
 true_task-cut m t u n w within =
     let p = u.progress in
@@ -135,7 +135,7 @@ true_task-cut m t u n w within =
     }
 
 -- a tile has places
-tile-some : (u : Underway) (n : ℕ) → IsWhole u → (1 ≤ (tile_of_task u.progress n).width) × (1 ≤ (tile_of_task u.progress n).height)
+tile-some : (u : ProgressView) (n : ℕ) → IsWhole u → (1 ≤ (tile_of_task u.progress n).width) × (1 ≤ (tile_of_task u.progress n).height)
 tile-some u n whole =
     let g = u.tiling in
     let i = tile_number u.progress n in
@@ -146,7 +146,7 @@ tile-some u n whole =
     let P : Rect → Type 0 = λ r. (1 ≤ r.width) × (1 ≤ r.height) in
     subst P (sym (tile_of_task-whole u n whole)) (omega (arith, begins.0), omega (arith, begins.1))
 
-pub true_task-fits : (m : Machine) (t : ℕ) (u : Underway) (n : ℕ) → IsTrueWork m t u → n < task_count u.progress
+pub true_task-fits : (m : Machine) (t : ℕ) (u : ProgressView) (n : ℕ) → IsTrueWork m t u → n < task_count u.progress
     → FitsStep (true_task m t u.progress n).step (true_task m t u.progress n).rect (true_task m t u.progress n).windows
 true_task-fits m t u n w within =
     let p = u.progress in

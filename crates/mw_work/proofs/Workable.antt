@@ -15,7 +15,7 @@ use Rattle.mw_plan.specs.PlansOf.{CanBeMade, planes_read}
 use Rattle.mw_plan.specs.declared.inputs.Input.{Input}
 use Rattle.mw_plan.proofs.Planes.{length-planes, plane_is}
 use Rattle.mw_progress.specs.Levels.{Level, IsLevel, level_of, levels}
-use Rattle.mw_progress.specs.Underway.{Underway, IsWhole, IsWorkable, fresh}
+use Rattle.mw_progress.specs.ProgressView.{ProgressView, IsWhole, IsWorkable, fresh}
 use Rattle.mw_work.specs.Works.{IsAccepted, IsPlanned, IsUnder}
 use Rattle.mw_work.proofs.Fresh.{image-accepted, work-fresh}
 use Rattle.mw_work.proofs.Leveled.{levels-planes}
@@ -90,11 +90,11 @@ levels-fit plan f width height on =
 
 on-image : (m : Machine) (t : ℕ) (o : Op) (a b c : Input) (plan : Plan) (g : Tiling) (f : Picture) → IsAccepted m t o a b c plan g → images_of (input_values m t) ≡ f ∷ [] → IsImage f → IsOnImage plan f g.width g.height
 on-image m t o a b c plan g f w images image =
-    let Made : List Picture → Type 0 = λ fs. (k : ℕ) → k < length plan → CanBeMade (get_or plan k nothing_planned).step (planes_read plan fs g.width g.height k) in
+    let TileResult : List Picture → Type 0 = λ fs. (k : ℕ) → k < length plan → CanBeMade (get_or plan k nothing_planned).step (planes_read plan fs g.width g.height k) in
     record {
       image = image;
       sources = λ k. subst (λ (n : ℕ). AllByRecursion (IsSourceAt n k) (get_or plan k nothing_planned).sources) w.planned.one (w.planned.sources k);
-      made = subst Made images (λ k within. w.planned.made (input_values m t) g.width g.height k w.inputs w.frames within);
+      made = subst TileResult images (λ k within. w.planned.made (input_values m t) g.width g.height k w.inputs w.frames within);
     }
 
 -- the plan can be worked off
@@ -113,25 +113,25 @@ workable-accepted m t o a b c plan g f w images =
     }
 
 -- and stands as planned, of the level of its image
-pub planned-fresh : (m : Machine) (t : ℕ) (o : Op) (a b c : Input) (plan : Plan) (f : Picture) (u : Underway) → IsAccepted m t o a b c plan u.tiling → images_of (input_values m t) ≡ f ∷ [] → u.input ≡ level_of f
+pub planned-fresh : (m : Machine) (t : ℕ) (o : Op) (a b c : Input) (plan : Plan) (f : Picture) (u : ProgressView) → IsAccepted m t o a b c plan u.tiling → images_of (input_values m t) ≡ f ∷ [] → u.input ≡ level_of f
     → u.progress ≡ fresh plan u.input u.tiling → IsPlanned m t u
 planned-fresh m t o a b c plan f u w images input is =
     let g = u.tiling in
     let only = image-accepted m t o a b c plan g w in
     let Image : List Picture → Type 0 = λ fs. IsImage (get_or fs 0 no_picture) in
-    let Made : Progress → Type 0 = λ p. (k : ℕ) → k < length p.plan → CanBeMade (get_or p.plan k nothing_planned).step (planes_read p.plan (images_of (input_values m t)) p.width p.height k) in
+    let TileResult : Progress → Type 0 = λ p. (k : ℕ) → k < length p.plan → CanBeMade (get_or p.plan k nothing_planned).step (planes_read p.plan (images_of (input_values m t)) p.width p.height k) in
     let Last : Progress → Type 0 = λ p. is_image (submission_at m.table.submissions t).shape ≡ true → is_sum (get_or p.plan (length p.plan - 1) nothing_planned).step ≡ false in
     record {
       image = f;
       images = images;
       limits = subst Image (sym only.1 ∙ images) only.2;
       input = input;
-      made = subst Made (sym is) (λ k within. w.planned.made (input_values m t) g.width g.height k w.inputs w.frames within);
+      made = subst TileResult (sym is) (λ k within. w.planned.made (input_values m t) g.width g.height k w.inputs w.frames within);
       last = subst Last (sym is) (λ image. w.planned.last (ap is_image (sym w.shape) ∙ image));
     }
 
 -- so it stands under its ticket
-pub under-fresh : (m : Machine) (t : ℕ) (o : Op) (a b c : Input) (plan : Plan) (f : Picture) (u : Underway) → IsAccepted m t o a b c plan u.tiling → images_of (input_values m t) ≡ f ∷ [] → u.input ≡ level_of f
+pub under-fresh : (m : Machine) (t : ℕ) (o : Op) (a b c : Input) (plan : Plan) (f : Picture) (u : ProgressView) → IsAccepted m t o a b c plan u.tiling → images_of (input_values m t) ≡ f ∷ [] → u.input ≡ level_of f
     → u.progress ≡ fresh plan u.input u.tiling → IsWhole u → IsUnder m t u
 under-fresh m t o a b c plan f u w images input is whole = record {
   whole = whole;

@@ -18,7 +18,7 @@ use Rattle.mw_plan.specs.PlansOf.{AreValuesOf, CanBeMade, HaveFrame, IsPlanOf, i
 use Rattle.mw_plan.specs.Asked.{shape_made}
 use Rattle.mw_plan.specs.declared.inputs.Input.{Input}
 use Rattle.mw_progress.specs.Levels.{level_of}
-use Rattle.mw_progress.specs.Underway.{IsFramed, Underway, IsFinished, IsWhole, plane_at}
+use Rattle.mw_progress.specs.ProgressView.{IsFramed, ProgressView, IsFinished, IsWhole, plane_at}
 
 -- ---- tasks
 
@@ -53,12 +53,12 @@ abbrev pub IsReadyOrRuns : Progress → ℕ → Type 0
 IsReadyOrRuns p n = (is_ready p n ≡ true) ⊎ (is_running p n ≡ true)
 
 -- the window of a source in a rectangle: of the image, or of each plane that has the tiles that are kept of a step
-abbrev pub IsWindowOfSource : Underway → Picture → Rect → Source → SourceWindow → Type 0
+abbrev pub IsWindowOfSource : ProgressView → Picture → Rect → Source → SourceWindow → Type 0
 IsWindowOfSource u image place (FromInput i) w = w ≡ window_of place image
 IsWindowOfSource u image place (FromStep k) w = (f : Picture) → IsPlaneOf (plane_at u k) f → w ≡ window_of place f
 
 -- the same of all, source by source
-abbrev pub AreWindowsOfSources : Underway → Picture → Rect → List Source → List SourceWindow → Type 0
+abbrev pub AreWindowsOfSources : ProgressView → Picture → Rect → List Source → List SourceWindow → Type 0
 AreWindowsOfSources u image place [] [] = Unit {0}
 AreWindowsOfSources u image place [] (w ∷ ws) = ⊥
 AreWindowsOfSources u image place (s ∷ ss) [] = ⊥
@@ -67,7 +67,7 @@ AreWindowsOfSources u image place (s ∷ ss) (w ∷ ws) = IsWindowOfSource u ima
 -- ---- what is known of the work under a ticket
 
 -- What is planned under a ticket: its command takes one image, within its limits and of the level that the work reads; each step can be made of its true planes; and the last step makes an image where the result is one.
-pub record IsPlanned (m : Machine) (t : ℕ) (u : Underway) : Type 0 where
+pub record IsPlanned (m : Machine) (t : ℕ) (u : ProgressView) : Type 0 where
   pub image : Picture
   pub images : images_of (input_values m t) ≡ image ∷ []
   pub limits : IsImage image
@@ -84,13 +84,13 @@ pub record KeepsTrue (m : Machine) (t : ℕ) (p : Progress) : Type 0 where
   pub placed : (n : ℕ) (cells : List ℕ) → slice_index_or p.placed n None ≡ Some cells → cells ≡ true_cells m t p n
 
 -- What is known of the work under a ticket that is pending, also once its last task is finished.
-pub record IsTrueWork (m : Machine) (t : ℕ) (u : Underway) : Type 0 where
+pub record IsTrueWork (m : Machine) (t : ℕ) (u : ProgressView) : Type 0 where
   pub whole : IsWhole u
   pub planned : IsPlanned m t u
   pub keeps : KeepsTrue m t u.progress
 
 -- What is known of the work under a pending ticket.
-pub record IsUnder (m : Machine) (t : ℕ) (u : Underway) : Type 0 where
+pub record IsUnder (m : Machine) (t : ℕ) (u : ProgressView) : Type 0 where
   pub whole : IsWhole u
   pub planned : IsPlanned m t u
   pub work : IsWork m t u.progress
@@ -105,7 +105,7 @@ pub record GoesOnUnder (m n : Machine) (t : ℕ) : Type 0 where
   pub there : inputs_there m.table t ≡ true → inputs_there n.table t ≡ true
 
 -- a running task is finished, and made its cells by the definitions
-pub record Finishes (m : Machine) (t : ℕ) (old new : Underway) (n : ℕ) : Type 0 where
+pub record Finishes (m : Machine) (t : ℕ) (old new : ProgressView) (n : ℕ) : Type 0 where
   pub cells : List ℕ
   pub is : cells ≡ true_cells m t old.progress n
   pub finished : IsFinished old new n cells
@@ -116,7 +116,7 @@ pub record Finishes (m : Machine) (t : ℕ) (old new : Underway) (n : ℕ) : Typ
 -- ---- results
 
 -- The image that stands under a ticket of which all tasks are finished: what is kept of the last step is all of it.
-pub record IsResultImage (m : Machine) (t : ℕ) (u : Underway) : Type 0 where
+pub record IsResultImage (m : Machine) (t : ℕ) (u : ProgressView) : Type 0 where
   pub image : Picture
   pub value : value_at (values m) t ≡ Some (ImageValue image)
   pub plane : IsPlaneOf (plane_at u (length u.progress.plan - 1)) image

@@ -17,8 +17,8 @@ ghost use Rattle.mw_laws.specs.MachineLaws.{GrowsTo, IsSound};
 ghost use Rattle.mw_grid.specs.Grids.{Tiling};
 ghost use Rattle.mw_plan.specs.declared.inputs.Input.{Input};
 ghost use Rattle.mw_progress.specs.Levels.{Level, level_of};
-ghost use Rattle.mw_progress.specs.Underway.{Fits, IsFinished, IsStarted, IsWhole, IsWorkable, Underway, cells_of_made, fresh, numbers_of, plane_at};
-ghost use Rattle.mw_task.specs.declared.made.Made.{Made};
+ghost use Rattle.mw_progress.specs.ProgressView.{Fits, IsFinished, IsStarted, IsWhole, IsWorkable, ProgressView, cells_of_made, fresh, numbers_of, plane_at};
+ghost use Rattle.mw_task.specs.declared.tile_result.TileResult.{TileResult};
 ghost use Rattle.mw_task.specs.Products.{IsMade};
 ghost use Rattle.mw_task.specs.WindowTasks.{FitsStep, IsBounded};
 ghost use Rattle.mw_tile.specs.Windows.{SourceWindow};
@@ -30,35 +30,35 @@ pub fn fresh_work()
     ensures work { (m : Machine) (t : ℕ) (o : Op) (a b c : Input) (plan : Plan) (input : Level) (g : Tiling) → IsAccepted m t o a b c plan g → IsWork m t (fresh plan input g) }
     ensures image { (m : Machine) (t : ℕ) (o : Op) (a b c : Input) (plan : Plan) (g : Tiling) → IsAccepted m t o a b c plan g → (f : Picture) × (images_of (input_values m t) ≡ f ∷ []) × IsImage f }
     ensures workable { (m : Machine) (t : ℕ) (o : Op) (a b c : Input) (plan : Plan) (g : Tiling) (f : Picture) → IsAccepted m t o a b c plan g → images_of (input_values m t) ≡ f ∷ [] → IsWorkable plan (level_of f) }
-    ensures stands { (m : Machine) (t : ℕ) (o : Op) (a b c : Input) (plan : Plan) (f : Picture) (u : Underway) → IsAccepted m t o a b c plan u.tiling → images_of (input_values m t) ≡ f ∷ [] → u.input ≡ level_of f → u.progress ≡ fresh plan u.input u.tiling → IsWhole u → IsUnder m t u }
+    ensures stands { (m : Machine) (t : ℕ) (o : Op) (a b c : Input) (plan : Plan) (f : Picture) (u : ProgressView) → IsAccepted m t o a b c plan u.tiling → images_of (input_values m t) ≡ f ∷ [] → u.input ≡ level_of f → u.progress ≡ fresh plan u.input u.tiling → IsWhole u → IsUnder m t u }
 {}
 
 /// Work under a ticket stays so while the machine goes on, and while its tasks are started and finished.
 pub fn work_goes_on()
-    ensures machine { (m n : Machine) (t : ℕ) (u : Underway) → IsSound m → GrowsTo m n → t < length m.table.names → IsUnder m t u → IsUnder n t u }
-    ensures started { (m : Machine) (t : ℕ) (u v : Underway) (n : ℕ) → IsUnder m t u → inputs_there m.table t ≡ true → IsWhole v → IsStarted u v n → IsUnder m t v }
-    ensures finished { (m : Machine) (t : ℕ) (old new : Underway) (n : ℕ) → IsUnder m t old → Finishes m t old new n → 1 ≤ remaining_tasks new.progress → IsUnder m t new }
+    ensures machine { (m n : Machine) (t : ℕ) (u : ProgressView) → IsSound m → GrowsTo m n → t < length m.table.names → IsUnder m t u → IsUnder n t u }
+    ensures started { (m : Machine) (t : ℕ) (u v : ProgressView) (n : ℕ) → IsUnder m t u → inputs_there m.table t ≡ true → IsWhole v → IsStarted u v n → IsUnder m t v }
+    ensures finished { (m : Machine) (t : ℕ) (old new : ProgressView) (n : ℕ) → IsUnder m t old → Finishes m t old new n → 1 ≤ remaining_tasks new.progress → IsUnder m t new }
 {}
 
 /// A ready or running task finds all tiles that it reads; what is kept of a step is part of its true plane; and a task on
 /// windows of these is the true one, fits its step, and makes what fits its tile and has the cells of the definitions.
 pub fn true_tasks()
-    ensures placed { (u : Underway) (n k : ℕ) → IsWhole u → n < task_count u.progress → IsReadyOrRuns u.progress n → Contains (planned_of u.progress n).sources (FromStep k) → HasAll u.tiling (plane_at u k).tiles (place_of_task u.progress n) }
-    ensures source { (u : Underway) (n k : ℕ) → IsWhole u → n < task_count u.progress → Contains (planned_of u.progress n).sources (FromStep k) → (k < length u.progress.plan) × (is_sum (slice_index_or u.progress.plan k nothing_planned).step ≡ false) }
-    ensures within { (u : Underway) (n : ℕ) → IsWhole u → IsWithin (place_of_task u.progress n) u.tiling.width u.tiling.height }
-    ensures planes { (m : Machine) (t : ℕ) (u : Underway) (k : ℕ) → IsTrueWork m t u → k < length u.progress.plan → is_sum (slice_index_or u.progress.plan k nothing_planned).step ≡ false → IsPlaneOf (plane_at u k) (slice_index_or (true_planes m t u.progress) k no_picture) }
-    ensures task { (m : Machine) (t : ℕ) (u : Underway) (n : ℕ) (ws : List SourceWindow) → (w : IsTrueWork m t u) → n < task_count u.progress → AreWindowsOfSources u w.planned.image (place_of_task u.progress n) (planned_of u.progress n).sources ws → task_of t u.progress n ws ≡ true_task m t u.progress n }
-    ensures fits { (m : Machine) (t : ℕ) (u : Underway) (n : ℕ) → IsTrueWork m t u → n < task_count u.progress → FitsStep (true_task m t u.progress n).step (true_task m t u.progress n).rect (true_task m t u.progress n).windows }
-    ensures bounded { (m : Machine) (t : ℕ) (u : Underway) (n : ℕ) → IsTrueWork m t u → n < task_count u.progress → AllByRecursion IsBounded (true_task m t u.progress n).windows }
-    ensures made { (m : Machine) (t : ℕ) (u : Underway) (n : ℕ) (x : Made) → IsTrueWork m t u → n < task_count u.progress → IsMade (true_task m t u.progress n) x → Fits u (step_number u.progress n) (tile_number u.progress n) x }
-    ensures cells { (m : Machine) (t : ℕ) (u : Underway) (n : ℕ) (x : Made) → IsTrueWork m t u → n < task_count u.progress → IsMade (true_task m t u.progress n) x → cells_of_made x ≡ true_cells m t u.progress n }
+    ensures placed { (u : ProgressView) (n k : ℕ) → IsWhole u → n < task_count u.progress → IsReadyOrRuns u.progress n → Contains (planned_of u.progress n).sources (FromStep k) → HasAll u.tiling (plane_at u k).tiles (place_of_task u.progress n) }
+    ensures source { (u : ProgressView) (n k : ℕ) → IsWhole u → n < task_count u.progress → Contains (planned_of u.progress n).sources (FromStep k) → (k < length u.progress.plan) × (is_sum (slice_index_or u.progress.plan k nothing_planned).step ≡ false) }
+    ensures within { (u : ProgressView) (n : ℕ) → IsWhole u → IsWithin (place_of_task u.progress n) u.tiling.width u.tiling.height }
+    ensures planes { (m : Machine) (t : ℕ) (u : ProgressView) (k : ℕ) → IsTrueWork m t u → k < length u.progress.plan → is_sum (slice_index_or u.progress.plan k nothing_planned).step ≡ false → IsPlaneOf (plane_at u k) (slice_index_or (true_planes m t u.progress) k no_picture) }
+    ensures task { (m : Machine) (t : ℕ) (u : ProgressView) (n : ℕ) (ws : List SourceWindow) → (w : IsTrueWork m t u) → n < task_count u.progress → AreWindowsOfSources u w.planned.image (place_of_task u.progress n) (planned_of u.progress n).sources ws → task_of t u.progress n ws ≡ true_task m t u.progress n }
+    ensures fits { (m : Machine) (t : ℕ) (u : ProgressView) (n : ℕ) → IsTrueWork m t u → n < task_count u.progress → FitsStep (true_task m t u.progress n).step (true_task m t u.progress n).rect (true_task m t u.progress n).windows }
+    ensures bounded { (m : Machine) (t : ℕ) (u : ProgressView) (n : ℕ) → IsTrueWork m t u → n < task_count u.progress → AllByRecursion IsBounded (true_task m t u.progress n).windows }
+    ensures made { (m : Machine) (t : ℕ) (u : ProgressView) (n : ℕ) (x : TileResult) → IsTrueWork m t u → n < task_count u.progress → IsMade (true_task m t u.progress n) x → Fits u (step_number u.progress n) (tile_number u.progress n) x }
+    ensures cells { (m : Machine) (t : ℕ) (u : ProgressView) (n : ℕ) (x : TileResult) → IsTrueWork m t u → n < task_count u.progress → IsMade (true_task m t u.progress n) x → cells_of_made x ≡ true_cells m t u.progress n }
 {}
 
 /// When the last task is finished, what is kept is the value under the ticket: of an image all tiles of the last step, of
 /// a curve its numbers.
 pub fn finished_work()
-    ensures made { (m : Machine) (t : ℕ) (old new : Underway) (n : ℕ) (x : Made) → IsTrueWork m t old → n < task_count old.progress → is_running old.progress n ≡ true → IsMade (true_task m t old.progress n) x → IsFinished old new n (cells_of_made x) → IsWhole new → Finishes m t old new n }
-    ensures stands { (m : Machine) (t : ℕ) (old new : Underway) (n : ℕ) → IsUnder m t old → Finishes m t old new n → IsTrueWork m t new }
-    ensures image { (m : Machine) (t : ℕ) (u : Underway) (k : Kind) (w h x : ℕ) → IsTrueWork m t u → remaining_tasks u.progress ≡ 0 → (submission_at m.table.submissions t).shape ≡ shape.Image k w h x → IsResultImage m t u }
-    ensures curve { (m : Machine) (t : ℕ) (u : Underway) (n : ℕ) → IsTrueWork m t u → remaining_tasks u.progress ≡ 0 → (submission_at m.table.submissions t).shape ≡ shape.Curve n → value_at (values m) t ≡ Some (CurveValue (numbers_of u.progress.plan u.planes)) }
+    ensures made { (m : Machine) (t : ℕ) (old new : ProgressView) (n : ℕ) (x : TileResult) → IsTrueWork m t old → n < task_count old.progress → is_running old.progress n ≡ true → IsMade (true_task m t old.progress n) x → IsFinished old new n (cells_of_made x) → IsWhole new → Finishes m t old new n }
+    ensures stands { (m : Machine) (t : ℕ) (old new : ProgressView) (n : ℕ) → IsUnder m t old → Finishes m t old new n → IsTrueWork m t new }
+    ensures image { (m : Machine) (t : ℕ) (u : ProgressView) (k : Kind) (w h x : ℕ) → IsTrueWork m t u → remaining_tasks u.progress ≡ 0 → (submission_at m.table.submissions t).shape ≡ shape.Image k w h x → IsResultImage m t u }
+    ensures curve { (m : Machine) (t : ℕ) (u : ProgressView) (n : ℕ) → IsTrueWork m t u → remaining_tasks u.progress ≡ 0 → (submission_at m.table.submissions t).shape ≡ shape.Curve n → value_at (values m) t ≡ Some (CurveValue (numbers_of u.progress.plan u.planes)) }
 {}

@@ -4,7 +4,7 @@ use Rattle.std.specs.Global.{Vec}
 use Rattle.std.proofs.lemmas.List.{get_or_read}
 use Rattle.mw_model.specs.Plans.{Planned, is_sum}
 use Rattle.mw_tiles.specs.Tiles.{number_in}
-use Rattle.mw_progress.specs.Underway.{numbers_of}
+use Rattle.mw_progress.specs.ProgressView.{numbers_of}
 use Rattle.mw_progress.specs.Places.{shown, no_place, planes_shown}
 use Rattle.mw_progress.specs.declared.places.Place.{Place}
 use Rattle.mw_progress.proofs.Totals.{more_sum, more_none}

@@ -2,6 +2,8 @@ use Rattle.mw_session.proofs.Answering.{answered-element}
 use Rattle.mw_session.proofs.answer.element.Goals as goal
 
 pub returns-clause-answered : goal.returns-clause-answered
-returns-clause-answered g c = λ m s none.
-    answered-element m c.args.name c.args.origin.0 c.args.origin.1 c.args.payload.now c.read_element-element.result c.args.core.now c.element-reply.new.self c.element-reply.result
-    (g.W.Write.contents c.args.sink.now.inner) (g.W.Write.contents c.say_told.new.sink.inner) c.say_told.result s none c.read_element-element.ensures c.element-reply.ensures.served c.element-reply.ensures.memory c.element-reply.ensures.err c.say_told.ensures.wrote
+returns-clause-answered g c = (
+  _,
+  λ m s none. answered-element m c.args.name c.args.origin.0 c.args.origin.1 c.args.payload.now c.read_element-element.result c.args.core.now c.element-reply.new.self c.element-reply.result s none c.read_element-element.ensures c.element-reply.ensures.served c.element-reply.ensures.memory c.element-reply.ensures.err,
+  c.say_told.ensures.wrote,
+)

@@ -2,6 +2,8 @@ use Rattle.mw_session.proofs.Answering.{answered-run}
 use Rattle.mw_session.proofs.answer.run.Goals as goal
 
 pub returns-clause-answered : goal.returns-clause-answered
-returns-clause-answered g c = λ m s none.
-    answered-run m c.args.name c.args.op c.args.core.now c.run-reply.new.self c.run-reply.result
-    (g.W.Write.contents c.args.sink.now.inner) (g.W.Write.contents c.say_told.new.sink.inner) c.say_told.result s none c.run-reply.ensures.served c.run-reply.ensures.fresh c.run-reply.ensures.err c.say_told.ensures.wrote
+returns-clause-answered g c = (
+  _,
+  λ m s none. answered-run m c.args.name c.args.op c.args.core.now c.run-reply.new.self c.run-reply.result s none c.run-reply.ensures.served c.run-reply.ensures.fresh c.run-reply.ensures.err,
+  c.say_told.ensures.wrote,
+)

@@ -5,11 +5,15 @@ use Rattle.mw_session.proofs.Answering.{answered-status}
 use Rattle.mw_session.proofs.answer.status.Goals as goal
 
 pub returns-clause-status : goal.returns-clause-status
-returns-clause-status g c = λ m s none.
-    answered-status m (AskAlone (ask.Status c.args.name)) c.args.name c.args.core.now c.run_all_work.new.core c.status-reply.new.self c.status-reply.result
-    (g.W.Write.contents c.args.sink.now.inner) (g.W.Write.contents c.say_told.new.sink.inner) c.say_told.result (refl, refl) refl (λ e is. tt) refl (c.run_all_work.ensures m s none) c.status-reply.ensures.served c.status-reply.ensures.err c.say_told.ensures.wrote
+returns-clause-status g c = (
+  _,
+  λ m s none. answered-status m (AskAlone (ask.Status c.args.name)) c.args.name c.args.core.now c.run_all_work.new.core c.status-reply.new.self c.status-reply.result (refl, refl) refl (λ e is. tt) refl (c.run_all_work.ensures m s none) c.status-reply.ensures.served c.status-reply.ensures.err,
+  c.say_told.ensures.wrote,
+)
 
 pub returns-clause-wait : goal.returns-clause-wait
-returns-clause-wait g c = λ m s none.
-    answered-status m (AskAlone (ask.Wait c.args.name)) c.args.name c.args.core.now c.run_all_work.new.core c.status-reply.new.self c.status-reply.result
-    (g.W.Write.contents c.args.sink.now.inner) (g.W.Write.contents c.say_told.new.sink.inner) c.say_told.result (refl, refl) refl (λ e is. tt) refl (c.run_all_work.ensures m s none) c.status-reply.ensures.served c.status-reply.ensures.err c.say_told.ensures.wrote
+returns-clause-wait g c = (
+  _,
+  λ m s none. answered-status m (AskAlone (ask.Wait c.args.name)) c.args.name c.args.core.now c.run_all_work.new.core c.status-reply.new.self c.status-reply.result (refl, refl) refl (λ e is. tt) refl (c.run_all_work.ensures m s none) c.status-reply.ensures.served c.status-reply.ensures.err,
+  c.say_told.ensures.wrote,
+)

@@ -9,6 +9,6 @@ returns-clause-read c =
     let t = c.args.work.now in
     let u = c.index-windows-k.result in
     let P : SourceWindow → Type 0 = IsRead t.step t.rect (window_at t.windows 0).view.frame_width (window_at t.windows 0).view.frame_height in
-    let count = c.windows.ensures.fits.count in
-    let is : u ≡ get_or t.windows c.args.k u = c.index-windows-k.is ∙ ap (λ (ws : List SourceWindow). get_or ws c.args.k u) c.windows.ensures.value in
-    subst P (sym is) (all_at P t.windows c.args.k u (omega (arith, count, c.requires)) c.windows.ensures.fits.each)
+    let count = c.windows-fits.ensures.fits.count in
+    let is : u ≡ get_or t.windows c.args.k u = c.index-windows-k.is ∙ ap (λ (ws : List SourceWindow). get_or ws c.args.k u) c.requires.windows in
+    subst P (sym is) (all_at P t.windows c.args.k u (omega (arith, count, c.requires.number)) c.windows-fits.ensures.fits.each)

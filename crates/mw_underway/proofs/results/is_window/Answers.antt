@@ -3,7 +3,7 @@ use Rattle.mw_model.specs.Plans.{FromStep, Source}
 use Rattle.mw_model.specs.Values.{image_of, value_at}
 use Rattle.mw_plan.specs.Seen.{source}
 use Rattle.mw_tiles.specs.Tiles.{HasAll}
-use Rattle.mw_progress.specs.Underway.{plane_at}
+use Rattle.mw_progress.specs.ProgressView.{plane_at}
 use Rattle.mw_underway.specs.Results.{IsShown}
 use Rattle.mw_underway.specs.SourceWindows.{CanRead}
 use Rattle.mw_underway.proofs.ResultLemmas.{input-shown, step-shown}

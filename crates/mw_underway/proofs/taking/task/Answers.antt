@@ -2,7 +2,7 @@ use Rattle.std.proofs.Common.{◌<◌, length, map, refl, sym, ap, ◌∙◌, su
 use Rattle.mw_model.specs.declared.places.Rect.{Rect}
 use Rattle.mw_model.specs.Plans.{Planned}
 use Rattle.mw_model.specs.Tasks.{planned_of}
-use Rattle.mw_progress.specs.Underway.{number_of}
+use Rattle.mw_progress.specs.ProgressView.{number_of}
 use Rattle.mw_work.proofs.Numbers.{length-tiles, number_of-within, planned_of-number_of}
 use Rattle.mw_model.specs.Values.{image_of, value_at}
 use Rattle.std.specs.Prelude.{option_map}

@@ -1,5 +1,5 @@
 use Rattle.std.proofs.Common.{◌≡◌, ℕ, subst}
-use Rattle.mw_core.specs.TaskAnswers.{IsTurn}
+use Rattle.mw_core.specs.TaskAnswers.{Picks}
 use Rattle.mw_wave.proofs.Waving.{take}
 use Rattle.mw_wave.proofs.wave.start_next.Goals as goal
 
@@ -10,5 +10,5 @@ pub returns-clause-turn : goal.returns-clause-turn
 returns-clause-turn g c =
     let P : ℕ → Type 0 = λ n. c.pick-place.result ≡ g.P.Pick.place c.args.pick.now n in
     let place = subst P c.ready_count-count.ensures c.pick-place.ensures in
-    let Q : ℕ → Type 0 = λ n. IsTurn c.args.core.now n c.start.result in
+    let Q : ℕ → Type 0 = λ n. Picks c.args.core.now n c.start.result in
     subst Q place c.start.ensures.turn

@@ -1,5 +1,5 @@
 use Rattle.std.proofs.Common.{Bool, sym, subst}
-use Rattle.mw_model.specs.Stands.{Seen}
+use Rattle.mw_model.specs.Stands.{CoreView}
 use Rattle.mw_wave.specs.Work.{Turned, AllWorked}
 use Rattle.mw_wave.proofs.Turning.{worked-none, worked-on, worked-all, worked-long}
 use Rattle.mw_wave.proofs.work.run_all_work.Goals as goal
@@ -18,7 +18,7 @@ returns-then-not-run_wave g c = λ m s none.
     let h = c.turns.invariant m s none in
     let P : Bool → Type 0 = λ b. Turned h.state c.turns.core c.run_wave.new.core b in
     let last = subst P c.if-not-run_wave.true (c.run_wave.ensures h.state h.stands h.idle) in
-    let Q : Seen → Type 0 = λ n. AllWorked m c.args.core.now n in
+    let Q : CoreView → Type 0 = λ n. AllWorked m c.args.core.now n in
     subst Q (sym last.0) (worked-all m c.args.core.now c.turns.core c.turns._turn s h last.1)
 
 pub returns : goal.returns

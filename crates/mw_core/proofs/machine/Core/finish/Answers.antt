@@ -3,7 +3,7 @@ use Rattle.std.specs.List.{AllByRecursion}
 use Rattle.mw_model.specs.declared.tasks.TaskId.{TaskId}
 use Rattle.mw_model.specs.Refusals.{Table}
 use Rattle.mw_model.specs.Machine.{Machine}
-use Rattle.mw_model.specs.Stands.{Seen, StandsFor}
+use Rattle.mw_model.specs.Stands.{CoreView, StandsFor}
 use Rattle.mw_stands.specs.TaskEvents.{IsOpen, IsResult, Places, Settles}
 use Rattle.mw_ledger.specs.Books.{Book, seen_of}
 use Rattle.mw_ledger.specs.Counts.{WaitFor}
@@ -29,7 +29,7 @@ returns-in-None-clause-task c =
     let new = c.finish.new.self in
     let d = c.args.done in
     let placed = c.finish.ensures.placed c.in-None.is in
-    let Placed : Seen → Type 0 = λ x. (m : Machine) → StandsFor x m → Places x m d (seen_of new) in
+    let Placed : CoreView → Type 0 = λ x. (m : Machine) → StandsFor x m → Places x m d (seen_of new) in
     subst Placed c.self.view_is (λ m s. places-at b new m d s c.sound.ensures placed (result-at b m d s c.sound.ensures placed.finishes.was))
 
 pub settle-requires-clause-count : goal.settle-requires-clause-count
@@ -57,7 +57,7 @@ returns-in-Ok-clause-task c =
     let new = c.finish.new.self in
     let d = c.args.done in
     let settled = c.in-Some.ensures.settled in
-    let Settled : TaskId → Seen → Type 0 = λ k x. (m : Machine) → StandsFor x m → Settles x m d k.ticket (seen_of new) in
+    let Settled : TaskId → CoreView → Type 0 = λ k x. (m : Machine) → StandsFor x m → Settles x m d k.ticket (seen_of new) in
     subst (λ (k : TaskId). Settled k c.args.self.now) (sym c.task-t.ensures)
     (subst (Settled d.task) c.self.view_is (λ m s. settles-at b new m d s c.sound.ensures settled (result-at b m d s c.sound.ensures settled.finishes.was)))
 
@@ -67,5 +67,5 @@ returns-clause-task c =
     let d = c.args.done in
     let is = ap Err c.in-Err-Stranger.field-0-is in
     let odd = c.in-Err-Stranger.ensures in
-    let Odd : Seen → Type 0 = λ x. (m : Machine) → StandsFor x m → IsOpen x d.task.ticket × (IsResult x m d → ⊥) × (x ≡ x) in
+    let Odd : CoreView → Type 0 = λ x. (m : Machine) → StandsFor x m → IsOpen x d.task.ticket × (IsResult x m d → ⊥) × (x ≡ x) in
     subst Odd c.self.view_is (λ m s. (odd.open is, λ r. odd.stranger is (found-at b m d s c.sound.ensures r), refl))

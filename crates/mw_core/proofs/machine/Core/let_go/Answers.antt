@@ -2,7 +2,7 @@ use Rattle.std.proofs.Common.{◌≡◌, ◌<◌, ℕ, length, Result, Ok, Err, 
 use Rattle.mw_model.specs.declared.calls.Outcome.TheVariants as outcome
 use Rattle.mw_model.specs.Refusals.{outcome_at}
 use Rattle.mw_model.specs.Machine.{settled}
-use Rattle.mw_model.specs.Stands.{Seen}
+use Rattle.mw_model.specs.Stands.{CoreView}
 use Rattle.mw_ledger.specs.Books.{Book, IsOrderly, seen_of}
 use Rattle.mw_ledger.specs.Counts.{AreCounts, Tally}
 use Rattle.mw_ledger.proofs.CountLemmas.{counts-released}
@@ -18,7 +18,7 @@ pub invariant_of-self : goal.invariant_of-self
 invariant_of-self c =
     let t = c.args.t in
     let shown = sym c.self.view_is in
-    let Within : Seen → Type 0 = λ d. t < length d.table.names in
-    let Done : Seen → Type 0 = λ d. outcome_at d.table.outcomes t ≡ outcome.Done in
+    let Within : CoreView → Type 0 = λ d. t < length d.table.names in
+    let Done : CoreView → Type 0 = λ d. outcome_at d.table.outcomes t ≡ outcome.Done in
     let got = c.let_go.ensures in
     counts-after c.let_go.result c.self.inside.ledger c.let_go.new.self t c.self.inside.counts c.sound.ensures c.self.invariant (subst Within shown c.requires.within) (subst Done shown c.requires.done) got.table got.works got.err

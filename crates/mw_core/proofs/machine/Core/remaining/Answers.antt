@@ -1,7 +1,7 @@
 use Rattle.std.proofs.Common.{◌≡◌, ◌<◌, ◌↔◌, ℕ, true, length, Option, IsSome, sym, subst}
 use Rattle.mw_model.specs.Machine.{Machine}
 use Rattle.mw_model.specs.Refusals.{is_pending, outcome_at}
-use Rattle.mw_model.specs.Stands.{Seen, StandsFor}
+use Rattle.mw_model.specs.Stands.{CoreView, StandsFor}
 use Rattle.mw_stands.proofs.TaskLemmas.{remaining-pending}
 use Rattle.mw_ledger.specs.Books.{seen_of}
 use Rattle.mw_core.proofs.TaskLemmas.{complete-seen}
@@ -13,5 +13,5 @@ returns-clause-pending c =
     let t = c.args.t in
     let told = c.remaining.ensures in
     let Told : Option ℕ → Machine → Type 0 = λ r m. IsSome r ↔ ((t < length m.table.names) × (is_pending (outcome_at m.table.outcomes t) ≡ true)) in
-    let Pending : Seen → Type 0 = λ x. (m : Machine) → StandsFor x m → Told c.remaining.result m in
+    let Pending : CoreView → Type 0 = λ x. (m : Machine) → StandsFor x m → Told c.remaining.result m in
     subst Pending c.self.view_is (λ m s. subst (λ (r : Option ℕ). Told r m) (sym told.value) (remaining-pending (seen_of b) m t s (complete-seen b c.sound.ensures)))

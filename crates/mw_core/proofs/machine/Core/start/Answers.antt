@@ -1,6 +1,6 @@
 use Rattle.std.proofs.Common.{◌≡◌, ◌%◌, ◌<◌, ◌≤◌, ℕ, length, sum, Option, ap, sym, subst, ◌∙◌, arith}
 use Rattle.mw_model.specs.Machine.{Machine}
-use Rattle.mw_model.specs.Stands.{Seen, StandsFor, ready_count, ready_under}
+use Rattle.mw_model.specs.Stands.{CoreView, StandsFor, ready_count, ready_under}
 use Rattle.mw_task.specs.WindowTasks.{WindowTask}
 use Rattle.mw_stands.specs.Facts.{IsComplete}
 use Rattle.mw_stands.specs.TaskEvents.{Begins, Kills}
@@ -37,7 +37,7 @@ returns-in-Ok-Some-clause-task c =
     let Taken : Option WindowTask → Type 0 = λ w. TakesAt b t new w in
     let took = subst Taken c.in-Ok-Some.field-0-is c.in-Ok-Some.ensures.taken in
     let ready : 1 ≤ ready_under (seen_of b) t = omega (arith, c.find-t.ensures.place (seen_of b) c.self.invariant) in
-    let Begun : Seen → Type 0 = λ x. (m : Machine) → StandsFor x m → Begins x m c.in-Ok-Some.work (seen_of new) in
+    let Begun : CoreView → Type 0 = λ x. (m : Machine) → StandsFor x m → Begins x m c.in-Ok-Some.work (seen_of new) in
     subst Begun c.self.view_is (λ m s. takes-begins b new m t c.in-Ok-Some.work s c.sound.ensures ready took)
 
 pub returns-in-Ok-Some-clause-turn : goal.returns-in-Ok-Some-clause-turn
@@ -48,7 +48,7 @@ returns-in-Ok-Some-clause-turn c =
     let took = subst Taken c.in-Ok-Some.field-0-is c.in-Ok-Some.ensures.taken in
     let Counted : ℕ → Type 0 = λ n. IsAt (seen_of b) (c.args.place % n) t in
     let Of : ℕ → Type 0 = λ k. IsAt (seen_of b) (c.args.place % ready_count (seen_of b)) k in
-    let Shown : Seen → Type 0 = λ x. IsAt x (c.args.place % ready_count x) c.in-Ok-Some.work.task.ticket in
+    let Shown : CoreView → Type 0 = λ x. IsAt x (c.args.place % ready_count x) c.in-Ok-Some.work.task.ticket in
     subst Shown c.self.view_is (subst Of (sym took.takes.ticket) (subst Counted (c.ready-count.ensures ∙ ap sum c.self.invariant.0) (c.find-t.ensures.turn (seen_of b) c.self.invariant)))
 
 pub returns-in-Ok-None-clause-task : goal.returns-in-Ok-None-clause-task
@@ -58,7 +58,7 @@ returns-in-Ok-None-clause-task c = λ m s.
     let Taken : Option WindowTask → Type 0 = λ w. TakesAt b t c.take.new.self w in
     let took = subst Taken c.in-Ok-None.field-0-is c.in-Ok-None.ensures.taken in
     let ready : 1 ≤ ready_under (seen_of b) t = omega (arith, c.find-t.ensures.place (seen_of b) c.self.invariant) in
-    let Stands : Seen → Type 0 = λ x. StandsFor x m in
+    let Stands : CoreView → Type 0 = λ x. StandsFor x m in
     absurd (takes-some b c.take.new.self m t (subst Stands (sym c.self.view_is) s) c.sound.ensures ready took)
 
 pub returns-in-Ok-None-clause-idle : goal.returns-in-Ok-None-clause-idle
@@ -68,7 +68,7 @@ returns-in-Ok-None-clause-idle c = λ m s.
     let Taken : Option WindowTask → Type 0 = λ w. TakesAt b t c.take.new.self w in
     let took = subst Taken c.in-Ok-None.field-0-is c.in-Ok-None.ensures.taken in
     let ready : 1 ≤ ready_under (seen_of b) t = omega (arith, c.find-t.ensures.place (seen_of b) c.self.invariant) in
-    let Stands : Seen → Type 0 = λ x. StandsFor x m in
+    let Stands : CoreView → Type 0 = λ x. StandsFor x m in
     absurd (takes-some b c.take.new.self m t (subst Stands (sym c.self.view_is) s) c.sound.ensures ready took)
 
 pub returns-in-Err-clause-task : goal.returns-in-Err-clause-task
@@ -80,12 +80,12 @@ returns-in-Err-clause-task c =
     let Long : ℕ → Type 0 = λ n. t < n in
     let within = subst Long (counted (seen_of b) c.self.inside.counts c.self.invariant) c.find-t.ensures.within in
     let same : seen_of c.take.new.self ≡ seen_of b = ap seen_of c.in-Err.ensures.same in
-    let Killed : Seen → Type 0 = λ x. (m : Machine) → StandsFor x m → (1 ≤ ready_under x t) × Kills x m t c.end.new.self in
+    let Killed : CoreView → Type 0 = λ x. (m : Machine) → StandsFor x m → (1 ≤ ready_under x t) × Kills x m t c.end.new.self in
     subst Killed c.self.view_is
     (subst Killed same (λ m s.
-    let Stands : Seen → Type 0 = λ x. StandsFor x m in
-    let Ready : Seen → Type 0 = λ x. 1 ≤ ready_under x t in
-    let Named : Seen → Type 0 = λ x. t < length x.table.names in
+    let Stands : CoreView → Type 0 = λ x. StandsFor x m in
+    let Ready : CoreView → Type 0 = λ x. 1 ≤ ready_under x t in
+    let Named : CoreView → Type 0 = λ x. t < length x.table.names in
     let here = subst Ready (sym same) ready in
     let Complete : Book → Type 0 = λ x. IsComplete (seen_of x) in (
       here,

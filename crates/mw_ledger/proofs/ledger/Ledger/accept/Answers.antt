@@ -1,7 +1,7 @@
 use Rattle.std.proofs.Common.{◌∷◌, [], ◌++◌, ◌∙◌, Option, List, count_by, subst, sym, ap, arith}
 use Rattle.mw_facts.proofs.Numbers.{one_if-le}
 use Rattle.mw_model.specs.Refusals.{Table, is_pending}
-use Rattle.mw_progress.specs.Underway.{Underway}
+use Rattle.mw_progress.specs.ProgressView.{ProgressView}
 use Rattle.mw_store.specs.Entries.{submission_of, outcome_of}
 use Rattle.mw_store.specs.Stored.{IsWhole}
 use Rattle.mw_store.proofs.CascadeLemmas.{count-push}
@@ -21,8 +21,8 @@ invariant_of-self-2 c =
     let whole = subst Whole table c.pending-whole.ensures.whole in
     let order = joined-orderly book c.args.name e (outcome_of c.args.entry) c.add.new.self.kept c.args.work c.push_reserved-2.new.self.items c.self.invariant.1 (subst Joins (sym c.self.view_is) can) whole in
     let Tabled : Table → Type 0 = λ w. IsOrderly (record { table = w; kept = c.add.new.self.kept; works = book.works ++ c.args.work ∷ []; log = c.push_reserved-2.new.self.items; side = book.side }) in
-    let Worked : List (Option Underway) → Type 0 = λ ws. IsOrderly (record { table = c.add.new.self.table; kept = c.add.new.self.kept; works = ws; log = c.push_reserved-2.new.self.items; side = book.side }) in
-    let pushed = c.push_reserved.ensures.items ∙ ap (λ (ws : List (Option Underway)). ws ++ c.args.work ∷ []) c.in_ok-reserve-2.ensures.items in
+    let Worked : List (Option ProgressView) → Type 0 = λ ws. IsOrderly (record { table = c.add.new.self.table; kept = c.add.new.self.kept; works = ws; log = c.push_reserved-2.new.self.items; side = book.side }) in
+    let pushed = c.push_reserved.ensures.items ∙ ap (λ (ws : List (Option ProgressView)). ws ++ c.args.work ∷ []) c.in_ok-reserve-2.ensures.items in
     let pending = ap (λ (w : Table). count_by is_pending w.outcomes) table in (
       omega (arith, pending, count-push book.table.outcomes (outcome_of c.args.entry), one_if-le (is_pending (outcome_of c.args.entry)), c.pending.ensures.value, c.in_ok-reserve.ensures.ok, c.in_ok-reserve.ensures.len, c.push_reserved-2.ensures.len, c.push_reserved-2.ensures.capacity),
       subst Worked (sym pushed) (subst Tabled (sym table) order),

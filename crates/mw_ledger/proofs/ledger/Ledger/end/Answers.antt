@@ -1,7 +1,7 @@
 use Rattle.std.proofs.Common.{◌≡◌, ◌∙◌, ℕ, cond, List, Option, Some, None, length, refl, ap, sym, subst, arith}
 use Rattle.mw_model.specs.Machine.{killed}
 use Rattle.mw_model.specs.Refusals.{Table, is_pending, outcome_at}
-use Rattle.mw_progress.specs.Underway.{Underway}
+use Rattle.mw_progress.specs.ProgressView.{ProgressView}
 use Rattle.mw_ledger.specs.Books.{Book, IsOrderly, work_at}
 use Rattle.mw_ledger.proofs.OrderLemmas.{follows-orderly, swept-was}
 use Rattle.mw_ledger.proofs.WorkLemmas.{written-back}
@@ -9,7 +9,7 @@ use Rattle.mw_ledger.proofs.ledger.Ledger.end.Goals as goal
 
 pub drop_settled-requires : goal.drop_settled-requires
 unfolding killed
-drop_settled-requires c = ap (λ (xs : List (Option Underway)). length xs) c.deref_mut.ensures.value ∙ c.self.invariant.1.works ∙ sym (ap (λ (w : Table). length w.names) c.kill.ensures.table)
+drop_settled-requires c = ap (λ (xs : List (Option ProgressView)). length xs) c.deref_mut.ensures.value ∙ c.self.invariant.1.works ∙ sym (ap (λ (w : Table). length w.names) c.kill.ensures.table)
 
 pub invariant_of-self : goal.invariant_of-self
 unfolding killed
@@ -19,9 +19,9 @@ invariant_of-self c =
     let ws = c.drop_settled.new.works in
     let old : Book = record { table = b.store.table; kept = b.store.kept; works = b.works.items; log = b.log.items; side = b.side } in
     let new : Book = record { table = c.kill.new.self.table; kept = c.kill.new.self.kept; works = ws; log = c.push_reserved.new.self.items; side = b.side } in
-    let count : length ws ≡ length b.works.items = omega (arith, c.drop_settled.auto.works, ap (λ (xs : List (Option Underway)). length xs) c.deref_mut.ensures.value) in
-    let was = λ (t : ℕ) (u : Underway) (h : work_at ws t ≡ Some u).
-    swept-was (is_pending (outcome_at new.table.outcomes t)) (work_at ws t) (work_at old.works t) u (c.drop_settled.ensures t ∙ ap (λ (xs : List (Option Underway)). cond (is_pending (outcome_at new.table.outcomes t)) (work_at xs t) None) c.deref_mut.ensures.value) h in
+    let count : length ws ≡ length b.works.items = omega (arith, c.drop_settled.auto.works, ap (λ (xs : List (Option ProgressView)). length xs) c.deref_mut.ensures.value) in
+    let was = λ (t : ℕ) (u : ProgressView) (h : work_at ws t ≡ Some u).
+    swept-was (is_pending (outcome_at new.table.outcomes t)) (work_at ws t) (work_at old.works t) u (c.drop_settled.ensures t ∙ ap (λ (xs : List (Option ProgressView)). cond (is_pending (outcome_at new.table.outcomes t)) (work_at xs t) None) c.deref_mut.ensures.value) h in
     let order = follows-orderly old new c.self.invariant.1 (record {
       stored = c.pending-whole.ensures.whole;
       submissions = ap (λ (w : Table). w.submissions) table;
@@ -30,7 +30,7 @@ invariant_of-self c =
       works = was;
       side = refl;
     }) in
-    let P : List (Option Underway) → Type 0 = λ xs. IsOrderly (record new { works = xs }) in (
+    let P : List (Option ProgressView) → Type 0 = λ xs. IsOrderly (record new { works = xs }) in (
       omega (arith, c.kill.ensures.pending, c.push_reserved.ensures.len, c.push_reserved.ensures.capacity, c.self.invariant.0),
       subst P (sym (written-back b.works.len ws _ (omega (arith, b.works.ok.0, count)))) order,
     )

@@ -1,6 +1,6 @@
 use Rattle.std.proofs.Common.{◌<◌, ◌∙◌, Option, length, ap, sym, subst, arith}
 use Rattle.mw_model.specs.declared.tasks.TaskId.{TaskId}
-use Rattle.mw_progress.specs.Underway.{Underway}
+use Rattle.mw_progress.specs.ProgressView.{ProgressView}
 use Rattle.mw_ledger.specs.Books.{Book, IsOrderly, work_at}
 use Rattle.mw_ledger.proofs.OrderLemmas.{with_work, without-orderly}
 use Rattle.mw_ledger.proofs.SettleLemmas.{finished-orderly, finished-plane, finishes-at, fits-at, work-of}
@@ -32,7 +32,7 @@ invariant_of-self c =
     let names = ap (λ (v : Book). length v.table.names) c.self.view_is in
     let ticket = ap (λ (i : TaskId). i.ticket) c.task-task.ensures in
     let within : t < length b.works.items = omega (arith, ticket, c.requires.at.within, names, c.self.invariant.1.works) in
-    let P : Option Underway → Type 0 = λ o. IsOrderly (with_work book t o) in
+    let P : Option ProgressView → Type 0 = λ o. IsOrderly (with_work book t o) in
     (c.self.invariant.0, subst P (sym c.take.ensures.after) (without-orderly book t c.self.invariant.1 within))
 
 pub returns-clause-finishes : goal.returns-clause-finishes

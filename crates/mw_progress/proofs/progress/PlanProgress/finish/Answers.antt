@@ -5,7 +5,7 @@ use Rattle.mw_grid.specs.Blocks.{sees}
 use Rattle.mw_grid.specs.Grids.{tile_count}
 use Rattle.mw_ready.specs.Boards.{step_reads}
 use Rattle.mw_tiles.specs.Tiles.{Tiled, tile_cells}
-use Rattle.mw_progress.specs.Underway.{Underway, IsFinished, Fits, number_of, cells_of_made}
+use Rattle.mw_progress.specs.ProgressView.{ProgressView, IsFinished, Fits, number_of, cells_of_made}
 use Rattle.mw_progress.specs.Places.{shown, form, no_place, place_at, planes_shown, placed_in, underway_kept, is_read, Suits, SweptAll}
 use Rattle.mw_progress.specs.declared.places.Place.{Place}
 use Rattle.mw_progress.proofs.Boarded.{runs_is}
@@ -21,8 +21,8 @@ finish-requires c =
     let a = c.args in
     let g = i.grid in
     let ps = i.places.items in
-    let fits = subst (λ (u : Underway). Fits u a.step a.tile a.made) (sym c.self.view_is) c.requires.fits in
-    let running = subst (λ (u : Underway). is_running u.progress (number_of u.progress a.step a.tile) ≡ true) (sym c.self.view_is) c.requires.running in
+    let fits = subst (λ (u : ProgressView). Fits u a.step a.tile a.made) (sym c.self.view_is) c.requires.fits in
+    let running = subst (λ (u : ProgressView). is_running u.progress (number_of u.progress a.step a.tile) ≡ true) (sym c.self.view_is) c.requires.running in
     runs_is i.plan i.input g i.ready.board (planes_shown g ps) i.ready.order a.step a.tile c.self.invariant.1 c.tasks_are_those_of_work.ensures fits.within fits.inside running
 
 pub drop_read-requires-clause-steps : goal.drop_read-requires-clause-steps
@@ -31,8 +31,8 @@ drop_read-requires-clause-steps c =
     let a = c.args in
     let g = i.grid in
     let ps = i.places.items in
-    let fits = subst (λ (u : Underway). Fits u a.step a.tile a.made) (sym c.self.view_is) c.requires.fits in
-    let running = subst (λ (u : Underway). is_running u.progress (number_of u.progress a.step a.tile) ≡ true) (sym c.self.view_is) c.requires.running in
+    let fits = subst (λ (u : ProgressView). Fits u a.step a.tile a.made) (sym c.self.view_is) c.requires.fits in
+    let running = subst (λ (u : ProgressView). is_running u.progress (number_of u.progress a.step a.tile) ≡ true) (sym c.self.view_is) c.requires.running in
     λ k read. subst (λ (xs : List Place). (k < length xs) × (form (place_at xs k) ≢ 2)) (sym c.deref_mut.ensures.value)
     (read_places i.plan i.input g i.ready ps a.step k c.need-need.result c.self.invariant.0 c.self.invariant.1 c.self.invariant.2 fits.within c.need-need.ensures read)
 
@@ -42,8 +42,8 @@ drop_read-requires-clause-grids c =
     let a = c.args in
     let g = i.grid in
     let ps = i.places.items in
-    let fits = subst (λ (u : Underway). Fits u a.step a.tile a.made) (sym c.self.view_is) c.requires.fits in
-    let running = subst (λ (u : Underway). is_running u.progress (number_of u.progress a.step a.tile) ≡ true) (sym c.self.view_is) c.requires.running in
+    let fits = subst (λ (u : ProgressView). Fits u a.step a.tile a.made) (sym c.self.view_is) c.requires.fits in
+    let running = subst (λ (u : ProgressView). is_running u.progress (number_of u.progress a.step a.tile) ≡ true) (sym c.self.view_is) c.requires.running in
     λ k. subst (λ (xs : List Place). (shown g (place_at xs k)).tiling ≡ g) (sym c.deref_mut.ensures.value) (ap (λ (q : Tiled). q.tiling) (sym (shown_at g ps k)) ∙ c.self.invariant.0.tilings k)
 
 pub drop_read-requires-clause-counts : goal.drop_read-requires-clause-counts
@@ -52,8 +52,8 @@ drop_read-requires-clause-counts c =
     let a = c.args in
     let g = i.grid in
     let ps = i.places.items in
-    let fits = subst (λ (u : Underway). Fits u a.step a.tile a.made) (sym c.self.view_is) c.requires.fits in
-    let running = subst (λ (u : Underway). is_running u.progress (number_of u.progress a.step a.tile) ≡ true) (sym c.self.view_is) c.requires.running in
+    let fits = subst (λ (u : ProgressView). Fits u a.step a.tile a.made) (sym c.self.view_is) c.requires.fits in
+    let running = subst (λ (u : ProgressView). is_running u.progress (number_of u.progress a.step a.tile) ≡ true) (sym c.self.view_is) c.requires.running in
     λ k. subst (λ (xs : List Place). length (shown g (place_at xs k)).tiles ≡ tile_count g) (sym c.deref_mut.ensures.value) (ap (λ (q : Tiled). length q.tiles) (sym (shown_at g ps k)) ∙ c.self.invariant.0.counts k)
 
 pub put-requires-clause-tiling : goal.put-requires-clause-tiling
@@ -62,8 +62,8 @@ put-requires-clause-tiling c =
     let a = c.args in
     let g = i.grid in
     let ps = i.places.items in
-    let fits = subst (λ (u : Underway). Fits u a.step a.tile a.made) (sym c.self.view_is) c.requires.fits in
-    let running = subst (λ (u : Underway). is_running u.progress (number_of u.progress a.step a.tile) ≡ true) (sym c.self.view_is) c.requires.running in
+    let fits = subst (λ (u : ProgressView). Fits u a.step a.tile a.made) (sym c.self.view_is) c.requires.fits in
+    let running = subst (λ (u : ProgressView). is_running u.progress (number_of u.progress a.step a.tile) ≡ true) (sym c.self.view_is) c.requires.running in
     let now = c.finish.new.self in
     let swept = c.drop_read.new.places in
     let sweeps = subst (λ (xs : List Place). SweptAll g (λ k v. step_reads c.need-need.result k && sees g c.need-need.result.reach a.tile v && not (is_read now.board k v)) xs swept) c.deref_mut.ensures.value c.drop_read.ensures in
@@ -80,8 +80,8 @@ put-requires-clause-free c =
     let a = c.args in
     let g = i.grid in
     let ps = i.places.items in
-    let fits = subst (λ (u : Underway). Fits u a.step a.tile a.made) (sym c.self.view_is) c.requires.fits in
-    let running = subst (λ (u : Underway). is_running u.progress (number_of u.progress a.step a.tile) ≡ true) (sym c.self.view_is) c.requires.running in
+    let fits = subst (λ (u : ProgressView). Fits u a.step a.tile a.made) (sym c.self.view_is) c.requires.fits in
+    let running = subst (λ (u : ProgressView). is_running u.progress (number_of u.progress a.step a.tile) ≡ true) (sym c.self.view_is) c.requires.running in
     let now = c.finish.new.self in
     let swept = c.drop_read.new.places in
     let sweeps = subst (λ (xs : List Place). SweptAll g (λ k v. step_reads c.need-need.result k && sees g c.need-need.result.reach a.tile v && not (is_read now.board k v)) xs swept) c.deref_mut.ensures.value c.drop_read.ensures in
@@ -98,8 +98,8 @@ put-requires-clause-suits c =
     let a = c.args in
     let g = i.grid in
     let ps = i.places.items in
-    let fits = subst (λ (u : Underway). Fits u a.step a.tile a.made) (sym c.self.view_is) c.requires.fits in
-    let running = subst (λ (u : Underway). is_running u.progress (number_of u.progress a.step a.tile) ≡ true) (sym c.self.view_is) c.requires.running in
+    let fits = subst (λ (u : ProgressView). Fits u a.step a.tile a.made) (sym c.self.view_is) c.requires.fits in
+    let running = subst (λ (u : ProgressView). is_running u.progress (number_of u.progress a.step a.tile) ≡ true) (sym c.self.view_is) c.requires.running in
     let now = c.finish.new.self in
     let swept = c.drop_read.new.places in
     let sweeps = subst (λ (xs : List Place). SweptAll g (λ k v. step_reads c.need-need.result k && sees g c.need-need.result.reach a.tile v && not (is_read now.board k v)) xs swept) c.deref_mut.ensures.value c.drop_read.ensures in
@@ -116,8 +116,8 @@ invariant_of-self c =
     let a = c.args in
     let g = i.grid in
     let ps = i.places.items in
-    let fits = subst (λ (u : Underway). Fits u a.step a.tile a.made) (sym c.self.view_is) c.requires.fits in
-    let running = subst (λ (u : Underway). is_running u.progress (number_of u.progress a.step a.tile) ≡ true) (sym c.self.view_is) c.requires.running in
+    let fits = subst (λ (u : ProgressView). Fits u a.step a.tile a.made) (sym c.self.view_is) c.requires.fits in
+    let running = subst (λ (u : ProgressView). is_running u.progress (number_of u.progress a.step a.tile) ≡ true) (sym c.self.view_is) c.requires.running in
     let now = c.finish.new.self in
     let swept = c.drop_read.new.places in
     let sweeps = subst (λ (xs : List Place). SweptAll g (λ k v. step_reads c.need-need.result k && sees g c.need-need.result.reach a.tile v && not (is_read now.board k v)) xs swept) c.deref_mut.ensures.value c.drop_read.ensures in
@@ -153,8 +153,8 @@ invariant_of-self-else-is_kept c =
     let a = c.args in
     let g = i.grid in
     let ps = i.places.items in
-    let fits = subst (λ (u : Underway). Fits u a.step a.tile a.made) (sym c.self.view_is) c.requires.fits in
-    let running = subst (λ (u : Underway). is_running u.progress (number_of u.progress a.step a.tile) ≡ true) (sym c.self.view_is) c.requires.running in
+    let fits = subst (λ (u : ProgressView). Fits u a.step a.tile a.made) (sym c.self.view_is) c.requires.fits in
+    let running = subst (λ (u : ProgressView). is_running u.progress (number_of u.progress a.step a.tile) ≡ true) (sym c.self.view_is) c.requires.running in
     let now = c.finish.new.self in
     let swept = c.drop_read.new.places in
     let sweeps = subst (λ (xs : List Place). SweptAll g (λ k v. step_reads c.need-need.result k && sees g c.need-need.result.reach a.tile v && not (is_read now.board k v)) xs swept) c.deref_mut.ensures.value c.drop_read.ensures in
@@ -187,8 +187,8 @@ returns-then-is_kept-clause-finished c =
     let a = c.args in
     let g = i.grid in
     let ps = i.places.items in
-    let fits = subst (λ (u : Underway). Fits u a.step a.tile a.made) (sym c.self.view_is) c.requires.fits in
-    let running = subst (λ (u : Underway). is_running u.progress (number_of u.progress a.step a.tile) ≡ true) (sym c.self.view_is) c.requires.running in
+    let fits = subst (λ (u : ProgressView). Fits u a.step a.tile a.made) (sym c.self.view_is) c.requires.fits in
+    let running = subst (λ (u : ProgressView). is_running u.progress (number_of u.progress a.step a.tile) ≡ true) (sym c.self.view_is) c.requires.running in
     let now = c.finish.new.self in
     let swept = c.drop_read.new.places in
     let sweeps = subst (λ (xs : List Place). SweptAll g (λ k v. step_reads c.need-need.result k && sees g c.need-need.result.reach a.tile v && not (is_read now.board k v)) xs swept) c.deref_mut.ensures.value c.drop_read.ensures in
@@ -216,7 +216,7 @@ returns-then-is_kept-clause-finished c =
       dropped = λ e. absurd (not_both c.is_kept.result c.if-is_kept.true e);
     } in
     let d = finish_all i.plan i.input g i.ready ps f c.self.invariant.0 c.self.invariant.1 c.tasks_are_those_of_work.ensures c.self.invariant.2 in
-    subst (λ (u : Underway). IsFinished u (underway_kept i.plan i.input g now (set (take i.places.len (swept ++ drop (length swept) ps)) a.step c.put.new.self)) (number_of u.progress a.step a.tile) (cells_of_made a.made)) c.self.view_is d.finished
+    subst (λ (u : ProgressView). IsFinished u (underway_kept i.plan i.input g now (set (take i.places.len (swept ++ drop (length swept) ps)) a.step c.put.new.self)) (number_of u.progress a.step a.tile) (cells_of_made a.made)) c.self.view_is d.finished
 
 pub returns-then-is_kept-clause-whole : goal.returns-then-is_kept-clause-whole
 returns-then-is_kept-clause-whole c =
@@ -224,8 +224,8 @@ returns-then-is_kept-clause-whole c =
     let a = c.args in
     let g = i.grid in
     let ps = i.places.items in
-    let fits = subst (λ (u : Underway). Fits u a.step a.tile a.made) (sym c.self.view_is) c.requires.fits in
-    let running = subst (λ (u : Underway). is_running u.progress (number_of u.progress a.step a.tile) ≡ true) (sym c.self.view_is) c.requires.running in
+    let fits = subst (λ (u : ProgressView). Fits u a.step a.tile a.made) (sym c.self.view_is) c.requires.fits in
+    let running = subst (λ (u : ProgressView). is_running u.progress (number_of u.progress a.step a.tile) ≡ true) (sym c.self.view_is) c.requires.running in
     let now = c.finish.new.self in
     let swept = c.drop_read.new.places in
     let sweeps = subst (λ (xs : List Place). SweptAll g (λ k v. step_reads c.need-need.result k && sees g c.need-need.result.reach a.tile v && not (is_read now.board k v)) xs swept) c.deref_mut.ensures.value c.drop_read.ensures in
@@ -261,8 +261,8 @@ returns-else-is_kept-clause-finished c =
     let a = c.args in
     let g = i.grid in
     let ps = i.places.items in
-    let fits = subst (λ (u : Underway). Fits u a.step a.tile a.made) (sym c.self.view_is) c.requires.fits in
-    let running = subst (λ (u : Underway). is_running u.progress (number_of u.progress a.step a.tile) ≡ true) (sym c.self.view_is) c.requires.running in
+    let fits = subst (λ (u : ProgressView). Fits u a.step a.tile a.made) (sym c.self.view_is) c.requires.fits in
+    let running = subst (λ (u : ProgressView). is_running u.progress (number_of u.progress a.step a.tile) ≡ true) (sym c.self.view_is) c.requires.running in
     let now = c.finish.new.self in
     let swept = c.drop_read.new.places in
     let sweeps = subst (λ (xs : List Place). SweptAll g (λ k v. step_reads c.need-need.result k && sees g c.need-need.result.reach a.tile v && not (is_read now.board k v)) xs swept) c.deref_mut.ensures.value c.drop_read.ensures in
@@ -287,7 +287,7 @@ returns-else-is_kept-clause-finished c =
       dropped = λ e. written;
     } in
     let d = finish_all i.plan i.input g i.ready ps f c.self.invariant.0 c.self.invariant.1 c.tasks_are_those_of_work.ensures c.self.invariant.2 in
-    subst (λ (u : Underway). IsFinished u (underway_kept i.plan i.input g now (take i.places.len (swept ++ drop (length swept) ps))) (number_of u.progress a.step a.tile) (cells_of_made a.made)) c.self.view_is d.finished
+    subst (λ (u : ProgressView). IsFinished u (underway_kept i.plan i.input g now (take i.places.len (swept ++ drop (length swept) ps))) (number_of u.progress a.step a.tile) (cells_of_made a.made)) c.self.view_is d.finished
 
 pub returns-else-is_kept-clause-whole : goal.returns-else-is_kept-clause-whole
 returns-else-is_kept-clause-whole c =
@@ -295,8 +295,8 @@ returns-else-is_kept-clause-whole c =
     let a = c.args in
     let g = i.grid in
     let ps = i.places.items in
-    let fits = subst (λ (u : Underway). Fits u a.step a.tile a.made) (sym c.self.view_is) c.requires.fits in
-    let running = subst (λ (u : Underway). is_running u.progress (number_of u.progress a.step a.tile) ≡ true) (sym c.self.view_is) c.requires.running in
+    let fits = subst (λ (u : ProgressView). Fits u a.step a.tile a.made) (sym c.self.view_is) c.requires.fits in
+    let running = subst (λ (u : ProgressView). is_running u.progress (number_of u.progress a.step a.tile) ≡ true) (sym c.self.view_is) c.requires.running in
     let now = c.finish.new.self in
     let swept = c.drop_read.new.places in
     let sweeps = subst (λ (xs : List Place). SweptAll g (λ k v. step_reads c.need-need.result k && sees g c.need-need.result.reach a.tile v && not (is_read now.board k v)) xs swept) c.deref_mut.ensures.value c.drop_read.ensures in

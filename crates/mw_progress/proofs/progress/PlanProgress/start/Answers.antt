@@ -2,7 +2,7 @@ use Rattle.std.proofs.Common.{◌≡◌, ℕ, ◌<◌, true, set, sym, ap, subst
 use Rattle.std.specs.Prelude.{slice_index}
 use Rattle.mw_model.specs.Plans.{Planned, is_sum}
 use Rattle.mw_model.specs.Tasks.{ready_tasks}
-use Rattle.mw_progress.specs.Underway.{Underway, IsStarted}
+use Rattle.mw_progress.specs.ProgressView.{ProgressView, IsStarted}
 use Rattle.mw_progress.specs.Places.{planes_shown, underway_kept}
 use Rattle.mw_progress.proofs.Boarded.{place_is}
 use Rattle.mw_progress.proofs.Opened.{Opening, Starting, on_err, open_level, open_err, open_same, start_whole, start_is}
@@ -12,7 +12,7 @@ pub task_at-step-requires : goal.task_at-step-requires
 task_at-step-requires c =
     let i = c.self.inside in
     place_is i.plan i.input i.grid i.ready.board (planes_shown i.grid i.places.items) i.ready.order c.args.place c.self.invariant.1 c.tasks_are_those_of_work.ensures
-    (subst (λ (u : Underway). c.args.place < ready_tasks u.progress) (sym c.self.view_is) c.requires)
+    (subst (λ (u : ProgressView). c.args.place < ready_tasks u.progress) (sym c.self.view_is) c.requires)
 
 pub open-requires-clause-level : goal.open-requires-clause-level
 open-requires-clause-level c =
@@ -75,7 +75,7 @@ pub start-task-requires : goal.start-task-requires
 start-task-requires c =
     let i = c.self.inside in
     place_is i.plan i.input i.grid i.ready.board (planes_shown i.grid i.places.items) i.ready.order c.args.place c.self.invariant.1 c.tasks_are_those_of_work.ensures
-    (subst (λ (u : Underway). c.args.place < ready_tasks u.progress) (sym c.self.view_is) c.requires)
+    (subst (λ (u : ProgressView). c.args.place < ready_tasks u.progress) (sym c.self.view_is) c.requires)
 
 pub invariant_of-self-2 : goal.invariant_of-self-2
 invariant_of-self-2 c =
@@ -146,6 +146,6 @@ returns-clause-started c =
       new = c.start-task.ensures.new ∙ ap (λ (n : ℕ). record i.ready.board { started = set i.ready.board.started n true }) (c.start-task.ensures.value ∙ sym c.task_at-step.ensures.value);
     } in
     let new = underway_kept i.plan i.input i.grid c.start-task.new.self (set i.places.items o.step o.now) in
-    subst (λ (u : Underway). IsStarted u new (slice_index u.order c.args.place)) c.self.view_is
+    subst (λ (u : ProgressView). IsStarted u new (slice_index u.order c.args.place)) c.self.view_is
     (subst (λ (n : ℕ). IsStarted (underway_kept i.plan i.input i.grid i.ready i.places.items) new n) c.task_at-step.ensures.value
     (start_is i.plan i.input i.grid i.ready c.start-task.new.self i.places.items o c.task_at-step.result.1 c.self.invariant.0 c.self.invariant.1 s))

@@ -4,13 +4,13 @@ use Rattle.mw_model.specs.Pictures.{Picture}
 use Rattle.mw_model.specs.Plans.{is_sum}
 use Rattle.mw_task.specs.WindowTasks.{WindowTask, FitsStep, IsBounded, tile_made}
 use Rattle.mw_task.specs.Products.{IsMade}
-use Rattle.mw_task.specs.declared.made.Made.{Made}
-use Rattle.mw_task.specs.declared.made.Made.TheVariants.{Bits, Grey8, Grey16}
+use Rattle.mw_task.specs.declared.tile_result.TileResult.{TileResult}
+use Rattle.mw_task.specs.declared.tile_result.TileResult.TheVariants.{Bits, Grey8, Grey16}
 use Rattle.mw_task.proofs.Bounded.{made_below}
 use Rattle.mw_task.proofs.done.TileDone.into_image.Goals as goal
 
-made_as : (t u : WindowTask) (m n : Made) → t ≡ u → m ≡ n → IsMade t m → IsMade u n
-made_as t u m n task is made = subst (λ (k : Made). IsMade u k) is (subst (λ (r : WindowTask). IsMade r m) task made)
+made_as : (t u : WindowTask) (m n : TileResult) → t ≡ u → m ≡ n → IsMade t m → IsMade u n
+made_as t u m n task is made = subst (λ (k : TileResult). IsMade u k) is (subst (λ (r : WindowTask). IsMade r m) task made)
 
 below : (t u : WindowTask) (f : Picture) → t ≡ u → FitsStep t.step t.rect t.windows → AllByRecursion IsBounded u.windows → is_sum u.step ≡ false → tile_made u ≡ f → All (λ n. n ≤ f.maxval) f.samples
 below t u f task fits bounded plane is =

@@ -1,0 +1,273 @@
+#!/usr/bin/env python3
+"""Bad clients of a real `morphd listen`, each beside one that does well: its session ends by the rules or waits alone, the
+others go on, and the server ends with status 0. A port that is taken is `error: socket`, with status 1. The memory of the
+server grows with what came, and never with what was announced.
+
+    python3 checks/bad_peers.py crates/morphd/out/morphd
+
+It prints a line for each kind of client, and ends with status 1 at the first one that is served otherwise.
+"""
+import os
+import socket
+import struct
+import sys
+import time
+
+from server import NoAnswer, Server, free_port
+
+GIVEN = b"LOAD f 19\nP2\n5 1\n9\n3 1 4 1 5\nELEMENT b 1 0 11\nP1\n3 1\n111\n"
+GIVEN_REPLIES = [b"OK 0\n", b"OK 1\n"]
+ERODED = b"P5\n5 1\n9\n" + bytes([1, 1, 1, 1, 1])
+# The longest payload that a line may announce, and a picture that fills what sockets hold when it is asked for often enough.
+LONGEST = 134217728
+SIDE = 2048
+PICTURE = b"P5\n%d %d\n255\n" % (SIDE, SIDE) + bytes(range(256)) * (SIDE * SIDE // 256)
+FETCHES = 16
+# What a server may take for each connection and each megabyte that came, in kB, besides what came.
+SLACK = 8192
+
+
+class Wrong(Exception):
+    """The server did something else than it must."""
+
+
+def must_be(found, wanted, what):
+    if found != wanted:
+        raise Wrong("%s: %r in the place of %r" % (what, found, wanted))
+
+
+class GoodClient:
+    """A client that does well: it loads a row and an element, and erodes the one by the other as often as it is asked to."""
+
+    def __init__(self, server):
+        self.client, self.made = server.connect(), 0
+        self.client.send(GIVEN)
+        must_be([self.client.line(), self.client.line()], GIVEN_REPLIES, "the good client's images")
+
+    def goes_on(self):
+        """It is served as ever."""
+        name, ticket = b"e%d" % self.made, 2 + self.made
+        self.client.send(b"RUN %s ERODE f b\nWAIT %s\nFETCH %s\n" % (name, name, name))
+        replies = [self.client.reply() for _ in range(3)]
+        wanted = [(b"OK %d\n" % ticket, b""), (b"DONE %d GREY 5 1 9\n" % ticket, b""), (b"IMAGE %d 14\n" % ticket, ERODED)]
+        must_be(replies, wanted, "the good client's replies")
+        self.made += 1
+
+    def ends(self):
+        self.client.send(b"QUIT\n")
+        must_be(self.client.rest(), b"", "behind the good client's QUIT")
+        self.client.wire.close()
+
+
+def ends_well(server, good):
+    """The good client goes on and ends, and then the server ends with status 0 and tells nothing."""
+    good.goes_on()
+    good.ends()
+    must_be(server.end(), (0, b""), "the server's end")
+
+
+def hang_up(client):
+    """Closes the connection at once: what comes from then on is answered by a reset."""
+    client.wire.setsockopt(socket.SOL_SOCKET, socket.SO_LINGER, struct.pack("ii", 1, 0))
+    client.wire.close()
+
+
+def breaks_off(program, sent, replies, said):
+    """A client that says nothing more behind these bytes, and one that hangs up there."""
+    with Server(program, 3) as server:
+        good, peer = GoodClient(server), server.connect()
+        peer.send(sent)
+        peer.is_over()
+        must_be(peer.rest(), replies, "the replies to a client that ends " + said)
+        peer.wire.close()
+        good.goes_on()
+        peer = server.connect()
+        peer.send(sent)
+        hang_up(peer)
+        ends_well(server, good)
+
+
+def within_a_line(program):
+    """closes in the middle of a line"""
+    breaks_off(program, b"STATUS x\nSTAT", b"ERR 41 UNKNOWN\nERR 12 CUT\n", "within a line")
+
+
+def within_a_payload(program):
+    """closes in the middle of a payload"""
+    breaks_off(program, b"LOAD x 19\nP2\n5 1\n", b"ERR 12 CUT\n", "within a payload")
+
+
+def within_a_reply(program):
+    """closes while its replies are written"""
+    with Server(program, 2) as server:
+        good, peer = GoodClient(server), server.connect()
+        must_be(peer.ask(b"LOAD large %d\n" % len(PICTURE) + PICTURE), (b"OK 2\n", b""), "the picture")
+        peer.send(b"FETCH large\n" * FETCHES)
+        peer.exactly(100000)
+        hang_up(peer)
+        # The picture has ticket 2.
+        good.made += 1
+        good_again(good)
+        ends_well(server, good)
+
+
+def good_again(good):
+    for _ in range(100):
+        good.goes_on()
+
+
+def keeps_silent(program):
+    """sends nothing for long"""
+    with Server(program, 3) as server:
+        silent, good, half = server.connect(), GoodClient(server), server.connect()
+        half.send(b"STAT")
+        begun = time.monotonic()
+        while time.monotonic() < begun + 5:
+            good_again(good)
+            time.sleep(0.1)
+        must_be(half.ask(b"US f\n"), (b"DONE 0 GREY 5 1 9\n", b""), "a line that came late")
+        must_be(silent.ask(b"STATUS f\n"), (b"DONE 0 GREY 5 1 9\n", b""), "the first line of a client that was silent")
+        for client in (half, silent):
+            client.is_over()
+            must_be(client.rest(), b"", "behind the last reply")
+            client.wire.close()
+        ends_well(server, good)
+
+
+def never_listens(program):
+    """never reads its replies"""
+    with Server(program, 2) as server:
+        good, peer = GoodClient(server), server.connect()
+        must_be(peer.ask(b"LOAD large %d\n" % len(PICTURE) + PICTURE), (b"OK 2\n", b""), "the picture")
+        good.made += 1
+        peer.send(b"FETCH large\n" * FETCHES)
+        begun = time.monotonic()
+        while time.monotonic() < begun + 3:
+            good_again(good)
+        # It has lost nothing: what it did not read waits for it.
+        for _ in range(FETCHES):
+            must_be(peer.reply(), (b"IMAGE 2 %d\n" % len(PICTURE), PICTURE), "the picture")
+        peer.is_over()
+        must_be(peer.rest(), b"", "behind the last picture")
+        ends_well(server, good)
+
+
+def many_lines_unread(program):
+    """sends lines without an end and never reads"""
+    with Server(program, 2) as server:
+        good, peer = GoodClient(server), server.connect(patience=3)
+        before, sent, is_full = server.size(), 0, False
+        line = b"STATUS unknown\n" * 1000
+        while not is_full and sent < 1 << 28:
+            try:
+                peer.send(line)
+                sent += len(line)
+            except NoAnswer:
+                is_full = True
+        must_be(is_full, True, "a client that does not listen is not listened to for ever")
+        good_again(good)
+        grown = server.size() - before
+        hang_up(peer)
+        ends_well(server, good)
+        return "%d bytes of lines were taken, then none; %d kB more" % (sent, grown)
+
+
+def no_line_end(program):
+    """sends 201 bytes without a line end"""
+    with Server(program, 3) as server:
+        good, peer = GoodClient(server), server.connect()
+        peer.send(b"A" * 200)
+        good_again(good)
+        peer.send(b"A")
+        must_be(peer.rest(), b"ERR 10 LINE\n", "the reply to 201 bytes of a line")
+        peer = server.connect()
+        peer.send(b"STATUS f\n" + b"A" * 201)
+        must_be(peer.rest(), b"DONE 0 GREY 5 1 9\nERR 10 LINE\n", "the replies to a line and 201 bytes")
+        ends_well(server, good)
+
+
+def announces_much(program):
+    """announces 134,217,728 bytes and sends ten"""
+    peers = 60
+    with Server(program, peers + 1) as server:
+        good = GoodClient(server)
+        clients = [server.connect() for _ in range(peers)]
+        for client in clients:
+            # So it is known that the session runs.
+            must_be(client.ask(b"STATUS f\n"), (b"DONE 0 GREY 5 1 9\n", b""), "a first line")
+        before = server.size()
+        for client in clients:
+            client.send(b"LOAD x %d\n0123456789" % LONGEST)
+        must_be(server.is_at_rest(), True, "the server's rest")
+        good_again(good)
+        grown = server.size() - before
+        if grown > SLACK:
+            raise Wrong("%d announced payloads of %d bytes took %d kB" % (peers, LONGEST, grown))
+        for client in clients:
+            client.is_over()
+            must_be(client.rest(), b"ERR 12 CUT\n", "the reply to a payload that ends too soon")
+        ends_well(server, good)
+        return "%d of them take %d kB" % (peers, grown)
+
+
+def payload_that_comes(program):
+    """announces 134,217,728 bytes and sends 32 MiB"""
+    size = 1 << 25
+    with Server(program, 2) as server:
+        good, peer = GoodClient(server), server.connect()
+        must_be(peer.ask(b"STATUS f\n"), (b"DONE 0 GREY 5 1 9\n", b""), "a first line")
+        before = server.size()
+        peer.send(b"LOAD x %d\n" % LONGEST + bytes(size))
+        must_be(server.is_at_rest(), True, "the server's rest")
+        good_again(good)
+        grown = server.size() - before
+        # A vector that grows is copied to one of twice its size.
+        if grown < size // 1024 // 2 or grown > 3 * size // 1024 + SLACK:
+            raise Wrong("%d bytes of a payload took %d kB" % (size, grown))
+        hang_up(peer)
+        must_be(server.is_at_rest(), True, "the server's rest")
+        good_again(good)
+        left = server.size() - before
+        if left > SLACK:
+            raise Wrong("%d kB are held behind a client that went" % left)
+        ends_well(server, good)
+        return "takes %d kB, and %d kB once the client went" % (grown, left)
+
+
+def port_is_taken(program):
+    """finds its port taken"""
+    with socket.socket() as door:
+        door.bind(("127.0.0.1", free_port()))
+        door.listen()
+        with Server(program, 1, port=door.getsockname()[1]) as server:
+            must_be(server.end(), (1, b"error: socket\n"), "a server whose port is taken")
+    # The first server waits for a second connection, so it listens.
+    with Server(program, 2) as first:
+        client = first.connect()
+        with Server(program, 1, port=first.port) as second:
+            must_be(second.end(), (1, b"error: socket\n"), "a second server on one port")
+        must_be(client.ask(b"STATUS x\n"), (b"ERR 41 UNKNOWN\n", b""), "the first server's reply")
+        for it in (client, first.connect()):
+            it.send(b"QUIT\n")
+            must_be(it.rest(), b"", "behind QUIT")
+        must_be(first.end(), (0, b""), "the first server's end")
+
+
+PEERS = (within_a_line, within_a_payload, within_a_reply, keeps_silent, never_listens, many_lines_unread, no_line_end,
+         announces_much, payload_that_comes)
+
+
+def main():
+    program = os.path.abspath(sys.argv[1])
+    for peer in (*PEERS, port_is_taken):
+        who = "a server that" if peer is port_is_taken else "a client that"
+        begun = time.monotonic()
+        try:
+            seen = peer(program)
+        except (Wrong, NoAnswer) as fault:
+            sys.exit("%s %s: %s" % (who, peer.__doc__, fault))
+        print("%s %s: well, %.1f s%s" % (who, peer.__doc__, time.monotonic() - begun, "; " + seen if seen else ""), flush=True)
+
+
+if __name__ == "__main__":
+    main()

@@ -1,0 +1,166 @@
+"""Starts and stops a `morphd listen`, and speaks to it as a client. Whatever waits here has a time limit, and says what it
+waited for when that is over.
+"""
+import random
+import re
+import socket
+import subprocess
+import time
+
+# How long a client waits for a reply, and a server for its start or its end, in seconds.
+PATIENCE = 60.0
+
+
+class NoAnswer(Exception):
+    """Something did not come in time, or the connection ended before it."""
+
+
+def free_port():
+    """A port that nobody listens on, below those that the system gives to clients: a client that asks for a port of its own
+    could else be given the very one that it wants to reach, and would then speak with itself."""
+    chance = random.SystemRandom()
+    for _ in range(1000):
+        port = chance.randrange(10000, 30000)
+        with socket.socket() as door:
+            door.setsockopt(socket.SOL_SOCKET, socket.SO_REUSEADDR, 1)
+            try:
+                door.bind(("127.0.0.1", port))
+            except OSError:
+                continue
+            return port
+    raise NoAnswer("no port was free")
+
+
+class Server:
+    """A server that serves so many connections and then ends."""
+
+    def __init__(self, program, sessions, workers=2, tile=128, port=None):
+        self.port = port or free_port()
+        words = {"--port": self.port, "--workers": workers, "--sessions": sessions, "--tile": tile}
+        words = [str(word) for pair in words.items() for word in pair]
+        pipes = {"stdin": subprocess.DEVNULL, "stdout": subprocess.DEVNULL, "stderr": subprocess.PIPE}
+        self.run = subprocess.Popen([program, "listen", *words], **pipes)
+
+    def __enter__(self):
+        return self
+
+    def __exit__(self, *_):
+        self.run.kill()
+        self.run.wait()
+        self.run.stderr.close()
+
+    def connect(self, patience=PATIENCE):
+        """A connection, once the server listens."""
+        begun = time.monotonic()
+        while self.run.poll() is None and time.monotonic() < begun + patience:
+            try:
+                return Client(socket.create_connection(("127.0.0.1", self.port), timeout=patience), patience)
+            except ConnectionRefusedError:
+                time.sleep(0.01)
+        raise NoAnswer("no connection to port %d in %.0f s: %s" % (self.port, patience, self.how_it_is()))
+
+    def how_it_is(self):
+        """Whether the server runs, or how it ended."""
+        status = self.run.poll()
+        return "the server runs" if status is None else "the server ended with status %d, %r" % (status, self.run.stderr.read())
+
+    def end(self, patience=PATIENCE):
+        """Its exit status and what it told, once it has ended."""
+        try:
+            _, told = self.run.communicate(timeout=patience)
+        except subprocess.TimeoutExpired:
+            raise NoAnswer("the server did not end in %.0f s" % patience) from None
+        return self.run.returncode, told
+
+    def size(self, word="VmRSS"):
+        """Its resident size in kB; with VmHWM the greatest one so far."""
+        with open("/proc/%d/status" % self.run.pid, encoding="ascii") as rows:
+            return int(re.search(word + r":\s*(\d+) kB", rows.read()).group(1))
+
+    def processor_seconds(self):
+        """The processor time that it has used."""
+        with open("/proc/%d/stat" % self.run.pid, encoding="ascii") as row:
+            return sum(map(int, row.read().rpartition(")")[2].split()[11:13])) / 100
+
+    def is_at_rest(self, patience=PATIENCE):
+        """Waits until it uses no processor time: whatever was sent to it has come."""
+        begun, last = time.monotonic(), -1.0
+        while time.monotonic() < begun + patience:
+            now = self.processor_seconds()
+            if now == last:
+                return True
+            last = now
+            time.sleep(0.3)
+        return False
+
+
+class Client:
+    """A connection. It keeps what has come and was not asked for yet."""
+
+    def __init__(self, wire, patience=PATIENCE):
+        self.wire, self.patience, self.held = wire, patience, bytearray()
+        self.wire.settimeout(patience)
+        self.wire.setsockopt(socket.IPPROTO_TCP, socket.TCP_NODELAY, 1)
+
+    def __enter__(self):
+        return self
+
+    def __exit__(self, *_):
+        self.wire.close()
+
+    def send(self, data):
+        try:
+            self.wire.sendall(data)
+        except socket.timeout:
+            raise NoAnswer("%d bytes were not taken in %.0f s" % (len(data), self.patience)) from None
+        except OSError as fault:
+            raise NoAnswer("the connection broke while %d bytes were sent: %s" % (len(data), fault)) from None
+
+    def more(self, what):
+        """Waits for bytes; none at the end."""
+        try:
+            data = self.wire.recv(1 << 16)
+        except socket.timeout:
+            raise NoAnswer("no %s in %.0f s" % (what, self.patience)) from None
+        except OSError as fault:
+            raise NoAnswer("the connection broke before %s: %s" % (what, fault)) from None
+        self.held += data
+        return len(data)
+
+    def taken(self, count):
+        data = bytes(self.held[:count])
+        del self.held[:count]
+        return data
+
+    def line(self):
+        """A line with its LF."""
+        while b"\n" not in self.held:
+            if not self.more("whole line"):
+                raise NoAnswer("the end came in the place of a line, behind %r" % bytes(self.held))
+        return self.taken(self.held.index(b"\n") + 1)
+
+    def exactly(self, count):
+        while len(self.held) < count:
+            if not self.more("more of %d bytes" % count):
+                raise NoAnswer("the end came behind %d of %d bytes" % (len(self.held), count))
+        return self.taken(count)
+
+    def reply(self):
+        """A reply: its line, and the bytes of the image or curve behind it."""
+        line = self.line()
+        words = line.split()
+        return line, self.exactly(int(words[2])) if words[0] in (b"IMAGE", b"CURVE") else b""
+
+    def ask(self, request):
+        self.send(request)
+        return self.reply()
+
+    def is_over(self):
+        """Says that nothing more is sent."""
+        self.wire.shutdown(socket.SHUT_WR)
+
+    def rest(self):
+        """All that comes until the end."""
+        while self.more("end"):
+            pass
+        return self.taken(len(self.held))

@@ -1,0 +1,3 @@
+pub mod Rooms
+pub mod Chains
+pub mod Runs

@@ -1,0 +1,186 @@
+//! A whole session, from a reader to a writer.
+
+ghost use Rattle.std.specs.Prelude.{◌≡◌, ◌≢◌, ◌≤◌, ◌<◌, ◌⊎◌, ◌↔◌, [], ◌++◌, length, ℕ, List, Option, None, OnOk, OnErr, IfOk, Ok, Err, IsTrue, false, true};
+ghost use Rattle.std.specs.Io.KnownBytes.{Appends};
+ghost use Rattle.mw_model.specs.declared.requests.Ask.TheVariants as Ask;
+ghost use Rattle.mw_model.specs.Lines.{AskAlone, Partial};
+ghost use Rattle.mw_intake.specs.Intake.{asked};
+ghost use Rattle.mw_intake.specs.Reading.{front};
+ghost use Rattle.mw_wire.specs.Writes.{EndsBy};
+ghost use Rattle.mw_desk.specs.Runs.{Drains, DeskRan};
+
+use crate::desk::Desk;
+use mw_intake::Intake;
+use mw_model::{Code, End, Next, NoMemory, Request};
+use mw_wire::{READ_LIMIT, SessionFault, Sink, Source, end_by, end_within, pass_on, receive};
+use std::alloc::Global;
+use std::io::{Read, Write};
+
+/// How many bytes are read at a time.
+const PIECE: usize = 65536;
+
+fn is_quit(request: &Request) -> bool
+    ensures { IsTrue result ↔ (asked request.now ≡ AskAlone Ask.Quit) }
+{
+    matches!(request, Request::Quit)
+}
+
+/// Answers the requests that wait, and says how the session ends where it does.
+fn drain<W: Write, D: Desk>(
+    intake: &mut Intake,
+    sink: &mut Sink<W>,
+    desk: &mut D,
+    kept: &mut D::Kept,
+) -> Result<Option<End>, SessionFault>
+    requires { D.ready }
+    ensures ran { (left : Option (List ℕ)) → Drains D.Answer left intake.old intake.new kept.old kept.new (W.contents sink.old.inner) (W.contents sink.new.inner) result }
+    ensures waits { IfOk result (λ o. o ≡ None → front intake.new ≡ Partial) }
+    ensures same { OnOk result (sink.new.failed ≡ sink.old.failed) }
+    ensures flag { OnErr result ((result ≡ Err SessionFault.Write) × (sink.new.failed ≡ true)) }
+{
+    'requests: loop {
+        match intake.next() {
+            Err(NoMemory) => return end_within(sink, Code::Memory),
+            Ok(Next::More) => return Ok(None),
+            Ok(Next::Bad(code)) => return end_within(sink, code),
+            Ok(Next::Request(request)) => {
+                if is_quit(&request) {
+                    return Ok(Some(End::Quit));
+                }
+                if let Err(fault) = desk.answer(sink, kept, request) {
+                    return Err(fault);
+                }
+            }
+        }
+    }
+}
+
+/// Serves a piece of the input: feeds it by portions, so that no byte of a payload is copied twice, and answers the
+/// requests that wait after each. Where the session ends, what stands behind is not fed.
+fn serve_piece<W: Write, D: Desk>(
+    intake: &mut Intake,
+    sink: &mut Sink<W>,
+    desk: &mut D,
+    kept: &mut D::Kept,
+    piece: &[u8],
+) -> Result<Option<End>, SessionFault>
+    requires ready { D.ready }
+    requires some { 0 < length piece.now }
+    requires served { front intake.old ≡ Partial }
+    ensures ran { (left : Option (List ℕ)) → Drains D.Answer left (intake.old ++ piece.now) intake.new kept.old kept.new (W.contents sink.old.inner) (W.contents sink.new.inner) result }
+    ensures waits { IfOk result (λ o. o ≡ None → front intake.new ≡ Partial) }
+    ensures same { OnOk result (sink.new.failed ≡ sink.old.failed) }
+    ensures flag { OnErr result ((result ≡ Err SessionFault.Write) × (sink.new.failed ≡ true)) }
+{
+    let mut at = 0;
+    'portions: while at < piece.len() {
+        let (_, rest) = piece.split_at(at);
+        let n = intake.portion(rest);
+        let (portion, _) = rest.split_at(n);
+        match intake.feed(portion) {
+            Err(NoMemory) => return end_within(sink, Code::Memory),
+            Ok(()) => {}
+        }
+        match drain(intake, sink, desk, kept) {
+            Err(fault) => return Err(fault),
+            Ok(Some(end)) => return Ok(Some(end)),
+            Ok(None) => at += n,
+        }
+    }
+    Ok(None)
+}
+
+/// Ends a session at the end of the input.
+fn end_of_input<W: Write>(sink: &mut Sink<W>, intake: &Intake) -> Result<End, SessionFault>
+    ensures quit { intake.now ≡ [] → (result ≡ Ok End.Quit) × Appends (W.contents sink.old.inner) (W.contents sink.new.inner) [] }
+    ensures cut { intake.now ≢ [] → EndsBy (W.contents sink.old.inner) (W.contents sink.new.inner) Code.Cut result }
+    ensures same { OnOk result (sink.new.failed ≡ sink.old.failed) }
+    ensures flag { OnErr result ((result ≡ Err SessionFault.Write) × (sink.new.failed ≡ true)) }
+{
+    if intake.at_boundary() {
+        return Ok(End::Quit);
+    }
+    end_by(sink, Code::Cut)
+}
+
+/// Serves what is read. Before each read the writer passes on what it holds, so that a client that waits for an answer has it.
+fn serve_reads<R: Read, W: Write, D: Desk>(
+    alloc: Global,
+    source: &mut Source<R>,
+    sink: &mut Sink<W>,
+    desk: &mut D,
+    kept: &mut D::Kept,
+) -> Result<End, SessionFault>
+    requires ready { D.ready }
+    requires source_clear { source.old.failed ≡ false }
+    requires sink_clear { sink.old.failed ≡ false }
+    requires unread { source.old.reads ≡ 0 }
+    // What was written is the answers to the requests in the bytes that were read, or what a fault left of it.
+    ensures ran { DeskRan D.Answer kept.old kept.new (R.remaining source.old.inner) (R.remaining source.new.inner) (W.contents sink.old.inner) (W.contents sink.new.inner) result }
+    ensures few_reads { source.new.reads ≤ 4294967295 }
+    ensures read_fault { result ≡ Err SessionFault.Read → (source.new.failed ≡ true) ⊎ (source.new.reads ≡ 4294967295) }
+    ensures write_fault { result ≡ Err SessionFault.Write → sink.new.failed ≡ true }
+    ensures reader_failed { source.new.failed ≡ true → result ≡ Err SessionFault.Read }
+    ensures writer_failed { sink.new.failed ≡ true → result ≡ Err SessionFault.Write }
+{
+    let mut intake = Intake::new(alloc);
+    let mut buffer = match Vec::from_elem(alloc, 0u8, PIECE) {
+        Ok(buffer) => buffer,
+        Err(_) => return end_by(sink, Code::Memory),
+    };
+    'reads: while source.reads() < READ_LIMIT {
+        match pass_on(sink) {
+            Err(fault) => return Err(fault),
+            Ok(()) => {}
+        }
+        let n = match receive(source, buffer.as_mut_slice()) {
+            Err(fault) => return Err(fault),
+            Ok(n) => n,
+        };
+        if n == 0 {
+            return end_of_input(sink, &intake);
+        }
+        match serve_piece(&mut intake, sink, desk, kept, &buffer[..n]) {
+            Err(fault) => return Err(fault),
+            Ok(Some(end)) => return Ok(end),
+            Ok(None) => {}
+        }
+    }
+    match pass_on(sink) {
+        Err(fault) => Err(fault),
+        Ok(()) => Err(SessionFault::Read),
+    }
+}
+
+/// Serves a session: reads to the end, to QUIT or to a fault. The answers to what came with one read go to the writer one
+/// after another, and it passes them on before the next read and at the end: a writer that holds bytes back for a while
+/// makes few writes of them. Where a line or a payload is gathered, want of memory is `ERR 50 MEMORY` and ends the session.
+///
+/// A session makes at most 4,294,967,295 reads, and makes one again that was interrupted.
+pub fn run_session<R: Read, W: Write, D: Desk>(
+    alloc: Global,
+    source: &mut Source<R>,
+    sink: &mut Sink<W>,
+    desk: &mut D,
+    kept: &mut D::Kept,
+) -> Result<End, SessionFault>
+    requires ready { D.ready }
+    requires source_clear { source.old.failed ≡ false }
+    requires sink_clear { sink.old.failed ≡ false }
+    requires unread { source.old.reads ≡ 0 }
+    // What was written is the answers to the requests in the bytes that were read, or what a fault left of it.
+    ensures ran { DeskRan D.Answer kept.old kept.new (R.remaining source.old.inner) (R.remaining source.new.inner) (W.contents sink.old.inner) (W.contents sink.new.inner) result }
+    ensures few_reads { source.new.reads ≤ 4294967295 }
+    ensures read_fault { result ≡ Err SessionFault.Read → (source.new.failed ≡ true) ⊎ (source.new.reads ≡ 4294967295) }
+    ensures write_fault { result ≡ Err SessionFault.Write → sink.new.failed ≡ true }
+    ensures reader_failed { source.new.failed ≡ true → result ≡ Err SessionFault.Read }
+    ensures writer_failed { sink.new.failed ≡ true → result ≡ Err SessionFault.Write }
+{
+    match serve_reads(alloc, source, sink, desk, kept) {
+        Err(fault) => Err(fault),
+        Ok(end) => match pass_on(sink) {
+            Err(fault) => Err(fault),
+            Ok(()) => Ok(end),
+        },
+    }
+}

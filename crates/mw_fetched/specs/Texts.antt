@@ -1,0 +1,17 @@
+-- What is written for a FETCH.
+use Rattle.std.specs.Prelude.{◌≡◌, ◌⊎◌, ℕ, List}
+use Rattle.mw_model.specs.declared.codes.Code.TheVariants.{Memory}
+use Rattle.mw_model.specs.declared.calls.Reply.{Reply}
+use Rattle.mw_model.specs.Receipts.{MayFail}
+use Rattle.mw_model.specs.Scripts.{handed_value}
+use Rattle.mw_model.specs.Replies.{reply_text, refusal_text}
+use Rattle.mw_core.specs.declared.answers.Shown.{Shown}
+use Rattle.mw_core.specs.Fetches.{shown_value}
+
+-- the reply, and the bytes of the value that it hands out
+abbrev pub fetch_text : Reply → Shown → List ℕ
+fetch_text r v = reply_text r (handed_value (shown_value v))
+
+-- that, or that the bytes of what it hands out found no memory
+abbrev pub SaysFetched : Reply → Shown → List ℕ → Type 0
+SaysFetched r v text = (text ≡ fetch_text r v) ⊎ (MayFail r × (text ≡ refusal_text Memory))

@@ -1,0 +1,40 @@
+-- What a server leaves behind (own).
+use Rattle.std.specs.Prelude.{◌≡◌, ◌⊎◌, ℕ, Bool, true, List, Option, length, codes}
+use Rattle.std.specs.Io.KnownBytes.{Appends}
+use Rattle.mw_model.specs.declared.receipts.Receipt.{Receipt}
+use Rattle.mw_model.specs.Machine.{Machine}
+use Rattle.mw_model.specs.Receipts.{Covers}
+use Rattle.mw_model.specs.Stands.{CoreView, StandsFor}
+use Rattle.mw_wire.specs.Writes.{CutsShort}
+use Rattle.mw_listen.specs.declared.fault.ListenFault.{ListenFault}
+use Rattle.mw_listen.specs.declared.fault.ListenFault.TheVariants as fault
+
+-- the line that tells a fault
+abbrev pub listen_line : ListenFault → List ℕ
+listen_line fault.Memory = codes "error: memory\n"
+listen_line fault.Socket = codes "error: socket\n"
+listen_line fault.Thread = codes "error: thread\n"
+listen_line fault.Audit = codes "error: audit\n"
+
+-- what is known of what the writer of faults holds, and whether it failed
+pub record Told : Type 0 where
+  pub text : Option (List ℕ)
+  pub failed : Bool
+
+-- exactly this was told; or less of it, where the writer failed
+abbrev pub TellsLine : Told → Told → List ℕ → Type 0
+TellsLine old new line =
+    (Appends old.text new.text line × (new.failed ≡ old.failed)) ⊎ (CutsShort old.text new.text line × (new.failed ≡ true))
+
+-- So many sessions were joined. Their passes cover the log of a core that stands for some state of the machine: that state's run has all their calls, each once.
+pub record Audited (sessions : ℕ) : Type 0 where
+  pub core : CoreView
+  pub stands : ∥ ((m : Machine) × StandsFor core m) ∥₁
+  pub passes : List (List Receipt)
+  pub joined : length passes ≡ sessions
+  pub covers : Covers core.log passes
+
+-- Status 0: the sessions were audited, and nothing was told. Status 1: the line of one fault was told.
+abbrev pub Listened : ℕ → Told → Told → ℕ → Type 0
+Listened sessions old new status =
+    ((status ≡ 0) × Audited sessions × (new ≡ old)) ⊎ ((status ≡ 1) × ((f : ListenFault) × TellsLine old new (listen_line f)))

@@ -1,0 +1,17 @@
+//! Sessions over TCP: one board, workers in threads, a thread with a pass of its own for each connection, and the audit of
+//! all passes at the end.
+//!
+//! ```text
+//! let service = Service { port: 7001, workers: 2, sessions: 1, side: 128 };
+//! let status = listen(&rt, alloc, service, &mut faults, &Kernels { alloc });
+//! ```
+#![tactic(auto)]
+
+mod fault;
+mod hall;
+mod kernels;
+mod server;
+
+pub use fault::ListenFault;
+pub use kernels::Kernels;
+pub use server::{Service, listen};

@@ -1,0 +1,6 @@
+-- what other crates may cite
+pub mod TileCells
+pub mod Patches
+pub mod Windows
+
+-- the crate's own

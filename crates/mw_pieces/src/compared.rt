@@ -1,0 +1,63 @@
+//! Whether a window in pieces is one of a plane, told row by row.
+
+use crate::{Piece, Pieces, overlap};
+use mw_grid::whole_frame;
+use mw_lane::{Lanes, equal_rows};
+use mw_model::Rect;
+use mw_pixel::Plane;
+
+impl<P: Lanes> Piece<P> {
+    ghost use Rattle.std.specs.Prelude.{◌≡◌, ◌↔◌, ◌+◌, ◌<◌, ◌^◌, IsTrue};
+    ghost use Rattle.mw_pieces.specs.Patches.{cell_of, patch, IsInside, ShowsIn};
+
+    /// Whether the piece has in the rectangle what a plane has there that stands at `at`, around the piece.
+    pub fn agrees(&self, place: Rect, at: Rect, plane: &Plane<P>) -> bool
+        requires across { place.x + place.width < 2 ^ 32 }
+        requires down { place.y + place.height < 2 ^ 32 }
+        requires across_at { at.x + at.width < 2 ^ 32 }
+        requires down_at { at.y + at.height < 2 ^ 32 }
+        requires width { plane.now.width ≡ at.width }
+        requires height { plane.now.height ≡ at.height }
+        requires inside { IsInside self.now.place at }
+        ensures { IsTrue result ↔ ShowsIn place (cell_of (patch at plane.now.cells)) self.now }
+    {
+        let here = overlap(place, self.place());
+        if here.width == 0 {
+            return true;
+        }
+        for y in here.y..here.y + here.height {
+            let row = self.part(here.x, y, here.width);
+            let held = plane.part(here.x - at.x, y - at.y, here.width);
+            if !equal_rows(row, held) {
+                return false;
+            }
+        }
+        true
+    }
+}
+
+impl<P: Lanes> Pieces<P> {
+    ghost use Rattle.std.specs.Prelude.{◌↔◌, IsTrue};
+    ghost use Rattle.mw_pieces.specs.Patches.{ShowsFrame};
+
+    /// Whether the window is one of the frame that the plane has, and shows what stands there.
+    pub fn are_of(&self, plane: &Plane<P>) -> bool
+        ensures { IsTrue result ↔ ShowsFrame plane.now self.now }
+    {
+        let (place, pieces) = (self.place(), self.pieces());
+        let (width, height) = (plane.width(), plane.height());
+        if self.frame_width() != width {
+            return false;
+        }
+        if self.frame_height() != height {
+            return false;
+        }
+        let at = whole_frame(width, height);
+        for piece in pieces {
+            if !piece.agrees(place, at, plane) {
+                return false;
+            }
+        }
+        true
+    }
+}

@@ -1,0 +1,16 @@
+//! Sessions served at a board, each with a pass of its own: by `mw_desk`, as scripts are.
+//!
+//! ```text
+//! let mut pass = board.pass();
+//! let end = serve(&rt, alloc, &mut source, &mut sink, &board, &mut pass)?;
+//! ```
+#![tactic(auto)]
+
+mod counter;
+mod laws;
+mod session;
+
+pub use laws::{ended_is_served, stopped_is_served};
+pub use mw_model::End;
+pub use mw_pool::{Board, Pass};
+pub use session::serve;
