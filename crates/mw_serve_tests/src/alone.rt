@@ -219,7 +219,10 @@ fn a_writer_that_fails(rt: HostRuntime) -> Result<(), Fail> {
     });
     let ended = serve(&rt, rt.alloc(), &mut source, &mut sink, &board, &mut pass);
     assert_eq!(rt; ended, Err(SessionFault::Write));
-    assert_eq!(rt; sink.into_inner().held.as_slice(), b"ERR 41 UNKNOWN\nERR 4".as_slice());
+    assert_eq!(rt;
+        sink.into_inner().held.as_slice(),
+        b"ERR 41 UNKNOWN\nERR 4".as_slice()
+    );
     assert_eq!(rt; count(&pass), 2);
     Ok(())
 }
