@@ -14,8 +14,8 @@ use std::io::{Read, Write};
 use std::sync::Wait;
 
 /// Serves a session: reads to the end, to QUIT or to a fault, and makes of each request one call of the board with this
-/// pass, whose reply is written as soon as it is made. Want of memory is `ERR 50 MEMORY` for that request, and ends the
-/// session where a line or a payload is gathered.
+/// pass. The replies to what came with one read go out together, before more is read. Want of memory is `ERR 50 MEMORY` for
+/// that request, and ends the session where a line or a payload is gathered.
 ///
 /// A session makes at most 4,294,967,295 reads, and makes one again that was interrupted.
 pub fn serve<R: Read, W: Write, X: Wait>(
