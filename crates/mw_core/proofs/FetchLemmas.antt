@@ -17,8 +17,8 @@ use Rattle.mw_model.specs.Stands.{CoreView, StandsFor, is_wanted}
 use Rattle.mw_laws.specs.MachineLaws.{shape_of_value}
 use Rattle.mw_laws.proofs.RunTables.{is_known, ticket_is, ticket_within, when_so}
 use Rattle.mw_stands.specs.Events.{handed_out}
-use Rattle.mw_core.specs.Fetches.{IsShown, ShowsSome, handed_value, shown_value}
-use Rattle.mw_core.specs.declared.answers.Shown.{Shown}
+use Rattle.mw_store.specs.Fetches.{IsShown, ShowsSome, handed_value, shown_value}
+use Rattle.mw_store.specs.declared.fetched.Shown.{Shown}
 use Rattle.mw_stands.proofs.RefusalLemmas.{some-same}
 use Rattle.mw_stands.proofs.StandsLemmas.{stands-sound, stands-reply}
 

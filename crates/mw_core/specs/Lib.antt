@@ -1,3 +1,2 @@
 pub mod TaskAnswers
-pub mod Fetches
 pub mod EventEffects

@@ -1,8 +1,5 @@
-//! What the events on tasks, and FETCH, answer.
+//! What the events on tasks answer.
 
-use mw_gran::Curve;
-use mw_model::Reply;
-use mw_store::Plate;
 use mw_task::Work;
 
 /// The answer to a worker that asks for a task.
@@ -36,19 +33,4 @@ pub enum Refusal {
     Late,
     /// The task is not running.
     Stranger,
-}
-
-/// What a FETCH hands out: a share of an image, or a copy of a curve.
-#[derive(Drop)]
-pub enum Shown {
-    Nothing,
-    Image(Plate),
-    Curve(Curve),
-}
-
-/// The answer to a FETCH.
-#[derive(Drop)]
-pub struct Fetched {
-    pub reply: Reply,
-    pub value: Shown,
 }

@@ -2,16 +2,16 @@
 
 ghost use Rattle.std.specs.Prelude.{◌≡◌, ◌↔◌, IsSome, ◌<◌, ℕ, length, OnErr, IfOk, None};
 
-use crate::answers::{Fetched, Shown};
 use crate::machine::Core;
 use mw_model::{Call, Name, NoMemory, Reply};
+use mw_store::{Fetched, Shown};
 
 impl Core {
     ghost use Rattle.mw_model.specs.Values.{value_at};
     ghost use Rattle.mw_model.specs.Machine.{Machine};
     ghost use Rattle.mw_model.specs.Stands.{StandsFor};
     ghost use Rattle.mw_stands.specs.Events.{Serves, handed_out};
-    ghost use Rattle.mw_core.specs.Fetches.{IsShown, ShowsSome, handed_value, shown_value};
+    ghost use Rattle.mw_store.specs.Fetches.{IsShown, ShowsSome, handed_value, shown_value};
 
     /// The value that is kept of a ticket, unless it is an element.
     fn value(&self, t: u32) -> Result<Shown, NoMemory>

@@ -28,6 +28,7 @@ mod readers;
 mod ready;
 mod tasks;
 
-pub use answers::{Fetched, Finish, Refusal, Shown, Started};
+pub use answers::{Finish, Refusal, Started};
 pub use machine::Core;
 pub use mw_model::NoMemory;
+pub use mw_store::{Fetched, Shown};

@@ -5,8 +5,8 @@ use Rattle.mw_model.specs.declared.calls.Reply.{Reply}
 use Rattle.mw_model.specs.Receipts.{MayFail}
 use Rattle.mw_model.specs.Scripts.{handed_value}
 use Rattle.mw_model.specs.Replies.{reply_text, refusal_text}
-use Rattle.mw_core.specs.declared.answers.Shown.{Shown}
-use Rattle.mw_core.specs.Fetches.{shown_value}
+use Rattle.mw_store.specs.declared.fetched.Shown.{Shown}
+use Rattle.mw_store.specs.Fetches.{shown_value}
 
 -- the reply, and the bytes of the value that it hands out
 abbrev pub fetch_text : Reply → Shown → List ℕ

@@ -10,10 +10,9 @@ ghost use Rattle.std.specs.Prelude.{◌≡◌, ℕ, List, OnOk, OnErr, Err, true
 ghost use Rattle.mw_fetched.specs.Texts.{SaysFetched};
 ghost use Rattle.mw_wire.specs.Writes.{Wrote};
 
-use mw_core::{Fetched, Shown};
 use mw_gran::Curve;
 use mw_model::{NoMemory, Reply};
-use mw_store::Plate;
+use mw_store::{Fetched, Plate, Shown};
 use mw_wire::{SessionFault, Sink, say, say_curve, say_image, say_told};
 use std::alloc::Global;
 use std::io::Write;

@@ -34,7 +34,7 @@ impl Pass {
     ghost use Rattle.mw_model.specs.Stands.{StandsFor};
     ghost use Rattle.mw_stands.specs.Payloads.{given_image, image_payload, given_element, element_payload};
     ghost use Rattle.mw_stands.specs.Events.{Serves, IsFresh, handed_out};
-    ghost use Rattle.mw_core.specs.Fetches.{ShowsSome, shown_value};
+    ghost use Rattle.mw_store.specs.Fetches.{ShowsSome, shown_value};
     ghost use Rattle.mw_pool.specs.Passes.{with_receipt};
 
     /// A pass without receipts.

@@ -5,3 +5,4 @@ pub mod Entries
 pub mod Wanted
 pub mod Waiting
 pub mod Stored
+pub mod Fetches

@@ -18,6 +18,7 @@
 
 mod cascade;
 mod columns;
+mod fetched;
 mod image_shapes;
 mod kept;
 mod outcomes;
@@ -27,6 +28,7 @@ mod waiting;
 mod wanted;
 
 pub use columns::Store;
+pub use fetched::{Fetched, Shown};
 pub use image_shapes::ImageShape;
 pub use kept::{Entry, Kept};
 pub use mw_model::NoMemory;

@@ -4,8 +4,8 @@ use Rattle.mw_model.specs.declared.calls.Reply.{Reply}
 use Rattle.mw_model.specs.declared.calls.Reply.TheVariants as reply
 use Rattle.mw_model.specs.Values.{Value, ImageValue, ElementValue, CurveValue, value_at}
 use Rattle.mw_model.specs.Stands.{CoreView}
-use Rattle.mw_core.specs.declared.answers.Shown.{Shown}
-use Rattle.mw_core.specs.declared.answers.Shown.TheVariants as shown
+use Rattle.mw_store.specs.declared.fetched.Shown.{Shown}
+use Rattle.mw_store.specs.declared.fetched.Shown.TheVariants as shown
 
 -- the value that is handed out, if one is
 abbrev pub shown_value : Shown → Option Value
