@@ -3,6 +3,7 @@ pub mod Alls
 pub mod Counts
 pub mod Elements
 pub mod Finds
+pub mod HighLists
 pub mod Merged
 pub mod Numbers
 pub mod Parts

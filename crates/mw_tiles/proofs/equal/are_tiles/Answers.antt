@@ -1,8 +1,8 @@
-use Rattle.std.proofs.Common.{◌≡◌, ◌<◌, ◌≤◌, length, List, ap, sym, subst, arith, rules, ◌∙◌}
+use Rattle.std.proofs.Common.{◌≡◌, ◌<◌, length, List, sym, subst, arith, rules, ◌∙◌}
 use Rattle.std.specs.List.{AllByRecursion}
 use Rattle.mw_model.specs.declared.places.Rect.{Rect}
-use Rattle.mw_pieces.specs.Patches.{frame_value, IsPatchOf, Patch, ShowsIn}
-use Rattle.mw_pieces.proofs.Patches.{all_next, all_whole, each_plain, patch_of, read_at, shown_plain}
+use Rattle.mw_pieces.specs.Patches.{frame_value, Patch, ShowsIn}
+use Rattle.mw_pieces.proofs.Patches.{all_next, all_whole, each_plain, read_at, shown_plain}
 use Rattle.mw_tiles.specs.Tiles.{cells_of, HasAll}
 use Rattle.mw_tiles.proofs.equal.are_tiles.Goals as goal
 
