@@ -4,6 +4,7 @@ use Rattle.std.specs.Prelude.{IfSome, option_map}
 use Rattle.std.specs.List.{AllByRecursion}
 use Rattle.std.proofs.lemmas.Bool.{and_parts}
 use Rattle.std.proofs.lemmas.Grind.{get_or_default_zero}
+use Rattle.std.proofs.lemmas.Option.{none-some}
 use Rattle.mw_model.specs.declared.calls.Outcome.TheVariants as outcome
 use Rattle.mw_model.specs.declared.places.Reach.{Reach}
 use Rattle.mw_model.specs.declared.places.Rect.{Rect}
@@ -45,7 +46,7 @@ use Rattle.mw_underway.specs.Results.{AreShown, HasLevel, IsFoundOf, IsResultOf,
 use Rattle.mw_underway.specs.SourceWindows.{AreSources, CanReadAll, task_on}
 use Rattle.mw_underway.proofs.AllowedLemmas.{planes-levels}
 use Rattle.mw_underway.proofs.PlannedAtLemmas.{level-is, planned-at}
-use Rattle.mw_underway.proofs.ReadingLemmas.{none-is-some, place-is, task-can-read, task-is}
+use Rattle.mw_underway.proofs.ReadingLemmas.{place-is, task-can-read, task-is}
 use Rattle.mw_underway.proofs.SourceTrueLemmas.{ReadsKept, reads-kept, sources-true}
 
 -- ---- the window of a source
@@ -61,7 +62,7 @@ window-bounded f place picture within = λ k d lt.
 
 pub input-shown : (image : Option Picture) (u : ProgressView) (place : Rect) (k : ℕ) (w : SourceWindow) → IfSome image (HasFrame u.tiling.width u.tiling.height) → HasLevel image u → IfSome image IsPicture
     → IsWithin place u.tiling.width u.tiling.height → option_map (window_of place) image ≡ Some w → IsShown image u place (FromInput k) w
-input-shown None u place k w frame level picture within is = absurd (none-is-some is)
+input-shown None u place k w frame level picture within is = absurd (none-some _ is)
 input-shown (Some f) u place k w frame level picture within is =
     let same : window_of place f ≡ w = cc in
     let Wide : ℕ → Type 0 = λ x. IsWithin place x f.height in
