@@ -13,13 +13,13 @@ use Rattle.mw_model.specs.declared.requests.End.TheVariants as end
 use Rattle.mw_model.specs.Pictures.{Picture}
 use Rattle.mw_model.specs.Rasters.{Raster}
 use Rattle.mw_model.specs.Bitmaps.{IsBitmap, BitmapRefuses}
-use Rattle.mw_model.specs.Elements.{Figure, IsElement, ElementRefuses, no_bitmap, no_origin, no_pixel, HoldsPlace, offsets_of, figure_of}
+use Rattle.mw_model.specs.Elements.{Figure, IsElement, ElementRefuses, no_bitmap, no_origin, no_pixel, HoldsPlace, offsets_of}
 use Rattle.mw_model.specs.NetpbmGrammar.{IsFile}
 use Rattle.mw_model.specs.Values.{Value, ImageValue, ElementValue, shape_of_picture, shape_of_figure}
 use Rattle.mw_model.specs.Refusals.{first_of, name_taken, no_room, fault_of, refusal}
 use Rattle.mw_model.specs.Machine.{Machine, after}
 use Rattle.mw_model.specs.Lines.{Asked, AskLoad, AskElement, AskAlone, Found, Partial, Fault, Begins}
-use Rattle.mw_intake.proofs.Front.{front_is}
+use Rattle.mw_intake.proofs.Front.{front_is, front_empty}
 use Rattle.mw_intake.specs.Reading.{front}
 use Rattle.mw_model.specs.Replies.{refusal_text}
 use Rattle.mw_model.specs.Scripts.{ImageGiven, ElementGiven, Calls, IsCallOf, refused_unread, answer_text, Answers, unread, called, runs_work, Works, Replies, Turn, IsTurn, AreTurns, requests, NoQuit, Ends, IsScript, end_text}
@@ -28,6 +28,7 @@ use Rattle.mw_netpbm.proofs.Sides.{ok_is}
 use Rattle.mw_netpbm.proofs.Files.{file_read}
 use Rattle.mw_netpbm.proofs.Exclusive.{one_refusal, refusal_or_image}
 use Rattle.mw_netpbm.proofs.Bitmaps.{one_bitmap, one_bitmap_refusal, refusal_or_bitmap}
+use Rattle.mw_element.proofs.Exclusive.{one_element}
 
 -- ---- payloads
 
@@ -41,10 +42,6 @@ image_given_once bytes (given.Good s) (given.Good u) p q a b =
 image_given_once bytes (given.Good s) (given.Bad d) p q a b = absurd (refusal_or_image bytes d a.0 b.0 a.1)
 image_given_once bytes (given.Bad c) (given.Good u) p q a b = absurd (refusal_or_image bytes c b.0 a.0 b.1)
 image_given_once bytes (given.Bad c) (given.Bad d) p q a b = (ap given.Bad (one_refusal bytes c d a.0 b.0), a.1 ∙ sym b.1)
-
-one_element : (bytes : List ℕ) (ox oy : ℕ) (f g : Figure) → IsElement bytes ox oy f → IsElement bytes ox oy g → f ≡ g
-one_element bytes ox oy f g a b =
-    a.shows ∙ ap (λ r. figure_of r ox oy) (one_bitmap bytes 255 a.bitmap b.bitmap (omega arith) a.is_bitmap b.is_bitmap) ∙ sym b.shows
 
 -- the ways to be no element
 pub data NoElement (bytes : List ℕ) (ox oy : ℕ) (c : Code) : Type 0 where
@@ -168,10 +165,6 @@ front_once ts us m n k x y a b =
     (r.2, r.5 ∙ ap (λ u. u ++ r.2) (turns_once ts m r.0 n r.1 x r.3 a).0)
 
 -- ---- whole scripts
-
-pub front_empty : front [] ≡ Partial
-unfolding front
-front_empty = refl
 
 -- where a script ends without a mark, no further request stands
 no_request_left : (whole : Type 0) (rest mid : List ℕ) (e : End) (r : Asked) → Ends whole rest e → e ≢ end.Ended code.Memory → front rest ≡ Found r mid → r ≢ AskAlone ask.Quit → ⊥
