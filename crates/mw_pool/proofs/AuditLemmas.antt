@@ -6,7 +6,6 @@ use Rattle.std.proofs.lemmas.Option.{same_Some, slice_get-get_or, get_or_from_sl
 use Rattle.std.proofs.lemmas.Bool.{cases_lt, ne_eqb}
 use Rattle.std.proofs.lemmas.List.Sums.{sum_by-cons, sum_by-take-drop}
 use Rattle.mw_model.specs.declared.receipts.Receipt.{Receipt}
-use Rattle.mw_model.specs.declared.calls.Call.{Call}
 use Rattle.mw_model.specs.declared.calls.LogItem.{LogItem}
 use Rattle.mw_model.specs.declared.calls.LogItem.TheVariants as item
 use Rattle.mw_model.specs.Receipts.{Rises, IsLogged}

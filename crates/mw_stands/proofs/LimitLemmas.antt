@@ -23,7 +23,7 @@ use Rattle.mw_model.specs.declared.calls.LogItem.{LogItem}
 use Rattle.mw_model.specs.declared.calls.LogItem.TheVariants as item
 use Rattle.mw_model.specs.Values.{Value}
 use Rattle.mw_model.specs.Refusals.{Table, Wanted, AnImage, AnElement, no_submission, shape_at, is_image, first_of, name_taken, no_room, fault_of, wanted_case, inputs_wanted, op_cases, binary_case, origin_case, param_case, refusal}
-use Rattle.mw_model.specs.Machine.{Machine, Step, Run, IsWith, killed, given_submission, run_submission, changed, unless_refused, shape_named, shape_of_result, as_bits, as_grey}
+use Rattle.mw_model.specs.Machine.{Machine, Step, IsWith, killed, given_submission, run_submission, changed, unless_refused, shape_named, shape_of_result, as_bits, as_grey}
 use Rattle.mw_laws.specs.MachineLaws.{IsSound}
 use Rattle.mw_laws.proofs.RunTables.{first_none, input_found, ticket_is}
 use Rattle.mw_stands.specs.Limits.{FitsLimits, ShapesFit}
