@@ -4,15 +4,16 @@ use Rattle.std.specs.List.{AllByRecursion}
 use Rattle.std.proofs.lemmas.Int.{ints}
 use Rattle.std.proofs.lemmas.List.{get_or_past}
 use Rattle.std.proofs.lemmas.List.FromFn.{get_or-map-range_with_len, length-map-range_with_len}
+use Rattle.mw_facts.proofs.Alls.{all-weaker}
 use Rattle.mw_model.specs.Places.{nonnegative}
+use Rattle.mw_model.proofs.Nonnegative.{nonnegative_is}
 use Rattle.mw_line.specs.Extrema.{strided}
 use Rattle.mw_line.proofs.Folds.{IsExtremum}
 use Rattle.mw_line.proofs.Joined.{Taken, joined, taken_within, taken_fits}
-use Rattle.mw_line.proofs.Padded.{nonnegative_is}
 use Rattle.mw_run.specs.declared.runs.Run.{Run}
 use Rattle.mw_run.specs.declared.runs.Extent.{Extent}
 use Rattle.mw_run.specs.Runs.{IsInside, IsWider}
-use Rattle.mw_run.proofs.RunLists.{all_weaker, inside_wider}
+use Rattle.mw_run.proofs.RunLists.{inside_wider}
 use Rattle.mw_bits.specs.Packed.{bit_of}
 use Rattle.mw_bits.specs.Layouts.{laid_bits, IsNear}
 
@@ -46,10 +47,10 @@ count_of_inside e columns columns-is r inside =
     omega (arith, ints)
 
 pub counts_of_inside : (e : Extent) (columns : ℕ) (runs : List Run) → columns ≡ nonnegative (e.right -ℤ e.left) → AllByRecursion (IsInside e) runs → AllByRecursion (λ (r : Run). r.count ≤ columns + 1) runs
-counts_of_inside e columns runs columns-is all = all_weaker (IsInside e) (λ (r : Run). r.count ≤ columns + 1) runs (count_of_inside e columns columns-is) all
+counts_of_inside e columns runs columns-is all = all-weaker (IsInside e) (λ (r : Run). r.count ≤ columns + 1) runs (count_of_inside e columns columns-is) all
 
 pub all_inside_wider : (e o : Extent) (runs : List Run) → IsWider e o → AllByRecursion (IsInside o) runs → AllByRecursion (IsInside e) runs
-all_inside_wider e o runs wider all = all_weaker (IsInside o) (IsInside e) runs (inside_wider e o wider) all
+all_inside_wider e o runs wider all = all-weaker (IsInside o) (IsInside e) runs (inside_wider e o wider) all
 
 pub columns_few : (e : Extent) (columns : ℕ) → columns ≡ nonnegative (e.right -ℤ e.left) → IsNear e → columns ≤ 1023
 columns_few e columns columns-is near =

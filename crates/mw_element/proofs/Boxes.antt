@@ -11,6 +11,7 @@ use Rattle.std.proofs.lemmas.Int.{ints}
 use Rattle.std.proofs.lemmas.List.Elements.{All-from_recursion, recursion_from_All}
 use Rattle.std.proofs.lemmas.List.Folds.{list_any-append}
 use Rattle.std.proofs.lemmas.Map.Made.{is_member-Decides, length-le_from_is_member, length-from_same_keys}
+use Rattle.std.proofs.lemmas.Map.Keys.{IsDistinct-cons}
 use Rattle.mw_facts.proofs.Alls.{all-weaker, all-append}
 use Rattle.mw_model.specs.declared.places.Offset.{Offset}
 use Rattle.mw_model.specs.declared.places.OffsetBox.{OffsetBox}
@@ -50,10 +51,6 @@ pub distinct_append : (xs ys : List Offset) → IsDistinct same_offset xs → Is
 unfolding IsDistinct
 distinct_append [] ys a b apart = b
 distinct_append (x ∷ xs) ys a b apart = (all-append (λ b. same_offset x b ≡ false) xs ys a.0 apart.0, distinct_append xs ys a.1 b apart.1)
-
-pub distinct_cons : (x : Offset) (xs : List Offset) → AllByRecursion (λ b. same_offset x b ≡ false) xs → IsDistinct same_offset xs → IsDistinct same_offset (x ∷ xs)
-unfolding IsDistinct
-distinct_cons x xs apart rest = (apart, rest)
 
 pub distinct_nil : IsDistinct same_offset []
 unfolding IsDistinct
@@ -103,7 +100,7 @@ line_distinct : (x y : ℤ) (n : ℕ) → IsDistinct same_offset (line x y n)
 unfolding line
 line_distinct x y zero = distinct_nil
 line_distinct x y (suc n) =
-    distinct_cons (made x y) (line (x +ℤ pos 1) y n) (apart_right (made x y) (x +ℤ pos 1) y (line (x +ℤ pos 1) y n) (omega (arith, ints)) (line_follows (x +ℤ pos 1) y n)) (line_distinct (x +ℤ pos 1) y n)
+    IsDistinct-cons same_offset (made x y) (line (x +ℤ pos 1) y n) (apart_right (made x y) (x +ℤ pos 1) y (line (x +ℤ pos 1) y n) (omega (arith, ints)) (line_follows (x +ℤ pos 1) y n)) (line_distinct (x +ℤ pos 1) y n)
 
 grid_distinct : (x y : ℤ) (w h : ℕ) → IsDistinct same_offset (grid x y w h)
 unfolding grid
@@ -190,7 +187,7 @@ full_box box w h xs s distinct all count = λ q. (boxed_contained box xs q all, 
         elim (cases_Bool (list_any (same_offset q) xs)) [
           | inl has ↦ has_contains xs q has
           | inr none ↦
-              let le = length-le_from_is_member same_equiv (q ∷ xs) (places box w h) (distinct_cons q xs (apart_false q xs none) distinct) (λ p m. in_places box w h p s (inside p m)) in
+              let le = length-le_from_is_member same_equiv (q ∷ xs) (places box w h) (IsDistinct-cons same_offset q xs (apart_false q xs none) distinct) (λ p m. in_places box w h p s (inside p m)) in
               absurd (omega (arith, le, grid_length box.x0 box.y0 w h, count))
         ]
       where

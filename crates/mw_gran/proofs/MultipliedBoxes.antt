@@ -1,9 +1,10 @@
 -- Full rectangles that hold their origin, as boxes: what is covered by a box whose bounds are multiplied.
-use Rattle.std.proofs.Common.{◌≡◌, ℕ, zero, suc, ◌+◌, ◌*◌, ◌≤◌, List, [], ◌∷◌, ◌++◌, map, ℤ, pos, negsuc, ◌+ℤ◌, ◌-ℤ◌, ◌≤ℤ◌, neg_ℤ, ap, sym, arith, ◌∙◌, refl}
+use Rattle.std.proofs.Common.{◌≡◌, ℕ, zero, suc, ◌+◌, ◌*◌, ◌≤◌, List, [], ◌∷◌, map, ℤ, pos, negsuc, ◌+ℤ◌, ◌-ℤ◌, ◌≤ℤ◌, neg_ℤ, ap, sym, arith, ◌∙◌, refl}
 use Rattle.std.specs.Prelude.{◌*ℤ◌}
 use Rattle.std.specs.List.{range_with_len, flat_map}
 use Rattle.std.proofs.lemmas.Int.{ints}
 use Rattle.std.proofs.Math.IntN.{pos-*ℤ-pos, pos-*ℤ-negsuc}
+use Rattle.mw_facts.proofs.Alls.{flat_map-same}
 use Rattle.mw_model.specs.declared.places.Offset.{Offset}
 use Rattle.mw_model.specs.declared.places.OffsetBox.{OffsetBox}
 use Rattle.mw_model.specs.Places.{nonnegative, span, box_offsets}
@@ -80,15 +81,11 @@ same_map : {X : Type 0} (f g : ℕ → X) (ns : List ℕ) → ((n : ℕ) → f n
 same_map f g [] each = refl
 same_map f g (n ∷ ns) each = ap (λ (t : _). t ∷ map f ns) (each n) ∙ ap (λ (t : List _). g n ∷ t) (same_map f g ns each)
 
-same_flat : {X : Type 0} (f g : ℕ → List X) (ns : List ℕ) → ((n : ℕ) → f n ≡ g n) → flat_map f ns ≡ flat_map g ns
-same_flat f g [] each = refl
-same_flat f g (n ∷ ns) each = ap (λ (t : List _). t ++ flat_map f ns) (each n) ∙ ap (λ (t : List _). g n ++ t) (same_flat f g ns each)
-
 box_is_rectangle : (box : OffsetBox) (l r t d : ℕ) → Bounds box l r t d → box_offsets box ≡ rectangle l r t d
 box_is_rectangle box l r t d bounds =
     ap (λ (n : ℕ). flat_map (λ j. map (λ i. from_corner i j) (range_with_len 0 n)) (range_with_len 0 (span box.y0 box.y1))) (span_is box.x0 box.x1 l r bounds.left bounds.right)
     ∙ ap (λ (n : ℕ). flat_map (λ j. map (λ i. from_corner i j) (range_with_len 0 (l + r + 1))) (range_with_len 0 n)) (span_is box.y0 box.y1 t d bounds.top bounds.bottom)
-    ∙ same_flat (λ j. map (λ i. from_corner i j) (range_with_len 0 (l + r + 1))) (λ j. map (λ i. from_origin i j) (range_with_len 0 (l + r + 1))) (range_with_len 0 (t + d + 1))
+    ∙ flat_map-same (λ j. map (λ i. from_corner i j) (range_with_len 0 (l + r + 1))) (λ j. map (λ i. from_origin i j) (range_with_len 0 (l + r + 1))) (range_with_len 0 (t + d + 1))
     (λ j. same_map (λ i. from_corner i j) (λ i. from_origin i j) (range_with_len 0 (l + r + 1)) (λ i. same i j))
   where
     offset : ℤ → ℤ → Offset

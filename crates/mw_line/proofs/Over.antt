@@ -49,10 +49,6 @@ pub filter_map-flat : {A B : Type 0} (g : B → Option A) (xs : List B) → filt
 filter_map-flat g [] = refl
 filter_map-flat g (x ∷ xs) = cons_those (g x) (filter_map g xs) ∙ ap (λ (t : List _). those (g x) ++ t) (filter_map-flat g xs)
 
-pub flat_map_same : {A B : Type 0} (f g : B → List A) (xs : List B) → ((x : B) → f x ≡ g x) → flat_map f xs ≡ flat_map g xs
-flat_map_same f g [] same = refl
-flat_map_same f g (x ∷ xs) same = ap (λ (t : List _). t ++ flat_map f xs) (same x) ∙ ap (λ (t : List _). g x ++ t) (flat_map_same f g xs same)
-
 -- rows that are all empty
 pub all_empty : {A : Type 0} (rows : ℕ → List A) (s m : ℕ) → ((i : ℕ) → s ≤ i → i < s + m → rows i ≡ []) → flat_map rows (range_with_len s m) ≡ []
 all_empty rows s zero empty = refl

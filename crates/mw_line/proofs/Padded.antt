@@ -7,6 +7,7 @@ use lib.IntN.{neg_ℤ, nat_abs}
 use borrow.Author.Differences.{up, down}
 use Rattle.mw_line.specs.Line.{line_at}
 use Rattle.mw_model.specs.Places.{nonnegative, span}
+use Rattle.mw_model.proofs.Nonnegative.{nonnegative_is}
 use Rattle.mw_line.proofs.Folds.{IsExtremum}
 
 same_part : {A : Type 0} (m n i j : ℕ) (xs : List A) → m ≡ n → i ≡ j → take m (drop i xs) ≡ take n (drop j xs)
@@ -47,10 +48,6 @@ pad_back f laws n c m (suc k) (suc i) [] same = nothing_more f n c m (suc k) (su
 pad_back f laws n c m zero zero (y ∷ ys) same = refl
 pad_back f laws n c m (suc k) zero (y ∷ ys) same = pad_back f laws n (f c y) m k zero ys (absorbs f laws n c y same)
 pad_back f laws n c m k (suc i) (y ∷ ys) same = pad_back f laws n c m k i ys same
-
-pub nonnegative_is : (z : ℤ) → nonnegative z ≡ up z - down z
-nonnegative_is (pos n) = omega arith
-nonnegative_is (negsuc n) = omega arith
 
 lo_is : (a : ℤ) (i : ℕ) → nonnegative (pos i +ℤ a) ≡ nonnegative a + (i - nonnegative (neg_ℤ a))
 lo_is a i = omega (arith, ints, nonnegative_is (pos i +ℤ a), nonnegative_is a, nonnegative_is (neg_ℤ a))

@@ -3,6 +3,7 @@ use Rattle.std.proofs.Common.{◌≡◌, ◌⊎◌, ℕ, suc, ◌+◌, ◌-◌, 
 use Rattle.std.specs.List.{range_with_len, flat_map}
 use Rattle.std.proofs.lemmas.Grind.{flat_map-append}
 use Rattle.std.proofs.lemmas.List.Folds.{flat_map-map}
+use Rattle.mw_facts.proofs.Alls.{flat_map-same}
 use Rattle.mw_model.specs.declared.places.Offset.{Offset}
 use Rattle.mw_model.specs.declared.places.OffsetBox.{OffsetBox}
 use Rattle.mw_model.specs.Places.{span, box_offsets}
@@ -10,7 +11,7 @@ use Rattle.mw_model.specs.Rasters.{Sight, seen_under}
 use Rattle.mw_lane.specs.Shifted.{merge_at}
 use Rattle.mw_line.specs.Extrema.{over}
 use Rattle.mw_line.proofs.Folds.{IsExtremum}
-use Rattle.mw_line.proofs.Over.{those, over_same, over_shift, fold_flat, fold_those, filter_map-flat, flat_map_same, all_empty, kept}
+use Rattle.mw_line.proofs.Over.{those, over_same, over_shift, fold_flat, fold_those, filter_map-flat, all_empty, kept}
 
 flat_map-flat_map : {A B C : Type 0} (h : B → List C) (row : A → List B) (xs : List A) → flat_map h (flat_map row xs) ≡ flat_map (λ x. flat_map h (row x)) xs
 flat_map-flat_map h row [] = refl
@@ -28,7 +29,7 @@ seen_boxed sight box x y =
     let down = range_with_len 0 (span box.y0 box.y1) in
     filter_map-flat (λ (b : Offset). sight (pos x +ℤ b.dx) (pos y +ℤ b.dy)) (box_offsets box)
     ∙ flat_map-flat_map look (λ (j : ℕ). map (place j) across) down
-    ∙ flat_map_same (λ (j : ℕ). flat_map look (map (place j) across)) (row_of sight box x y) down (λ j. flat_map-map look (place j) across)
+    ∙ flat_map-same (λ (j : ℕ). flat_map look (map (place j) across)) (row_of sight box x y) down (λ j. flat_map-map look (place j) across)
 
 -- a place of a range of m places, of which k from a on may count
 abbrev pub Outside : ℕ → ℕ → ℕ → ℕ → Type 0

@@ -4,6 +4,7 @@ use Rattle.std.specs.List.{AllByRecursion}
 use Rattle.std.proofs.lemmas.Bool.{eqb-true, cases_Bool}
 use Rattle.std.proofs.lemmas.Bool.Decides.{nat_tests}
 use Rattle.std.proofs.lemmas.List.{append-nil}
+use Rattle.mw_facts.proofs.Alls.{all-push}
 use Rattle.mw_netpbm.specs.declared.fault.ReadFault.TheVariants.{Header}
 use Rattle.mw_netpbm.specs.Reading.{skip_from, digits_from, number_at}
 use Rattle.mw_model.specs.NetpbmGrammar.{is_white, is_eol, is_digit}
@@ -65,10 +66,6 @@ more_comment text e bs rest all end (at_end bytes bl) = at_end (35 ∷ text ++ e
 more_comment text e bs rest all end (in_comment blank inner bl each) =
     subst (λ (bytes : List ℕ). Skipped (35 ∷ bytes) []) (append_assoc text (e ∷ blank) (35 ∷ inner)) (in_comment (35 ∷ text ++ e ∷ blank) inner (comment text e blank all end bl) each)
 
-all_push : (text : List ℕ) (b : ℕ) → AllByRecursion (λ b. is_eol b ≡ false) text → is_eol b ≡ false → AllByRecursion (λ b. is_eol b ≡ false) (text ++ b ∷ [])
-all_push [] b all h = (h, tt)
-all_push (c ∷ text) b all h = (all.0, all_push text b all.1 h)
-
 abbrev Found : Bool → List ℕ → List ℕ → Type 0
 Found false text bytes = Skipped bytes (skip_from false bytes)
 Found true text bytes = Skipped (35 ∷ text ++ bytes) (skip_from true bytes)
@@ -92,7 +89,7 @@ found true text (b ∷ bs) all =
     elim (cases_Bool (is_eol b)) [
       | inl e ↦ subst (λ (x : Bool). Skipped (35 ∷ text ++ b ∷ bs) (skip_from (not x) bs)) (sym e) (more_comment text b bs (skip_from false bs) all e (found false [] bs tt))
       | inr ne ↦
-          let inner = found true (text ++ b ∷ []) bs (all_push text b all ne) in
+          let inner = found true (text ++ b ∷ []) bs (all-push (λ c. is_eol c ≡ false) text b all ne) in
           subst (λ (x : Bool). Skipped (35 ∷ text ++ b ∷ bs) (skip_from (not x) bs)) (sym ne) (subst (λ (bytes : List ℕ). Skipped (35 ∷ bytes) (skip_from true bs)) (append_assoc text (b ∷ []) bs) inner)
     ]
 

@@ -2,13 +2,13 @@
 use Rattle.std.proofs.Common.{◌≡◌, ◌⊎◌, ℕ, ◌+◌, ◌-◌, ◌*◌, ◌<◌, ◌≤◌, List, [], ◌∷◌, length, get_or, fold, cond, ltb, refl, ap, sym, arith, ◌∙◌, inl, inr}
 use Rattle.std.specs.List.{AllByRecursion}
 use Rattle.std.proofs.lemmas.Bool.{cases_lt, lt-ltb, le-ltb, le-leb, lt-leb}
+use Rattle.mw_facts.proofs.Alls.{all-weaker}
 use Rattle.mw_line.specs.Extrema.{strided}
 use Rattle.mw_line.proofs.Folds.{IsExtremum}
 use Rattle.mw_line.proofs.Joined.{joined}
 use Rattle.mw_run.specs.declared.runs.Run.{Run}
 use Rattle.mw_run.specs.declared.runs.Extent.{Extent}
 use Rattle.mw_run.specs.Runs.{start_of, HasRoom, sized, two_parts, gather}
-use Rattle.mw_run.proofs.RunLists.{all_weaker}
 
 -- what the runs of less than b offsets give
 abbrev pub gather_below : {A : Type 0} → (A → A → A) → A → (Run → A) → ℕ → List Run → A
@@ -146,7 +146,7 @@ run_value f cells n e wide q r = strided f cells n 1 (r.count - 1) (start_of e w
 
 pub none_gathered : {A : Type 0} (f : A → A → A) (n : A) (value : Run → A) (e : Extent) (wide count cells : ℕ) (runs : List Run) → AllByRecursion (HasRoom e wide count cells) runs → n ≡ gather_below f n value 1 runs
 none_gathered f n value e wide count cells runs rooms =
-    sym (none_below_one f n value runs (all_weaker (HasRoom e wide count cells) (λ (r : Run). 0 < r.count) runs (λ r room. room.inside.run.some) rooms))
+    sym (none_below_one f n value runs (all-weaker (HasRoom e wide count cells) (λ (r : Run). 0 < r.count) runs (λ r room. room.inside.run.some) rooms))
 
 -- the runs of s to 2 * s - 1 offsets are merged by two parts each
 pub gathered_more : {A : Type 0} (f : A → A → A) → IsExtremum f → (cells doubled : List A) (s : ℕ) → IsDoubled f cells doubled s → (n : A) (e : Extent) (wide count q : ℕ) → q < count → (best made : A) (runs : List Run)

@@ -1,5 +1,5 @@
 -- Parts of runs, merged at their places.
-use Rattle.std.proofs.Common.{◌≡◌, ℕ, ◌+◌, ◌-◌, ◌*◌, ◌<◌, ◌≤◌, Bool, true, false, List, [], ◌∷◌, ◌++◌, length, take, drop, get_or, set, fold, flat_map, refl, ap, sym, arith, ◌∙◌, inl, inr, append_assoc, length-set, get_or-set_same, get_or-set_other}
+use Rattle.std.proofs.Common.{◌≡◌, ℕ, ◌+◌, ◌-◌, ◌*◌, ◌<◌, ◌≤◌, Bool, true, false, List, [], ◌∷◌, ◌++◌, length, take, drop, get_or, set, fold, flat_map, refl, ap, sym, arith, ◌∙◌, inl, inr, append_assoc, length-set, get_or-set_same, get_or-set_other, append-nil}
 use Rattle.std.specs.List.{AllByRecursion}
 use Rattle.std.specs.Prelude.{nat_le, nat_lt, ◌&&◌, if◌then◌else◌}
 use Rattle.std.proofs.lemmas.Bool.{cases_lt, ltb-false, lt-ltb, le-ltb, le-leb, lt-leb}
@@ -8,6 +8,7 @@ use Rattle.std.proofs.lemmas.List.Concat.{flat_map-append, flat_map-cons}
 use Rattle.std.proofs.lemmas.List.Sums.{fold-append}
 use borrow.Rule.Slice.PartMut.{put_mid}
 use Rattle.mw_facts.proofs.Parts.{length-put_mid, get_or-put_mid_below as put_mid_below, get_or-put_mid_within as put_mid_at, get_or-put_mid_above as put_mid_above}
+use Rattle.mw_facts.proofs.Alls.{all-append}
 use Rattle.mw_line.proofs.Folds.{IsExtremum}
 use Rattle.mw_run.specs.declared.runs.Run.{Run}
 use Rattle.mw_run.specs.declared.runs.Extent.{Extent}
@@ -101,12 +102,8 @@ places_two e wide size r from to long = rw (le-leb size r.count from, lt-ltb r.c
 pub two_added : (old mid new : List ℕ) (p q : ℕ) → mid ≡ old ++ p ∷ [] → new ≡ mid ++ q ∷ [] → new ≡ old ++ p ∷ (q ∷ [])
 two_added old mid new p q mid-is new-is = new-is ∙ ap (λ (t : List ℕ). t ++ q ∷ []) mid-is ∙ append_assoc old (p ∷ []) (q ∷ [])
 
-no_more : (ps : List ℕ) → ps ++ [] ≡ ps
-no_more [] = refl
-no_more (p ∷ ps) = ap (λ (t : List ℕ). p ∷ t) (no_more ps)
-
 pub none_added : (old none : List ℕ) → none ≡ [] → old ≡ old ++ none
-none_added old none is = sym (no_more old) ∙ ap (λ (t : List ℕ). old ++ t) (sym is)
+none_added old none is = sym (append-nil old) ∙ ap (λ (t : List ℕ). old ++ t) (sym is)
 
 -- the places of one run more
 pub more_places : (e : Extent) (wide size : ℕ) (runs : List Run) (i : ℕ) (r : Run) (old new : List ℕ) → i < length runs → r ≡ get_or runs i r → new ≡ old ++ places_of e wide size r → old ≡ flat_map (places_of e wide size) (take i runs)
@@ -114,7 +111,7 @@ pub more_places : (e : Extent) (wide size : ℕ) (runs : List Run) (i : ℕ) (r 
 more_places e wide size runs i r old new lt is new-is old-is =
     new-is
     ∙ ap (λ (t : List ℕ). t ++ places_of e wide size r) old-is
-    ∙ ap (λ (t : List ℕ). flat_map (places_of e wide size) (take i runs) ++ t) (sym (no_more (places_of e wide size r)) ∙ sym (flat_map-cons (places_of e wide size) r []))
+    ∙ ap (λ (t : List ℕ). flat_map (places_of e wide size) (take i runs) ++ t) (sym (append-nil (places_of e wide size r)) ∙ sym (flat_map-cons (places_of e wide size) r []))
     ∙ sym (flat_map-append (places_of e wide size) (take i runs) (r ∷ []))
     ∙ ap (λ (t : Run). flat_map (places_of e wide size) (take i runs ++ t ∷ [])) is
     ∙ ap (flat_map (places_of e wide size)) (sym (take_more runs i r lt))
@@ -144,17 +141,13 @@ places_are_parts f laws cells d e wide size q best (r ∷ rs) =
     either true = two_merged f laws cells d q (start_of e wide r) (start_of e wide r + (r.count - size)) best (nat_lt size r.count) (no_second (start_of e wide r) size r.count)
     either false = refl
 
-all_append : {B : Type 0} (P : B → Type 0) (xs ys : List B) → AllByRecursion P xs → AllByRecursion P ys → AllByRecursion P (xs ++ ys)
-all_append P [] ys all more = more
-all_append P (x ∷ xs) ys all more = (all.0, all_append P xs ys all.1 more)
-
 -- at each place there is room for all samples
 pub all_places : (e : Extent) (wide size n m : ℕ) (runs : List Run) → 0 < size → AllByRecursion (HasRoom e wide n m) runs → AllByRecursion (λ (p : ℕ). p + n ≤ m) (flat_map (places_of e wide size) runs)
 all_places e wide size n m [] some all = tt
 all_places e wide size n m (r ∷ rs) some all =
     let fits = all.0.room in
     rw (flat_map-cons (places_of e wide size) r rs)
-    (all_append (λ (p : ℕ). p + n ≤ m) (places_of e wide size r) (flat_map (places_of e wide size) rs)
+    (all-append (λ (p : ℕ). p + n ≤ m) (places_of e wide size r) (flat_map (places_of e wide size) rs)
     (either (λ (p : ℕ). p + n ≤ m) (start_of e wide r) (start_of e wide r + (r.count - size)) (nat_le size r.count && nat_lt r.count (2 * size)) (nat_lt size r.count) (omega arith) (omega arith)) (all_places e wide size n m rs some all.1))
   where
     either : (P : ℕ → Type 0) (x y : ℕ) (b c : Bool) → P x → P y → AllByRecursion P (if b then x ∷ (if c then y ∷ [] else []) else [])

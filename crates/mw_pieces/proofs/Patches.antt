@@ -1,10 +1,11 @@
 -- Windows in pieces: what they show, and how they are put together and compared.
-use Rattle.std.proofs.Common.{◌≡◌, ◌↔◌, ℕ, zero, suc, ◌+◌, ◌-◌, ◌*◌, ◌<◌, ◌≤◌, Bool, true, false, ◌&&◌, ◌||◌, cond, nat_le, nat_lt, List, [], ◌∷◌, ◌++◌, length, get_or, slice_get, slice_range, take, drop, Option, Some, None, unwrap_or, refl, sym, ap, subst, arith, rules, ◌∙◌, inl, inr, ◌⊎◌, length-append}
-use Rattle.std.specs.List.{AllByRecursion, list_any}
+use Rattle.std.proofs.Common.{◌≡◌, ℕ, ◌+◌, ◌-◌, ◌*◌, ◌<◌, ◌≤◌, Bool, true, false, ◌||◌, cond, List, [], ◌∷◌, ◌++◌, length, get_or, slice_get, slice_range, take, Option, Some, refl, sym, ap, subst, arith, rules, ◌∙◌, inl, inr, length-append}
+use Rattle.std.specs.List.{AllByRecursion}
 use Rattle.std.proofs.lemmas.Bool.{cases_lt}
 use Rattle.std.proofs.lemmas.Nat.{mul-add-lt}
 use Rattle.std.proofs.lemmas.Option.{slice_get-get_or}
 use Rattle.std.proofs.lemmas.List.{append_assoc, append-nil, get_or_default, take_all, take_more}
+use Rattle.std.proofs.Math.Arith.{digits_lt}
 use Rattle.mw_facts.proofs.Alls.{all-get_or, all-push, all-weaker}
 use Rattle.mw_facts.proofs.Elements.{slice_get-append_left, slice_get-append-add, same_elements}
 use Rattle.mw_model.specs.declared.places.Rect.{Rect}
@@ -50,10 +51,6 @@ shows_of_values {A} value r ps all same = all-weaker (ShowsIn r (value_in ps)) (
 pub values_of_shows : {A : Type 0} (value : ℕ → ℕ → Option A) (r : Rect) (ps : List (Patch A)) → Covers r ps → AllByRecursion (ShowsIn r value) ps → (x y : ℕ) → Holds r x y → value_in ps x y ≡ value x y
 values_of_shows value r ps covers all x y holds = value_is value r ps x y all holds (covers x y holds)
 
--- a place in a rectangle, counted by its rows
-below : (w h i j : ℕ) → i < w → j < h → j * w + i < h * w
-below w h i j across down = omega (arith, mul-add-lt j w i h down across)
-
 -- a piece has a cell at each of its places
 pub cell_some : {A : Type 0} (p : Patch A) (x y : ℕ) → IsFull p → Holds p.place x y → (v : A) × (cell_of p x y ≡ Some v)
 cell_some p x y full holds =
@@ -61,7 +58,7 @@ cell_some p x y full holds =
     let b = holds.right in
     let c = holds.top in
     let d = holds.bottom in
-    found p.cells ((y - p.place.y) * p.place.width + (x - p.place.x)) (omega (arith, full, below p.place.width p.place.height (x - p.place.x) (y - p.place.y) (omega arith) (omega arith)))
+    found p.cells ((y - p.place.y) * p.place.width + (x - p.place.x)) (omega (arith, full, mul-add-lt (y - p.place.y) p.place.width (x - p.place.x) p.place.height (omega arith) (omega arith)))
   where
     found : {A : Type 0} (xs : List A) (i : ℕ) → i < length xs → (v : A) × (slice_get xs i ≡ Some v)
     found [] i lt = absurd (omega arith)
@@ -195,7 +192,7 @@ pub begins_more : {A : Type 0} (value : ℕ → ℕ → Option A) (r : Rect) (q 
 begins_more value r q y now out q-is before more = record {
   size = (let size = before.size in let len = more.size in omega (arith, ap length more.is, length-append now more.row, next y r.width));
   same = λ i j across down. elim (cases_lt j y) [
-    | inl early ↦ ap (λ (t : List _). slice_get t (j * r.width + i)) more.is ∙ slice_get-append_left now more.row (j * r.width + i) (let size = before.size in omega (arith, below r.width y i j across early)) ∙ before.same i j across early
+    | inl early ↦ ap (λ (t : List _). slice_get t (j * r.width + i)) more.is ∙ slice_get-append_left now more.row (j * r.width + i) (let size = before.size in omega (arith, digits_lt early across)) ∙ before.same i j across early
     | inr late ↦
         let j-is : j ≡ y = omega arith in
         rw j-is

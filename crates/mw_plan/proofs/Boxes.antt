@@ -1,7 +1,8 @@
 -- Full rectangles cover what their boxes cover, turned round or not.
-use Rattle.std.proofs.Common.{◌≡◌, ℕ, suc, List, [], ◌∷◌, ℤ, pos, ◌+ℤ◌, ◌≤ℤ◌, neg_ℤ, refl, sym, subst, arith, inl, inr}
+use Rattle.std.proofs.Common.{◌≡◌, ℕ, List, [], ◌∷◌, ℤ, pos, ◌+ℤ◌, ◌≤ℤ◌, neg_ℤ, refl, sym, subst, arith, inl, inr}
 use Rattle.std.specs.List.{AllByRecursion, Contains}
 use Rattle.std.proofs.lemmas.Int.{ints}
+use Rattle.mw_facts.proofs.Alls.{all-each_contained, all-contains}
 use Rattle.mw_model.specs.declared.places.Offset.{Offset}
 use Rattle.mw_model.specs.declared.places.OffsetBox.{OffsetBox}
 use Rattle.mw_model.specs.Places.{box_offsets}
@@ -11,20 +12,12 @@ use Rattle.mw_model.proofs.Covers as cover
 use Rattle.mw_model.proofs.Covers.{Covers}
 use Rattle.mw_element.specs.Figures.{FillsBox, InBox, turned}
 use Rattle.mw_laws.proofs.Composed.{CoverSame}
-use Rattle.mw_task.proofs.AllOf.{all_at}
 use Rattle.mw_task.proofs.Boxes.{box_all, box_at}
 use Rattle.mw_plan.specs.Steps.{IsNearBox, turned_box}
 
 -- the offset leads from (x, y) to (u, v)
 abbrev pub Leads : Offset → ℕ → ℕ → ℕ → ℕ → Type 0
 Leads b x y u v = (pos x +ℤ b.dx ≡ pos u) × (pos y +ℤ b.dy ≡ pos v)
-
-each_contained : {A : Type 0} (P : A → Type 0) (xs : List A) → ((x : A) → Contains xs x → P x) → AllByRecursion P xs
-each_contained P [] each = tt
-each_contained P (x ∷ xs) each = (each x (0, omega arith, refl), each_contained P xs (λ y has. each y (suc has.0, (let lt = has.1 in omega arith), has.2)))
-
-contained : {A : Type 0} (P : A → Type 0) (xs : List A) (x : A) → AllByRecursion P xs → Contains xs x → P x
-contained P xs x all has = subst P has.2 (all_at P xs has.0 x has.1 all)
 
 -- an offset of the list by which it covers
 pub record Way (Q : Offset → Type 0) (x y u v : ℕ) : Type 0 where
@@ -43,7 +36,7 @@ members (b ∷ bs) cs x y u v into = ((λ leads. into (inl leads)), members bs c
 
 -- an offset of the element, or of the box, covers where it leads
 pub element_covers : (e : List Offset) (b : Offset) (x y u v : ℕ) → Contains e b → Leads b x y u v → Covers e x y u v
-element_covers e b x y u v has = contained (λ b. Leads b x y u v → Covers e x y u v) e b (members e e x y u v (λ c. c)) has
+element_covers e b x y u v has = all-contains (λ b. Leads b x y u v → Covers e x y u v) e b (members e e x y u v (λ c. c)) has
 
 box_covers : (box : OffsetBox) (b : Offset) (x y u v : ℕ) → InBox box b → Leads b x y u v → Covers (box_offsets box) x y u v
 box_covers box b x y u v inside = box_at (λ b. Leads b x y u v → Covers (box_offsets box) x y u v) box (members (box_offsets box) (box_offsets box) x y u v (λ c. c)) b inside
@@ -52,7 +45,7 @@ of_box : (box : OffsetBox) (x y u v : ℕ) → Covers (box_offsets box) x y u v 
 of_box box x y u v c = way (InBox box) (box_offsets box) x y u v (box_all (InBox box) box (λ b inside. inside)) c
 
 pub of_element : (e : List Offset) (x y u v : ℕ) → Covers e x y u v → Way (Contains e) x y u v
-of_element e x y u v c = way (Contains e) e x y u v (each_contained (Contains e) e (λ b has. has)) c
+of_element e x y u v c = way (Contains e) e x y u v (all-each_contained (Contains e) e (λ b has. has)) c
 
 pub box_same : (box : OffsetBox) (e : List Offset) → FillsBox box e → CoverSame (box_offsets box) e
 box_same box e fills = record {
@@ -100,7 +93,7 @@ pub near_box : (box : OffsetBox) (f : Figure) → IsFigure f → FillsBox box f.
 near_box box f figure fills = go f.offsets refl
   where
     near : (b : Offset) → InBox box b → IsNear b
-    near b inside = contained IsNear f.offsets b figure.near ((fills b).1 inside)
+    near b inside = all-contains IsNear f.offsets b figure.near ((fills b).1 inside)
 
     within : (b : Offset) → InBox box b → IsNearBox box
     within b inside =

@@ -24,10 +24,6 @@ pub count-push : (p : ℕ → Bool) (xs : List ℕ) (x : ℕ) → count_by p (xs
 count-push p [] x = omega (arith, count-bit p x [])
 count-push p (y ∷ ys) x = omega (arith, count-bit p y (ys ++ x ∷ []), count-bit p y ys, count-push p ys x)
 
-pub all-push : (n : ℕ) (xs : List ℕ) (x : ℕ) → AllByRecursion (λ y. y < n) xs → x < n → AllByRecursion (λ y. y < n) (xs ++ x ∷ [])
-all-push n [] x all lt = (lt, tt)
-all-push n (y ∷ ys) x all lt = (all.0, all-push n ys x all.1 lt)
-
 pub all-set : (n : ℕ) (xs : List ℕ) (i v : ℕ) → AllByRecursion (λ y. y < n) xs → v < n → AllByRecursion (λ y. y < n) (set xs i v)
 all-set n [] i v all lt = tt
 all-set n (x ∷ xs) zero v all lt = (lt, all.1)

@@ -3,7 +3,6 @@ use Rattle.std.proofs.Common.{◌≡◌, ℕ, ◌+◌, ◌-◌, ◌<◌, ◌≤�
 use Rattle.std.specs.Prelude.{nat_lt, min, max}
 use Rattle.std.proofs.lemmas.Bool.{cases_lt, cases_order, lt-ltb, le-ltb}
 use Rattle.std.proofs.lemmas.List.Sums.{sum_by-cons, sum_by-append, count_by-le-length}
-use Rattle.std.proofs.lemmas.List.{get_or_default}
 use Rattle.mw_model.specs.PlanSteps.{ranked}
 use Rattle.mw_model.proofs.PlainRanks.{nth_from}
 use Rattle.mw_rank.specs.declared.histogram.Histogram.{Histogram}
@@ -53,9 +52,6 @@ counter_within top h ns s t = omega (arith, t.each s, count_within (s + 1) ns)
 
 pub below_within : (top : ℕ) (h : Histogram) (ns : List ℕ) → Tallies top h ns → h.below ≤ length ns
 below_within top h ns t = omega (arith, t.below, count_within h.level ns)
-
-pub counter_is : (items : List ℕ) (s d : ℕ) → s < length items → d ≡ get_or items s d → d ≡ get_or items s 0
-counter_is items s d lt e = e ∙ get_or_default items s d 0 lt
 
 -- the counter of a level and those of the others, where one is added
 put_more : (items : List ℕ) (s v : ℕ) → s < length items → cond (nat_lt s (v + 1)) 1 0 + get_or items v 0 ≡ get_or (set items s (get_or items s 0 + 1)) v 0 + cond (nat_lt s v) 1 0

@@ -40,7 +40,7 @@ length-levels level sight (b ∷ bs) x y =
 abbrev pub offset_on : Offset → ℕ → Offset
 offset_on b n = record { dx = b.dx +ℤ pos n; dy = b.dy }
 
-at_dx : (dx dx' dy : ℤ) → dx ≡ dx' → let b : Offset = record { dx = dx; dy = dy } in let c : Offset = record { dx = dx'; dy = dy } in b ≡ c
+pub at_dx : (dx dx' dy : ℤ) → dx ≡ dx' → let b : Offset = record { dx = dx; dy = dy } in let c : Offset = record { dx = dx'; dy = dy } in b ≡ c
 at_dx dx dx' dy e = cc
 
 pub offsets-snoc : (b : Offset) (n : ℕ) → offsets_from b (suc n) ≡ offsets_from b n ++ offset_on b n ∷ []

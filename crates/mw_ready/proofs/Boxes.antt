@@ -3,6 +3,7 @@ use Rattle.std.proofs.Common.{◌≡◌, ℕ, ◌+◌, ◌*◌, ◌%◌, ◌<◌
 use Rattle.std.proofs.Math.Bool.{and-false}
 use Rattle.std.proofs.Math.Nat.{mul-le-mul_left}
 use Rattle.std.proofs.lemmas.Bool.{cases_eq, ne_eqb, and_parts}
+use Rattle.std.proofs.lemmas.Nat.{mod_below}
 use Rattle.mw_model.specs.Places.{grown}
 use Rattle.mw_model.specs.Tasks.{flag, meets}
 use Rattle.mw_grid.specs.Counts.{bit, in_range}
@@ -21,10 +22,7 @@ use Rattle.mw_ready.proofs.Lowering.{and_bits, range_more, eq_true, lowers_more}
 -- a block of a step by what its tiles are
 pub at_step_is : (g : Tiling) (b shifted : Block) (q : ℕ → Bool) (k t : ℕ) → 0 < tile_count g → ((t : ℕ) → in_block g shifted t ≡ nat_eq (step_of g t) k && in_block g b (t % tile_count g))
     → ((v : ℕ) → v < tile_count g → in_block g b v ≡ q v) → in_block g shifted t ≡ nat_eq (step_of g t) k && q (t % tile_count g)
-at_step_is g b shifted q k t some tasks each = tasks t ∙ ap (λ (v : Bool). nat_eq (step_of g t) k && v) (each (t % tile_count g) (mod_lt t (tile_count g) some))
-  where
-    mod_lt : (i n : ℕ) → 0 < n → i % n < n
-    mod_lt i n some = omega arith
+at_step_is g b shifted q k t some tasks each = tasks t ∙ ap (λ (v : Bool). nat_eq (step_of g t) k && v) (each (t % tile_count g) (mod_below t (tile_count g) some))
 
 -- what a task of step k reads, where that step has this need
 reads_as : (needs : List Need) (need : Need) (g : Tiling) (k step tile t : ℕ) → step_of g t ≡ k → get_or needs k no_need ≡ need

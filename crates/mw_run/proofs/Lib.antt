@@ -1,2 +1,1 @@
 pub mod RunLists
-pub mod Nonnegative

@@ -6,6 +6,7 @@ use Rattle.std.proofs.lemmas.Bool.{cases_lt}
 use Rattle.std.proofs.lemmas.List.{take_more, get_or_append_left, get_or-drop, append-nil}
 use Rattle.std.proofs.lemmas.Grind.{flat_map-append}
 use Rattle.std.proofs.Math.Seq.{take-add, get_or-append_seam}
+use Rattle.mw_facts.proofs.Alls.{all-push, all-weaker}
 use Rattle.mw_model.specs.declared.places.Offset.{Offset}
 use Rattle.mw_run.specs.declared.runs.Run.{Run}
 use Rattle.mw_run.specs.declared.runs.Extent.{Extent}
@@ -53,19 +54,6 @@ runs_more offsets runs more run at to more-is to-is run-is so_far =
     ∙ sym (take-add at run.count offsets)
     ∙ ap (λ (t : ℕ). take t offsets) (sym to-is)
 
-pub all_more : {B : Type 0} (P : B → Type 0) (xs : List B) (x : B) → AllByRecursion P xs → P x → AllByRecursion P (xs ++ x ∷ [])
-all_more P [] y all here = (here, all)
-all_more P (x ∷ xs) y all here = (all.0, all_more P xs y all.1 here)
-
-pub all_weaker : {B : Type 0} (P Q : B → Type 0) (xs : List B) → ((x : B) → P x → Q x) → AllByRecursion P xs → AllByRecursion Q xs
-all_weaker P Q [] weaker all = all
-all_weaker P Q (x ∷ xs) weaker all = (weaker x all.0, all_weaker P Q xs weaker all.1)
-
-pub all_at : {B : Type 0} (P : B → Type 0) (xs : List B) (i : ℕ) (d : B) → i < length xs → AllByRecursion P xs → P (get_or xs i d)
-all_at P [] i d lt all = absurd (omega arith)
-all_at P (x ∷ xs) zero d lt all = all.0
-all_at P (x ∷ xs) (suc i) d lt all = all_at P xs i d (omega arith) all.1
-
 pub inside_wider : (e o : Extent) → IsWider e o → (r : Run) → IsInside o r → IsInside e r
 inside_wider e o wider r inside = record {
   run = inside.run;
@@ -78,7 +66,7 @@ inside_wider e o wider r inside = record {
 -- one run more that lies in an extent
 pub inside_more : (e o : Extent) (runs : List Run) (i : ℕ) (d : Run) → i < length runs → IsWider e o → AllByRecursion (IsInside o) (take i runs) → IsInside e (get_or runs i d) → AllByRecursion (IsInside e) (take (i + 1) runs)
 inside_more e o runs i d lt wider so_far here =
-    rw (take_more runs i d lt) (all_more (IsInside e) (take i runs) (get_or runs i d) (all_weaker (IsInside o) (IsInside e) (take i runs) (inside_wider e o wider) so_far) here)
+    rw (take_more runs i d lt) (all-push (IsInside e) (take i runs) (get_or runs i d) (all-weaker (IsInside o) (IsInside e) (take i runs) (inside_wider e o wider) so_far) here)
 
 -- no run continues the one before it, also where the last one is new
 pub longest_more : (offsets : List Offset) (runs more : List Run) (run : Run) (at to : ℕ) → more ≡ runs ++ run ∷ [] → to ≡ at + run.count → at < length offsets

@@ -53,11 +53,6 @@ made_of_one t s u tile m not step first tile-is holds =
     made_image t (tile_by s u (window_at t.windows 1) (window_at t.windows 2) tile) m (ap is_sum step ∙ not)
     (tile_is t s u (window_at t.windows 1) (window_at t.windows 2) step (sym first) refl refl ∙ ap (λ (r : Rect). tile_by s u (window_at t.windows 1) (window_at t.windows 2) r) (sym tile-is)) holds
 
--- of what a call gives, if it gives anything
-pub if_ok : {A E : Type 0} (r : Result A E) (P Q : A → Type 0) → ((a : A) → P a → Q a) → IfOk r P → IfOk r Q
-if_ok (Ok a) P Q each p = each a p
-if_ok (Err e) P Q each p = p
-
 pub if_ok_too : {A E : Type 0} (r : Result A E) (P Q R : A → Type 0) → ((a : A) → P a → Q a → R a) → IfOk r P → IfOk r Q → IfOk r R
 if_ok_too (Ok a) P Q R each p q = each a p q
 if_ok_too (Err e) P Q R each p q = p

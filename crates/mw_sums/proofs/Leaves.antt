@@ -1,7 +1,6 @@
 -- The first leaves of a tree as a list of numbers.
 use Rattle.std.proofs.Common.{◌≡◌, ◌≢◌, ℕ, zero, suc, ◌+◌, ◌-◌, ◌*◌, ◌<◌, ◌≤◌, ◌^◌, List, [], ◌∷◌, ◌++◌, length, take, drop, sum, ap, sym, ◌∙◌, arith, get_or, set, subst, max, inl, inr, length-append, length-drop, length-set}
 use Rattle.std.proofs.Math.Nat.{pow-suc}
-use Rattle.std.proofs.Math.Seq.{take-append_seam}
 use Rattle.std.proofs.lemmas.Bool.{cases_lt, cases_eq}
 use Rattle.std.proofs.lemmas.List.{ext_get_or, get_or-take, get_or-drop, length-take-le, get_or_append_left, get_or_push, get_or-set_same, get_or-set_other}
 use Rattle.mw_sums.specs.Trees.{span, leaves, IsPower, IsTree, Uses}
@@ -159,7 +158,3 @@ found t s xs room n place rest position uses s-is xs-is lt more before =
     let same : span s room place ≡ span t room place = ap (λ (l : List ℕ). span l room place) s-is in
     let at : get_or xs place 0 ≡ get_or t (room + place) 0 = ap (λ (l : List ℕ). get_or l place 0) (sym xs-is) ∙ leaf-at t room n place used in
     (omega arith, omega arith)
-
--- a slice of a vector that was written
-pub written_back : (n : ℕ) (new items : List ℕ) → length new ≡ n → take n (new ++ drop (length new) items) ≡ new
-written_back n new items is = ap (λ (k : ℕ). take k (new ++ drop (length new) items)) (sym is) ∙ take-append_seam new (drop (length new) items)

@@ -30,9 +30,3 @@ all_end P xs i past before = before.1 (empty P xs i past)
 pub all_map : {A B : Type 0} (P : B → Type 0) (f : A → B) (xs : List A) → AllByRecursion P (map f xs) ↔ AllByRecursion (λ x. P (f x)) xs
 all_map P f [] = ((λ h. h), (λ h. h))
 all_map P f (x ∷ xs) = ((λ h. (h.0, (all_map P f xs).0 h.1)), (λ h. (h.0, (all_map P f xs).1 h.1)))
-
--- of the element at a place
-pub all_at : {A : Type 0} (P : A → Type 0) (xs : List A) (k : ℕ) (d : A) → k < length xs → AllByRecursion P xs → P (get_or xs k d)
-all_at P [] k d lt all = absurd (omega arith)
-all_at P (x ∷ xs) zero d lt all = all.0
-all_at P (x ∷ xs) (suc k) d lt all = all_at P xs k d (omega arith) all.1

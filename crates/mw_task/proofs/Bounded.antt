@@ -2,15 +2,16 @@
 use Rattle.std.proofs.Common.{◌≡◌, ℕ, zero, suc, ◌+◌, ◌-◌, ◌*◌, ◌<◌, ◌≤◌, ℤ, pos, negsuc, ◌+ℤ◌, ◌-ℤ◌, Bool, true, false, cond, nat_lt, nat_le, ◌==◌, ◌&&◌, min, List, [], ◌∷◌, length, get_or, slice_get, Option, Some, None, unwrap_or, All, refl, sym, subst, arith}
 use Rattle.std.specs.List.{AllByRecursion, cons_option}
 use Rattle.std.proofs.lemmas.Grind.{get_or_default_zero}
-use Rattle.std.proofs.lemmas.Option.{slice_get_within, get_or_from_slice_get}
+use Rattle.std.proofs.lemmas.Option.{slice_get_within, get_or_from_slice_get, none-some}
 use Rattle.mw_model.specs.declared.places.Offset.{Offset}
 use Rattle.mw_model.specs.Places.{box_offsets}
-use Rattle.mw_model.specs.Flat.{least, greatest, in_rising_order, put_in_order}
+use Rattle.mw_model.specs.Flat.{greatest, in_rising_order, put_in_order}
 use Rattle.mw_model.specs.Rasters.{Raster, raster, cell_at, Sight, seen_under}
 use Rattle.mw_model.specs.Windows.{seen_at}
 use Rattle.mw_model.specs.Plans.{is_sum}
 use Rattle.mw_model.specs.PlanSteps.{PlanStep, Erode, Dilate, ErodeBox, DilateBox, Rank, Minus, AtLeast, Invert, Meet, Join, Blank, Mark, MarkLast, Equal, Sum, step_at, here, maxval_of_step}
 use Rattle.mw_model.specs.Tasks.{cells_in}
+use Rattle.mw_model.proofs.Covers.{least_at_most}
 use Rattle.mw_tile.specs.Windows.{SourceWindow}
 use Rattle.mw_task.specs.WindowTasks.{WindowTask, window_at, KindsFit, IsBounded, tile_made}
 use Rattle.mw_pieces.proofs.TileCells.{length-cells_in, cells_in_all}
@@ -19,20 +20,14 @@ use Rattle.mw_pieces.proofs.TileCells.{length-cells_in, cells_in_all}
 abbrev pub IsBelow : ℕ → Sight ℕ → Type 0
 IsBelow top f = (column row : ℤ) (v : ℕ) → f column row ≡ Some v → v ≤ top
 
-none_some : (v : ℕ) → None ≡ Some v → ⊥
-none_some v e = cc
-
-some_same : (m n : ℕ) → Some m ≡ Some n → m ≡ n
-some_same m n e = cc
-
 -- the cells of a raster
 raster_below : (top : ℕ) (f : Raster ℕ) → All (λ n. n ≤ top) f.cells → IsBelow top (cell_at f)
-raster_below top f all (negsuc x) row v e = absurd (none_some v e)
-raster_below top f all (pos x) (negsuc y) v e = absurd (none_some v e)
+raster_below top f all (negsuc x) row v e = absurd (none-some v e)
+raster_below top f all (pos x) (negsuc y) v e = absurd (none-some v e)
 raster_below top f all (pos x) (pos y) v e = go (nat_lt x f.width && nat_lt y f.height) e
   where
     go : (b : Bool) → cond b (slice_get f.cells (y * f.width + x)) None ≡ Some v → v ≤ top
-    go false e = absurd (none_some v e)
+    go false e = absurd (none-some v e)
     go true e =
         let lt : y * f.width + x < length f.cells = slice_get_within f.cells (y * f.width + x) v e in
         subst (λ n. n ≤ top) (get_or_from_slice_get f.cells (y * f.width + x) v 0 e) (all (y * f.width + x) 0 lt)
@@ -63,10 +58,6 @@ seen_below top f (b ∷ bs) x y below = go (f (pos x +ℤ b.dx) (pos y +ℤ b.dy
     go : (o : Option ℕ) → ((v : ℕ) → o ≡ Some v → v ≤ top) → AllUpTo top (seen_under f bs x y) → AllUpTo top (cons_option o (seen_under f bs x y))
     go None each rest = rest
     go (Some v) each rest = (each v refl, rest)
-
-least_below : (top : ℕ) (ns : List ℕ) → least top ns ≤ top
-least_below top [] = omega arith
-least_below top (n ∷ ns) = omega (arith, least_below top ns)
 
 greatest_below : (top : ℕ) (ns : List ℕ) → AllUpTo top ns → greatest ns ≤ top
 greatest_below top [] all = omega arith
@@ -106,9 +97,9 @@ value_below s ws x y kinds all not = go s kinds not
 
     go : (s : PlanStep) → KindsFit s ws → is_sum s ≡ false
         → step_at s (window_at ws 0).maxval (seen_at (window_at ws 0).view) (seen_at (window_at ws 1).view) (seen_at (window_at ws 2).view) x y ≤ maxval_of_step s (window_at ws 0).maxval
-    go (Erode e) kinds not = least_below (window_at ws 0).maxval (seen_under (seen_at (window_at ws 0).view) e x y)
+    go (Erode e) kinds not = least_at_most (window_at ws 0).maxval (seen_under (seen_at (window_at ws 0).view) e x y)
     go (Dilate e) kinds not = greatest_below (window_at ws 0).maxval (seen_under (seen_at (window_at ws 0).view) e x y) (seen_below (window_at ws 0).maxval (seen_at (window_at ws 0).view) e x y first)
-    go (ErodeBox b) kinds not = least_below (window_at ws 0).maxval (seen_under (seen_at (window_at ws 0).view) (box_offsets b) x y)
+    go (ErodeBox b) kinds not = least_at_most (window_at ws 0).maxval (seen_under (seen_at (window_at ws 0).view) (box_offsets b) x y)
     go (DilateBox b) kinds not = greatest_below (window_at ws 0).maxval (seen_under (seen_at (window_at ws 0).view) (box_offsets b) x y) (seen_below (window_at ws 0).maxval (seen_at (window_at ws 0).view) (box_offsets b) x y first)
     go (Rank e k) kinds not =
         let found = seen_under (seen_at (window_at ws 0).view) e x y in

@@ -1,7 +1,8 @@
 -- The offsets of a box.
-use Rattle.std.proofs.Common.{◌≡◌, ℕ, zero, suc, ◌+◌, ◌<◌, ◌≤◌, ℤ, pos, negsuc, ◌+ℤ◌, ◌-ℤ◌, ◌≤ℤ◌, neg_ℤ, List, [], ◌∷◌, ◌++◌, map, refl, ap, subst, arith, ◌∙◌}
+use Rattle.std.proofs.Common.{◌≡◌, ℕ, zero, suc, ◌+◌, ◌<◌, ◌≤◌, ℤ, pos, negsuc, ◌+ℤ◌, ◌-ℤ◌, ◌≤ℤ◌, neg_ℤ, List, [], ◌∷◌, map, refl, ap, subst, arith, ◌∙◌}
 use Rattle.std.specs.List.{range_with_len, flat_map, AllByRecursion}
 use Rattle.std.proofs.lemmas.Int.{ints}
+use Rattle.mw_facts.proofs.Alls.{all-append, all-append_left, all-append_right}
 use Rattle.mw_model.specs.declared.places.Offset.{Offset}
 use Rattle.mw_model.specs.declared.places.OffsetBox.{OffsetBox}
 use Rattle.mw_model.specs.Places.{span, nonnegative, box_offsets}
@@ -10,18 +11,6 @@ use Rattle.mw_model.specs.Flat.{greatest}
 use Rattle.mw_model.specs.Elements.{reach_of}
 use Rattle.mw_element.specs.Figures.{InBox}
 use Rattle.mw_task.proofs.AllOf.{all_map}
-
-all_append : {A : Type 0} (P : A → Type 0) (xs ys : List A) → AllByRecursion P xs → AllByRecursion P ys → AllByRecursion P (xs ++ ys)
-all_append P [] ys p q = q
-all_append P (x ∷ xs) ys p q = (p.0, all_append P xs ys p.1 q)
-
-all_left : {A : Type 0} (P : A → Type 0) (xs ys : List A) → AllByRecursion P (xs ++ ys) → AllByRecursion P xs
-all_left P [] ys p = tt
-all_left P (x ∷ xs) ys p = (p.0, all_left P xs ys p.1)
-
-all_right : {A : Type 0} (P : A → Type 0) (xs ys : List A) → AllByRecursion P (xs ++ ys) → AllByRecursion P ys
-all_right P [] ys p = p
-all_right P (x ∷ xs) ys p = all_right P xs ys p.1
 
 all_range : (P : ℕ → Type 0) (a n : ℕ) → ((k : ℕ) → a ≤ k → k < a + n → P k) → AllByRecursion P (range_with_len a n)
 all_range P a zero each = tt
@@ -40,11 +29,11 @@ range_all P a (suc n) all (suc k) lt = subst P (next a k) (range_all P (a + 1) n
 
 all_flat : {A : Type 0} (P : A → Type 0) (row : ℕ → List A) (xs : List ℕ) → AllByRecursion (λ j. AllByRecursion P (row j)) xs → AllByRecursion P (flat_map row xs)
 all_flat P row [] all = tt
-all_flat P row (x ∷ xs) all = all_append P (row x) (flat_map row xs) all.0 (all_flat P row xs all.1)
+all_flat P row (x ∷ xs) all = all-append P (row x) (flat_map row xs) all.0 (all_flat P row xs all.1)
 
 flat_all : {A : Type 0} (P : A → Type 0) (row : ℕ → List A) (xs : List ℕ) → AllByRecursion P (flat_map row xs) → AllByRecursion (λ j. AllByRecursion P (row j)) xs
 flat_all P row [] all = tt
-flat_all P row (x ∷ xs) all = (all_left P (row x) (flat_map row xs) all, flat_all P row xs (all_right P (row x) (flat_map row xs) all))
+flat_all P row (x ∷ xs) all = (all-append_left P (row x) (flat_map row xs) all, flat_all P row xs (all-append_right P (row x) (flat_map row xs) all))
 
 abbrev offset : ℤ → ℤ → Offset
 offset x y = record { dx = x; dy = y }
