@@ -4,7 +4,6 @@ use Rattle.std.specs.Int.{bit_at}
 use Rattle.std.specs.List.{range_with_len}
 use Rattle.std.proofs.Math.Seq.{take-add}
 use Rattle.std.proofs.lemmas.List.{take_all, take_more, get_or-drop}
-use Rattle.std.proofs.lemmas.List.FromFn.{map-range_with_len_more}
 use Rattle.std.proofs.lemmas.List.Sums.{sum_by-append, sum_by-cons, sum_by_push}
 use Rattle.std.proofs.lemmas.Nat.{ones_cat, div-mul-add, mod-mul-add}
 use Rattle.std.proofs.lemmas.Nat.Bits.{bit_at_lowest, bit_at-suc}
@@ -19,9 +18,6 @@ over_range f a n = sum (map f (range_with_len a n))
 
 over_first : (f : ℕ → ℕ) (a n : ℕ) → over_range f a (suc n) ≡ f a + over_range f (a + 1) n
 over_first f a n = sum_by-cons (λ x. x) (f a) (map f (range_with_len (a + 1) n))
-
-over_last : (f : ℕ → ℕ) (a n : ℕ) → over_range f a (n + 1) ≡ over_range f a n + f (a + n)
-over_last f a n = ap sum (map-range_with_len_more f a n (a + n) refl) ∙ sum_by_push (λ x. x) (map f (range_with_len a n)) (f (a + n))
 
 -- values that are equal place by place
 over_same : (f g : ℕ → ℕ) (a b n : ℕ) → ((i : ℕ) → i < n → f (a + i) ≡ g (b + i)) → over_range f a n ≡ over_range g b n

@@ -9,7 +9,7 @@ use Rattle.std.specs.Ordering.{int_eq}
 use Rattle.std.specs.List.{AllByRecursion, IsDistinct}
 use Rattle.std.proofs.lemmas.Bool.Decides.{Decides-and, Decides-int_eq, Decides-like}
 use Rattle.std.proofs.lemmas.Int.{ints}
-use Rattle.mw_facts.proofs.Alls.{all-weaker, all-push, all-get_or}
+use Rattle.mw_facts.proofs.Alls.{all-weaker, all-push}
 use Rattle.mw_model.specs.declared.places.Offset.{Offset}
 use Rattle.mw_model.specs.declared.places.OffsetBox.{OffsetBox}
 use Rattle.mw_model.specs.declared.places.Reach.{Reach}
@@ -35,10 +35,6 @@ pub same_equiv : IsEquivalence same_offset
 same_equiv = decided same_offset same_decides
 
 -- ---- turned round
-
-pub negated_more : (xs : List Offset) (b : Offset) → negated (xs ++ b ∷ []) ≡ negated xs ++ turned b ∷ []
-negated_more [] b = refl
-negated_more (x ∷ xs) b = ap (λ (ys : List Offset). turned x ∷ ys) (negated_more xs b)
 
 neg_near : (z : ℤ) → negsuc 253 ≤ℤ z → z ≤ℤ pos 254 → (negsuc 253 ≤ℤ neg_ℤ z) × (neg_ℤ z ≤ℤ pos 254)
 neg_near z low high = (omega (arith, ints, low, high), omega (arith, ints, low, high))
@@ -132,9 +128,6 @@ box_more inner outer b lies in' =
 pub all_boxed : (inner outer : OffsetBox) (xs : List Offset) (b : Offset) → LiesIn inner outer → InBox outer b → AllByRecursion (λ o. InBox inner o) xs → AllByRecursion (λ o. InBox outer o) (xs ++ b ∷ [])
 all_boxed inner outer xs b lies last all =
     all-push (λ o. InBox outer o) xs b (all-weaker (λ o. InBox inner o) (λ o. InBox outer o) xs (λ o in'. box_more inner outer o lies in') all) last
-
-pub boxed_at : (box : OffsetBox) (xs : List Offset) (i : ℕ) (d : Offset) → i < length xs → AllByRecursion (λ o. InBox box o) xs → InBox box (get_or xs i d)
-boxed_at box xs i d lt all = all-get_or (λ o. InBox box o) xs i d lt all
 
 pub near_box : (xs : List Offset) → AllByRecursion IsNear xs → AllByRecursion (λ o. InBox (record { x0 = negsuc 253; x1 = pos 254; y0 = negsuc 253; y1 = pos 254 }) o) xs
 near_box xs near =

@@ -399,9 +399,6 @@ boxes_begin b q s pushed = (spectrum_begins b 0 [] q s (nothing_eroded b [] refl
 
 -- ---- the steps of a spectrum
 
-half : (a : ℕ) → 2 * a / 2 ≡ a
-half a = omega arith
-
 -- the steps of all turns
 steps_are : (n : ℕ) → n + volume_steps n ≡ n + n * (n + 1) / 2 + n + 1
 steps_are n = go (volume_steps n) (n * (n + 1)) (n * (n + 1) / 2) n (volume_steps_twice n) refl

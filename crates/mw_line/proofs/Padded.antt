@@ -1,7 +1,6 @@
 -- Windows on a line with neutral samples before and after it.
-use Rattle.std.proofs.Common.{◌≡◌, ℕ, zero, suc, ◌+◌, ◌-◌, ◌<◌, ◌≤◌, List, [], ◌∷◌, ◌++◌, length, take, drop, fold, slice_range, refl, ap, sym, arith, ◌∙◌, min, replicate, ℤ, pos, negsuc, ◌+ℤ◌, ◌-ℤ◌, ◌≤ℤ◌}
+use Rattle.std.proofs.Common.{◌≡◌, ℕ, zero, suc, ◌+◌, ◌-◌, ◌<◌, List, [], ◌∷◌, ◌++◌, length, take, drop, fold, slice_range, refl, ap, sym, arith, ◌∙◌, min, replicate, ℤ, pos, negsuc, ◌+ℤ◌, ◌-ℤ◌, ◌≤ℤ◌}
 use Rattle.std.proofs.lemmas.Int.{ints}
-use Rattle.std.proofs.lemmas.List.{length-append, length-replicate, length-drop}
 use Rattle.std.proofs.lemmas.List.{drop_min, drop-drop}
 use lib.IntN.{neg_ℤ, nat_abs}
 use borrow.Author.Differences.{up, down}
@@ -55,10 +54,6 @@ lo_is a i = omega (arith, ints, nonnegative_is (pos i +ℤ a), nonnegative_is a,
 size_is : (a b : ℤ) (i : ℕ) → a ≤ℤ b → span a b - (nonnegative (neg_ℤ a) - i) ≡ nonnegative (pos i +ℤ b +ℤ pos 1) - nonnegative (pos i +ℤ a)
 size_is a b i le = omega (arith, ints, nonnegative_is (b -ℤ a +ℤ pos 1), nonnegative_is (neg_ℤ a), nonnegative_is (pos i +ℤ b +ℤ pos 1), nonnegative_is (pos i +ℤ a))
 
--- how long the line is with its neutral samples
-pub room_is : (a b : ℤ) (n : ℕ) → a ≤ℤ b → n + span a b ≤ nonnegative (neg_ℤ a) + (n - nonnegative a) + nonnegative (b +ℤ pos 1)
-room_is a b n le = omega (arith, ints, nonnegative_is (b -ℤ a +ℤ pos 1), nonnegative_is (neg_ℤ a), nonnegative_is (b +ℤ pos 1), nonnegative_is a)
-
 pub size_positive : (a b : ℤ) → a ≤ℤ b → 0 < span a b
 size_positive a b le = omega (arith, ints, nonnegative_is (b -ℤ a +ℤ pos 1))
 
@@ -94,10 +89,3 @@ line_done f laws n samples row a b left skip right k i x le left-is skip-is k-is
     ∙ ap (λ (t : ℕ). fold f n (slice_range row i (i + t))) k-is
     ∙ ap (λ (t : List _). fold f n (slice_range t i (i + span a b))) (row-is ∙ ap (λ (t : ℕ). replicate t n ++ (drop (min skip (length samples)) samples ++ replicate right n)) left-is ∙ ap (λ (t : ℕ). replicate (nonnegative (neg_ℤ a)) n ++ (drop (min t (length samples)) samples ++ replicate right n)) skip-is)
     ∙ padded_window f laws n samples a b i right le
-
-pub padded_room : {A : Type 0} (n : A) (samples row : List A) (a b : ℤ) (left skip right k : ℕ) → a ≤ℤ b
-    → left ≡ nonnegative (neg_ℤ a) → skip ≡ nonnegative a → right ≡ nonnegative (b +ℤ pos 1) → k ≡ span a b
-    → row ≡ replicate left n ++ (drop (min skip (length samples)) samples ++ replicate right n) → length samples + k ≤ length row
-padded_room n samples row a b left skip right k le left-is skip-is right-is k-is row-is =
-    let kept = drop (min skip (length samples)) samples in
-    omega (arith, ap length row-is, length-append (replicate left n) (kept ++ replicate right n), length-append kept (replicate right n), length-replicate left n, length-replicate right n, length-drop (min skip (length samples)) samples, room_is a b (length samples) le, left-is, skip-is, right-is, k-is)

@@ -1,5 +1,5 @@
 -- Rows that are filled one after another.
-use Rattle.std.proofs.Common.{◌≡◌, ℕ, zero, suc, refl, replicate, ◌+◌, ◌*◌, ◌<◌, ◌≤◌, List, ◌++◌, length, take, drop, get_or, ap, sym, arith, ◌∙◌, inl, inr, length-append, length-take}
+use Rattle.std.proofs.Common.{◌≡◌, ℕ, ◌+◌, ◌*◌, ◌<◌, ◌≤◌, List, ◌++◌, length, take, drop, get_or, ap, sym, arith, ◌∙◌, inl, inr, length-append, length-take}
 use Rattle.std.proofs.lemmas.Bool.{cases_lt}
 use Rattle.std.proofs.lemmas.Nat.{mul-add-lt}
 use Rattle.std.proofs.Math.Nat.{add-sub_cancel_left, mul-le-mul_left}
@@ -62,8 +62,3 @@ rows_made_more value n w y m out line made m-is le made-is line-is before =
             ∙ line-is x less)
       ]);
     }
-
-pub get_or-replicate_same : {A : Type 0} (m i : ℕ) (n : A) → get_or (replicate m n) i n ≡ n
-get_or-replicate_same zero i n = refl
-get_or-replicate_same (suc m) zero n = refl
-get_or-replicate_same (suc m) (suc i) n = get_or-replicate_same m i n

@@ -81,9 +81,6 @@ nth_from found k n s is nth =
 abbrev pub NotYet : Picture → List Offset → ℕ → ℕ → ℕ → ℕ → Type 0
 NotYet f bs k i x y = Contains (under_first f bs i x y) (nth_of (under f bs x y) k) → ⊥
 
-pub not_at_first : (f : Picture) (bs : List Offset) (k x y : ℕ) → NotYet f bs k 0 x y
-not_at_first f bs k x y (j, lt, e) = omega arith
-
 pub not_by_none : (f : Picture) (bs : List Offset) (k i x y : ℕ) (d : Offset) → i < length bs → None ≡ sample_at f (pos x +ℤ (get_or bs i d).dx) (pos y +ℤ (get_or bs i d).dy)
     → NotYet f bs k i x y → NotYet f bs k (i + 1) x y
 not_by_none f bs k i x y d lt is before found =

@@ -4,7 +4,7 @@ use Rattle.std.specs.List.{AllByRecursion}
 use Rattle.std.proofs.lemmas.Bool.{cases_lt}
 use Rattle.std.proofs.lemmas.Nat.{mul-add-lt}
 use Rattle.std.proofs.lemmas.Option.{slice_get-get_or}
-use Rattle.std.proofs.lemmas.List.{append_assoc, append-nil, get_or_default, take_all, take_more}
+use Rattle.std.proofs.lemmas.List.{append_assoc, get_or_default, take_all, take_more}
 use Rattle.std.proofs.Math.Arith.{digits_lt}
 use Rattle.mw_facts.proofs.Alls.{all-get_or, all-push, all-weaker}
 use Rattle.mw_facts.proofs.Elements.{slice_get-append_left, slice_get-append-add, same_elements}
@@ -13,7 +13,7 @@ use Rattle.mw_model.specs.Places.{Holds, IsWithin}
 use Rattle.mw_model.specs.Rasters.{Raster}
 use Rattle.mw_grid.specs.Rectangles.{whole_frame}
 use Rattle.mw_tile.proofs.Rows.{get_from_column}
-use Rattle.mw_pieces.specs.Patches.{Patch, patch_at, no_patch, cell_of, has_place, held_in, value_in, overlap_of, patch, IsFull, IsInside, IsPatchOf, ShowsIn, Covers, Joint, IsJoint, HasValues, HasRowMore, ShowsFrame, frame_value}
+use Rattle.mw_pieces.specs.Patches.{Patch, patch_at, no_patch, cell_of, has_place, held_in, value_in, overlap_of, patch, IsFull, IsInside, IsPatchOf, ShowsIn, Covers, Joint, IsJoint, HasRowMore, ShowsFrame, frame_value}
 
 -- ---- places of a rectangle
 
@@ -155,9 +155,6 @@ all_whole P xs i past all = subst (AllByRecursion P) (take_all i xs past) all
 
 -- ---- put together
 
-pub appends_none : {A : Type 0} (value : ℕ → ℕ → Option A) (x y n : ℕ) (old : List A) → n ≡ 0 → HasRowMore value x y n old old
-appends_none value x y n old e = record { row = []; is = sym (append-nil old); size = sym e; same = λ k lt. absurd (omega arith) }
-
 pub appends_more : {A : Type 0} (value : ℕ → ℕ → Option A) (x y at n m : ℕ) (old now part out : List A) → out ≡ now ++ part → x + n ≡ at → m ≡ n + length part → HasRowMore value x y n old now → RowIs value at y (length part) part → HasRowMore value x y m old out
 appends_more value x y at n m old now part out out-is at-is m-is before run = record {
   row = before.row ++ part;
@@ -182,12 +179,6 @@ pub record HasFirstRows {A : Type 0} (value : ℕ → ℕ → Option A) (r : Rec
   pub size : length cells ≡ y * r.width
   pub same : (i j : ℕ) → i < r.width → j < y → slice_get cells (j * r.width + i) ≡ value (r.x + i) (r.y + j)
 
-pub no_rows : {A : Type 0} (value : ℕ → ℕ → Option A) (r : Rect) (y : ℕ) → y ≡ 0 → HasFirstRows value r y []
-no_rows value r y e = record { size = none r.width y e; same = λ i j across down. absurd (omega arith) }
-  where
-    none : (n y : ℕ) → y ≡ 0 → 0 ≡ y * n
-    none n y e = rw e (grind arith)
-
 pub begins_more : {A : Type 0} (value : ℕ → ℕ → Option A) (r : Rect) (q y : ℕ) (now out : List A) → r.y + y ≡ q → HasFirstRows value r y now → HasRowMore value r.x q r.width now out → HasFirstRows value r (y + 1) out
 begins_more value r q y now out q-is before more = record {
   size = (let size = before.size in let len = more.size in omega (arith, ap length more.is, length-append now more.row, next y r.width));
@@ -203,9 +194,6 @@ begins_more value r q y now out q-is before more = record {
   where
     next : (y w : ℕ) → (y + 1) * w ≡ y * w + w
     next y w = grind arith
-
-pub rows_are_values : {A : Type 0} (value : ℕ → ℕ → Option A) (r : Rect) (y : ℕ) (cells : List A) → y ≡ r.height → HasFirstRows value r y cells → HasValues value r cells
-rows_are_values value r y cells y-is rows = record { size = rows.size ∙ ap (λ (t : ℕ). t * r.width) y-is; same = λ i j across down. rows.same i j across (omega arith) }
 
 -- the piece that was read at a number
 pub read_at : {A : Type 0} (ps qs : List (Patch A)) (k : ℕ) (p : Patch A) → qs ≡ ps → k < length ps → p ≡ get_or qs k p → p ≡ patch_at ps k

@@ -29,11 +29,6 @@ all-set n [] i v all lt = tt
 all-set n (x ∷ xs) zero v all lt = (lt, all.1)
 all-set n (x ∷ xs) (suc i) v all lt = (all.0, all-set n xs i v all.1 lt)
 
-pub all-at : (n : ℕ) (xs : List ℕ) (i : ℕ) → AllByRecursion (λ y. y < n) xs → i < length xs → get_or xs i 0 < n
-all-at n [] i all lt = absurd (omega arith)
-all-at n (x ∷ xs) zero all lt = all.0
-all-at n (x ∷ xs) (suc i) all lt = all-at n xs i all.1 (omega arith)
-
 pub count-has : (xs : List ℕ) (i : ℕ) → i < length xs → 1 ≤ count_of (get_or xs i 0) xs
 count-has [] i lt = absurd (omega arith)
 count-has (x ∷ xs) zero lt = omega (arith, count-bit (λ y. nat_eq x y) x xs, ap bit (eq-eqb x x refl))

@@ -4,11 +4,11 @@ use Rattle.std.specs.List.{AllByRecursion, swap_remove}
 use Rattle.std.proofs.lemmas.Bool.{cases_eq, cases_lt}
 use Rattle.std.proofs.lemmas.List.{get_or_default}
 use Rattle.std.proofs.lemmas.List.Sums.{sum_by-swap_remove}
-use Rattle.mw_facts.proofs.Alls.{all-push, all-take}
+use Rattle.mw_facts.proofs.Alls.{all-push, all-take, all-weaker, all-get_or}
 use Rattle.mw_grid.specs.Counts.{bit, count_below}
 use Rattle.mw_queue.specs.Queues.{count_of, Listed}
 use Rattle.mw_grid.proofs.Counts.{bit_true, count-bit, bit-at, bit-other}
-use Rattle.mw_queue.proofs.Counts.{length-listed, count-push, all-set, all-at, count-has}
+use Rattle.mw_queue.proofs.Counts.{length-listed, count-push, all-set, count-has}
 
 pub length-of_listed : (n : ℕ) (p : ℕ → Bool) (xs : List ℕ) → Listed n p xs → length xs ≡ count_below p n
 length-of_listed n p xs listed = length-listed n xs p listed.within listed.each
@@ -19,7 +19,7 @@ listed-same n p q xs same listed = record { within = listed.within; each = λ t 
 -- what stands in the list
 pub listed-at : (n : ℕ) (p : ℕ → Bool) (xs : List ℕ) (i t : ℕ) → Listed n p xs → i < length xs → t ≡ get_or xs i 0 → (t < n) × (p t ≡ true)
 listed-at n p xs i t listed lt is =
-    let within = all-at n xs i listed.within lt in
+    let within = all-get_or (λ y. y < n) xs i 0 lt listed.within in
     let true_there = bit_true (p (get_or xs i 0)) (let h = count-has xs i lt in let e = listed.each (get_or xs i 0) within in omega arith) in
     (omega arith, ap p is ∙ true_there)
 
@@ -43,7 +43,7 @@ pub listed-swap_remove : (n : ℕ) (p q : ℕ → Bool) (xs : List ℕ) (i t : �
 listed-swap_remove n p q xs i t listed lt t-is now other =
     let t-zero : t ≡ get_or xs i 0 = t-is ∙ get_or_default xs i t 0 lt in
     let there = listed-at n p xs i t listed lt t-zero in
-    let last : get_or xs (length xs - 1) t < n = omega (arith, get_or_default xs (length xs - 1) t 0 (omega arith), all-at n xs (length xs - 1) listed.within (omega arith)) in
+    let last : get_or xs (length xs - 1) t < n = omega (arith, get_or_default xs (length xs - 1) t 0 (omega arith), all-get_or (λ y. y < n) xs (length xs - 1) 0 (omega arith) listed.within) in
     record {
       within = all-take (λ y. y < n) (length xs - 1) (set xs i (get_or xs (length xs - 1) t)) (all-set n xs i (get_or xs (length xs - 1) t) listed.within last);
       each = λ u u-lt.
@@ -65,13 +65,9 @@ none_above : (n t : ℕ) (xs : List ℕ) → AllByRecursion (λ x. x < n) xs →
 none_above n t [] all le = refl
 none_above n t (x ∷ xs) all le = omega (arith, count-bit (λ y. nat_eq t y) x xs, bit-other t x (λ e. absurd (let lt = all.0 in omega arith)), none_above n t xs all.1 le)
 
-all_more : (n : ℕ) (xs : List ℕ) → AllByRecursion (λ x. x < n) xs → AllByRecursion (λ x. x < n + 1) xs
-all_more n [] all = tt
-all_more n (x ∷ xs) all = ((let lt = all.0 in omega arith), all_more n xs all.1)
-
 pub listed-skip : (n : ℕ) (p : ℕ → Bool) (xs : List ℕ) → Listed n p xs → p n ≡ false → Listed (n + 1) p xs
 listed-skip n p xs listed not_so = record {
-  within = all_more n xs listed.within;
+  within = all-weaker (λ x. x < n) (λ x. x < n + 1) xs (λ x lt. omega arith) listed.within;
   each = λ t lt. elim (cases_lt t n) [
     | inl less ↦ listed.each t less
     | inr last ↦
@@ -82,7 +78,7 @@ listed-skip n p xs listed not_so = record {
 
 pub listed-next : (n : ℕ) (p : ℕ → Bool) (xs : List ℕ) → Listed n p xs → p n ≡ true → Listed (n + 1) p (xs ++ n ∷ [])
 listed-next n p xs listed so = record {
-  within = all-push (λ y. y < n + 1) xs n (all_more n xs listed.within) (omega arith);
+  within = all-push (λ y. y < n + 1) xs n (all-weaker (λ x. x < n) (λ x. x < n + 1) xs (λ x lt. omega arith) listed.within) (omega arith);
   each = λ t lt. count-push (λ x. nat_eq t x) xs n ∙ elim (cases_lt t n) [
     | inl less ↦ (let ne : bit (nat_eq t n) ≡ 0 = bit-other t n (λ e. absurd (omega arith)) in omega (arith, listed.each t less))
     | inr last ↦

@@ -50,9 +50,6 @@ tallies_same top h ns ms same t = record {
 pub counter_within : (top : ℕ) (h : Histogram) (ns : List ℕ) (s : ℕ) → Tallies top h ns → get_or h.counts.items s 0 ≤ length ns
 counter_within top h ns s t = omega (arith, t.each s, count_within (s + 1) ns)
 
-pub below_within : (top : ℕ) (h : Histogram) (ns : List ℕ) → Tallies top h ns → h.below ≤ length ns
-below_within top h ns t = omega (arith, t.below, count_within h.level ns)
-
 -- the counter of a level and those of the others, where one is added
 put_more : (items : List ℕ) (s v : ℕ) → s < length items → cond (nat_lt s (v + 1)) 1 0 + get_or items v 0 ≡ get_or (set items s (get_or items s 0 + 1)) v 0 + cond (nat_lt s v) 1 0
 put_more items s v within = elim (cases_order s v) [

@@ -11,7 +11,7 @@ use Rattle.mw_run.specs.Runs.{start_offset}
 use Rattle.mw_rank.specs.Ranks.{levels_under, levels_at}
 use Rattle.mw_rank.specs.Runs.{next_offset, offsets_from, offsets_of, element_of}
 use Rattle.mw_rank.specs.Tallies.{Tallies}
-use Rattle.mw_rank.proofs.Counts.{Same, tallies_same, count-append}
+use Rattle.mw_rank.proofs.Counts.{Same, count-append}
 use Rattle.mw_rank.proofs.Sights.{levels-cons, levels-append, length-levels, offsets-snoc, length-offsets, levels_at-on, levels-next}
 
 -- what is seen both before and after the move of run i
@@ -128,24 +128,6 @@ length-staying level sight runs i r x y lt is =
       length-append (levels_under level sight first (x + 1) y) (levels_under level sight (offsets_from (start_offset r) (r.count - 1)) (x + 1) y ++ levels_under level sight rest x y),
       length-append (levels_under level sight (offsets_from (start_offset r) (r.count - 1)) (x + 1) y) (levels_under level sight rest x y),
     )
-
--- one offset more is counted
-pub one_entered : {A : Type 0} (level : A → ℕ) (sight : Sight A) (bs : List Offset) (i : ℕ) (b : Offset) (x y top : ℕ) (h : Histogram) → i < length bs → get_or bs i b ≡ b
-    → Tallies top h (levels_at level sight b x y ++ levels_under level sight (take i bs) x y) → Tallies top h (levels_under level sight (take (i + 1) bs) x y)
-one_entered level sight bs i b x y top h lt is t =
-    let split : levels_under level sight (take (i + 1) bs) x y ≡ levels_under level sight (take i bs) x y ++ levels_at level sight b x y =
-    ap (λ (t : List Offset). levels_under level sight t x y) (take_more bs i b lt ∙ ap (λ (t : Offset). take i bs ++ t ∷ []) is)
-    ∙ levels-append level sight (take i bs) (b ∷ []) x y
-    ∙ ap (λ (t : List ℕ). levels_under level sight (take i bs) x y ++ t) (levels-cons level sight b [] x y ∙ append-nil (levels_at level sight b x y)) in
-    subst (λ (t : List ℕ). Tallies top h t) (sym split) (tallies_same top h _ _ (same_snoc (levels_under level sight (take i bs) x y) (levels_at level sight b x y)) t)
-
--- the next offset that is to leave
-pub one_left : {A : Type 0} (level : A → ℕ) (sight : Sight A) (bs : List Offset) (i : ℕ) (b : Offset) (x y top : ℕ) (h : Histogram) → i < length bs → get_or bs i b ≡ b
-    → Tallies top h (levels_under level sight (drop i bs) x y) → Tallies top h (levels_at level sight b x y ++ levels_under level sight (drop (i + 1) bs) x y)
-one_left level sight bs i b x y top h lt is t =
-    let split : levels_under level sight (drop i bs) x y ≡ levels_at level sight b x y ++ levels_under level sight (drop (i + 1) bs) x y =
-    ap (λ (t : List Offset). levels_under level sight t x y) (drop_more bs i b lt ∙ ap (λ (t : Offset). t ∷ drop (i + 1) bs) is) ∙ levels-cons level sight b (drop (i + 1) bs) x y in
-    subst (λ (t : List ℕ). Tallies top h t) split t
 
 pub tallies_at : {A : Type 0} (level : A → ℕ) (sight : Sight A) (bs : List Offset) (a b y top : ℕ) (h : Histogram) → a ≡ b → Tallies top h (levels_under level sight bs a y) → Tallies top h (levels_under level sight bs b y)
 tallies_at level sight bs a b y top h e t = subst (λ (v : ℕ). Tallies top h (levels_under level sight bs v y)) e t

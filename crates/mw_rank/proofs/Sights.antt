@@ -65,12 +65,6 @@ levels-next level sight b (suc n) x y =
     ∙ ap (λ (t : List ℕ). levels_at level sight b (x + 1) y ++ t) (levels-next level sight (next_offset b) n x y)
     ∙ sym (levels-cons level sight b (offsets_from (next_offset b) n) (x + 1) y)
 
-pub same_offset : (b c : Offset) → b.dx ≡ c.dx → b.dy ≡ c.dy → b ≡ c
-same_offset b c dx-is dy-is = go b.dx c.dx b.dy c.dy dx-is dy-is
-  where
-    go : (dx dx' dy dy' : ℤ) → dx ≡ dx' → dy ≡ dy' → let b : Offset = record { dx = dx; dy = dy } in let c : Offset = record { dx = dx'; dy = dy' } in b ≡ c
-    go dx dx' dy dy' e f = cc
-
 -- a cell of a raster that is seen
 pub seen_inside : {A : Type 0} (level : A → ℕ) (width height : ℕ) (cells : List A) (column row : ℤ) (x y v : ℕ) (s : A) → column ≡ pos x → row ≡ pos y → x < width → y < height → length cells ≡ height * width
     → s ≡ get_or cells (y * width + x) s → v ≡ level s → v ∷ [] ≡ map level (option_to_list (cell_at (raster width height cells) column row))

@@ -1,7 +1,7 @@
 -- The counters of a board are kept.
 use Rattle.std.specs.List.{list_all}
 use Rattle.std.proofs.Common.{◌≡◌, ◌≢◌, ℕ, ◌+◌, ◌-◌, ◌*◌, ◌/◌, ◌%◌, ◌<◌, ◌≤◌, Bool, true, false, not, ◌&&◌, ◌||◌, nat_eq, List, length, refl, ap, sym, subst, ◌∙◌, arith, inl, inr, set, get_or, replicate, ◌^◌, length-set}
-use Rattle.std.proofs.lemmas.Bool.{cases_eq, not-true, both_ways}
+use Rattle.std.proofs.lemmas.Bool.{cases_eq, not-true, both_ways, eqb-true}
 use Rattle.std.proofs.lemmas.List.{get_or-set_same, get_or-set_other, get_or-replicate, length-replicate}
 use Rattle.std.proofs.Math.Nat.{mul-le-mul_left}
 use Rattle.std.proofs.lemmas.Nat.{div-mul-add, mod-mul-add}
@@ -16,7 +16,7 @@ use Rattle.mw_ready.specs.Kept.{Keeps, read_count, board_of}
 use Rattle.mw_grid.proofs.Counts.{count-none, count-all, count-more, bit-at, bit-other}
 use Rattle.mw_ready.proofs.Counts.{list_all-count}
 use Rattle.std.proofs.Math.Bool.{and-true}
-use Rattle.mw_ready.proofs.Lowering.{eq_true, lowers_same}
+use Rattle.mw_ready.proofs.Lowering.{lowers_same}
 use Rattle.std.proofs.lemmas.Bool.{and_parts}
 use Rattle.mw_facts.proofs.Counts.{count_by-same, count_by-some}
 use Rattle.mw_grid.proofs.Lines.{number_of}
@@ -37,9 +37,6 @@ finished_one p fin n task lt size open_yet = go (p task) refl
 
     at-new : (u : ℕ) → u ≡ task → flag (set fin task true) u ≡ true
     at-new u e = ap (flag (set fin task true)) e ∙ now
-
-    add : (m k : ℕ) → k ≡ m + 1 → m + 1 ≡ k
-    add m k e = sym e
 
     one : (u : ℕ) → p task ≡ true → bit (p u && not (flag fin u)) ≡ bit (p u && not (flag (set fin task true) u)) + bit (nat_eq u task)
     one u r = elim (cases_eq u task) [
@@ -89,7 +86,7 @@ start_keeps : (b : Board) (counters : List ℕ) (active left task : ℕ) → Kee
 start_keeps b counters active left task keeps lt opened =
     let parts = and_parts (not (flag b.started task)) (nat_eq (get_or counters task 0) 0) opened in
     let idle : flag b.started task ≡ false = not-true (flag b.started task) parts.0 in
-    let none : get_or counters task 0 ≡ 0 = eq_true (get_or counters task 0) 0 parts.1 in
+    let none : get_or counters task 0 ≡ 0 = eqb-true (get_or counters task 0) 0 parts.1 in
     let unfinished : flag b.finished task ≡ false = not_begun b counters active left task keeps lt idle in
     let now : flag (set b.started task true) task ≡ true = get_or-set_same b.started task true false (let e = keeps.started in omega arith) in
     let size : length (set b.started task true) ≡ length b.started = simp length-set in

@@ -4,7 +4,7 @@ use Rattle.std.proofs.Math.Bool.{and-true, and-false}
 use Rattle.std.proofs.Math.Nat.{mul-le-mul_left}
 use Rattle.std.proofs.lemmas.Bool.{cases_eq, ne_eqb}
 use Rattle.std.proofs.lemmas.List.{get_or-set_same, get_or-set_other}
-use Rattle.std.proofs.lemmas.Nat.{div-mul-add, mod-mul-add}
+use Rattle.std.proofs.lemmas.Nat.{div-mul-add, mod-mul-add, mod_below}
 use Rattle.mw_facts.proofs.Counts.{count_by-same, count_by-most}
 use Rattle.mw_facts.proofs.Numbers.{one_if-le}
 use Rattle.mw_grid.specs.declared.blocks.Block.{Block}
@@ -72,22 +72,6 @@ raises_at f a place v old now out from place-lt raises v-is out-is = record {
 
     zero_more : (k z : ℕ) → z ≡ 0 → k + z ≡ k
     zero_more k z e = omega arith
-
--- at the beginning none is raised, and at the place none is raised yet
-pub not_raised : (f : ℕ → ℕ) (a place u : ℕ) → place ≤ u → bit (in_range a place u) * f u ≡ 0
-not_raised f a place u le = ap (λ (b : Bool). bit b * f u) (in-high a place u le) ∙ none (f u)
-  where
-    none : (k : ℕ) → 0 * k ≡ 0
-    none k = omega arith
-
-pub not_begun : (f : ℕ → ℕ) (a u : ℕ) → bit (in_range a a u) * f u ≡ 0
-not_begun f a u = ap (λ (k : ℕ). k * f u) (empty a u) ∙ none (f u)
-  where
-    none : (k : ℕ) → 0 * k ≡ 0
-    none k = omega arith
-
-    empty : (a u : ℕ) → bit (in_range a a u) ≡ 0
-    empty a u = grind arith
 
 -- the tasks of a step stand in a row
 pub in_step : (k n u : ℕ) → 0 < n → in_range (k * n) (k * n + n) u ≡ nat_eq k (u / n)
@@ -212,10 +196,7 @@ pub sources_split : (g : Tiling) (need : Need) (b : Block) (tile : ℕ) (x y z :
     → ((v : ℕ) → v < tile_count g → in_block g b v ≡ sees g need.reach tile v) → Splits (takes need g tile) (of_source g b x) (of_source g b y) (of_source g b z)
 sources_split g need b tile x y z some bits each =
     splits_under (λ u. step_reads need (step_of g u)) (λ u. is_source (step_of g u) x) (λ u. is_source (step_of g u) y) (λ u. is_source (step_of g u) z) (λ u. in_block g b (u % tile_count g)) (λ u. sees g need.reach tile (u % tile_count g))
-    (λ u. bits (step_of g u)) (λ u. each (u % tile_count g) (mod_lt u (tile_count g) some))
-  where
-    mod_lt : (i n : ℕ) → 0 < n → i % n < n
-    mod_lt i n some = omega arith
+    (λ u. bits (step_of g u)) (λ u. each (u % tile_count g) (mod_below u (tile_count g) some))
 
 pub source_given : (g : Tiling) (b shifted : Block) (x : Option ℕ) (k : ℕ) (old now : List ℕ) → x ≡ Some k → ((t : ℕ) → in_block g shifted t ≡ nat_eq (step_of g t) k && in_block g b (t % tile_count g)) → Lowers (in_block g shifted) old now
     → Lowers (of_source g b x) old now

@@ -1,1 +1,2 @@
+-- what other crates may cite
 pub mod RunLists

@@ -1,8 +1,8 @@
 -- The first leaves of a tree as a list of numbers.
-use Rattle.std.proofs.Common.{◌≡◌, ◌≢◌, ℕ, zero, suc, ◌+◌, ◌-◌, ◌*◌, ◌<◌, ◌≤◌, ◌^◌, List, [], ◌∷◌, ◌++◌, length, take, drop, sum, ap, sym, ◌∙◌, arith, get_or, set, subst, max, inl, inr, length-append, length-drop, length-set}
+use Rattle.std.proofs.Common.{◌≡◌, ◌≢◌, ℕ, zero, suc, ◌+◌, ◌-◌, ◌*◌, ◌<◌, ◌≤◌, ◌^◌, List, [], ◌∷◌, ◌++◌, length, take, drop, sum, ap, sym, ◌∙◌, arith, get_or, subst, max, inl, inr, length-append, length-drop}
 use Rattle.std.proofs.Math.Nat.{pow-suc}
 use Rattle.std.proofs.lemmas.Bool.{cases_lt, cases_eq}
-use Rattle.std.proofs.lemmas.List.{ext_get_or, get_or-take, get_or-drop, length-take-le, get_or_append_left, get_or_push, get_or-set_same, get_or-set_other}
+use Rattle.std.proofs.lemmas.List.{ext_get_or, get_or-take, get_or-drop, length-take-le, get_or_append_left, get_or_push}
 use Rattle.mw_sums.specs.Trees.{span, leaves, IsPower, IsTree, Uses}
 use Rattle.mw_sums.proofs.Spans.{span-add, span-same, span-none, sum-span}
 use Rattle.mw_sums.proofs.Nodes.{node_span}
@@ -28,28 +28,6 @@ leaves-push t s room n v t-size s-size lt here others =
       | inl e ↦ ap (λ (k : ℕ). get_or s (room + k) 0) e ∙ here ∙ sym (get_or_push (leaves t room n) v 0 i (a ∙ sym e))
       | inr ne ↦ others i ne ∙ sym (get_or_append_left (leaves t room n) (v ∷ []) 0 i (omega arith) ∙ leaf-at t room n i (omega arith))
     ])
-
-pub leaves-set : (t s : List ℕ) (room n place v : ℕ) → length t ≡ 2 * room → length s ≡ 2 * room → n ≤ room → place < n → get_or s (room + place) 0 ≡ v → ((j : ℕ) → j ≢ place → get_or s (room + j) 0 ≡ get_or t (room + j) 0)
-    → leaves s room n ≡ set (leaves t room n) place v
-leaves-set t s room n place v t-size s-size le lt here others =
-    let a = length-leaves t room n t-size le in
-    let b = length-leaves s room n s-size le in
-    let c : length (set (leaves t room n) place v) ≡ length (leaves t room n) = simp length-set in
-    ext_get_or 0 (leaves s room n) (set (leaves t room n) place v) (omega arith) (λ i i-lt. leaf-at s room n i (omega arith) ∙ elim (cases_eq i place) [
-      | inl e ↦ ap (λ (k : ℕ). get_or s (room + k) 0) e ∙ here ∙ sym (ap (λ (k : ℕ). get_or (set (leaves t room n) place v) k 0) e ∙ get_or-set_same (leaves t room n) place v 0 (omega arith))
-      | inr ne ↦ others i ne ∙ sym (get_or-set_other (leaves t room n) place i v 0 ne ∙ leaf-at t room n i (omega arith))
-    ])
-
--- all but the last are left
-pub leaves-pop : (t s : List ℕ) (room n k : ℕ) → length t ≡ 2 * room → length s ≡ 2 * room → n ≤ room → k + 1 ≡ n → ((j : ℕ) → j ≢ k → get_or s (room + j) 0 ≡ get_or t (room + j) 0) → leaves s room k ≡ take k (leaves t room n)
-leaves-pop t s room n k t-size s-size le is others =
-    let a = length-leaves t room n t-size le in
-    let b = length-leaves s room k s-size (omega arith) in
-    let c : length (take k (leaves t room n)) ≡ k = length-take-le k (leaves t room n) (omega arith) in
-    ext_get_or 0 (leaves s room k) (take k (leaves t room n)) (omega arith) (λ i i-lt.
-    leaf-at s room k i (omega arith)
-    ∙ others i (λ e. absurd (omega arith))
-    ∙ sym (get_or-take k (leaves t room n) i 0 (omega arith) ∙ leaf-at t room n i (omega arith)))
 
 -- sums of leaves
 pub sum-first : (t : List ℕ) (room n k : ℕ) → length t ≡ 2 * room → n ≤ room → k ≤ n → sum (take k (leaves t room n)) ≡ span t room k

@@ -9,11 +9,6 @@ AllIsRest P xs i = AllByRecursion P xs ↔ AllByRecursion P (drop i xs)
 split : {A : Type 0} (P : A → Type 0) (xs : List A) (i : ℕ) (x : A) → i < length xs → x ≡ get_or xs i x → drop i xs ≡ x ∷ drop (i + 1) xs
 split P xs i x lt is = drop-cons xs i x lt ∙ ap (λ (t : _). t ∷ drop (suc i) xs) (sym is) ∙ ap (λ (n : ℕ). x ∷ drop n xs) (sym (add-one i))
 
-pub all_more : {A : Type 0} (P : A → Type 0) (xs : List A) (i : ℕ) (x : A) → i < length xs → x ≡ get_or xs i x → P x → AllIsRest P xs i → AllIsRest P xs (i + 1)
-all_more P xs i x lt is here before =
-    let e = split P xs i x lt is in
-    ((λ all. (subst (AllByRecursion P) e (before.0 all)).1), (λ rest. before.1 (subst (AllByRecursion P) (sym e) (here, rest))))
-
 pub all_fails : {A : Type 0} (P : A → Type 0) (xs : List A) (i : ℕ) (x : A) → i < length xs → x ≡ get_or xs i x → ¬ P x → AllIsRest P xs i → AllByRecursion P xs → ⊥
 all_fails P xs i x lt is not before all = not (subst (AllByRecursion P) (split P xs i x lt is) (before.0 all)).0
 

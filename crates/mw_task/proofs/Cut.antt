@@ -215,7 +215,7 @@ fits_cut s sources m n tile ws cut narrow low wide high count kinds = record {
     go (f ∷ fs) frames = each_read s (f ∷ fs) m n f.width f.height tile frames cut.within narrow low frames.0.width frames.0.height
 
 -- the samples of a window are those of its image
-window_bounded_cut : (f : Picture) (place : Rect) → IsPicture f → IsWithin place f.width f.height → IsBounded (window_of place f)
+pub window_bounded_cut : (f : Picture) (place : Rect) → IsPicture f → IsWithin place f.width f.height → IsBounded (window_of place f)
 window_bounded_cut f place picture within = λ k d lt.
     let cells = cells_in place (sample f) in
     let a = within.across in

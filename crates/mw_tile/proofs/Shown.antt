@@ -25,9 +25,6 @@ own w = raster w.place.width w.place.height w.cells
 ahead : (x a : ℕ) → a ≤ x → pos x -ℤ pos a ≡ pos (x - a)
 ahead x a le = omega (arith, ints)
 
-before : (x a : ℕ) → x < a → pos x -ℤ pos a ≡ negsuc (a - x - 1)
-before x a lt = omega (arith, ints)
-
 further : (n a : ℕ) → negsuc n -ℤ pos a ≡ negsuc (n + a)
 further n a = omega (arith, ints)
 
@@ -38,10 +35,6 @@ seen_in w x y holds =
     ∙ ap (λ (t : ℤ). cell_at (own w) (pos (x - w.place.x)) t) (ahead y w.place.y holds.top)
     ∙ cell_at-inside (own w) (x - w.place.x) (y - w.place.y) (let a = holds.left in let b = holds.right in omega arith) (let a = holds.top in let b = holds.bottom in omega arith)
 
--- a place that it lacks
-seen_left : {A : Type 0} (w : View A) (x : ℕ) (z : ℤ) → x < w.place.x → seen_at w (pos x) z ≡ None
-seen_left w x z lt = ap (λ (t : ℤ). cell_at (own w) t (z -ℤ pos w.place.y)) (before x w.place.x lt)
-
 seen_right : {A : Type 0} (w : View A) (x y : ℕ) → w.place.x + w.place.width ≤ x → seen_at w (pos x) (pos y) ≡ None
 seen_right w x y le =
     ap (λ (t : ℤ). cell_at (own w) t (pos y -ℤ pos w.place.y)) (ahead x w.place.x (omega arith)) ∙ go (pos y -ℤ pos w.place.y)
@@ -49,9 +42,6 @@ seen_right w x y le =
     go : (z : ℤ) → cell_at (own w) (pos (x - w.place.x)) z ≡ None
     go (pos j) = cell_at-right (own w) (x - w.place.x) j (omega arith)
     go (negsuc j) = refl
-
-seen_over : {A : Type 0} (w : View A) (z : ℤ) (y : ℕ) → y < w.place.y → seen_at w z (pos y) ≡ None
-seen_over w z y lt = ap (λ (t : ℤ). cell_at (own w) (z -ℤ pos w.place.x) t) (before y w.place.y lt) ∙ cell_at-above (own w) (z -ℤ pos w.place.x) (w.place.y - y - 1)
 
 seen_beneath : {A : Type 0} (w : View A) (x y : ℕ) → w.place.y + w.place.height ≤ y → seen_at w (pos x) (pos y) ≡ None
 seen_beneath w x y le = ap (λ (t : ℤ). cell_at (own w) (pos x -ℤ pos w.place.x) t) (ahead y w.place.y (omega arith)) ∙ go (pos x -ℤ pos w.place.x)

@@ -1,13 +1,12 @@
 use Rattle.std.proofs.Common.{rules, ◌≡◌, ◌+◌, ◌-◌, ◌*◌, ◌++◌, ◌+ℤ◌, pos, ℕ, ℤ, List, ap, ◌∙◌, arith, length, length-take, take, refl, get_or, to_z, of_z, w64}
 use Rattle.std.proofs.lemmas.Int.{ints}
-use Rattle.mw_facts.proofs.Elements.{take-written}
+use Rattle.mw_facts.proofs.Elements.{take-written, get_or-replicate_same}
 use Rattle.mw_model.specs.Rasters.{raster, cell_at}
 use Rattle.mw_lane.specs.Shifted.{merge_at}
 use Rattle.mw_line.specs.Columns.{IsGrown}
 use Rattle.mw_line.specs.Extrema.{over}
 use Rattle.mw_line.proofs.Growing.{grown_none, grown_longer, row_behind}
 use Rattle.mw_line.proofs.Over.{over_same}
-use Rattle.mw_line.proofs.Rows.{get_or-replicate_same}
 use Rattle.mw_line.proofs.rectangles.slide_rows.Goals as goal
 
 pub loop-y-init : goal.loop-y-init

@@ -1,9 +1,8 @@
 use Rattle.std.proofs.Common.{◌≡◌, ◌*◌, ◌+◌, ◌+ℤ◌, pos, ℤ, List, ap, ◌∙◌, arith, length, get_or, to_z, of_z, w64}
 use Rattle.std.proofs.lemmas.Int.{ints}
-use Rattle.mw_facts.proofs.Elements.{take-written}
+use Rattle.mw_facts.proofs.Elements.{take-written, get_or-replicate_same}
 use Rattle.mw_model.specs.Rasters.{raster, cell_at}
 use Rattle.mw_lane.specs.Shifted.{merge_at}
-use Rattle.mw_line.proofs.Rows.{get_or-replicate_same}
 use Rattle.mw_offset.proofs.spread.spread.Goals as goal
 
 pub returns-clause-cells : goal.returns-clause-cells
