@@ -12,7 +12,7 @@ use Rattle.mw_model.specs.Pictures.{Picture, IsPicture}
 use Rattle.mw_model.specs.Flat.{erosion, dilation, negated}
 use Rattle.mw_model.specs.Iterates.{times, rectangle}
 use Rattle.mw_model.specs.Laws.{HoldsOrigin}
-use Rattle.mw_model.proofs.Covers.{turned, turned_back}
+use Rattle.mw_model.proofs.Covers.{negated-IsTurned, turned_back}
 use Rattle.mw_gran.specs.Boxes.{multiplied}
 use Rattle.mw_plan.specs.Steps.{turned_box}
 use Rattle.mw_plan.proofs.Boxes.{element_covers, of_element}
@@ -164,8 +164,8 @@ times_same first second (suc n) f same = same (times n first f) ∙ ap second (t
 
 cover_turned : (b c : List Offset) → CoverSame b c → CoverSame (negated b) (negated c)
 cover_turned b c same = record {
-  to = λ x y u v covers. turned c u v x y (same.to u v x y (turned_back b x y u v covers));
-  from = λ x y u v covers. turned b u v x y (same.from u v x y (turned_back c x y u v covers));
+  to = λ x y u v covers. negated-IsTurned c u v x y (same.to u v x y (turned_back b x y u v covers));
+  from = λ x y u v covers. negated-IsTurned b u v x y (same.from u v x y (turned_back c x y u v covers));
 }
 
 cover_both : (a b c : List Offset) → CoverSame a b → CoverSame b c → CoverSame a c

@@ -9,7 +9,7 @@ use Rattle.mw_netpbm.specs.declared.fault.ReadFault.TheVariants.{Header}
 use Rattle.mw_netpbm.specs.Reading.{skip_from, digits_from, number_at}
 use Rattle.mw_model.specs.NetpbmGrammar.{is_white, is_eol, is_digit}
 use Rattle.mw_model.specs.NetpbmGrammar.{Blank, nothing, white, comment, value_after, IsNumber}
-use Rattle.mw_netpbm.proofs.Whole.{chosen}
+use Rattle.mw_netpbm.proofs.Whole.{cond-chosen}
 use Rattle.mw_netpbm.proofs.Sides.{ok_is}
 
 skip_text : (text : List ℕ) (end : ℕ) (bs : List ℕ) → AllByRecursion (λ b. is_eol b ≡ false) text → IsTrue (is_eol end) → skip_from true (text ++ end ∷ bs) ≡ skip_from false bs
@@ -70,31 +70,31 @@ abbrev Found : Bool → List ℕ → List ℕ → Type 0
 Found false text bytes = Skipped bytes (skip_from false bytes)
 Found true text bytes = Skipped (35 ∷ text ++ bytes) (skip_from true bytes)
 
-found : (inside : Bool) (text bytes : List ℕ) → AllByRecursion (λ b. is_eol b ≡ false) text → Found inside text bytes
+Found-everywhere : (inside : Bool) (text bytes : List ℕ) → AllByRecursion (λ b. is_eol b ≡ false) text → Found inside text bytes
 unfolding skip_from
-found false text [] all = at_end [] nothing
-found true text [] all = subst (λ (t : List ℕ). Skipped (35 ∷ t) []) (sym (append-nil text)) (in_comment [] text nothing all)
-found false text (b ∷ bs) all =
+Found-everywhere false text [] all = at_end [] nothing
+Found-everywhere true text [] all = subst (λ (t : List ℕ). Skipped (35 ∷ t) []) (sym (append-nil text)) (in_comment [] text nothing all)
+Found-everywhere false text (b ∷ bs) all =
     elim (cases_Bool (is_white b)) [
-      | inl w ↦ subst (λ (rest : List ℕ). Skipped (b ∷ bs) rest) (sym (skip_white b bs w)) (more_white b bs (skip_from false bs) w (found false [] bs tt))
+      | inl w ↦ subst (λ (rest : List ℕ). Skipped (b ∷ bs) rest) (sym (skip_white b bs w)) (more_white b bs (skip_from false bs) w (Found-everywhere false [] bs tt))
       | inr nw ↦
           elim (cases_Bool (eqb b 35)) [
             | inl hash ↦
                 let same : b ≡ 35 = eqb-true b 35 hash in
-                subst (λ (c : ℕ). Skipped (c ∷ bs) (skip_from false (c ∷ bs))) (sym same) (found true [] bs tt)
+                subst (λ (c : ℕ). Skipped (c ∷ bs) (skip_from false (c ∷ bs))) (sym same) (Found-everywhere true [] bs tt)
             | inr other ↦ subst (λ (rest : List ℕ). Skipped (b ∷ bs) rest) (sym (skip_visible b bs (nw, other))) (at_visible [] b bs nothing (nw, other))
           ]
     ]
-found true text (b ∷ bs) all =
+Found-everywhere true text (b ∷ bs) all =
     elim (cases_Bool (is_eol b)) [
-      | inl e ↦ subst (λ (x : Bool). Skipped (35 ∷ text ++ b ∷ bs) (skip_from (not x) bs)) (sym e) (more_comment text b bs (skip_from false bs) all e (found false [] bs tt))
+      | inl e ↦ subst (λ (x : Bool). Skipped (35 ∷ text ++ b ∷ bs) (skip_from (not x) bs)) (sym e) (more_comment text b bs (skip_from false bs) all e (Found-everywhere false [] bs tt))
       | inr ne ↦
-          let inner = found true (text ++ b ∷ []) bs (all-push (λ c. is_eol c ≡ false) text b all ne) in
+          let inner = Found-everywhere true (text ++ b ∷ []) bs (all-push (λ c. is_eol c ≡ false) text b all ne) in
           subst (λ (x : Bool). Skipped (35 ∷ text ++ b ∷ bs) (skip_from (not x) bs)) (sym ne) (subst (λ (bytes : List ℕ). Skipped (35 ∷ bytes) (skip_from true bs)) (append_assoc text (b ∷ []) bs) inner)
     ]
 
 pub skipped : (bytes : List ℕ) → Skipped bytes (skip_from false bytes)
-skipped bytes = found false [] bytes tt
+skipped bytes = Found-everywhere false [] bytes tt
 
 -- ---- numbers
 
@@ -155,7 +155,7 @@ number_whole (d ∷ text) rest n is stop =
 number_cases : (b : ℕ) (bs : List ℕ) (x : ℕ × List ℕ) → number_at (b ∷ bs) ≡ Ok x → (is_digit b ≡ true) × (digits_from 0 (b ∷ bs) ≡ x)
 unfolding number_at
 number_cases b bs x e =
-    elim (chosen (is_digit b) (Ok (digits_from 0 (b ∷ bs))) (Err Header) (Ok x) e) [
+    elim (cond-chosen (is_digit b) (Ok (digits_from 0 (b ∷ bs))) (Err Header) (Ok x) e) [
       | inl w ↦ (w.0, ok_is (digits_from 0 (b ∷ bs)) x w.1)
       | inr w ↦ absurd (let clash : Err Header ≡ Ok x = w.1 in cc)
     ]

@@ -13,7 +13,7 @@ use Rattle.mw_model.specs.NetpbmGrammar.{bits_of}
 use Rattle.mw_netpbm.specs.Rasters.{words_of, row_bits, rows_bits}
 use Rattle.mw_netpbm.specs.Plain.{plain_at, tail_at, bit_at, pixel_at, apart, level_at, sample_at}
 use Rattle.mw_model.specs.NetpbmGrammar.{Blank, IsNumber, IsPairs, IsRows, IsTail, IsPixel, IsApart, IsSample, IsPlain, value_after}
-use Rattle.mw_netpbm.proofs.Whole.{chosen}
+use Rattle.mw_netpbm.proofs.Whole.{cond-chosen}
 use Rattle.mw_netpbm.proofs.Sides.{Within, bind_ok, guard_ok, ok_is, plain_length, tail_nil}
 use Rattle.mw_netpbm.proofs.Blanks.{skip_blank, Visible, skip_visible, Skipped, at_visible, at_end, in_comment, skipped, cap, Stops, Numbered, number_parts, digits_whole, white_no_digit}
 use Rattle.mw_netpbm.proofs.Headers.{skip_number}
@@ -92,7 +92,7 @@ rows_read width (suc height) bytes xs (row, rest, others, parts, len, is, more) 
 pub tail_from : (bytes xs : List ℕ) → tail_at bytes ≡ Ok xs → IsTail bytes
 unfolding tail_at
 tail_from [] xs e = tt
-tail_from (b ∷ bs) xs e = elim (chosen (is_white b) (Ok []) (Err Trailing) (Ok xs) e) [ inl w ↦ w.0 | inr w ↦ absurd (let clash : Err Trailing ≡ Ok xs = w.1 in cc) ]
+tail_from (b ∷ bs) xs e = elim (cond-chosen (is_white b) (Ok []) (Err Trailing) (Ok xs) e) [ inl w ↦ w.0 | inr w ↦ absurd (let clash : Err Trailing ≡ Ok xs = w.1 in cc) ]
 
 pub tail_whole : (bytes : List ℕ) → IsTail bytes → tail_at bytes ≡ Ok []
 unfolding tail_at
@@ -142,7 +142,7 @@ two_bytes b h = (grind (arith, nat_tests), grind (arith, nat_tests))
 bit_cases : (b : ℕ) (bs : List ℕ) (x : ℕ × List ℕ) → bit_at (b ∷ bs) ≡ Ok x → (b ∷ bs ≡ (48 + x.0) ∷ x.1) × (x.0 ≤ 1)
 unfolding bit_at
 bit_cases b bs x e =
-    elim (chosen (eqb b 48 || eqb b 49) (Ok (b - 48, bs)) (Err Sample) (Ok x) e) [
+    elim (cond-chosen (eqb b 48 || eqb b 49) (Ok (b - 48, bs)) (Err Sample) (Ok x) e) [
       | inl w ↦
           let same = ok_is (b - 48, bs) x w.1 in
           let digit = two_bytes b w.0 in
@@ -176,7 +176,7 @@ unfolding apart
 apart_parts zero found x e = (ok_is found x e, tt)
 apart_parts (suc left) (n, []) x e = let same = ok_is (n, []) x e in (same, subst (λ (y : ℕ × List ℕ). IsTail y.1) same tt)
 apart_parts (suc left) (n, b ∷ bs) x e =
-    elim (chosen (is_white b) (Ok (n, b ∷ bs)) (Err Sample) (Ok x) e) [
+    elim (cond-chosen (is_white b) (Ok (n, b ∷ bs)) (Err Sample) (Ok x) e) [
       | inl w ↦ let same = ok_is (n, b ∷ bs) x w.1 in (same, subst (λ (y : ℕ × List ℕ). IsTail y.1) same w.0)
       | inr w ↦ absurd (let clash : Err Sample ≡ Ok x = w.1 in cc)
     ]
@@ -195,7 +195,7 @@ level_cases : (maxval left b : ℕ) (bs : List ℕ) (x : ℕ × List ℕ) → le
 unfolding level_at
 level_cases maxval left b bs x e =
     let d = digits_from 0 (b ∷ bs) in
-    elim (chosen (is_digit b) (cond (ltb maxval (d.0)) (Err Sample) (apart left d)) (Err Sample) (Ok x) e) [
+    elim (cond-chosen (is_digit b) (cond (ltb maxval (d.0)) (Err Sample) (apart left d)) (Err Sample) (Ok x) e) [
       | inl w ↦
           let g = guard_ok (ltb maxval (d.0)) Sample (apart left d) x w.1 in
           let low : d.0 ≤ maxval = ltb-false maxval (d.0) g.0 in
