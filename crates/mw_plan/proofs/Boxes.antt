@@ -53,7 +53,7 @@ box_same box e fills = record {
   from = λ x y u v c. let w = of_element e x y u v c in box_covers box w.by x y u v ((fills w.by).0 w.holds) w.leads;
 }
 
-in_turned : (box : OffsetBox) (b : Offset) → InBox box b → InBox (turned_box box) (negated-IsTurned b)
+in_turned : (box : OffsetBox) (b : Offset) → InBox box b → InBox (turned_box box) (turned b)
 in_turned box b h = record {
   left = let p = h.right in omega (arith, ints);
   right = let p = h.left in omega (arith, ints);
@@ -61,7 +61,7 @@ in_turned box b h = record {
   bottom = let p = h.top in omega (arith, ints);
 }
 
-in_box : (box : OffsetBox) (b : Offset) → InBox (turned_box box) b → InBox box (negated-IsTurned b)
+in_box : (box : OffsetBox) (b : Offset) → InBox (turned_box box) b → InBox box (turned b)
 in_box box b h = record {
   left = let p = h.right in omega (arith, ints);
   right = let p = h.left in omega (arith, ints);
@@ -69,7 +69,7 @@ in_box box b h = record {
   bottom = let p = h.top in omega (arith, ints);
 }
 
-leads_back : (b : Offset) (x y u v : ℕ) → Leads b x y u v → Leads (negated-IsTurned b) u v x y
+leads_back : (b : Offset) (x y u v : ℕ) → Leads b x y u v → Leads (turned b) u v x y
 leads_back b x y u v h = (back x u b.dx h.0, back y v b.dy h.1)
   where
     back : (x u : ℕ) (d : ℤ) → pos x +ℤ d ≡ pos u → pos u +ℤ neg_ℤ d ≡ pos x
@@ -79,10 +79,10 @@ pub turned_same : (box : OffsetBox) (e : List Offset) → FillsBox box e → Cov
 turned_same box e fills = record {
   to = λ x y u v c.
       let w = of_box (turned_box box) x y u v c in
-      cover.negated-IsTurned e u v x y (element_covers e (negated-IsTurned w.by) u v x y ((fills (negated-IsTurned w.by)).1 (in_box box w.by w.holds)) (leads_back w.by x y u v w.leads));
+      cover.negated-IsTurned e u v x y (element_covers e (turned w.by) u v x y ((fills (turned w.by)).1 (in_box box w.by w.holds)) (leads_back w.by x y u v w.leads));
   from = λ x y u v c.
       let w = of_element e u v x y (cover.turned_back e x y u v c) in
-      box_covers (turned_box box) (negated-IsTurned w.by) x y u v (in_turned box w.by ((fills w.by).0 w.holds)) (leads_back w.by u v x y w.leads);
+      box_covers (turned_box box) (turned w.by) x y u v (in_turned box w.by ((fills w.by).0 w.holds)) (leads_back w.by u v x y w.leads);
 }
 
 abbrev offset : ℤ → ℤ → Offset
