@@ -9,7 +9,7 @@ use Rattle.mw_model.specs.Places.{nonnegative}
 use Rattle.mw_model.proofs.Nonnegative.{nonnegative_is}
 use Rattle.mw_line.specs.Extrema.{strided}
 use Rattle.mw_line.proofs.Folds.{IsExtremum}
-use Rattle.mw_line.proofs.Joined.{Taken, joined, taken_within, taken_fits}
+use Rattle.mw_line.proofs.Joined.{Taken, strided-joined, taken_within, taken_fits}
 use Rattle.mw_run.specs.declared.runs.Run.{Run}
 use Rattle.mw_run.specs.declared.runs.Extent.{Extent}
 use Rattle.mw_run.specs.Runs.{IsInside, IsWider}
@@ -91,7 +91,7 @@ slid_more f laws old now made s k taken left j shift rest more same size before 
           laid_shifted f now made shift rest size (omega arith) made-is p d lt
           ∙ ap (λ (t : _). f t (get_or (laid_bits now) (p + shift) d)) (before.done p d (omega arith))
           ∙ ap (f (strided f (laid_bits old) d s (taken - 1) p)) (before.done (p + shift) d (omega arith) ∙ ap (λ (t : ℕ). strided f (laid_bits old) d s (taken - 1) (p + t)) shift-is)
-          ∙ joined f laws (laid_bits old) d s j (taken - 1) (taken - 1) p (omega (arith, before.positive)) (omega arith)
+          ∙ strided-joined f laws (laid_bits old) d s j (taken - 1) (taken - 1) p (omega (arith, before.positive)) (omega arith)
           ∙ ap (λ (t : ℕ). strided f (laid_bits old) d s t p) (count_on before.positive);
       past = λ p d far. get_or_past (laid_bits made) p d (omega arith) ∙ sym (get_or_past (laid_bits old) p d (omega arith));
     }

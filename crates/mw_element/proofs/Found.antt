@@ -74,9 +74,9 @@ pub origin_refused : (bytes : List ℕ) (ox oy : ℕ) (facts : BitmapFacts) (f :
 origin_refused bytes ox oy facts f is same out =
     no_origin f is (HoldsPlace-outside f ox oy (subst (λ (x : BitmapFacts). (x.width ≤ ox) ⊎ ((ox < x.width) × (x.height ≤ oy))) same out))
 
-pub no_ones : (bytes : List ℕ) (ox oy : ℕ) (facts : BitmapFacts) (figure : Figure) → ((f : Raster ℕ) → IsBitmap bytes element_side f → facts_ok facts ≡ facts_ok (facts_of f))
+pub IsElement-no_ones : (bytes : List ℕ) (ox oy : ℕ) (facts : BitmapFacts) (figure : Figure) → ((f : Raster ℕ) → IsBitmap bytes element_side f → facts_ok facts ≡ facts_ok (facts_of f))
     → facts.ones ≡ 0 → IsElement bytes ox oy figure → ⊥
-no_ones bytes ox oy facts figure only none is =
+IsElement-no_ones bytes ox oy facts figure only none is =
     let same = facts_same facts (facts_of is.bitmap) (only is.bitmap is.is_bitmap) in
     is.some (no_offsets is.bitmap ox oy (bitmap_size bytes element_side is.bitmap is.is_bitmap) (sym (ap (λ (x : BitmapFacts). x.ones) same) ∙ none))
 

@@ -15,7 +15,7 @@ use Rattle.mw_model.specs.Laws.{HoldsOrigin}
 use Rattle.mw_model.proofs.Covers.{negated-IsTurned, turned_back}
 use Rattle.mw_gran.specs.Boxes.{multiplied}
 use Rattle.mw_plan.specs.Steps.{turned_box}
-use Rattle.mw_plan.proofs.Boxes.{element_covers, of_element}
+use Rattle.mw_plan.proofs.Boxes.{element_covers, element-way}
 use Rattle.mw_element.specs.Figures.{FillsBox}
 use Rattle.mw_laws.proofs.BoxLaws.{within, covers_within, times-erosion_box, times-dilation_box, negated_rectangle}
 use Rattle.mw_laws.proofs.Composed.{CoverSame, erosion_same, dilation_same}
@@ -33,7 +33,7 @@ pub record Bounds (box : OffsetBox) (l r t d : ℕ) : Type 0 where
 filled_is_rectangle : (box : OffsetBox) (b : List Offset) (l r t d : ℕ) → FillsBox box b → Bounds box l r t d → CoverSame b (rectangle l r t d)
 filled_is_rectangle box b l r t d fills bounds = record {
   to = λ x y u v covers.
-      let by = of_element b x y u v covers in
+      let by = element-way b x y u v covers in
       let inside = (fills by.by).0 by.holds in
       covers_within l r t d x y u v (record {
         left_of = low (by.by).dx box.x0 x u l by.leads.0 bounds.left inside.left;
@@ -123,8 +123,8 @@ above_origin : (z : ℤ) → pos 0 ≤ℤ z → (n : ℕ) × (z ≡ pos n)
 above_origin (pos n) le = (n, refl)
 above_origin (negsuc n) le = absurd (omega (arith, ints))
 
-bounded : (box : OffsetBox) (b : List Offset) → FillsBox box b → HoldsOrigin b → IsBounded box
-bounded box b fills holds =
+FillsBox-bounded : (box : OffsetBox) (b : List Offset) → FillsBox box b → HoldsOrigin b → IsBounded box
+FillsBox-bounded box b fills holds =
     let inside = (fills (record { dx = pos 0; dy = pos 0 })).0 holds in
     let left = below_origin box.x0 inside.left in
     let right = above_origin box.x1 inside.right in
@@ -179,7 +179,7 @@ module _ (box : OffsetBox) (b : List Offset) (n : ℕ) (f : Picture) (fills : Fi
   -- one erosion by the multiplied box is n erosions by the element
   pub erosion-multiplied : erosion (box_offsets (multiplied n box)) f ≡ times n (erosion b) f
   erosion-multiplied =
-      let at = bounded box b fills holds in
+      let at = FillsBox-bounded box b fills holds in
       let is = at.bounds in
       let same = filled_is_rectangle box b at.left at.right at.top at.bottom fills is in
       ap (λ (t : List Offset). erosion t f) (box_is_rectangle (multiplied n box) (n * at.left) (n * at.right) (n * at.top) (n * at.bottom) (multiplied_bounds n box at.left at.right at.top at.bottom is))
@@ -189,7 +189,7 @@ module _ (box : OffsetBox) (b : List Offset) (n : ℕ) (f : Picture) (fills : Fi
   -- and the same of dilations
   pub dilation-multiplied : dilation (box_offsets (multiplied n box)) f ≡ times n (dilation b) f
   dilation-multiplied =
-      let at = bounded box b fills holds in
+      let at = FillsBox-bounded box b fills holds in
       let is = at.bounds in
       let same = filled_is_rectangle box b at.left at.right at.top at.bottom fills is in
       ap (λ (t : List Offset). dilation t f) (box_is_rectangle (multiplied n box) (n * at.left) (n * at.right) (n * at.top) (n * at.bottom) (multiplied_bounds n box at.left at.right at.top at.bottom is))
@@ -199,7 +199,7 @@ module _ (box : OffsetBox) (b : List Offset) (n : ℕ) (f : Picture) (fills : Fi
   -- by the turned box they are those by the negated element
   pub dilation-multiplied_turned : dilation (box_offsets (multiplied n (turned_box box))) f ≡ times n (dilation (negated b)) f
   dilation-multiplied_turned =
-      let at = bounded box b fills holds in
+      let at = FillsBox-bounded box b fills holds in
       let is = at.bounds in
       let l = at.left in
       let r = at.right in

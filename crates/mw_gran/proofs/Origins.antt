@@ -26,13 +26,13 @@ or_false_left : (x y : Bool) → x ≡ false → (x || y) ≡ true → y ≡ tru
 or_false_left true y off e = absurd cc
 or_false_left false y off e = e
 
-pub holds : (bs : List Offset) → holds_origin bs ≡ true → HoldsOrigin bs
-holds [] e = absurd cc
-holds (b ∷ bs) e = elim (cases_Bool (at_origin b)) [
+pub holds_origin-HoldsOrigin : (bs : List Offset) → holds_origin bs ≡ true → HoldsOrigin bs
+holds_origin-HoldsOrigin [] e = absurd cc
+holds_origin-HoldsOrigin (b ∷ bs) e = elim (cases_Bool (at_origin b)) [
   | inl at_it ↦ (0, omega arith, is_origin b at_it)
-  | inr elsewhere ↦ let rest = holds bs (or_false_left (at_origin b) (holds_origin bs) elsewhere e) in (suc rest.0, (let lt = rest.1 in omega arith), rest.2)
+  | inr elsewhere ↦ let rest = holds_origin-HoldsOrigin bs (or_false_left (at_origin b) (holds_origin bs) elsewhere e) in (suc rest.0, (let lt = rest.1 in omega arith), rest.2)
 ]
 
 -- the test that a branch has made
 pub origin_held : (bs : List Offset) (t : Bool) → t ≡ holds_origin bs → t ≡ true → HoldsOrigin bs
-origin_held bs t is passed = holds bs (sym is ∙ passed)
+origin_held bs t is passed = holds_origin-HoldsOrigin bs (sym is ∙ passed)

@@ -17,8 +17,8 @@ same_more i m k xs ys k-is front block =
     ∙ ap (λ (t : List _). take i ys ++ t) (ap (λ (t : ℕ). take t (drop i xs)) (sym k-is) ∙ block ∙ ap (λ (t : ℕ). take t (drop i ys)) k-is)
     ∙ sym (take-add i m ys)
 
-differs : (x y : ℕ) → ◌≡◌ {A = ℕ} (cond (not (eqb x y)) 1 0) 0 → x ≡ y
-differs x y e = grind (arith, nat_tests)
+eqb-same : (x y : ℕ) → ◌≡◌ {A = ℕ} (cond (not (eqb x y)) 1 0) 0 → x ≡ y
+eqb-same x y e = grind (arith, nat_tests)
 
 same_itself : (x : ℕ) → ◌≡◌ {A = ℕ} (cond (not (eqb x x)) 1 0) 0
 same_itself x = grind (arith, nat_tests)
@@ -28,7 +28,7 @@ none_differ [] [] paired none = refl
 none_differ [] (y ∷ ys) paired none = absurd (omega arith)
 none_differ (x ∷ xs) [] paired none = absurd (omega arith)
 none_differ (x ∷ xs) (y ∷ ys) paired none =
-    ap (λ (t : ℕ). t ∷ xs) (differs x y (omega arith)) ∙ ap (λ (t : List ℕ). y ∷ t) (none_differ xs ys (omega arith) (omega arith))
+    ap (λ (t : ℕ). t ∷ xs) (eqb-same x y (omega arith)) ∙ ap (λ (t : List ℕ). y ∷ t) (none_differ xs ys (omega arith) (omega arith))
 
 differ_nowhere : (xs : List ℕ) → mask_l (zip2 (λ (x y : ℕ). not (eqb x y)) xs xs) ≡ 0
 differ_nowhere [] = refl

@@ -34,8 +34,8 @@ nothing_more f n c (suc m) zero zero same = refl
 nothing_more f n c (suc m) (suc k) zero same = ap (λ (t : _). fold f t (take k (replicate m n))) same ∙ nothing_more f n c m k zero same
 nothing_more f n c (suc m) k (suc i) same = nothing_more f n c m k i same
 
-absorbs : {A : Type 0} (f : A → A → A) → IsExtremum f → (n c x : A) → f c n ≡ c → f (f c x) n ≡ f c x
-absorbs f laws n c x same = laws.associates c x n ∙ ap (f c) (laws.commutes x n) ∙ sym (laws.associates c n x) ∙ ap (λ (t : _). f t x) same
+absorbs-neutral : {A : Type 0} (f : A → A → A) → IsExtremum f → (n c x : A) → f c n ≡ c → f (f c x) n ≡ f c x
+absorbs-neutral f laws n c x same = laws.associates c x n ∙ ap (f c) (laws.commutes x n) ∙ sym (laws.associates c n x) ∙ ap (λ (t : _). f t x) same
 
 -- neutral samples behind
 pad_back : {A : Type 0} (f : A → A → A) → IsExtremum f → (n c : A) (m k i : ℕ) (ys : List A) → f c n ≡ c
@@ -45,7 +45,7 @@ pad_back f laws n c m zero (suc i) [] same = nothing_more f n c m zero (suc i) s
 pad_back f laws n c m (suc k) zero [] same = nothing_more f n c m (suc k) zero same
 pad_back f laws n c m (suc k) (suc i) [] same = nothing_more f n c m (suc k) (suc i) same
 pad_back f laws n c m zero zero (y ∷ ys) same = refl
-pad_back f laws n c m (suc k) zero (y ∷ ys) same = pad_back f laws n (f c y) m k zero ys (absorbs f laws n c y same)
+pad_back f laws n c m (suc k) zero (y ∷ ys) same = pad_back f laws n (f c y) m k zero ys (absorbs-neutral f laws n c y same)
 pad_back f laws n c m k (suc i) (y ∷ ys) same = pad_back f laws n c m k i ys same
 
 lo_is : (a : ℤ) (i : ℕ) → nonnegative (pos i +ℤ a) ≡ nonnegative a + (i - nonnegative (neg_ℤ a))

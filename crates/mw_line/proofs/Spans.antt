@@ -11,7 +11,7 @@ use Rattle.mw_model.specs.Rasters.{Sight, seen_under}
 use Rattle.mw_lane.specs.Shifted.{merge_at}
 use Rattle.mw_line.specs.Extrema.{over}
 use Rattle.mw_line.proofs.Folds.{IsExtremum}
-use Rattle.mw_line.proofs.Over.{those, over_same, over_shift, fold_flat, fold_those, filter_map-flat, all_empty, kept}
+use Rattle.mw_line.proofs.Over.{those, over_same, over_shift, fold_flat, fold_those, filter_map-flat, all_empty, rows-kept}
 
 flat_map-flat_map : {A B C : Type 0} (h : B → List C) (row : A → List B) (xs : List A) → flat_map h (flat_map row xs) ≡ flat_map (λ x. flat_map h (row x)) xs
 flat_map-flat_map h row [] = refl
@@ -45,7 +45,7 @@ seen_part f laws n sight box x y a k c l some_k some_l le_k le_l outside_x outsi
     let cell = λ (j i : ℕ). those (sight (pos x +ℤ (box.x0 +ℤ pos i)) (pos y +ℤ (box.y0 +ℤ pos j))) in
     let empty_row : (j : ℕ) → Outside c l down j → row_of sight box x y j ≡ [] = λ j out. all_empty (cell j) 0 across (λ i from to. ap those (outside_y j (pos x +ℤ (box.x0 +ℤ pos i)) out)) in
     let one_row : (j : ℕ) → fold f n (row_of sight box x y j) ≡ over f (λ i. merge_at f n (sight (pos x +ℤ (box.x0 +ℤ pos (a + i))) (pos y +ℤ (box.y0 +ℤ pos j)))) 0 (k - 1) = λ j.
-    ap (fold f n) (kept (cell j) 0 across a k le_k
+    ap (fold f n) (rows-kept (cell j) 0 across a k le_k
     (λ i from to. ap those (outside_x i (pos y +ℤ (box.y0 +ℤ pos j)) (inl (before i a to), front i a across k to le_k)))
     (λ i from to. ap those (outside_x i (pos y +ℤ (box.y0 +ℤ pos j)) (inr (behind i a k from), before i across to))))
     ∙ ap (λ (t : ℕ). fold f n (flat_map (cell j) (range_with_len (0 + a) t))) (whole k some_k)
@@ -53,7 +53,7 @@ seen_part f laws n sight box x y a k c l some_k some_l le_k le_l outside_x outsi
     ∙ over_same f (λ i. fold f n (cell j i)) (λ i. merge_at f n (sight (pos x +ℤ (box.x0 +ℤ pos i)) (pos y +ℤ (box.y0 +ℤ pos j)))) (0 + a) (k - 1) (λ i from to. fold_those f n (sight (pos x +ℤ (box.x0 +ℤ pos i)) (pos y +ℤ (box.y0 +ℤ pos j))))
     ∙ over_shift f (λ i. merge_at f n (sight (pos x +ℤ (box.x0 +ℤ pos i)) (pos y +ℤ (box.y0 +ℤ pos j)))) a 0 (0 + a) (k - 1) (turn a) in
     ap (fold f n) (seen_boxed sight box x y)
-    ∙ ap (fold f n) (kept (row_of sight box x y) 0 down c l le_l
+    ∙ ap (fold f n) (rows-kept (row_of sight box x y) 0 down c l le_l
     (λ j from to. empty_row j (inl (before j c to), front j c down l to le_l))
     (λ j from to. empty_row j (inr (behind j c l from), before j down to)))
     ∙ ap (λ (t : ℕ). fold f n (flat_map (row_of sight box x y) (range_with_len (0 + c) t))) (whole l some_l)

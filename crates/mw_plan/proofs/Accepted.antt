@@ -134,8 +134,8 @@ record IsTaken (w : Table) (kept values : List (Option Value)) (x : Wanted) (i :
   ticket : ticket_wanted w x ≡ Some entry.number
   value : IsValueOf i (value_at values entry.number)
 
-taken : (w : Table) (kept values : List (Option Value)) (x : Wanted) (i : Input) → AreValuesAt w kept values → wanted_case w x ≡ None → IsInputOf w kept (ticket_wanted w x) i → IsTaken w kept values x i
-taken w kept values x i are none at =
+IsInputOf-taken : (w : Table) (kept values : List (Option Value)) (x : Wanted) (i : Input) → AreValuesAt w kept values → wanted_case w x ≡ None → IsInputOf w kept (ticket_wanted w x) i → IsTaken w kept values x i
+IsInputOf-taken w kept values x i are none at =
     let entry = usable_wanted w x none in
     let t = entry.0 in
     let n = name_wanted x in
@@ -180,16 +180,16 @@ few_wanted (op.Gran (gran.Spectrum f e levels)) = omega arith
 all_taken : (w : Table) (kept values : List (Option Value)) (xs : List Wanted) (a b c : Input) → length xs ≤ 3 → AreValuesAt w kept values → first_of (map (wanted_case w) xs) ≡ None → AreInputsOf w kept (inputs_from w xs) a b c
     → AreTaken w kept values xs (a ∷ b ∷ c ∷ [])
 all_taken w kept values [] a b c few are none at = tt
-all_taken w kept values (x ∷ []) a b c few are none at = (taken w kept values x a are (first_none (wanted_case w x) _ none).0 at.first, tt)
+all_taken w kept values (x ∷ []) a b c few are none at = (IsInputOf-taken w kept values x a are (first_none (wanted_case w x) _ none).0 at.first, tt)
 all_taken w kept values (x ∷ y ∷ []) a b c few are none at =
     let one = first_none (wanted_case w x) _ none in
     let two = first_none (wanted_case w y) _ one.1 in
-    (taken w kept values x a are one.0 at.first, (taken w kept values y b are two.0 at.second, tt))
+    (IsInputOf-taken w kept values x a are one.0 at.first, (IsInputOf-taken w kept values y b are two.0 at.second, tt))
 all_taken w kept values (x ∷ y ∷ z ∷ []) a b c few are none at =
     let one = first_none (wanted_case w x) _ none in
     let two = first_none (wanted_case w y) _ one.1 in
     let three = first_none (wanted_case w z) _ two.1 in
-    (taken w kept values x a are one.0 at.first, (taken w kept values y b are two.0 at.second, (taken w kept values z c are three.0 at.third, tt)))
+    (IsInputOf-taken w kept values x a are one.0 at.first, (IsInputOf-taken w kept values y b are two.0 at.second, (IsInputOf-taken w kept values z c are three.0 at.third, tt)))
 all_taken w kept values (x ∷ y ∷ z ∷ u ∷ xs) a b c few are none at = absurd (omega arith)
 
 are_entries : (w : Table) (kept values : List (Option Value)) (xs : List Wanted) (is : List Input) → AreTaken w kept values xs is → AreEntries w kept xs is

@@ -39,10 +39,10 @@ count-changed p q t n lt was now other = count-more p q t n lt (λ u u-lt. elim 
 ])
 
 -- of one step the list and the open tasks changed at tile u alone
-changed : (p q : ℕ → Bool) (tiles s u n : ℕ) (lists : List (List ℕ)) (xs : List ℕ) → s < length lists → u < tiles → ((t : ℕ) → t ≢ s * tiles + u → q t ≡ p t)
+Listed-changed : (p q : ℕ → Bool) (tiles s u n : ℕ) (lists : List (List ℕ)) (xs : List ℕ) → s < length lists → u < tiles → ((t : ℕ) → t ≢ s * tiles + u → q t ≡ p t)
     → ((k : ℕ) → k < length lists → Listed tiles (λ t. p (k * tiles + t)) (list_at lists k)) → Listed tiles (λ t. q (s * tiles + t)) xs
     → (k : ℕ) → k < length (set lists s xs) → Listed tiles (λ t. q (k * tiles + t)) (list_at (set lists s xs) k)
-changed p q tiles s u n lists xs s-lt u-lt other old new k k-lt =
+Listed-changed p q tiles s u n lists xs s-lt u-lt other old new k k-lt =
     let size : length (set lists s xs) ≡ length lists = simp length-set in
     elim (cases_eq k s) [
       | inl here ↦ subst (λ (j : ℕ). Listed tiles (λ t. q (j * tiles + t)) (list_at (set lists s xs) j)) (sym here) (subst (λ (ys : List ℕ). Listed tiles (λ t. q (s * tiles + t)) ys) (sym (get_or-set_same lists s xs [] s-lt)) new)
@@ -52,9 +52,9 @@ changed p q tiles s u n lists xs s-lt u-lt other old new k k-lt =
     ]
 
 -- an open task is started
-taken : (q : Queued) (total s i u : ℕ) → IsQueue q total → s < length q.ready → i < length (list_at q.ready s) → u ≡ get_or (list_at q.ready s) i u
+IsQueue-taken : (q : Queued) (total s i u : ℕ) → IsQueue q total → s < length q.ready → i < length (list_at q.ready s) → u ≡ get_or (list_at q.ready s) i u
     → IsQueue (queued (set q.started (s * q.tiles + u) true) q.waiting q.tiles (set q.ready s (swap_remove (list_at q.ready s) i u))) (total - 1)
-taken q total s i u queue s-lt i-lt u-is =
+IsQueue-taken q total s i u queue s-lt i-lt u-is =
     let t = s * q.tiles + u in
     let before : ℕ → Bool = is_open q.started q.waiting in
     let now : ℕ → Bool = is_open (set q.started t true) q.waiting in
@@ -70,7 +70,7 @@ taken q total s i u queue s-lt i-lt u-is =
       started = started-size ∙ queue.started;
       whole = queue.whole ∙ ap (λ (k : ℕ). k * q.tiles) (sym ready-size);
       small = queue.small;
-      listed = changed before now q.tiles s u (length q.waiting) q.ready (swap_remove (list_at q.ready s) i u) s-lt there.0 other queue.listed
+      listed = Listed-changed before now q.tiles s u (length q.waiting) q.ready (swap_remove (list_at q.ready s) i u) s-lt there.0 other queue.listed
           (listed-swap_remove q.tiles (λ k. before (s * q.tiles + k)) (λ k. now (s * q.tiles + k)) (list_at q.ready s) i u (queue.listed s s-lt) i-lt u-is closed
           (λ k k-lt ne. other (s * q.tiles + k) (λ e. ne (add_left_cancel (s * q.tiles) e))));
       count = (let less = count-changed before now t (length q.waiting) t-lt there.1 closed (λ k k-lt ne. other k ne) in let c = queue.count in omega arith);
@@ -82,7 +82,7 @@ taken q total s i u queue s-lt i-lt u-is =
 pub taken_given : (q : Queued) (total s i u : ℕ) (ready : List (List ℕ)) → IsQueue q total → s < length q.ready → i < length (list_at q.ready s) → u ≡ get_or (list_at q.ready s) i u
     → ready ≡ set q.ready s (swap_remove (list_at q.ready s) i u) → IsQueue (queued (set q.started (s * q.tiles + u) true) q.waiting q.tiles ready) (total - 1)
 taken_given q total s i u ready queue s-lt i-lt u-is ready-is =
-    subst (λ (r : List (List ℕ)). IsQueue (queued (set q.started (s * q.tiles + u) true) q.waiting q.tiles r) (total - 1)) (sym ready-is) (taken q total s i u queue s-lt i-lt u-is)
+    subst (λ (r : List (List ℕ)). IsQueue (queued (set q.started (s * q.tiles + u) true) q.waiting q.tiles r) (total - 1)) (sym ready-is) (IsQueue-taken q total s i u queue s-lt i-lt u-is)
 
 -- what is listed is open
 pub listed_open : (q : Queued) (total s i u : ℕ) → IsQueue q total → s < length q.ready → i < length (list_at q.ready s) → u ≡ get_or (list_at q.ready s) i 0
@@ -141,7 +141,7 @@ opened q total s u queue s-lt u-lt waits idle =
       started = queue.started ∙ sym size;
       whole = size ∙ queue.whole ∙ ap (λ (k : ℕ). k * q.tiles) (sym ready-size);
       small = (let z = queue.small in omega arith);
-      listed = changed before now q.tiles s u (length q.waiting) q.ready (list_at q.ready s ++ u ∷ []) s-lt u-lt other queue.listed
+      listed = Listed-changed before now q.tiles s u (length q.waiting) q.ready (list_at q.ready s ++ u ∷ []) s-lt u-lt other queue.listed
           (listed-push q.tiles (λ k. before (s * q.tiles + k)) (λ k. now (s * q.tiles + k)) (list_at q.ready s) u (queue.listed s s-lt) u-lt closed free
           (λ k k-lt ne. other (s * q.tiles + k) (λ e. ne (add_left_cancel (s * q.tiles) e))));
       count = (let more = count-changed now before t (length q.waiting) t-lt free closed (λ k k-lt ne. sym (other k ne)) in let c = queue.count in let e = ap (count_below now) size in omega arith);
@@ -238,9 +238,9 @@ total_next waiting tiles k total n steps size count few lt whole small =
     omega (arith, count_by-most (free waiting) (k * tiles), mul-le-mul_left tiles up)
 
 -- what is taken out of a list that is held was open
-pub picked : (lists : List (Vec ℕ)) (q : Queued) (total s i u : ℕ) (w : Vec ℕ) → IsQueue q total → items_of lists ≡ q.ready → s < length q.ready → i < length (list_at q.ready s) → w ≡ get_or lists s w → u ≡ get_or w.items i u
+pub IsQueue-picked : (lists : List (Vec ℕ)) (q : Queued) (total s i u : ℕ) (w : Vec ℕ) → IsQueue q total → items_of lists ≡ q.ready → s < length q.ready → i < length (list_at q.ready s) → w ≡ get_or lists s w → u ≡ get_or w.items i u
     → (u < q.tiles) × (s * q.tiles + u < length q.waiting) × (is_open q.started q.waiting (s * q.tiles + u) ≡ true)
-picked lists q total s i u w queue shown s-lt i-lt w-is u-is =
+IsQueue-picked lists q total s i u w queue shown s-lt i-lt w-is u-is =
     let held : s < length lists = omega (arith, ap (λ (xs : List (List ℕ)). length xs) shown, length-items_of lists) in
     let list-is = list_at-items lists q.ready s w shown held w-is in
     listed_open q total s i u queue s-lt i-lt (u-is ∙ ap (λ (xs : List ℕ). get_or xs i u) (sym list-is) ∙ get_or_default (list_at q.ready s) i u 0 i-lt)

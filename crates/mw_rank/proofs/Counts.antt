@@ -86,8 +86,8 @@ tallies_added top s h g ns le counts-is level-is held-is below-is t = record {
   level = omega (arith, level-is, t.level);
 }
 
-pub known : (top s : ℕ) (h : Histogram) (ns : List ℕ) → Tallies top h (s ∷ ns) → s ≤ top
-known top s h ns t = elim (cases_lt top s) [
+pub Tallies-known : (top s : ℕ) (h : Histogram) (ns : List ℕ) → Tallies top h (s ∷ ns) → s ≤ top
+Tallies-known top s h ns t = elim (cases_lt top s) [
   | inr low ↦ low
   | inl high ↦ absurd (omega (arith, count-cons (top + 1) s ns, one-le s (top + 1) (omega arith), t.all, count_within (top + 1) ns))
 ]
@@ -100,8 +100,8 @@ count_rises s (n ∷ ns) = elim (cases_lt n s) [
 ]
 
 -- a level that was counted has a counter above 0
-pub counted : (top s : ℕ) (h : Histogram) (ns : List ℕ) → Tallies top h (s ∷ ns) → 1 ≤ get_or h.counts.items s 0
-counted top s h ns t = omega (arith, t.each s, count-cons (s + 1) s ns, count-cons s s ns, one-lt s (s + 1) (omega arith), one-le s s (omega arith), count_rises s ns)
+pub Tallies-counted : (top s : ℕ) (h : Histogram) (ns : List ℕ) → Tallies top h (s ∷ ns) → 1 ≤ get_or h.counts.items s 0
+Tallies-counted top s h ns t = omega (arith, t.each s, count-cons (s + 1) s ns, count-cons s s ns, one-lt s (s + 1) (omega arith), one-le s s (omega arith), count_rises s ns)
 
 pub counted_below : (top s : ℕ) (h : Histogram) (ns : List ℕ) → Tallies top h (s ∷ ns) → s < h.level → 1 ≤ h.below
 counted_below top s h ns t lt = omega (arith, t.below, count-cons h.level s ns, one-lt s h.level lt)
@@ -110,13 +110,13 @@ counted_below top s h ns t lt = omega (arith, t.below, count-cons h.level s ns, 
 pub tallies_removed : (top s : ℕ) (h g : Histogram) (ns : List ℕ) → g.counts.items ≡ set h.counts.items s (get_or h.counts.items s 0 - 1) → g.level ≡ h.level → g.held + 1 ≡ h.held
     → g.below + cond (nat_lt s h.level) 1 0 ≡ h.below → Tallies top h (s ∷ ns) → Tallies top g ns
 tallies_removed top s h g ns counts-is level-is held-is below-is t =
-    let low = known top s h ns t in
+    let low = Tallies-known top s h ns t in
     record {
       short = t.short;
       size = ap length counts-is ∙ length-set h.counts.items s (get_or h.counts.items s 0 - 1) ∙ t.size;
       each = λ v.
           let counter = ap (λ (items : List ℕ). get_or items v 0) counts-is in
-          omega (arith, count-cons (v + 1) s ns, count-cons v s ns, counter, t.each v, put_less h.counts.items s v (omega (arith, t.size)) (counted top s h ns t));
+          omega (arith, count-cons (v + 1) s ns, count-cons v s ns, counter, t.each v, put_less h.counts.items s v (omega (arith, t.size)) (Tallies-counted top s h ns t));
       all = omega (arith, count-cons (top + 1) s ns, one-lt s (top + 1) (omega arith), t.all);
       below = let same = ap (λ (v : ℕ). count_under v ns) level-is in omega (arith, same, count-cons h.level s ns, below-is, t.below);
       held = omega (arith, held-is, t.held);
@@ -143,8 +143,8 @@ not_top top n h ns t all few = elim (cases_lt h.level top) [
 ]
 
 -- what was counted, with another spelling of one level
-pub entered : (top : ℕ) (h : Histogram) (s : ℕ) (ns l : List ℕ) → s ∷ [] ≡ l → Tallies top h (s ∷ ns) → Tallies top h (l ++ ns)
-entered top h s ns l e t = subst (λ (m : List ℕ). Tallies top h (m ++ ns)) e t
+pub Tallies-entered : (top : ℕ) (h : Histogram) (s : ℕ) (ns l : List ℕ) → s ∷ [] ≡ l → Tallies top h (s ∷ ns) → Tallies top h (l ++ ns)
+Tallies-entered top h s ns l e t = subst (λ (m : List ℕ). Tallies top h (m ++ ns)) e t
 
 -- the histogram with another present level
 pub tallies_moved : (top : ℕ) (h g : Histogram) (ns : List ℕ) → g.counts.items ≡ h.counts.items → g.held ≡ h.held → g.level ≤ top → g.below ≡ count_under g.level ns → Tallies top h ns → Tallies top g ns
@@ -159,5 +159,5 @@ tallies_moved top h g ns counts-is held-is level below t = record {
 }
 
 -- the level at which the count passes n is number n
-pub selected : (top k n : ℕ) (h : Histogram) (ns : List ℕ) → n ≡ max 1 (min k h.held) → h.below < n → n ≤ count_under (h.level + 1) ns → Tallies top h ns → h.level ≡ ranked k ns
-selected top k n h ns n-is few enough t = nth_from ns k n h.level (omega (arith, n-is, t.held)) (omega (arith, few, t.below), enough)
+pub level-selected : (top k n : ℕ) (h : Histogram) (ns : List ℕ) → n ≡ max 1 (min k h.held) → h.below < n → n ≤ count_under (h.level + 1) ns → Tallies top h ns → h.level ≡ ranked k ns
+level-selected top k n h ns n-is few enough t = nth_from ns k n h.level (omega (arith, n-is, t.held)) (omega (arith, few, t.below), enough)

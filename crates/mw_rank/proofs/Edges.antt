@@ -265,9 +265,9 @@ length-moving level d samples ends ns i j lt =
       length-drop (j + 1) ends,
     )
 
-pub ended : {A : Type 0} (top : ℕ) (h : Histogram) (level : A → ℕ) (d : A) (samples : List A) (ends : List Ends) (i j : ℕ) (ns : List ℕ) → length ends ≤ j
+pub Tallies-ended : {A : Type 0} (top : ℕ) (h : Histogram) (level : A → ℕ) (d : A) (samples : List A) (ends : List Ends) (i j : ℕ) (ns : List ℕ) → length ends ≤ j
     → Tallies top h (levels_entered level d samples (take j ends) i ++ (levels_left level d samples (drop j ends) i ++ ns)) → Tallies top h (levels_entered level d samples ends i ++ ns)
-ended top h level d samples ends i j ns le t =
+Tallies-ended top h level d samples ends i j ns le t =
     subst (λ (q : List Ends). Tallies top h (levels_entered level d samples q i ++ ns)) (take_all j ends le)
     (subst (λ (q : List Ends). Tallies top h (levels_entered level d samples (take j ends) i ++ (levels_left level d samples q i ++ ns))) (drop_all j ends le) t)
 

@@ -67,9 +67,9 @@ run_after level sight r x y =
     ∙ ap (λ (t : List ℕ). levels_under level sight (offsets_from (start_offset r) (r.count - 1)) (x + 1) y ++ t)
     (levels-cons level sight _ [] (x + 1) y ∙ append-nil _ ∙ levels_at-on level sight (start_offset r) (r.count - 1) (x + 1) y)
 
-pub leaving : {A : Type 0} (level : A → ℕ) (sight : Sight A) (runs : List Run) (i : ℕ) (r : Run) (x y : ℕ) → i < length runs → get_or runs i r ≡ r
+pub levels-leaving : {A : Type 0} (level : A → ℕ) (sight : Sight A) (runs : List Run) (i : ℕ) (r : Run) (x y : ℕ) → i < length runs → get_or runs i r ≡ r
     → Same (moved level sight runs i x y) (levels_at level sight (start_offset r) x y ++ staying level sight runs i r x y)
-leaving level sight runs i r x y lt is =
+levels-leaving level sight runs i r x y lt is =
     let rest = element_of (drop (i + 1) runs) in
     let split : levels_under level sight (element_of (drop i runs)) x y ≡ (levels_at level sight (start_offset r) x y ++ levels_under level sight (offsets_from (start_offset r) (r.count - 1)) (x + 1) y) ++ levels_under level sight rest x y =
     ap (λ (t : List Run). levels_under level sight (element_of t) x y) (drop_more runs i r lt)
@@ -80,9 +80,9 @@ leaving level sight runs i r x y lt is =
     subst (λ (t : List ℕ). Same (levels_under level sight (element_of (take i runs)) (x + 1) y ++ t) (levels_at level sight (start_offset r) x y ++ staying level sight runs i r x y)) (sym split)
     (same_first (levels_under level sight (element_of (take i runs)) (x + 1) y) (levels_at level sight (start_offset r) x y) (levels_under level sight (offsets_from (start_offset r) (r.count - 1)) (x + 1) y) (levels_under level sight rest x y))
 
-pub entering : {A : Type 0} (level : A → ℕ) (sight : Sight A) (runs : List Run) (i : ℕ) (r : Run) (x y : ℕ) → i < length runs → get_or runs i r ≡ r
+pub levels-entering : {A : Type 0} (level : A → ℕ) (sight : Sight A) (runs : List Run) (i : ℕ) (r : Run) (x y : ℕ) → i < length runs → get_or runs i r ≡ r
     → Same (levels_at level sight (start_offset r) (x + 1 + (r.count - 1)) y ++ staying level sight runs i r x y) (moved level sight runs (i + 1) x y)
-entering level sight runs i r x y lt is =
+levels-entering level sight runs i r x y lt is =
     let first = element_of (take i runs) in
     let e = levels_at level sight (start_offset r) (x + 1 + (r.count - 1)) y in
     let split : levels_under level sight (element_of (take (i + 1) runs)) (x + 1) y ≡ levels_under level sight first (x + 1) y ++ (levels_under level sight (offsets_from (start_offset r) (r.count - 1)) (x + 1) y ++ e) =

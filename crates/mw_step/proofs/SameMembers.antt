@@ -34,20 +34,20 @@ takes_in f laws d (x ∷ xs) = (own, takes_in f laws (f d x) xs)
 takes_start : {A : Type 0} (f : A → A → A) → IsExtremum f → (d : A) (xs : List A) → f (fold f d xs) d ≡ fold f d xs
 takes_start f laws d xs = sym (merged_late f laws d d xs) ∙ ap (λ (t : _). fold f t xs) (laws.is_idempotent d)
 
-stays : {A : Type 0} (f : A → A → A) (a : A) (ys : List A) → AllByRecursion (λ y. f a y ≡ a) ys → fold f a ys ≡ a
-stays f a [] all = refl
-stays f a (y ∷ ys) all = ap (λ (t : _). fold f t ys) all.0 ∙ stays f a ys all.1
+fold-stays : {A : Type 0} (f : A → A → A) (a : A) (ys : List A) → AllByRecursion (λ y. f a y ≡ a) ys → fold f a ys ≡ a
+fold-stays f a [] all = refl
+fold-stays f a (y ∷ ys) all = ap (λ (t : _). fold f t ys) all.0 ∙ fold-stays f a ys all.1
 
 -- an extremum that takes in no member of another list is not changed by that list's extremum
-above : {A : Type 0} (f : A → A → A) → IsExtremum f → (d : A) (xs ys : List A) → AllByRecursion (λ y. f (fold f d xs) y ≡ fold f d xs) ys → f (fold f d xs) (fold f d ys) ≡ fold f d xs
-above f laws d xs ys all =
+fold-above : {A : Type 0} (f : A → A → A) → IsExtremum f → (d : A) (xs ys : List A) → AllByRecursion (λ y. f (fold f d xs) y ≡ fold f d xs) ys → f (fold f d xs) (fold f d ys) ≡ fold f d xs
+fold-above f laws d xs ys all =
     laws.commutes (fold f d xs) (fold f d ys)
     ∙ sym (merged_late f laws d (fold f d xs) ys)
     ∙ ap (λ (t : _). fold f t ys) (laws.commutes d (fold f d xs) ∙ takes_start f laws d xs)
-    ∙ stays f (fold f d xs) ys all
+    ∙ fold-stays f (fold f d xs) ys all
 
 same_extremum : {A : Type 0} (f : A → A → A) → IsExtremum f → (d : A) (xs ys : List A) → AllByRecursion (λ y. f (fold f d xs) y ≡ fold f d xs) ys → AllByRecursion (λ x. f (fold f d ys) x ≡ fold f d ys) xs → fold f d xs ≡ fold f d ys
-same_extremum f laws d xs ys over under = sym (above f laws d xs ys over) ∙ laws.commutes (fold f d xs) (fold f d ys) ∙ above f laws d ys xs under
+same_extremum f laws d xs ys over under = sym (fold-above f laws d xs ys over) ∙ laws.commutes (fold f d xs) (fold f d ys) ∙ fold-above f laws d ys xs under
 
 -- what holds of all that is seen, and of what is seen at each offset
 seen_of : {A : Type 0} (P : A → Type 0) (look : Offset → Option A) (bs : List Offset) → AllByRecursion P (filter_map look bs) → AllByRecursion (λ b. IfSome (look b) P) bs

@@ -127,9 +127,9 @@ room_some t zero n position uses lt =
 room_some t (suc m) n position uses lt = omega arith
 
 -- what a way down has found, in the words of the numbers
-pub found : (t s xs : List ℕ) (room n place rest position : ℕ) → Uses t room n → s ≡ t → leaves t room n ≡ xs → place < room → rest < get_or s (room + place) 0 → span s room place + rest ≡ position
+pub span-found : (t s xs : List ℕ) (room n place rest position : ℕ) → Uses t room n → s ≡ t → leaves t room n ≡ xs → place < room → rest < get_or s (room + place) 0 → span s room place + rest ≡ position
     → (sum (take place xs) + rest ≡ position) × (rest < get_or xs place 0)
-found t s xs room n place rest position uses s-is xs-is lt more before =
+span-found t s xs room n place rest position uses s-is xs-is lt more before =
     let here : rest < get_or t (room + place) 0 = subst (λ (l : List ℕ). rest < get_or l (room + place) 0) s-is more in
     let used = leaf_used t room n place rest uses lt here in
     let first : sum (take place xs) ≡ span t room place = ap (λ (l : List ℕ). sum (take place l)) (sym xs-is) ∙ sum-first t room n place uses.tree.size uses.within (omega arith) in

@@ -80,9 +80,9 @@ pub record Holds (t : List ℕ) (room node rest position : ℕ) : Type 0 where
   pub before : span t room (node * 2 ^ height - room) + rest ≡ position
 
 -- one step down
-down : (t : List ℕ) (room node rest position h : ℕ) → IsTree t room → node < room → 1 ≤ node → room ≤ node * 2 ^ suc h → node * 2 ^ suc h + 2 ^ suc h ≤ 2 * room → rest < get_or t node 0
+descend-down : (t : List ℕ) (room node rest position h : ℕ) → IsTree t room → node < room → 1 ≤ node → room ≤ node * 2 ^ suc h → node * 2 ^ suc h + 2 ^ suc h ≤ 2 * room → rest < get_or t node 0
     → span t room (node * 2 ^ suc h - room) + rest ≡ position → (rest < get_or t (2 * node) 0 → Holds t room (2 * node) rest position) × (get_or t (2 * node) 0 ≤ rest → Holds t room (2 * node + 1) (rest - get_or t (2 * node) 0) position)
-down t room node rest position h tree inner some low high here before =
+descend-down t room node rest position h tree inner some low high here before =
     let p = 2 ^ h in
     let p-is : 2 ^ suc h ≡ p * 2 = pow-suc 2 h in
     let p-some : 1 ≤ p = one-le-pow h 2 (omega arith) in
@@ -118,7 +118,7 @@ goes_down t room node rest position tree inner holds = go holds.height holds.low
     go : (h : ℕ) → room ≤ node * 2 ^ h → node * 2 ^ h + 2 ^ h ≤ 2 * room → span t room (node * 2 ^ h - room) + rest ≡ position
         → (rest < get_or t (2 * node) 0 → Holds t room (2 * node) rest position) × (get_or t (2 * node) 0 ≤ rest → Holds t room (2 * node + 1) (rest - get_or t (2 * node) 0) position)
     go zero low high before = absurd (omega arith)
-    go (suc h) low high before = down t room node rest position h tree inner holds.some low high holds.here before
+    go (suc h) low high before = descend-down t room node rest position h tree inner holds.some low high holds.here before
 
 -- at a leaf
 pub at_leaf : (t : List ℕ) (room node rest position : ℕ) → room ≤ node → Holds t room node rest position → (node < 2 * room) × (span t room (node - room) + rest ≡ position)

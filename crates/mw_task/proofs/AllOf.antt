@@ -6,11 +6,11 @@ use Rattle.std.specs.List.{AllByRecursion}
 abbrev pub AllIsRest : {A : Type 0} → (A → Type 0) → List A → ℕ → Type 0
 AllIsRest P xs i = AllByRecursion P xs ↔ AllByRecursion P (drop i xs)
 
-split : {A : Type 0} (P : A → Type 0) (xs : List A) (i : ℕ) (x : A) → i < length xs → x ≡ get_or xs i x → drop i xs ≡ x ∷ drop (i + 1) xs
-split P xs i x lt is = drop-cons xs i x lt ∙ ap (λ (t : _). t ∷ drop (suc i) xs) (sym is) ∙ ap (λ (n : ℕ). x ∷ drop n xs) (sym (add-one i))
+drop-split : {A : Type 0} (P : A → Type 0) (xs : List A) (i : ℕ) (x : A) → i < length xs → x ≡ get_or xs i x → drop i xs ≡ x ∷ drop (i + 1) xs
+drop-split P xs i x lt is = drop-cons xs i x lt ∙ ap (λ (t : _). t ∷ drop (suc i) xs) (sym is) ∙ ap (λ (n : ℕ). x ∷ drop n xs) (sym (add-one i))
 
 pub all_fails : {A : Type 0} (P : A → Type 0) (xs : List A) (i : ℕ) (x : A) → i < length xs → x ≡ get_or xs i x → ¬ P x → AllIsRest P xs i → AllByRecursion P xs → ⊥
-all_fails P xs i x lt is not before all = not (subst (AllByRecursion P) (split P xs i x lt is) (before.0 all)).0
+all_fails P xs i x lt is not before all = not (subst (AllByRecursion P) (drop-split P xs i x lt is) (before.0 all)).0
 
 pub all_end : {A : Type 0} (P : A → Type 0) (xs : List A) (i : ℕ) → length xs ≤ i → AllIsRest P xs i → AllByRecursion P xs
 all_end P xs i past before = before.1 (empty P xs i past)

@@ -80,9 +80,9 @@ at_below top [] k all = omega arith
 at_below top (n ∷ ns) zero all = all.0
 at_below top (n ∷ ns) (suc k) all = at_below top ns k all.1
 
-either : (b : Bool) (top m n : ℕ) → m ≤ top → n ≤ top → cond b m n ≤ top
-either true top m n p q = p
-either false top m n p q = q
+cond-below : (b : Bool) (top m n : ℕ) → m ≤ top → n ≤ top → cond b m n ≤ top
+cond-below true top m n p q = p
+cond-below false top m n p q = q
 
 -- the value of a step at a place
 value_below : (s : PlanStep) (ws : List SourceWindow) (x y : ℕ) → KindsFit s ws → AllByRecursion IsBounded ws → is_sum s ≡ false
@@ -105,7 +105,7 @@ value_below s ws x y kinds all not = go s kinds not
         let found = seen_under (seen_at (window_at ws 0).view) e x y in
         at_below (window_at ws 0).maxval (in_rising_order found) (min k (length found) - 1) (order_below (window_at ws 0).maxval found (seen_below (window_at ws 0).maxval (seen_at (window_at ws 0).view) e x y first))
     go Minus kinds not = let h = here_below (window_at ws 0).maxval (seen_at (window_at ws 0).view) x y first in omega arith
-    go (AtLeast k) kinds not = either (nat_le k (here (seen_at (window_at ws 0).view) x y)) 1 1 0 (omega arith) (omega arith)
+    go (AtLeast k) kinds not = cond-below (nat_le k (here (seen_at (window_at ws 0).view) x y)) 1 1 0 (omega arith) (omega arith)
     go Invert kinds not = omega arith
     go Meet kinds not = let h = here_below (window_at ws 0).maxval (seen_at (window_at ws 0).view) x y first in omega arith
     go Join kinds not =
@@ -116,11 +116,11 @@ value_below s ws x y kinds all not = go s kinds not
     go (Blank m) kinds not = omega arith
     go (Mark v) kinds not =
         let h = here_below (window_at ws 0).maxval (seen_at (window_at ws 0).view) x y first in
-        either (here (seen_at (window_at ws 1).view) x y == 1 && here (seen_at (window_at ws 2).view) x y == 0) (window_at ws 0).maxval v (here (seen_at (window_at ws 0).view) x y) kinds.0 h
+        cond-below (here (seen_at (window_at ws 1).view) x y == 1 && here (seen_at (window_at ws 2).view) x y == 0) (window_at ws 0).maxval v (here (seen_at (window_at ws 0).view) x y) kinds.0 h
     go (MarkLast v) kinds not =
         let h = here_below (window_at ws 0).maxval (seen_at (window_at ws 0).view) x y first in
-        either (here (seen_at (window_at ws 1).view) x y == 1) (window_at ws 0).maxval v (here (seen_at (window_at ws 0).view) x y) kinds.0 h
-    go (Equal v) kinds not = either (here (seen_at (window_at ws 0).view) x y == v) 1 1 0 (omega arith) (omega arith)
+        cond-below (here (seen_at (window_at ws 1).view) x y == 1) (window_at ws 0).maxval v (here (seen_at (window_at ws 0).view) x y) kinds.0 h
+    go (Equal v) kinds not = cond-below (here (seen_at (window_at ws 0).view) x y == v) 1 1 0 (omega arith) (omega arith)
     go Sum kinds not = absurd (true_false not)
       where
         true_false : true ≡ false → ⊥

@@ -2,7 +2,7 @@
 use Rattle.std.proofs.Common.{◌≡◌, ℕ, zero, suc, ◌+◌, ◌<◌, ◌≤◌, ℤ, pos, negsuc, ◌+ℤ◌, ◌-ℤ◌, ◌≤ℤ◌, neg_ℤ, List, [], ◌∷◌, map, refl, ap, subst, arith, ◌∙◌}
 use Rattle.std.specs.List.{range_with_len, flat_map, AllByRecursion}
 use Rattle.std.proofs.lemmas.Int.{ints}
-use Rattle.mw_facts.proofs.Alls.{all-append, all-append_left, all-append_right}
+use Rattle.mw_facts.proofs.Alls.{all-append, all-append_left, all-append_right, all-weaker}
 use Rattle.mw_model.specs.declared.places.Offset.{Offset}
 use Rattle.mw_model.specs.declared.places.OffsetBox.{OffsetBox}
 use Rattle.mw_model.specs.Places.{span, nonnegative, box_offsets}
@@ -102,13 +102,9 @@ greatest_up_to : (m : ℕ) (ns : List ℕ) → AllByRecursion (λ n. n ≤ m) ns
 greatest_up_to m [] all = omega arith
 greatest_up_to m (n ∷ ns) all = let h = all.0 in omega (arith, greatest_up_to m ns all.1)
 
-weaker : (m n : ℕ) (ns : List ℕ) → m ≤ n → AllByRecursion (λ k. k ≤ m) ns → AllByRecursion (λ k. k ≤ n) ns
-weaker m n [] le all = tt
-weaker m n (k ∷ ks) le all = ((let h = all.0 in omega arith), weaker m n ks le all.1)
-
 all_up_to_greatest : (ns : List ℕ) → AllByRecursion (λ n. n ≤ greatest ns) ns
 all_up_to_greatest [] = tt
-all_up_to_greatest (n ∷ ns) = (omega arith, weaker (greatest ns) (greatest (n ∷ ns)) ns (omega arith) (all_up_to_greatest ns))
+all_up_to_greatest (n ∷ ns) = (omega arith, all-weaker (λ k. k ≤ greatest ns) (λ k. k ≤ greatest (n ∷ ns)) ns (λ k le. omega (arith, le)) (all_up_to_greatest ns))
 
 greatest_none : (measure : Offset → ℕ) (box : OffsetBox) → ((b : Offset) → InBox box b → ⊥) → greatest (map measure (box_offsets box)) ≡ 0
 greatest_none measure box none =

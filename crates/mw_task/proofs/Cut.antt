@@ -24,7 +24,7 @@ use Rattle.mw_task.specs.WindowTasks.{sight_of_window, made_of_windows, FitsStep
 use Rattle.mw_model.proofs.ImagePlaces.{drawn_same, sample_bounded}
 use Rattle.mw_element.proofs.Lists.{reach_within}
 use Rattle.mw_grid.proofs.Reaching.{reaches_all, stays_within}
-use Rattle.mw_tile.proofs.Shown.{agrees}
+use Rattle.mw_tile.proofs.Shown.{seen_at-agrees}
 use Rattle.mw_task.specs.Sources.{HasFrame, AreCut}
 use Rattle.std.proofs.lemmas.Grind.{get_or_default_zero}
 use Rattle.std.proofs.lemmas.List.{length-map}
@@ -78,7 +78,7 @@ window_agrees : (place : Rect) (f : Picture) → IsWithin place f.width f.height
     → Agree (seen_at (window_of place f).view) (sample_at f) offsets x y
 window_agrees place f within x y [] reaches = tt
 window_agrees place f within x y (b ∷ bs) reaches =
-    (agrees (window_of place f).view (whole f) (window_is_cut place f within) (pos x +ℤ b.dx) (pos y +ℤ b.dy) reaches.0 ∙ sight_whole f (pos x +ℤ b.dx) (pos y +ℤ b.dy), window_agrees place f within x y bs reaches.1)
+    (seen_at-agrees (window_of place f).view (whole f) (window_is_cut place f within) (pos x +ℤ b.dx) (pos y +ℤ b.dy) reaches.0 ∙ sight_whole f (pos x +ℤ b.dx) (pos y +ℤ b.dy), window_agrees place f within x y bs reaches.1)
 
 agree_seen : (f g : Sight ℕ) (offsets : List Offset) (x y : ℕ) → Agree f g offsets x y → seen_under f offsets x y ≡ seen_under g offsets x y
 agree_seen f g [] x y all = refl

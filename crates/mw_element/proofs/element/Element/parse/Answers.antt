@@ -3,7 +3,7 @@ use Rattle.mw_model.specs.Elements.{element_side, no_bitmap}
 use Rattle.mw_netpbm.specs.Faults.{bitmap_code_of, facts_of}
 use Rattle.mw_element.specs.Figures.{Rises}
 use Rattle.mw_element.proofs.Order.{offsets_rise}
-use Rattle.mw_element.proofs.Found.{bitmap_sides, no_element, no_place, no_ones, origin_refused, empty_told, facts_same, Told-figure, told_element, made_is_figure, made_element, made_only}
+use Rattle.mw_element.proofs.Found.{bitmap_sides, no_element, no_place, IsElement-no_ones, origin_refused, empty_told, facts_same, Told-figure, told_element, made_is_figure, made_element, made_only}
 use Rattle.mw_element.proofs.Few.{few_offsets}
 use Rattle.mw_element.proofs.element.Element.parse.Goals as goal
 
@@ -23,7 +23,7 @@ returns-then-ox-facts-clause-refused c =
     origin_refused c.args.bytes.now c.args.ox c.args.oy c.in-Ok.facts f.0 f.1 f.2 c.then-ox-facts.either
 
 pub returns-then-facts-eq0-clause-only : goal.returns-then-facts-eq0-clause-only
-returns-then-facts-eq0-clause-only c = λ figure is. absurd (no_ones c.args.bytes.now c.args.ox c.args.oy c.in-Ok.facts figure c.in-Ok.ensures.only c.if-facts-eq0.true is)
+returns-then-facts-eq0-clause-only c = λ figure is. absurd (IsElement-no_ones c.args.bytes.now c.args.ox c.args.oy c.in-Ok.facts figure c.in-Ok.ensures.only c.if-facts-eq0.true is)
 
 pub returns-then-facts-eq0-clause-refused : goal.returns-then-facts-eq0-clause-refused
 returns-then-facts-eq0-clause-refused c =
