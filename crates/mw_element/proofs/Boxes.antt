@@ -16,8 +16,9 @@ use Rattle.mw_facts.proofs.Alls.{all-weaker, all-append, all-contains}
 use Rattle.mw_model.specs.declared.places.Offset.{Offset}
 use Rattle.mw_model.specs.declared.places.OffsetBox.{OffsetBox}
 use Rattle.mw_model.specs.Elements.{same_offset}
+use Rattle.mw_model.proofs.Covers.{offset, offset-same}
 use Rattle.mw_element.specs.Figures.{FillsBox, InBox, LiesIn}
-use Rattle.mw_element.proofs.Lists.{made, made_is, same_decides, same_equiv, not_same, box_more}
+use Rattle.mw_element.proofs.Lists.{same_decides, same_equiv, not_same, box_more}
 
 -- ---- lists of offsets that follow one another
 
@@ -69,7 +70,7 @@ follows_more w x y xs le all = all-weaker (Follows x y) (Follows w y) xs (λ b f
 
 line : ℤ → ℤ → ℕ → List Offset
 line x y zero = []
-line x y (suc n) = made x y ∷ line (x +ℤ pos 1) y n
+line x y (suc n) = offset x y ∷ line (x +ℤ pos 1) y n
 
 grid : ℤ → ℤ → ℕ → ℕ → List Offset
 grid x y w zero = []
@@ -100,7 +101,7 @@ line_distinct : (x y : ℤ) (n : ℕ) → IsDistinct same_offset (line x y n)
 unfolding line
 line_distinct x y zero = distinct_nil
 line_distinct x y (suc n) =
-    IsDistinct-cons same_offset (made x y) (line (x +ℤ pos 1) y n) (apart_right (made x y) (x +ℤ pos 1) y (line (x +ℤ pos 1) y n) (omega (arith, ints)) (line_follows (x +ℤ pos 1) y n)) (line_distinct (x +ℤ pos 1) y n)
+    IsDistinct-cons same_offset (offset x y) (line (x +ℤ pos 1) y n) (apart_right (offset x y) (x +ℤ pos 1) y (line (x +ℤ pos 1) y n) (omega (arith, ints)) (line_follows (x +ℤ pos 1) y n)) (line_distinct (x +ℤ pos 1) y n)
 
 grid_distinct : (x y : ℤ) (w h : ℕ) → IsDistinct same_offset (grid x y w h)
 unfolding grid
@@ -120,8 +121,8 @@ unfolding line
 line_has q x y zero level low high = absurd (omega (arith, ints, low, high))
 line_has q x y (suc n) level low high =
     elim (int_split x q.dx low) [
-      | inl e ↦ or_left (same_offset q (made x y)) (list_any (same_offset q) (line (x +ℤ pos 1) y n)) ((same_decides q (made x y)).1 (made_is q.dx q.dy x y e level))
-      | inr lt ↦ or_right (same_offset q (made x y)) (list_any (same_offset q) (line (x +ℤ pos 1) y n)) (line_has q (x +ℤ pos 1) y n level lt (omega (arith, ints, high)))
+      | inl e ↦ or_left (same_offset q (offset x y)) (list_any (same_offset q) (line (x +ℤ pos 1) y n)) ((same_decides q (offset x y)).1 (offset-same q.dx q.dy x y e level))
+      | inr lt ↦ or_right (same_offset q (offset x y)) (list_any (same_offset q) (line (x +ℤ pos 1) y n)) (line_has q (x +ℤ pos 1) y n level lt (omega (arith, ints, high)))
     ]
 
 grid_has : (q : Offset) (x y : ℤ) (w h : ℕ) → x ≤ℤ q.dx → (q.dx +ℤ pos 1) ≤ℤ (x +ℤ pos w) → y ≤ℤ q.dy → (q.dy +ℤ pos 1) ≤ℤ (y +ℤ pos h) → list_any (same_offset q) (grid x y w h) ≡ true

@@ -17,18 +17,13 @@ use Rattle.mw_model.specs.Elements.{IsFigure, IsNear, reach_of, same_offset}
 use Rattle.mw_model.specs.Places.{nonnegative, WithinReach}
 use Rattle.mw_element.specs.Figures.{InBox, LiesIn, figure, grown, turned}
 use Rattle.mw_model.specs.Flat.{greatest, negated}
+use Rattle.mw_model.proofs.Covers.{offset-same}
 
 -- ---- sameness
 
-abbrev pub made : ℤ → ℤ → Offset
-made dx dy = record { dx = dx; dy = dy }
-
-pub made_is : (x y x' y' : ℤ) → x ≡ x' → y ≡ y' → made x y ≡ made x' y'
-made_is x y x' y' e f = rw (e, f) refl
-
 pub same_decides : (a b : Offset) → Decides (same_offset a b) (a ≡ b)
 same_decides a b =
-    Decides-like (same_offset a b) (λ e. made_is a.dx a.dy b.dx b.dy e.0 e.1) (λ e. (ap (λ (o : Offset). o.dx) e, ap (λ (o : Offset). o.dy) e))
+    Decides-like (same_offset a b) (λ e. offset-same a.dx a.dy b.dx b.dy e.0 e.1) (λ e. (ap (λ (o : Offset). o.dx) e, ap (λ (o : Offset). o.dy) e))
     (Decides-and (int_eq a.dx b.dx) (int_eq a.dy b.dy) (Decides-int_eq a.dx b.dx) (Decides-int_eq a.dy b.dy))
 
 pub same_equiv : IsEquivalence same_offset
@@ -60,7 +55,7 @@ turned_apart a b e =
     not_same (turned a) (turned b) (λ t.
     let x = neg_same a.dx b.dx (ap (λ (o : Offset). o.dx) t) in
     let y = neg_same a.dy b.dy (ap (λ (o : Offset). o.dy) t) in
-    true≢false (sym ((same_decides a b).1 (made_is a.dx a.dy b.dx b.dy x y)) ∙ e))
+    true≢false (sym ((same_decides a b).1 (offset-same a.dx a.dy b.dx b.dy x y)) ∙ e))
 
 negated_apart : (a : Offset) (xs : List Offset) → AllByRecursion (λ b. same_offset a b ≡ false) xs → AllByRecursion (λ b. same_offset (turned a) b ≡ false) (negated xs)
 negated_apart a [] h = tt

@@ -19,7 +19,11 @@ cond-min x y = grind (arith, nat_tests)
 pub cond-max : (x y : ℕ) → cond (ltb x y) y x ≡ max x y
 cond-max x y = grind (arith, nat_tests)
 
-pub one_if-le : (b : Bool) → cond b 1 0 ≤ 1
+-- 1 where it is true, else 0
+abbrev pub one_if : Bool → ℕ
+one_if b = cond b 1 0
+
+pub one_if-le : (b : Bool) → one_if b ≤ 1
 one_if-le true = omega arith
 one_if-le false = omega arith
 

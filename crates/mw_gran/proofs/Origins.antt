@@ -1,5 +1,5 @@
 -- An element holds its origin where the test says so.
-use Rattle.std.proofs.Common.{◌≡◌, suc, Bool, true, false, List, [], ◌∷◌, ℤ, pos, sym, arith, ◌∙◌, inl, inr}
+use Rattle.std.proofs.Common.{◌≡◌, suc, Bool, true, false, List, [], ◌∷◌, pos, sym, arith, ◌∙◌, inl, inr}
 use Rattle.std.specs.Prelude.{◌||◌, ◌&&◌}
 use Rattle.std.specs.Ordering.{int_eq}
 use Rattle.std.proofs.lemmas.Bool.Decides.{Decides-and, Decides-int_eq}
@@ -7,12 +7,7 @@ use Rattle.std.proofs.lemmas.Bool.{cases_Bool}
 use Rattle.mw_model.specs.declared.places.Offset.{Offset}
 use Rattle.mw_model.specs.Elements.{holds_origin}
 use Rattle.mw_model.specs.Laws.{HoldsOrigin}
-
-abbrev offset : ℤ → ℤ → Offset
-offset x y = record { dx = x; dy = y }
-
-same_offset : (x y z w : ℤ) → x ≡ z → y ≡ w → offset x y ≡ offset z w
-same_offset x y z w p q = cc
+use Rattle.mw_model.proofs.Covers.{offset, offset-same}
 
 abbrev at_origin : Offset → Bool
 at_origin b = int_eq b.dx (pos 0) && int_eq b.dy (pos 0)
@@ -20,7 +15,7 @@ at_origin b = int_eq b.dx (pos 0) && int_eq b.dy (pos 0)
 is_origin : (b : Offset) → at_origin b ≡ true → b ≡ offset (pos 0) (pos 0)
 is_origin b e =
     let both = (Decides-and (int_eq b.dx (pos 0)) (int_eq b.dy (pos 0)) (Decides-int_eq b.dx (pos 0)) (Decides-int_eq b.dy (pos 0))).0 e in
-    same_offset b.dx b.dy (pos 0) (pos 0) both.0 both.1
+    offset-same b.dx b.dy (pos 0) (pos 0) both.0 both.1
 
 or_false_left : (x y : Bool) → x ≡ false → (x || y) ≡ true → y ≡ true
 or_false_left true y off e = absurd cc

@@ -7,6 +7,13 @@ use Rattle.mw_model.specs.declared.places.Offset.{Offset}
 use Rattle.mw_model.specs.Pictures.{Picture, sample, sample_at}
 use Rattle.mw_model.specs.Flat.{under, least, greatest, negated}
 
+-- an offset by its two numbers
+abbrev pub offset : ℤ → ℤ → Offset
+offset x y = record { dx = x; dy = y }
+
+pub offset-same : (x y z w : ℤ) → x ≡ z → y ≡ w → offset x y ≡ offset z w
+offset-same x y z w p q = cc
+
 -- the element placed at (x, y) covers (u, v)
 abbrev pub Covers : List Offset → ℕ → ℕ → ℕ → ℕ → Type 0
 Covers [] x y u v = ⊥

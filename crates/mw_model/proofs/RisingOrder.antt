@@ -1,5 +1,5 @@
 -- Numbers in rising order, and the rank filter.
-use Rattle.std.proofs.Common.{◌≡◌, ℕ, zero, suc, ◌-◌, ◌<◌, ◌≤◌, List, [], ◌∷◌, length, get_or, min, refl, sym, subst, arith, inl, inr, cond, Bool}
+use Rattle.std.proofs.Common.{◌≡◌, ℕ, zero, suc, ◌-◌, ◌<◌, ◌≤◌, List, [], ◌∷◌, length, get_or, min, refl, sym, subst, arith, inl, inr}
 use Rattle.std.specs.Prelude.{nat_le, nat_lt, count_by}
 use Rattle.std.specs.List.{AllByRecursion, Contains}
 use Rattle.std.specs.List.Sorted.{IsNonDecreasing, IsPermutation}
@@ -8,6 +8,7 @@ use Rattle.std.proofs.lemmas.List.Elements.{Contains-get_or}
 use Rattle.std.proofs.lemmas.List.Sums.{sum_by-cons}
 use Rattle.std.proofs.lemmas.List.Sorted.{IsPermutation-refl, IsPermutation-cons, IsPermutation-sym, IsPermutation-trans, IsPermutation-swap, length_permutation, Contains-permutation, sum_by-IsPermutation}
 use Rattle.mw_facts.proofs.Alls.{all-get_or, all-weaker}
+use Rattle.mw_facts.proofs.Numbers.{one_if, one_if-le}
 use Rattle.mw_model.specs.declared.places.Offset.{Offset}
 use Rattle.mw_model.specs.Pictures.{Picture, sample}
 use Rattle.mw_model.specs.Flat.{under, rank, put_in_order, in_rising_order}
@@ -63,18 +64,11 @@ ordered_permutes [] = IsPermutation-refl []
 ordered_permutes (n ∷ ns) =
     IsPermutation-trans (n ∷ ns) (n ∷ in_rising_order ns) (put_in_order n (in_rising_order ns)) (IsPermutation-cons n ns (in_rising_order ns) (ordered_permutes ns)) (put_permutes n (in_rising_order ns))
 
--- what a number adds to a count
-abbrev one_if : Bool → ℕ
-one_if t = cond t 1 0
-
 none_below : (low : ℕ) (ns : List ℕ) → AllByRecursion (λ m. low ≤ m) ns → count_by (λ s. nat_lt s low) ns ≡ 0
 none_below low [] all = refl
 none_below low (n ∷ ns) all =
     let here : one_if (nat_lt n low) ≡ 0 = rw (le-ltb n low all.0) refl in
     omega (arith, sum_by-cons (λ s. one_if (nat_lt s low)) n ns, none_below low ns all.1)
-
-at_most_one : (t : Bool) → one_if t ≤ 1
-at_most_one t = elim (cases_Bool t) [ inl e ↦ rw e (omega arith) | inr e ↦ rw e (omega arith) ]
 
 -- of numbers in rising order at most i are below number i, counted from 0
 below_place : (ns : List ℕ) (i : ℕ) → Rises ns → i < length ns → count_by (λ s. nat_lt s (get_or ns i 0)) ns ≤ i
@@ -86,7 +80,7 @@ below_place (n ∷ ns) zero rises lt =
 below_place (n ∷ ns) (suc i) rises lt =
     let r = get_or ns i 0 in
     let first = sum_by-cons (λ s. one_if (nat_lt s r)) n ns in
-    omega (arith, first, at_most_one (nat_lt n r), below_place ns i rises.1 (omega arith))
+    omega (arith, first, one_if-le (nat_lt n r), below_place ns i rises.1 (omega arith))
 
 -- of numbers in rising order at least i + 1 are not above number i, counted from 0
 up_to_place : (ns : List ℕ) (i : ℕ) → Rises ns → i < length ns → i < count_by (λ s. nat_le s (get_or ns i 0)) ns

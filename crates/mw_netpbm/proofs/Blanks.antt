@@ -7,7 +7,7 @@ use Rattle.std.proofs.lemmas.List.{append-nil}
 use Rattle.mw_facts.proofs.Alls.{all-push}
 use Rattle.mw_netpbm.specs.declared.fault.ReadFault.TheVariants.{Header}
 use Rattle.mw_netpbm.specs.Reading.{skip_from, digits_from, number_at}
-use Rattle.mw_model.specs.NetpbmGrammar.{is_white, is_eol, is_digit}
+use Rattle.mw_model.specs.NetpbmGrammar.{is_white, is_eol, is_digit, NoDigit}
 use Rattle.mw_model.specs.NetpbmGrammar.{Blank, nothing, white, comment, value_after, IsNumber}
 use Rattle.mw_netpbm.proofs.Whole.{cond-chosen}
 use Rattle.mw_netpbm.proofs.Sides.{ok_is}
@@ -101,14 +101,10 @@ skipped bytes = Found-everywhere false [] bytes tt
 abbrev pub cap : ℕ → ℕ
 cap n = min n 4294967296
 
-abbrev pub Stops : List ℕ → Type 0
-Stops [] = Unit {0}
-Stops (b ∷ bs) = is_digit b ≡ false
-
 abbrev pub AreDigits : List ℕ → Type 0
 AreDigits text = AllByRecursion (λ d. IsTrue (is_digit d)) text
 
-pub digits_whole : (text : List ℕ) (n : ℕ) (rest : List ℕ) → AreDigits text → Stops rest → digits_from (cap n) (text ++ rest) ≡ (cap (value_after n text), rest)
+pub digits_whole : (text : List ℕ) (n : ℕ) (rest : List ℕ) → AreDigits text → NoDigit rest → digits_from (cap n) (text ++ rest) ≡ (cap (value_after n text), rest)
 unfolding digits_from
 digits_whole [] n [] all stop = refl
 digits_whole [] n (b ∷ bs) all stop = ap (λ (x : Bool). cond x (digits_from (min (10 * cap n + (b - 48)) 4294967296) bs) (cap n, b ∷ bs)) stop
@@ -123,7 +119,7 @@ pub record Run (bytes : List ℕ) : Type 0 where
   pub rest : List ℕ
   pub parts : bytes ≡ text ++ rest
   pub each : AreDigits text
-  pub stops : Stops rest
+  pub stops : NoDigit rest
 
 pub run_of : (bytes : List ℕ) → Run bytes
 run_of [] = record { text = []; rest = []; parts = refl; each = tt; stops = tt }
@@ -141,10 +137,10 @@ pub record Numbered (bytes rest : List ℕ) (capped : ℕ) : Type 0 where
   pub value : ℕ
   pub parts : bytes ≡ text ++ rest
   pub is_number : IsNumber text value
-  pub stops : Stops rest
+  pub stops : NoDigit rest
   pub is_capped : capped ≡ cap value
 
-pub number_whole : (text rest : List ℕ) (n : ℕ) → IsNumber text n → Stops rest → number_at (text ++ rest) ≡ Ok (cap n, rest)
+pub number_whole : (text rest : List ℕ) (n : ℕ) → IsNumber text n → NoDigit rest → number_at (text ++ rest) ≡ Ok (cap n, rest)
 unfolding number_at
 number_whole [] rest n is stop = absurd (omega (arith, is.some))
 number_whole (d ∷ text) rest n is stop =

@@ -8,12 +8,12 @@ use Rattle.mw_model.specs.declared.formats.Format.{Format}
 use Rattle.mw_model.specs.declared.formats.Format.TheVariants.{PlainBits, PlainGrey, RawBits, RawGrey}
 use Rattle.mw_model.specs.declared.formats.Header.{Header as Head}
 use Rattle.mw_netpbm.specs.Reading.{◌>>=◌, skip_from, gap_at, number_at, field_at}
-use Rattle.mw_model.specs.NetpbmGrammar.{is_white}
+use Rattle.mw_model.specs.NetpbmGrammar.{is_white, NoDigit}
 use Rattle.mw_netpbm.specs.Heading.{magic_at, maxval_at, white_at, head_at}
 use Rattle.mw_model.specs.NetpbmGrammar.{Blank, IsNumber, IsField, magic, IsMaxval, IsHeader, Begins}
 use Rattle.mw_netpbm.proofs.Whole.{cond-chosen}
 use Rattle.mw_netpbm.proofs.Sides.{bind_ok, ok_is}
-use Rattle.mw_netpbm.proofs.Blanks.{skip_blank, skip_visible, Skipped, at_visible, at_end, in_comment, skipped, digit_visible, cap, Stops, number_whole, number_parts, white_no_digit}
+use Rattle.mw_netpbm.proofs.Blanks.{skip_blank, skip_visible, Skipped, at_visible, at_end, in_comment, skipped, digit_visible, cap, number_whole, number_parts, white_no_digit}
 
 -- ---- a gap and a number
 
@@ -25,7 +25,7 @@ pub skip_number : (text rest : List ℕ) (n : ℕ) → IsNumber text n → skip_
 skip_number [] rest n is = absurd (omega (arith, is.some))
 skip_number (d ∷ text) rest n is = skip_visible d (text ++ rest) (digit_visible d is.each.0)
 
-pub field_whole : (bytes rest : List ℕ) (n : ℕ) → IsField bytes n → Stops rest → field_at (bytes ++ rest) ≡ Ok (cap n, rest)
+pub field_whole : (bytes rest : List ℕ) (n : ℕ) → IsField bytes n → NoDigit rest → field_at (bytes ++ rest) ≡ Ok (cap n, rest)
 unfolding field_at
 field_whole bytes rest n is stop =
     let regrouped : bytes ++ rest ≡ is.first ∷ (is.blank ++ (is.digits ++ rest)) = ap (λ (b : List ℕ). b ++ rest) is.parts ∙ ap (λ (b : List ℕ). is.first ∷ b) (append_assoc is.blank is.digits rest) in
@@ -39,7 +39,7 @@ pub record Fielded (bytes rest : List ℕ) (capped : ℕ) : Type 0 where
   pub value : ℕ
   pub parts : bytes ≡ text ++ rest
   pub is_field : IsField text value
-  pub stops : Stops rest
+  pub stops : NoDigit rest
   pub is_capped : capped ≡ cap value
 
 gap_parts : (bytes rest : List ℕ) → gap_at bytes ≡ Ok rest → (b : ℕ) × (bs : List ℕ) × (bytes ≡ b ∷ bs) × IsTrue (is_white b) × (skip_from false bs ≡ rest)
@@ -119,11 +119,11 @@ magic_parts (p ∷ d ∷ bs) x e =
 
 -- ---- the whole header
 
-stops_white : (b : ℕ) (bs : List ℕ) → is_white b ≡ true → Stops (b ∷ bs)
+stops_white : (b : ℕ) (bs : List ℕ) → is_white b ≡ true → NoDigit (b ∷ bs)
 stops_white b bs w = white_no_digit b w
 
-stops_field : (bytes rest : List ℕ) (n : ℕ) → IsField bytes n → Stops (bytes ++ rest)
-stops_field bytes rest n is = subst (λ (b : List ℕ). Stops (b ++ rest)) (sym is.parts) (white_no_digit is.first is.is_white)
+stops_field : (bytes rest : List ℕ) (n : ℕ) → IsField bytes n → NoDigit (bytes ++ rest)
+stops_field bytes rest n is = subst (λ (b : List ℕ). NoDigit (b ++ rest)) (sym is.parts) (white_no_digit is.first is.is_white)
 
 white_whole : (b : ℕ) (bs : List ℕ) → IsTrue (is_white b) → white_at (b ∷ bs) ≡ Ok bs
 unfolding white_at
@@ -138,14 +138,14 @@ white_parts (b ∷ bs) rest e =
       | inr w ↦ absurd (let clash : Err Header ≡ Ok rest = w.1 in cc)
     ]
 
-maxval_whole : (format : Format) (bytes rest : List ℕ) (n : ℕ) → IsMaxval format bytes n → Stops rest → maxval_at format (bytes ++ rest) ≡ Ok (cap n, rest)
+maxval_whole : (format : Format) (bytes rest : List ℕ) (n : ℕ) → IsMaxval format bytes n → NoDigit rest → maxval_at format (bytes ++ rest) ≡ Ok (cap n, rest)
 unfolding maxval_at
 maxval_whole PlainBits bytes rest n is stop = rw (is.0, is.1) refl
 maxval_whole RawBits bytes rest n is stop = rw (is.0, is.1) refl
 maxval_whole PlainGrey bytes rest n is stop = field_whole bytes rest n is stop
 maxval_whole RawGrey bytes rest n is stop = field_whole bytes rest n is stop
 
-maxval_stops : (format : Format) (bytes rest : List ℕ) (n : ℕ) → IsMaxval format bytes n → Stops rest → Stops (bytes ++ rest)
+maxval_stops : (format : Format) (bytes rest : List ℕ) (n : ℕ) → IsMaxval format bytes n → NoDigit rest → NoDigit (bytes ++ rest)
 maxval_stops PlainBits bytes rest n is stop = rw is.0 stop
 maxval_stops RawBits bytes rest n is stop = rw is.0 stop
 maxval_stops PlainGrey bytes rest n is stop = stops_field bytes rest n is
@@ -159,7 +159,7 @@ pub head_whole : (bytes raster : List ℕ) (h : Head) → IsHeader bytes h → h
 unfolding head_at
 head_whole bytes raster h is =
     let end : List ℕ = is.last ∷ raster in
-    let stop : Stops end = stops_white is.last raster is.is_last in
+    let stop : NoDigit end = stops_white is.last raster is.is_last in
     let regrouped : bytes ++ raster ≡ magic h.format ++ (is.width ++ (is.height ++ (is.maxval ++ end))) = ap (λ (b : List ℕ). b ++ raster) is.parts ∙ simp append_assoc in
     ap head_at regrouped
     ∙ rw (

@@ -8,14 +8,14 @@ use Rattle.std.proofs.lemmas.List.{append-nil, nil_from_length, take_all, take_a
 use Rattle.mw_netpbm.specs.declared.fault.ReadFault.{ReadFault}
 use Rattle.mw_netpbm.specs.declared.fault.ReadFault.TheVariants.{Header, Sample, Trailing}
 use Rattle.mw_netpbm.specs.Reading.{◌>>=◌, skip_from, digits_from, number_at}
-use Rattle.mw_model.specs.NetpbmGrammar.{is_white, is_digit}
+use Rattle.mw_model.specs.NetpbmGrammar.{is_white, is_digit, NoDigit}
 use Rattle.mw_model.specs.NetpbmGrammar.{bits_of}
 use Rattle.mw_netpbm.specs.Rasters.{words_of, row_bits, rows_bits}
 use Rattle.mw_netpbm.specs.Plain.{plain_at, tail_at, bit_at, pixel_at, apart, level_at, sample_at}
 use Rattle.mw_model.specs.NetpbmGrammar.{Blank, IsNumber, IsPairs, IsRows, IsTail, IsPixel, IsApart, IsSample, IsPlain, value_after}
 use Rattle.mw_netpbm.proofs.Whole.{cond-chosen}
 use Rattle.mw_netpbm.proofs.Sides.{Within, bind_ok, guard_ok, ok_is, plain_length, tail_nil}
-use Rattle.mw_netpbm.proofs.Blanks.{skip_blank, Visible, skip_visible, Skipped, at_visible, at_end, in_comment, skipped, cap, Stops, Numbered, number_parts, digits_whole, white_no_digit}
+use Rattle.mw_netpbm.proofs.Blanks.{skip_blank, Visible, skip_visible, Skipped, at_visible, at_end, in_comment, skipped, cap, Numbered, number_parts, digits_whole, white_no_digit}
 use Rattle.mw_netpbm.proofs.Headers.{skip_number}
 
 -- ---- pairs
@@ -167,7 +167,7 @@ abbrev AfterIt : ℕ → List ℕ → Type 0
 AfterIt zero rest = Unit {0}
 AfterIt (suc left) rest = IsTail rest
 
-apart_from : (left : ℕ) (rest : List ℕ) → AfterIt left rest → Stops rest → IsApart left rest
+apart_from : (left : ℕ) (rest : List ℕ) → AfterIt left rest → NoDigit rest → IsApart left rest
 apart_from zero rest h stop = stop
 apart_from (suc left) rest h stop = h
 
@@ -222,7 +222,7 @@ pub sample_parts : (maxval left : ℕ) (bytes : List ℕ) (x : ℕ × List ℕ) 
 unfolding sample_at
 sample_parts maxval left bytes x low e = level_found maxval left bytes (skip_from false bytes) x low (skipped bytes) e
 
-level_whole : (maxval left : ℕ) (text rest : List ℕ) (s : ℕ) → IsNumber text s → Stops rest → IsApart left rest → s ≤ maxval → maxval ≤ 65535 → level_at maxval left (text ++ rest) ≡ Ok (s, rest)
+level_whole : (maxval left : ℕ) (text rest : List ℕ) (s : ℕ) → IsNumber text s → NoDigit rest → IsApart left rest → s ≤ maxval → maxval ≤ 65535 → level_at maxval left (text ++ rest) ≡ Ok (s, rest)
 unfolding level_at
 level_whole maxval left [] rest s is stop after le low = absurd (omega (arith, is.some))
 level_whole maxval left (d ∷ text) rest s is stop after le low =
@@ -233,11 +233,11 @@ level_whole maxval left (d ∷ text) rest s is stop after le low =
     ∙ ap (λ (x : Bool). cond x (Err Sample) (apart left (s, rest))) (le-ltb _ _ le)
     ∙ apart_whole left s rest after
 
-pub tail_stops : (rest : List ℕ) → IsTail rest → Stops rest
+pub tail_stops : (rest : List ℕ) → IsTail rest → NoDigit rest
 tail_stops [] h = tt
 tail_stops (b ∷ bs) h = white_no_digit b h
 
-pub apart_stops : (left : ℕ) (rest : List ℕ) → IsApart left rest → Stops rest
+pub apart_stops : (left : ℕ) (rest : List ℕ) → IsApart left rest → NoDigit rest
 apart_stops zero [] h = tt
 apart_stops zero (b ∷ bs) h = h
 apart_stops (suc left) rest h = tail_stops rest h

@@ -9,7 +9,7 @@ use Rattle.mw_model.specs.Places.{box_offsets}
 use Rattle.mw_model.specs.Flat.{negated}
 use Rattle.mw_model.specs.Elements.{IsNear, IsFigure, Figure}
 use Rattle.mw_model.proofs.Covers as cover
-use Rattle.mw_model.proofs.Covers.{Covers}
+use Rattle.mw_model.proofs.Covers.{Covers, offset}
 use Rattle.mw_element.specs.Figures.{FillsBox, InBox, turned}
 use Rattle.mw_laws.proofs.Composed.{CoverSame}
 use Rattle.mw_task.proofs.Boxes.{box_all, box_at}
@@ -84,9 +84,6 @@ turned_same box e fills = record {
       let w = element-way e u v x y (cover.turned_back e x y u v c) in
       box_covers (turned_box box) (turned w.by) x y u v (in_turned box w.by ((fills w.by).0 w.holds)) (leads_back w.by u v x y w.leads);
 }
-
-abbrev offset : ℤ → ℤ → Offset
-offset x y = record { dx = x; dy = y }
 
 -- the bounds of a full rectangle are those of its offsets
 pub near_box : (box : OffsetBox) (f : Figure) → IsFigure f → FillsBox box f.offsets → IsNearBox box

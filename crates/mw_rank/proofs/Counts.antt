@@ -1,8 +1,9 @@
 -- Counting levels.
-use Rattle.std.proofs.Common.{◌≡◌, ℕ, ◌+◌, ◌-◌, ◌<◌, ◌≤◌, List, [], ◌∷◌, ◌++◌, length, get_or, set, refl, ap, sym, arith, ◌∙◌, inl, inr, cond, Bool, length-set, subst, get_or-set_same, get_or-set_other}
+use Rattle.std.proofs.Common.{◌≡◌, ℕ, ◌+◌, ◌-◌, ◌<◌, ◌≤◌, List, [], ◌∷◌, ◌++◌, length, get_or, set, refl, ap, sym, arith, ◌∙◌, inl, inr, cond, length-set, subst, get_or-set_same, get_or-set_other}
 use Rattle.std.specs.Prelude.{nat_lt, min, max}
 use Rattle.std.proofs.lemmas.Bool.{cases_lt, cases_order, lt-ltb, le-ltb}
 use Rattle.std.proofs.lemmas.List.Sums.{sum_by-cons, sum_by-append, count_by-le-length}
+use Rattle.mw_facts.proofs.Numbers.{one_if}
 use Rattle.mw_model.specs.PlanSteps.{ranked}
 use Rattle.mw_model.proofs.PlainRanks.{nth_from}
 use Rattle.mw_rank.specs.declared.histogram.Histogram.{Histogram}
@@ -16,9 +17,6 @@ count-append limit ns ms = sum_by-append (λ s. cond (nat_lt s limit) 1 0) ns ms
 
 pub count_within : (limit : ℕ) (ns : List ℕ) → count_under limit ns ≤ length ns
 count_within limit ns = count_by-le-length (λ s. nat_lt s limit) ns
-
-abbrev pub one_if : Bool → ℕ
-one_if b = cond b 1 0
 
 pub one-lt : (s v : ℕ) → s < v → one_if (nat_lt s v) ≡ 1
 one-lt s v lt = rw (lt-ltb s v lt) refl

@@ -4,7 +4,7 @@ use Rattle.mw_model.specs.declared.places.Rect.{Rect}
 use Rattle.mw_model.specs.declared.shapes.Kind.{Kind}
 use Rattle.mw_model.specs.Rasters.{Raster}
 use Rattle.mw_model.specs.Windows.{View, seen_at}
-use Rattle.mw_model.specs.Pictures.{Picture}
+use Rattle.mw_model.specs.Pictures.{Picture, picture}
 use Rattle.mw_model.specs.Plans.{is_sum}
 use Rattle.mw_model.specs.PlanSteps.{PlanStep, step_at, kind_of_step, maxval_of_step}
 use Rattle.mw_model.specs.Tasks.{made_in}
@@ -14,9 +14,6 @@ use Rattle.mw_task.specs.Products.{HoldsImage, IsMade, tile_drawn}
 use Rattle.mw_task.specs.declared.tile_result.TileResult.{TileResult}
 use Rattle.mw_task.specs.declared.tile_result.TileResult.TheVariants.{Bits, Grey8, Grey16, Number}
 use Rattle.mw_pieces.proofs.TileCells.{cells_in_are}
-
-abbrev pub picture : Kind → ℕ → ℕ → ℕ → List ℕ → Picture
-picture kind width height maxval samples = record { kind = kind; width = width; height = height; maxval = maxval; samples = samples }
 
 -- a plane with the values of a tile is the image of the tile
 pub plane_is : (kind : Kind) (maxval : ℕ) (tile : Rect) (value : ℕ → ℕ → ℕ) (p : Raster ℕ) → p.width ≡ tile.width → p.height ≡ tile.height → length p.cells ≡ tile.height * tile.width

@@ -9,11 +9,12 @@ use Rattle.mw_model.specs.declared.shapes.Kind.{Kind}
 use Rattle.mw_model.specs.PlanSteps.{ranked}
 use Rattle.mw_model.specs.Rasters.{Raster, seen_under}
 use Rattle.mw_model.specs.Windows.{View, seen_at}
+use Rattle.mw_model.specs.Pictures.{picture}
 use Rattle.mw_tile.specs.Windows.{SourceWindow}
 use Rattle.mw_task.specs.Products.{tile_drawn}
 use Rattle.mw_line.specs.Extrema.{IsSlidingExtremum}
 use Rattle.mw_rank.specs.Ranks.{IsRank}
-use Rattle.mw_step.proofs.Images.{picture, source, slid_plane}
+use Rattle.mw_step.proofs.Images.{source, slid_plane}
 
 -- of an extremum, which of levels up to the maxval is what it is said to be
 pub slid_extremum : (of_seen : ℕ → List ℕ → ℕ) (merge : ℕ → ℕ → ℕ) (neutral : ℕ) (offsets : List Offset) (u : SourceWindow) (kind : Kind) (maxval : ℕ) (w : View ℕ) (tile : Rect) (p : Raster ℕ) → u ≡ source kind maxval w

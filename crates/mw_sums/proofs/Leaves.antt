@@ -3,7 +3,7 @@ use Rattle.std.proofs.Common.{◌≡◌, ◌≢◌, ℕ, zero, suc, ◌+◌, ◌
 use Rattle.std.proofs.Math.Nat.{pow-suc}
 use Rattle.std.proofs.lemmas.Bool.{cases_lt, cases_eq}
 use Rattle.std.proofs.lemmas.List.{ext_get_or, get_or-take, get_or-drop, length-take-le, get_or_append_left, get_or_push}
-use Rattle.mw_sums.specs.Trees.{span, leaves, IsPower, IsTree, Uses}
+use Rattle.mw_sums.specs.Trees.{span, leaves, IsPower, Uses}
 use Rattle.mw_sums.proofs.Spans.{span-add, span-same, span-none, sum-span}
 use Rattle.mw_sums.proofs.Nodes.{node_span}
 
@@ -73,41 +73,6 @@ leaf_used t room n place rest uses lt more = elim (cases_lt place n) [
   | inl less ↦ less
   | inr past ↦ absurd (let none = uses.rest place past lt in omega arith)
 ]
-
--- no numbers
-pub uses_none : Uses [] 0 0
-uses_none = record {
-  tree = record { size = omega arith; few = omega arith; power = λ some. absurd (omega arith); sums = λ q some lt. absurd (omega arith); small = λ j lt. absurd (omega arith) };
-  within = omega arith;
-  rest = λ j from to. absurd (omega arith);
-}
-
--- a leaf more is used
-pub uses_more : (t s : List ℕ) (room n : ℕ) → Uses t room n → n < room → IsTree s room → ((j : ℕ) → j ≢ n → get_or s (room + j) 0 ≡ get_or t (room + j) 0) → Uses s room (n + 1)
-uses_more t s room n uses lt tree others = record {
-  tree = tree;
-  within = omega arith;
-  rest = λ j from to. others j (λ e. absurd (omega arith)) ∙ uses.rest j (omega arith) to;
-}
-
--- a leaf that is used is written
-pub uses_same : (t s : List ℕ) (room n place : ℕ) → Uses t room n → place < n → IsTree s room → ((j : ℕ) → j ≢ place → get_or s (room + j) 0 ≡ get_or t (room + j) 0) → Uses s room n
-uses_same t s room n place uses lt tree others = record {
-  tree = tree;
-  within = uses.within;
-  rest = λ j from to. others j (λ e. absurd (omega arith)) ∙ uses.rest j from to;
-}
-
--- the last leaf that is used is written with 0
-pub uses_less : (t s : List ℕ) (room n k : ℕ) → Uses t room n → k + 1 ≡ n → IsTree s room → get_or s (room + k) 0 ≡ 0 → ((j : ℕ) → j ≢ k → get_or s (room + j) 0 ≡ get_or t (room + j) 0) → Uses s room k
-uses_less t s room n k uses is tree here others = record {
-  tree = tree;
-  within = let le = uses.within in omega arith;
-  rest = λ j from to. elim (cases_eq j k) [
-    | inl e ↦ ap (λ (i : ℕ). get_or s (room + i) 0) e ∙ here
-    | inr ne ↦ others j ne ∙ uses.rest j (omega arith) to
-  ];
-}
 
 -- twice the room
 pub power_twice : (room more : ℕ) → (1 ≤ room → IsPower room) → more ≡ max (2 * room) 1 → IsPower more

@@ -9,6 +9,7 @@ use Rattle.mw_model.specs.Places.{span, nonnegative, box_offsets}
 use Rattle.mw_model.specs.declared.places.Reach.{Reach}
 use Rattle.mw_model.specs.Flat.{greatest}
 use Rattle.mw_model.specs.Elements.{reach_of}
+use Rattle.mw_model.proofs.Covers.{offset}
 use Rattle.mw_element.specs.Figures.{InBox}
 use Rattle.mw_task.proofs.AllOf.{all_map}
 
@@ -34,9 +35,6 @@ all_flat P row (x ∷ xs) all = all-append P (row x) (flat_map row xs) all.0 (al
 flat_all : {A : Type 0} (P : A → Type 0) (row : ℕ → List A) (xs : List ℕ) → AllByRecursion P (flat_map row xs) → AllByRecursion (λ j. AllByRecursion P (row j)) xs
 flat_all P row [] all = tt
 flat_all P row (x ∷ xs) all = (all-append_left P (row x) (flat_map row xs) all, flat_all P row xs (all-append_right P (row x) (flat_map row xs) all))
-
-abbrev offset : ℤ → ℤ → Offset
-offset x y = record { dx = x; dy = y }
 
 -- the places of a side
 in_span : (a b : ℤ) (i : ℕ) → i < span a b → (a +ℤ pos i) ≤ℤ b
