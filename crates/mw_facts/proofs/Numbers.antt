@@ -1,5 +1,5 @@
 -- Tests on numbers, and induction over the numbers below one.
-use Rattle.std.proofs.Common.{◌≡◌, ℕ, zero, suc, ◌+◌, ◌<◌, Bool, true, false, cond, ltb, min, max, ◌⊎◌, inl, inr, ◌≤◌, refl, arith}
+use Rattle.std.proofs.Common.{◌≡◌, ℕ, zero, suc, ◌+◌, ◌<◌, Bool, true, false, cond, ltb, min, max, ◌⊎◌, inl, inr, ◌≤◌, refl, arith, not, eqb}
 use Rattle.std.proofs.lemmas.Bool.{cases_lt}
 use Rattle.std.proofs.lemmas.Bool.Decides.{nat_tests}
 use lib.Count.{ones}
@@ -26,6 +26,9 @@ one_if b = cond b 1 0
 pub one_if-le : (b : Bool) → one_if b ≤ 1
 one_if-le true = omega arith
 one_if-le false = omega arith
+
+pub one_if-not_zero : (n : ℕ) → n ≤ 1 → one_if (not (eqb n 0)) ≡ n
+one_if-not_zero n le = grind (arith, nat_tests)
 
 pub below_or_last : (n t : ℕ) → t < n + 1 → (t < n) ⊎ (t ≡ n)
 below_or_last n t lt = elim (cases_lt t n) [ inl less ↦ inl less | inr past ↦ inr (omega arith) ]

@@ -4,8 +4,9 @@ use Rattle.std.specs.List.{AllByRecursion}
 use Rattle.std.proofs.lemmas.Bool.{cases_lt}
 use Rattle.std.proofs.lemmas.Nat.{mul-add-lt}
 use Rattle.std.proofs.lemmas.Option.{slice_get-get_or}
-use Rattle.std.proofs.lemmas.List.{append_assoc, get_or_default, take_all, take_more}
+use Rattle.std.proofs.lemmas.List.{append_assoc, get_or_default, take_more}
 use Rattle.std.proofs.Math.Arith.{digits_lt}
+pub use Rattle.mw_facts.proofs.Alls.{all-take_whole as all_whole}
 use Rattle.mw_facts.proofs.Alls.{all-get_or, all-push, all-weaker}
 use Rattle.mw_facts.proofs.Elements.{slice_get-append_left, slice_get-append-add, same_elements}
 use Rattle.mw_model.specs.declared.places.Rect.{Rect}
@@ -149,9 +150,6 @@ above_none r place value p r-is none x q first second =
 
 pub all_next : {A : Type 0} (P : A → Type 0) (xs : List A) (i : ℕ) (x : A) → i < length xs → x ≡ get_or xs i x → P x → AllByRecursion P (take i xs) → AllByRecursion P (take (i + 1) xs)
 all_next P xs i x lt is here before = subst (AllByRecursion P) (sym (take_more xs i x lt ∙ ap (λ (t : _). take i xs ++ t ∷ []) (sym is))) (all-push P (take i xs) x before here)
-
-pub all_whole : {A : Type 0} (P : A → Type 0) (xs : List A) (i : ℕ) → length xs ≤ i → AllByRecursion P (take i xs) → AllByRecursion P xs
-all_whole P xs i past all = subst (AllByRecursion P) (take_all i xs past) all
 
 -- ---- put together
 

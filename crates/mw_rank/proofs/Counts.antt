@@ -15,9 +15,6 @@ count-cons limit n ns = sum_by-cons (λ s. cond (nat_lt s limit) 1 0) n ns
 pub count-append : (limit : ℕ) (ns ms : List ℕ) → count_under limit (ns ++ ms) ≡ count_under limit ns + count_under limit ms
 count-append limit ns ms = sum_by-append (λ s. cond (nat_lt s limit) 1 0) ns ms
 
-pub count_within : (limit : ℕ) (ns : List ℕ) → count_under limit ns ≤ length ns
-count_within limit ns = count_by-le-length (λ s. nat_lt s limit) ns
-
 pub one-lt : (s v : ℕ) → s < v → one_if (nat_lt s v) ≡ 1
 one-lt s v lt = rw (lt-ltb s v lt) refl
 
@@ -46,7 +43,7 @@ tallies_same top h ns ms same t = record {
 
 -- a counter counts no more than all levels
 pub counter_within : (top : ℕ) (h : Histogram) (ns : List ℕ) (s : ℕ) → Tallies top h ns → get_or h.counts.items s 0 ≤ length ns
-counter_within top h ns s t = omega (arith, t.each s, count_within (s + 1) ns)
+counter_within top h ns s t = omega (arith, t.each s, count_by-le-length (λ r. nat_lt r (s + 1)) ns)
 
 -- the counter of a level and those of the others, where one is added
 put_more : (items : List ℕ) (s v : ℕ) → s < length items → cond (nat_lt s (v + 1)) 1 0 + get_or items v 0 ≡ get_or (set items s (get_or items s 0 + 1)) v 0 + cond (nat_lt s v) 1 0
@@ -87,7 +84,7 @@ tallies_added top s h g ns le counts-is level-is held-is below-is t = record {
 pub Tallies-known : (top s : ℕ) (h : Histogram) (ns : List ℕ) → Tallies top h (s ∷ ns) → s ≤ top
 Tallies-known top s h ns t = elim (cases_lt top s) [
   | inr low ↦ low
-  | inl high ↦ absurd (omega (arith, count-cons (top + 1) s ns, one-le s (top + 1) (omega arith), t.all, count_within (top + 1) ns))
+  | inl high ↦ absurd (omega (arith, count-cons (top + 1) s ns, one-le s (top + 1) (omega arith), t.all, count_by-le-length (λ r. nat_lt r (top + 1)) ns))
 ]
 
 count_rises : (s : ℕ) (ns : List ℕ) → count_under s ns ≤ count_under (s + 1) ns

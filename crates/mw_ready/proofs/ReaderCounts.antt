@@ -28,16 +28,13 @@ readers_one b readers active left task u counters keeps counts lt running u-lt =
     let parts = and_parts (flag b.started task) (not (flag b.finished task)) running in
     finished_one (λ t. reads b.needs b.grid t u) b.finished (task_count b) task lt keeps.finished (not-true (flag b.finished task) parts.1) ∙ sym (counts.each u u-lt)
 
-takes_number : (b : Board) (need : Need) (step tile u : ℕ) → tile < tile_count b.grid → get_or b.needs step no_need ≡ need → takes need b.grid tile u ≡ reads b.needs b.grid (task_number b.grid step tile) u
-takes_number b need step tile u lt is = sym (reads_takes b.needs need b.grid step tile u lt is)
-
 pub readers_counted : (b : Board) (readers counters : List ℕ) (need : Need) (active left step tile : ℕ) → Keeps b counters active left → CountsReaders b readers → Runs b step tile → get_or b.needs step no_need ≡ need
     → Counted (takes need b.grid tile) readers
 readers_counted b readers counters need active left step tile keeps counts runs is = λ u lt here.
     let task = task_number b.grid step tile in
     let u-lt : u < task_count b = let s = counts.size in omega arith in
     let one = readers_one b readers active left task u counters keeps counts (number_within b step tile runs) runs.running u-lt in
-    let there : bit (reads b.needs b.grid task u) ≡ 1 = ap bit (sym (takes_number b need step tile u runs.inside is) ∙ here) in
+    let there : bit (reads b.needs b.grid task u) ≡ 1 = ap bit (reads_takes b.needs need b.grid step tile u runs.inside is ∙ here) in
     omega arith
 
 pub finish_readers : (b : Board) (readers now counters : List ℕ) (started : List Bool) (need : Need) (active left step tile : ℕ) → Keeps b counters active left → CountsReaders b readers → Runs b step tile → get_or b.needs step no_need ≡ need
@@ -49,7 +46,7 @@ finish_readers b readers now counters started need active left step tile keeps c
       let u-lt : u < length readers = let s = counts.size in omega arith in
       let one = readers_one b readers active left task u counters keeps counts (number_within b step tile runs) runs.running lt in
       let low = lowers.each u u-lt in
-      let same : bit (takes need b.grid tile u) ≡ bit (reads b.needs b.grid task u) = ap bit (takes_number b need step tile u runs.inside is) in
+      let same : bit (takes need b.grid tile u) ≡ bit (reads b.needs b.grid task u) = ap bit (sym (reads_takes b.needs need b.grid step tile u runs.inside is)) in
       omega arith;
 }
 

@@ -13,18 +13,15 @@ use Rattle.mw_model.specs.Plans.{Planned}
 use Rattle.mw_model.specs.Tasks as tasks
 use Rattle.mw_model.specs.Tasks.{Progress, nothing_planned, is_step, flag, meets}
 use Rattle.mw_grid.specs.Grids.{tile_count}
-use Rattle.mw_grid.proofs.Lines.{row_less}
 use Rattle.mw_grid.proofs.Tiles.{length-tiles_of, tile_of-tiles_of, some_tiles}
 use Rattle.mw_ready.specs.Boards.{Board, step_reads, need_of, step_of, tile_of_task, place_of_task, reads, task_count, is_ready, is_running}
 use Rattle.mw_ready.specs.Work.{IsBoardOf, SameTasks}
 use Rattle.mw_grid.specs.Counts.{count_below}
 use Rattle.mw_ready.proofs.Counts.{all-same}
+use Rattle.mw_ready.proofs.Raising.{step_below}
 
 tiles_number : (b : Board) (p : Progress) → IsBoardOf b p → length p.tiles ≡ tile_count b.grid
 tiles_number b p of = ap (λ (ts : List Rect). length ts) of.tiles ∙ length-tiles_of b.grid
-
-step_lt : (b : Board) (n : ℕ) → n < task_count b → step_of b.grid n < length b.needs
-step_lt b n lt = row_less (length b.needs) (tile_count b.grid) n (some_tiles b.grid) lt
 
 planned_is : (b : Board) (p : Progress) (n : ℕ) → IsBoardOf b p → tasks.planned_of p n ≡ get_or p.plan (step_of b.grid n) nothing_planned
 planned_is b p n of = ap (λ (m : ℕ). get_or p.plan (n / m) nothing_planned) (tiles_number b p of)
@@ -37,7 +34,7 @@ tile_is b p n of =
 
 place_is : (b : Board) (p : Progress) (n : ℕ) → IsBoardOf b p → n < task_count b → tasks.place_of_task p n ≡ place_of_task b.needs b.grid n
 place_is b p n of lt =
-    let need = of.needs (step_of b.grid n) (step_lt b n lt) in
+    let need = of.needs (step_of b.grid n) (step_below b.grid (length b.needs) n lt) in
     ap (λ (s : Planned). grown p.width p.height (reach_of (looks_at s.step)) (tasks.tile_of_task p n)) (planned_is b p n of)
     ∙ ap (λ (r : Reach). grown p.width p.height r (tasks.tile_of_task p n)) (sym need.reach)
     ∙ ap (λ (w : ℕ). grown w p.height (need_of b.needs b.grid n).reach (tasks.tile_of_task p n)) of.width
@@ -46,7 +43,7 @@ place_is b p n of lt =
 
 reads_is : (b : Board) (p : Progress) (n u : ℕ) → IsBoardOf b p → n < task_count b → tasks.reads p n u ≡ reads b.needs b.grid n u
 reads_is b p n u of lt =
-    let need = of.needs (step_of b.grid n) (step_lt b n lt) in
+    let need = of.needs (step_of b.grid n) (step_below b.grid (length b.needs) n lt) in
     ap (λ (s : Planned). list_any (is_step (tasks.step_number p u)) s.sources && meets (tasks.place_of_task p n) (tasks.tile_of_task p u)) (planned_is b p n of)
     ∙ ap (λ (v : Bool). v && meets (tasks.place_of_task p n) (tasks.tile_of_task p u)) (sym (need.steps (tasks.step_number p u)))
     ∙ ap (λ (m : ℕ). step_reads (need_of b.needs b.grid n) (u / m) && meets (tasks.place_of_task p n) (tasks.tile_of_task p u)) (tiles_number b p of)

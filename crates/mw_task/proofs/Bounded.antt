@@ -5,13 +5,14 @@ use Rattle.std.proofs.lemmas.Grind.{get_or_default_zero}
 use Rattle.std.proofs.lemmas.Option.{slice_get_within, get_or_from_slice_get, none-some}
 use Rattle.mw_model.specs.declared.places.Offset.{Offset}
 use Rattle.mw_model.specs.Places.{box_offsets}
-use Rattle.mw_model.specs.Flat.{greatest, in_rising_order, put_in_order}
+use Rattle.mw_model.specs.Flat.{greatest, in_rising_order}
 use Rattle.mw_model.specs.Rasters.{Raster, raster, cell_at, Sight, seen_under}
 use Rattle.mw_model.specs.Windows.{seen_at}
 use Rattle.mw_model.specs.Plans.{is_sum}
 use Rattle.mw_model.specs.PlanSteps.{PlanStep, Erode, Dilate, ErodeBox, DilateBox, Rank, Minus, AtLeast, Invert, Meet, Join, Blank, Mark, MarkLast, Equal, Sum, step_at, here, maxval_of_step}
 use Rattle.mw_model.specs.Tasks.{cells_in}
 use Rattle.mw_model.proofs.Covers.{least_at_most}
+use Rattle.mw_model.proofs.ImageLaws.{index_below, sorted_below}
 use Rattle.mw_tile.specs.Windows.{SourceWindow}
 use Rattle.mw_task.specs.WindowTasks.{WindowTask, window_at, KindsFit, IsBounded, tile_made}
 use Rattle.mw_pieces.proofs.TileCells.{length-cells_in, cells_in_all}
@@ -48,7 +49,7 @@ here_below top f x y below = go (f (pos x) (pos y)) (λ v e. below (pos x) (pos 
     go None each = omega arith
     go (Some v) each = each v refl
 
-abbrev AllUpTo : ℕ → List ℕ → Type 0
+abbrev pub AllUpTo : ℕ → List ℕ → Type 0
 AllUpTo top ns = AllByRecursion (λ n. n ≤ top) ns
 
 seen_below : (top : ℕ) (f : Sight ℕ) (offsets : List Offset) (x y : ℕ) → IsBelow top f → AllUpTo top (seen_under f offsets x y)
@@ -59,26 +60,9 @@ seen_below top f (b ∷ bs) x y below = go (f (pos x +ℤ b.dx) (pos y +ℤ b.dy
     go None each rest = rest
     go (Some v) each rest = (each v refl, rest)
 
-greatest_below : (top : ℕ) (ns : List ℕ) → AllUpTo top ns → greatest ns ≤ top
+pub greatest_below : (top : ℕ) (ns : List ℕ) → AllUpTo top ns → greatest ns ≤ top
 greatest_below top [] all = omega arith
 greatest_below top (n ∷ ns) all = let h = all.0 in omega (arith, greatest_below top ns all.1)
-
-put_below : (top n : ℕ) (ns : List ℕ) → n ≤ top → AllUpTo top ns → AllUpTo top (put_in_order n ns)
-put_below top n [] h all = (h, tt)
-put_below top n (m ∷ ms) h all = go (nat_le n m) (put_below top n ms h all.1)
-  where
-    go : (b : Bool) → AllUpTo top (put_in_order n ms) → AllUpTo top (cond b (n ∷ m ∷ ms) (m ∷ put_in_order n ms))
-    go true rest = (h, all)
-    go false rest = (all.0, rest)
-
-order_below : (top : ℕ) (ns : List ℕ) → AllUpTo top ns → AllUpTo top (in_rising_order ns)
-order_below top [] all = tt
-order_below top (n ∷ ns) all = put_below top n (in_rising_order ns) all.0 (order_below top ns all.1)
-
-at_below : (top : ℕ) (ns : List ℕ) (k : ℕ) → AllUpTo top ns → get_or ns k 0 ≤ top
-at_below top [] k all = omega arith
-at_below top (n ∷ ns) zero all = all.0
-at_below top (n ∷ ns) (suc k) all = at_below top ns k all.1
 
 cond-below : (b : Bool) (top m n : ℕ) → m ≤ top → n ≤ top → cond b m n ≤ top
 cond-below true top m n p q = p
@@ -103,7 +87,7 @@ value_below s ws x y kinds all not = go s kinds not
     go (DilateBox b) kinds not = greatest_below (window_at ws 0).maxval (seen_under (seen_at (window_at ws 0).view) (box_offsets b) x y) (seen_below (window_at ws 0).maxval (seen_at (window_at ws 0).view) (box_offsets b) x y first)
     go (Rank e k) kinds not =
         let found = seen_under (seen_at (window_at ws 0).view) e x y in
-        at_below (window_at ws 0).maxval (in_rising_order found) (min k (length found) - 1) (order_below (window_at ws 0).maxval found (seen_below (window_at ws 0).maxval (seen_at (window_at ws 0).view) e x y first))
+        index_below (window_at ws 0).maxval (in_rising_order found) (min k (length found) - 1) (sorted_below (window_at ws 0).maxval found (seen_below (window_at ws 0).maxval (seen_at (window_at ws 0).view) e x y first))
     go Minus kinds not = let h = here_below (window_at ws 0).maxval (seen_at (window_at ws 0).view) x y first in omega arith
     go (AtLeast k) kinds not = cond-below (nat_le k (here (seen_at (window_at ws 0).view) x y)) 1 1 0 (omega arith) (omega arith)
     go Invert kinds not = omega arith

@@ -12,6 +12,7 @@ use Rattle.mw_model.specs.Elements.{reach_of}
 use Rattle.mw_model.proofs.Covers.{offset}
 use Rattle.mw_element.specs.Figures.{InBox}
 use Rattle.mw_task.proofs.AllOf.{all_map}
+use Rattle.mw_task.proofs.Bounded.{greatest_below}
 
 all_range : (P : ℕ → Type 0) (a n : ℕ) → ((k : ℕ) → a ≤ k → k < a + n → P k) → AllByRecursion P (range_with_len a n)
 all_range P a zero each = tt
@@ -95,11 +96,6 @@ box_at P box all b inside =
     front : (n : ℕ) → 0 + n ≡ n
     front n = omega arith
 
--- the greatest measure of an offset of a box is that of one that none is above
-greatest_up_to : (m : ℕ) (ns : List ℕ) → AllByRecursion (λ n. n ≤ m) ns → greatest ns ≤ m
-greatest_up_to m [] all = omega arith
-greatest_up_to m (n ∷ ns) all = let h = all.0 in omega (arith, greatest_up_to m ns all.1)
-
 all_up_to_greatest : (ns : List ℕ) → AllByRecursion (λ n. n ≤ greatest ns) ns
 all_up_to_greatest [] = tt
 all_up_to_greatest (n ∷ ns) = (omega arith, all-weaker (λ k. k ≤ greatest ns) (λ k. k ≤ greatest (n ∷ ns)) ns (λ k le. omega (arith, le)) (all_up_to_greatest ns))
@@ -107,13 +103,13 @@ all_up_to_greatest (n ∷ ns) = (omega arith, all-weaker (λ k. k ≤ greatest n
 greatest_none : (measure : Offset → ℕ) (box : OffsetBox) → ((b : Offset) → InBox box b → ⊥) → greatest (map measure (box_offsets box)) ≡ 0
 greatest_none measure box none =
     let le : greatest (map measure (box_offsets box)) ≤ 0 =
-    greatest_up_to 0 (map measure (box_offsets box)) ((all_map (λ n. n ≤ 0) measure (box_offsets box)).1 (box_all (λ b. measure b ≤ 0) box (λ b inside. absurd (none b inside)))) in
+    greatest_below 0 (map measure (box_offsets box)) ((all_map (λ n. n ≤ 0) measure (box_offsets box)).1 (box_all (λ b. measure b ≤ 0) box (λ b inside. absurd (none b inside)))) in
     omega arith
 
 greatest_at : (measure : Offset → ℕ) (box : OffsetBox) (b : Offset) → InBox box b → ((c : Offset) → InBox box c → measure c ≤ measure b) → greatest (map measure (box_offsets box)) ≡ measure b
 greatest_at measure box b inside each =
     let ns = map measure (box_offsets box) in
-    let le : greatest ns ≤ measure b = greatest_up_to (measure b) ns ((all_map (λ n. n ≤ measure b) measure (box_offsets box)).1 (box_all (λ c. measure c ≤ measure b) box each)) in
+    let le : greatest ns ≤ measure b = greatest_below (measure b) ns ((all_map (λ n. n ≤ measure b) measure (box_offsets box)).1 (box_all (λ c. measure c ≤ measure b) box each)) in
     let ge : measure b ≤ greatest ns = box_at (λ c. measure c ≤ greatest ns) box ((all_map (λ n. n ≤ greatest ns) measure (box_offsets box)).0 (all_up_to_greatest ns)) b inside in
     omega arith
 

@@ -150,7 +150,7 @@ source_agrees s m n tile (f ∷ fs) zero i j frames within across down =
     window_agrees place f here_f.0 (tile.x + i) (tile.y + j) (looks_at s) here_f.1
 source_agrees s m n tile (f ∷ fs) (suc k) i j frames within across down = source_agrees s m n tile fs k i j frames.1 within across down
 
-top_agrees : (place : Rect) (sources : List Picture) (k : ℕ) → (slice_index_or (map (window_of place) sources) k no_window).maxval ≡ (slice_index_or sources k no_picture).maxval
+pub top_agrees : (place : Rect) (sources : List Picture) (k : ℕ) → (slice_index_or (map (window_of place) sources) k no_window).maxval ≡ (slice_index_or sources k no_picture).maxval
 top_agrees place [] k = refl
 top_agrees place (f ∷ fs) zero = refl
 top_agrees place (f ∷ fs) (suc k) = top_agrees place fs k
