@@ -1,5 +1,5 @@
 -- Counting: sums over the numbers of a range.
-use Rattle.std.proofs.Common.{◌≡◌, ◌≢◌, ℕ, zero, suc, ◌+◌, ◌-◌, ◌*◌, ◌/◌, ◌%◌, ◌<◌, ◌≤◌, Bool, true, false, ◌&&◌, cond, nat_eq, nat_le, List, ◌∷◌, count_by, refl, ap, sym, ◌∙◌, arith, inl, inr, ne_of_lt, ne_of_gt}
+use Rattle.std.proofs.Common.{◌≡◌, ◌≢◌, ℕ, zero, suc, ◌+◌, ◌-◌, ◌*◌, ◌/◌, ◌%◌, ◌<◌, ◌≤◌, Bool, true, false, ◌&&◌, cond, nat_eq, nat_le, List, ◌∷◌, count_by, refl, ap, sym, ◌∙◌, arith, inl, inr, ne_of_lt, ne_of_gt, add-zero, zero-add}
 use Rattle.std.specs.List.{range_with_len}
 use Rattle.std.proofs.Math.Bool.{and-false}
 use Rattle.std.proofs.lemmas.Bool.{cases_lt, eq-eqb, ne_eqb, lt-ltb, le-ltb, le-leb, lt-leb}
@@ -82,26 +82,17 @@ count-more p q x n lt each = count-total p 0 n ∙ total-more (λ t. bit (p t)) 
 
 -- one number more
 total-next : (f : ℕ → ℕ) (a n : ℕ) → total f a (suc n) ≡ total f a n + f (a + n)
-total-next f a zero = omega (arith, ap f (back a))
-  where
-    back : (a : ℕ) → a + 0 ≡ a
-    back a = omega arith
+total-next f a zero = omega (arith, ap f (add-zero a))
 total-next f a (suc n) = omega (arith, total-next f (a + 1) n, ap f (along a n))
   where
     along : (a n : ℕ) → a + suc n ≡ a + 1 + n
     along a n = omega arith
 
 pub count-next : (p : ℕ → Bool) (n : ℕ) → count_below p (suc n) ≡ count_below p n + bit (p n)
-count-next p n = count-total p 0 (suc n) ∙ total-next (λ t. bit (p t)) 0 n ∙ ap (λ (k : ℕ). k + bit (p (0 + n))) (sym (count-total p 0 n)) ∙ ap (λ (k : ℕ). count_below p n + bit (p k)) (front n)
-  where
-    front : (n : ℕ) → 0 + n ≡ n
-    front n = omega arith
+count-next p n = count-total p 0 (suc n) ∙ total-next (λ t. bit (p t)) 0 n ∙ ap (λ (k : ℕ). k + bit (p (0 + n))) (sym (count-total p 0 n)) ∙ ap (λ (k : ℕ). count_below p n + bit (p k)) (zero-add n)
 
 pub count-add : (p : ℕ → Bool) (a b : ℕ) → count_below p (a + b) ≡ count_below p a + count_below (λ t. p (a + t)) b
-count-add p a zero = ap (count_below p) (back a) ∙ sym (back (count_below p a))
-  where
-    back : (a : ℕ) → a + 0 ≡ a
-    back a = omega arith
+count-add p a zero = ap (count_below p) (add-zero a) ∙ sym (add-zero (count_below p a))
 count-add p a (suc b) =
     ap (count_below p) (along a b)
     ∙ count-next p (a + b)

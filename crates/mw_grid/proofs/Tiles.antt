@@ -1,5 +1,5 @@
 -- Tiles cover a frame once.
-use Rattle.std.proofs.Common.{◌≡◌, ℕ, zero, suc, ◌+◌, ◌-◌, ◌*◌, ◌/◌, ◌%◌, ◌<◌, ◌≤◌, min, map, length, arith, sym, ap, subst, ◌∙◌}
+use Rattle.std.proofs.Common.{◌≡◌, ℕ, zero, suc, ◌+◌, ◌-◌, ◌*◌, ◌/◌, ◌%◌, ◌<◌, ◌≤◌, min, map, length, arith, sym, ap, subst, ◌∙◌, zero-add}
 use Rattle.std.specs.List.{range_with_len, AllByRecursion}
 use Rattle.std.proofs.lemmas.Nat.{div-mul-add, mod-mul-add, mod_below}
 use Rattle.std.proofs.lemmas.List.FromFn.{length-map-range_with_len, get_or-map-range_with_len}
@@ -44,10 +44,7 @@ pub length-tiles_of : (g : Tiling) → length (tiles_of g) ≡ tile_count g
 length-tiles_of g = length-map-range_with_len (tile_at g) 0 (tile_count g)
 
 pub tile_of-tiles_of : (g : Tiling) (i : ℕ) → i < tile_count g → tile_of (tiles_of g) i ≡ tile_at g i
-tile_of-tiles_of g i lt = get_or-map-range_with_len (tile_at g) 0 (tile_count g) i i (rect 0 0 0 0) lt (front i)
-  where
-    front : (i : ℕ) → 0 + i ≡ i
-    front i = omega arith
+tile_of-tiles_of g i lt = get_or-map-range_with_len (tile_at g) 0 (tile_count g) i i (rect 0 0 0 0) lt (zero-add i)
 
 all_from : (g : Tiling) (start n : ℕ) → HasTiles g → start + n ≤ tile_count g → AllByRecursion (λ r. IsWithin r g.width g.height) (map (tile_at g) (range_with_len start n))
 all_from g start zero has le = tt

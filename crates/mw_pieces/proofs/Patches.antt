@@ -6,6 +6,7 @@ use Rattle.std.proofs.lemmas.Nat.{mul-add-lt}
 use Rattle.std.proofs.lemmas.Option.{slice_get-get_or}
 use Rattle.std.proofs.lemmas.List.{append_assoc, get_or_default, take_more}
 use Rattle.std.proofs.Math.Arith.{digits_lt}
+use Rattle.std.proofs.Math.Nat.{sub-zero}
 pub use Rattle.mw_facts.proofs.Alls.{all-take_whole as all_whole}
 use Rattle.mw_facts.proofs.Alls.{all-get_or, all-push, all-weaker}
 use Rattle.mw_facts.proofs.Elements.{slice_get-append_left, slice_get-append-add, same_elements}
@@ -229,10 +230,7 @@ abbrev pub at_frame : {A : Type 0} → Rect → Raster A → ℕ → ℕ → Opt
 at_frame r f = cell_of (patch r f.cells)
 
 frame_is : {A : Type 0} (f : Raster A) (r : Rect) (x y : ℕ) → r ≡ whole_frame f.width f.height → at_frame r f x y ≡ frame_value f x y
-frame_is f r x y r-is = ap (λ (q : Rect). at_frame q f x y) r-is ∙ ap (λ (t : ℕ). slice_get f.cells (t * f.width + (x - 0))) (all y) ∙ ap (λ (t : ℕ). slice_get f.cells (y * f.width + t)) (all x)
-  where
-    all : (n : ℕ) → n - 0 ≡ n
-    all n = omega arith
+frame_is f r x y r-is = ap (λ (q : Rect). at_frame q f x y) r-is ∙ ap (λ (t : ℕ). slice_get f.cells (t * f.width + (x - 0))) (sub-zero y) ∙ ap (λ (t : ℕ). slice_get f.cells (y * f.width + t)) (sub-zero x)
 
 pub frame_at : (w h m n : ℕ) (r : Rect) → r ≡ whole_frame w h → w ≡ m → h ≡ n → r ≡ whole_frame m n
 frame_at w h m n r r-is w-is h-is = rw (← w-is, ← h-is) r-is

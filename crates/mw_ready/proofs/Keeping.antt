@@ -1,6 +1,6 @@
 -- The counters of a board are kept.
 use Rattle.std.specs.List.{list_all}
-use Rattle.std.proofs.Common.{◌≡◌, ◌≢◌, ℕ, ◌+◌, ◌-◌, ◌*◌, ◌/◌, ◌%◌, ◌<◌, ◌≤◌, Bool, true, false, not, ◌&&◌, ◌||◌, nat_eq, List, length, refl, ap, sym, subst, ◌∙◌, arith, inl, inr, set, get_or, replicate, ◌^◌, length-set}
+use Rattle.std.proofs.Common.{◌≡◌, ◌≢◌, ℕ, ◌+◌, ◌-◌, ◌*◌, ◌/◌, ◌%◌, ◌<◌, ◌≤◌, Bool, true, false, not, ◌&&◌, ◌||◌, nat_eq, List, length, refl, ap, sym, subst, ◌∙◌, arith, inl, inr, set, get_or, replicate, ◌^◌, length-set, add-zero}
 use Rattle.std.proofs.lemmas.Bool.{cases_eq, not-true, both_ways, eqb-true}
 use Rattle.std.proofs.lemmas.List.{get_or-set_same, get_or-set_other, get_or-replicate, length-replicate}
 use Rattle.std.proofs.Math.Nat.{mul-le-mul_left}
@@ -58,10 +58,7 @@ finished_one p fin n task lt size open_yet = go (p task) refl
 
     go : (r : Bool) → p task ≡ r → count_below (λ u. p u && not (flag (set fin task true) u)) n + bit r ≡ count_below (λ u. p u && not (flag fin u)) n
     go true e = sym (count-more (λ u. p u && not (flag fin u)) (λ u. p u && not (flag (set fin task true) u)) task n lt (λ u u-lt. one u e))
-    go false e = zero_more (count_below (λ u. p u && not (flag (set fin task true) u)) n) ∙ count_by-same (λ u. p u && not (flag (set fin task true) u)) (λ u. p u && not (flag fin u)) n (λ u u-lt. none u e)
-      where
-        zero_more : (m : ℕ) → m + 0 ≡ m
-        zero_more m = omega arith
+    go false e = add-zero (count_below (λ u. p u && not (flag (set fin task true) u)) n) ∙ count_by-same (λ u. p u && not (flag (set fin task true) u)) (λ u. p u && not (flag fin u)) n (λ u u-lt. none u e)
 
 pub ready_is_open : (b : Board) (counters : List ℕ) (active left t : ℕ) → Keeps b counters active left → t < task_count b → is_open b.started counters t ≡ is_ready b t
 ready_is_open b counters active left t keeps lt =

@@ -1,5 +1,5 @@
 -- Lists of offsets as runs.
-use Rattle.std.proofs.Common.{◌≡◌, ℕ, zero, suc, ◌+◌, ◌<◌, ℤ, pos, ◌+ℤ◌, List, [], ◌∷◌, ◌++◌, length, take, drop, get_or, map, flat_map, ap, sym, subst, inl, inr, arith, ◌∙◌, length-append, length-drop}
+use Rattle.std.proofs.Common.{◌≡◌, ℕ, zero, suc, ◌+◌, ◌<◌, ℤ, pos, ◌+ℤ◌, List, [], ◌∷◌, ◌++◌, length, take, drop, get_or, map, flat_map, ap, sym, subst, inl, inr, arith, ◌∙◌, length-append, length-drop, zero-add}
 use Rattle.std.specs.List.{range_with_len, AllByRecursion}
 use Rattle.std.proofs.lemmas.Int.{ints}
 use Rattle.std.proofs.lemmas.Bool.{cases_lt}
@@ -7,6 +7,7 @@ use Rattle.std.proofs.lemmas.List.{take_more, get_or_append_left, get_or-drop, a
 use Rattle.std.proofs.lemmas.Grind.{flat_map-append}
 use Rattle.std.proofs.Math.Seq.{take-add, get_or-append_seam}
 use Rattle.mw_facts.proofs.Alls.{all-push, all-weaker}
+use Rattle.mw_facts.proofs.Numbers.{add_one-add}
 use Rattle.mw_model.specs.declared.places.Offset.{Offset}
 use Rattle.mw_run.specs.declared.runs.Run.{Run}
 use Rattle.mw_run.specs.declared.runs.Extent.{Extent}
@@ -18,10 +19,7 @@ map-range_more f a zero = ap (λ (t : ℕ). f t ∷ []) (same a)
     same : (a : ℕ) → a ≡ a + 0
     same a = omega arith
 map-range_more f a (suc n) =
-    ap (λ (t : List _). f a ∷ t) (map-range_more f (a + 1) n) ∙ ap (λ (t : ℕ). f a ∷ (map f (range_with_len (a + 1) n) ++ f t ∷ [])) (next a n)
-  where
-    next : (a n : ℕ) → a + 1 + n ≡ a + suc n
-    next a n = omega arith
+    ap (λ (t : List _). f a ∷ t) (map-range_more f (a + 1) n) ∙ ap (λ (t : ℕ). f a ∷ (map f (range_with_len (a + 1) n) ++ f t ∷ [])) (add_one-add a n)
 
 pub offset_is : (o : Offset) (dx dy : ℤ) → o.dx ≡ dx → o.dy ≡ dy → o ≡ record { dx = dx; dy = dy }
 offset_is o dx dy dx-is dy-is = ap (λ (t : ℤ). let b : Offset = record { dx = t; dy = o.dy } in b) dx-is ∙ ap (λ (t : ℤ). let b : Offset = record { dx = dx; dy = t } in b) dy-is
@@ -34,14 +32,11 @@ run_more offsets from count more dx dy d more-is lt dx-is dy-is so_far =
     let up : more ≡ suc count = omega arith in
     ap (λ (t : ℕ). map place (range_with_len 0 t)) up
     ∙ map-range_more place 0 count
-    ∙ ap (λ (t : ℕ). map place (range_with_len 0 count) ++ place t ∷ []) (front count)
+    ∙ ap (λ (t : ℕ). map place (range_with_len 0 count) ++ place t ∷ []) (zero-add count)
     ∙ ap (λ (t : List Offset). t ++ place count ∷ []) so_far
     ∙ ap (λ (t : Offset). take count (drop from offsets) ++ t ∷ []) (sym (get_or-drop from offsets count d ∙ offset_is (get_or offsets (from + count) d) (dx +ℤ pos count) dy dx-is dy-is))
     ∙ sym (take_more (drop from offsets) count d (omega (arith, length-drop from offsets)))
     ∙ ap (λ (t : ℕ). take t (drop from offsets)) (sym more-is)
-  where
-    front : (n : ℕ) → 0 + n ≡ n
-    front n = omega arith
 
 -- one run more in a list
 pub runs_more : (offsets : List Offset) (runs more : List Run) (run : Run) (at to : ℕ) → more ≡ runs ++ run ∷ [] → to ≡ at + run.count → run_offsets run ≡ take run.count (drop at offsets)

@@ -1,5 +1,5 @@
 -- The first leaves of a tree as a list of numbers.
-use Rattle.std.proofs.Common.{◌≡◌, ◌≢◌, ℕ, zero, suc, ◌+◌, ◌-◌, ◌*◌, ◌<◌, ◌≤◌, ◌^◌, List, [], ◌∷◌, ◌++◌, length, take, drop, sum, ap, sym, ◌∙◌, arith, get_or, subst, max, inl, inr, length-append, length-drop}
+use Rattle.std.proofs.Common.{◌≡◌, ◌≢◌, ℕ, zero, suc, ◌+◌, ◌-◌, ◌*◌, ◌<◌, ◌≤◌, ◌^◌, List, [], ◌∷◌, ◌++◌, length, take, drop, sum, ap, sym, ◌∙◌, arith, get_or, subst, max, inl, inr, length-append, length-drop, zero-add}
 use Rattle.std.proofs.Math.Nat.{pow-suc}
 use Rattle.std.proofs.lemmas.Bool.{cases_lt, cases_eq}
 use Rattle.std.proofs.lemmas.List.{ext_get_or, get_or-take, get_or-drop, length-take-le, get_or_append_left, get_or_push}
@@ -33,18 +33,12 @@ leaves-push t s room n v t-size s-size lt here others =
 pub sum-first : (t : List ℕ) (room n k : ℕ) → length t ≡ 2 * room → n ≤ room → k ≤ n → sum (take k (leaves t room n)) ≡ span t room k
 sum-first t room n k size n-le k-le =
     sum-span (leaves t room n) k (let e = length-leaves t room n size n-le in omega arith)
-    ∙ span-same (leaves t room n) t 0 room k (λ j lt. ap (λ (i : ℕ). get_or (leaves t room n) i 0) (front j) ∙ leaf-at t room n j (omega arith))
-  where
-    front : (j : ℕ) → 0 + j ≡ j
-    front j = omega arith
+    ∙ span-same (leaves t room n) t 0 room k (λ j lt. ap (λ (i : ℕ). get_or (leaves t room n) i 0) (zero-add j) ∙ leaf-at t room n j (omega arith))
 
 pub sum-all : (t : List ℕ) (room n : ℕ) → length t ≡ 2 * room → n ≤ room → sum (leaves t room n) ≡ span t room n
 sum-all t room n size le =
     sum-span (drop room t) n (omega (arith, length-drop room t))
-    ∙ span-same (drop room t) t 0 room n (λ j lt. ap (λ (i : ℕ). get_or (drop room t) i 0) (front j) ∙ get_or-drop room t j 0)
-  where
-    front : (j : ℕ) → 0 + j ≡ j
-    front j = omega arith
+    ∙ span-same (drop room t) t 0 room n (λ j lt. ap (λ (i : ℕ). get_or (drop room t) i 0) (zero-add j) ∙ get_or-drop room t j 0)
 
 -- the root is the sum of all
 pub root_is : (t : List ℕ) (room n : ℕ) → Uses t room n → 1 ≤ room → get_or t 1 0 ≡ sum (leaves t room n)

@@ -1,8 +1,9 @@
 -- The offsets of a box.
-use Rattle.std.proofs.Common.{◌≡◌, ℕ, zero, suc, ◌+◌, ◌<◌, ◌≤◌, ℤ, pos, negsuc, ◌+ℤ◌, ◌-ℤ◌, ◌≤ℤ◌, neg_ℤ, List, [], ◌∷◌, map, refl, ap, subst, arith, ◌∙◌}
+use Rattle.std.proofs.Common.{◌≡◌, ℕ, zero, suc, ◌+◌, ◌<◌, ◌≤◌, ℤ, pos, negsuc, ◌+ℤ◌, ◌-ℤ◌, ◌≤ℤ◌, neg_ℤ, List, [], ◌∷◌, map, refl, ap, subst, arith, ◌∙◌, zero-add}
 use Rattle.std.specs.List.{range_with_len, flat_map, AllByRecursion}
 use Rattle.std.proofs.lemmas.Int.{ints}
 use Rattle.mw_facts.proofs.Alls.{all-append, all-append_left, all-append_right, all-weaker}
+use Rattle.mw_facts.proofs.Numbers.{add_one-add}
 use Rattle.mw_model.specs.declared.places.Offset.{Offset}
 use Rattle.mw_model.specs.declared.places.OffsetBox.{OffsetBox}
 use Rattle.mw_model.specs.Places.{span, nonnegative, box_offsets}
@@ -24,10 +25,7 @@ range_all P a (suc n) all zero lt = subst P (none a) all.0
   where
     none : (a : ℕ) → a ≡ a + zero
     none a = omega arith
-range_all P a (suc n) all (suc k) lt = subst P (next a k) (range_all P (a + 1) n all.1 k (omega arith))
-  where
-    next : (a k : ℕ) → a + 1 + k ≡ a + suc k
-    next a k = omega arith
+range_all P a (suc n) all (suc k) lt = subst P (add_one-add a k) (range_all P (a + 1) n all.1 k (omega arith))
 
 all_flat : {A : Type 0} (P : A → Type 0) (row : ℕ → List A) (xs : List ℕ) → AllByRecursion (λ j. AllByRecursion P (row j)) xs → AllByRecursion P (flat_map row xs)
 all_flat P row [] all = tt
@@ -89,12 +87,9 @@ box_at P box all b inside =
     let by_rows = flat_all P (λ j. map (λ i. offset (box.x0 +ℤ pos i) (box.y0 +ℤ pos j)) (range_with_len 0 columns)) (range_with_len 0 rows) all in
     let row = range_all (λ j. AllByRecursion P (map (λ i. offset (box.x0 +ℤ pos i) (box.y0 +ℤ pos j)) (range_with_len 0 columns))) 0 rows by_rows down.steps down.small in
     let one = range_all (λ i. P (offset (box.x0 +ℤ pos i) (box.y0 +ℤ pos (0 + down.steps)))) 0 columns ((all_map P (λ i. offset (box.x0 +ℤ pos i) (box.y0 +ℤ pos (0 + down.steps))) (range_with_len 0 columns)).0 row) across.steps across.small in
-    let x-is : box.x0 +ℤ pos (0 + across.steps) ≡ b.dx = ap (λ (n : ℕ). box.x0 +ℤ pos n) (front across.steps) ∙ across.is in
-    let y-is : box.y0 +ℤ pos (0 + down.steps) ≡ b.dy = ap (λ (n : ℕ). box.y0 +ℤ pos n) (front down.steps) ∙ down.is in
+    let x-is : box.x0 +ℤ pos (0 + across.steps) ≡ b.dx = ap (λ (n : ℕ). box.x0 +ℤ pos n) (zero-add across.steps) ∙ across.is in
+    let y-is : box.y0 +ℤ pos (0 + down.steps) ≡ b.dy = ap (λ (n : ℕ). box.y0 +ℤ pos n) (zero-add down.steps) ∙ down.is in
     subst P (ap (λ (z : ℤ). offset z (box.y0 +ℤ pos (0 + down.steps))) x-is ∙ ap (λ (z : ℤ). offset b.dx z) y-is) one
-  where
-    front : (n : ℕ) → 0 + n ≡ n
-    front n = omega arith
 
 all_up_to_greatest : (ns : List ℕ) → AllByRecursion (λ n. n ≤ greatest ns) ns
 all_up_to_greatest [] = tt

@@ -1,5 +1,5 @@
 -- Windows that were cut from whole planes show them wherever the step looks.
-use Rattle.std.proofs.Common.{◌≡◌, ℕ, zero, suc, ◌+◌, ◌-◌, ◌*◌, ◌<◌, ◌≤◌, ◌==◌, ◌&&◌, ℤ, pos, negsuc, ◌+ℤ◌, ◌-ℤ◌, cond, nat_le, min, max, List, [], ◌∷◌, length, map, slice_get, slice_index_or, Option, Some, None, unwrap_or, refl, ap, sym, subst, arith, ◌∙◌, inl, inr}
+use Rattle.std.proofs.Common.{◌≡◌, ℕ, zero, suc, ◌+◌, ◌-◌, ◌*◌, ◌<◌, ◌≤◌, ◌==◌, ◌&&◌, ℤ, pos, negsuc, ◌+ℤ◌, ◌-ℤ◌, cond, nat_le, min, max, List, [], ◌∷◌, length, map, slice_get, slice_index_or, Option, Some, None, unwrap_or, refl, ap, sym, subst, arith, ◌∙◌, inl, inr, zero-add}
 use Rattle.std.specs.Prelude.{sum}
 use Rattle.std.specs.List.{AllByRecursion, cons_option}
 use Rattle.std.proofs.lemmas.Bool.{cases_lt, lt-ltb, le-ltb}
@@ -39,10 +39,7 @@ get_cells r value i j across down =
     slice_get-get_or (cells_in r value) (j * r.width + i) 0 (omega (arith, length-cells_in r value, mul-add-lt j r.width i r.height down across)) ∙ ap (λ (t : ℕ). Some t) (cells_in_at r value i j across down)
 
 get_whole : (f : Picture) (x y : ℕ) → x < f.width → y < f.height → slice_get (whole f).cells (y * f.width + x) ≡ Some (sample f x y)
-get_whole f x y across down = get_cells (rect 0 0 f.width f.height) (sample f) x y across down ∙ ap (λ (t : ℕ). Some (sample f t (0 + y))) (front x) ∙ ap (λ (t : ℕ). Some (sample f x t)) (front y)
-  where
-    front : (n : ℕ) → 0 + n ≡ n
-    front n = omega arith
+get_whole f x y across down = get_cells (rect 0 0 f.width f.height) (sample f) x y across down ∙ ap (λ (t : ℕ). Some (sample f t (0 + y))) (zero-add x) ∙ ap (λ (t : ℕ). Some (sample f x t)) (zero-add y)
 
 -- the written out samples show what the picture has
 sight_whole : (f : Picture) (column row : ℤ) → cell_at (whole f) column row ≡ sample_at f column row
