@@ -14,6 +14,7 @@ use Rattle.mw_task.specs.Products.{HoldsImage, IsMade, tile_drawn}
 use Rattle.mw_task.specs.declared.tile_result.TileResult.{TileResult}
 use Rattle.mw_task.specs.declared.tile_result.TileResult.TheVariants.{Bits, Grey8, Grey16, Number}
 use Rattle.mw_pieces.proofs.TileCells.{cells_in_are}
+use Rattle.mw_pieces.proofs.Windows.{source_window}
 
 -- a plane with the values of a tile is the image of the tile
 pub plane_is : (kind : Kind) (maxval : ℕ) (tile : Rect) (value : ℕ → ℕ → ℕ) (p : Raster ℕ) → p.width ≡ tile.width → p.height ≡ tile.height → length p.cells ≡ tile.height * tile.width
@@ -54,12 +55,8 @@ pub if_ok_too : {A E : Type 0} (r : Result A E) (P Q R : A → Type 0) → ((a :
 if_ok_too (Ok a) P Q R each p q = each a p q
 if_ok_too (Err e) P Q R each p q = p
 
--- a window of a source of this kind and maxval
-abbrev pub source : Kind → ℕ → View ℕ → SourceWindow
-source kind maxval w = record { kind = kind; maxval = maxval; view = w }
-
 -- a plane of a value of what is seen of a window at each place of a tile
-pub slid_plane : (u : SourceWindow) (kind : Kind) (maxval : ℕ) (w : View ℕ) (tile : Rect) (value : ℕ → View ℕ → ℕ → ℕ → ℕ) (p : Raster ℕ) → u ≡ source kind maxval w
+pub slid_plane : (u : SourceWindow) (kind : Kind) (maxval : ℕ) (w : View ℕ) (tile : Rect) (value : ℕ → View ℕ → ℕ → ℕ → ℕ) (p : Raster ℕ) → u ≡ source_window kind maxval w
     → p.width ≡ tile.width → p.height ≡ tile.height → length p.cells ≡ tile.height * tile.width
     → ((x y : ℕ) → x < tile.width → y < tile.height → slice_get p.cells (y * tile.width + x) ≡ Some (value maxval w (tile.x + x) (tile.y + y)))
     → tile_drawn u.kind u.maxval tile (value u.maxval u.view) ≡ picture kind p.width p.height maxval p.cells

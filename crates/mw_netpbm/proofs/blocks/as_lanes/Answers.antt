@@ -1,4 +1,4 @@
-use Rattle.std.proofs.Common.{arith, length-set}
+use Rattle.std.proofs.Common.{arith, length-set, ◌≤◌}
 use Rattle.mw_facts.proofs.Alls.{all-take_whole}
 use Rattle.mw_netpbm.proofs.Pixels.{lane_more, lanes_whole, within_more}
 use Rattle.mw_netpbm.proofs.blocks.as_lanes.Goals as goal
