@@ -36,11 +36,7 @@ over_none f a zero none = refl
 over_none f a (suc n) none = let here = none a (omega arith) (omega arith) in let rest = over_none f (a + 1) n (λ i from to. none i (omega arith) (omega arith)) in let e = over_first f a n in omega arith
 
 over_parts : (f : ℕ → ℕ) (a m n : ℕ) → over_range f a (m + n) ≡ over_range f a m + over_range f (a + m) n
-over_parts f a zero n = ap (over_range f a) (zero-add n) ∙ ap (λ (t : ℕ). over_range f t n) (here a) ∙ sym (zero-add (over_range f (a + 0) n))
-  where
-    here : (a : ℕ) → a ≡ a + 0
-    here a = omega arith
-
+over_parts f a zero n = ap (over_range f a) (zero-add n) ∙ ap (λ (t : ℕ). over_range f t n) (sym (add-zero a)) ∙ sym (zero-add (over_range f (a + 0) n))
 over_parts f a (suc m) n =
     ap (over_range f a) (up m n)
     ∙ over_first f a (m + n)
