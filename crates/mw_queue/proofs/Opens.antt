@@ -97,7 +97,7 @@ open_listed q total t queue lt opened =
     let some : 0 < q.tiles = queue.some in
     let s-lt : t / q.tiles < length q.ready = row_less (length q.ready) q.tiles t some (let e = queue.whole in omega arith) in
     let there : is_open q.started q.waiting (t / q.tiles * q.tiles + t % q.tiles) ≡ true = ap (is_open q.started q.waiting) (div-add-mod' t q.tiles) ∙ opened in
-    (s-lt, omega (arith, length-of_listed q.tiles (λ k. is_open q.started q.waiting (t / q.tiles * q.tiles + k)) (list_at q.ready (t / q.tiles)) (queue.listed (t / q.tiles) s-lt), count_by-some (λ k. is_open q.started q.waiting (t / q.tiles * q.tiles + k)) (t % q.tiles) q.tiles (mod_below t q.tiles some) there))
+    (s-lt, omega (arith, length-of_listed q.tiles (λ k. is_open q.started q.waiting (t / q.tiles * q.tiles + k)) (list_at q.ready (t / q.tiles)) (queue.listed (t / q.tiles) s-lt), count_by-some (λ k. is_open q.started q.waiting (t / q.tiles * q.tiles + k)) q.tiles (t % q.tiles) (mod_below t q.tiles some) there))
 
 -- a task still waits
 pub still_waits : (q : Queued) (total t v : ℕ) → IsQueue q total → t < length q.waiting → 0 < get_or q.waiting t 0 → v ≢ 0 → IsQueue (queued q.started (set q.waiting t v) q.tiles q.ready) total

@@ -176,7 +176,7 @@ readers_wait b counters active left task keeps lt running = λ t t-lt here.
 pub some_run : (b : Board) (counters now : List ℕ) (active left task : ℕ) → Keeps b counters active left → task < task_count b → is_running b task ≡ true → (0 < active) × (0 < left)
 some_run b counters now active left task keeps lt running =
     let parts = and_parts (flag b.started task) (not (flag b.finished task)) running in
-    (omega (arith, keeps.running, count_by-some (is_running b) task (task_count b) lt running), omega (arith, keeps.remaining, count_by-some (λ t. not (flag b.finished t)) task (task_count b) lt parts.1))
+    (omega (arith, keeps.running, count_by-some (is_running b) (task_count b) task lt running), omega (arith, keeps.remaining, count_by-some (λ t. not (flag b.finished t)) (task_count b) task lt parts.1))
 
 -- the tasks that read a tile, by its step and by its number
 reads-number : (needs : List Need) (g : Tiling) (step tile t : ℕ) → tile < tile_count g → reads needs g t (task_number g step tile) ≡ reads_tile needs g t step tile
