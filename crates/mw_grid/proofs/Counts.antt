@@ -84,7 +84,7 @@ pub count-some : (p : ℕ → Bool) (x n : ℕ) → x < n → p x ≡ true → 1
 count-some p x n lt so = count_by-some p n x lt so
 
 -- one number more
-total-next : (f : ℕ → ℕ) (a n : ℕ) → total f a (suc n) ≡ total f a n + f (a + n)
+pub total-next : (f : ℕ → ℕ) (a n : ℕ) → total f a (suc n) ≡ total f a n + f (a + n)
 total-next f a zero = omega (arith, ap f (add-zero a))
 total-next f a (suc n) = omega (arith, total-next f (a + 1) n, ap f (along a n))
   where
