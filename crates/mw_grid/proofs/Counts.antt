@@ -5,7 +5,7 @@ use Rattle.std.proofs.Math.Bool.{and-false}
 use Rattle.std.proofs.lemmas.Bool.{cases_lt, eq-eqb, ne_eqb, lt-ltb, le-ltb, le-leb, lt-leb}
 use Rattle.std.proofs.lemmas.Nat.{div-mul-add, mod-mul-add}
 use Rattle.std.proofs.lemmas.List.Sums.{sum_by-cons}
-use Rattle.mw_facts.proofs.Counts.{count_by-same, count_by-some}
+use Rattle.mw_facts.proofs.Counts.{count_by-same}
 use Rattle.mw_facts.proofs.Numbers.{one_if-le}
 use Rattle.mw_grid.specs.Counts.{bit, count_below, in_range}
 
@@ -78,10 +78,6 @@ count-less p x n lt not_so = omega (arith, count-total p 0 n, total-less p x 0 n
 -- the count of a test that holds at one place more
 pub count-more : (p q : ℕ → Bool) (x n : ℕ) → x < n → ((t : ℕ) → t < n → bit (p t) ≡ bit (q t) + bit (nat_eq t x)) → count_by p (range_with_len 0 n) ≡ count_by q (range_with_len 0 n) + 1
 count-more p q x n lt each = count-total p 0 n ∙ total-more (λ t. bit (p t)) (λ t. bit (q t)) x n lt each ∙ ap (λ (k : ℕ). k + 1) (sym (count-total q 0 n))
-
--- by the place first
-pub count-some : (p : ℕ → Bool) (x n : ℕ) → x < n → p x ≡ true → 1 ≤ count_by p (range_with_len 0 n)
-count-some p x n lt so = count_by-some p n x lt so
 
 -- one number more
 pub total-next : (f : ℕ → ℕ) (a n : ℕ) → total f a (suc n) ≡ total f a n + f (a + n)

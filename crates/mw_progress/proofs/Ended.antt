@@ -1,5 +1,5 @@
 -- Work of which all is finished.
-use Rattle.std.proofs.Common.{◌≡◌, ℕ, ◌+◌, ◌-◌, ◌*◌, ◌/◌, ◌<◌, true, false, not, List, length, get_or, Option, Some, sym, ap, subst, ◌∙◌, arith}
+use Rattle.std.proofs.Common.{◌≡◌, ℕ, ◌+◌, ◌-◌, ◌*◌, ◌<◌, true, false, not, List, length, get_or, Option, Some, sym, ap, subst, ◌∙◌, arith}
 use Rattle.std.proofs.lemmas.List.{length-map}
 use Rattle.std.proofs.lemmas.Bool.{true_from_ne_false}
 use Rattle.mw_facts.proofs.Counts.{count_by-some}
@@ -7,7 +7,7 @@ use Rattle.mw_model.specs.Plans.{Plan, is_sum}
 use Rattle.mw_model.specs.Tasks.{flag, nothing_planned, remaining_tasks}
 use Rattle.mw_grid.specs.Grids.{Tiling, tile_count, tiles_of}
 use Rattle.mw_grid.proofs.Lines.{number_of as number_of_cell}
-use Rattle.mw_grid.proofs.Tiles.{length-tiles_of}
+use Rattle.mw_grid.proofs.Tiles.{length-tiles_of, some_tiles}
 use Rattle.mw_ready.specs.Boards.{Turns}
 use Rattle.mw_tiles.specs.Tiles.{Tiled}
 use Rattle.mw_progress.specs.Levels.{Level}
@@ -17,12 +17,6 @@ use Rattle.mw_progress.specs.declared.places.Place.{Place}
 use Rattle.mw_progress.specs.declared.places.Place.TheVariants.{Closed, Plane, Sums}
 use Rattle.mw_progress.proofs.Opened.{shown_at}
 use Rattle.mw_progress.proofs.Placing.{form_most, is_plane}
-
-some_tiles : (g : Tiling) → 0 < tile_count g
-some_tiles g = more ((g.height - 1) / g.side) ((g.width - 1) / g.side)
-  where
-    more : (x y : ℕ) → 0 < (x + 1) * (y + 1)
-    more x y = grind arith
 
 pub sizes_are : (plan : Plan) (input : Level) (g : Tiling) (turns : Turns) (places : List Place) → IsWhole (underway_kept plan input g turns places) → (length places ≡ length plan) × (0 < length places)
 sizes_are plan input g turns places whole =

@@ -4,7 +4,7 @@ use Rattle.std.specs.List.{AllByRecursion, range_with_len}
 use Rattle.std.proofs.lemmas.Bool.{cases_eq, cases_lt}
 use Rattle.std.proofs.lemmas.List.{length-map, append-nil, take_all, drop_all, get_or-set_same, get_or-set_other, get_or_past}
 use Rattle.std.proofs.lemmas.Nat.{div-mul-add, mod-mul-add}
-use Rattle.mw_facts.proofs.HighLists.{cond_none-some}
+use Rattle.mw_facts.proofs.Tests.{cond_none-some}
 use Rattle.mw_model.specs.Plans.{Plan, is_sum}
 use Rattle.mw_model.specs.Tasks.{Progress, flag, is_needed, is_running, task_count, nothing_planned, reads}
 use Rattle.mw_grid.specs.Counts.{bit}

@@ -2,7 +2,8 @@
 use Rattle.std.proofs.Common.{◌≡◌, ℕ, zero, suc, ◌+◌, ◌*◌, ◌<◌, Bool, true, false, List, [], ◌∷◌, ◌++◌, length, map, get_or, replicate, Option, None, refl, sym, ap, subst, ◌∙◌, arith}
 use Rattle.std.proofs.Math.ListN.{get_or-map}
 use Rattle.std.proofs.lemmas.List.{length-map, length-replicate, length_push, replicate-append-replicate}
-use Rattle.mw_facts.proofs.HighLists.{get_or-replicate_same, none-not_some}
+use Rattle.mw_facts.proofs.Elements.{get_or-replicate_same}
+use Rattle.mw_facts.proofs.Tests.{none-not_some}
 use Rattle.mw_model.specs.Plans.{Plan, is_sum}
 use Rattle.mw_model.specs.Tasks.{Progress, flag, nothing_planned}
 use Rattle.mw_grid.specs.Grids.{Tiling, tile_count, tiles_of}

@@ -2,7 +2,7 @@
 use Rattle.std.proofs.Common.{◌≡◌, ◌≢◌, ℕ, ◌+◌, ◌*◌, ◌/◌, ◌%◌, ◌<◌, ◌≤◌, Bool, true, false, ◌&&◌, ◌||◌, nat_eq, refl, sym, ap, ◌∙◌, arith, inl, inr}
 use Rattle.std.proofs.lemmas.Bool.{cases_eq, cases_lt, eq-eqb, ne_eqb, and_right, or_right}
 use Rattle.std.proofs.Math.Nat.{mul-le-mul_left}
-use Rattle.mw_facts.proofs.HighLists.{or-false_right}
+use Rattle.mw_facts.proofs.Tests.{or-false_right}
 use Rattle.mw_grid.specs.Counts.{in_range}
 use Rattle.mw_grid.specs.Grids.{Tiling, columns_of, rows_of, tile_count}
 use Rattle.mw_grid.proofs.Counts.{in-yes, in-low, in-high}

@@ -1,7 +1,8 @@
 -- Windows of planes that are open.
 use Rattle.std.proofs.Common.{◌≡◌, ◌≢◌, ℕ, ◌<◌, ◌≤◌, Bool, false, List, length, get_or, Option, None, refl, sym, ap, subst, ◌∙◌, arith}
 use Rattle.std.proofs.lemmas.List.{length-map, get_or_read}
-use Rattle.mw_facts.proofs.HighLists.{none-not_some, get_or-replicate_same}
+use Rattle.mw_facts.proofs.Tests.{none-not_some}
+use Rattle.mw_facts.proofs.Elements.{get_or-replicate_same}
 use Rattle.mw_model.specs.declared.places.Rect.{Rect}
 use Rattle.mw_model.specs.Places.{Holds, IsWithin}
 use Rattle.mw_model.specs.Plans.{Plan, is_sum}

@@ -1,5 +1,6 @@
 -- Scripts have one reading: without marks of memory, the bytes and the state tell the output.
 use Rattle.std.proofs.Common.{◌≡◌, ◌≢◌, ℕ, Bool, true, false, List, [], ◌∷◌, ◌++◌, Option, Some, None, refl, sym, ap, ◌∙◌, subst, arith, inl, inr, append_assoc}
+use Rattle.mw_facts.proofs.Elements.{append-empty}
 use Rattle.mw_model.specs.declared.codes.Code.{Code}
 use Rattle.mw_model.specs.declared.codes.Code.TheVariants as code
 use Rattle.mw_model.specs.declared.calls.Given.{Given}
@@ -257,13 +258,9 @@ found_memory : (b : Bool) (m n : Machine) (r : Asked) (x : List ℕ) → Replies
 found_memory true m n r x a other = absurd (other a.0)
 found_memory false m n r x a other = refl
 
-none_first : (xs ys : List ℕ) → xs ++ ys ≡ [] → (xs ≡ []) × (ys ≡ [])
-none_first [] ys e = (refl, e)
-none_first (x ∷ xs) ys e = cc
-
 -- the marks of turns are their kills and their 50s
 pub marks_seen : (ts : List Turn) (m n : Machine) (x : List ℕ) → (a : AreTurns m ts x n) → kills_of ts ≡ [] → NoneSaysMemory ts m n x a → NoMarks ts
 marks_seen [] m n x a none other = tt
 marks_seen (t ∷ ts) m n x a none other =
-    let kills = none_first t.kills (kills_of ts) none in
+    let kills = append-empty t.kills (kills_of ts) none in
     (kills.0, found_memory t.no_memory a.3.0 a.0 t.request a.1 a.3.2 other.0, marks_seen ts a.0 n a.2 a.4 kills.1 other.1)

@@ -4,7 +4,7 @@ use Rattle.std.specs.Prelude.{◌&&◌}
 use Rattle.std.specs.List.{list_any, range_with_len}
 use Rattle.std.proofs.lemmas.List.{get_or-set_same, get_or-set_other, get_or_past, length-set}
 use Rattle.std.proofs.lemmas.Bool.{cases_lt, cases_eq, and_parts}
-use Rattle.mw_facts.proofs.HighLists.{list_any-range}
+use Rattle.mw_facts.proofs.Tests.{list_any-range}
 use Rattle.mw_model.specs.declared.calls.Outcome.{Outcome}
 use Rattle.mw_model.specs.declared.calls.Outcome.TheVariants as outcome
 use Rattle.mw_model.specs.Refusals.{Table, outcome_at, is_pending, is_dead, is_there}

@@ -4,7 +4,7 @@ use Rattle.std.specs.List.{AllByRecursion, list_all}
 use Rattle.std.proofs.lemmas.List.{get_or-set_same, get_or-set_other}
 use Rattle.std.proofs.lemmas.Bool.{cases_eq}
 use Rattle.mw_facts.proofs.Elements.{get_or-push_below}
-use Rattle.mw_facts.proofs.HighLists.{list_all-weaker}
+use Rattle.mw_facts.proofs.Tests.{list_all-weaker}
 use Rattle.mw_model.specs.declared.names.Name.{Name}
 use Rattle.mw_model.specs.declared.submissions.Submission.{Submission}
 use Rattle.mw_model.specs.declared.calls.Outcome.{Outcome}

@@ -10,7 +10,7 @@ use Rattle.mw_model.specs.declared.shapes.Kind.TheVariants as kind
 use Rattle.mw_model.specs.Pictures.{FitsKind}
 use Rattle.std.proofs.lemmas.List.{length-replicate, length-set, map-set, take_at}
 use Rattle.std.proofs.lemmas.Option.{same_Some}
-use Rattle.mw_facts.proofs.HighLists.{get_or-replicate_same}
+use Rattle.mw_facts.proofs.Elements.{get_or-replicate_same}
 use Rattle.mw_tiles.specs.Tiles.{Tiled, nothing_placed, cells_of, tile_cells, cells_in_raster, StandsIn, HasSides, HasSizes, AreBounded, IsSound}
 use Rattle.mw_grid.proofs.Tiles.{HasTiles}
 use Rattle.mw_tiles.specs.Held.{tiled, tiled_held, image_of_tile, IsHeld}

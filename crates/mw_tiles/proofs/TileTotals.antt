@@ -17,7 +17,7 @@ use Rattle.mw_model.specs.Tasks.{cells_in}
 use Rattle.mw_model.proofs.Covers.{sample_at_in}
 use Rattle.mw_grid.specs.Grids.{Tiling, columns_of, rows_of, tile_count, tile_at}
 use Rattle.mw_grid.proofs.Tiles.{HasTiles}
-use Rattle.mw_grid.proofs.Counts.{total, total-add}
+use Rattle.mw_grid.proofs.Counts.{total, total-add, total-next}
 use Rattle.mw_pieces.proofs.TileCells.{cells_in_is}
 use Rattle.mw_tiles.specs.Tiles.{Tiled, tile_cells, AreMade, AllPlaced, first_cell, number_in}
 
@@ -61,15 +61,6 @@ total_split F a (suc m) n =
 
     group : (a b c : ℕ) → a + (b + c) ≡ a + b + c
     group a b c = omega arith
-
-total_last : (F : ℕ → ℕ) (a n : ℕ) → total F a (suc n) ≡ total F a n + F (a + n)
-total_last F a n = ap (λ (t : ℕ). total F a t) (more n) ∙ total_split F a n 1 ∙ ap (λ (t : ℕ). total F a n + t) (alone_is (F (a + n)))
-  where
-    more : (n : ℕ) → suc n ≡ n + 1
-    more n = omega arith
-
-    alone_is : (t : ℕ) → t + 0 ≡ t
-    alone_is t = omega arith
 
 total_zero : (a n : ℕ) → total (λ _. 0) a n ≡ 0
 total_zero a zero = refl
@@ -120,7 +111,7 @@ pieces F side n zero = ap (λ (t : ℕ). total F 0 t) (none side n)
     none : (side n : ℕ) → 0 ≡ min (zero * side) n
     none side n = omega arith
 pieces F side n (suc c) =
-    total_last (λ c. total F (c * side) (min side (n - c * side))) 0 c
+    total-next (λ c. total F (c * side) (min side (n - c * side))) 0 c
     ∙ ap (λ (t : ℕ). total (λ c. total F (c * side) (min side (n - c * side))) 0 c + total F (t * side) (min side (n - t * side))) (front c)
     ∙ ap (λ (t : ℕ). t + total F (c * side) (min side (n - c * side))) (pieces F side n c)
     ∙ last_piece F (c * side) side n
@@ -157,7 +148,7 @@ total_by_rows F columns (suc r) =
     ∙ ap (λ (t : ℕ). t + total (λ i. F (i % columns) (i / columns)) (0 + r * columns) columns) (total_by_rows F columns r)
     ∙ ap (λ (t : ℕ). total (λ r. total (λ c. F c r) 0 columns) 0 r + t) (total_same (λ i. F (i % columns) (i / columns)) (λ c. F c r) (0 + r * columns) 0 columns (λ c lt. here c lt))
     ∙ ap (λ (t : ℕ). total (λ r. total (λ c. F c r) 0 columns) 0 r + total (λ c. F c t) 0 columns) (front r)
-    ∙ sym (total_last (λ r. total (λ c. F c r) 0 columns) 0 r)
+    ∙ sym (total-next (λ r. total (λ c. F c r) 0 columns) 0 r)
   where
     more : (r columns : ℕ) → suc r * columns ≡ r * columns + columns
     more r columns = omega arith

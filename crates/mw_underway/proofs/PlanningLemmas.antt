@@ -1,7 +1,7 @@
 -- What an accepted command is planned from: an image, elements, and the plan that is made of them.
 use Rattle.std.proofs.Common.{◌≡◌, ℕ, ◌+◌, ◌<◌, true, List, [], ◌∷◌, ◌++◌, length, map, Option, Some, None, refl, sym, ap, ◌∙◌, subst}
 use Rattle.std.specs.List.{AllByRecursion}
-use Rattle.mw_facts.proofs.HighLists.{all-append_left, all-append_right}
+use Rattle.mw_facts.proofs.Alls.{all-append_left, all-append_right}
 use Rattle.mw_model.specs.declared.names.Name.{Name}
 use Rattle.mw_model.specs.declared.shapes.Shape.{Shape}
 use Rattle.mw_model.specs.declared.operations.Op.{Op}

@@ -7,7 +7,7 @@ use Rattle.std.proofs.lemmas.List.{length-replicate}
 use Rattle.std.proofs.lemmas.List.Sums.{sum_by-cons}
 use Rattle.std.proofs.Math.Nat.{div-mul-le_self, mul-le-mul_left}
 use Rattle.mw_facts.proofs.Counts.{count_by-some}
-use Rattle.mw_facts.proofs.HighLists.{get_or-replicate_same}
+use Rattle.mw_facts.proofs.Elements.{get_or-replicate_same}
 use Rattle.mw_model.specs.declared.shapes.Shape.{Shape}
 use Rattle.mw_model.specs.declared.operations.Op.{Op}
 use Rattle.mw_model.specs.Values.{Value}

@@ -4,7 +4,7 @@ use Rattle.std.specs.Prelude.{Contains}
 use Rattle.std.specs.List.{list_any}
 use Rattle.std.proofs.lemmas.Bool.{cases_Bool, and_parts, and_from, or_cases, or_right, not-true, both_ways, lt-ltb}
 use Rattle.mw_facts.proofs.Alls.{all-contains}
-use Rattle.mw_facts.proofs.HighLists.{list_any-range}
+use Rattle.mw_facts.proofs.Tests.{list_any-range}
 use Rattle.mw_model.specs.declared.places.Rect.{Rect}
 use Rattle.mw_model.specs.Places.{Holds, IsWithin}
 use Rattle.mw_model.specs.Elements.{reach_of}
