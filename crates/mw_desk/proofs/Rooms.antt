@@ -1,33 +1,27 @@
 -- What is gathered where want of memory ends a session.
 use Rattle.std.proofs.Common.{◌≡◌, ◌≢◌, ℕ, ◌+◌, ◌<◌, ◌≤◌, ◌⊎◌, inl, inr, Option, Some, None, List, [], ◌∷◌, ◌++◌, length, take, drop, length-drop, refl, sym, ◌∙◌, ap, arith, append_assoc}
 use Rattle.std.specs.List.{position_or_len}
-use Rattle.std.proofs.lemmas.Bool.{cases_lt, le-ltb}
+use Rattle.std.proofs.lemmas.Bool.{cases_lt}
 use Rattle.std.proofs.lemmas.List.{append-nil}
 use Rattle.mw_facts.proofs.Positions.{position_length}
 use Rattle.mw_model.specs.declared.requests.Awaited.{Awaited}
 use Rattle.mw_model.specs.declared.requests.Head.{Head}
 use Rattle.mw_model.specs.declared.requests.Head.TheVariants.{Payload, Alone}
 use Rattle.mw_model.specs.declared.codes.Code.{Code}
-use Rattle.mw_model.specs.declared.codes.Code.TheVariants.{Line, Memory}
+use Rattle.mw_model.specs.declared.codes.Code.TheVariants.{Memory}
 use Rattle.mw_model.specs.declared.requests.End.TheVariants as end
-use Rattle.mw_model.specs.Lines.{Found, Partial, Fault, asked_with, with_payload, after_head}
+use Rattle.mw_model.specs.Lines.{Partial, Fault, with_payload, after_head}
 use Rattle.mw_intake.specs.Intake.{AsksForPayload}
 use Rattle.mw_intake.specs.Reading.{front, head_of, is_line_end}
-use Rattle.mw_intake.proofs.Front.{front_long, front_line, front_open, payload_line, payload_long, payload_partial}
+use Rattle.mw_intake.proofs.Front.{front_long, front_line, front_open, payload_line, payload_long, payload_partial, payload_whole}
 use Rattle.mw_desk.specs.Rooms.{payload, line, WantsRoom, LacksRoom}
-
-line_fault : Fault Line ≡ Fault Memory → ⊥
-line_fault e = cc
-
-whole_found : (what : Awaited) (len : ℕ) (rest : List ℕ) → len ≤ 134217728 → len ≤ length rest → with_payload what len rest ≡ Found (asked_with what (take len rest)) (drop len rest)
-whole_found what len rest limit h = rw (le-ltb 134217728 len limit, le-ltb (length rest) len h) refl
 
 payload_fault : (what : Awaited) (len : ℕ) (rest : List ℕ) → with_payload what len rest ≡ Fault Memory → ⊥
 payload_fault what len rest e = elim (cases_lt 134217728 len) [
   | inl over ↦ let g = payload_long what len rest over in cc
   | inr within ↦ elim (cases_lt (length rest) len) [
     | inl less ↦ let g = payload_partial what len rest (omega (arith, within)) less in cc
-    | inr whole ↦ let g = whole_found what len rest (omega (arith, within)) (omega (arith, whole)) in cc
+    | inr whole ↦ let g = payload_whole what len rest (omega (arith, within)) (omega (arith, whole)) in cc
   ]
 ]
 

@@ -21,11 +21,6 @@ use Rattle.mw_desk.specs.Runs.{CameToEnd, BrokeOff, Halted, Drains, DeskRan}
 use Rattle.mw_desk.proofs.Rooms.{room-for-portion, room-for-payload, room-more, room-lacks}
 use Rattle.mw_desk.proofs.Ends.{Progress, progress-more, progress-answered, cut-answered, finished-by, cut-by, finished-on, stopped-on, finished-more, finished-for, cut-answer-more, cut-end-more, stopped-for}
 
--- the front of no bytes
-pub front-empty : front [] ≡ Partial
-unfolding front
-front-empty = refl
-
 -- QUIT is no want of memory
 quit_has_room : {X : Type 0} → end.Quit ≡ end.Ended code.Memory → X
 quit_has_room e = cc

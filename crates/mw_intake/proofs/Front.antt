@@ -36,20 +36,18 @@ pub front_open : (xs : List ℕ) → position_or_len is_line_end xs ≤ 200 → 
 unfolding front
 front_open xs h k = rw (le-ltb _ _ h, le-ltb _ _ k) refl
 
+pub front_empty : front [] ≡ Partial
+unfolding front
+front_empty = refl
+
 -- the line is whole
 pub front_line : (xs : List ℕ) → position_or_len is_line_end xs ≤ 200 → position_or_len is_line_end xs < length xs →
     front xs ≡ after_head (head_of (take (position_or_len is_line_end xs) xs)) (drop (position_or_len is_line_end xs + 1) xs)
 unfolding front
 front_line xs h k = rw (le-ltb _ _ h, lt-ltb _ _ k) refl
 
-pub cut_end : (xs : List ℕ) (e : ℕ) → e ≡ min 201 (position_or_len is_line_end xs) → e ≤ 200 → position_or_len is_line_end xs ≡ e
-cut_end xs e is h = omega arith
-
 pub cut_bound : (xs : List ℕ) (e : ℕ) → e ≡ min 201 (position_or_len is_line_end xs) → e ≤ length xs
 cut_bound xs e is = omega (arith, position_length is_line_end xs)
-
-pub cut_long : (xs : List ℕ) (e : ℕ) → e ≡ min 201 (position_or_len is_line_end xs) → 200 < e → front xs ≡ Fault Line
-cut_long xs e is h = front_long xs (omega arith)
 
 pub cut_open : (xs : List ℕ) (e : ℕ) → e ≡ min 201 (position_or_len is_line_end xs) → e ≤ 200 → e ≡ length xs → front xs ≡ Partial
 cut_open xs e is h k = front_open xs (omega arith) (omega arith)
@@ -62,9 +60,6 @@ cut_line xs e is h k =
 pub cut_head : (xs : List ℕ) (e : ℕ) (h : Option Head) → e ≡ min 201 (position_or_len is_line_end xs) → e ≤ 200 → e < length xs → h ≡ head_of (take e xs) → front xs ≡ after_head h (drop (e + 1) xs)
 cut_head xs e h is small k g = rw g (cut_line xs e is small k)
 
-take_take_below : (xs : List ℕ) (i j : ℕ) → i ≤ j → take i (take j xs) ≡ take i xs
-take_take_below xs i j h = simp take-take (ap (λ n. take n xs) (omega arith))
-
 -- the front of bytes that a PUT line begins
 pub payload_line : (xs : List ℕ) (e : ℕ) (what : Awaited) (len : ℕ) → e ≡ min 201 (position_or_len is_line_end xs) → e ≤ 200 → e < length xs → Some (Payload what len) ≡ head_of (take e xs) → len ≤ 134217728 → IsPayloadLine (take (e + 1) xs) what len
 payload_line xs e what len is small k g limit =
@@ -74,7 +69,7 @@ payload_line xs e what len is small k g limit =
     record {
       ends = rw r (simp length-take (omega arith));
       short = simp length-take (omega arith);
-      head = let below : e ≤ e + 1 = omega arith in rw (r, take_take_below xs e (e + 1) below) (sym g);
+      head = let below : e ≤ e + 1 = omega arith in rw (r, take-take e (e + 1) xs below) (sym g);
       limit = limit;
     }
 
@@ -93,7 +88,7 @@ front_gathered line xs what len g =
 pub payload_partial : (what : Awaited) (len : ℕ) (xs : List ℕ) → len ≤ 134217728 → length xs < len → with_payload what len xs ≡ Partial
 payload_partial what len xs limit h = rw (le-ltb 134217728 len limit, lt-ltb (length xs) len h) refl
 
-payload_whole : (what : Awaited) (len : ℕ) (xs : List ℕ) → len ≤ 134217728 → len ≤ length xs → with_payload what len xs ≡ Found (asked_with what (take len xs)) (drop len xs)
+pub payload_whole : (what : Awaited) (len : ℕ) (xs : List ℕ) → len ≤ 134217728 → len ≤ length xs → with_payload what len xs ≡ Found (asked_with what (take len xs)) (drop len xs)
 payload_whole what len xs limit h = rw (le-ltb 134217728 len limit, le-ltb (length xs) len h) refl
 
 pub gathering_open : (line payload more : List ℕ) (what : Awaited) (len : ℕ) → IsPayloadLine line what len → more ≡ [] → length payload < len → front (line ++ payload ++ more) ≡ Partial
@@ -106,9 +101,6 @@ gathering_whole line payload more what len g whole =
 
 pub payload_long : (what : Awaited) (len : ℕ) (xs : List ℕ) → 134217728 < len → with_payload what len xs ≡ Fault Length
 payload_long what len xs h = rw (lt-ltb 134217728 len h) refl
-
-pub front_not_empty : (line xs : List ℕ) (what : Awaited) (len : ℕ) → IsPayloadLine line what len → line ++ xs ≡ [] → ⊥
-front_not_empty line xs what len g e = omega (arith, g.ends, simp length-append at (ap length e))
 
 -- the line, what has come of the payload, and the rest
 pub started : (xs : List ℕ) (used n : ℕ) → take used xs ++ take n (drop used xs) ++ drop (used + n) xs ≡ xs
@@ -290,11 +282,6 @@ pub Begins_more : (rs : List Asked) (xs ys rest : List ℕ) → Begins xs rs res
 Begins_more [] xs ys rest b = ap (λ l. l ++ ys) b
 Begins_more (r ∷ rs) xs ys rest b =
     (b.0 ++ ys, is_front (xs ++ ys) (Found r (b.0 ++ ys)) (front_found xs ys r b.0 (front_is xs (Found r b.0) b.1)), Begins_more rs b.0 ys rest b.2)
-
--- one more request
-pub Begins_push : (rs : List Asked) (xs mid rest : List ℕ) (r : Asked) → Begins xs rs mid → front mid ≡ Found r rest → Begins xs (rs ++ r ∷ []) rest
-Begins_push [] xs mid rest r b e = (rest, is_front xs (Found r rest) (rw (← b) e), refl)
-Begins_push (q ∷ rs) xs mid rest r b e = (b.0, b.1, Begins_push rs b.0 mid rest r b.2 e)
 
 -- the same bytes begin with the same requests: the one list begins the other
 pub Begins_prefix : (rs qs : List Asked) (xs rest end : List ℕ) → Begins xs rs rest → Begins xs qs end → length rs ≤ length qs → (more : List Asked) × (qs ≡ rs ++ more) × Begins rest more end

@@ -17,7 +17,7 @@ use Rattle.mw_model.specs.Refusals.{Table, outcome_at, is_pending}
 use Rattle.mw_model.specs.Stands.{CoreView, progress_at, inputs_of, ready_under, running_count}
 use Rattle.mw_model.specs.Tasks.{Progress, is_running, running_tasks, task_count, tasks_below}
 use Rattle.mw_progress.specs.ProgressView.{ProgressView}
-use Rattle.mw_stands.proofs.CountLemmas.{sum-more}
+use Rattle.mw_stands.proofs.CountLemmas.{sum-more, sum-at, sum-most}
 use Rattle.mw_stands.specs.Counts.{running_under}
 use Rattle.mw_store.specs.declared.kept.Entry.{Entry}
 use Rattle.mw_ledger.specs.Books.{Book, IsOrderly, progress_of, seen_of, work_at}
@@ -25,7 +25,7 @@ use Rattle.mw_ledger.specs.Changes.{with_accepted}
 use Rattle.mw_ledger.specs.Counts.{AreCounts, Tally, WaitFor, grown}
 use Rattle.mw_ledger.proofs.Anew.{AreAnew}
 use Rattle.mw_ledger.proofs.ReadyLemmas.{work-alike, work-other, work-seen, ready-apart, ready-before, ready-other, ready-released}
-use Rattle.mw_ledger.proofs.Rows.{row, row-at, row-is, row-set, sum-set, sum-at, sum-most}
+use Rattle.mw_ledger.proofs.Rows.{row, row-at, row-is, row-set, sum-set}
 
 -- ---- how many are running
 
@@ -168,7 +168,3 @@ counts-released b new t k orderly counts within done table works =
       counts.0 ∙ ready ∙ ap (row (ready_under (seen_of new))) (sym long),
       counts.1 ∙ ap (λ (xs : List ℕ). sum xs) running ∙ ap (λ (j : ℕ). sum (row (running_under (seen_of new)) j)) (sym long),
     )
-
--- neither an entry nor work has changed
-pub counts-kept : (b new : Book) (k : Tally) → new.table ≡ b.table → new.works ≡ b.works → AreCounts (seen_of b) k → AreCounts (seen_of new) k
-counts-kept b new k table works counts = rw (table, works) counts

@@ -2,7 +2,6 @@
 pub mod Folds
 pub mod Joined
 pub mod Over
-pub mod Padded
 pub mod Rows
 pub mod Tiles
 -- the crate's own
@@ -13,3 +12,4 @@ mod Spans
 mod Levels
 mod Growing
 mod Segments
+mod Padded

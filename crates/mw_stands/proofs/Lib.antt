@@ -1,11 +1,8 @@
 -- what other crates may cite
-pub mod ValueLemmas
 pub mod GivenLemmas
 pub mod RefusalLemmas
-pub mod FateLemmas
 pub mod AgreeLemmas
 pub mod WorkLemmas
-pub mod RunLemmas
 pub mod StandsLemmas
 pub mod CallLemmas
 pub mod CountLemmas
@@ -13,3 +10,7 @@ pub mod LimitLemmas
 pub mod KeptInputs
 pub mod TaskLemmas
 pub mod IdleLemmas
+pub mod ShownLemmas
+-- the crate's own
+mod FateLemmas
+mod RunLemmas

@@ -4,8 +4,9 @@ use Rattle.mw_model.specs.declared.codes.Code.TheVariants.{Memory}
 use Rattle.mw_model.specs.Lines.{Partial}
 use Rattle.mw_wire.specs.declared.fault.SessionFault.TheVariants.{Read}
 use Rattle.mw_intake.specs.Reading.{front}
+use Rattle.mw_intake.proofs.Front.{front_empty}
 use Rattle.mw_desk.proofs.Ends.{Progress, progress-start, progress-more, progress-drained}
-use Rattle.mw_desk.proofs.Serving.{front-empty, take-front, progress-kept, ran-finished, ran-broken, ran-held, ran-stopped, ran-ended, ran-to-end, write-failed, error-is}
+use Rattle.mw_desk.proofs.Serving.{take-front, progress-kept, ran-finished, ran-broken, ran-held, ran-stopped, ran-ended, ran-to-end, write-failed, error-is}
 use Rattle.mw_desk.proofs.session.serve_reads.Goals as goal
 
 pub returns-in-Err-clause-ran : goal.returns-in-Err-clause-ran
@@ -23,7 +24,7 @@ reads-init g c =
       taken = [];
       read = Consumes-nil (g.R.Read.remaining c.args.source.now.inner);
       progress = let P : List ℕ → Type 0 = λ l. Progress g.D.Desk.Answer [] l kept kept x x in subst P (sym c.new-intake.ensures) (progress-start g.D.Desk.Answer [] kept x);
-      waits = let P : List ℕ → Type 0 = λ l. front l ≡ Partial in subst P (sym c.new-intake.ensures) front-empty;
+      waits = let P : List ℕ → Type 0 = λ l. front l ≡ Partial in subst P (sym c.new-intake.ensures) front_empty;
       source_clear = c.requires.source_clear;
       sink_clear = c.requires.sink_clear;
       reads = omega (arith, c.requires.unread);

@@ -7,7 +7,7 @@ use Rattle.mw_model.specs.Windows.{seen_at}
 use Rattle.mw_tile.specs.Windows.{IsWindow}
 use Rattle.mw_line.specs.Extrema.{IsSlidingExtremum}
 use Rattle.mw_line.proofs.Folds.{IsExtremum}
-use Rattle.mw_line.proofs.Tiles.{looked, blank_tile, one_is_none, tile_made, tile_cell, on_frame}
+use Rattle.mw_line.proofs.Tiles.{IsLooked-sides, blank_tile, one_is_none, tile_made, tile_cell, on_frame}
 use Rattle.mw_line.proofs.rectangles.rectangle.Goals as goal
 
 pub returns-then-across-eq0-clause-over_window : goal.returns-then-across-eq0-clause-over_window
@@ -17,7 +17,7 @@ returns-then-across-eq0-clause-over_window g c =
     let tile = c.args.tile in
     let across = c.seen_across-across in
     let down = c.seen_down-down in
-    let known = looked w box tile c.place-place.result box.x0 box.x1 box.y0 box.y1 across.result.skipped across.result.count down.result.skipped down.result.count c.place-place.ensures.value refl refl refl refl across.ensures down.ensures in
+    let known = IsLooked-sides w box tile c.place-place.result box.x0 box.x1 box.y0 box.y1 across.result.skipped across.result.count down.result.skipped down.result.count c.place-place.ensures.value refl refl refl refl across.ensures down.ensures in
     let why : (across.result.count ≡ 0) ⊎ ((down.result.count ≡ 0) ⊎ ((tile.width ≡ 0) ⊎ (tile.height ≡ 0))) = one_is_none across.result.count down.result.count tile.width tile.height c.then-across-eq0.either in
     IfOk-weaker c.filled.result (λ p. p ≡ raster tile.width tile.height (replicate (tile.height * tile.width) c.args.neutral))
     (λ r. IsSlidingExtremum g.E.Extremum.merge c.args.neutral (seen_at w) (box_offsets box) tile r)
@@ -45,7 +45,7 @@ returns-clause-over_window g c =
     let place = c.place-place.result in
     let across = c.seen_across-across in
     let down = c.seen_down-down in
-    let known = looked w box tile place box.x0 box.x1 box.y0 box.y1 across.result.skipped across.result.count down.result.skipped down.result.count c.place-place.ensures.value refl refl refl refl across.ensures down.ensures in
+    let known = IsLooked-sides w box tile place box.x0 box.x1 box.y0 box.y1 across.result.skipped across.result.count down.result.skipped down.result.count c.place-place.ensures.value refl refl refl refl across.ensures down.ensures in
     let column : ℤ = to_z w64 (of_z w64 c.first_seen-column.result) in
     let row : ℤ = to_z w64 (of_z w64 c.first_seen-row.result) in
     let column-is : column ≡ pos tile.x +ℤ (box.x0 +ℤ pos across.result.skipped) -ℤ pos place.x = omega (arith, ints, c.first_seen-column.ensures.value) in
