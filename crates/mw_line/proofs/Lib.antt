@@ -5,6 +5,7 @@ pub mod Over
 pub mod Padded
 pub mod Rows
 pub mod Tiles
+pub mod Within
 -- the crate's own
 mod Cut
 mod Seen
