@@ -13,7 +13,7 @@ use Rattle.mw_element.specs.Figures.{figure}
 use Rattle.mw_element.proofs.Rows.{offsets_distinct, offsets_near, no_offsets, no_pixels}
 
 -- as many cells as places
-bitmap_size : (bytes : List ℕ) (side : ℕ) (f : Raster ℕ) → IsBitmap bytes side f → length f.cells ≡ f.height * f.width
+pub bitmap_size : (bytes : List ℕ) (side : ℕ) (f : Raster ℕ) → IsBitmap bytes side f → length f.cells ≡ f.height * f.width
 bitmap_size bytes side f is =
     is.is_raster.count ∙ sym (ap (λ (g : Raster ℕ). g.height * g.width) is.shows)
 

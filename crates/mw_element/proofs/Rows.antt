@@ -35,10 +35,10 @@ rows_part f ox oy y n = flat_map (λ k. offsets_in_row f ox oy k) (range_with_le
 
 -- ---- steps of loops
 
-row_more : (f : Raster ℕ) (ox oy y n : ℕ) → row_part f ox oy y 0 (n + 1) ≡ row_part f ox oy y 0 n ++ cons_option (pixel_offset f ox oy y n) []
+pub row_more : (f : Raster ℕ) (ox oy y n : ℕ) → row_part f ox oy y 0 (n + 1) ≡ row_part f ox oy y 0 n ++ cons_option (pixel_offset f ox oy y n) []
 row_more f ox oy y n = ap (filter_map (pixel_offset f ox oy y)) (range_with_len-more 0 n n (zero-add n)) ∙ filter_map-append (pixel_offset f ox oy y) (range_with_len 0 n) (n ∷ [])
 
-row_next : (f : Raster ℕ) (ox oy y n : ℕ) (b : Bool) → eqb (slice_index f.cells (y * f.width + n)) 1 ≡ b → row_part f ox oy y 0 (n + 1) ≡ row_part f ox oy y 0 n ++ cons_option (cond b (Some (offset_from ox oy n y)) None) []
+pub row_next : (f : Raster ℕ) (ox oy y n : ℕ) (b : Bool) → eqb (slice_index f.cells (y * f.width + n)) 1 ≡ b → row_part f ox oy y 0 (n + 1) ≡ row_part f ox oy y 0 n ++ cons_option (cond b (Some (offset_from ox oy n y)) None) []
 row_next f ox oy y n b e = row_more f ox oy y n ∙ ap (λ (t : Bool). row_part f ox oy y 0 n ++ cons_option (cond t (Some (offset_from ox oy n y)) None) []) e
 
 pub row_set : (f : Raster ℕ) (ox oy y n : ℕ) (before out new : List Offset) → out ≡ before ++ row_part f ox oy y 0 n → eqb (slice_index f.cells (y * f.width + n)) 1 ≡ true

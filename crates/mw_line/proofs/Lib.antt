@@ -4,6 +4,7 @@ pub mod Joined
 pub mod Over
 pub mod Rows
 pub mod Tiles
+pub mod Within
 -- the crate's own
 mod Cut
 mod Seen

@@ -1,4 +1,5 @@
-use Rattle.std.proofs.Common.{◌≡◌, ◌⊎◌, ◌*◌, ◌+ℤ◌, ◌-ℤ◌, pos, ℤ, ◌∙◌, arith, refl, replicate, to_z, of_z, w64}
+use Rattle.std.proofs.Common.{◌≡◌, ◌≤◌, ◌⊎◌, ◌*◌, ◌+ℤ◌, ◌-ℤ◌, pos, ℤ, ◌∙◌, arith, refl, replicate, to_z, of_z, w64}
+use Rattle.std.specs.Prelude.{All}
 use Rattle.std.proofs.lemmas.Int.{ints}
 use Rattle.std.proofs.lemmas.Result.{IfOk-weaker}
 use Rattle.mw_model.specs.Places.{box_offsets}
@@ -8,6 +9,7 @@ use Rattle.mw_tile.specs.Windows.{IsWindow}
 use Rattle.mw_line.specs.Extrema.{IsSlidingExtremum}
 use Rattle.mw_line.proofs.Folds.{IsExtremum}
 use Rattle.mw_line.proofs.Tiles.{IsLooked-sides, blank_tile, one_is_none, tile_made, tile_cell, on_frame}
+use Rattle.mw_line.proofs.Within.{sliding_within}
 use Rattle.mw_line.proofs.rectangles.rectangle.Goals as goal
 
 pub returns-then-across-eq0-clause-over_window : goal.returns-then-across-eq0-clause-over_window
@@ -22,7 +24,7 @@ returns-then-across-eq0-clause-over_window g c =
     IfOk-weaker c.filled.result (λ p. p ≡ raster tile.width tile.height (replicate (tile.height * tile.width) c.args.neutral))
     (λ r. IsSlidingExtremum g.E.Extremum.merge c.args.neutral (seen_at w) (box_offsets box) tile r)
     (λ r r-is. blank_tile g.E.Extremum.merge c.args.neutral w box tile c.place-place.result box.x0 box.x1 box.y0 box.y1 across.result.skipped across.result.count down.result.skipped down.result.count r known why r-is)
-    c.filled.ensures
+    c.filled.ensures.value
 
 pub returns-then-across-eq0-clause-over_frame : goal.returns-then-across-eq0-clause-over_frame
 returns-then-across-eq0-clause-over_frame g c =
@@ -32,6 +34,16 @@ returns-then-across-eq0-clause-over_frame g c =
     IfOk-weaker c.filled.result (λ r. IsSlidingExtremum g.E.Extremum.merge c.args.neutral (seen_at w) element tile r)
     (λ r. (f : Raster g.row.P.Denot) → IsWindow w f element tile → IsSlidingExtremum g.E.Extremum.merge c.args.neutral (cell_at f) element tile r)
     (λ r made f window. on_frame g.E.Extremum.merge c.args.neutral w f element tile r made window)
+    (returns-then-across-eq0-clause-over_window g c)
+
+pub returns-then-across-eq0-clause-small : goal.returns-then-across-eq0-clause-small
+returns-then-across-eq0-clause-small g c = λ most n-le all.
+    let w = c.args.window.now in
+    let element = box_offsets c.args.offsets in
+    let f = g.E.Extremum.merge in
+    let small = λ (s : g.row.P.Denot). g.P.Pixel.level s ≤ most in
+    IfOk-weaker c.filled.result (λ r. IsSlidingExtremum f c.args.neutral (seen_at w) element c.args.tile r) (λ r. All small r.cells)
+    (λ r made. sliding_within f small (λ a b p q. g.met.E.Extremum.stays_within a b most p q) c.args.neutral n-le w all element c.args.tile r made)
     (returns-then-across-eq0-clause-over_window g c)
 
 pub returns-clause-over_window : goal.returns-clause-over_window
@@ -57,3 +69,8 @@ returns-clause-over_window g c =
 pub returns-clause-over_frame : goal.returns-clause-over_frame
 returns-clause-over_frame g c = λ f window.
     on_frame g.E.Extremum.merge c.args.neutral c.args.window.now f (box_offsets c.args.offsets) c.args.tile c.new.result (returns-clause-over_window g c) window
+
+pub returns-clause-small : goal.returns-clause-small
+returns-clause-small g c = λ most n-le all.
+    sliding_within g.E.Extremum.merge (λ (s : g.row.P.Denot). g.P.Pixel.level s ≤ most) (λ a b p q. g.met.E.Extremum.stays_within a b most p q) c.args.neutral n-le c.args.window.now all (box_offsets c.args.offsets)
+    c.args.tile c.new.result (returns-clause-over_window g c)

@@ -21,6 +21,6 @@ returns-clause-cells g c =
     ap (λ (t : List _). get_or t (y * c.args.wide + x) n) (take-written items out c.in_ok-cells.cells.len whole)
     ∙ c.spread_rows.ensures x y n less row_less
     ∙ ap (λ (t : List _). merge_at f (get_or t (y * c.args.wide + x) n) (seen (to_x +ℤ pos x) (to_y +ℤ pos y))) (c.as_mut_slice.ensures.value ∙ c.in_ok-cells.ensures)
-    ∙ ap (λ (t : g.row.P.Denot). merge_at f t (seen (to_x +ℤ pos x) (to_y +ℤ pos y))) (get_or-replicate_same c.in_ok-count.count (y * c.args.wide + x) n)
+    ∙ ap (λ (t : g.row.P.Denot). merge_at f t (seen (to_x +ℤ pos x) (to_y +ℤ pos y))) (get_or-replicate_same (c.args.high * c.args.wide) (y * c.args.wide + x) n)
     ∙ ap (λ (t : ℤ). merge_at f n (seen (t +ℤ pos x) (to_y +ℤ pos y))) x-is
     ∙ ap (λ (t : ℤ). merge_at f n (seen (c.args.column +ℤ pos x) (t +ℤ pos y))) y-is
