@@ -5,7 +5,7 @@ use Rattle.mw_intake.proofs.intake.Intake.portion.Goals as goal
 pub returns-then-missing-gt0-clause-payload : goal.returns-then-missing-gt0-clause-payload
 returns-then-missing-gt0-clause-payload c = λ n some m.
     let there : 0 < c.missing-missing.result = omega (arith, c.if-missing-gt0.true) in
-    let same : c.missing-missing.result ≡ n = misses_once c.args.self.now c.missing-missing.result n (c.missing-missing.ensures.some there) m in
+    let same : c.missing-missing.result ≡ n = misses_once c.args.self.now.bytes c.missing-missing.result n (c.missing-missing.ensures.some there) m in
     omega (arith, same, c.min.ensures)
 
 pub returns-then-missing-gt0-clause-line : goal.returns-then-missing-gt0-clause-line
