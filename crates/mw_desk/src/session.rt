@@ -33,8 +33,8 @@ fn drain<W: Write, D: Desk>(
     kept: &mut D::Kept,
 ) -> Result<Option<End>, SessionFault>
     requires { D.ready }
-    ensures ran { (left : Option (List ℕ)) → Drains D.Answer left intake.old intake.new kept.old kept.new (W.contents sink.old.inner) (W.contents sink.new.inner) result }
-    ensures waits { IfOk result (λ o. o ≡ None → front intake.new ≡ Partial) }
+    ensures ran { (left : Option (List ℕ)) → Drains D.Answer left intake.old.bytes intake.new.bytes kept.old kept.new (W.contents sink.old.inner) (W.contents sink.new.inner) result }
+    ensures waits { IfOk result (λ o. o ≡ None → front intake.new.bytes ≡ Partial) }
     ensures same { OnOk result (sink.new.failed ≡ sink.old.failed) }
     ensures flag { OnErr result ((result ≡ Err SessionFault.Write) × (sink.new.failed ≡ true)) }
 {
@@ -66,9 +66,9 @@ fn serve_piece<W: Write, D: Desk>(
 ) -> Result<Option<End>, SessionFault>
     requires ready { D.ready }
     requires some { 0 < length piece.now }
-    requires served { front intake.old ≡ Partial }
-    ensures ran { (left : Option (List ℕ)) → Drains D.Answer left (intake.old ++ piece.now) intake.new kept.old kept.new (W.contents sink.old.inner) (W.contents sink.new.inner) result }
-    ensures waits { IfOk result (λ o. o ≡ None → front intake.new ≡ Partial) }
+    requires served { front intake.old.bytes ≡ Partial }
+    ensures ran { (left : Option (List ℕ)) → Drains D.Answer left (intake.old.bytes ++ piece.now) intake.new.bytes kept.old kept.new (W.contents sink.old.inner) (W.contents sink.new.inner) result }
+    ensures waits { IfOk result (λ o. o ≡ None → front intake.new.bytes ≡ Partial) }
     ensures same { OnOk result (sink.new.failed ≡ sink.old.failed) }
     ensures flag { OnErr result ((result ≡ Err SessionFault.Write) × (sink.new.failed ≡ true)) }
 {
@@ -92,8 +92,8 @@ fn serve_piece<W: Write, D: Desk>(
 
 /// Ends a session at the end of the input.
 fn end_of_input<W: Write>(sink: &mut Sink<W>, intake: &Intake) -> Result<End, SessionFault>
-    ensures quit { intake.now ≡ [] → (result ≡ Ok End.Quit) × Appends (W.contents sink.old.inner) (W.contents sink.new.inner) [] }
-    ensures cut { intake.now ≢ [] → EndsBy (W.contents sink.old.inner) (W.contents sink.new.inner) Code.Cut result }
+    ensures quit { intake.now.bytes ≡ [] → (result ≡ Ok End.Quit) × Appends (W.contents sink.old.inner) (W.contents sink.new.inner) [] }
+    ensures cut { intake.now.bytes ≢ [] → EndsBy (W.contents sink.old.inner) (W.contents sink.new.inner) Code.Cut result }
     ensures same { OnOk result (sink.new.failed ≡ sink.old.failed) }
     ensures flag { OnErr result ((result ≡ Err SessionFault.Write) × (sink.new.failed ≡ true)) }
 {

@@ -27,23 +27,23 @@ impl Model for Ledger {
     ghost Value = { Book };
 
     ghost view = { λ l. record {
-        table = l.store.table;
-        kept = l.store.kept;
-        works = l.works.items;
-        log = l.log.items;
-        side = l.side;
-        room = room_in (vec_capacity l.log) (vec_len l.log) l.store.table.outcomes;
+      table = l.store.table;
+      kept = l.store.kept;
+      works = l.works.items;
+      log = l.log.items;
+      side = l.side;
+      room = room_in (vec_capacity l.log) (vec_len l.log) l.store.table.outcomes;
     } };
 
     // Each pending entry has a place in the log for its end.
     ghost invariant = { λ l. (vec_len l.log + count_by is_pending l.store.table.outcomes ≤ vec_capacity l.log)
         × IsOrderly (record {
-            table = l.store.table;
-            kept = l.store.kept;
-            works = l.works.items;
-            log = l.log.items;
-            side = l.side;
-            room = room_in (vec_capacity l.log) (vec_len l.log) l.store.table.outcomes;
+          table = l.store.table;
+          kept = l.store.kept;
+          works = l.works.items;
+          log = l.log.items;
+          side = l.side;
+          room = room_in (vec_capacity l.log) (vec_len l.log) l.store.table.outcomes;
         }) };
 }
 

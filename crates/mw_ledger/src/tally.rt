@@ -1,6 +1,6 @@
 //! Counts of ready and running tasks beside a ledger.
 
-ghost use Rattle.std.specs.Prelude.{◌≡◌, ◌+◌, ◌-◌, ◌<◌, ◌≤◌, ◌^◌, length, sum, slice_index, slice_set, Option, IfOk, MatchResult};
+ghost use Rattle.std.specs.Prelude.{◌≡◌, ℕ, ◌+◌, ◌-◌, ◌<◌, ◌≤◌, ◌^◌, length, sum, slice_index, slice_set, Option, IfOk, MatchResult};
 
 use crate::ledger::Ledger;
 use mw_model::NoMemory;

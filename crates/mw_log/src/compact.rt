@@ -30,6 +30,8 @@ enum Short {
     Long(Box<LogItem>),
 }
 
+const _: () = prove!(size_of::<LogItem>() == 164);
+
 const _: () = prove!(size_of::<Short>() <= 64);
 
 /// An item of the log, in at most 64 bytes. Contracts see it as the item.

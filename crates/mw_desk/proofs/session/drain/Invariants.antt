@@ -4,8 +4,8 @@ use Rattle.mw_desk.proofs.session.drain.Given as goal
 
 abbrev pub invariant-requests : goal.invariant-requests
 invariant-requests g l =
-    Progress g.D.Desk.Answer l.fn.intake l.intake l.fn.kept l.kept (g.W.Write.contents l.fn.sink.inner) (g.W.Write.contents l.sink.inner)
+    Progress g.D.Desk.Answer l.fn.intake.bytes l.intake.bytes l.fn.kept l.kept (g.W.Write.contents l.fn.sink.inner) (g.W.Write.contents l.sink.inner)
     × (l.sink.failed ≡ l.fn.sink.failed)
 
 abbrev pub decreases-requests : goal.decreases-requests
-decreases-requests g l = length l.intake
+decreases-requests g l = length l.intake.bytes

@@ -9,8 +9,8 @@ abbrev pub invariant-reads : goal.invariant-reads
 invariant-reads g l = record {
   taken : List ℕ;
   read : Consumes (g.R.Read.remaining l.fn.source.inner) (g.R.Read.remaining l.source.inner) taken;
-  progress : Progress g.D.Desk.Answer taken l.intake l.fn.kept l.kept (g.W.Write.contents l.fn.sink.inner) (g.W.Write.contents l.sink.inner);
-  waits : front l.intake ≡ Partial;
+  progress : Progress g.D.Desk.Answer taken l.intake.bytes l.fn.kept l.kept (g.W.Write.contents l.fn.sink.inner) (g.W.Write.contents l.sink.inner);
+  waits : front l.intake.bytes ≡ Partial;
   source_clear : l.source.failed ≡ false;
   sink_clear : l.sink.failed ≡ false;
   reads : l.source.reads ≤ 4294967295;

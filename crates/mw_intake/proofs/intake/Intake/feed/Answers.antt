@@ -1,4 +1,4 @@
-use Rattle.std.proofs.Common.{◌≡◌, ◌+◌, ◌≤◌, ◌++◌, length, drop, refl, ap, ◌∙◌, arith, take-append-drop}
+use Rattle.std.proofs.Common.{◌≡◌, ◌+◌, ◌≤◌, ◌++◌, length, drop, ap, arith, take-append-drop}
 use Rattle.mw_intake.specs.Intake.{Held, line_kept}
 use Rattle.mw_intake.proofs.Feeds.{on_ok, fed_both, one_none}
 use Rattle.mw_intake.proofs.intake.Intake.feed.Goals as goal
@@ -15,4 +15,4 @@ returns-in-Some-clause-ok c =
     let few : length mine + length payload ≤ c.in-Some.len = omega (arith, c.split_at.ensures.front_len, c.min.ensures, c.len.ensures, c.self.inside.payload.ok.0, inv.1.1) in
     let apart = one_none mine c.self.inside.rest.items (length payload) c.in-Some.len c.self.inside.at inv.1.2 few in
     on_ok c.append_both.result c.append_both.ensures.ok
-    (λ e. rw (e.0, e.1, c.drop_front.ensures.items) (fed_both (line_kept c.self.inside.wanted) payload waits mine other apart) ∙ rw (was, piece) refl)
+    (λ e. rw (e.0, e.1, c.drop_front.ensures.items, ← was, ← piece) (fed_both (line_kept c.self.inside.wanted) payload waits mine other apart))
