@@ -11,6 +11,10 @@ pub on_err : {X E : Type 0} {A : Type 0} (r : Result X E) → A → OnErr r A
 on_err (Ok x) a = tt
 on_err (Err e) a = a
 
+pub empty : (xs : List ℕ) → length xs ≡ 0 → xs ≡ []
+empty [] e = refl
+empty (x ∷ xs) e = absurd (omega arith)
+
 -- nothing waits, or the payload takes none
 pub fed_both : (line payload waits mine other : List ℕ) → (mine ≡ []) ⊎ (waits ≡ []) → line ++ (payload ++ mine) ++ (waits ++ other) ≡ line ++ payload ++ waits ++ (mine ++ other)
 fed_both line payload waits mine other (inl none) = rw (none, append-nil) (simp append_assoc)
@@ -20,9 +24,5 @@ fed_both line payload waits mine other (inr none) = rw (none, append-nil) (simp 
 pub one_none : (mine rest : List ℕ) (have len at : ℕ) → (have < len → at ≡ length rest) → length mine + have ≤ len → (mine ≡ []) ⊎ (drop at rest ≡ [])
 one_none mine rest have len at ends few = elim (cases_lt have len) [
   | inl less ↦ inr (drop_all at rest (omega (arith, ends less)))
-  | inr whole ↦ inl (none mine (omega (arith, whole, few)))
+  | inr whole ↦ inl (empty mine (omega (arith, whole, few)))
 ]
-  where
-    none : (xs : List ℕ) → length xs ≡ 0 → xs ≡ []
-    none [] e = refl
-    none (x ∷ xs) e = absurd (omega arith)

@@ -1,5 +1,6 @@
 -- what other crates may cite
 pub mod Front
+pub mod Tidy
 -- the crate's own
 mod Feeds
 mod Fields

@@ -1,5 +1,5 @@
 -- What an intake keeps, and what it answers.
-use Rattle.std.specs.Prelude.{◌≡◌, ℕ, ◌+◌, ◌-◌, ◌≤◌, ◌<◌, List, [], ◌∷◌, ◌++◌, length, take, Option, None, Some, if◌then◌else◌, nat_lt}
+use Rattle.std.specs.Prelude.{◌≡◌, ℕ, ◌+◌, ◌-◌, ◌≤◌, ◌<◌, ◌⊎◌, List, [], ◌∷◌, ◌++◌, length, take, Option, None, Some, if◌then◌else◌, nat_lt}
 use Rattle.std.specs.List.{position_or_len}
 use Rattle.mw_model.specs.declared.requests.Request.{Request}
 use Rattle.mw_model.specs.declared.requests.Request.TheVariants as request
@@ -58,6 +58,25 @@ pub record CameWithLine (h : Held) : Type 0 where
   pub len : ℕ
   pub line : IsPayloadLine (take used h.bytes) what len
   pub more : used < length h.bytes
+
+-- Nothing is loose, or no more than a line with its LF: so no byte of a payload has come with its line.
+abbrev pub IsTidy : Held → Type 0
+IsTidy h = (h.loose ≡ 0) ⊎ ((h.loose ≡ length h.bytes) × (length h.bytes ≤ position_or_len is_line_end h.bytes + 1))
+
+-- nothing is loose, or less than a line
+abbrev pub IsOpen : Held → Type 0
+IsOpen h = (h.loose ≡ 0) ⊎ ((h.loose ≡ length h.bytes) × (position_or_len is_line_end h.bytes ≡ length h.bytes))
+
+-- The piece goes no further than to the end of the payload that is gathered, or else of a line.
+pub record IsPortion (h : Held) (piece : List ℕ) : Type 0 where
+  pub payload : (n : ℕ) → 0 < n → Misses h.bytes n → length piece ≤ n
+  pub line : ((n : ℕ) → 0 < n → ¬ Misses h.bytes n) → length piece ≤ position_or_len is_line_end piece + 1
+
+-- what next leaves of tidy bytes
+abbrev pub Leaves : Next → Held → Type 0
+Leaves (next.Request r) new = (new.loose ≡ 0) × (new.bytes ≡ [])
+Leaves next.More new = IsOpen new
+Leaves (next.Bad c) new = Unit {0}
 
 -- the line that asks for a payload of this length, with its LF
 unfoldable pub line_for : Awaited → ℕ → List ℕ

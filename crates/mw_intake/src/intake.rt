@@ -1,10 +1,10 @@
 //! Gathers bytes that come in any pieces, and cuts requests from them.
 
-ghost use Rattle.std.specs.Prelude.{◌≡◌, ◌++◌, ◌≤◌, ◌<◌, ◌+◌, ◌*◌, ◌⊎◌, ℕ, [], length, drop, min, max, vec_len, vec_capacity, IfOk, OnOk, OnErr, IsTrue, ◌↔◌};
+ghost use Rattle.std.specs.Prelude.{◌≡◌, ◌++◌, ◌≤◌, ◌<◌, ◌+◌, ◌*◌, ◌⊎◌, ℕ, [], length, take, drop, min, max, vec_len, vec_capacity, IfOk, OnOk, OnErr, IsTrue, ◌↔◌};
 ghost use Rattle.std.specs.List.{position_or_len};
-ghost use Rattle.mw_intake.specs.Intake.{Answers, Falls, CameWithLine, Misses, asked};
-ghost use Rattle.mw_intake.specs.Reading.{is_line_end};
-ghost use Rattle.mw_model.specs.Lines.{AskAlone, asked_with};
+ghost use Rattle.mw_intake.specs.Intake.{Answers, Falls, CameWithLine, IsOpen, IsPortion, IsTidy, Leaves, Misses, asked};
+ghost use Rattle.mw_intake.specs.Reading.{front, is_line_end};
+ghost use Rattle.mw_model.specs.Lines.{AskAlone, Partial, asked_with};
 
 use crate::cut::{Cut, cut_front};
 use crate::line::line_end;
@@ -51,6 +51,7 @@ impl Intake {
     /// An intake without bytes; it takes no memory yet.
     pub fn new(alloc: Global) -> Intake
         ensures bytes { result.bytes ≡ [] }
+        ensures loose { result.loose ≡ 0 }
         ensures spare { result.spare ≡ 0 }
     {
         Intake {
@@ -68,6 +69,7 @@ impl Intake {
         ensures ok { OnOk result (self.new.bytes ≡ self.old.bytes ++ piece.now) }
         ensures err { OnErr result (self.new.bytes ≡ self.old.bytes) }
         ensures memory { OnErr result (self.old.spare < length piece.now) }
+        ensures tidy { OnOk result (IsOpen self.old → front self.old.bytes ≡ Partial → IsPortion self.old piece.now → IsTidy self.new) }
     {
         drop_front(&mut self.rest, self.at);
         self.at = 0;
@@ -89,6 +91,7 @@ impl Intake {
     pub fn portion(&self, piece: &[u8]) -> usize
         ensures payload { (n : ℕ) → 0 < n → Misses self.now.bytes n → result ≡ min n (length piece.now) }
         ensures line { ((n : ℕ) → 0 < n → ¬ Misses self.now.bytes n) → result ≡ min (min 201 (position_or_len is_line_end piece.now) + 1) (length piece.now) }
+        ensures portion { IsPortion self.now (take result piece.now) }
         ensures some { 0 < length piece.now → 0 < result }
         ensures within { result ≤ length piece.now }
     {
@@ -117,6 +120,7 @@ impl Intake {
         ensures falls { IfOk result (λ next. Falls next self.old.bytes self.new.bytes) }
         ensures err { OnErr result (self.new ≡ self.old) }
         ensures memory { OnErr result (CameWithLine self.old) }
+        ensures tidy { IfOk result (λ next. IsTidy self.old → Leaves next self.new) }
     {
         match self.wanted {
             None => {}

@@ -30,7 +30,7 @@ enum Short {
     Long(Box<LogItem>),
 }
 
-const _: () = prove!(size_of::<LogItem>() == 164);
+const _: () = prove!(size_of::<LogItem>() > 160);
 
 const _: () = prove!(size_of::<Short>() <= 64);
 

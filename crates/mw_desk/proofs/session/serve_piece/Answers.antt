@@ -1,5 +1,6 @@
-use Rattle.std.proofs.Common.{◌≡◌, ◌≢◌, ◌++◌, ◌+◌, ◌≤◌, [], take, drop, length, length-drop, ◌∙◌, arith}
+use Rattle.std.proofs.Common.{◌≡◌, ◌≢◌, ◌++◌, ◌+◌, ◌≤◌, ℕ, List, [], take, drop, length, length-drop, sym, subst, ◌∙◌, arith}
 use Rattle.mw_wire.specs.declared.fault.SessionFault.TheVariants.{Write}
+use Rattle.mw_intake.specs.Intake.{IsPortion}
 use Rattle.mw_desk.proofs.Rooms.{some_dropped}
 use Rattle.mw_desk.proofs.Ends.{progress-drained}
 use Rattle.mw_desk.proofs.Serving.{some_left, progress-portion, drains-no-room, drains-finished, drains-cut}
@@ -46,5 +47,13 @@ portions-preserved g c =
       within = omega (arith, short, length-drop c.portions.at piece, i.within);
       progress = progress-drained g.D.Desk.Answer (c.args.intake.now.bytes ++ take (c.portions.at + c.portion-n.result) piece) c.feed.new.self.bytes c.drain.new.intake.bytes c.args.kept.now c.portions.kept c.drain.new.kept x y (g.W.Write.contents c.drain.new.sink.inner) h d;
       waits = c.in-Ok-None.ensures.waits c.in-Ok-None.field-0-is;
+      is_open = c.in-Ok-None.ensures.is_open c.in-Ok-None.field-0-is;
       same = c.in-Ok-None.ensures.same ∙ i.same;
     }
+
+pub drain-requires-clause-tidy : goal.drain-requires-clause-tidy
+drain-requires-clause-tidy g c =
+    let P : List ℕ → Type 0 = λ l. IsPortion c.portions.intake l in
+    let taken = c.split_at-in-portions.ensures.front in
+    let portion : IsPortion c.portions.intake c.split_at-in-portions.result.0.now = subst P (sym taken) c.portion-n.ensures.portion in
+    c.in-Ok.ensures.tidy c.portions.invariant.is_open c.portions.invariant.waits portion

@@ -24,6 +24,7 @@ reads-init g c =
       read = Consumes-nil (g.R.Read.remaining c.args.source.now.inner);
       progress = let P : List ℕ → Type 0 = λ l. Progress g.D.Desk.Answer [] l kept kept x x in subst P (sym c.new-intake.ensures.bytes) (progress-start g.D.Desk.Answer [] kept x);
       waits = let P : List ℕ → Type 0 = λ l. front l ≡ Partial in subst P (sym c.new-intake.ensures.bytes) front-empty;
+      is_open = inl c.new-intake.ensures.loose;
       source_clear = c.requires.source_clear;
       sink_clear = c.requires.sink_clear;
       reads = omega (arith, c.requires.unread);
@@ -95,6 +96,7 @@ reads-preserved g c =
       progress = progress-drained g.D.Desk.Answer (i.taken ++ piece) (c.reads.intake.bytes ++ piece) c.serve_piece.new.intake.bytes c.args.kept.now c.reads.kept c.serve_piece.new.kept x y (g.W.Write.contents c.serve_piece.new.sink.inner) h
           (rw (same, c.in-Ok-None.field-0-is) at (c.in-Ok-None.ensures.ran left));
       waits = c.in-Ok-None.ensures.waits c.in-Ok-None.field-0-is;
+      is_open = c.in-Ok-None.ensures.is_open c.in-Ok-None.field-0-is;
       source_clear = c.in-Ok-receive.ensures.kept ∙ i.source_clear;
       sink_clear = c.in-Ok-None.ensures.same ∙ c.in-Ok-pass_on.ensures.kept ∙ i.sink_clear;
       reads = c.receive.ensures.few_reads;

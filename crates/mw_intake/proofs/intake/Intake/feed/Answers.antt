@@ -1,6 +1,7 @@
 use Rattle.std.proofs.Common.{◌≡◌, ◌+◌, ◌≤◌, ◌++◌, length, drop, ap, arith, take-append-drop}
 use Rattle.mw_intake.specs.Intake.{Held, line_kept}
 use Rattle.mw_intake.proofs.Feeds.{on_ok, fed_both, one_none}
+use Rattle.mw_intake.proofs.Tidy.{tidy_line, tidy_payload}
 use Rattle.mw_intake.proofs.intake.Intake.feed.Goals as goal
 
 pub returns-in-Some-clause-ok : goal.returns-in-Some-clause-ok
@@ -16,3 +17,9 @@ returns-in-Some-clause-ok c =
     let apart = one_none mine c.self.inside.rest.items (length payload) c.in-Some.len c.self.inside.at inv.1.2 few in
     on_ok c.append_both.result c.append_both.ensures.ok
     (λ e. rw (e.0, e.1, c.drop_front.ensures.items, ← was, ← piece) (fed_both (line_kept c.self.inside.wanted) payload waits mine other apart))
+
+pub returns-in_ok-extend_from_slice-clause-tidy : goal.returns-in_ok-extend_from_slice-clause-tidy
+returns-in_ok-extend_from_slice-clause-tidy c = ?
+
+pub returns-in-Some-clause-tidy : goal.returns-in-Some-clause-tidy
+returns-in-Some-clause-tidy c = ?

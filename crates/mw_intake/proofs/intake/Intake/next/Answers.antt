@@ -1,7 +1,10 @@
-use Rattle.std.proofs.Common.{◌≡◌, ◌++◌, ◌+◌, ℕ, List, [], length, drop, take, min, ◌<◌, ◌-◌, refl, sym, ap, subst, ◌∙◌, arith, length-drop}
-use Rattle.mw_intake.specs.Intake.{CameWithLine, Held, IsPayloadLine, line_for}
-use Rattle.mw_intake.proofs.Feeds.{on_err}
+use Rattle.std.proofs.Common.{◌≡◌, ◌++◌, ◌+◌, ◌≤◌, inl, inr, ℕ, List, [], length, drop, take, min, ◌<◌, ◌-◌, refl, sym, ap, subst, ◌∙◌, arith, length-drop}
+use Rattle.mw_intake.specs.Intake.{CameWithLine, Held, IsPayloadLine, IsTidy, line_for}
+use Rattle.mw_intake.proofs.Feeds.{empty, on_err}
+use Rattle.mw_intake.proofs.Tidy.{gathered_loose, line_place}
 use Rattle.mw_intake.proofs.Front.{gathering_open, gathering_whole, begun_open, begun_whole, line_awaits, line_told}
+use Rattle.std.specs.List.{position_or_len}
+use Rattle.mw_intake.specs.Reading.{is_line_end}
 use Rattle.std.proofs.lemmas.List.{drop_all}
 use Rattle.std.proofs.lemmas.Grind.{common_steps}
 use Rattle.mw_intake.proofs.intake.Intake.next.Goals as goal
@@ -47,7 +50,7 @@ returns-else-n-len-clause-ok c =
     let count : c.min-n.result ≡ min (length (drop c.in-Payload.used bytes)) c.in-Payload.len = grind (arith, common_steps) in
     rw (c.gathered.ensures.asked, c.gathered.ensures.payload, c.in-None.is)
     (begun_whole c.args.self.now.bytes (line_for c.in-Payload.what c.in-Payload.len) c.gather.new.payload.items bytes c.self.inside.rest.items c.self.inside.at c.in-Payload.used c.min-n.result c.in-Payload.what c.in-Payload.len
-        (sym was) refl (line_told _ _ _ cut) payload cut count (omega arith))
+    (sym was) refl (line_told _ _ _ cut) payload cut count (omega arith))
 
 pub returns-in_err-gather-in-Payload-clause-memory : goal.returns-in_err-gather-in-Payload-clause-memory
 returns-in_err-gather-in-Payload-clause-memory c =
@@ -82,3 +85,85 @@ invariant_of-self-then-n-len c =
     let come : length c.gather.new.payload.items ≡ length c.split_at-in-Payload.result.0.now = ap (λ (l : List ℕ). length l) (rw inv.1 at c.in_ok-gather-in-Payload.ensures.ok) in
     let ends : c.self.inside.at + (c.in-Payload.used + c.min-n.result) ≡ length rest = omega (arith, c.if-n-len.true, c.min-n.ensures, c.split_at.ensures.back_len, c.in-Payload.ensures.0, long, behind, inv.0) in
     (omega (arith, ends), (line_awaits (take c.in-Payload.used bytes) c.in-Payload.what c.in-Payload.len cut, omega (arith, come, c.if-n-len.true, c.min-n.ensures, c.split_at-in-Payload.ensures.front_len), λ h. ends))
+
+pub returns-then-len-clause-tidy : goal.returns-then-len-clause-tidy
+returns-then-len-clause-tidy c = λ tidy.
+    let inv = rw c.in-Some.is at c.self.invariant in
+    let payload = c.self.inside.payload.items in
+    let more = drop c.self.inside.at c.self.inside.rest.items in
+    let was : line_for c.in-Some.what c.in-Some.len ++ payload ++ more ≡ c.args.self.now.bytes = rw c.in-Some.is at (ap (λ (h : Held). h.bytes) c.self.view_is) in
+    let loose : length more ≡ c.args.self.now.loose = length-drop c.self.inside.at c.self.inside.rest.items ∙ ap (λ (h : Held). h.loose) c.self.view_is in
+    inl (gathered_loose c.args.self.now (line_for c.in-Some.what c.in-Some.len) payload more c.in-Some.what c.in-Some.len was inv.1.0 tidy loose)
+
+pub returns-in-Some-clause-tidy : goal.returns-in-Some-clause-tidy
+returns-in-Some-clause-tidy c = λ tidy.
+    let inv = rw c.in-Some.is at c.self.invariant in
+    let payload = c.self.inside.payload.items in
+    let rest = c.self.inside.rest.items in
+    let more = drop c.self.inside.at rest in
+    let line = line_for c.in-Some.what c.in-Some.len in
+    let was : line ++ payload ++ more ≡ c.args.self.now.bytes = rw c.in-Some.is at (ap (λ (h : Held). h.bytes) c.self.view_is) in
+    let shown : length rest - c.self.inside.at ≡ c.args.self.now.loose = ap (λ (h : Held). h.loose) c.self.view_is in
+    let loose : length more ≡ c.args.self.now.loose = length-drop c.self.inside.at rest ∙ shown in
+    let none = gathered_loose c.args.self.now line payload more c.in-Some.what c.in-Some.len was inv.1.0 tidy loose in
+    (omega (arith, shown, none), rw c.gathered-request.ensures.payload (empty more (omega (arith, loose, none))))
+
+pub returns-in-More-clause-tidy : goal.returns-in-More-clause-tidy
+returns-in-More-clause-tidy c = λ tidy.
+    let inv = rw c.in-None.is at c.self.invariant in
+    let rest = c.self.inside.rest.items in
+    let bytes : List ℕ = drop c.self.inside.at rest in
+    let was : bytes ≡ c.args.self.now.bytes = rw (c.in-None.is, inv.1) at (ap (λ (h : Held). h.bytes) c.self.view_is) in
+    let shown : length rest - c.self.inside.at ≡ c.args.self.now.loose = ap (λ (h : Held). h.loose) c.self.view_is in
+    let long : length bytes ≡ length c.args.self.now.bytes = ap (λ (l : List ℕ). length l) was in
+    inr (omega (arith, shown, long, length-drop c.self.inside.at rest), rw (c.behind-bytes.ensures, was) at c.in-More.ensures.1)
+
+-- no byte stands behind the first line of tidy bytes
+ends-with-line : (h : Held) (place : ℕ) → IsTidy h → position_or_len is_line_end h.bytes + 1 ≡ place → h.loose ≡ length h.bytes → length h.bytes ≤ place
+ends-with-line h place (inl none) is loose = omega (arith, none, loose)
+ends-with-line h place (inr t) is loose = omega (arith, t.1, is)
+
+pub returns-in-Alone-clause-tidy : goal.returns-in-Alone-clause-tidy
+returns-in-Alone-clause-tidy c = λ tidy.
+    let inv = rw c.in-None.is at c.self.invariant in
+    let rest = c.self.inside.rest.items in
+    let bytes : List ℕ = drop c.self.inside.at rest in
+    let was : bytes ≡ c.args.self.now.bytes = rw (c.in-None.is, inv.1) at (ap (λ (h : Held). h.bytes) c.self.view_is) in
+    let shown : length rest - c.self.inside.at ≡ c.args.self.now.loose = ap (λ (h : Held). h.loose) c.self.view_is in
+    let long : length bytes ≡ length c.args.self.now.bytes = ap (λ (l : List ℕ). length l) was in
+    let behind = length-drop c.self.inside.at rest in
+    let place = rw (c.behind-bytes.ensures, was) at c.in-Alone.ensures.3 in
+    let ends = ends-with-line c.args.self.now c.in-Alone.used tidy (sym place) (omega (arith, shown, long, behind)) in
+    let all : length rest ≤ c.self.inside.at + c.in-Alone.used = omega (arith, ends, long, behind) in
+    (omega (arith, all), rw (c.in-None.is, inv.1) (drop_all (c.self.inside.at + c.in-Alone.used) rest all))
+
+pub returns-then-n-len-clause-tidy : goal.returns-then-n-len-clause-tidy
+returns-then-n-len-clause-tidy c = λ tidy.
+    let inv = rw c.in-None.is at c.self.invariant in
+    let rest = c.self.inside.rest.items in
+    let bytes : List ℕ = drop c.self.inside.at rest in
+    let was : bytes ≡ c.args.self.now.bytes = rw (c.in-None.is, inv.1) at (ap (λ (h : Held). h.bytes) c.self.view_is) in
+    let shown : length rest - c.self.inside.at ≡ c.args.self.now.loose = ap (λ (h : Held). h.loose) c.self.view_is in
+    let long : length bytes ≡ length c.args.self.now.bytes = ap (λ (l : List ℕ). length l) was in
+    let behind = length-drop c.self.inside.at rest in
+    let cut : IsPayloadLine (take c.in-Payload.used bytes) c.in-Payload.what c.in-Payload.len = rw c.behind-bytes.ensures at c.in-Payload.ensures.1 in
+    let within : c.in-Payload.used ≤ length bytes = rw c.behind-bytes.ensures at c.in-Payload.ensures.0 in
+    let place = rw was at (line_place bytes c.in-Payload.used c.in-Payload.what c.in-Payload.len within cut) in
+    let ends = ends-with-line c.args.self.now c.in-Payload.used tidy place (omega (arith, shown, long, behind)) in
+    inl (omega (arith, ends, long, behind))
+
+pub returns-else-n-len-clause-tidy : goal.returns-else-n-len-clause-tidy
+returns-else-n-len-clause-tidy c = λ tidy.
+    let inv = rw c.in-None.is at c.self.invariant in
+    let rest = c.self.inside.rest.items in
+    let bytes : List ℕ = drop c.self.inside.at rest in
+    let was : bytes ≡ c.args.self.now.bytes = rw (c.in-None.is, inv.1) at (ap (λ (h : Held). h.bytes) c.self.view_is) in
+    let shown : length rest - c.self.inside.at ≡ c.args.self.now.loose = ap (λ (h : Held). h.loose) c.self.view_is in
+    let long : length bytes ≡ length c.args.self.now.bytes = ap (λ (l : List ℕ). length l) was in
+    let behind = length-drop c.self.inside.at rest in
+    let cut : IsPayloadLine (take c.in-Payload.used bytes) c.in-Payload.what c.in-Payload.len = rw c.behind-bytes.ensures at c.in-Payload.ensures.1 in
+    let within : c.in-Payload.used ≤ length bytes = rw c.behind-bytes.ensures at c.in-Payload.ensures.0 in
+    let place = rw was at (line_place bytes c.in-Payload.used c.in-Payload.what c.in-Payload.len within cut) in
+    let ends = ends-with-line c.args.self.now c.in-Payload.used tidy place (omega (arith, shown, long, behind)) in
+    let all : length rest ≤ c.self.inside.at + (c.in-Payload.used + c.min-n.result) = omega (arith, ends, long, behind) in
+    (omega (arith, all), rw (c.gathered.ensures.payload, c.in-None.is) (drop_all (c.self.inside.at + (c.in-Payload.used + c.min-n.result)) rest all))
