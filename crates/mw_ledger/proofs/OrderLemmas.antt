@@ -64,6 +64,12 @@ follows-orderly old new o f = record {
   side = subst IsSide (sym f.side) o.side;
 }
 
+-- another log, and other room in it
+pub alike-orderly : (b : Book) (ws : List (Option ProgressView)) (log : List LogItem) (room : ℕ) → IsOrderly b → ws ≡ b.works → IsOrderly (record b { works = ws; log = log; room = room })
+alike-orderly b ws log room o same =
+    let P : List (Option ProgressView) → Type 0 = λ xs. IsOrderly (record b { works = xs; log = log; room = room }) in
+    subst P (sym same) (record { stored = o.stored; works = o.works; fits = o.fits; planned = o.planned; left = o.left; most = o.most; side = o.side })
+
 kept-was : (b : Bool) (o : Option ProgressView) (u : ProgressView) → cond b o None ≡ Some u → o ≡ Some u
 kept-was true o u e = e
 kept-was false o u e = absurd cc

@@ -1,12 +1,12 @@
-use Rattle.std.proofs.Common.{◌∷◌, [], ◌++◌, ◌∙◌, Option, List, count_by, subst, sym, ap, arith}
+use Rattle.std.proofs.Common.{◌∷◌, [], ◌++◌, ◌+◌, ◌≤◌, ◌∙◌, Option, List, count_by, subst, sym, ap, arith}
 use Rattle.mw_facts.proofs.Numbers.{one_if-le}
 use Rattle.mw_model.specs.Refusals.{Table, is_pending}
 use Rattle.mw_progress.specs.ProgressView.{ProgressView}
 use Rattle.mw_store.specs.Entries.{submission_of, outcome_of}
-use Rattle.mw_store.specs.Stored.{IsWhole}
+use Rattle.mw_store.specs.Stored.{IsWhole, Stored}
 use Rattle.mw_store.proofs.CascadeLemmas.{count-push}
 use Rattle.mw_ledger.specs.Books.{Book, IsOrderly, room_in}
-use Rattle.mw_ledger.proofs.OrderLemmas.{CanJoin, joined-orderly}
+use Rattle.mw_ledger.proofs.OrderLemmas.{CanJoin, alike-orderly, joined-orderly}
 use Rattle.mw_ledger.proofs.ledger.Ledger.accept.Goals as goal
 
 pub invariant_of-self-2 : goal.invariant_of-self-2
@@ -27,4 +27,25 @@ invariant_of-self-2 c =
     let pending = ap (λ (w : Table). count_by is_pending w.outcomes) table in (
       omega (arith, pending, count-push book.table.outcomes (outcome_of c.args.entry), one_if-le (is_pending (outcome_of c.args.entry)), c.pending.ensures.value, c.in_ok-reserve.ensures.ok, c.in_ok-reserve.ensures.len, c.push_reserved-2.ensures.len, c.push_reserved-2.ensures.capacity),
       subst Worked (sym pushed) (subst Tabled (sym table) order),
+    )
+
+pub invariant_of-self-in_err-reserve-2 : goal.invariant_of-self-in_err-reserve-2
+invariant_of-self-in_err-reserve-2 c =
+    let b = c.self.inside in
+    let log = c.reserve.new.self in
+    let book : Book = record { table = b.store.table; kept = b.store.kept; works = b.works.items; log = b.log.items; side = b.side; room = room_in b.log.cap b.log.len b.store.table.outcomes } in (
+      omega (arith, c.pending.ensures.value, c.in_ok-reserve.ensures.ok, c.in_ok-reserve.ensures.len),
+      alike-orderly book c.reserve-2.new.self.items log.items (room_in log.cap log.len b.store.table.outcomes) c.self.invariant.1 c.in_err-reserve-2.ensures.items,
+    )
+
+pub invariant_of-self-in_err-t : goal.invariant_of-self-in_err-t
+invariant_of-self-in_err-t c =
+    let b = c.self.inside in
+    let log = c.reserve.new.self in
+    let book : Book = record { table = b.store.table; kept = b.store.kept; works = b.works.items; log = b.log.items; side = b.side; room = room_in b.log.cap b.log.len b.store.table.outcomes } in
+    let Holds : Stored → Type 0 = λ s. (log.len + count_by is_pending s.table.outcomes ≤ log.cap)
+    × IsOrderly (record { table = s.table; kept = s.kept; works = c.reserve-2.new.self.items; log = log.items; side = b.side; room = room_in log.cap log.len s.table.outcomes }) in
+    subst Holds (sym c.in_err-t.ensures.err) (
+      omega (arith, c.pending.ensures.value, c.in_ok-reserve.ensures.ok, c.in_ok-reserve.ensures.len),
+      alike-orderly book c.reserve-2.new.self.items log.items (room_in log.cap log.len b.store.table.outcomes) c.self.invariant.1 c.in_ok-reserve-2.ensures.items,
     )
