@@ -20,7 +20,6 @@ impl Ledger {
     ghost use Rattle.mw_stands.specs.Limits.{FitsLimits};
     ghost use Rattle.mw_underway.specs.Planning.{IsPlannedOn};
     ghost use Rattle.mw_log.specs.Short.{is_long};
-    ghost use Rattle.mw_ledger.specs.Books.{seen_of};
     ghost use Rattle.mw_ledger.specs.Changes.{KeepsWorks, noted, with_accepted};
 
     /// Adds the item of a call that changes no entry. Memory is wanting only where the log has no room, or the item needs a
@@ -54,7 +53,6 @@ impl Ledger {
         ensures ticket { IfOk result (λ t. t ≡ length self.old.table.names) }
         ensures ok { OnOk result (self.new ≡ with_accepted self.old call name entry work self.new.room) }
         ensures err { OnErr result (self.new ≡ record self.old { room = self.new.room }) }
-        ensures seen { OnErr result (seen_of self.new ≡ seen_of self.old) }
     {
         let next = self.store.len();
         let item = Compact::new(self.alloc, LogItem::Call(call, Reply::Accepted(next)))?;

@@ -24,4 +24,6 @@ returns-then-missing-gt0-clause-portion c =
     (λ never. absurd (never c.missing-missing.result there (c.missing-missing.ensures.some there)))
 
 pub returns-clause-portion : goal.returns-clause-portion
-returns-clause-portion c = ?
+returns-clause-portion c =
+    let zero : c.missing-missing.result ≡ 0 = omega (arith, c.if-missing-gt0.false) in
+    is_portion c.args.self.now c.args.piece.now c.min-2.result (λ n some m. absurd (c.missing-missing.ensures.none zero n some m)) (λ never. omega (arith, c.min-2.ensures, c.line_end.ensures))
