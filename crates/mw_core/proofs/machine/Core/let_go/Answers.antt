@@ -27,5 +27,6 @@ invariant_of-self c =
 
 pub returns-clause-log : goal.returns-clause-log
 returns-clause-log c =
-    on_ok_weaker c.let_go.result
+    let Was : Type 0 = c.let_go.new.self.log ≡ c.self.inside.ledger.log ++ c.short.result ∷ [] in
+    on_ok_weaker {P = Was} c.let_go.result
     (λ e. e ∙ ap (λ (i : LogItem). c.self.inside.ledger.log ++ i ∷ []) c.short.ensures ∙ ap (λ (d : CoreView). d.log ++ c.args.item ∷ []) c.self.view_is) c.let_go.ensures.log
