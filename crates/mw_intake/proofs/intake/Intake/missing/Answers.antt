@@ -1,4 +1,4 @@
-use Rattle.std.proofs.Common.{◌≡◌, ◌++◌, ◌≤◌, length, drop, refl, sym, ap, subst, ◌∙◌, arith, append_assoc, length-append}
+use Rattle.std.proofs.Common.{◌≡◌, ◌++◌, ◌≤◌, length, drop, sym, ap, subst, ◌∙◌, arith, append_assoc, length-append}
 use Rattle.mw_intake.specs.Intake.{Held, Misses, line_for}
 use Rattle.mw_intake.proofs.Misses.{misses_none}
 use Rattle.mw_intake.proofs.intake.Intake.missing.Goals as goal
