@@ -1,7 +1,7 @@
 -- What is gathered where want of memory ends a session.
 use Rattle.std.proofs.Common.{◌≡◌, ◌≢◌, ℕ, ◌+◌, ◌<◌, ◌≤◌, ◌⊎◌, inl, inr, Option, Some, None, List, [], ◌∷◌, ◌++◌, length, take, drop, length-drop, refl, sym, ◌∙◌, ap, arith, append_assoc}
 use Rattle.std.specs.List.{position_or_len}
-use Rattle.std.proofs.lemmas.Bool.{cases_lt}
+use Rattle.std.proofs.lemmas.Bool.{cases_lt, le-ltb}
 use Rattle.std.proofs.lemmas.List.{append-nil}
 use Rattle.mw_facts.proofs.Positions.{position_length}
 use Rattle.mw_model.specs.declared.requests.Awaited.{Awaited}
@@ -69,11 +69,7 @@ partial_gathers held e =
 
 -- where a portion found no room
 pub room-for-portion : (held waiting : List ℕ) → front held ≡ Partial → waiting ≢ [] → WantsRoom held (held ++ waiting)
-room-for-portion held waiting e some = (waiting, refl, elim (partial_gathers held e) [ inl asks ↦ payload asks | inr unended ↦ line e unended some ])
-
--- where a payload found no room
-pub room-for-payload : (held : List ℕ) → AsksForPayload held → WantsRoom held held
-room-for-payload held asks = ([], sym (append-nil held), payload asks)
+room-for-portion held waiting e some = (waiting, refl, elim (partial_gathers held e) [ inl asks ↦ payload asks e some | inr unended ↦ line e unended some ])
 
 some_left : (xs ys : List ℕ) → xs ≢ [] → xs ++ ys ≢ []
 some_left [] ys n e = n refl
@@ -81,7 +77,7 @@ some_left (x ∷ xs) ys n e = cc
 
 -- more bytes that wait
 pub room-more : (held rest more : List ℕ) → WantsRoom held rest → WantsRoom held (rest ++ more)
-room-more held rest more (waiting, is, payload asks) = (waiting ++ more, ap (λ l. l ++ more) is ∙ append_assoc held waiting more, payload asks)
+room-more held rest more (waiting, is, payload asks part some) = (waiting ++ more, ap (λ l. l ++ more) is ∙ append_assoc held waiting more, payload asks part (some_left waiting more some))
 room-more held rest more (waiting, is, line part unended some) = (waiting ++ more, ap (λ l. l ++ more) is ∙ append_assoc held waiting more, line part unended (some_left waiting more some))
 
 pub room-lacks : (bytes held rest : List ℕ) → WantsRoom held rest → LacksRoom bytes rest

@@ -6,7 +6,7 @@ use Rattle.std.proofs.lemmas.List.{take-append-le, drop-append-le, take_at, drop
 use Rattle.std.proofs.Math.Seq.{take-length}
 use Rattle.std.specs.List.{position_or_len}
 use Rattle.mw_facts.proofs.Positions.{position_length, position_more, position_kept, position_grows, position_take}
-use Rattle.mw_intake.specs.Intake.{IsPayloadLine}
+use Rattle.mw_intake.specs.Intake.{IsPayloadLine, line_for}
 use Rattle.mw_intake.proofs.LineLaws.{read_is_said}
 use Rattle.mw_intake.proofs.SaidLines.{said_is_read}
 use Rattle.mw_model.specs.Lines.{Front, Found, Partial, Fault, Asked, asked_with, after_head, with_payload, IsSayable, line_of, Says, NoLineEnd, IsFront, too_long, unended, ended, Begins}
@@ -243,6 +243,19 @@ split_end : (xs : List ℕ) → position_or_len is_line_end xs < length xs →
 split_end xs h =
     let i = position_or_len is_line_end xs in
     sym (take-append-drop i xs) ∙ ap (λ l. take i xs ++ l) (drop_more xs i 0 h ∙ ap (λ b. b ∷ drop (i + 1) xs) (is_end xs h))
+
+-- a line that awaits a payload is told by what it awaits
+pub line_told : (line : List ℕ) (what : Awaited) (len : ℕ) → IsPayloadLine line what len → line_for what len ≡ line
+unfolding line_for
+line_told line what len g =
+    let i = position_or_len is_line_end line in
+    let inside : i < length line = omega (arith, g.ends) in
+    let said : take i line ≡ line_of (Payload what len) = (read_is_said (take i line) (Payload what len) g.head).0 in
+    let none : drop (i + 1) line ≡ [] = drop_all (i + 1) line (omega (arith, g.ends)) in
+    sym (split_end line inside ∙ rw (said, none) refl)
+
+pub line_awaits : (line : List ℕ) (what : Awaited) (len : ℕ) → IsPayloadLine line what len → IsPayloadLine (line_for what len) what len
+line_awaits line what len g = let P : List ℕ → Type 0 = λ l. IsPayloadLine l what len in subst P (sym (line_told line what len g)) g
 
 -- what is read at the front stands there
 pub is_front : (xs : List ℕ) (f : Front) → front xs ≡ f → IsFront xs f

@@ -53,6 +53,12 @@ follows-orderly old new o f = record {
   side = subst IsSide (sym f.side) o.side;
 }
 
+-- another log, and other room in it
+pub alike-orderly : (b : Book) (ws : List (Option ProgressView)) (log : List LogItem) (room : ℕ) → IsOrderly b → ws ≡ b.works → IsOrderly (record b { works = ws; log = log; room = room })
+alike-orderly b ws log room o same =
+    let P : List (Option ProgressView) → Type 0 = λ xs. IsOrderly (record b { works = xs; log = log; room = room }) in
+    subst P (sym same) (record { stored = o.stored; works = o.works; fits = o.fits; planned = o.planned; left = o.left; most = o.most; side = o.side })
+
 kept-was : (b : Bool) (o : Option ProgressView) (u : ProgressView) → cond b o None ≡ Some u → o ≡ Some u
 kept-was true o u e = e
 kept-was false o u e = absurd cc
@@ -125,8 +131,8 @@ pub record CanJoin (b : Book) (e : Submission) (u : Option ProgressView) : Type 
   pub most : IfSome u (λ v. task_count v.progress ≤ 4194304)
 
 -- the same book with an entry more
-abbrev pub joined : Book → Name → Submission → Outcome → List (Option Value) → Option ProgressView → List LogItem → Book
-joined b n e o kept u log = record { table = with_entry b.table n e o; kept = kept; works = b.works ++ u ∷ []; log = log; side = b.side }
+abbrev pub joined : Book → Name → Submission → Outcome → List (Option Value) → Option ProgressView → List LogItem → ℕ → Book
+joined b n e o kept u log room = record { table = with_entry b.table n e o; kept = kept; works = b.works ++ u ∷ []; log = log; side = b.side; room = room }
 
 planned-joined : (b : Book) (n : Name) (e : Submission) (o : Outcome) (u : Option ProgressView) → IsOrderly b → CanJoin b e u → (t : ℕ) (v : ProgressView) → work_at (b.works ++ u ∷ []) t ≡ Some v
     → IsPlannedAt (with_entry b.table n e o) t v
@@ -157,9 +163,9 @@ fits-joined b n e o k fits t l =
     ]
 
 -- an entry that may be added leaves the book in order
-pub joined-orderly : (b : Book) (n : Name) (e : Submission) (o : Outcome) (kept : List (Option Value)) (u : Option ProgressView) (log : List LogItem) → IsOrderly b → CanJoin b e u
-    → IsWhole (stored_in (joined b n e o kept u log)) → IsOrderly (joined b n e o kept u log)
-joined-orderly b n e o kept u log k j whole = record {
+pub joined-orderly : (b : Book) (n : Name) (e : Submission) (o : Outcome) (kept : List (Option Value)) (u : Option ProgressView) (log : List LogItem) (room : ℕ) → IsOrderly b → CanJoin b e u
+    → IsWhole (stored_in (joined b n e o kept u log room)) → IsOrderly (joined b n e o kept u log room)
+joined-orderly b n e o kept u log room k j whole = record {
   stored = whole;
   works = omega (arith, length-append b.works (u ∷ []), length-append b.table.names (n ∷ []), k.works);
   fits = fits-joined b n e o k j.fits;
