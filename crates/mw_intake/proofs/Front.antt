@@ -307,3 +307,6 @@ Begins_prefix (r ∷ rs) (q ∷ qs) xs rest end b d h =
     let rec = Begins_prefix rs qs b.0 rest end b.2 (subst (λ l. Begins l qs end) (sym mid) d.2) (omega arith) in
     let tail = rec.1 in
     (rec.0, cc, rec.2)
+
+pub cut_end : (xs : List ℕ) (e : ℕ) → e ≡ min 201 (position_or_len is_line_end xs) → e ≤ 200 → position_or_len is_line_end xs ≡ e
+cut_end xs e is h = omega arith

@@ -168,3 +168,7 @@ counts-released b new t k orderly counts within done table works =
       counts.0 ∙ ready ∙ ap (row (ready_under (seen_of new))) (sym long),
       counts.1 ∙ ap (λ (xs : List ℕ). sum xs) running ∙ ap (λ (j : ℕ). sum (row (running_under (seen_of new)) j)) (sym long),
     )
+
+-- neither an entry nor work has changed
+pub counts-kept : (b new : Book) (k : Tally) → new.table ≡ b.table → new.works ≡ b.works → AreCounts (seen_of b) k → AreCounts (seen_of new) k
+counts-kept b new k table works counts = rw (table, works) counts
