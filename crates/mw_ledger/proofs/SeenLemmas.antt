@@ -3,7 +3,7 @@ use Rattle.std.proofs.Common.{◌≡◌, ℕ, List, Option, Some, None, map, opt
 use Rattle.std.proofs.Math.ListN.{get_or-map}
 use Rattle.mw_model.specs.Stands.{progress_at}
 use Rattle.mw_model.specs.Tasks.{Progress}
-use Rattle.mw_progress.specs.ProgressView.{ProgressView}
+use Rattle.mw_underway.specs.mw_progress.ProgressView.{ProgressView}
 use Rattle.mw_ledger.specs.Books.{progress_of, work_at}
 
 pub progress-shown : (works : List (Option ProgressView)) (t : ℕ) → progress_at (map (option_map progress_of) works) t ≡ option_map progress_of (work_at works t)

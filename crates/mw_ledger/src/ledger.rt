@@ -4,8 +4,7 @@ ghost use Rattle.std.specs.Prelude.{◌≡◌, ◌+◌, ◌<◌, ◌≤◌, leng
 
 use mw_log::Compact;
 use mw_model::{LogItem, NoMemory};
-use mw_progress::PlanProgress;
-use mw_store::Store;
+use mw_underway::{PlanProgress, Store};
 use std::alloc::Global;
 use std::marker::Model;
 

@@ -14,3 +14,6 @@ pub mod ShownLemmas
 -- the crate's own
 mod FateLemmas
 mod RunLemmas
+-- what lower crates offer
+pub use Rattle.mw_store.proofs as mw_store
+pub use Rattle.mw_work.proofs as mw_work

@@ -12,3 +12,7 @@ mod WorkableLemmas
 mod InputLemmas
 mod AcceptedLemmas
 mod ReadingLemmas
+-- what lower crates offer
+pub use Rattle.mw_stands.proofs as mw_stands
+pub use Rattle.mw_stands.proofs.mw_store as mw_store
+pub use Rattle.mw_stands.proofs.mw_work as mw_work
