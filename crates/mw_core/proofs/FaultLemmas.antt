@@ -9,8 +9,8 @@ use Rattle.mw_model.specs.declared.calls.Reply.TheVariants as reply
 use Rattle.mw_model.specs.declared.calls.LogItem.TheVariants as item
 use Rattle.mw_model.specs.Stands.{CoreView}
 use Rattle.mw_checks.specs.Faults.{IsFault}
-use Rattle.mw_stands.specs.Events.{Serves}
-use Rattle.mw_stands.proofs.CallLemmas.{serves-refused}
+use Rattle.mw_ledger.specs.mw_stands.Events.{Serves}
+use Rattle.mw_ledger.proofs.mw_stands.CallLemmas.{serves-refused}
 
 pub serves-fault-load : (c new : CoreView) (n : Name) (x : Code) (r : Reply) → IsFault c.table n x r → new ≡ record c { log = c.log ++ item.Call (call.Load n (given.Bad x)) r ∷ [] }
     → Serves c (call.Load n (given.Bad x)) None new r

@@ -16,11 +16,11 @@ use Rattle.mw_model.specs.Machine.{Machine, values, answer, fetch_reply, refused
 use Rattle.mw_model.specs.Stands.{CoreView, StandsFor, is_wanted}
 use Rattle.mw_laws.specs.MachineLaws.{shape_of_value}
 use Rattle.mw_laws.proofs.RunTables.{is_known, ticket_is, ticket_within, when_so}
-use Rattle.mw_stands.specs.Events.{handed_out}
-use Rattle.mw_store.specs.Fetches.{IsShown, ShowsSome, handed_value, shown_value}
-use Rattle.mw_store.specs.declared.fetched.Shown.{Shown}
-use Rattle.mw_stands.proofs.RefusalLemmas.{some-same}
-use Rattle.mw_stands.proofs.StandsLemmas.{stands-sound, stands-reply}
+use Rattle.mw_ledger.specs.mw_stands.Events.{handed_out}
+use Rattle.mw_ledger.specs.mw_store.Fetches.{IsShown, ShowsSome, handed_value, shown_value}
+use Rattle.mw_ledger.specs.mw_store.declared.fetched.Shown.{Shown}
+use Rattle.mw_ledger.proofs.mw_stands.RefusalLemmas.{some-same}
+use Rattle.mw_ledger.proofs.mw_stands.StandsLemmas.{stands-sound, stands-reply}
 
 -- a value is shown only where the entry is done
 shows-done : (t u : ℕ) (s : Shape) (o : Outcome) → fetch_reply t s o ≡ reply.Shown u → (o ≡ outcome.Done) × (t ≡ u)

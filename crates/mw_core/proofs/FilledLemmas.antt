@@ -11,8 +11,8 @@ use Rattle.mw_grid.proofs.Lines.{piece_counts, piece_has, number_of}
 use Rattle.mw_grid.proofs.Tiles.{HasTiles, column_of_number}
 use Rattle.mw_pixel.specs.Images.{raster_of}
 use Rattle.mw_pixel.proofs.Cells.{slice_get-samples}
-use Rattle.mw_tiles.specs.Tiles.{Tiled, AllPlaced, IsPlaneOf, ShowsTiles, tile_cells}
-use Rattle.mw_tiles.specs.Filled.{cell_in, cell_or, filled, filled_value, number_at}
+use Rattle.mw_ledger.specs.mw_tiles.Tiles.{Tiled, AllPlaced, IsPlaneOf, ShowsTiles, tile_cells}
+use Rattle.mw_ledger.specs.mw_tiles.Filled.{cell_in, cell_or, filled, filled_value, number_at}
 
 -- each place of the frame is in the tile of its number
 tile-holds : (g : Tiling) (x y : ℕ) → HasTiles g → x < g.width → y < g.height → (number_at g x y < tile_count g) × Holds (tile_at g (number_at g x y)) x y

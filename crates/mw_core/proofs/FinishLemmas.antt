@@ -16,19 +16,19 @@ use Rattle.mw_model.specs.Stands.{CoreView, StandsFor, inputs_there}
 use Rattle.mw_grid.proofs.Tiles.{HasTiles}
 use Rattle.mw_task.specs.Products.{IsMade}
 use Rattle.mw_task.specs.WindowTasks.{WindowTask}
-use Rattle.mw_progress.specs.ProgressView.{ProgressView, cells_of_made, plane_at}
-use Rattle.mw_work.specs.Works.{Finishes, IsTrueWork, IsUnder, true_task}
-use Rattle.mw_work.proofs.Curves.{result-curve}
-use Rattle.mw_work.proofs.Going.{true-finished, true-under, under-finished}
-use Rattle.mw_work.proofs.Making.{finishes-made}
-use Rattle.mw_work.proofs.Numbers.{has-tiles, length-tiles, number_of-within}
-use Rattle.mw_work.proofs.Settling.{result-image}
-use Rattle.mw_stands.specs.TaskEvents.{IsResult, Places, Settles}
-use Rattle.mw_stands.proofs.GivenLemmas.{elements-given}
-use Rattle.mw_stands.proofs.TaskLemmas.{work-within}
-use Rattle.mw_underway.specs.Results.{result_number}
-use Rattle.mw_underway.proofs.PlanTaskLemmas.{IsResultOn, places, settles}
-use Rattle.mw_underway.proofs.ResultLemmas.{result-found, result-true}
+use Rattle.mw_ledger.specs.mw_progress.ProgressView.{ProgressView, cells_of_made, plane_at}
+use Rattle.mw_ledger.specs.mw_work.Works.{Finishes, IsTrueWork, IsUnder, true_task}
+use Rattle.mw_ledger.proofs.mw_work.Curves.{result-curve}
+use Rattle.mw_ledger.proofs.mw_work.Going.{true-finished, true-under, under-finished}
+use Rattle.mw_ledger.proofs.mw_work.Making.{finishes-made}
+use Rattle.mw_ledger.proofs.mw_work.Numbers.{has-tiles, length-tiles, number_of-within}
+use Rattle.mw_ledger.proofs.mw_work.Settling.{result-image}
+use Rattle.mw_ledger.specs.mw_stands.TaskEvents.{IsResult, Places, Settles}
+use Rattle.mw_ledger.proofs.mw_stands.GivenLemmas.{elements-given}
+use Rattle.mw_ledger.proofs.mw_stands.TaskLemmas.{work-within}
+use Rattle.mw_ledger.specs.mw_underway.Results.{result_number}
+use Rattle.mw_ledger.proofs.mw_underway.PlanTaskLemmas.{IsResultOn, places, settles}
+use Rattle.mw_ledger.proofs.mw_underway.ResultLemmas.{result-found, result-true}
 use Rattle.mw_ledger.specs.Books.{Book, IsOrderly, progress_of, seen_of}
 use Rattle.mw_ledger.specs.Tasks.{FinishesAt, IsFoundAt, IsResultAt, PlacesAt, SettlesAt, value_made}
 use Rattle.mw_core.proofs.FilledLemmas.{full-filled}

@@ -8,3 +8,5 @@ mod EventLemmas
 mod FilledLemmas
 mod TaskLemmas
 mod FinishLemmas
+-- what lower crates offer
+pub use Rattle.mw_ledger.proofs.mw_stands as mw_stands

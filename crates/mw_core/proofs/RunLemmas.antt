@@ -18,15 +18,15 @@ use Rattle.mw_model.specs.Stands.{CoreView, StandsFor, progress_at}
 use Rattle.mw_laws.proofs.RunTables.{push_last}
 use Rattle.mw_plan.specs.Tables.{AreValuesAt}
 use Rattle.mw_plan.proofs.Accepted.{machine_values}
-use Rattle.mw_progress.specs.ProgressView.{ProgressView}
-use Rattle.mw_store.specs.Stored.{Stored}
-use Rattle.mw_stands.specs.Facts.{IsComplete, stored_of}
-use Rattle.mw_stands.specs.Limits.{ShapesFit}
-use Rattle.mw_stands.specs.Events.{Serves, IsFresh}
-use Rattle.mw_stands.proofs.StandsLemmas.{stands-sound}
-use Rattle.mw_stands.proofs.CallLemmas.{serves-run}
-use Rattle.mw_underway.specs.Planning.{IsPlannedBy}
-use Rattle.mw_underway.proofs.FreshLemmas.{planned-fresh, planned-work}
+use Rattle.mw_ledger.specs.mw_progress.ProgressView.{ProgressView}
+use Rattle.mw_ledger.specs.mw_store.Stored.{Stored}
+use Rattle.mw_ledger.specs.mw_stands.Facts.{IsComplete, stored_of}
+use Rattle.mw_ledger.specs.mw_stands.Limits.{ShapesFit}
+use Rattle.mw_ledger.specs.mw_stands.Events.{Serves, IsFresh}
+use Rattle.mw_ledger.proofs.mw_stands.StandsLemmas.{stands-sound}
+use Rattle.mw_ledger.proofs.mw_stands.CallLemmas.{serves-run}
+use Rattle.mw_ledger.specs.mw_underway.Planning.{IsPlannedBy}
+use Rattle.mw_ledger.proofs.mw_underway.FreshLemmas.{planned-fresh, planned-work}
 
 -- ---- no fault
 

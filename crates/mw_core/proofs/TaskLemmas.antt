@@ -11,21 +11,21 @@ use Rattle.mw_model.specs.Plans.{images_of}
 use Rattle.mw_model.specs.Tasks.{Progress, planned_of, sources_of, task_count}
 use Rattle.mw_model.specs.Stands.{CoreView, StandsFor, inputs_there, input_values, progress_at, ready_under, true_planes}
 use Rattle.mw_task.specs.WindowTasks.{WindowTask}
-use Rattle.mw_progress.specs.ProgressView.{ProgressView}
-use Rattle.mw_work.specs.Works.{IsTrueWork, IsUnder}
-use Rattle.mw_work.proofs.Going.{true-under, under-started}
-use Rattle.mw_work.proofs.Numbers.{some-whole, step_number-within}
-use Rattle.mw_work.proofs.Truth.{plane-true}
-use Rattle.mw_work.proofs.Windows.{true_task-fits}
-use Rattle.mw_stands.specs.Facts.{IsComplete}
-use Rattle.mw_stands.specs.TaskEvents.{Begins}
-use Rattle.mw_stands.proofs.StandsLemmas.{stands-sound}
-use Rattle.mw_stands.proofs.TaskLemmas.{ready-there, work-of}
-use Rattle.mw_underway.specs.Planning.{IsPlannedAt}
-use Rattle.mw_underway.specs.SourceWindows.{AreSources}
-use Rattle.mw_underway.proofs.PlanTaskLemmas.{begins}
-use Rattle.mw_underway.proofs.PlannedAtLemmas.{planned-at}
-use Rattle.mw_underway.proofs.SourceTrueLemmas.{ReadsKept, reads-kept, sources-true}
+use Rattle.mw_ledger.specs.mw_progress.ProgressView.{ProgressView}
+use Rattle.mw_ledger.specs.mw_work.Works.{IsTrueWork, IsUnder}
+use Rattle.mw_ledger.proofs.mw_work.Going.{true-under, under-started}
+use Rattle.mw_ledger.proofs.mw_work.Numbers.{some-whole, step_number-within}
+use Rattle.mw_ledger.proofs.mw_work.Truth.{plane-true}
+use Rattle.mw_ledger.proofs.mw_work.Windows.{true_task-fits}
+use Rattle.mw_ledger.specs.mw_stands.Facts.{IsComplete}
+use Rattle.mw_ledger.specs.mw_stands.TaskEvents.{Begins}
+use Rattle.mw_ledger.proofs.mw_stands.StandsLemmas.{stands-sound}
+use Rattle.mw_ledger.proofs.mw_stands.TaskLemmas.{ready-there, work-of}
+use Rattle.mw_ledger.specs.mw_underway.Planning.{IsPlannedAt}
+use Rattle.mw_ledger.specs.mw_underway.SourceWindows.{AreSources}
+use Rattle.mw_ledger.proofs.mw_underway.PlanTaskLemmas.{begins}
+use Rattle.mw_ledger.proofs.mw_underway.PlannedAtLemmas.{planned-at}
+use Rattle.mw_ledger.proofs.mw_underway.SourceTrueLemmas.{ReadsKept, reads-kept, sources-true}
 use Rattle.mw_ledger.specs.Books.{Book, IsOrderly, progress_of, seen_of, work_at}
 use Rattle.mw_ledger.specs.Tasks.{IsAtWork, TakesAt}
 

@@ -21,15 +21,15 @@ use Rattle.mw_core.specs.declared.answers.Finish.{Finish}
 use Rattle.mw_core.specs.declared.answers.Finish.TheVariants as finish
 use Rattle.mw_core.specs.declared.answers.Refusal.{Refusal}
 use Rattle.mw_core.specs.declared.answers.Refusal.TheVariants as refusal
-use Rattle.mw_store.specs.declared.fetched.Fetched.{Fetched}
+use Rattle.mw_ledger.specs.mw_store.declared.fetched.Fetched.{Fetched}
 use Rattle.mw_core.specs.declared.events.Event.{Event}
 use Rattle.mw_core.specs.declared.events.Event.TheVariants as event
 use Rattle.mw_core.specs.declared.events.Answer.{Answer}
 use Rattle.mw_core.specs.declared.events.Answer.TheVariants as answer
-use Rattle.mw_stands.specs.Payloads.{given_image, image_payload, given_element, element_payload}
-use Rattle.mw_stands.specs.Events.{WorkStays, IsFresh, handed_out}
+use Rattle.mw_ledger.specs.mw_stands.Payloads.{given_image, image_payload, given_element, element_payload}
+use Rattle.mw_ledger.specs.mw_stands.Events.{WorkStays, IsFresh, handed_out}
 use Rattle.mw_core.specs.TaskAnswers.{Starts, Finishes, Refuses, Picks}
-use Rattle.mw_store.specs.Fetches.{ShowsSome, shown_value}
+use Rattle.mw_ledger.specs.mw_store.Fetches.{ShowsSome, shown_value}
 
 -- an image that is loaded is within the limits
 abbrev pub IsServable : Event → Type 0

@@ -4,8 +4,8 @@ use Rattle.mw_model.specs.declared.tasks.TaskId.{TaskId}
 use Rattle.mw_model.specs.Machine.{Machine}
 use Rattle.mw_model.specs.Stands.{CoreView, ready_under, ready_count}
 use Rattle.mw_task.specs.WindowTasks.{WindowTask}
-use Rattle.mw_stands.specs.TaskEvents.{Begins, Kills, Places, Settles, IsResult, IsOpen, IsSettled, IsUnderway}
-use Rattle.mw_stands.specs.Turns.{IsAt}
+use Rattle.mw_ledger.specs.mw_stands.TaskEvents.{Begins, Kills, Places, Settles, IsResult, IsOpen, IsSettled, IsUnderway}
+use Rattle.mw_ledger.specs.mw_stands.Turns.{IsAt}
 use Rattle.mw_core.specs.declared.answers.Started.{Started}
 use Rattle.mw_core.specs.declared.answers.Started.TheVariants as started
 use Rattle.mw_core.specs.declared.answers.Finish.{Finish}

@@ -4,11 +4,9 @@ ghost use Rattle.std.specs.Prelude.{◌≡◌, ◌≢◌, ◌++◌, ◌∷◌, [
 
 use crate::machine::Core;
 use mw_element::Element;
-use mw_ledger::{Counts, Ledger};
+use mw_ledger::{Counts, Entry, Ledger, Unplanned, planned};
 use mw_model::{Call, Code, Given, LogItem, Name, NoMemory, Op, Outcome, Reply};
 use mw_pixel::Image;
-use mw_store::Entry;
-use mw_underway::{Unplanned, planned};
 use std::alloc::Global;
 
 impl Core {
@@ -17,10 +15,10 @@ impl Core {
     ghost use Rattle.mw_model.specs.Machine.{Machine, start_state};
     ghost use Rattle.mw_model.specs.Refusals.{refusal};
     ghost use Rattle.mw_model.specs.Stands.{StandsFor};
-    ghost use Rattle.mw_underway.specs.Planning.{IsSide};
-    ghost use Rattle.mw_stands.specs.Payloads.{given_image, image_payload, given_element, element_payload};
+    ghost use Rattle.mw_ledger.specs.mw_underway.Planning.{IsSide};
+    ghost use Rattle.mw_ledger.specs.mw_stands.Payloads.{given_image, image_payload, given_element, element_payload};
     ghost use Rattle.mw_checks.specs.Faults.{IsFault};
-    ghost use Rattle.mw_stands.specs.Events.{Serves, IsFresh};
+    ghost use Rattle.mw_ledger.specs.mw_stands.Events.{Serves, IsFresh};
 
     /// A core that has accepted nothing yet. The side is that of the tiles, in pixels.
     pub fn new(alloc: Global, side: u32) -> Result<Self, NoMemory>

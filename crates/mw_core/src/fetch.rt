@@ -3,15 +3,15 @@
 ghost use Rattle.std.specs.Prelude.{◌≡◌, ◌↔◌, IsSome, ◌<◌, ℕ, length, OnErr, IfOk, None};
 
 use crate::machine::Core;
+use mw_ledger::{Fetched, Shown};
 use mw_model::{Call, Name, NoMemory, Reply};
-use mw_store::{Fetched, Shown};
 
 impl Core {
     ghost use Rattle.mw_model.specs.Values.{value_at};
     ghost use Rattle.mw_model.specs.Machine.{Machine};
     ghost use Rattle.mw_model.specs.Stands.{StandsFor};
-    ghost use Rattle.mw_stands.specs.Events.{Serves, handed_out};
-    ghost use Rattle.mw_store.specs.Fetches.{IsShown, ShowsSome, handed_value, shown_value};
+    ghost use Rattle.mw_ledger.specs.mw_stands.Events.{Serves, handed_out};
+    ghost use Rattle.mw_ledger.specs.mw_store.Fetches.{IsShown, ShowsSome, handed_value, shown_value};
 
     /// The value that is kept of a ticket, unless it is an element.
     fn value(&self, t: u32) -> Result<Shown, NoMemory>

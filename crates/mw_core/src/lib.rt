@@ -30,5 +30,5 @@ mod tasks;
 
 pub use answers::{Finish, Refusal, Started};
 pub use machine::Core;
+pub use mw_ledger::{Fetched, Shown};
 pub use mw_model::NoMemory;
-pub use mw_store::{Fetched, Shown};

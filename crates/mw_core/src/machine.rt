@@ -2,10 +2,8 @@
 
 ghost use Rattle.std.specs.Prelude.{◌≡◌, ◌<◌, ◌≤◌, [], ◌∷◌, ◌++◌, length, OnOk, OnErr, IfOk, IfSome, option_map, false};
 
-use mw_ledger::{Counts, Ledger};
+use mw_ledger::{Counts, Entry, Ledger, PlanProgress};
 use mw_model::{Call, LogItem, Name, NoMemory, Outcome, Reply};
-use mw_progress::PlanProgress;
-use mw_store::Entry;
 use std::alloc::Global;
 use std::marker::Model;
 
@@ -35,12 +33,12 @@ impl Core {
     ghost use Rattle.mw_model.specs.Refusals.{ticket_of, outcome_at, is_pending};
     ghost use Rattle.mw_model.specs.Machine.{with_entry, killed, settled};
     ghost use Rattle.mw_model.specs.Tasks.{remaining_tasks, task_count};
-    ghost use Rattle.mw_store.specs.Entries.{submission_of, outcome_of, payload_in};
-    ghost use Rattle.mw_store.specs.Stored.{DropsSpent};
-    ghost use Rattle.mw_stands.specs.Changes.{KeepsWork};
-    ghost use Rattle.mw_stands.specs.Facts.{IsComplete};
-    ghost use Rattle.mw_stands.specs.Limits.{FitsLimits, ShapesFit};
-    ghost use Rattle.mw_underway.specs.Planning.{IsPlannedOn, IsSide};
+    ghost use Rattle.mw_ledger.specs.mw_store.Entries.{submission_of, outcome_of, payload_in};
+    ghost use Rattle.mw_ledger.specs.mw_store.Stored.{DropsSpent};
+    ghost use Rattle.mw_ledger.specs.mw_stands.Changes.{KeepsWork};
+    ghost use Rattle.mw_ledger.specs.mw_stands.Facts.{IsComplete};
+    ghost use Rattle.mw_ledger.specs.mw_stands.Limits.{FitsLimits, ShapesFit};
+    ghost use Rattle.mw_ledger.specs.mw_underway.Planning.{IsPlannedOn, IsSide};
     ghost use Rattle.mw_ledger.specs.Books.{progress_of};
 
     /// What holds of every core.

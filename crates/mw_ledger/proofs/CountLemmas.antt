@@ -16,10 +16,10 @@ use Rattle.mw_model.specs.Machine.{settled}
 use Rattle.mw_model.specs.Refusals.{Table, outcome_at, is_pending}
 use Rattle.mw_model.specs.Stands.{CoreView, progress_at, inputs_of, ready_under, running_count}
 use Rattle.mw_model.specs.Tasks.{Progress, is_running, running_tasks, task_count, tasks_below}
-use Rattle.mw_progress.specs.ProgressView.{ProgressView}
-use Rattle.mw_stands.proofs.CountLemmas.{sum-more}
-use Rattle.mw_stands.specs.Counts.{running_under}
-use Rattle.mw_store.specs.declared.kept.Entry.{Entry}
+use Rattle.mw_underway.specs.mw_progress.ProgressView.{ProgressView}
+use Rattle.mw_underway.proofs.mw_stands.CountLemmas.{sum-more}
+use Rattle.mw_underway.specs.mw_stands.Counts.{running_under}
+use Rattle.mw_underway.specs.mw_store.declared.kept.Entry.{Entry}
 use Rattle.mw_ledger.specs.Books.{Book, IsOrderly, progress_of, seen_of, work_at}
 use Rattle.mw_ledger.specs.Changes.{with_accepted}
 use Rattle.mw_ledger.specs.Counts.{AreCounts, Tally, WaitFor, grown}

@@ -16,9 +16,9 @@ use Rattle.mw_model.specs.Values.{Value, option_list, tickets}
 use Rattle.mw_model.specs.Refusals.{Table, is_element, no_submission, submission_at, shape_at}
 use Rattle.mw_model.specs.Machine.{with_entry}
 use Rattle.mw_model.specs.Tasks.{Progress, remaining_tasks, task_count}
-use Rattle.mw_progress.specs.ProgressView.{ProgressView, IsFinished, IsStarted}
-use Rattle.mw_store.specs.Stored.{IsWhole}
-use Rattle.mw_stands.specs.Limits.{FitsLimits, ShapesFit}
+use Rattle.mw_underway.specs.mw_progress.ProgressView.{ProgressView, IsFinished, IsStarted}
+use Rattle.mw_underway.specs.mw_store.Stored.{IsWhole}
+use Rattle.mw_underway.specs.mw_stands.Limits.{FitsLimits, ShapesFit}
 use Rattle.mw_underway.specs.Planning.{IsPlannedAt, IsPlannedOn, IsSide}
 use Rattle.mw_ledger.specs.Books.{Book, IsOrderly, empty_book, stored_in, work_at}
 

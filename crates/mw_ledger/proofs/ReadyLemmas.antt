@@ -17,9 +17,9 @@ use Rattle.mw_model.specs.Refusals.{Table, no_submission, outcome_at, submission
 use Rattle.mw_model.specs.Stands.{CoreView, progress_at, inputs_of, inputs_there, may_run, ready_under}
 use Rattle.mw_model.specs.Tasks.{ready_tasks}
 use Rattle.mw_model.specs.Values.{tickets}
-use Rattle.mw_progress.specs.ProgressView.{ProgressView}
-use Rattle.mw_store.specs.declared.kept.Entry.{Entry}
-use Rattle.mw_store.specs.Entries.{submission_of, outcome_of}
+use Rattle.mw_underway.specs.mw_progress.ProgressView.{ProgressView}
+use Rattle.mw_underway.specs.mw_store.declared.kept.Entry.{Entry}
+use Rattle.mw_underway.specs.mw_store.Entries.{submission_of, outcome_of}
 use Rattle.mw_ledger.specs.Books.{Book, IsOrderly, progress_of, seen_of, work_at}
 use Rattle.mw_ledger.specs.Changes.{with_accepted}
 

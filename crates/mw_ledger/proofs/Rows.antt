@@ -5,7 +5,7 @@ use Rattle.std.proofs.lemmas.Bool.{cases_eq}
 use Rattle.std.proofs.lemmas.List.{ext_get_or, get_or-set_same, get_or-set_other}
 use Rattle.std.proofs.lemmas.List.FromFn.{length-map-range_with_len, get_or-map-range_with_len, take-map-range_with_len}
 use Rattle.std.proofs.lemmas.List.Sums.{sum_by-set, get_or-le-sum_by}
-use Rattle.mw_stands.proofs.CountLemmas.{sum-more}
+use Rattle.mw_underway.proofs.mw_stands.CountLemmas.{sum-more}
 
 -- the number of each of the first n tickets
 abbrev pub row : (ℕ → ℕ) → ℕ → List ℕ

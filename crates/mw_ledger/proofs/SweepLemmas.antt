@@ -1,7 +1,7 @@
 -- One ticket more whose work is dropped or stays.
 use Rattle.std.proofs.Common.{◌≡◌, ◌≢◌, ℕ, ◌+◌, ◌<◌, ◌≤◌, Bool, true, false, cond, List, length, get_or, set, Option, None, ◌∙◌, arith, below_more}
 use Rattle.std.proofs.lemmas.List.{get_or-set_same, get_or-set_other, length-set}
-use Rattle.mw_progress.specs.ProgressView.{ProgressView}
+use Rattle.mw_underway.specs.mw_progress.ProgressView.{ProgressView}
 
 -- below t each place holds what it held where the test passes, and from t on all places do
 abbrev pub SweptTo : (ℕ → Bool) → List (Option ProgressView) → List (Option ProgressView) → ℕ → Type 0

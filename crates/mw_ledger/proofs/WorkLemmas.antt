@@ -16,9 +16,9 @@ use Rattle.mw_model.specs.Stands.{may_run, progress_at, ready_under}
 use Rattle.mw_model.specs.Tasks.{Progress, is_running, ready_tasks, remaining_tasks}
 use Rattle.mw_grid.specs.Grids.{tile_count}
 use Rattle.mw_task.specs.WindowTasks.{WindowTask}
-use Rattle.mw_progress.specs.ProgressView.{ProgressView, IsWhole, number_of}
-use Rattle.mw_work.proofs.Numbers.{length-tiles, number_of-numbers, number_of-within, some-whole, step_number-number_of, step_number-within, tile_number-number_of, tile_number-within}
-use Rattle.mw_stands.specs.TaskEvents.{IsUnderway}
+use Rattle.mw_underway.specs.mw_progress.ProgressView.{ProgressView, IsWhole, number_of}
+use Rattle.mw_underway.proofs.mw_work.Numbers.{length-tiles, number_of-numbers, number_of-within, some-whole, step_number-number_of, step_number-within, tile_number-number_of, tile_number-within}
+use Rattle.mw_underway.specs.mw_stands.TaskEvents.{IsUnderway}
 use Rattle.mw_underway.specs.Results.{IsFoundOf}
 use Rattle.mw_underway.specs.SourceWindows.{Takes}
 use Rattle.mw_ledger.specs.Books.{Book, IsOrderly, progress_of, seen_of, work_at}

@@ -5,9 +5,9 @@ use Rattle.mw_model.specs.Values.{Value}
 use Rattle.mw_model.specs.Refusals.{Table}
 use Rattle.mw_model.specs.Stands.{CoreView}
 use Rattle.mw_model.specs.Tasks.{Progress, remaining_tasks, task_count}
-use Rattle.mw_progress.specs.ProgressView.{ProgressView}
-use Rattle.mw_store.specs.Stored.{Stored, IsWhole}
-use Rattle.mw_stands.specs.Limits.{ShapesFit}
+use Rattle.mw_underway.specs.mw_progress.ProgressView.{ProgressView}
+use Rattle.mw_underway.specs.mw_store.Stored.{Stored, IsWhole}
+use Rattle.mw_underway.specs.mw_stands.Limits.{ShapesFit}
 use Rattle.mw_underway.specs.Planning.{IsPlannedAt, IsSide}
 
 -- What a ledger shows: its table, the value that it keeps of each ticket, the work under each, with the planes that its tasks have made, its log, and the side of its tiles in pixels.

@@ -7,9 +7,9 @@ use Rattle.mw_model.specs.declared.calls.LogItem.{LogItem}
 use Rattle.mw_model.specs.declared.calls.LogItem.TheVariants as item
 use Rattle.mw_model.specs.Refusals.{Table, outcome_at, is_pending}
 use Rattle.mw_model.specs.Machine.{with_entry}
-use Rattle.mw_progress.specs.ProgressView.{ProgressView}
-use Rattle.mw_store.specs.declared.kept.Entry.{Entry}
-use Rattle.mw_store.specs.Entries.{submission_of, outcome_of, payload_in}
+use Rattle.mw_underway.specs.mw_progress.ProgressView.{ProgressView}
+use Rattle.mw_underway.specs.mw_store.declared.kept.Entry.{Entry}
+use Rattle.mw_underway.specs.mw_store.Entries.{submission_of, outcome_of, payload_in}
 use Rattle.mw_ledger.specs.Books.{Book, work_at}
 
 -- one item more in the log

@@ -2,3 +2,10 @@ pub mod Books
 pub mod Changes
 pub mod Counts
 pub mod Tasks
+-- what lower crates offer
+pub use Rattle.mw_underway.specs as mw_underway
+pub use Rattle.mw_underway.specs.mw_progress as mw_progress
+pub use Rattle.mw_underway.specs.mw_stands as mw_stands
+pub use Rattle.mw_underway.specs.mw_store as mw_store
+pub use Rattle.mw_underway.specs.mw_tiles as mw_tiles
+pub use Rattle.mw_underway.specs.mw_work as mw_work

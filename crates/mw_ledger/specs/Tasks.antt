@@ -11,9 +11,9 @@ use Rattle.mw_model.specs.Tasks.{remaining_tasks}
 use Rattle.mw_task.specs.declared.tile_result.TileResult.{TileResult}
 use Rattle.mw_task.specs.Products.{IsMade}
 use Rattle.mw_task.specs.WindowTasks.{WindowTask}
-use Rattle.mw_tiles.specs.Filled.{filled}
-use Rattle.mw_progress.specs.ProgressView.{ProgressView, IsFinished, IsWhole, cells_of_made, numbers_of, plane_at}
-use Rattle.mw_store.specs.Stored.{DropsSpent}
+use Rattle.mw_underway.specs.mw_tiles.Filled.{filled}
+use Rattle.mw_underway.specs.mw_progress.ProgressView.{ProgressView, IsFinished, IsWhole, cells_of_made, numbers_of, plane_at}
+use Rattle.mw_underway.specs.mw_store.Stored.{DropsSpent}
 use Rattle.mw_underway.specs.Results.{IsFoundOf, IsResultOf, result_number}
 use Rattle.mw_underway.specs.SourceWindows.{Takes}
 use Rattle.mw_ledger.specs.Books.{Book, work_at}

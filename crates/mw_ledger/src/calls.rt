@@ -5,8 +5,7 @@ ghost use Rattle.std.specs.Prelude.{◌≡◌, ◌<◌, ◌≤◌, ◌++◌, ◌
 use crate::ledger::Ledger;
 use crate::sweep::drop_settled;
 use mw_model::{Call, LogItem, Name, NoMemory, Outcome, Reply};
-use mw_progress::PlanProgress;
-use mw_store::Entry;
+use mw_underway::{Entry, PlanProgress};
 
 impl Ledger {
     ghost use Rattle.std.specs.List.{AllByRecursion};
@@ -14,9 +13,9 @@ impl Ledger {
     ghost use Rattle.mw_model.specs.Refusals.{ticket_of, outcome_at, is_pending};
     ghost use Rattle.mw_model.specs.Machine.{killed, settled};
     ghost use Rattle.mw_model.specs.Tasks.{remaining_tasks, task_count};
-    ghost use Rattle.mw_store.specs.Entries.{submission_of};
-    ghost use Rattle.mw_store.specs.Stored.{DropsSpent};
-    ghost use Rattle.mw_stands.specs.Limits.{FitsLimits};
+    ghost use Rattle.mw_underway.specs.mw_store.Entries.{submission_of};
+    ghost use Rattle.mw_underway.specs.mw_store.Stored.{DropsSpent};
+    ghost use Rattle.mw_underway.specs.mw_stands.Limits.{FitsLimits};
     ghost use Rattle.mw_underway.specs.Planning.{IsPlannedOn};
     ghost use Rattle.mw_ledger.specs.Changes.{KeepsWorks, noted, with_accepted};
 

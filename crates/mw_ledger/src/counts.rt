@@ -4,11 +4,11 @@ ghost use Rattle.std.specs.Prelude.{◌≡◌, ◌<◌, ◌≤◌, length, IfSom
 ghost use Rattle.mw_ledger.specs.Books.{seen_of};
 
 use crate::ledger::Ledger;
-use mw_store::is_pending;
+use mw_underway::is_pending;
 
 impl Ledger {
     ghost use Rattle.mw_model.specs.Stands.{ready_under, remaining_of};
-    ghost use Rattle.mw_stands.specs.Counts.{running_under};
+    ghost use Rattle.mw_underway.specs.mw_stands.Counts.{running_under};
 
     /// How many tasks of the ticket are ready.
     pub fn ready_of(&self, t: u32) -> u32

@@ -3,8 +3,7 @@
 ghost use Rattle.std.specs.Prelude.{◌≡◌, ◌+◌, ◌<◌, ◌≤◌, length, IfOk, Some};
 
 use mw_model::{LogItem, NoMemory};
-use mw_progress::PlanProgress;
-use mw_store::Store;
+use mw_underway::{PlanProgress, Store};
 use std::alloc::Global;
 use std::marker::Model;
 

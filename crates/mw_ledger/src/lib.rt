@@ -15,5 +15,6 @@ mod tasks;
 
 pub use ledger::Ledger;
 pub use mw_model::NoMemory;
+pub use mw_underway::{Entry, Fetched, PlanProgress, Shown, Unplanned, planned};
 pub use tally::Counts;
 pub use tasks::Unfit;

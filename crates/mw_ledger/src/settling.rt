@@ -4,16 +4,14 @@ ghost use Rattle.std.specs.Prelude.{◌≡◌, ◌-◌, ◌<◌, ◌≤◌, ◌+
 ghost use Rattle.mw_model.specs.Plans.{is_sum};
 ghost use Rattle.mw_model.specs.Refusals.{is_image};
 ghost use Rattle.mw_model.specs.Tasks.{nothing_planned, remaining_tasks};
-ghost use Rattle.mw_store.specs.Kept.{kept_value};
+ghost use Rattle.mw_underway.specs.mw_store.Kept.{kept_value};
 ghost use Rattle.mw_ledger.specs.Tasks.{value_made};
 
 use crate::ledger::Ledger;
 use mw_gran::Curve;
 use mw_model::{LogItem, Outcome, Shape};
-use mw_progress::PlanProgress;
-use mw_store::{Kept, Waiters};
 use mw_task::TileDone;
-use mw_tiles::WholePlane;
+use mw_underway::{Kept, PlanProgress, Waiters, WholePlane};
 
 /// The value that finished work has made, where the result has this shape. No memory is asked for.
 fn value_of(shape: Shape, work: PlanProgress) -> Kept
@@ -36,7 +34,7 @@ impl Ledger {
     ghost use Rattle.mw_model.specs.Refusals.{outcome_at, is_pending, shape_at};
     ghost use Rattle.mw_model.specs.Machine.{settled};
     ghost use Rattle.mw_model.specs.Stands.{inputs_of};
-    ghost use Rattle.mw_store.specs.Stored.{DropsSpent};
+    ghost use Rattle.mw_underway.specs.mw_store.Stored.{DropsSpent};
     ghost use Rattle.mw_ledger.specs.Books.{IsOrderly};
     ghost use Rattle.mw_ledger.specs.Tasks.{FinishesAt, IsResultAt, PlacesAt, SettlesAt};
 

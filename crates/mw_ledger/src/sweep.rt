@@ -3,8 +3,7 @@
 ghost use Rattle.std.specs.Prelude.{◌≡◌, ◌<◌, length, None, slice_set, if◌then◌else◌};
 ghost use Rattle.mw_ledger.specs.Changes.{KeepsWorks};
 
-use mw_progress::PlanProgress;
-use mw_store::{Store, is_pending};
+use mw_underway::{PlanProgress, Store, is_pending};
 
 /// Drops the work under each ticket that is not pending.
 pub(crate) fn drop_settled(store: &Store, works: &mut [Option<PlanProgress>])

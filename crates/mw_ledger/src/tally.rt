@@ -28,10 +28,10 @@ impl Counts {
     ghost use Rattle.mw_model.specs.declared.calls.Call.{Call};
     ghost use Rattle.mw_model.specs.declared.names.Name.{Name};
     ghost use Rattle.mw_model.specs.Stands.{CoreView, ready_under};
-    ghost use Rattle.mw_progress.specs.ProgressView.{ProgressView};
-    ghost use Rattle.mw_stands.specs.Counts.{running_under};
-    ghost use Rattle.mw_stands.specs.Turns.{IsAt};
-    ghost use Rattle.mw_store.specs.declared.kept.Entry.{Entry};
+    ghost use Rattle.mw_underway.specs.mw_progress.ProgressView.{ProgressView};
+    ghost use Rattle.mw_underway.specs.mw_stands.Counts.{running_under};
+    ghost use Rattle.mw_underway.specs.mw_stands.Turns.{IsAt};
+    ghost use Rattle.mw_underway.specs.mw_store.declared.kept.Entry.{Entry};
     ghost use Rattle.mw_task.specs.WindowTasks.{WindowTask};
     ghost use Rattle.mw_ledger.specs.Books.{Book, IsOrderly, seen_of};
     ghost use Rattle.mw_ledger.specs.Changes.{with_accepted};

@@ -4,9 +4,8 @@ ghost use Rattle.std.specs.Prelude.{◌≡◌, ◌<◌, ◌≤◌, ◌↔◌, le
 
 use crate::ledger::Ledger;
 use mw_model::{NoMemory, Outcome, TaskId};
-use mw_store::is_pending;
 use mw_task::{TileDone, Work};
-use mw_underway::{begin, is_result};
+use mw_underway::{begin, is_pending, is_result};
 
 /// Why a task is not taken.
 #[derive(Clone, Copy, PartialEq, Eq, Debug)]
@@ -20,7 +19,7 @@ pub enum Unfit {
 impl Ledger {
     ghost use Rattle.mw_model.specs.Refusals.{outcome_at};
     ghost use Rattle.mw_model.specs.Stands.{progress_at, ready_under};
-    ghost use Rattle.mw_stands.specs.TaskEvents.{IsOpen, IsSettled, IsUnderway};
+    ghost use Rattle.mw_underway.specs.mw_stands.TaskEvents.{IsOpen, IsSettled, IsUnderway};
     ghost use Rattle.mw_ledger.specs.Books.{seen_of};
     ghost use Rattle.mw_ledger.specs.Tasks.{IsFoundAt, IsResultAt, TakesAt};
 

@@ -2,8 +2,7 @@
 
 use crate::fault::ListenFault;
 use mw_model::Code;
-use mw_pool::{Board, Gate, Pass, work};
-use mw_serve::serve;
+use mw_serve::{Board, Gate, Pass, serve, work};
 use mw_wire::{Sink, Source, end_by};
 use std::alloc::{AllocError, Global};
 use std::io::BufWriter;

@@ -1,6 +1,6 @@
 //! What computes the tasks of a server.
 
-use mw_pool::Gate;
+use mw_serve::Gate;
 use mw_task::{TaskRefused, TileDone, Work};
 use std::alloc::Global;
 

@@ -25,9 +25,9 @@ use Rattle.mw_core.specs.declared.answers.Finish.{Finish}
 use Rattle.mw_core.specs.declared.answers.Finish.TheVariants as finish
 use Rattle.mw_core.specs.declared.answers.Refusal.{Refusal}
 use Rattle.mw_core.specs.declared.answers.Refusal.TheVariants as refusal
-use Rattle.mw_stands.specs.Events.{Serves}
+use Rattle.mw_core.specs.mw_stands.Events.{Serves}
 use Rattle.mw_core.specs.TaskAnswers.{Starts, Finishes, Refuses}
-use Rattle.mw_store.specs.Fetches.{ShowsSome}
+use Rattle.mw_core.specs.mw_store.Fetches.{ShowsSome}
 use Rattle.mw_pool.specs.Tickets.{IsAwaited}
 
 -- it stands for some state

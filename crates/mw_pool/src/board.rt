@@ -30,7 +30,7 @@ impl Board {
     ghost use Rattle.mw_model.specs.Machine.{Machine};
     ghost use Rattle.mw_model.specs.Stands.{CoreView, StandsFor};
     ghost use Rattle.mw_model.specs.Receipts.{Covers};
-    ghost use Rattle.mw_store.specs.Fetches.{ShowsSome, shown_value};
+    ghost use Rattle.mw_core.specs.mw_store.Fetches.{ShowsSome, shown_value};
     ghost use Rattle.mw_pool.specs.Passes.{AddsReceipt};
     ghost use Rattle.mw_pool.specs.Payloads.{TellsImage, TellsElement};
 

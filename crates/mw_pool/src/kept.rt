@@ -31,10 +31,10 @@ impl Kept {
     ghost use Rattle.mw_model.specs.Pictures.{IsImage};
     ghost use Rattle.mw_model.specs.declared.calls.Call.TheVariants as call;
     ghost use Rattle.mw_model.specs.Receipts.{Covers};
-    ghost use Rattle.mw_stands.specs.Payloads.{given_image, image_payload, given_element, element_payload};
-    ghost use Rattle.mw_stands.specs.Events.{Serves};
+    ghost use Rattle.mw_core.specs.mw_stands.Payloads.{given_image, image_payload, given_element, element_payload};
+    ghost use Rattle.mw_core.specs.mw_stands.Events.{Serves};
     ghost use Rattle.mw_core.specs.TaskAnswers.{Starts, Finishes, Refuses};
-    ghost use Rattle.mw_store.specs.Fetches.{ShowsSome, shown_value};
+    ghost use Rattle.mw_core.specs.mw_store.Fetches.{ShowsSome, shown_value};
     ghost use Rattle.mw_pool.specs.Passes.{with_receipt};
     ghost use Rattle.mw_pool.specs.Tickets.{told_at, IsAwaited};
 

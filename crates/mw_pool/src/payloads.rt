@@ -2,7 +2,7 @@
 
 ghost use Rattle.std.specs.Result.{ForOk};
 ghost use Rattle.mw_model.specs.Pictures.{IsImage};
-ghost use Rattle.mw_stands.specs.Payloads.{given_image, given_element};
+ghost use Rattle.mw_core.specs.mw_stands.Payloads.{given_image, given_element};
 ghost use Rattle.mw_pool.specs.Payloads.{TellsImage, TellsElement};
 
 use mw_element::Element;

@@ -15,3 +15,8 @@ mod Ended
 mod Placing
 mod Settled
 mod Finish
+-- what lower crates offer
+pub use Rattle.mw_pieces.proofs as mw_pieces
+pub use Rattle.mw_plan.proofs as mw_plan
+pub use Rattle.mw_task.proofs as mw_task
+pub use Rattle.mw_tiles.proofs as mw_tiles

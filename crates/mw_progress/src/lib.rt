@@ -27,5 +27,5 @@ pub use mw_model::{Kind, NoMemory, Rect};
 pub use mw_pieces::SharedWindow;
 pub use mw_plan::{Plan, PlannedStep};
 pub use mw_task::TileResult;
-pub use mw_tiles::TiledPlane;
+pub use mw_tiles::{TiledPlane, WholePlane};
 pub use progress::PlanProgress;

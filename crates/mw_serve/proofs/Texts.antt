@@ -14,9 +14,9 @@ use Rattle.mw_model.specs.Lines.{AskLoad, AskElement, AskAlone}
 use Rattle.mw_model.specs.Replies.{NoValue, reply_text}
 use Rattle.mw_model.specs.Receipts.{MayHand, IsTextOf}
 use Rattle.mw_model.specs.Scripts.{Calls, handed_value}
-use Rattle.mw_store.specs.declared.fetched.Shown.{Shown}
-use Rattle.mw_store.specs.declared.fetched.Shown.TheVariants as shown
-use Rattle.mw_store.specs.Fetches.{ShowsSome, shown_value}
+use Rattle.mw_fetched.specs.mw_store.declared.fetched.Shown.{Shown}
+use Rattle.mw_fetched.specs.mw_store.declared.fetched.Shown.TheVariants as shown
+use Rattle.mw_fetched.specs.mw_store.Fetches.{ShowsSome, shown_value}
 use Rattle.mw_fetched.specs.Texts.{SaysFetched}
 use Rattle.mw_pool.specs.Passes.{AddsReceipt}
 use Rattle.mw_pool.specs.Payloads.{TellsImage, TellsElement}

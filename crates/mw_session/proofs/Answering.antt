@@ -34,10 +34,10 @@ use Rattle.mw_session.specs.Turns.{TellsWork, TellsCall, logged, unlogged, MayLa
 use Rattle.mw_laws.proofs.RunStates.{reached}
 use Rattle.mw_laws.proofs.RunTables.{push_last}
 use Rattle.mw_laws.proofs.RunReplay.{refused_leaves, fetch_leaves}
-use Rattle.mw_stands.specs.Payloads.{given_image, image_payload, given_element, element_payload}
-use Rattle.mw_stands.specs.Events.{Serves, IsFresh, handed_out}
-use Rattle.mw_store.specs.Fetches.{shown_value}
-use Rattle.mw_store.specs.declared.fetched.Shown.{Shown}
+use Rattle.mw_wave.specs.mw_stands.Payloads.{given_image, image_payload, given_element, element_payload}
+use Rattle.mw_wave.specs.mw_stands.Events.{Serves, IsFresh, handed_out}
+use Rattle.mw_fetched.specs.mw_store.Fetches.{shown_value}
+use Rattle.mw_fetched.specs.mw_store.declared.fetched.Shown.{Shown}
 use Rattle.mw_wire.specs.Writes.{told_text}
 use Rattle.mw_wave.specs.Work.{AllWorked}
 use Rattle.mw_fetched.specs.Texts.{fetch_text, SaysFetched}

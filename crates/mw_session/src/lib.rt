@@ -13,7 +13,6 @@ mod payloads;
 mod script;
 
 pub use laws::{finished_is_script, stopped_is_broken};
-pub use mw_core::Core;
 pub use mw_model::End;
-pub use mw_wave::{Crew, Pick};
+pub use mw_wave::{Core, Crew, Pick};
 pub use script::run_script;

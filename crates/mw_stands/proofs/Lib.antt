@@ -13,3 +13,6 @@ pub mod LimitLemmas
 pub mod KeptInputs
 pub mod TaskLemmas
 pub mod IdleLemmas
+-- what lower crates offer
+pub use Rattle.mw_store.proofs as mw_store
+pub use Rattle.mw_work.proofs as mw_work

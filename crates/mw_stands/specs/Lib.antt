@@ -6,3 +6,8 @@ pub mod Counts
 pub mod Events
 pub mod TaskEvents
 pub mod Turns
+-- what lower crates offer
+pub use Rattle.mw_store.specs as mw_store
+pub use Rattle.mw_work.specs as mw_work
+pub use Rattle.mw_work.specs.mw_progress as mw_progress
+pub use Rattle.mw_work.specs.mw_tiles as mw_tiles

@@ -1,3 +1,6 @@
 //! For which states of the machine a core stands, and how that goes on: lemmas on what a core shows before and after each
 //! change that it can make. There is no code here. What the core does, beside any machine, is said in `mw_ledger`.
 #![tactic(auto)]
+
+pub use mw_store::{Entry, Fetched, Kept, Shown, Store, Waiters, is_pending};
+pub use mw_work::{PlanProgress, WholePlane, true_tasks};

@@ -18,8 +18,8 @@ use Rattle.mw_plan.specs.PlansOf.{AreValuesOf, HaveFrame, inputs_taken}
 use Rattle.mw_plan.specs.declared.inputs.Input.{Input}
 use Rattle.mw_plan.proofs.Accepted.{accepted_entries, accepted_faultless, accepted_values, machine_values}
 use Rattle.mw_plan.proofs.Refused.{shape_same}
-use Rattle.mw_progress.specs.ProgressView.{IsFramed}
-use Rattle.mw_work.specs.Works.{IsAccepted}
+use Rattle.mw_stands.specs.mw_progress.ProgressView.{IsFramed}
+use Rattle.mw_stands.specs.mw_work.Works.{IsAccepted}
 use Rattle.mw_underway.specs.Planning.{IsPlannedRun}
 use Rattle.mw_stands.proofs.AgreeLemmas.{values-pushed, values-long}
 use Rattle.mw_stands.proofs.WorkLemmas.{map-below}

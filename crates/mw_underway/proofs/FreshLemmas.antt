@@ -27,9 +27,9 @@ use Rattle.mw_plan.specs.declared.inputs.Input.TheVariants as input
 use Rattle.mw_plan.specs.PlansOf.{AreValuesOf, HaveFrame, inputs_taken}
 use Rattle.mw_plan.specs.Tables.{IsInputOf}
 use Rattle.mw_plan.proofs.Accepted.{accepted_faultless, accepted_values, machine_values}
-use Rattle.mw_progress.specs.ProgressView.{ProgressView}
-use Rattle.mw_work.proofs.Fresh.{get_or-replicate_same, only-image, tile_count-most, work-fresh}
-use Rattle.mw_work.proofs.Numbers.{some-tiles, task_count-whole}
+use Rattle.mw_stands.specs.mw_progress.ProgressView.{ProgressView}
+use Rattle.mw_stands.proofs.mw_work.Fresh.{get_or-replicate_same, only-image, tile_count-most, work-fresh}
+use Rattle.mw_stands.proofs.mw_work.Numbers.{some-tiles, task_count-whole}
 use Rattle.mw_stands.specs.Limits.{FitsLimits, ShapesFit}
 use Rattle.mw_stands.proofs.StandsLemmas.{stands-sound}
 use Rattle.mw_underway.specs.SourceWindows.{IsInput}

@@ -12,7 +12,7 @@ use Rattle.mw_model.specs.Machine.{Machine, values}
 use Rattle.mw_model.specs.Plans.{images_of}
 use Rattle.mw_model.specs.Stands.{input_values}
 use Rattle.mw_laws.specs.MachineLaws.{IsSound, shape_of_value}
-use Rattle.mw_progress.specs.ProgressView.{ProgressView}
+use Rattle.mw_stands.specs.mw_progress.ProgressView.{ProgressView}
 use Rattle.mw_underway.specs.SourceWindows.{IsInputAt}
 
 -- an entry of an element's shape has no image

@@ -11,3 +11,7 @@ pub mod SourceTrueLemmas
 pub mod PlanTaskLemmas
 pub mod ReadingLemmas
 pub mod ResultLemmas
+-- what lower crates offer
+pub use Rattle.mw_stands.proofs as mw_stands
+pub use Rattle.mw_stands.proofs.mw_store as mw_store
+pub use Rattle.mw_stands.proofs.mw_work as mw_work

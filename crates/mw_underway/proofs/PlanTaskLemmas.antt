@@ -12,10 +12,10 @@ use Rattle.mw_model.specs.Tasks.{Progress, task_count, planned_of, sources_of, i
 use Rattle.mw_model.specs.Plans.{images_of}
 use Rattle.mw_model.specs.Stands.{CoreView, StandsFor, IsWork, progress_at, inputs_of, inputs_there, input_values, true_planes, ready_under, is_ready_at, may_run}
 use Rattle.mw_task.specs.WindowTasks.{WindowTask}
-use Rattle.mw_progress.specs.ProgressView.{ProgressView, IsStarted, IsFinished}
-use Rattle.mw_store.specs.Stored.{DropsSpent}
+use Rattle.mw_stands.specs.mw_progress.ProgressView.{ProgressView, IsStarted, IsFinished}
+use Rattle.mw_stands.specs.mw_store.Stored.{DropsSpent}
 use Rattle.mw_stands.specs.Facts.{IsComplete}
-use Rattle.mw_work.specs.Works.{true_task}
+use Rattle.mw_stands.specs.mw_work.Works.{true_task}
 use Rattle.mw_underway.specs.SourceWindows.{AreSources, IsTaskOf}
 use Rattle.mw_stands.specs.TaskEvents.{Begins, IsResult, Places, Settles}
 use Rattle.mw_stands.proofs.AgreeLemmas.{agrees-done}

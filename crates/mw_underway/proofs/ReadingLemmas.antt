@@ -15,10 +15,10 @@ use Rattle.mw_grid.specs.Grids.{Tiling, tile_at, tile_count}
 use Rattle.mw_grid.proofs.Tiles.{HasTiles, tile_begins, tile_within}
 use Rattle.mw_task.specs.WindowTasks.{FitsStep, WindowTask}
 use Rattle.mw_tile.specs.Windows.{SourceWindow, window_of}
-use Rattle.mw_progress.specs.ProgressView.{ProgressView, IsWhole, number_of}
-use Rattle.mw_work.specs.Works.{IsReadyOrRuns}
-use Rattle.mw_work.proofs.Reading.{source-placed, source-plane, source-within}
-use Rattle.mw_work.proofs.Windows.{place_of_task-number_of, task_of-number_of}
+use Rattle.mw_stands.specs.mw_progress.ProgressView.{ProgressView, IsWhole, number_of}
+use Rattle.mw_stands.specs.mw_work.Works.{IsReadyOrRuns}
+use Rattle.mw_stands.proofs.mw_work.Reading.{source-placed, source-plane, source-within}
+use Rattle.mw_stands.proofs.mw_work.Windows.{place_of_task-number_of, task_of-number_of}
 use Rattle.mw_underway.specs.SourceWindows.{AreSources, CanRead, CanReadAll, IsTaskOrNone, task_on}
 
 -- a rectangle in a frame that has a place still has one when it is grown

@@ -21,7 +21,7 @@ use Rattle.mw_model.specs.Tasks.{Progress, cells_in, flag, is_running, nothing_p
 use Rattle.mw_model.specs.Values.{image_of, value_at}
 use Rattle.mw_grid.specs.Grids.{Tiling, tile_at, tile_count}
 use Rattle.mw_tile.specs.Windows.{SourceWindow, window_of}
-use Rattle.mw_tiles.specs.Tiles.{IsPlaneOf}
+use Rattle.mw_stands.specs.mw_tiles.Tiles.{IsPlaneOf}
 use Rattle.mw_task.specs.declared.tile_result.TileResult.{TileResult}
 use Rattle.mw_task.specs.Products.{IsMade}
 use Rattle.mw_task.specs.Sources.{HasFrame}
@@ -29,14 +29,14 @@ use Rattle.mw_task.specs.WindowTasks.{FitsStep, IsBounded, WindowTask, tile_made
 use Rattle.mw_pieces.proofs.TileCells.{cells_in_all, length-cells_in}
 use Rattle.mw_plan.specs.PlansOf.{planes_read}
 use Rattle.mw_plan.proofs.Planes.{plane_is}
-use Rattle.mw_progress.specs.Levels.{Level, level_of, level_of_source, level_of_step, levels, no_level}
-use Rattle.mw_progress.specs.ProgressView.{Fits, IsWhole, ProgressView, level_of_plane, number_of, plane_at}
-use Rattle.mw_work.specs.Works.{true_task}
-use Rattle.mw_work.proofs.Going.{true-under}
-use Rattle.mw_work.proofs.Leveled.{get_or-map-level_of, level_of-plane_of, levels-planes}
-use Rattle.mw_work.proofs.Making.{fits-made}
-use Rattle.mw_work.proofs.Numbers.{length-tiles, number_of-numbers, number_of-within, planned_of-number_of, some-whole, step_number-within, tile_number-within, tile_of_task-number_of}
-use Rattle.mw_work.proofs.Truth.{plane-true, plane_at-level}
+use Rattle.mw_stands.specs.mw_progress.Levels.{Level, level_of, level_of_source, level_of_step, levels, no_level}
+use Rattle.mw_stands.specs.mw_progress.ProgressView.{Fits, IsWhole, ProgressView, level_of_plane, number_of, plane_at}
+use Rattle.mw_stands.specs.mw_work.Works.{true_task}
+use Rattle.mw_stands.proofs.mw_work.Going.{true-under}
+use Rattle.mw_stands.proofs.mw_work.Leveled.{get_or-map-level_of, level_of-plane_of, levels-planes}
+use Rattle.mw_stands.proofs.mw_work.Making.{fits-made}
+use Rattle.mw_stands.proofs.mw_work.Numbers.{length-tiles, number_of-numbers, number_of-within, planned_of-number_of, some-whole, step_number-within, tile_number-within, tile_of_task-number_of}
+use Rattle.mw_stands.proofs.mw_work.Truth.{plane-true, plane_at-level}
 use Rattle.mw_stands.specs.TaskEvents.{IsResult}
 use Rattle.mw_stands.proofs.StandsLemmas.{stands-sound}
 use Rattle.mw_stands.proofs.TaskLemmas.{work-of}

@@ -12,8 +12,8 @@ use Rattle.mw_model.specs.Plans.{Source, FromInput, FromStep, IsSourceAt, images
 use Rattle.mw_model.specs.Tasks.{nothing_planned, planned_of, sources_of, step_number}
 use Rattle.mw_model.specs.Stands.{CoreView, StandsFor, inputs_of, inputs_there, input_values, true_planes}
 use Rattle.mw_task.specs.Sources.{HasFrame}
-use Rattle.mw_tiles.specs.Tiles.{IsPlaneOf}
-use Rattle.mw_progress.specs.ProgressView.{ProgressView, IsWhole, IsPlaneSource, plane_at}
+use Rattle.mw_stands.specs.mw_tiles.Tiles.{IsPlaneOf}
+use Rattle.mw_stands.specs.mw_progress.ProgressView.{ProgressView, IsWhole, IsPlaneSource, plane_at}
 use Rattle.mw_stands.proofs.KeptInputs.{kept_inputs}
 use Rattle.mw_underway.specs.SourceWindows.{IsInputAt, AreSources}
 use Rattle.mw_underway.proofs.InputLemmas.{reads-image}

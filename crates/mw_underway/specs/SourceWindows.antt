@@ -12,8 +12,8 @@ use Rattle.mw_model.specs.Tasks.{is_ready, nothing_planned, planned_of, place_of
 use Rattle.mw_task.specs.Sources.{HasFrame}
 use Rattle.mw_task.specs.WindowTasks.{WindowTask, FitsStep}
 use Rattle.mw_tile.specs.Windows.{SourceWindow, window_of}
-use Rattle.mw_tiles.specs.Tiles.{HasAll, IsPlaneOf}
-use Rattle.mw_progress.specs.ProgressView.{ProgressView, IsStarted, IsWhole, plane_at}
+use Rattle.mw_stands.specs.mw_tiles.Tiles.{HasAll, IsPlaneOf}
+use Rattle.mw_stands.specs.mw_progress.ProgressView.{ProgressView, IsStarted, IsWhole, plane_at}
 
 -- The work reads the first input of its command, an image of its level and frame; the others are elements.
 pub record IsInput (w : Table) (e : Submission) (u : ProgressView) : Type 0 where

@@ -8,6 +8,9 @@ mod results;
 mod taking;
 
 pub use mw_model::NoMemory;
+pub use mw_stands::{
+    Entry, Fetched, Kept, PlanProgress, Shown, Store, Waiters, WholePlane, is_pending,
+};
 pub use planning::{Unplanned, planned};
 pub use results::is_result;
 pub use taking::begin;

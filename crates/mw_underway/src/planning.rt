@@ -14,8 +14,7 @@ ghost use Rattle.mw_underway.specs.Planning.{IsLookedUp, IsPlannedBy, IsSide, un
 use mw_grid::Grid;
 use mw_model::{Call, Name, NoMemory, Op, Shape, Submission};
 use mw_plan::{Input, Plan, PlanFault};
-use mw_progress::PlanProgress;
-use mw_store::Store;
+use mw_stands::{PlanProgress, Store};
 use std::alloc::Global;
 
 /// Why an accepted command gets no work.

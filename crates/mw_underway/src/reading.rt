@@ -12,8 +12,7 @@ ghost use Rattle.mw_underway.specs.SourceWindows.{AreWindowsOf, CanRead, CanRead
 
 use mw_model::{NoMemory, Rect};
 use mw_plan::{Source, Sources};
-use mw_progress::PlanProgress;
-use mw_store::Store;
+use mw_stands::{PlanProgress, Store};
 use mw_task::SharedWindow;
 use std::alloc::Global;
 

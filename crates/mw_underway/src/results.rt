@@ -12,8 +12,7 @@ ghost use Rattle.mw_underway.specs.Results.{AreShown, HasLevel, IsFoundOf, IsRes
 use crate::reading::{Reading, has_frame};
 use mw_model::Rect;
 use mw_plan::{Source, Sources};
-use mw_progress::PlanProgress;
-use mw_store::Store;
+use mw_stands::{PlanProgress, Store};
 use mw_task::{SharedWindow, TileDone};
 
 /// Whether the image that is kept of the ticket, if one is, has the level that the work reads.
@@ -104,7 +103,7 @@ pub fn is_result(store: &Store, image: u32, work: &PlanProgress, done: &TileDone
     ensures all { IsFoundOf (image_of (value_at store.now.kept image)) work.now done.now → IsTrue result }
 {
     // Its tiles are placed, as a fact of the work.
-    mw_work::true_tasks();
+    mw_stands::true_tasks();
     let _whole = work.remaining();
     let id = done.task();
     if !work.is_running(id.step, id.tile) {

@@ -4,14 +4,13 @@ ghost use Rattle.std.specs.Prelude.{◌≡◌, ◌<◌, length, slice_index, IfO
 ghost use Rattle.mw_model.specs.Values.{image_of, value_at};
 ghost use Rattle.mw_model.specs.Tasks.{ready_tasks};
 ghost use Rattle.mw_grid.specs.Grids.{tile_count};
-ghost use Rattle.mw_progress.specs.ProgressView.{number_of};
-ghost use Rattle.mw_work.specs.Works.{IsReadyOrRuns};
+ghost use Rattle.mw_stands.specs.mw_progress.ProgressView.{number_of};
+ghost use Rattle.mw_stands.specs.mw_work.Works.{IsReadyOrRuns};
 ghost use Rattle.mw_underway.specs.SourceWindows.{IsTaskOrNone, Takes};
 
 use crate::reading::{Reading, windows};
 use mw_model::{NoMemory, TaskId};
-use mw_progress::PlanProgress;
-use mw_store::Store;
+use mw_stands::{PlanProgress, Store};
 use mw_task::Work;
 use std::alloc::Global;
 
@@ -30,7 +29,7 @@ pub(crate) fn task(
     ensures { IfOk result (IsTaskOrNone (image_of (value_at store.now.kept image)) id.ticket work.now (number_of work.now.progress id.step id.tile)) }
 {
     // Its tiles are placed, as a fact of the work.
-    mw_work::true_tasks();
+    mw_stands::true_tasks();
     let _whole = work.remaining();
     let planned = work.step(id.step);
     let grid = work.grid();

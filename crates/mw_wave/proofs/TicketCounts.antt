@@ -11,7 +11,7 @@ use Rattle.mw_model.specs.Machine.{Machine}
 use Rattle.mw_model.specs.Tasks.{Progress, task_count, flag, tasks_below, running_tasks, remaining_tasks}
 use Rattle.mw_model.specs.Stands.{CoreView, IsWork, StandsFor, progress_at, running_count}
 use Rattle.mw_laws.proofs.RunStates.{reached}
-use Rattle.mw_stands.specs.Events.{WorkStays}
+use Rattle.mw_core.specs.mw_stands.Events.{WorkStays}
 use Rattle.mw_wave.specs.Work.{tasks_left}
 use Rattle.mw_wave.proofs.Totals.{total, total-at, total-falls, total-bounded, total-zero}
 

@@ -3,7 +3,7 @@ use Rattle.std.proofs.Common.{◌≡◌, ◌≢◌, ℕ, zero, suc, ◌+◌, ◌
 use Rattle.std.specs.List.{range_with_len, count_by}
 use Rattle.std.proofs.lemmas.Bool.{cases_lt}
 use Rattle.std.proofs.lemmas.List.Sums.{sum-map}
-use Rattle.mw_stands.proofs.CountLemmas.{sum-more}
+use Rattle.mw_core.proofs.mw_stands.CountLemmas.{sum-more}
 
 -- the sum of f over the first n numbers
 abbrev pub total : (ℕ → ℕ) → ℕ → ℕ

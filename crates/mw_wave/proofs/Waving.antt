@@ -18,9 +18,9 @@ use Rattle.mw_laws.proofs.RunStates.{reached}
 use Rattle.mw_laws.proofs.RunReplay.{run_join}
 use Rattle.mw_task.specs.WindowTasks.{WindowTask}
 use Rattle.mw_task.specs.declared.done.TaskRefused.{TaskRefused}
-use Rattle.mw_work.specs.Works.{true_task}
-use Rattle.mw_stands.specs.Events.{WorkStays}
-use Rattle.mw_stands.specs.TaskEvents.{Kills, Begins, IsResult, IsUnderway, Settles, Places, IsSettled}
+use Rattle.mw_core.specs.mw_work.Works.{true_task}
+use Rattle.mw_core.specs.mw_stands.Events.{WorkStays}
+use Rattle.mw_core.specs.mw_stands.TaskEvents.{Kills, Begins, IsResult, IsUnderway, Settles, Places, IsSettled}
 use Rattle.mw_core.specs.TaskAnswers.{Starts, Finishes, Refuses}
 use Rattle.mw_core.specs.declared.answers.Started.{Started}
 use Rattle.mw_core.specs.declared.answers.Started.TheVariants as started

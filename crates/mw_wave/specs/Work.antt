@@ -7,7 +7,7 @@ use Rattle.mw_model.specs.Machine.{Machine, Run}
 use Rattle.mw_model.specs.Tasks.{remaining_tasks}
 use Rattle.mw_model.specs.Stands.{CoreView, StandsFor, progress_at, running_count}
 use Rattle.mw_model.specs.Scripts.{Works}
-use Rattle.mw_stands.specs.Counts.{NonePending}
+use Rattle.mw_core.specs.mw_stands.Counts.{NonePending}
 use Rattle.mw_script_laws.specs.Marks.{OnlyWork, killed_in}
 
 -- how many tasks are not finished

@@ -15,5 +15,6 @@ mod wave;
 mod work;
 
 pub use crew::Crew;
+pub use mw_core::Core;
 pub use pick::Pick;
 pub use work::run_all_work;

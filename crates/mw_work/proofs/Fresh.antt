@@ -18,10 +18,10 @@ use Rattle.mw_model.specs.Tasks.{flag, task_count, nothing_planned}
 use Rattle.mw_model.specs.Stands.{IsWork, input_values}
 use Rattle.mw_grid.specs.Grids.{Tiling, columns_of, rows_of, tile_count}
 use Rattle.mw_grid.proofs.Tiles.{cover_once, length-tiles_of}
-use Rattle.mw_plan.specs.Asked.{is_image_input}
-use Rattle.mw_plan.specs.PlansOf.{AreValuesOf, HaveFrame, inputs_taken}
-use Rattle.mw_plan.specs.declared.inputs.Input.{Input}
-use Rattle.mw_plan.specs.declared.inputs.Input.TheVariants as input
+use Rattle.mw_progress.specs.mw_plan.Asked.{is_image_input}
+use Rattle.mw_progress.specs.mw_plan.PlansOf.{AreValuesOf, HaveFrame, inputs_taken}
+use Rattle.mw_progress.specs.mw_plan.declared.inputs.Input.{Input}
+use Rattle.mw_progress.specs.mw_plan.declared.inputs.Input.TheVariants as input
 use Rattle.mw_progress.specs.Levels.{Level}
 use Rattle.mw_progress.specs.ProgressView.{IsFramed, fresh}
 use Rattle.mw_work.specs.Works.{IsAccepted}

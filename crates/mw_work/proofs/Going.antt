@@ -11,7 +11,7 @@ use Rattle.mw_model.specs.Machine.{Machine}
 use Rattle.mw_model.specs.Plans.{IsSourceAt, Plan, images_of, is_sum, planes, value_of_planes}
 use Rattle.mw_model.specs.Tasks.{Progress, flag, task_count, nothing_planned, planned_of, tile_of_task, sources_of, made_of_planes, is_needed, remaining_tasks}
 use Rattle.mw_model.specs.Stands.{IsWork, inputs_there, input_values, true_cells}
-use Rattle.mw_plan.specs.PlansOf.{CanBeMade, planes_read}
+use Rattle.mw_progress.specs.mw_plan.PlansOf.{CanBeMade, planes_read}
 use Rattle.mw_progress.specs.ProgressView.{ProgressView, IsWhole, IsStarted, IsFinished}
 use Rattle.mw_work.specs.Works.{Finishes, GoesOnUnder, IsPlanned, KeepsTrue, IsTrueWork, IsUnder}
 use Rattle.mw_work.proofs.Flags.{flag-past, flag-set}

@@ -18,13 +18,13 @@ use Rattle.mw_model.specs.Tasks.{is_running, cells_in, nothing_planned, task_cou
 use Rattle.mw_model.specs.Machine.{Machine}
 use Rattle.mw_model.specs.Stands.{input_values, true_planes, true_cells}
 use Rattle.mw_grid.specs.Grids.{Tiling, tile_at, tile_count}
-use Rattle.mw_task.specs.declared.tile_result.TileResult.{TileResult}
-use Rattle.mw_task.specs.declared.tile_result.TileResult.TheVariants as made
-use Rattle.mw_task.specs.Products.{HoldsImage, IsMade}
-use Rattle.mw_task.specs.WindowTasks.{WindowTask, IsBounded, KindsFit, made_of_windows, tile_made, window_at}
-use Rattle.mw_task.proofs.Bounded.{here_below, window_below, window_bounded, made_below}
-use Rattle.mw_task.proofs.Cut.{made_of_cut}
-use Rattle.mw_pieces.proofs.TileCells.{cells_in_all, length-cells_in}
+use Rattle.mw_progress.specs.mw_task.declared.tile_result.TileResult.{TileResult}
+use Rattle.mw_progress.specs.mw_task.declared.tile_result.TileResult.TheVariants as made
+use Rattle.mw_progress.specs.mw_task.Products.{HoldsImage, IsMade}
+use Rattle.mw_progress.specs.mw_task.WindowTasks.{WindowTask, IsBounded, KindsFit, made_of_windows, tile_made, window_at}
+use Rattle.mw_progress.proofs.mw_task.Bounded.{here_below, window_below, window_bounded, made_below}
+use Rattle.mw_progress.proofs.mw_task.Cut.{made_of_cut}
+use Rattle.mw_progress.proofs.mw_pieces.TileCells.{cells_in_all, length-cells_in}
 use Rattle.mw_progress.specs.Levels.{Level, IsLevel, level_of, levels, no_level}
 use Rattle.mw_progress.specs.ProgressView.{ProgressView, IsFinished, IsWhole, Fits, IsSmallNumber, cells_of_made, image_of_made, level_of_plane, plane_at}
 use Rattle.mw_work.specs.Works.{Finishes, IsTrueWork, true_sources, true_task}

@@ -12,12 +12,12 @@ use Rattle.mw_model.specs.Machine.{Machine}
 use Rattle.mw_model.specs.Stands.{true_planes}
 use Rattle.mw_model.proofs.ImagePlaces.{drawn_same, length-rows}
 use Rattle.mw_tile.specs.Windows.{window_of}
-use Rattle.mw_task.specs.Sources.{AreCut, HasFrame}
-use Rattle.mw_task.specs.WindowTasks.{IsBounded, WindowTask, tile_made}
-use Rattle.mw_task.proofs.Bounded.{made_below}
-use Rattle.mw_task.proofs.Cut.{bounded_cut, made_of_cut}
-use Rattle.mw_plan.specs.PlansOf.{CanBeMade}
-use Rattle.mw_plan.proofs.WindowsFit.{made_fits}
+use Rattle.mw_progress.specs.mw_task.Sources.{AreCut, HasFrame}
+use Rattle.mw_progress.specs.mw_task.WindowTasks.{IsBounded, WindowTask, tile_made}
+use Rattle.mw_progress.proofs.mw_task.Bounded.{made_below}
+use Rattle.mw_progress.proofs.mw_task.Cut.{bounded_cut, made_of_cut}
+use Rattle.mw_progress.specs.mw_plan.PlansOf.{CanBeMade}
+use Rattle.mw_progress.proofs.mw_plan.WindowsFit.{made_fits}
 use Rattle.mw_progress.specs.Levels.{Level}
 use Rattle.mw_progress.specs.ProgressView.{ProgressView}
 use Rattle.mw_work.specs.Works.{IsTrueWork, true_source, true_sources, true_task}

@@ -11,7 +11,7 @@ use Rattle.mw_model.specs.PlanSteps.{looks_at}
 use Rattle.mw_model.specs.Plans.{FromStep, IsSourceAt, is_sum}
 use Rattle.mw_model.specs.Tasks.{flag, task_count, nothing_planned, planned_of, step_number, place_of_task, tile_of_task, place_read, is_step, share, meets, reads, tasks_below, is_needed}
 use Rattle.mw_grid.proofs.Reaching.{stays_within}
-use Rattle.mw_tiles.specs.Tiles.{HasAll}
+use Rattle.mw_progress.specs.mw_tiles.Tiles.{HasAll}
 use Rattle.mw_progress.specs.ProgressView.{ProgressView, IsPlaneSource, IsWhole, has_all_read, number_of, plane_at}
 use Rattle.mw_work.specs.Works.{IsReadyOrRuns}
 use Rattle.mw_work.proofs.Flags.{list_all-range, list_any-range, list_any-is_step}

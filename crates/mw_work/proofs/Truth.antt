@@ -6,9 +6,9 @@ use Rattle.mw_model.specs.Tasks.{Progress, nothing_planned, tile_of_task, made_o
 use Rattle.mw_model.specs.Machine.{Machine}
 use Rattle.mw_model.specs.Stands.{input_values, true_planes}
 use Rattle.mw_grid.specs.Grids.{Tiling, tile_at, tile_count}
-use Rattle.mw_tiles.specs.Tiles.{AreMade, IsPlaneOf, Tiled}
-use Rattle.mw_tiles.proofs.Made.{plane_is_made}
-use Rattle.mw_plan.proofs.Planes.{length-planes, plane_is}
+use Rattle.mw_progress.specs.mw_tiles.Tiles.{AreMade, IsPlaneOf, Tiled}
+use Rattle.mw_progress.proofs.mw_tiles.Made.{plane_is_made}
+use Rattle.mw_progress.proofs.mw_plan.Planes.{length-planes, plane_is}
 use Rattle.mw_progress.specs.Levels.{Level, level_of, levels, no_level}
 use Rattle.mw_progress.specs.ProgressView.{ProgressView, IsWhole, level_of_plane, number_of, plane_at, no_plane}
 use Rattle.mw_work.specs.Works.{KeepsTrue, IsTrueWork, true_sources}

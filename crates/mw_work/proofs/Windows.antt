@@ -11,9 +11,9 @@ use Rattle.mw_model.specs.Stands.{input_values, true_planes}
 use Rattle.mw_grid.specs.Grids.{tile_at, tile_count}
 use Rattle.mw_grid.proofs.Tiles.{tile_begins}
 use Rattle.mw_tile.specs.Windows.{SourceWindow, window_of}
-use Rattle.mw_task.specs.Sources.{AreCut, HasFrame}
-use Rattle.mw_task.specs.WindowTasks.{FitsStep, window_at}
-use Rattle.mw_plan.proofs.WindowsFit.{made_fits}
+use Rattle.mw_progress.specs.mw_task.Sources.{AreCut, HasFrame}
+use Rattle.mw_progress.specs.mw_task.WindowTasks.{FitsStep, window_at}
+use Rattle.mw_progress.proofs.mw_plan.WindowsFit.{made_fits}
 use Rattle.mw_progress.specs.Levels.{Level, level_of}
 use Rattle.mw_progress.specs.ProgressView.{ProgressView, number_of, IsWhole, IsPlaneSource}
 use Rattle.mw_work.specs.Works.{AreWindowsOfSources, IsWindowOfSource, IsTrueWork, task_of, true_source, true_task}

@@ -11,9 +11,9 @@ use Rattle.mw_model.specs.Tasks.{Progress, nothing_planned}
 use Rattle.mw_model.specs.Machine.{Machine}
 use Rattle.mw_model.specs.Stands.{IsWork, input_values}
 use Rattle.mw_grid.specs.Grids.{Tiling}
-use Rattle.mw_plan.specs.PlansOf.{CanBeMade, planes_read}
-use Rattle.mw_plan.specs.declared.inputs.Input.{Input}
-use Rattle.mw_plan.proofs.Planes.{length-planes, plane_is}
+use Rattle.mw_progress.specs.mw_plan.PlansOf.{CanBeMade, planes_read}
+use Rattle.mw_progress.specs.mw_plan.declared.inputs.Input.{Input}
+use Rattle.mw_progress.proofs.mw_plan.Planes.{length-planes, plane_is}
 use Rattle.mw_progress.specs.Levels.{Level, IsLevel, level_of, levels}
 use Rattle.mw_progress.specs.ProgressView.{ProgressView, IsWhole, IsWorkable, fresh}
 use Rattle.mw_work.specs.Works.{IsAccepted, IsPlanned, IsUnder}

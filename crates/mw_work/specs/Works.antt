@@ -12,11 +12,11 @@ use Rattle.mw_model.specs.Machine.{Machine, values}
 use Rattle.mw_model.specs.Stands.{IsWork, input_values, inputs_there, true_planes, true_cells}
 use Rattle.mw_grid.specs.Grids.{Tiling}
 use Rattle.mw_tile.specs.Windows.{SourceWindow, window_of}
-use Rattle.mw_task.specs.WindowTasks.{WindowTask}
-use Rattle.mw_tiles.specs.Tiles.{AllPlaced, IsPlaneOf}
-use Rattle.mw_plan.specs.PlansOf.{AreValuesOf, CanBeMade, HaveFrame, IsPlanOf, inputs_taken, planes_read}
-use Rattle.mw_plan.specs.Asked.{shape_made}
-use Rattle.mw_plan.specs.declared.inputs.Input.{Input}
+use Rattle.mw_progress.specs.mw_task.WindowTasks.{WindowTask}
+use Rattle.mw_progress.specs.mw_tiles.Tiles.{AllPlaced, IsPlaneOf}
+use Rattle.mw_progress.specs.mw_plan.PlansOf.{AreValuesOf, CanBeMade, HaveFrame, IsPlanOf, inputs_taken, planes_read}
+use Rattle.mw_progress.specs.mw_plan.Asked.{shape_made}
+use Rattle.mw_progress.specs.mw_plan.declared.inputs.Input.{Input}
 use Rattle.mw_progress.specs.Levels.{level_of}
 use Rattle.mw_progress.specs.ProgressView.{IsFramed, ProgressView, IsFinished, IsWhole, plane_at}
 

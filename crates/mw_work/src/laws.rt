@@ -15,14 +15,14 @@ ghost use Rattle.mw_model.specs.Tasks.{is_running, nothing_planned, place_of_tas
 ghost use Rattle.mw_model.specs.Values.{CurveValue, value_at};
 ghost use Rattle.mw_laws.specs.MachineLaws.{GrowsTo, IsSound};
 ghost use Rattle.mw_grid.specs.Grids.{Tiling};
-ghost use Rattle.mw_plan.specs.declared.inputs.Input.{Input};
+ghost use Rattle.mw_progress.specs.mw_plan.declared.inputs.Input.{Input};
 ghost use Rattle.mw_progress.specs.Levels.{Level, level_of};
 ghost use Rattle.mw_progress.specs.ProgressView.{Fits, IsFinished, IsStarted, IsWhole, IsWorkable, ProgressView, cells_of_made, fresh, numbers_of, plane_at};
-ghost use Rattle.mw_task.specs.declared.tile_result.TileResult.{TileResult};
-ghost use Rattle.mw_task.specs.Products.{IsMade};
-ghost use Rattle.mw_task.specs.WindowTasks.{FitsStep, IsBounded};
+ghost use Rattle.mw_progress.specs.mw_task.declared.tile_result.TileResult.{TileResult};
+ghost use Rattle.mw_progress.specs.mw_task.Products.{IsMade};
+ghost use Rattle.mw_progress.specs.mw_task.WindowTasks.{FitsStep, IsBounded};
 ghost use Rattle.mw_tile.specs.Windows.{SourceWindow};
-ghost use Rattle.mw_tiles.specs.Tiles.{HasAll, IsPlaneOf};
+ghost use Rattle.mw_progress.specs.mw_tiles.Tiles.{HasAll, IsPlaneOf};
 ghost use Rattle.mw_work.specs.Works.{AreWindowsOfSources, Finishes, IsAccepted, IsReadyOrRuns, IsResultImage, IsTrueWork, IsUnder, task_of, true_task};
 
 /// Of an accepted command nothing is started: its plan can be worked off on its one image, and stands under its ticket.

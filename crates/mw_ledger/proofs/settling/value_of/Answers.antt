@@ -1,6 +1,6 @@
 use Rattle.std.proofs.Common.{sym, subst}
-use Rattle.mw_tiles.specs.Tiles.{AllPlaced, Tiled}
-use Rattle.mw_work.proofs.Settling.{last-full}
+use Rattle.mw_underway.specs.mw_tiles.Tiles.{AllPlaced, Tiled}
+use Rattle.mw_underway.proofs.mw_work.Settling.{last-full}
 use Rattle.mw_ledger.proofs.settling.value_of.Goals as goal
 
 pub of-requires : goal.of-requires

@@ -1,6 +1,6 @@
 use Rattle.std.proofs.Common.{◌∙◌, ◌+◌, ◌<◌, ℕ, Bool, List, Option, length, arith, ap, subst, sym, cond, set, None, refl}
 use Rattle.mw_model.specs.Refusals.{is_pending, outcome_at}
-use Rattle.mw_progress.specs.ProgressView.{ProgressView}
+use Rattle.mw_underway.specs.mw_progress.ProgressView.{ProgressView}
 use Rattle.mw_ledger.proofs.SweepLemmas.{SweptTo, swept-more}
 use Rattle.mw_ledger.proofs.sweep.drop_settled.Goals as goal
 

@@ -1,8 +1,8 @@
 use Rattle.std.proofs.Common.{ℕ, ap, sym, subst}
 use Rattle.mw_model.specs.Plans.{Source}
 use Rattle.mw_plan.specs.Seen.{source}
-use Rattle.mw_tiles.specs.Tiles.{HasAll}
-use Rattle.mw_progress.specs.ProgressView.{plane_at}
+use Rattle.mw_stands.specs.mw_tiles.Tiles.{HasAll}
+use Rattle.mw_stands.specs.mw_progress.ProgressView.{plane_at}
 use Rattle.mw_underway.specs.SourceWindows.{CanRead}
 use Rattle.mw_underway.proofs.reading.window.Goals as goal
 

@@ -2,8 +2,8 @@ use Rattle.std.proofs.Common.{◌<◌, length, map, refl, sym, ap, ◌∙◌, su
 use Rattle.mw_model.specs.declared.places.Rect.{Rect}
 use Rattle.mw_model.specs.Plans.{Planned}
 use Rattle.mw_model.specs.Tasks.{planned_of}
-use Rattle.mw_progress.specs.ProgressView.{number_of}
-use Rattle.mw_work.proofs.Numbers.{length-tiles, number_of-within, planned_of-number_of}
+use Rattle.mw_stands.specs.mw_progress.ProgressView.{number_of}
+use Rattle.mw_stands.proofs.mw_work.Numbers.{length-tiles, number_of-within, planned_of-number_of}
 use Rattle.mw_model.specs.Values.{image_of, value_at}
 use Rattle.std.specs.Prelude.{option_map}
 use Rattle.mw_tile.specs.Windows.{window_of}

@@ -1,5 +1,5 @@
 use Rattle.std.proofs.Common.{[]}
-use Rattle.mw_stands.proofs.IdleLemmas.{nothing-pending}
+use Rattle.mw_core.proofs.mw_stands.IdleLemmas.{nothing-pending}
 use Rattle.mw_wave.proofs.Waving.{wave-begins, wave-ends}
 use Rattle.mw_wave.proofs.wave.run_wave.Goals as goal
 

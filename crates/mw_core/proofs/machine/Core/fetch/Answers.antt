@@ -1,8 +1,8 @@
 use Rattle.std.proofs.Common.{◌∙◌, ap}
 use Rattle.mw_model.specs.declared.calls.Call.TheVariants as call
 use Rattle.mw_model.specs.Machine.{reply_from}
-use Rattle.mw_stands.specs.Facts.{stored_of}
-use Rattle.mw_stands.proofs.CallLemmas.{serves-fetch}
+use Rattle.mw_ledger.specs.mw_stands.Facts.{stored_of}
+use Rattle.mw_ledger.proofs.mw_stands.CallLemmas.{serves-fetch}
 use Rattle.mw_core.proofs.FetchLemmas.{fetched-value, fetched-shown}
 use Rattle.mw_core.proofs.machine.Core.fetch.Goals as goal
 

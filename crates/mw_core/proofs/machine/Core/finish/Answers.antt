@@ -4,7 +4,7 @@ use Rattle.mw_model.specs.declared.tasks.TaskId.{TaskId}
 use Rattle.mw_model.specs.Refusals.{Table}
 use Rattle.mw_model.specs.Machine.{Machine}
 use Rattle.mw_model.specs.Stands.{CoreView, StandsFor}
-use Rattle.mw_stands.specs.TaskEvents.{IsOpen, IsResult, Places, Settles}
+use Rattle.mw_ledger.specs.mw_stands.TaskEvents.{IsOpen, IsResult, Places, Settles}
 use Rattle.mw_ledger.specs.Books.{Book, seen_of}
 use Rattle.mw_ledger.specs.Counts.{WaitFor}
 use Rattle.mw_core.proofs.BookLemmas.{counted}

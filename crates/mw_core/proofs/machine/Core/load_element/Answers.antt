@@ -8,9 +8,9 @@ use Rattle.mw_model.specs.declared.calls.LogItem.TheVariants as item
 use Rattle.mw_model.specs.Values.{ElementValue, shape_of_figure}
 use Rattle.mw_model.specs.Refusals.{refusal}
 use Rattle.mw_model.specs.Machine.{with_entry, given_submission}
-use Rattle.mw_stands.specs.Facts.{stored_of}
-use Rattle.mw_stands.specs.Events.{Serves}
-use Rattle.mw_stands.proofs.CallLemmas.{by-two, by-five, serves-refused, serves-element}
+use Rattle.mw_ledger.specs.mw_stands.Facts.{stored_of}
+use Rattle.mw_ledger.specs.mw_stands.Events.{Serves}
+use Rattle.mw_ledger.proofs.mw_stands.CallLemmas.{by-two, by-five, serves-refused, serves-element}
 use Rattle.mw_core.proofs.machine.Core.load_element.Goals as goal
 
 pub returns-in-Err-clause-served : goal.returns-in-Err-clause-served

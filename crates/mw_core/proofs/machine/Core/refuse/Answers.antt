@@ -3,8 +3,8 @@ use Rattle.mw_model.specs.declared.tasks.TaskId.{TaskId}
 use Rattle.mw_model.specs.declared.calls.Outcome.TheVariants as outcome
 use Rattle.mw_model.specs.Refusals.{outcome_at}
 use Rattle.mw_model.specs.Stands.{CoreView}
-use Rattle.mw_stands.specs.TaskEvents.{IsUnderway}
-use Rattle.mw_stands.proofs.TaskLemmas.{kills}
+use Rattle.mw_ledger.specs.mw_stands.TaskEvents.{IsUnderway}
+use Rattle.mw_ledger.proofs.mw_stands.TaskLemmas.{kills}
 use Rattle.mw_ledger.specs.Books.{seen_of}
 use Rattle.mw_core.proofs.machine.Core.refuse.Goals as goal
 

@@ -4,10 +4,10 @@ use Rattle.mw_model.specs.declared.calls.Call.TheVariants as call
 use Rattle.mw_model.specs.declared.calls.Reply.TheVariants as reply
 use Rattle.mw_model.specs.declared.calls.LogItem.TheVariants as item
 use Rattle.mw_model.specs.Refusals.{refusal, ticket, outcome_at}
-use Rattle.mw_store.specs.Stored.{Stored}
-use Rattle.mw_stands.specs.Facts.{stored_of}
-use Rattle.mw_stands.specs.Events.{Serves}
-use Rattle.mw_stands.proofs.CallLemmas.{by-two, serves-refused, serves-release}
+use Rattle.mw_ledger.specs.mw_store.Stored.{Stored}
+use Rattle.mw_ledger.specs.mw_stands.Facts.{stored_of}
+use Rattle.mw_ledger.specs.mw_stands.Events.{Serves}
+use Rattle.mw_ledger.proofs.mw_stands.CallLemmas.{by-two, serves-refused, serves-release}
 use Rattle.mw_core.proofs.machine.Core.release.Goals as goal
 
 pub returns-in-Err-clause-served : goal.returns-in-Err-clause-served

@@ -8,12 +8,12 @@ use Rattle.mw_model.specs.Values.{Value}
 use Rattle.mw_model.specs.Refusals.{refusal}
 use Rattle.mw_model.specs.Machine.{with_entry, run_submission}
 use Rattle.mw_plan.specs.Tables.{AreValuesAt}
-use Rattle.mw_store.specs.Stored.{Stored}
-use Rattle.mw_stands.specs.Facts.{stored_of}
-use Rattle.mw_stands.specs.Limits.{FitsLimits}
-use Rattle.mw_stands.specs.Events.{Serves}
-use Rattle.mw_stands.proofs.CallLemmas.{by-two, by-five, serves-refused}
-use Rattle.mw_stands.proofs.LimitLemmas.{accepted-fits}
+use Rattle.mw_ledger.specs.mw_store.Stored.{Stored}
+use Rattle.mw_ledger.specs.mw_stands.Facts.{stored_of}
+use Rattle.mw_ledger.specs.mw_stands.Limits.{FitsLimits}
+use Rattle.mw_ledger.specs.mw_stands.Events.{Serves}
+use Rattle.mw_ledger.proofs.mw_stands.CallLemmas.{by-two, by-five, serves-refused}
+use Rattle.mw_ledger.proofs.mw_stands.LimitLemmas.{accepted-fits}
 use Rattle.mw_core.proofs.RunLemmas.{serves-no-fault, serves-planned, accepted-fresh, planned-seen, fresh-seen}
 use Rattle.mw_core.proofs.machine.Core.run.Goals as goal
 

@@ -2,10 +2,10 @@ use Rattle.std.proofs.Common.{◌≡◌, ◌%◌, ◌<◌, ◌≤◌, ℕ, lengt
 use Rattle.mw_model.specs.Machine.{Machine}
 use Rattle.mw_model.specs.Stands.{CoreView, StandsFor, ready_count, ready_under}
 use Rattle.mw_task.specs.WindowTasks.{WindowTask}
-use Rattle.mw_stands.specs.Facts.{IsComplete}
-use Rattle.mw_stands.specs.TaskEvents.{Begins, Kills}
-use Rattle.mw_stands.specs.Turns.{IsAt}
-use Rattle.mw_stands.proofs.TaskLemmas.{kills, ready-there}
+use Rattle.mw_ledger.specs.mw_stands.Facts.{IsComplete}
+use Rattle.mw_ledger.specs.mw_stands.TaskEvents.{Begins, Kills}
+use Rattle.mw_ledger.specs.mw_stands.Turns.{IsAt}
+use Rattle.mw_ledger.proofs.mw_stands.TaskLemmas.{kills, ready-there}
 use Rattle.mw_ledger.specs.Books.{Book, seen_of}
 use Rattle.mw_ledger.specs.Tasks.{TakesAt}
 use Rattle.mw_core.proofs.BookLemmas.{counted}

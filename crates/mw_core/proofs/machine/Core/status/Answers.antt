@@ -2,9 +2,9 @@ use Rattle.std.proofs.Common.{◌≡◌, ◌∙◌, ◌++◌, ◌∷◌, [], ap,
 use Rattle.mw_model.specs.declared.calls.Call.TheVariants as call
 use Rattle.mw_model.specs.declared.calls.LogItem.TheVariants as item
 use Rattle.mw_model.specs.Machine.{reply_from}
-use Rattle.mw_stands.specs.Facts.{stored_of}
-use Rattle.mw_stands.specs.Events.{Serves}
-use Rattle.mw_stands.proofs.CallLemmas.{by-two, serves-status}
+use Rattle.mw_ledger.specs.mw_stands.Facts.{stored_of}
+use Rattle.mw_ledger.specs.mw_stands.Events.{Serves}
+use Rattle.mw_ledger.proofs.mw_stands.CallLemmas.{by-two, serves-status}
 use Rattle.mw_core.proofs.machine.Core.status.Goals as goal
 
 pub returns-clause-served : goal.returns-clause-served

@@ -1,10 +1,10 @@
 use Rattle.std.proofs.Common.{◌∷◌, [], ◌++◌, ◌∙◌, Option, List, count_by, subst, sym, ap, arith}
 use Rattle.mw_facts.proofs.Numbers.{one_if-le}
 use Rattle.mw_model.specs.Refusals.{Table, is_pending}
-use Rattle.mw_progress.specs.ProgressView.{ProgressView}
-use Rattle.mw_store.specs.Entries.{submission_of, outcome_of}
-use Rattle.mw_store.specs.Stored.{IsWhole}
-use Rattle.mw_store.proofs.CascadeLemmas.{count-push}
+use Rattle.mw_underway.specs.mw_progress.ProgressView.{ProgressView}
+use Rattle.mw_underway.specs.mw_store.Entries.{submission_of, outcome_of}
+use Rattle.mw_underway.specs.mw_store.Stored.{IsWhole}
+use Rattle.mw_underway.proofs.mw_store.CascadeLemmas.{count-push}
 use Rattle.mw_ledger.specs.Books.{Book, IsOrderly}
 use Rattle.mw_ledger.proofs.OrderLemmas.{CanJoin, joined-orderly}
 use Rattle.mw_ledger.proofs.ledger.Ledger.accept.Goals as goal

@@ -1,7 +1,7 @@
 use Rattle.std.proofs.Common.{◌≡◌, ◌∙◌, ℕ, cond, List, Option, Some, None, length, refl, ap, sym, subst, arith}
 use Rattle.mw_model.specs.Machine.{killed}
 use Rattle.mw_model.specs.Refusals.{Table, is_pending, outcome_at}
-use Rattle.mw_progress.specs.ProgressView.{ProgressView}
+use Rattle.mw_underway.specs.mw_progress.ProgressView.{ProgressView}
 use Rattle.mw_ledger.specs.Books.{Book, IsOrderly, work_at}
 use Rattle.mw_ledger.proofs.OrderLemmas.{follows-orderly, swept-was}
 use Rattle.mw_ledger.proofs.WorkLemmas.{written-back}

@@ -4,7 +4,7 @@ use Rattle.mw_model.specs.declared.tasks.TaskId.{TaskId}
 use Rattle.mw_model.specs.Refusals.{is_pending, outcome_at, shape_at}
 use Rattle.mw_model.specs.Stands.{inputs_of}
 use Rattle.mw_model.specs.Tasks.{remaining_tasks}
-use Rattle.mw_store.specs.Kept.{kept_value}
+use Rattle.mw_underway.specs.mw_store.Kept.{kept_value}
 use Rattle.mw_ledger.specs.Books.{Book, IsOrderly}
 use Rattle.mw_ledger.proofs.SettleLemmas.{back-at, places-at, settles-at}
 use Rattle.mw_ledger.proofs.ledger.Ledger.finish.Goals as goal

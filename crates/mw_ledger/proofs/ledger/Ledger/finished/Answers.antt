@@ -1,6 +1,6 @@
 use Rattle.std.proofs.Common.{◌<◌, ◌∙◌, Option, length, ap, sym, subst, arith}
 use Rattle.mw_model.specs.declared.tasks.TaskId.{TaskId}
-use Rattle.mw_progress.specs.ProgressView.{ProgressView}
+use Rattle.mw_underway.specs.mw_progress.ProgressView.{ProgressView}
 use Rattle.mw_ledger.specs.Books.{Book, IsOrderly, work_at}
 use Rattle.mw_ledger.proofs.OrderLemmas.{with_work, without-orderly}
 use Rattle.mw_ledger.proofs.SettleLemmas.{finished-orderly, finished-plane, finishes-at, fits-at, work-of}

@@ -1,5 +1,5 @@
 use Rattle.std.proofs.Common.{◌↔◌, IsTrue, length, ap, subst, arith}
-use Rattle.mw_stands.specs.TaskEvents.{IsUnderway}
+use Rattle.mw_underway.specs.mw_stands.TaskEvents.{IsUnderway}
 use Rattle.mw_ledger.specs.Books.{Book, seen_of}
 use Rattle.mw_ledger.proofs.WorkLemmas.{found, runs-underway, underway-runs}
 use Rattle.mw_ledger.proofs.ledger.Ledger.is_underway.Goals as goal

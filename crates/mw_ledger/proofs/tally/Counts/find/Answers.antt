@@ -1,6 +1,6 @@
 use Rattle.std.proofs.Common.{◌≡◌, ℕ, ◌∙◌, List, length, sum, take, ap, arith}
 use Rattle.mw_model.specs.Stands.{ready_under}
-use Rattle.mw_stands.specs.Turns.{ready_before}
+use Rattle.mw_underway.specs.mw_stands.Turns.{ready_before}
 use Rattle.mw_ledger.specs.Counts.{Tally}
 use Rattle.mw_ledger.proofs.Rows.{row, row-first}
 use Rattle.mw_ledger.proofs.tally.Counts.find.Goals as goal

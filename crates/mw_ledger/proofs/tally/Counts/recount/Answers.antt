@@ -1,7 +1,7 @@
 use Rattle.std.proofs.Common.{◌≡◌, ℕ, ◌<◌, ◌∙◌, List, length, sum, set, get_or, ap, arith, length-set}
 use Rattle.mw_model.specs.Stands.{ready_under}
-use Rattle.mw_stands.specs.Counts.{running_under}
-use Rattle.mw_stands.proofs.CountLemmas.{sum-more}
+use Rattle.mw_underway.specs.mw_stands.Counts.{running_under}
+use Rattle.mw_underway.proofs.mw_stands.CountLemmas.{sum-more}
 use Rattle.mw_ledger.specs.Books.{seen_of}
 use Rattle.mw_ledger.proofs.Rows.{row, row-is, row-next}
 use Rattle.mw_ledger.proofs.tally.Counts.recount.Goals as goal

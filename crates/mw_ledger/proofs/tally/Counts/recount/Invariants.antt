@@ -1,6 +1,6 @@
 use Rattle.std.proofs.Common.{◌≡◌, ℕ, ◌*◌, ◌<◌, ◌≤◌, length, sum, get_or}
 use Rattle.mw_model.specs.Stands.{ready_under}
-use Rattle.mw_stands.specs.Counts.{running_under}
+use Rattle.mw_underway.specs.mw_stands.Counts.{running_under}
 use Rattle.mw_ledger.specs.Books.{seen_of}
 use Rattle.mw_ledger.proofs.Rows.{row}
 use Rattle.mw_ledger.proofs.tally.Counts.recount.Given as goal
