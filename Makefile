@@ -19,6 +19,7 @@ compiler:
 
 test: toolchain python
 	@python3 -B checks/no_leaks.py
+	@python3 -B checks/laid_out.py
 	rt ci
 
 # Proves and builds the program, as wide as the machine allows, and runs it once on its stored session.

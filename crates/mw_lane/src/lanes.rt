@@ -45,12 +45,12 @@ pub trait Lanes: Pixel {
         requires paired { length b.now ≡ 64 }
         ensures { IsTrue result ↔ (a.now ≡ b.now) }
     {
+        // without an early end, which would keep it from being vector code
+        let mut same = true;
         for i in 0..a.len() {
-            if !Self::is_same(a[i], b[i]) {
-                return false;
-            }
+            same = same & Self::is_same(a[i], b[i]);
         }
-        true
+        same
     }
 
     ghost level_of_difference: { (a b : Self) → Self.level (difference a b) ≡ Self.level a - Self.level b };
