@@ -30,5 +30,10 @@ count_by-same p q n each = same_from 0 n (λ t from to. each t (omega (arith, to
     same_from a zero same = refl
     same_from a (suc n) same =
         let here : ◌≡◌ {A = ℕ} (cond (p a) 1 0) (cond (q a) 1 0) = rw (same a (omega arith) (omega arith)) refl in
-        omega (arith, sum_by-cons (λ x. cond (p x) 1 0) a (range_with_len (a + 1) n), sum_by-cons (λ x. cond (q x) 1 0) a (range_with_len (a + 1) n), here,
-        same_from (a + 1) n (λ t from to. same t (omega (arith, from)) (omega (arith, to))))
+        omega (
+          arith,
+          sum_by-cons (λ x. cond (p x) 1 0) a (range_with_len (a + 1) n),
+          sum_by-cons (λ x. cond (q x) 1 0) a (range_with_len (a + 1) n),
+          here,
+          same_from (a + 1) n (λ t from to. same t (omega (arith, from)) (omega (arith, to))),
+        )
