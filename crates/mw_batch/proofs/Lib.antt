@@ -1,1 +1,2 @@
-pub mod Served
+-- the crate's own
+mod Served

@@ -1,15 +1,10 @@
 -- What a batch leaves behind, from what its session ran.
 use Rattle.std.proofs.Common.{◌≡◌, ◌≤◌, ℕ, Bool, true, List, [], Option, Result, Ok, Err, refl, ap, subst, inl, inr}
-use Rattle.std.specs.Prelude.{map, sum, length, OnOk, OnErr}
-use Rattle.std.specs.List.{range_with_len}
-use Rattle.std.specs.Option.{option_map_or}
+use Rattle.std.specs.Prelude.{OnOk, OnErr}
 use Rattle.mw_model.specs.declared.calls.LogItem.{LogItem}
 use Rattle.mw_model.specs.declared.requests.End.{End}
 use Rattle.mw_model.specs.Machine.{start_state}
-use Rattle.mw_model.specs.Refusals.{Table}
-use Rattle.mw_model.specs.Stands.{CoreView, StandsFor, progress_at, running_count}
-use Rattle.mw_model.specs.Tasks.{running_tasks}
-use Rattle.mw_wire.specs.Faults.{fault_line}
+use Rattle.mw_model.specs.Stands.{CoreView}
 use Rattle.mw_wire.specs.Writes.{Wrote}
 use Rattle.mw_wire.specs.declared.fault.SessionFault.{SessionFault}
 use Rattle.mw_wire.specs.declared.fault.SessionFault.TheVariants as fault
@@ -22,10 +17,6 @@ use Rattle.mw_batch.specs.Batches.{Ends, Served, HasFailed, TellsLine, TellsOutc
 abbrev pub ends-of : Option (List ℕ) → ℕ → Bool → Option (List ℕ) → Bool → Option (List ℕ) → Bool → Ends
 ends-of left reads read_failed written write_failed told tell_failed =
     record { left = left; reads = reads; read_failed = read_failed; written = written; write_failed = write_failed; told = told; tell_failed = tell_failed }
-
--- no task is running in a new core
-pub idle-start : (c : CoreView) → StandsFor c start_state → running_count c ≡ 0
-idle-start c s = ap (λ (w : Table). sum (map (λ t. option_map_or running_tasks (progress_at c.work t) 0) (range_with_len 0 (length w.names)))) s.table
 
 -- a line that was sent is told
 pub told-line : {E : Type 0} (old new : Ends) (line : List ℕ) (r : Result (Unit {0}) E) → Wrote old.told new.told line r → OnOk r (new.tell_failed ≡ old.tell_failed) → (A : Type 0) → OnErr r (A × (new.tell_failed ≡ true)) → TellsLine old new line

@@ -1,6 +1,7 @@
 -- Bits of lists of words.
 use Rattle.std.proofs.Common.{◌≡◌, ℕ, zero, suc, ◌+◌, ◌*◌, ◌/◌, ◌%◌, ◌<◌, ◌≤◌, List, length, take, drop, get_or, ap, sym, arith, ◌∙◌, inl, inr, length-take}
 use Rattle.std.specs.Int.{bit_at}
+use Rattle.std.specs.Prelude.{All}
 use Rattle.std.proofs.lemmas.Bool.{cases_lt}
 use Rattle.std.proofs.lemmas.List.{get_or-take, get_or-drop, get_or_past}
 use Rattle.std.proofs.lemmas.List.FromFn.{get_or-map-range_with_len, fill_by_all, length-map-range_with_len}
@@ -48,6 +49,16 @@ sample_is_bit width height words x y lt row_lt =
 pub length-samples_of : (width height : ℕ) (words : List ℕ) → length (samples_of width height words) ≡ height * width
 unfolding samples_of
 length-samples_of width height words = length-map-range_with_len (λ (i : ℕ). bit_of words (i / width * (64 * stride_of width) + i % width)) 0 (height * width)
+
+-- no sample of a set is over 1
+pub samples_small : (width height : ℕ) (words cells : List ℕ) → cells ≡ samples_of width height words → All (λ s. s ≤ 1) cells
+unfolding samples_of
+samples_small width height words cells cells-is k d lt =
+    let inside : k < height * width = omega (arith, ap length cells-is, length-samples_of width height words) in
+    let place = k / width * (64 * stride_of width) + k % width in
+    let is : get_or cells k d ≡ bit_of words place =
+    ap (λ (t : List ℕ). get_or t k d) cells-is ∙ get_or-map-range_with_len (λ (i : ℕ). bit_of words (i / width * (64 * stride_of width) + i % width)) 0 (height * width) k k d inside (omega arith) in
+    omega (arith, is, bit_of-lt words place)
 
 pub some_width : (k h w : ℕ) → k < h * w → 0 < w
 some_width k h zero lt = absurd (omega arith)

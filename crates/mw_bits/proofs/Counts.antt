@@ -1,13 +1,13 @@
 -- How many bits are set.
-use Rattle.std.proofs.Common.{◌≡◌, ℕ, zero, suc, ◌+◌, ◌-◌, ◌*◌, ◌/◌, ◌%◌, ◌^◌, ◌<◌, ◌≤◌, List, length, take, drop, get_or, map, sum, refl, ap, sym, arith, ◌∙◌, length-drop}
+use Rattle.std.proofs.Common.{◌≡◌, ℕ, zero, suc, ◌+◌, ◌-◌, ◌*◌, ◌/◌, ◌%◌, ◌^◌, ◌<◌, ◌≤◌, List, length, take, drop, get_or, map, sum, refl, ap, sym, arith, ◌∙◌, length-drop, add-zero, zero-add}
 use Rattle.std.specs.Int.{bit_at}
 use Rattle.std.specs.List.{range_with_len}
 use Rattle.std.proofs.Math.Seq.{take-add}
 use Rattle.std.proofs.lemmas.List.{take_all, take_more, get_or-drop}
-use Rattle.std.proofs.lemmas.List.FromFn.{map-range_with_len_more}
 use Rattle.std.proofs.lemmas.List.Sums.{sum_by-append, sum_by-cons, sum_by_push}
 use Rattle.std.proofs.lemmas.Nat.{ones_cat, div-mul-add, mod-mul-add}
 use Rattle.std.proofs.lemmas.Nat.Bits.{bit_at_lowest, bit_at-suc}
+use Rattle.mw_facts.proofs.Numbers.{add_one-add}
 use Rattle.mw_line.proofs.Rows.{rows_fit}
 use Rattle.mw_bits.specs.Packed.{bit_of, stride_of, samples_of, bits_in, IsPacked}
 use Rattle.mw_bits.proofs.Bits.{bit_of_word}
@@ -20,20 +20,14 @@ over_range f a n = sum (map f (range_with_len a n))
 over_first : (f : ℕ → ℕ) (a n : ℕ) → over_range f a (suc n) ≡ f a + over_range f (a + 1) n
 over_first f a n = sum_by-cons (λ x. x) (f a) (map f (range_with_len (a + 1) n))
 
-over_last : (f : ℕ → ℕ) (a n : ℕ) → over_range f a (n + 1) ≡ over_range f a n + f (a + n)
-over_last f a n = ap sum (map-range_with_len_more f a n (a + n) refl) ∙ sum_by_push (λ x. x) (map f (range_with_len a n)) (f (a + n))
-
 -- values that are equal place by place
 over_same : (f g : ℕ → ℕ) (a b n : ℕ) → ((i : ℕ) → i < n → f (a + i) ≡ g (b + i)) → over_range f a n ≡ over_range g b n
 over_same f g a b zero same = refl
 over_same f g a b (suc n) same =
-    let first : f a ≡ g b = ap f (sym (none a)) ∙ same 0 (omega arith) ∙ ap g (none b) in
+    let first : f a ≡ g b = ap f (sym (add-zero a)) ∙ same 0 (omega arith) ∙ ap g (add-zero b) in
     let rest = over_same f g (a + 1) (b + 1) n (λ i lt. ap f (next a i) ∙ same (i + 1) (omega arith) ∙ ap g (sym (next b i))) in
     over_first f a n ∙ ap (λ (t : ℕ). t + over_range f (a + 1) n) first ∙ ap (λ (t : ℕ). g b + t) rest ∙ sym (over_first g b n)
   where
-    none : (a : ℕ) → a + 0 ≡ a
-    none a = omega arith
-
     next : (a i : ℕ) → a + 1 + i ≡ a + (i + 1)
     next a i = omega arith
 
@@ -42,29 +36,20 @@ over_none f a zero none = refl
 over_none f a (suc n) none = let here = none a (omega arith) (omega arith) in let rest = over_none f (a + 1) n (λ i from to. none i (omega arith) (omega arith)) in let e = over_first f a n in omega arith
 
 over_parts : (f : ℕ → ℕ) (a m n : ℕ) → over_range f a (m + n) ≡ over_range f a m + over_range f (a + m) n
-over_parts f a zero n = ap (over_range f a) (front n) ∙ ap (λ (t : ℕ). over_range f t n) (here a) ∙ sym (front (over_range f (a + 0) n))
-  where
-    here : (a : ℕ) → a ≡ a + 0
-    here a = omega arith
-
-    front : (n : ℕ) → 0 + n ≡ n
-    front n = omega arith
+over_parts f a zero n = ap (over_range f a) (zero-add n) ∙ ap (λ (t : ℕ). over_range f t n) (sym (add-zero a)) ∙ sym (zero-add (over_range f (a + 0) n))
 over_parts f a (suc m) n =
     ap (over_range f a) (up m n)
     ∙ over_first f a (m + n)
     ∙ ap (λ (t : ℕ). f a + t) (over_parts f (a + 1) m n)
     ∙ regroup (f a) (over_range f (a + 1) m) (over_range f (a + 1 + m) n)
     ∙ ap (λ (t : ℕ). t + over_range f (a + 1 + m) n) (sym (over_first f a m))
-    ∙ ap (λ (t : ℕ). over_range f a (suc m) + over_range f t n) (place a m)
+    ∙ ap (λ (t : ℕ). over_range f a (suc m) + over_range f t n) (add_one-add a m)
   where
     up : (m n : ℕ) → suc m + n ≡ suc (m + n)
     up m n = omega arith
 
     regroup : (a b c : ℕ) → a + (b + c) ≡ a + b + c
     regroup a b c = omega arith
-
-    place : (a m : ℕ) → a + 1 + m ≡ a + suc m
-    place a m = omega arith
 
 -- the set bits of a number, one by one
 ones_by_bits : (k n : ℕ) → n < 2 ^ k → ones n ≡ over_range (bit_at n) 0 k
@@ -77,7 +62,7 @@ ones_by_bits (suc k) n few =
     ∙ ones_cat 1 (n / 2) (n % 2) (omega arith)
     ∙ ap (λ (t : ℕ). t + ones (n % 2)) (ones_by_bits k (n / 2) half)
     ∙ ap (λ (t : ℕ). over_range (bit_at (n / 2)) 0 k + t) (lowest (n % 2) (omega arith) ∙ sym (bit_at_lowest n))
-    ∙ ap (λ (t : ℕ). t + bit_at n 0) (over_same (bit_at (n / 2)) (bit_at n) 0 1 k (λ i lt. ap (bit_at (n / 2)) (front i) ∙ sym (bit_at-suc n i) ∙ ap (bit_at n) (up i)))
+    ∙ ap (λ (t : ℕ). t + bit_at n 0) (over_same (bit_at (n / 2)) (bit_at n) 0 1 k (λ i lt. ap (bit_at (n / 2)) (zero-add i) ∙ sym (bit_at-suc n i) ∙ ap (bit_at n) (up i)))
     ∙ turn (over_range (bit_at n) 1 k) (bit_at n 0)
     ∙ sym (over_first (bit_at n) 0 k)
   where
@@ -85,9 +70,6 @@ ones_by_bits (suc k) n few =
     lowest zero less = refl
     lowest (suc zero) less = refl
     lowest (suc (suc b)) less = absurd (omega arith)
-
-    front : (i : ℕ) → 0 + i ≡ i
-    front i = omega arith
 
     up : (i : ℕ) → suc i ≡ 1 + i
     up i = omega arith
@@ -110,12 +92,9 @@ bits_in_part words fits a (suc m) room =
     ∙ ap (λ (t : ℕ). over_range (bit_of words) (64 * a) (64 * m) + t)
     (ap ones (get_or-drop a words m 0)
     ∙ ones_by_bits 64 (get_or words (a + m) 0) (fits (a + m))
-    ∙ over_same (bit_at (get_or words (a + m) 0)) (bit_of words) 0 (64 * a + 64 * m) 64 (λ i lt. ap (bit_at (get_or words (a + m) 0)) (front i) ∙ sym (bit_of_word words (a + m) i (64 * a + 64 * m + i) lt (omega arith))))
+    ∙ over_same (bit_at (get_or words (a + m) 0)) (bit_of words) 0 (64 * a + 64 * m) 64 (λ i lt. ap (bit_at (get_or words (a + m) 0)) (zero-add i) ∙ sym (bit_of_word words (a + m) i (64 * a + 64 * m + i) lt (omega arith))))
     ∙ sym (over_parts (bit_of words) (64 * a) (64 * m) 64)
     ∙ ap (over_range (bit_of words) (64 * a)) (sym wide)
-  where
-    front : (i : ℕ) → 0 + i ≡ i
-    front i = omega arith
 
 -- the sample at a place
 abbrev sample_at : ℕ → List ℕ → ℕ → ℕ

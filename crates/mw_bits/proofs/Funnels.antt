@@ -1,5 +1,5 @@
 -- Bits of words that are shifted.
-use Rattle.std.proofs.Common.{◌≡◌, ℕ, ◌+◌, ◌-◌, ◌*◌, ◌/◌, ◌%◌, ◌^◌, ◌<◌, ◌≤◌, max, bit_or, List, get_or, ap, sym, arith, ◌∙◌, inl, inr}
+use Rattle.std.proofs.Common.{◌≡◌, ℕ, ◌+◌, ◌-◌, ◌*◌, ◌/◌, ◌%◌, ◌^◌, ◌<◌, ◌≤◌, max, bit_or, List, get_or, ap, sym, arith, ◌∙◌, inl, inr, add-zero}
 use Rattle.std.specs.Int.{bit_at}
 use Rattle.std.proofs.lemmas.Bool.{cases_lt}
 use Rattle.mw_bits.specs.Packed.{bit_of}
@@ -11,14 +11,11 @@ use Rattle.std.proofs.lemmas.Nat.Bits.{bit_at_or, bit_at-zero, bit_at_above, bit
 kept_bit : (n i : ℕ) → i < 64 → bit_at (n % 2 ^ 64) i ≡ bit_at n i
 kept_bit n i lt = sym (bit_at_cat_low (n / 2 ^ 64) 64 (n % 2 ^ 64) i lt) ∙ ap (λ (t : ℕ). bit_at t i) (div-add-mod' n (2 ^ 64))
 
-more : (n : ℕ) → n ≡ n + 0
-more n = omega arith
-
 pub shl_low : (n k i : ℕ) → i < k → i < 64 → bit_at (n * 2 ^ k % 2 ^ 64) i ≡ 0
-shl_low n k i low lt = kept_bit (n * 2 ^ k) i lt ∙ ap (λ (t : ℕ). bit_at t i) (more (n * 2 ^ k)) ∙ bit_at_cat_low n k 0 i low ∙ bit_at-zero i
+shl_low n k i low lt = kept_bit (n * 2 ^ k) i lt ∙ ap (λ (t : ℕ). bit_at t i) (sym (add-zero (n * 2 ^ k))) ∙ bit_at_cat_low n k 0 i low ∙ bit_at-zero i
 
 pub shl_high : (n k i : ℕ) → k ≤ i → i < 64 → bit_at (n * 2 ^ k % 2 ^ 64) i ≡ bit_at n (i - k)
-shl_high n k i high lt = kept_bit (n * 2 ^ k) i lt ∙ ap (λ (t : ℕ). bit_at t i) (more (n * 2 ^ k)) ∙ bit_at_cat_high n k 0 i (pow_pos k) high
+shl_high n k i high lt = kept_bit (n * 2 ^ k) i lt ∙ ap (λ (t : ℕ). bit_at t i) (sym (add-zero (n * 2 ^ k))) ∙ bit_at_cat_high n k 0 i (pow_pos k) high
 
 -- two shifts that are one
 twice_shifted : (n s : ℕ) → s < 64 → (n * 2 ^ 1 % 2 ^ 64) * 2 ^ (63 - s) % 2 ^ 64 ≡ n * 2 ^ (64 - s) % 2 ^ 64

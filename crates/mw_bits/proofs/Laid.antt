@@ -4,15 +4,16 @@ use Rattle.std.specs.List.{AllByRecursion}
 use Rattle.std.proofs.lemmas.Int.{ints}
 use Rattle.std.proofs.lemmas.List.{get_or_past}
 use Rattle.std.proofs.lemmas.List.FromFn.{get_or-map-range_with_len, length-map-range_with_len}
+use Rattle.mw_facts.proofs.Alls.{all-weaker}
 use Rattle.mw_model.specs.Places.{nonnegative}
+use Rattle.mw_model.proofs.Nonnegative.{nonnegative_is}
 use Rattle.mw_line.specs.Extrema.{strided}
 use Rattle.mw_line.proofs.Folds.{IsExtremum}
-use Rattle.mw_line.proofs.Joined.{Taken, joined, taken_within, taken_fits}
-use Rattle.mw_line.proofs.Padded.{nonnegative_is}
+use Rattle.mw_line.proofs.Joined.{Taken, strided-joined, taken_within, taken_fits}
 use Rattle.mw_run.specs.declared.runs.Run.{Run}
 use Rattle.mw_run.specs.declared.runs.Extent.{Extent}
 use Rattle.mw_run.specs.Runs.{IsInside, IsWider}
-use Rattle.mw_run.proofs.RunLists.{all_weaker, inside_wider}
+use Rattle.mw_run.proofs.RunLists.{inside_wider}
 use Rattle.mw_bits.specs.Packed.{bit_of}
 use Rattle.mw_bits.specs.Layouts.{laid_bits, IsNear}
 
@@ -46,10 +47,10 @@ count_of_inside e columns columns-is r inside =
     omega (arith, ints)
 
 pub counts_of_inside : (e : Extent) (columns : ℕ) (runs : List Run) → columns ≡ nonnegative (e.right -ℤ e.left) → AllByRecursion (IsInside e) runs → AllByRecursion (λ (r : Run). r.count ≤ columns + 1) runs
-counts_of_inside e columns runs columns-is all = all_weaker (IsInside e) (λ (r : Run). r.count ≤ columns + 1) runs (count_of_inside e columns columns-is) all
+counts_of_inside e columns runs columns-is all = all-weaker (IsInside e) (λ (r : Run). r.count ≤ columns + 1) runs (count_of_inside e columns columns-is) all
 
 pub all_inside_wider : (e o : Extent) (runs : List Run) → IsWider e o → AllByRecursion (IsInside o) runs → AllByRecursion (IsInside e) runs
-all_inside_wider e o runs wider all = all_weaker (IsInside o) (IsInside e) runs (inside_wider e o wider) all
+all_inside_wider e o runs wider all = all-weaker (IsInside o) (IsInside e) runs (inside_wider e o wider) all
 
 pub columns_few : (e : Extent) (columns : ℕ) → columns ≡ nonnegative (e.right -ℤ e.left) → IsNear e → columns ≤ 1023
 columns_few e columns columns-is near =
@@ -90,7 +91,7 @@ slid_more f laws old now made s k taken left j shift rest more same size before 
           laid_shifted f now made shift rest size (omega arith) made-is p d lt
           ∙ ap (λ (t : _). f t (get_or (laid_bits now) (p + shift) d)) (before.done p d (omega arith))
           ∙ ap (f (strided f (laid_bits old) d s (taken - 1) p)) (before.done (p + shift) d (omega arith) ∙ ap (λ (t : ℕ). strided f (laid_bits old) d s (taken - 1) (p + t)) shift-is)
-          ∙ joined f laws (laid_bits old) d s j (taken - 1) (taken - 1) p (omega (arith, before.positive)) (omega arith)
+          ∙ strided-joined f laws (laid_bits old) d s j (taken - 1) (taken - 1) p (omega (arith, before.positive)) (omega arith)
           ∙ ap (λ (t : ℕ). strided f (laid_bits old) d s t p) (count_on before.positive);
       past = λ p d far. get_or_past (laid_bits made) p d (omega arith) ∙ sym (get_or_past (laid_bits old) p d (omega arith));
     }

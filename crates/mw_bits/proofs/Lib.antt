@@ -1,10 +1,11 @@
-pub mod Bits
-pub mod Done
-pub mod Packs
-pub mod Counts
-pub mod Funnels
-pub mod Paddings
-pub mod Trims
-pub mod Laid
-pub mod SlidBoxes
-pub mod Pairings
+-- the crate's own
+mod Bits
+mod Done
+mod Packs
+mod Counts
+mod Funnels
+mod Paddings
+mod Trims
+mod Laid
+mod SlidBoxes
+mod Pairings

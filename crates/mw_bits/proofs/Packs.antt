@@ -9,15 +9,13 @@ use Rattle.std.proofs.lemmas.Nat.{shr-shr, one_shl, pow_pos, div-add-mod', div_b
 use Rattle.std.proofs.lemmas.Nat.Bits.{bit_at_and, bit_at_ones, bit_at-lt, and_pow}
 use Rattle.std.proofs.lemmas.Simd.{bitmask_splat, bit_mask_l, get_or-replicate}
 use Rattle.mw_facts.proofs.Parts.{get_or-put_mid_below as put_mid_below, get_or-put_mid_within as put_mid_at, get_or-put_mid_above as put_mid_above}
+use Rattle.mw_facts.proofs.Numbers.{one_if-not_zero}
 use Rattle.mw_line.proofs.Rows.{RowsMade}
 use Rattle.mw_bits.specs.Packed.{stride_of, samples_of, IsPacked}
 use Rattle.mw_bits.proofs.Bits.{samples_are_bits, some_width}
 use Rattle.mw_bits.proofs.Done.{BitRowsDone}
 use borrow.Rule.Slice.PartMut.{put_mid}
 use lib.Lanes.{zip2, mask_l, top}
-
-is_itself : (n : ℕ) → n ≤ 1 → cond (not (eqb n 0)) 1 0 ≡ n
-is_itself n le = grind (arith, nat_tests)
 
 -- the mask of 64 bytes that are 0 or 1
 pub mask_bit : (bytes : List ℕ) (i : ℕ) → length bytes ≡ 64 → i < 64 → get_or bytes i 0 ≤ 1
@@ -27,7 +25,7 @@ mask_bit bytes i size lt small =
     ∙ ap (λ (t : ℕ). bit_at t i) (bitmask_splat w8 (λ (a b : ℕ). not (eqb a b)) bytes 64 0 size (omega arith))
     ∙ bit_mask_l (map (λ (a : ℕ). not (eqb a 0)) bytes) i
     ∙ ap (λ (t : _). cond t 1 0) (get_or-map (λ (a : ℕ). not (eqb a 0)) bytes i 0 false (omega arith))
-    ∙ is_itself (get_or bytes i 0) small
+    ∙ one_if-not_zero (get_or bytes i 0) small
 
 -- a bit of a byte of a word
 pub bit_of_byte : (word j b : ℕ) → b < 8 → bit_at (bit_and (word / 2 ^ (8 * j)) 255) b ≡ bit_at word (8 * j + b)

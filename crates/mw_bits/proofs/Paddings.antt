@@ -8,7 +8,7 @@ use Rattle.std.proofs.lemmas.Option.{slice_get-get_or}
 use Rattle.mw_model.specs.Rasters.{raster, cell_at}
 use Rattle.mw_lane.specs.Shifted.{merge_at}
 use Rattle.mw_line.proofs.Rows.{rows_fit}
-use Rattle.mw_bits.specs.Packed.{bit_of, stride_of}
+use Rattle.mw_bits.specs.Packed.{bit_of}
 use Rattle.mw_bits.specs.Layouts.{pixel_at, words_before}
 use Rattle.mw_bits.proofs.Bits.{bit_of_word, bit_of-lt}
 use Rattle.mw_bits.proofs.Funnels.{shl_low, shl_high, IsFunnel}
@@ -47,12 +47,6 @@ merge_padded f n laws row width best (pos x) small = elim (cases_lt x width) [
       rw (lt-ltb x width inside) (ap (f best) (laws.changes_none (bit_of row x) (omega arith)))
   | inr past ↦ rw (le-ltb x width past) (laws.commutes best n ∙ laws.changes_none best small)
 ]
-
--- a word before or behind the row
-pub word_outside : (f : ℕ → ℕ → ℕ) (n : ℕ) (row : List ℕ) (width at word : ℕ) → ((i : ℕ) → i < 64 → bit_at word i ≡ n) → (at < words_before) ⊎ (words_before + stride_of width ≤ at)
-    → (i : ℕ) → i < 64 → bit_at word i ≡ padded_at f n row width (pos (64 * at + i) -ℤ pos (64 * words_before))
-word_outside f n row width at word word-is (inl before) i lt = word-is i lt ∙ sym (padded_outside f n row width (pos (64 * at + i) -ℤ pos (64 * words_before)) (inl (omega (arith, ints))))
-word_outside f n row width at word word-is (inr behind) i lt = word-is i lt ∙ sym (padded_outside f n row width (pos (64 * at + i) -ℤ pos (64 * words_before)) (inr (omega (arith, ints))))
 
 -- a word of the row
 pub word_inside : (f : ℕ → ℕ → ℕ) (n : ℕ) → IsNeutral f n → (row : List ℕ) (width at k : ℕ) → at ≡ words_before + k → 64 * k + 64 ≤ width → (i : ℕ) → i < 64

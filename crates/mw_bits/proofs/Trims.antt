@@ -17,10 +17,6 @@ cut_inside width row x lt = rw (lt-ltb x width lt) refl
 pub cut_outside : (width : ℕ) (row : List ℕ) (x : ℕ) → width ≤ x → cut_at width row x ≡ 0
 cut_outside width row x past = rw (le-ltb x width past) refl
 
--- whole words need no cut
-pub trim_none : (width : ℕ) (row : List ℕ) (x : ℕ) → width % 64 ≡ 0 → x < 64 * stride_of width → bit_of row x ≡ cut_at width row x
-trim_none width row x whole lt = let inside : x < width = omega arith in sym (cut_inside width row x inside)
-
 low_bits : (word rest b mask : ℕ) → mask ≡ 2 ^ rest - 1 → b < rest → bit_at (bit_and word mask) b ≡ bit_at word b
 low_bits word rest b mask mask-is lt =
     bit_at_and word mask b

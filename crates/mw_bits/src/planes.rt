@@ -1,5 +1,5 @@
 //! Windows of sets as words, and words as planes.
-ghost use Rattle.std.specs.Prelude.{◌≡◌, ℕ, ◌*◌, ◌+◌, ◌<◌, ◌≤◌, length, slice_index, vec_len, IfOk};
+ghost use Rattle.std.specs.Prelude.{◌≡◌, ℕ, ◌*◌, ◌+◌, ◌<◌, ◌≤◌, length, slice_index, vec_len, All, IfOk};
 ghost use Rattle.mw_model.specs.Rasters.{raster};
 ghost use Rattle.mw_bits.specs.Packed.{bit_of, stride_of, IsPacked, samples_of};
 
@@ -53,9 +53,11 @@ impl Words {
 
     /// The samples of the rectangle, one a pixel.
     pub fn to_plane(&self, alloc: Global) -> Result<Plane<Bit>, NoMemory>
-        ensures { IfOk result (λ p. p ≡ raster self.now.place.width self.now.place.height self.now.cells) }
+        ensures value { IfOk result (λ p. p ≡ raster self.now.place.width self.now.place.height self.now.cells) }
+        ensures small { IfOk result (λ p. All (λ s. s ≤ 1) p.cells) }
     {
         let place = self.place();
+        let _words = self.words();
         let mut line = copies(alloc, 64 * stride(place.width), Bit::new(false))?;
         let samples = unpack_rows(alloc, self, line.as_mut_slice())?;
         Ok(Plane::new(place.width, place.height, samples))

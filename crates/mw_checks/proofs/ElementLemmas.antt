@@ -1,15 +1,8 @@
 -- Elements without offsets.
-use Rattle.std.proofs.Common.{◌≡◌, false, List, [], ◌∷◌, Option, Some, None, refl}
+use Rattle.std.proofs.Common.{◌≡◌, [], Option, Some, None, refl}
 use Rattle.std.specs.Prelude.{unwrap_or}
-use Rattle.mw_model.specs.declared.places.Offset.{Offset}
-use Rattle.mw_model.specs.Elements.{overlaps}
 use Rattle.mw_model.specs.Values.{Value, ImageValue, ElementValue, CurveValue, offsets_of}
 use Rattle.mw_store.specs.Kept.{figure_in}
-
--- no offset is shared with an element that has none
-pub overlaps-none : (first : List Offset) → overlaps first [] ≡ false
-overlaps-none [] = refl
-overlaps-none (a ∷ first) = overlaps-none first
 
 -- where no element stands there are no offsets
 pub no-offsets : (v : Option Value) → figure_in v ≡ None → unwrap_or (offsets_of v) [] ≡ []

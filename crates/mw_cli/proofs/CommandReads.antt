@@ -11,7 +11,7 @@ use Rattle.clap.specs.declared.parser.matches.SubCommand.{SubCommand}
 use Rattle.std.specs.Box.{box_value}
 use Rattle.clap.specs.declared.builder.command.Command.{Command}
 use Rattle.clap.specs.declared.builder.command.Command.TheViews.{out-Command as fields_of}
-use Rattle.mw_cli.specs.CommandLine.{AreListens, AreTaken, AsksNoCrew, AsksWorkers, Faults, HasNoGlobals, IsCrew, IsRefused, IsTileSide, IsUpTo, Reads, Writes, WritesNone, WritesNoSide, program_words, text_in, usual_workers}
+use Rattle.mw_cli.specs.CommandLine.{AreListens, AreTaken, AsksNoCrew, AsksWorkers, Faults, HasNoGlobals, IsCrew, IsRefused, IsUpTo, Reads, Writes, WritesNone, program_words, text_in, usual_workers}
 use Rattle.mw_cli.specs.declared.fault.LineFault.{LineFault}
 use Rattle.mw_cli.specs.declared.fault.LineFault.TheVariants as fault
 
@@ -20,9 +20,6 @@ about_keeps_words old new text e = ap app_of_fields e
 
 pub about_has_no_globals : (old new : Command) (text : _) → fields_of new ≡ record (fields_of old) { about = text } → HasNoGlobals old → HasNoGlobals new
 about_has_no_globals old new text e own = ap (λ f. f.has_globals) e ∙ own
-
-pub after_help_keeps_words : (old new : Command) (text : _) → fields_of new ≡ record (fields_of old) { after_help = text } → app_of new ≡ app_of old
-after_help_keeps_words old new text e = ap app_of_fields e
 
 -- the rows of the job alone count
 pub text_in-rows : (id : Text) (job : Option (Text × List Row)) (rows : Option (List Row)) → rows ≡ option_map (λ p. p.1) job
@@ -51,16 +48,6 @@ tried_is_read E gives parses (Some t) (Err x) none value =
 pub one_number : (text : Option Text) (m n : ℕ) → Writes text m → Writes text n → m ≡ n
 one_number None m n v w = absurd v
 one_number (Some t) m n v w = v.2 ∙ sym w.2
-
-pub none_other : (text : Option Text) (m : ℕ) → Writes text m → (IsTileSide m → ⊥) → WritesNoSide text
-none_other text m v bad n w ok = bad (subst IsTileSide (sym (one_number text m n v w)) ok)
-
-pub unread_is_no_side : (E : Type 0) (text : Option Text) (x : E) → Reads text (Err x) → WritesNoSide text
-unread_is_no_side E text x h side w ok = h.1 side w
-
-pub missing_is_no_side : (text : Option Text) → text ≡ None → WritesNoSide text
-missing_is_no_side None e side w ok = w
-missing_is_no_side (Some t) e side w ok = cc
 
 pub asks_usual : (processors : ℕ) (text : Option Text) (n : ℕ) → text ≡ None → n ≡ usual_workers processors → AsksWorkers processors text n
 asks_usual processors None n e is = is

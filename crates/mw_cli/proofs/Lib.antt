@@ -1,1 +1,2 @@
+-- the crate's own
 mod CommandReads

@@ -1,6 +1,6 @@
 -- What a FETCH hands out is the value of the ticket.
-use Rattle.std.proofs.Common.{◌≡◌, ◌≢◌, ◌↔◌, ℕ, ◌<◌, Bool, true, false, List, Option, Some, None, IsSome, length, refl, sym, ap, ◌∙◌, subst}
-use Rattle.std.specs.Prelude.{option_map, is_some, ◌||◌, ◌&&◌}
+use Rattle.std.proofs.Common.{◌≡◌, ◌↔◌, ℕ, ◌<◌, false, Option, Some, None, IsSome, length, refl, sym, ap, ◌∙◌, subst}
+use Rattle.std.specs.Prelude.{option_map}
 use Rattle.mw_model.specs.declared.names.Name.{Name}
 use Rattle.mw_model.specs.declared.shapes.Shape.{Shape}
 use Rattle.mw_model.specs.declared.codes.Code.{Code}
@@ -11,9 +11,9 @@ use Rattle.mw_model.specs.declared.calls.Call.TheVariants as call
 use Rattle.mw_model.specs.declared.calls.Reply.{Reply}
 use Rattle.mw_model.specs.declared.calls.Reply.TheVariants as reply
 use Rattle.mw_model.specs.Values.{Value, ImageValue, ElementValue, CurveValue, value_at, shape_of_figure}
-use Rattle.mw_model.specs.Refusals.{Table, ticket, ticket_of, outcome_at, shape_at, is_element, is_done, is_released, is_there, when, refusal}
+use Rattle.mw_model.specs.Refusals.{Table, ticket, ticket_of, outcome_at, shape_at, is_element, when, refusal}
 use Rattle.mw_model.specs.Machine.{Machine, values, answer, fetch_reply, refused_or, reply_to, reply_from}
-use Rattle.mw_model.specs.Stands.{CoreView, StandsFor, is_wanted}
+use Rattle.mw_model.specs.Stands.{CoreView, StandsFor}
 use Rattle.mw_laws.specs.MachineLaws.{shape_of_value}
 use Rattle.mw_laws.proofs.RunTables.{is_known, ticket_is, ticket_within, when_so}
 use Rattle.mw_ledger.specs.mw_stands.Events.{handed_out}
@@ -118,30 +118,3 @@ pub fetched-shown : (c : CoreView) (m : Machine) (n : Name) (r : Reply) (v : Sho
 fetched-shown c m n r v s told is = shown-by-reply c m n r v s (told ∙ stands-reply c m (call.Fetch n) s) is
 
 -- ---- what is kept
-
-some-true : (x : Option Value) → IsSome x → is_some x ≡ true
-some-true None h = absurd cc
-some-true (Some v) h = refl
-
-keeps-by : (x : Option Value) (o : Outcome) (wanted : Bool) → ((v : Value) → x ≡ Some v → is_there o ≡ true) → (o ≡ outcome.Done → IsSome x) → (o ≡ outcome.Released → (IsSome x → wanted ≡ true) × (wanted ≡ true → IsSome x))
-    → is_some x ≡ (is_done o || (is_released o && wanted))
-keeps-by None outcome.Pending wanted there done released = refl
-keeps-by None outcome.Done wanted there done released = absurd (let e = done refl in cc)
-keeps-by None outcome.Cancelled wanted there done released = refl
-keeps-by None outcome.Memory wanted there done released = refl
-keeps-by None (outcome.Input i) wanted there done released = refl
-keeps-by None outcome.Released true there done released = absurd (let e = (released refl).1 refl in cc)
-keeps-by None outcome.Released false there done released = refl
-keeps-by (Some v) outcome.Pending wanted there done released = absurd (let e = there v refl in cc)
-keeps-by (Some v) outcome.Done wanted there done released = refl
-keeps-by (Some v) outcome.Cancelled wanted there done released = absurd (let e = there v refl in cc)
-keeps-by (Some v) outcome.Memory wanted there done released = absurd (let e = there v refl in cc)
-keeps-by (Some v) (outcome.Input i) wanted there done released = absurd (let e = there v refl in cc)
-keeps-by (Some v) outcome.Released wanted there done released = sym ((released refl).0 refl)
-
-pub keeps-wanted : (c : CoreView) (m : Machine) (t : ℕ) → StandsFor c m → t < length c.table.names
-    → is_some (value_at c.kept t) ≡ (is_done (outcome_at m.table.outcomes t) || (is_released (outcome_at m.table.outcomes t) && is_wanted m.table t))
-keeps-wanted c m t s within =
-    let Named : Table → Type 0 = λ w. t < length w.names in
-    let named = subst Named s.table within in
-    keeps-by (value_at c.kept t) (outcome_at m.table.outcomes t) (is_wanted m.table t) (s.agrees.there t) (s.agrees.done t named) (s.agrees.released t named)

@@ -31,8 +31,9 @@ use Rattle.mw_ledger.proofs.mw_underway.PlanTaskLemmas.{IsResultOn, places, sett
 use Rattle.mw_ledger.proofs.mw_underway.ResultLemmas.{result-found, result-true}
 use Rattle.mw_ledger.specs.Books.{Book, IsOrderly, progress_of, seen_of}
 use Rattle.mw_ledger.specs.Tasks.{FinishesAt, IsFoundAt, IsResultAt, PlacesAt, SettlesAt, value_made}
+use Rattle.mw_ledger.proofs.SeenLemmas.{progress-seen, work-shown}
 use Rattle.mw_core.proofs.FilledLemmas.{full-filled}
-use Rattle.mw_core.proofs.TaskLemmas.{complete-seen, progress-seen, seen-set, under-work, work-shown}
+use Rattle.mw_core.proofs.TaskLemmas.{complete-seen, seen-set, under-work}
 
 -- the result is that of the true task of its numbers
 abbrev pub IsTrueResult : Machine → WindowTask → ProgressView → Type 0

@@ -1,4 +1,3 @@
--- what other crates may cite
 -- the crate's own
 mod BookLemmas
 mod FaultLemmas

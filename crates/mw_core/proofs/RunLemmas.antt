@@ -1,6 +1,7 @@
 -- A RUN that is not refused: no fault, and work that is fresh and means the command.
-use Rattle.std.proofs.Common.{◌≡◌, ℕ, ◌<◌, ◌≤◌, ◌++◌, ◌∷◌, [], List, length, Option, Some, None, Result, Ok, Err, IfOk, OnOk, refl, sym, ap, ◌∙◌, subst}
+use Rattle.std.proofs.Common.{◌≡◌, ℕ, ◌<◌, ◌≤◌, ◌++◌, ◌∷◌, [], List, length, Option, Some, None, Result, Ok, Err, IfOk, OnOk, sym, ap, ◌∙◌, subst}
 use Rattle.std.specs.List.{AllByRecursion}
+use Rattle.mw_facts.proofs.Elements.{get_or-push_last}
 use Rattle.mw_model.specs.declared.names.Name.{Name}
 use Rattle.mw_model.specs.declared.operations.Op.{Op}
 use Rattle.mw_model.specs.declared.submissions.Submission.{Submission}
@@ -15,7 +16,6 @@ use Rattle.mw_model.specs.Refusals.{Table, refusal}
 use Rattle.mw_model.specs.Machine.{Machine, values, with_entry, run_submission}
 use Rattle.mw_model.specs.Tasks.{Progress, remaining_tasks, running_tasks, task_count}
 use Rattle.mw_model.specs.Stands.{CoreView, StandsFor, progress_at}
-use Rattle.mw_laws.proofs.RunTables.{push_last}
 use Rattle.mw_plan.specs.Tables.{AreValuesAt}
 use Rattle.mw_plan.proofs.Accepted.{machine_values}
 use Rattle.mw_ledger.specs.mw_progress.ProgressView.{ProgressView}
@@ -65,7 +65,7 @@ added-fresh c new p t whole fresh work is =
     let Few : ℕ → Type 0 = λ n. n ≤ 4194304 in
     record {
       progress = p;
-      work = ap (λ ws. progress_at ws t) work ∙ push_last c.work (Some p) None t (sym at);
+      work = ap (λ ws. progress_at ws t) work ∙ get_or-push_last c.work (Some p) None t (sym at);
       some = fresh.0;
       bounded = subst Few (sym fresh.2) fresh.1;
       unfinished = fresh.2;

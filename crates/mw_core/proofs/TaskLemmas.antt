@@ -1,7 +1,6 @@
 -- Events on tasks: what a ledger does with one is what the core does, for each machine that it stands for.
 use Rattle.std.specs.Prelude.{option_map}
-use Rattle.std.proofs.Common.{◌≡◌, ℕ, ◌<◌, ◌≤◌, true, List, map, length, set, Option, Some, None, refl, sym, ap, ◌∙◌, subst}
-use Rattle.std.proofs.Math.ListN.{get_or-map}
+use Rattle.std.proofs.Common.{◌≡◌, ℕ, ◌<◌, ◌≤◌, true, List, length, set, Option, Some, None, ap, ◌∙◌, subst}
 use Rattle.std.proofs.lemmas.List.{length-map, map-set}
 use Rattle.mw_model.specs.declared.calls.Outcome.TheVariants as outcome
 use Rattle.mw_model.specs.Values.{image_of, value_at}
@@ -9,7 +8,7 @@ use Rattle.mw_model.specs.Refusals.{Table, outcome_at}
 use Rattle.mw_model.specs.Machine.{Machine}
 use Rattle.mw_model.specs.Plans.{images_of}
 use Rattle.mw_model.specs.Tasks.{Progress, planned_of, sources_of, task_count}
-use Rattle.mw_model.specs.Stands.{CoreView, StandsFor, inputs_there, input_values, progress_at, ready_under, true_planes}
+use Rattle.mw_model.specs.Stands.{CoreView, StandsFor, inputs_there, input_values, ready_under, true_planes}
 use Rattle.mw_task.specs.WindowTasks.{WindowTask}
 use Rattle.mw_ledger.specs.mw_progress.ProgressView.{ProgressView}
 use Rattle.mw_ledger.specs.mw_work.Works.{IsTrueWork, IsUnder}
@@ -26,21 +25,11 @@ use Rattle.mw_ledger.specs.mw_underway.SourceWindows.{AreSources}
 use Rattle.mw_ledger.proofs.mw_underway.PlanTaskLemmas.{begins}
 use Rattle.mw_ledger.proofs.mw_underway.PlannedAtLemmas.{planned-at}
 use Rattle.mw_ledger.proofs.mw_underway.SourceTrueLemmas.{ReadsKept, reads-kept, sources-true}
-use Rattle.mw_ledger.specs.Books.{Book, IsOrderly, progress_of, seen_of, work_at}
+use Rattle.mw_ledger.specs.Books.{Book, IsOrderly, progress_of, seen_of}
 use Rattle.mw_ledger.specs.Tasks.{IsAtWork, TakesAt}
+use Rattle.mw_ledger.proofs.SeenLemmas.{progress-seen}
 
 -- ---- what a core shows of a ledger
-
-pub progress-seen : (works : List (Option ProgressView)) (t : ℕ) (u : ProgressView) → work_at works t ≡ Some u → progress_at (map (option_map progress_of) works) t ≡ Some u.progress
-progress-seen works t u e = get_or-map (option_map progress_of) works t None ∙ ap (option_map progress_of) e
-
--- behind what is shown of work there is work
-pub work-shown : (works : List (Option ProgressView)) (t : ℕ) (p : Progress) → progress_at (map (option_map progress_of) works) t ≡ Some p → (u : ProgressView) × (work_at works t ≡ Some u) × (u.progress ≡ p)
-work-shown works t p e = go (work_at works t) (sym (get_or-map (option_map progress_of) works t None) ∙ e)
-  where
-    go : (o : Option ProgressView) → option_map progress_of o ≡ Some p → (u : ProgressView) × (o ≡ Some u) × (u.progress ≡ p)
-    go None h = absurd cc
-    go (Some u) h = (u, refl, cc)
 
 pub complete-seen : (b : Book) → IsOrderly b → IsComplete (seen_of b)
 complete-seen b orderly = record { stored = orderly.stored; work = length-map b.works (option_map progress_of) ∙ orderly.works }

@@ -1,5 +1,5 @@
 -- Lists of events, and what the core and the machine of one thread do at them (own).
-use Rattle.std.specs.Prelude.{ℕ, ◌≡◌, ◌≢◌, ◌++◌, true, List, [], ◌∷◌, Option, None, IsSome, ◌↔◌, Result, Ok, Err}
+use Rattle.std.specs.Prelude.{ℕ, ◌≡◌, ◌≢◌, ◌++◌, List, [], ◌∷◌, Option, None, IsSome, ◌↔◌, Result, Ok, Err}
 use Rattle.std.specs.Result.{ForOk}
 use Rattle.mw_model.specs.declared.codes.Code.TheVariants as code
 use Rattle.mw_model.specs.declared.tasks.TaskId.{TaskId}

@@ -3,6 +3,7 @@
 ghost use Rattle.std.specs.Prelude.{◌≡◌, ◌<◌, ◌≤◌, [], ◌∷◌, ◌++◌, length, OnOk, OnErr, IfOk, IfSome, option_map, false};
 
 use mw_ledger::{Counts, Entry, Ledger, PlanProgress};
+use mw_log::Compact;
 use mw_model::{Call, LogItem, Name, NoMemory, Outcome, Reply};
 use std::alloc::Global;
 use std::marker::Model;
@@ -39,6 +40,7 @@ impl Core {
     ghost use Rattle.mw_ledger.specs.mw_stands.Facts.{IsComplete};
     ghost use Rattle.mw_ledger.specs.mw_stands.Limits.{FitsLimits, ShapesFit};
     ghost use Rattle.mw_ledger.specs.mw_underway.Planning.{IsPlannedOn, IsSide};
+    ghost use Rattle.mw_log.specs.Short.{is_long};
     ghost use Rattle.mw_ledger.specs.Books.{progress_of};
 
     /// What holds of every core.
@@ -104,6 +106,7 @@ impl Core {
         requires within { t < length self.old.table.names }
         requires pending { outcome_at self.old.table.outcomes t ≡ Outcome.Pending }
         requires dead { is_pending cause ≡ false }
+        requires short { is_long item ≡ false }
         ensures table { self.new.table ≡ killed self.old.table t cause }
         ensures kept { DropsSpent self.new.table self.old.kept self.new.kept }
         ensures work { KeepsWork self.new.table self.old.work self.new.work }
@@ -111,7 +114,7 @@ impl Core {
         ensures side { self.new.side ≡ self.old.side }
     {
         self.ledger.sound();
-        self.ledger.end(t, cause, item);
+        self.ledger.end(t, cause, Compact::short(item));
         self.counts.recount(&self.ledger);
     }
 
@@ -119,6 +122,7 @@ impl Core {
     pub(crate) fn let_go(&mut self, t: u32, item: LogItem) -> Result<(), NoMemory>
         requires within { t < length self.old.table.names }
         requires done { outcome_at self.old.table.outcomes t ≡ Outcome.Done }
+        requires short { is_long item ≡ false }
         ensures table { OnOk result (self.new.table ≡ settled self.old.table t Outcome.Released) }
         ensures kept { OnOk result (DropsSpent self.new.table self.old.kept self.new.kept) }
         ensures work { OnOk result (self.new.work ≡ self.old.work) }
@@ -127,6 +131,6 @@ impl Core {
         ensures err { OnErr result (self.new ≡ self.old) }
     {
         self.ledger.sound();
-        self.ledger.let_go(t, item)
+        self.ledger.let_go(t, Compact::short(item))
     }
 }

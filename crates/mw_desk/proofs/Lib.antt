@@ -1,6 +1,6 @@
 -- what other crates may cite
 pub mod Chains
-pub mod Rooms
 -- the crate's own
+mod Rooms
 mod Ends
 mod Serving

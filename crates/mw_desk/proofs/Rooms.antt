@@ -8,26 +8,20 @@ use Rattle.mw_model.specs.declared.requests.Awaited.{Awaited}
 use Rattle.mw_model.specs.declared.requests.Head.{Head}
 use Rattle.mw_model.specs.declared.requests.Head.TheVariants.{Payload, Alone}
 use Rattle.mw_model.specs.declared.codes.Code.{Code}
-use Rattle.mw_model.specs.declared.codes.Code.TheVariants.{Line, Memory}
+use Rattle.mw_model.specs.declared.codes.Code.TheVariants.{Memory}
 use Rattle.mw_model.specs.declared.requests.End.TheVariants as end
-use Rattle.mw_model.specs.Lines.{Found, Partial, Fault, asked_with, with_payload, after_head}
+use Rattle.mw_model.specs.Lines.{Partial, Fault, with_payload, after_head}
 use Rattle.mw_intake.specs.Intake.{AsksForPayload}
 use Rattle.mw_intake.specs.Reading.{front, head_of, is_line_end}
-use Rattle.mw_intake.proofs.Front.{front_long, front_line, front_open, payload_line, payload_long, payload_partial}
+use Rattle.mw_intake.proofs.Front.{front_long, front_line, front_open, payload_line, payload_long, payload_partial, payload_whole}
 use Rattle.mw_desk.specs.Rooms.{payload, line, WantsRoom, LacksRoom}
-
-line_fault : Fault Line ≡ Fault Memory → ⊥
-line_fault e = cc
-
-whole_found : (what : Awaited) (len : ℕ) (rest : List ℕ) → len ≤ 134217728 → len ≤ length rest → with_payload what len rest ≡ Found (asked_with what (take len rest)) (drop len rest)
-whole_found what len rest limit h = rw (le-ltb 134217728 len limit, le-ltb (length rest) len h) refl
 
 payload_fault : (what : Awaited) (len : ℕ) (rest : List ℕ) → with_payload what len rest ≡ Fault Memory → ⊥
 payload_fault what len rest e = elim (cases_lt 134217728 len) [
   | inl over ↦ let g = payload_long what len rest over in cc
   | inr within ↦ elim (cases_lt (length rest) len) [
     | inl less ↦ let g = payload_partial what len rest (omega (arith, within)) less in cc
-    | inr whole ↦ let g = whole_found what len rest (omega (arith, within)) (omega (arith, whole)) in cc
+    | inr whole ↦ let g = payload_whole what len rest (omega (arith, within)) (omega (arith, whole)) in cc
   ]
 ]
 
@@ -75,11 +69,7 @@ partial_gathers held e =
 
 -- where a portion found no room
 pub room-for-portion : (held waiting : List ℕ) → front held ≡ Partial → waiting ≢ [] → WantsRoom held (held ++ waiting)
-room-for-portion held waiting e some = (waiting, refl, elim (partial_gathers held e) [ inl asks ↦ payload asks | inr unended ↦ line e unended some ])
-
--- where a payload found no room
-pub room-for-payload : (held : List ℕ) → AsksForPayload held → WantsRoom held held
-room-for-payload held asks = ([], sym (append-nil held), payload asks)
+room-for-portion held waiting e some = (waiting, refl, elim (partial_gathers held e) [ inl asks ↦ payload asks e some | inr unended ↦ line e unended some ])
 
 some_left : (xs ys : List ℕ) → xs ≢ [] → xs ++ ys ≢ []
 some_left [] ys n e = n refl
@@ -87,7 +77,7 @@ some_left (x ∷ xs) ys n e = cc
 
 -- more bytes that wait
 pub room-more : (held rest more : List ℕ) → WantsRoom held rest → WantsRoom held (rest ++ more)
-room-more held rest more (waiting, is, payload asks) = (waiting ++ more, ap (λ l. l ++ more) is ∙ append_assoc held waiting more, payload asks)
+room-more held rest more (waiting, is, payload asks part some) = (waiting ++ more, ap (λ l. l ++ more) is ∙ append_assoc held waiting more, payload asks part (some_left waiting more some))
 room-more held rest more (waiting, is, line part unended some) = (waiting ++ more, ap (λ l. l ++ more) is ∙ append_assoc held waiting more, line part unended (some_left waiting more some))
 
 pub room-lacks : (bytes held rest : List ℕ) → WantsRoom held rest → LacksRoom bytes rest

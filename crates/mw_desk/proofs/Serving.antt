@@ -10,7 +10,6 @@ use Rattle.mw_model.specs.declared.requests.Ask.TheVariants as ask
 use Rattle.mw_model.specs.declared.requests.End.{End}
 use Rattle.mw_model.specs.declared.requests.End.TheVariants as end
 use Rattle.mw_model.specs.Lines.{Asked, AskAlone, Found, Partial}
-use Rattle.mw_intake.specs.Intake.{AsksForPayload}
 use Rattle.mw_intake.specs.Reading.{front}
 use Rattle.mw_intake.proofs.Front.{is_front}
 use Rattle.mw_wire.specs.declared.fault.SessionFault.{SessionFault}
@@ -18,13 +17,8 @@ use Rattle.mw_wire.specs.declared.fault.SessionFault.TheVariants as fault
 use Rattle.mw_wire.specs.Writes.{EndsBy, EndedBy, Wrote}
 use Rattle.mw_desk.specs.Rooms.{EndsAt, WantsRoom, LacksRoom}
 use Rattle.mw_desk.specs.Runs.{CameToEnd, BrokeOff, Halted, Drains, DeskRan}
-use Rattle.mw_desk.proofs.Rooms.{room-for-portion, room-for-payload, room-more, room-lacks}
+use Rattle.mw_desk.proofs.Rooms.{room-for-portion, room-more, room-lacks}
 use Rattle.mw_desk.proofs.Ends.{Progress, progress-more, progress-answered, cut-answered, finished-by, cut-by, finished-on, stopped-on, finished-more, finished-for, cut-answer-more, cut-end-more, stopped-for}
-
--- the front of no bytes
-pub front-empty : front [] ≡ Partial
-unfolding front
-front-empty = refl
 
 -- QUIT is no want of memory
 quit_has_room : {X : Type 0} → end.Quit ≡ end.Ended code.Memory → X
@@ -119,14 +113,6 @@ module _ {S : Type 0} (Answer : S → Asked → List ℕ → S → Type 0) where
       let Q : List ℕ → Type 0 = λ l. Drains Answer left (had ++ piece) l s t x z r in
       let all = subst P (portion-rest had piece at) (progress-more Answer (had ++ take at piece) (drop at piece) rest s t x y h) in
       subst Q (sym same) (drains-ended left (had ++ piece) (rest ++ drop at piece) rest s t x y z code.Memory r all (inr (inr refl), λ e. room-for-portion rest (drop at piece) part some) w A flag)
-
-  -- a payload found none
-  pub drains-unread : (left : Option (List ℕ)) (bytes rest after : List ℕ) (s t : S) (x y z : Option (List ℕ)) (r : Result (Option End) SessionFault) → Progress Answer bytes rest s t x y → AsksForPayload rest → after ≡ rest → EndedBy y z code.Memory r
-      → (A : Type 0) → OnErr r ((r ≡ Err fault.Write) × A) → Drains Answer left bytes after s t x z r
-  drains-unread left bytes rest after s t x y z r h asks same w A flag =
-      let P : List ℕ → Type 0 = λ l. WantsRoom l rest in
-      let wants = subst P (sym same) (room-for-payload rest asks) in
-      drains-ended left bytes rest after s t x y z code.Memory r h (inr (inr refl), λ e. wants) w A flag
 
   -- the session ended while what waited was answered
   pub drains-finished : (left : Option (List ℕ)) (had piece rest after : List ℕ) (at : ℕ) (s k t : S) (x y z : Option (List ℕ)) (e : End) → Progress Answer (had ++ take at piece) rest s k x y → Drains Answer some_left rest after k t y z (Ok (Some e))

@@ -9,9 +9,9 @@ use Rattle.mw_model.specs.Scripts.{Ends}
 use Rattle.mw_intake.specs.Intake.{AsksForPayload}
 use Rattle.mw_intake.specs.Reading.{front, is_line_end}
 
--- What is gathered where bytes are held and others wait to be taken: the payload that the line at the front awaits; or a line, whose LF has not been taken.
+-- What is gathered where less than a request is held and other bytes wait to be taken: the payload that the line at the front awaits; or a line, whose LF has not been taken.
 pub data Gathers (held waiting : List ℕ) : Type 0 where
-  payload : AsksForPayload held → Gathers held waiting
+  payload : AsksForPayload held → front held ≡ Partial → waiting ≢ [] → Gathers held waiting
   line : front held ≡ Partial → position_or_len is_line_end held ≡ length held → waiting ≢ [] → Gathers held waiting
 
 -- want of memory may end a session where these bytes are left and those of them are held: a payload or a line is gathered

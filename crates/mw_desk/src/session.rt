@@ -4,7 +4,7 @@ ghost use Rattle.std.specs.Prelude.{◌≡◌, ◌≢◌, ◌≤◌, ◌<◌, �
 ghost use Rattle.std.specs.Io.KnownBytes.{Appends};
 ghost use Rattle.mw_model.specs.declared.requests.Ask.TheVariants as Ask;
 ghost use Rattle.mw_model.specs.Lines.{AskAlone, Partial};
-ghost use Rattle.mw_intake.specs.Intake.{asked};
+ghost use Rattle.mw_intake.specs.Intake.{IsOpen, IsTidy, asked};
 ghost use Rattle.mw_intake.specs.Reading.{front};
 ghost use Rattle.mw_wire.specs.Writes.{EndsBy};
 ghost use Rattle.mw_desk.specs.Runs.{Drains, DeskRan};
@@ -25,22 +25,25 @@ fn is_quit(request: &Request) -> bool
     matches!(request, Request::Quit)
 }
 
-/// Answers the requests that wait, and says how the session ends where it does.
+/// Answers the requests that wait, and says how the session ends where it does. No byte of a payload came with its line, so
+/// no memory is asked for to cut them.
 fn drain<W: Write, D: Desk>(
     intake: &mut Intake,
     sink: &mut Sink<W>,
     desk: &mut D,
     kept: &mut D::Kept,
 ) -> Result<Option<End>, SessionFault>
-    requires { D.ready }
-    ensures ran { (left : Option (List ℕ)) → Drains D.Answer left intake.old intake.new kept.old kept.new (W.contents sink.old.inner) (W.contents sink.new.inner) result }
-    ensures waits { IfOk result (λ o. o ≡ None → front intake.new ≡ Partial) }
+    requires ready { D.ready }
+    requires tidy { IsTidy intake.old }
+    ensures ran { (left : Option (List ℕ)) → Drains D.Answer left intake.old.bytes intake.new.bytes kept.old kept.new (W.contents sink.old.inner) (W.contents sink.new.inner) result }
+    ensures waits { IfOk result (λ o. o ≡ None → front intake.new.bytes ≡ Partial) }
+    ensures is_open { IfOk result (λ o. o ≡ None → IsOpen intake.new) }
     ensures same { OnOk result (sink.new.failed ≡ sink.old.failed) }
     ensures flag { OnErr result ((result ≡ Err SessionFault.Write) × (sink.new.failed ≡ true)) }
 {
     'requests: loop {
         match intake.next() {
-            Err(NoMemory) => return end_within(sink, Code::Memory),
+            Err(NoMemory) => unreachable!(),
             Ok(Next::More) => return Ok(None),
             Ok(Next::Bad(code)) => return end_within(sink, code),
             Ok(Next::Request(request)) => {
@@ -66,9 +69,11 @@ fn serve_piece<W: Write, D: Desk>(
 ) -> Result<Option<End>, SessionFault>
     requires ready { D.ready }
     requires some { 0 < length piece.now }
-    requires served { front intake.old ≡ Partial }
-    ensures ran { (left : Option (List ℕ)) → Drains D.Answer left (intake.old ++ piece.now) intake.new kept.old kept.new (W.contents sink.old.inner) (W.contents sink.new.inner) result }
-    ensures waits { IfOk result (λ o. o ≡ None → front intake.new ≡ Partial) }
+    requires served { front intake.old.bytes ≡ Partial }
+    requires is_open { IsOpen intake.old }
+    ensures ran { (left : Option (List ℕ)) → Drains D.Answer left (intake.old.bytes ++ piece.now) intake.new.bytes kept.old kept.new (W.contents sink.old.inner) (W.contents sink.new.inner) result }
+    ensures waits { IfOk result (λ o. o ≡ None → front intake.new.bytes ≡ Partial) }
+    ensures is_open { IfOk result (λ o. o ≡ None → IsOpen intake.new) }
     ensures same { OnOk result (sink.new.failed ≡ sink.old.failed) }
     ensures flag { OnErr result ((result ≡ Err SessionFault.Write) × (sink.new.failed ≡ true)) }
 {
@@ -92,8 +97,8 @@ fn serve_piece<W: Write, D: Desk>(
 
 /// Ends a session at the end of the input.
 fn end_of_input<W: Write>(sink: &mut Sink<W>, intake: &Intake) -> Result<End, SessionFault>
-    ensures quit { intake.now ≡ [] → (result ≡ Ok End.Quit) × Appends (W.contents sink.old.inner) (W.contents sink.new.inner) [] }
-    ensures cut { intake.now ≢ [] → EndsBy (W.contents sink.old.inner) (W.contents sink.new.inner) Code.Cut result }
+    ensures quit { intake.now.bytes ≡ [] → (result ≡ Ok End.Quit) × Appends (W.contents sink.old.inner) (W.contents sink.new.inner) [] }
+    ensures cut { intake.now.bytes ≢ [] → EndsBy (W.contents sink.old.inner) (W.contents sink.new.inner) Code.Cut result }
     ensures same { OnOk result (sink.new.failed ≡ sink.old.failed) }
     ensures flag { OnErr result ((result ≡ Err SessionFault.Write) × (sink.new.failed ≡ true)) }
 {

@@ -1,5 +1,5 @@
 -- Full boxes: as many offsets as places, and none outside.
-use Rattle.std.proofs.Common.{◌≡◌, ℕ, zero, suc, ◌*◌, ◌<◌, true, false, List, [], ◌∷◌, ◌++◌, length, get_or, ℤ, pos, refl, sym, ap, subst, ◌∙◌, arith, inl, inr, ◌⊎◌, length-append}
+use Rattle.std.proofs.Common.{◌≡◌, ℕ, zero, suc, ◌*◌, ◌<◌, true, false, List, [], ◌∷◌, ◌++◌, length, get_or, ℤ, pos, refl, sym, ap, ◌∙◌, arith, inl, inr, ◌⊎◌, length-append}
 use Rattle.std.specs.Prelude.{◌+ℤ◌, ◌≤ℤ◌}
 use Rattle.std.specs.Ordering.{int_eq}
 use Rattle.std.proofs.lemmas.Bool.Decides.{Decides-int_eq}
@@ -8,15 +8,17 @@ use Rattle.std.specs.Cmp.{both_ways as same_answer}
 use Rattle.std.proofs.lemmas.Bool.{true≢false, cases_Bool, or_left, or_right, or_parts}
 use Rattle.std.proofs.lemmas.List.{get_or_default}
 use Rattle.std.proofs.lemmas.Int.{ints}
-use Rattle.std.proofs.lemmas.List.Elements.{All-from_recursion, recursion_from_All}
+use Rattle.std.proofs.lemmas.List.Elements.{recursion_from_All}
 use Rattle.std.proofs.lemmas.List.Folds.{list_any-append}
 use Rattle.std.proofs.lemmas.Map.Made.{is_member-Decides, length-le_from_is_member, length-from_same_keys}
-use Rattle.mw_facts.proofs.Alls.{all-weaker, all-append}
+use Rattle.std.proofs.lemmas.Map.Keys.{IsDistinct-cons}
+use Rattle.mw_facts.proofs.Alls.{all-weaker, all-append, all-contains}
 use Rattle.mw_model.specs.declared.places.Offset.{Offset}
 use Rattle.mw_model.specs.declared.places.OffsetBox.{OffsetBox}
 use Rattle.mw_model.specs.Elements.{same_offset}
+use Rattle.mw_model.proofs.Covers.{offset, offset-same}
 use Rattle.mw_element.specs.Figures.{FillsBox, InBox, LiesIn}
-use Rattle.mw_element.proofs.Lists.{made, made_is, same_decides, same_equiv, not_same, box_more}
+use Rattle.mw_element.proofs.Lists.{same_decides, same_equiv, not_same, box_more}
 
 -- ---- lists of offsets that follow one another
 
@@ -51,10 +53,6 @@ unfolding IsDistinct
 distinct_append [] ys a b apart = b
 distinct_append (x ∷ xs) ys a b apart = (all-append (λ b. same_offset x b ≡ false) xs ys a.0 apart.0, distinct_append xs ys a.1 b apart.1)
 
-pub distinct_cons : (x : Offset) (xs : List Offset) → AllByRecursion (λ b. same_offset x b ≡ false) xs → IsDistinct same_offset xs → IsDistinct same_offset (x ∷ xs)
-unfolding IsDistinct
-distinct_cons x xs apart rest = (apart, rest)
-
 pub distinct_nil : IsDistinct same_offset []
 unfolding IsDistinct
 distinct_nil = tt
@@ -72,7 +70,7 @@ follows_more w x y xs le all = all-weaker (Follows x y) (Follows w y) xs (λ b f
 
 line : ℤ → ℤ → ℕ → List Offset
 line x y zero = []
-line x y (suc n) = made x y ∷ line (x +ℤ pos 1) y n
+line x y (suc n) = offset x y ∷ line (x +ℤ pos 1) y n
 
 grid : ℤ → ℤ → ℕ → ℕ → List Offset
 grid x y w zero = []
@@ -103,7 +101,7 @@ line_distinct : (x y : ℤ) (n : ℕ) → IsDistinct same_offset (line x y n)
 unfolding line
 line_distinct x y zero = distinct_nil
 line_distinct x y (suc n) =
-    distinct_cons (made x y) (line (x +ℤ pos 1) y n) (apart_right (made x y) (x +ℤ pos 1) y (line (x +ℤ pos 1) y n) (omega (arith, ints)) (line_follows (x +ℤ pos 1) y n)) (line_distinct (x +ℤ pos 1) y n)
+    IsDistinct-cons same_offset (offset x y) (line (x +ℤ pos 1) y n) (apart_right (offset x y) (x +ℤ pos 1) y (line (x +ℤ pos 1) y n) (omega (arith, ints)) (line_follows (x +ℤ pos 1) y n)) (line_distinct (x +ℤ pos 1) y n)
 
 grid_distinct : (x y : ℤ) (w h : ℕ) → IsDistinct same_offset (grid x y w h)
 unfolding grid
@@ -123,8 +121,8 @@ unfolding line
 line_has q x y zero level low high = absurd (omega (arith, ints, low, high))
 line_has q x y (suc n) level low high =
     elim (int_split x q.dx low) [
-      | inl e ↦ or_left (same_offset q (made x y)) (list_any (same_offset q) (line (x +ℤ pos 1) y n)) ((same_decides q (made x y)).1 (made_is q.dx q.dy x y e level))
-      | inr lt ↦ or_right (same_offset q (made x y)) (list_any (same_offset q) (line (x +ℤ pos 1) y n)) (line_has q (x +ℤ pos 1) y n level lt (omega (arith, ints, high)))
+      | inl e ↦ or_left (same_offset q (offset x y)) (list_any (same_offset q) (line (x +ℤ pos 1) y n)) ((same_decides q (offset x y)).1 (offset-same q.dx q.dy x y e level))
+      | inr lt ↦ or_right (same_offset q (offset x y)) (list_any (same_offset q) (line (x +ℤ pos 1) y n)) (line_has q (x +ℤ pos 1) y n level lt (omega (arith, ints, high)))
     ]
 
 grid_has : (q : Offset) (x y : ℤ) (w h : ℕ) → x ≤ℤ q.dx → (q.dx +ℤ pos 1) ≤ℤ (x +ℤ pos w) → y ≤ℤ q.dy → (q.dy +ℤ pos 1) ≤ℤ (y +ℤ pos h) → list_any (same_offset q) (grid x y w h) ≡ true
@@ -158,9 +156,6 @@ has_contains xs q h = (is_member-Decides same_decides xs q).0 h
 contains_has : (xs : List Offset) (q : Offset) → Contains xs q → list_any (same_offset q) xs ≡ true
 contains_has xs q h = (is_member-Decides same_decides xs q).1 h
 
-boxed_contained : (box : OffsetBox) (xs : List Offset) (q : Offset) → AllByRecursion (λ o. InBox box o) xs → Contains xs q → InBox box q
-boxed_contained box xs q all (k, lt, e) = subst (InBox box) e (All-from_recursion (λ o. InBox box o) xs all k q lt)
-
 -- a box with as many columns and rows
 pub record Spans (box : OffsetBox) (w h : ℕ) : Type 0 where
   pub across : (box.x0 +ℤ pos w) ≡ (box.x1 +ℤ pos 1)
@@ -175,7 +170,7 @@ in_places box w h q s b =
 
 places_in : (box : OffsetBox) (w h : ℕ) (q : Offset) → Spans box w h → list_any (same_offset q) (places box w h) ≡ true → InBox box q
 places_in box w h q s has =
-    boxed_contained box (places box w h) q (grid_in box box.x0 box.y0 w h (omega (arith, ints)) (omega (arith, ints, s.across)) (omega (arith, ints)) (omega (arith, ints, s.down))) (has_contains (places box w h) q has)
+    all-contains (λ o. InBox box o) (places box w h) q (grid_in box box.x0 box.y0 w h (omega (arith, ints)) (omega (arith, ints, s.across)) (omega (arith, ints)) (omega (arith, ints, s.down))) (has_contains (places box w h) q has)
 
 apart_false : (q : Offset) (xs : List Offset) → list_any (same_offset q) xs ≡ false → AllByRecursion (λ b. same_offset q b ≡ false) xs
 apart_false q [] e = tt
@@ -183,19 +178,19 @@ apart_false q (x ∷ xs) e = let h = or_parts (same_offset q x) (list_any (same_
 
 -- as many distinct offsets as places, all in the box: then each place is one of them
 pub full_box : (box : OffsetBox) (w h : ℕ) (xs : List Offset) → Spans box w h → IsDistinct same_offset xs → AllByRecursion (λ o. InBox box o) xs → h * w ≡ length xs → FillsBox box xs
-full_box box w h xs s distinct all count = λ q. (boxed_contained box xs q all, full q)
+full_box box w h xs s distinct all count = λ q. (all-contains (λ o. InBox box o) xs q all, full q)
   where
     full : (q : Offset) → InBox box q → Contains xs q
     full q b =
         elim (cases_Bool (list_any (same_offset q) xs)) [
           | inl has ↦ has_contains xs q has
           | inr none ↦
-              let le = length-le_from_is_member same_equiv (q ∷ xs) (places box w h) (distinct_cons q xs (apart_false q xs none) distinct) (λ p m. in_places box w h p s (inside p m)) in
+              let le = length-le_from_is_member same_equiv (q ∷ xs) (places box w h) (IsDistinct-cons same_offset q xs (apart_false q xs none) distinct) (λ p m. in_places box w h p s (inside p m)) in
               absurd (omega (arith, le, grid_length box.x0 box.y0 w h, count))
         ]
       where
         inside : (p : Offset) → list_any (same_offset p) (q ∷ xs) ≡ true → InBox box p
-        inside p m = boxed_contained box (q ∷ xs) p (b, all) (has_contains (q ∷ xs) p m)
+        inside p m = all-contains (λ o. InBox box o) (q ∷ xs) p (b, all) (has_contains (q ∷ xs) p m)
 
 all_filled : (box : OffsetBox) (xs : List Offset) → FillsBox box xs → AllByRecursion (λ o. InBox box o) xs
 all_filled box xs fills = recursion_from_All (λ o. InBox box o) xs (λ k d lt. (fills (get_or xs k d)).0 (k, lt, get_or_default xs k (get_or xs k d) d lt))
@@ -210,7 +205,7 @@ filled_count box bounds w h xs some s distinct all least fills =
     inside q has = contains_has xs q ((fills q).1 (box_more bounds box q least (places_in bounds w h q s has)))
 
     outside : (q : Offset) → list_any (same_offset q) xs ≡ true → list_any (same_offset q) (places bounds w h) ≡ true
-    outside q has = in_places bounds w h q s (boxed_contained bounds xs q all (has_contains xs q has))
+    outside q has = in_places bounds w h q s (all-contains (λ o. InBox bounds o) xs q all (has_contains xs q has))
 
     same : (q : Offset) → list_any (same_offset q) (places bounds w h) ≡ list_any (same_offset q) xs
     same q = same_answer (list_any (same_offset q) (places bounds w h)) (list_any (same_offset q) xs) (inside q) (outside q)

@@ -7,11 +7,11 @@ use Rattle.mw_model.specs.Elements.{Figure, IsFigure, IsElement, ElementRefuses,
 use Rattle.mw_netpbm.proofs.Bitmaps.{one_bitmap, one_bitmap_refusal, refusal_or_bitmap}
 use Rattle.mw_element.proofs.Found.{element_figure}
 
-small : element_side < 4294967296
-small = omega arith
+element_side-small : element_side < 4294967296
+element_side-small = omega arith
 
 same_bitmap : (bytes : List ℕ) (f g : Raster ℕ) → IsBitmap bytes element_side f → IsBitmap bytes element_side g → f ≡ g
-same_bitmap bytes f g a b = one_bitmap bytes element_side f g small a b
+same_bitmap bytes f g a b = one_bitmap bytes element_side f g element_side-small a b
 
 pub one_element : (bytes : List ℕ) (ox oy : ℕ) (first second : Figure) → IsElement bytes ox oy first → IsElement bytes ox oy second → first ≡ second
 one_element bytes ox oy first second a b =
@@ -19,7 +19,7 @@ one_element bytes ox oy first second a b =
 
 -- a bitmap has no refusal of its bytes
 bitmap_clash : (bytes : List ℕ) (c : Code) (f : Raster ℕ) → BitmapRefuses bytes element_side c → IsBitmap bytes element_side f → ⊥
-bitmap_clash bytes c f r is = refusal_or_bitmap bytes element_side c f small r is
+bitmap_clash bytes c f r is = refusal_or_bitmap bytes element_side c f element_side-small r is
 
 moved_place : (bytes : List ℕ) (ox oy : ℕ) (f g : Raster ℕ) → IsBitmap bytes element_side f → IsBitmap bytes element_side g → HoldsPlace f ox oy → HoldsPlace g ox oy
 moved_place bytes ox oy f g a b h = subst (λ (k : Raster ℕ). HoldsPlace k ox oy) (same_bitmap bytes f g a b) h
@@ -30,7 +30,7 @@ refusal_or_element bytes ox oy c figure (no_origin f a out) is = out (moved_plac
 refusal_or_element bytes ox oy c figure (no_pixel f a place none) is = is.some (ap (λ (k : Raster ℕ). offsets_of k ox oy) (same_bitmap bytes is.bitmap f is.is_bitmap a) ∙ none)
 
 pub one_refusal : (bytes : List ℕ) (ox oy : ℕ) (c d : Code) → ElementRefuses bytes ox oy c → ElementRefuses bytes ox oy d → c ≡ d
-one_refusal bytes ox oy c d (no_bitmap c' r) (no_bitmap d' s) = one_bitmap_refusal bytes element_side c d small r s
+one_refusal bytes ox oy c d (no_bitmap c' r) (no_bitmap d' s) = one_bitmap_refusal bytes element_side c d element_side-small r s
 one_refusal bytes ox oy c d (no_bitmap c' r) (no_origin g b out) = absurd (bitmap_clash bytes c g r b)
 one_refusal bytes ox oy c d (no_bitmap c' r) (no_pixel g b place none) = absurd (bitmap_clash bytes c g r b)
 one_refusal bytes ox oy c d (no_origin f a out) (no_bitmap d' s) = absurd (bitmap_clash bytes d f s a)

@@ -22,10 +22,10 @@ few_in_rows f ox oy y zero = omega arith
 few_in_rows f ox oy y (suc n) =
     omega (arith, length-append (offsets_in_row f ox oy y) (rows_part f ox oy (y + 1) n), few_in_row f ox oy y 0 f.width, few_in_rows f ox oy (y + 1) n)
 
-area : (w h : ℕ) → w ≤ 255 → h ≤ 255 → h * w ≤ 65025
-area w h narrow low = omega (arith, mul-le-mul_left w low, mul-le-mul_left 255 narrow, mul_comm w 255)
+area-small : (w h : ℕ) → w ≤ 255 → h ≤ 255 → h * w ≤ 65025
+area-small w h narrow low = omega (arith, mul-le-mul_left w low, mul-le-mul_left 255 narrow, mul_comm w 255)
 
 pub few_offsets : (bytes : List ℕ) (f : Raster ℕ) (ox oy : ℕ) (found : List Offset) → IsBitmap bytes element_side f → found ≡ offsets_of f ox oy → length found ≤ 65025
 few_offsets bytes f ox oy found is e =
     let s = bitmap_sides bytes element_side f is in
-    omega (arith, ap (λ (xs : List Offset). length xs) e, few_in_rows f ox oy 0 f.height, area f.width f.height s.2 s.3)
+    omega (arith, ap (λ (xs : List Offset). length xs) e, few_in_rows f ox oy 0 f.height, area-small f.width f.height s.2 s.3)

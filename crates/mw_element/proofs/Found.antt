@@ -13,7 +13,7 @@ use Rattle.mw_element.specs.Figures.{figure}
 use Rattle.mw_element.proofs.Rows.{offsets_distinct, offsets_near, no_offsets, no_pixels}
 
 -- as many cells as places
-bitmap_size : (bytes : List ℕ) (side : ℕ) (f : Raster ℕ) → IsBitmap bytes side f → length f.cells ≡ f.height * f.width
+pub bitmap_size : (bytes : List ℕ) (side : ℕ) (f : Raster ℕ) → IsBitmap bytes side f → length f.cells ≡ f.height * f.width
 bitmap_size bytes side f is =
     is.is_raster.count ∙ sym (ap (λ (g : Raster ℕ). g.height * g.width) is.shows)
 
@@ -58,25 +58,25 @@ facts_same x y e = cc
 pub no_element : (bytes : List ℕ) (ox oy : ℕ) (fault : BitmapFault) (figure : Figure) → ((f : Raster ℕ) → IsBitmap bytes element_side f → facts_err fault ≡ facts_ok (facts_of f)) → IsElement bytes ox oy figure → ⊥
 no_element bytes ox oy fault figure only is = let clash : facts_err fault ≡ facts_ok (facts_of is.bitmap) = only is.bitmap is.is_bitmap in cc
 
-outside : (f : Raster ℕ) (ox oy : ℕ) → (f.width ≤ ox) ⊎ ((ox < f.width) × (f.height ≤ oy)) → HoldsPlace f ox oy → ⊥
-outside f ox oy (inl le) h = absurd (omega (arith, le, h.column))
-outside f ox oy (inr (lt, le)) h = absurd (omega (arith, le, h.row))
+HoldsPlace-outside : (f : Raster ℕ) (ox oy : ℕ) → (f.width ≤ ox) ⊎ ((ox < f.width) × (f.height ≤ oy)) → HoldsPlace f ox oy → ⊥
+HoldsPlace-outside f ox oy (inl le) h = absurd (omega (arith, le, h.column))
+HoldsPlace-outside f ox oy (inr (lt, le)) h = absurd (omega (arith, le, h.row))
 
 -- the origin of an element lies in its bitmap
 pub no_place : (bytes : List ℕ) (ox oy : ℕ) (facts : BitmapFacts) (figure : Figure) → ((f : Raster ℕ) → IsBitmap bytes element_side f → facts_ok facts ≡ facts_ok (facts_of f))
     → (facts.width ≤ ox) ⊎ ((ox < facts.width) × (facts.height ≤ oy)) → IsElement bytes ox oy figure → ⊥
 no_place bytes ox oy facts figure only out is =
     let same = facts_same facts (facts_of is.bitmap) (only is.bitmap is.is_bitmap) in
-    outside is.bitmap ox oy (subst (λ (x : BitmapFacts). (x.width ≤ ox) ⊎ ((ox < x.width) × (x.height ≤ oy))) same out) is.origin
+    HoldsPlace-outside is.bitmap ox oy (subst (λ (x : BitmapFacts). (x.width ≤ ox) ⊎ ((ox < x.width) × (x.height ≤ oy))) same out) is.origin
 
 pub origin_refused : (bytes : List ℕ) (ox oy : ℕ) (facts : BitmapFacts) (f : Raster ℕ) → IsBitmap bytes element_side f → facts ≡ facts_of f
     → (facts.width ≤ ox) ⊎ ((ox < facts.width) × (facts.height ≤ oy)) → ElementRefuses bytes ox oy code.Origin
 origin_refused bytes ox oy facts f is same out =
-    no_origin f is (outside f ox oy (subst (λ (x : BitmapFacts). (x.width ≤ ox) ⊎ ((ox < x.width) × (x.height ≤ oy))) same out))
+    no_origin f is (HoldsPlace-outside f ox oy (subst (λ (x : BitmapFacts). (x.width ≤ ox) ⊎ ((ox < x.width) × (x.height ≤ oy))) same out))
 
-pub no_ones : (bytes : List ℕ) (ox oy : ℕ) (facts : BitmapFacts) (figure : Figure) → ((f : Raster ℕ) → IsBitmap bytes element_side f → facts_ok facts ≡ facts_ok (facts_of f))
+pub IsElement-no_ones : (bytes : List ℕ) (ox oy : ℕ) (facts : BitmapFacts) (figure : Figure) → ((f : Raster ℕ) → IsBitmap bytes element_side f → facts_ok facts ≡ facts_ok (facts_of f))
     → facts.ones ≡ 0 → IsElement bytes ox oy figure → ⊥
-no_ones bytes ox oy facts figure only none is =
+IsElement-no_ones bytes ox oy facts figure only none is =
     let same = facts_same facts (facts_of is.bitmap) (only is.bitmap is.is_bitmap) in
     is.some (no_offsets is.bitmap ox oy (bitmap_size bytes element_side is.bitmap is.is_bitmap) (sym (ap (λ (x : BitmapFacts). x.ones) same) ∙ none))
 
@@ -87,8 +87,8 @@ pub record Told (bytes : List ℕ) (ox oy : ℕ) (f : Raster ℕ) : Type 0 where
   pub row : oy < f.height
   pub some : offsets_of f ox oy ≢ []
 
-pub told : (bytes : List ℕ) (ox oy : ℕ) (facts : BitmapFacts) (f : Raster ℕ) → IsBitmap bytes element_side f → facts ≡ facts_of f → ox < facts.width → oy < facts.height → (facts.ones ≡ 0 → ⊥) → Told bytes ox oy f
-told bytes ox oy facts f is same column row some =
+pub Told-figure : (bytes : List ℕ) (ox oy : ℕ) (facts : BitmapFacts) (f : Raster ℕ) → IsBitmap bytes element_side f → facts ≡ facts_of f → ox < facts.width → oy < facts.height → (facts.ones ≡ 0 → ⊥) → Told bytes ox oy f
+Told-figure bytes ox oy facts f is same column row some =
     let w : facts.width ≡ f.width = ap (λ (x : BitmapFacts). x.width) same in
     let h : facts.height ≡ f.height = ap (λ (x : BitmapFacts). x.height) same in
     let n = ap (λ (x : BitmapFacts). x.ones) same in

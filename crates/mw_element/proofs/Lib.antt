@@ -7,3 +7,4 @@ mod Boxes
 mod Few
 mod Found
 mod Rows
+mod Room

@@ -9,7 +9,7 @@ use Rattle.std.specs.Ordering.{int_eq}
 use Rattle.std.specs.List.{AllByRecursion, IsDistinct}
 use Rattle.std.proofs.lemmas.Bool.Decides.{Decides-and, Decides-int_eq, Decides-like}
 use Rattle.std.proofs.lemmas.Int.{ints}
-use Rattle.mw_facts.proofs.Alls.{all-weaker, all-push, all-get_or}
+use Rattle.mw_facts.proofs.Alls.{all-weaker, all-push}
 use Rattle.mw_model.specs.declared.places.Offset.{Offset}
 use Rattle.mw_model.specs.declared.places.OffsetBox.{OffsetBox}
 use Rattle.mw_model.specs.declared.places.Reach.{Reach}
@@ -17,28 +17,19 @@ use Rattle.mw_model.specs.Elements.{IsFigure, IsNear, reach_of, same_offset}
 use Rattle.mw_model.specs.Places.{nonnegative, WithinReach}
 use Rattle.mw_element.specs.Figures.{InBox, LiesIn, figure, grown, turned}
 use Rattle.mw_model.specs.Flat.{greatest, negated}
+use Rattle.mw_model.proofs.Covers.{offset-same}
 
 -- ---- sameness
 
-abbrev pub made : ℤ → ℤ → Offset
-made dx dy = record { dx = dx; dy = dy }
-
-pub made_is : (x y x' y' : ℤ) → x ≡ x' → y ≡ y' → made x y ≡ made x' y'
-made_is x y x' y' e f = rw (e, f) refl
-
 pub same_decides : (a b : Offset) → Decides (same_offset a b) (a ≡ b)
 same_decides a b =
-    Decides-like (same_offset a b) (λ e. made_is a.dx a.dy b.dx b.dy e.0 e.1) (λ e. (ap (λ (o : Offset). o.dx) e, ap (λ (o : Offset). o.dy) e))
+    Decides-like (same_offset a b) (λ e. offset-same a.dx a.dy b.dx b.dy e.0 e.1) (λ e. (ap (λ (o : Offset). o.dx) e, ap (λ (o : Offset). o.dy) e))
     (Decides-and (int_eq a.dx b.dx) (int_eq a.dy b.dy) (Decides-int_eq a.dx b.dx) (Decides-int_eq a.dy b.dy))
 
 pub same_equiv : IsEquivalence same_offset
 same_equiv = decided same_offset same_decides
 
 -- ---- turned round
-
-pub negated_more : (xs : List Offset) (b : Offset) → negated (xs ++ b ∷ []) ≡ negated xs ++ turned b ∷ []
-negated_more [] b = refl
-negated_more (x ∷ xs) b = ap (λ (ys : List Offset). turned x ∷ ys) (negated_more xs b)
 
 neg_near : (z : ℤ) → negsuc 253 ≤ℤ z → z ≤ℤ pos 254 → (negsuc 253 ≤ℤ neg_ℤ z) × (neg_ℤ z ≤ℤ pos 254)
 neg_near z low high = (omega (arith, ints, low, high), omega (arith, ints, low, high))
@@ -64,7 +55,7 @@ turned_apart a b e =
     not_same (turned a) (turned b) (λ t.
     let x = neg_same a.dx b.dx (ap (λ (o : Offset). o.dx) t) in
     let y = neg_same a.dy b.dy (ap (λ (o : Offset). o.dy) t) in
-    true≢false (sym ((same_decides a b).1 (made_is a.dx a.dy b.dx b.dy x y)) ∙ e))
+    true≢false (sym ((same_decides a b).1 (offset-same a.dx a.dy b.dx b.dy x y)) ∙ e))
 
 negated_apart : (a : Offset) (xs : List Offset) → AllByRecursion (λ b. same_offset a b ≡ false) xs → AllByRecursion (λ b. same_offset (turned a) b ≡ false) (negated xs)
 negated_apart a [] h = tt
@@ -132,9 +123,6 @@ box_more inner outer b lies in' =
 pub all_boxed : (inner outer : OffsetBox) (xs : List Offset) (b : Offset) → LiesIn inner outer → InBox outer b → AllByRecursion (λ o. InBox inner o) xs → AllByRecursion (λ o. InBox outer o) (xs ++ b ∷ [])
 all_boxed inner outer xs b lies last all =
     all-push (λ o. InBox outer o) xs b (all-weaker (λ o. InBox inner o) (λ o. InBox outer o) xs (λ o in'. box_more inner outer o lies in') all) last
-
-pub boxed_at : (box : OffsetBox) (xs : List Offset) (i : ℕ) (d : Offset) → i < length xs → AllByRecursion (λ o. InBox box o) xs → InBox box (get_or xs i d)
-boxed_at box xs i d lt all = all-get_or (λ o. InBox box o) xs i d lt all
 
 pub near_box : (xs : List Offset) → AllByRecursion IsNear xs → AllByRecursion (λ o. InBox (record { x0 = negsuc 253; x1 = pos 254; y0 = negsuc 253; y1 = pos 254 }) o) xs
 near_box xs near =

@@ -135,9 +135,9 @@ overlaps-none [] = refl
 overlaps-none (x ∷ xs) = overlaps-none xs
 
 -- the first offset of the second list is none of these
-without : (b : Offset) (xs bs : List Offset) → AllByRecursion (λ (c : Offset). row_key b <ℤ row_key c) xs → overlaps xs (b ∷ bs) ≡ overlaps xs bs
-without b [] bs all = refl
-without b (x ∷ xs) bs all = rw (key_apart_back x b all.0, without b xs bs all.1) refl
+overlaps-after : (b : Offset) (xs bs : List Offset) → AllByRecursion (λ (c : Offset). row_key b <ℤ row_key c) xs → overlaps xs (b ∷ bs) ≡ overlaps xs bs
+overlaps-after b [] bs all = refl
+overlaps-after b (x ∷ xs) bs all = rw (key_apart_back x b all.0, overlaps-after b xs bs all.1) refl
 
 -- the offsets that two lists still have, and those that they had
 pub record Passes (first_turned second_turned : Bool) (first_rest second_rest first second : List Offset) : Type 0 where
@@ -189,7 +189,7 @@ passes_on_second s t rest others after first second a b as' p e f apart le =
     let r : Rises (a ∷ as') = subst Rises e p.first_rises in
     let q : Rises (b ∷ by_rows t after) = subst Rises f p.second_rises in
     let both : overlaps (by_rows s rest) (by_rows t others) ≡ overlaps (a ∷ as') (by_rows t after) =
-    seen_by_rows s t rest others (a ∷ as') (b ∷ by_rows t after) e f ∙ skip_second a b as' (by_rows t after) apart (without b as' (by_rows t after) (all_after b a as' le r.0)) in
+    seen_by_rows s t rest others (a ∷ as') (b ∷ by_rows t after) e f ∙ skip_second a b as' (by_rows t after) apart (overlaps-after b as' (by_rows t after) (all_after b a as' le r.0)) in
     record {
       first_rises = p.first_rises;
       second_rises = q.1;

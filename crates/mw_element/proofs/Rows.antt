@@ -2,7 +2,7 @@
 use Rattle.std.proofs.Common.{◌≡◌, ℕ, zero, suc, ◌+◌, ◌*◌, ◌/◌, ◌%◌, ◌<◌, ◌≤◌, ℤ, pos, inl, inr, append_assoc, Bool, true, false, cond, eqb, List, [], ◌∷◌, ◌++◌, length, refl, sym, ap, subst, ◌∙◌, arith}
 use Rattle.std.specs.Prelude.{Option, Some, None, slice_index, flat_map, filter_map, ◌-ℤ◌, ◌+ℤ◌, ◌≤ℤ◌, count_by, ◌==◌}
 use Rattle.std.proofs.lemmas.Int.{ints}
-use Rattle.std.proofs.Math.Nat.{zero-add, mul-le-mul_right, div-lt_iff_lt-mul, mod-lt, mod-add-div'}
+use Rattle.std.proofs.Math.Nat.{zero-add, div-lt_iff_lt-mul, mod-lt, mod-add-div'}
 use Rattle.std.proofs.lemmas.Option.{get_or_from_slice_get}
 use Rattle.std.specs.Prelude.{slice_get}
 use Rattle.std.proofs.lemmas.Bool.{cases_lt, cases_Bool}
@@ -11,12 +11,15 @@ use Rattle.std.specs.List.{range_with_len, cons_option, AllByRecursion, IsDistin
 use Rattle.std.proofs.lemmas.Grind.{flat_map-append}
 use Rattle.std.proofs.lemmas.List.{append-nil}
 use Rattle.std.proofs.lemmas.List.Elements.{filter_map-append}
+use Rattle.std.proofs.lemmas.Map.Keys.{IsDistinct-cons}
+use Rattle.std.proofs.Math.Arith.{digits_lt}
 use Rattle.mw_facts.proofs.Alls.{all-append}
 use Rattle.mw_facts.proofs.Ranges.{range_with_len-more}
+use Rattle.mw_facts.proofs.Elements.{append-empty}
 use Rattle.mw_model.specs.declared.places.Offset.{Offset}
 use Rattle.mw_model.specs.Rasters.{Raster}
 use Rattle.mw_model.specs.Elements.{IsNear, offset_from, offsets_in_row, offsets_of, same_offset}
-use Rattle.mw_element.proofs.Boxes.{Follows, Below, apart_right, row_apart, distinct_append, distinct_cons, distinct_nil, below_row, below_more, follows_more}
+use Rattle.mw_element.proofs.Boxes.{Follows, Below, apart_right, row_apart, distinct_append, distinct_nil, below_row, below_more, follows_more}
 
 -- the pixel of column x of row y, as an offset where it is 1
 abbrev pub pixel_offset : Raster ℕ → ℕ → ℕ → ℕ → ℕ → Option Offset
@@ -32,10 +35,10 @@ rows_part f ox oy y n = flat_map (λ k. offsets_in_row f ox oy k) (range_with_le
 
 -- ---- steps of loops
 
-row_more : (f : Raster ℕ) (ox oy y n : ℕ) → row_part f ox oy y 0 (n + 1) ≡ row_part f ox oy y 0 n ++ cons_option (pixel_offset f ox oy y n) []
+pub row_more : (f : Raster ℕ) (ox oy y n : ℕ) → row_part f ox oy y 0 (n + 1) ≡ row_part f ox oy y 0 n ++ cons_option (pixel_offset f ox oy y n) []
 row_more f ox oy y n = ap (filter_map (pixel_offset f ox oy y)) (range_with_len-more 0 n n (zero-add n)) ∙ filter_map-append (pixel_offset f ox oy y) (range_with_len 0 n) (n ∷ [])
 
-row_next : (f : Raster ℕ) (ox oy y n : ℕ) (b : Bool) → eqb (slice_index f.cells (y * f.width + n)) 1 ≡ b → row_part f ox oy y 0 (n + 1) ≡ row_part f ox oy y 0 n ++ cons_option (cond b (Some (offset_from ox oy n y)) None) []
+pub row_next : (f : Raster ℕ) (ox oy y n : ℕ) (b : Bool) → eqb (slice_index f.cells (y * f.width + n)) 1 ≡ b → row_part f ox oy y 0 (n + 1) ≡ row_part f ox oy y 0 n ++ cons_option (cond b (Some (offset_from ox oy n y)) None) []
 row_next f ox oy y n b e = row_more f ox oy y n ∙ ap (λ (t : Bool). row_part f ox oy y 0 n ++ cons_option (cond t (Some (offset_from ox oy n y)) None) []) e
 
 pub row_set : (f : Raster ℕ) (ox oy y n : ℕ) (before out new : List Offset) → out ≡ before ++ row_part f ox oy y 0 n → eqb (slice_index f.cells (y * f.width + n)) 1 ≡ true
@@ -78,7 +81,7 @@ row_distinct f ox oy y x (suc n) =
     let rest = row_distinct f ox oy y (x + 1) n in
     let apart = apart_right (offset_from ox oy x y) (seen_at ox (x + 1)) (seen_at oy y) (row_part f ox oy y (x + 1) n) (seen_next ox x) (row_follows f ox oy y (x + 1) n) in
     elim (eqb (slice_index f.cells (y * f.width + x)) 1) as (λ (b : Bool). IsDistinct same_offset (cons_option (cond b (Some (offset_from ox oy x y)) None) (row_part f ox oy y (x + 1) n))) [
-      | true ↦ distinct_cons (offset_from ox oy x y) (row_part f ox oy y (x + 1) n) apart rest
+      | true ↦ IsDistinct-cons same_offset (offset_from ox oy x y) (row_part f ox oy y (x + 1) n) apart rest
       | false ↦ rest
     ]
 
@@ -142,14 +145,10 @@ none_row f ox oy y x (suc n) h =
     ap (λ (c : Bool). cons_option (cond c (Some (offset_from ox oy x y)) None) (row_part f ox oy y (x + 1) n)) (h x (omega arith) (omega arith))
     ∙ none_row f ox oy y (x + 1) n (λ i low high. h i (omega (arith, low)) (omega (arith, high)))
 
-nil_both : (xs ys : List Offset) → xs ++ ys ≡ [] → (xs ≡ []) × (ys ≡ [])
-nil_both [] ys e = (refl, e)
-nil_both (x ∷ xs) ys e = absurd cc
-
 rows_none : (f : Raster ℕ) (ox oy y n : ℕ) → rows_part f ox oy y n ≡ [] → (j i : ℕ) → y ≤ j → j < y + n → i < f.width → eqb (slice_index f.cells (j * f.width + i)) 1 ≡ false
 rows_none f ox oy y zero e j i low high lt = absurd (omega (arith, low, high))
 rows_none f ox oy y (suc n) e j i low high lt =
-    let parts = nil_both (offsets_in_row f ox oy y) (rows_part f ox oy (y + 1) n) e in
+    let parts = append-empty (offsets_in_row f ox oy y) (rows_part f ox oy (y + 1) n) e in
     elim (cases_lt y j) [
       | inl more ↦ rows_none f ox oy (y + 1) n parts.1 j i (omega (arith, more)) (omega (arith, high)) lt
       | inr le ↦
@@ -183,14 +182,8 @@ none_count (x ∷ xs) h =
     ∙ ap (λ (c : Bool). cond c 1 0 + count_by (λ s. eqb s 1) xs) (h 0 (omega arith))
     ∙ ap (λ n. 0 + n) (none_count xs (λ k lt. h (suc k) (omega (arith, lt))))
 
-place_in : (w h j i : ℕ) → j < h → i < w → j * w + i < h * w
-place_in w h j i low lt =
-    let more : (j + 1) * w ≤ h * w = mul-le-mul_right w (omega (arith, low)) in
-    let next : (j + 1) * w ≡ j * w + w = omega arith in
-    omega (arith, more, next, lt)
-
 pub no_offsets : (f : Raster ℕ) (ox oy : ℕ) → length f.cells ≡ f.height * f.width → count_by (λ s. s == 1) f.cells ≡ 0 → offsets_of f ox oy ≡ []
-no_offsets f ox oy size e = none_rows f ox oy 0 f.height (λ j i low high lt. count_none f.cells e (j * f.width + i) (omega (arith, place_in f.width f.height j i (omega (arith, high)) lt, size)))
+no_offsets f ox oy size e = none_rows f ox oy 0 f.height (λ j i low high lt. count_none f.cells e (j * f.width + i) (omega (arith, (let less : j < f.height = omega (arith, high) in digits_lt less lt), size)))
 
 pub no_pixels : (f : Raster ℕ) (ox oy : ℕ) → length f.cells ≡ f.height * f.width → 0 < f.width → offsets_of f ox oy ≡ [] → count_by (λ s. s == 1) f.cells ≡ 0
 no_pixels f ox oy size some e =

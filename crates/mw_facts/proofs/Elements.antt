@@ -1,5 +1,5 @@
 -- Elements of joined and cut lists, and lists that have the same elements.
-use Rattle.std.proofs.Common.{◌≡◌, ℕ, zero, suc, ◌+◌, ◌-◌, ◌<◌, ◌≤◌, List, [], ◌∷◌, ◌++◌, length, take, drop, get_or, slice_get, refl, ap, sym, ◌∙◌, arith, length-take, zero-add}
+use Rattle.std.proofs.Common.{◌≡◌, ℕ, zero, suc, ◌+◌, ◌-◌, ◌<◌, ◌≤◌, List, [], ◌∷◌, ◌++◌, length, take, drop, get_or, slice_get, refl, ap, sym, ◌∙◌, arith, length-take, zero-add, take_at, replicate}
 use Rattle.std.proofs.Math.Nat.{suc-add}
 use Rattle.std.proofs.lemmas.List.{get_or_append_left, get_or_push}
 use Rattle.std.proofs.lemmas.Option.{slice_get_past, same_Some}
@@ -64,3 +64,16 @@ get_or-push_below xs x d i lt = get_or_append_left xs (x ∷ []) d i lt
 
 pub get_or-push_last : {A : Type 0} (xs : List A) (x d : A) (i : ℕ) → i ≡ length xs → get_or (xs ++ x ∷ []) i d ≡ x
 get_or-push_last xs x d i e = get_or_push xs x d i (sym e)
+
+-- what is written over the front of a list is read back
+pub take-written : {A : Type 0} (xs ys : List A) (n : ℕ) → length ys ≡ n → take n (ys ++ drop (length ys) xs) ≡ ys
+take-written xs ys n len = take_at ys (drop (length ys) xs) n len
+
+pub append-empty : {A : Type 0} (xs ys : List A) → xs ++ ys ≡ [] → (xs ≡ []) × (ys ≡ [])
+append-empty [] ys e = (refl, e)
+append-empty (x ∷ xs) ys e = absurd cc
+
+pub get_or-replicate_same : {A : Type 0} (m i : ℕ) (n : A) → get_or (replicate m n) i n ≡ n
+get_or-replicate_same zero i n = refl
+get_or-replicate_same (suc m) zero n = refl
+get_or-replicate_same (suc m) (suc i) n = get_or-replicate_same m i n

@@ -8,3 +8,4 @@ pub mod Numbers
 pub mod Parts
 pub mod Positions
 pub mod Ranges
+pub mod Tests

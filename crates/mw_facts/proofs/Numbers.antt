@@ -1,5 +1,5 @@
 -- Tests on numbers, and induction over the numbers below one.
-use Rattle.std.proofs.Common.{◌≡◌, ℕ, zero, suc, ◌+◌, ◌<◌, Bool, true, false, cond, ltb, min, max, ◌⊎◌, inl, inr, ◌≤◌, refl, arith}
+use Rattle.std.proofs.Common.{◌≡◌, ℕ, zero, suc, ◌+◌, ◌<◌, Bool, true, false, cond, ltb, min, max, ◌⊎◌, inl, inr, ◌≤◌, refl, arith, not, eqb}
 use Rattle.std.proofs.lemmas.Bool.{cases_lt}
 use Rattle.std.proofs.lemmas.Bool.Decides.{nat_tests}
 use lib.Count.{ones}
@@ -19,9 +19,16 @@ cond-min x y = grind (arith, nat_tests)
 pub cond-max : (x y : ℕ) → cond (ltb x y) y x ≡ max x y
 cond-max x y = grind (arith, nat_tests)
 
-pub one_if-le : (b : Bool) → cond b 1 0 ≤ 1
+-- 1 where it is true, else 0
+abbrev pub one_if : Bool → ℕ
+one_if b = cond b 1 0
+
+pub one_if-le : (b : Bool) → one_if b ≤ 1
 one_if-le true = omega arith
 one_if-le false = omega arith
+
+pub one_if-not_zero : (n : ℕ) → n ≤ 1 → one_if (not (eqb n 0)) ≡ n
+one_if-not_zero n le = grind (arith, nat_tests)
 
 pub below_or_last : (n t : ℕ) → t < n + 1 → (t < n) ⊎ (t ≡ n)
 below_or_last n t lt = elim (cases_lt t n) [ inl less ↦ inl less | inr past ↦ inr (omega arith) ]

@@ -1,5 +1,5 @@
 -- Bounds of boxes, as signed numbers of 32 bits.
-use Rattle.std.proofs.Common.{◌≡◌, ℕ, zero, suc, ◌*◌, ◌≤◌, ℤ, pos, negsuc, ◌*ℤ◌, ◌≤ℤ◌, neg_ℤ, ap, sym, arith, ◌∙◌, w32, to_z, of_z}
+use Rattle.std.proofs.Common.{◌≡◌, ℕ, suc, ◌*◌, ◌≤◌, ℤ, pos, negsuc, ◌*ℤ◌, ◌≤ℤ◌, neg_ℤ, ap, sym, arith, ◌∙◌, w32, to_z, of_z, mul-le-mul_right}
 use Rattle.std.proofs.lemmas.Int.{ints}
 use Rattle.std.proofs.Math.IntN.{pos-*ℤ-pos, pos-*ℤ-negsuc}
 use Rattle.mw_model.specs.declared.places.OffsetBox.{OffsetBox}
@@ -9,16 +9,11 @@ use Rattle.mw_plan.specs.Steps.{IsNearBox}
 abbrev pub IsNear : ℤ → Type 0
 IsNear z = (negsuc 253 ≤ℤ z) × (z ≤ℤ pos 254)
 
-mul_below : (n m k : ℕ) → n ≤ k → n * m ≤ k * m
-mul_below zero m k le = omega arith
-mul_below (suc n) m zero le = absurd (omega arith)
-mul_below (suc n) m (suc k) le = omega (arith, mul_below n m k (omega arith))
-
 -- a product of a small number and a bound
 fits_product : (n : ℕ) (z : ℤ) → n ≤ 32 → IsNear z → to_z w32 (of_z w32 (pos n *ℤ z)) ≡ pos n *ℤ z
 fits_product n (pos m) le near =
     let e = pos-*ℤ-pos n m in
-    let low = mul_below n m 32 le in
+    let low = mul-le-mul_right m le in
     let small : m ≤ 254 = let h = near.1 in omega (arith, ints) in
     ap (λ (t : ℤ). to_z w32 (of_z w32 t)) e ∙ fits (n * m) (omega arith) ∙ sym e
   where
@@ -26,7 +21,7 @@ fits_product n (pos m) le near =
     fits k le = omega (arith, ints)
 fits_product n (negsuc m) le near =
     let e = pos-*ℤ-negsuc n m in
-    let low = mul_below n (suc m) 32 le in
+    let low = mul-le-mul_right (suc m) le in
     let small : m ≤ 253 = let h = near.0 in omega (arith, ints) in
     ap (λ (t : ℤ). to_z w32 (of_z w32 t)) e ∙ fits (n * suc m) (omega arith) ∙ sym e
   where

@@ -18,9 +18,6 @@ dilation-union : (b : List Offset) (f g : Picture) → SameShape g f → dilatio
 dilation-union b f g shape =
     drawn_same f.kind f.width f.height f.maxval (λ x y. greatest (under (union f g) b x y)) (λ x y. max (sample (dilation b f) x y) (sample (dilation b g) x y)) each
   where
-    join : (a m k : ℕ) → k ≡ max a m → a ≤ k
-    join a m k e = omega arith
-
     each : (x y : ℕ) → x < f.width → y < f.height → greatest (under (union f g) b x y) ≡ max (sample (dilation b f) x y) (sample (dilation b g) x y)
     each x y p q =
         let p' : x < g.width = omega (arith, shape.width) in

@@ -94,18 +94,18 @@ number_ok k top none =
     let e : (nat_le 1 k && nat_le k top) ≡ true = (none_first (nat_le 1 k && nat_le k top) fault.Param [] none).0 in
     grind (arith, nat_tests)
 
-pub allowed : (o : GranOp) (a b c : Input) → fault_in (op.Gran o) a b c ≡ None → IsAllowed o a b
-allowed (Skeleton f e levels) a b c none =
+pub IsAllowed-gran : (o : GranOp) (a b c : Input) → fault_in (op.Gran o) a b c ≡ None → IsAllowed o a b
+IsAllowed-gran (Skeleton f e levels) a b c none =
     let first = none_first (is_image_input a) (fault.Kind 0) _ none in
     let second = none_first (is_element_input b) (fault.Kind 1) _ first.1 in
     let third = none_first (is_binary (image_shape a)) fault.Binary _ second.1 in
     let fourth = none_first (holds_origin (offsets_of_input b)) fault.NoOrigin _ third.1 in
     record { image = first.0; element = second.0; levels = number_ok levels 254 fourth.1 }
-allowed (Restore f e levels) a b c none =
+IsAllowed-gran (Restore f e levels) a b c none =
     let first = none_first (is_image_input a) (fault.Kind 0) _ none in
     let second = none_first (is_element_input b) (fault.Kind 1) _ first.1 in
     record { image = first.0; element = second.0; levels = number_ok levels 254 second.1 }
-allowed (Spectrum f e levels) a b c none =
+IsAllowed-gran (Spectrum f e levels) a b c none =
     let first = none_first (is_image_input a) (fault.Kind 0) _ none in
     let second = none_first (is_element_input b) (fault.Kind 1) _ first.1 in
     record { image = first.0; element = second.0; levels = number_ok levels 32 second.1 }
@@ -143,21 +143,21 @@ short_plan (Spectrum f e levels) b p fits makes = go levels (levels * (levels + 
 
 pub gran_plan : (o : GranOp) (a b c : Input) (p : Plan) → fault_in (op.Gran o) a b c ≡ None → MakesGran o (offsets_of_input b) p → IsPlanOf (op.Gran o) a b c p
 gran_plan (Skeleton f e levels) a b c p none makes =
-    let ok = allowed (Skeleton f e levels) a b c none in
+    let ok = IsAllowed-gran (Skeleton f e levels) a b c none in
     let d = offsets_of_input b in
     plan_of_image (op.Gran (Skeleton f e levels)) a b c IsSet (λ g. ImageValue (skeleton d levels g)) p (count_two a b ok.image ok.element)
     (finds_two (op.Gran (Skeleton f e levels)) IsSet (λ e g. ImageValue (skeleton e levels g)) a b ok.image ok.element (λ g suits. set_of g (image_shape a) suits.image suits.shape (is_set f e levels a b c none)) (λ g h. refl))
     (draws_means IsSet p (3 * levels + 2) (skeleton d levels) (as_grey (levels + 1) (image_shape a)) (grey_drawn (levels + 1) (image_shape a) ∙ image_drawn a ok.image)
     (let count = makes.count in omega arith) (short_plan (Skeleton f e levels) d p ok.levels makes) makes)
 gran_plan (Restore f e levels) a b c p none makes =
-    let ok = allowed (Restore f e levels) a b c none in
+    let ok = IsAllowed-gran (Restore f e levels) a b c none in
     let d = offsets_of_input b in
     plan_of_image (op.Gran (Restore f e levels)) a b c IsPicture (λ g. ImageValue (restoration d levels g)) p (count_two a b ok.image ok.element)
     (finds_two (op.Gran (Restore f e levels)) IsPicture (λ e g. ImageValue (restoration e levels g)) a b ok.image ok.element (λ g suits. suits.image.picture) (λ g h. refl))
     (draws_means IsPicture p (3 * levels + 1) (restoration d levels) (as_bits (image_shape a)) (bits_drawn (image_shape a) ∙ image_drawn a ok.image)
     (let count = makes.count in omega arith) (short_plan (Restore f e levels) d p ok.levels makes) makes)
 gran_plan (Spectrum f e levels) a b c p none makes =
-    let ok = allowed (Spectrum f e levels) a b c none in
+    let ok = IsAllowed-gran (Spectrum f e levels) a b c none in
     let d = offsets_of_input b in
     plan_of_image (op.Gran (Spectrum f e levels)) a b c IsPicture (λ g. CurveValue (spectrum d levels g)) p (count_two a b ok.image ok.element)
     (finds_two (op.Gran (Spectrum f e levels)) IsPicture (λ e g. CurveValue (spectrum e levels g)) a b ok.image ok.element (λ g suits. suits.image.picture) (λ g h. refl))

@@ -1,9 +1,10 @@
 -- Full rectangles that hold their origin, as boxes: what is covered by a box whose bounds are multiplied.
-use Rattle.std.proofs.Common.{◌≡◌, ℕ, zero, suc, ◌+◌, ◌*◌, ◌≤◌, List, [], ◌∷◌, ◌++◌, map, ℤ, pos, negsuc, ◌+ℤ◌, ◌-ℤ◌, ◌≤ℤ◌, neg_ℤ, ap, sym, arith, ◌∙◌, refl}
+use Rattle.std.proofs.Common.{◌≡◌, ℕ, zero, suc, ◌+◌, ◌*◌, ◌≤◌, List, [], ◌∷◌, map, ℤ, pos, negsuc, ◌+ℤ◌, ◌-ℤ◌, ◌≤ℤ◌, neg_ℤ, ap, sym, arith, ◌∙◌, refl}
 use Rattle.std.specs.Prelude.{◌*ℤ◌}
 use Rattle.std.specs.List.{range_with_len, flat_map}
 use Rattle.std.proofs.lemmas.Int.{ints}
 use Rattle.std.proofs.Math.IntN.{pos-*ℤ-pos, pos-*ℤ-negsuc}
+use Rattle.mw_facts.proofs.Alls.{flat_map-same}
 use Rattle.mw_model.specs.declared.places.Offset.{Offset}
 use Rattle.mw_model.specs.declared.places.OffsetBox.{OffsetBox}
 use Rattle.mw_model.specs.Places.{nonnegative, span, box_offsets}
@@ -11,10 +12,10 @@ use Rattle.mw_model.specs.Pictures.{Picture, IsPicture}
 use Rattle.mw_model.specs.Flat.{erosion, dilation, negated}
 use Rattle.mw_model.specs.Iterates.{times, rectangle}
 use Rattle.mw_model.specs.Laws.{HoldsOrigin}
-use Rattle.mw_model.proofs.Covers.{turned, turned_back}
+use Rattle.mw_model.proofs.Covers.{negated-IsTurned, turned_back}
 use Rattle.mw_gran.specs.Boxes.{multiplied}
 use Rattle.mw_plan.specs.Steps.{turned_box}
-use Rattle.mw_plan.proofs.Boxes.{element_covers, of_element}
+use Rattle.mw_plan.proofs.Boxes.{element_covers, element-way}
 use Rattle.mw_element.specs.Figures.{FillsBox}
 use Rattle.mw_laws.proofs.BoxLaws.{within, covers_within, times-erosion_box, times-dilation_box, negated_rectangle}
 use Rattle.mw_laws.proofs.Composed.{CoverSame, erosion_same, dilation_same}
@@ -32,7 +33,7 @@ pub record Bounds (box : OffsetBox) (l r t d : ℕ) : Type 0 where
 filled_is_rectangle : (box : OffsetBox) (b : List Offset) (l r t d : ℕ) → FillsBox box b → Bounds box l r t d → CoverSame b (rectangle l r t d)
 filled_is_rectangle box b l r t d fills bounds = record {
   to = λ x y u v covers.
-      let by = of_element b x y u v covers in
+      let by = element-way b x y u v covers in
       let inside = (fills by.by).0 by.holds in
       covers_within l r t d x y u v (record {
         left_of = low (by.by).dx box.x0 x u l by.leads.0 bounds.left inside.left;
@@ -80,15 +81,11 @@ same_map : {X : Type 0} (f g : ℕ → X) (ns : List ℕ) → ((n : ℕ) → f n
 same_map f g [] each = refl
 same_map f g (n ∷ ns) each = ap (λ (t : _). t ∷ map f ns) (each n) ∙ ap (λ (t : List _). g n ∷ t) (same_map f g ns each)
 
-same_flat : {X : Type 0} (f g : ℕ → List X) (ns : List ℕ) → ((n : ℕ) → f n ≡ g n) → flat_map f ns ≡ flat_map g ns
-same_flat f g [] each = refl
-same_flat f g (n ∷ ns) each = ap (λ (t : List _). t ++ flat_map f ns) (each n) ∙ ap (λ (t : List _). g n ++ t) (same_flat f g ns each)
-
 box_is_rectangle : (box : OffsetBox) (l r t d : ℕ) → Bounds box l r t d → box_offsets box ≡ rectangle l r t d
 box_is_rectangle box l r t d bounds =
     ap (λ (n : ℕ). flat_map (λ j. map (λ i. from_corner i j) (range_with_len 0 n)) (range_with_len 0 (span box.y0 box.y1))) (span_is box.x0 box.x1 l r bounds.left bounds.right)
     ∙ ap (λ (n : ℕ). flat_map (λ j. map (λ i. from_corner i j) (range_with_len 0 (l + r + 1))) (range_with_len 0 n)) (span_is box.y0 box.y1 t d bounds.top bounds.bottom)
-    ∙ same_flat (λ j. map (λ i. from_corner i j) (range_with_len 0 (l + r + 1))) (λ j. map (λ i. from_origin i j) (range_with_len 0 (l + r + 1))) (range_with_len 0 (t + d + 1))
+    ∙ flat_map-same (λ j. map (λ i. from_corner i j) (range_with_len 0 (l + r + 1))) (λ j. map (λ i. from_origin i j) (range_with_len 0 (l + r + 1))) (range_with_len 0 (t + d + 1))
     (λ j. same_map (λ i. from_corner i j) (λ i. from_origin i j) (range_with_len 0 (l + r + 1)) (λ i. same i j))
   where
     offset : ℤ → ℤ → Offset
@@ -126,8 +123,8 @@ above_origin : (z : ℤ) → pos 0 ≤ℤ z → (n : ℕ) × (z ≡ pos n)
 above_origin (pos n) le = (n, refl)
 above_origin (negsuc n) le = absurd (omega (arith, ints))
 
-bounded : (box : OffsetBox) (b : List Offset) → FillsBox box b → HoldsOrigin b → IsBounded box
-bounded box b fills holds =
+FillsBox-bounded : (box : OffsetBox) (b : List Offset) → FillsBox box b → HoldsOrigin b → IsBounded box
+FillsBox-bounded box b fills holds =
     let inside = (fills (record { dx = pos 0; dy = pos 0 })).0 holds in
     let left = below_origin box.x0 inside.left in
     let right = above_origin box.x1 inside.right in
@@ -167,8 +164,8 @@ times_same first second (suc n) f same = same (times n first f) ∙ ap second (t
 
 cover_turned : (b c : List Offset) → CoverSame b c → CoverSame (negated b) (negated c)
 cover_turned b c same = record {
-  to = λ x y u v covers. turned c u v x y (same.to u v x y (turned_back b x y u v covers));
-  from = λ x y u v covers. turned b u v x y (same.from u v x y (turned_back c x y u v covers));
+  to = λ x y u v covers. negated-IsTurned c u v x y (same.to u v x y (turned_back b x y u v covers));
+  from = λ x y u v covers. negated-IsTurned b u v x y (same.from u v x y (turned_back c x y u v covers));
 }
 
 cover_both : (a b c : List Offset) → CoverSame a b → CoverSame b c → CoverSame a c
@@ -182,7 +179,7 @@ module _ (box : OffsetBox) (b : List Offset) (n : ℕ) (f : Picture) (fills : Fi
   -- one erosion by the multiplied box is n erosions by the element
   pub erosion-multiplied : erosion (box_offsets (multiplied n box)) f ≡ times n (erosion b) f
   erosion-multiplied =
-      let at = bounded box b fills holds in
+      let at = FillsBox-bounded box b fills holds in
       let is = at.bounds in
       let same = filled_is_rectangle box b at.left at.right at.top at.bottom fills is in
       ap (λ (t : List Offset). erosion t f) (box_is_rectangle (multiplied n box) (n * at.left) (n * at.right) (n * at.top) (n * at.bottom) (multiplied_bounds n box at.left at.right at.top at.bottom is))
@@ -192,7 +189,7 @@ module _ (box : OffsetBox) (b : List Offset) (n : ℕ) (f : Picture) (fills : Fi
   -- and the same of dilations
   pub dilation-multiplied : dilation (box_offsets (multiplied n box)) f ≡ times n (dilation b) f
   dilation-multiplied =
-      let at = bounded box b fills holds in
+      let at = FillsBox-bounded box b fills holds in
       let is = at.bounds in
       let same = filled_is_rectangle box b at.left at.right at.top at.bottom fills is in
       ap (λ (t : List Offset). dilation t f) (box_is_rectangle (multiplied n box) (n * at.left) (n * at.right) (n * at.top) (n * at.bottom) (multiplied_bounds n box at.left at.right at.top at.bottom is))
@@ -202,7 +199,7 @@ module _ (box : OffsetBox) (b : List Offset) (n : ℕ) (f : Picture) (fills : Fi
   -- by the turned box they are those by the negated element
   pub dilation-multiplied_turned : dilation (box_offsets (multiplied n (turned_box box))) f ≡ times n (dilation (negated b)) f
   dilation-multiplied_turned =
-      let at = bounded box b fills holds in
+      let at = FillsBox-bounded box b fills holds in
       let is = at.bounds in
       let l = at.left in
       let r = at.right in

@@ -22,9 +22,9 @@ length-pushed p s = omega (arith, length-append p (s ∷ []))
 
 -- ---- sources
 
-later : (n k m : ℕ) (s : Source) → k ≤ m → IsSourceAt n k s → IsSourceAt n m s
-later n k m (FromInput i) le is = is
-later n k m (FromStep i) le is = omega arith
+IsSourceAt-later : (n k m : ℕ) (s : Source) → k ≤ m → IsSourceAt n k s → IsSourceAt n m s
+IsSourceAt-later n k m (FromInput i) le is = is
+IsSourceAt-later n k m (FromStep i) le is = omega arith
 
 -- the sources are shown to be these images
 pub data AreShown (Fits : Picture → Type 0) (p : Plan) : List Source → (Picture → List Picture) → Type 0 where
@@ -51,13 +51,13 @@ are_seen p _ _ (also s sources operator shown first rest) f fits =
 at_front : (p : Plan) (s : Planned) (k : ℕ) → k < length p → slice_index_or (p ++ s ∷ []) k nothing_planned ≡ slice_index_or p k nothing_planned
 at_front p s k lt = get_or-append p (s ∷ []) nothing_planned k lt
 
-at_end : (p : Plan) (s : Planned) (k : ℕ) → k ≡ length p → slice_index_or (p ++ s ∷ []) k nothing_planned ≡ s
-at_end p s k e = ap (λ (t : ℕ). slice_index_or (p ++ s ∷ []) t nothing_planned) e ∙ get_or-append_seam p s [] nothing_planned
+slice_index_or-at_end : (p : Plan) (s : Planned) (k : ℕ) → k ≡ length p → slice_index_or (p ++ s ∷ []) k nothing_planned ≡ s
+slice_index_or-at_end p s k e = ap (λ (t : ℕ). slice_index_or (p ++ s ∷ []) t nothing_planned) e ∙ get_or-append_seam p s [] nothing_planned
 
-behind : (p : Plan) (k : ℕ) → length p ≤ k → slice_index_or p k nothing_planned ≡ nothing_planned
-behind [] k le = refl
-behind (s ∷ p) zero le = absurd (omega arith)
-behind (s ∷ p) (suc k) le = behind p k (omega arith)
+slice_index_or-behind : (p : Plan) (k : ℕ) → length p ≤ k → slice_index_or p k nothing_planned ≡ nothing_planned
+slice_index_or-behind [] k le = refl
+slice_index_or-behind (s ∷ p) zero le = absurd (omega arith)
+slice_index_or-behind (s ∷ p) (suc k) le = slice_index_or-behind p k (omega arith)
 
 -- a plane stays one
 still_plane : (p : Plan) (x : Planned) (n : ℕ) (s : Source) → n ≤ length p → IsSourceAt 1 n s → IsPlaneSource p s → IsPlaneSource (p ++ x ∷ []) s
@@ -73,7 +73,7 @@ pub still_shows : (Fits : Picture → Type 0) (p q : Plan) (step : PlanStep) (so
     → IsPushed p q step sources r → Shows Fits p s operator → Shows Fits q s operator
 still_shows Fits p q step sources r s operator pushed shows =
     subst (λ (t : Plan). Shows Fits t s operator) (sym pushed.is) (record {
-      here = later 1 (length p) (length (p ++ planned step sources ∷ [])) s (omega (arith, length-pushed p (planned step sources))) shows.here;
+      here = IsSourceAt-later 1 (length p) (length (p ++ planned step sources ∷ [])) s (omega (arith, length-pushed p (planned step sources))) shows.here;
       plane = still_plane p (planned step sources) (length p) s (omega arith) shows.here shows.plane;
       is = λ f fits. source_kept p (planned step sources) (f ∷ []) f.width f.height 1 s shows.here ∙ shows.is f fits;
       framed = shows.framed;
@@ -86,7 +86,7 @@ now_shows Fits p q step sources s shown operator pushed are acts plain =
     subst (λ (t : Source). Shows Fits q t operator) (sym pushed.at)
     (subst (λ (t : Plan). Shows Fits t (FromStep (length p)) operator) (sym pushed.is) (record {
       here = omega (arith, length-pushed p (planned step sources));
-      plane = ap (λ (t : Planned). is_sum t.step) (at_end p (planned step sources) (length p) refl) ∙ plain;
+      plane = ap (λ (t : Planned). is_sum t.step) (slice_index_or-at_end p (planned step sources) (length p) refl) ∙ plain;
       is = λ f fits.
           source_pushed p (planned step sources) (f ∷ []) f.width f.height
           ∙ ap (λ (t : List Picture). plane_of step t f.width f.height) (are_seen p sources shown are f fits)
@@ -98,7 +98,7 @@ same_seen : (n : ℕ) (p : Plan) (s : Planned) (f : Picture) (sources : List Sou
     → map (seen_of (p ++ s ∷ []) f) sources ≡ map (seen_of p f) sources
 same_seen n p s f [] here le = refl
 same_seen n p s f (r ∷ rs) here le =
-    ap (λ (t : Picture). t ∷ map (seen_of (p ++ s ∷ []) f) rs) (source_kept p s (f ∷ []) f.width f.height 1 r (later 1 n (length p) r le here.0))
+    ap (λ (t : Picture). t ∷ map (seen_of (p ++ s ∷ []) f) rs) (source_kept p s (f ∷ []) f.width f.height 1 r (IsSourceAt-later 1 n (length p) r le here.0))
     ∙ ap (λ (t : List Picture). seen_of p f r ∷ t) (same_seen n p s f rs here.1 le)
 
 -- the plan stays sound
@@ -112,8 +112,8 @@ still_sound Fits p q step sources s shown operator pushed are acts sound =
         elim (cases_lt k (length p)) [
           | inl lt ↦ subst (λ (t : Planned). AllByRecursion (IsSourceAt 1 k) t.sources) (sym (at_front p (planned step sources) k lt)) (sound.sources k)
           | inr le ↦ elim (cases_eq k (length p)) [
-            | inl e ↦ subst (λ (t : Planned). AllByRecursion (IsSourceAt 1 k) t.sources) (sym (at_end p (planned step sources) k e)) (subst (λ (n : ℕ). AllByRecursion (IsSourceAt 1 n) sources) (sym e) (are_here p sources shown are))
-            | inr past ↦ subst (λ (t : Planned). AllByRecursion (IsSourceAt 1 k) t.sources) (sym (behind (p ++ planned step sources ∷ []) k (omega (arith, length-pushed p (planned step sources))))) tt
+            | inl e ↦ subst (λ (t : Planned). AllByRecursion (IsSourceAt 1 k) t.sources) (sym (slice_index_or-at_end p (planned step sources) k e)) (subst (λ (n : ℕ). AllByRecursion (IsSourceAt 1 n) sources) (sym e) (are_here p sources shown are))
+            | inr past ↦ subst (λ (t : Planned). AllByRecursion (IsSourceAt 1 k) t.sources) (sym (slice_index_or-behind (p ++ planned step sources ∷ []) k (omega (arith, length-pushed p (planned step sources))))) tt
           ]
         ]
 
@@ -125,11 +125,11 @@ still_sound Fits p q step sources s shown operator pushed are acts sound =
               (still_planes p (planned step sources) k (slice_index_or p k nothing_planned).sources (omega arith) (sound.sources k) (sound.planes k))
           | inr le ↦ elim (cases_eq k (length p)) [
             | inl e ↦
-                subst (λ (t : Planned). AllByRecursion (IsPlaneSource (p ++ planned step sources ∷ [])) t.sources) (sym (at_end p (planned step sources) k e))
+                subst (λ (t : Planned). AllByRecursion (IsPlaneSource (p ++ planned step sources ∷ [])) t.sources) (sym (slice_index_or-at_end p (planned step sources) k e))
                 (still_planes p (planned step sources) (length p) sources (omega arith) (are_here p sources shown are) (are_planes p sources shown are))
             | inr past ↦
                 subst (λ (t : Planned). AllByRecursion (IsPlaneSource (p ++ planned step sources ∷ [])) t.sources)
-                (sym (behind (p ++ planned step sources ∷ []) k (omega (arith, length-pushed p (planned step sources))))) tt
+                (sym (slice_index_or-behind (p ++ planned step sources ∷ []) k (omega (arith, length-pushed p (planned step sources))))) tt
           ]
         ]
 
@@ -142,7 +142,7 @@ still_sound Fits p q step sources s shown operator pushed are acts sound =
               (subst (CanBeMade (slice_index_or p k nothing_planned).step) (sym (same_seen k p (planned step sources) f (slice_index_or p k nothing_planned).sources (sound.sources k) (omega arith))) (sound.made f fits k front))
           | inr le ↦
               let e : k ≡ length p = omega (arith, length-pushed p (planned step sources)) in
-              subst (λ (t : Planned). CanBeMade t.step (map (seen_of (p ++ planned step sources ∷ []) f) t.sources)) (sym (at_end p (planned step sources) k e))
+              subst (λ (t : Planned). CanBeMade t.step (map (seen_of (p ++ planned step sources ∷ []) f) t.sources)) (sym (slice_index_or-at_end p (planned step sources) k e))
               (subst (CanBeMade step) (sym (same_seen (length p) p (planned step sources) f sources (are_here p sources shown are) (omega arith) ∙ are_seen p sources shown are f fits)) (acts.made f fits))
         ]
 
@@ -156,7 +156,7 @@ still_read p q step sources s pushed (k, lt, has) =
 pub now_read : (p q : Plan) (step : PlanStep) (sources : List Source) (s : Source) → IsPushed p q step sources s → Contains sources (FromInput 0) → IsReadBy q 0
 now_read p q step sources s pushed has =
     subst (λ (t : Plan). IsReadBy t 0) (sym pushed.is)
-    (length p, omega (arith, length-pushed p (planned step sources)), subst (λ (t : Planned). Contains t.sources (FromInput 0)) (sym (at_end p (planned step sources) (length p) refl)) has)
+    (length p, omega (arith, length-pushed p (planned step sources)), subst (λ (t : Planned). Contains t.sources (FromInput 0)) (sym (slice_index_or-at_end p (planned step sources) (length p) refl)) has)
 
 -- a step that is no sum adds no number
 pub still_counts : (Fits : Picture → Type 0) (p q : Plan) (step : PlanStep) (sources : List Source) (s : Source) (numbers : Picture → List ℕ)

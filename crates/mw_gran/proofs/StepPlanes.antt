@@ -8,7 +8,7 @@ use Rattle.mw_model.specs.Places.{box_offsets}
 use Rattle.mw_model.specs.Pictures.{Picture, sample, sample_at, drawn}
 use Rattle.mw_model.specs.Flat.{erosion, dilation, opening}
 use Rattle.mw_model.specs.Iterates.{times, residue_mark, skeleton, level_set, union}
-use Rattle.mw_model.specs.PlanSteps.{Erode, Dilate, ErodeBox, DilateBox, Join, Blank, Mark, MarkLast, Equal, Sum, here}
+use Rattle.mw_model.specs.PlanSteps.{ErodeBox, DilateBox, Join, Mark, MarkLast, Equal, Sum, here}
 use Rattle.mw_model.specs.Plans.{plane_of}
 use Rattle.mw_gran.specs.Growing.{IsFramed}
 use Rattle.mw_gran.specs.Turns.{marked}
@@ -17,12 +17,6 @@ use Rattle.mw_model.proofs.ImagePlaces.{drawn_same, sample-drawn, redrawn_itself
 
 pub here_sample : (f : Picture) (width height x y : ℕ) → IsFramed f width height → x < width → y < height → here (sample_at f) x y ≡ sample f x y
 here_sample f width height x y framed p q = rw (sample_at_in f x y (omega (arith, framed.width)) (omega (arith, framed.height))) refl
-
-pub plane-erode : (b : List Offset) (f : Picture) (width height : ℕ) → IsFramed f width height → plane_of (Erode b) (f ∷ []) width height ≡ erosion b f
-plane-erode b f width height framed = rw (← framed.width, ← framed.height) refl
-
-pub plane-dilate : (b : List Offset) (f : Picture) (width height : ℕ) → IsFramed f width height → plane_of (Dilate b) (f ∷ []) width height ≡ dilation b f
-plane-dilate b f width height framed = rw (← framed.width, ← framed.height) refl
 
 pub plane-erode_box : (box : OffsetBox) (f : Picture) (width height : ℕ) → IsFramed f width height → plane_of (ErodeBox box) (f ∷ []) width height ≡ erosion (box_offsets box) f
 plane-erode_box box f width height framed = rw (← framed.width, ← framed.height) refl
@@ -48,9 +42,6 @@ plane-join f g width height framed beside =
     ∙ rw (← framed.width, ← framed.height) refl
 
 -- ---- marks
-
-pub plane-blank : (b : List Offset) (depth : ℕ) (f : Picture) → plane_of (Blank (depth + 1)) [] f.width f.height ≡ marked b depth 0 f
-plane-blank b depth f = refl
 
 not_one : (s : ℕ) → s ≤ 1 → (s == 0) ≡ not (s == 1)
 not_one s le = elim (cases_eq s 0) [

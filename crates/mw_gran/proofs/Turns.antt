@@ -30,14 +30,14 @@ pushed_last p q step sources s pushed =
     pushed.at ∙ ap FromStep e
 
 -- the source alone
-alone : {Fits : Picture → Type 0} (p : Plan) (s : Source) (operator : Picture → Picture) → Shows Fits p s operator → AreShown Fits p (s ∷ []) (λ f. operator f ∷ [])
-alone p s operator shows = also s [] operator (λ f. []) shows none
+AreShown-alone : {Fits : Picture → Type 0} (p : Plan) (s : Source) (operator : Picture → Picture) → Shows Fits p s operator → AreShown Fits p (s ∷ []) (λ f. operator f ∷ [])
+AreShown-alone p s operator shows = also s [] operator (λ f. []) shows none
 
 nothing_sound : (Fits : Picture → Type 0) → IsSound Fits []
 nothing_sound Fits = record { sources = λ k. tt; planes = λ k. tt; made = λ f fits k lt. absurd (omega arith) }
 
-itself : (f : Picture) → IsPicture f → IsPicture f
-itself f picture = picture
+IsPicture-itself : (f : Picture) → IsPicture f → IsPicture f
+IsPicture-itself f picture = picture
 
 -- ---- erosions
 
@@ -49,7 +49,7 @@ nothing_eroded b p empty =
       read = inl refl;
       shows = λ k le.
           let first : 0 ≡ k = omega arith in
-          subst (λ (t : ℕ). Shows IsPicture [] (after_erosions t) (times t (erosion b))) first (shows_input IsPicture [] itself);
+          subst (λ (t : ℕ). Shows IsPicture [] (after_erosions t) (times t (erosion b))) first (shows_input IsPicture [] IsPicture-itself);
       counts = λ f fits. refl;
     })
 
@@ -60,7 +60,7 @@ erodes_one b n p q s erode dilate slides at pushed =
     let next : Picture → Picture = λ f. erosion b (left f) in
     let before = at.shows n (omega arith) in
     let acts = acts_on IsPicture erode (erosion b) left slides.erodes (erosion_framed b) before.framed in
-    let shown = alone p e left before in
+    let shown = AreShown-alone p e left before in
     let here : s ≡ FromStep n = pushed.at ∙ ap FromStep at.count in
     let now = subst (λ (t : Source). Shows IsPicture q t next) here (now_shows IsPicture p q erode (e ∷ []) s (λ f. left f ∷ []) next pushed shown acts slides.erodes.plain) in
     record {
@@ -132,13 +132,13 @@ skeleton_turn_more b depth n p p1 p2 p3 m o before after erode dilate slides bel
     let opened : Picture → Picture = λ f. dilation (negated b) (next f) in
     let shows_next : Shows IsSet p s next = at.shows_eroded (suc n) (omega arith) in
     let acts1 = acts_on IsSet dilate (dilation (negated b)) next slides.dilates (dilation_framed (negated b)) shows_next.framed in
-    let shown1 = alone p s next shows_next in
+    let shown1 = AreShown-alone p s next shows_next in
     let shows1 = now_shows IsSet p p1 dilate (s ∷ []) o (λ f. next f ∷ []) opened push1 shown1 acts1 slides.dilates.plain in
     let sound1 = still_sound IsSet p p1 dilate (s ∷ []) o (λ f. next f ∷ []) opened push1 shown1 acts1 at.sound in
     let left1 = still_shows IsSet p p1 dilate (s ∷ []) o e left push1 (at.shows_eroded n (omega arith)) in
     let acts3 = acts_mark b depth n below in
     let shown3 : AreShown IsSet p2 (m ∷ e ∷ o ∷ []) (λ f. marked b depth n f ∷ left f ∷ opened f ∷ []) =
-    also m (e ∷ o ∷ []) (marked b depth n) (λ f. left f ∷ opened f ∷ []) shows2 (also e (o ∷ []) left (λ f. opened f ∷ []) (goes_on.shows e left left1) (alone p2 o opened (goes_on.shows o opened shows1))) in
+    also m (e ∷ o ∷ []) (marked b depth n) (λ f. left f ∷ opened f ∷ []) shows2 (also e (o ∷ []) left (λ f. opened f ∷ []) (goes_on.shows e left left1) (AreShown-alone p2 o opened (goes_on.shows o opened shows1))) in
     record {
       sound = still_sound IsSet p2 p3 (Mark (n + 1)) (m ∷ e ∷ o ∷ []) (source after) (λ f. marked b depth n f ∷ left f ∷ opened f ∷ []) (marked b depth (suc n)) push3 shown3 acts3 (goes_on.sound sound1);
       read = read_still at.read;
@@ -170,7 +170,7 @@ skeleton_ends_at b depth p q r m s before count at goes_on shows_marks pushed =
     let left : Picture → Picture = times depth (erosion b) in
     let last = acts_mark_last b depth in
     let shown : AreShown IsSet q (m ∷ e ∷ []) (λ f. marked b depth depth f ∷ left f ∷ []) =
-    also m (e ∷ []) (marked b depth depth) (λ f. left f ∷ []) shows_marks (alone q e left (goes_on.shows e left (at.shows_eroded depth (omega arith)))) in
+    also m (e ∷ []) (marked b depth depth) (λ f. left f ∷ []) shows_marks (AreShown-alone q e left (goes_on.shows e left (at.shows_eroded depth (omega arith)))) in
     record {
       count = omega (arith, count, pushed_count q r (MarkLast (depth + 1)) (m ∷ e ∷ []) s pushed);
       sound = still_sound IsSet q r (MarkLast (depth + 1)) (m ∷ e ∷ []) s (λ f. marked b depth depth f ∷ left f ∷ []) (skeleton b depth) pushed shown last (goes_on.sound at.sound);
@@ -200,8 +200,8 @@ no_levels p empty = subst (HasLevels 0) (sym empty) (record {
 
 pub levels_more : (n : ℕ) (p q : Plan) (s : Source) → HasLevels n p → IsPushed p q (Equal (n + 1)) (FromInput 0 ∷ []) s → HasLevels (n + 1) q
 levels_more n p q s at pushed =
-    let acts = acts_equal IsPicture (n + 1) itself in
-    let shown = alone p (FromInput 0) (λ f. f) (shows_input IsPicture p itself) in
+    let acts = acts_equal IsPicture (n + 1) IsPicture-itself in
+    let shown = AreShown-alone p (FromInput 0) (λ f. f) (shows_input IsPicture p IsPicture-itself) in
     let here : s ≡ FromStep n = pushed.at ∙ ap FromStep at.count in
     let now = subst (λ (t : Source). Shows IsPicture q t (level_set (n + 1))) here (now_shows IsPicture p q (Equal (n + 1)) (FromInput 0 ∷ []) s (λ f. f ∷ []) (level_set (n + 1)) pushed shown acts refl) in
     record {
@@ -245,11 +245,11 @@ restoration_turn_more b depth n m p p1 p2 s s1 s2 erode dilate slides below at p
     let grown : Picture → Picture = λ f. dilation (negated b) (before f) in
     let joined : Picture → Picture = λ f. union (level f) (grown f) in
     let acts1 = acts_on IsPicture dilate (dilation (negated b)) before slides.dilates (dilation_framed (negated b)) at.shows.framed in
-    let shown1 = alone p s before at.shows in
+    let shown1 = AreShown-alone p s before at.shows in
     let shows1 = now_shows IsPicture p p1 dilate (s ∷ []) s1 (λ f. before f ∷ []) grown push1 shown1 acts1 slides.dilates.plain in
     let level1 = still_shows IsPicture p p1 dilate (s ∷ []) s1 mark level push1 (at.levels n (omega arith)) in
     let acts2 = acts_join IsPicture level grown level1.framed shows1.framed (λ f. sym (restored_shape b (n + 1) m f).kind) (λ f. sym (restored_shape b (n + 1) m f).maxval) in
-    let shown2 : AreShown IsPicture p1 (mark ∷ s1 ∷ []) (λ f. level f ∷ grown f ∷ []) = also mark (s1 ∷ []) level (λ f. grown f ∷ []) level1 (alone p1 s1 grown shows1) in
+    let shown2 : AreShown IsPicture p1 (mark ∷ s1 ∷ []) (λ f. level f ∷ grown f ∷ []) = also mark (s1 ∷ []) level (λ f. grown f ∷ []) level1 (AreShown-alone p1 s1 grown shows1) in
     let sound1 = still_sound IsPicture p p1 dilate (s ∷ []) s1 (λ f. before f ∷ []) grown push1 shown1 acts1 at.sound in
     record {
       count = omega (arith, at.count, pushed_count p p1 dilate (s ∷ []) s1 push1, pushed_count p1 p2 Join (mark ∷ s1 ∷ []) s2 push2);
@@ -280,8 +280,8 @@ restoration_ends b depth p s at = record {
 
 pub spectrum_begins : (b : List Offset) (depth : ℕ) (p q : Plan) (s : Source) → Erodes b depth p → IsPushed p q Sum (FromInput 0 ∷ []) s → TellsVolumes b depth 0 q
 spectrum_begins b depth p q s at pushed =
-    let shown = alone p (FromInput 0) (λ f. f) (shows_input IsPicture p itself) in
-    let acts = acts_sum IsPicture (λ f. f) (shows_input IsPicture p itself).framed in
+    let shown = AreShown-alone p (FromInput 0) (λ f. f) (shows_input IsPicture p IsPicture-itself) in
+    let acts = acts_sum IsPicture (λ f. f) (shows_input IsPicture p IsPicture-itself).framed in
     record {
       tells = record {
         count = omega (arith, at.count, pushed_count p q Sum (FromInput 0 ∷ []) s pushed);
@@ -299,11 +299,11 @@ pub tells_no_more : (p q : Plan) (step : PlanStep) (r s : Source) (before operat
 tells_no_more p q step r s before operator steps numbers pushed shows acts not tells = (
   record {
     count = omega (arith, tells.count, pushed_count p q step (r ∷ []) s pushed);
-    sound = still_sound IsPicture p q step (r ∷ []) s (λ f. before f ∷ []) operator pushed (alone p r before shows) acts tells.sound;
+    sound = still_sound IsPicture p q step (r ∷ []) s (λ f. before f ∷ []) operator pushed (AreShown-alone p r before shows) acts tells.sound;
     read = still_read p q step (r ∷ []) s pushed tells.read;
     counts = still_counts IsPicture p q step (r ∷ []) s numbers pushed not tells.counts;
   },
-  now_shows IsPicture p q step (r ∷ []) s (λ f. before f ∷ []) operator pushed (alone p r before shows) acts not,
+  now_shows IsPicture p q step (r ∷ []) s (λ f. before f ∷ []) operator pushed (AreShown-alone p r before shows) acts not,
 )
 
 -- the sum of what a source shows
@@ -313,9 +313,9 @@ tells_sum p q r s before steps numbers pushed shows tells =
     let acts = acts_sum IsPicture before shows.framed in
     record {
       count = omega (arith, tells.count, pushed_count p q Sum (r ∷ []) s pushed);
-      sound = still_sound IsPicture p q Sum (r ∷ []) s (λ f. before f ∷ []) before pushed (alone p r before shows) acts tells.sound;
+      sound = still_sound IsPicture p q Sum (r ∷ []) s (λ f. before f ∷ []) before pushed (AreShown-alone p r before shows) acts tells.sound;
       read = still_read p q Sum (r ∷ []) s pushed tells.read;
-      counts = now_counts IsPicture p q Sum (r ∷ []) s (λ f. before f ∷ []) before numbers pushed (alone p r before shows) acts refl tells.counts;
+      counts = now_counts IsPicture p q Sum (r ∷ []) s (λ f. before f ∷ []) before numbers pushed (AreShown-alone p r before shows) acts refl tells.counts;
     }
 
 pub still_shown : (p q : Plan) (step : PlanStep) (sources : List Source) (s : Source) → IsPushed p q step sources s → StillShown p q
@@ -385,7 +385,7 @@ box_turn b box n p p1 p2 p3 s1 s2 s3 fills holds tells push1 push2 push3 =
       plane = λ f fits. plane-dilate_box (multiplied (n + 1) (turned_box box)) (eroded f) f.width f.height (acts1.framed f fits) ∙ dilation-multiplied_turned box b (n + 1) (eroded f) fills holds (times_picture b (n + 1) f fits);
       framed = λ f fits. times_framed (dilation (negated b)) (dilation_framed (negated b)) (n + 1) (eroded f) f.width f.height (acts1.framed f fits);
     } in
-    let first = tells_no_more p p1 (ErodeBox (multiplied (n + 1) box)) (FromInput 0) s1 (λ f. f) eroded (3 * n + 1) (spectrum b n) push1 (shows_input IsPicture p itself) acts1 refl tells in
+    let first = tells_no_more p p1 (ErodeBox (multiplied (n + 1) box)) (FromInput 0) s1 (λ f. f) eroded (3 * n + 1) (spectrum b n) push1 (shows_input IsPicture p IsPicture-itself) acts1 refl tells in
     let second = tells_no_more p1 p2 (DilateBox (multiplied (n + 1) (turned_box box))) s1 s2 eroded opened (suc (3 * n + 1)) (spectrum b n) push2 first.1 acts2 refl first.0 in
     let third = tells_sum p2 p3 s2 s3 opened (suc (suc (3 * n + 1))) (spectrum b n) push3 second.1 second.0 in
     let steps : suc (suc (suc (3 * n + 1))) ≡ 3 * (n + 1) + 1 = omega arith in
@@ -398,9 +398,6 @@ pub boxes_begin : (b : List Offset) (q : Plan) (s : Source) → IsPushed [] q Su
 boxes_begin b q s pushed = (spectrum_begins b 0 [] q s (nothing_eroded b [] refl) pushed).tells
 
 -- ---- the steps of a spectrum
-
-half : (a : ℕ) → 2 * a / 2 ≡ a
-half a = omega arith
 
 -- the steps of all turns
 steps_are : (n : ℕ) → n + volume_steps n ≡ n + n * (n + 1) / 2 + n + 1

@@ -1,10 +1,12 @@
 -- Counting: sums over the numbers of a range.
-use Rattle.std.proofs.Common.{◌≡◌, ◌≢◌, ℕ, zero, suc, ◌+◌, ◌-◌, ◌*◌, ◌/◌, ◌%◌, ◌<◌, ◌≤◌, Bool, true, false, ◌&&◌, cond, nat_eq, nat_le, List, ◌∷◌, count_by, refl, ap, sym, ◌∙◌, arith, inl, inr}
+use Rattle.std.proofs.Common.{◌≡◌, ◌≢◌, ℕ, zero, suc, ◌+◌, ◌-◌, ◌*◌, ◌/◌, ◌%◌, ◌<◌, ◌≤◌, Bool, true, false, ◌&&◌, cond, nat_eq, nat_le, List, ◌∷◌, count_by, refl, ap, sym, ◌∙◌, arith, inl, inr, ne_of_lt, ne_of_gt, add-zero, zero-add}
 use Rattle.std.specs.List.{range_with_len}
 use Rattle.std.proofs.Math.Bool.{and-false}
 use Rattle.std.proofs.lemmas.Bool.{cases_lt, eq-eqb, ne_eqb, lt-ltb, le-ltb, le-leb, lt-leb}
 use Rattle.std.proofs.lemmas.Nat.{div-mul-add, mod-mul-add}
 use Rattle.std.proofs.lemmas.List.Sums.{sum_by-cons}
+use Rattle.mw_facts.proofs.Counts.{count_by-same}
+use Rattle.mw_facts.proofs.Numbers.{one_if-le}
 use Rattle.mw_grid.specs.Counts.{bit, count_below, in_range}
 
 abbrev pub total : (ℕ → ℕ) → ℕ → ℕ → ℕ
@@ -32,21 +34,15 @@ bit-other t x ne = ap bit (ne_eqb t x ne)
 pub bit-at : (t x : ℕ) → t ≡ x → bit (nat_eq t x) ≡ 1
 bit-at t x e = ap (λ (k : ℕ). bit (nat_eq k x)) e ∙ bit-same x
 
-lt_ne : (a x : ℕ) → a < x → a ≢ x
-lt_ne a x lt e = absurd (omega arith)
-
-gt : (x a : ℕ) → x < a → a ≢ x
-gt x a lt e = absurd (omega arith)
-
 total-none : (x a n : ℕ) → x < a → total (λ t. bit (nat_eq t x)) a n ≡ 0
 total-none x a zero lt = refl
-total-none x a (suc n) lt = omega (arith, bit-other a x (gt x a lt), total-none x (a + 1) n (omega arith))
+total-none x a (suc n) lt = omega (arith, bit-other a x (ne_of_gt lt), total-none x (a + 1) n (omega arith))
 
 pub total-one : (x a n : ℕ) → a ≤ x → x < a + n → total (λ t. bit (nat_eq t x)) a n ≡ 1
 total-one x a zero from to = absurd (omega arith)
 total-one x a (suc n) from to =
     elim (cases_lt a x) [
-      | inl less ↦ omega (arith, bit-other a x (lt_ne a x less), total-one x (a + 1) n (omega arith) (omega arith))
+      | inl less ↦ omega (arith, bit-other a x (ne_of_lt less), total-one x (a + 1) n (omega arith) (omega arith))
       | inr there ↦ omega (arith, bit-at a x (omega arith), total-none x (a + 1) n (omega arith))
     ]
 
@@ -64,24 +60,17 @@ total-more f g x n lt same =
     ∙ total-add g (λ t. bit (nat_eq t x)) 0 n
     ∙ ap (λ (k : ℕ). total g 0 n + k) (total-one x 0 n (omega arith) (omega arith))
 
-bit-small : (b : Bool) → bit b ≤ 1
-bit-small true = omega arith
-bit-small false = omega arith
-
 total-most : (p : ℕ → Bool) (a n : ℕ) → total (λ t. bit (p t)) a n ≤ n
 total-most p a zero = omega arith
-total-most p a (suc n) = omega (arith, bit-small (p a), total-most p (a + 1) n)
+total-most p a (suc n) = omega (arith, one_if-le (p a), total-most p (a + 1) n)
 
 total-less : (p : ℕ → Bool) (x a n : ℕ) → a ≤ x → x < a + n → p x ≡ false → total (λ t. bit (p t)) a n < n
 total-less p x a zero from to not_so = absurd (omega arith)
 total-less p x a (suc n) from to not_so =
     elim (cases_lt a x) [
-      | inl less ↦ omega (arith, bit-small (p a), total-less p x (a + 1) n (omega arith) (omega arith) not_so)
+      | inl less ↦ omega (arith, one_if-le (p a), total-less p x (a + 1) n (omega arith) (omega arith) not_so)
       | inr there ↦ omega (arith, ap bit (ap p (let e : a ≡ x = omega arith in e) ∙ not_so), total-most p (a + 1) n)
     ]
-
-pub count-most : (p : ℕ → Bool) (n : ℕ) → count_by p (range_with_len 0 n) ≤ n
-count-most p n = omega (arith, count-total p 0 n, total-most p 0 n)
 
 pub count-less : (p : ℕ → Bool) (x n : ℕ) → x < n → p x ≡ false → count_by p (range_with_len 0 n) < n
 count-less p x n lt not_so = omega (arith, count-total p 0 n, total-less p x 0 n (omega arith) (omega arith) not_so)
@@ -90,42 +79,19 @@ count-less p x n lt not_so = omega (arith, count-total p 0 n, total-less p x 0 n
 pub count-more : (p q : ℕ → Bool) (x n : ℕ) → x < n → ((t : ℕ) → t < n → bit (p t) ≡ bit (q t) + bit (nat_eq t x)) → count_by p (range_with_len 0 n) ≡ count_by q (range_with_len 0 n) + 1
 count-more p q x n lt each = count-total p 0 n ∙ total-more (λ t. bit (p t)) (λ t. bit (q t)) x n lt each ∙ ap (λ (k : ℕ). k + 1) (sym (count-total q 0 n))
 
-pub count-same : (p q : ℕ → Bool) (n : ℕ) → ((t : ℕ) → t < n → p t ≡ q t) → count_by p (range_with_len 0 n) ≡ count_by q (range_with_len 0 n)
-count-same p q n each = count-total p 0 n ∙ total-same (λ t. bit (p t)) (λ t. bit (q t)) 0 n (λ t from to. ap bit (each t (omega arith))) ∙ sym (count-total q 0 n)
-
-total-some : (p : ℕ → Bool) (x a n : ℕ) → a ≤ x → x < a + n → p x ≡ true → 1 ≤ total (λ t. bit (p t)) a n
-total-some p x a zero from to so = absurd (omega arith)
-total-some p x a (suc n) from to so =
-    elim (cases_lt a x) [
-      | inl less ↦ omega (arith, total-some p x (a + 1) n (omega arith) (omega arith) so)
-      | inr there ↦ omega (arith, ap bit (ap p (let e : a ≡ x = omega arith in e) ∙ so))
-    ]
-
-pub count-some : (p : ℕ → Bool) (x n : ℕ) → x < n → p x ≡ true → 1 ≤ count_by p (range_with_len 0 n)
-count-some p x n lt so = omega (arith, count-total p 0 n, total-some p x 0 n (omega arith) (omega arith) so)
-
 -- one number more
-total-next : (f : ℕ → ℕ) (a n : ℕ) → total f a (suc n) ≡ total f a n + f (a + n)
-total-next f a zero = omega (arith, ap f (back a))
-  where
-    back : (a : ℕ) → a + 0 ≡ a
-    back a = omega arith
+pub total-next : (f : ℕ → ℕ) (a n : ℕ) → total f a (suc n) ≡ total f a n + f (a + n)
+total-next f a zero = omega (arith, ap f (add-zero a))
 total-next f a (suc n) = omega (arith, total-next f (a + 1) n, ap f (along a n))
   where
     along : (a n : ℕ) → a + suc n ≡ a + 1 + n
     along a n = omega arith
 
 pub count-next : (p : ℕ → Bool) (n : ℕ) → count_below p (suc n) ≡ count_below p n + bit (p n)
-count-next p n = count-total p 0 (suc n) ∙ total-next (λ t. bit (p t)) 0 n ∙ ap (λ (k : ℕ). k + bit (p (0 + n))) (sym (count-total p 0 n)) ∙ ap (λ (k : ℕ). count_below p n + bit (p k)) (front n)
-  where
-    front : (n : ℕ) → 0 + n ≡ n
-    front n = omega arith
+count-next p n = count-total p 0 (suc n) ∙ total-next (λ t. bit (p t)) 0 n ∙ ap (λ (k : ℕ). k + bit (p (0 + n))) (sym (count-total p 0 n)) ∙ ap (λ (k : ℕ). count_below p n + bit (p k)) (zero-add n)
 
 pub count-add : (p : ℕ → Bool) (a b : ℕ) → count_below p (a + b) ≡ count_below p a + count_below (λ t. p (a + t)) b
-count-add p a zero = ap (count_below p) (back a) ∙ sym (back (count_below p a))
-  where
-    back : (a : ℕ) → a + 0 ≡ a
-    back a = omega arith
+count-add p a zero = ap (count_below p) (add-zero a) ∙ sym (add-zero (count_below p a))
 count-add p a (suc b) =
     ap (count_below p) (along a b)
     ∙ count-next p (a + b)
@@ -168,7 +134,7 @@ count-product p q (suc m) n =
     share a b c = omega arith
 
     last : count_below (λ t. p ((m * n + t) / n) && q ((m * n + t) % n)) n ≡ count_below (λ t. p m && q t) n
-    last = count-same (λ t. p ((m * n + t) / n) && q ((m * n + t) % n)) (λ t. p m && q t) n (λ t lt. rw (div-mul-add m n t lt, mod-mul-add m n t lt) refl)
+    last = count_by-same (λ t. p ((m * n + t) / n) && q ((m * n + t) % n)) (λ t. p m && q t) n (λ t lt. rw (div-mul-add m n t lt, mod-mul-add m n t lt) refl)
 
 -- ranges
 pub in-yes : (a b x : ℕ) → a ≤ x → x < b → in_range a b x ≡ true
@@ -196,12 +162,6 @@ count-range a b (suc n) le fits =
       | inl within ↦ (let e = count-in_range a b (suc n) le (omega arith) in omega arith)
       | inr past ↦ omega (arith, count-next (in_range a b) n, ap bit (in-high a b n past), count-range a b n le past)
     ]
-
-pub count-step : (p : ℕ → Bool) (n : ℕ) (b : Bool) → p n ≡ b → count_below p (n + 1) ≡ count_below p n + bit b
-count-step p n b is = ap (count_below p) (next n) ∙ count-next p n ∙ ap (λ (v : Bool). count_below p n + bit v) is
-  where
-    next : (n : ℕ) → n + 1 ≡ suc n
-    next n = omega arith
 
 pub count-none : (p : ℕ → Bool) (n : ℕ) → ((t : ℕ) → t < n → p t ≡ false) → count_below p n ≡ 0
 count-none p zero none = refl

@@ -1,7 +1,8 @@
 -- A line of n places cut into pieces of one length.
 use Rattle.std.proofs.Common.{◌≡◌, ℕ, ◌+◌, ◌-◌, ◌*◌, ◌/◌, ◌<◌, ◌≤◌, min, arith}
 use Rattle.std.proofs.Math.Nat.{div-mul-le_self, lt-div-mul-add, div-eq_of_lt-le, mul-le-mul_left}
-use Rattle.std.proofs.lemmas.Nat.{le-div, mul-add-lt}
+use Rattle.std.proofs.lemmas.Nat.{le-div, div_below}
+use Rattle.std.proofs.Math.Arith.{digits_lt}
 
 -- the place x is in the piece x / side
 pub piece_has : (n side x : ℕ) → 0 < side → x < n → (x / side * side ≤ x) × (x < x / side * side + min side (n - x / side * side))
@@ -31,12 +32,7 @@ piece_begins n side c some there lt =
 
 -- a number by its row and column
 pub number_of : (rows columns c r : ℕ) → c < columns → r < rows → r * columns + c < rows * columns
-number_of rows columns c r across down = omega (arith, mul-add-lt r columns c rows down across)
+number_of rows columns c r across down = digits_lt down across
 
 pub row_less : (rows columns i : ℕ) → 0 < columns → i < rows * columns → i / columns < rows
-row_less rows columns i some lt =
-    let from : i / columns * columns ≤ i = div-mul-le_self i columns in
-    go rows (i / columns) columns (omega arith)
-  where
-    go : (a b c : ℕ) → b * c < a * c → b < a
-    go a b c lt = grind (arith, mul-le-mul_left)
+row_less rows columns i some lt = div_below i columns rows some lt

@@ -1,5 +1,5 @@
 -- Which pieces of a line a window along it meets.
-use Rattle.std.proofs.Common.{◌≡◌, ℕ, ◌+◌, ◌-◌, ◌*◌, ◌/◌, ◌<◌, ◌≤◌, min, Bool, true, false, ◌&&◌, nat_lt, nat_le, refl, arith, sym}
+use Rattle.std.proofs.Common.{◌≡◌, ℕ, ◌+◌, ◌-◌, ◌*◌, ◌/◌, ◌<◌, ◌≤◌, min, Bool, true, false, ◌&&◌, nat_lt, nat_le, refl, arith, sym, lt_of_mul-lt-mul_right}
 use Rattle.std.proofs.lemmas.Bool.{lt-ltb, ltb-true, leb-true, and_parts}
 use Rattle.std.proofs.Math.Nat.{div-mul-le_self, lt-div-mul-add, mul-le-mul_left}
 use Rattle.std.proofs.lemmas.Nat.{le-div}
@@ -15,9 +15,6 @@ same_bool false false f g = refl
 
 both_true : (a b c d : ℕ) → a < b → c < d → nat_lt a b && nat_lt c d ≡ true
 both_true a b c d p q = rw (lt-ltb a b p, lt-ltb c d q) refl
-
-less_of_mul : (a b c : ℕ) → b * c < a * c → b < a
-less_of_mul a b c lt = grind (arith, mul-le-mul_left)
 
 -- the piece c, grown, meets these pieces
 pub share-range : (n side c at before after : ℕ) → 0 < side → 0 < n → c < (n - 1) / side + 1 → at < (n - 1) / side + 1
@@ -41,7 +38,7 @@ share-range n side c at before after some there c-lt at-lt =
     let h = and_parts (nat_lt (c * side - before) (at * side + min side (n - at * side))) (nat_lt (at * side) (c * side - before + (min (c * side + min side (n - c * side) + after) n - (c * side - before)))) e in
     let p = ltb-true (c * side - before) (at * side + min side (n - at * side)) h.0 in
     let q = ltb-true (at * side) (c * side - before + (min (c * side + min side (n - c * side) + after) n - (c * side - before))) h.1 in
-    let low : (c * side - before) / side < at + 1 = less_of_mul (at + 1) ((c * side - before) / side) side (let d = div-mul-le_self (c * side - before) side in omega arith) in
+    let low : (c * side - before) / side < at + 1 = lt_of_mul-lt-mul_right side (let d = div-mul-le_self (c * side - before) side in omega arith) in
     let high : at ≤ (c * side + side - 1 + after) / side = le-div at (c * side + side - 1 + after) side some (omega arith) in
     in-yes ((c * side - before) / side) (min ((n - 1) / side + 1) ((c * side + side - 1 + after) / side + 1)) at (omega arith) (omega arith))
 

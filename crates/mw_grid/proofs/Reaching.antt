@@ -9,9 +9,9 @@ use Rattle.mw_model.specs.Places.{grown, IsWithin, Leads, WithinReach}
 use Rattle.mw_grid.specs.Rectangles.{Reaches, ReachesAll}
 
 -- along one line
-along : (n a w left right i x : ℕ) (d : ℤ) → pos 0 ≤ℤ (d +ℤ pos left) → d ≤ℤ pos right → i < w → pos (a + i) +ℤ d ≡ pos x → x < n
+column-reached : (n a w left right i x : ℕ) (d : ℤ) → pos 0 ≤ℤ (d +ℤ pos left) → d ≤ℤ pos right → i < w → pos (a + i) +ℤ d ≡ pos x → x < n
     → (a - left ≤ x) × (x < a - left + (min (a + w + right) n - (a - left)))
-along n a w left right i x d low high lt e inside =
+column-reached n a w left right i x d low high lt e inside =
     let from : a ≤ x + left = omega (arith, ints) in
     let to : x ≤ a + i + right = omega (arith, ints) in
     (omega arith, omega arith)
@@ -19,8 +19,8 @@ along n a w left right i x d low high lt e inside =
 reaches_one : (width height : ℕ) (reach : Reach) (tile : Rect) (x y : ℕ) (b : Offset) → Leads reach b → x < tile.width → y < tile.height
     → Reaches (grown width height reach tile) width height (pos (tile.x + x) +ℤ b.dx) (pos (tile.y + y) +ℤ b.dy)
 reaches_one width height reach tile x y b leads across down = λ p q e f p-lt q-lt.
-    let h = along width tile.x tile.width reach.left reach.right x p b.dx leads.left leads.right across e p-lt in
-    let v = along height tile.y tile.height reach.up reach.down y q b.dy leads.up leads.down down f q-lt in
+    let h = column-reached width tile.x tile.width reach.left reach.right x p b.dx leads.left leads.right across e p-lt in
+    let v = column-reached height tile.y tile.height reach.up reach.down y q b.dy leads.up leads.down down f q-lt in
     record { left = h.0; right = h.1; top = v.0; bottom = v.1 }
 
 reaches_each : (width height : ℕ) (reach : Reach) (tile : Rect) (x y : ℕ) (offsets : List Offset) → WithinReach reach offsets → x < tile.width → y < tile.height

@@ -1,19 +1,16 @@
 -- Tiles cover a frame once.
-use Rattle.std.proofs.Common.{◌≡◌, ℕ, zero, suc, ◌+◌, ◌-◌, ◌*◌, ◌/◌, ◌%◌, ◌<◌, ◌≤◌, min, map, length, arith, sym, ap, subst, ◌∙◌}
+use Rattle.std.proofs.Common.{◌≡◌, ℕ, zero, suc, ◌+◌, ◌-◌, ◌*◌, ◌/◌, ◌%◌, ◌<◌, ◌≤◌, min, map, length, arith, sym, ap, subst, ◌∙◌, zero-add}
 use Rattle.std.specs.List.{range_with_len, AllByRecursion}
-use Rattle.std.proofs.lemmas.Nat.{div-mul-add, div-add-mod'}
+use Rattle.std.proofs.lemmas.Nat.{div-mul-add, mod-mul-add, mod_below, div-add-mod'}
 use Rattle.std.proofs.lemmas.List.FromFn.{length-map-range_with_len, get_or-map-range_with_len}
 use Rattle.mw_model.specs.declared.places.Rect.{Rect}
 use Rattle.mw_model.specs.Places.{rect, tile_of, Holds, HoldsOnce, CoverOnce, IsWithin}
 use Rattle.mw_grid.specs.Grids.{Tiling, columns_of, rows_of, tile_count, tile_at, tiles_of}
 use Rattle.mw_grid.proofs.Lines.{piece_has, piece_only, piece_counts, piece_begins, number_of, row_less}
 
-mod_lt : (i n : ℕ) → 0 < n → i % n < n
-mod_lt i n some = omega arith
-
 -- the column of a number
 pub column_of_number : (r columns c : ℕ) → c < columns → (r * columns + c) % columns ≡ c
-column_of_number r columns c lt = omega (arith, div-mul-add r columns c lt, div-add-mod' (r * columns + c) columns, ap (λ (t : ℕ). t * columns) (div-mul-add r columns c lt))
+column_of_number r columns c lt = mod-mul-add r columns c lt
 
 -- what the frame and the side of a tiling are at least
 pub record HasTiles (g : Tiling) : Type 0 where
@@ -21,11 +18,17 @@ pub record HasTiles (g : Tiling) : Type 0 where
   pub high : 1 ≤ g.height
   pub some : 1 ≤ g.side
 
+pub some_tiles : (g : Tiling) → 0 < tile_count g
+some_tiles g = more ((g.height - 1) / g.side) ((g.width - 1) / g.side)
+  where
+    more : (x y : ℕ) → 0 < (x + 1) * (y + 1)
+    more x y = grind arith
+
 -- a tile begins in the frame
 pub tile_begins : (g : Tiling) (i : ℕ) → HasTiles g → i < tile_count g → (i % columns_of g * g.side < g.width) × (i / columns_of g * g.side < g.height)
 tile_begins g i has lt =
     let some : 0 < g.side = has.some in (
-      piece_begins g.width g.side (i % columns_of g) some has.wide (mod_lt i (columns_of g) (omega arith)),
+      piece_begins g.width g.side (i % columns_of g) some has.wide (mod_below i (columns_of g) (omega arith)),
       piece_begins g.height g.side (i / columns_of g) some has.high (row_less (rows_of g) (columns_of g) i (omega arith) lt),
     )
 
@@ -41,10 +44,7 @@ pub length-tiles_of : (g : Tiling) → length (tiles_of g) ≡ tile_count g
 length-tiles_of g = length-map-range_with_len (tile_at g) 0 (tile_count g)
 
 pub tile_of-tiles_of : (g : Tiling) (i : ℕ) → i < tile_count g → tile_of (tiles_of g) i ≡ tile_at g i
-tile_of-tiles_of g i lt = get_or-map-range_with_len (tile_at g) 0 (tile_count g) i i (rect 0 0 0 0) lt (front i)
-  where
-    front : (i : ℕ) → 0 + i ≡ i
-    front i = omega arith
+tile_of-tiles_of g i lt = get_or-map-range_with_len (tile_at g) 0 (tile_count g) i i (rect 0 0 0 0) lt (zero-add i)
 
 all_from : (g : Tiling) (start n : ℕ) → HasTiles g → start + n ≤ tile_count g → AllByRecursion (λ r. IsWithin r g.width g.height) (map (tile_at g) (range_with_len start n))
 all_from g start zero has le = tt

@@ -2,7 +2,7 @@
 use Rattle.std.proofs.Common.{◌≡◌, ℕ, zero, suc, ◌+◌, ◌-◌, ◌*◌, ◌<◌, ◌≤◌, Bool, true, false, cond, List, [], ◌∷◌, length, get_or, refl, sym, ap, ◌∙◌, arith, rules, Option, None, Some, inl, inr, ◌⊎◌, decimal, fold, ◌==◌, ◌&&◌, nat_le}
 use Rattle.std.specs.List.{list_all}
 use Rattle.std.specs.Str.{bytes_eq}
-use Rattle.std.proofs.lemmas.Bool.{and_parts, and_from, le-leb, leb-true, ne_eqb, eq-eqb, eqb-true}
+use Rattle.std.proofs.lemmas.Bool.{and_parts, and_from, le-leb, leb-true, ne_eqb, eq-eqb, eqb-true, cond-true}
 use Rattle.std.proofs.lemmas.Slice.Eq.{bytes_eq-Decides}
 use Rattle.std.proofs.lemmas.Str.Parse.{IsNumeralModel, numerals_by_fold, digits_value_short}
 use Rattle.std.proofs.lemmas.Fmt.{decimal-digits_value, digits_decimal, digits_value-decimal, length-decimal-le, decimal_nonempty, first_decimal, decimal_digit}
@@ -11,9 +11,6 @@ use Rattle.mw_model.specs.Names.{is_name, name_of, spelling}
 use Rattle.mw_model.proofs.Spellings.{spelling_of}
 use Rattle.mw_model.specs.Lines.{IsName}
 use Rattle.mw_intake.specs.Reading.{is_digit, is_number, value_of, number_word, name_word, name_in, number_in, rest, at_end, ◌>>=◌}
-
-value_from : ℕ → List ℕ → ℕ
-value_from n ds = fold (λ k b. 10 * k + (b - 48)) n ds
 
 pub own : IsNumeralModel (λ ds. list_all is_digit ds ≡ true) value_of
 own = numerals_by_fold (λ ds. list_all is_digit ds ≡ true) (search rules) (λ n ds. fold (λ k b. 10 * k + (b - 48)) n ds) (search rules)
@@ -72,10 +69,6 @@ only_number false word n h e = cc
 pub number_read : (word : List ℕ) (n : ℕ) → number_word word ≡ Some n → (word ≡ decimal n) × (n < 1000000000)
 number_read word n e = let p = only_number (is_number word) word n refl e in (sym p.0, p.1)
 
-picked : {A : Type 0} (b : Bool) (x y : A) → b ≡ true → cond b x y ≡ x
-picked true x y e = refl
-picked false x y e = cc
-
 first_digit : (n : ℕ) → n < 1000000000 → cond (get_or (decimal n) 0 0 == 48) (length (decimal n) == 1) true ≡ true
 first_digit zero h = rw (decimal_digit 0 (omega arith)) refl
 first_digit (suc n) h =
@@ -90,7 +83,7 @@ number_spelled n h =
     let lengths = and_from (nat_le 1 (length (decimal n))) (nat_le (length (decimal n)) 9) (le-leb 1 (length (decimal n)) some) (le-leb (length (decimal n)) 9 short) in
     let digits = and_from (nat_le 1 (length (decimal n)) && nat_le (length (decimal n)) 9) (list_all is_digit (decimal n)) lengths (digits_decimal own n (omega arith)) in
     let all = and_from (nat_le 1 (length (decimal n)) && nat_le (length (decimal n)) 9 && list_all is_digit (decimal n)) (cond (get_or (decimal n) 0 0 == 48) (length (decimal n) == 1) true) digits (first_digit n h) in
-    picked (is_number (decimal n)) (Some (value_of (decimal n))) None all ∙ ap Some (digits_value-decimal own n (omega arith))
+    cond-true (is_number (decimal n)) (Some (value_of (decimal n))) None all ∙ ap Some (digits_value-decimal own n (omega arith))
 
 -- a reading that begins with a name
 pub name_first : {B : Type 0} (ws : List (List ℕ)) (f : Name → Option B) (y : B) → (name_in ws >>= f) ≡ Some y →

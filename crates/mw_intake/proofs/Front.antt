@@ -6,7 +6,7 @@ use Rattle.std.proofs.lemmas.List.{take-append-le, drop-append-le, take_at, drop
 use Rattle.std.proofs.Math.Seq.{take-length}
 use Rattle.std.specs.List.{position_or_len}
 use Rattle.mw_facts.proofs.Positions.{position_length, position_more, position_kept, position_grows, position_take}
-use Rattle.mw_intake.specs.Intake.{IsPayloadLine}
+use Rattle.mw_intake.specs.Intake.{IsPayloadLine, line_for}
 use Rattle.mw_intake.proofs.LineLaws.{read_is_said}
 use Rattle.mw_intake.proofs.SaidLines.{said_is_read}
 use Rattle.mw_model.specs.Lines.{Front, Found, Partial, Fault, Asked, asked_with, after_head, with_payload, IsSayable, line_of, Says, NoLineEnd, IsFront, too_long, unended, ended, Begins}
@@ -36,20 +36,18 @@ pub front_open : (xs : List ℕ) → position_or_len is_line_end xs ≤ 200 → 
 unfolding front
 front_open xs h k = rw (le-ltb _ _ h, le-ltb _ _ k) refl
 
+pub front_empty : front [] ≡ Partial
+unfolding front
+front_empty = refl
+
 -- the line is whole
 pub front_line : (xs : List ℕ) → position_or_len is_line_end xs ≤ 200 → position_or_len is_line_end xs < length xs →
     front xs ≡ after_head (head_of (take (position_or_len is_line_end xs) xs)) (drop (position_or_len is_line_end xs + 1) xs)
 unfolding front
 front_line xs h k = rw (le-ltb _ _ h, lt-ltb _ _ k) refl
 
-pub cut_end : (xs : List ℕ) (e : ℕ) → e ≡ min 201 (position_or_len is_line_end xs) → e ≤ 200 → position_or_len is_line_end xs ≡ e
-cut_end xs e is h = omega arith
-
 pub cut_bound : (xs : List ℕ) (e : ℕ) → e ≡ min 201 (position_or_len is_line_end xs) → e ≤ length xs
 cut_bound xs e is = omega (arith, position_length is_line_end xs)
-
-pub cut_long : (xs : List ℕ) (e : ℕ) → e ≡ min 201 (position_or_len is_line_end xs) → 200 < e → front xs ≡ Fault Line
-cut_long xs e is h = front_long xs (omega arith)
 
 pub cut_open : (xs : List ℕ) (e : ℕ) → e ≡ min 201 (position_or_len is_line_end xs) → e ≤ 200 → e ≡ length xs → front xs ≡ Partial
 cut_open xs e is h k = front_open xs (omega arith) (omega arith)
@@ -62,9 +60,6 @@ cut_line xs e is h k =
 pub cut_head : (xs : List ℕ) (e : ℕ) (h : Option Head) → e ≡ min 201 (position_or_len is_line_end xs) → e ≤ 200 → e < length xs → h ≡ head_of (take e xs) → front xs ≡ after_head h (drop (e + 1) xs)
 cut_head xs e h is small k g = rw g (cut_line xs e is small k)
 
-take_take_below : (xs : List ℕ) (i j : ℕ) → i ≤ j → take i (take j xs) ≡ take i xs
-take_take_below xs i j h = simp take-take (ap (λ n. take n xs) (omega arith))
-
 -- the front of bytes that a PUT line begins
 pub payload_line : (xs : List ℕ) (e : ℕ) (what : Awaited) (len : ℕ) → e ≡ min 201 (position_or_len is_line_end xs) → e ≤ 200 → e < length xs → Some (Payload what len) ≡ head_of (take e xs) → len ≤ 134217728 → IsPayloadLine (take (e + 1) xs) what len
 payload_line xs e what len is small k g limit =
@@ -74,7 +69,7 @@ payload_line xs e what len is small k g limit =
     record {
       ends = rw r (simp length-take (omega arith));
       short = simp length-take (omega arith);
-      head = let below : e ≤ e + 1 = omega arith in rw (r, take_take_below xs e (e + 1) below) (sym g);
+      head = let below : e ≤ e + 1 = omega arith in rw (r, take-take e (e + 1) xs below) (sym g);
       limit = limit;
     }
 
@@ -93,7 +88,7 @@ front_gathered line xs what len g =
 pub payload_partial : (what : Awaited) (len : ℕ) (xs : List ℕ) → len ≤ 134217728 → length xs < len → with_payload what len xs ≡ Partial
 payload_partial what len xs limit h = rw (le-ltb 134217728 len limit, lt-ltb (length xs) len h) refl
 
-payload_whole : (what : Awaited) (len : ℕ) (xs : List ℕ) → len ≤ 134217728 → len ≤ length xs → with_payload what len xs ≡ Found (asked_with what (take len xs)) (drop len xs)
+pub payload_whole : (what : Awaited) (len : ℕ) (xs : List ℕ) → len ≤ 134217728 → len ≤ length xs → with_payload what len xs ≡ Found (asked_with what (take len xs)) (drop len xs)
 payload_whole what len xs limit h = rw (le-ltb 134217728 len limit, le-ltb (length xs) len h) refl
 
 pub gathering_open : (line payload more : List ℕ) (what : Awaited) (len : ℕ) → IsPayloadLine line what len → more ≡ [] → length payload < len → front (line ++ payload ++ more) ≡ Partial
@@ -106,9 +101,6 @@ gathering_whole line payload more what len g whole =
 
 pub payload_long : (what : Awaited) (len : ℕ) (xs : List ℕ) → 134217728 < len → with_payload what len xs ≡ Fault Length
 payload_long what len xs h = rw (lt-ltb 134217728 len h) refl
-
-pub front_not_empty : (line xs : List ℕ) (what : Awaited) (len : ℕ) → IsPayloadLine line what len → line ++ xs ≡ [] → ⊥
-front_not_empty line xs what len g e = omega (arith, g.ends, simp length-append at (ap length e))
 
 -- the line, what has come of the payload, and the rest
 pub started : (xs : List ℕ) (used n : ℕ) → take used xs ++ take n (drop used xs) ++ drop (used + n) xs ≡ xs
@@ -252,6 +244,19 @@ split_end xs h =
     let i = position_or_len is_line_end xs in
     sym (take-append-drop i xs) ∙ ap (λ l. take i xs ++ l) (drop_more xs i 0 h ∙ ap (λ b. b ∷ drop (i + 1) xs) (is_end xs h))
 
+-- a line that awaits a payload is told by what it awaits
+pub line_told : (line : List ℕ) (what : Awaited) (len : ℕ) → IsPayloadLine line what len → line_for what len ≡ line
+unfolding line_for
+line_told line what len g =
+    let i = position_or_len is_line_end line in
+    let inside : i < length line = omega (arith, g.ends) in
+    let said : take i line ≡ line_of (Payload what len) = (read_is_said (take i line) (Payload what len) g.head).0 in
+    let none : drop (i + 1) line ≡ [] = drop_all (i + 1) line (omega (arith, g.ends)) in
+    sym (split_end line inside ∙ rw (said, none) refl)
+
+pub line_awaits : (line : List ℕ) (what : Awaited) (len : ℕ) → IsPayloadLine line what len → IsPayloadLine (line_for what len) what len
+line_awaits line what len g = let P : List ℕ → Type 0 = λ l. IsPayloadLine l what len in subst P (sym (line_told line what len g)) g
+
 -- what is read at the front stands there
 pub is_front : (xs : List ℕ) (f : Front) → front xs ≡ f → IsFront xs f
 is_front xs f e = elim (cases_lt 200 (position_or_len is_line_end xs)) [
@@ -291,11 +296,6 @@ Begins_more [] xs ys rest b = ap (λ l. l ++ ys) b
 Begins_more (r ∷ rs) xs ys rest b =
     (b.0 ++ ys, is_front (xs ++ ys) (Found r (b.0 ++ ys)) (front_found xs ys r b.0 (front_is xs (Found r b.0) b.1)), Begins_more rs b.0 ys rest b.2)
 
--- one more request
-pub Begins_push : (rs : List Asked) (xs mid rest : List ℕ) (r : Asked) → Begins xs rs mid → front mid ≡ Found r rest → Begins xs (rs ++ r ∷ []) rest
-Begins_push [] xs mid rest r b e = (rest, is_front xs (Found r rest) (rw (← b) e), refl)
-Begins_push (q ∷ rs) xs mid rest r b e = (b.0, b.1, Begins_push rs b.0 mid rest r b.2 e)
-
 -- the same bytes begin with the same requests: the one list begins the other
 pub Begins_prefix : (rs qs : List Asked) (xs rest end : List ℕ) → Begins xs rs rest → Begins xs qs end → length rs ≤ length qs → (more : List Asked) × (qs ≡ rs ++ more) × Begins rest more end
 Begins_prefix [] qs xs rest end b d h = (qs, refl, rw b d)
@@ -307,3 +307,6 @@ Begins_prefix (r ∷ rs) (q ∷ qs) xs rest end b d h =
     let rec = Begins_prefix rs qs b.0 rest end b.2 (subst (λ l. Begins l qs end) (sym mid) d.2) (omega arith) in
     let tail = rec.1 in
     (rec.0, cc, rec.2)
+
+pub cut_end : (xs : List ℕ) (e : ℕ) → e ≡ min 201 (position_or_len is_line_end xs) → e ≤ 200 → position_or_len is_line_end xs ≡ e
+cut_end xs e is h = omega arith

@@ -1,5 +1,5 @@
 -- What a cut says of the bytes.
-use Rattle.std.specs.Prelude.{◌≡◌, ℕ, ◌<◌, ◌≤◌, List, take, drop, length}
+use Rattle.std.specs.Prelude.{◌≡◌, ℕ, ◌+◌, ◌<◌, ◌≤◌, List, take, drop, length}
 use Rattle.mw_intake.specs.declared.cut.Cut.{Cut}
 use Rattle.mw_intake.specs.declared.cut.Cut.TheVariants.{Bad, More, Alone, Payload}
 use Rattle.mw_model.specs.Lines.{Found, Partial, Fault, AskAlone}
@@ -11,5 +11,5 @@ use Rattle.mw_intake.specs.Intake.{IsPayloadLine}
 abbrev pub IsCut : Cut → List ℕ → Type 0
 IsCut (Bad c) bytes = front bytes ≡ Fault c
 IsCut More bytes = (front bytes ≡ Partial) × (position_or_len is_line_end bytes ≡ length bytes)
-IsCut (Alone a used) bytes = (0 < used) × (used ≤ length bytes) × (front bytes ≡ Found (AskAlone a) (drop used bytes))
+IsCut (Alone a used) bytes = (0 < used) × (used ≤ length bytes) × (front bytes ≡ Found (AskAlone a) (drop used bytes)) × (used ≡ position_or_len is_line_end bytes + 1)
 IsCut (Payload what len used) bytes = (used ≤ length bytes) × IsPayloadLine (take used bytes) what len

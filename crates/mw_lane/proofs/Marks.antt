@@ -16,9 +16,9 @@ compared_with_one : (h : ℕ → ℕ → Bool) (k : ℕ) (xs : List ℕ) → zip
 compared_with_one h k [] = refl
 compared_with_one h k (x ∷ xs) = ap (λ (t : List Bool). h k x ∷ t) (compared_with_one h k xs)
 
-chosen : (k : ℕ) (xs : List ℕ) → sel_l {A = ℕ} (map (leb k) xs) (replicate (length xs) 1) (replicate (length xs) 0) ≡ map (mark k) xs
-chosen k [] = refl
-chosen k (x ∷ xs) = ap (λ (t : List ℕ). mark k x ∷ t) (chosen k xs)
+sel_l-marks : (k : ℕ) (xs : List ℕ) → sel_l {A = ℕ} (map (leb k) xs) (replicate (length xs) 1) (replicate (length xs) 0) ≡ map (mark k) xs
+sel_l-marks k [] = refl
+sel_l-marks k (x ∷ xs) = ap (λ (t : List ℕ). mark k x ∷ t) (sel_l-marks k xs)
 
 -- what is chosen of 1 and 0 where a sample is compared with k
 pub marks_of_block : (w : Width) (k : ℕ) (xs : List ℕ) → length xs ≡ 64
@@ -27,7 +27,7 @@ marks_of_block w k xs whole =
     rw (take_all 64 xs (omega arith), tops_compared w leb (replicate 64 k) xs)
     (ap (λ (n : ℕ). sel_l {A = ℕ} (zip2 leb (replicate n k) xs) (replicate n 1) (replicate n 0)) (sym whole)
     ∙ ap (λ (t : List Bool). sel_l {A = ℕ} t (replicate (length xs) 1) (replicate (length xs) 0)) (compared_with_one leb k xs)
-    ∙ chosen k xs)
+    ∙ sel_l-marks k xs)
 
 not_reached : (k s : ℕ) → s < k → ◌≡◌ {A = ℕ} (cond (leb k s) 1 0) 0
 not_reached k s lt = grind (arith, nat_tests)

@@ -1,5 +1,5 @@
 -- Rows that are equal up to a place.
-use Rattle.std.proofs.Common.{◌≡◌, ℕ, ◌+◌, ◌-◌, ◌%◌, ◌^◌, ◌≤◌, ◌↔◌, IsTrue, subst, List, [], ◌∷◌, ◌++◌, length, take, drop, map, cond, not, eqb, refl, ap, sym, arith, ◌∙◌}
+use Rattle.std.proofs.Common.{◌≡◌, ℕ, ◌+◌, ◌-◌, ◌%◌, ◌^◌, ◌↔◌, IsTrue, subst, List, [], ◌∷◌, ◌++◌, length, take, drop, map, cond, not, eqb, refl, ap, sym, arith, ◌∙◌}
 use Rattle.std.proofs.lemmas.List.{take_all}
 use Rattle.std.proofs.lemmas.Bool.{eqb-true}
 use Rattle.std.proofs.lemmas.Bool.Decides.{nat_tests}
@@ -17,11 +17,8 @@ same_more i m k xs ys k-is front block =
     ∙ ap (λ (t : List _). take i ys ++ t) (ap (λ (t : ℕ). take t (drop i xs)) (sym k-is) ∙ block ∙ ap (λ (t : ℕ). take t (drop i ys)) k-is)
     ∙ sym (take-add i m ys)
 
-pub same_all : {A : Type 0} (i : ℕ) (xs ys : List A) → take i xs ≡ take i ys → length xs ≤ i → length ys ≤ i → xs ≡ ys
-same_all i xs ys front le more = sym (take_all i xs le) ∙ front ∙ take_all i ys more
-
-differs : (x y : ℕ) → ◌≡◌ {A = ℕ} (cond (not (eqb x y)) 1 0) 0 → x ≡ y
-differs x y e = grind (arith, nat_tests)
+eqb-same : (x y : ℕ) → ◌≡◌ {A = ℕ} (cond (not (eqb x y)) 1 0) 0 → x ≡ y
+eqb-same x y e = grind (arith, nat_tests)
 
 same_itself : (x : ℕ) → ◌≡◌ {A = ℕ} (cond (not (eqb x x)) 1 0) 0
 same_itself x = grind (arith, nat_tests)
@@ -31,7 +28,7 @@ none_differ [] [] paired none = refl
 none_differ [] (y ∷ ys) paired none = absurd (omega arith)
 none_differ (x ∷ xs) [] paired none = absurd (omega arith)
 none_differ (x ∷ xs) (y ∷ ys) paired none =
-    ap (λ (t : ℕ). t ∷ xs) (differs x y (omega arith)) ∙ ap (λ (t : List ℕ). y ∷ t) (none_differ xs ys (omega arith) (omega arith))
+    ap (λ (t : ℕ). t ∷ xs) (eqb-same x y (omega arith)) ∙ ap (λ (t : List ℕ). y ∷ t) (none_differ xs ys (omega arith) (omega arith))
 
 differ_nowhere : (xs : List ℕ) → mask_l (zip2 (λ (x y : ℕ). not (eqb x y)) xs xs) ≡ 0
 differ_nowhere [] = refl

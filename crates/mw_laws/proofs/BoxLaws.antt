@@ -11,7 +11,7 @@ use Rattle.mw_model.specs.Iterates.{times, rectangle}
 use Rattle.mw_laws.proofs.Composed.{AreComposed, CoverSame, erosion-erosion, dilation-dilation, dilation_same}
 use Rattle.mw_model.proofs.ImagePlaces.{same_picture, redrawn_shape, shape_sym, length-rows, sample_bounded}
 use Rattle.mw_model.proofs.ImageOrder.{sample-erosion, sample-dilation}
-use Rattle.mw_model.proofs.Covers.{turned, turned_back, Covers, least_below, below_least, below_greatest, greatest_below}
+use Rattle.mw_model.proofs.Covers.{negated-IsTurned, turned_back, Covers, least_below, below_least, below_greatest, greatest_below}
 
 covers_either : (cs bs : List Offset) (x y u v : ℕ) → Covers (cs ++ bs) x y u v → Covers cs x y u v ⊎ Covers bs x y u v
 covers_either [] bs x y u v c = inr c
@@ -34,8 +34,8 @@ row left up j a n = map (λ i. let b : Offset = record { dx = pos i -ℤ pos lef
 abbrev rows : ℕ → ℕ → ℕ → ℕ → ℕ → List Offset
 rows left up m a n = flat_map (λ j. row left up j 0 m) (range_with_len a n)
 
-step : (x i left u : ℕ) → pos x +ℤ (pos i -ℤ pos left) ≡ pos u → x + i ≡ u + left
-step x i left u e = omega (arith, ints)
+column-of_step : (x i left u : ℕ) → pos x +ℤ (pos i -ℤ pos left) ≡ pos u → x + i ≡ u + left
+column-of_step x i left u e = omega (arith, ints)
 
 step_back : (x i left u : ℕ) → x + i ≡ u + left → pos x +ℤ (pos i -ℤ pos left) ≡ pos u
 step_back x i left u e = omega (arith, ints)
@@ -43,8 +43,8 @@ step_back x i left u e = omega (arith, ints)
 row_covers : (left up j a n x y u v : ℕ) → Covers (row left up j a n) x y u v → (x + a ≤ u + left) × (u + left < x + a + n) × (y + j ≡ v + up)
 row_covers left up j a zero x y u v c = absurd c
 row_covers left up j a (suc n) x y u v (inl e) =
-    let across = step x a left u e.0 in
-    (omega arith, omega arith, step y j up v e.1)
+    let across = column-of_step x a left u e.0 in
+    (omega arith, omega arith, column-of_step y j up v e.1)
 row_covers left up j a (suc n) x y u v (inr c) =
     let rest = row_covers left up j (a + 1) n x y u v c in
     (omega arith, omega arith, rest.2)
@@ -106,9 +106,9 @@ abbrev multiplied : ℕ → ℕ → ℕ → ℕ → ℕ → List Offset
 multiplied n left right up down = rectangle (n * left) (n * right) (n * up) (n * down)
 
 -- one step and then n steps reach what n + 1 steps reach
-onward : (n left right up down x y s t u v : ℕ) → IsWithin left right up down x y s t → IsWithin (n * left) (n * right) (n * up) (n * down) s t u v
+IsWithin-onward : (n left right up down x y s t u v : ℕ) → IsWithin left right up down x y s t → IsWithin (n * left) (n * right) (n * up) (n * down) s t u v
     → IsWithin (suc n * left) (suc n * right) (suc n * up) (suc n * down) x y u v
-onward n left right up down x y s t u v first rest = record {
+IsWithin-onward n left right up down x y s t u v first rest = record {
   left_of = omega (arith, first.left_of, rest.left_of);
   right_of = omega (arith, first.right_of, rest.right_of);
   above = omega (arith, first.above, rest.above);
@@ -120,7 +120,7 @@ multiplied_composed : (left right up down n width height : ℕ) → AreComposed 
 multiplied_composed left right up down n width height = record {
   within = λ x y s t u v first second.
       covers_within (suc n * left) (suc n * right) (suc n * up) (suc n * down) x y u v
-      (onward n left right up down x y s t u v (within left right up down x y s t first) (within (n * left) (n * right) (n * up) (n * down) s t u v second));
+      (IsWithin-onward n left right up down x y s t u v (within left right up down x y s t first) (within (n * left) (n * right) (n * up) (n * down) s t u v second));
   whole = λ x y u v p q p' q' covers.
       let far = within (suc n * left) (suc n * right) (suc n * up) (suc n * down) x y u v covers in
       let across = midway n left right x u width p p' far.left_of far.right_of in
@@ -171,7 +171,7 @@ negated_rectangle left right up down = record {
       covers_within right left down up x y u v (record { left_of = h.right_of; right_of = h.left_of; above = h.below; below = h.above });
   from = λ x y u v covers.
       let h = within right left down up x y u v covers in
-      turned (rectangle left right up down) u v x y (covers_within left right up down u v x y (record { left_of = h.right_of; right_of = h.left_of; above = h.below; below = h.above }));
+      negated-IsTurned (rectangle left right up down) u v x y (covers_within left right up down u v x y (record { left_of = h.right_of; right_of = h.left_of; above = h.below; below = h.above }));
 }
 
 -- the rectangle of one place covers that place

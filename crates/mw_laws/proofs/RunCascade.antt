@@ -1,8 +1,4 @@
 -- What a kill makes of each entry.
--- the first three lines pass facts on until those who cite them here cite mw_facts
-pub use Rattle.mw_facts.proofs.Alls.{all-weaker as all_map}
-pub use Rattle.mw_facts.proofs.Finds.{find-same as find_same}
-pub use Rattle.mw_facts.proofs.Numbers.{strong_induction as strongly}
 use Rattle.std.proofs.Common.{◌≡◌, ◌≢◌, ℕ, zero, suc, ◌+◌, ◌<◌, true, false, cond, inl, inr, List, [], ◌∷◌, ◌++◌, length, set, Option, Some, None, refl, sym, ap, ◌∙◌, subst, arith, find, length-append, add-zero, zero-add}
 use Rattle.std.specs.List.{AllByRecursion}
 use Rattle.std.specs.Option.{option_map_or}

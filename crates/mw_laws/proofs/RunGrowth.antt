@@ -19,11 +19,11 @@ use Rattle.mw_laws.proofs.RunStates.{step_sound}
 
 -- ---- lists that go on
 
-stays : {X : Type 0} → (xs : List X) → GoesOn xs xs
-stays xs = ([], sym (append-nil xs))
+GoesOn-same : {X : Type 0} → (xs : List X) → GoesOn xs xs
+GoesOn-same xs = ([], sym (append-nil xs))
 
-goes_on : {X : Type 0} → (xs ys zs : List X) → GoesOn xs ys → GoesOn ys zs → GoesOn xs zs
-goes_on xs ys zs f g = (f.0 ++ g.0, g.1 ∙ ap (λ l. l ++ g.0) f.1 ∙ append_assoc xs f.0 g.0)
+GoesOn-joined : {X : Type 0} → (xs ys zs : List X) → GoesOn xs ys → GoesOn ys zs → GoesOn xs zs
+GoesOn-joined xs ys zs f g = (f.0 ++ g.0, g.1 ∙ ap (λ l. l ++ g.0) f.1 ∙ append_assoc xs f.0 g.0)
 
 pub length_goes_on : {X : Type 0} → (xs ys : List X) (n : ℕ) → GoesOn xs ys → n < length xs → n < length ys
 length_goes_on xs ys n g h = omega (arith, ap length g.1, length-append xs g.0)
@@ -44,19 +44,19 @@ may_go_on a b c f g = elim f [
 
 grows_same : (m : Machine) → GrowsTo m m
 grows_same m = record {
-  names = stays m.table.names;
-  submissions = stays m.table.submissions;
-  payloads = stays m.payloads;
-  values = stays (values m);
+  names = GoesOn-same m.table.names;
+  submissions = GoesOn-same m.table.submissions;
+  payloads = GoesOn-same m.payloads;
+  values = GoesOn-same (values m);
   outcomes = λ t h. inl refl;
 }
 
 grows_on : (a b c : Machine) → GrowsTo a b → GrowsTo b c → GrowsTo a c
 grows_on a b c f g = record {
-  names = goes_on a.table.names b.table.names c.table.names f.names g.names;
-  submissions = goes_on a.table.submissions b.table.submissions c.table.submissions f.submissions g.submissions;
-  payloads = goes_on a.payloads b.payloads c.payloads f.payloads g.payloads;
-  values = goes_on (values a) (values b) (values c) f.values g.values;
+  names = GoesOn-joined a.table.names b.table.names c.table.names f.names g.names;
+  submissions = GoesOn-joined a.table.submissions b.table.submissions c.table.submissions f.submissions g.submissions;
+  payloads = GoesOn-joined a.payloads b.payloads c.payloads f.payloads g.payloads;
+  values = GoesOn-joined (values a) (values b) (values c) f.values g.values;
   outcomes = λ t h.
       may_go_on (outcome_at a.table.outcomes t) (outcome_at b.table.outcomes t) (outcome_at c.table.outcomes t) (f.outcomes t h)
       (g.outcomes t (length_goes_on a.table.names b.table.names t f.names h));
@@ -81,10 +81,10 @@ grows_killed m t cause s can dead =
     let same : length w.submissions ≡ length w.outcomes = omega (arith, s.lengths.submissions) in
     let k : IsKilled w (killed w t cause) t cause = is_killed w t cause same (λ u h. s.inputs u (omega arith)) can.within (dead_not_pending cause dead) in
     record {
-      names = stays w.names;
-      submissions = stays w.submissions;
-      payloads = stays m.payloads;
-      values = stays (values m);
+      names = GoesOn-same w.names;
+      submissions = GoesOn-same w.submissions;
+      payloads = GoesOn-same m.payloads;
+      values = GoesOn-same (values m);
       outcomes = λ u h. elim (cases_eq u t) [
         | inl e ↦ inr (inl (ap (outcome_at w.outcomes) e ∙ can.pending))
         | inr n ↦ elim (cases_Bool (is_pending (outcome_at w.outcomes u))) [
@@ -100,10 +100,10 @@ grows_settled m t o within may =
     let P : Outcome → Type 0 = λ x. MayBecome (outcome_at os t) x in
     let Q : ℕ → Type 0 = λ u. MayBecome (outcome_at os u) (outcome_at (set os t o) u) in
     record {
-      names = stays m.table.names;
-      submissions = stays m.table.submissions;
-      payloads = stays m.payloads;
-      values = stays (values m);
+      names = GoesOn-same m.table.names;
+      submissions = GoesOn-same m.table.submissions;
+      payloads = GoesOn-same m.payloads;
+      values = GoesOn-same (values m);
       outcomes = λ u h. elim (cases_eq u t) [
         | inl e ↦ subst Q (sym e) (subst P (sym (get_or-set_same os t o outcome.Pending within)) may)
         | inr n ↦ inl (get_or-set_other os t u o outcome.Pending n)

@@ -59,19 +59,19 @@ refusal_told m c d h = told_by (refusal m.table m.payloads c) (answer m.table c)
 pub refusal_tells : (m : Machine) (c : Call) (d : Code) → refusal m.table m.payloads c ≡ Some d → reply_to m c ≡ reply.Refused d
 refusal_tells m c d h = ap (λ r. refused_or r (answer m.table c)) h
 
-leaves : (r : Option Code) (d : Code) (m : Machine) (w : Table) (ps : List (Option Value)) → r ≡ Some d → record { table = unless_refused r m.table w; payloads = unless_refused r m.payloads ps } ≡ m
-leaves None d m w ps h = absurd cc
-leaves (Some c) d m w ps h = refl
+unless_refused-leaves : (r : Option Code) (d : Code) (m : Machine) (w : Table) (ps : List (Option Value)) → r ≡ Some d → record { table = unless_refused r m.table w; payloads = unless_refused r m.payloads ps } ≡ m
+unless_refused-leaves None d m w ps h = absurd cc
+unless_refused-leaves (Some c) d m w ps h = refl
 
 -- a call that is refused leaves the state
 pub refused_leaves : (m : Machine) (c : Call) (p : Option Value) (d : Code) → refusal m.table m.payloads c ≡ Some d → after m c p ≡ m
-refused_leaves m (call.Load n g) p d h = leaves (refusal m.table m.payloads (call.Load n g)) d m (changed m.table (call.Load n g)) _ h
-refused_leaves m (call.Element n g) p d h = leaves (refusal m.table m.payloads (call.Element n g)) d m (changed m.table (call.Element n g)) _ h
-refused_leaves m (call.Run n o) p d h = leaves (refusal m.table m.payloads (call.Run n o)) d m (changed m.table (call.Run n o)) _ h
-refused_leaves m (call.Cancel n) p d h = leaves (refusal m.table m.payloads (call.Cancel n)) d m (changed m.table (call.Cancel n)) _ h
-refused_leaves m (call.Status n) p d h = leaves (refusal m.table m.payloads (call.Status n)) d m (changed m.table (call.Status n)) _ h
-refused_leaves m (call.Fetch n) p d h = leaves (refusal m.table m.payloads (call.Fetch n)) d m (changed m.table (call.Fetch n)) _ h
-refused_leaves m (call.Release n) p d h = leaves (refusal m.table m.payloads (call.Release n)) d m (changed m.table (call.Release n)) _ h
+refused_leaves m (call.Load n g) p d h = unless_refused-leaves (refusal m.table m.payloads (call.Load n g)) d m (changed m.table (call.Load n g)) _ h
+refused_leaves m (call.Element n g) p d h = unless_refused-leaves (refusal m.table m.payloads (call.Element n g)) d m (changed m.table (call.Element n g)) _ h
+refused_leaves m (call.Run n o) p d h = unless_refused-leaves (refusal m.table m.payloads (call.Run n o)) d m (changed m.table (call.Run n o)) _ h
+refused_leaves m (call.Cancel n) p d h = unless_refused-leaves (refusal m.table m.payloads (call.Cancel n)) d m (changed m.table (call.Cancel n)) _ h
+refused_leaves m (call.Status n) p d h = unless_refused-leaves (refusal m.table m.payloads (call.Status n)) d m (changed m.table (call.Status n)) _ h
+refused_leaves m (call.Fetch n) p d h = unless_refused-leaves (refusal m.table m.payloads (call.Fetch n)) d m (changed m.table (call.Fetch n)) _ h
+refused_leaves m (call.Release n) p d h = unless_refused-leaves (refusal m.table m.payloads (call.Release n)) d m (changed m.table (call.Release n)) _ h
 
 pub quiet : (r : Option Code) (m : Machine) → record { table = unless_refused r m.table m.table; payloads = unless_refused r m.payloads (m.payloads ++ []) } ≡ m
 quiet None m = let P : List (Option Value) → Type 0 = λ ps. record { table = m.table; payloads = ps } ≡ m in subst P (sym (append-nil m.payloads)) refl

@@ -80,8 +80,8 @@ pub record IsAlone (m : Machine) (f : Name) : Type 0 where
   pub shape : shape_named m.table f ≡ shape_of_picture image
   pub limits : ValuesWithinLimits m → IsImage image
 
-pub alone : (m : Machine) (f : Name) → ValuesHaveShapes m → first_of (map (wanted_case m.table) (AnImage f ∷ [])) ≡ None → IsAlone m f
-alone m f shapes h =
+pub wanted_alone : (m : Machine) (f : Name) → ValuesHaveShapes m → first_of (map (wanted_case m.table) (AnImage f ∷ [])) ≡ None → IsAlone m f
+wanted_alone m f shapes h =
     let x = first_none (wanted_case m.table (AnImage f)) _ h in
     let g = named_image m f shapes x.0 in
     record {
@@ -99,8 +99,8 @@ pub record AreBoth (m : Machine) (f b : Name) : Type 0 where
   pub shape : shape_named m.table f ≡ shape_of_picture image
   pub limits : ValuesWithinLimits m → IsImage image
 
-pub both : (m : Machine) (f b : Name) → ValuesHaveShapes m → first_of (map (wanted_case m.table) (AnImage f ∷ AnElement b ∷ [])) ≡ None → AreBoth m f b
-both m f b shapes h =
+pub wanted_both : (m : Machine) (f b : Name) → ValuesHaveShapes m → first_of (map (wanted_case m.table) (AnImage f ∷ AnElement b ∷ [])) ≡ None → AreBoth m f b
+wanted_both m f b shapes h =
     let x = first_none (wanted_case m.table (AnImage f)) _ h in
     let y = first_none (wanted_case m.table (AnElement b)) _ x.1 in
     let g = named_image m f shapes x.0 in
@@ -122,8 +122,8 @@ pub record AreThree (m : Machine) (f hit miss : Name) : Type 0 where
   pub shape : shape_named m.table f ≡ shape_of_picture image
   pub limits : ValuesWithinLimits m → IsImage image
 
-pub three : (m : Machine) (f hit miss : Name) → ValuesHaveShapes m → first_of (map (wanted_case m.table) (AnImage f ∷ AnElement hit ∷ AnElement miss ∷ [])) ≡ None → AreThree m f hit miss
-three m f hit miss shapes h =
+pub wanted_three : (m : Machine) (f hit miss : Name) → ValuesHaveShapes m → first_of (map (wanted_case m.table) (AnImage f ∷ AnElement hit ∷ AnElement miss ∷ [])) ≡ None → AreThree m f hit miss
+wanted_three m f hit miss shapes h =
     let x = first_none (wanted_case m.table (AnImage f)) _ h in
     let y = first_none (wanted_case m.table (AnElement hit)) _ x.1 in
     let z = first_none (wanted_case m.table (AnElement miss)) _ y.1 in
@@ -151,29 +151,29 @@ restoration_shape b (suc n) g = restoration_shape b n g
 
 pub flat_shape_is : (m : Machine) (o : FlatOp) → ValuesHaveShapes m → first_of (map (wanted_case m.table) (inputs_wanted (op.Flat o))) ≡ None
     → option_map shape_of_value (result_of (op.Flat o) (input_values m (inputs_wanted (op.Flat o)))) ≡ Some (shape_of_result m.table (op.Flat o))
-flat_shape_is m (flat.Erode f b) shapes h = drawn_shape m f b (both m f b shapes h) erosion (λ s. s) refl
-flat_shape_is m (flat.Dilate f b) shapes h = drawn_shape m f b (both m f b shapes h) dilation (λ s. s) refl
-flat_shape_is m (flat.Opening f b) shapes h = drawn_shape m f b (both m f b shapes h) opening (λ s. s) refl
-flat_shape_is m (flat.Closing f b) shapes h = drawn_shape m f b (both m f b shapes h) closing (λ s. s) refl
-flat_shape_is m (flat.Gradient f b) shapes h = drawn_shape m f b (both m f b shapes h) gradient (λ s. s) refl
-flat_shape_is m (flat.WhiteTopHat f b) shapes h = drawn_shape m f b (both m f b shapes h) white_top_hat (λ s. s) refl
-flat_shape_is m (flat.BlackTopHat f b) shapes h = drawn_shape m f b (both m f b shapes h) black_top_hat (λ s. s) refl
-flat_shape_is m (flat.Rank f b k) shapes h = drawn_shape m f b (both m f b shapes h) (λ e. rank e k) (λ s. s) refl
+flat_shape_is m (flat.Erode f b) shapes h = drawn_shape m f b (wanted_both m f b shapes h) erosion (λ s. s) refl
+flat_shape_is m (flat.Dilate f b) shapes h = drawn_shape m f b (wanted_both m f b shapes h) dilation (λ s. s) refl
+flat_shape_is m (flat.Opening f b) shapes h = drawn_shape m f b (wanted_both m f b shapes h) opening (λ s. s) refl
+flat_shape_is m (flat.Closing f b) shapes h = drawn_shape m f b (wanted_both m f b shapes h) closing (λ s. s) refl
+flat_shape_is m (flat.Gradient f b) shapes h = drawn_shape m f b (wanted_both m f b shapes h) gradient (λ s. s) refl
+flat_shape_is m (flat.WhiteTopHat f b) shapes h = drawn_shape m f b (wanted_both m f b shapes h) white_top_hat (λ s. s) refl
+flat_shape_is m (flat.BlackTopHat f b) shapes h = drawn_shape m f b (wanted_both m f b shapes h) black_top_hat (λ s. s) refl
+flat_shape_is m (flat.Rank f b k) shapes h = drawn_shape m f b (wanted_both m f b shapes h) (λ e. rank e k) (λ s. s) refl
 flat_shape_is m (flat.Threshold f k) shapes h =
-    let a = alone m f shapes h in
+    let a = wanted_alone m f shapes h in
     ap (λ l. option_map shape_of_value (result_of (op.Flat (flat.Threshold f k)) l)) a.values ∙ ap (λ s. Some (as_bits s)) (sym a.shape)
 flat_shape_is m (flat.HitMiss f hit miss) shapes h =
-    let a = three m f hit miss shapes h in
+    let a = wanted_three m f hit miss shapes h in
     ap (λ l. option_map shape_of_value (result_of (op.Flat (flat.HitMiss f hit miss)) l)) a.values ∙ ap Some (sym a.shape)
 
 pub gran_shape_is : (m : Machine) (o : GranOp) → ValuesHaveShapes m → first_of (map (wanted_case m.table) (inputs_wanted (op.Gran o))) ≡ None
     → option_map shape_of_value (result_of (op.Gran o) (input_values m (inputs_wanted (op.Gran o)))) ≡ Some (shape_of_result m.table (op.Gran o))
-gran_shape_is m (gran.Skeleton f b levels) shapes h = drawn_shape m f b (both m f b shapes h) (λ e. skeleton e levels) (as_grey (levels + 1)) refl
+gran_shape_is m (gran.Skeleton f b levels) shapes h = drawn_shape m f b (wanted_both m f b shapes h) (λ e. skeleton e levels) (as_grey (levels + 1)) refl
 gran_shape_is m (gran.Restore f b levels) shapes h =
-    let a = both m f b shapes h in
+    let a = wanted_both m f b shapes h in
     drawn_shape m f b a (λ e. restoration e levels) as_bits (restoration_shape a.element.offsets levels a.image)
 gran_shape_is m (gran.Spectrum f b levels) shapes h =
-    let a = both m f b shapes h in
+    let a = wanted_both m f b shapes h in
     ap (λ l. option_map shape_of_value (result_of (op.Gran (gran.Spectrum f b levels)) l)) a.values
     ∙ ap (λ n. Some (shape.Curve n)) (length-map-range_with_len (λ n. volume a.element.offsets n a.image) 0 (levels + 1))
 

@@ -120,31 +120,31 @@ unless_holds P None m w ps same new = new refl
 unless_holds P (Some c) m w ps same new = same
 
 -- where no payload is added
-alone : (P : Machine → Type 0) (m : Machine) (w : Table) → P (with_table m w) → P (record { table = w; payloads = m.payloads ++ [] })
-alone P m w h = let Q : List (Option Value) → Type 0 = λ ps. P (record { table = w; payloads = ps }) in subst Q (sym (append-nil m.payloads)) h
+with_table-alone : (P : Machine → Type 0) (m : Machine) (w : Table) → P (with_table m w) → P (record { table = w; payloads = m.payloads ++ [] })
+with_table-alone P m w h = let Q : List (Option Value) → Type 0 = λ ps. P (record { table = w; payloads = ps }) in subst Q (sym (append-nil m.payloads)) h
 
-accepted : (P : Machine → Type 0) (m : Machine) (i : LogItem) (c : Call) (p : Option Value) → AreOfOneLength m → HoldsAfter P m i → IsWith c p → refusal m.table m.payloads c ≡ None
+HoldsAfter-accepted : (P : Machine → Type 0) (m : Machine) (i : LogItem) (c : Call) (p : Option Value) → AreOfOneLength m → HoldsAfter P m i → IsWith c p → refusal m.table m.payloads c ≡ None
     → P (record { table = changed m.table c; payloads = m.payloads ++ payload_of c p })
-accepted P m i (call.Load n g) p l h w r = h.added n (given_submission g) outcome.Done p (load_new m n g p w r)
-accepted P m i (call.Element n g) p l h w r = h.added n (given_submission g) outcome.Done p (element_new m n g p w r)
-accepted P m i (call.Run n o) p l h w r = h.added n (run_submission m.table o) outcome.Pending None (run_new m n o r)
-accepted P m i (call.Cancel n) p l h w r =
+HoldsAfter-accepted P m i (call.Load n g) p l h w r = h.added n (given_submission g) outcome.Done p (load_new m n g p w r)
+HoldsAfter-accepted P m i (call.Element n g) p l h w r = h.added n (given_submission g) outcome.Done p (element_new m n g p w r)
+HoldsAfter-accepted P m i (call.Run n o) p l h w r = h.added n (run_submission m.table o) outcome.Pending None (run_new m n o r)
+HoldsAfter-accepted P m i (call.Cancel n) p l h w r =
     let known = is_known (ticket_of m.table.names n) (λ t. cancel_case (outcome_at m.table.outcomes t)) r in
     let t = known.0 in
     let can : CanDie m.table t = record { within = omega (arith, ticket_within m.table n t known.1, l.outcomes); pending = may_cancel (outcome_at m.table.outcomes t) known.2 } in
     let Q : ℕ → Type 0 = λ u. P (with_table m (killed m.table u outcome.Cancelled)) in
-    alone P m (killed m.table (ticket m.table n) outcome.Cancelled) (subst Q (sym (ticket_is m.table n t known.1)) (h.dies t outcome.Cancelled can refl (λ s e. cc)))
-accepted P m i (call.Status n) p l h w r = alone P m m.table h.same
-accepted P m i (call.Fetch n) p l h w r = alone P m m.table h.same
-accepted P m i (call.Release n) p l h w r =
+    with_table-alone P m (killed m.table (ticket m.table n) outcome.Cancelled) (subst Q (sym (ticket_is m.table n t known.1)) (h.dies t outcome.Cancelled can refl (λ s e. cc)))
+HoldsAfter-accepted P m i (call.Status n) p l h w r = with_table-alone P m m.table h.same
+HoldsAfter-accepted P m i (call.Fetch n) p l h w r = with_table-alone P m m.table h.same
+HoldsAfter-accepted P m i (call.Release n) p l h w r =
     let known = is_known (ticket_of m.table.names n) (λ t. release_case (outcome_at m.table.outcomes t)) r in
     let t = known.0 in
     let Q : ℕ → Type 0 = λ u. P (with_table m (settled m.table u outcome.Released)) in
-    alone P m (settled m.table (ticket m.table n) outcome.Released)
+    with_table-alone P m (settled m.table (ticket m.table n) outcome.Released)
     (subst Q (sym (ticket_is m.table n t known.1)) (h.let_go t (omega (arith, ticket_within m.table n t known.1, l.outcomes)) (may_release (outcome_at m.table.outcomes t) known.2)))
 
 pub holds_after : (P : Machine → Type 0) (m : Machine) (i : LogItem) (n : Machine) → AreOfOneLength m → Step m i n → HoldsAfter P m i → P n
 holds_after P m (item.Call c r) n l s h =
-    subst P (sym s.3) (unless_holds P (refusal m.table m.payloads c) m (changed m.table c) (m.payloads ++ payload_of c s.0) h.same (accepted P m (item.Call c r) c s.0 l h s.1))
+    subst P (sym s.3) (unless_holds P (refusal m.table m.payloads c) m (changed m.table c) (m.payloads ++ payload_of c s.0) h.same (HoldsAfter-accepted P m (item.Call c r) c s.0 l h s.1))
 holds_after P m (item.Finished t) n l s h = subst P (sym s.1) (h.done t refl s.0)
 holds_after P m (item.Killed t) n l s h = subst P (sym s.1) (h.dies t outcome.Memory s.0 refl (λ s e. cc))

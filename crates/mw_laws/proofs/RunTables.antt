@@ -1,7 +1,4 @@
 -- Names, lists with one element more, and what an accepted call has found.
--- the first two lines pass facts on until those who cite them here cite mw_facts
-pub use Rattle.mw_facts.proofs.Elements.{get_or-push_below as push_front, get_or-push_last as push_last}
-pub use Rattle.mw_facts.proofs.Numbers.{below_or_last as last_or_before}
 use Rattle.std.proofs.Common.{◌≡◌, ℕ, ◌<◌, ◌≤◌, Bool, true, false, not, ltb, inl, inr, List, [], ◌∷◌, ◌++◌, length, map, Option, Some, None, refl, sym, ap, ◌∙◌, subst, arith, length-append}
 use Rattle.std.specs.Prelude.{unwrap_or}
 use Rattle.std.specs.List.{AllByRecursion, position}

@@ -2,7 +2,7 @@
 use Rattle.std.proofs.Common.{◌≡◌, ◌≢◌, ℕ, ◌+◌, ◌<◌, Bool, true, false, nat_eq, inl, inr, List, length, take, get_or, set, refl, sym, ap, ◌∙◌, length-set}
 use Rattle.std.specs.Prelude.{◌||◌}
 use Rattle.std.specs.List.{list_any}
-use Rattle.std.proofs.lemmas.Bool.{cases_Bool, cases_eq, eqb-true, eqb-false}
+use Rattle.std.proofs.lemmas.Bool.{cases_Bool, cases_eq, eqb-true, eqb-false, or_parts}
 use Rattle.std.proofs.lemmas.List.{get_or-set_same, get_or-set_other}
 use Rattle.std.proofs.lemmas.List.Folds.{list_any_more}
 
@@ -11,13 +11,6 @@ pub record AreAnew (g : ℕ → ℕ) (before now places : List ℕ) : Type 0 whe
   pub long : length now ≡ length before
   pub right : (v : ℕ) → list_any (nat_eq v) places ≡ true → get_or now v 0 ≡ g v
   pub kept : (v : ℕ) → list_any (nat_eq v) places ≡ false → get_or now v 0 ≡ get_or before v 0
-
-pub anew-none : (g : ℕ → ℕ) (xs places : List ℕ) → AreAnew g xs xs (take 0 places)
-anew-none g xs places = record { long = refl; right = λ v in_list. absurd cc; kept = λ v out. refl }
-
-or_false : (a b : Bool) → (a || b) ≡ false → (a ≡ false) × (b ≡ false)
-or_false true b e = absurd cc
-or_false false b e = (refl, e)
 
 or_true : (a b : Bool) → (a || b) ≡ true → b ≡ false → a ≡ true
 or_true true b e n = refl
@@ -41,5 +34,5 @@ anew-more g before now places i u within u-is inside anew =
           | inr apart ↦ other v apart ∙ anew.right v (or_true (list_any (nat_eq v) (take i places)) (nat_eq v u) (sym (next v) ∙ in_list) ne)
         ]
       ];
-      kept = λ v out. let parts = or_false (list_any (nat_eq v) (take i places)) (nat_eq v u) (sym (next v) ∙ out) in other v (eqb-false v u parts.1) ∙ anew.kept v parts.0;
+      kept = λ v out. let parts = or_parts (list_any (nat_eq v) (take i places)) (nat_eq v u) (sym (next v) ∙ out) in other v (eqb-false v u parts.1) ∙ anew.kept v parts.0;
     }

@@ -17,7 +17,7 @@ use Rattle.mw_model.specs.Refusals.{Table, outcome_at, is_pending}
 use Rattle.mw_model.specs.Stands.{CoreView, progress_at, inputs_of, ready_under, running_count}
 use Rattle.mw_model.specs.Tasks.{Progress, is_running, running_tasks, task_count, tasks_below}
 use Rattle.mw_underway.specs.mw_progress.ProgressView.{ProgressView}
-use Rattle.mw_underway.proofs.mw_stands.CountLemmas.{sum-more}
+use Rattle.mw_underway.proofs.mw_stands.CountLemmas.{sum-more, sum-at, sum-most}
 use Rattle.mw_underway.specs.mw_stands.Counts.{running_under}
 use Rattle.mw_underway.specs.mw_store.declared.kept.Entry.{Entry}
 use Rattle.mw_ledger.specs.Books.{Book, IsOrderly, progress_of, seen_of, work_at}
@@ -25,7 +25,7 @@ use Rattle.mw_ledger.specs.Changes.{with_accepted}
 use Rattle.mw_ledger.specs.Counts.{AreCounts, Tally, WaitFor, grown}
 use Rattle.mw_ledger.proofs.Anew.{AreAnew}
 use Rattle.mw_ledger.proofs.ReadyLemmas.{work-alike, work-other, work-seen, ready-apart, ready-before, ready-other, ready-released}
-use Rattle.mw_ledger.proofs.Rows.{row, row-at, row-is, row-set, sum-set, sum-at, sum-most}
+use Rattle.mw_ledger.proofs.Rows.{row, row-at, row-is, row-set, sum-set}
 
 -- ---- how many are running
 
@@ -84,9 +84,9 @@ counts-followed b new old k t was x orderly in-new counts is was-is ready runnin
     )
 
 -- an entry was added
-pub counts-added : (b new : Book) (before old k : Tally) (t : ℕ) (c : Call) (n : Name) (e : Entry) (u : Option ProgressView) → IsOrderly b → AreCounts (seen_of b) before → old ≡ grown before → new ≡ with_accepted b c n e u → t + 1 ≡ length old.ready
+pub counts-added : (b new : Book) (before old k : Tally) (t : ℕ) (c : Call) (n : Name) (e : Entry) (u : Option ProgressView) (room : ℕ) → IsOrderly b → AreCounts (seen_of b) before → old ≡ grown before → new ≡ with_accepted b c n e u room → t + 1 ≡ length old.ready
     → k.ready ≡ set old.ready t (ready_under (seen_of new) t) → (old.running ≤ 2 ^ 63 → k.running ≡ old.running - 0 + running_under (seen_of new) t) → AreCounts (seen_of new) k
-counts-added b new before old k t c n e u orderly counts old-is is last ready running =
+counts-added b new before old k t c n e u room orderly counts old-is is last ready running =
     let m = length b.table.names in
     let f = ready_under (seen_of b) in
     let g = ready_under (seen_of new) in
@@ -101,7 +101,7 @@ counts-added b new before old k t c n e u orderly counts old-is is last ready ru
     let held-long : length old.ready ≡ length (first ++ 0 ∷ []) = ap (λ (xs : List ℕ). length xs) held in
     let t-is : t ≡ m = omega arith in
     let new-long : length (set (first ++ 0 ∷ []) t (g t)) ≡ length (first ++ 0 ∷ []) = simp length-set in
-    let same : (v : ℕ) → v < m → g v ≡ f v = λ v lt. ap (λ (d : Book). ready_under (seen_of d) v) is ∙ ready-before b c n e u v orderly lt in
+    let same : (v : ℕ) → v < m → g v ≡ f v = λ v lt. ap (λ (d : Book). ready_under (seen_of d) v) is ∙ ready-before b c n e u room v orderly lt in
     let written : set (first ++ 0 ∷ []) t (g t) ≡ row g (m + 1) = row-is (set (first ++ 0 ∷ []) t (g t)) g (m + 1) (omega arith) (λ v lt. elim (cases_eq v t) [
       | inl here ↦ ap (λ (j : ℕ). get_or (set (first ++ 0 ∷ []) t (g t)) j 0) here ∙ get_or-set_same (first ++ 0 ∷ []) t (g t) 0 (omega arith) ∙ sym (ap g here)
       | inr other ↦ get_or-set_other (first ++ 0 ∷ []) t v (g t) 0 other ∙ get_or-push_below first 0 0 v (omega arith) ∙ row-at f m v (omega arith) ∙ sym (same v (omega arith))

@@ -1,5 +1,6 @@
 -- what other crates may cite
 pub mod CountLemmas
+pub mod SeenLemmas
 -- the crate's own
 mod Anew
 mod OrderLemmas

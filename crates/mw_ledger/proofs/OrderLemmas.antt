@@ -4,7 +4,7 @@ use Rattle.std.specs.Option.{IfSome}
 use Rattle.std.specs.List.{AllByRecursion}
 use Rattle.std.proofs.lemmas.Bool.{cases_eq, cases_lt}
 use Rattle.std.proofs.lemmas.List.{get_or-set_same, get_or-set_other, get_or_past, length-set}
-use Rattle.mw_facts.proofs.Alls.{all-both, all-weaker}
+use Rattle.mw_facts.proofs.Alls.{all-both, all-weaker, all-append_left, all-append_right}
 use Rattle.mw_facts.proofs.Elements.{get_or-push_below, get_or-push_last}
 use Rattle.mw_facts.proofs.Numbers.{below_or_last}
 use Rattle.mw_model.specs.declared.names.Name.{Name}
@@ -20,20 +20,9 @@ use Rattle.mw_underway.specs.mw_progress.ProgressView.{ProgressView, IsFinished,
 use Rattle.mw_underway.specs.mw_store.Stored.{IsWhole}
 use Rattle.mw_underway.specs.mw_stands.Limits.{FitsLimits, ShapesFit}
 use Rattle.mw_underway.specs.Planning.{IsPlannedAt, IsPlannedOn, IsSide}
-use Rattle.mw_ledger.specs.Books.{Book, IsOrderly, empty_book, stored_in, work_at}
+use Rattle.mw_ledger.specs.Books.{Book, IsOrderly, stored_in, work_at}
 
 -- ---- nothing yet
-
-pub empty-orderly : (side : ℕ) → IsSide side → IsOrderly (empty_book side)
-empty-orderly side h = record {
-  stored = record { submissions = refl; outcomes = refl; kept = refl; small = omega arith; inputs = λ t l. absurd (omega arith) };
-  works = refl;
-  fits = λ t l. absurd (omega arith);
-  planned = λ t u e. absurd cc;
-  left = λ t u e. absurd cc;
-  most = λ t u e. absurd cc;
-  side = h;
-}
 
 -- ---- entries that end
 
@@ -64,6 +53,12 @@ follows-orderly old new o f = record {
   side = subst IsSide (sym f.side) o.side;
 }
 
+-- another log, and other room in it
+pub alike-orderly : (b : Book) (ws : List (Option ProgressView)) (log : List LogItem) (room : ℕ) → IsOrderly b → ws ≡ b.works → IsOrderly (record b { works = ws; log = log; room = room })
+alike-orderly b ws log room o same =
+    let P : List (Option ProgressView) → Type 0 = λ xs. IsOrderly (record b { works = xs; log = log; room = room }) in
+    subst P (sym same) (record { stored = o.stored; works = o.works; fits = o.fits; planned = o.planned; left = o.left; most = o.most; side = o.side })
+
 kept-was : (b : Bool) (o : Option ProgressView) (u : ProgressView) → cond b o None ≡ Some u → o ≡ Some u
 kept-was true o u e = e
 kept-was false o u e = absurd cc
@@ -73,14 +68,6 @@ pub swept-was : (b : Bool) (new old : Option ProgressView) (u : ProgressView) �
 swept-was b new old u e h = kept-was b old u (sym e ∙ h)
 
 -- ---- an entry more
-
-all-left : {A : Type 0} (P : A → Type 0) (xs ys : List A) → AllByRecursion P (xs ++ ys) → AllByRecursion P xs
-all-left P [] ys h = tt
-all-left P (x ∷ xs) ys h = (h.0, all-left P xs ys h.1)
-
-all-right : {A : Type 0} (P : A → Type 0) (xs ys : List A) → AllByRecursion P (xs ++ ys) → AllByRecursion P ys
-all-right P [] ys h = h
-all-right P (x ∷ xs) ys h = all-right P xs ys h.1
 
 shape-stays : (ss : List Submission) (e : Submission) (i : ℕ) → i < length ss → shape_at (ss ++ e ∷ []) i ≡ shape_at ss i
 shape-stays ss e i l = ap (λ (s : Submission). s.shape) (get_or-push_below ss e no_submission i l)
@@ -103,15 +90,15 @@ planned-stays : (w : Table) (n : Name) (e : Submission) (o : Outcome) (s : Submi
 planned-stays w n e o s u below h =
     let P : ℕ → Type 0 = λ i. i < length w.submissions in
     let i = s.inputs in
-    let two = all-left P (option_list i.a ++ option_list i.b) (option_list i.c) below in
+    let two = all-append_left P (option_list i.a ++ option_list i.b) (option_list i.c) below in
     let r = h.input in
     record {
       input = record {
         image = r.image;
         first = r.first;
         shape = shape-stays w.submissions e r.image (first-below P i r.image r.first below) ∙ r.shape;
-        second = elements-stay w.submissions e (option_list i.b) (all-right P (option_list i.a) (option_list i.b) two) r.second;
-        third = elements-stay w.submissions e (option_list i.c) (all-right P (option_list i.a ++ option_list i.b) (option_list i.c) below) r.third;
+        second = elements-stay w.submissions e (option_list i.b) (all-append_right P (option_list i.a) (option_list i.b) two) r.second;
+        third = elements-stay w.submissions e (option_list i.c) (all-append_right P (option_list i.a ++ option_list i.b) (option_list i.c) below) r.third;
       };
       allowed = h.allowed;
       last = h.last;
@@ -144,8 +131,8 @@ pub record CanJoin (b : Book) (e : Submission) (u : Option ProgressView) : Type 
   pub most : IfSome u (λ v. task_count v.progress ≤ 4194304)
 
 -- the same book with an entry more
-abbrev pub joined : Book → Name → Submission → Outcome → List (Option Value) → Option ProgressView → List LogItem → Book
-joined b n e o kept u log = record { table = with_entry b.table n e o; kept = kept; works = b.works ++ u ∷ []; log = log; side = b.side }
+abbrev pub joined : Book → Name → Submission → Outcome → List (Option Value) → Option ProgressView → List LogItem → ℕ → Book
+joined b n e o kept u log room = record { table = with_entry b.table n e o; kept = kept; works = b.works ++ u ∷ []; log = log; side = b.side; room = room }
 
 planned-joined : (b : Book) (n : Name) (e : Submission) (o : Outcome) (u : Option ProgressView) → IsOrderly b → CanJoin b e u → (t : ℕ) (v : ProgressView) → work_at (b.works ++ u ∷ []) t ≡ Some v
     → IsPlannedAt (with_entry b.table n e o) t v
@@ -176,9 +163,9 @@ fits-joined b n e o k fits t l =
     ]
 
 -- an entry that may be added leaves the book in order
-pub joined-orderly : (b : Book) (n : Name) (e : Submission) (o : Outcome) (kept : List (Option Value)) (u : Option ProgressView) (log : List LogItem) → IsOrderly b → CanJoin b e u
-    → IsWhole (stored_in (joined b n e o kept u log)) → IsOrderly (joined b n e o kept u log)
-joined-orderly b n e o kept u log k j whole = record {
+pub joined-orderly : (b : Book) (n : Name) (e : Submission) (o : Outcome) (kept : List (Option Value)) (u : Option ProgressView) (log : List LogItem) (room : ℕ) → IsOrderly b → CanJoin b e u
+    → IsWhole (stored_in (joined b n e o kept u log room)) → IsOrderly (joined b n e o kept u log room)
+joined-orderly b n e o kept u log room k j whole = record {
   stored = whole;
   works = omega (arith, length-append b.works (u ∷ []), length-append b.table.names (n ∷ []), k.works);
   fits = fits-joined b n e o k j.fits;

@@ -78,10 +78,10 @@ pub ready-other : (b new : Book) (t v : ℕ) (x : Option ProgressView) → new.t
 ready-other b new t v x table works other = ready-alike (seen_of b) (seen_of new) v (ap (λ (w : Table). may_run w v) table) (work-other b new t v x works other)
 
 -- an entry was added behind the ticket
-pub ready-before : (b : Book) (c : Call) (n : Name) (e : Entry) (u : Option ProgressView) (v : ℕ) → IsOrderly b → v < length b.table.names → ready_under (seen_of (with_accepted b c n e u)) v ≡ ready_under (seen_of b) v
-ready-before b c n e u v orderly within =
+pub ready-before : (b : Book) (c : Call) (n : Name) (e : Entry) (u : Option ProgressView) (room v : ℕ) → IsOrderly b → v < length b.table.names → ready_under (seen_of (with_accepted b c n e u room)) v ≡ ready_under (seen_of b) v
+ready-before b c n e u room v orderly within =
     let whole = orderly.stored in
-    let new = with_accepted b c n e u in
+    let new = with_accepted b c n e u room in
     let outcome-same : (i : ℕ) → i < length b.table.names → outcome_at new.table.outcomes i ≡ outcome_at b.table.outcomes i =
     λ i lt. get_or-push_below b.table.outcomes (outcome_of e) outcome.Pending i (let long = whole.outcomes in omega arith)
     in

@@ -1,11 +1,10 @@
 -- Numbers by ticket as a list, one of which may change, and their sum.
-use Rattle.std.proofs.Common.{◌≡◌, ◌≢◌, ℕ, zero, suc, ◌+◌, ◌*◌, ◌<◌, ◌≤◌, List, length, map, sum, take, ap, sym, ◌∙◌, arith, get_or, set, inl, inr, length-set}
+use Rattle.std.proofs.Common.{◌≡◌, ◌≢◌, ℕ, ◌+◌, ◌<◌, List, length, map, sum, take, ap, sym, ◌∙◌, arith, get_or, set, inl, inr, length-set}
 use Rattle.std.specs.List.{range_with_len}
 use Rattle.std.proofs.lemmas.Bool.{cases_eq}
 use Rattle.std.proofs.lemmas.List.{ext_get_or, get_or-set_same, get_or-set_other}
 use Rattle.std.proofs.lemmas.List.FromFn.{length-map-range_with_len, get_or-map-range_with_len, take-map-range_with_len}
-use Rattle.std.proofs.lemmas.List.Sums.{sum_by-set, get_or-le-sum_by}
-use Rattle.mw_underway.proofs.mw_stands.CountLemmas.{sum-more}
+use Rattle.std.proofs.lemmas.List.Sums.{sum_by-set}
 
 -- the number of each of the first n tickets
 abbrev pub row : (ℕ → ℕ) → ℕ → List ℕ
@@ -48,27 +47,3 @@ sum-set f g n t within same =
     let both : sum (set (row f n) t (g t)) + get_or (row f n) t 0 ≡ sum (row f n) + g t = sum_by-set (λ x. x) (row f n) t (g t) 0 (omega arith) in
     let at = row-at f n t within in
     omega arith
-
--- one number is no more than the sum
-pub sum-at : (f : ℕ → ℕ) (n t : ℕ) → t < n → f t ≤ sum (row f n)
-sum-at f n t within =
-    let long = length-map-range_with_len f 0 n in
-    let at = row-at f n t within in
-    let one : get_or (row f n) t 0 ≤ sum (row f n) = get_or-le-sum_by (λ x. x) (row f n) t 0 (omega arith) in
-    omega arith
-
--- where no number is more than m
-pub sum-most : (f : ℕ → ℕ) (m n : ℕ) → ((t : ℕ) → t < n → f t ≤ m) → sum (row f n) ≤ n * m
-sum-most f m zero most = omega arith
-sum-most f m (suc n) most =
-    let next : sum (row f (suc n)) ≡ sum (row f (n + 1)) = ap (λ (k : ℕ). sum (row f k)) (one n) in
-    let more = sum-more f n in
-    let before = sum-most f m n (λ t lt. most t (omega arith)) in
-    let last = most n (omega arith) in
-    omega (arith, times n m)
-  where
-    one : (n : ℕ) → suc n ≡ n + 1
-    one n = omega arith
-
-    times : (n m : ℕ) → suc n * m ≡ n * m + m
-    times n m = omega arith

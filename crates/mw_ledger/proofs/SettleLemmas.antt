@@ -1,5 +1,6 @@
 -- A task that is finished, and the ticket that it settles.
-use Rattle.std.proofs.Common.{◌≡◌, ℕ, ◌-◌, ◌≤◌, ◌++◌, ◌∷◌, [], true, false, zero, suc, List, length, get_or, set, Option, Some, None, refl, sym, ap, ◌∙◌, subst, arith}
+use Rattle.std.proofs.Common.{◌≡◌, ℕ, ◌-◌, ◌≤◌, ◌++◌, ◌∷◌, [], true, false, List, length, get_or, set, Option, Some, None, sym, ap, ◌∙◌, subst, arith}
+use Rattle.std.proofs.lemmas.List.{set-set}
 use Rattle.mw_model.specs.declared.calls.LogItem.TheVariants as item
 use Rattle.mw_model.specs.declared.calls.Outcome.TheVariants as outcome
 use Rattle.mw_model.specs.declared.shapes.Shape.{Shape}
@@ -8,7 +9,7 @@ use Rattle.mw_model.specs.Values.{Value, image_of, value_at}
 use Rattle.mw_model.specs.Refusals.{is_image, shape_at}
 use Rattle.mw_model.specs.Machine.{settled}
 use Rattle.mw_model.specs.Plans.{is_sum}
-use Rattle.mw_model.specs.Tasks.{is_running, nothing_planned, remaining_tasks}
+use Rattle.mw_model.specs.Tasks.{nothing_planned, remaining_tasks}
 use Rattle.mw_task.specs.declared.tile_result.TileResult.{TileResult}
 use Rattle.mw_task.specs.Products.{IsMade}
 use Rattle.mw_task.specs.WindowTasks.{FitsStep, WindowTask}
@@ -18,12 +19,6 @@ use Rattle.mw_underway.proofs.ResultLemmas.{result-fits}
 use Rattle.mw_ledger.specs.Books.{Book, IsOrderly, work_at}
 use Rattle.mw_ledger.specs.Tasks.{FinishesAt, IsResultAt, PlacesAt, SettlesAt, value_made}
 use Rattle.mw_ledger.proofs.OrderLemmas.{finished-goes_on, with_work, with-orderly}
-
--- what is written twice in one place
-set-again : {A : Type 0} (xs : List A) (i : ℕ) (a b : A) → set (set xs i a) i b ≡ set xs i b
-set-again [] i a b = refl
-set-again (x ∷ xs) zero a b = refl
-set-again (x ∷ xs) (suc i) a b = ap (λ ys. x ∷ ys) (set-again xs i a b)
 
 -- the ledger is in order with the work after a task of it was finished, where tasks are left
 pub finished-orderly : (b : Book) (d : WindowTask) (after : ProgressView) → IsOrderly b → FinishesAt b d after → 1 ≤ remaining_tasks after.progress → IsOrderly (with_work b d.task.ticket (Some after))
@@ -39,7 +34,7 @@ finished-plane b d after o f image = rw f.finished.plan ((o.planned d.task.ticke
 
 -- the work stands there again
 pub put-back : (old mid : Book) (t : ℕ) (u : ProgressView) → mid ≡ with_work old t None → with_work mid t (Some u) ≡ with_work old t (Some u)
-put-back old mid t u is = ap (λ (b : Book). with_work b t (Some u)) is ∙ ap (λ (ws : List (Option ProgressView)). record old { works = ws }) (set-again old.works t None (Some u))
+put-back old mid t u is = ap (λ (b : Book). with_work b t (Some u)) is ∙ ap (λ (ws : List (Option ProgressView)). record old { works = ws }) (set-set old.works t None (Some u))
 
 -- the same, where the ticket is known by another name
 pub back-at : (old mid : Book) (t s : ℕ) (u : ProgressView) → s ≡ t → mid ≡ with_work old t None → with_work mid s (Some u) ≡ with_work old t (Some u)
@@ -85,12 +80,6 @@ fits-at b d k u x r o e is fits made =
     let Of : ProgressView → Type 0 = λ v. Fits v d.task.step d.task.tile x in
     let At : TaskId → Type 0 = λ i. Fits u i.step i.tile x in
     subst At (sym e) (subst Of (sym is) (result-fits (image_of (value_at b.kept r.image)) r.work d x r.at.whole allowed r.result fits made))
-
-pub runs-at : (b : Book) (d : WindowTask) (k : TaskId) (u : ProgressView) (r : IsResultAt b d) → k ≡ d.task → u ≡ r.work → is_running u.progress (number_of u.progress k.step k.tile) ≡ true
-runs-at b d k u r e is =
-    let Of : ProgressView → Type 0 = λ v. is_running v.progress (number_of v.progress d.task.step d.task.tile) ≡ true in
-    let At : TaskId → Type 0 = λ i. is_running u.progress (number_of u.progress i.step i.tile) ≡ true in
-    subst At (sym e) (subst Of (sym is) r.result.running)
 
 pub finishes-at : (b : Book) (d : WindowTask) (k : TaskId) (u after : ProgressView) (x : TileResult) (r : IsResultAt b d) → k ≡ d.task → u ≡ r.work → IsMade d x → IsFinished u after (number_of u.progress k.step k.tile) (cells_of_made x)
     → IsWhole after → FinishesAt b d after

@@ -1,13 +1,9 @@
 -- The work under a ticket, as it is found, counted and taken.
-use Rattle.std.proofs.Common.{◌≡◌, ℕ, ◌<◌, ◌≤◌, ◌*◌, ◌/◌, ◌%◌, Bool, true, false, cond, List, ◌++◌, length, map, get_or, set, take, count_by, Option, Some, None, Result, Ok, Err, IfOk, OnErr, refl, sym, ap, ◌∙◌, subst, arith}
+use Rattle.std.proofs.Common.{◌≡◌, ℕ, ◌<◌, ◌*◌, ◌/◌, ◌%◌, Bool, true, false, cond, List, ◌++◌, length, map, get_or, set, take, Option, Some, None, Result, Ok, Err, IfOk, OnErr, refl, sym, ap, ◌∙◌, subst, arith}
 use Rattle.std.specs.Prelude.{option_map}
 use Rattle.std.specs.Option.{option_map_or}
-use Rattle.std.specs.List.{range_with_len}
-use Rattle.std.proofs.Math.ListN.{get_or-map}
 use Rattle.std.proofs.Math.Seq.{take-append_seam}
 use Rattle.std.proofs.lemmas.List.{get_or_read, set-get_or}
-use Rattle.std.proofs.lemmas.List.FromFn.{length-range_with_len}
-use Rattle.std.proofs.lemmas.List.Sums.{count_by-le-length}
 use Rattle.mw_model.specs.declared.submissions.Submission.{Submission}
 use Rattle.mw_model.specs.declared.tasks.TaskId.{TaskId}
 use Rattle.mw_model.specs.Values.{image_of, value_at}
@@ -24,6 +20,7 @@ use Rattle.mw_underway.specs.SourceWindows.{Takes}
 use Rattle.mw_ledger.specs.Books.{Book, IsOrderly, progress_of, seen_of, work_at}
 use Rattle.mw_ledger.specs.Tasks.{IsAtWork, IsFoundAt, TakesAt}
 use Rattle.mw_ledger.proofs.OrderLemmas.{GoesOn, started-goes_on, with_work}
+use Rattle.mw_ledger.proofs.SeenLemmas.{progress-seen, work-shown}
 
 -- ---- what stands there
 
@@ -34,16 +31,6 @@ found ws t o u l e is = sym (get_or_read ws t o l e None) ∙ is
 -- a slice of all elements, written back
 pub written-back : (n : ℕ) (ws xs : List (Option ProgressView)) → n ≡ length ws → take n (ws ++ xs) ≡ ws
 written-back n ws xs e = rw e (take-append_seam ws xs)
-
--- what a core shows of the work under a ticket
-pub progress-shown : (ws : List (Option ProgressView)) (t : ℕ) → progress_at (map (option_map progress_of) ws) t ≡ option_map progress_of (work_at ws t)
-progress-shown ws t = get_or-map (option_map progress_of) ws t None
-
-pub progress-there : (ws : List (Option ProgressView)) (t : ℕ) (u : ProgressView) → work_at ws t ≡ Some u → progress_at (map (option_map progress_of) ws) t ≡ Some u.progress
-progress-there ws t u e = progress-shown ws t ∙ ap (option_map progress_of) e
-
-pub count-below : (q : ℕ → Bool) (n : ℕ) → count_by q (range_with_len 0 n) ≤ n
-count-below q n = omega (arith, count_by-le-length q (range_with_len 0 n), length-range_with_len 0 n)
 
 -- ---- running tasks
 
@@ -57,7 +44,7 @@ runs-underway b k u there whole r =
     record {
       progress = u.progress;
       number = number_of u.progress k.step k.tile;
-      work = progress-there b.works k.ticket u there;
+      work = progress-seen b.works k.ticket u there;
       within = number_of-within u.progress k.step k.tile r.0 inside;
       running = r.2;
       step = sym (step_number-number_of u.progress k.step k.tile inside);
@@ -66,7 +53,7 @@ runs-underway b k u there whole r =
 
 pub underway-runs : (b : Book) (k : TaskId) (u : ProgressView) → work_at b.works k.ticket ≡ Some u → IsWhole u → IsUnderway (seen_of b) k → Runs u k
 underway-runs b k u there whole w =
-    let told = progress-there b.works k.ticket u there in
+    let told = progress-seen b.works k.ticket u there in
     let work = w.work in
     let p = u.progress in
     let n = w.number in
@@ -93,34 +80,30 @@ run-ready false o place l = absurd (omega arith)
 pub ready-there : (b : Book) (t place : ℕ) (u : ProgressView) → work_at b.works t ≡ Some u → place < ready_under (seen_of b) t → place < ready_tasks u.progress
 ready-there b t place u there ready =
     let found = run-ready (may_run b.table t) (progress_at (map (option_map progress_of) b.works) t) place ready in
-    let told = progress-there b.works t u there in
+    let told = progress-seen b.works t u there in
     let is = found.1 in
     let same : found.0 ≡ u.progress = cc in
     rw (← same) found.2
-
-none-shown : (o : Option ProgressView) (p : Progress) → option_map progress_of o ≡ Some p → (u : ProgressView) × (o ≡ Some u)
-none-shown (Some u) p e = (u, refl)
-none-shown None p e = absurd cc
 
 -- its command has a first input
 pub ready-first : (b : Book) (t place : ℕ) (s : Submission) → IsOrderly b → place < ready_under (seen_of b) t → s ≡ submission_at b.table.submissions t → s.inputs.a ≡ None → ⊥
 ready-first b t place s o ready is none =
     let told = run-ready (may_run b.table t) (progress_at (map (option_map progress_of) b.works) t) place ready in
-    let there = none-shown (work_at b.works t) told.0 (sym (progress-shown b.works t) ∙ told.1) in
+    let there = work-shown b.works t told.0 told.1 in
     let first = (o.planned t there.0 there.1).input.first in
     let same = ap (λ (e : Submission). e.inputs.a) is in
     absurd cc
 
 -- ---- a task that is taken
 
-stays : (u : ProgressView) (v : ProgressView) → v ≡ u → GoesOn u v × (remaining_tasks v.progress ≡ remaining_tasks u.progress)
-stays u v e = (record { plan = ap (λ (w : ProgressView). w.progress.plan) e; tiles = ap (λ (w : ProgressView). w.progress.tiles) e; input = ap (λ (w : ProgressView). w.input) e; tiling = ap (λ (w : ProgressView). w.tiling) e }, ap (λ (w : ProgressView). remaining_tasks w.progress) e)
+goes_on-same : (u : ProgressView) (v : ProgressView) → v ≡ u → GoesOn u v × (remaining_tasks v.progress ≡ remaining_tasks u.progress)
+goes_on-same u v e = (record { plan = ap (λ (w : ProgressView). w.progress.plan) e; tiles = ap (λ (w : ProgressView). w.progress.tiles) e; input = ap (λ (w : ProgressView). w.input) e; tiling = ap (λ (w : ProgressView). w.tiling) e }, ap (λ (w : ProgressView). remaining_tasks w.progress) e)
 
 pub taken-goes_on : {E : Type 0} (b : Book) (t image : ℕ) (old : ProgressView) (n : ℕ) (new : ProgressView) (r : Result (Option WindowTask) E) → IfOk r (Takes (image_of (value_at b.kept image)) t old n new) → OnErr r (new ≡ old)
     → GoesOn old new × (remaining_tasks new.progress ≡ remaining_tasks old.progress)
 taken-goes_on b t image old n new (Ok (Some w)) h s = (started-goes_on old new n h.started, ap (λ (p : Progress). remaining_tasks p) h.started.progress)
-taken-goes_on b t image old n new (Ok None) h s = stays old new h.3
-taken-goes_on b t image old n new (Err e) h s = stays old new s
+taken-goes_on b t image old n new (Ok None) h s = goes_on-same old new h.3
+taken-goes_on b t image old n new (Err e) h s = goes_on-same old new s
 
 pub takes-at : {E : Type 0} (b : Book) (t image : ℕ) (old : ProgressView) (n : ℕ) (new : ProgressView) (r : Result (Option WindowTask) E) → IsAtWork b t old image → IfOk r (Takes (image_of (value_at b.kept image)) t old n new)
     → IfOk r (TakesAt b t (with_work b t (Some new)))

@@ -1,8 +1,9 @@
 -- What a ledger shows, and what holds of it beside any machine.
-use Rattle.std.specs.Prelude.{ℕ, ◌≡◌, ◌≤◌, List, [], length, map, Option, Some, None, option_map, slice_index_or}
+use Rattle.std.specs.Prelude.{ℕ, ◌≡◌, ◌+◌, ◌-◌, ◌≤◌, List, [], length, map, count_by, Option, Some, None, option_map, slice_index_or}
 use Rattle.mw_model.specs.declared.calls.LogItem.{LogItem}
+use Rattle.mw_model.specs.declared.calls.Outcome.{Outcome}
 use Rattle.mw_model.specs.Values.{Value}
-use Rattle.mw_model.specs.Refusals.{Table}
+use Rattle.mw_model.specs.Refusals.{Table, is_pending}
 use Rattle.mw_model.specs.Stands.{CoreView}
 use Rattle.mw_model.specs.Tasks.{Progress, remaining_tasks, task_count}
 use Rattle.mw_underway.specs.mw_progress.ProgressView.{ProgressView}
@@ -10,13 +11,14 @@ use Rattle.mw_underway.specs.mw_store.Stored.{Stored, IsWhole}
 use Rattle.mw_underway.specs.mw_stands.Limits.{ShapesFit}
 use Rattle.mw_underway.specs.Planning.{IsPlannedAt, IsSide}
 
--- What a ledger shows: its table, the value that it keeps of each ticket, the work under each, with the planes that its tasks have made, its log, and the side of its tiles in pixels.
+-- What a ledger shows: its table, the value that it keeps of each ticket, the work under each, with the planes that its tasks have made, its log, the side of its tiles in pixels, and how many more items find a place in the log without memory being asked for.
 pub record Book : Type 0 where
   pub table : Table
   pub kept : List (Option Value)
   pub works : List (Option ProgressView)
   pub log : List LogItem
   pub side : ℕ
+  pub room : ℕ
 
 -- the work under a ticket, if there is any
 abbrev pub work_at : List (Option ProgressView) → ℕ → Option ProgressView
@@ -36,7 +38,11 @@ stored_in b = record { table = b.table; kept = b.kept }
 
 -- nothing was accepted yet
 abbrev pub empty_book : ℕ → Book
-empty_book side = record { table = record { names = []; submissions = []; outcomes = [] }; kept = []; works = []; log = []; side = side }
+empty_book side = record { table = record { names = []; submissions = []; outcomes = [] }; kept = []; works = []; log = []; side = side; room = 16 }
+
+-- the places of a log that no item has, and that are not kept for the ends of pending entries
+abbrev pub room_in : ℕ → ℕ → List Outcome → ℕ
+room_in capacity len outcomes = capacity - (len + count_by is_pending outcomes)
 
 -- The store is whole, each shape is within the limits, there is a place for work with each name, and what stands there is planned for its ticket, is not finished, and has at most 4,194,304 tasks.
 pub record IsOrderly (b : Book) : Type 0 where

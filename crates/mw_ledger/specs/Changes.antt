@@ -12,18 +12,19 @@ use Rattle.mw_underway.specs.mw_store.declared.kept.Entry.{Entry}
 use Rattle.mw_underway.specs.mw_store.Entries.{submission_of, outcome_of, payload_in}
 use Rattle.mw_ledger.specs.Books.{Book, work_at}
 
--- one item more in the log
-abbrev pub noted : Book → LogItem → Book
-noted b i = record b { log = b.log ++ i ∷ [] }
+-- one item more in the log, which then has so much room
+abbrev pub noted : Book → LogItem → ℕ → Book
+noted b i room = record b { log = b.log ++ i ∷ []; room = room }
 
--- one entry more, with its work and the item of its call
-abbrev pub with_accepted : Book → Call → Name → Entry → Option ProgressView → Book
-with_accepted b c n e u = record {
+-- one entry more, with its work and the item of its call in the log, which then has so much room
+abbrev pub with_accepted : Book → Call → Name → Entry → Option ProgressView → ℕ → Book
+with_accepted b c n e u room = record {
   table = with_entry b.table n (submission_of e) (outcome_of e);
   kept = b.kept ++ payload_in e ∷ [];
   works = b.works ++ u ∷ [];
   log = b.log ++ item.Call c (reply.Accepted (length b.table.names)) ∷ [];
   side = b.side;
+  room = room;
 }
 
 -- the work under each ticket that is pending stays, and no other has any

@@ -1,9 +1,10 @@
 //! Session calls: entries are added, die, and are let go, and each call has its item in the log.
 
-ghost use Rattle.std.specs.Prelude.{◌≡◌, ◌<◌, ◌≤◌, ◌++◌, ◌∷◌, [], length, OnOk, OnErr, IfOk, IfSome, None, false};
+ghost use Rattle.std.specs.Prelude.{◌≡◌, ◌<◌, ◌≤◌, ◌++◌, ◌∷◌, ◌⊎◌, [], length, OnOk, OnErr, IfOk, IfSome, None, true, false};
 
 use crate::ledger::Ledger;
 use crate::sweep::drop_settled;
+use mw_log::Compact;
 use mw_model::{Call, LogItem, Name, NoMemory, Outcome, Reply};
 use mw_underway::{Entry, PlanProgress};
 
@@ -17,15 +18,19 @@ impl Ledger {
     ghost use Rattle.mw_underway.specs.mw_store.Stored.{DropsSpent};
     ghost use Rattle.mw_underway.specs.mw_stands.Limits.{FitsLimits};
     ghost use Rattle.mw_underway.specs.Planning.{IsPlannedOn};
+    ghost use Rattle.mw_log.specs.Short.{is_long};
     ghost use Rattle.mw_ledger.specs.Changes.{KeepsWorks, noted, with_accepted};
 
-    /// Adds the item of a call that changes no entry.
+    /// Adds the item of a call that changes no entry. Memory is wanting only where the log has no room, or the item needs a
+    /// block of its own.
     pub fn note(&mut self, call: Call, reply: Reply) -> Result<(), NoMemory>
-        ensures ok { OnOk result (self.new ≡ noted self.old (LogItem.Call call reply)) }
+        ensures ok { OnOk result (self.new ≡ noted self.old (LogItem.Call call reply) self.new.room) }
         ensures err { OnErr result (self.new ≡ self.old) }
+        ensures memory { OnErr result ((is_long (LogItem.Call call reply) ≡ true) ⊎ (self.old.room ≡ 0)) }
     {
+        let item = Compact::new(self.alloc, LogItem::Call(call, reply))?;
         self.log.reserve(self.store.pending() + 1)?;
-        self.log.push_reserved(LogItem::Call(call, reply));
+        self.log.push_reserved(item);
         Ok(())
     }
 
@@ -45,22 +50,23 @@ impl Ledger {
         requires left { IfSome work (λ u. 1 ≤ remaining_tasks u.progress) }
         requires most { IfSome work (λ u. task_count u.progress ≤ 4194304) }
         ensures ticket { IfOk result (λ t. t ≡ length self.old.table.names) }
-        ensures ok { OnOk result (self.new ≡ with_accepted self.old call name entry work) }
-        ensures err { OnErr result (self.new ≡ self.old) }
+        ensures ok { OnOk result (self.new ≡ with_accepted self.old call name entry work self.new.room) }
+        ensures err { OnErr result (self.new ≡ record self.old { room = self.new.room }) }
     {
+        let next = self.store.len();
+        let item = Compact::new(self.alloc, LogItem::Call(call, Reply::Accepted(next)))?;
         self.log.reserve(self.store.pending() + 2)?;
         self.works.reserve(1)?;
         let t = self.store.add(name, entry)?;
         let _whole = self.store.pending();
         self.works.push_reserved(work);
-        self.log
-            .push_reserved(LogItem::Call(call, Reply::Accepted(t)));
+        self.log.push_reserved(item);
         Ok(t)
     }
 
     /// Ends a pending ticket by its death, in the place that its item has, and drops what nothing waits for any more. This
     /// is the only call that looks at all entries. No memory is asked for.
-    pub fn end(&mut self, t: u32, cause: Outcome, item: LogItem)
+    pub fn end(&mut self, t: u32, cause: Outcome, item: Compact)
         requires within { t < length self.old.table.names }
         requires pending { outcome_at self.old.table.outcomes t ≡ Outcome.Pending }
         requires dead { is_pending cause ≡ false }
@@ -77,8 +83,8 @@ impl Ledger {
         self.log.push_reserved(item);
     }
 
-    /// Lets a done ticket go.
-    pub fn let_go(&mut self, t: u32, item: LogItem) -> Result<(), NoMemory>
+    /// Lets a done ticket go. Memory is wanting only where the log has no room.
+    pub fn let_go(&mut self, t: u32, item: Compact) -> Result<(), NoMemory>
         requires within { t < length self.old.table.names }
         requires done { outcome_at self.old.table.outcomes t ≡ Outcome.Done }
         ensures table { OnOk result (self.new.table ≡ settled self.old.table t Outcome.Released) }
@@ -87,6 +93,7 @@ impl Ledger {
         ensures log { OnOk result (self.new.log ≡ self.old.log ++ item ∷ []) }
         ensures side { self.new.side ≡ self.old.side }
         ensures err { OnErr result (self.new ≡ self.old) }
+        ensures memory { OnErr result (self.old.room ≡ 0) }
     {
         self.log.reserve(self.store.pending() + 1)?;
         self.store.release(t);

@@ -2,6 +2,7 @@
 
 ghost use Rattle.std.specs.Prelude.{◌≡◌, ◌+◌, ◌<◌, ◌≤◌, length, IfOk, Some};
 
+use mw_log::Compact;
 use mw_model::{LogItem, NoMemory};
 use mw_underway::{PlanProgress, Store};
 use std::alloc::Global;
@@ -12,7 +13,7 @@ use std::marker::Model;
 pub struct Ledger {
     pub(crate) store: Store,
     pub(crate) works: Vec<Option<PlanProgress>>,
-    pub(crate) log: Vec<LogItem>,
+    pub(crate) log: Vec<Compact>,
     pub(crate) side: u32,
     pub(crate) alloc: Global,
 }
@@ -20,15 +21,29 @@ pub struct Ledger {
 impl Model for Ledger {
     ghost use Rattle.std.specs.Prelude.{◌+◌, ◌≤◌, count_by, vec_len, vec_capacity};
     ghost use Rattle.mw_model.specs.Refusals.{is_pending};
-    ghost use Rattle.mw_ledger.specs.Books.{Book, IsOrderly};
+    ghost use Rattle.mw_ledger.specs.Books.{Book, IsOrderly, room_in};
 
     ghost Value = { Book };
 
-    ghost view = { λ l. record { table = l.store.table; kept = l.store.kept; works = l.works.items; log = l.log.items; side = l.side } };
+    ghost view = { λ l. record {
+      table = l.store.table;
+      kept = l.store.kept;
+      works = l.works.items;
+      log = l.log.items;
+      side = l.side;
+      room = room_in (vec_capacity l.log) (vec_len l.log) l.store.table.outcomes;
+    } };
 
     // Each pending entry has a place in the log for its end.
     ghost invariant = { λ l. (vec_len l.log + count_by is_pending l.store.table.outcomes ≤ vec_capacity l.log)
-        × IsOrderly (record { table = l.store.table; kept = l.store.kept; works = l.works.items; log = l.log.items; side = l.side }) };
+        × IsOrderly (record {
+          table = l.store.table;
+          kept = l.store.kept;
+          works = l.works.items;
+          log = l.log.items;
+          side = l.side;
+          room = room_in (vec_capacity l.log) (vec_len l.log) l.store.table.outcomes;
+        }) };
 }
 
 impl Ledger {
@@ -83,6 +98,6 @@ impl Ledger {
         requires { i < length self.now.log }
         ensures { slice_get self.now.log i ≡ Some result }
     {
-        self.log[i]
+        self.log[i].item()
     }
 }

@@ -9,6 +9,7 @@ ghost use Rattle.mw_ledger.specs.Tasks.{value_made};
 
 use crate::ledger::Ledger;
 use mw_gran::Curve;
+use mw_log::Compact;
 use mw_model::{LogItem, Outcome, Shape};
 use mw_task::TileDone;
 use mw_underway::{Kept, PlanProgress, Waiters, WholePlane};
@@ -71,7 +72,7 @@ impl Ledger {
         let _pending = self.store.pending();
         let waiters = self.store.settle(t, value);
         let _whole = self.store.pending();
-        self.log.push_reserved(LogItem::Finished(t));
+        self.log.push_reserved(Compact::short(LogItem::Finished(t)));
         waiters
     }
 

@@ -1,6 +1,6 @@
 //! Counts of ready and running tasks beside a ledger.
 
-ghost use Rattle.std.specs.Prelude.{◌≡◌, ◌+◌, ◌-◌, ◌<◌, ◌≤◌, ◌^◌, length, sum, slice_index, slice_set, Option, IfOk, MatchResult};
+ghost use Rattle.std.specs.Prelude.{◌≡◌, ℕ, ◌+◌, ◌-◌, ◌<◌, ◌≤◌, ◌^◌, length, sum, slice_index, slice_set, Option, IfOk, MatchResult};
 
 use crate::ledger::Ledger;
 use mw_model::NoMemory;
@@ -84,7 +84,7 @@ impl Counts {
     pub fn add_last(&mut self, ledger: &Ledger)
         requires some { 1 ≤ length ledger.now.table.names }
         requires count { length self.old.ready ≡ length ledger.now.table.names }
-        ensures { (b : Book) (k : Tally) (c : Call) (n : Name) (e : Entry) (u : Option ProgressView) → IsOrderly b → AreCounts (seen_of b) k → self.old ≡ grown k → ledger.now ≡ with_accepted b c n e u
+        ensures { (b : Book) (k : Tally) (c : Call) (n : Name) (e : Entry) (u : Option ProgressView) (room : ℕ) → IsOrderly b → AreCounts (seen_of b) k → self.old ≡ grown k → ledger.now ≡ with_accepted b c n e u room
             → AreCounts (seen_of ledger.now) self.new }
     {
         let last = self.ready.len() - 1;

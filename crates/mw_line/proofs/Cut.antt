@@ -7,8 +7,9 @@ use Rattle.std.proofs.lemmas.Int.{ints, clamps}
 use Rattle.std.proofs.lemmas.List.{drop_min, take_min}
 use Rattle.std.specs.Int.{div_ceil, int_max, int_min}
 use Rattle.mw_line.specs.Line.{combines, cut_to, line_at, places_within, samples_between}
-use Rattle.mw_line.proofs.Padded.{nonnegative_is, size_positive}
+use Rattle.mw_line.proofs.Padded.{size_positive}
 use Rattle.mw_model.specs.Places.{nonnegative, span}
+use Rattle.mw_model.proofs.Nonnegative.{nonnegative_is}
 
 -- one block more
 pub div_ceil-block : (at m k : ℕ) → div_ceil at k * k ≡ at → 0 < m → m ≤ k → div_ceil (at + m) k * k ≡ at + k

@@ -1,7 +1,7 @@
 -- Folds by an operation that takes no notice of order and repeats.
 use Rattle.std.proofs.Common.{◌≡◌, ℕ, ◌+◌, ◌-◌, ◌<◌, ◌≤◌, List, [], ◌∷◌, ◌++◌, length, take, drop, get_or, set, fold, slice_range, ◌≢◌, inl, inr, length-take, length-drop, refl, ap, sym, arith, ◌∙◌}
 use Rattle.std.proofs.lemmas.List.Sums.{fold-append}
-use Rattle.std.proofs.lemmas.List.{drop_more, take_more, drop-take, drop-drop, get_or-set_same, get_or-set_other}
+use Rattle.std.proofs.lemmas.List.{drop_more, drop-take, drop-drop, get_or-set_same, get_or-set_other}
 use Rattle.std.proofs.lemmas.Bool.{cases_eq}
 use Rattle.std.proofs.Math.Nat.{add-sub_of_le}
 use Rattle.std.proofs.Math.Seq.{take-add}
@@ -32,12 +32,6 @@ pub fold_back : {A : Type 0} (f : A → A → A) → IsExtremum f → (n : A) (b
     → x ≡ get_or block i x → best ≡ fold f n (drop (i + 1) block) → f x best ≡ fold f n (drop i block)
 fold_back f laws n block i x best lt x-is best-is =
     rw (drop_more block i x lt, ← x-is, best-is) (sym (fold_first f laws n x (drop (i + 1) block)))
-
--- a step of the forward pass
-pub fold_on : {A : Type 0} (f : A → A → A) → (n : A) (rest : List A) (i : ℕ) (x best : A) → i < length rest
-    → x ≡ get_or rest i x → best ≡ fold f n (take i rest) → f best x ≡ fold f n (take (i + 1) rest)
-fold_on f n rest i x best lt x-is best-is =
-    rw (take_more rest i x lt, ← x-is, best-is) (sym (fold-append f n (take i rest) (x ∷ [])))
 
 -- a window of k places, cut at the end of a block
 window_cut : {A : Type 0} (k r : ℕ) (ys : List A) → r ≤ k → drop r (take k ys) ++ take r (drop k ys) ≡ take k (drop r ys)

@@ -12,16 +12,16 @@ use Rattle.mw_line.proofs.Folds.{IsExtremum}
 use Rattle.mw_line.proofs.Joined.{spread_in}
 use borrow.Rule.Slice.PartMut.{put_mid}
 
-absorbed : {A : Type 0} (f : A → A → A) → IsExtremum f → (v : ℕ → A) (m n a : ℕ) → m ≤ n → f (over f v a m) (over f v a n) ≡ over f v a n
-absorbed f laws v zero zero a le = laws.is_idempotent (v a)
-absorbed f laws v zero (suc n) a le = sym (laws.associates (v a) (v a) (over f v (a + 1) n)) ∙ ap (λ (t : _). f t (over f v (a + 1) n)) (laws.is_idempotent (v a))
-absorbed f laws v (suc m) zero a le = absurd (omega arith)
-absorbed f laws v (suc m) (suc n) a le = spread_in f laws (v a) (over f v (a + 1) m) (over f v (a + 1) n) ∙ ap (f (v a)) (absorbed f laws v m n (a + 1) (omega arith))
+over-absorbed : {A : Type 0} (f : A → A → A) → IsExtremum f → (v : ℕ → A) (m n a : ℕ) → m ≤ n → f (over f v a m) (over f v a n) ≡ over f v a n
+over-absorbed f laws v zero zero a le = laws.is_idempotent (v a)
+over-absorbed f laws v zero (suc n) a le = sym (laws.associates (v a) (v a) (over f v (a + 1) n)) ∙ ap (λ (t : _). f t (over f v (a + 1) n)) (laws.is_idempotent (v a))
+over-absorbed f laws v (suc m) zero a le = absurd (omega arith)
+over-absorbed f laws v (suc m) (suc n) a le = spread_in f laws (v a) (over f v (a + 1) m) (over f v (a + 1) n) ∙ ap (f (v a)) (over-absorbed f laws v m n (a + 1) (omega arith))
 
 -- two ranges of places that meet or overlap
 pub over_joined : {A : Type 0} (f : A → A → A) → IsExtremum f → (v : ℕ → A) (j m n a : ℕ) → j ≤ suc m → m ≤ j + n → f (over f v a m) (over f v (a + j) n) ≡ over f v a (j + n)
 over_joined f laws v zero m n a meets le =
-    ap (λ (t : ℕ). f (over f v a m) (over f v t n)) (add-zero a) ∙ absorbed f laws v m n a (omega arith) ∙ ap (over f v a) (sym (zero-add n))
+    ap (λ (t : ℕ). f (over f v a m) (over f v t n)) (add-zero a) ∙ over-absorbed f laws v m n a (omega arith) ∙ ap (over f v a) (sym (zero-add n))
 over_joined f laws v (suc j) zero n a meets le =
     let j-is : j ≡ 0 = omega arith in
     ap (λ (t : ℕ). f (v a) (over f v (a + suc t) n)) j-is
@@ -38,8 +38,8 @@ over_joined f laws v (suc j) (suc m) n a meets le =
     one_on a j = omega arith
 
 -- a power of 2 that is more than another is at least twice as much
-twice : (i j : ℕ) → 2 ^ i < 2 ^ j → 2 * 2 ^ i ≤ 2 ^ j
-twice i j less = elim (cases_lt i j) [
+pow-twice : (i j : ℕ) → 2 ^ i < 2 ^ j → 2 * 2 ^ i ≤ 2 ^ j
+pow-twice i j less = elim (cases_lt i j) [
   | inl below ↦
       let le = pow-le-pow_right {n = 2} (omega arith) {i = i + 1} {j = j} (omega arith) in
       omega (arith, le, pow_more 2 i)
@@ -95,7 +95,7 @@ row_between f value d w k last taken at rows g sum i x y less above near le more
   | inl below ↦
       g.part_above i x y less above (omega arith) (omega arith) (omega arith)
   | inr same ↦
-      let far = twice g.power i (omega (arith, g.taken_is)) in
+      let far = pow-twice g.power i (omega (arith, g.taken_is)) in
       absurd (omega (arith, far, g.taken_is))
 ]
 
@@ -119,7 +119,7 @@ growing_more f laws value d w k last taken at to more rows made g some room at-i
         ]
     | inr here ↦
         let y-is : y ≡ to = omega arith in
-        let far = twice g.power i (omega (arith, g.taken_is)) in
+        let far = pow-twice g.power i (omega (arith, g.taken_is)) in
         let last_place : taken + (taken - 1) ≡ 2 ^ i - 1 = omega (arith, far, g.taken_is) in
         rw y-is (merged_row f laws value d w k last taken at taken to rows made g some (omega arith) (omega arith) some at-is sum row-is (omega arith) x less ∙ ap (over f (value x) to) last_place)
   ];

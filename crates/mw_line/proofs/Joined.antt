@@ -11,23 +11,23 @@ spread_in f laws x a b =
     ∙ sym (laws.associates x x (f a b))
     ∙ ap (λ (t : _). f t (f a b)) (laws.is_idempotent x)
 
-absorbed : {A : Type 0} (f : A → A → A) → IsExtremum f → (row : List A) (d : A) (s m n p : ℕ) → m ≤ n → f (strided f row d s m p) (strided f row d s n p) ≡ strided f row d s n p
-absorbed f laws row d s zero zero p le = laws.is_idempotent (get_or row p d)
-absorbed f laws row d s zero (suc n) p le =
+strided-absorbed : {A : Type 0} (f : A → A → A) → IsExtremum f → (row : List A) (d : A) (s m n p : ℕ) → m ≤ n → f (strided f row d s m p) (strided f row d s n p) ≡ strided f row d s n p
+strided-absorbed f laws row d s zero zero p le = laws.is_idempotent (get_or row p d)
+strided-absorbed f laws row d s zero (suc n) p le =
     sym (laws.associates (get_or row p d) (get_or row p d) (strided f row d s n (p + s))) ∙ ap (λ (t : _). f t (strided f row d s n (p + s))) (laws.is_idempotent (get_or row p d))
-absorbed f laws row d s (suc m) zero p le = absurd (omega arith)
-absorbed f laws row d s (suc m) (suc n) p le =
-    spread_in f laws (get_or row p d) (strided f row d s m (p + s)) (strided f row d s n (p + s)) ∙ ap (f (get_or row p d)) (absorbed f laws row d s m n (p + s) (omega arith))
+strided-absorbed f laws row d s (suc m) zero p le = absurd (omega arith)
+strided-absorbed f laws row d s (suc m) (suc n) p le =
+    spread_in f laws (get_or row p d) (strided f row d s m (p + s)) (strided f row d s n (p + s)) ∙ ap (f (get_or row p d)) (strided-absorbed f laws row d s m n (p + s) (omega arith))
 
 -- two runs of samples that meet or overlap
-pub joined : {A : Type 0} (f : A → A → A) → IsExtremum f → (row : List A) (d : A) (s j m n p : ℕ) → j ≤ suc m → m ≤ j + n
+pub strided-joined : {A : Type 0} (f : A → A → A) → IsExtremum f → (row : List A) (d : A) (s j m n p : ℕ) → j ≤ suc m → m ≤ j + n
     → f (strided f row d s m p) (strided f row d s n (p + j * s)) ≡ strided f row d s (j + n) p
-joined f laws row d s zero m n p meets le =
-    ap (λ (t : ℕ). f (strided f row d s m p) (strided f row d s n t)) (none p s) ∙ absorbed f laws row d s m n p (omega arith) ∙ ap (λ (t : ℕ). strided f row d s t p) (sym (zero-add n))
+strided-joined f laws row d s zero m n p meets le =
+    ap (λ (t : ℕ). f (strided f row d s m p) (strided f row d s n t)) (none p s) ∙ strided-absorbed f laws row d s m n p (omega arith) ∙ ap (λ (t : ℕ). strided f row d s t p) (sym (zero-add n))
   where
     none : (p s : ℕ) → p + 0 * s ≡ p
     none p s = omega arith
-joined f laws row d s (suc j) zero n p meets le =
+strided-joined f laws row d s (suc j) zero n p meets le =
     let j-is : j ≡ 0 = omega arith in
     ap (λ (t : ℕ). f (get_or row p d) (strided f row d s n (p + suc t * s))) j-is
     ∙ ap (λ (t : ℕ). f (get_or row p d) (strided f row d s n t)) (once p s)
@@ -37,10 +37,10 @@ joined f laws row d s (suc j) zero n p meets le =
   where
     once : (p s : ℕ) → p + suc 0 * s ≡ p + s
     once p s = omega arith
-joined f laws row d s (suc j) (suc m) n p meets le =
+strided-joined f laws row d s (suc j) (suc m) n p meets le =
     laws.associates (get_or row p d) (strided f row d s m (p + s)) (strided f row d s n (p + suc j * s))
     ∙ ap (λ (t : ℕ). f (get_or row p d) (f (strided f row d s m (p + s)) (strided f row d s n t))) (over p j s)
-    ∙ ap (f (get_or row p d)) (joined f laws row d s j m n (p + s) (omega arith) (omega arith))
+    ∙ ap (f (get_or row p d)) (strided-joined f laws row d s j m n (p + s) (omega arith) (omega arith))
     ∙ ap (λ (t : ℕ). strided f row d s t p) (sym (suc-add j n))
   where
     over : (p j s : ℕ) → p + suc j * s ≡ p + s + j * s
@@ -80,7 +80,7 @@ taken_more f laws row len s k taken left j shift rest more count now made before
           made-is p d (omega arith)
           ∙ ap (λ (t : _). f t (get_or now (p + shift) d)) (before.done p d (omega arith))
           ∙ ap (f (strided f row d s (taken - 1) p)) (before.done (p + shift) d (omega arith) ∙ ap (λ (t : ℕ). strided f row d s (taken - 1) (p + t)) shift-is)
-          ∙ joined f laws row d s j (taken - 1) (taken - 1) p (omega (arith, before.positive)) (omega arith)
+          ∙ strided-joined f laws row d s j (taken - 1) (taken - 1) p (omega (arith, before.positive)) (omega arith)
           ∙ ap (λ (t : ℕ). strided f row d s t p) (count_on before.positive);
       past = λ p d far. same p d (omega arith) ∙ before.past p d far;
     }

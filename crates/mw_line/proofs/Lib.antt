@@ -2,9 +2,9 @@
 pub mod Folds
 pub mod Joined
 pub mod Over
-pub mod Padded
 pub mod Rows
 pub mod Tiles
+pub mod Within
 -- the crate's own
 mod Cut
 mod Seen
@@ -13,3 +13,4 @@ mod Spans
 mod Levels
 mod Growing
 mod Segments
+mod Padded

@@ -49,10 +49,6 @@ pub filter_map-flat : {A B : Type 0} (g : B → Option A) (xs : List B) → filt
 filter_map-flat g [] = refl
 filter_map-flat g (x ∷ xs) = cons_those (g x) (filter_map g xs) ∙ ap (λ (t : List _). those (g x) ++ t) (filter_map-flat g xs)
 
-pub flat_map_same : {A B : Type 0} (f g : B → List A) (xs : List B) → ((x : B) → f x ≡ g x) → flat_map f xs ≡ flat_map g xs
-flat_map_same f g [] same = refl
-flat_map_same f g (x ∷ xs) same = ap (λ (t : List _). t ++ flat_map f xs) (same x) ∙ ap (λ (t : List _). g x ++ t) (flat_map_same f g xs same)
-
 -- rows that are all empty
 pub all_empty : {A : Type 0} (rows : ℕ → List A) (s m : ℕ) → ((i : ℕ) → s ≤ i → i < s + m → rows i ≡ []) → flat_map rows (range_with_len s m) ≡ []
 all_empty rows s zero empty = refl
@@ -66,12 +62,12 @@ kept_front rows s (suc m) (suc k) le empty =
     ap (λ (t : List _). rows s ++ t) (kept_front rows (s + 1) m k (omega arith) (λ i from to. empty i (omega arith) (omega arith)))
 
 -- rows of which those before the first a and those from a + k on are empty
-pub kept : {A : Type 0} (rows : ℕ → List A) (s m a k : ℕ) → a + k ≤ m → ((i : ℕ) → s ≤ i → i < s + a → rows i ≡ []) → ((i : ℕ) → s + a + k ≤ i → i < s + m → rows i ≡ [])
+pub rows-kept : {A : Type 0} (rows : ℕ → List A) (s m a k : ℕ) → a + k ≤ m → ((i : ℕ) → s ≤ i → i < s + a → rows i ≡ []) → ((i : ℕ) → s + a + k ≤ i → i < s + m → rows i ≡ [])
     → flat_map rows (range_with_len s m) ≡ flat_map rows (range_with_len (s + a) k)
-kept rows s m zero k le before behind =
+rows-kept rows s m zero k le before behind =
     kept_front rows s m k (omega arith) (λ i from to. behind i (omega arith) to) ∙ ap (λ (t : ℕ). flat_map rows (range_with_len t k)) (sym (add-zero s))
-kept rows s zero (suc a) k le before behind = absurd (omega arith)
-kept rows s (suc m) (suc a) k le before behind =
+rows-kept rows s zero (suc a) k le before behind = absurd (omega arith)
+rows-kept rows s (suc m) (suc a) k le before behind =
     ap (λ (t : List _). t ++ flat_map rows (range_with_len (s + 1) m)) (before s (omega arith) (omega arith))
-    ∙ kept rows (s + 1) m a k (omega arith) (λ i from to. before i (omega arith) (omega arith)) (λ i from to. behind i (omega arith) (omega arith))
+    ∙ rows-kept rows (s + 1) m a k (omega arith) (λ i from to. before i (omega arith) (omega arith)) (λ i from to. behind i (omega arith) (omega arith))
     ∙ ap (λ (t : ℕ). flat_map rows (range_with_len t k)) (add_one-add s a)

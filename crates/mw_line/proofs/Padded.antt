@@ -1,12 +1,12 @@
 -- Windows on a line with neutral samples before and after it.
-use Rattle.std.proofs.Common.{◌≡◌, ℕ, zero, suc, ◌+◌, ◌-◌, ◌<◌, ◌≤◌, List, [], ◌∷◌, ◌++◌, length, take, drop, fold, slice_range, refl, ap, sym, arith, ◌∙◌, min, replicate, ℤ, pos, negsuc, ◌+ℤ◌, ◌-ℤ◌, ◌≤ℤ◌}
+use Rattle.std.proofs.Common.{◌≡◌, ℕ, zero, suc, ◌+◌, ◌-◌, ◌<◌, List, [], ◌∷◌, ◌++◌, length, take, drop, fold, slice_range, refl, ap, sym, arith, ◌∙◌, min, replicate, ℤ, pos, negsuc, ◌+ℤ◌, ◌-ℤ◌, ◌≤ℤ◌}
 use Rattle.std.proofs.lemmas.Int.{ints}
-use Rattle.std.proofs.lemmas.List.{length-append, length-replicate, length-drop}
 use Rattle.std.proofs.lemmas.List.{drop_min, drop-drop}
 use lib.IntN.{neg_ℤ, nat_abs}
 use borrow.Author.Differences.{up, down}
 use Rattle.mw_line.specs.Line.{line_at}
 use Rattle.mw_model.specs.Places.{nonnegative, span}
+use Rattle.mw_model.proofs.Nonnegative.{nonnegative_is}
 use Rattle.mw_line.proofs.Folds.{IsExtremum}
 
 same_part : {A : Type 0} (m n i j : ℕ) (xs : List A) → m ≡ n → i ≡ j → take m (drop i xs) ≡ take n (drop j xs)
@@ -34,8 +34,8 @@ nothing_more f n c (suc m) zero zero same = refl
 nothing_more f n c (suc m) (suc k) zero same = ap (λ (t : _). fold f t (take k (replicate m n))) same ∙ nothing_more f n c m k zero same
 nothing_more f n c (suc m) k (suc i) same = nothing_more f n c m k i same
 
-absorbs : {A : Type 0} (f : A → A → A) → IsExtremum f → (n c x : A) → f c n ≡ c → f (f c x) n ≡ f c x
-absorbs f laws n c x same = laws.associates c x n ∙ ap (f c) (laws.commutes x n) ∙ sym (laws.associates c n x) ∙ ap (λ (t : _). f t x) same
+absorbs-neutral : {A : Type 0} (f : A → A → A) → IsExtremum f → (n c x : A) → f c n ≡ c → f (f c x) n ≡ f c x
+absorbs-neutral f laws n c x same = laws.associates c x n ∙ ap (f c) (laws.commutes x n) ∙ sym (laws.associates c n x) ∙ ap (λ (t : _). f t x) same
 
 -- neutral samples behind
 pad_back : {A : Type 0} (f : A → A → A) → IsExtremum f → (n c : A) (m k i : ℕ) (ys : List A) → f c n ≡ c
@@ -45,22 +45,14 @@ pad_back f laws n c m zero (suc i) [] same = nothing_more f n c m zero (suc i) s
 pad_back f laws n c m (suc k) zero [] same = nothing_more f n c m (suc k) zero same
 pad_back f laws n c m (suc k) (suc i) [] same = nothing_more f n c m (suc k) (suc i) same
 pad_back f laws n c m zero zero (y ∷ ys) same = refl
-pad_back f laws n c m (suc k) zero (y ∷ ys) same = pad_back f laws n (f c y) m k zero ys (absorbs f laws n c y same)
+pad_back f laws n c m (suc k) zero (y ∷ ys) same = pad_back f laws n (f c y) m k zero ys (absorbs-neutral f laws n c y same)
 pad_back f laws n c m k (suc i) (y ∷ ys) same = pad_back f laws n c m k i ys same
-
-pub nonnegative_is : (z : ℤ) → nonnegative z ≡ up z - down z
-nonnegative_is (pos n) = omega arith
-nonnegative_is (negsuc n) = omega arith
 
 lo_is : (a : ℤ) (i : ℕ) → nonnegative (pos i +ℤ a) ≡ nonnegative a + (i - nonnegative (neg_ℤ a))
 lo_is a i = omega (arith, ints, nonnegative_is (pos i +ℤ a), nonnegative_is a, nonnegative_is (neg_ℤ a))
 
 size_is : (a b : ℤ) (i : ℕ) → a ≤ℤ b → span a b - (nonnegative (neg_ℤ a) - i) ≡ nonnegative (pos i +ℤ b +ℤ pos 1) - nonnegative (pos i +ℤ a)
 size_is a b i le = omega (arith, ints, nonnegative_is (b -ℤ a +ℤ pos 1), nonnegative_is (neg_ℤ a), nonnegative_is (pos i +ℤ b +ℤ pos 1), nonnegative_is (pos i +ℤ a))
-
--- how long the line is with its neutral samples
-pub room_is : (a b : ℤ) (n : ℕ) → a ≤ℤ b → n + span a b ≤ nonnegative (neg_ℤ a) + (n - nonnegative a) + nonnegative (b +ℤ pos 1)
-room_is a b n le = omega (arith, ints, nonnegative_is (b -ℤ a +ℤ pos 1), nonnegative_is (neg_ℤ a), nonnegative_is (b +ℤ pos 1), nonnegative_is a)
 
 pub size_positive : (a b : ℤ) → a ≤ℤ b → 0 < span a b
 size_positive a b le = omega (arith, ints, nonnegative_is (b -ℤ a +ℤ pos 1))
@@ -97,10 +89,3 @@ line_done f laws n samples row a b left skip right k i x le left-is skip-is k-is
     ∙ ap (λ (t : ℕ). fold f n (slice_range row i (i + t))) k-is
     ∙ ap (λ (t : List _). fold f n (slice_range t i (i + span a b))) (row-is ∙ ap (λ (t : ℕ). replicate t n ++ (drop (min skip (length samples)) samples ++ replicate right n)) left-is ∙ ap (λ (t : ℕ). replicate (nonnegative (neg_ℤ a)) n ++ (drop (min t (length samples)) samples ++ replicate right n)) skip-is)
     ∙ padded_window f laws n samples a b i right le
-
-pub padded_room : {A : Type 0} (n : A) (samples row : List A) (a b : ℤ) (left skip right k : ℕ) → a ≤ℤ b
-    → left ≡ nonnegative (neg_ℤ a) → skip ≡ nonnegative a → right ≡ nonnegative (b +ℤ pos 1) → k ≡ span a b
-    → row ≡ replicate left n ++ (drop (min skip (length samples)) samples ++ replicate right n) → length samples + k ≤ length row
-padded_room n samples row a b left skip right k le left-is skip-is right-is k-is row-is =
-    let kept = drop (min skip (length samples)) samples in
-    omega (arith, ap length row-is, length-append (replicate left n) (kept ++ replicate right n), length-append kept (replicate right n), length-replicate left n, length-replicate right n, length-drop (min skip (length samples)) samples, room_is a b (length samples) le, left-is, skip-is, right-is, k-is)

@@ -1,9 +1,9 @@
 -- Rows that are filled one after another.
-use Rattle.std.proofs.Common.{◌≡◌, ℕ, zero, suc, refl, replicate, ◌+◌, ◌*◌, ◌<◌, ◌≤◌, List, ◌++◌, length, take, drop, get_or, ap, sym, arith, ◌∙◌, inl, inr, length-append, length-take}
+use Rattle.std.proofs.Common.{◌≡◌, ℕ, ◌+◌, ◌*◌, ◌<◌, ◌≤◌, List, ◌++◌, length, take, drop, get_or, ap, sym, arith, ◌∙◌, inl, inr, length-append, length-take}
 use Rattle.std.proofs.lemmas.Bool.{cases_lt}
 use Rattle.std.proofs.lemmas.Nat.{mul-add-lt}
 use Rattle.std.proofs.Math.Nat.{add-sub_cancel_left, mul-le-mul_left}
-use Rattle.std.proofs.lemmas.List.{take_all, take-append-le, get_or-take, get_or-drop, get_or_append_left, get_or-append_right}
+use Rattle.std.proofs.lemmas.List.{get_or-take, get_or-drop, get_or_append_left, get_or-append_right}
 use Rattle.mw_facts.proofs.Parts.{length-put_mid, get_or-put_mid_below, get_or-put_mid_within, get_or-put_mid_above}
 use borrow.Rule.Slice.PartMut.{put_mid}
 
@@ -62,12 +62,3 @@ rows_made_more value n w y m out line made m-is le made-is line-is before =
             ∙ line-is x less)
       ]);
     }
-
--- what stands in a list that was written over whole
-pub written : {A : Type 0} (xs ys : List A) (n : ℕ) → length ys ≡ n → take n (ys ++ drop (length ys) xs) ≡ ys
-written xs ys n len = let le : n ≤ length ys = omega arith in take-append-le n ys (drop (length ys) xs) le ∙ take_all n ys (omega arith)
-
-pub get_or-replicate_same : {A : Type 0} (m i : ℕ) (n : A) → get_or (replicate m n) i n ≡ n
-get_or-replicate_same zero i n = refl
-get_or-replicate_same (suc m) zero n = refl
-get_or-replicate_same (suc m) (suc i) n = get_or-replicate_same m i n

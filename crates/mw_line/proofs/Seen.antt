@@ -7,8 +7,8 @@ use Rattle.mw_model.specs.Rasters.{raster, cell_at}
 use Rattle.mw_model.specs.Places.{nonnegative, span}
 use Rattle.mw_lane.specs.Shifted.{at_place}
 use Rattle.mw_facts.proofs.Elements.{slice_get-drop, slice_get-take}
+use Rattle.mw_model.proofs.Nonnegative.{nonnegative_is}
 use Rattle.mw_line.specs.Sides.{IsSeenSide}
-use Rattle.mw_line.proofs.Padded.{nonnegative_is}
 
 pub few_before : (first tile side : ℕ) (a : ℤ) (skipped : ℕ) → skipped ≡ nonnegative (pos first -ℤ pos tile -ℤ pos side -ℤ a +ℤ pos 1) → first < 4294967296 → pos 0 ≤ℤ (a +ℤ pos 2147483648) → skipped ≤ 17179869184
 few_before first tile side a skipped skipped-is small low = omega (arith, ints, nonnegative_is (pos first -ℤ pos tile -ℤ pos side -ℤ a +ℤ pos 1), skipped-is)

@@ -10,10 +10,10 @@ use Rattle.mw_model.specs.Pictures.{Picture, IsPicture, sample, sample_at}
 use Rattle.mw_model.specs.Places.{nonnegative, span}
 use Rattle.mw_model.proofs.Covers.{sample_at_in}
 use Rattle.mw_model.proofs.ImagePlaces.{sample-redrawn}
+use Rattle.mw_model.proofs.Nonnegative.{nonnegative_is}
 use Rattle.mw_line.specs.Line.{samples_between, line_at, segment, row_samples}
 use Rattle.mw_line.proofs.Levels.{fold-min, fold-max}
 use Rattle.mw_line.proofs.Over.{those}
-use Rattle.mw_line.proofs.Padded.{nonnegative_is}
 use Rattle.mw_line.proofs.Spans.{seen_boxed, row_of}
 
 take_none : (n : ℕ) (xs : List ℕ) → xs ≡ [] → take n xs ≡ []

@@ -3,6 +3,7 @@ use Rattle.std.proofs.Common.{◌≡◌, ◌⊎◌, ℕ, suc, ◌+◌, ◌-◌, 
 use Rattle.std.specs.List.{range_with_len, flat_map}
 use Rattle.std.proofs.lemmas.Grind.{flat_map-append}
 use Rattle.std.proofs.lemmas.List.Folds.{flat_map-map}
+use Rattle.mw_facts.proofs.Alls.{flat_map-same}
 use Rattle.mw_model.specs.declared.places.Offset.{Offset}
 use Rattle.mw_model.specs.declared.places.OffsetBox.{OffsetBox}
 use Rattle.mw_model.specs.Places.{span, box_offsets}
@@ -10,7 +11,7 @@ use Rattle.mw_model.specs.Rasters.{Sight, seen_under}
 use Rattle.mw_lane.specs.Shifted.{merge_at}
 use Rattle.mw_line.specs.Extrema.{over}
 use Rattle.mw_line.proofs.Folds.{IsExtremum}
-use Rattle.mw_line.proofs.Over.{those, over_same, over_shift, fold_flat, fold_those, filter_map-flat, flat_map_same, all_empty, kept}
+use Rattle.mw_line.proofs.Over.{those, over_same, over_shift, fold_flat, fold_those, filter_map-flat, all_empty, rows-kept}
 
 flat_map-flat_map : {A B C : Type 0} (h : B → List C) (row : A → List B) (xs : List A) → flat_map h (flat_map row xs) ≡ flat_map (λ x. flat_map h (row x)) xs
 flat_map-flat_map h row [] = refl
@@ -28,7 +29,7 @@ seen_boxed sight box x y =
     let down = range_with_len 0 (span box.y0 box.y1) in
     filter_map-flat (λ (b : Offset). sight (pos x +ℤ b.dx) (pos y +ℤ b.dy)) (box_offsets box)
     ∙ flat_map-flat_map look (λ (j : ℕ). map (place j) across) down
-    ∙ flat_map_same (λ (j : ℕ). flat_map look (map (place j) across)) (row_of sight box x y) down (λ j. flat_map-map look (place j) across)
+    ∙ flat_map-same (λ (j : ℕ). flat_map look (map (place j) across)) (row_of sight box x y) down (λ j. flat_map-map look (place j) across)
 
 -- a place of a range of m places, of which k from a on may count
 abbrev pub Outside : ℕ → ℕ → ℕ → ℕ → Type 0
@@ -44,7 +45,7 @@ seen_part f laws n sight box x y a k c l some_k some_l le_k le_l outside_x outsi
     let cell = λ (j i : ℕ). those (sight (pos x +ℤ (box.x0 +ℤ pos i)) (pos y +ℤ (box.y0 +ℤ pos j))) in
     let empty_row : (j : ℕ) → Outside c l down j → row_of sight box x y j ≡ [] = λ j out. all_empty (cell j) 0 across (λ i from to. ap those (outside_y j (pos x +ℤ (box.x0 +ℤ pos i)) out)) in
     let one_row : (j : ℕ) → fold f n (row_of sight box x y j) ≡ over f (λ i. merge_at f n (sight (pos x +ℤ (box.x0 +ℤ pos (a + i))) (pos y +ℤ (box.y0 +ℤ pos j)))) 0 (k - 1) = λ j.
-    ap (fold f n) (kept (cell j) 0 across a k le_k
+    ap (fold f n) (rows-kept (cell j) 0 across a k le_k
     (λ i from to. ap those (outside_x i (pos y +ℤ (box.y0 +ℤ pos j)) (inl (before i a to), front i a across k to le_k)))
     (λ i from to. ap those (outside_x i (pos y +ℤ (box.y0 +ℤ pos j)) (inr (behind i a k from), before i across to))))
     ∙ ap (λ (t : ℕ). fold f n (flat_map (cell j) (range_with_len (0 + a) t))) (whole k some_k)
@@ -52,7 +53,7 @@ seen_part f laws n sight box x y a k c l some_k some_l le_k le_l outside_x outsi
     ∙ over_same f (λ i. fold f n (cell j i)) (λ i. merge_at f n (sight (pos x +ℤ (box.x0 +ℤ pos i)) (pos y +ℤ (box.y0 +ℤ pos j)))) (0 + a) (k - 1) (λ i from to. fold_those f n (sight (pos x +ℤ (box.x0 +ℤ pos i)) (pos y +ℤ (box.y0 +ℤ pos j))))
     ∙ over_shift f (λ i. merge_at f n (sight (pos x +ℤ (box.x0 +ℤ pos i)) (pos y +ℤ (box.y0 +ℤ pos j)))) a 0 (0 + a) (k - 1) (turn a) in
     ap (fold f n) (seen_boxed sight box x y)
-    ∙ ap (fold f n) (kept (row_of sight box x y) 0 down c l le_l
+    ∙ ap (fold f n) (rows-kept (row_of sight box x y) 0 down c l le_l
     (λ j from to. empty_row j (inl (before j c to), front j c down l to le_l))
     (λ j from to. empty_row j (inr (behind j c l from), before j down to)))
     ∙ ap (λ (t : ℕ). fold f n (flat_map (row_of sight box x y) (range_with_len (0 + c) t))) (whole l some_l)

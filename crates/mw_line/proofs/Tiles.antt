@@ -138,9 +138,9 @@ on_frame f n w frame element tile r made window = record {
   cells = λ x y less row_less. made.cells x y less row_less ∙ ap (λ (t : List _). Some (fold f n t)) (seen_under-window w frame element tile window x y less row_less);
 }
 
-pub looked : {A : Type 0} (w : View A) (box : OffsetBox) (tile place : Rect) (x0 x1 y0 y1 : ℤ) (a k c l : ℕ) → place ≡ w.place → x0 ≡ box.x0 → x1 ≡ box.x1 → y0 ≡ box.y0 → y1 ≡ box.y1
+pub IsLooked-sides : {A : Type 0} (w : View A) (box : OffsetBox) (tile place : Rect) (x0 x1 y0 y1 : ℤ) (a k c l : ℕ) → place ≡ w.place → x0 ≡ box.x0 → x1 ≡ box.x1 → y0 ≡ box.y0 → y1 ≡ box.y1
     → IsSeenSide tile.x tile.width place.x place.width x0 x1 a k → IsSeenSide tile.y tile.height place.y place.height y0 y1 c l → IsLooked w box tile place x0 x1 y0 y1 a k c l
-looked w box tile place x0 x1 y0 y1 a k c l place-is x0-is x1-is y0-is y1-is across down = record {
+IsLooked-sides w box tile place x0 x1 y0 y1 a k c l place-is x0-is x1-is y0-is y1-is across down = record {
   place_x = ap (λ (t : Rect). t.x) place-is;
   place_y = ap (λ (t : Rect). t.y) place-is;
   place_width = ap (λ (t : Rect). t.width) place-is;

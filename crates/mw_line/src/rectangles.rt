@@ -2,7 +2,7 @@
 //! places as each sample stands for, so a side of k places takes about log2(k) merges of vector code. The two passes of
 //! van Herk (1992) and Gil and Werman (1993), which `line` has, take one sample after another. Measured on 4096 x 4096
 //! bytes: 8 ms under 3 x 3 places, 10 under 15 x 15, 14 under 127 x 127.
-ghost use Rattle.std.specs.Prelude.{◌≡◌, ℕ, ◌+◌, ◌-◌, ◌*◌, ◌<◌, ◌≤◌, ◌^◌, pos, negsuc, ◌+ℤ◌, ◌≤ℤ◌, length, slice_index_or, replicate, vec_len, IfOk};
+ghost use Rattle.std.specs.Prelude.{◌≡◌, ℕ, ◌+◌, ◌-◌, ◌*◌, ◌<◌, ◌≤◌, ◌^◌, pos, negsuc, ◌+ℤ◌, ◌≤ℤ◌, length, slice_index_or, replicate, vec_len, All, IfOk};
 ghost use Rattle.mw_model.specs.Places.{box_offsets};
 ghost use Rattle.mw_model.specs.Rasters.{Raster, raster, cell_at};
 ghost use Rattle.mw_model.specs.Windows.{seen_at};
@@ -63,9 +63,8 @@ fn slide_rows<P: Pixel, E: Extremum<P>>(
     ensures size { IfOk result (λ v. vec_len v ≡ high * width) }
     ensures cells { IfOk result (λ v. (n : P) → blank.now ≡ replicate (length blank.now) n → (x y : ℕ) → x < width → y + down ≤ high → slice_index_or v.items (y * width + x) n ≡ over E.merge (λ j. over E.merge (λ i. merge_at E.merge n (cell_at (raster window.now.place.width window.now.place.height window.now.cells) (column +ℤ pos (x + i)) (row +ℤ pos j))) 0 (across - 1)) y (down - 1)) }
 {
-    let count = high.checked_mul(width).ok_or(NoMemory)?;
     let wide = width + (across - 1);
-    let mut rows = Vec::with_capacity(alloc, count)?;
+    let mut rows = Vec::with_capacity(alloc, high.saturating_mul(width))?;
     for y in 0..high {
         slide_row::<P, E>(window, column, row + y as i64, across, wide, blank, line);
         rows.extend_from_slice(&line[..width])?;
@@ -113,7 +112,8 @@ fn boxes<P: Pixel, E: Extremum<P>>(
 }
 
 /// The extremum of the neutral sample and what the window has under the box, at each place of the tile. Where the window
-/// has all that the frame has there, this is the extremum over the frame. It may want memory (`NoMemory`).
+/// has all that the frame has there, this is the extremum over the frame. No sample is over the greatest of the neutral one
+/// and those of the window. It may want memory (`NoMemory`).
 pub fn rectangle<P: Pixel, E: Extremum<P>>(
     alloc: Global,
     window: &Window<P>,
@@ -123,6 +123,7 @@ pub fn rectangle<P: Pixel, E: Extremum<P>>(
 ) -> Result<Plane<P>, NoMemory>
     ensures over_window { IfOk result (λ r. IsSlidingExtremum E.merge neutral (seen_at window.now) (box_offsets offsets) tile r) }
     ensures over_frame { IfOk result (λ r. (f : Raster P) → IsWindow window.now f (box_offsets offsets) tile → IsSlidingExtremum E.merge neutral (cell_at f) (box_offsets offsets) tile r) }
+    ensures small { (most : ℕ) → P.level neutral ≤ most → All (λ s. P.level s ≤ most) window.now.cells → IfOk result (λ r. All (λ s. P.level s ≤ most) r.cells) }
 {
     let place = window.place();
     let across = seen_across(offsets, tile, place);

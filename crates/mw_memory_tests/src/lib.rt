@@ -24,4 +24,8 @@ mod makers;
 #[cfg(test)]
 mod results;
 #[cfg(test)]
+mod rooms;
+#[cfg(test)]
+mod sets;
+#[cfg(test)]
 mod sharing;

@@ -7,6 +7,13 @@ use Rattle.mw_model.specs.declared.places.Offset.{Offset}
 use Rattle.mw_model.specs.Pictures.{Picture, sample, sample_at}
 use Rattle.mw_model.specs.Flat.{under, least, greatest, negated}
 
+-- an offset by its two numbers
+abbrev pub offset : ℤ → ℤ → Offset
+offset x y = record { dx = x; dy = y }
+
+pub offset-same : (x y z w : ℤ) → x ≡ z → y ≡ w → offset x y ≡ offset z w
+offset-same x y z w p q = cc
+
 -- the element placed at (x, y) covers (u, v)
 abbrev pub Covers : List Offset → ℕ → ℕ → ℕ → ℕ → Type 0
 Covers [] x y u v = ⊥
@@ -16,16 +23,16 @@ Covers (b ∷ bs) x y u v = ((pos x +ℤ b.dx ≡ pos u) × (pos y +ℤ b.dy ≡
 abbrev pub IsTurned : List Offset → List Offset → Type 0
 IsTurned b c = (x y u v : ℕ) → Covers b x y u v → Covers c u v x y
 
-turn : (x u : ℕ) (d : ℤ) → pos x +ℤ d ≡ pos u → pos u +ℤ neg_ℤ d ≡ pos x
-turn x u d e = omega (arith, ints)
+negated-leads_back : (x u : ℕ) (d : ℤ) → pos x +ℤ d ≡ pos u → pos u +ℤ neg_ℤ d ≡ pos x
+negated-leads_back x u d e = omega (arith, ints)
 
 turn_back : (x u : ℕ) (d : ℤ) → pos x +ℤ neg_ℤ d ≡ pos u → pos u +ℤ d ≡ pos x
 turn_back x u d e = omega (arith, ints)
 
-pub turned : (bs : List Offset) → IsTurned bs (negated bs)
-turned [] x y u v c = c
-turned (b ∷ bs) x y u v (inl e) = inl (turn x u b.dx e.0, turn y v b.dy e.1)
-turned (b ∷ bs) x y u v (inr c) = inr (turned bs x y u v c)
+pub negated-IsTurned : (bs : List Offset) → IsTurned bs (negated bs)
+negated-IsTurned [] x y u v c = c
+negated-IsTurned (b ∷ bs) x y u v (inl e) = inl (negated-leads_back x u b.dx e.0, negated-leads_back y v b.dy e.1)
+negated-IsTurned (b ∷ bs) x y u v (inr c) = inr (negated-IsTurned bs x y u v c)
 
 pub turned_back : (bs : List Offset) → IsTurned (negated bs) bs
 turned_back [] x y u v c = c

@@ -22,8 +22,8 @@ same_lines g h a (suc n) each =
     ap (λ (t : List ℕ). t ++ flat_map g (range_with_len (a + 1) n)) (each a (omega arith) (omega arith))
     ∙ ap (λ (t : List ℕ). h a ++ t) (same_lines g h (a + 1) n (λ k low high. each k (omega arith) (omega arith)))
 
-next : (v : ℕ) (vs : List ℕ) (a k : ℕ) → a + 1 ≤ k → get_or vs (k - (a + 1)) 0 ≡ get_or (v ∷ vs) (k - a) 0
-next v vs a k le = let e : k - a ≡ suc (k - (a + 1)) = omega arith in rw e refl
+get_or-next : (v : ℕ) (vs : List ℕ) (a k : ℕ) → a + 1 ≤ k → get_or vs (k - (a + 1)) 0 ≡ get_or (v ∷ vs) (k - a) 0
+get_or-next v vs a k le = let e : k - a ≡ suc (k - (a + 1)) = omega arith in rw e refl
 
 volumes_by_number : (a : ℕ) (vs : List ℕ) → volume_lines a vs ≡ flat_map (λ n. line (codes "V ") n (get_or vs (n - a) 0)) (range_with_len a (length vs))
 volumes_by_number a [] = refl
@@ -32,7 +32,7 @@ volumes_by_number a (v ∷ vs) =
     rw here (ap (λ (t : List ℕ). line (codes "V ") a v ++ t)
     (volumes_by_number (a + 1) vs
     ∙ same_lines (λ n. line (codes "V ") n (get_or vs (n - (a + 1)) 0)) (λ n. line (codes "V ") n (get_or (v ∷ vs) (n - a) 0)) (a + 1) (length vs)
-    (λ k low high. ap (line (codes "V ") k) (next v vs a k low))))
+    (λ k low high. ap (line (codes "V ") k) (get_or-next v vs a k low))))
 
 pub volumes_by_line : (vs : List ℕ) → volume_lines 0 vs ≡ flat_map (λ n. line (codes "V ") n (get_or vs n 0)) (range_with_len 0 (length vs))
 volumes_by_line vs =
@@ -58,7 +58,7 @@ falls_by_number a (v ∷ w ∷ vs) =
     (ap (λ (t : List ℕ). line (codes "S ") a (v - w) ++ t)
     (rest
     ∙ same_lines (λ n. line (codes "S ") n (fall_at (w ∷ vs) (a + 1) n)) (λ n. line (codes "S ") n (fall_at (v ∷ w ∷ vs) a n)) (a + 1) (length vs)
-    (λ k low high. ap (line (codes "S ") k) (both (next v (w ∷ vs) a k low) (next v (w ∷ vs) a (k + 1) (omega arith))))))
+    (λ k low high. ap (line (codes "S ") k) (both (get_or-next v (w ∷ vs) a k low) (get_or-next v (w ∷ vs) a (k + 1) (omega arith))))))
   where
     both : {p q r s : ℕ} → p ≡ q → r ≡ s → p - r ≡ q - s
     both e d = cc

@@ -59,11 +59,11 @@ put_below top n (m ∷ ms) le all =
       | inr e ↦ rw e (all.0, put_below top n ms le all.1)
     ]
 
-sorted_below : (top : ℕ) (ns : List ℕ) → AllByRecursion (λ m. m ≤ top) ns → AllByRecursion (λ m. m ≤ top) (in_rising_order ns)
+pub sorted_below : (top : ℕ) (ns : List ℕ) → AllByRecursion (λ m. m ≤ top) ns → AllByRecursion (λ m. m ≤ top) (in_rising_order ns)
 sorted_below top [] all = tt
 sorted_below top (n ∷ ns) all = put_below top n (in_rising_order ns) all.0 (sorted_below top ns all.1)
 
-index_below : (top : ℕ) (ns : List ℕ) (i : ℕ) → AllByRecursion (λ m. m ≤ top) ns → get_or ns i 0 ≤ top
+pub index_below : (top : ℕ) (ns : List ℕ) (i : ℕ) → AllByRecursion (λ m. m ≤ top) ns → get_or ns i 0 ≤ top
 index_below top [] i all = omega arith
 index_below top (n ∷ ns) zero all = all.0
 index_below top (n ∷ ns) (suc i) all = index_below top ns i all.1

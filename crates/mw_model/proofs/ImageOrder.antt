@@ -5,7 +5,7 @@ use Rattle.mw_model.specs.Pictures.{Picture, sample, redrawn}
 use Rattle.mw_model.specs.Flat.{under, least, greatest, erosion, dilation, negated, opening, closing}
 use Rattle.mw_model.specs.Laws.{Below, SameShape}
 use Rattle.mw_model.proofs.ImagePlaces.{sample-redrawn, drawn_same, redrawn_shape, shape_sym, below_itself}
-use Rattle.mw_model.proofs.Covers.{IsTurned, turned, turned_back, least_below, below_least, below_greatest, greatest_below, least_at_most}
+use Rattle.mw_model.proofs.Covers.{IsTurned, negated-IsTurned, turned_back, least_below, below_least, below_greatest, greatest_below, least_at_most}
 
 -- no sample is above the maxval
 abbrev pub IsBounded : Picture → Type 0
@@ -81,7 +81,7 @@ pub opening_twice : (b : List Offset) (f : Picture) → opening b (opening b f) 
 opening_twice b f =
     ap (dilation (negated b)) (one_from_below f (λ x y. least f.maxval (under (opening b f) b x y)) (λ x y. least f.maxval (under f b x y))
     (erosion_rises (opening b f) f b (redrawn_shape f _) (opening_below b f))
-    (below_erosion (opening b f) (erosion b f) b (negated b) (turned b) (record { kind = refl; width = refl; height = refl; maxval = refl }) (bounded_erosion b f) (below_itself (opening b f))))
+    (below_erosion (opening b f) (erosion b f) b (negated b) (negated-IsTurned b) (record { kind = refl; width = refl; height = refl; maxval = refl }) (bounded_erosion b f) (below_itself (opening b f))))
 
 pub closing_above : (b : List Offset) (f : Picture) → IsBounded f → Below f (closing b f)
 closing_above b f bounded = below_erosion (dilation b f) f (negated b) b (turned_back b) (shape_sym (redrawn_shape f _)) bounded (below_itself (dilation b f))
@@ -89,5 +89,5 @@ closing_above b f bounded = below_erosion (dilation b f) f (negated b) b (turned
 pub closing_twice : (b : List Offset) (f : Picture) → IsBounded f → closing b (closing b f) ≡ closing b f
 closing_twice b f bounded =
     ap (erosion (negated b)) (one_from_below f (λ x y. greatest (under (closing b f) b x y)) (λ x y. greatest (under f b x y))
-    (dilation_below (dilation b f) (closing b f) (negated b) b (turned b) (record { kind = refl; width = refl; height = refl; maxval = refl }) (below_itself (closing b f)))
+    (dilation_below (dilation b f) (closing b f) (negated b) b (negated-IsTurned b) (record { kind = refl; width = refl; height = refl; maxval = refl }) (below_itself (closing b f)))
     (dilation_rises f (closing b f) b (shape_sym (redrawn_shape f _)) (closing_above b f bounded)))

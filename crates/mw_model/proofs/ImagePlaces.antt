@@ -8,7 +8,7 @@ use Rattle.std.proofs.lemmas.List.Elements.{All-get_or}
 use Rattle.std.proofs.Math.Nat.{add-zero, zero-add, mul_comm}
 use Rattle.mw_facts.proofs.Numbers.{add_one-add}
 use Rattle.mw_model.specs.declared.shapes.Kind.{Kind}
-use Rattle.mw_model.specs.Pictures.{Picture, sample, drawn, redrawn, IsPicture}
+use Rattle.mw_model.specs.Pictures.{Picture, sample, drawn, redrawn, IsPicture, picture}
 use Rattle.mw_model.specs.Laws.{SameShape, Below}
 
 -- the rows from row a on
@@ -83,9 +83,6 @@ pub sample_bounded : (f : Picture) → IsPicture f → (x y : ℕ) → x < f.wid
 sample_bounded f picture x y p q =
     All-get_or (λ s. s ≤ f.maxval) f.samples (y * f.width + x) 0 (omega (arith, picture.size, mul-add-lt y f.width x f.height q p, mul_comm f.width f.height)) picture.bounded
 
-abbrev picture_of : Kind → ℕ → ℕ → ℕ → List ℕ → Picture
-picture_of kind width height maxval samples = record { kind = kind; width = width; height = height; maxval = maxval; samples = samples }
-
 -- two images of one shape that agree at each place are one
 pub same_picture : (f g : Picture) → SameShape f g → length f.samples ≡ f.height * f.width → length g.samples ≡ g.height * g.width
     → ((x y : ℕ) → x < f.width → y < f.height → sample f x y ≡ sample g x y) → f ≡ g
@@ -94,7 +91,7 @@ same_picture f g shape f_size g_size each =
     (λ x y p q. each x y p q ∙ ap (λ (w : ℕ). get_or g.samples (y * w + x) 0) (sym shape.width)) in
     make f.kind g.kind f.width g.width f.height g.height f.maxval g.maxval f.samples g.samples shape.kind shape.width shape.height shape.maxval samples
   where
-    make : (k k' : Kind) (w w' h h' m m' : ℕ) (s s' : List ℕ) → k ≡ k' → w ≡ w' → h ≡ h' → m ≡ m' → s ≡ s' → picture_of k w h m s ≡ picture_of k' w' h' m' s'
+    make : (k k' : Kind) (w w' h h' m m' : ℕ) (s s' : List ℕ) → k ≡ k' → w ≡ w' → h ≡ h' → m ≡ m' → s ≡ s' → picture k w h m s ≡ picture k' w' h' m' s'
     make k k' w w' h h' m m' s s' a b c d e = cc
 
 pub redrawn_shape : (f : Picture) (value : ℕ → ℕ → ℕ) → SameShape (redrawn f value) f

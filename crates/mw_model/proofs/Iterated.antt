@@ -71,9 +71,6 @@ sum_below f g shape f_size g_size below =
     (λ i p. by_places (λ i. get_or f.samples i 0 ≤ get_or g.samples i 0) f.width f.height
     (λ x y p q. rw (ap (λ (w : ℕ). get_or g.samples (y * w + x) 0) shape.width) (below x y p q)) i (omega arith))
 
-pub size_from_shape : (f g : Picture) → SameShape f g → length f.samples ≡ f.height * f.width → length f.samples ≡ g.height * g.width
-size_from_shape f g shape size = simp (← shape.width, ← shape.height) size
-
 opened_size : (b : List Offset) (n : ℕ) (f : Picture) → length f.samples ≡ f.height * f.width → length (opened b n f).samples ≡ (opened b n f).height * (opened b n f).width
 opened_size b zero f size = size
 opened_size b (suc n) f size =

@@ -6,6 +6,7 @@ pub mod ImageLaws
 pub mod ImageOrder
 pub mod ImagePlaces
 pub mod Iterated
+pub mod Nonnegative
 pub mod PlainRanks
 pub mod RisingOrder
 pub mod SkeletonLaws

@@ -151,8 +151,8 @@ get_or-negated [] i d e lt = absurd (omega arith)
 get_or-negated (b ∷ bs) zero d e lt = refl
 get_or-negated (b ∷ bs) (suc i) d e lt = get_or-negated bs i d e (omega arith)
 
-less : (x : ℕ) (a : ℤ) → pos x -ℤ a ≡ pos x +ℤ neg_ℤ a
-less x a = omega (arith, ints)
+sub-add_neg : (x : ℕ) (a : ℤ) → pos x -ℤ a ≡ pos x +ℤ neg_ℤ a
+sub-add_neg x a = omega (arith, ints)
 
 -- the sample under a turned offset
 pub turned_under : (f : Picture) (t : Bool) (bs v : List Offset) (i x y : ℕ) (d e : Offset) (seen : Option ℕ) → t ≡ true → placed t bs ≡ v → i < length v
@@ -161,7 +161,7 @@ turned_under f t bs v i x y d e seen is view lt read =
     let here : negated bs ≡ v = ap (λ (s : Bool). placed s bs) (sym is) ∙ view in
     let b : get_or v i d ≡ record { dx = neg_ℤ (get_or bs i e).dx; dy = neg_ℤ (get_or bs i e).dy } =
     ap (λ (l : List Offset). get_or l i d) (sym here) ∙ get_or-negated bs i d e (omega (arith, length-placed t bs v view)) in
-    read ∙ rw (less x (get_or bs i e).dx, less y (get_or bs i e).dy, b) refl
+    read ∙ rw (sub-add_neg x (get_or bs i e).dx, sub-add_neg y (get_or bs i e).dy, b) refl
 
 -- the sample under an offset as it lies
 pub upright_under : (f : Picture) (t : Bool) (bs v : List Offset) (i x y : ℕ) (d e : Offset) (seen : Option ℕ) → t ≡ false → placed t bs ≡ v → i < length v

@@ -48,8 +48,8 @@ count_up_to r (n ∷ ns) =
     one : Bool → ℕ
     one t = cond t 1 0
 
-unique : (found : List ℕ) (n r s : ℕ) → IsNth found n r → IsNth found n s → r ≡ s
-unique found n r s (low, high) (low', high') =
+IsNth-unique : (found : List ℕ) (n r s : ℕ) → IsNth found n r → IsNth found n s → r ≡ s
+IsNth-unique found n r s (low, high) (low', high') =
     elim (cases_order r s) [
       | inl same ↦ same
       | inr (inl less) ↦ absurd (let rise = count_rises (r + 1) s found (omega arith) in omega arith)
@@ -73,16 +73,13 @@ nth_is found k n is some =
 pub nth_from : (found : List ℕ) (k n s : ℕ) → n ≡ max 1 (min k (length found)) → IsNth found n s → s ≡ nth_of found k
 nth_from found k n s is nth =
     elim (cases_lt 0 (length found)) [
-      | inl some ↦ unique found n s (nth_of found k) nth (nth_is found k n is some)
+      | inl some ↦ IsNth-unique found n s (nth_of found k) nth (nth_is found k n is some)
       | inr none ↦ absurd (let zero_is = none_found (s + 1) found (omega arith) in omega arith)
     ]
 
 -- number k has not been met under the first offsets
 abbrev pub NotYet : Picture → List Offset → ℕ → ℕ → ℕ → ℕ → Type 0
 NotYet f bs k i x y = Contains (under_first f bs i x y) (nth_of (under f bs x y) k) → ⊥
-
-pub not_at_first : (f : Picture) (bs : List Offset) (k x y : ℕ) → NotYet f bs k 0 x y
-not_at_first f bs k x y (j, lt, e) = omega arith
 
 pub not_by_none : (f : Picture) (bs : List Offset) (k i x y : ℕ) (d : Offset) → i < length bs → None ≡ sample_at f (pos x +ℤ (get_or bs i d).dx) (pos y +ℤ (get_or bs i d).dy)
     → NotYet f bs k i x y → NotYet f bs k (i + 1) x y
@@ -112,8 +109,8 @@ not_by_other f bs k n i x y s d lt is n-is other before found =
     only s r (suc j, less, e) = absurd (omega arith)
 
 -- where number k has not been met under any offset, there is no sample
-pub never : (f : Picture) (bs : List Offset) (k i x y : ℕ) → length bs ≤ i → NotYet f bs k i x y → 0 ≡ nth_of (under f bs x y) k
-never f bs k i x y le not_yet = none (under f bs x y) (λ c. not_yet (subst (λ (t : List ℕ). Contains t (nth_of (under f bs x y) k)) (sym (all_samples f bs i x y le)) c))
+pub nth_of-never : (f : Picture) (bs : List Offset) (k i x y : ℕ) → length bs ≤ i → NotYet f bs k i x y → 0 ≡ nth_of (under f bs x y) k
+nth_of-never f bs k i x y le not_yet = none (under f bs x y) (λ c. not_yet (subst (λ (t : List ℕ). Contains t (nth_of (under f bs x y) k)) (sym (all_samples f bs i x y le)) c))
   where
     none : (found : List ℕ) → (Contains found (nth_of found k) → ⊥) → 0 ≡ nth_of found k
     none [] not = refl

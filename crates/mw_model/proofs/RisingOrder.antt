@@ -1,5 +1,5 @@
 -- Numbers in rising order, and the rank filter.
-use Rattle.std.proofs.Common.{◌≡◌, ℕ, zero, suc, ◌-◌, ◌<◌, ◌≤◌, List, [], ◌∷◌, length, get_or, min, refl, sym, subst, arith, inl, inr, cond, Bool}
+use Rattle.std.proofs.Common.{◌≡◌, ℕ, zero, suc, ◌-◌, ◌<◌, ◌≤◌, List, [], ◌∷◌, length, get_or, min, refl, sym, subst, arith, inl, inr}
 use Rattle.std.specs.Prelude.{nat_le, nat_lt, count_by}
 use Rattle.std.specs.List.{AllByRecursion, Contains}
 use Rattle.std.specs.List.Sorted.{IsNonDecreasing, IsPermutation}
@@ -7,6 +7,8 @@ use Rattle.std.proofs.lemmas.Bool.{cases_Bool, leb-true, leb-false, le-leb, le-l
 use Rattle.std.proofs.lemmas.List.Elements.{Contains-get_or}
 use Rattle.std.proofs.lemmas.List.Sums.{sum_by-cons}
 use Rattle.std.proofs.lemmas.List.Sorted.{IsPermutation-refl, IsPermutation-cons, IsPermutation-sym, IsPermutation-trans, IsPermutation-swap, length_permutation, Contains-permutation, sum_by-IsPermutation}
+use Rattle.mw_facts.proofs.Alls.{all-get_or, all-weaker}
+use Rattle.mw_facts.proofs.Numbers.{one_if, one_if-le}
 use Rattle.mw_model.specs.declared.places.Offset.{Offset}
 use Rattle.mw_model.specs.Pictures.{Picture, sample}
 use Rattle.mw_model.specs.Flat.{under, rank, put_in_order, in_rising_order}
@@ -16,10 +18,6 @@ use Rattle.mw_model.proofs.ImagePlaces.{sample-redrawn}
 abbrev Rises : List ℕ → Type 0
 Rises [] = Unit {0}
 Rises (n ∷ ns) = AllByRecursion (λ m. n ≤ m) ns × Rises ns
-
-weaker : (a b : ℕ) (ns : List ℕ) → a ≤ b → AllByRecursion (λ m. b ≤ m) ns → AllByRecursion (λ m. a ≤ m) ns
-weaker a b [] le all = tt
-weaker a b (n ∷ ns) le all = (omega (arith, all.0), weaker a b ns le all.1)
 
 put_above : (low n : ℕ) (ns : List ℕ) → low ≤ n → AllByRecursion (λ m. low ≤ m) ns → AllByRecursion (λ m. low ≤ m) (put_in_order n ns)
 put_above low n [] le all = (le, tt)
@@ -33,7 +31,7 @@ put_rises : (n : ℕ) (ns : List ℕ) → Rises ns → Rises (put_in_order n ns)
 put_rises n [] rises = (tt, tt)
 put_rises n (m ∷ ms) rises =
     elim (cases_Bool (nat_le n m)) [
-      | inl e ↦ let le = leb-true n m e in rw e ((le, weaker n m ms le rises.0), rises)
+      | inl e ↦ let le = leb-true n m e in rw e ((le, all-weaker (λ k. m ≤ k) (λ k. n ≤ k) ms (λ k up. omega (arith, le, up)) rises.0), rises)
       | inr e ↦ let lt = leb-false n m e in rw e (put_above m n ms (omega arith) rises.0, put_rises n ms rises.1)
     ]
 
@@ -41,15 +39,10 @@ ordered_rises : (ns : List ℕ) → Rises (in_rising_order ns)
 ordered_rises [] = tt
 ordered_rises (n ∷ ns) = put_rises n (in_rising_order ns) (ordered_rises ns)
 
-at_least : (low : ℕ) (ns : List ℕ) (i d : ℕ) → AllByRecursion (λ m. low ≤ m) ns → i < length ns → low ≤ get_or ns i d
-at_least low [] i d all lt = absurd (omega arith)
-at_least low (n ∷ ns) zero d all lt = all.0
-at_least low (n ∷ ns) (suc i) d all lt = at_least low ns i d all.1 (omega arith)
-
 rises_between : (ns : List ℕ) (i j d : ℕ) → Rises ns → i ≤ j → j < length ns → get_or ns i d ≤ get_or ns j d
 rises_between [] i j d rises le lt = absurd (omega arith)
 rises_between (n ∷ ns) zero zero d rises le lt = omega arith
-rises_between (n ∷ ns) zero (suc j) d rises le lt = at_least n ns j d rises.0 (omega arith)
+rises_between (n ∷ ns) zero (suc j) d rises le lt = all-get_or (λ m. n ≤ m) ns j d (omega arith) rises.0
 rises_between (n ∷ ns) (suc i) zero d rises le lt = absurd (omega arith)
 rises_between (n ∷ ns) (suc i) (suc j) d rises le lt = rises_between ns i j d rises.1 (omega arith) (omega arith)
 
@@ -71,18 +64,11 @@ ordered_permutes [] = IsPermutation-refl []
 ordered_permutes (n ∷ ns) =
     IsPermutation-trans (n ∷ ns) (n ∷ in_rising_order ns) (put_in_order n (in_rising_order ns)) (IsPermutation-cons n ns (in_rising_order ns) (ordered_permutes ns)) (put_permutes n (in_rising_order ns))
 
--- what a number adds to a count
-abbrev one_if : Bool → ℕ
-one_if t = cond t 1 0
-
 none_below : (low : ℕ) (ns : List ℕ) → AllByRecursion (λ m. low ≤ m) ns → count_by (λ s. nat_lt s low) ns ≡ 0
 none_below low [] all = refl
 none_below low (n ∷ ns) all =
     let here : one_if (nat_lt n low) ≡ 0 = rw (le-ltb n low all.0) refl in
     omega (arith, sum_by-cons (λ s. one_if (nat_lt s low)) n ns, none_below low ns all.1)
-
-at_most_one : (t : Bool) → one_if t ≤ 1
-at_most_one t = elim (cases_Bool t) [ inl e ↦ rw e (omega arith) | inr e ↦ rw e (omega arith) ]
 
 -- of numbers in rising order at most i are below number i, counted from 0
 below_place : (ns : List ℕ) (i : ℕ) → Rises ns → i < length ns → count_by (λ s. nat_lt s (get_or ns i 0)) ns ≤ i
@@ -94,7 +80,7 @@ below_place (n ∷ ns) zero rises lt =
 below_place (n ∷ ns) (suc i) rises lt =
     let r = get_or ns i 0 in
     let first = sum_by-cons (λ s. one_if (nat_lt s r)) n ns in
-    omega (arith, first, at_most_one (nat_lt n r), below_place ns i rises.1 (omega arith))
+    omega (arith, first, one_if-le (nat_lt n r), below_place ns i rises.1 (omega arith))
 
 -- of numbers in rising order at least i + 1 are not above number i, counted from 0
 up_to_place : (ns : List ℕ) (i : ℕ) → Rises ns → i < length ns → i < count_by (λ s. nat_le s (get_or ns i 0)) ns
@@ -106,7 +92,7 @@ up_to_place (n ∷ ns) zero rises lt =
 up_to_place (n ∷ ns) (suc i) rises lt =
     let r = get_or ns i 0 in
     let first = sum_by-cons (λ s. one_if (nat_le s r)) n ns in
-    let le = at_least n ns i 0 rises.0 (omega arith) in
+    let le = all-get_or (λ m. n ≤ m) ns i 0 (omega arith) rises.0 in
     let here : one_if (nat_le n r) ≡ 1 = rw (le-leb n r le) refl in
     omega (arith, first, here, up_to_place ns i rises.1 (omega arith))
 

@@ -10,7 +10,7 @@ use Rattle.mw_model.specs.Flat.{erosion, dilation, negated, opening}
 use Rattle.mw_model.specs.Iterates.{times, is_residue, residue_mark, skeleton, level_set, union, restoration}
 use Rattle.mw_model.specs.Laws.{Below, SameShape, HoldsOrigin}
 use Rattle.mw_model.proofs.ImagePlaces.{sample-drawn, sample-redrawn, same_picture, sample_bounded, shape_trans, shape_sym, shape_itself, redrawn_shape, below_itself, below_trans, length-rows}
-use Rattle.mw_model.proofs.Covers.{Covers, turned, turned_back, least_below, below_greatest}
+use Rattle.mw_model.proofs.Covers.{Covers, negated-IsTurned, turned_back, least_below, below_greatest}
 use Rattle.mw_model.proofs.ImageLaws.{drawn_picture}
 use Rattle.mw_model.proofs.ImageOrder.{IsBounded, sample-erosion, sample-dilation, bounded_erosion, bounded_dilation, below_erosion, dilation_below}
 use Rattle.mw_model.proofs.Iterated.{eroded_shape, dilated_shape, dilated_rises, bounded_dilated, opened_below, times_turn, opened_shape}
@@ -30,7 +30,7 @@ erosion_falls b f holds x y p q = omega (arith, sample-erosion b f x y p q, leas
 -- the next erosion is in the opening
 pub erosion_in_opening : (b : List Offset) (f : Picture) → HoldsOrigin b → Below (erosion b f) (opening b f)
 erosion_in_opening b f holds x y p q =
-    omega (arith, sample-dilation (negated b) (erosion b f) x y p q, below_greatest (erosion b f) (negated b) x y x y p q (turned b x y x y (covers_place b holds x y)))
+    omega (arith, sample-dilation (negated b) (erosion b f) x y p q, below_greatest (erosion b f) (negated b) x y x y p q (negated-IsTurned b x y x y (covers_place b holds x y)))
 
 -- later erosions are below earlier ones
 pub eroded_falls : (b : List Offset) (f : Picture) → HoldsOrigin b → (n k : ℕ) → Below (times (k + n) (erosion b) f) (times n (erosion b) f)
@@ -52,7 +52,7 @@ below_eroded b zero g f shape bounded below = below
 below_eroded b (suc n) g f shape bounded below =
     subst (λ (t : Picture). Below g t) (times_turn (erosion b) n f)
     (below_eroded b n g (erosion b f) (shape_trans shape (shape_sym (redrawn_shape f _))) bounded
-    (below_erosion f (times n (dilation (negated b)) g) b (negated b) (turned b) (shape_trans (dilated_shape (negated b) n g) shape) (bounded_dilated (negated b) n g bounded) below))
+    (below_erosion f (times n (dilation (negated b)) g) b (negated b) (negated-IsTurned b) (shape_trans (dilated_shape (negated b) n g) shape) (bounded_dilated (negated b) n g bounded) below))
 
 pub residue_parts : (b : List Offset) (f : Picture) (x y : ℕ) → is_residue b f x y ≡ true → (sample f x y ≡ 1) × (sample (opening b f) x y ≢ 1)
 residue_parts b f x y e =

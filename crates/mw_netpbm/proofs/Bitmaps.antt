@@ -22,7 +22,7 @@ use Rattle.mw_netpbm.specs.Plain.{plain_at, pixel_at}
 use Rattle.mw_netpbm.specs.Whole.{plain_only, bitmap_head_at, pixels_from, bitmap_at}
 use Rattle.mw_netpbm.specs.Places.{ones_of}
 use Rattle.mw_netpbm.proofs.Blanks.{cap}
-use Rattle.mw_netpbm.proofs.Outcomes.{good, no_both, either, RefusesAs, one_code, code_or_value, refuses-given, refuses-with, refuses-then, refuses-view, refuses-like, refuses-renamed}
+use Rattle.mw_netpbm.proofs.Outcomes.{good, no_both, ok_or_err, RefusesAs, one_code, code_or_value, refuses-given, refuses-with, refuses-then, refuses-view, refuses-like, refuses-renamed}
 use Rattle.mw_netpbm.proofs.Files.{begun_read, begun_maxval, head_cap, SetMaxval}
 use Rattle.mw_netpbm.proofs.Headers.{head_parts, capped, magic_parts, magic_whole}
 use Rattle.mw_netpbm.proofs.Rasters.{pixel_parts, pixel_whole, plain_from, plain_read}
@@ -270,7 +270,7 @@ bitmap_refuses side bytes lt = refuses-like bitmap_code (bitmap_at side bytes) (
     to c (inr (h, read, r)) = let found = head_read side bytes h lt read in bad_pixels h.0 h.1 c found.begins found.sides r
 
     from : (c : Code) → BitmapRefuses bytes side c → Steps side bytes c
-    from c (not_plain none) = elim (either (magic_at bytes)) [
+    from c (not_plain none) = elim (ok_or_err (magic_at bytes)) [
       | inl m ↦ inl (inr (m.0, m.1, inl (refl, λ u e. none (m.0.1, subst (λ (k : Format). bytes ≡ magic k ++ m.0.1) (only_plain m.0.0 u e) (magic_parts bytes m.0 m.1)))))
       | inr d ↦ inl (inl (refl, λ m is. no_both (magic_at bytes) m d.0 is d.1))
     ]

@@ -4,11 +4,12 @@ use Rattle.std.specs.List.{AllByRecursion}
 use Rattle.std.proofs.lemmas.Bool.{eqb-true, cases_Bool}
 use Rattle.std.proofs.lemmas.Bool.Decides.{nat_tests}
 use Rattle.std.proofs.lemmas.List.{append-nil}
+use Rattle.mw_facts.proofs.Alls.{all-push}
 use Rattle.mw_netpbm.specs.declared.fault.ReadFault.TheVariants.{Header}
 use Rattle.mw_netpbm.specs.Reading.{skip_from, digits_from, number_at}
-use Rattle.mw_model.specs.NetpbmGrammar.{is_white, is_eol, is_digit}
+use Rattle.mw_model.specs.NetpbmGrammar.{is_white, is_eol, is_digit, NoDigit}
 use Rattle.mw_model.specs.NetpbmGrammar.{Blank, nothing, white, comment, value_after, IsNumber}
-use Rattle.mw_netpbm.proofs.Whole.{chosen}
+use Rattle.mw_netpbm.proofs.Whole.{cond-chosen}
 use Rattle.mw_netpbm.proofs.Sides.{ok_is}
 
 skip_text : (text : List ℕ) (end : ℕ) (bs : List ℕ) → AllByRecursion (λ b. is_eol b ≡ false) text → IsTrue (is_eol end) → skip_from true (text ++ end ∷ bs) ≡ skip_from false bs
@@ -65,53 +66,45 @@ more_comment text e bs rest all end (at_end bytes bl) = at_end (35 ∷ text ++ e
 more_comment text e bs rest all end (in_comment blank inner bl each) =
     subst (λ (bytes : List ℕ). Skipped (35 ∷ bytes) []) (append_assoc text (e ∷ blank) (35 ∷ inner)) (in_comment (35 ∷ text ++ e ∷ blank) inner (comment text e blank all end bl) each)
 
-all_push : (text : List ℕ) (b : ℕ) → AllByRecursion (λ b. is_eol b ≡ false) text → is_eol b ≡ false → AllByRecursion (λ b. is_eol b ≡ false) (text ++ b ∷ [])
-all_push [] b all h = (h, tt)
-all_push (c ∷ text) b all h = (all.0, all_push text b all.1 h)
-
 abbrev Found : Bool → List ℕ → List ℕ → Type 0
 Found false text bytes = Skipped bytes (skip_from false bytes)
 Found true text bytes = Skipped (35 ∷ text ++ bytes) (skip_from true bytes)
 
-found : (inside : Bool) (text bytes : List ℕ) → AllByRecursion (λ b. is_eol b ≡ false) text → Found inside text bytes
+Found-everywhere : (inside : Bool) (text bytes : List ℕ) → AllByRecursion (λ b. is_eol b ≡ false) text → Found inside text bytes
 unfolding skip_from
-found false text [] all = at_end [] nothing
-found true text [] all = subst (λ (t : List ℕ). Skipped (35 ∷ t) []) (sym (append-nil text)) (in_comment [] text nothing all)
-found false text (b ∷ bs) all =
+Found-everywhere false text [] all = at_end [] nothing
+Found-everywhere true text [] all = subst (λ (t : List ℕ). Skipped (35 ∷ t) []) (sym (append-nil text)) (in_comment [] text nothing all)
+Found-everywhere false text (b ∷ bs) all =
     elim (cases_Bool (is_white b)) [
-      | inl w ↦ subst (λ (rest : List ℕ). Skipped (b ∷ bs) rest) (sym (skip_white b bs w)) (more_white b bs (skip_from false bs) w (found false [] bs tt))
+      | inl w ↦ subst (λ (rest : List ℕ). Skipped (b ∷ bs) rest) (sym (skip_white b bs w)) (more_white b bs (skip_from false bs) w (Found-everywhere false [] bs tt))
       | inr nw ↦
           elim (cases_Bool (eqb b 35)) [
             | inl hash ↦
                 let same : b ≡ 35 = eqb-true b 35 hash in
-                subst (λ (c : ℕ). Skipped (c ∷ bs) (skip_from false (c ∷ bs))) (sym same) (found true [] bs tt)
+                subst (λ (c : ℕ). Skipped (c ∷ bs) (skip_from false (c ∷ bs))) (sym same) (Found-everywhere true [] bs tt)
             | inr other ↦ subst (λ (rest : List ℕ). Skipped (b ∷ bs) rest) (sym (skip_visible b bs (nw, other))) (at_visible [] b bs nothing (nw, other))
           ]
     ]
-found true text (b ∷ bs) all =
+Found-everywhere true text (b ∷ bs) all =
     elim (cases_Bool (is_eol b)) [
-      | inl e ↦ subst (λ (x : Bool). Skipped (35 ∷ text ++ b ∷ bs) (skip_from (not x) bs)) (sym e) (more_comment text b bs (skip_from false bs) all e (found false [] bs tt))
+      | inl e ↦ subst (λ (x : Bool). Skipped (35 ∷ text ++ b ∷ bs) (skip_from (not x) bs)) (sym e) (more_comment text b bs (skip_from false bs) all e (Found-everywhere false [] bs tt))
       | inr ne ↦
-          let inner = found true (text ++ b ∷ []) bs (all_push text b all ne) in
+          let inner = Found-everywhere true (text ++ b ∷ []) bs (all-push (λ c. is_eol c ≡ false) text b all ne) in
           subst (λ (x : Bool). Skipped (35 ∷ text ++ b ∷ bs) (skip_from (not x) bs)) (sym ne) (subst (λ (bytes : List ℕ). Skipped (35 ∷ bytes) (skip_from true bs)) (append_assoc text (b ∷ []) bs) inner)
     ]
 
 pub skipped : (bytes : List ℕ) → Skipped bytes (skip_from false bytes)
-skipped bytes = found false [] bytes tt
+skipped bytes = Found-everywhere false [] bytes tt
 
 -- ---- numbers
 
 abbrev pub cap : ℕ → ℕ
 cap n = min n 4294967296
 
-abbrev pub Stops : List ℕ → Type 0
-Stops [] = Unit {0}
-Stops (b ∷ bs) = is_digit b ≡ false
-
 abbrev pub AreDigits : List ℕ → Type 0
 AreDigits text = AllByRecursion (λ d. IsTrue (is_digit d)) text
 
-pub digits_whole : (text : List ℕ) (n : ℕ) (rest : List ℕ) → AreDigits text → Stops rest → digits_from (cap n) (text ++ rest) ≡ (cap (value_after n text), rest)
+pub digits_whole : (text : List ℕ) (n : ℕ) (rest : List ℕ) → AreDigits text → NoDigit rest → digits_from (cap n) (text ++ rest) ≡ (cap (value_after n text), rest)
 unfolding digits_from
 digits_whole [] n [] all stop = refl
 digits_whole [] n (b ∷ bs) all stop = ap (λ (x : Bool). cond x (digits_from (min (10 * cap n + (b - 48)) 4294967296) bs) (cap n, b ∷ bs)) stop
@@ -126,7 +119,7 @@ pub record Run (bytes : List ℕ) : Type 0 where
   pub rest : List ℕ
   pub parts : bytes ≡ text ++ rest
   pub each : AreDigits text
-  pub stops : Stops rest
+  pub stops : NoDigit rest
 
 pub run_of : (bytes : List ℕ) → Run bytes
 run_of [] = record { text = []; rest = []; parts = refl; each = tt; stops = tt }
@@ -144,10 +137,10 @@ pub record Numbered (bytes rest : List ℕ) (capped : ℕ) : Type 0 where
   pub value : ℕ
   pub parts : bytes ≡ text ++ rest
   pub is_number : IsNumber text value
-  pub stops : Stops rest
+  pub stops : NoDigit rest
   pub is_capped : capped ≡ cap value
 
-pub number_whole : (text rest : List ℕ) (n : ℕ) → IsNumber text n → Stops rest → number_at (text ++ rest) ≡ Ok (cap n, rest)
+pub number_whole : (text rest : List ℕ) (n : ℕ) → IsNumber text n → NoDigit rest → number_at (text ++ rest) ≡ Ok (cap n, rest)
 unfolding number_at
 number_whole [] rest n is stop = absurd (omega (arith, is.some))
 number_whole (d ∷ text) rest n is stop =
@@ -158,7 +151,7 @@ number_whole (d ∷ text) rest n is stop =
 number_cases : (b : ℕ) (bs : List ℕ) (x : ℕ × List ℕ) → number_at (b ∷ bs) ≡ Ok x → (is_digit b ≡ true) × (digits_from 0 (b ∷ bs) ≡ x)
 unfolding number_at
 number_cases b bs x e =
-    elim (chosen (is_digit b) (Ok (digits_from 0 (b ∷ bs))) (Err Header) (Ok x) e) [
+    elim (cond-chosen (is_digit b) (Ok (digits_from 0 (b ∷ bs))) (Err Header) (Ok x) e) [
       | inl w ↦ (w.0, ok_is (digits_from 0 (b ∷ bs)) x w.1)
       | inr w ↦ absurd (let clash : Err Header ≡ Ok x = w.1 in cc)
     ]

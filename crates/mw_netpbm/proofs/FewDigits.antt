@@ -10,10 +10,10 @@ apart_tail zero [] tail = tt
 apart_tail zero (b ∷ bs) tail = white_no_digit b tail
 apart_tail (suc left) rest tail = tail
 
-joined : (k : ℕ) (digits more : List ℕ) → k ≤ length digits → digits ++ more ≡ take k digits ++ drop k (digits ++ more)
-joined zero digits more le = refl
-joined (suc k) [] more le = absurd (omega (arith, le))
-joined (suc k) (d ∷ ds) more le = ap (λ (bs : List ℕ). d ∷ bs) (joined k ds more (omega (arith, le)))
+append-take_drop : (k : ℕ) (digits more : List ℕ) → k ≤ length digits → digits ++ more ≡ take k digits ++ drop k (digits ++ more)
+append-take_drop zero digits more le = refl
+append-take_drop (suc k) [] more le = absurd (omega (arith, le))
+append-take_drop (suc k) (d ∷ ds) more le = ap (λ (bs : List ℕ). d ∷ bs) (append-take_drop k ds more (omega (arith, le)))
 
 -- white space, a number at the front of these bytes, and white space
 pub sample_of_few : (left first n k : ℕ) (few bytes more rest : List ℕ) → bytes ≡ first ∷ few ++ more → is_white first ≡ true → IsNumber (take k few) n → k ≤ length few → rest ≡ drop (1 + k) bytes → IsTail rest
@@ -23,7 +23,7 @@ sample_of_few left first n k few bytes more rest parts w is le rest-is tail =
     let after : drop k (few ++ more) ≡ rest = sym (rest-is ∙ ap (λ (bs : List ℕ). drop (1 + k) bs) parts ∙ ap (λ i. drop i (first ∷ few ++ more)) past) in (
       first ∷ [],
       take k few,
-      parts ∙ ap (λ (bs : List ℕ). first ∷ bs) (joined k few more le ∙ ap (λ (bs : List ℕ). take k few ++ bs) after),
+      parts ∙ ap (λ (bs : List ℕ). first ∷ bs) (append-take_drop k few more le ∙ ap (λ (bs : List ℕ). take k few ++ bs) after),
       white first [] w nothing,
       is,
       apart_tail left rest tail,

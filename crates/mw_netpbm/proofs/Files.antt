@@ -17,7 +17,7 @@ use Rattle.mw_netpbm.specs.Rasters.{grey8_at, grey16_at, words_of, rows_bits, bi
 use Rattle.mw_netpbm.specs.Plain.{plain_at, pixel_at, sample_at}
 use Rattle.mw_netpbm.specs.Whole.{raster_as, image_at, reading}
 use Rattle.mw_model.specs.NetpbmGrammar.{IsLevels, IsRows, IsPixel, IsSample, RasterAs, IsRaster, IsMaxval, Begins, SizeFits, MaxvalFits, IsFile, picture}
-use Rattle.mw_netpbm.proofs.Whole.{chosen, sample_small}
+use Rattle.mw_netpbm.proofs.Whole.{cond-chosen, sample_small}
 use Rattle.mw_netpbm.proofs.Sides.{Within, bind_ok, guard_ok, ok_is, grey8_ok, grey16_ok, bits_ok, plain_length, plain_within}
 use Rattle.mw_netpbm.proofs.Headers.{head_parts, head_whole, capped}
 use Rattle.mw_netpbm.proofs.Blanks.{cap}
@@ -98,7 +98,7 @@ pub record Rastered (h : Head) (bytes : List ℕ) (i : Picture) : Type 0 where
 levels_from : (w h m : ℕ) (bytes xs : List ℕ) → m ≤ 65535 → cond (ltb m 256) (grey8_at (h * w) m bytes) (grey16_at (h * w) m bytes) ≡ Ok xs
     → (length xs ≡ h * w) × Within m xs × IsLevels m bytes xs
 levels_from w h m bytes xs low e =
-    elim (chosen (ltb m 256) (grey8_at (h * w) m bytes) (grey16_at (h * w) m bytes) (Ok xs) e) [
+    elim (cond-chosen (ltb m 256) (grey8_at (h * w) m bytes) (grey16_at (h * w) m bytes) (Ok xs) e) [
       | inl c ↦ let all = grey8_ok (h * w) m bytes xs c.1 in (all.1, all.2, ((λ lt. all.0), (λ le. absurd (omega (arith, ltb-true m 256 c.0, le)))))
       | inr c ↦ let all = grey16_ok (h * w) m bytes xs c.1 in (all.2, all.3, ((λ lt. absurd (omega (arith, ltb-false m 256 c.0, lt))), (λ le. pairs_from (h * w) bytes xs (omega (arith, all.0)) all.1)))
     ]

@@ -8,12 +8,12 @@ use Rattle.mw_model.specs.declared.formats.Format.{Format}
 use Rattle.mw_model.specs.declared.formats.Format.TheVariants.{PlainBits, PlainGrey, RawBits, RawGrey}
 use Rattle.mw_model.specs.declared.formats.Header.{Header as Head}
 use Rattle.mw_netpbm.specs.Reading.{◌>>=◌, skip_from, gap_at, number_at, field_at}
-use Rattle.mw_model.specs.NetpbmGrammar.{is_white}
+use Rattle.mw_model.specs.NetpbmGrammar.{is_white, NoDigit}
 use Rattle.mw_netpbm.specs.Heading.{magic_at, maxval_at, white_at, head_at}
 use Rattle.mw_model.specs.NetpbmGrammar.{Blank, IsNumber, IsField, magic, IsMaxval, IsHeader, Begins}
-use Rattle.mw_netpbm.proofs.Whole.{chosen}
+use Rattle.mw_netpbm.proofs.Whole.{cond-chosen}
 use Rattle.mw_netpbm.proofs.Sides.{bind_ok, ok_is}
-use Rattle.mw_netpbm.proofs.Blanks.{skip_blank, skip_visible, Skipped, at_visible, at_end, in_comment, skipped, digit_visible, cap, Stops, number_whole, number_parts, white_no_digit}
+use Rattle.mw_netpbm.proofs.Blanks.{skip_blank, skip_visible, Skipped, at_visible, at_end, in_comment, skipped, digit_visible, cap, number_whole, number_parts, white_no_digit}
 
 -- ---- a gap and a number
 
@@ -25,7 +25,7 @@ pub skip_number : (text rest : List ℕ) (n : ℕ) → IsNumber text n → skip_
 skip_number [] rest n is = absurd (omega (arith, is.some))
 skip_number (d ∷ text) rest n is = skip_visible d (text ++ rest) (digit_visible d is.each.0)
 
-pub field_whole : (bytes rest : List ℕ) (n : ℕ) → IsField bytes n → Stops rest → field_at (bytes ++ rest) ≡ Ok (cap n, rest)
+pub field_whole : (bytes rest : List ℕ) (n : ℕ) → IsField bytes n → NoDigit rest → field_at (bytes ++ rest) ≡ Ok (cap n, rest)
 unfolding field_at
 field_whole bytes rest n is stop =
     let regrouped : bytes ++ rest ≡ is.first ∷ (is.blank ++ (is.digits ++ rest)) = ap (λ (b : List ℕ). b ++ rest) is.parts ∙ ap (λ (b : List ℕ). is.first ∷ b) (append_assoc is.blank is.digits rest) in
@@ -39,14 +39,14 @@ pub record Fielded (bytes rest : List ℕ) (capped : ℕ) : Type 0 where
   pub value : ℕ
   pub parts : bytes ≡ text ++ rest
   pub is_field : IsField text value
-  pub stops : Stops rest
+  pub stops : NoDigit rest
   pub is_capped : capped ≡ cap value
 
 gap_parts : (bytes rest : List ℕ) → gap_at bytes ≡ Ok rest → (b : ℕ) × (bs : List ℕ) × (bytes ≡ b ∷ bs) × IsTrue (is_white b) × (skip_from false bs ≡ rest)
 unfolding gap_at
 gap_parts [] rest e = absurd cc
 gap_parts (b ∷ bs) rest e =
-    elim (chosen (is_white b) (Ok (skip_from false bs)) (Err Header) (Ok rest) e) [
+    elim (cond-chosen (is_white b) (Ok (skip_from false bs)) (Err Header) (Ok rest) e) [
       | inl w ↦ (b, bs, refl, w.0, ok_is (skip_from false bs) rest w.1)
       | inr w ↦ absurd (let clash : Err Header ≡ Ok rest = w.1 in cc)
     ]
@@ -90,16 +90,16 @@ magic_digit : (d : ℕ) (bs : List ℕ) (x : Format × List ℕ)
     → cond (eqb d 49) (Ok (PlainBits, bs)) (cond (eqb d 50) (Ok (PlainGrey, bs)) (cond (eqb d 52) (Ok (RawBits, bs)) (cond (eqb d 53) (Ok (RawGrey, bs)) (Err Magic)))) ≡ Ok x
     → 80 ∷ d ∷ bs ≡ magic x.0 ++ x.1
 magic_digit d bs x e =
-    elim (chosen (eqb d 49) (Ok (PlainBits, bs)) (cond (eqb d 50) (Ok (PlainGrey, bs)) (cond (eqb d 52) (Ok (RawBits, bs)) (cond (eqb d 53) (Ok (RawGrey, bs)) (Err Magic)))) (Ok x) e) [
+    elim (cond-chosen (eqb d 49) (Ok (PlainBits, bs)) (cond (eqb d 50) (Ok (PlainGrey, bs)) (cond (eqb d 52) (Ok (RawBits, bs)) (cond (eqb d 53) (Ok (RawGrey, bs)) (Err Magic)))) (Ok x) e) [
       | inl w ↦ ap (λ k. 80 ∷ k ∷ bs) (eqb-true d 49 w.0) ∙ ap (λ (y : Format × List ℕ). magic y.0 ++ y.1) (ok_is (PlainBits, bs) x w.1)
       | inr v ↦
-          elim (chosen (eqb d 50) (Ok (PlainGrey, bs)) (cond (eqb d 52) (Ok (RawBits, bs)) (cond (eqb d 53) (Ok (RawGrey, bs)) (Err Magic))) (Ok x) v.1) [
+          elim (cond-chosen (eqb d 50) (Ok (PlainGrey, bs)) (cond (eqb d 52) (Ok (RawBits, bs)) (cond (eqb d 53) (Ok (RawGrey, bs)) (Err Magic))) (Ok x) v.1) [
             | inl w ↦ ap (λ k. 80 ∷ k ∷ bs) (eqb-true d 50 w.0) ∙ ap (λ (y : Format × List ℕ). magic y.0 ++ y.1) (ok_is (PlainGrey, bs) x w.1)
             | inr u ↦
-                elim (chosen (eqb d 52) (Ok (RawBits, bs)) (cond (eqb d 53) (Ok (RawGrey, bs)) (Err Magic)) (Ok x) u.1) [
+                elim (cond-chosen (eqb d 52) (Ok (RawBits, bs)) (cond (eqb d 53) (Ok (RawGrey, bs)) (Err Magic)) (Ok x) u.1) [
                   | inl w ↦ ap (λ k. 80 ∷ k ∷ bs) (eqb-true d 52 w.0) ∙ ap (λ (y : Format × List ℕ). magic y.0 ++ y.1) (ok_is (RawBits, bs) x w.1)
                   | inr t ↦
-                      elim (chosen (eqb d 53) (Ok (RawGrey, bs)) (Err Magic) (Ok x) t.1) [
+                      elim (cond-chosen (eqb d 53) (Ok (RawGrey, bs)) (Err Magic) (Ok x) t.1) [
                         | inl w ↦ ap (λ k. 80 ∷ k ∷ bs) (eqb-true d 53 w.0) ∙ ap (λ (y : Format × List ℕ). magic y.0 ++ y.1) (ok_is (RawGrey, bs) x w.1)
                         | inr w ↦ absurd (let clash : Err Magic ≡ Ok x = w.1 in cc)
                       ]
@@ -112,18 +112,18 @@ unfolding magic_at
 magic_parts [] x e = absurd cc
 magic_parts (p ∷ []) x e = absurd cc
 magic_parts (p ∷ d ∷ bs) x e =
-    elim (chosen (eqb p 80) (cond (eqb d 49) (Ok (PlainBits, bs)) (cond (eqb d 50) (Ok (PlainGrey, bs)) (cond (eqb d 52) (Ok (RawBits, bs)) (cond (eqb d 53) (Ok (RawGrey, bs)) (Err Magic))))) (Err Magic) (Ok x) e) [
+    elim (cond-chosen (eqb p 80) (cond (eqb d 49) (Ok (PlainBits, bs)) (cond (eqb d 50) (Ok (PlainGrey, bs)) (cond (eqb d 52) (Ok (RawBits, bs)) (cond (eqb d 53) (Ok (RawGrey, bs)) (Err Magic))))) (Err Magic) (Ok x) e) [
       | inl w ↦ ap (λ k. k ∷ d ∷ bs) (eqb-true p 80 w.0) ∙ magic_digit d bs x w.1
       | inr w ↦ absurd (let clash : Err Magic ≡ Ok x = w.1 in cc)
     ]
 
 -- ---- the whole header
 
-stops_white : (b : ℕ) (bs : List ℕ) → is_white b ≡ true → Stops (b ∷ bs)
+stops_white : (b : ℕ) (bs : List ℕ) → is_white b ≡ true → NoDigit (b ∷ bs)
 stops_white b bs w = white_no_digit b w
 
-stops_field : (bytes rest : List ℕ) (n : ℕ) → IsField bytes n → Stops (bytes ++ rest)
-stops_field bytes rest n is = subst (λ (b : List ℕ). Stops (b ++ rest)) (sym is.parts) (white_no_digit is.first is.is_white)
+stops_field : (bytes rest : List ℕ) (n : ℕ) → IsField bytes n → NoDigit (bytes ++ rest)
+stops_field bytes rest n is = subst (λ (b : List ℕ). NoDigit (b ++ rest)) (sym is.parts) (white_no_digit is.first is.is_white)
 
 white_whole : (b : ℕ) (bs : List ℕ) → IsTrue (is_white b) → white_at (b ∷ bs) ≡ Ok bs
 unfolding white_at
@@ -133,19 +133,19 @@ white_parts : (bytes rest : List ℕ) → white_at bytes ≡ Ok rest → (b : �
 unfolding white_at
 white_parts [] rest e = absurd cc
 white_parts (b ∷ bs) rest e =
-    elim (chosen (is_white b) (Ok bs) (Err Header) (Ok rest) e) [
+    elim (cond-chosen (is_white b) (Ok bs) (Err Header) (Ok rest) e) [
       | inl w ↦ (b, ap (λ (t : List ℕ). b ∷ t) (ok_is bs rest w.1), w.0)
       | inr w ↦ absurd (let clash : Err Header ≡ Ok rest = w.1 in cc)
     ]
 
-maxval_whole : (format : Format) (bytes rest : List ℕ) (n : ℕ) → IsMaxval format bytes n → Stops rest → maxval_at format (bytes ++ rest) ≡ Ok (cap n, rest)
+maxval_whole : (format : Format) (bytes rest : List ℕ) (n : ℕ) → IsMaxval format bytes n → NoDigit rest → maxval_at format (bytes ++ rest) ≡ Ok (cap n, rest)
 unfolding maxval_at
 maxval_whole PlainBits bytes rest n is stop = rw (is.0, is.1) refl
 maxval_whole RawBits bytes rest n is stop = rw (is.0, is.1) refl
 maxval_whole PlainGrey bytes rest n is stop = field_whole bytes rest n is stop
 maxval_whole RawGrey bytes rest n is stop = field_whole bytes rest n is stop
 
-maxval_stops : (format : Format) (bytes rest : List ℕ) (n : ℕ) → IsMaxval format bytes n → Stops rest → Stops (bytes ++ rest)
+maxval_stops : (format : Format) (bytes rest : List ℕ) (n : ℕ) → IsMaxval format bytes n → NoDigit rest → NoDigit (bytes ++ rest)
 maxval_stops PlainBits bytes rest n is stop = rw is.0 stop
 maxval_stops RawBits bytes rest n is stop = rw is.0 stop
 maxval_stops PlainGrey bytes rest n is stop = stops_field bytes rest n is
@@ -159,7 +159,7 @@ pub head_whole : (bytes raster : List ℕ) (h : Head) → IsHeader bytes h → h
 unfolding head_at
 head_whole bytes raster h is =
     let end : List ℕ = is.last ∷ raster in
-    let stop : Stops end = stops_white is.last raster is.is_last in
+    let stop : NoDigit end = stops_white is.last raster is.is_last in
     let regrouped : bytes ++ raster ≡ magic h.format ++ (is.width ++ (is.height ++ (is.maxval ++ end))) = ap (λ (b : List ℕ). b ++ raster) is.parts ∙ simp append_assoc in
     ap head_at regrouped
     ∙ rw (
@@ -177,9 +177,9 @@ maxval_parts RawBits bytes x e = let same = ok_is (1, bytes) x e in ([], 1, ap (
 maxval_parts PlainGrey bytes x e = let f = field_parts bytes x e in (f.text, f.value, f.parts, f.is_field, f.is_capped)
 maxval_parts RawGrey bytes x e = let f = field_parts bytes x e in (f.text, f.value, f.parts, f.is_field, f.is_capped)
 
-joined : (bytes m w h v end r1 r2 r3 r4 : List ℕ) (l : ℕ) → bytes ≡ m ++ r1 → r1 ≡ w ++ r2 → r2 ≡ h ++ r3 → r3 ≡ v ++ r4 → r4 ≡ l ∷ end
+parts-joined : (bytes m w h v end r1 r2 r3 r4 : List ℕ) (l : ℕ) → bytes ≡ m ++ r1 → r1 ≡ w ++ r2 → r2 ≡ h ++ r3 → r3 ≡ v ++ r4 → r4 ≡ l ∷ end
     → bytes ≡ (m ++ (w ++ (h ++ (v ++ l ∷ [])))) ++ end
-joined bytes m w h v end r1 r2 r3 r4 l e0 e1 e2 e3 e4 = rw (e0, e1, e2, e3, e4) (sym (simp append_assoc))
+parts-joined bytes m w h v end r1 r2 r3 r4 l e0 e1 e2 e3 e4 = rw (e0, e1, e2, e3, e4) (sym (simp append_assoc))
 
 same_head : (format : Format) (w h v w' h' v' : ℕ) → w ≡ w' → h ≡ h' → v ≡ v'
     → (let a : Head = record { format = format; width = w; height = h; maxval = v } in let b : Head = record { format = format; width = w'; height = h'; maxval = v' } in a ≡ b)
@@ -208,7 +208,7 @@ head_parts bytes x e =
     let made : Head × List ℕ = (record { format = format; width = b.0.0; height = c.0.0; maxval = d.0.0 }, f.0) in
     let same = ok_is made x f.2 in
     let text : List ℕ = magic format ++ (w.text ++ (h.text ++ (v.0 ++ l.0 ∷ []))) in
-    let whole : bytes ≡ text ++ f.0 = joined bytes (magic format) w.text h.text v.0 f.0 a.0.1 b.0.1 c.0.1 d.0.1 l.0 m w.parts h.parts v.2 l.1 in
+    let whole : bytes ≡ text ++ f.0 = parts-joined bytes (magic format) w.text h.text v.0 f.0 a.0.1 b.0.1 c.0.1 d.0.1 l.0 m w.parts h.parts v.2 l.1 in
     let truth : Head = record { format = format; width = w.value; height = h.value; maxval = v.1 } in
     let as_read : Head = record { format = format; width = b.0.0; height = c.0.0; maxval = d.0.0 } in
     let caps : as_read ≡ capped truth = same_head format b.0.0 c.0.0 d.0.0 (cap w.value) (cap h.value) (cap v.1) w.is_capped h.is_capped v.4 in

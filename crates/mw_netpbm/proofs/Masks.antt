@@ -56,15 +56,15 @@ pub as_digit : (b : Bool) → from_bool b ≡ cond b 1 0
 as_digit true = refl
 as_digit false = refl
 
-small : (b : Bool) → cond b 1 0 < 2
-small true = omega arith
-small false = omega arith
+one_if-small : (b : Bool) → cond b 1 0 < 2
+one_if-small true = omega arith
+one_if-small false = omega arith
 
-either : (a b : Bool) → max (cond a 1 0) (cond b 1 0) ≡ cond (a || b) 1 0
-either true true = omega arith
-either true false = omega arith
-either false true = omega arith
-either false false = omega arith
+max-one_if : (a b : Bool) → max (cond a 1 0) (cond b 1 0) ≡ cond (a || b) 1 0
+max-one_if true true = omega arith
+max-one_if true false = omega arith
+max-one_if false true = omega arith
+max-one_if false false = omega arith
 
 starts_word : (white before : Bool) → min (1 - cond white 1 0) (cond before 1 0) ≡ cond (before && not white) 1 0
 starts_word true true = omega arith
@@ -81,8 +81,8 @@ other_digit false = omega arith
 or_masks : {X : Type 0} (p q : X → Bool) (xs : List X) → bit_or (mask_l (map p xs)) (mask_l (map q xs)) ≡ mask_l (map (λ x. p x || q x) xs)
 or_masks p q [] = refl
 or_masks p q (x ∷ xs) =
-    or_digits (cond (p x) 1 0) (cond (q x) 1 0) (mask_l (map p xs)) (mask_l (map q xs)) (small (p x)) (small (q x))
-    ∙ ap (λ (t : ℕ). t + 2 * bit_or (mask_l (map p xs)) (mask_l (map q xs))) (either (p x) (q x))
+    or_digits (cond (p x) 1 0) (cond (q x) 1 0) (mask_l (map p xs)) (mask_l (map q xs)) (one_if-small (p x)) (one_if-small (q x))
+    ∙ ap (λ (t : ℕ). t + 2 * bit_or (mask_l (map p xs)) (mask_l (map q xs))) (max-one_if (p x) (q x))
     ∙ ap (λ (t : ℕ). cond (p x || q x) 1 0 + 2 * t) (or_masks p q xs)
 
 same_masks : {X : Type 0} (p q : X → Bool) (xs : List X) → ((x : X) → p x ≡ q x) → mask_l (map p xs) ≡ mask_l (map q xs)
@@ -111,7 +111,7 @@ mask_fits : {X : Type 0} (p : X → Bool) (xs : List X) (n : ℕ) → length xs 
 mask_fits p [] zero size = omega arith
 mask_fits p [] (suc n) size = absurd (omega arith)
 mask_fits p (x ∷ xs) zero size = absurd (omega arith)
-mask_fits p (x ∷ xs) (suc n) size = let rest = mask_fits p xs n (omega arith) in let less = small (p x) in omega arith
+mask_fits p (x ∷ xs) (suc n) size = let rest = mask_fits p xs n (omega arith) in let less = one_if-small (p x) in omega arith
 
 other_mask : {X : Type 0} (p : X → Bool) (xs : List X) (n : ℕ) → length xs ≡ n → 2 ^ n - 1 - mask_l (map p xs) ≡ mask_l (map (λ x. not (p x)) xs)
 other_mask p [] zero size = refl
@@ -120,7 +120,7 @@ other_mask p (x ∷ xs) zero size = absurd (omega arith)
 other_mask p (x ∷ xs) (suc n) size =
     let rest = other_mask p xs n (omega arith) in
     let turned = other_digit (p x) in
-    let less = small (p x) in
+    let less = one_if-small (p x) in
     let fits : mask_l (map p xs) < 2 ^ n = mask_fits p xs n (omega arith) in
     omega arith
 
@@ -149,24 +149,24 @@ word_starts (b ∷ bs) white zero size = absurd (omega arith)
 word_starts (b ∷ bs) white (suc n) size =
     let m : ℕ = mask_l (map is_white bs) in
     let d : ℕ = cond (is_white b) 1 0 in
-    let less = small (is_white b) in
+    let less = one_if-small (is_white b) in
     let fits : m < 2 ^ n = mask_fits is_white bs n (omega arith) in
     let not_white : 2 ^ suc n - 1 - (d + 2 * m) ≡ (1 - d) + 2 * (2 ^ n - 1 - m) = omega arith in
     let twice : 2 ^ suc n ≡ 2 * 2 ^ n = omega arith in
     let turn : d + 2 * m ≡ 2 * m + d = omega arith in
     let moved : (2 * (d + 2 * m) + cond white 1 0) % 2 ^ suc n ≡ cond white 1 0 + 2 * ((2 * m + d) % 2 ^ n) =
-    ap (λ (t : ℕ). (2 * (d + 2 * m) + cond white 1 0) % t) twice ∙ ap (λ (t : ℕ). (2 * t + cond white 1 0) % (2 * 2 ^ n)) turn ∙ shifted (2 * m + d) (cond white 1 0) n (small white) in
+    ap (λ (t : ℕ). (2 * (d + 2 * m) + cond white 1 0) % t) twice ∙ ap (λ (t : ℕ). (2 * t + cond white 1 0) % (2 * 2 ^ n)) turn ∙ shifted (2 * m + d) (cond white 1 0) n (one_if-small white) in
     ap (λ (t : ℕ). ones (bit_and t ((2 * (d + 2 * m) + cond white 1 0) % 2 ^ suc n))) not_white
     ∙ ap (λ (t : ℕ). ones (bit_and ((1 - d) + 2 * (2 ^ n - 1 - m)) t)) moved
-    ∙ ap ones (and_digits (1 - d) (cond white 1 0) (2 ^ n - 1 - m) ((2 * m + d) % 2 ^ n) (omega arith) (small white))
+    ∙ ap ones (and_digits (1 - d) (cond white 1 0) (2 ^ n - 1 - m) ((2 * m + d) % 2 ^ n) (omega arith) (one_if-small white))
     ∙ ap (λ (t : ℕ). ones (t + 2 * bit_and (2 ^ n - 1 - m) ((2 * m + d) % 2 ^ n))) (starts_word (is_white b) white)
-    ∙ ones_digit (cond (white && not (is_white b)) 1 0) (bit_and (2 ^ n - 1 - m) ((2 * m + d) % 2 ^ n)) (small (white && not (is_white b)))
+    ∙ ones_digit (cond (white && not (is_white b)) 1 0) (bit_and (2 ^ n - 1 - m) ((2 * m + d) % 2 ^ n)) (one_if-small (white && not (is_white b)))
     ∙ ap (λ (t : ℕ). cond (white && not (is_white b)) 1 0 + t) (word_starts bs (is_white b) n (omega arith))
 
 pub words_counted : (mask : ℕ) (white : Bool) (bytes : List ℕ) → length bytes ≡ 64 → mask ≡ mask_l (map is_white bytes)
     → count_ones (bit_and (2 ^ 64 - 1 - mask) (bit_or (mask * 2 ^ 1 % 2 ^ 64) (cond white 1 0))) ≡ words_in white bytes
 words_counted mask white bytes size is =
-    ap (λ (t : ℕ). ones (bit_and (2 ^ 64 - 1 - mask) t)) (joined mask (cond white 1 0) (small white))
+    ap (λ (t : ℕ). ones (bit_and (2 ^ 64 - 1 - mask) t)) (joined mask (cond white 1 0) (one_if-small white))
     ∙ ap (λ (t : ℕ). ones (bit_and (2 ^ 64 - 1 - t) ((2 * t + cond white 1 0) % 2 ^ 64))) is
     ∙ word_starts bytes white 64 size
   where

@@ -13,9 +13,9 @@ good x = Ok x
 pub no_both : {A : Type 0} (read : Result A ReadFault) (x : A) (d : ReadFault) → read ≡ Ok x → read ≡ Err d → ⊥
 no_both read x d e f = let clash : good x ≡ bad d = sym e ∙ f in cc
 
-pub either : {A : Type 0} (read : Result A ReadFault) → ((x : A) × (read ≡ Ok x)) ⊎ ((d : ReadFault) × (read ≡ Err d))
-either (Ok x) = inl (x, refl)
-either (Err d) = inr (d, refl)
+pub ok_or_err : {A : Type 0} (read : Result A ReadFault) → ((x : A) × (read ≡ Ok x)) ⊎ ((d : ReadFault) × (read ≡ Err d))
+ok_or_err (Ok x) = inl (x, refl)
+ok_or_err (Err d) = inr (d, refl)
 
 -- reading meets a fault of this name
 abbrev pub Meets : {A : Type 0} → (ReadFault → Code) → Code → Result A ReadFault → Type 0
@@ -52,7 +52,7 @@ pub refuses-with : {A : Type 0} (name : ReadFault → Code) (k : ReadFault) (rea
     → RefusesAs name read (λ c. (name k ≡ c) × ((x : A) → ¬ (read ≡ Ok x)))
 refuses-with name k read only = record {
   refused = λ d e. (ap name (only d e), λ x is. no_both read x d is e);
-  met = λ c r. elim (either read) [
+  met = λ c r. elim (ok_or_err read) [
     | inl x ↦ absurd (r.1 x.0 x.1)
     | inr d ↦ (d.0, ap name (sym (only d.0 d.1)) ∙ r.0, d.1)
   ];

@@ -10,8 +10,10 @@ use Rattle.std.proofs.lemmas.Simd.{bitmask_splat, pick_l_left}
 use lib.Lanes.{zip2, chunk, number_l, pick_l, mask_l, top}
 use mir.Val.{bits, hbits}
 use Rattle.mw_facts.proofs.Alls.{all-append, all-drop}
+use Rattle.mw_facts.proofs.Numbers.{one_if-not_zero}
 use Rattle.mw_model.specs.NetpbmGrammar.{bits_of}
 use Rattle.mw_model.specs.NetpbmWriting.{packed}
+use Rattle.mw_model.proofs.ImageLaws.{index_below}
 use Rattle.mw_netpbm.proofs.Sides.{Within}
 use Rattle.mw_netpbm.proofs.Packing.{packed_length}
 
@@ -45,9 +47,6 @@ within_more pixels i n r b so_far e is small =
 
 pub lanes_whole : (lanes pixels : List ℕ) (i : ℕ) → length lanes ≤ i → length pixels ≤ i → take i lanes ≡ take i pixels → lanes ≡ pixels
 lanes_whole lanes pixels i a b so_far = sym (take_all i lanes a) ∙ so_far ∙ take_all i pixels b
-
-pub within_whole : (pixels : List ℕ) (i : ℕ) → length pixels ≤ i → Within 1 (take i pixels) → Within 1 pixels
-within_whole pixels i b small = subst (λ (xs : List ℕ). Within 1 xs) (take_all i pixels b) small
 
 -- ---- bytes spread over pixels
 
@@ -124,33 +123,23 @@ turned_are (suc n) base xs =
       others,
     ) refl
 
-within_at : (xs : List ℕ) (k : ℕ) → Within 1 xs → get_or xs k 0 ≤ 1
-within_at [] k w = omega arith
-within_at (x ∷ xs) zero w = w.0
-within_at (x ∷ xs) (suc k) w = within_at xs k w.1
-
 -- a lane that is set
 abbrev is_on : ℕ → Bool
 is_on x = not (eqb x 0)
-
-on_is : (x : ℕ) → x ≤ 1 → cond (is_on x) 1 0 ≡ x
-on_is zero le = refl
-on_is (suc zero) le = refl
-on_is (suc (suc x)) le = absurd (omega arith)
 
 eights_mask : (n : ℕ) (xs : List ℕ) → Within 1 xs → mask_l (map is_on (eights n xs)) ≡ number_l 256 (packed n xs)
 unfolding packed
 eights_mask zero xs w = refl
 eights_mask (suc n) xs w =
     rw (
-      on_is (get_or xs 7 0) (within_at xs 7 w),
-      on_is (get_or xs 6 0) (within_at xs 6 w),
-      on_is (get_or xs 5 0) (within_at xs 5 w),
-      on_is (get_or xs 4 0) (within_at xs 4 w),
-      on_is (get_or xs 3 0) (within_at xs 3 w),
-      on_is (get_or xs 2 0) (within_at xs 2 w),
-      on_is (get_or xs 1 0) (within_at xs 1 w),
-      on_is (get_or xs 0 0) (within_at xs 0 w),
+      one_if-not_zero (get_or xs 7 0) (index_below 1 xs 7 w),
+      one_if-not_zero (get_or xs 6 0) (index_below 1 xs 6 w),
+      one_if-not_zero (get_or xs 5 0) (index_below 1 xs 5 w),
+      one_if-not_zero (get_or xs 4 0) (index_below 1 xs 4 w),
+      one_if-not_zero (get_or xs 3 0) (index_below 1 xs 3 w),
+      one_if-not_zero (get_or xs 2 0) (index_below 1 xs 2 w),
+      one_if-not_zero (get_or xs 1 0) (index_below 1 xs 1 w),
+      one_if-not_zero (get_or xs 0 0) (index_below 1 xs 0 w),
       eights_mask n (drop 8 xs) (all-drop (λ s. s ≤ 1) 8 xs w),
     ) (omega arith)
 
@@ -158,7 +147,7 @@ packed_small : (n : ℕ) (xs : List ℕ) (i : ℕ) → Within 1 xs → get_or (p
 unfolding packed
 packed_small zero xs i w = omega arith
 packed_small (suc n) xs zero w =
-    omega (arith, within_at xs 0 w, within_at xs 1 w, within_at xs 2 w, within_at xs 3 w, within_at xs 4 w, within_at xs 5 w, within_at xs 6 w, within_at xs 7 w)
+    omega (arith, index_below 1 xs 0 w, index_below 1 xs 1 w, index_below 1 xs 2 w, index_below 1 xs 3 w, index_below 1 xs 4 w, index_below 1 xs 5 w, index_below 1 xs 6 w, index_below 1 xs 7 w)
 packed_small (suc n) xs (suc i) w = packed_small n (drop 8 xs) i (all-drop (λ s. s ≤ 1) 8 xs w)
 
 eight_bytes : (bs : List ℕ) → length bs ≡ 8 → number_l 256 bs ≡ from_le_bytes w64 bs

@@ -85,9 +85,6 @@ pub all_counted : (place : ℕ → List ℕ → Result (ℕ × List ℕ) ReadFau
 all_counted place left n bytes total le h so_far =
     sym (tail_zero n bytes h) ∙ ap (λ (r : Result (List ℕ) ReadFault). plus n (ones_of r)) (sym (all_checked place left bytes le)) ∙ so_far
 
-pub one_small : (s : ℕ) → cond (eqb s 1) 1 0 ≤ 1
-one_small s = elim (eqb s 1) as (λ (b : Bool). cond b 1 0 ≤ 1) [ true ↦ omega arith | false ↦ omega arith ]
-
 -- ---- one more place of a raster that is filled
 
 pub one_filled : {P : Type 0} (level : P → ℕ) (place : ℕ → List ℕ → Result (ℕ × List ℕ) ReadFault) (left : ℕ) (bytes after : List ℕ) (out : List P) (p : P) (s : ℕ) (total : Result (List ℕ) ReadFault) → 0 < left

@@ -8,14 +8,14 @@ use Rattle.std.proofs.lemmas.List.{append-nil, nil_from_length, take_all, take_a
 use Rattle.mw_netpbm.specs.declared.fault.ReadFault.{ReadFault}
 use Rattle.mw_netpbm.specs.declared.fault.ReadFault.TheVariants.{Header, Sample, Trailing}
 use Rattle.mw_netpbm.specs.Reading.{◌>>=◌, skip_from, digits_from, number_at}
-use Rattle.mw_model.specs.NetpbmGrammar.{is_white, is_digit}
+use Rattle.mw_model.specs.NetpbmGrammar.{is_white, is_digit, NoDigit}
 use Rattle.mw_model.specs.NetpbmGrammar.{bits_of}
 use Rattle.mw_netpbm.specs.Rasters.{words_of, row_bits, rows_bits}
 use Rattle.mw_netpbm.specs.Plain.{plain_at, tail_at, bit_at, pixel_at, apart, level_at, sample_at}
 use Rattle.mw_model.specs.NetpbmGrammar.{Blank, IsNumber, IsPairs, IsRows, IsTail, IsPixel, IsApart, IsSample, IsPlain, value_after}
-use Rattle.mw_netpbm.proofs.Whole.{chosen}
+use Rattle.mw_netpbm.proofs.Whole.{cond-chosen}
 use Rattle.mw_netpbm.proofs.Sides.{Within, bind_ok, guard_ok, ok_is, plain_length, tail_nil}
-use Rattle.mw_netpbm.proofs.Blanks.{skip_blank, Visible, skip_visible, Skipped, at_visible, at_end, in_comment, skipped, cap, Stops, Numbered, number_parts, digits_whole, white_no_digit}
+use Rattle.mw_netpbm.proofs.Blanks.{skip_blank, Visible, skip_visible, Skipped, at_visible, at_end, in_comment, skipped, cap, Numbered, number_parts, digits_whole, white_no_digit}
 use Rattle.mw_netpbm.proofs.Headers.{skip_number}
 
 -- ---- pairs
@@ -92,7 +92,7 @@ rows_read width (suc height) bytes xs (row, rest, others, parts, len, is, more) 
 pub tail_from : (bytes xs : List ℕ) → tail_at bytes ≡ Ok xs → IsTail bytes
 unfolding tail_at
 tail_from [] xs e = tt
-tail_from (b ∷ bs) xs e = elim (chosen (is_white b) (Ok []) (Err Trailing) (Ok xs) e) [ inl w ↦ w.0 | inr w ↦ absurd (let clash : Err Trailing ≡ Ok xs = w.1 in cc) ]
+tail_from (b ∷ bs) xs e = elim (cond-chosen (is_white b) (Ok []) (Err Trailing) (Ok xs) e) [ inl w ↦ w.0 | inr w ↦ absurd (let clash : Err Trailing ≡ Ok xs = w.1 in cc) ]
 
 pub tail_whole : (bytes : List ℕ) → IsTail bytes → tail_at bytes ≡ Ok []
 unfolding tail_at
@@ -142,7 +142,7 @@ two_bytes b h = (grind (arith, nat_tests), grind (arith, nat_tests))
 bit_cases : (b : ℕ) (bs : List ℕ) (x : ℕ × List ℕ) → bit_at (b ∷ bs) ≡ Ok x → (b ∷ bs ≡ (48 + x.0) ∷ x.1) × (x.0 ≤ 1)
 unfolding bit_at
 bit_cases b bs x e =
-    elim (chosen (eqb b 48 || eqb b 49) (Ok (b - 48, bs)) (Err Sample) (Ok x) e) [
+    elim (cond-chosen (eqb b 48 || eqb b 49) (Ok (b - 48, bs)) (Err Sample) (Ok x) e) [
       | inl w ↦
           let same = ok_is (b - 48, bs) x w.1 in
           let digit = two_bytes b w.0 in
@@ -167,7 +167,7 @@ abbrev AfterIt : ℕ → List ℕ → Type 0
 AfterIt zero rest = Unit {0}
 AfterIt (suc left) rest = IsTail rest
 
-apart_from : (left : ℕ) (rest : List ℕ) → AfterIt left rest → Stops rest → IsApart left rest
+apart_from : (left : ℕ) (rest : List ℕ) → AfterIt left rest → NoDigit rest → IsApart left rest
 apart_from zero rest h stop = stop
 apart_from (suc left) rest h stop = h
 
@@ -176,7 +176,7 @@ unfolding apart
 apart_parts zero found x e = (ok_is found x e, tt)
 apart_parts (suc left) (n, []) x e = let same = ok_is (n, []) x e in (same, subst (λ (y : ℕ × List ℕ). IsTail y.1) same tt)
 apart_parts (suc left) (n, b ∷ bs) x e =
-    elim (chosen (is_white b) (Ok (n, b ∷ bs)) (Err Sample) (Ok x) e) [
+    elim (cond-chosen (is_white b) (Ok (n, b ∷ bs)) (Err Sample) (Ok x) e) [
       | inl w ↦ let same = ok_is (n, b ∷ bs) x w.1 in (same, subst (λ (y : ℕ × List ℕ). IsTail y.1) same w.0)
       | inr w ↦ absurd (let clash : Err Sample ≡ Ok x = w.1 in cc)
     ]
@@ -195,7 +195,7 @@ level_cases : (maxval left b : ℕ) (bs : List ℕ) (x : ℕ × List ℕ) → le
 unfolding level_at
 level_cases maxval left b bs x e =
     let d = digits_from 0 (b ∷ bs) in
-    elim (chosen (is_digit b) (cond (ltb maxval (d.0)) (Err Sample) (apart left d)) (Err Sample) (Ok x) e) [
+    elim (cond-chosen (is_digit b) (cond (ltb maxval (d.0)) (Err Sample) (apart left d)) (Err Sample) (Ok x) e) [
       | inl w ↦
           let g = guard_ok (ltb maxval (d.0)) Sample (apart left d) x w.1 in
           let low : d.0 ≤ maxval = ltb-false maxval (d.0) g.0 in
@@ -222,7 +222,7 @@ pub sample_parts : (maxval left : ℕ) (bytes : List ℕ) (x : ℕ × List ℕ) 
 unfolding sample_at
 sample_parts maxval left bytes x low e = level_found maxval left bytes (skip_from false bytes) x low (skipped bytes) e
 
-level_whole : (maxval left : ℕ) (text rest : List ℕ) (s : ℕ) → IsNumber text s → Stops rest → IsApart left rest → s ≤ maxval → maxval ≤ 65535 → level_at maxval left (text ++ rest) ≡ Ok (s, rest)
+level_whole : (maxval left : ℕ) (text rest : List ℕ) (s : ℕ) → IsNumber text s → NoDigit rest → IsApart left rest → s ≤ maxval → maxval ≤ 65535 → level_at maxval left (text ++ rest) ≡ Ok (s, rest)
 unfolding level_at
 level_whole maxval left [] rest s is stop after le low = absurd (omega (arith, is.some))
 level_whole maxval left (d ∷ text) rest s is stop after le low =
@@ -233,11 +233,11 @@ level_whole maxval left (d ∷ text) rest s is stop after le low =
     ∙ ap (λ (x : Bool). cond x (Err Sample) (apart left (s, rest))) (le-ltb _ _ le)
     ∙ apart_whole left s rest after
 
-pub tail_stops : (rest : List ℕ) → IsTail rest → Stops rest
+pub tail_stops : (rest : List ℕ) → IsTail rest → NoDigit rest
 tail_stops [] h = tt
 tail_stops (b ∷ bs) h = white_no_digit b h
 
-pub apart_stops : (left : ℕ) (rest : List ℕ) → IsApart left rest → Stops rest
+pub apart_stops : (left : ℕ) (rest : List ℕ) → IsApart left rest → NoDigit rest
 apart_stops zero [] h = tt
 apart_stops zero (b ∷ bs) h = h
 apart_stops (suc left) rest h = tail_stops rest h

@@ -15,7 +15,7 @@ use Rattle.mw_netpbm.specs.Rasters.{grey8_at, grey16_at, words_of, rows_bits, bi
 use Rattle.mw_netpbm.specs.Plain.{plain_at, pixel_at, sample_at, tail_at, bit_at, apart, level_at}
 use Rattle.mw_netpbm.specs.Whole.{raster_as, image_at, reading}
 use Rattle.mw_model.specs.NetpbmGrammar.{IsPixel, IsSample, Begins, SizeFits, MaxvalFits, IsFile, picture, is_white, is_digit, is_eol}
-use Rattle.mw_netpbm.proofs.Whole.{chosen, sample_small}
+use Rattle.mw_netpbm.proofs.Whole.{cond-chosen, sample_small}
 use Rattle.mw_netpbm.proofs.Sides.{Within, fold_bound, words_length, rows_length, rows_within, ok_is}
 use Rattle.mw_netpbm.proofs.Headers.{head_parts, capped, magic_whole, magic_parts}
 use Rattle.mw_netpbm.proofs.Blanks.{cap, Skipped, at_visible, at_end, in_comment, skipped, skip_blank, skip_visible, skip_hash}
@@ -26,7 +26,7 @@ use Rattle.mw_netpbm.specs.Faults.{code_of}
 use Rattle.mw_netpbm.proofs.Files.{limits_ok, read_file, fits_cap, size_within, size_uncapped, size_fine, maxval_fine, fold_within, begun_read, begun_maxval, SetMaxval, limits_fine, maxval_uncapped, maxval_within}
 use Rattle.std.specs.List.{AllByRecursion}
 use Rattle.mw_model.specs.declared.codes.Code.{Code}
-use Rattle.mw_netpbm.proofs.Outcomes.{good, bad, no_both, either, RefusesAs, refuses-given, refuses-with, refuses-then, refuses-view, refuses-test, refuses-like, only-then}
+use Rattle.mw_netpbm.proofs.Outcomes.{good, bad, no_both, ok_or_err, RefusesAs, refuses-given, refuses-with, refuses-then, refuses-view, refuses-test, refuses-like, only-then}
 
 -- a test that gives a value, or what comes after it
 else_err : {A : Type 0} (b : Bool) (x : A) (r : Result A ReadFault) (d : ReadFault) → cond b (Ok x) r ≡ Err d → r ≡ Err d
@@ -76,7 +76,7 @@ magic_err (p ∷ c ∷ bs) d e =
     let third : Result (Format × List ℕ) ReadFault = cond (eqb c 52) (Ok (RawBits, bs)) last in
     let second : Result (Format × List ℕ) ReadFault = cond (eqb c 50) (Ok (PlainGrey, bs)) third in
     let first : Result (Format × List ℕ) ReadFault = cond (eqb c 49) (Ok (PlainBits, bs)) second in
-    elim (chosen (eqb p 80) first (Err Magic) (Err d) e) [
+    elim (cond-chosen (eqb p 80) first (Err Magic) (Err d) e) [
       | inl w ↦
           let e1 = else_err (eqb c 49) (PlainBits, bs) second d w.1 in
           let e2 = else_err (eqb c 50) (PlainGrey, bs) third d e1 in
@@ -135,7 +135,7 @@ HeadRefusal bytes c = NoMagic bytes c ⊎ ((m : Format × List ℕ) × (magic_at
 
 head_refuses : (bytes : List ℕ) → RefusesAs code_of (head_at bytes) (HeadRefusal bytes)
 head_refuses bytes = record {
-  refused = λ d e. elim (either (magic_at bytes)) [
+  refused = λ d e. elim (ok_or_err (magic_at bytes)) [
     | inl m ↦ inr (m.0, m.1, (header_refuses code_of bytes m.0 m.1).refused d e)
     | inr k ↦
         let same = err_is {A = Head × List ℕ} k.0 d (sym (no_magic_read bytes k.0 k.1) ∙ e) in
@@ -219,8 +219,8 @@ grey16_lead w h m bytes ge le =
       is_raster = record { count = words_length (h * w) (take n bytes) len; spelled = ((λ low. absurd (omega (arith, ge, low))), (λ high. pairs_from (h * w) (take n bytes) (words_of (take n bytes)) len refl)) };
     }
 
-above : (xs : List ℕ) (m : ℕ) → ¬ Within m xs → m < fold max 0 xs
-above xs m none = elim (cases_lt m (fold max 0 xs)) [ inl lt ↦ lt | inr le ↦ absurd (none (fold_bound xs 0 m le).1) ]
+greatest-above : (xs : List ℕ) (m : ℕ) → ¬ Within m xs → m < fold max 0 xs
+greatest-above xs m none = elim (cases_lt m (fold max 0 xs)) [ inl lt ↦ lt | inr le ↦ absurd (none (fold_bound xs 0 m le).1) ]
 
 -- the bytes of a raster at the front, and the samples that are taken from them
 record Taken (wanted : ℕ) (bytes samples rest : List ℕ) (taken : List ℕ) : Type 0 where
@@ -275,8 +275,8 @@ raw_refuses h wanted bytes samples size leads taken =
     to : (c : Code) → (ltb (length bytes) wanted ≡ true) × (code.Short ≡ c) ⊎ (ltb (length bytes) wanted ≡ false) × TooHigh wanted h.maxval bytes samples c → RawRefuses h bytes c
     to c (inl (less, is)) = subst (RawRefuses h bytes) is (short (subst (λ n. length bytes < n) size (ltb-true _ _ less)))
     to c (inr (long, inl (high, is))) =
-        let above : h.maxval < fold max 0 samples = ltb-true _ _ high in
-        subst (RawRefuses h bytes) is (over samples (drop wanted bytes) (leads (ltb-false _ _ long)) (λ within. absurd (omega (arith, above, fold_within samples 0 h.maxval (omega arith) within))))
+        let past : h.maxval < fold max 0 samples = ltb-true _ _ high in
+        subst (RawRefuses h bytes) is (over samples (drop wanted bytes) (leads (ltb-false _ _ long)) (λ within. absurd (omega (arith, past, fold_within samples 0 h.maxval (omega arith) within))))
     to c (inr (long, inr (low, inl (rest, is)))) =
         subst (RawRefuses h bytes) is (more samples (drop wanted bytes) (leads (ltb-false _ _ long)) (fold_bound samples 0 h.maxval (ltb-false _ _ low)).1 (not_nil wanted bytes (ltb-true _ _ rest)))
     to c (inr (long, inr (low, inr (all, none)))) = absurd none
@@ -285,7 +285,7 @@ raw_refuses h wanted bytes samples size leads taken =
     from c (short less) = inl (lt-ltb _ _ (subst (λ n. length bytes < n) (sym size) less), refl)
     from c (over ss rest l none) =
         let t = taken ss rest l in
-        inr (le-ltb _ _ t.enough, inl (lt-ltb _ _ (above samples h.maxval (subst (λ (ys : List ℕ). ¬ Within h.maxval ys) (sym t.same) none)), refl))
+        inr (le-ltb _ _ t.enough, inl (lt-ltb _ _ (greatest-above samples h.maxval (subst (λ (ys : List ℕ). ¬ Within h.maxval ys) (sym t.same) none)), refl))
     from c (more ss rest l within some) =
         let t = taken ss rest l in
         inr (le-ltb _ _ t.enough, inr (le-ltb _ _ (fold_within samples 0 h.maxval (omega arith) (subst (λ (ys : List ℕ). Within h.maxval ys) (sym t.same) within)), inl (lt-ltb _ _ (t.left some), refl)))
@@ -354,8 +354,8 @@ level_fault : (m left b : ℕ) (bs : List ℕ) (d : ReadFault) → level_at m le
 unfolding level_at
 level_fault m left b bs d e =
     let found = digits_from 0 (b ∷ bs) in
-    elim (chosen (is_digit b) (cond (ltb m (found.0)) (Err Sample) (apart left found)) (Err Sample) (Err d) e) [
-      | inl w ↦ elim (chosen (ltb m (found.0)) (Err Sample) (apart left found) (Err d) w.1) [ inl high ↦ err_is {A = ℕ × List ℕ} Sample d high.1 | inr low ↦ apart_fault left found d low.1 ]
+    elim (cond-chosen (is_digit b) (cond (ltb m (found.0)) (Err Sample) (apart left found)) (Err Sample) (Err d) e) [
+      | inl w ↦ elim (cond-chosen (ltb m (found.0)) (Err Sample) (apart left found) (Err d) w.1) [ inl high ↦ err_is {A = ℕ × List ℕ} Sample d high.1 | inr low ↦ apart_fault left found d low.1 ]
       | inr w ↦ err_is {A = ℕ × List ℕ} Sample d w.1
     ]
 
@@ -395,7 +395,7 @@ place_refuses Place m left bytes after at_nil at_byte parts whole = record {
   refused = λ d e. failed bytes (skip_from false bytes) d (λ s rest is le. no_both (after (skip_from false bytes)) (s, rest) d (whole s rest is le) e) (skipped bytes) e;
   met = λ c r. elim r [
     | inl p ↦ (Short, p.0, ap after (spent_skipped bytes p.1) ∙ at_nil)
-    | inr q ↦ elim (either (after (skip_from false bytes))) [
+    | inr q ↦ elim (ok_or_err (after (skip_from false bytes))) [
       | inl x ↦ let g = parts x.0 x.1 in absurd (q.2 x.0.0 x.0.1 g.0 g.1)
       | inr d ↦ let s = shows_byte bytes q.1 in (d.0, ap code_of (sym (at_byte s.0 s.1 d.0 (ap after (sym s.2) ∙ d.1))) ∙ q.0, d.1)
     ]

@@ -11,6 +11,7 @@ use Rattle.mw_model.specs.NetpbmGrammar.{is_white}
 use Rattle.mw_model.specs.NetpbmGrammar.{bits_of}
 use Rattle.mw_netpbm.specs.Rasters.{grey8_at, grey16_at, words_of, row_bits, rows_bits, bits_at}
 use Rattle.mw_netpbm.specs.Plain.{plain_at, tail_at}
+use Rattle.mw_netpbm.proofs.Outcomes.{good}
 
 -- the value of a step that did not fail
 pub bind_ok : {A B : Type 0} (r : Result A ReadFault) (f : A → Result B ReadFault) (y : B) → (r >>= f) ≡ Ok y → (x : A) × (r ≡ Ok x) × (f x ≡ Ok y)
@@ -22,10 +23,7 @@ pub guard_ok : {A : Type 0} (b : Bool) (d : ReadFault) (r : Result A ReadFault) 
 guard_ok true d r y e = absurd cc
 guard_ok false d r y e = (refl, e)
 
-abbrev done : {A : Type 0} → A → Result A ReadFault
-done x = Ok x
-
-pub ok_is : {A : Type 0} (x y : A) → done x ≡ done y → x ≡ y
+pub ok_is : {A : Type 0} (x y : A) → good x ≡ good y → x ≡ y
 ok_is x y e = cc
 
 abbrev pub Within : ℕ → List ℕ → Type 0

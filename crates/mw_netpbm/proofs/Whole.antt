@@ -12,9 +12,9 @@ use Rattle.mw_netpbm.specs.Whole.{IsFit}
 use Rattle.mw_netpbm.proofs.Sides.{guard_ok, ok_is, grey8_ok, grey16_ok, bits_ok, plain_length, plain_within}
 
 -- the two cases of a choice
-pub chosen : {A : Type 0} (b : Bool) (x y z : A) → cond b x y ≡ z → ((b ≡ true) × (x ≡ z)) ⊎ ((b ≡ false) × (y ≡ z))
-chosen true x y z e = inl (refl, e)
-chosen false x y z e = inr (refl, e)
+pub cond-chosen : {A : Type 0} (b : Bool) (x y z : A) → cond b x y ≡ z → ((b ≡ true) × (x ≡ z)) ⊎ ((b ≡ false) × (y ≡ z))
+cond-chosen true x y z e = inl (refl, e)
+cond-chosen false x y z e = inr (refl, e)
 
 zero_or_one : (b : ℕ) → (eqb b 48 || eqb b 49) ≡ true → b - 48 ≤ 1
 zero_or_one b h = grind (arith, nat_tests)
@@ -23,7 +23,7 @@ bit_small : (bytes : List ℕ) (x : ℕ × List ℕ) → bit_at bytes ≡ Ok x �
 unfolding bit_at
 bit_small [] x e = absurd cc
 bit_small (b ∷ bs) x e =
-    elim (chosen (eqb b 48 || eqb b 49) (Ok (b - 48, bs)) (Err Sample) (Ok x) e) [
+    elim (cond-chosen (eqb b 48 || eqb b 49) (Ok (b - 48, bs)) (Err Sample) (Ok x) e) [
       | inl w ↦ let same = ok_is (b - 48, bs) x w.1 in subst (λ (y : ℕ × List ℕ). y.0 ≤ 1) same (zero_or_one b w.0)
       | inr w ↦ absurd (let clash : Err Sample ≡ Ok x = w.1 in cc)
     ]
@@ -33,7 +33,7 @@ unfolding apart
 apart_value zero found x e = ap (λ (y : ℕ × List ℕ). y.0) (ok_is found x e)
 apart_value (suc left) (n, []) x e = ap (λ (y : ℕ × List ℕ). y.0) (ok_is (n, []) x e)
 apart_value (suc left) (n, b ∷ bs) x e =
-    elim (chosen (is_white b) (Ok (n, b ∷ bs)) (Err Sample) (Ok x) e) [
+    elim (cond-chosen (is_white b) (Ok (n, b ∷ bs)) (Err Sample) (Ok x) e) [
       | inl w ↦ ap (λ (y : ℕ × List ℕ). y.0) (ok_is (n, b ∷ bs) x w.1)
       | inr w ↦ absurd (let clash : Err Sample ≡ Ok x = w.1 in cc)
     ]
@@ -43,7 +43,7 @@ unfolding level_at
 level_small maxval left [] x e = absurd cc
 level_small maxval left (b ∷ bs) x e =
     let d = digits_from 0 (b ∷ bs) in
-    elim (chosen (is_digit b) (cond (ltb maxval (d.0)) (Err Sample) (apart left d)) (Err Sample) (Ok x) e) [
+    elim (cond-chosen (is_digit b) (cond (ltb maxval (d.0)) (Err Sample) (apart left d)) (Err Sample) (Ok x) e) [
       | inl w ↦
           let g = guard_ok (ltb maxval (d.0)) Sample (apart left d) x w.1 in
           let low : d.0 ≤ maxval = ltb-false maxval (d.0) g.0 in

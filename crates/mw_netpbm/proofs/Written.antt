@@ -1,5 +1,5 @@
 -- What is written is a file of the image.
-use Rattle.std.proofs.Common.{◌≡◌, ℕ, zero, suc, ◌^◌, ◌<◌, Bool, true, ◌&&◌, List, [], ◌∷◌, length, IsTrue, refl, sym, subst, arith, rules}
+use Rattle.std.proofs.Common.{◌≡◌, ℕ, zero, suc, ◌^◌, ◌<◌, Bool, true, ◌&&◌, List, [], ◌∷◌, IsTrue, refl, sym, subst, arith, rules}
 use Rattle.std.specs.List.{AllByRecursion, flat_map}
 use Rattle.std.specs.Fmt.{decimal}
 use Rattle.std.proofs.lemmas.Bool.{le-ltb, lt-ltb, and_parts}
@@ -33,11 +33,8 @@ digits_each : (ds : List ℕ) → all_digits ds ≡ true → AllByRecursion (λ 
 digits_each [] e = tt
 digits_each (d ∷ ds) e = let h = and_parts (is_digit d) (all_digits ds) e in (h.0, digits_each ds h.1)
 
-decimal_some : (n : ℕ) → n < 2 ^ 64 → 0 < length (decimal n)
-decimal_some n lt = decimal_nonempty n lt
-
 decimal_number : (n : ℕ) → n < 2 ^ 64 → IsNumber (decimal n) n
-decimal_number n lt = record { some = decimal_some n lt; each = digits_each (decimal n) (digits_decimal own n lt); value = digits_value-decimal own n lt }
+decimal_number n lt = record { some = decimal_nonempty n lt; each = digits_each (decimal n) (digits_decimal own n lt); value = digits_value-decimal own n lt }
 
 field_of : (b n : ℕ) → is_white b ≡ true → n < 2 ^ 64 → IsField (b ∷ decimal n) n
 field_of b n w lt = record { first = b; blank = []; digits = decimal n; parts = refl; is_white = w; is_blank = nothing; is_number = decimal_number n lt }

@@ -1,7 +1,8 @@
 //! Plain rasters: samples as numbers between white space, pixels as single signs.
 
-ghost use Rattle.std.specs.Prelude.{◌≡◌, ◌≤◌, ◌↔◌, ℕ, ◌==◌, nat_lt, if◌then◌else◌, IfOk, IfSome, IsSome, map};
+ghost use Rattle.std.specs.Prelude.{◌≡◌, ◌≢◌, ◌≤◌, ◌↔◌, ℕ, ◌==◌, nat_lt, if◌then◌else◌, IfOk, IfSome, IsSome, Some, map, vec_capacity};
 ghost use Rattle.mw_model.specs.NetpbmGrammar.{IsSample};
+ghost use Rattle.mw_netpbm.specs.declared.fault.ReadFault.TheVariants.{Short};
 ghost use Rattle.mw_netpbm.specs.Reading.{seen, Gives, fault_of};
 ghost use Rattle.mw_netpbm.specs.Places.{ones_of, place_at, top_of};
 ghost use Rattle.mw_netpbm.specs.Short.{IsShort};
@@ -144,7 +145,8 @@ pub(crate) fn count_ones(places: Places, count: usize, bytes: &[u8]) -> Result<u
     Ok(ones)
 }
 
-/// What the places hold, or the first fault, in one pass over memory that was asked for ahead of it.
+/// What the places hold, or the first fault, in one pass over memory that was asked for ahead of it: as much as they
+/// take, and none for a raster that is too short.
 #[inline(always)]
 fn fill<P: Pixel>(
     alloc: Global,
@@ -152,8 +154,10 @@ fn fill<P: Pixel>(
     count: usize,
     bytes: &[u8],
 ) -> Result<Result<Vec<P>, ReadFault>, AllocError>
-    requires { top_of places ≤ P.top_level }
-    ensures { IfOk result (λ found. seen (λ v. map P.level v.items) found ≡ plain_at (place_at places) count bytes.now) }
+    requires fits { top_of places ≤ P.top_level }
+    requires long { fault_of (plain_at (place_at places) count bytes.now) ≢ Some Short }
+    ensures value { IfOk result (λ found. seen (λ v. map P.level v.items) found ≡ plain_at (place_at places) count bytes.now) }
+    ensures few { IfOk result (λ found. IfOk found (λ v. vec_capacity v ≤ count)) }
 {
     let mut out = Vec::with_capacity(alloc, count)?;
     let mut left = count;
@@ -163,7 +167,7 @@ fn fill<P: Pixel>(
         match place(places, left, rest) {
             Ok((s, after)) => {
                 let Some(p) = P::of(s) else { unreachable!() };
-                out.push(p)?;
+                out.push_reserved(p);
                 rest = after;
             }
             Err(fault) => return Ok(Err(fault)),

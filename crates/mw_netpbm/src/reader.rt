@@ -160,7 +160,8 @@ fn whole(alloc: Global, bytes: &[u8]) -> Result<Image, ReadFault>
     }
 }
 
-/// The picture in the raster that begins there, in the vector of the file.
+/// The picture in the raster that begins there, in the vector of the file. What stands before it is no longer than it is,
+/// so that no long comment stays in memory with a small picture.
 fn owned_raster(
     alloc: Global,
     head: &Header,
@@ -172,7 +173,7 @@ fn owned_raster(
     requires height { head.now.height ≤ 8192 }
     requires some { 1 ≤ head.now.maxval }
     requires maxval { head.now.maxval < 256 }
-    requires within { start ≤ length file.items }
+    requires short { 2 * start ≤ length file.items }
     ensures { Gives (λ i. i) result (image_at head.now (drop start file.items)) }
 {
     let width = head.width as u32;

@@ -1,6 +1,7 @@
 //! Writing an image.
 
 ghost use Rattle.std.specs.Prelude.{◌≡◌, ℕ, ◌≤◌, ◌<◌, ◌*◌, ◌^◌, ◌++◌, List, length, IfOk, OnOk, Ok, true, nat_lt, string_bytes, slice_index, ◌+◌, ◌-◌, ◌/◌};
+ghost use Rattle.mw_model.specs.declared.shapes.Kind.TheVariants as kind;
 ghost use Rattle.mw_model.specs.NetpbmWriting.{two_bytes, grey_raster, grey_header, byte_of, packed, packed_rows, set_header, text_of};
 ghost use Rattle.mw_pixel.specs.Images.{grey_of, set_of};
 ghost use Rattle.std.specs.List.{flat_map};
@@ -50,7 +51,8 @@ pub struct Text<'a> {
 }
 
 fn grey8(alloc: Global, plane: &Plane<u8>, maxval: u8) -> Result<Text<'_>, AllocError>
-    ensures { IfOk result (λ t. t.front.items ++ t.rest.now ≡ text_of (grey_of plane.now maxval)) }
+    ensures text { IfOk result (λ t. t.front.items ++ t.rest.now ≡ text_of (grey_of plane.now maxval)) }
+    ensures lent { IfOk result (λ t. t.rest.now ≡ plane.now.cells) }
 {
     let head = grey_head(alloc, plane.width(), plane.height(), u16::from(maxval))?;
     Ok(Text {
@@ -167,7 +169,8 @@ fn all_made(front: Vec<u8>) -> Text<'static>
 }
 
 fn made(alloc: Global, image: &Image) -> Result<Text<'_>, AllocError>
-    ensures { IfOk result (λ t. t.front.items ++ t.rest.now ≡ text_of image.now) }
+    ensures text { IfOk result (λ t. t.front.items ++ t.rest.now ≡ text_of image.now) }
+    ensures lent { image.now.kind ≡ kind.Grey → image.now.maxval ≤ 255 → IfOk result (λ t. t.rest.now ≡ image.now.samples) }
 {
     match image.view() {
         View::Bits(plane) => Ok(all_made(bits(alloc, plane)?)),
@@ -178,7 +181,8 @@ fn made(alloc: Global, image: &Image) -> Result<Text<'_>, AllocError>
 
 /// The one text of an image in two parts. Samples of one byte are not copied.
 pub fn parts(alloc: Global, image: &Image) -> Result<Text<'_>, NoMemory>
-    ensures { IfOk result (λ t. t.front.items ++ t.rest.now ≡ text_of image.now) }
+    ensures text { IfOk result (λ t. t.front.items ++ t.rest.now ≡ text_of image.now) }
+    ensures lent { image.now.kind ≡ kind.Grey → image.now.maxval ≤ 255 → IfOk result (λ t. t.rest.now ≡ image.now.samples) }
 {
     let text = made(alloc, image)?;
     Ok(text)

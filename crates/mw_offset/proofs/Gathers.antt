@@ -2,13 +2,13 @@
 use Rattle.std.proofs.Common.{◌≡◌, ◌⊎◌, ℕ, ◌+◌, ◌-◌, ◌*◌, ◌<◌, ◌≤◌, List, [], ◌∷◌, length, get_or, fold, cond, ltb, refl, ap, sym, arith, ◌∙◌, inl, inr}
 use Rattle.std.specs.List.{AllByRecursion}
 use Rattle.std.proofs.lemmas.Bool.{cases_lt, lt-ltb, le-ltb, le-leb, lt-leb}
+use Rattle.mw_facts.proofs.Alls.{all-weaker}
 use Rattle.mw_line.specs.Extrema.{strided}
 use Rattle.mw_line.proofs.Folds.{IsExtremum}
-use Rattle.mw_line.proofs.Joined.{joined}
+use Rattle.mw_line.proofs.Joined.{strided-joined}
 use Rattle.mw_run.specs.declared.runs.Run.{Run}
 use Rattle.mw_run.specs.declared.runs.Extent.{Extent}
 use Rattle.mw_run.specs.Runs.{start_of, HasRoom, sized, two_parts, gather}
-use Rattle.mw_run.proofs.RunLists.{all_weaker}
 
 -- what the runs of less than b offsets give
 abbrev pub gather_below : {A : Type 0} → (A → A → A) → A → (Run → A) → ℕ → List Run → A
@@ -19,19 +19,19 @@ gather_below f n value b (r ∷ rs) = cond (ltb r.count b) (f (value r) (gather_
 abbrev pub one_run : {A : Type 0} → (A → A → A) → (Run → A) → A → Run → A
 one_run f value best r = f best (value r)
 
-pub taken : {A : Type 0} (f : A → A → A) (n : A) (value : Run → A) (b : ℕ) (r : Run) (rs : List Run) → r.count < b → gather_below f n value b (r ∷ rs) ≡ f (value r) (gather_below f n value b rs)
-taken f n value b r rs lt = rw (lt-ltb r.count b lt) refl
+pub gather_below-taken : {A : Type 0} (f : A → A → A) (n : A) (value : Run → A) (b : ℕ) (r : Run) (rs : List Run) → r.count < b → gather_below f n value b (r ∷ rs) ≡ f (value r) (gather_below f n value b rs)
+gather_below-taken f n value b r rs lt = rw (lt-ltb r.count b lt) refl
 
-pub passed : {A : Type 0} (f : A → A → A) (n : A) (value : Run → A) (b : ℕ) (r : Run) (rs : List Run) → b ≤ r.count → gather_below f n value b (r ∷ rs) ≡ gather_below f n value b rs
-passed f n value b r rs le = rw (le-ltb r.count b le) refl
+pub gather_below-passed : {A : Type 0} (f : A → A → A) (n : A) (value : Run → A) (b : ℕ) (r : Run) (rs : List Run) → b ≤ r.count → gather_below f n value b (r ∷ rs) ≡ gather_below f n value b rs
+gather_below-passed f n value b r rs le = rw (le-ltb r.count b le) refl
 
 pub none_below_one : {A : Type 0} (f : A → A → A) (n : A) (value : Run → A) (runs : List Run) → AllByRecursion (λ (r : Run). 0 < r.count) runs → gather_below f n value 1 runs ≡ n
 none_below_one f n value [] all = refl
-none_below_one f n value (r ∷ rs) all = passed f n value 1 r rs (omega (arith, all.0)) ∙ none_below_one f n value rs all.1
+none_below_one f n value (r ∷ rs) all = gather_below-passed f n value 1 r rs (omega (arith, all.0)) ∙ none_below_one f n value rs all.1
 
 pub all_below : {A : Type 0} (f : A → A → A) (n : A) (value : Run → A) (b : ℕ) (runs : List Run) → AllByRecursion (λ (r : Run). r.count < b) runs → gather_below f n value b runs ≡ gather f n value runs
 all_below f n value b [] all = refl
-all_below f n value b (r ∷ rs) all = taken f n value b r rs all.0 ∙ ap (f (value r)) (all_below f n value b rs all.1)
+all_below f n value b (r ∷ rs) all = gather_below-taken f n value b r rs all.0 ∙ ap (f (value r)) (all_below f n value b rs all.1)
 
 sized_in : {A : Type 0} (s : ℕ) (step : A → Run → A) (best : A) (r : Run) → s ≤ r.count → r.count < 2 * s → sized s step best r ≡ step best r
 sized_in s step best r from to = rw (le-leb s r.count from, lt-ltb r.count (2 * s) to) refl
@@ -63,20 +63,20 @@ gather_more f laws n value s (r ∷ rs) = by_cases (gather_more f laws n value s
   where
     by_cases : fold (sized s (one_run f value)) (gather_below f n value s rs) rs ≡ gather_below f n value (2 * s) rs → (r.count < s) ⊎ (s ≤ r.count) → fold (sized s (one_run f value)) (sized s (one_run f value) (gather_below f n value s (r ∷ rs)) r) rs ≡ gather_below f n value (2 * s) (r ∷ rs)
     by_cases more (inl less) =
-        ap (λ (t : _). fold (sized s (one_run f value)) t rs) (sized_below s (one_run f value) (gather_below f n value s (r ∷ rs)) r less ∙ taken f n value s r rs less)
+        ap (λ (t : _). fold (sized s (one_run f value)) t rs) (sized_below s (one_run f value) (gather_below f n value s (r ∷ rs)) r less ∙ gather_below-taken f n value s r rs less)
         ∙ fold_sized_out f laws value s (value r) (gather_below f n value s rs) rs
         ∙ ap (f (value r)) more
-        ∙ sym (taken f n value (2 * s) r rs (omega arith))
+        ∙ sym (gather_below-taken f n value (2 * s) r rs (omega arith))
     by_cases more (inr from) = elim (cases_lt r.count (2 * s)) [
       | inl to ↦
-          ap (λ (t : _). fold (sized s (one_run f value)) t rs) (sized_in s (one_run f value) (gather_below f n value s (r ∷ rs)) r from to ∙ ap (λ (t : _). f t (value r)) (passed f n value s r rs from) ∙ laws.commutes (gather_below f n value s rs) (value r))
+          ap (λ (t : _). fold (sized s (one_run f value)) t rs) (sized_in s (one_run f value) (gather_below f n value s (r ∷ rs)) r from to ∙ ap (λ (t : _). f t (value r)) (gather_below-passed f n value s r rs from) ∙ laws.commutes (gather_below f n value s rs) (value r))
           ∙ fold_sized_out f laws value s (value r) (gather_below f n value s rs) rs
           ∙ ap (f (value r)) more
-          ∙ sym (taken f n value (2 * s) r rs to)
+          ∙ sym (gather_below-taken f n value (2 * s) r rs to)
       | inr above ↦
-          ap (λ (t : _). fold (sized s (one_run f value)) t rs) (sized_above s (one_run f value) (gather_below f n value s (r ∷ rs)) r from above ∙ passed f n value s r rs from)
+          ap (λ (t : _). fold (sized s (one_run f value)) t rs) (sized_above s (one_run f value) (gather_below f n value s (r ∷ rs)) r from above ∙ gather_below-passed f n value s r rs from)
           ∙ more
-          ∙ sym (passed f n value (2 * s) r rs above)
+          ∙ sym (gather_below-passed f n value (2 * s) r rs above)
     ]
 
 -- what is known of the doubled cells
@@ -97,7 +97,7 @@ parts_make_run f laws cells doubled s known n e wide count q best r lt room from
     ∙ ap (f best) (
     ap (λ (t : _). f t (get_or doubled (start + j + q) n)) (known.done (start + q) n (omega (arith, room.room)))
     ∙ ap (f (strided f cells n 1 (s - 1) (start + q))) (known.done (start + j + q) n (omega (arith, room.room)) ∙ ap (strided f cells n 1 (s - 1)) place)
-    ∙ joined f laws cells n 1 j (s - 1) (s - 1) (start + q) (omega (arith, known.positive)) (omega arith)
+    ∙ strided-joined f laws cells n 1 j (s - 1) (s - 1) (start + q) (omega (arith, known.positive)) (omega arith)
     ∙ ap (λ (t : ℕ). strided f cells n 1 t (start + q)) whole)
 
 pub fold_parts : {A : Type 0} (f : A → A → A) → IsExtremum f → (cells doubled : List A) (s : ℕ) → IsDoubled f cells doubled s → (n : A) (e : Extent) (wide count q : ℕ) → q < count → (best : A) (runs : List Run)
@@ -130,7 +130,7 @@ doubled_more f laws cells doubled made s left known room left-is size made-is = 
       made-is p d (omega arith)
       ∙ ap (λ (t : _). f t (get_or doubled (p + s) d)) (known.done p d (omega arith))
       ∙ ap (f (strided f cells d 1 (s - 1) p)) (known.done (p + s) d (omega arith) ∙ ap (strided f cells d 1 (s - 1)) (place p s))
-      ∙ joined f laws cells d 1 s (s - 1) (s - 1) p (omega (arith, known.positive)) (omega arith)
+      ∙ strided-joined f laws cells d 1 s (s - 1) (s - 1) p (omega (arith, known.positive)) (omega arith)
       ∙ ap (λ (t : ℕ). strided f cells d 1 t p) (whole known.positive);
 }
   where
@@ -146,7 +146,7 @@ run_value f cells n e wide q r = strided f cells n 1 (r.count - 1) (start_of e w
 
 pub none_gathered : {A : Type 0} (f : A → A → A) (n : A) (value : Run → A) (e : Extent) (wide count cells : ℕ) (runs : List Run) → AllByRecursion (HasRoom e wide count cells) runs → n ≡ gather_below f n value 1 runs
 none_gathered f n value e wide count cells runs rooms =
-    sym (none_below_one f n value runs (all_weaker (HasRoom e wide count cells) (λ (r : Run). 0 < r.count) runs (λ r room. room.inside.run.some) rooms))
+    sym (none_below_one f n value runs (all-weaker (HasRoom e wide count cells) (λ (r : Run). 0 < r.count) runs (λ r room. room.inside.run.some) rooms))
 
 -- the runs of s to 2 * s - 1 offsets are merged by two parts each
 pub gathered_more : {A : Type 0} (f : A → A → A) → IsExtremum f → (cells doubled : List A) (s : ℕ) → IsDoubled f cells doubled s → (n : A) (e : Extent) (wide count q : ℕ) → q < count → (best made : A) (runs : List Run)

@@ -1,6 +1,8 @@
+-- what other crates may cite
 pub mod Merges
 pub mod Rooms
 pub mod Gathers
 pub mod Seens
-pub mod Parts
-pub mod StripRows
+-- the crate's own
+mod Parts
+mod StripRows

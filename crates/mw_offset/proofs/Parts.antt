@@ -1,13 +1,12 @@
 -- Parts of runs, merged at their places.
-use Rattle.std.proofs.Common.{◌≡◌, ℕ, ◌+◌, ◌-◌, ◌*◌, ◌<◌, ◌≤◌, Bool, true, false, List, [], ◌∷◌, ◌++◌, length, take, drop, get_or, set, fold, flat_map, refl, ap, sym, arith, ◌∙◌, inl, inr, append_assoc, length-set, get_or-set_same, get_or-set_other}
+use Rattle.std.proofs.Common.{◌≡◌, ℕ, ◌+◌, ◌-◌, ◌*◌, ◌<◌, ◌≤◌, Bool, true, false, List, [], ◌∷◌, ◌++◌, length, take, get_or, set, fold, flat_map, refl, ap, sym, arith, ◌∙◌, inl, inr, length-set, get_or-set_same, get_or-set_other, append-nil}
 use Rattle.std.specs.List.{AllByRecursion}
 use Rattle.std.specs.Prelude.{nat_le, nat_lt, ◌&&◌, if◌then◌else◌}
-use Rattle.std.proofs.lemmas.Bool.{cases_lt, ltb-false, lt-ltb, le-ltb, le-leb, lt-leb}
-use Rattle.std.proofs.lemmas.List.{get_or-take, get_or-drop, take_more, get_or_default}
+use Rattle.std.proofs.lemmas.Bool.{cases_lt, ltb-false}
+use Rattle.std.proofs.lemmas.List.{take_more, get_or_default}
 use Rattle.std.proofs.lemmas.List.Concat.{flat_map-append, flat_map-cons}
 use Rattle.std.proofs.lemmas.List.Sums.{fold-append}
-use borrow.Rule.Slice.PartMut.{put_mid}
-use Rattle.mw_facts.proofs.Parts.{length-put_mid, get_or-put_mid_below as put_mid_below, get_or-put_mid_within as put_mid_at, get_or-put_mid_above as put_mid_above}
+use Rattle.mw_facts.proofs.Alls.{all-append}
 use Rattle.mw_line.proofs.Folds.{IsExtremum}
 use Rattle.mw_run.specs.declared.runs.Run.{Run}
 use Rattle.mw_run.specs.declared.runs.Extent.{Extent}
@@ -24,24 +23,6 @@ pub record PartsDone {A : Type 0} (value : A → ℕ → A → A) (at : ℕ) (ol
 
 pub parts_none : {A : Type 0} (value : A → ℕ → A → A) (old : List A) → PartsDone value 0 old old
 parts_none value old = record { within = omega arith; size = refl; done = λ q d lt. absurd (omega arith); rest = λ q d le. refl }
-
--- a block more
-pub parts_more : {A : Type 0} (value : A → ℕ → A → A) (at m count : ℕ) (old out made : List A) → m ≡ count → length made ≡ count → at + count ≤ length out
-    → ((x : ℕ) (d : A) → x < count → get_or made x d ≡ value d (at + x) (get_or (take m (drop at out)) x d)) → PartsDone value at old out → PartsDone value (at + count) old (put_mid at m out made)
-parts_more value at m count old out made m-is size room made-is before = record {
-  within = omega (arith, before.size);
-  size = length-put_mid at m out made (omega arith) (omega arith) ∙ before.size;
-  done = λ q d lt. elim (cases_lt q at) [
-    | inl early ↦ put_mid_below at m out made q d (omega arith) early ∙ before.done q d early
-    | inr late ↦
-        let on : at + (q - at) ≡ q = omega arith in
-        put_mid_at at m out made q d (omega arith) late (omega arith)
-        ∙ made-is (q - at) d (omega arith)
-        ∙ ap (λ (t : ℕ). value d t (get_or (take m (drop at out)) (q - at) d)) on
-        ∙ ap (value d q) (get_or-take m (drop at out) (q - at) d (omega arith) ∙ get_or-drop at out (q - at) d ∙ ap (λ (t : ℕ). get_or out t d) on ∙ before.rest q d late)
-  ];
-  rest = λ q d from. put_mid_above at m out made q d (omega arith) (omega arith) (omega arith) ∙ before.rest q d (omega arith);
-}
 
 -- a sample more
 pub parts_one : {A : Type 0} (value : A → ℕ → A → A) (at : ℕ) (old out : List A) (a v : A) → at < length out → a ≡ get_or out at a → ((d : A) → v ≡ value d at a) → PartsDone value at old out → PartsDone value (at + 1) old (set out at v)
@@ -79,42 +60,13 @@ merged_more f cells d at q j place places best found made lt place-is found-is m
     ∙ ap (λ (t : ℕ). f (fold (merge_from f cells d (at + q)) best (take j places)) (get_or cells (t + (at + q)) d)) place-is
     ∙ sym (fold_taken (merge_from f cells d (at + q)) best places j 0 lt)
 
--- the first samples of a block
-pub block_first : {A : Type 0} (block best : List A) (q : ℕ) (d : A) → best ≡ take (0 + 64 - 0) (drop 0 block) → q < 64 → get_or best q d ≡ get_or block q d
-block_first block best q d is lt =
-    let count : 0 + 64 - 0 ≡ 64 = omega arith in
-    ap (λ (t : List _). get_or t q d) is ∙ get_or-take (0 + 64 - 0) (drop 0 block) q d (omega arith) ∙ get_or-drop 0 block q d ∙ ap (λ (t : ℕ). get_or block t d) (let none : 0 + q ≡ q = omega arith in none)
-
--- a run too short or too long for the size has no places
-pub places_below : (e : Extent) (wide size : ℕ) (r : Run) → r.count < size → places_of e wide size r ≡ []
-places_below e wide size r lt = rw (lt-leb size r.count lt) refl
-
-pub places_above : (e : Extent) (wide size : ℕ) (r : Run) → size ≤ r.count → 2 * size ≤ r.count → places_of e wide size r ≡ []
-places_above e wide size r from above = rw (le-leb size r.count from, le-ltb r.count (2 * size) above) refl
-
-pub places_one : (e : Extent) (wide size : ℕ) (r : Run) → size ≤ r.count → r.count < 2 * size → r.count ≤ size → places_of e wide size r ≡ start_of e wide r ∷ []
-places_one e wide size r from to short = rw (le-leb size r.count from, lt-ltb r.count (2 * size) to, le-ltb size r.count short) refl
-
-pub places_two : (e : Extent) (wide size : ℕ) (r : Run) → size ≤ r.count → r.count < 2 * size → size < r.count → places_of e wide size r ≡ start_of e wide r ∷ ((start_of e wide r + (r.count - size)) ∷ [])
-places_two e wide size r from to long = rw (le-leb size r.count from, lt-ltb r.count (2 * size) to, lt-ltb size r.count long) refl
-
-pub two_added : (old mid new : List ℕ) (p q : ℕ) → mid ≡ old ++ p ∷ [] → new ≡ mid ++ q ∷ [] → new ≡ old ++ p ∷ (q ∷ [])
-two_added old mid new p q mid-is new-is = new-is ∙ ap (λ (t : List ℕ). t ++ q ∷ []) mid-is ∙ append_assoc old (p ∷ []) (q ∷ [])
-
-no_more : (ps : List ℕ) → ps ++ [] ≡ ps
-no_more [] = refl
-no_more (p ∷ ps) = ap (λ (t : List ℕ). p ∷ t) (no_more ps)
-
-pub none_added : (old none : List ℕ) → none ≡ [] → old ≡ old ++ none
-none_added old none is = sym (no_more old) ∙ ap (λ (t : List ℕ). old ++ t) (sym is)
-
 -- the places of one run more
 pub more_places : (e : Extent) (wide size : ℕ) (runs : List Run) (i : ℕ) (r : Run) (old new : List ℕ) → i < length runs → r ≡ get_or runs i r → new ≡ old ++ places_of e wide size r → old ≡ flat_map (places_of e wide size) (take i runs)
     → new ≡ flat_map (places_of e wide size) (take (i + 1) runs)
 more_places e wide size runs i r old new lt is new-is old-is =
     new-is
     ∙ ap (λ (t : List ℕ). t ++ places_of e wide size r) old-is
-    ∙ ap (λ (t : List ℕ). flat_map (places_of e wide size) (take i runs) ++ t) (sym (no_more (places_of e wide size r)) ∙ sym (flat_map-cons (places_of e wide size) r []))
+    ∙ ap (λ (t : List ℕ). flat_map (places_of e wide size) (take i runs) ++ t) (sym (append-nil (places_of e wide size r)) ∙ sym (flat_map-cons (places_of e wide size) r []))
     ∙ sym (flat_map-append (places_of e wide size) (take i runs) (r ∷ []))
     ∙ ap (λ (t : Run). flat_map (places_of e wide size) (take i runs ++ t ∷ [])) is
     ∙ ap (flat_map (places_of e wide size)) (sym (take_more runs i r lt))
@@ -144,17 +96,13 @@ places_are_parts f laws cells d e wide size q best (r ∷ rs) =
     either true = two_merged f laws cells d q (start_of e wide r) (start_of e wide r + (r.count - size)) best (nat_lt size r.count) (no_second (start_of e wide r) size r.count)
     either false = refl
 
-all_append : {B : Type 0} (P : B → Type 0) (xs ys : List B) → AllByRecursion P xs → AllByRecursion P ys → AllByRecursion P (xs ++ ys)
-all_append P [] ys all more = more
-all_append P (x ∷ xs) ys all more = (all.0, all_append P xs ys all.1 more)
-
 -- at each place there is room for all samples
 pub all_places : (e : Extent) (wide size n m : ℕ) (runs : List Run) → 0 < size → AllByRecursion (HasRoom e wide n m) runs → AllByRecursion (λ (p : ℕ). p + n ≤ m) (flat_map (places_of e wide size) runs)
 all_places e wide size n m [] some all = tt
 all_places e wide size n m (r ∷ rs) some all =
     let fits = all.0.room in
     rw (flat_map-cons (places_of e wide size) r rs)
-    (all_append (λ (p : ℕ). p + n ≤ m) (places_of e wide size r) (flat_map (places_of e wide size) rs)
+    (all-append (λ (p : ℕ). p + n ≤ m) (places_of e wide size r) (flat_map (places_of e wide size) rs)
     (either (λ (p : ℕ). p + n ≤ m) (start_of e wide r) (start_of e wide r + (r.count - size)) (nat_le size r.count && nat_lt r.count (2 * size)) (nat_lt size r.count) (omega arith) (omega arith)) (all_places e wide size n m rs some all.1))
   where
     either : (P : ℕ → Type 0) (x y : ℕ) (b c : Bool) → P x → P y → AllByRecursion P (if b then x ∷ (if c then y ∷ [] else []) else [])

@@ -5,20 +5,20 @@ use Rattle.std.proofs.Math.Nat.{mul-le-mul_left}
 use Rattle.std.proofs.lemmas.Int.{ints}
 use Rattle.std.proofs.lemmas.List.Elements.{filter_map-append}
 use Rattle.std.proofs.lemmas.List.Folds.{flat_map-map}
+use Rattle.mw_facts.proofs.Alls.{all-weaker}
 use Rattle.mw_model.specs.declared.places.Offset.{Offset}
 use Rattle.mw_model.specs.declared.places.Rect.{Rect}
 use Rattle.mw_model.specs.Places.{nonnegative}
 use Rattle.mw_model.specs.Rasters.{raster, cell_at, Sight, seen_under}
 use Rattle.mw_model.specs.Windows.{View, seen_at}
+use Rattle.mw_model.proofs.Nonnegative.{nonnegative_is}
 use Rattle.mw_lane.specs.Shifted.{merge_at}
 use Rattle.mw_line.specs.Extrema.{strided, over}
 use Rattle.mw_line.proofs.Folds.{IsExtremum, fold_both}
 use Rattle.mw_line.proofs.Over.{over_same, over_strided, fold_flat, those, fold_those, filter_map-flat}
-use Rattle.mw_run.proofs.Nonnegative.{nonnegative_is}
 use Rattle.mw_run.specs.declared.runs.Run.{Run}
 use Rattle.mw_run.specs.declared.runs.Extent.{Extent}
 use Rattle.mw_run.specs.Runs.{run_offsets, start_of, IsInside, HasRoom, gather}
-use Rattle.mw_run.proofs.RunLists.{all_weaker}
 use Rattle.mw_offset.proofs.Rooms.{one_less}
 
 -- the rows that the code lays out for a tile and an extent
@@ -48,7 +48,7 @@ run_room tile_width tile_height wide high e some wide-is high-is r inside =
 pub all_room : (tile_width tile_height wide high count cells : ℕ) (e : Extent) (runs : List Run) → 0 < tile_height → wide ≡ tile_width + nonnegative (e.right -ℤ e.left) → high ≡ tile_height + nonnegative (e.bottom -ℤ e.top)
     → count ≡ (tile_height - 1) * wide + tile_width → cells ≡ high * wide → AllByRecursion (IsInside e) runs → AllByRecursion (HasRoom e wide count cells) runs
 all_room tile_width tile_height wide high count cells e runs some wide-is high-is count-is cells-is all =
-    all_weaker (IsInside e) (HasRoom e wide count cells) runs (λ r inside. record { inside = inside; room = rw (count-is, cells-is) (run_room tile_width tile_height wide high e some wide-is high-is r inside) }) all
+    all-weaker (IsInside e) (HasRoom e wide count cells) runs (λ r inside. record { inside = inside; room = rw (count-is, cells-is) (run_room tile_width tile_height wide high e some wide-is high-is r inside) }) all
 
 -- what a run sees, place by place
 seen_run : {A : Type 0} (f : A → A → A) → IsExtremum f → (n : A) (sight : Sight A) (r : Run) (x y : ℕ) → 0 < r.count

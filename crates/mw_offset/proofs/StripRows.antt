@@ -27,7 +27,3 @@ rows_made_on value n w y h out part len part-is before = record {
   where
     ahead : (y m w x : ℕ) → (y + m) * w + x - y * w ≡ m * w + x
     ahead y m w x = omega arith
-
--- where a strip of a tile begins
-pub from_strip : (first y j : ℕ) → first + y + j ≡ first + (y + j)
-from_strip first y j = omega arith

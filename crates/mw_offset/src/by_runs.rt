@@ -137,6 +137,8 @@ pub(crate) fn extremum_by_runs<P: Pixel, E: Extremum<P>>(
     requires some { (0 < tile.width) × (0 < tile.height) }
     requires wide { extent.left ≤ℤ extent.right }
     requires high { extent.top ≤ℤ extent.bottom }
+    requires low { tile.height ≤ 2 ^ 17 }
+    requires few_rows { nonnegative (extent.bottom -ℤ extent.top) ≤ 1023 }
     ensures size { IfOk result (λ v. vec_len v ≡ tile.height * tile.width) }
     ensures cells { IfOk result (λ v. (x y : ℕ) → x < tile.width → y < tile.height → slice_index_or v.items (y * tile.width + x) neutral ≡ fold E.merge neutral (seen_under (seen_at window.now) (flat_map run_offsets runs.now) (tile.x + x) (tile.y + y))) }
 {

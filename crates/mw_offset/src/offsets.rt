@@ -1,7 +1,8 @@
 //! The extremum over a list of offsets: by horizontal runs, or, where these lie too far apart to be laid out around the
 //! tile, one row of the tile after another and in it one offset after another, each as a row of the window that is merged
 //! by vector code, shifted. What lies outside the window is no sample.
-ghost use Rattle.std.specs.Prelude.{◌≡◌, ℕ, ◌+◌, ◌*◌, ◌<◌, ◌≤◌, ◌^◌, pos, negsuc, ◌+ℤ◌, ◌-ℤ◌, ◌≤ℤ◌, length, slice_index_or, fold, vec_len, IfOk, IsTrue};
+ghost use Rattle.std.specs.Prelude.{◌≡◌, ℕ, ◌+◌, ◌*◌, ◌<◌, ◌≤◌, ◌^◌, pos, negsuc, ◌+ℤ◌, ◌-ℤ◌, ◌≤ℤ◌, length, slice_index_or, fold, vec_len, All, IfOk, IsTrue};
+ghost use Rattle.mw_model.specs.Places.{nonnegative};
 ghost use Rattle.mw_model.specs.Rasters.{Raster, cell_at, seen_under};
 ghost use Rattle.mw_model.specs.Windows.{seen_at};
 ghost use Rattle.mw_tile.specs.Windows.{IsWindow};
@@ -12,7 +13,7 @@ use crate::strips::extremum_by_strips;
 use mw_line::combine_window_row;
 use mw_model::{NoMemory, Offset, Rect};
 use mw_pixel::{Extremum, Pixel, Plane, copies};
-use mw_run::{Extent, extent_of, place_of, runs_of};
+use mw_run::{Extent, columns_after, extent_of, place_of, rows_after, runs_of};
 use mw_tile::Window;
 use std::alloc::Global;
 
@@ -74,18 +75,17 @@ fn combine_tile<P: Pixel, E: Extremum<P>>(
     }
 }
 
-/// Whether there are at most 1024 places from the first to the last.
-fn are_few(first: i32, last: i32) -> bool
-    ensures { IsTrue result → first ≤ℤ last }
-{
-    first <= last && i64::from(last) - i64::from(first) < 1024
-}
-
-/// Whether the columns and rows of an element are few enough to be laid out around a tile.
+/// Whether the columns and rows of an element are few enough to be laid out around a tile: at most 1024 each.
 fn is_near(extent: Extent) -> bool
-    ensures { IsTrue result → (extent.left ≤ℤ extent.right) × (extent.top ≤ℤ extent.bottom) }
+    ensures { IsTrue result → (extent.left ≤ℤ extent.right) × (extent.top ≤ℤ extent.bottom) × (nonnegative (extent.bottom -ℤ extent.top) ≤ 1023) }
 {
-    are_few(extent.left, extent.right) && are_few(extent.top, extent.bottom)
+    if extent.right < extent.left || extent.bottom < extent.top {
+        return false;
+    }
+    if columns_after(extent) >= 1024 || rows_after(extent) >= 1024 {
+        return false;
+    }
+    true
 }
 
 /// The samples of the tile, one offset after another.
@@ -136,7 +136,8 @@ fn extremum_samples<P: Pixel, E: Extremum<P>>(
 }
 
 /// The extremum of the neutral sample and what the window has under the element, at each place of the tile. Where the
-/// window has all that the frame has there, this is the extremum over the frame. It may want memory (`NoMemory`).
+/// window has all that the frame has there, this is the extremum over the frame. No sample is over the greatest of the
+/// neutral one and those of the window. It may want memory (`NoMemory`).
 pub fn extremum<P: Pixel, E: Extremum<P>>(
     alloc: Global,
     window: &Window<P>,
@@ -146,6 +147,7 @@ pub fn extremum<P: Pixel, E: Extremum<P>>(
 ) -> Result<Plane<P>, NoMemory>
     ensures over_window { IfOk result (λ r. IsSlidingExtremum E.merge neutral (seen_at window.now) offsets.now tile r) }
     ensures over_frame { IfOk result (λ r. (f : Raster P) → IsWindow window.now f offsets.now tile → IsSlidingExtremum E.merge neutral (cell_at f) offsets.now tile r) }
+    ensures small { (most : ℕ) → P.level neutral ≤ most → All (λ s. P.level s ≤ most) window.now.cells → IfOk result (λ r. All (λ s. P.level s ≤ most) r.cells) }
 {
     let samples = extremum_samples::<P, E>(alloc, window, offsets, neutral, tile)?;
     Ok(Plane::new(tile.width, tile.height, samples))

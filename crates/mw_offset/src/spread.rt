@@ -44,13 +44,13 @@ pub(crate) fn spread<P: Pixel, E: Extremum<P>>(
     high: usize,
     neutral: P,
 ) -> Result<Vec<P>, NoMemory>
-    requires few { high ≤ 2 ^ 40 }
+    requires few { high ≤ 2 ^ 20 }
+    requires narrow { wide ≤ 2 ^ 33 }
     requires near { row ≤ℤ pos (2 ^ 40) }
     ensures size { IfOk result (λ v. vec_len v ≡ high * wide) }
     ensures cells { IfOk result (λ v. (x y : ℕ) → x < wide → y < high → slice_index_or v.items (y * wide + x) neutral ≡ merge_at E.merge neutral (cell_at (raster window.now.place.width window.now.place.height window.now.cells) (column +ℤ pos x) (row +ℤ pos y))) }
 {
-    let count = high.checked_mul(wide).ok_or(NoMemory)?;
-    let mut cells = copies(alloc, count, neutral)?;
+    let mut cells = copies(alloc, high * wide, neutral)?;
     spread_rows::<P, E>(window, column, row, wide, high, cells.as_mut_slice());
     Ok(cells)
 }

@@ -1,8 +1,9 @@
 //! The extremum by runs, one strip of the tile's rows after another, so that the rows of a strip stay in the processor's
 //! cache from their spreading to their last merge. With passes over the whole tile, discs of 5 to 31 places took 1.3 to 2.3
 //! times as long on one tile of 4096 x 4096 samples.
-ghost use Rattle.std.specs.Prelude.{◌≡◌, ℕ, ◌+◌, ◌*◌, ◌<◌, ◌^◌, ◌≤ℤ◌, slice_index_or, fold, flat_map, vec_len, IfOk};
+ghost use Rattle.std.specs.Prelude.{◌≡◌, ℕ, ◌+◌, ◌*◌, ◌<◌, ◌≤◌, ◌^◌, ◌-ℤ◌, ◌≤ℤ◌, slice_index_or, fold, flat_map, vec_len, IfOk};
 ghost use Rattle.std.specs.List.{AllByRecursion};
+ghost use Rattle.mw_model.specs.Places.{nonnegative};
 ghost use Rattle.mw_model.specs.Rasters.{seen_under};
 ghost use Rattle.mw_model.specs.Windows.{seen_at};
 ghost use Rattle.mw_run.specs.Runs.{run_offsets, IsInside};
@@ -22,7 +23,9 @@ const SAMPLES: u32 = 131072;
 fn rows_of_strip(width: u32, extent: Extent) -> usize
     requires some { 0 < width }
     requires high { extent.top ≤ℤ extent.bottom }
-    ensures { 0 < result }
+    requires few_rows { nonnegative (extent.bottom -ℤ extent.top) ≤ 1023 }
+    ensures some { 0 < result }
+    ensures few { result ≤ 2 ^ 17 }
 {
     let in_cache = (SAMPLES / width) as usize;
     in_cache.max(32).max(rows_after(extent))
@@ -41,6 +44,7 @@ pub(crate) fn extremum_by_strips<P: Pixel, E: Extremum<P>>(
     requires some { (0 < tile.width) × (tile.y + tile.height < 2 ^ 32) }
     requires wide { extent.left ≤ℤ extent.right }
     requires high { extent.top ≤ℤ extent.bottom }
+    requires few_rows { nonnegative (extent.bottom -ℤ extent.top) ≤ 1023 }
     ensures size { IfOk result (λ v. vec_len v ≡ tile.height * tile.width) }
     ensures cells { IfOk result (λ v. (x y : ℕ) → x < tile.width → y < tile.height → slice_index_or v.items (y * tile.width + x) neutral ≡ fold E.merge neutral (seen_under (seen_at window.now) (flat_map run_offsets runs.now) (tile.x + x) (tile.y + y))) }
 {

@@ -2,5 +2,3 @@
 pub mod TileCells
 pub mod Patches
 pub mod Windows
-
--- the crate's own

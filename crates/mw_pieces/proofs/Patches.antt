@@ -1,10 +1,12 @@
 -- Windows in pieces: what they show, and how they are put together and compared.
-use Rattle.std.proofs.Common.{◌≡◌, ◌↔◌, ℕ, zero, suc, ◌+◌, ◌-◌, ◌*◌, ◌<◌, ◌≤◌, Bool, true, false, ◌&&◌, ◌||◌, cond, nat_le, nat_lt, List, [], ◌∷◌, ◌++◌, length, get_or, slice_get, slice_range, take, drop, Option, Some, None, unwrap_or, refl, sym, ap, subst, arith, rules, ◌∙◌, inl, inr, ◌⊎◌, length-append}
-use Rattle.std.specs.List.{AllByRecursion, list_any}
+use Rattle.std.proofs.Common.{◌≡◌, ℕ, ◌+◌, ◌-◌, ◌*◌, ◌<◌, ◌≤◌, Bool, true, false, ◌||◌, cond, List, [], ◌∷◌, ◌++◌, length, get_or, slice_get, slice_range, take, Option, Some, refl, sym, ap, subst, arith, rules, ◌∙◌, inl, inr, length-append}
+use Rattle.std.specs.List.{AllByRecursion}
 use Rattle.std.proofs.lemmas.Bool.{cases_lt}
 use Rattle.std.proofs.lemmas.Nat.{mul-add-lt}
 use Rattle.std.proofs.lemmas.Option.{slice_get-get_or}
-use Rattle.std.proofs.lemmas.List.{append_assoc, append-nil, get_or_default, take_all, take_more}
+use Rattle.std.proofs.lemmas.List.{append_assoc, get_or_default, take_more}
+use Rattle.std.proofs.Math.Arith.{digits_lt}
+use Rattle.std.proofs.Math.Nat.{sub-zero}
 use Rattle.mw_facts.proofs.Alls.{all-get_or, all-push, all-weaker}
 use Rattle.mw_facts.proofs.Elements.{slice_get-append_left, slice_get-append-add, same_elements}
 use Rattle.mw_model.specs.declared.places.Rect.{Rect}
@@ -12,7 +14,7 @@ use Rattle.mw_model.specs.Places.{Holds, IsWithin}
 use Rattle.mw_model.specs.Rasters.{Raster}
 use Rattle.mw_grid.specs.Rectangles.{whole_frame}
 use Rattle.mw_tile.proofs.Rows.{get_from_column}
-use Rattle.mw_pieces.specs.Patches.{Patch, patch_at, no_patch, cell_of, has_place, held_in, value_in, overlap_of, patch, IsFull, IsInside, IsPatchOf, ShowsIn, Covers, Joint, IsJoint, HasValues, HasRowMore, ShowsFrame, frame_value}
+use Rattle.mw_pieces.specs.Patches.{Patch, patch_at, no_patch, cell_of, has_place, held_in, value_in, overlap_of, patch, IsFull, IsInside, IsPatchOf, ShowsIn, Covers, Joint, IsJoint, HasRowMore, ShowsFrame, frame_value}
 
 -- ---- places of a rectangle
 
@@ -50,10 +52,6 @@ shows_of_values {A} value r ps all same = all-weaker (ShowsIn r (value_in ps)) (
 pub values_of_shows : {A : Type 0} (value : ℕ → ℕ → Option A) (r : Rect) (ps : List (Patch A)) → Covers r ps → AllByRecursion (ShowsIn r value) ps → (x y : ℕ) → Holds r x y → value_in ps x y ≡ value x y
 values_of_shows value r ps covers all x y holds = value_is value r ps x y all holds (covers x y holds)
 
--- a place in a rectangle, counted by its rows
-below : (w h i j : ℕ) → i < w → j < h → j * w + i < h * w
-below w h i j across down = omega (arith, mul-add-lt j w i h down across)
-
 -- a piece has a cell at each of its places
 pub cell_some : {A : Type 0} (p : Patch A) (x y : ℕ) → IsFull p → Holds p.place x y → (v : A) × (cell_of p x y ≡ Some v)
 cell_some p x y full holds =
@@ -61,7 +59,7 @@ cell_some p x y full holds =
     let b = holds.right in
     let c = holds.top in
     let d = holds.bottom in
-    found p.cells ((y - p.place.y) * p.place.width + (x - p.place.x)) (omega (arith, full, below p.place.width p.place.height (x - p.place.x) (y - p.place.y) (omega arith) (omega arith)))
+    found p.cells ((y - p.place.y) * p.place.width + (x - p.place.x)) (omega (arith, full, mul-add-lt (y - p.place.y) p.place.width (x - p.place.x) p.place.height (omega arith) (omega arith)))
   where
     found : {A : Type 0} (xs : List A) (i : ℕ) → i < length xs → (v : A) × (slice_get xs i ≡ Some v)
     found [] i lt = absurd (omega arith)
@@ -153,13 +151,7 @@ above_none r place value p r-is none x q first second =
 pub all_next : {A : Type 0} (P : A → Type 0) (xs : List A) (i : ℕ) (x : A) → i < length xs → x ≡ get_or xs i x → P x → AllByRecursion P (take i xs) → AllByRecursion P (take (i + 1) xs)
 all_next P xs i x lt is here before = subst (AllByRecursion P) (sym (take_more xs i x lt ∙ ap (λ (t : _). take i xs ++ t ∷ []) (sym is))) (all-push P (take i xs) x before here)
 
-pub all_whole : {A : Type 0} (P : A → Type 0) (xs : List A) (i : ℕ) → length xs ≤ i → AllByRecursion P (take i xs) → AllByRecursion P xs
-all_whole P xs i past all = subst (AllByRecursion P) (take_all i xs past) all
-
 -- ---- put together
-
-pub appends_none : {A : Type 0} (value : ℕ → ℕ → Option A) (x y n : ℕ) (old : List A) → n ≡ 0 → HasRowMore value x y n old old
-appends_none value x y n old e = record { row = []; is = sym (append-nil old); size = sym e; same = λ k lt. absurd (omega arith) }
 
 pub appends_more : {A : Type 0} (value : ℕ → ℕ → Option A) (x y at n m : ℕ) (old now part out : List A) → out ≡ now ++ part → x + n ≡ at → m ≡ n + length part → HasRowMore value x y n old now → RowIs value at y (length part) part → HasRowMore value x y m old out
 appends_more value x y at n m old now part out out-is at-is m-is before run = record {
@@ -185,17 +177,11 @@ pub record HasFirstRows {A : Type 0} (value : ℕ → ℕ → Option A) (r : Rec
   pub size : length cells ≡ y * r.width
   pub same : (i j : ℕ) → i < r.width → j < y → slice_get cells (j * r.width + i) ≡ value (r.x + i) (r.y + j)
 
-pub no_rows : {A : Type 0} (value : ℕ → ℕ → Option A) (r : Rect) (y : ℕ) → y ≡ 0 → HasFirstRows value r y []
-no_rows value r y e = record { size = none r.width y e; same = λ i j across down. absurd (omega arith) }
-  where
-    none : (n y : ℕ) → y ≡ 0 → 0 ≡ y * n
-    none n y e = rw e (grind arith)
-
 pub begins_more : {A : Type 0} (value : ℕ → ℕ → Option A) (r : Rect) (q y : ℕ) (now out : List A) → r.y + y ≡ q → HasFirstRows value r y now → HasRowMore value r.x q r.width now out → HasFirstRows value r (y + 1) out
 begins_more value r q y now out q-is before more = record {
   size = (let size = before.size in let len = more.size in omega (arith, ap length more.is, length-append now more.row, next y r.width));
   same = λ i j across down. elim (cases_lt j y) [
-    | inl early ↦ ap (λ (t : List _). slice_get t (j * r.width + i)) more.is ∙ slice_get-append_left now more.row (j * r.width + i) (let size = before.size in omega (arith, below r.width y i j across early)) ∙ before.same i j across early
+    | inl early ↦ ap (λ (t : List _). slice_get t (j * r.width + i)) more.is ∙ slice_get-append_left now more.row (j * r.width + i) (let size = before.size in omega (arith, digits_lt early across)) ∙ before.same i j across early
     | inr late ↦
         let j-is : j ≡ y = omega arith in
         rw j-is
@@ -206,9 +192,6 @@ begins_more value r q y now out q-is before more = record {
   where
     next : (y w : ℕ) → (y + 1) * w ≡ y * w + w
     next y w = grind arith
-
-pub rows_are_values : {A : Type 0} (value : ℕ → ℕ → Option A) (r : Rect) (y : ℕ) (cells : List A) → y ≡ r.height → HasFirstRows value r y cells → HasValues value r cells
-rows_are_values value r y cells y-is rows = record { size = rows.size ∙ ap (λ (t : ℕ). t * r.width) y-is; same = λ i j across down. rows.same i j across (omega arith) }
 
 -- the piece that was read at a number
 pub read_at : {A : Type 0} (ps qs : List (Patch A)) (k : ℕ) (p : Patch A) → qs ≡ ps → k < length ps → p ≡ get_or qs k p → p ≡ patch_at ps k
@@ -246,10 +229,7 @@ abbrev pub at_frame : {A : Type 0} → Rect → Raster A → ℕ → ℕ → Opt
 at_frame r f = cell_of (patch r f.cells)
 
 frame_is : {A : Type 0} (f : Raster A) (r : Rect) (x y : ℕ) → r ≡ whole_frame f.width f.height → at_frame r f x y ≡ frame_value f x y
-frame_is f r x y r-is = ap (λ (q : Rect). at_frame q f x y) r-is ∙ ap (λ (t : ℕ). slice_get f.cells (t * f.width + (x - 0))) (all y) ∙ ap (λ (t : ℕ). slice_get f.cells (y * f.width + t)) (all x)
-  where
-    all : (n : ℕ) → n - 0 ≡ n
-    all n = omega arith
+frame_is f r x y r-is = ap (λ (q : Rect). at_frame q f x y) r-is ∙ ap (λ (t : ℕ). slice_get f.cells (t * f.width + (x - 0))) (sub-zero y) ∙ ap (λ (t : ℕ). slice_get f.cells (y * f.width + t)) (sub-zero x)
 
 pub frame_at : (w h m n : ℕ) (r : Rect) → r ≡ whole_frame w h → w ≡ m → h ≡ n → r ≡ whole_frame m n
 frame_at w h m n r r-is w-is h-is = rw (← w-is, ← h-is) r-is

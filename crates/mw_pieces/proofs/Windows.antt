@@ -1,5 +1,5 @@
 -- Windows in pieces as windows of sources.
-use Rattle.std.proofs.Common.{◌≡◌, ◌↔◌, ℕ, ◌+◌, ◌-◌, ◌*◌, ◌<◌, ◌≤◌, List, length, get_or, slice_get, Option, Some, unwrap_or, refl, sym, ap, subst, arith, ◌∙◌}
+use Rattle.std.proofs.Common.{◌≡◌, ◌↔◌, ℕ, ◌+◌, ◌-◌, ◌*◌, ◌<◌, List, length, get_or, slice_get, Option, Some, unwrap_or, sym, ap, subst, arith, ◌∙◌}
 use Rattle.mw_model.specs.declared.places.Rect.{Rect}
 use Rattle.mw_model.specs.declared.shapes.Kind.{Kind}
 use Rattle.mw_model.specs.Places.{Holds, IsWithin}
@@ -18,15 +18,15 @@ use Rattle.mw_pieces.proofs.TileCells.{cells_in_are, cells_in_at, cells_in_same}
 abbrev pub source_window : Kind → ℕ → View ℕ → SourceWindow
 source_window k m w = record { kind = k; maxval = m; view = w }
 
-there : (o : Option ℕ) (v : ℕ) → o ≡ Some v → o ≡ Some (unwrap_or o 0)
-there o v e = e ∙ ap (λ (t : Option ℕ). Some (unwrap_or t 0)) (sym e)
+some-unwrap_or : (o : Option ℕ) (v : ℕ) → o ≡ Some v → o ≡ Some (unwrap_or o 0)
+some-unwrap_or o v e = e ∙ ap (λ (t : Option ℕ). Some (unwrap_or t 0)) (sym e)
 
 some_same : (v w : ℕ) → v ≡ w → Some v ≡ Some w
 some_same v w e = ap Some e
 
 -- a place of a rectangle
-at : (r : Rect) (i j : ℕ) → i < r.width → j < r.height → Holds r (r.x + i) (r.y + j)
-at r i j across down = record { left = omega arith; right = omega arith; top = omega arith; bottom = omega arith }
+Holds-at : (r : Rect) (i j : ℕ) → i < r.width → j < r.height → Holds r (r.x + i) (r.y + j)
+Holds-at r i j across down = record { left = omega arith; right = omega arith; top = omega arith; bottom = omega arith }
 
 -- pieces that show what an image has are its window
 pub window_is : (k : Kind) (m : ℕ) (j : Joint ℕ) (r : Rect) (f : Picture) → f.kind ≡ k → f.maxval ≡ m → length f.samples ≡ f.height * f.width → IsWithin r f.width f.height → j.place ≡ r → ShowsFrame (raster_of f) j → source_joint k m j ≡ window_of r f
@@ -43,7 +43,7 @@ window_is k m j r f kind-is maxval-is size within place-is shows =
         let wide = within.across in
         let high = within.down in
         ap (λ (o : Option ℕ). unwrap_or o 0)
-        (shows.same (r.x + i) (r.y + q) (subst (λ (s : Rect). Holds s (r.x + i) (r.y + q)) (sym place-is) (at r i q across down)) ∙ slice_get-samples f size (r.x + i) (r.y + q) (omega arith) (omega arith))
+        (shows.same (r.x + i) (r.y + q) (subst (λ (s : Rect). Holds s (r.x + i) (r.y + q)) (sym place-is) (Holds-at r i q across down)) ∙ slice_get-samples f size (r.x + i) (r.y + q) (omega arith) (omega arith))
 
 -- the level at a place, off the window's cells
 level_at : (j : Joint ℕ) (f : Picture) (x y : ℕ) → cells_in j.place (level_in j) ≡ cells_in j.place (sample f) → Holds j.place x y → level_in j x y ≡ sample f x y
@@ -79,7 +79,7 @@ window_shows k m j r f joint size e =
           let high = joint.within.down in
           let right = holds.right in
           let bottom = holds.bottom in
-          there (value_in j.pieces x y) found.0 found.1 ∙ some_same (level_in j x y) (sample f x y) (level_at j f x y cells holds) ∙ sym (slice_get-samples f size x y (omega arith) (omega arith));
+          some-unwrap_or (value_in j.pieces x y) found.0 found.1 ∙ some_same (level_in j x y) (sample f x y) (level_at j f x y cells holds) ∙ sym (slice_get-samples f size x y (omega arith) (omega arith));
     }
 
 -- a window that was put together is that of the pieces
@@ -92,8 +92,8 @@ joined_is k m j w joint joined =
   where
     each : (i q : ℕ) → i < j.place.width → q < j.place.height → slice_get w.cells (q * j.place.width + i) ≡ Some (level_in j (j.place.x + i) (j.place.y + q))
     each i q across down =
-        let found = value_some j.frame_width j.frame_height j.pieces (j.place.x + i) (j.place.y + q) joint.patches (joint.covers (j.place.x + i) (j.place.y + q) (at j.place i q across down)) in
-        joined.values.same i q across down ∙ there (value_in j.pieces (j.place.x + i) (j.place.y + q)) found.0 found.1
+        let found = value_some j.frame_width j.frame_height j.pieces (j.place.x + i) (j.place.y + q) joint.patches (joint.covers (j.place.x + i) (j.place.y + q) (Holds-at j.place i q across down)) in
+        joined.values.same i q across down ∙ some-unwrap_or (value_in j.pieces (j.place.x + i) (j.place.y + q)) found.0 found.1
 
 -- pieces that stand in the rectangle are the window of an image exactly where they show what it has
 pub window_matches : (k : Kind) (m : ℕ) (j : Joint ℕ) (r : Rect) (f g : Picture) (s : SourceWindow) (P : Type 0) → IsJoint j → f ≡ g → length f.samples ≡ f.height * f.width → IsWithin r f.width f.height → g.kind ≡ k → g.maxval ≡ m → s ≡ source_joint k m j → s.view.place ≡ r

@@ -1,5 +1,5 @@
 -- Windows as the pieces of a frame that they are made of (own).
-use Rattle.std.specs.Prelude.{◌≡◌, ℕ, ◌+◌, ◌-◌, ◌*◌, ◌<◌, ◌≤◌, Bool, true, false, ◌&&◌, nat_le, nat_lt, min, max, cond, List, [], ◌∷◌, ◌++◌, length, Option, None, slice_get, slice_index_or}
+use Rattle.std.specs.Prelude.{◌≡◌, ℕ, ◌+◌, ◌-◌, ◌*◌, ◌<◌, ◌≤◌, Bool, true, ◌&&◌, nat_le, nat_lt, min, max, cond, List, [], ◌∷◌, ◌++◌, length, Option, None, slice_get, slice_index_or}
 use Rattle.std.specs.List.{AllByRecursion, list_any}
 use Rattle.mw_model.specs.declared.places.Rect.{Rect}
 use Rattle.mw_model.specs.Places.{rect, Holds, IsWithin}

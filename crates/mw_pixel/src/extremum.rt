@@ -1,6 +1,6 @@
 //! Extrema of samples: of two, and of 64 pairs at once.
 
-ghost use Rattle.std.specs.Prelude.{◌≡◌, ◌≤◌, length};
+ghost use Rattle.std.specs.Prelude.{◌≡◌, ℕ, ◌≤◌, length};
 ghost use lib.Lanes.{zip2};
 
 use crate::Pixel;
@@ -36,4 +36,6 @@ pub trait Extremum<P: Pixel> {
     ghost is_idempotent: { (a : P) → merge a a ≡ a };
 
     ghost neutral_changes_none: { (m s : P) → P.level s ≤ P.level m → merge (neutral_of m) s ≡ s };
+
+    ghost stays_within: { (a b : P) (most : ℕ) → P.level a ≤ most → P.level b ≤ most → P.level (merge a b) ≤ most };
 }

@@ -25,6 +25,8 @@ impl Extremum<u8> for Min {
 
     ghost neutral_changes_none = { λ m s h. Prim.omega arith };
 
+    ghost stays_within = { λ a b most p q. Prim.omega arith };
+
     #[inline(always)]
     fn combine(a: u8, b: u8) -> u8 {
         a.min(b)
@@ -59,6 +61,8 @@ impl Extremum<u16> for Min {
 
     ghost neutral_changes_none = { λ m s h. Prim.omega arith };
 
+    ghost stays_within = { λ a b most p q. Prim.omega arith };
+
     #[inline(always)]
     fn combine(a: u16, b: u16) -> u16 {
         a.min(b)
@@ -92,6 +96,8 @@ impl Extremum<Bit> for Min {
     ghost is_idempotent = { λ a. Prim.omega arith };
 
     ghost neutral_changes_none = { λ m s h. Prim.omega arith };
+
+    ghost stays_within = { λ a b most p q. Prim.omega arith };
 
     #[inline(always)]
     fn combine(a: Bit, b: Bit) -> Bit {

@@ -1,6 +1,6 @@
 //! Rectangles of samples.
 
-ghost use Rattle.std.specs.Prelude.{◌≡◌, ◌↔◌, ◌+◌, ◌*◌, ◌<◌, ◌≤◌, length, replicate, slice_get, slice_range, vec_len, Some, IfOk, IsTrue};
+ghost use Rattle.std.specs.Prelude.{◌≡◌, ◌↔◌, ◌+◌, ◌*◌, ◌<◌, ◌≤◌, length, replicate, slice_get, slice_range, vec_len, Some, IfOk, IsOk, IsTrue, MatchResult};
 ghost use Rattle.mw_model.specs.Rasters.{raster};
 ghost use Rattle.mw_pixel.specs.Planes.{put_at};
 
@@ -40,9 +40,10 @@ impl<P: Pixel> Plane<P> {
         }
     }
 
-    /// A plane with one sample everywhere. It may want memory (`NoMemory`).
+    /// A plane with one sample everywhere. It may want memory (`NoMemory`), but none for no samples.
     pub fn filled(alloc: Global, width: u32, height: u32, sample: P) -> Result<Plane<P>, NoMemory>
-        ensures { IfOk result (λ p. p ≡ raster width height (replicate (height * width) sample)) }
+        ensures value { IfOk result (λ p. p ≡ raster width height (replicate (height * width) sample)) }
+        ensures nothing { height * width ≡ 0 → IsOk result }
     {
         let samples = copies(alloc, height as usize * width as usize, sample)?;
         Ok(Plane::new(width, height, samples))
@@ -138,10 +139,13 @@ fn write_over<P: Pixel>(to: &mut [P], start: usize, row: &[P])
     to[start..start + row.len()].copy_from_slice(row);
 }
 
-/// So many copies of a sample.
+/// So many copies of a sample. It may want memory (`NoMemory`), but never for none of them.
 pub fn copies<P: Pixel>(alloc: Global, count: usize, sample: P) -> Result<Vec<P>, NoMemory>
-    ensures { IfOk result (λ v. v.items ≡ replicate count sample) }
+    ensures { MatchResult result (λ v. v.items ≡ replicate count sample) (λ _. 0 < count) }
 {
+    if count == 0 {
+        return Ok(Vec::new(alloc));
+    }
     let samples = vec![in alloc; sample; count]?;
     Ok(samples)
 }

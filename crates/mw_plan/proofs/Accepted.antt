@@ -19,7 +19,7 @@ use Rattle.mw_model.specs.Refusals.{Table, Wanted, AnImage, AnElement, first_of,
 use Rattle.mw_model.specs.Stands.{Agrees}
 use Rattle.mw_model.specs.Values.{Value, ImageValue, ElementValue, CurveValue, offsets_of, option_list, tickets, value_at}
 use Rattle.mw_laws.specs.MachineLaws.{IsSound, WithinLimits, shape_of_value}
-use Rattle.mw_laws.proofs.RunShapes.{image_value}
+use Rattle.mw_laws.proofs.RunShapes.{image_value, no_element}
 use Rattle.mw_laws.proofs.RunTables.{first_none, is_known, ticket_is, ticket_within, when_so}
 use Rattle.mw_plan.specs.declared.faults.PlanFault.{PlanFault}
 use Rattle.mw_plan.specs.declared.inputs.Input.{Input}
@@ -91,11 +91,6 @@ figure_is (Some (ImageValue f)) b is = absurd cc
 figure_is (Some (ElementValue d)) b is = cc
 figure_is (Some (CurveValue ns)) b is = absurd cc
 
-image_no_element : (s : Shape) → is_image s ≡ true → is_element s ≡ false
-image_no_element (shape.Image k w h m) image = refl
-image_no_element (shape.Element w h) image = absurd cc
-image_no_element (shape.Curve n) image = refl
-
 curve_value : (v : Option Value) (n : ℕ) → option_map shape_of_value v ≡ Some (shape.Curve n) → (numbers : List ℕ) × (v ≡ Some (CurveValue numbers))
 curve_value None n is = absurd cc
 curve_value (Some (ImageValue f)) n is = absurd cc
@@ -115,7 +110,7 @@ found w kept values n t (input.Image s) are usable at =
     let image = image_value (value_at values t) s (are.shapes t usable.within ∙ ap (λ (r : Shape). Some r) at.0) at.1 in
     record {
       tells = at;
-      offsets = no_offsets (value_at kept t) (shape_at w.submissions t) (λ v. shape_kept w kept values t v are usable.within) (image_no_element (shape_at w.submissions t) (ap is_image at.0 ∙ at.1));
+      offsets = no_offsets (value_at kept t) (shape_at w.submissions t) (λ v. shape_kept w kept values t v are usable.within) (no_element (shape_at w.submissions t) (ap is_image at.0 ∙ at.1));
       value = (image.0, image.1, subst WithinLimits image.1 (are.limits t usable.within), sym image.2);
     }
 found w kept values n t (input.Element e) are usable at =
@@ -139,8 +134,8 @@ record IsTaken (w : Table) (kept values : List (Option Value)) (x : Wanted) (i :
   ticket : ticket_wanted w x ≡ Some entry.number
   value : IsValueOf i (value_at values entry.number)
 
-taken : (w : Table) (kept values : List (Option Value)) (x : Wanted) (i : Input) → AreValuesAt w kept values → wanted_case w x ≡ None → IsInputOf w kept (ticket_wanted w x) i → IsTaken w kept values x i
-taken w kept values x i are none at =
+IsInputOf-taken : (w : Table) (kept values : List (Option Value)) (x : Wanted) (i : Input) → AreValuesAt w kept values → wanted_case w x ≡ None → IsInputOf w kept (ticket_wanted w x) i → IsTaken w kept values x i
+IsInputOf-taken w kept values x i are none at =
     let entry = usable_wanted w x none in
     let t = entry.0 in
     let n = name_wanted x in
@@ -185,16 +180,16 @@ few_wanted (op.Gran (gran.Spectrum f e levels)) = omega arith
 all_taken : (w : Table) (kept values : List (Option Value)) (xs : List Wanted) (a b c : Input) → length xs ≤ 3 → AreValuesAt w kept values → first_of (map (wanted_case w) xs) ≡ None → AreInputsOf w kept (inputs_from w xs) a b c
     → AreTaken w kept values xs (a ∷ b ∷ c ∷ [])
 all_taken w kept values [] a b c few are none at = tt
-all_taken w kept values (x ∷ []) a b c few are none at = (taken w kept values x a are (first_none (wanted_case w x) _ none).0 at.first, tt)
+all_taken w kept values (x ∷ []) a b c few are none at = (IsInputOf-taken w kept values x a are (first_none (wanted_case w x) _ none).0 at.first, tt)
 all_taken w kept values (x ∷ y ∷ []) a b c few are none at =
     let one = first_none (wanted_case w x) _ none in
     let two = first_none (wanted_case w y) _ one.1 in
-    (taken w kept values x a are one.0 at.first, (taken w kept values y b are two.0 at.second, tt))
+    (IsInputOf-taken w kept values x a are one.0 at.first, (IsInputOf-taken w kept values y b are two.0 at.second, tt))
 all_taken w kept values (x ∷ y ∷ z ∷ []) a b c few are none at =
     let one = first_none (wanted_case w x) _ none in
     let two = first_none (wanted_case w y) _ one.1 in
     let three = first_none (wanted_case w z) _ two.1 in
-    (taken w kept values x a are one.0 at.first, (taken w kept values y b are two.0 at.second, (taken w kept values z c are three.0 at.third, tt)))
+    (IsInputOf-taken w kept values x a are one.0 at.first, (IsInputOf-taken w kept values y b are two.0 at.second, (IsInputOf-taken w kept values z c are three.0 at.third, tt)))
 all_taken w kept values (x ∷ y ∷ z ∷ u ∷ xs) a b c few are none at = absurd (omega arith)
 
 are_entries : (w : Table) (kept values : List (Option Value)) (xs : List Wanted) (is : List Input) → AreTaken w kept values xs is → AreEntries w kept xs is

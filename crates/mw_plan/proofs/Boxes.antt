@@ -1,17 +1,17 @@
 -- Full rectangles cover what their boxes cover, turned round or not.
-use Rattle.std.proofs.Common.{◌≡◌, ℕ, suc, List, [], ◌∷◌, ℤ, pos, ◌+ℤ◌, ◌≤ℤ◌, neg_ℤ, refl, sym, subst, arith, inl, inr}
+use Rattle.std.proofs.Common.{◌≡◌, ℕ, List, [], ◌∷◌, ℤ, pos, ◌+ℤ◌, ◌≤ℤ◌, neg_ℤ, refl, sym, subst, arith, inl, inr}
 use Rattle.std.specs.List.{AllByRecursion, Contains}
 use Rattle.std.proofs.lemmas.Int.{ints}
+use Rattle.mw_facts.proofs.Alls.{all-each_contained, all-contains}
 use Rattle.mw_model.specs.declared.places.Offset.{Offset}
 use Rattle.mw_model.specs.declared.places.OffsetBox.{OffsetBox}
 use Rattle.mw_model.specs.Places.{box_offsets}
 use Rattle.mw_model.specs.Flat.{negated}
 use Rattle.mw_model.specs.Elements.{IsNear, IsFigure, Figure}
 use Rattle.mw_model.proofs.Covers as cover
-use Rattle.mw_model.proofs.Covers.{Covers}
+use Rattle.mw_model.proofs.Covers.{Covers, offset}
 use Rattle.mw_element.specs.Figures.{FillsBox, InBox, turned}
 use Rattle.mw_laws.proofs.Composed.{CoverSame}
-use Rattle.mw_task.proofs.AllOf.{all_at}
 use Rattle.mw_task.proofs.Boxes.{box_all, box_at}
 use Rattle.mw_plan.specs.Steps.{IsNearBox, turned_box}
 
@@ -19,45 +19,38 @@ use Rattle.mw_plan.specs.Steps.{IsNearBox, turned_box}
 abbrev pub Leads : Offset → ℕ → ℕ → ℕ → ℕ → Type 0
 Leads b x y u v = (pos x +ℤ b.dx ≡ pos u) × (pos y +ℤ b.dy ≡ pos v)
 
-each_contained : {A : Type 0} (P : A → Type 0) (xs : List A) → ((x : A) → Contains xs x → P x) → AllByRecursion P xs
-each_contained P [] each = tt
-each_contained P (x ∷ xs) each = (each x (0, omega arith, refl), each_contained P xs (λ y has. each y (suc has.0, (let lt = has.1 in omega arith), has.2)))
-
-contained : {A : Type 0} (P : A → Type 0) (xs : List A) (x : A) → AllByRecursion P xs → Contains xs x → P x
-contained P xs x all has = subst P has.2 (all_at P xs has.0 x has.1 all)
-
 -- an offset of the list by which it covers
 pub record Way (Q : Offset → Type 0) (x y u v : ℕ) : Type 0 where
   pub by : Offset
   pub leads : Leads by x y u v
   pub holds : Q by
 
-way : (Q : Offset → Type 0) (bs : List Offset) (x y u v : ℕ) → AllByRecursion Q bs → Covers bs x y u v → Way Q x y u v
-way Q [] x y u v all c = absurd c
-way Q (b ∷ bs) x y u v all (inl e) = record { by = b; leads = e; holds = all.0 }
-way Q (b ∷ bs) x y u v all (inr c) = way Q bs x y u v all.1 c
+Covers-way : (Q : Offset → Type 0) (bs : List Offset) (x y u v : ℕ) → AllByRecursion Q bs → Covers bs x y u v → Way Q x y u v
+Covers-way Q [] x y u v all c = absurd c
+Covers-way Q (b ∷ bs) x y u v all (inl e) = record { by = b; leads = e; holds = all.0 }
+Covers-way Q (b ∷ bs) x y u v all (inr c) = Covers-way Q bs x y u v all.1 c
 
-members : (bs cs : List Offset) (x y u v : ℕ) → (Covers bs x y u v → Covers cs x y u v) → AllByRecursion (λ b. Leads b x y u v → Covers cs x y u v) bs
-members [] cs x y u v into = tt
-members (b ∷ bs) cs x y u v into = ((λ leads. into (inl leads)), members bs cs x y u v (λ c. into (inr c)))
+Covers-members : (bs cs : List Offset) (x y u v : ℕ) → (Covers bs x y u v → Covers cs x y u v) → AllByRecursion (λ b. Leads b x y u v → Covers cs x y u v) bs
+Covers-members [] cs x y u v into = tt
+Covers-members (b ∷ bs) cs x y u v into = ((λ leads. into (inl leads)), Covers-members bs cs x y u v (λ c. into (inr c)))
 
 -- an offset of the element, or of the box, covers where it leads
 pub element_covers : (e : List Offset) (b : Offset) (x y u v : ℕ) → Contains e b → Leads b x y u v → Covers e x y u v
-element_covers e b x y u v has = contained (λ b. Leads b x y u v → Covers e x y u v) e b (members e e x y u v (λ c. c)) has
+element_covers e b x y u v has = all-contains (λ b. Leads b x y u v → Covers e x y u v) e b (Covers-members e e x y u v (λ c. c)) has
 
 box_covers : (box : OffsetBox) (b : Offset) (x y u v : ℕ) → InBox box b → Leads b x y u v → Covers (box_offsets box) x y u v
-box_covers box b x y u v inside = box_at (λ b. Leads b x y u v → Covers (box_offsets box) x y u v) box (members (box_offsets box) (box_offsets box) x y u v (λ c. c)) b inside
+box_covers box b x y u v inside = box_at (λ b. Leads b x y u v → Covers (box_offsets box) x y u v) box (Covers-members (box_offsets box) (box_offsets box) x y u v (λ c. c)) b inside
 
-of_box : (box : OffsetBox) (x y u v : ℕ) → Covers (box_offsets box) x y u v → Way (InBox box) x y u v
-of_box box x y u v c = way (InBox box) (box_offsets box) x y u v (box_all (InBox box) box (λ b inside. inside)) c
+box-way : (box : OffsetBox) (x y u v : ℕ) → Covers (box_offsets box) x y u v → Way (InBox box) x y u v
+box-way box x y u v c = Covers-way (InBox box) (box_offsets box) x y u v (box_all (InBox box) box (λ b inside. inside)) c
 
-pub of_element : (e : List Offset) (x y u v : ℕ) → Covers e x y u v → Way (Contains e) x y u v
-of_element e x y u v c = way (Contains e) e x y u v (each_contained (Contains e) e (λ b has. has)) c
+pub element-way : (e : List Offset) (x y u v : ℕ) → Covers e x y u v → Way (Contains e) x y u v
+element-way e x y u v c = Covers-way (Contains e) e x y u v (all-each_contained (Contains e) e (λ b has. has)) c
 
 pub box_same : (box : OffsetBox) (e : List Offset) → FillsBox box e → CoverSame (box_offsets box) e
 box_same box e fills = record {
-  to = λ x y u v c. let w = of_box box x y u v c in element_covers e w.by x y u v ((fills w.by).1 w.holds) w.leads;
-  from = λ x y u v c. let w = of_element e x y u v c in box_covers box w.by x y u v ((fills w.by).0 w.holds) w.leads;
+  to = λ x y u v c. let w = box-way box x y u v c in element_covers e w.by x y u v ((fills w.by).1 w.holds) w.leads;
+  from = λ x y u v c. let w = element-way e x y u v c in box_covers box w.by x y u v ((fills w.by).0 w.holds) w.leads;
 }
 
 in_turned : (box : OffsetBox) (b : Offset) → InBox box b → InBox (turned_box box) (turned b)
@@ -85,22 +78,19 @@ leads_back b x y u v h = (back x u b.dx h.0, back y v b.dy h.1)
 pub turned_same : (box : OffsetBox) (e : List Offset) → FillsBox box e → CoverSame (box_offsets (turned_box box)) (negated e)
 turned_same box e fills = record {
   to = λ x y u v c.
-      let w = of_box (turned_box box) x y u v c in
-      cover.turned e u v x y (element_covers e (turned w.by) u v x y ((fills (turned w.by)).1 (in_box box w.by w.holds)) (leads_back w.by x y u v w.leads));
+      let w = box-way (turned_box box) x y u v c in
+      cover.negated-IsTurned e u v x y (element_covers e (turned w.by) u v x y ((fills (turned w.by)).1 (in_box box w.by w.holds)) (leads_back w.by x y u v w.leads));
   from = λ x y u v c.
-      let w = of_element e u v x y (cover.turned_back e x y u v c) in
+      let w = element-way e u v x y (cover.turned_back e x y u v c) in
       box_covers (turned_box box) (turned w.by) x y u v (in_turned box w.by ((fills w.by).0 w.holds)) (leads_back w.by u v x y w.leads);
 }
-
-abbrev offset : ℤ → ℤ → Offset
-offset x y = record { dx = x; dy = y }
 
 -- the bounds of a full rectangle are those of its offsets
 pub near_box : (box : OffsetBox) (f : Figure) → IsFigure f → FillsBox box f.offsets → IsNearBox box
 near_box box f figure fills = go f.offsets refl
   where
     near : (b : Offset) → InBox box b → IsNear b
-    near b inside = contained IsNear f.offsets b figure.near ((fills b).1 inside)
+    near b inside = all-contains IsNear f.offsets b figure.near ((fills b).1 inside)
 
     within : (b : Offset) → InBox box b → IsNearBox box
     within b inside =

@@ -18,11 +18,11 @@ length-planes_from (s ∷ ss) images made width height =
     omega (arith, length-planes_from ss images (made ++ next s images made width height ∷ []) width height, length-append made (next s images made width height ∷ []))
 
 -- what was made before stays
-before : (plan : Plan) (images made : List Picture) (width height i : ℕ) → i < length made → slice_index_or (planes_from plan images made width height) i no_picture ≡ slice_index_or made i no_picture
-before [] images made width height i lt = refl
-before (s ∷ ss) images made width height i lt =
+planes_from-before : (plan : Plan) (images made : List Picture) (width height i : ℕ) → i < length made → slice_index_or (planes_from plan images made width height) i no_picture ≡ slice_index_or made i no_picture
+planes_from-before [] images made width height i lt = refl
+planes_from-before (s ∷ ss) images made width height i lt =
     let p = next s images made width height in
-    before ss images (made ++ p ∷ []) width height i (omega (arith, length-append made (p ∷ [])))
+    planes_from-before ss images (made ++ p ∷ []) width height i (omega (arith, length-append made (p ∷ [])))
     ∙ get_or-append made (p ∷ []) no_picture i lt
 
 -- sources before k are read alike in lists that are alike below k
@@ -43,10 +43,10 @@ each_from (s ∷ ss) images made width height zero j inputs at lt all =
     let more = planes_from ss images (made ++ p ∷ []) width height in
     let here : j ≡ length made = omega arith in
     ap (λ (t : ℕ). slice_index_or more t no_picture) here
-    ∙ before ss images (made ++ p ∷ []) width height (length made) (omega (arith, length-append made (p ∷ [])))
+    ∙ planes_from-before ss images (made ++ p ∷ []) width height (length made) (omega (arith, length-append made (p ∷ [])))
     ∙ get_or-append_seam made p [] no_picture
     ∙ ap (λ (t : List Picture). plane_of s.step t width height)
-    (same_sources images made more inputs j s.sources (λ i below. before (s ∷ ss) images made width height i (omega arith)) all)
+    (same_sources images made more inputs j s.sources (λ i below. planes_from-before (s ∷ ss) images made width height i (omega arith)) all)
 each_from (s ∷ ss) images made width height (suc k) j inputs at lt all =
     let p = next s images made width height in
     each_from ss images (made ++ p ∷ []) width height k j inputs (omega (arith, length-append made (p ∷ []))) (omega arith) all

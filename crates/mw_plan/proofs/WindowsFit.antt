@@ -7,7 +7,7 @@ use Rattle.mw_model.specs.Tasks.{place_read}
 use Rattle.mw_tile.specs.Windows.{SourceWindow, window_of}
 use Rattle.mw_task.specs.WindowTasks.{FitsStep, KindsFit, SameKind, window_at}
 use Rattle.mw_task.specs.Sources.{AreCut}
-use Rattle.mw_task.proofs.Cut.{fits_cut}
+use Rattle.mw_task.proofs.Cut.{fits_cut, top_agrees}
 use Rattle.mw_plan.specs.PlansOf.{AreAlike, CanBeMade, KindsAllow, picture_at}
 
 -- a window has the kind and the maxval of its image
@@ -16,16 +16,11 @@ kind_is place [] k = refl
 kind_is place (f ∷ fs) zero = refl
 kind_is place (f ∷ fs) (suc k) = kind_is place fs k
 
-maxval_is : (place : Rect) (fs : List Picture) (k : ℕ) → (window_at (map (window_of place) fs) k).maxval ≡ (picture_at fs k).maxval
-maxval_is place [] k = refl
-maxval_is place (f ∷ fs) zero = refl
-maxval_is place (f ∷ fs) (suc k) = maxval_is place fs k
+SameKind-alike : (place : Rect) (fs : List Picture) → AreAlike (picture_at fs 0) (picture_at fs 1) → SameKind (window_at (map (window_of place) fs) 0) (window_at (map (window_of place) fs) 1)
+SameKind-alike place fs h = (kind_is place fs 0 ∙ h.0 ∙ sym (kind_is place fs 1), top_agrees place fs 0 ∙ h.1 ∙ sym (top_agrees place fs 1))
 
-alike : (place : Rect) (fs : List Picture) → AreAlike (picture_at fs 0) (picture_at fs 1) → SameKind (window_at (map (window_of place) fs) 0) (window_at (map (window_of place) fs) 1)
-alike place fs h = (kind_is place fs 0 ∙ h.0 ∙ sym (kind_is place fs 1), maxval_is place fs 0 ∙ h.1 ∙ sym (maxval_is place fs 1))
-
-level : (place : Rect) (fs : List Picture) (v : ℕ) → v ≤ (picture_at fs 0).maxval → v ≤ (window_at (map (window_of place) fs) 0).maxval
-level place fs v = subst (λ (m : ℕ). v ≤ m) (sym (maxval_is place fs 0))
+maxval-level : (place : Rect) (fs : List Picture) (v : ℕ) → v ≤ (picture_at fs 0).maxval → v ≤ (window_at (map (window_of place) fs) 0).maxval
+maxval-level place fs v = subst (λ (m : ℕ). v ≤ m) (sym (top_agrees place fs 0))
 
 kinds_fit : (s : PlanStep) (place : Rect) (fs : List Picture) → KindsAllow s fs → KindsFit s (map (window_of place) fs)
 kinds_fit (Erode e) place fs h = tt
@@ -33,14 +28,14 @@ kinds_fit (Dilate e) place fs h = tt
 kinds_fit (ErodeBox b) place fs h = tt
 kinds_fit (DilateBox b) place fs h = tt
 kinds_fit (Rank e k) place fs h = tt
-kinds_fit Minus place fs h = alike place fs h
+kinds_fit Minus place fs h = SameKind-alike place fs h
 kinds_fit (AtLeast k) place fs h = tt
 kinds_fit Invert place fs h = tt
-kinds_fit Meet place fs h = alike place fs h
-kinds_fit Join place fs h = alike place fs h
+kinds_fit Meet place fs h = SameKind-alike place fs h
+kinds_fit Join place fs h = SameKind-alike place fs h
 kinds_fit (Blank m) place fs h = h.0
-kinds_fit (Mark v) place fs h = (level place fs v h.0, kind_is place fs 1 ∙ h.1, kind_is place fs 2 ∙ h.2)
-kinds_fit (MarkLast v) place fs h = (level place fs v h.0, kind_is place fs 1 ∙ h.1)
+kinds_fit (Mark v) place fs h = (maxval-level place fs v h.0, kind_is place fs 1 ∙ h.1, kind_is place fs 2 ∙ h.2)
+kinds_fit (MarkLast v) place fs h = (maxval-level place fs v h.0, kind_is place fs 1 ∙ h.1)
 kinds_fit (Equal v) place fs h = tt
 kinds_fit Sum place fs h = tt
 

@@ -1,19 +1,15 @@
 -- Receipts counted place by place.
-use Rattle.std.proofs.Common.{◌≡◌, ◌≢◌, ◌↔◌, ℕ, zero, suc, ◌+◌, ◌-◌, ◌*◌, ◌<◌, ◌≤◌, Bool, false, cond, eqb, List, [], ◌∷◌, length, take, drop, get_or, refl, sym, ap, ◌∙◌, subst, arith, inl, inr, slice_set, min, IsTrue, Some}
+use Rattle.std.proofs.Common.{◌≡◌, ◌≢◌, ◌↔◌, ℕ, zero, suc, ◌+◌, ◌-◌, ◌*◌, ◌<◌, ◌≤◌, Bool, false, cond, eqb, List, [], ◌∷◌, length, take, drop, get_or, refl, sym, ap, ◌∙◌, subst, arith, inl, inr, min, IsTrue, Some}
 use Rattle.std.specs.Prelude.{count_by, slice_index}
 use Rattle.std.specs.List.{slice_get}
 use Rattle.std.proofs.lemmas.Option.{same_Some, slice_get-get_or, get_or_from_slice_get}
-use Rattle.std.proofs.lemmas.Bool.{cases_eq, cases_lt, eq-eqb, ne_eqb}
-use Rattle.std.proofs.lemmas.List.{get_or-set_other}
-use Rattle.std.proofs.lemmas.Grind.{get_or-set_at}
-use Rattle.std.proofs.lemmas.List.Sums.{sum_by-cons, sum_by_more, sum_by-take-drop, count_by_more_yes, count_by_more_no}
+use Rattle.std.proofs.lemmas.Bool.{cases_lt, ne_eqb}
+use Rattle.std.proofs.lemmas.List.Sums.{sum_by-cons, sum_by-take-drop}
 use Rattle.mw_model.specs.declared.receipts.Receipt.{Receipt}
-use Rattle.mw_model.specs.declared.calls.Call.{Call}
-use Rattle.mw_model.specs.declared.calls.Reply.{Reply}
 use Rattle.mw_model.specs.declared.calls.LogItem.{LogItem}
 use Rattle.mw_model.specs.declared.calls.LogItem.TheVariants as item
-use Rattle.mw_model.specs.Receipts.{Rises, IsLogged, count_at}
-use Rattle.mw_pool.specs.Blocks.{of_place, IsTally, IsOnceAt}
+use Rattle.mw_model.specs.Receipts.{Rises, IsLogged}
+use Rattle.mw_pool.specs.Blocks.{of_place, IsOnceAt}
 
 -- ---- places that rise
 
@@ -60,21 +56,6 @@ pub all-beyond : (receipts : List Receipt) (base i : ℕ) (e : Receipt) → Rise
     → (k : ℕ) (d : Receipt) → i ≤ k → k < length receipts → base + 4096 ≤ (get_or receipts k d).place
 all-beyond receipts base i e rising within far = all-behind receipts (base + 4096) i e rising within (omega (arith, far))
 
--- the call and the reply are the receipt's
-pub both-same : (i : LogItem) (c d : Call) (q r : Reply) (b : Bool) → i ≡ item.Call c q → c ≡ d → (IsTrue b ↔ (q ≡ r)) → (IsTrue b → i ≡ item.Call d r) × (i ≡ item.Call d r → IsTrue b)
-both-same i c d q r b is same iff = (
-  λ t. is ∙ (ap (λ x. item.Call x q) same ∙ ap (item.Call d) (iff.0 t)),
-  λ e. iff.1 (reply-of (item.Call c q) (item.Call d r) q r (sym is ∙ e) refl refl),
-)
-  where
-    said : LogItem → Reply → Reply
-    said (item.Call c q) d = q
-    said (item.Finished t) d = d
-    said (item.Killed t) d = d
-
-    reply-of : (i j : LogItem) (q r : Reply) → i ≡ j → said i q ≡ q → said j q ≡ r → q ≡ r
-    reply-of i j q r e a b = sym a ∙ (ap (λ x. said x q) e ∙ b)
-
 -- ---- parts of a list in which nothing passes
 
 pub count-take-none : {X : Type 0} → (p : X → Bool) (xs : List X) (n : ℕ) → ((k : ℕ) (d : X) → k < n → k < length xs → p (get_or xs k d) ≡ false) → count_by p (take n xs) ≡ 0
@@ -112,25 +93,6 @@ added-none counts receipts base i small before k within =
     let none = count-take-none (λ (r : Receipt). eqb r.place (base + k)) receipts i (λ j d l m. ne_eqb _ _ (λ e. omega (arith, before j d l, e))) in
     omega (arith, none, small k within)
 
--- a byte that counts one more
-grown : (o c x v : ℕ) → x ≡ min 255 (o + c) → v ≡ min (x + 1) 255 → v ≡ min 255 (o + (c + 1))
-grown o c x v e f = omega (arith, e, f)
-
--- one more
-pub added-one : (old new : List ℕ) (receipts : List Receipt) (base i at v : ℕ) (d : Receipt) → Added old new receipts base i → i < length receipts → at < 4096 → length new ≡ 4096
-    → (get_or receipts i d).place ≡ base + at → v ≡ min (slice_index new at + 1) 255 → Added old (slice_set new at v) receipts base (i + 1)
-added-one old new receipts base i at v d added within small size here is k below = elim (cases_eq k at) [
-  | inl same ↦
-      let P : ℕ → Type 0 = λ j. slice_index (slice_set new at v) j ≡ min 255 (slice_index old j + of_place (take (i + 1) receipts) (base + j)) in
-      let more = count_by_more_yes (λ (r : Receipt). eqb r.place (base + at)) receipts i d within (eq-eqb _ _ here) in
-      let there : slice_index (slice_set new at v) at ≡ v = get_or-set_at new at at v 0 refl (omega (arith, size, below, same)) in
-      subst P (sym same) (there ∙ (grown (slice_index old at) (of_place (take i receipts) (base + at)) (slice_index new at) v (added at (omega (arith, below, same))) is ∙ ap (λ n. min 255 (slice_index old at + n)) (sym more)))
-  | inr other ↦
-      let more = count_by_more_no (λ (r : Receipt). eqb r.place (base + k)) receipts i d within (ne_eqb _ _ (λ e. other (omega (arith, e, here)))) in
-      let there : slice_index (slice_set new at v) k ≡ slice_index new k = get_or-set_other new at k v 0 other in
-      there ∙ (added k below ∙ ap (λ n. min 255 (slice_index old k + n)) (sym more))
-]
-
 -- all are added, where the receipts behind are of other blocks
 pub added-all : (old new : List ℕ) (receipts : List Receipt) (base i : ℕ) → Added old new receipts base i
     → ((k : ℕ) (d : Receipt) → i ≤ k → k < length receipts → base + 4096 ≤ (get_or receipts k d).place)
@@ -141,26 +103,7 @@ added-all old new receipts base i added behind k within =
 
 -- ---- all passes over a block
 
-joined : (a b x y : ℕ) → x ≡ min 255 a → y ≡ min 255 (x + b) → y ≡ min 255 (a + b)
-joined a b x y e f = omega (arith, e, f)
-
--- one pass more is counted
-pub tally-more : (before after : List ℕ) (base i : ℕ) (passes : List (List Receipt)) (d : List Receipt) → i < length passes → IsTally before base (count_at (take i passes)) → length after ≡ 4096
-    → ((k : ℕ) → k < 4096 → slice_index after k ≡ min 255 (slice_index before k + of_place (get_or passes i d) (base + k))) → IsTally after base (count_at (take (i + 1) passes))
-tally-more before after base i passes d within was size is = record {
-  size = size;
-  each = λ k below.
-      let more = sum_by_more (λ receipts. of_place receipts (base + k)) passes i d within in
-      joined (count_at (take i passes) (base + k)) (of_place (get_or passes i d) (base + k)) (slice_index before k) (slice_index after k) (was.each k below) (is k below) ∙ ap (min 255) (sym more);
-}
-
 -- ---- one receipt of each call
-
-one-byte : (x n : ℕ) → x ≡ min 255 n → x ≡ 1 → n ≡ 1
-one-byte x n e f = omega (arith, e, f)
-
-one-count : (x n : ℕ) → x ≡ min 255 n → n ≡ 1 → x ≡ 1
-one-count x n e f = omega (arith, e, f)
 
 -- one block more
 pub block-more : (log : List LogItem) (passes : List (List Receipt)) (block : ℕ) → ((place : ℕ) → place < block * 4096 → IsOnceAt log passes place)

@@ -4,7 +4,6 @@ use Rattle.std.specs.Prelude.{IsSome}
 use mathlib.Core.HLevel.{⊥_prop}
 use Rattle.std.proofs.Math.Logic.{∥∥₁_map, ∥∥₁_elim}
 use Rattle.mw_model.specs.declared.names.Name.{Name}
-use Rattle.mw_model.specs.declared.codes.Code.{Code}
 use Rattle.mw_model.specs.declared.codes.Code.TheVariants as code
 use Rattle.mw_model.specs.declared.shapes.Shape.{Shape}
 use Rattle.mw_model.specs.declared.calls.Outcome.{Outcome}
@@ -15,8 +14,8 @@ use Rattle.mw_model.specs.declared.calls.Reply.{Reply}
 use Rattle.mw_model.specs.declared.calls.Reply.TheVariants as reply
 use Rattle.mw_model.specs.declared.tasks.TaskId.{TaskId}
 use Rattle.mw_model.specs.Values.{Value}
-use Rattle.mw_model.specs.Refusals.{Table, ticket_of, outcome_at, refusal}
-use Rattle.mw_model.specs.Machine.{Machine, after, answer, refused_or, reply_to, status_reply}
+use Rattle.mw_model.specs.Refusals.{ticket_of, outcome_at, refusal}
+use Rattle.mw_model.specs.Machine.{Machine, after, answer, reply_to, status_reply}
 use Rattle.mw_model.specs.Stands.{CoreView, StandsFor}
 use Rattle.mw_task.specs.WindowTasks.{WindowTask}
 use Rattle.mw_core.specs.declared.answers.Started.{Started}
@@ -26,6 +25,7 @@ use Rattle.mw_core.specs.declared.answers.Finish.TheVariants as finish
 use Rattle.mw_core.specs.declared.answers.Refusal.{Refusal}
 use Rattle.mw_core.specs.declared.answers.Refusal.TheVariants as refusal
 use Rattle.mw_core.specs.mw_stands.Events.{Serves}
+use Rattle.mw_core.proofs.mw_stands.ShownLemmas.{IsPlain, answer-not_shown, refused_or-not_shown}
 use Rattle.mw_core.specs.TaskAnswers.{Starts, Finishes, Refuses}
 use Rattle.mw_core.specs.mw_store.Fetches.{ShowsSome}
 use Rattle.mw_pool.specs.Tickets.{IsAwaited}
@@ -92,36 +92,10 @@ pub shows-some-if : {E : Type 0} → {A : Type 0} (value : A → Option Value) (
 shows-some-if value told (Ok a) c s h = shows-some c (value a) (told a) s h
 shows-some-if value told (Err e) c s h = tt
 
--- a call that hands out no value
-abbrev pub IsPlain : Call → Type 0
-IsPlain (call.Fetch n) = ⊥
-IsPlain c = Unit {0}
-
-status-shows-none : (t : ℕ) (s : Shape) (o : Outcome) (u : ℕ) → status_reply t s o ≢ reply.Shown u
-status-shows-none t s outcome.Pending u h = cc
-status-shows-none t s outcome.Done u h = cc
-status-shows-none t s outcome.Cancelled u h = cc
-status-shows-none t s outcome.Memory u h = cc
-status-shows-none t s (outcome.Input i) u h = cc
-status-shows-none t s outcome.Released u h = cc
-
-answer-shows-none : (w : Table) (c : Call) (u : ℕ) → IsPlain c → answer w c ≢ reply.Shown u
-answer-shows-none w (call.Load n g) u p h = cc
-answer-shows-none w (call.Element n g) u p h = cc
-answer-shows-none w (call.Run n o) u p h = cc
-answer-shows-none w (call.Cancel n) u p h = cc
-answer-shows-none w (call.Release n) u p h = cc
-answer-shows-none w (call.Status n) u p h = status-shows-none _ _ _ u h
-answer-shows-none w (call.Fetch n) u p h = absurd p
-
-none-shown : (x : Option Code) (a : Reply) (u : ℕ) → a ≢ reply.Shown u → refused_or x a ≢ reply.Shown u
-none-shown None a u n h = n h
-none-shown (Some c) a u n h = cc
-
 -- no call but FETCH is answered by `Shown`
 pub plain-shows-nothing : {E : Type 0} → (r : Result Reply E) (old new : CoreView) (c : Call) (p : Option Value) → IsPlain c → Stands old → IfOk r (Serves old c p new) → IfOk r (λ a. ShowsSome a → ⊥)
 plain-shows-nothing (Ok a) old new c p plain s served = λ w.
-    no-state old s (λ m st. none-shown (refusal m.table m.payloads c) (answer m.table c) w.0 (answer-shows-none m.table c w.0 plain) (sym (served.reply m st) ∙ w.1))
+    no-state old s (λ m st. refused_or-not_shown (refusal m.table m.payloads c) (answer m.table c) w.0 (answer-not_shown m.table c w.0 plain) (sym (served.reply m st) ∙ w.1))
 plain-shows-nothing (Err e) old new c p plain s served = tt
 
 -- ---- the end of a wait

@@ -2,7 +2,7 @@
 use Rattle.std.proofs.Common.{◌≡◌, ℕ, zero, suc, ◌+◌, ◌*◌, ◌/◌, ◌%◌, ◌<◌, List, [], ◌∷◌, ◌++◌, length, get_or, None, sym, ap, ◌∙◌, arith}
 use Rattle.std.specs.List.{AllByRecursion}
 use Rattle.std.proofs.lemmas.List.{length-append, get_or_append_left, get_or-append-add}
-use Rattle.std.proofs.lemmas.Nat.{div-add-mod'}
+use Rattle.std.proofs.lemmas.Nat.{div-add-mod', mod_below}
 use Rattle.mw_grid.proofs.Lines.{row_less}
 use Rattle.mw_tiles.specs.Tiles.{Tiled}
 use Rattle.mw_progress.specs.ProgressView.{cells_of_planes}
@@ -42,11 +42,8 @@ cells_at (p ∷ ps) m (suc k) v d all lt v-lt =
     next : (m k v l : ℕ) → l ≡ m → suc k * m + v ≡ l + (k * m + v)
     next m k v l e = omega arith
 
-pub mod_lt : (n m : ℕ) → 0 < m → n % m < m
-mod_lt n m some = omega arith
-
 -- the cells of a task
 pub cells_of_task : (planes : List Tiled) (m n : ℕ) (d : Tiled) → AllByRecursion (HasCount m) planes → 0 < m → n < length planes * m → get_or (cells_of_planes planes) n None ≡ get_or (get_or planes (n / m) d).tiles (n % m) None
 cells_of_task planes m n d all some lt =
     ap (λ (i : ℕ). get_or (cells_of_planes planes) i None) (sym (div-add-mod' n m))
-    ∙ cells_at planes m (n / m) (n % m) d all (row_less (length planes) m n some lt) (mod_lt n m some)
+    ∙ cells_at planes m (n / m) (n % m) d all (row_less (length planes) m n some lt) (mod_below n m some)

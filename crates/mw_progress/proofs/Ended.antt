@@ -1,12 +1,13 @@
 -- Work of which all is finished.
-use Rattle.std.proofs.Common.{◌≡◌, ℕ, ◌+◌, ◌-◌, ◌*◌, ◌/◌, ◌<◌, Bool, true, false, not, List, length, get_or, Option, Some, refl, sym, ap, subst, ◌∙◌, arith}
+use Rattle.std.proofs.Common.{◌≡◌, ℕ, ◌+◌, ◌-◌, ◌*◌, ◌<◌, true, false, not, List, length, get_or, Option, Some, sym, ap, subst, ◌∙◌, arith}
 use Rattle.std.proofs.lemmas.List.{length-map}
+use Rattle.std.proofs.lemmas.Bool.{true_from_ne_false}
+use Rattle.mw_facts.proofs.Counts.{count_by-some}
 use Rattle.mw_model.specs.Plans.{Plan, is_sum}
 use Rattle.mw_model.specs.Tasks.{flag, nothing_planned, remaining_tasks}
 use Rattle.mw_grid.specs.Grids.{Tiling, tile_count, tiles_of}
-use Rattle.mw_grid.proofs.Counts.{count-some}
 use Rattle.mw_grid.proofs.Lines.{number_of as number_of_cell}
-use Rattle.mw_grid.proofs.Tiles.{length-tiles_of}
+use Rattle.mw_grid.proofs.Tiles.{length-tiles_of, some_tiles}
 use Rattle.mw_ready.specs.Boards.{Turns}
 use Rattle.mw_tiles.specs.Tiles.{Tiled}
 use Rattle.mw_progress.specs.Levels.{Level}
@@ -16,16 +17,6 @@ use Rattle.mw_progress.specs.declared.places.Place.{Place}
 use Rattle.mw_progress.specs.declared.places.Place.TheVariants.{Closed, Plane, Sums}
 use Rattle.mw_progress.proofs.Opened.{shown_at}
 use Rattle.mw_progress.proofs.Placing.{form_most, is_plane}
-
-some_tiles : (g : Tiling) → 0 < tile_count g
-some_tiles g = more ((g.height - 1) / g.side) ((g.width - 1) / g.side)
-  where
-    more : (x y : ℕ) → 0 < (x + 1) * (y + 1)
-    more x y = grind arith
-
-marked : (b : Bool) → (b ≡ false → ⊥) → b ≡ true
-marked true h = refl
-marked false h = absurd (h refl)
 
 pub sizes_are : (plan : Plan) (input : Level) (g : Tiling) (turns : Turns) (places : List Place) → IsWhole (underway_kept plan input g turns places) → (length places ≡ length plan) × (0 < length places)
 sizes_are plan input g turns places whole =
@@ -44,7 +35,7 @@ last_form plan input g turns places whole placed none plain =
     let some = whole.workable.some in
     let k-lt : k < length plan = omega arith in
     let n-lt : n < length plan * length (tiles_of g) = subst (λ (c : ℕ). n < length plan * c) (sym (length-tiles_of g)) (number_of_cell (length plan) m 0 k (some_tiles g) k-lt) in
-    let done : flag finished n ≡ true = marked (flag finished n) (λ e. absurd (omega (arith, none, count-some (λ j. not (flag finished j)) n (length plan * length (tiles_of g)) n-lt (ap not e)))) in
+    let done : flag finished n ≡ true = true_from_ne_false (flag finished n) (λ e. absurd (omega (arith, none, count_by-some (λ j. not (flag finished j)) (length plan * length (tiles_of g)) n n-lt (ap not e)))) in
     is_plane (form (place_at places k)) (is_sum (get_or plan k nothing_planned).step) plain (placed.forms k k-lt) (placed.opened k 0 k-lt (some_tiles g) (whole.begun n done)) (form_most (place_at places k))
 
 some_same : (a b : Place) → Some a ≡ Some b → a ≡ b

@@ -4,6 +4,7 @@ use Rattle.std.specs.List.{AllByRecursion, range_with_len}
 use Rattle.std.proofs.lemmas.Bool.{cases_eq, cases_lt}
 use Rattle.std.proofs.lemmas.List.{length-map, append-nil, take_all, drop_all, get_or-set_same, get_or-set_other, get_or_past}
 use Rattle.std.proofs.lemmas.Nat.{div-mul-add, mod-mul-add}
+use Rattle.mw_facts.proofs.Tests.{cond_none-some}
 use Rattle.mw_model.specs.Plans.{Plan, is_sum}
 use Rattle.mw_model.specs.Tasks.{Progress, flag, is_needed, is_running, task_count, nothing_planned, reads}
 use Rattle.mw_grid.specs.Counts.{bit}
@@ -47,16 +48,12 @@ some_or : (b : Bool) (cells found : List ℕ) → cond b (Some cells) None ≡ S
 some_or true cells found e = cc
 some_or false cells found e = absurd (let f : None ≡ Some found = e in cc)
 
-none_or : (b : Bool) (o : Option (List ℕ)) (found : List ℕ) → cond b None o ≡ Some found → o ≡ Some found
-none_or true o found e = absurd (let f : None ≡ Some found = e in cc)
-none_or false o found e = e
-
 -- what is kept afterwards was made by the task, or was kept before
 kept_from : (p : Progress) (n : ℕ) (cells : List ℕ) (q : List (Option (List ℕ))) → Settles p n cells q → length q ≡ task_count p → (k : ℕ) (found : List ℕ) → get_or q k None ≡ Some found → ((k ≡ n) × (found ≡ cells)) ⊎ (get_or p.placed k None ≡ Some found)
 kept_from p n cells q settles size k found e = elim (cases_eq k n) [
   | inl here ↦ inl (here, some_or (is_needed (finished_with p n q) n) cells found (sym settles.own ∙ ap (λ (j : ℕ). get_or q j None) (sym here) ∙ e))
   | inr other ↦ elim (cases_lt k (task_count p)) [
-    | inl lt ↦ inr (none_or (reads p n k && not (is_read_in (finished_with p n q) k)) (get_or p.placed k None) found (sym (settles.others k lt other) ∙ e))
+    | inl lt ↦ inr (cond_none-some (reads p n k && not (is_read_in (finished_with p n q) k)) (get_or p.placed k None) found (sym (settles.others k lt other) ∙ e))
     | inr past ↦ absurd (let f : None ≡ Some found = sym (get_or_past q k None (omega arith)) ∙ e in cc)
   ]
 ]
@@ -152,6 +149,3 @@ finish_all plan input g turns places f whole boarded tied placed =
 -- a slice that was written whole
 pub all_new : {A : Type 0} (n : ℕ) (now items : List A) → length now ≡ length items → n ≡ length items → take n (now ++ drop (length now) items) ≡ now
 all_new n now items size e = ap (λ (xs : List _). take n (now ++ xs)) (drop_all (length now) items (omega arith)) ∙ ap (take n) (append-nil now) ∙ take_all n now (omega arith)
-
-pub not_both : (b : Bool) → b ≡ true → b ≡ false → ⊥
-not_both b e f = let g : true ≡ false = sym e ∙ f in cc

@@ -1,9 +1,10 @@
 -- Work of which one more task is finished.
-use Rattle.std.proofs.Common.{◌≡◌, ◌≢◌, ℕ, zero, suc, ◌+◌, ◌<◌, ◌≤◌, ◌↔◌, Bool, true, false, not, ◌&&◌, ◌||◌, nat_eq, cond, List, [], ◌∷◌, length, map, get_or, set, Option, Some, None, refl, sym, ap, subst, ◌∙◌, arith, inl, inr}
+use Rattle.std.proofs.Common.{◌≡◌, ◌≢◌, ℕ, zero, suc, ◌+◌, ◌<◌, ◌↔◌, Bool, true, false, not, ◌&&◌, ◌||◌, nat_eq, cond, List, [], ◌∷◌, length, map, get_or, set, Option, Some, None, refl, sym, ap, subst, ◌∙◌, arith, inl, inr}
 use Rattle.std.specs.Prelude.{IsSome}
-use Rattle.std.specs.List.{AllByRecursion, range_with_len, list_all, list_any}
+use Rattle.std.specs.List.{AllByRecursion, range_with_len, list_any}
 use Rattle.std.proofs.lemmas.Bool.{cases_eq, and_parts, and_right, or_cases, or_left, or_right, eqb-true, ne_eqb, not-true}
 use Rattle.std.proofs.lemmas.List.{length-set, get_or-set_same, get_or-set_other}
+use Rattle.mw_facts.proofs.Tests.{list_any-range, list_all-weaker, none-not_some}
 use Rattle.mw_model.specs.Plans.{Plan, Source, FromInput, FromStep, IsSourceAt, is_sum}
 use Rattle.mw_model.specs.Tasks.{Progress, flag, task_count, tasks_below, nothing_planned, planned_of, step_number, reads, meets, is_step, is_running, is_needed, place_of_task, tile_of_task}
 use Rattle.mw_grid.specs.Grids.{Tiling}
@@ -25,43 +26,27 @@ any-same_below p q a (suc n) same =
     ap (λ (b : Bool). b || list_any p (range_with_len (a + 1) n)) (same a (omega arith))
     ∙ ap (λ (b : Bool). q a || b) (any-same_below p q (a + 1) n (λ u lt. same u (omega arith)))
 
-any_in_range : (p : ℕ → Bool) (a n k : ℕ) → a ≤ k → k < a + n → p k ≡ true → list_any p (range_with_len a n) ≡ true
-any_in_range p a zero k from to so = absurd (omega arith)
-any_in_range p a (suc n) k from to so = elim (cases_eq k a) [
-  | inl here ↦ or_left (p a) (list_any p (range_with_len (a + 1) n)) (ap p (sym here) ∙ so)
-  | inr other ↦ or_right (p a) (list_any p (range_with_len (a + 1) n)) (any_in_range p (a + 1) n k (above k a from other) (omega arith) so)
-]
-  where
-    above : (k a : ℕ) → a ≤ k → k ≢ a → a + 1 ≤ k
-    above k a from other = omega arith
-
-all_more : (p q : ℕ → Bool) (xs : List ℕ) → ((u : ℕ) → p u ≡ true → q u ≡ true) → list_all p xs ≡ true → list_all q xs ≡ true
-all_more p q [] more all = refl
-all_more p q (x ∷ xs) more all =
-    let parts = and_parts (p x) (list_all p xs) all in
-    ap (λ (b : Bool). b && list_all q xs) (more x parts.0) ∙ all_more p q xs more parts.1
-
 -- ---- what is read is an earlier step, and makes a plane
 
 pub no_step : false ≡ true → ⊥
 no_step e = cc
 
-before : (read : List Source) (s j : ℕ) → AllByRecursion (IsSourceAt 1 s) read → list_any (is_step j) read ≡ true → j < s
-before [] s j all e = absurd (no_step e)
-before (x ∷ xs) s j all e = elim (or_cases (is_step j x) (list_any (is_step j) xs) e) [
+is_step-below : (read : List Source) (s j : ℕ) → AllByRecursion (IsSourceAt 1 s) read → list_any (is_step j) read ≡ true → j < s
+is_step-below [] s j all e = absurd (no_step e)
+is_step-below (x ∷ xs) s j all e = elim (or_cases (is_step j x) (list_any (is_step j) xs) e) [
   | inl here ↦ one x all.0 here
-  | inr later ↦ before xs s j all.1 later
+  | inr later ↦ is_step-below xs s j all.1 later
 ]
   where
     one : (x : Source) → IsSourceAt 1 s x → is_step j x ≡ true → j < s
     one (FromInput i) at e = absurd (no_step e)
     one (FromStep i) at e = subst (λ (k : ℕ). k < s) (eqb-true i j e) at
 
-plain : (plan : Plan) (read : List Source) (j : ℕ) → AllByRecursion (IsPlaneSource plan) read → list_any (is_step j) read ≡ true → is_sum (get_or plan j nothing_planned).step ≡ false
-plain plan [] j all e = absurd (no_step e)
-plain plan (x ∷ xs) j all e = elim (or_cases (is_step j x) (list_any (is_step j) xs) e) [
+is_step-plain : (plan : Plan) (read : List Source) (j : ℕ) → AllByRecursion (IsPlaneSource plan) read → list_any (is_step j) read ≡ true → is_sum (get_or plan j nothing_planned).step ≡ false
+is_step-plain plan [] j all e = absurd (no_step e)
+is_step-plain plan (x ∷ xs) j all e = elim (or_cases (is_step j x) (list_any (is_step j) xs) e) [
   | inl here ↦ one x all.0 here
-  | inr later ↦ plain plan xs j all.1 later
+  | inr later ↦ is_step-plain plan xs j all.1 later
 ]
   where
     one : (x : Source) → IsPlaneSource plan x → is_step j x ≡ true → is_sum (get_or plan j nothing_planned).step ≡ false
@@ -70,10 +55,10 @@ plain plan (x ∷ xs) j all e = elim (or_cases (is_step j x) (list_any (is_step 
 
 -- the step that a source names is an earlier one of the plan, and makes a plane
 pub read_before : (plan : Plan) (input : Level) (s j : ℕ) → IsWorkable plan input → list_any (is_step j) (get_or plan s nothing_planned).sources ≡ true → j < s
-read_before plan input s j workable e = before (get_or plan s nothing_planned).sources s j (workable.sources s) e
+read_before plan input s j workable e = is_step-below (get_or plan s nothing_planned).sources s j (workable.sources s) e
 
 pub read_plain : (plan : Plan) (input : Level) (s j : ℕ) → IsWorkable plan input → list_any (is_step j) (get_or plan s nothing_planned).sources ≡ true → is_sum (get_or plan j nothing_planned).step ≡ false
-read_plain plan input s j workable e = plain plan (get_or plan s nothing_planned).sources j (workable.planes s) e
+read_plain plan input s j workable e = is_step-plain plan (get_or plan s nothing_planned).sources j (workable.planes s) e
 
 -- ---- what a finish leaves
 
@@ -92,12 +77,9 @@ pub record Settles (p : Progress) (n : ℕ) (cells : List ℕ) (q : List (Option
 abbrev IsKept : Option (List ℕ) → Bool → Bool → Type 0
 IsKept o finished needed = IsSome o ↔ ((finished ≡ true) × (needed ≡ true))
 
-not_some : (o : Option (List ℕ)) → o ≡ None → IsSome o → ⊥
-not_some o e some = no_step (subst (λ (p : Option (List ℕ)). IsSome p) e some)
-
 kept-own : (o : Option (List ℕ)) (finished needed : Bool) (cells : List ℕ) → o ≡ cond needed (Some cells) None → finished ≡ true → IsKept o finished needed
 kept-own o finished true cells e mark = (λ some. (mark, refl), λ both. subst (λ (p : Option (List ℕ)). IsSome p) (sym e) refl)
-kept-own o finished false cells e mark = (λ some. absurd (not_some o e some), λ both. absurd (no_step both.1))
+kept-own o finished false cells e mark = (λ some. absurd (none-not_some o e some), λ both. absurd (no_step both.1))
 
 kept-same : (o old : Option (List ℕ)) (finished before needed wanted : Bool) → o ≡ old → finished ≡ before → needed ≡ wanted → IsKept old before wanted → IsKept o finished needed
 kept-same o old finished before needed wanted e em en kept = (
@@ -106,7 +88,7 @@ kept-same o old finished before needed wanted e em en kept = (
 )
 
 kept-dropped : (o : Option (List ℕ)) (finished needed : Bool) → o ≡ None → needed ≡ false → IsKept o finished needed
-kept-dropped o finished needed e en = (λ some. absurd (not_some o e some), λ both. absurd (no_step (sym en ∙ both.1)))
+kept-dropped o finished needed e en = (λ some. absurd (none-not_some o e some), λ both. absurd (no_step (sym en ∙ both.1)))
 
 same-without : (x y b : Bool) → b ≡ false → x && b ≡ y && b
 same-without x y b e = and_right x b e ∙ sym (and_right y b e)
@@ -120,7 +102,7 @@ read-same p n k q unread =
     ])
 
 read_by : (p : Progress) (n k : ℕ) → n < task_count p → flag p.finished n ≡ false → reads p n k ≡ true → is_read_in p k ≡ true
-read_by p n k lt unfinished read = any_in_range (λ u. not (flag p.finished u) && reads p u k) 0 (task_count p) n (omega arith) (omega arith) (both (flag p.finished n) (reads p n k) unfinished read)
+read_by p n k lt unfinished read = list_any-range (λ u. not (flag p.finished u) && reads p u k) 0 (task_count p) n (omega arith) (omega arith) (both (flag p.finished n) (reads p n k) unfinished read)
   where
     both : (f r : Bool) → f ≡ false → r ≡ true → not f && r ≡ true
     both f r ef er = ap (λ (b : Bool). not b && r) ef ∙ er
@@ -138,12 +120,6 @@ finish_needed p input n cells q workable some lt size unfinished needed settles 
   | inr other ↦ by_reading other (reads p n k) refl
 ]
   where
-    last : Bool
-    last = nat_eq (step_number p k + 1) (length p.plan)
-
-    sums : Bool
-    sums = is_sum (planned_of p k).step
-
     marked : k ≢ n → flag (set p.finished n true) k ≡ flag p.finished k
     marked other = get_or-set_other p.finished n k true false other
 
@@ -209,7 +185,7 @@ finished_whole plan input g started finished planes after order now n cells whol
         | inl here ↦ ap (flag started) here ∙ parts.0
         | inr other ↦ whole.begun k (sym (get_or-set_other finished n k true false other) ∙ e)
       ];
-      calm = λ k k-lt e. all_more (λ u. not (reads p k u) || flag finished u) (λ u. not (reads p k u) || flag (set finished n true) u) (tasks_below p) (λ u. grows k u) (whole.calm k k-lt e);
+      calm = λ k k-lt e. list_all-weaker (λ u. not (reads p k u) || flag finished u) (λ u. not (reads p k u) || flag (set finished n true) u) (tasks_below p) (λ u. grows k u) (whole.calm k k-lt e);
       planes = frames.count ∙ whole.planes;
       levels = frames.levels ∙ whole.levels;
       tilings = λ k. frames.tilings k ∙ whole.tilings k;

@@ -1,8 +1,9 @@
 -- Work of which nothing was started.
 use Rattle.std.proofs.Common.{◌≡◌, ℕ, zero, suc, ◌+◌, ◌*◌, ◌<◌, Bool, true, false, List, [], ◌∷◌, ◌++◌, length, map, get_or, replicate, Option, None, refl, sym, ap, subst, ◌∙◌, arith}
-use Rattle.std.specs.Prelude.{IsSome}
 use Rattle.std.proofs.Math.ListN.{get_or-map}
 use Rattle.std.proofs.lemmas.List.{length-map, length-replicate, length_push, replicate-append-replicate}
+use Rattle.mw_facts.proofs.Elements.{get_or-replicate_same}
+use Rattle.mw_facts.proofs.Tests.{none-not_some}
 use Rattle.mw_model.specs.Plans.{Plan, is_sum}
 use Rattle.mw_model.specs.Tasks.{Progress, flag, nothing_planned}
 use Rattle.mw_grid.specs.Grids.{Tiling, tile_count, tiles_of}
@@ -56,21 +57,8 @@ length-levels plan input = length-levels_from plan input [] ∙ none (length pla
 pub at-closed : (g : Tiling) (ls : List Level) (k : ℕ) → get_or (map (closed_plane g) ls) k (closed_plane g no_level) ≡ closed_plane g (get_or ls k no_level)
 at-closed g ls k = get_or-map (closed_plane g) ls k no_level
 
-pub not_marked : (n k : ℕ) → get_or (replicate n false) k false ≡ false
-not_marked zero k = refl
-not_marked (suc n) zero = refl
-not_marked (suc n) (suc k) = not_marked n k
-
-none_placed : (n k : ℕ) → get_or (replicate n no_cells) k no_cells ≡ no_cells
-none_placed zero k = refl
-none_placed (suc n) zero = refl
-none_placed (suc n) (suc k) = none_placed n k
-
 never : (n k : ℕ) → get_or (replicate n false) k false ≡ true → ⊥
-never n k e = let f : get_or (replicate n false) k false ≡ false = not_marked n k in cc
-
-not_some : (o : Option (List ℕ)) → o ≡ no_cells → IsSome o → ⊥
-not_some o e some = let f : false ≡ true = subst (λ (p : Option (List ℕ)). IsSome p) e some in cc
+never n k e = let f : get_or (replicate n false) k false ≡ false = get_or-replicate_same n k false in cc
 
 pub fresh_whole : (plan : Plan) (input : Level) (g : Tiling) (order : List ℕ) → IsWorkable plan input → IsFramed g
     → IsWhole (underway plan input g (replicate (length plan * tile_count g) false) (replicate (length plan * tile_count g) false) (map (closed_plane g) (levels plan input)) order)
@@ -94,7 +82,7 @@ fresh_whole plan input g order workable tiling =
       counts = λ k. ap (λ (p : Tiled). length p.tiles) (at-closed g ls k) ∙ length-replicate (tile_count g) no_cells;
       placed = refl;
       needed = λ k lt. (
-        λ some. absurd (not_some (get_or (cells_of_planes (map (closed_plane g) ls)) k None) (ap (λ (t : List (Option (List ℕ))). get_or t k None) (closed_cells g ls) ∙ none_placed (length ls * tile_count g) k) some),
+        λ some. absurd (none-not_some (get_or (cells_of_planes (map (closed_plane g) ls)) k None) (ap (λ (t : List (Option (List ℕ))). get_or t k None) (closed_cells g ls) ∙ get_or-replicate_same (length ls * tile_count g) k no_cells) some),
         λ both. absurd (never n k both.0),
       );
     }

@@ -1,3 +1,5 @@
+-- what other crates may cite
+pub mod Flags
 -- the crate's own
 mod NeedLists
 mod Cells

@@ -7,7 +7,7 @@ use Rattle.std.proofs.lemmas.List.{length-map, map-set, set-get_or, get_or-set_s
 use Rattle.std.proofs.lemmas.Nat.{div-mul-add}
 use Rattle.mw_facts.proofs.Alls.{all-get_or}
 use Rattle.mw_model.specs.Plans.{Plan, is_sum}
-use Rattle.mw_model.specs.Tasks.{flag, nothing_planned}
+use Rattle.mw_model.specs.Tasks.{nothing_planned}
 use Rattle.mw_model.specs.Tasks as tasks
 use Rattle.mw_grid.specs.Grids.{Tiling, tile_count}
 use Rattle.mw_ready.specs.Boards.{Board, Turns, task_number, task_count}

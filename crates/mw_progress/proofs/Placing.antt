@@ -2,7 +2,7 @@
 use Rattle.std.proofs.Common.{◌≡◌, ℕ, ◌+◌, ◌*◌, ◌<◌, ◌≤◌, Bool, true, false, not, cond, List, length, get_or, Option, Some, None, refl, sym, ap, subst, ◌∙◌, arith}
 use Rattle.std.specs.Prelude.{IsSome}
 use Rattle.std.specs.List.{AllByRecursion}
-use Rattle.std.proofs.lemmas.Bool.{and_parts, not-true}
+use Rattle.std.proofs.lemmas.Bool.{and_parts, not-true, both_ways}
 use Rattle.std.proofs.lemmas.List.{length-map}
 use Rattle.mw_model.specs.Plans.{Plan, is_sum}
 use Rattle.mw_model.specs.Tasks.{flag, is_running, nothing_planned}
@@ -24,9 +24,6 @@ none_of : (o : Option (List ℕ)) → (IsSome o → ⊥) → o ≡ None
 none_of None h = refl
 none_of (Some x) h = absurd (h refl)
 
-no_mark : (b : Bool) → b ≡ false → b ≡ true → ⊥
-no_mark b e f = let g : false ≡ true = sym e ∙ f in cc
-
 -- nothing is kept of a task that is not finished
 pub not_placed : (plan : Plan) (input : Level) (g : Tiling) (started finished : List Bool) (planes : List Tiled) (order : List ℕ) (step tile : ℕ) → IsWhole (underway plan input g started finished planes order)
     → step < length plan → tile < tile_count g → flag finished (step * tile_count g + tile) ≡ false → get_or (get_or planes step (no_plane g)).tiles tile None ≡ None
@@ -37,7 +34,7 @@ not_placed plan input g started finished planes order step tile whole within ins
     let lt : step < length planes = (let e = whole.planes in omega arith) in
     let n-lt : n < length plan * length (tiles_of g) = subst (λ (c : ℕ). n < length plan * c) (sym (length-tiles_of g)) (number_of_cell (length plan) m tile step inside within) in
     none_of (get_or (get_or planes step (no_plane g)).tiles tile None) (λ some.
-    no_mark (flag finished n) unfinished ((whole.needed n n-lt).0 (subst (λ (o : Option (List ℕ)). IsSome o) (sym (cells_at planes m step tile (no_plane g) all lt inside)) some)).0)
+    both_ways (flag finished n) unfinished ((whole.needed n n-lt).0 (subst (λ (o : Option (List ℕ)). IsSome o) (sym (cells_at planes m step tile (no_plane g) all lt inside)) some)).0)
 
 -- a task that runs was started, and is not finished
 pub runs_at : (plan : Plan) (input : Level) (g : Tiling) (started finished : List Bool) (planes : List Tiled) (order : List ℕ) (step tile : ℕ)

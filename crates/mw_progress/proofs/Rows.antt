@@ -2,6 +2,7 @@
 use Rattle.std.proofs.Common.{◌≡◌, ◌≢◌, ℕ, ◌+◌, ◌*◌, ◌/◌, ◌%◌, ◌<◌, ◌≤◌, Bool, true, false, ◌&&◌, ◌||◌, nat_eq, refl, sym, ap, ◌∙◌, arith, inl, inr}
 use Rattle.std.proofs.lemmas.Bool.{cases_eq, cases_lt, eq-eqb, ne_eqb, and_right, or_right}
 use Rattle.std.proofs.Math.Nat.{mul-le-mul_left}
+use Rattle.mw_facts.proofs.Tests.{or-false_right}
 use Rattle.mw_grid.specs.Counts.{in_range}
 use Rattle.mw_grid.specs.Grids.{Tiling, columns_of, rows_of, tile_count}
 use Rattle.mw_grid.proofs.Counts.{in-yes, in-low, in-high}
@@ -19,14 +20,10 @@ range_same a t x other = elim (cases_lt x a) [
     beyond : (x t : ℕ) → t ≤ x → x ≢ t → t + 1 ≤ x
     beyond x t le ne = omega arith
 
-or-false : (b c : Bool) → c ≡ false → b ≡ b || c
-or-false true c e = refl
-or-false false c e = sym e
-
 range_or : (a t x : ℕ) → a ≤ t → in_range a (t + 1) x ≡ in_range a t x || nat_eq x t
 range_or a t x le = elim (cases_eq x t) [
   | inl here ↦ in-yes a (t + 1) x (omega arith) (omega arith) ∙ sym (or_right (in_range a t x) (nat_eq x t) (eq-eqb x t here))
-  | inr other ↦ range_same a t x other ∙ or-false (in_range a t x) (nat_eq x t) (ne_eqb x t other)
+  | inr other ↦ range_same a t x other ∙ or-false_right (in_range a t x) (nat_eq x t) (ne_eqb x t other)
 ]
 
 -- a tile that stays
@@ -43,7 +40,7 @@ pub row_drop : (a t x : ℕ) (b : ℕ → Bool) → a ≤ t → b t ≡ true →
 row_drop a t x b le goes = elim (cases_eq x t) [
   | inl here ↦
       ap (λ (r : Bool). r && b x) (in-yes a (t + 1) x (omega arith) (omega arith)) ∙ ap b here ∙ goes ∙ sym (or_right (in_range a t x && b x) (nat_eq x t) (eq-eqb x t here))
-  | inr other ↦ ap (λ (r : Bool). r && b x) (range_same a t x other) ∙ or-false (in_range a t x && b x) (nat_eq x t) (ne_eqb x t other)
+  | inr other ↦ ap (λ (r : Bool). r && b x) (range_same a t x other) ∙ or-false_right (in_range a t x && b x) (nat_eq x t) (ne_eqb x t other)
 ]
 
 or_and : (x y m b : Bool) → (x || y) && m && b ≡ (x && m && b) || (y && m && b)
@@ -72,9 +69,6 @@ block_more columns top row left right x b some across le =
     ap (λ (r : Bool). r && in_range left right (x % columns) && b) (range_or top row (x / columns) le)
     ∙ or_and (in_range top row (x / columns)) (nat_eq (x / columns) row) (in_range left right (x % columns)) b
     ∙ ap (λ (r : Bool). (in_range top row (x / columns) && in_range left right (x % columns) && b) || (r && b)) (sym (row_is columns row left right x some across))
-
-pub no_range : (a x : ℕ) (b : Bool) → in_range a a x && b ≡ false
-no_range a x b = ap (λ (r : Bool). r && b) (elim (cases_lt x a) [ inl low ↦ in-low a a x low | inr from ↦ in-high a a x from ])
 
 -- a row of a block ends within the tiles
 pub row_fits : (g : Tiling) (row columns right : ℕ) → columns ≡ columns_of g → right ≤ columns_of g → row < rows_of g → row * columns + right ≤ tile_count g

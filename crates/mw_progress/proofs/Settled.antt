@@ -4,7 +4,7 @@ use Rattle.std.specs.List.{AllByRecursion, range_with_len, list_any}
 use Rattle.std.proofs.Math.ListN.{get_or-map}
 use Rattle.std.proofs.lemmas.Bool.{cases_eq, cases_lt}
 use Rattle.std.proofs.lemmas.List.{length-map, map-set, length-set, get_or-set_same, get_or-set_other, get_or_past, ext_get_or}
-use Rattle.std.proofs.lemmas.Nat.{div-mul-add, mod-mul-add, div-add-mod'}
+use Rattle.std.proofs.lemmas.Nat.{div-mul-add, mod-mul-add, div-add-mod', mod_below}
 use Rattle.mw_model.specs.declared.shapes.Kind.{Kind}
 use Rattle.mw_model.specs.Places.{grown}
 use Rattle.mw_model.specs.Plans.{Plan, is_sum}
@@ -25,7 +25,7 @@ use Rattle.mw_progress.specs.ProgressView.{IsWhole, number_of, no_plane, cells_o
 use Rattle.mw_progress.specs.Places.{shown, form, IsFormOf, place_at, planes_shown, underway, underway_kept, IsBoarded, IsPlaced, Swept, SweptAll, is_read, placed_in}
 use Rattle.mw_progress.specs.declared.places.Place.{Place}
 use Rattle.mw_progress.proofs.Boarded.{IsTied, same_work}
-use Rattle.mw_progress.proofs.Cells.{HasCount, all_counted, cells_at, cells_of_task, mod_lt}
+use Rattle.mw_progress.proofs.Cells.{HasCount, all_counted, cells_at, cells_of_task}
 use Rattle.mw_progress.proofs.Opened.{shown_at}
 use Rattle.mw_progress.proofs.Placing.{not_placed}
 use Rattle.mw_progress.proofs.Finished.{read_before, read_plain, any-same_below, finished_with, is_read_in, Settles, SameFrames}
@@ -161,7 +161,7 @@ settles_here plan input b planes after order step tile keep cells whole boarded 
       cells_of_task after m k d all-after some k-after
       ∙ ap (λ (ps : List Tiled). get_or (get_or ps s d).tiles v None) e.is
       ∙ put-other keep e.swept d step tile cells s v (omega (arith, len, e.count, within)) (λ es ev. ne (sym (div-add-mod' k m) ∙ ap (λ (x : ℕ). x * m + v) es ∙ ap (λ (y : ℕ). step * m + y) ev))
-      ∙ (e.each s s-lt).each v (omega (arith, whole.counts s, mod_lt k m some))
+      ∙ (e.each s s-lt).each v (omega (arith, whole.counts s, mod_below k m some))
       ∙ ap (λ (o : Option (List ℕ)). cond (gone s v) None o) (sym (cells_of_task planes m k d all some k-in))
       ∙ ap (λ (b : Bool). cond b None (get_or p.placed k None)) (gone-is k (subst (λ (c : ℕ). k < c) same.count k-lt));
 }

@@ -4,6 +4,7 @@ use Rattle.std.specs.List.{list_any}
 use Rattle.std.proofs.lemmas.Bool.{cases_lt}
 use Rattle.std.proofs.lemmas.List.{get_or_past, take_all}
 use Rattle.std.proofs.lemmas.List.Folds.{list_any_more, list_any_at}
+use Rattle.mw_facts.proofs.Tests.{or-false_right}
 use Rattle.mw_ready.specs.Boards.{is_source}
 
 no_source : (k : ℕ) (o : Option ℕ) → o ≡ None → is_source k o ≡ true → ⊥
@@ -15,16 +16,12 @@ source_at steps i k e = elim (cases_lt i (length steps)) [
   | inr past ↦ absurd (no_source k (get_or steps i None) (get_or_past steps i None past) e)
 ]
 
-or-none : (b c : Bool) → c ≡ false → b ≡ b || c
-or-none true c e = refl
-or-none false c e = sym e
-
 pub any_more : (steps : List (Option ℕ)) (i k : ℕ) → list_any (is_source k) (take (i + 1) steps) ≡ list_any (is_source k) (take i steps) || is_source k (get_or steps i None)
 any_more steps i k = elim (cases_lt i (length steps)) [
   | inl lt ↦ list_any_more (is_source k) steps i None lt
   | inr past ↦
       ap (list_any (is_source k)) (take_all (i + 1) steps (omega arith) ∙ sym (take_all i steps past))
-      ∙ or-none (list_any (is_source k) (take i steps)) (is_source k (get_or steps i None)) (ap (is_source k) (get_or_past steps i None past))
+      ∙ or-false_right (list_any (is_source k) (take i steps)) (is_source k (get_or steps i None)) (ap (is_source k) (get_or_past steps i None past))
 ]
 
 pub or_and_one : (a b c : Bool) → (a || b) && c ≡ (a && c) || (b && c)

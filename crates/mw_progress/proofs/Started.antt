@@ -1,7 +1,7 @@
 -- Work of which one more task is started.
 use Rattle.std.proofs.Common.{◌≡◌, ℕ, ◌<◌, Bool, true, false, not, List, length, set, refl, sym, ap, ◌∙◌, inl, inr}
 use Rattle.std.proofs.lemmas.Bool.{cases_eq, and_parts}
-use Rattle.std.proofs.lemmas.List.{length-set, get_or-set_same, get_or-set_other}
+use Rattle.std.proofs.lemmas.List.{length-set, get_or-set_other}
 use Rattle.mw_model.specs.Plans.{Plan}
 use Rattle.mw_model.specs.Tasks.{flag, is_ready}
 use Rattle.mw_grid.specs.Grids.{Tiling}
@@ -9,12 +9,7 @@ use Rattle.mw_tiles.specs.Tiles.{Tiled}
 use Rattle.mw_progress.specs.Levels.{Level}
 use Rattle.mw_progress.specs.ProgressView.{IsWhole, has_all_read}
 use Rattle.mw_progress.specs.Places.{underway}
-
-pub still_marked : (flags : List Bool) (n k : ℕ) → n < length flags → flag flags k ≡ true → flag (set flags n true) k ≡ true
-still_marked flags n k lt e = elim (cases_eq k n) [
-  | inl here ↦ ap (flag (set flags n true)) here ∙ get_or-set_same flags n true false lt
-  | inr other ↦ get_or-set_other flags n k true false other ∙ e
-]
+use Rattle.mw_progress.proofs.Flags.{flag-set}
 
 pub started_whole : (plan : Plan) (input : Level) (g : Tiling) (started finished : List Bool) (planes : List Tiled) (order now : List ℕ) (n : ℕ) → IsWhole (underway plan input g started finished planes order)
     → n < length started → is_ready (underway plan input g started finished planes order).progress n ≡ true → IsWhole (underway plan input g (set started n true) finished planes now)
@@ -30,7 +25,7 @@ started_whole plan input g started finished planes order now n whole lt ready =
       tiles = refl;
       started = length-set started n true ∙ whole.started;
       finished = whole.finished;
-      begun = λ k e. still_marked started n k lt (whole.begun k e);
+      begun = λ k e. flag-set started n k (whole.begun k e);
       calm = λ k k-lt e. elim (cases_eq k n) [
         | inl here ↦ ap (has_all_read old) here ∙ read
         | inr other ↦ whole.calm k k-lt (sym (get_or-set_other started n k true false other) ∙ e)

@@ -1,25 +1,14 @@
 -- Tiles that are dropped, one after another.
-use Rattle.std.proofs.Common.{zero, suc, replicate, ◌≡◌, ◌≢◌, ℕ, ◌<◌, Bool, true, false, ◌&&◌, ◌||◌, nat_eq, cond, List, length, get_or, set, Option, None, refl, sym, ap, subst, ◌∙◌, arith, inl, inr}
+use Rattle.std.proofs.Common.{◌≡◌, ℕ, ◌<◌, Bool, true, false, ◌||◌, nat_eq, cond, List, length, get_or, set, Option, None, refl, sym, ap, ◌∙◌, arith, inl, inr}
 use Rattle.std.proofs.lemmas.Bool.{cases_eq, eq-eqb, ne_eqb}
 use Rattle.std.proofs.lemmas.List.{length-set, get_or-set_same, get_or-set_other}
 use Rattle.mw_tiles.specs.Tiles.{Tiled, tile_cells}
-use Rattle.mw_grid.specs.Grids.{Tiling, tile_count}
-use Rattle.mw_progress.specs.Places.{shown, form, no_place, place_at, Swept, SweptAll}
+use Rattle.mw_grid.specs.Grids.{Tiling}
+use Rattle.mw_progress.specs.Places.{shown, place_at, Swept, SweptAll}
 use Rattle.mw_progress.specs.declared.places.Place.{Place}
-use Rattle.mw_progress.specs.declared.places.Place.TheVariants.{Closed, Plane, Sums}
 
 abbrev no_cells : Option (List ℕ)
 no_cells = None
-
--- nothing is dropped
-pub swept-none : (gone : ℕ → Bool) (p : Tiled) → ((v : ℕ) → gone v ≡ false) → Swept gone p p
-swept-none gone p none = record {
-  kind = refl;
-  maxval = refl;
-  tiling = refl;
-  count = refl;
-  each = λ v lt. ap (λ (b : Bool). cond b None (tile_cells p.tiles v)) (sym (none v));
-}
 
 -- the same tiles, told otherwise
 pub swept-same : (gone told : ℕ → Bool) (p q : Tiled) → ((v : ℕ) → v < length p.tiles → gone v ≡ told v) → Swept gone p q → Swept told p q
@@ -65,28 +54,7 @@ swept-one p i = record {
   ];
 }
 
-cond_none : (b : Bool) (o : Option (List ℕ)) → o ≡ None → o ≡ cond b None o
-cond_none true o e = e
-cond_none false o e = refl
-
--- a plane without tiles
-pub swept-closed : (gone : ℕ → Bool) (p : Tiled) → ((v : ℕ) → tile_cells p.tiles v ≡ None) → Swept gone p p
-swept-closed gone p none = record {
-  kind = refl;
-  maxval = refl;
-  tiling = refl;
-  count = refl;
-  each = λ v lt. cond_none (gone v) (tile_cells p.tiles v) (none v);
-}
-
 -- ---- the places of all steps
-
-pub all-none : (g : Tiling) (gone : ℕ → ℕ → Bool) (places : List Place) → ((k v : ℕ) → gone k v ≡ false) → SweptAll g gone places places
-all-none g gone places none = record {
-  count = refl;
-  forms = λ k. refl;
-  each = λ k lt. swept-none (gone k) (shown g (place_at places k)) (none k);
-}
 
 pub all-same : (g : Tiling) (gone told : ℕ → ℕ → Bool) (old new : List Place) → ((k v : ℕ) → k < length old → v < length (shown g (place_at old k)).tiles → gone k v ≡ told k v) → SweptAll g gone old new → SweptAll g told old new
 all-same g gone told old new same s = record {
@@ -101,48 +69,3 @@ all-then g first second both old mid new e s t = record {
   forms = λ k. t.forms k ∙ s.forms k;
   each = λ k lt. swept-then (first k) (second k) (both k) (shown g (place_at old k)) (shown g (place_at mid k)) (shown g (place_at new k)) (λ v v-lt. e k v) (s.each k lt) (t.each k (let size = s.count in omega arith));
 }
-
--- the place of one step
-pub all-one : (g : Tiling) (gone : ℕ → ℕ → Bool) (places : List Place) (step : ℕ) (now : Place) → step < length places → form now ≡ form (place_at places step) → Swept (gone step) (shown g (place_at places step)) (shown g now)
-    → SweptAll g (λ k v. nat_eq step k && gone k v) places (set places step now)
-all-one g gone places step now lt same swept = record {
-  count = length-set places step now;
-  forms = λ k. elim (cases_eq k step) [
-    | inl here ↦ ap (λ (j : ℕ). form (place_at (set places step now) j)) here ∙ ap form is ∙ same ∙ ap (λ (j : ℕ). form (place_at places j)) (sym here)
-    | inr other ↦ ap form (get_or-set_other places step k now no_place other)
-  ];
-  each = λ k k-lt. elim (cases_eq k step) [
-    | inl here ↦
-        let told : ℕ → Bool = λ v. nat_eq step k && gone k v in
-        let moved : Swept (gone k) (shown g (place_at places k)) (shown g (place_at (set places step now) k)) = subst (λ (j : ℕ). Swept (gone j) (shown g (place_at places j)) (shown g (place_at (set places step now) j))) (sym here) (subst (λ (p : Place). Swept (gone step) (shown g (place_at places step)) (shown g p)) (sym is) swept) in
-        swept-same (gone k) told (shown g (place_at places k)) (shown g (place_at (set places step now) k)) (λ v v-lt. ap (λ (b : Bool). b && gone k v) (sym (eq-eqb step k (sym here)))) moved
-    | inr other ↦
-        subst (λ (p : Place). Swept (λ v. nat_eq step k && gone k v) (shown g (place_at places k)) (shown g p)) (sym (get_or-set_other places step k now no_place other))
-        (swept-none (λ v. nat_eq step k && gone k v) (shown g (place_at places k)) (λ v. ap (λ (b : Bool). b && gone k v) (ne_eqb step k (λ e. other (sym e)))))
-  ];
-}
-  where
-    is : place_at (set places step now) step ≡ now
-    is = get_or-set_same places step now no_place lt
-
--- a place that was not opened
-pub all-closed : (g : Tiling) (gone : ℕ → ℕ → Bool) (places : List Place) (step : ℕ) → ((v : ℕ) → tile_cells (shown g (place_at places step)).tiles v ≡ None) → SweptAll g (λ k v. nat_eq step k && gone k v) places places
-all-closed g gone places step none = record {
-  count = refl;
-  forms = λ k. refl;
-  each = λ k k-lt. elim (cases_eq k step) [
-    | inl here ↦ swept-closed (λ v. nat_eq step k && gone k v) (shown g (place_at places k)) (λ v. ap (λ (j : ℕ). tile_cells (shown g (place_at places j)).tiles v) here ∙ none v)
-    | inr other ↦ swept-none (λ v. nat_eq step k && gone k v) (shown g (place_at places k)) (λ v. ap (λ (b : Bool). b && gone k v) (ne_eqb step k (λ e. other (sym e))))
-  ];
-}
-
-none_in : (n v : ℕ) (o : Option (List ℕ)) → o ≡ None → get_or (replicate n o) v None ≡ None
-none_in zero v o e = refl
-none_in (suc n) zero o e = e
-none_in (suc n) (suc v) o e = none_in n v o e
-
--- a place that is neither a plane nor numbers shows no tiles
-pub closed_tiles : (g : Tiling) (place : Place) (v : ℕ) → ((p : Tiled) → place ≡ Plane p → ⊥) → form place ≢ 2 → tile_cells (shown g place).tiles v ≡ None
-closed_tiles g (Closed l) v h two = none_in (tile_count g) v None refl
-closed_tiles g (Plane p) v h two = absurd (h p refl)
-closed_tiles g (Sums p) v h two = absurd (two refl)

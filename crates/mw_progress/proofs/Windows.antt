@@ -1,7 +1,8 @@
 -- Windows of planes that are open.
-use Rattle.std.proofs.Common.{◌≡◌, ◌≢◌, ℕ, zero, suc, ◌<◌, ◌≤◌, Bool, true, false, List, length, get_or, replicate, Option, None, refl, sym, ap, subst, ◌∙◌, arith}
-use Rattle.std.specs.Prelude.{IsSome}
+use Rattle.std.proofs.Common.{◌≡◌, ◌≢◌, ℕ, ◌<◌, ◌≤◌, Bool, false, List, length, get_or, Option, None, refl, sym, ap, subst, ◌∙◌, arith}
 use Rattle.std.proofs.lemmas.List.{length-map, get_or_read}
+use Rattle.mw_facts.proofs.Tests.{none-not_some}
+use Rattle.mw_facts.proofs.Elements.{get_or-replicate_same}
 use Rattle.mw_model.specs.declared.places.Rect.{Rect}
 use Rattle.mw_model.specs.Places.{Holds, IsWithin}
 use Rattle.mw_model.specs.Plans.{Plan, is_sum}
@@ -31,14 +32,6 @@ no_form (Closed l) h two = (l, refl)
 no_form (Plane p) h two = absurd (h p refl)
 no_form (Sums p) h two = absurd (two refl)
 
-none_placed : (n i : ℕ) (o : Option (List ℕ)) → o ≡ None → get_or (replicate n o) i None ≡ None
-none_placed zero i o e = refl
-none_placed (suc n) zero o e = e
-none_placed (suc n) (suc i) o e = none_placed n i o e
-
-no_some : (o : Option (List ℕ)) → o ≡ None → IsSome o → ⊥
-no_some o e some = let f : false ≡ true = subst (λ (p : Option (List ℕ)). IsSome p) e some in cc
-
 -- a plane without tiles has no rectangle
 no_rect : (g : Tiling) (l : Level) (r : Rect) → IsFramed g → 1 ≤ r.width → 1 ≤ r.height → IsWithin r g.width g.height → HasAll g (closed_plane g l).tiles r → ⊥
 no_rect g l r framed wide high within all =
@@ -50,7 +43,7 @@ no_rect g l r framed wide high within all =
     let lt : n < tile_count g = (let e = found.here in omega (arith, length-tiles_of g)) in
     let there : Holds (tile_at g n) r.x r.y = subst (λ (t : Rect). Holds t r.x r.y) (tile_of-tiles_of g n lt) found.holds in
     let some = all r.x r.y (record { left = omega arith; right = omega arith; top = omega arith; bottom = omega arith }) n lt there in
-    no_some (tile_cells (closed_plane g l).tiles n) (none_placed (tile_count g) n None refl) some
+    none-not_some (tile_cells (closed_plane g l).tiles n) (get_or-replicate_same {A = Option (List ℕ)} (tile_count g) n None) some
 
 pub place_of : (plan : Plan) (input : Level) (g : Tiling) (turns : Turns) (places : List Place) (step : ℕ) (place : Place) → IsWhole (underway_kept plan input g turns places) → step < length plan → place ≡ get_or places step place
     → plane_at (underway_kept plan input g turns places) step ≡ shown g place

@@ -24,19 +24,10 @@ pub count-push : (p : ℕ → Bool) (xs : List ℕ) (x : ℕ) → count_by p (xs
 count-push p [] x = omega (arith, count-bit p x [])
 count-push p (y ∷ ys) x = omega (arith, count-bit p y (ys ++ x ∷ []), count-bit p y ys, count-push p ys x)
 
-pub all-push : (n : ℕ) (xs : List ℕ) (x : ℕ) → AllByRecursion (λ y. y < n) xs → x < n → AllByRecursion (λ y. y < n) (xs ++ x ∷ [])
-all-push n [] x all lt = (lt, tt)
-all-push n (y ∷ ys) x all lt = (all.0, all-push n ys x all.1 lt)
-
 pub all-set : (n : ℕ) (xs : List ℕ) (i v : ℕ) → AllByRecursion (λ y. y < n) xs → v < n → AllByRecursion (λ y. y < n) (set xs i v)
 all-set n [] i v all lt = tt
 all-set n (x ∷ xs) zero v all lt = (lt, all.1)
 all-set n (x ∷ xs) (suc i) v all lt = (all.0, all-set n xs i v all.1 lt)
-
-pub all-at : (n : ℕ) (xs : List ℕ) (i : ℕ) → AllByRecursion (λ y. y < n) xs → i < length xs → get_or xs i 0 < n
-all-at n [] i all lt = absurd (omega arith)
-all-at n (x ∷ xs) zero all lt = all.0
-all-at n (x ∷ xs) (suc i) all lt = all-at n xs i all.1 (omega arith)
 
 pub count-has : (xs : List ℕ) (i : ℕ) → i < length xs → 1 ≤ count_of (get_or xs i 0) xs
 count-has [] i lt = absurd (omega arith)

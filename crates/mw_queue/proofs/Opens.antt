@@ -1,18 +1,19 @@
 -- The lists of a queue keep its open tasks.
-use Rattle.std.proofs.Common.{◌≡◌, ◌≢◌, ℕ, ◌+◌, ◌-◌, ◌*◌, ◌/◌, ◌%◌, ◌<◌, ◌≤◌, Bool, true, false, not, ◌&&◌, nat_eq, List, [], ◌∷◌, ◌++◌, length, refl, ap, sym, subst, ◌∙◌, arith, inl, inr, set, get_or, vec_capacity, length-set, length-append, ◌^◌}
+use Rattle.std.proofs.Common.{◌≡◌, ◌≢◌, ℕ, ◌+◌, ◌-◌, ◌*◌, ◌/◌, ◌%◌, ◌<◌, ◌≤◌, Bool, true, false, not, ◌&&◌, nat_eq, List, [], ◌∷◌, ◌++◌, length, refl, ap, sym, subst, ◌∙◌, arith, inl, inr, set, get_or, vec_capacity, length-set, length-append, ◌^◌, add_left_cancel}
 use Rattle.std.specs.List.{swap_remove}
 use Rattle.std.specs.Global.{Vec}
 use Rattle.std.proofs.Math.Nat.{mul-le-mul_left}
 use Rattle.std.proofs.Math.Seq.{get_or-append_seam}
 use Rattle.std.proofs.lemmas.Bool.{cases_eq, cases_lt, ne_eqb}
 use Rattle.std.proofs.lemmas.List.{get_or-set_same, get_or-set_other, get_or_default, get_or_append_left, length-map, map-set, map-append}
-use Rattle.std.proofs.lemmas.Nat.{div-mul-add, div-add-mod'}
+use Rattle.std.proofs.lemmas.Nat.{div-mul-add, div-add-mod', mod_below}
+use Rattle.mw_facts.proofs.Counts.{count_by-same, count_by-most, count_by-some}
 use Rattle.mw_model.specs.Tasks.{flag}
 use Rattle.mw_grid.proofs.Lines.{row_less, number_of}
 use Rattle.mw_grid.specs.Counts.{bit, count_below}
 use Rattle.mw_queue.specs.Queues.{is_open, list_at, Queued, IsQueue, Listed}
 use Rattle.mw_queue.specs.Shown.{items_of, HasRoom}
-use Rattle.mw_grid.proofs.Counts.{count-add, count-most, count-more, count-same, bit-at, bit-other, count-some, count-less}
+use Rattle.mw_grid.proofs.Counts.{count-add, count-more, bit-at, bit-other, count-less}
 use Rattle.mw_queue.proofs.Lists.{listed-push, listed-swap_remove, listed-same, listed-at, length-of_listed}
 use Rattle.mw_queue.proofs.Orders.{list_at-items}
 
@@ -38,10 +39,10 @@ count-changed p q t n lt was now other = count-more p q t n lt (λ u u-lt. elim 
 ])
 
 -- of one step the list and the open tasks changed at tile u alone
-changed : (p q : ℕ → Bool) (tiles s u n : ℕ) (lists : List (List ℕ)) (xs : List ℕ) → s < length lists → u < tiles → ((t : ℕ) → t ≢ s * tiles + u → q t ≡ p t)
+Listed-changed : (p q : ℕ → Bool) (tiles s u n : ℕ) (lists : List (List ℕ)) (xs : List ℕ) → s < length lists → u < tiles → ((t : ℕ) → t ≢ s * tiles + u → q t ≡ p t)
     → ((k : ℕ) → k < length lists → Listed tiles (λ t. p (k * tiles + t)) (list_at lists k)) → Listed tiles (λ t. q (s * tiles + t)) xs
     → (k : ℕ) → k < length (set lists s xs) → Listed tiles (λ t. q (k * tiles + t)) (list_at (set lists s xs) k)
-changed p q tiles s u n lists xs s-lt u-lt other old new k k-lt =
+Listed-changed p q tiles s u n lists xs s-lt u-lt other old new k k-lt =
     let size : length (set lists s xs) ≡ length lists = simp length-set in
     elim (cases_eq k s) [
       | inl here ↦ subst (λ (j : ℕ). Listed tiles (λ t. q (j * tiles + t)) (list_at (set lists s xs) j)) (sym here) (subst (λ (ys : List ℕ). Listed tiles (λ t. q (s * tiles + t)) ys) (sym (get_or-set_same lists s xs [] s-lt)) new)
@@ -50,13 +51,10 @@ changed p q tiles s u n lists xs s-lt u-lt other old new k k-lt =
           (λ t t-lt. other (k * tiles + t) (other_step tiles k t (s * tiles + u) t-lt (λ e. ne (e ∙ div-mul-add s tiles u u-lt)))) (old k (omega arith)))
     ]
 
-cancel : (a b c : ℕ) → a + b ≡ a + c → b ≡ c
-cancel a b c e = omega arith
-
 -- an open task is started
-taken : (q : Queued) (total s i u : ℕ) → IsQueue q total → s < length q.ready → i < length (list_at q.ready s) → u ≡ get_or (list_at q.ready s) i u
+IsQueue-taken : (q : Queued) (total s i u : ℕ) → IsQueue q total → s < length q.ready → i < length (list_at q.ready s) → u ≡ get_or (list_at q.ready s) i u
     → IsQueue (queued (set q.started (s * q.tiles + u) true) q.waiting q.tiles (set q.ready s (swap_remove (list_at q.ready s) i u))) (total - 1)
-taken q total s i u queue s-lt i-lt u-is =
+IsQueue-taken q total s i u queue s-lt i-lt u-is =
     let t = s * q.tiles + u in
     let before : ℕ → Bool = is_open q.started q.waiting in
     let now : ℕ → Bool = is_open (set q.started t true) q.waiting in
@@ -72,9 +70,9 @@ taken q total s i u queue s-lt i-lt u-is =
       started = started-size ∙ queue.started;
       whole = queue.whole ∙ ap (λ (k : ℕ). k * q.tiles) (sym ready-size);
       small = queue.small;
-      listed = changed before now q.tiles s u (length q.waiting) q.ready (swap_remove (list_at q.ready s) i u) s-lt there.0 other queue.listed
+      listed = Listed-changed before now q.tiles s u (length q.waiting) q.ready (swap_remove (list_at q.ready s) i u) s-lt there.0 other queue.listed
           (listed-swap_remove q.tiles (λ k. before (s * q.tiles + k)) (λ k. now (s * q.tiles + k)) (list_at q.ready s) i u (queue.listed s s-lt) i-lt u-is closed
-          (λ k k-lt ne. other (s * q.tiles + k) (λ e. ne (cancel (s * q.tiles) k u e))));
+          (λ k k-lt ne. other (s * q.tiles + k) (λ e. ne (add_left_cancel (s * q.tiles) e))));
       count = (let less = count-changed before now t (length q.waiting) t-lt there.1 closed (λ k k-lt ne. other k ne) in let c = queue.count in omega arith);
     }
   where
@@ -84,7 +82,7 @@ taken q total s i u queue s-lt i-lt u-is =
 pub taken_given : (q : Queued) (total s i u : ℕ) (ready : List (List ℕ)) → IsQueue q total → s < length q.ready → i < length (list_at q.ready s) → u ≡ get_or (list_at q.ready s) i u
     → ready ≡ set q.ready s (swap_remove (list_at q.ready s) i u) → IsQueue (queued (set q.started (s * q.tiles + u) true) q.waiting q.tiles ready) (total - 1)
 taken_given q total s i u ready queue s-lt i-lt u-is ready-is =
-    subst (λ (r : List (List ℕ)). IsQueue (queued (set q.started (s * q.tiles + u) true) q.waiting q.tiles r) (total - 1)) (sym ready-is) (taken q total s i u queue s-lt i-lt u-is)
+    subst (λ (r : List (List ℕ)). IsQueue (queued (set q.started (s * q.tiles + u) true) q.waiting q.tiles r) (total - 1)) (sym ready-is) (IsQueue-taken q total s i u queue s-lt i-lt u-is)
 
 -- what is listed is open
 pub listed_open : (q : Queued) (total s i u : ℕ) → IsQueue q total → s < length q.ready → i < length (list_at q.ready s) → u ≡ get_or (list_at q.ready s) i 0
@@ -99,10 +97,7 @@ open_listed q total t queue lt opened =
     let some : 0 < q.tiles = queue.some in
     let s-lt : t / q.tiles < length q.ready = row_less (length q.ready) q.tiles t some (let e = queue.whole in omega arith) in
     let there : is_open q.started q.waiting (t / q.tiles * q.tiles + t % q.tiles) ≡ true = ap (is_open q.started q.waiting) (div-add-mod' t q.tiles) ∙ opened in
-    (s-lt, omega (arith, length-of_listed q.tiles (λ k. is_open q.started q.waiting (t / q.tiles * q.tiles + k)) (list_at q.ready (t / q.tiles)) (queue.listed (t / q.tiles) s-lt), count-some (λ k. is_open q.started q.waiting (t / q.tiles * q.tiles + k)) (t % q.tiles) q.tiles (mod_lt t q.tiles some) there))
-  where
-    mod_lt : (i n : ℕ) → 0 < n → i % n < n
-    mod_lt i n some = omega arith
+    (s-lt, omega (arith, length-of_listed q.tiles (λ k. is_open q.started q.waiting (t / q.tiles * q.tiles + k)) (list_at q.ready (t / q.tiles)) (queue.listed (t / q.tiles) s-lt), count_by-some (λ k. is_open q.started q.waiting (t / q.tiles * q.tiles + k)) q.tiles (t % q.tiles) (mod_below t q.tiles some) there))
 
 -- a task still waits
 pub still_waits : (q : Queued) (total t v : ℕ) → IsQueue q total → t < length q.waiting → 0 < get_or q.waiting t 0 → v ≢ 0 → IsQueue (queued q.started (set q.waiting t v) q.tiles q.ready) total
@@ -121,7 +116,7 @@ still_waits q total t v queue lt waits more =
       whole = size ∙ queue.whole;
       small = (let s = queue.small in omega arith);
       listed = λ s s-lt. listed-same q.tiles (λ k. before (s * q.tiles + k)) (λ k. now (s * q.tiles + k)) (list_at q.ready s) (λ k k-lt. same (s * q.tiles + k)) (queue.listed s s-lt);
-      count = queue.count ∙ sym (ap (count_below now) size ∙ count-same now before (length q.waiting) (λ k k-lt. same k));
+      count = queue.count ∙ sym (ap (count_below now) size ∙ count_by-same now before (length q.waiting) (λ k k-lt. same k));
     }
   where
     closed : is_open q.started (set q.waiting t v) t ≡ false
@@ -146,9 +141,9 @@ opened q total s u queue s-lt u-lt waits idle =
       started = queue.started ∙ sym size;
       whole = size ∙ queue.whole ∙ ap (λ (k : ℕ). k * q.tiles) (sym ready-size);
       small = (let z = queue.small in omega arith);
-      listed = changed before now q.tiles s u (length q.waiting) q.ready (list_at q.ready s ++ u ∷ []) s-lt u-lt other queue.listed
+      listed = Listed-changed before now q.tiles s u (length q.waiting) q.ready (list_at q.ready s ++ u ∷ []) s-lt u-lt other queue.listed
           (listed-push q.tiles (λ k. before (s * q.tiles + k)) (λ k. now (s * q.tiles + k)) (list_at q.ready s) u (queue.listed s s-lt) u-lt closed free
-          (λ k k-lt ne. other (s * q.tiles + k) (λ e. ne (cancel (s * q.tiles) k u e))));
+          (λ k k-lt ne. other (s * q.tiles + k) (λ e. ne (add_left_cancel (s * q.tiles) e))));
       count = (let more = count-changed now before t (length q.waiting) t-lt free closed (λ k k-lt ne. sym (other k ne)) in let c = queue.count in let e = ap (count_below now) size in omega arith);
     }
 
@@ -158,11 +153,8 @@ opened_given q total t v ready queue lt waits idle v-is ready-is =
     let some : 0 < q.tiles = queue.some in
     let back : t / q.tiles * q.tiles + t % q.tiles ≡ t = div-add-mod' t q.tiles in
     let s-lt : t / q.tiles < length q.ready = row_less (length q.ready) q.tiles t some (let e = queue.whole in omega arith) in
-    let made = opened q total (t / q.tiles) (t % q.tiles) queue s-lt (mod_lt t q.tiles some) (omega (arith, ap (λ (k : ℕ). get_or q.waiting k 0) back)) (ap (flag q.started) back ∙ idle) in
+    let made = opened q total (t / q.tiles) (t % q.tiles) queue s-lt (mod_below t q.tiles some) (omega (arith, ap (λ (k : ℕ). get_or q.waiting k 0) back)) (ap (flag q.started) back ∙ idle) in
     rw (v-is, ready-is) (subst (λ (k : ℕ). IsQueue (queued q.started (set q.waiting k 0) q.tiles (set q.ready (t / q.tiles) (list_at q.ready (t / q.tiles) ++ t % q.tiles ∷ []))) (total + 1)) back made)
-  where
-    mod_lt : (i n : ℕ) → 0 < n → i % n < n
-    mod_lt i n some = omega arith
 
 -- a list of open tasks of a step has room for one more
 pub list_room : (q : Queued) (total t : ℕ) → IsQueue q total → t < length q.waiting → 0 < get_or q.waiting t 0 → (t / q.tiles < length q.ready) × (length (list_at q.ready (t / q.tiles)) < q.tiles)
@@ -170,13 +162,10 @@ list_room q total t queue lt waits =
     let some : 0 < q.tiles = queue.some in
     let s-lt : t / q.tiles < length q.ready = row_less (length q.ready) q.tiles t some (let e = queue.whole in omega arith) in
     let closed : is_open q.started q.waiting (t / q.tiles * q.tiles + t % q.tiles) ≡ false = ap (is_open q.started q.waiting) (div-add-mod' t q.tiles) ∙ open_waits (flag q.started t) (get_or q.waiting t 0) waits in
-    (s-lt, omega (arith, length-of_listed q.tiles (λ k. is_open q.started q.waiting (t / q.tiles * q.tiles + k)) (list_at q.ready (t / q.tiles)) (queue.listed (t / q.tiles) s-lt), count-less (λ k. is_open q.started q.waiting (t / q.tiles * q.tiles + k)) (t % q.tiles) q.tiles (mod_lt t q.tiles some) closed))
-  where
-    mod_lt : (i n : ℕ) → 0 < n → i % n < n
-    mod_lt i n some = omega arith
+    (s-lt, omega (arith, length-of_listed q.tiles (λ k. is_open q.started q.waiting (t / q.tiles * q.tiles + k)) (list_at q.ready (t / q.tiles)) (queue.listed (t / q.tiles) s-lt), count-less (λ k. is_open q.started q.waiting (t / q.tiles * q.tiles + k)) (t % q.tiles) q.tiles (mod_below t q.tiles some) closed))
 
 pub total_small : (q : Queued) (total : ℕ) → IsQueue q total → total < 2 ^ 31
-total_small q total queue = (let c = queue.count in let s = queue.small in omega (arith, count-most (is_open q.started q.waiting) (length q.waiting)))
+total_small q total queue = (let c = queue.count in let s = queue.small in omega (arith, count_by-most (is_open q.started q.waiting) (length q.waiting)))
 
 pub steps_small : (q : Queued) (total s : ℕ) → IsQueue q total → s < length q.ready → s < 2 ^ 31
 steps_small q total s queue lt = (let w = queue.whole in let m = queue.small in omega (arith, more (length q.ready) q.tiles queue.some))
@@ -246,12 +235,12 @@ count-more_step waiting tiles k total n xs before listed n-is =
 pub total_next : (waiting : List ℕ) (tiles k total n steps size : ℕ) → total ≡ count_below (free waiting) (k * tiles) → n ≤ tiles → k < steps → size ≡ steps * tiles → size < 2 ^ 31 → total + n < 2 ^ 31
 total_next waiting tiles k total n steps size count few lt whole small =
     let up : k + 1 ≤ steps = omega arith in
-    omega (arith, count-most (free waiting) (k * tiles), mul-le-mul_left tiles up)
+    omega (arith, count_by-most (free waiting) (k * tiles), mul-le-mul_left tiles up)
 
 -- what is taken out of a list that is held was open
-pub picked : (lists : List (Vec ℕ)) (q : Queued) (total s i u : ℕ) (w : Vec ℕ) → IsQueue q total → items_of lists ≡ q.ready → s < length q.ready → i < length (list_at q.ready s) → w ≡ get_or lists s w → u ≡ get_or w.items i u
+pub IsQueue-picked : (lists : List (Vec ℕ)) (q : Queued) (total s i u : ℕ) (w : Vec ℕ) → IsQueue q total → items_of lists ≡ q.ready → s < length q.ready → i < length (list_at q.ready s) → w ≡ get_or lists s w → u ≡ get_or w.items i u
     → (u < q.tiles) × (s * q.tiles + u < length q.waiting) × (is_open q.started q.waiting (s * q.tiles + u) ≡ true)
-picked lists q total s i u w queue shown s-lt i-lt w-is u-is =
+IsQueue-picked lists q total s i u w queue shown s-lt i-lt w-is u-is =
     let held : s < length lists = omega (arith, ap (λ (xs : List (List ℕ)). length xs) shown, length-items_of lists) in
     let list-is = list_at-items lists q.ready s w shown held w-is in
     listed_open q total s i u queue s-lt i-lt (u-is ∙ ap (λ (xs : List ℕ). get_or xs i u) (sym list-is) ∙ get_or_default (list_at q.ready s) i u 0 i-lt)

@@ -1,9 +1,9 @@
 -- Counting levels.
-use Rattle.std.proofs.Common.{◌≡◌, ℕ, ◌+◌, ◌-◌, ◌<◌, ◌≤◌, List, [], ◌∷◌, ◌++◌, length, get_or, set, refl, ap, sym, arith, ◌∙◌, inl, inr, cond, Bool, length-set, subst, get_or-set_same, get_or-set_other}
+use Rattle.std.proofs.Common.{◌≡◌, ℕ, ◌+◌, ◌-◌, ◌<◌, ◌≤◌, List, [], ◌∷◌, ◌++◌, length, get_or, set, refl, ap, sym, arith, ◌∙◌, inl, inr, cond, length-set, subst, get_or-set_same, get_or-set_other}
 use Rattle.std.specs.Prelude.{nat_lt, min, max}
 use Rattle.std.proofs.lemmas.Bool.{cases_lt, cases_order, lt-ltb, le-ltb}
 use Rattle.std.proofs.lemmas.List.Sums.{sum_by-cons, sum_by-append, count_by-le-length}
-use Rattle.std.proofs.lemmas.List.{get_or_default}
+use Rattle.mw_facts.proofs.Numbers.{one_if}
 use Rattle.mw_model.specs.PlanSteps.{ranked}
 use Rattle.mw_model.proofs.PlainRanks.{nth_from}
 use Rattle.mw_rank.specs.declared.histogram.Histogram.{Histogram}
@@ -14,12 +14,6 @@ count-cons limit n ns = sum_by-cons (λ s. cond (nat_lt s limit) 1 0) n ns
 
 pub count-append : (limit : ℕ) (ns ms : List ℕ) → count_under limit (ns ++ ms) ≡ count_under limit ns + count_under limit ms
 count-append limit ns ms = sum_by-append (λ s. cond (nat_lt s limit) 1 0) ns ms
-
-pub count_within : (limit : ℕ) (ns : List ℕ) → count_under limit ns ≤ length ns
-count_within limit ns = count_by-le-length (λ s. nat_lt s limit) ns
-
-abbrev pub one_if : Bool → ℕ
-one_if b = cond b 1 0
 
 pub one-lt : (s v : ℕ) → s < v → one_if (nat_lt s v) ≡ 1
 one-lt s v lt = rw (lt-ltb s v lt) refl
@@ -49,13 +43,7 @@ tallies_same top h ns ms same t = record {
 
 -- a counter counts no more than all levels
 pub counter_within : (top : ℕ) (h : Histogram) (ns : List ℕ) (s : ℕ) → Tallies top h ns → get_or h.counts.items s 0 ≤ length ns
-counter_within top h ns s t = omega (arith, t.each s, count_within (s + 1) ns)
-
-pub below_within : (top : ℕ) (h : Histogram) (ns : List ℕ) → Tallies top h ns → h.below ≤ length ns
-below_within top h ns t = omega (arith, t.below, count_within h.level ns)
-
-pub counter_is : (items : List ℕ) (s d : ℕ) → s < length items → d ≡ get_or items s d → d ≡ get_or items s 0
-counter_is items s d lt e = e ∙ get_or_default items s d 0 lt
+counter_within top h ns s t = omega (arith, t.each s, count_by-le-length (λ r. nat_lt r (s + 1)) ns)
 
 -- the counter of a level and those of the others, where one is added
 put_more : (items : List ℕ) (s v : ℕ) → s < length items → cond (nat_lt s (v + 1)) 1 0 + get_or items v 0 ≡ get_or (set items s (get_or items s 0 + 1)) v 0 + cond (nat_lt s v) 1 0
@@ -93,10 +81,10 @@ tallies_added top s h g ns le counts-is level-is held-is below-is t = record {
   level = omega (arith, level-is, t.level);
 }
 
-pub known : (top s : ℕ) (h : Histogram) (ns : List ℕ) → Tallies top h (s ∷ ns) → s ≤ top
-known top s h ns t = elim (cases_lt top s) [
+pub Tallies-known : (top s : ℕ) (h : Histogram) (ns : List ℕ) → Tallies top h (s ∷ ns) → s ≤ top
+Tallies-known top s h ns t = elim (cases_lt top s) [
   | inr low ↦ low
-  | inl high ↦ absurd (omega (arith, count-cons (top + 1) s ns, one-le s (top + 1) (omega arith), t.all, count_within (top + 1) ns))
+  | inl high ↦ absurd (omega (arith, count-cons (top + 1) s ns, one-le s (top + 1) (omega arith), t.all, count_by-le-length (λ r. nat_lt r (top + 1)) ns))
 ]
 
 count_rises : (s : ℕ) (ns : List ℕ) → count_under s ns ≤ count_under (s + 1) ns
@@ -107,8 +95,8 @@ count_rises s (n ∷ ns) = elim (cases_lt n s) [
 ]
 
 -- a level that was counted has a counter above 0
-pub counted : (top s : ℕ) (h : Histogram) (ns : List ℕ) → Tallies top h (s ∷ ns) → 1 ≤ get_or h.counts.items s 0
-counted top s h ns t = omega (arith, t.each s, count-cons (s + 1) s ns, count-cons s s ns, one-lt s (s + 1) (omega arith), one-le s s (omega arith), count_rises s ns)
+pub Tallies-counted : (top s : ℕ) (h : Histogram) (ns : List ℕ) → Tallies top h (s ∷ ns) → 1 ≤ get_or h.counts.items s 0
+Tallies-counted top s h ns t = omega (arith, t.each s, count-cons (s + 1) s ns, count-cons s s ns, one-lt s (s + 1) (omega arith), one-le s s (omega arith), count_rises s ns)
 
 pub counted_below : (top s : ℕ) (h : Histogram) (ns : List ℕ) → Tallies top h (s ∷ ns) → s < h.level → 1 ≤ h.below
 counted_below top s h ns t lt = omega (arith, t.below, count-cons h.level s ns, one-lt s h.level lt)
@@ -117,13 +105,13 @@ counted_below top s h ns t lt = omega (arith, t.below, count-cons h.level s ns, 
 pub tallies_removed : (top s : ℕ) (h g : Histogram) (ns : List ℕ) → g.counts.items ≡ set h.counts.items s (get_or h.counts.items s 0 - 1) → g.level ≡ h.level → g.held + 1 ≡ h.held
     → g.below + cond (nat_lt s h.level) 1 0 ≡ h.below → Tallies top h (s ∷ ns) → Tallies top g ns
 tallies_removed top s h g ns counts-is level-is held-is below-is t =
-    let low = known top s h ns t in
+    let low = Tallies-known top s h ns t in
     record {
       short = t.short;
       size = ap length counts-is ∙ length-set h.counts.items s (get_or h.counts.items s 0 - 1) ∙ t.size;
       each = λ v.
           let counter = ap (λ (items : List ℕ). get_or items v 0) counts-is in
-          omega (arith, count-cons (v + 1) s ns, count-cons v s ns, counter, t.each v, put_less h.counts.items s v (omega (arith, t.size)) (counted top s h ns t));
+          omega (arith, count-cons (v + 1) s ns, count-cons v s ns, counter, t.each v, put_less h.counts.items s v (omega (arith, t.size)) (Tallies-counted top s h ns t));
       all = omega (arith, count-cons (top + 1) s ns, one-lt s (top + 1) (omega arith), t.all);
       below = let same = ap (λ (v : ℕ). count_under v ns) level-is in omega (arith, same, count-cons h.level s ns, below-is, t.below);
       held = omega (arith, held-is, t.held);
@@ -150,8 +138,8 @@ not_top top n h ns t all few = elim (cases_lt h.level top) [
 ]
 
 -- what was counted, with another spelling of one level
-pub entered : (top : ℕ) (h : Histogram) (s : ℕ) (ns l : List ℕ) → s ∷ [] ≡ l → Tallies top h (s ∷ ns) → Tallies top h (l ++ ns)
-entered top h s ns l e t = subst (λ (m : List ℕ). Tallies top h (m ++ ns)) e t
+pub Tallies-entered : (top : ℕ) (h : Histogram) (s : ℕ) (ns l : List ℕ) → s ∷ [] ≡ l → Tallies top h (s ∷ ns) → Tallies top h (l ++ ns)
+Tallies-entered top h s ns l e t = subst (λ (m : List ℕ). Tallies top h (m ++ ns)) e t
 
 -- the histogram with another present level
 pub tallies_moved : (top : ℕ) (h g : Histogram) (ns : List ℕ) → g.counts.items ≡ h.counts.items → g.held ≡ h.held → g.level ≤ top → g.below ≡ count_under g.level ns → Tallies top h ns → Tallies top g ns
@@ -166,5 +154,5 @@ tallies_moved top h g ns counts-is held-is level below t = record {
 }
 
 -- the level at which the count passes n is number n
-pub selected : (top k n : ℕ) (h : Histogram) (ns : List ℕ) → n ≡ max 1 (min k h.held) → h.below < n → n ≤ count_under (h.level + 1) ns → Tallies top h ns → h.level ≡ ranked k ns
-selected top k n h ns n-is few enough t = nth_from ns k n h.level (omega (arith, n-is, t.held)) (omega (arith, few, t.below), enough)
+pub level-selected : (top k n : ℕ) (h : Histogram) (ns : List ℕ) → n ≡ max 1 (min k h.held) → h.below < n → n ≤ count_under (h.level + 1) ns → Tallies top h ns → h.level ≡ ranked k ns
+level-selected top k n h ns n-is few enough t = nth_from ns k n h.level (omega (arith, n-is, t.held)) (omega (arith, few, t.below), enough)

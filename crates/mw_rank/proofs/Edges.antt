@@ -1,12 +1,13 @@
 -- The ends of runs: what leaves and what enters where an element moves one column on.
-use Rattle.std.proofs.Common.{◌≡◌, ℕ, ℤ, pos, ◌+ℤ◌, ◌-ℤ◌, ◌+◌, ◌*◌, ◌<◌, ◌≤◌, List, [], ◌∷◌, ◌++◌, map, length, get_or, take, drop, zero, suc, ◌-◌, None, refl, ap, sym, arith, ◌∙◌, length-append, length-take, length-drop, inl, inr, subst}
+use Rattle.std.proofs.Common.{◌≡◌, ℕ, ℤ, pos, ◌+ℤ◌, ◌-ℤ◌, ◌+◌, ◌*◌, ◌<◌, ◌≤◌, List, [], ◌∷◌, ◌++◌, map, length, get_or, take, drop, zero, suc, ◌-◌, None, refl, ap, sym, arith, ◌∙◌, length-append, length-take, length-drop, inl, inr, subst, append-nil}
 use Rattle.std.specs.List.{flat_map}
 use Rattle.std.specs.Option.{option_to_list}
 use Rattle.std.proofs.lemmas.Bool.{cases_lt}
 use Rattle.std.proofs.lemmas.Int.{ints}
 use Rattle.std.proofs.lemmas.Nat.{mul-add-lt}
-use Rattle.std.proofs.lemmas.List.{take_more, map-append, get_or_append_left, get_or-append_right, get_or_default, take_all, drop_all}
+use Rattle.std.proofs.lemmas.List.{take_more, map-append, get_or_append_left, get_or-append_right, get_or_default, take_all, drop_all, drop_more}
 use Rattle.std.proofs.lemmas.List.Concat.{flat_map-append, flat_map-cons}
+use Rattle.std.proofs.Math.ListN.{length-map}
 use Rattle.mw_model.specs.Rasters.{Sight, raster, cell_at}
 use Rattle.mw_model.specs.Windows.{View, seen_at}
 use Rattle.mw_rank.specs.declared.ends.Ends.{Ends}
@@ -19,7 +20,7 @@ use Rattle.mw_rank.specs.Runs.{offsets_from, offsets_of, element_of}
 use Rattle.mw_rank.specs.Tallies.{count_under, Tallies}
 use Rattle.mw_rank.proofs.Counts.{Same, tallies_same, count-append, count-cons}
 use Rattle.mw_rank.proofs.Sights.{levels-append, length-levels, seen_inside}
-use Rattle.mw_rank.proofs.Moves.{drop_one, run_before, run_after}
+use Rattle.mw_rank.proofs.Moves.{run_before, run_after}
 
 -- what is seen of the runs both before and after the move
 abbrev pub kept : {A : Type 0} → (A → ℕ) → Sight A → List Run → ℕ → ℕ → List ℕ
@@ -129,7 +130,7 @@ more_entered top h b e new r new-is t = subst (λ (q : List ℕ). Tallies top h 
 pub left_first : {A : Type 0} (level : A → ℕ) (d : A) (samples : List A) (ends : List Ends) (e : Ends) (i j : ℕ) (s : A) → j < length ends → get_or ends j e ≡ e → e.first + i < length samples → s ≡ get_or samples (e.first + i) s
     → levels_left level d samples (drop j ends) i ≡ level s ∷ levels_left level d samples (drop (j + 1) ends) i
 left_first level d samples ends e i j s lt is room s-is =
-    ap (λ (t : List Ends). levels_left level d samples t i) (drop_one ends j e lt)
+    ap (λ (t : List Ends). levels_left level d samples t i) (drop_more ends j e lt)
     ∙ ap (λ (t : Ends). level (get_or samples (t.first + i) d) ∷ levels_left level d samples (drop (j + 1) ends) i) is
     ∙ ap (λ (t : _). level t ∷ levels_left level d samples (drop (j + 1) ends) i) (get_or_default samples (e.first + i) d s room ∙ sym s-is)
 
@@ -179,10 +180,6 @@ are_ends_more level d sight samples runs r j x y n old new lt is more before =
     } in
     subst (λ (t : List Ends). AreEnds level d sight samples (take (j + 1) runs) x y n t) (sym more.is) (subst (λ (t : List Run). AreEnds level d sight samples t x y n (old ++ more.added)) (sym taken) all)
 
-append_none : (ns : List ℕ) → ns ++ [] ≡ ns
-append_none [] = refl
-append_none (n ∷ ns) = ap (λ (t : List ℕ). n ∷ t) (append_none ns)
-
 -- a run in a row that the window lacks has no ends there
 pub no_ends : {A : Type 0} (level : A → ℕ) (d : A) (w : View A) (run : Run) (x y n : ℕ) (old : List Ends) → ((column : ℤ) → cell_at (raster w.place.width w.place.height w.cells) column (pos y +ℤ run.dy -ℤ pos w.place.y) ≡ None)
     → AddsEnds level d (seen_at w) w.cells run x y n old old
@@ -193,8 +190,8 @@ no_ends level d w run x y n old none =
       is = sym (no_more old);
       are = record {
         inside = has_ends_none w.cells n;
-        first = λ i lt. sym (flat_map-cons (λ (q : Run). levels_at level (seen_at w) (start_offset q) (x + i) y) run [] ∙ append_none _ ∙ nothing (x + i));
-        next = λ i lt. sym (flat_map-cons (λ (q : Run). levels_at level (seen_at w) (start_offset q) (x + i + 1 + (q.count - 1)) y) run [] ∙ append_none _ ∙ nothing (x + i + 1 + (run.count - 1)));
+        first = λ i lt. sym (flat_map-cons (λ (q : Run). levels_at level (seen_at w) (start_offset q) (x + i) y) run [] ∙ append-nil _ ∙ nothing (x + i));
+        next = λ i lt. sym (flat_map-cons (λ (q : Run). levels_at level (seen_at w) (start_offset q) (x + i + 1 + (q.count - 1)) y) run [] ∙ append-nil _ ∙ nothing (x + i + 1 + (run.count - 1)));
       };
     }
   where
@@ -222,11 +219,11 @@ one_end level d w run x y n column row old new e size down across column-is row-
         first = λ i lt.
             ap (λ (t : ℕ). level (get_or w.cells t d) ∷ []) (let at : e.first + i ≡ row * w.place.width + (column + i) = omega arith in at)
             ∙ level_seen level d w run (x + i) y (column + i) row size (omega arith) down (omega (arith, ints)) row-is
-            ∙ sym (flat_map-cons (λ (q : Run). levels_at level (seen_at w) (start_offset q) (x + i) y) run [] ∙ append_none _);
+            ∙ sym (flat_map-cons (λ (q : Run). levels_at level (seen_at w) (start_offset q) (x + i) y) run [] ∙ append-nil _);
         next = λ i lt.
             ap (λ (t : ℕ). level (get_or w.cells t d) ∷ []) (let at : e.next + i ≡ row * w.place.width + (column + i + 1 + (run.count - 1)) = omega arith in at)
             ∙ level_seen level d w run (x + i + 1 + (run.count - 1)) y (column + i + 1 + (run.count - 1)) row size (omega arith) down (omega (arith, ints)) row-is
-            ∙ sym (flat_map-cons (λ (q : Run). levels_at level (seen_at w) (start_offset q) (x + i + 1 + (q.count - 1)) y) run [] ∙ append_none _);
+            ∙ sym (flat_map-cons (λ (q : Run). levels_at level (seen_at w) (start_offset q) (x + i + 1 + (q.count - 1)) y) run [] ∙ append-nil _);
       };
     }
   where
@@ -252,10 +249,6 @@ gains_joined level value more n m t old mid new t-is more-is first second = reco
   ];
 }
 
-length-mapped : (f : Ends → ℕ) (ends : List Ends) → length (map f ends) ≡ length ends
-length-mapped f [] = refl
-length-mapped f (e ∷ es) = ap suc (length-mapped f es)
-
 -- one pair of ends later there is one level less
 pub length-moving : {A : Type 0} (level : A → ℕ) (d : A) (samples : List A) (ends : List Ends) (ns : List ℕ) (i j : ℕ) → j < length ends
     → suc (length (levels_entered level d samples (take j ends) i ++ (levels_left level d samples (drop (j + 1) ends) i ++ ns))) ≡ length (levels_left level d samples ends i ++ ns)
@@ -265,16 +258,16 @@ length-moving level d samples ends ns i j lt =
       length-append (levels_entered level d samples (take j ends) i) (levels_left level d samples (drop (j + 1) ends) i ++ ns),
       length-append (levels_left level d samples (drop (j + 1) ends) i) ns,
       length-append (levels_left level d samples ends i) ns,
-      length-mapped (λ (e : Ends). level (get_or samples (e.next + i) d)) (take j ends),
-      length-mapped (λ (e : Ends). level (get_or samples (e.first + i) d)) (drop (j + 1) ends),
-      length-mapped (λ (e : Ends). level (get_or samples (e.first + i) d)) ends,
+      length-map (take j ends) (λ (e : Ends). level (get_or samples (e.next + i) d)),
+      length-map (drop (j + 1) ends) (λ (e : Ends). level (get_or samples (e.first + i) d)),
+      length-map ends (λ (e : Ends). level (get_or samples (e.first + i) d)),
       length-take j ends,
       length-drop (j + 1) ends,
     )
 
-pub ended : {A : Type 0} (top : ℕ) (h : Histogram) (level : A → ℕ) (d : A) (samples : List A) (ends : List Ends) (i j : ℕ) (ns : List ℕ) → length ends ≤ j
+pub Tallies-ended : {A : Type 0} (top : ℕ) (h : Histogram) (level : A → ℕ) (d : A) (samples : List A) (ends : List Ends) (i j : ℕ) (ns : List ℕ) → length ends ≤ j
     → Tallies top h (levels_entered level d samples (take j ends) i ++ (levels_left level d samples (drop j ends) i ++ ns)) → Tallies top h (levels_entered level d samples ends i ++ ns)
-ended top h level d samples ends i j ns le t =
+Tallies-ended top h level d samples ends i j ns le t =
     subst (λ (q : List Ends). Tallies top h (levels_entered level d samples q i ++ ns)) (take_all j ends le)
     (subst (λ (q : List Ends). Tallies top h (levels_entered level d samples (take j ends) i ++ (levels_left level d samples q i ++ ns))) (drop_all j ends le) t)
 

@@ -7,20 +7,18 @@ use Rattle.mw_model.specs.declared.places.Offset.{Offset}
 use Rattle.mw_run.specs.declared.runs.Run.{Run}
 use Rattle.mw_run.specs.Runs.{run_offsets, start_offset, IsRun}
 use Rattle.mw_rank.specs.Runs.{offsets_from, offsets_of, element_of}
-
-offset_at_dx : (dx dx' dy : ℤ) → dx ≡ dx' → let b : Offset = record { dx = dx; dy = dy } in let c : Offset = record { dx = dx'; dy = dy } in b ≡ c
-offset_at_dx dx dx' dy e = cc
+use Rattle.mw_rank.proofs.Sights.{at_dx}
 
 offsets_from-range : (dx dy : ℤ) (k n : ℕ) → offsets_from (record { dx = dx +ℤ pos k; dy = dy }) n ≡ map (λ i. let b : Offset = record { dx = dx +ℤ pos i; dy = dy } in b) (range_with_len k n)
 offsets_from-range dx dy k zero = refl
 offsets_from-range dx dy k (suc n) =
     ap (λ (t : List Offset). record { dx = dx +ℤ pos k; dy = dy } ∷ t)
-    (ap (λ (t : Offset). offsets_from t n) (offset_at_dx (dx +ℤ pos k +ℤ pos 1) (dx +ℤ pos (k + 1)) dy (omega (arith, ints))) ∙ offsets_from-range dx dy (k + 1) n)
+    (ap (λ (t : Offset). offsets_from t n) (at_dx (dx +ℤ pos k +ℤ pos 1) (dx +ℤ pos (k + 1)) dy (omega (arith, ints))) ∙ offsets_from-range dx dy (k + 1) n)
 
 offsets_of-run : (r : Run) → 0 < r.count → offsets_of r ≡ run_offsets r
 offsets_of-run r some =
     ap (λ (n : ℕ). offsets_from (start_offset r) n) (let whole : suc (r.count - 1) ≡ r.count = omega arith in whole)
-    ∙ ap (λ (b : Offset). offsets_from b r.count) (offset_at_dx r.dx (r.dx +ℤ pos 0) r.dy (omega (arith, ints)))
+    ∙ ap (λ (b : Offset). offsets_from b r.count) (at_dx r.dx (r.dx +ℤ pos 0) r.dy (omega (arith, ints)))
     ∙ offsets_from-range r.dx r.dy 0 r.count
 
 pub element_of-runs : (runs : List Run) → AllByRecursion IsRun runs → element_of runs ≡ flat_map run_offsets runs

@@ -1,7 +1,8 @@
-pub mod Counts
-pub mod Sights
-pub mod Moves
-pub mod Rows
-pub mod Edges
-pub mod Parts
-pub mod Elements
+-- the crate's own
+mod Counts
+mod Sights
+mod Moves
+mod Rows
+mod Edges
+mod Parts
+mod Elements

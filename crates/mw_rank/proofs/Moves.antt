@@ -1,7 +1,7 @@
 -- What leaves and what enters where the element moves one column on.
-use Rattle.std.proofs.Common.{◌≡◌, ◌-◌, ℕ, zero, suc, ◌+◌, ◌<◌, List, [], ◌∷◌, ◌++◌, length, get_or, take, drop, refl, ap, sym, arith, ◌∙◌, length-append, add-one, drop-cons, subst}
+use Rattle.std.proofs.Common.{◌≡◌, ◌-◌, ℕ, zero, suc, ◌+◌, ◌<◌, List, [], ◌∷◌, ◌++◌, length, get_or, take, drop, ap, sym, arith, ◌∙◌, length-append, subst, append-nil}
 use Rattle.std.specs.List.{flat_map}
-use Rattle.std.proofs.lemmas.List.{take_more}
+use Rattle.std.proofs.lemmas.List.{take_more, drop_more}
 use Rattle.std.proofs.lemmas.List.Concat.{flat_map-append, flat_map-cons}
 use Rattle.mw_model.specs.declared.places.Offset.{Offset}
 use Rattle.mw_model.specs.Rasters.{Sight}
@@ -11,11 +11,8 @@ use Rattle.mw_run.specs.Runs.{start_offset}
 use Rattle.mw_rank.specs.Ranks.{levels_under, levels_at}
 use Rattle.mw_rank.specs.Runs.{next_offset, offsets_from, offsets_of, element_of}
 use Rattle.mw_rank.specs.Tallies.{Tallies}
-use Rattle.mw_rank.proofs.Counts.{Same, tallies_same, count-append}
+use Rattle.mw_rank.proofs.Counts.{Same, count-append}
 use Rattle.mw_rank.proofs.Sights.{levels-cons, levels-append, length-levels, offsets-snoc, length-offsets, levels_at-on, levels-next}
-
-pub drop_one : {A : Type 0} (xs : List A) (i : ℕ) (d : A) → i < length xs → drop i xs ≡ get_or xs i d ∷ drop (i + 1) xs
-drop_one xs i d lt = rw (add-one, drop-cons xs i d) refl
 
 -- what is seen both before and after the move of run i
 abbrev pub staying : {A : Type 0} → (A → ℕ) → Sight A → List Run → ℕ → Run → ℕ → ℕ → List ℕ
@@ -63,23 +60,19 @@ pub run_before : {A : Type 0} (level : A → ℕ) (sight : Sight A) (r : Run) (x
 run_before level sight r x y =
     levels-cons level sight (start_offset r) (offsets_from (next_offset (start_offset r)) (r.count - 1)) x y ∙ ap (λ (t : List ℕ). levels_at level sight (start_offset r) x y ++ t) (levels-next level sight (start_offset r) (r.count - 1) x y)
 
-append_none : (xs : List ℕ) → xs ++ [] ≡ xs
-append_none [] = refl
-append_none (x ∷ xs) = ap (λ (t : List ℕ). x ∷ t) (append_none xs)
-
 pub run_after : {A : Type 0} (level : A → ℕ) (sight : Sight A) (r : Run) (x y : ℕ) → levels_under level sight (offsets_of r) (x + 1) y ≡ levels_under level sight (offsets_from (start_offset r) (r.count - 1)) (x + 1) y ++ levels_at level sight (start_offset r) (x + 1 + (r.count - 1)) y
 run_after level sight r x y =
     ap (λ (t : List Offset). levels_under level sight t (x + 1) y) (offsets-snoc (start_offset r) (r.count - 1))
     ∙ levels-append level sight (offsets_from (start_offset r) (r.count - 1)) (_ ∷ []) (x + 1) y
     ∙ ap (λ (t : List ℕ). levels_under level sight (offsets_from (start_offset r) (r.count - 1)) (x + 1) y ++ t)
-    (levels-cons level sight _ [] (x + 1) y ∙ append_none _ ∙ levels_at-on level sight (start_offset r) (r.count - 1) (x + 1) y)
+    (levels-cons level sight _ [] (x + 1) y ∙ append-nil _ ∙ levels_at-on level sight (start_offset r) (r.count - 1) (x + 1) y)
 
-pub leaving : {A : Type 0} (level : A → ℕ) (sight : Sight A) (runs : List Run) (i : ℕ) (r : Run) (x y : ℕ) → i < length runs → get_or runs i r ≡ r
+pub levels-leaving : {A : Type 0} (level : A → ℕ) (sight : Sight A) (runs : List Run) (i : ℕ) (r : Run) (x y : ℕ) → i < length runs → get_or runs i r ≡ r
     → Same (moved level sight runs i x y) (levels_at level sight (start_offset r) x y ++ staying level sight runs i r x y)
-leaving level sight runs i r x y lt is =
+levels-leaving level sight runs i r x y lt is =
     let rest = element_of (drop (i + 1) runs) in
     let split : levels_under level sight (element_of (drop i runs)) x y ≡ (levels_at level sight (start_offset r) x y ++ levels_under level sight (offsets_from (start_offset r) (r.count - 1)) (x + 1) y) ++ levels_under level sight rest x y =
-    ap (λ (t : List Run). levels_under level sight (element_of t) x y) (drop_one runs i r lt)
+    ap (λ (t : List Run). levels_under level sight (element_of t) x y) (drop_more runs i r lt)
     ∙ ap (λ (t : Run). levels_under level sight (element_of (t ∷ drop (i + 1) runs)) x y) is
     ∙ ap (λ (t : List Offset). levels_under level sight t x y) (flat_map-cons offsets_of r (drop (i + 1) runs))
     ∙ levels-append level sight (offsets_of r) rest x y
@@ -87,9 +80,9 @@ leaving level sight runs i r x y lt is =
     subst (λ (t : List ℕ). Same (levels_under level sight (element_of (take i runs)) (x + 1) y ++ t) (levels_at level sight (start_offset r) x y ++ staying level sight runs i r x y)) (sym split)
     (same_first (levels_under level sight (element_of (take i runs)) (x + 1) y) (levels_at level sight (start_offset r) x y) (levels_under level sight (offsets_from (start_offset r) (r.count - 1)) (x + 1) y) (levels_under level sight rest x y))
 
-pub entering : {A : Type 0} (level : A → ℕ) (sight : Sight A) (runs : List Run) (i : ℕ) (r : Run) (x y : ℕ) → i < length runs → get_or runs i r ≡ r
+pub levels-entering : {A : Type 0} (level : A → ℕ) (sight : Sight A) (runs : List Run) (i : ℕ) (r : Run) (x y : ℕ) → i < length runs → get_or runs i r ≡ r
     → Same (levels_at level sight (start_offset r) (x + 1 + (r.count - 1)) y ++ staying level sight runs i r x y) (moved level sight runs (i + 1) x y)
-entering level sight runs i r x y lt is =
+levels-entering level sight runs i r x y lt is =
     let first = element_of (take i runs) in
     let e = levels_at level sight (start_offset r) (x + 1 + (r.count - 1)) y in
     let split : levels_under level sight (element_of (take (i + 1) runs)) (x + 1) y ≡ levels_under level sight first (x + 1) y ++ (levels_under level sight (offsets_from (start_offset r) (r.count - 1)) (x + 1) y ++ e) =
@@ -100,12 +93,8 @@ entering level sight runs i r x y lt is =
     subst (λ (t : List ℕ). Same (e ++ staying level sight runs i r x y) (t ++ levels_under level sight (element_of (drop (i + 1) runs)) x y)) (sym split)
     (same_last (levels_under level sight first (x + 1) y) (levels_under level sight (offsets_from (start_offset r) (r.count - 1)) (x + 1) y) (levels_under level sight (element_of (drop (i + 1) runs)) x y) e)
   where
-    no_more : (bs : List Offset) → bs ++ [] ≡ bs
-    no_more [] = refl
-    no_more (b ∷ bs) = ap (λ (t : List Offset). b ∷ t) (no_more bs)
-
     one_run : (r : Run) → flat_map offsets_of (r ∷ []) ≡ offsets_of r
-    one_run r = flat_map-cons offsets_of r [] ∙ no_more (offsets_of r)
+    one_run r = flat_map-cons offsets_of r [] ∙ append-nil (offsets_of r)
 
 element_cons : (q : Run) (runs : List Run) → length (element_of (q ∷ runs)) ≡ suc (q.count - 1) + length (element_of runs)
 element_cons q runs = ap length (flat_map-cons offsets_of q runs) ∙ length-append (offsets_of q) (element_of runs) ∙ ap (λ (t : ℕ). t + length (element_of runs)) (length-offsets (start_offset q) (suc (q.count - 1)))
@@ -140,33 +129,11 @@ length-staying level sight runs i r x y lt is =
       length-append (levels_under level sight (offsets_from (start_offset r) (r.count - 1)) (x + 1) y) (levels_under level sight rest x y),
     )
 
--- one offset more is counted
-pub one_entered : {A : Type 0} (level : A → ℕ) (sight : Sight A) (bs : List Offset) (i : ℕ) (b : Offset) (x y top : ℕ) (h : Histogram) → i < length bs → get_or bs i b ≡ b
-    → Tallies top h (levels_at level sight b x y ++ levels_under level sight (take i bs) x y) → Tallies top h (levels_under level sight (take (i + 1) bs) x y)
-one_entered level sight bs i b x y top h lt is t =
-    let split : levels_under level sight (take (i + 1) bs) x y ≡ levels_under level sight (take i bs) x y ++ levels_at level sight b x y =
-    ap (λ (t : List Offset). levels_under level sight t x y) (take_more bs i b lt ∙ ap (λ (t : Offset). take i bs ++ t ∷ []) is)
-    ∙ levels-append level sight (take i bs) (b ∷ []) x y
-    ∙ ap (λ (t : List ℕ). levels_under level sight (take i bs) x y ++ t) (levels-cons level sight b [] x y ∙ append_none (levels_at level sight b x y)) in
-    subst (λ (t : List ℕ). Tallies top h t) (sym split) (tallies_same top h _ _ (same_snoc (levels_under level sight (take i bs) x y) (levels_at level sight b x y)) t)
-
--- the next offset that is to leave
-pub one_left : {A : Type 0} (level : A → ℕ) (sight : Sight A) (bs : List Offset) (i : ℕ) (b : Offset) (x y top : ℕ) (h : Histogram) → i < length bs → get_or bs i b ≡ b
-    → Tallies top h (levels_under level sight (drop i bs) x y) → Tallies top h (levels_at level sight b x y ++ levels_under level sight (drop (i + 1) bs) x y)
-one_left level sight bs i b x y top h lt is t =
-    let split : levels_under level sight (drop i bs) x y ≡ levels_at level sight b x y ++ levels_under level sight (drop (i + 1) bs) x y =
-    ap (λ (t : List Offset). levels_under level sight t x y) (drop_one bs i b lt ∙ ap (λ (t : Offset). t ∷ drop (i + 1) bs) is) ∙ levels-cons level sight b (drop (i + 1) bs) x y in
-    subst (λ (t : List ℕ). Tallies top h t) split t
-
 pub tallies_at : {A : Type 0} (level : A → ℕ) (sight : Sight A) (bs : List Offset) (a b y top : ℕ) (h : Histogram) → a ≡ b → Tallies top h (levels_under level sight bs a y) → Tallies top h (levels_under level sight bs b y)
 tallies_at level sight bs a b y top h e t = subst (λ (v : ℕ). Tallies top h (levels_under level sight bs v y)) e t
 
-no_more : (bs : List Offset) → bs ++ [] ≡ bs
-no_more [] = refl
-no_more (b ∷ bs) = ap (λ (t : List Offset). b ∷ t) (no_more bs)
-
 pub element_snoc : (runs : List Run) (run : Run) → element_of (runs ++ run ∷ []) ≡ element_of runs ++ offsets_of run
-element_snoc runs run = flat_map-append offsets_of runs (run ∷ []) ∙ ap (λ (t : List Offset). element_of runs ++ t) (flat_map-cons offsets_of run [] ∙ no_more (offsets_of run))
+element_snoc runs run = flat_map-append offsets_of runs (run ∷ []) ∙ ap (λ (t : List Offset). element_of runs ++ t) (flat_map-cons offsets_of run [] ∙ append-nil (offsets_of run))
 
 -- the same offset under another name
 pub tallies_from : {A : Type 0} (level : A → ℕ) (sight : Sight A) (b start : Offset) (x y top : ℕ) (h : Histogram) (ns : List ℕ) → b ≡ start → Tallies top h (levels_at level sight start x y ++ ns) → Tallies top h (levels_at level sight b x y ++ ns)

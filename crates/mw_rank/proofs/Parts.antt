@@ -4,9 +4,10 @@ use Rattle.std.specs.Option.{option_to_list}
 use Rattle.std.proofs.lemmas.Bool.{cases_lt}
 use Rattle.std.proofs.lemmas.Int.{ints}
 use Rattle.std.proofs.lemmas.Nat.{mul-add-lt}
-use Rattle.std.proofs.lemmas.List.{take_more, get_or-take, get_or-drop, map-append}
+use Rattle.std.proofs.lemmas.List.{take_more, get_or-take, get_or-drop, map-append, drop_more}
 use Rattle.std.proofs.lemmas.Option.{slice_get-get_or}
 use Rattle.std.proofs.lemmas.List.Concat.{flat_map-cons}
+use Rattle.std.proofs.Math.ListN.{length-map}
 use Rattle.mw_model.specs.Places.{nonnegative}
 use Rattle.mw_model.specs.Rasters.{Sight, raster, cell_at}
 use Rattle.mw_model.specs.Windows.{View, seen_at}
@@ -21,7 +22,7 @@ use Rattle.mw_rank.specs.Tallies.{Tallies}
 use Rattle.mw_rank.proofs.Counts.{tallies_same}
 use Rattle.mw_rank.proofs.Edges.{more_entered}
 use Rattle.mw_rank.proofs.Sights.{levels-cons, levels-append, length-levels, length-offsets}
-use Rattle.mw_rank.proofs.Moves.{drop_one, same_snoc, element_snoc, element_size}
+use Rattle.mw_rank.proofs.Moves.{same_snoc, element_snoc, element_size}
 
 -- the levels of n columns of a row
 abbrev pub column_levels : {A : Type 0} → (A → ℕ) → (ℤ → Option A) → ℤ → ℕ → List ℕ
@@ -60,7 +61,7 @@ one_more row width p t d lt before size =
     let count : min t width - p ≡ suc (min t width - (p + 1)) = omega arith in
     ap (λ (q : ℕ). take (min t width - q) (drop q row)) here
     ∙ ap (λ (q : ℕ). take q (drop p row)) count
-    ∙ ap (λ (q : List _). take (suc (min t width - (p + 1))) q) (drop_one row p d (omega arith))
+    ∙ ap (λ (q : List _). take (suc (min t width - (p + 1))) q) (drop_more row p d (omega arith))
     ∙ ap (λ (q : ℕ). get_or row p d ∷ take (min t width - q) (drop q row)) (sym there)
 
 pub columns_between : {A : Type 0} (level : A → ℕ) (d : A) (row : List A) (width : ℕ) (at : ℤ → Option A) (from to : ℤ) (n : ℕ) → IsRow row width at → to ≡ from +ℤ pos n → column_levels level at from n ≡ map level (between row width from to)
@@ -132,7 +133,7 @@ taken_one : (runs : List Run) (j : ℕ) (r : Run) → j < length runs → get_or
 taken_one runs j r lt is = ap element_of (take_more runs j r lt ∙ ap (λ (t : Run). take j runs ++ t ∷ []) is) ∙ element_snoc (take j runs) r
 
 dropped_one : (runs : List Run) (j : ℕ) (r : Run) → j < length runs → get_or runs j r ≡ r → element_of (drop j runs) ≡ offsets_of r ++ element_of (drop (j + 1) runs)
-dropped_one runs j r lt is = ap element_of (drop_one runs j r lt ∙ ap (λ (t : Run). t ∷ drop (j + 1) runs) is) ∙ flat_map-cons offsets_of r (drop (j + 1) runs)
+dropped_one runs j r lt is = ap element_of (drop_more runs j r lt ∙ ap (λ (t : Run). t ∷ drop (j + 1) runs) is) ∙ flat_map-cons offsets_of r (drop (j + 1) runs)
 
 -- a run more is counted
 pub run_entered : {A : Type 0} (level : A → ℕ) (sight : Sight A) (runs : List Run) (j : ℕ) (r : Run) (x y top : ℕ) (h : Histogram) (part : List ℕ) → j < length runs → get_or runs j r ≡ r → part ≡ levels_under level sight (offsets_of r) x y
@@ -154,10 +155,6 @@ run_left level sight runs j r x y top h part lt is part-is t =
     ∙ ap (λ (t : List ℕ). t ++ levels_under level sight (element_of (drop (j + 1) runs)) x y) (sym part-is) in
     subst (λ (l : List ℕ). Tallies top h l) split t
 
-length-mapped : {A : Type 0} (f : A → ℕ) (xs : List A) → length (map f xs) ≡ length xs
-length-mapped f [] = refl
-length-mapped f (x ∷ xs) = ap suc (length-mapped f xs)
-
 -- there is room for one run more
 pub room_for_run : {A : Type 0} (level : A → ℕ) (sight : Sight A) (runs : List Run) (j : ℕ) (r : Run) (x y : ℕ) (part : List A) → j < length runs → get_or runs j r ≡ r → map level part ≡ levels_under level sight (offsets_of r) x y
     → length (levels_under level sight (element_of (take j runs)) x y) + length part ≤ length (element_of runs)
@@ -167,7 +164,7 @@ room_for_run level sight runs j r x y part lt is part-is =
       length-levels level sight (element_of (take j runs)) x y,
       length-levels level sight (offsets_of r) x y,
       ap length part-is,
-      length-mapped level part,
+      length-map part level,
       element_size runs j r lt is,
       length-offsets (start_offset r) (suc (r.count - 1)),
     )
@@ -197,14 +194,14 @@ pub sample_left : {A : Type 0} (level : A → ℕ) (samples : List A) (j top v :
     → Tallies top h (v ∷ (map level (drop (j + 1) samples) ++ ns))
 sample_left level samples j top v s h ns lt is v-is t =
     subst (λ (l : List ℕ). Tallies top h (l ++ ns))
-    (ap (map level) (drop_one samples j s lt) ∙ ap (λ (t : _). level t ∷ map level (drop (j + 1) samples)) (sym is) ∙ ap (λ (t : ℕ). t ∷ map level (drop (j + 1) samples)) (sym v-is)) t
+    (ap (map level) (drop_more samples j s lt) ∙ ap (λ (t : _). level t ∷ map level (drop (j + 1) samples)) (sym is) ∙ ap (λ (t : ℕ). t ∷ map level (drop (j + 1) samples)) (sym v-is)) t
 
 pub length-part : {A : Type 0} (level : A → ℕ) (samples : List A) (j : ℕ) (ns : List ℕ) → length (map level (take j samples) ++ ns) ≤ j + length ns
-length-part level samples j ns = omega (arith, length-append (map level (take j samples)) ns, length-mapped level (take j samples), length-take j samples)
+length-part level samples j ns = omega (arith, length-append (map level (take j samples)) ns, length-map (take j samples) level, length-take j samples)
 
 pub length-left : {A : Type 0} (level : A → ℕ) (samples : List A) (j : ℕ) (ns : List ℕ) → j < length samples → suc (length (map level (drop (j + 1) samples) ++ ns)) ≤ length (map level samples ++ ns)
 length-left level samples j ns lt =
-    omega (arith, length-append (map level (drop (j + 1) samples)) ns, length-append (map level samples) ns, length-mapped level (drop (j + 1) samples), length-mapped level samples, length-drop (j + 1) samples)
+    omega (arith, length-append (map level (drop (j + 1) samples)) ns, length-append (map level samples) ns, length-map (drop (j + 1) samples) level, length-map samples level, length-drop (j + 1) samples)
 
 -- a later column is not clamped to an earlier place
 pub clamp_rises : (from to : ℤ) (n wide : ℕ) → to ≡ from +ℤ pos n → min (nonnegative from) wide ≤ min (nonnegative to) wide

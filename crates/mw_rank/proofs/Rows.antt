@@ -1,9 +1,10 @@
 -- Rows that are added one after another.
-use Rattle.std.proofs.Common.{◌≡◌, ℕ, ◌+◌, ◌-◌, ◌*◌, ◌<◌, List, [], ◌∷◌, ◌++◌, map, length, get_or, Some, slice_get, refl, ap, sym, arith, ◌∙◌, inl, inr, length-append}
+use Rattle.std.proofs.Common.{◌≡◌, ℕ, ◌+◌, ◌*◌, ◌<◌, List, [], ◌∷◌, ◌++◌, map, length, get_or, Some, slice_get, refl, ap, sym, arith, ◌∙◌, inl, inr, length-append}
 use Rattle.std.proofs.lemmas.Bool.{cases_lt}
 use Rattle.std.proofs.lemmas.Nat.{mul-add-lt}
 use Rattle.std.proofs.lemmas.List.{get_or_append_left, get_or-append_right, map-id}
 use Rattle.std.proofs.lemmas.Option.{slice_get-get_or}
+use Rattle.std.proofs.Math.Nat.{add-sub_cancel_left}
 use Rattle.mw_model.specs.declared.places.Offset.{Offset}
 use Rattle.mw_model.specs.declared.places.Rect.{Rect}
 use Rattle.mw_model.specs.PlanSteps.{ranked}
@@ -19,9 +20,6 @@ use Rattle.mw_tile.specs.Windows.{IsWindow}
 use Rattle.mw_tile.proofs.Shown.{seen_under-window}
 use Rattle.mw_rank.specs.Ranks.{levels_under, IsRank, GainsRow, HasRows}
 
-ahead : (a x : ℕ) → a + x - a ≡ x
-ahead a x = omega arith
-
 pub gains_more : {A : Type 0} (level : A → ℕ) (value : ℕ → ℕ) (n : ℕ) (old out new : List A) (s : A) → new ≡ out ++ s ∷ [] → level s ≡ value n → GainsRow level value n old out → GainsRow level value (n + 1) old new
 gains_more level value n old out new s is s-is t = record {
   size = omega (arith, ap length is, length-append out (s ∷ []), t.size);
@@ -35,7 +33,7 @@ gains_more level value n old out new s is s-is t = record {
         ap (λ (l : List _). level (get_or l (length old + x) d)) is
         ∙ ap (λ (p : ℕ). level (get_or (out ++ s ∷ []) p d)) place
         ∙ ap level (get_or-append_right out (s ∷ []) (length out) (length out + 0) d refl (omega arith))
-        ∙ ap (λ (p : ℕ). level (get_or (s ∷ []) p d)) (ahead (length out) 0)
+        ∙ ap (λ (p : ℕ). level (get_or (s ∷ []) p d)) (add-sub_cancel_left (length out) 0)
         ∙ s-is
         ∙ ap value (sym x-is)
   ];

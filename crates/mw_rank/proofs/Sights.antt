@@ -40,7 +40,7 @@ length-levels level sight (b ∷ bs) x y =
 abbrev pub offset_on : Offset → ℕ → Offset
 offset_on b n = record { dx = b.dx +ℤ pos n; dy = b.dy }
 
-at_dx : (dx dx' dy : ℤ) → dx ≡ dx' → let b : Offset = record { dx = dx; dy = dy } in let c : Offset = record { dx = dx'; dy = dy } in b ≡ c
+pub at_dx : (dx dx' dy : ℤ) → dx ≡ dx' → let b : Offset = record { dx = dx; dy = dy } in let c : Offset = record { dx = dx'; dy = dy } in b ≡ c
 at_dx dx dx' dy e = cc
 
 pub offsets-snoc : (b : Offset) (n : ℕ) → offsets_from b (suc n) ≡ offsets_from b n ++ offset_on b n ∷ []
@@ -64,12 +64,6 @@ levels-next level sight b (suc n) x y =
     ∙ ap (λ (t : List ℕ). t ++ levels_under level sight (offsets_from (next_offset (next_offset b)) n) x y) (levels_at-on level sight b 1 x y)
     ∙ ap (λ (t : List ℕ). levels_at level sight b (x + 1) y ++ t) (levels-next level sight (next_offset b) n x y)
     ∙ sym (levels-cons level sight b (offsets_from (next_offset b) n) (x + 1) y)
-
-pub same_offset : (b c : Offset) → b.dx ≡ c.dx → b.dy ≡ c.dy → b ≡ c
-same_offset b c dx-is dy-is = go b.dx c.dx b.dy c.dy dx-is dy-is
-  where
-    go : (dx dx' dy dy' : ℤ) → dx ≡ dx' → dy ≡ dy' → let b : Offset = record { dx = dx; dy = dy } in let c : Offset = record { dx = dx'; dy = dy' } in b ≡ c
-    go dx dx' dy dy' e f = cc
 
 -- a cell of a raster that is seen
 pub seen_inside : {A : Type 0} (level : A → ℕ) (width height : ℕ) (cells : List A) (column row : ℤ) (x y v : ℕ) (s : A) → column ≡ pos x → row ≡ pos y → x < width → y < height → length cells ≡ height * width

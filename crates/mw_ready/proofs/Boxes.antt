@@ -2,7 +2,8 @@
 use Rattle.std.proofs.Common.{◌≡◌, ℕ, ◌+◌, ◌*◌, ◌%◌, ◌<◌, ◌≤◌, Bool, true, false, ◌&&◌, List, nat_eq, refl, ap, subst, ◌∙◌, arith, get_or, length, inl, inr}
 use Rattle.std.proofs.Math.Bool.{and-false}
 use Rattle.std.proofs.Math.Nat.{mul-le-mul_left}
-use Rattle.std.proofs.lemmas.Bool.{cases_eq, ne_eqb, and_parts}
+use Rattle.std.proofs.lemmas.Bool.{cases_eq, ne_eqb, and_parts, eqb-true}
+use Rattle.std.proofs.lemmas.Nat.{mod_below}
 use Rattle.mw_model.specs.Places.{grown}
 use Rattle.mw_model.specs.Tasks.{flag, meets}
 use Rattle.mw_grid.specs.Counts.{bit, in_range}
@@ -16,15 +17,12 @@ use Rattle.mw_ready.specs.Boards.{step_of, tile_of_task, step_reads, reads_tile,
 use Rattle.mw_ready.specs.Kept.{is_near}
 use Rattle.mw_queue.specs.Queues.{Queued}
 use Rattle.mw_ready.specs.Counters.{Lowers, Waiting}
-use Rattle.mw_ready.proofs.Lowering.{and_bits, range_more, eq_true, lowers_more}
+use Rattle.mw_ready.proofs.Lowering.{and_bits, range_more, lowers_more}
 
 -- a block of a step by what its tiles are
 pub at_step_is : (g : Tiling) (b shifted : Block) (q : ℕ → Bool) (k t : ℕ) → 0 < tile_count g → ((t : ℕ) → in_block g shifted t ≡ nat_eq (step_of g t) k && in_block g b (t % tile_count g))
     → ((v : ℕ) → v < tile_count g → in_block g b v ≡ q v) → in_block g shifted t ≡ nat_eq (step_of g t) k && q (t % tile_count g)
-at_step_is g b shifted q k t some tasks each = tasks t ∙ ap (λ (v : Bool). nat_eq (step_of g t) k && v) (each (t % tile_count g) (mod_lt t (tile_count g) some))
-  where
-    mod_lt : (i n : ℕ) → 0 < n → i % n < n
-    mod_lt i n some = omega arith
+at_step_is g b shifted q k t some tasks each = tasks t ∙ ap (λ (v : Bool). nat_eq (step_of g t) k && v) (each (t % tile_count g) (mod_below t (tile_count g) some))
 
 -- what a task of step k reads, where that step has this need
 reads_as : (needs : List Need) (need : Need) (g : Tiling) (k step tile t : ℕ) → step_of g t ≡ k → get_or needs k no_need ≡ need
@@ -74,7 +72,7 @@ pub step_waits : (needs : List Need) (need : Need) (g : Tiling) (k step tile : �
     → Waiting (λ t. reads_tile needs g t step tile) old → Lowers (readers needs g step tile k) old.waiting now.waiting → Waiting (is_near g need.reach k tile) now
 step_waits needs need g k step tile old now is so started waiting lowers = λ t lt here.
     let both = and_parts (nat_eq (step_of g t) k) (reads_tile needs g t step tile) (step_yes needs need g k step tile t is so ∙ here) in
-    let at : step_of g t ≡ k = eq_true (step_of g t) k both.0 in
+    let at : step_of g t ≡ k = eqb-true (step_of g t) k both.0 in
     let t-lt : t < length old.waiting = let e = lowers.size in omega arith in
     let was = waiting t t-lt both.1 in
     let not_yet : bit (readers needs g step tile k t) ≡ 0 = rw (in-high 0 k (step_of g t) (omega arith)) refl in

@@ -1,7 +1,7 @@
 -- The counters of a board are kept.
 use Rattle.std.specs.List.{list_all}
-use Rattle.std.proofs.Common.{◌≡◌, ◌≢◌, ℕ, ◌+◌, ◌-◌, ◌*◌, ◌/◌, ◌%◌, ◌<◌, ◌≤◌, Bool, true, false, not, ◌&&◌, ◌||◌, nat_eq, List, length, refl, ap, sym, subst, ◌∙◌, arith, inl, inr, set, get_or, replicate, ◌^◌, length-set}
-use Rattle.std.proofs.lemmas.Bool.{cases_eq}
+use Rattle.std.proofs.Common.{◌≡◌, ◌≢◌, ℕ, ◌+◌, ◌-◌, ◌*◌, ◌/◌, ◌%◌, ◌<◌, ◌≤◌, Bool, true, false, not, ◌&&◌, ◌||◌, nat_eq, List, length, refl, ap, sym, subst, ◌∙◌, arith, inl, inr, set, get_or, replicate, ◌^◌, length-set, add-zero}
+use Rattle.std.proofs.lemmas.Bool.{cases_eq, not-true, both_ways, eqb-true}
 use Rattle.std.proofs.lemmas.List.{get_or-set_same, get_or-set_other, get_or-replicate, length-replicate}
 use Rattle.std.proofs.Math.Nat.{mul-le-mul_left}
 use Rattle.std.proofs.lemmas.Nat.{div-mul-add, mod-mul-add}
@@ -13,19 +13,13 @@ use Rattle.mw_grid.specs.Counts.{bit, count_below}
 use Rattle.mw_queue.specs.Queues.{Queued, is_open}
 use Rattle.mw_ready.specs.Counters.{Lowers, Waiting}
 use Rattle.mw_ready.specs.Kept.{Keeps, read_count, board_of}
-use Rattle.mw_grid.proofs.Counts.{count-none, count-all, count-more, count-same, count-some, bit-at, bit-other}
+use Rattle.mw_grid.proofs.Counts.{count-none, count-all, count-more, bit-at, bit-other}
 use Rattle.mw_ready.proofs.Counts.{list_all-count}
 use Rattle.std.proofs.Math.Bool.{and-true}
-use Rattle.mw_ready.proofs.Lowering.{eq_true, lowers_same}
+use Rattle.mw_ready.proofs.Lowering.{lowers_same}
 use Rattle.std.proofs.lemmas.Bool.{and_parts}
+use Rattle.mw_facts.proofs.Counts.{count_by-same, count_by-some}
 use Rattle.mw_grid.proofs.Lines.{number_of}
-
-pub not_true : (b : Bool) → not b ≡ true → b ≡ false
-not_true true e = absurd (let f : false ≡ true = e in never f)
-  where
-    never : false ≡ true → ⊥
-    never e = cc
-not_true false e = refl
 
 -- one task more is finished, of those that a test tells
 pub finished_one : (p : ℕ → Bool) (fin : List Bool) (n task : ℕ) → task < n → length fin ≡ n → flag fin task ≡ false
@@ -43,9 +37,6 @@ finished_one p fin n task lt size open_yet = go (p task) refl
 
     at-new : (u : ℕ) → u ≡ task → flag (set fin task true) u ≡ true
     at-new u e = ap (flag (set fin task true)) e ∙ now
-
-    add : (m k : ℕ) → k ≡ m + 1 → m + 1 ≡ k
-    add m k e = sym e
 
     one : (u : ℕ) → p task ≡ true → bit (p u && not (flag fin u)) ≡ bit (p u && not (flag (set fin task true) u)) + bit (nat_eq u task)
     one u r = elim (cases_eq u task) [
@@ -67,10 +58,7 @@ finished_one p fin n task lt size open_yet = go (p task) refl
 
     go : (r : Bool) → p task ≡ r → count_below (λ u. p u && not (flag (set fin task true) u)) n + bit r ≡ count_below (λ u. p u && not (flag fin u)) n
     go true e = sym (count-more (λ u. p u && not (flag fin u)) (λ u. p u && not (flag (set fin task true) u)) task n lt (λ u u-lt. one u e))
-    go false e = zero_more (count_below (λ u. p u && not (flag (set fin task true) u)) n) ∙ count-same (λ u. p u && not (flag (set fin task true) u)) (λ u. p u && not (flag fin u)) n (λ u u-lt. none u e)
-      where
-        zero_more : (m : ℕ) → m + 0 ≡ m
-        zero_more m = omega arith
+    go false e = add-zero (count_below (λ u. p u && not (flag (set fin task true) u)) n) ∙ count_by-same (λ u. p u && not (flag (set fin task true) u)) (λ u. p u && not (flag fin u)) n (λ u u-lt. none u e)
 
 pub ready_is_open : (b : Board) (counters : List ℕ) (active left t : ℕ) → Keeps b counters active left → t < task_count b → is_open b.started counters t ≡ is_ready b t
 ready_is_open b counters active left t keeps lt =
@@ -80,26 +68,22 @@ ready_is_open b counters active left t keeps lt =
 pub count_is : (b : Board) (counters : List ℕ) (active left n : ℕ) → Keeps b counters active left → n ≡ length counters → count_below (is_open b.started counters) n ≡ ready_tasks b
 count_is b counters active left n keeps e =
     ap (count_below (is_open b.started counters)) (e ∙ keeps.waiting)
-    ∙ count-same (is_open b.started counters) (is_ready b) (task_count b) (λ t lt. ready_is_open b counters active left t keeps lt)
-
-true_or : (b : Bool) → b ≡ true → b ≡ false → ⊥
-true_or true e f = cc
-true_or false e f = cc
+    ∙ count_by-same (is_open b.started counters) (is_ready b) (task_count b) (λ t lt. ready_is_open b counters active left t keeps lt)
 
 not_begun : (b : Board) (counters : List ℕ) (active left t : ℕ) → Keeps b counters active left → t < task_count b → flag b.started t ≡ false → flag b.finished t ≡ false
 not_begun b counters active left t keeps lt idle = go (flag b.finished t) refl
   where
     go : (r : Bool) → flag b.finished t ≡ r → flag b.finished t ≡ false
     go false e = e
-    go true e = absurd (true_or (flag b.started t) (keeps.begun t lt e) idle)
+    go true e = absurd (both_ways (flag b.started t) idle (keeps.begun t lt e))
 
 -- a task is started
 start_keeps : (b : Board) (counters : List ℕ) (active left task : ℕ) → Keeps b counters active left → task < task_count b → is_open b.started counters task ≡ true
     → Keeps (record b { started = set b.started task true }) counters (active + 1) left
 start_keeps b counters active left task keeps lt opened =
     let parts = and_parts (not (flag b.started task)) (nat_eq (get_or counters task 0) 0) opened in
-    let idle : flag b.started task ≡ false = not_true (flag b.started task) parts.0 in
-    let none : get_or counters task 0 ≡ 0 = eq_true (get_or counters task 0) 0 parts.1 in
+    let idle : flag b.started task ≡ false = not-true (flag b.started task) parts.0 in
+    let none : get_or counters task 0 ≡ 0 = eqb-true (get_or counters task 0) 0 parts.1 in
     let unfinished : flag b.finished task ≡ false = not_begun b counters active left task keeps lt idle in
     let now : flag (set b.started task true) task ≡ true = get_or-set_same b.started task true false (let e = keeps.started in omega arith) in
     let size : length (set b.started task true) ≡ length b.started = simp length-set in
@@ -136,7 +120,7 @@ finish_keeps : (b : Board) (counters now : List ℕ) (active left task : ℕ) �
     → Keeps (record b { finished = set b.finished task true }) now (active - 1) (left - 1)
 finish_keeps b counters now active left task keeps lt running lowers =
     let parts = and_parts (flag b.started task) (not (flag b.finished task)) running in
-    let unfinished : flag b.finished task ≡ false = not_true (flag b.finished task) parts.1 in
+    let unfinished : flag b.finished task ≡ false = not-true (flag b.finished task) parts.1 in
     let done : flag (set b.finished task true) task ≡ true = get_or-set_same b.finished task true false (let e = keeps.finished in omega arith) in
     let size : length (set b.finished task true) ≡ length b.finished = simp length-set in
     let less-running : count_below (is_running b) (task_count b) ≡ count_below (λ t. flag b.started t && not (flag (set b.finished task true) t)) (task_count b) + 1 =
@@ -179,7 +163,7 @@ readers_wait : (b : Board) (counters : List ℕ) (active left task : ℕ) → Ke
     → (t : ℕ) → t < length counters → reads b.needs b.grid t task ≡ true → (0 < get_or counters t 0) × (flag b.started t ≡ false)
 readers_wait b counters active left task keeps lt running = λ t t-lt here.
     let parts = and_parts (flag b.started task) (not (flag b.finished task)) running in
-    let unfinished : flag b.finished task ≡ false = not_true (flag b.finished task) parts.1 in
+    let unfinished : flag b.finished task ≡ false = not-true (flag b.finished task) parts.1 in
     let n-lt : t < task_count b = let e = keeps.waiting in omega arith in
     let more : 0 < get_or counters t 0 = omega (arith, keeps.waits t n-lt, finished_one (reads b.needs b.grid t) b.finished (task_count b) task lt keeps.finished unfinished, ap bit here) in
     (more, go t n-lt (flag b.started t) refl more)
@@ -192,7 +176,7 @@ readers_wait b counters active left task keeps lt running = λ t t-lt here.
 pub some_run : (b : Board) (counters now : List ℕ) (active left task : ℕ) → Keeps b counters active left → task < task_count b → is_running b task ≡ true → (0 < active) × (0 < left)
 some_run b counters now active left task keeps lt running =
     let parts = and_parts (flag b.started task) (not (flag b.finished task)) running in
-    (omega (arith, keeps.running, count-some (is_running b) task (task_count b) lt running), omega (arith, keeps.remaining, count-some (λ t. not (flag b.finished t)) task (task_count b) lt parts.1))
+    (omega (arith, keeps.running, count_by-some (is_running b) (task_count b) task lt running), omega (arith, keeps.remaining, count_by-some (λ t. not (flag b.finished t)) (task_count b) task lt parts.1))
 
 -- the tasks that read a tile, by its step and by its number
 reads-number : (needs : List Need) (g : Tiling) (step tile t : ℕ) → tile < tile_count g → reads needs g t (task_number g step tile) ≡ reads_tile needs g t step tile
@@ -248,7 +232,7 @@ latest_step b counters active left tiles step n keeps tiles-is latest lt ready =
 
 -- where nothing is finished
 pub none_finished : (p : ℕ → Bool) (finished : List Bool) (n : ℕ) → finished ≡ replicate n false → count_below p n ≡ count_below (λ u. p u && not (flag finished u)) n
-none_finished p finished n is = count-same p (λ u. p u && not (flag finished u)) n
+none_finished p finished n is = count_by-same p (λ u. p u && not (flag finished u)) n
     (λ u lt. sym (ap (λ (xs : List Bool). p u && not (flag xs u)) is ∙ ap (λ (b : Bool). p u && not b) (get_or-replicate n u false false lt) ∙ and-true (p u)))
 
 -- a task that was started has all that it reads
@@ -268,10 +252,10 @@ keeps_fresh needs g q finished left small started-is finished-is size left-is ea
   waiting = size;
   small = small;
   waits = λ t lt. each t lt ∙ none_finished (reads needs g t) finished (length needs * tile_count g) finished-is;
-  calm = λ t lt begun. absurd (true_or (flag q.started t) begun (idle t lt));
+  calm = λ t lt begun. absurd (both_ways (flag q.started t) (idle t lt) begun);
   running = sym (count-none (λ t. flag q.started t && not (flag finished t)) (length needs * tile_count g) (λ t lt. ap (λ (b : Bool). b && not (flag finished t)) (idle t lt)));
   remaining = left-is ∙ sym (count-all (λ t. not (flag finished t)) (length needs * tile_count g) (λ t lt. ap (λ (b : Bool). not b) (unfinished t lt)));
-  begun = λ t lt done. absurd (true_or (flag finished t) done (unfinished t lt));
+  begun = λ t lt done. absurd (both_ways (flag finished t) (unfinished t lt) done);
 }
   where
     idle : (t : ℕ) → t < length needs * tile_count g → flag q.started t ≡ false

@@ -45,16 +45,13 @@ box_more columns top row left right x some le from =
     and_bits (in_range top (row + 1) (x / columns)) (in_range top row (x / columns)) (nat_eq (x / columns) row) (in_range left right (x % columns)) (range_more top row (x / columns) from)
     ∙ ap (λ (b : Bool). bit (in_range top row (x / columns) && in_range left right (x % columns)) + bit b) (sym (row_is columns row left right x some le))
 
-pub eq_true : (a b : ℕ) → nat_eq a b ≡ true → a ≡ b
-eq_true a b e = eqb-true a b e
-
 -- the next row of a box has not been lowered
 pub row_still : (columns top bottom left right row : ℕ) (old now : List ℕ) → 0 < columns → right ≤ columns → top ≤ row → row < bottom
     → Lowers (λ t. in_range top row (t / columns) && in_range left right (t % columns)) old now → (t : ℕ) → t < length now → in_range (row * columns + left) (row * columns + right) t ≡ true
     → (t < length old) × (in_range top bottom (t / columns) && in_range left right (t % columns) ≡ true) × (get_or now t 0 ≡ get_or old t 0)
 row_still columns top bottom left right row old now some le from to lowers t lt here =
     let both = and_parts (nat_eq (t / columns) row) (in_range left right (t % columns)) (sym (row_is columns row left right t some le) ∙ here) in
-    let r-is : t / columns ≡ row = eq_true (t / columns) row both.0 in
+    let r-is : t / columns ≡ row = eqb-true (t / columns) row both.0 in
     let t-lt : t < length old = let e = lowers.size in omega arith in
     let not_yet : bit (in_range top row (t / columns) && in_range left right (t % columns)) ≡ 0 = rw (in-high top row (t / columns) (omega arith)) refl in
     (t-lt, rw (in-yes top bottom (t / columns) (omega arith) (omega arith)) both.1, omega (arith, lowers.each t t-lt))

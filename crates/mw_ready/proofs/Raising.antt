@@ -1,17 +1,18 @@
 -- Raising and lowering the counters of readers, source by source.
-use Rattle.std.proofs.Common.{◌≡◌, ℕ, ◌+◌, ◌*◌, ◌/◌, ◌%◌, ◌<◌, ◌≤◌, Bool, true, false, ◌&&◌, nat_eq, List, Option, Some, ◌++◌, length, take, drop, subst, refl, ap, sym, ◌∙◌, arith, inl, inr, set, get_or, length-set}
+use Rattle.std.proofs.Common.{◌≡◌, ℕ, ◌+◌, ◌*◌, ◌/◌, ◌%◌, ◌<◌, ◌≤◌, Bool, true, false, ◌&&◌, nat_eq, List, Option, Some, length, subst, refl, ap, sym, ◌∙◌, arith, inl, inr, set, get_or, length-set}
 use Rattle.std.proofs.Math.Bool.{and-true, and-false}
 use Rattle.std.proofs.Math.Nat.{mul-le-mul_left}
-use Rattle.std.proofs.Math.Seq.{take-append_seam}
 use Rattle.std.proofs.lemmas.Bool.{cases_eq, ne_eqb}
 use Rattle.std.proofs.lemmas.List.{get_or-set_same, get_or-set_other}
-use Rattle.std.proofs.lemmas.Nat.{div-mul-add, mod-mul-add}
+use Rattle.std.proofs.lemmas.Nat.{div-mul-add, mod-mul-add, mod_below}
+use Rattle.mw_facts.proofs.Counts.{count_by-same, count_by-most}
+use Rattle.mw_facts.proofs.Numbers.{one_if-le}
 use Rattle.mw_grid.specs.declared.blocks.Block.{Block}
 use Rattle.mw_grid.specs.Blocks.{sees, in_block}
 use Rattle.mw_grid.specs.Counts.{bit, in_range}
 use Rattle.mw_grid.specs.Grids.{Tiling, tile_count}
 use Rattle.mw_grid.proofs.Meeting.{row_is}
-use Rattle.mw_grid.proofs.Counts.{bit-other, in-yes, in-high, count-add, count-same, count-if, count-most}
+use Rattle.mw_grid.proofs.Counts.{bit-other, in-yes, in-high, count-add, count-if}
 use Rattle.mw_grid.proofs.Lines.{row_less}
 use Rattle.mw_model.specs.declared.places.Reach.{Reach}
 use Rattle.mw_ready.specs.declared.need.Need.{Need}
@@ -72,22 +73,6 @@ raises_at f a place v old now out from place-lt raises v-is out-is = record {
     zero_more : (k z : ℕ) → z ≡ 0 → k + z ≡ k
     zero_more k z e = omega arith
 
--- at the beginning none is raised, and at the place none is raised yet
-pub not_raised : (f : ℕ → ℕ) (a place u : ℕ) → place ≤ u → bit (in_range a place u) * f u ≡ 0
-not_raised f a place u le = ap (λ (b : Bool). bit b * f u) (in-high a place u le) ∙ none (f u)
-  where
-    none : (k : ℕ) → 0 * k ≡ 0
-    none k = omega arith
-
-pub not_begun : (f : ℕ → ℕ) (a u : ℕ) → bit (in_range a a u) * f u ≡ 0
-not_begun f a u = ap (λ (k : ℕ). k * f u) (empty a u) ∙ none (f u)
-  where
-    none : (k : ℕ) → 0 * k ≡ 0
-    none k = omega arith
-
-    empty : (a u : ℕ) → bit (in_range a a u) ≡ 0
-    empty a u = grind arith
-
 -- the tasks of a step stand in a row
 pub in_step : (k n u : ℕ) → 0 < n → in_range (k * n) (k * n + n) u ≡ nat_eq k (u / n)
 in_step k n u some =
@@ -121,7 +106,7 @@ bit_mul_le false k = omega arith
 -- no counter is raised by more than the tiles of a grid
 pub raised_most : (g : Tiling) (reach : Reach) (p : ℕ → Bool) (old now : List ℕ) (u : ℕ) → Raises (λ u. bit (p u) * seen_by g reach (u % tile_count g)) old now → u < length old → get_or now u 0 ≤ get_or old u 0 + tile_count g
 raised_most g reach p old now u raises lt =
-    omega (arith, raises.each u lt, bit_mul_le (p u) (seen_by g reach (u % tile_count g)), count-most (λ w. sees g reach w (u % tile_count g)) (tile_count g))
+    omega (arith, raises.each u lt, bit_mul_le (p u) (seen_by g reach (u % tile_count g)), count_by-most (λ w. sees g reach w (u % tile_count g)) (tile_count g))
 
 -- what the task of a step and a tile reads
 pub reads_takes : (needs : List Need) (need : Need) (g : Tiling) (k tile u : ℕ) → tile < tile_count g → get_or needs k no_need ≡ need → reads needs g (k * tile_count g + tile) u ≡ takes need g tile u
@@ -136,7 +121,7 @@ pub readers_next : (needs : List Need) (need : Need) (g : Tiling) (k u : ℕ) �
 readers_next needs need g k u is =
     ap (reader_count_to) (row k (tile_count g))
     ∙ count-add (λ t. reads needs g t u) (k * tile_count g) (tile_count g)
-    ∙ ap (λ (n : ℕ). reader_count needs g (k * tile_count g) u + n) (count-same (λ w. reads needs g (k * tile_count g + w) u) (λ w. step_reads need (step_of g u) && sees g need.reach w (u % tile_count g)) (tile_count g) (λ w lt. one w lt))
+    ∙ ap (λ (n : ℕ). reader_count needs g (k * tile_count g) u + n) (count_by-same (λ w. reads needs g (k * tile_count g + w) u) (λ w. step_reads need (step_of g u) && sees g need.reach w (u % tile_count g)) (tile_count g) (λ w lt. one w lt))
     ∙ ap (λ (n : ℕ). reader_count needs g (k * tile_count g) u + n) (count-if (step_reads need (step_of g u)) (λ w. sees g need.reach w (u % tile_count g)) (tile_count g))
   where
     reader_count_to : ℕ → ℕ
@@ -164,15 +149,11 @@ splits_under d a b c m n bits same = record { each = λ u. three_bits (a u) (b u
 pub counted_first : (d a b c : ℕ → Bool) (old : List ℕ) → Splits d a b c → Counted d old → Counted a old
 counted_first d a b c old splits counted = λ u lt here. counted u lt (bit_true (d u) (let e = splits.each u in let h : bit (a u) ≡ 1 = ap bit here in omega arith))
 
-bit_small : (b : Bool) → bit b ≤ 1
-bit_small true = omega arith
-bit_small false = omega arith
-
 pub counted_second : (d a b c : ℕ → Bool) (old x : List ℕ) → Splits d a b c → Counted d old → Lowers a old x → Counted b x
 counted_second d a b c old x splits counted lowers = λ u lt here.
     let e = splits.each u in
     let h : bit (b u) ≡ 1 = ap bit here in
-    let most = bit_small (d u) in
+    let most = one_if-le (d u) in
     let u-lt : u < length old = let s = lowers.size in omega arith in
     let was = counted u u-lt (bit_true (d u) (omega arith)) in
     let l = lowers.each u u-lt in
@@ -182,7 +163,7 @@ pub counted_third : (d a b c : ℕ → Bool) (old x y : List ℕ) → Splits d a
 counted_third d a b c old x y splits counted first second = λ u lt here.
     let e = splits.each u in
     let h : bit (c u) ≡ 1 = ap bit here in
-    let most = bit_small (d u) in
+    let most = one_if-le (d u) in
     let s = first.size in
     let t = second.size in
     let x-lt : u < length x = omega arith in
@@ -215,10 +196,7 @@ pub sources_split : (g : Tiling) (need : Need) (b : Block) (tile : ℕ) (x y z :
     → ((v : ℕ) → v < tile_count g → in_block g b v ≡ sees g need.reach tile v) → Splits (takes need g tile) (of_source g b x) (of_source g b y) (of_source g b z)
 sources_split g need b tile x y z some bits each =
     splits_under (λ u. step_reads need (step_of g u)) (λ u. is_source (step_of g u) x) (λ u. is_source (step_of g u) y) (λ u. is_source (step_of g u) z) (λ u. in_block g b (u % tile_count g)) (λ u. sees g need.reach tile (u % tile_count g))
-    (λ u. bits (step_of g u)) (λ u. each (u % tile_count g) (mod_lt u (tile_count g) some))
-  where
-    mod_lt : (i n : ℕ) → 0 < n → i % n < n
-    mod_lt i n some = omega arith
+    (λ u. bits (step_of g u)) (λ u. each (u % tile_count g) (mod_below u (tile_count g) some))
 
 pub source_given : (g : Tiling) (b shifted : Block) (x : Option ℕ) (k : ℕ) (old now : List ℕ) → x ≡ Some k → ((t : ℕ) → in_block g shifted t ≡ nat_eq (step_of g t) k && in_block g b (t % tile_count g)) → Lowers (in_block g shifted) old now
     → Lowers (of_source g b x) old now
@@ -275,7 +253,3 @@ pub raises_step : (g : Tiling) (reach : Reach) (step tile : ℕ) (old now : List
 raises_step g reach step tile old now some is raises =
     raises_same (λ u. bit (in_range (step * tile_count g) (step * tile_count g + tile) u) * seen_by g reach (u % tile_count g)) (λ u. bit (nat_eq step (step_of g u)) * seen_by g reach (u % tile_count g)) old now
     (λ u. ap (λ (k : ℕ). bit (in_range (step * tile_count g) (step * tile_count g + k) u) * seen_by g reach (u % tile_count g)) is ∙ ap (λ (v : Bool). bit v * seen_by g reach (u % tile_count g)) (in_step step (tile_count g) u some)) raises
-
--- a slice of a vector that was written
-pub written_back : (n : ℕ) (new items : List ℕ) → length new ≡ n → take n (new ++ drop (length new) items) ≡ new
-written_back n new items is = ap (λ (k : ℕ). take k (new ++ drop (length new) items)) (sym is) ∙ take-append_seam new (drop (length new) items)

@@ -9,9 +9,9 @@ use Rattle.mw_ready.specs.Boards.{Board, task_count, task_number, tasks_below, i
 use Rattle.mw_ready.specs.Kept.{CountsReaders, Keeps, reader_count, board_of, takes}
 use Rattle.mw_queue.specs.Queues.{Queued}
 use Rattle.mw_ready.specs.Counters.{Lowers, Counted}
-use Rattle.std.proofs.lemmas.Bool.{and_parts}
+use Rattle.std.proofs.lemmas.Bool.{and_parts, not-true}
 use Rattle.mw_ready.proofs.Counts.{list_any-count}
-use Rattle.mw_ready.proofs.Keeping.{finished_one, none_finished, not_true, number_within}
+use Rattle.mw_ready.proofs.Keeping.{finished_one, none_finished, number_within}
 use Rattle.mw_ready.proofs.Raising.{reads_takes}
 
 pub readers_fresh : (needs : List Need) (g : Tiling) (q : Queued) (finished : List Bool) (readers : List ℕ) → finished ≡ replicate (length needs * tile_count g) false → length readers ≡ length needs * tile_count g
@@ -26,10 +26,7 @@ readers_one : (b : Board) (readers : List ℕ) (active left task u : ℕ) (count
     → count_below (λ t. reads b.needs b.grid t u && not (flag (set b.finished task true) t)) (task_count b) + bit (reads b.needs b.grid task u) ≡ get_or readers u 0
 readers_one b readers active left task u counters keeps counts lt running u-lt =
     let parts = and_parts (flag b.started task) (not (flag b.finished task)) running in
-    finished_one (λ t. reads b.needs b.grid t u) b.finished (task_count b) task lt keeps.finished (not_true (flag b.finished task) parts.1) ∙ sym (counts.each u u-lt)
-
-takes_number : (b : Board) (need : Need) (step tile u : ℕ) → tile < tile_count b.grid → get_or b.needs step no_need ≡ need → takes need b.grid tile u ≡ reads b.needs b.grid (task_number b.grid step tile) u
-takes_number b need step tile u lt is = sym (reads_takes b.needs need b.grid step tile u lt is)
+    finished_one (λ t. reads b.needs b.grid t u) b.finished (task_count b) task lt keeps.finished (not-true (flag b.finished task) parts.1) ∙ sym (counts.each u u-lt)
 
 pub readers_counted : (b : Board) (readers counters : List ℕ) (need : Need) (active left step tile : ℕ) → Keeps b counters active left → CountsReaders b readers → Runs b step tile → get_or b.needs step no_need ≡ need
     → Counted (takes need b.grid tile) readers
@@ -37,7 +34,7 @@ readers_counted b readers counters need active left step tile keeps counts runs 
     let task = task_number b.grid step tile in
     let u-lt : u < task_count b = let s = counts.size in omega arith in
     let one = readers_one b readers active left task u counters keeps counts (number_within b step tile runs) runs.running u-lt in
-    let there : bit (reads b.needs b.grid task u) ≡ 1 = ap bit (sym (takes_number b need step tile u runs.inside is) ∙ here) in
+    let there : bit (reads b.needs b.grid task u) ≡ 1 = ap bit (reads_takes b.needs need b.grid step tile u runs.inside is ∙ here) in
     omega arith
 
 pub finish_readers : (b : Board) (readers now counters : List ℕ) (started : List Bool) (need : Need) (active left step tile : ℕ) → Keeps b counters active left → CountsReaders b readers → Runs b step tile → get_or b.needs step no_need ≡ need
@@ -49,7 +46,7 @@ finish_readers b readers now counters started need active left step tile keeps c
       let u-lt : u < length readers = let s = counts.size in omega arith in
       let one = readers_one b readers active left task u counters keeps counts (number_within b step tile runs) runs.running lt in
       let low = lowers.each u u-lt in
-      let same : bit (takes need b.grid tile u) ≡ bit (reads b.needs b.grid task u) = ap bit (takes_number b need step tile u runs.inside is) in
+      let same : bit (takes need b.grid tile u) ≡ bit (reads b.needs b.grid task u) = ap bit (sym (reads_takes b.needs need b.grid step tile u runs.inside is)) in
       omega arith;
 }
 

@@ -1,6 +1,8 @@
 -- The tasks of a board are those of the work that it shows.
-use Rattle.std.proofs.Common.{◌≡◌, ℕ, ◌+◌, ◌-◌, ◌*◌, ◌/◌, ◌%◌, ◌<◌, Bool, not, ◌&&◌, ◌||◌, List, length, ap, sym, ◌∙◌, arith, get_or}
+use Rattle.std.proofs.Common.{◌≡◌, ℕ, ◌*◌, ◌/◌, ◌%◌, ◌<◌, Bool, not, ◌&&◌, ◌||◌, List, length, ap, sym, ◌∙◌, get_or}
 use Rattle.std.specs.List.{range_with_len, list_all, list_any}
+use Rattle.std.proofs.lemmas.Nat.{mod_below}
+use Rattle.mw_facts.proofs.Counts.{count_by-same}
 use Rattle.mw_model.specs.declared.places.Reach.{Reach}
 use Rattle.mw_model.specs.declared.places.Rect.{Rect}
 use Rattle.mw_model.specs.Places.{grown}
@@ -11,25 +13,15 @@ use Rattle.mw_model.specs.Plans.{Planned}
 use Rattle.mw_model.specs.Tasks as tasks
 use Rattle.mw_model.specs.Tasks.{Progress, nothing_planned, is_step, flag, meets}
 use Rattle.mw_grid.specs.Grids.{tile_count}
-use Rattle.mw_grid.proofs.Lines.{row_less}
-use Rattle.mw_grid.proofs.Tiles.{length-tiles_of, tile_of-tiles_of}
+use Rattle.mw_grid.proofs.Tiles.{length-tiles_of, tile_of-tiles_of, some_tiles}
 use Rattle.mw_ready.specs.Boards.{Board, step_reads, need_of, step_of, tile_of_task, place_of_task, reads, task_count, is_ready, is_running}
 use Rattle.mw_ready.specs.Work.{IsBoardOf, SameTasks}
 use Rattle.mw_grid.specs.Counts.{count_below}
-use Rattle.mw_grid.proofs.Counts.{count-same}
 use Rattle.mw_ready.proofs.Counts.{all-same}
+use Rattle.mw_ready.proofs.Raising.{step_below}
 
 tiles_number : (b : Board) (p : Progress) → IsBoardOf b p → length p.tiles ≡ tile_count b.grid
 tiles_number b p of = ap (λ (ts : List Rect). length ts) of.tiles ∙ length-tiles_of b.grid
-
-some_tile : (b : Board) → 0 < tile_count b.grid
-some_tile b = more ((b.grid.height - 1) / b.grid.side) ((b.grid.width - 1) / b.grid.side)
-  where
-    more : (x y : ℕ) → 0 < (x + 1) * (y + 1)
-    more x y = grind arith
-
-step_lt : (b : Board) (n : ℕ) → n < task_count b → step_of b.grid n < length b.needs
-step_lt b n lt = row_less (length b.needs) (tile_count b.grid) n (some_tile b) lt
 
 planned_is : (b : Board) (p : Progress) (n : ℕ) → IsBoardOf b p → tasks.planned_of p n ≡ get_or p.plan (step_of b.grid n) nothing_planned
 planned_is b p n of = ap (λ (m : ℕ). get_or p.plan (n / m) nothing_planned) (tiles_number b p of)
@@ -38,14 +30,11 @@ tile_is : (b : Board) (p : Progress) (n : ℕ) → IsBoardOf b p → tasks.tile_
 tile_is b p n of =
     ap (λ (m : ℕ). places.tile_of p.tiles (n % m)) (tiles_number b p of)
     ∙ ap (λ (ts : List Rect). places.tile_of ts (n % tile_count b.grid)) of.tiles
-    ∙ tile_of-tiles_of b.grid (n % tile_count b.grid) (mod_lt n (tile_count b.grid) (some_tile b))
-  where
-    mod_lt : (i n : ℕ) → 0 < n → i % n < n
-    mod_lt i n some = omega arith
+    ∙ tile_of-tiles_of b.grid (n % tile_count b.grid) (mod_below n (tile_count b.grid) (some_tiles b.grid))
 
 place_is : (b : Board) (p : Progress) (n : ℕ) → IsBoardOf b p → n < task_count b → tasks.place_of_task p n ≡ place_of_task b.needs b.grid n
 place_is b p n of lt =
-    let need = of.needs (step_of b.grid n) (step_lt b n lt) in
+    let need = of.needs (step_of b.grid n) (step_below b.grid (length b.needs) n lt) in
     ap (λ (s : Planned). grown p.width p.height (reach_of (looks_at s.step)) (tasks.tile_of_task p n)) (planned_is b p n of)
     ∙ ap (λ (r : Reach). grown p.width p.height r (tasks.tile_of_task p n)) (sym need.reach)
     ∙ ap (λ (w : ℕ). grown w p.height (need_of b.needs b.grid n).reach (tasks.tile_of_task p n)) of.width
@@ -54,7 +43,7 @@ place_is b p n of lt =
 
 reads_is : (b : Board) (p : Progress) (n u : ℕ) → IsBoardOf b p → n < task_count b → tasks.reads p n u ≡ reads b.needs b.grid n u
 reads_is b p n u of lt =
-    let need = of.needs (step_of b.grid n) (step_lt b n lt) in
+    let need = of.needs (step_of b.grid n) (step_below b.grid (length b.needs) n lt) in
     ap (λ (s : Planned). list_any (is_step (tasks.step_number p u)) s.sources && meets (tasks.place_of_task p n) (tasks.tile_of_task p u)) (planned_is b p n of)
     ∙ ap (λ (v : Bool). v && meets (tasks.place_of_task p n) (tasks.tile_of_task p u)) (sym (need.steps (tasks.step_number p u)))
     ∙ ap (λ (m : ℕ). step_reads (need_of b.needs b.grid n) (u / m) && meets (tasks.place_of_task p n) (tasks.tile_of_task p u)) (tiles_number b p of)
@@ -80,7 +69,7 @@ same_tasks b p of = record {
   reads = λ n u lt. reads_is b p n u of lt;
   ready = λ n lt. ready_is b p n of lt;
   running = λ n. running_is b p n of;
-  ready_tasks = ap (λ (m : ℕ). count_below (tasks.is_ready p) m) (count_is b p of) ∙ count-same (tasks.is_ready p) (is_ready b) (task_count b) (λ n lt. ready_is b p n of lt);
-  running_tasks = ap (λ (m : ℕ). count_below (tasks.is_running p) m) (count_is b p of) ∙ count-same (tasks.is_running p) (is_running b) (task_count b) (λ n lt. running_is b p n of);
+  ready_tasks = ap (λ (m : ℕ). count_below (tasks.is_ready p) m) (count_is b p of) ∙ count_by-same (tasks.is_ready p) (is_ready b) (task_count b) (λ n lt. ready_is b p n of lt);
+  running_tasks = ap (λ (m : ℕ). count_below (tasks.is_running p) m) (count_is b p of) ∙ count_by-same (tasks.is_running p) (is_running b) (task_count b) (λ n lt. running_is b p n of);
   remaining_tasks = ap (λ (m : ℕ). count_below (λ n. not (flag p.finished n)) m) (count_is b p of) ∙ ap (λ (f : List Bool). count_below (λ n. not (flag f n)) (task_count b)) of.finished;
 }

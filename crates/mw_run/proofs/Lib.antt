@@ -1,2 +1,2 @@
+-- what other crates may cite
 pub mod RunLists
-pub mod Nonnegative

@@ -1,11 +1,13 @@
 -- Lists of offsets as runs.
-use Rattle.std.proofs.Common.{◌≡◌, ℕ, zero, suc, ◌+◌, ◌<◌, ℤ, pos, ◌+ℤ◌, List, [], ◌∷◌, ◌++◌, length, take, drop, get_or, map, flat_map, ap, sym, subst, inl, inr, arith, ◌∙◌, length-append, length-drop}
+use Rattle.std.proofs.Common.{◌≡◌, ℕ, zero, suc, ◌+◌, ◌<◌, ℤ, pos, ◌+ℤ◌, List, [], ◌∷◌, ◌++◌, length, take, drop, get_or, map, flat_map, ap, sym, subst, inl, inr, arith, ◌∙◌, length-append, length-drop, zero-add}
 use Rattle.std.specs.List.{range_with_len, AllByRecursion}
 use Rattle.std.proofs.lemmas.Int.{ints}
 use Rattle.std.proofs.lemmas.Bool.{cases_lt}
 use Rattle.std.proofs.lemmas.List.{take_more, get_or_append_left, get_or-drop, append-nil}
 use Rattle.std.proofs.lemmas.Grind.{flat_map-append}
 use Rattle.std.proofs.Math.Seq.{take-add, get_or-append_seam}
+use Rattle.mw_facts.proofs.Alls.{all-push, all-weaker}
+use Rattle.mw_facts.proofs.Numbers.{add_one-add}
 use Rattle.mw_model.specs.declared.places.Offset.{Offset}
 use Rattle.mw_run.specs.declared.runs.Run.{Run}
 use Rattle.mw_run.specs.declared.runs.Extent.{Extent}
@@ -17,10 +19,7 @@ map-range_more f a zero = ap (λ (t : ℕ). f t ∷ []) (same a)
     same : (a : ℕ) → a ≡ a + 0
     same a = omega arith
 map-range_more f a (suc n) =
-    ap (λ (t : List _). f a ∷ t) (map-range_more f (a + 1) n) ∙ ap (λ (t : ℕ). f a ∷ (map f (range_with_len (a + 1) n) ++ f t ∷ [])) (next a n)
-  where
-    next : (a n : ℕ) → a + 1 + n ≡ a + suc n
-    next a n = omega arith
+    ap (λ (t : List _). f a ∷ t) (map-range_more f (a + 1) n) ∙ ap (λ (t : ℕ). f a ∷ (map f (range_with_len (a + 1) n) ++ f t ∷ [])) (add_one-add a n)
 
 pub offset_is : (o : Offset) (dx dy : ℤ) → o.dx ≡ dx → o.dy ≡ dy → o ≡ record { dx = dx; dy = dy }
 offset_is o dx dy dx-is dy-is = ap (λ (t : ℤ). let b : Offset = record { dx = t; dy = o.dy } in b) dx-is ∙ ap (λ (t : ℤ). let b : Offset = record { dx = dx; dy = t } in b) dy-is
@@ -33,14 +32,11 @@ run_more offsets from count more dx dy d more-is lt dx-is dy-is so_far =
     let up : more ≡ suc count = omega arith in
     ap (λ (t : ℕ). map place (range_with_len 0 t)) up
     ∙ map-range_more place 0 count
-    ∙ ap (λ (t : ℕ). map place (range_with_len 0 count) ++ place t ∷ []) (front count)
+    ∙ ap (λ (t : ℕ). map place (range_with_len 0 count) ++ place t ∷ []) (zero-add count)
     ∙ ap (λ (t : List Offset). t ++ place count ∷ []) so_far
     ∙ ap (λ (t : Offset). take count (drop from offsets) ++ t ∷ []) (sym (get_or-drop from offsets count d ∙ offset_is (get_or offsets (from + count) d) (dx +ℤ pos count) dy dx-is dy-is))
     ∙ sym (take_more (drop from offsets) count d (omega (arith, length-drop from offsets)))
     ∙ ap (λ (t : ℕ). take t (drop from offsets)) (sym more-is)
-  where
-    front : (n : ℕ) → 0 + n ≡ n
-    front n = omega arith
 
 -- one run more in a list
 pub runs_more : (offsets : List Offset) (runs more : List Run) (run : Run) (at to : ℕ) → more ≡ runs ++ run ∷ [] → to ≡ at + run.count → run_offsets run ≡ take run.count (drop at offsets)
@@ -52,19 +48,6 @@ runs_more offsets runs more run at to more-is to-is run-is so_far =
     ∙ ap (λ (t : List Offset). take at offsets ++ t) (append-nil (run_offsets run) ∙ run-is)
     ∙ sym (take-add at run.count offsets)
     ∙ ap (λ (t : ℕ). take t offsets) (sym to-is)
-
-pub all_more : {B : Type 0} (P : B → Type 0) (xs : List B) (x : B) → AllByRecursion P xs → P x → AllByRecursion P (xs ++ x ∷ [])
-all_more P [] y all here = (here, all)
-all_more P (x ∷ xs) y all here = (all.0, all_more P xs y all.1 here)
-
-pub all_weaker : {B : Type 0} (P Q : B → Type 0) (xs : List B) → ((x : B) → P x → Q x) → AllByRecursion P xs → AllByRecursion Q xs
-all_weaker P Q [] weaker all = all
-all_weaker P Q (x ∷ xs) weaker all = (weaker x all.0, all_weaker P Q xs weaker all.1)
-
-pub all_at : {B : Type 0} (P : B → Type 0) (xs : List B) (i : ℕ) (d : B) → i < length xs → AllByRecursion P xs → P (get_or xs i d)
-all_at P [] i d lt all = absurd (omega arith)
-all_at P (x ∷ xs) zero d lt all = all.0
-all_at P (x ∷ xs) (suc i) d lt all = all_at P xs i d (omega arith) all.1
 
 pub inside_wider : (e o : Extent) → IsWider e o → (r : Run) → IsInside o r → IsInside e r
 inside_wider e o wider r inside = record {
@@ -78,7 +61,7 @@ inside_wider e o wider r inside = record {
 -- one run more that lies in an extent
 pub inside_more : (e o : Extent) (runs : List Run) (i : ℕ) (d : Run) → i < length runs → IsWider e o → AllByRecursion (IsInside o) (take i runs) → IsInside e (get_or runs i d) → AllByRecursion (IsInside e) (take (i + 1) runs)
 inside_more e o runs i d lt wider so_far here =
-    rw (take_more runs i d lt) (all_more (IsInside e) (take i runs) (get_or runs i d) (all_weaker (IsInside o) (IsInside e) (take i runs) (inside_wider e o wider) so_far) here)
+    rw (take_more runs i d lt) (all-push (IsInside e) (take i runs) (get_or runs i d) (all-weaker (IsInside o) (IsInside e) (take i runs) (inside_wider e o wider) so_far) here)
 
 -- no run continues the one before it, also where the last one is new
 pub longest_more : (offsets : List Offset) (runs more : List Run) (run : Run) (at to : ℕ) → more ≡ runs ++ run ∷ [] → to ≡ at + run.count → at < length offsets

@@ -3,6 +3,7 @@ use Rattle.std.proofs.Common.{◌≡◌, ◌≢◌, ℕ, zero, suc, ◌<◌, ◌
 use Rattle.std.specs.List.{AllByRecursion}
 use Rattle.std.proofs.lemmas.List.{get_or-set_same, get_or-set_other, length-set, ext_get_or, length-map, get_or-map, append-nil}
 use Rattle.std.proofs.lemmas.Bool.{cases_lt, cases_Bool}
+use Rattle.mw_facts.proofs.Alls.{all-both}
 use Rattle.mw_model.specs.declared.submissions.Submission.{Submission}
 use Rattle.mw_model.specs.declared.calls.Outcome.{Outcome}
 use Rattle.mw_model.specs.declared.calls.Outcome.TheVariants as outcome
@@ -17,7 +18,7 @@ use Rattle.mw_script_laws.specs.Marks.{killed_in, OnlyWork}
 use Rattle.mw_laws.proofs.RunCascade.{pending_is}
 use Rattle.mw_laws.proofs.RunStates.{step_sound}
 use Rattle.mw_laws.proofs.RunReplay.{run_join}
-use Rattle.mw_script_laws.proofs.Working.{machine_is, all_both}
+use Rattle.mw_script_laws.proofs.Working.{machine_is}
 
 -- in the second state the pending entries below k are done, and nothing else is changed
 record DoneTo (k : ℕ) (m n : Machine) : Type 0 where
@@ -73,7 +74,7 @@ finish_one k m s l p f =
     let d = f.done in
     let within : k < length n.table.outcomes = omega (arith, d.size, s.lengths.outcomes) in
     let Q : List Submission → Type 0 = λ es. AllByRecursion (λ i. is_there (outcome_at n.table.outcomes i) ≡ true) (inputs_at es k) in
-    let there = all_both (λ i. i < k) (λ i. is_dead (outcome_at m.table.outcomes i) ≡ false) (λ i. is_there (outcome_at n.table.outcomes i) ≡ true) (inputs_at m.table.submissions k)
+    let there = all-both (λ i. i < k) (λ i. is_dead (outcome_at m.table.outcomes i) ≡ false) (λ i. is_there (outcome_at n.table.outcomes i) ≡ true) (inputs_at m.table.submissions k)
     (λ i h alive. rw (d.below i h) (done_there (outcome_at m.table.outcomes i) alive)) (s.inputs k l) (s.pending k l p) in
     let can : CanFinish n.table k = record { within = within; pending = d.above k (omega arith) ∙ p; inputs_there = subst Q (sym d.submissions) there } in
     let next = with_table n (settled n.table k outcome.Done) in

@@ -11,9 +11,9 @@ use Rattle.mw_model.specs.Lines.{Asked, AskAlone, Front, Found, Partial, Fault, 
 use Rattle.mw_model.specs.Replies.{refusal_text}
 use Rattle.mw_model.specs.Scripts.{Turn, AreTurns, requests, Ends, end_text, IsScript, IsBroken}
 use Rattle.mw_intake.specs.Reading.{front}
-use Rattle.mw_intake.proofs.Front.{Begins_more, front_fault, front_is}
+use Rattle.mw_intake.proofs.Front.{Begins_more, front_fault, front_is, front_empty}
 use Rattle.mw_script_laws.specs.Marks.{EndsInMemory}
-use Rattle.mw_script_laws.proofs.Readings.{front_empty, front_once, turns_once}
+use Rattle.mw_script_laws.proofs.Readings.{front_once, turns_once}
 
 -- what stands behind the first requests
 begins_rest : (ts us : List Turn) (bytes mid left : List ℕ) → Begins bytes (requests ts) mid → Begins bytes (requests (ts ++ us)) left → Begins mid (requests us) left

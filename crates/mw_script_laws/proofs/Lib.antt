@@ -1,4 +1,6 @@
+-- what other crates may cite
 pub mod Working
 pub mod Finishing
-pub mod Readings
-pub mod Fronts
+-- the crate's own
+mod Readings
+mod Fronts

@@ -1,5 +1,6 @@
 -- Scripts have one reading: without marks of memory, the bytes and the state tell the output.
 use Rattle.std.proofs.Common.{◌≡◌, ◌≢◌, ℕ, Bool, true, false, List, [], ◌∷◌, ◌++◌, Option, Some, None, refl, sym, ap, ◌∙◌, subst, arith, inl, inr, append_assoc}
+use Rattle.mw_facts.proofs.Elements.{append-empty}
 use Rattle.mw_model.specs.declared.codes.Code.{Code}
 use Rattle.mw_model.specs.declared.codes.Code.TheVariants as code
 use Rattle.mw_model.specs.declared.calls.Given.{Given}
@@ -13,13 +14,13 @@ use Rattle.mw_model.specs.declared.requests.End.TheVariants as end
 use Rattle.mw_model.specs.Pictures.{Picture}
 use Rattle.mw_model.specs.Rasters.{Raster}
 use Rattle.mw_model.specs.Bitmaps.{IsBitmap, BitmapRefuses}
-use Rattle.mw_model.specs.Elements.{Figure, IsElement, ElementRefuses, no_bitmap, no_origin, no_pixel, HoldsPlace, offsets_of, figure_of}
+use Rattle.mw_model.specs.Elements.{Figure, IsElement, ElementRefuses, no_bitmap, no_origin, no_pixel, HoldsPlace, offsets_of}
 use Rattle.mw_model.specs.NetpbmGrammar.{IsFile}
 use Rattle.mw_model.specs.Values.{Value, ImageValue, ElementValue, shape_of_picture, shape_of_figure}
 use Rattle.mw_model.specs.Refusals.{first_of, name_taken, no_room, fault_of, refusal}
 use Rattle.mw_model.specs.Machine.{Machine, after}
 use Rattle.mw_model.specs.Lines.{Asked, AskLoad, AskElement, AskAlone, Found, Partial, Fault, Begins}
-use Rattle.mw_intake.proofs.Front.{front_is}
+use Rattle.mw_intake.proofs.Front.{front_is, front_empty}
 use Rattle.mw_intake.specs.Reading.{front}
 use Rattle.mw_model.specs.Replies.{refusal_text}
 use Rattle.mw_model.specs.Scripts.{ImageGiven, ElementGiven, Calls, IsCallOf, refused_unread, answer_text, Answers, unread, called, runs_work, Works, Replies, Turn, IsTurn, AreTurns, requests, NoQuit, Ends, IsScript, end_text}
@@ -28,6 +29,7 @@ use Rattle.mw_netpbm.proofs.Sides.{ok_is}
 use Rattle.mw_netpbm.proofs.Files.{file_read}
 use Rattle.mw_netpbm.proofs.Exclusive.{one_refusal, refusal_or_image}
 use Rattle.mw_netpbm.proofs.Bitmaps.{one_bitmap, one_bitmap_refusal, refusal_or_bitmap}
+use Rattle.mw_element.proofs.Exclusive.{one_element}
 
 -- ---- payloads
 
@@ -41,10 +43,6 @@ image_given_once bytes (given.Good s) (given.Good u) p q a b =
 image_given_once bytes (given.Good s) (given.Bad d) p q a b = absurd (refusal_or_image bytes d a.0 b.0 a.1)
 image_given_once bytes (given.Bad c) (given.Good u) p q a b = absurd (refusal_or_image bytes c b.0 a.0 b.1)
 image_given_once bytes (given.Bad c) (given.Bad d) p q a b = (ap given.Bad (one_refusal bytes c d a.0 b.0), a.1 ∙ sym b.1)
-
-one_element : (bytes : List ℕ) (ox oy : ℕ) (f g : Figure) → IsElement bytes ox oy f → IsElement bytes ox oy g → f ≡ g
-one_element bytes ox oy f g a b =
-    a.shows ∙ ap (λ r. figure_of r ox oy) (one_bitmap bytes 255 a.bitmap b.bitmap (omega arith) a.is_bitmap b.is_bitmap) ∙ sym b.shows
 
 -- the ways to be no element
 pub data NoElement (bytes : List ℕ) (ox oy : ℕ) (c : Code) : Type 0 where
@@ -169,10 +167,6 @@ front_once ts us m n k x y a b =
 
 -- ---- whole scripts
 
-pub front_empty : front [] ≡ Partial
-unfolding front
-front_empty = refl
-
 -- where a script ends without a mark, no further request stands
 no_request_left : (whole : Type 0) (rest mid : List ℕ) (e : End) (r : Asked) → Ends whole rest e → e ≢ end.Ended code.Memory → front rest ≡ Found r mid → r ≢ AskAlone ask.Quit → ⊥
 no_request_left whole rest mid end.Quit r h n f q = elim h [
@@ -264,13 +258,9 @@ found_memory : (b : Bool) (m n : Machine) (r : Asked) (x : List ℕ) → Replies
 found_memory true m n r x a other = absurd (other a.0)
 found_memory false m n r x a other = refl
 
-none_first : (xs ys : List ℕ) → xs ++ ys ≡ [] → (xs ≡ []) × (ys ≡ [])
-none_first [] ys e = (refl, e)
-none_first (x ∷ xs) ys e = cc
-
 -- the marks of turns are their kills and their 50s
 pub marks_seen : (ts : List Turn) (m n : Machine) (x : List ℕ) → (a : AreTurns m ts x n) → kills_of ts ≡ [] → NoneSaysMemory ts m n x a → NoMarks ts
 marks_seen [] m n x a none other = tt
 marks_seen (t ∷ ts) m n x a none other =
-    let kills = none_first t.kills (kills_of ts) none in
+    let kills = append-empty t.kills (kills_of ts) none in
     (kills.0, found_memory t.no_memory a.3.0 a.0 t.request a.1 a.3.2 other.0, marks_seen ts a.0 n a.2 a.4 kills.1 other.1)

@@ -4,6 +4,9 @@ use Rattle.std.specs.List.{AllByRecursion}
 use Rattle.std.specs.Option.{option_map_or}
 use Rattle.std.proofs.lemmas.List.{get_or-set_same, get_or-set_other, ext_get_or, length-map, get_or-map}
 use Rattle.std.proofs.lemmas.Bool.{cases_eq, cases_Bool}
+use Rattle.mw_facts.proofs.Finds.{find-same}
+use Rattle.mw_facts.proofs.Alls.{all-weaker, all-both}
+use Rattle.mw_facts.proofs.Numbers.{strong_induction}
 use Rattle.mw_model.specs.declared.submissions.Submission.{Submission}
 use Rattle.mw_model.specs.declared.calls.Outcome.{Outcome}
 use Rattle.mw_model.specs.declared.calls.Outcome.TheVariants as outcome
@@ -15,7 +18,7 @@ use Rattle.mw_laws.specs.MachineLaws.{IsSound, IsKilled, first_dead, inputs_at}
 use Rattle.mw_model.specs.Scripts.{after_kills, CanAllDie, done_if_pending, Works}
 use Rattle.mw_script_laws.specs.Marks.{NothingWaits}
 use Rattle.mw_script_laws.specs.Marks.{killed_in, OnlyWork}
-use Rattle.mw_laws.proofs.RunCascade.{find_same, all_map, is_killed, failed_or_waits, pending_is, not_pending, strongly}
+use Rattle.mw_laws.proofs.RunCascade.{is_killed, failed_or_waits, pending_is, not_pending}
 use Rattle.mw_laws.proofs.RunStates.{step_sound, there_not_dead}
 
 -- one outcome beside the other: the same, or done where the other is pending still
@@ -55,15 +58,11 @@ none_dead : (p : ℕ → Bool) (xs : List ℕ) → AllByRecursion (λ i. p i ≡
 none_dead p [] h = refl
 none_dead p (x ∷ xs) h = rw (h.0, none_dead p xs h.1) refl
 
-pub all_both : (P Q R : ℕ → Type 0) (xs : List ℕ) → ((x : ℕ) → P x → Q x → R x) → AllByRecursion P xs → AllByRecursion Q xs → AllByRecursion R xs
-all_both P Q R [] f h k = tt
-all_both P Q R (x ∷ xs) f h k = (f x h.0 k.0, all_both P Q R xs f h.1 k.1)
-
 first_dead_same : (w v : Table) (u : ℕ) → v.submissions ≡ w.submissions
     → AllByRecursion (λ i. is_dead (outcome_at v.outcomes i) ≡ is_dead (outcome_at w.outcomes i)) (inputs_at w.submissions u) → first_dead v u ≡ first_dead w u
 first_dead_same w v u e h =
     ap (λ es. find (λ i. is_dead (outcome_at v.outcomes i)) (inputs_at es u)) e
-    ∙ find_same (λ i. is_dead (outcome_at v.outcomes i)) (λ i. is_dead (outcome_at w.outcomes i)) (inputs_at w.submissions u) h
+    ∙ find-same (λ i. is_dead (outcome_at v.outcomes i)) (λ i. is_dead (outcome_at w.outcomes i)) (inputs_at w.submissions u) h
 
 -- a kill in both states: what it makes of an entry, where that is known of the entries before it
 killed_each : (b v : Machine) (t u : ℕ) → IsSound b → IsAhead b v
@@ -84,7 +83,7 @@ killed_each b v t u s a kb kv sv pending size l before =
           | inl p ↦
               let waits : outcome_at b.table.outcomes u ≡ outcome.Pending = pending_is (outcome_at b.table.outcomes u) p in
               inl (failed_or_waits v.table (killed v.table t outcome.Memory) t outcome.Memory u kv (omega arith) other (e ∙ waits)
-              ∙ ap (λ d. option_map_or outcome.Input d outcome.Pending) (first_dead_same wb wv u subs (all_map (λ i. i < u) (λ i. is_dead (outcome_at wv.outcomes i) ≡ is_dead (outcome_at wb.outcomes i)) (inputs_at wb.submissions u) (λ i h. ahead_dead (outcome_at wb.outcomes i) (outcome_at wv.outcomes i) (before i h)) below))
+              ∙ ap (λ d. option_map_or outcome.Input d outcome.Pending) (first_dead_same wb wv u subs (all-weaker (λ i. i < u) (λ i. is_dead (outcome_at wv.outcomes i) ≡ is_dead (outcome_at wb.outcomes i)) (inputs_at wb.submissions u) (λ i h. ahead_dead (outcome_at wb.outcomes i) (outcome_at wv.outcomes i) (before i h)) below))
               ∙ sym (failed_or_waits b.table (killed b.table t outcome.Memory) t outcome.Memory u kb (omega (arith, s.lengths.outcomes)) other waits))
           | inr p ↦
               let settled : outcome_at b.table.outcomes u ≢ outcome.Pending = λ g. let x = ap is_pending g in absurd cc in
@@ -95,7 +94,7 @@ killed_each b v t u s a kb kv sv pending size l before =
             let l' : u < length wv.names = omega (arith, ap length kv.names, ap length a.names) in
             let Q : List Submission → Type 0 = λ es. AllByRecursion (λ i. is_there (outcome_at wv.outcomes i) ≡ true) (inputs_at es u) in
             let there = subst Q subs (sv.done u l' (ap is_there done)) in
-            let alive = all_both (λ i. i < u) (λ i. is_there (outcome_at wv.outcomes i) ≡ true) (λ i. is_dead (outcome_at wb.outcomes i) ≡ false) (inputs_at wb.submissions u)
+            let alive = all-both (λ i. i < u) (λ i. is_there (outcome_at wv.outcomes i) ≡ true) (λ i. is_dead (outcome_at wb.outcomes i) ≡ false) (inputs_at wb.submissions u)
             (λ i h k. ahead_there (outcome_at wb.outcomes i) (outcome_at wv.outcomes i) (before i h) k) below there in
             inr (
               failed_or_waits b.table wb t outcome.Memory u kb (omega (arith, s.lengths.outcomes)) other e.0
@@ -125,7 +124,7 @@ ahead_killed b v t s r a can =
         names = kv.names ∙ a.names ∙ sym kb.names;
         submissions = kv.submissions ∙ a.submissions ∙ sym kb.submissions;
         payloads = a.payloads;
-        each = λ u h. strongly (λ i. i < length b.table.names → Ahead (outcome_at (killed b.table t outcome.Memory).outcomes i) (outcome_at (killed v.table t outcome.Memory).outcomes i))
+        each = λ u h. strong_induction (λ i. i < length b.table.names → Ahead (outcome_at (killed b.table t outcome.Memory).outcomes i) (outcome_at (killed v.table t outcome.Memory).outcomes i))
             (λ i before l. killed_each b v t i s a kb kv sv can.pending size_v l (λ j h'. before j h' (omega arith))) u (omega (arith, ap length kb.names));
       },
     )

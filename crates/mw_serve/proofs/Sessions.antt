@@ -50,15 +50,11 @@ receives bytes rest rs old new text a =
 pub came-wrote-all : (left : Option (List ℕ)) (bytes : List ℕ) (old new : List Receipt) (before after : Option (List ℕ)) (e : End) → CameToEnd Served (LacksRoom bytes) left bytes old new before after e → WroteAll (IsAtEnd left) bytes old new before after e
 came-wrote-all left bytes old new before after e f = (f.rest, f.text, receives bytes f.rest f.asked old new f.text f.made, f.ends, f.wrote)
 
--- a front of both texts
-both-fronts : (x y : List ℕ) (k : ℕ) → x ++ take k y ≡ take (length x + k) (x ++ y)
-both-fronts x y k = sym (take-append-add x y k)
-
 all-of : (x : List ℕ) → x ≡ take (length x) (x ++ [])
 all-of x = rw append-nil (sym (take-length x))
 
 in-answer : (x y : List ℕ) (k : ℕ) → x ++ take k y ≡ take (length x + k) ((x ++ y) ++ [])
-in-answer x y k = rw append-nil (both-fronts x y k)
+in-answer x y k = rw append-nil (sym (take-append-add x y k))
 
 said-wrote-front : (left : Option (List ℕ)) (bytes rest : List ℕ) (old new : List Receipt) (before after : Option (List ℕ)) → AllAnswered Served bytes rest old new before after → WroteFront (IsAtEnd left) bytes old new before after
 said-wrote-front left bytes rest old new before after d = (rest, d.text, [], length d.text, receives bytes rest d.asked old new d.text d.made, inl refl, subst (Appends before after) (all-of d.text) d.wrote)
@@ -74,6 +70,6 @@ halted-wrote-front left bytes old new before after fault.Write (inl (inl s)) =
     let all = has-append Served s.asked (s.last ∷ []) bytes s.rest s.behind old s.mid new s.text s.reply s.made (has-one Served s.rest s.behind s.last s.mid new s.reply s.next s.open_still s.answer) in
     (s.behind, s.text ++ s.reply, [], length s.text + s.count, receives bytes s.behind (s.asked ++ s.last ∷ []) old new (s.text ++ s.reply) all, inl refl, subst (Appends before after) (in-answer s.text s.reply s.count) s.wrote)
 halted-wrote-front left bytes old new before after fault.Write (inl (inr s)) =
-    (s.rest, s.text, end_text s.end, length s.text + s.count, receives bytes s.rest s.asked old new s.text s.made, inr (s.end, s.ends.0, refl), subst (Appends before after) (both-fronts s.text (end_text s.end) s.count) s.wrote)
+    (s.rest, s.text, end_text s.end, length s.text + s.count, receives bytes s.rest s.asked old new s.text s.made, inr (s.end, s.ends.0, refl), subst (Appends before after) (sym (take-append-add s.text (end_text s.end) s.count)) s.wrote)
 halted-wrote-front left bytes old new before after fault.Write (inr (inl (rest, d))) = said-wrote-front left bytes rest old new before after d
 halted-wrote-front left bytes old new before after fault.Write (inr (inr (e, f))) = came-wrote-front left bytes old new before after e f

@@ -1,5 +1,5 @@
 -- One request at a board: its receipt, and what is written for it.
-use Rattle.std.proofs.Common.{◌≡◌, ◌↔◌, ℕ, List, Option, Some, None, Result, Ok, Err, IfOk, OnErr, refl, subst, inl, inr}
+use Rattle.std.proofs.Common.{◌≡◌, ◌↔◌, ℕ, List, Result, Ok, Err, IfOk, OnErr, refl, subst, inl, inr}
 use Rattle.std.specs.Prelude.{IsSome}
 use Rattle.mw_model.specs.declared.names.Name.{Name}
 use Rattle.mw_model.specs.declared.calls.Given.{Given}

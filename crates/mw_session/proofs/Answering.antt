@@ -2,10 +2,10 @@
 use Rattle.std.proofs.Common.{◌≡◌, ◌≢◌, ℕ, Bool, true, false, ◌⊎◌, inl, inr, List, [], ◌∷◌, ◌++◌, length, Option, Some, None, Result, Ok, Err, refl, sym, ap, ◌∙◌, subst, arith, append_assoc, length-append}
 use Rattle.std.specs.Prelude.{IfOk, IsOk, OnErr}
 use Rattle.std.proofs.lemmas.List.{append-nil}
+use Rattle.mw_facts.proofs.Elements.{get_or-push_last}
 use Rattle.mw_model.specs.declared.names.Name.{Name}
 use Rattle.mw_model.specs.declared.operations.Op.{Op}
 use Rattle.mw_model.specs.declared.submissions.Submission.{Submission}
-use Rattle.mw_model.specs.declared.shapes.Shape.{Shape}
 use Rattle.mw_model.specs.declared.codes.Code.{Code}
 use Rattle.mw_model.specs.declared.codes.Code.TheVariants as code
 use Rattle.mw_model.specs.declared.calls.Given.TheVariants as given
@@ -21,7 +21,7 @@ use Rattle.mw_model.specs.Pictures.{Picture}
 use Rattle.mw_model.specs.Elements.{Figure}
 use Rattle.mw_model.specs.Values.{Value, ImageValue, ElementValue, shape_of_picture, shape_of_figure}
 use Rattle.mw_model.specs.Refusals.{Table, outcome_at, is_pending, first_of, name_taken, no_room, refusal}
-use Rattle.mw_model.specs.Machine.{Machine, status_reply, answer, refused_or, reply_to, changed, unless_refused, with_entry, killed, after}
+use Rattle.mw_model.specs.Machine.{Machine, answer, refused_or, reply_to, changed, unless_refused, with_entry, killed, after}
 use Rattle.mw_model.specs.Tasks.{running_tasks}
 use Rattle.mw_model.specs.Stands.{CoreView, StandsFor, running_count}
 use Rattle.mw_model.specs.declared.requests.Ask.TheVariants as ask
@@ -32,17 +32,17 @@ use Rattle.mw_model.specs.Receipts.{IsCallFor}
 use Rattle.mw_script_laws.specs.Marks.{killed_in}
 use Rattle.mw_session.specs.Turns.{TellsWork, TellsCall, logged, unlogged, MayLack}
 use Rattle.mw_laws.proofs.RunStates.{reached}
-use Rattle.mw_laws.proofs.RunTables.{push_last}
 use Rattle.mw_laws.proofs.RunReplay.{refused_leaves, fetch_leaves}
 use Rattle.mw_wave.specs.mw_stands.Payloads.{given_image, image_payload, given_element, element_payload}
 use Rattle.mw_wave.specs.mw_stands.Events.{Serves, IsFresh, handed_out}
+use Rattle.mw_wave.proofs.mw_stands.ShownLemmas.{IsPlain, answer-not_shown, refused_or-not_shown}
 use Rattle.mw_fetched.specs.mw_store.Fetches.{shown_value}
 use Rattle.mw_fetched.specs.mw_store.declared.fetched.Shown.{Shown}
 use Rattle.mw_wire.specs.Writes.{told_text}
 use Rattle.mw_wave.specs.Work.{AllWorked}
 use Rattle.mw_fetched.specs.Texts.{fetch_text, SaysFetched}
 use Rattle.mw_session.specs.Answering.{ReadsImage, ReadsElement, Answered}
-use Rattle.mw_wave.proofs.TicketCounts.{under, none-under, count-under, calm}
+use Rattle.mw_wave.proofs.TicketCounts.{under, none-under, count-under, running_count-stays_none}
 
 -- ---- texts
 
@@ -58,35 +58,9 @@ told-alone (reply.BadInput t s) v n = refl
 told-alone (reply.Released t) v n = refl
 told-alone (reply.Shown t) v n = absurd (n t refl)
 
-status-shows-none : (t : ℕ) (s : Shape) (o : Outcome) (u : ℕ) → status_reply t s o ≢ reply.Shown u
-status-shows-none t s outcome.Pending u h = cc
-status-shows-none t s outcome.Done u h = cc
-status-shows-none t s outcome.Cancelled u h = cc
-status-shows-none t s outcome.Memory u h = cc
-status-shows-none t s (outcome.Input i) u h = cc
-status-shows-none t s outcome.Released u h = cc
-
-none-shown : (x : Option Code) (a : Reply) (u : ℕ) → a ≢ reply.Shown u → refused_or x a ≢ reply.Shown u
-none-shown None a u n h = n h
-none-shown (Some c) a u n h = cc
-
--- a call that hands out no value
-abbrev pub IsPlain : Call → Type 0
-IsPlain (call.Fetch n) = ⊥
-IsPlain c = Unit {0}
-
-answer-shows-none : (w : Table) (c : Call) (u : ℕ) → IsPlain c → answer w c ≢ reply.Shown u
-answer-shows-none w (call.Load n g) u p h = cc
-answer-shows-none w (call.Element n g) u p h = cc
-answer-shows-none w (call.Run n o) u p h = cc
-answer-shows-none w (call.Cancel n) u p h = cc
-answer-shows-none w (call.Release n) u p h = cc
-answer-shows-none w (call.Status n) u p h = status-shows-none _ _ _ u h
-answer-shows-none w (call.Fetch n) u p h = absurd p
-
 plain-text : (m : Machine) (c : Call) (r : Reply) → IsPlain c → r ≡ reply_to m c → reply_text r NoValue ≡ answer_text m c
 plain-text m c r p e =
-    ap (λ x. reply_text x NoValue) e ∙ told-alone (reply_to m c) (handed m (reply_to m c)) (λ u. none-shown (refusal m.table m.payloads c) (answer m.table c) u (answer-shows-none m.table c u p))
+    ap (λ x. reply_text x NoValue) e ∙ told-alone (reply_to m c) (handed m (reply_to m c)) (λ u. refused_or-not_shown (refusal m.table m.payloads c) (answer m.table c) u (answer-not_shown m.table c u p))
 
 -- what goes with a reply is the bytes of the value that it hands out
 handed-bytes : (m : Machine) (r : Reply) → handed_value (handed_out m r) ≡ handed m r
@@ -160,7 +134,7 @@ calm-old old new c p r m s e none same =
       | inl stays ↦ ap (λ (w : Table). length w.names) (stands.table ∙ stays)
       | inr next ↦ ap (λ (w : Table). length w.names) (stands.table ∙ next.1) ∙ same
     ] in
-    calm old new (after m c p) stands e.work none (λ u past l. absurd (omega (arith, past, l, names, ap (λ (w : Table). length w.names) s.table)))
+    running_count-stays_none old new (after m c p) stands e.work none (λ u past l. absurd (omega (arith, past, l, names, ap (λ (w : Table). length w.names) s.table)))
 
 -- where an entry is added under which no task is running
 calm-more : (old new : CoreView) (c : Call) (p : Option Value) (r : Reply) (m : Machine) (name : Name) (e : Submission) (o : Outcome) → StandsFor old m → Serves old c p new r → running_count old ≡ 0
@@ -168,7 +142,7 @@ calm-more : (old new : CoreView) (c : Call) (p : Option Value) (r : Reply) (m : 
 calm-more old new c p r m name e o s h none same rests =
     let stands = h.stands m s in
     let names = ap (λ (w : Table). length w.names) s.table in
-    calm old new (after m c p) stands h.work none (λ u past l. elim (unless-cases (refusal m.table m.payloads c) m.table (changed m.table c)) [
+    running_count-stays_none old new (after m c p) stands h.work none (λ u past l. elim (unless-cases (refusal m.table m.payloads c) m.table (changed m.table c)) [
       | inl stays ↦ let long = ap (λ (w : Table). length w.names) (stands.table ∙ stays) in absurd (omega (arith, past, l, long, names))
       | inr next ↦
           let long : length new.table.names ≡ length (m.table.names ++ name ∷ []) = ap (λ (w : Table). length w.names) (stands.table ∙ next.1 ∙ same) in
@@ -181,7 +155,7 @@ given-rests : (old new : CoreView) (c : Call) (p : Option Value) (r : Reply) (m 
 given-rests old new c p r m name e s h same free u last =
     let sound = reached old.log m s.run in
     let next : (after m c p).table ≡ with_entry m.table name e outcome.Done = ap (λ x. unless_refused x m.table (changed m.table c)) free ∙ same in
-    let done : outcome_at (m.table.outcomes ++ outcome.Done ∷ []) u ≡ outcome.Done = push_last m.table.outcomes outcome.Done outcome.Pending u (omega (arith, last, sound.lengths.outcomes)) in
+    let done : outcome_at (m.table.outcomes ++ outcome.Done ∷ []) u ≡ outcome.Done = get_or-push_last m.table.outcomes outcome.Done outcome.Pending u (omega (arith, last, sound.lengths.outcomes)) in
     none-under running_tasks new (after m c p) u (h.stands m s) (ap (λ (w : Table). is_pending (outcome_at w.outcomes u)) next ∙ ap is_pending done)
 
 pub calm-load : (old new : CoreView) (name : Name) (image : Result Picture Code) (r : Reply) (m : Machine) → StandsFor old m → Serves old (call.Load name (given_image image)) (image_payload image) new r → running_count old ≡ 0 → running_count new ≡ 0

@@ -1,7 +1,6 @@
 -- Answers of a core, one after another, are the turns of a script.
 use Rattle.std.proofs.Common.{◌≡◌, ℕ, List, [], ◌∷◌, ◌++◌, refl, sym, ap, ◌∙◌, subst, Option, Result, Ok, Err, inl, inr}
 use Rattle.std.proofs.lemmas.List.{append-nil}
-use Rattle.std.specs.Io.KnownBytes.{IsAtEnd}
 use Rattle.mw_model.specs.declared.calls.LogItem.{LogItem}
 use Rattle.mw_model.specs.declared.requests.End.{End}
 use Rattle.mw_model.specs.Machine.{Machine}
@@ -14,7 +13,7 @@ use Rattle.mw_desk.specs.Rooms.{LacksRoom}
 use Rattle.mw_desk.specs.Chains.{NoneQuits, AreAnswered, HasAnswered}
 use Rattle.mw_desk.specs.Runs.{AllAnswered, CameToEnd, DeskRan}
 use Rattle.mw_session.specs.Turns.{TurnsMade, HasServed}
-use Rattle.mw_session.specs.Answering.{Answered, ScriptAnswer}
+use Rattle.mw_session.specs.Answering.{ScriptAnswer}
 use Rattle.mw_session.specs.Runs.{SaidAll, Finished, SessionRan}
 use Rattle.mw_session.proofs.Turns.{logs_on}
 

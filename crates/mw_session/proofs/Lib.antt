@@ -1,4 +1,6 @@
-pub mod Turns
+-- what other crates may cite
 pub mod Stops
-pub mod Chains
-pub mod Answering
+-- the crate's own
+mod Turns
+mod Chains
+mod Answering

@@ -60,10 +60,6 @@ finished_script lacks left bytes m n old new before after e f = (
   shows_kills bytes f.turns f.rest m n f.text f.items old new f.served f.log,
 )
 
--- a front of both texts
-both_fronts : (x y : List ℕ) (k : ℕ) → x ++ take k y ≡ take (length x + k) (x ++ y)
-both_fronts x y k = sym (take-append-add x y k)
-
 said_broken : (left : Option (List ℕ)) (bytes : List ℕ) (m n : Machine) (old new : List LogItem) (before after : Option (List ℕ)) (rest : List ℕ) → Drained bytes rest m n old new before after
     → (turns : List Turn) × (text : List ℕ) × IsBroken (IsAtEnd left) bytes turns m n text × Appends before after text × ShowsKills turns old new
 said_broken left bytes m n old new before after rest d = (
@@ -81,7 +77,7 @@ reply_broken left bytes m n old new before after s =
     let all = served_append s.turns (s.last ∷ []) bytes s.rest s.behind m s.state n s.text s.reply s.items s.told s.served (served_one s.rest s.behind s.last s.state n s.reply s.told s.next s.open_still s.made) in (
       ts,
       s.text ++ take s.count s.reply,
-      (s.behind, s.text ++ s.reply, [], length s.text + s.count, served_serves bytes ts s.behind m n (s.text ++ s.reply) (s.items ++ s.told) all, inl refl, rw append-nil (both_fronts s.text s.reply s.count)),
+      (s.behind, s.text ++ s.reply, [], length s.text + s.count, served_serves bytes ts s.behind m n (s.text ++ s.reply) (s.items ++ s.told) all, inl refl, rw append-nil (sym (take-append-add s.text s.reply s.count))),
       s.wrote,
       shows_kills bytes ts s.behind m n (s.text ++ s.reply) (s.items ++ s.told) old new all s.log,
     )
@@ -91,7 +87,7 @@ end_broken : (lacks : List ℕ → Type 0) (left : Option (List ℕ)) (bytes : L
 end_broken lacks left bytes m n old new before after s = (
   s.turns,
   s.text ++ take s.count (end_text s.end),
-  (s.rest, s.text, end_text s.end, length s.text + s.count, served_serves bytes s.turns s.rest m n s.text s.items s.served, inr (s.end, s.ends.0, refl), both_fronts s.text (end_text s.end) s.count),
+  (s.rest, s.text, end_text s.end, length s.text + s.count, served_serves bytes s.turns s.rest m n s.text s.items s.served, inr (s.end, s.ends.0, refl), sym (take-append-add s.text (end_text s.end) s.count)),
   s.wrote,
   shows_kills bytes s.turns s.rest m n s.text s.items old new s.served s.log,
 )

@@ -4,6 +4,8 @@ use Rattle.std.specs.Prelude.{◌&&◌}
 use Rattle.std.specs.List.{AllByRecursion, list_any}
 use Rattle.std.proofs.lemmas.List.{get_or-set_same, get_or-set_other, get_or_past}
 use Rattle.std.proofs.lemmas.Bool.{cases_lt, cases_eq, cases_Bool, eqb-true}
+use Rattle.mw_facts.proofs.Elements.{get_or-push_below, get_or-push_last}
+use Rattle.mw_facts.proofs.Tests.{cond_none-some}
 use Rattle.mw_model.specs.declared.names.Name.{Name}
 use Rattle.mw_model.specs.declared.submissions.Submission.{Submission}
 use Rattle.mw_model.specs.declared.calls.Outcome.{Outcome}
@@ -13,12 +15,12 @@ use Rattle.mw_model.specs.Refusals.{Table, no_submission, outcome_at, is_pending
 use Rattle.mw_model.specs.Machine.{Machine, values, with_entry, with_table, killed, settled}
 use Rattle.mw_model.specs.Stands.{Agrees, is_wanted}
 use Rattle.mw_laws.specs.MachineLaws.{IsSound}
-use Rattle.mw_laws.proofs.RunTables.{push_front, push_last}
-use Rattle.mw_laws.proofs.RunValues.{values_push, length_values}
+use Rattle.mw_laws.proofs.RunValues.{values_push}
 use Rattle.mw_laws.proofs.RunSteps.{pushed}
-use Rattle.mw_store.proofs.CascadeLemmas.{Fate}
+use Rattle.mw_work.proofs.Later.{length-values}
+use Rattle.mw_store.proofs.CascadeLemmas.{Fate, fate-pending}
 use Rattle.mw_store.specs.Stored.{is_spent, DropsSpent}
-use Rattle.mw_stands.proofs.FateLemmas.{wanted-by, wanted-at, killed-fate, fate-pending, fate-there, there-stays}
+use Rattle.mw_stands.proofs.FateLemmas.{wanted-by, wanted-at, killed-fate, fate-there, there-stays}
 
 -- ---- one entry more
 
@@ -32,9 +34,6 @@ push-past xs x d t h = get_or_past (xs ++ x ∷ []) t d (omega (arith, length-ap
 pub values-pushed : (m : Machine) (n : Name) (e : Submission) (o : Outcome) (p : Option Value) → IsSound m
     → values (pushed m n e o p) ≡ values m ++ value_of (values m) (tickets e.inputs) e.command p ∷ []
 values-pushed m n e o p s = values_push [] m.table.submissions m.payloads e p (s.lengths.payloads ∙ sym s.lengths.submissions)
-
-pub values-long : (m : Machine) → IsSound m → length (values m) ≡ length m.table.names
-values-long m s = omega (arith, length_values [] m.table.submissions m.payloads (s.lengths.payloads ∙ sym s.lengths.submissions), s.lengths.submissions)
 
 not-all : (t : ℕ) (xs : List ℕ) (os : List Outcome) → AllByRecursion (λ i. is_released (outcome_at os i) ≡ false) xs → is_released (outcome_at os t) ≡ true → list_any (nat_eq t) xs ≡ false
 not-all t [] os h r = refl
@@ -54,8 +53,8 @@ wanted-push m n e o t s held r h =
     let u = by.0 in
     elim (where-is (length w.names) u) [
       | inl l ↦
-          let stands = push_front w.outcomes o outcome.Pending u (omega (arith, s.lengths.outcomes)) in
-          let entry = push_front w.submissions e no_submission u (omega (arith, s.lengths.submissions)) in
+          let stands = get_or-push_below w.outcomes o outcome.Pending u (omega (arith, s.lengths.outcomes)) in
+          let entry = get_or-push_below w.submissions e no_submission u (omega (arith, s.lengths.submissions)) in
           wanted-at w t u (record {
             within = l;
             pending = ap is_pending (sym stands) ∙ by.1.pending;
@@ -63,7 +62,7 @@ wanted-push m n e o t s held r h =
           })
       | inr r' ↦ elim r' [
         | inl l ↦
-            let entry = push_last w.submissions e no_submission u (omega (arith, s.lengths.submissions)) in
+            let entry = get_or-push_last w.submissions e no_submission u (omega (arith, s.lengths.submissions)) in
             let input : list_any (nat_eq t) (tickets e.inputs) ≡ true = ap (λ (x : Submission). list_any (nat_eq t) (tickets x.inputs)) (sym entry) ∙ by.1.input in
             let none = not-all t (tickets e.inputs) w.outcomes held r in
             absurd cc
@@ -76,8 +75,8 @@ wanted-stays m n e o t s h =
     let w = m.table in
     let by = wanted-by w t h in
     let u = by.0 in
-    let stands = push_front w.outcomes o outcome.Pending u (omega (arith, by.1.within, s.lengths.outcomes)) in
-    let entry = push_front w.submissions e no_submission u (omega (arith, by.1.within, s.lengths.submissions)) in
+    let stands = get_or-push_below w.outcomes o outcome.Pending u (omega (arith, by.1.within, s.lengths.outcomes)) in
+    let entry = get_or-push_below w.submissions e no_submission u (omega (arith, by.1.within, s.lengths.submissions)) in
     wanted-at (with_entry w n e o) t u (record {
       within = omega (arith, by.1.within, length-append w.names (n ∷ []));
       pending = ap is_pending stands ∙ by.1.pending;
@@ -97,41 +96,41 @@ agrees-push kept m n e o p s long a held own there done fresh =
     let os = w.outcomes in
     let own_value = value_of (values m) (tickets e.inputs) e.command p in
     let values_are = values-pushed m n e o p s in
-    let values_count = values-long m s in
+    let values_count = length-values m s in
     let Kept : Option Value → Type 0 = IsSome in
     record {
       payloads = omega (arith, length-append m.payloads (p ∷ []), length-append w.names (n ∷ []), s.lengths.payloads);
       own = λ t v h. rw values_are (elim (where-is N t) [
-        | inl l ↦ push_front (values m) own_value None t (omega arith) ∙ a.own t v (sym (push_front kept p None t (omega arith)) ∙ h)
+        | inl l ↦ get_or-push_below (values m) own_value None t (omega arith) ∙ a.own t v (sym (get_or-push_below kept p None t (omega arith)) ∙ h)
         | inr r ↦ elim r [
-          | inl q ↦ push_last (values m) own_value None t (omega arith) ∙ own v (sym (push_last kept p None t (omega arith)) ∙ h)
+          | inl q ↦ get_or-push_last (values m) own_value None t (omega arith) ∙ own v (sym (get_or-push_last kept p None t (omega arith)) ∙ h)
           | inr g ↦ let f = push-past kept p None t (omega arith) in absurd cc
         ]
       ]);
       there = λ t v h. elim (where-is N t) [
-        | inl l ↦ ap is_there (push_front os o outcome.Pending t (omega (arith, s.lengths.outcomes))) ∙ a.there t v (sym (push_front kept p None t (omega arith)) ∙ h)
+        | inl l ↦ ap is_there (get_or-push_below os o outcome.Pending t (omega (arith, s.lengths.outcomes))) ∙ a.there t v (sym (get_or-push_below kept p None t (omega arith)) ∙ h)
         | inr r ↦ elim r [
-          | inl q ↦ ap is_there (push_last os o outcome.Pending t (omega (arith, s.lengths.outcomes))) ∙ there v (sym (push_last kept p None t (omega arith)) ∙ h)
+          | inl q ↦ ap is_there (get_or-push_last os o outcome.Pending t (omega (arith, s.lengths.outcomes))) ∙ there v (sym (get_or-push_last kept p None t (omega arith)) ∙ h)
           | inr g ↦ let f = push-past kept p None t (omega arith) in absurd cc
         ]
       ];
       done = λ t l h. elim (where-is N t) [
-        | inl l' ↦ subst Kept (sym (push_front kept p None t (omega arith))) (a.done t l' (sym (push_front os o outcome.Pending t (omega (arith, s.lengths.outcomes))) ∙ h))
+        | inl l' ↦ subst Kept (sym (get_or-push_below kept p None t (omega arith))) (a.done t l' (sym (get_or-push_below os o outcome.Pending t (omega (arith, s.lengths.outcomes))) ∙ h))
         | inr r ↦ elim r [
-          | inl q ↦ subst Kept (sym (push_last kept p None t (omega arith))) (done (sym (push_last os o outcome.Pending t (omega (arith, s.lengths.outcomes))) ∙ h))
+          | inl q ↦ subst Kept (sym (get_or-push_last kept p None t (omega arith))) (done (sym (get_or-push_last os o outcome.Pending t (omega (arith, s.lengths.outcomes))) ∙ h))
           | inr g ↦ absurd (omega (arith, length-append w.names (n ∷ [])))
         ]
       ];
       released = λ t l h. elim (where-is N t) [
         | inl l' ↦
-            let was : outcome_at os t ≡ outcome.Released = sym (push_front os o outcome.Pending t (omega (arith, s.lengths.outcomes))) ∙ h in
-            let same = push_front kept p None t (omega arith) in
+            let was : outcome_at os t ≡ outcome.Released = sym (get_or-push_below os o outcome.Pending t (omega (arith, s.lengths.outcomes))) ∙ h in
+            let same = get_or-push_below kept p None t (omega arith) in
             let iff = a.released t l' was in (
               λ k. wanted-stays m n e o t s (iff.0 (subst Kept same k)),
               λ k. subst Kept (sym same) (iff.1 (wanted-push m n e o t s held (ap is_released was) k)),
             )
         | inr r ↦ elim r [
-          | inl q ↦ let f : is_released o ≡ true = ap is_released (sym (push_last os o outcome.Pending t (omega (arith, s.lengths.outcomes))) ∙ h) in absurd cc
+          | inl q ↦ let f : is_released o ≡ true = ap is_released (sym (get_or-push_last os o outcome.Pending t (omega (arith, s.lengths.outcomes))) ∙ h) in absurd cc
           | inr g ↦ absurd (omega (arith, length-append w.names (n ∷ [])))
         ]
       ];
@@ -154,15 +153,11 @@ not-spent w t h = go (is_released (outcome_at w.outcomes t)) (is_wanted w t) h
     go true b h = rw h refl
     go false b h = refl
 
-unless-some : (b : Bool) (x : Option Value) (v : Value) → cond b None x ≡ Some v → x ≡ Some v
-unless-some true x v h = absurd cc
-unless-some false x v h = h
-
 pub agrees-dropped : (kept new : List (Option Value)) (m : Machine) → AgreesBefore kept m → DropsSpent m.table kept new → Agrees new m
 agrees-dropped kept new m a drops =
     let Kept : Option Value → Type 0 = IsSome in
     let was : (t : ℕ) (v : Value) → value_at new t ≡ Some v → value_at kept t ≡ Some v
-    = λ t v h. unless-some (is_spent m.table t) (value_at kept t) v (sym (drops t) ∙ h) in
+    = λ t v h. cond_none-some (is_spent m.table t) (value_at kept t) v (sym (drops t) ∙ h) in
     record {
       payloads = a.payloads;
       own = λ t v h. a.own t v (was t v h);

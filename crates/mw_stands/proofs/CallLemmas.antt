@@ -1,10 +1,9 @@
 -- What follows for a session call from the parts of its event.
-use Rattle.std.proofs.Common.{◌≡◌, ℕ, ◌+◌, ◌<◌, Bool, true, false, cond, not, List, [], ◌∷◌, ◌++◌, length, map, Option, Some, None, Result, Ok, Err, IfOk, OnOk, refl, sym, ap, ◌∙◌, subst, arith, append-nil}
+use Rattle.std.proofs.Common.{◌≡◌, ℕ, ◌+◌, ◌<◌, Bool, false, cond, not, [], ◌∷◌, ◌++◌, length, map, Option, Some, None, Result, Ok, Err, IfOk, OnOk, refl, sym, ap, ◌∙◌, subst, arith, append-nil}
+use Rattle.mw_facts.proofs.Elements.{get_or-push_below}
 use Rattle.mw_model.specs.declared.names.Name.{Name}
 use Rattle.mw_model.specs.declared.shapes.Shape.{Shape}
 use Rattle.mw_model.specs.declared.operations.Op.{Op}
-use Rattle.mw_model.specs.declared.operations.Op.TheVariants as op
-use Rattle.mw_model.specs.declared.operations.FlatOp.TheVariants as flat
 use Rattle.mw_model.specs.declared.codes.Code.{Code}
 use Rattle.mw_model.specs.declared.codes.Code.TheVariants as code
 use Rattle.mw_model.specs.declared.calls.Outcome.{Outcome}
@@ -19,12 +18,12 @@ use Rattle.mw_model.specs.Pictures.{Picture, IsImage}
 use Rattle.mw_model.specs.Elements.{Figure, IsFigure}
 use Rattle.mw_model.specs.Values.{Value, ImageValue, ElementValue, shape_of_picture, shape_of_figure}
 use Rattle.mw_model.specs.Refusals.{Table, Wanted, AnImage, AnElement, ticket, ticket_of, shape_at, is_image, is_element, when, input_case, outcome_at, is_pending, is_dead, is_released, first_of, name_taken, no_room, wanted_case, inputs_wanted, refusal}
-use Rattle.mw_model.specs.Machine.{Machine, IsWith, reply_to, reply_from, after, with_entry, with_table, killed, settled, given_submission, run_submission, ticket_wanted, unless_refused}
+use Rattle.mw_model.specs.Machine.{Machine, IsWith, reply_to, reply_from, after, with_entry, with_table, killed, settled, given_submission, run_submission, ticket_wanted}
 use Rattle.mw_model.specs.Tasks.{Progress}
-use Rattle.mw_laws.specs.MachineLaws.{IsSound}
-use Rattle.mw_model.specs.Stands.{CoreView, StandsFor, Agrees, progress_at, IsWork}
-use Rattle.mw_laws.proofs.RunTables.{push_front, first_none, inputs_all, is_known, when_so}
+use Rattle.mw_model.specs.Stands.{CoreView, StandsFor, progress_at, IsWork}
+use Rattle.mw_laws.proofs.RunTables.{first_none, inputs_all, is_known, when_so}
 use Rattle.mw_laws.proofs.RunSteps.{pushed}
+use Rattle.mw_laws.proofs.RunReplay.{quiet}
 use Rattle.mw_store.specs.Stored.{DropsSpent}
 use Rattle.mw_stands.specs.Facts.{IsComplete}
 use Rattle.mw_stands.specs.Changes.{KeepsWork}
@@ -67,24 +66,20 @@ serves-refused c new q v x with why is =
     let case : (m : Machine) → StandsFor c m → refusal m.table m.payloads q ≡ Some x = λ m s. sym (stands-refusal c m q s) ∙ why in
     serves-quiet c new q v (reply.Refused x) with (λ m s. rw (case m s) refl) (λ m s. rw (case m s) refl) is
 
-unchanged : (r : Option Code) (m : Machine) → record { table = unless_refused r m.table m.table; payloads = unless_refused r m.payloads (m.payloads ++ []) } ≡ m
-unchanged None m = rw (append-nil m.payloads) refl
-unchanged (Some c) m = refl
-
 pub serves-status : (c new : CoreView) (n : Name) (r : Reply) → r ≡ reply_from c.table c.kept (call.Status n)
     → new ≡ record c { log = c.log ++ item.Call (call.Status n) r ∷ [] } → Serves c (call.Status n) None new r
 serves-status c new n r told is =
-    serves-quiet c new (call.Status n) None r refl (λ m s. unchanged (refusal m.table m.payloads (call.Status n)) m) (λ m s. told ∙ stands-reply c m (call.Status n) s) is
+    serves-quiet c new (call.Status n) None r refl (λ m s. quiet (refusal m.table m.payloads (call.Status n)) m) (λ m s. told ∙ stands-reply c m (call.Status n) s) is
 
 pub serves-fetch : (c new : CoreView) (n : Name) (r : Reply) → r ≡ reply_from c.table c.kept (call.Fetch n)
     → new ≡ record c { log = c.log ++ item.Call (call.Fetch n) r ∷ [] } → Serves c (call.Fetch n) None new r
 serves-fetch c new n r told is =
-    serves-quiet c new (call.Fetch n) None r refl (λ m s. unchanged (refusal m.table m.payloads (call.Fetch n)) m) (λ m s. told ∙ stands-reply c m (call.Fetch n) s) is
+    serves-quiet c new (call.Fetch n) None r refl (λ m s. quiet (refusal m.table m.payloads (call.Fetch n)) m) (λ m s. told ∙ stands-reply c m (call.Fetch n) s) is
 
 -- ---- one entry more
 
 added-work : (c new : CoreView) (x : Option Progress) → IsComplete c → new.work ≡ c.work ++ x ∷ [] → WorkStays c new
-added-work c new x whole work t within pending = ap (λ ws. progress_at ws t) work ∙ push_front c.work x None t (omega (arith, whole.work))
+added-work c new x whole work t within pending = ap (λ ws. progress_at ws t) work ∙ get_or-push_below c.work x None t (omega (arith, whole.work))
 
 none-some : (p : Progress) (o : Outcome) → None ≡ Some p → o ≡ outcome.Pending
 none-some p o h = absurd cc

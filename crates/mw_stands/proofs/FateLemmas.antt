@@ -3,7 +3,8 @@ use Rattle.std.proofs.Common.{◌≡◌, ℕ, zero, suc, ◌+◌, ◌<◌, Bool,
 use Rattle.std.specs.Prelude.{◌&&◌}
 use Rattle.std.specs.List.{list_any, range_with_len}
 use Rattle.std.proofs.lemmas.List.{get_or-set_same, get_or-set_other, get_or_past, length-set}
-use Rattle.std.proofs.lemmas.Bool.{cases_lt, cases_eq}
+use Rattle.std.proofs.lemmas.Bool.{cases_lt, cases_eq, and_parts}
+use Rattle.mw_facts.proofs.Tests.{list_any-range}
 use Rattle.mw_model.specs.declared.calls.Outcome.{Outcome}
 use Rattle.mw_model.specs.declared.calls.Outcome.TheVariants as outcome
 use Rattle.mw_model.specs.Refusals.{Table, outcome_at, is_pending, is_dead, is_there}
@@ -11,7 +12,6 @@ use Rattle.mw_model.specs.Machine.{killed, spread}
 use Rattle.mw_model.specs.Stands.{is_wanted, inputs_of}
 use Rattle.mw_laws.proofs.RunCascade.{length_killed}
 use Rattle.mw_store.proofs.CascadeLemmas.{Fate, spread-fate}
-use Rattle.mw_store.proofs.RangeLemmas.{any-range-at}
 
 -- a kill leaves an entry as it is, or it was pending and dies
 pub killed-fate : (w : Table) (t : ℕ) (cause : Outcome) → length w.submissions ≡ length w.outcomes → t < length w.outcomes → outcome_at w.outcomes t ≡ outcome.Pending → is_dead cause ≡ true
@@ -45,14 +45,6 @@ killed-fate w t cause same within pending dead u =
           inl (behind ∙ sym before)
     ]
 
-dead-is-dead : (o : Outcome) → is_dead o ≡ true → is_pending o ≡ false
-dead-is-dead outcome.Pending h = cc
-dead-is-dead outcome.Done h = cc
-dead-is-dead outcome.Cancelled h = refl
-dead-is-dead outcome.Memory h = refl
-dead-is-dead (outcome.Input s) h = refl
-dead-is-dead outcome.Released h = cc
-
 dead-not-there : (o : Outcome) → is_dead o ≡ true → is_there o ≡ false
 dead-not-there outcome.Pending h = cc
 dead-not-there outcome.Done h = cc
@@ -60,10 +52,6 @@ dead-not-there outcome.Cancelled h = refl
 dead-not-there outcome.Memory h = refl
 dead-not-there (outcome.Input s) h = refl
 dead-not-there outcome.Released h = cc
-
--- what is pending after such a change was pending before
-pub fate-pending : (old new : Outcome) → Fate old new → is_pending new ≡ true → is_pending old ≡ true
-fate-pending old new f h = elim f [ inl e ↦ ap is_pending (sym e) ∙ h | inr e ↦ let d = dead-is-dead new e.1 in absurd cc ]
 
 -- what is there after it was the same before
 pub fate-there : (old new : Outcome) → Fate old new → is_there new ≡ true → new ≡ old
@@ -75,21 +63,17 @@ there-stays old new f h = elim f [ inl e ↦ e | inr e ↦ let d = ap is_there e
 
 -- ---- who waits
 
-both : (a b : Bool) → (a && b) ≡ true → (a ≡ true) × (b ≡ true)
-both true b h = (refl, h)
-both false b h = cc
-
-go-from : (p : ℕ → Bool) (a n : ℕ) → (list_any p (range_with_len (a + 1) n) ≡ true → (k : ℕ) × (k < a + 1 + n) × (p k ≡ true))
+any-from_here : (p : ℕ → Bool) (a n : ℕ) → (list_any p (range_with_len (a + 1) n) ≡ true → (k : ℕ) × (k < a + 1 + n) × (p k ≡ true))
     → (b : Bool) → p a ≡ b → list_any p (range_with_len a (suc n)) ≡ true → (k : ℕ) × (k < a + suc n) × (p k ≡ true)
-go-from p a n rest true e h = (a, omega arith, e)
-go-from p a n rest false e h =
+any-from_here p a n rest true e h = (a, omega arith, e)
+any-from_here p a n rest false e h =
     let more : list_any p (range_with_len (a + 1) n) ≡ true = rw e at h in
     let found = rest more in
     (found.0, omega (arith, found.1), found.2)
 
 any-from : (p : ℕ → Bool) (a n : ℕ) → list_any p (range_with_len a n) ≡ true → (k : ℕ) × (k < a + n) × (p k ≡ true)
 any-from p a zero h = absurd cc
-any-from p a (suc n) h = go-from p a n (any-from p (a + 1) n) (p a) refl h
+any-from p a (suc n) h = any-from_here p a n (any-from p (a + 1) n) (p a) refl h
 
 -- a pending entry has the ticket as an input
 pub record Waits (w : Table) (t u : ℕ) : Type 0 where
@@ -101,10 +85,10 @@ pub wanted-by : (w : Table) (t : ℕ) → is_wanted w t ≡ true → (u : ℕ) �
 wanted-by w t h =
     let p : ℕ → Bool = λ u. is_pending (outcome_at w.outcomes u) && list_any (nat_eq t) (inputs_of w u) in
     let found = any-from p 0 (length w.names) h in
-    let parts = both (is_pending (outcome_at w.outcomes found.0)) (list_any (nat_eq t) (inputs_of w found.0)) found.2 in
+    let parts = and_parts (is_pending (outcome_at w.outcomes found.0)) (list_any (nat_eq t) (inputs_of w found.0)) found.2 in
     (found.0, record { within = omega (arith, found.1); pending = parts.0; input = parts.1 })
 
 pub wanted-at : (w : Table) (t u : ℕ) → Waits w t u → is_wanted w t ≡ true
 wanted-at w t u waits =
     let p : ℕ → Bool = λ u. is_pending (outcome_at w.outcomes u) && list_any (nat_eq t) (inputs_of w u) in
-    any-range-at p (length w.names) u waits.within (rw (waits.pending, waits.input) refl)
+    list_any-range p 0 (length w.names) u (omega arith) (omega (arith, waits.within)) (rw (waits.pending, waits.input) refl)

@@ -1,16 +1,10 @@
 -- An element comes from a payload, and is never pending.
-use Rattle.std.proofs.Common.{◌≡◌, ◌≢◌, ℕ, ◌+◌, ◌<◌, true, false, inl, inr, List, [], ◌∷◌, length, map, set, Option, Some, None, refl, sym, ap, ◌∙◌, subst, arith, length-append}
+use Rattle.std.proofs.Common.{◌≡◌, ◌≢◌, ℕ, ◌<◌, true, false, inl, inr, List, [], ◌∷◌, length, map, set, Option, Some, None, refl, sym, ap, ◌∙◌, subst, arith, length-append}
 use Rattle.std.proofs.lemmas.List.{get_or-set_same, get_or-set_other, set_past}
 use Rattle.std.proofs.lemmas.Bool.{cases_lt, cases_eq}
+use Rattle.mw_facts.proofs.Elements.{get_or-push_below, get_or-push_last}
+use Rattle.mw_facts.proofs.Numbers.{below_or_last}
 use Rattle.mw_model.specs.declared.names.Name.{Name}
-use Rattle.mw_model.specs.declared.shapes.Shape.{Shape}
-use Rattle.mw_model.specs.declared.shapes.Shape.TheVariants as shape
-use Rattle.mw_model.specs.declared.operations.Op.{Op}
-use Rattle.mw_model.specs.declared.operations.Op.TheVariants as op
-use Rattle.mw_model.specs.declared.operations.FlatOp.{FlatOp}
-use Rattle.mw_model.specs.declared.operations.FlatOp.TheVariants as flat
-use Rattle.mw_model.specs.declared.operations.GranOp.{GranOp}
-use Rattle.mw_model.specs.declared.operations.GranOp.TheVariants as gran
 use Rattle.mw_model.specs.declared.submissions.Submission.{Submission}
 use Rattle.mw_model.specs.declared.submissions.Command.TheVariants as command
 use Rattle.mw_model.specs.declared.codes.Code.{Code}
@@ -20,12 +14,13 @@ use Rattle.mw_model.specs.declared.calls.Call.{Call}
 use Rattle.mw_model.specs.declared.calls.Call.TheVariants as call
 use Rattle.mw_model.specs.declared.calls.LogItem.{LogItem}
 use Rattle.mw_model.specs.declared.calls.LogItem.TheVariants as item
-use Rattle.mw_model.specs.Refusals.{Table, Wanted, AnImage, AnElement, ticket, ticket_of, no_submission, outcome_at, submission_at, shape_at, is_pending, is_image, is_element, first_of, name_taken, no_room, wanted_case, cancel_case, inputs_wanted, refusal}
-use Rattle.mw_model.specs.Machine.{Machine, Step, Run, start_state, with_entry, killed, given_submission, run_submission, changed, unless_refused, shape_named, shape_of_result, as_bits, as_grey}
+use Rattle.mw_model.specs.Refusals.{Table, ticket, ticket_of, no_submission, outcome_at, submission_at, shape_at, is_pending, is_element, first_of, name_taken, no_room, wanted_case, cancel_case, inputs_wanted, refusal}
+use Rattle.mw_model.specs.Machine.{Machine, Step, Run, start_state, with_entry, killed, given_submission, run_submission, changed, unless_refused}
 use Rattle.mw_laws.specs.MachineLaws.{IsSound}
 use Rattle.mw_laws.proofs.RunCascade.{is_killed}
-use Rattle.mw_laws.proofs.RunTables.{push_front, push_last, last_or_before, first_none, is_known, input_found, ticket_is, ticket_within}
+use Rattle.mw_laws.proofs.RunTables.{first_none, is_known, ticket_is, ticket_within}
 use Rattle.mw_laws.proofs.RunStates.{step_sound, start_sound}
+use Rattle.mw_laws.proofs.RunShapes.{result_no_element}
 
 -- each element comes from a payload, and is not pending
 abbrev pub ElementsGiven : Table → Type 0
@@ -33,68 +28,21 @@ ElementsGiven w =
     (t : ℕ) → t < length w.names → is_element (shape_at w.submissions t) ≡ true
     → ((submission_at w.submissions t).command ≡ command.Given) × (is_pending (outcome_at w.outcomes t) ≡ false)
 
--- ---- the result of an operation is no element
-
-image-no-element : (s : Shape) → is_image s ≡ true → is_element s ≡ false
-image-no-element (shape.Image k w h m) e = refl
-image-no-element (shape.Element w h) e = cc
-image-no-element (shape.Curve n) e = cc
-
-bits-no-element : (s : Shape) → is_image s ≡ true → is_element (as_bits s) ≡ false
-bits-no-element (shape.Image k w h m) e = refl
-bits-no-element (shape.Element w h) e = cc
-bits-no-element (shape.Curve n) e = cc
-
-grey-no-element : (maxval : ℕ) (s : Shape) → is_image s ≡ true → is_element (as_grey maxval s) ≡ false
-grey-no-element maxval (shape.Image k w h m) e = refl
-grey-no-element maxval (shape.Element w h) e = cc
-grey-no-element maxval (shape.Curve n) e = cc
-
--- the first input is an image
-named-image : (w : Table) (f : Name) (more : List Wanted) → first_of (map (wanted_case w) (AnImage f ∷ more)) ≡ None → is_image (shape_named w f) ≡ true
-named-image w f more h =
-    let found = input_found w is_image f (first_none (wanted_case w (AnImage f)) (map (wanted_case w) more) h).0 in
-    ap (λ t. is_image (shape_at w.submissions t)) (ticket_is w f found.0 found.1.found) ∙ found.1.kind
-
-plain : (w : Table) (f : Name) (more : List Wanted) → first_of (map (wanted_case w) (AnImage f ∷ more)) ≡ None → is_element (shape_named w f) ≡ false
-plain w f more h = image-no-element (shape_named w f) (named-image w f more h)
-
-flat-no-element : (w : Table) (o : FlatOp) → first_of (map (wanted_case w) (inputs_wanted (op.Flat o))) ≡ None → is_element (shape_of_result w (op.Flat o)) ≡ false
-flat-no-element w (flat.Erode f b) h = plain w f (AnElement b ∷ []) h
-flat-no-element w (flat.Dilate f b) h = plain w f (AnElement b ∷ []) h
-flat-no-element w (flat.Opening f b) h = plain w f (AnElement b ∷ []) h
-flat-no-element w (flat.Closing f b) h = plain w f (AnElement b ∷ []) h
-flat-no-element w (flat.Gradient f b) h = plain w f (AnElement b ∷ []) h
-flat-no-element w (flat.WhiteTopHat f b) h = plain w f (AnElement b ∷ []) h
-flat-no-element w (flat.BlackTopHat f b) h = plain w f (AnElement b ∷ []) h
-flat-no-element w (flat.Rank f b k) h = plain w f (AnElement b ∷ []) h
-flat-no-element w (flat.Threshold f k) h = bits-no-element (shape_named w f) (named-image w f [] h)
-flat-no-element w (flat.HitMiss f hit miss) h = plain w f (AnElement hit ∷ AnElement miss ∷ []) h
-
-gran-no-element : (w : Table) (o : GranOp) → first_of (map (wanted_case w) (inputs_wanted (op.Gran o))) ≡ None → is_element (shape_of_result w (op.Gran o)) ≡ false
-gran-no-element w (gran.Skeleton f b levels) h = grey-no-element (levels + 1) (shape_named w f) (named-image w f (AnElement b ∷ []) h)
-gran-no-element w (gran.Restore f b levels) h = bits-no-element (shape_named w f) (named-image w f (AnElement b ∷ []) h)
-gran-no-element w (gran.Spectrum f b levels) h = refl
-
-run-no-element : (w : Table) (o : Op) → first_of (map (wanted_case w) (inputs_wanted o)) ≡ None → is_element (shape_of_result w o) ≡ false
-run-no-element w (op.Flat o) h = flat-no-element w o h
-run-no-element w (op.Gran o) h = gran-no-element w o h
-
 -- ---- one entry more
 
 given-push : (w : Table) (n : Name) (e : Submission) (o : Outcome) → length w.submissions ≡ length w.names → length w.outcomes ≡ length w.names → ElementsGiven w
     → (is_element e.shape ≡ true → (e.command ≡ command.Given) × (is_pending o ≡ false)) → ElementsGiven (with_entry w n e o)
 given-push w n e o subs outs old new t within h =
     let N = length w.names in
-    elim (last_or_before N t (omega (arith, length-append w.names (n ∷ [])))) [
+    elim (below_or_last N t (omega (arith, length-append w.names (n ∷ [])))) [
       | inl l ↦
-          let entry = push_front w.submissions e no_submission t (omega arith) in
-          let stands = push_front w.outcomes o outcome.Pending t (omega arith) in
+          let entry = get_or-push_below w.submissions e no_submission t (omega arith) in
+          let stands = get_or-push_below w.outcomes o outcome.Pending t (omega arith) in
           let was = old t l (sym (ap (λ (x : Submission). is_element x.shape) entry) ∙ h) in
           (ap (λ (x : Submission). x.command) entry ∙ was.0, ap is_pending stands ∙ was.1)
       | inr l ↦
-          let entry = push_last w.submissions e no_submission t (omega arith) in
-          let stands = push_last w.outcomes o outcome.Pending t (omega arith) in
+          let entry = get_or-push_last w.submissions e no_submission t (omega arith) in
+          let stands = get_or-push_last w.outcomes o outcome.Pending t (omega arith) in
           let is = new (sym (ap (λ (x : Submission). is_element x.shape) entry) ∙ h) in
           (ap (λ (x : Submission). x.command) entry ∙ is.0, ap is_pending stands ∙ is.1)
     ]
@@ -143,7 +91,7 @@ given-changed m (call.Run n o) s old r =
     let x = first_none (name_taken m.table n) _ r in
     let y = first_none (no_room m.table) _ x.1 in
     let z = first_none (first_of (map (wanted_case m.table) (inputs_wanted o))) _ y.1 in
-    given-push m.table n (run_submission m.table o) outcome.Pending s.lengths.submissions s.lengths.outcomes old (λ e. let f = run-no-element m.table o z.0 in absurd cc)
+    given-push m.table n (run_submission m.table o) outcome.Pending s.lengths.submissions s.lengths.outcomes old (λ e. let f = result_no_element m.table o z.0 in absurd cc)
 given-changed m (call.Cancel n) s old r =
     let known = is_known (ticket_of m.table.names n) (λ t. cancel_case (outcome_at m.table.outcomes t)) r in
     let t = known.0 in

@@ -1,12 +1,12 @@
 -- Where no task is ready and none is running, nothing is pending.
-use Rattle.std.proofs.Common.{◌≡◌, ℕ, zero, suc, ◌+◌, ◌*◌, ◌/◌, ◌<◌, ◌≤◌, Bool, true, false, cond, not, ◌⊎◌, inl, inr, List, [], ◌∷◌, length, map, sum, count_by, nat_eq, refl, sym, ap, ◌∙◌, subst, arith, zero-add, add-one}
+use Rattle.std.proofs.Common.{◌≡◌, ℕ, zero, suc, ◌+◌, ◌*◌, ◌/◌, ◌<◌, ◌≤◌, Bool, true, false, not, ◌⊎◌, inl, inr, List, [], ◌∷◌, length, nat_eq, refl, sym, ap, ◌∙◌, subst, arith}
 use Rattle.std.specs.Prelude.{◌&&◌, ◌||◌}
 use Rattle.std.specs.List.{AllByRecursion, range_with_len, list_all, list_any}
-use Rattle.std.proofs.lemmas.Bool.{cases_lt, cases_Bool, eqb-true}
-use Rattle.std.proofs.lemmas.List.FromFn.{length-range_with_len, get_or-range_with_len}
-use Rattle.std.proofs.lemmas.List.Sums.{get_or-le-sum_by, sum_by-cons}
+use Rattle.std.proofs.lemmas.Bool.{cases_lt, cases_Bool, eqb-true, not-false}
 use Rattle.std.proofs.lemmas.Nat.{le-div}
 use Rattle.std.proofs.Math.Nat.{div-mul-le_self}
+use Rattle.std.proofs.Math.Bool.{or-true}
+use Rattle.mw_facts.proofs.Counts.{count_by-none, count_by-some}
 use Rattle.mw_model.specs.Refusals.{Table, outcome_at, is_pending, is_there}
 use Rattle.mw_model.specs.Machine.{Machine}
 use Rattle.mw_model.specs.Plans.{Source, FromInput, FromStep, IsSourceAt, images_of}
@@ -15,8 +15,8 @@ use Rattle.mw_model.specs.Stands.{CoreView, StandsFor, IsWork, inputs_of, inputs
 use Rattle.mw_stands.specs.Counts.{NonePending}
 use Rattle.mw_laws.proofs.RunWaiting.{one_can_finish}
 use Rattle.mw_stands.specs.Counts.{running_under}
-use Rattle.mw_stands.proofs.CountLemmas.{sum-more}
 use Rattle.mw_stands.proofs.StandsLemmas.{stands-sound}
+use Rattle.mw_stands.proofs.CountLemmas.{sum-at}
 
 -- ---- counts and searches over the numbers below a bound
 
@@ -41,34 +41,11 @@ none-or-first q (suc n) =
       | inr f ↦ inr (record { place = f.place; within = omega (arith, f.within); here = f.here; before = f.before })
     ]
 
-count-none : (q : ℕ → Bool) (a n : ℕ) → ((k : ℕ) → a ≤ k → k < a + n → q k ≡ false) → count_by q (range_with_len a n) ≡ 0
-count-none q a zero h = refl
-count-none q a (suc n) h =
-    let here : ◌≡◌ {A = ℕ} (cond (q a) 1 0) 0 = rw (h a (omega arith) (omega arith)) refl in
-    omega (arith, sum_by-cons (λ x. cond (q x) 1 0) a (range_with_len (a + 1) n), here, count-none q (a + 1) n (λ k l u. h k (omega (arith, l)) (omega (arith, u))))
-
-count-one : (q : ℕ → Bool) (n k : ℕ) → k < n → q k ≡ true → 1 ≤ count_by q (range_with_len 0 n)
-count-one q n k within passes =
-    let at = get_or-le-sum_by (λ x. cond (q x) 1 0) (range_with_len 0 n) k 0 (omega (arith, within, length-range_with_len 0 n)) in
-    let place = get_or-range_with_len 0 n k 0 within ∙ zero-add k in
-    let one : ◌≡◌ {A = ℕ} (cond (q k) 1 0) 1 = rw passes refl in
-    let P : ℕ → Type 0 = λ x. cond (q x) 1 0 ≤ count_by q (range_with_len 0 n) in
-    omega (arith, subst P place at, one)
-
 all-from : (q : ℕ → Bool) (a n : ℕ) → ((k : ℕ) → a ≤ k → k < a + n → q k ≡ true) → list_all q (range_with_len a n) ≡ true
 all-from q a zero h = refl
 all-from q a (suc n) h =
     let here : q a ≡ true = h a (omega arith) (omega arith) in
     rw here (all-from q (a + 1) n (λ k l u. h k (omega (arith, l)) (omega (arith, u))))
-
-sum-at : (f : ℕ → ℕ) (n k : ℕ) → k < n → f k ≤ sum (map f (range_with_len 0 n))
-sum-at f zero k within = absurd (omega (arith, within))
-sum-at f (suc n) k within =
-    let more : sum (map f (range_with_len 0 (suc n))) ≡ sum (map f (range_with_len 0 n)) + f n = ap (λ x. sum (map f (range_with_len 0 x))) (sym (add-one n)) ∙ sum-more f n in
-    elim (cases_lt k n) [
-      | inl below ↦ omega (arith, more, sum-at f n k below)
-      | inr past ↦ let last : k ≡ n = omega (arith, within, past) in omega (arith, more, ap f last)
-    ]
 
 all-list : (q : ℕ → Bool) (xs : List ℕ) → AllByRecursion (λ x. q x ≡ true) xs → list_all q xs ≡ true
 all-list q [] h = refl
@@ -99,13 +76,13 @@ pub goes-on : (m : Machine) (t : ℕ) (p : Progress) → IsWork m t p → (1 ≤
 goes-on m t p w =
     let left : ℕ → Bool = λ n. not (flag p.finished n) in
     elim (none-or-first left (task_count p)) [
-      | inl none ↦ absurd (omega (arith, w.unfinished, count-none left 0 (task_count p) (λ k l u. none k (omega (arith, u)))))
+      | inl none ↦ absurd (omega (arith, w.unfinished, count_by-none left 0 (task_count p) (λ k l u. none k (omega (arith, u)))))
       | inr f ↦
           let k = f.place in
           elim (cases_Bool (flag p.started k)) [
             | inl begun ↦
                 let runs : is_running p k ≡ true = rw (begun, f.here) refl in
-                inr (count-one (is_running p) (task_count p) k f.within runs)
+                inr (count_by-some (is_running p) (task_count p) k f.within runs)
             | inr waits ↦
                 let done : (u : ℕ) → (not (reads p k u) || flag p.finished u) ≡ true
                 = λ u. elim (cases_lt u k) [
@@ -117,17 +94,9 @@ goes-on m t p w =
                       rw not_read refl
                 ] in
                 let ready : is_ready p k ≡ true = rw waits (all-from (λ u. not (reads p k u) || flag p.finished u) 0 (task_count p) (λ u l h. done u)) in
-                inl (count-one (is_ready p) (task_count p) k f.within ready)
+                inl (count_by-some (is_ready p) (task_count p) k f.within ready)
           ]
     ]
-  where
-    not-false : (b : Bool) → not b ≡ false → b ≡ true
-    not-false true h = refl
-    not-false false h = absurd cc
-
-    or-true : (b : Bool) → (b || true) ≡ true
-    or-true true = refl
-    or-true false = refl
 
 -- ---- all tickets
 

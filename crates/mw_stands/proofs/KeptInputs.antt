@@ -1,5 +1,5 @@
 -- What is kept of the inputs of a ticket that may run is what they are by the definitions.
-use Rattle.std.proofs.Common.{◌≡◌, ℕ, ◌<◌, Bool, true, false, ◌||◌, ◌⊎◌, inl, inr, List, [], ◌∷◌, length, map, nat_eq, Option, Some, IsSome, refl, sym, ap, subst, arith}
+use Rattle.std.proofs.Common.{◌≡◌, ℕ, ◌<◌, Bool, true, false, ◌||◌, ◌⊎◌, inl, inr, List, [], ◌∷◌, length, map, nat_eq, Option, IsSome, refl, sym, arith}
 use Rattle.std.specs.List.{AllByRecursion, list_all, list_any}
 use Rattle.std.proofs.lemmas.Bool.{cases_Bool, eq-eqb}
 use Rattle.mw_model.specs.declared.calls.Outcome.{Outcome}
@@ -8,9 +8,9 @@ use Rattle.mw_model.specs.Values.{Value, value_at}
 use Rattle.mw_model.specs.Refusals.{Table, outcome_at, is_pending, is_there}
 use Rattle.mw_model.specs.Machine.{Machine, values}
 use Rattle.mw_model.specs.Stands.{Agrees, inputs_of, inputs_there, input_values, is_wanted}
+use Rattle.mw_work.proofs.Later.{there-within}
 use Rattle.mw_stands.proofs.FateLemmas.{wanted-at}
 use Rattle.mw_stands.proofs.RefusalLemmas.{some-same}
-use Rattle.mw_stands.proofs.WorkLemmas.{there-within}
 
 -- what is kept of the inputs of a ticket
 abbrev pub kept_inputs : Table → List (Option Value) → ℕ → List (Option Value)

@@ -1,7 +1,9 @@
 -- The shapes of a machine's table are within the limits.
 use Rattle.std.specs.Prelude.{nat_le}
 use Rattle.std.proofs.lemmas.Bool.{cases_Bool, leb-true}
-use Rattle.std.proofs.Common.{◌≡◌, ℕ, ◌+◌, ◌*◌, ◌<◌, ◌≤◌, Bool, inl, inr, List, [], ◌∷◌, ◌++◌, length, map, Option, Some, None, refl, sym, subst, arith, length-append}
+use Rattle.std.proofs.Common.{◌≡◌, ℕ, ◌+◌, ◌<◌, ◌≤◌, inl, inr, List, [], ◌∷◌, ◌++◌, length, map, Option, Some, None, refl, sym, subst, arith, length-append}
+use Rattle.mw_facts.proofs.Elements.{get_or-push_below, get_or-push_last}
+use Rattle.mw_facts.proofs.Numbers.{below_or_last}
 use Rattle.mw_model.specs.declared.names.Name.{Name}
 use Rattle.mw_model.specs.declared.shapes.Shape.{Shape}
 use Rattle.mw_model.specs.declared.shapes.Shape.TheVariants as shape
@@ -20,12 +22,10 @@ use Rattle.mw_model.specs.declared.calls.Call.TheVariants as call
 use Rattle.mw_model.specs.declared.calls.LogItem.{LogItem}
 use Rattle.mw_model.specs.declared.calls.LogItem.TheVariants as item
 use Rattle.mw_model.specs.Values.{Value}
-use Rattle.mw_model.specs.Pictures.{FitsKind}
 use Rattle.mw_model.specs.Refusals.{Table, Wanted, AnImage, AnElement, no_submission, shape_at, is_image, first_of, name_taken, no_room, fault_of, wanted_case, inputs_wanted, op_cases, binary_case, origin_case, param_case, refusal}
-use Rattle.mw_model.specs.Machine.{Machine, Step, Run, IsWith, start_state, killed, given_submission, run_submission, changed, unless_refused, shape_named, shape_of_result, as_bits, as_grey}
+use Rattle.mw_model.specs.Machine.{Machine, Step, IsWith, killed, given_submission, run_submission, changed, unless_refused, shape_named, shape_of_result, as_bits, as_grey}
 use Rattle.mw_laws.specs.MachineLaws.{IsSound}
-use Rattle.mw_laws.proofs.RunTables.{push_front, push_last, last_or_before, first_none, input_found, ticket_is}
-use Rattle.mw_laws.proofs.RunStates.{step_sound, start_sound}
+use Rattle.mw_laws.proofs.RunTables.{first_none, input_found, ticket_is}
 use Rattle.mw_stands.specs.Limits.{FitsLimits, ShapesFit}
 
 bits-fit : (s : Shape) → FitsLimits s → FitsLimits (as_bits s)
@@ -92,9 +92,9 @@ fit-push : (m : Machine) (n : Name) (e : Submission) → IsSound m → ShapesFit
     → (t : ℕ) → t < length (m.table.names ++ n ∷ []) → FitsLimits (shape_at (m.table.submissions ++ e ∷ []) t)
 fit-push m n e s fit own t within =
     let P : Submission → Type 0 = λ x. FitsLimits x.shape in
-    elim (last_or_before (length m.table.names) t (omega (arith, length-append m.table.names (n ∷ [])))) [
-      | inl l ↦ subst P (sym (push_front m.table.submissions e no_submission t (omega (arith, s.lengths.submissions)))) (fit t l)
-      | inr l ↦ subst P (sym (push_last m.table.submissions e no_submission t (omega (arith, s.lengths.submissions)))) own
+    elim (below_or_last (length m.table.names) t (omega (arith, length-append m.table.names (n ∷ [])))) [
+      | inl l ↦ subst P (sym (get_or-push_below m.table.submissions e no_submission t (omega (arith, s.lengths.submissions)))) (fit t l)
+      | inr l ↦ subst P (sym (get_or-push_last m.table.submissions e no_submission t (omega (arith, s.lengths.submissions)))) own
     ]
 
 fit-unless : (r : Option Code) (w v : Table) → ShapesFit w → (r ≡ None → ShapesFit v) → ShapesFit (unless_refused r w v)
@@ -131,11 +131,3 @@ fit-step m (item.Call c r) n s step fit =
     subst P (sym step.3) (fit-unless (refusal m.table m.payloads c) m.table (changed m.table c) fit (fit-changed m c step.0 s fit step.1))
 fit-step m (item.Finished t) n s step fit = let P : Machine → Type 0 = λ k. ShapesFit k.table in subst P (sym step.1) fit
 fit-step m (item.Killed t) n s step fit = let P : Machine → Type 0 = λ k. ShapesFit k.table in subst P (sym step.1) fit
-
-fit-run : (log : List LogItem) (m n : Machine) → IsSound m → ShapesFit m.table → Run m log n → ShapesFit n.table
-fit-run [] m n s fit r = let P : Machine → Type 0 = λ k. ShapesFit k.table in subst P (sym r) fit
-fit-run (i ∷ log) m n s fit r = fit-run log r.0 n (step_sound m i r.0 s r.1) (fit-step m i r.0 s r.1 fit) r.2
-
--- in each state that a run reaches
-pub shapes-fit : (log : List LogItem) (m : Machine) → Run start_state log m → ShapesFit m.table
-shapes-fit log m r = fit-run log start_state m start_sound (λ t l. absurd (omega arith)) r

@@ -1,5 +1,5 @@
 -- A refusal may look at the elements that are kept in place of the payloads.
-use Rattle.std.proofs.Common.{◌≡◌, ℕ, ◌<◌, true, false, List, [], ◌∷◌, length, map, Option, Some, None, IsSome, refl, sym, ap, ◌∙◌, not}
+use Rattle.std.proofs.Common.{◌≡◌, ℕ, ◌<◌, true, false, List, [], ◌∷◌, length, map, Option, Some, None, IsSome, refl, sym, ap, ◌∙◌, not, arith}
 use Rattle.std.specs.Prelude.{unwrap_or}
 use Rattle.mw_model.specs.declared.names.Name.{Name}
 use Rattle.mw_model.specs.declared.places.Offset.{Offset}
@@ -17,12 +17,12 @@ use Rattle.mw_model.specs.declared.calls.Call.{Call}
 use Rattle.mw_model.specs.declared.calls.Call.TheVariants as call
 use Rattle.mw_model.specs.Elements.{holds_origin, overlaps}
 use Rattle.mw_model.specs.Values.{Value, value_at, value_of, offsets_of}
-use Rattle.mw_model.specs.Refusals.{Table, AnImage, AnElement, ticket, ticket_of, outcome_at, shape_at, is_pending, is_dead, is_released, is_element, first_of, when, name_taken, no_room, wanted_case, inputs_wanted, offsets_at, binary_case, param_case, op_cases, refusal}
+use Rattle.mw_model.specs.Refusals.{Table, AnImage, AnElement, ticket, ticket_of, outcome_at, shape_at, is_pending, is_dead, is_released, is_element, first_of, when, name_taken, no_room, wanted_case, inputs_wanted, offsets_at, binary_case, param_case, op_cases, refusal, submission_at}
 use Rattle.mw_model.specs.Machine.{Machine, values}
 use Rattle.mw_model.specs.Stands.{Agrees, inputs_of}
 use Rattle.mw_laws.specs.MachineLaws.{IsSound}
 use Rattle.mw_laws.proofs.RunTables.{first_none, is_known, ticket_is, ticket_within, when_not, when_so}
-use Rattle.mw_stands.proofs.ValueLemmas.{value-is}
+use Rattle.mw_laws.proofs.RunValues.{value_is}
 use Rattle.mw_stands.proofs.GivenLemmas.{ElementsGiven}
 
 pub some-same : {X : Type 0} → (a b : Option X) → IsSome a → ((v : X) → a ≡ Some v → b ≡ Some v) → b ≡ a
@@ -38,6 +38,11 @@ must-be-done outcome.Memory p d r = cc
 must-be-done (outcome.Input s) p d r = cc
 must-be-done outcome.Released p d r = cc
 
+-- a value is that of its command on the values of its inputs
+value-of_command : (m : Machine) (t : ℕ) → IsSound m → t < length m.table.names
+    → value_at (values m) t ≡ value_of (values m) (inputs_of m.table t) (submission_at m.table.submissions t).command (value_at m.payloads t)
+value-of_command m t s within = value_is m.table.submissions m.payloads t (s.lengths.payloads ∙ sym s.lengths.submissions) (omega (arith, s.lengths.submissions, within)) (s.inputs t within)
+
 -- an element that may be an input is kept as it was given
 pub kept-element : (kept : List (Option Value)) (m : Machine) (t : ℕ) → IsSound m → ElementsGiven m.table → Agrees kept m → t < length m.table.names
     → is_element (shape_at m.table.submissions t) ≡ true → is_dead (outcome_at m.table.outcomes t) ≡ false → is_released (outcome_at m.table.outcomes t) ≡ false
@@ -48,7 +53,7 @@ kept-element kept m t s given a within shape alive held =
     let there = a.done t within done in
     let same : value_at (values m) t ≡ value_at kept t = some-same (value_at kept t) (value_at (values m) t) there (λ v e. a.own t v e) in
     let own : value_at (values m) t ≡ value_at m.payloads t
-    = value-is m t s within ∙ ap (λ k. value_of (values m) (inputs_of m.table t) k (value_at m.payloads t)) entry.0 in
+    = value-of_command m t s within ∙ ap (λ k. value_of (values m) (inputs_of m.table t) k (value_at m.payloads t)) entry.0 in
     (there, sym same, sym same ∙ own)
 
 -- an element that a command may have as an input
@@ -86,8 +91,8 @@ offsets-same kept m b s given a h =
     let at : ticket m.table b ≡ t = ticket_is m.table b t found.1.found in
     rw at (ap (λ v. unwrap_or (offsets_of v) []) same)
 
-second : (w : Table) (f b : Name) → first_of (map (wanted_case w) (AnImage f ∷ AnElement b ∷ [])) ≡ None → wanted_case w (AnElement b) ≡ None
-second w f b h = (first_none (wanted_case w (AnElement b)) [] (first_none (wanted_case w (AnImage f)) _ h).1).0
+wanted-second : (w : Table) (f b : Name) → first_of (map (wanted_case w) (AnImage f ∷ AnElement b ∷ [])) ≡ None → wanted_case w (AnElement b) ≡ None
+wanted-second w f b h = (first_none (wanted_case w (AnElement b)) [] (first_none (wanted_case w (AnImage f)) _ h).1).0
 
 flat-same : (kept : List (Option Value)) (m : Machine) (o : FlatOp) → IsSound m → ElementsGiven m.table → Agrees kept m
     → first_of (map (wanted_case m.table) (inputs_wanted (op.Flat o))) ≡ None → op_cases m.table kept (op.Flat o) ≡ op_cases m.table m.payloads (op.Flat o)
@@ -99,7 +104,7 @@ flat-same kept m (flat.Gradient f b) s given a h = refl
 flat-same kept m (flat.WhiteTopHat f b) s given a h = refl
 flat-same kept m (flat.BlackTopHat f b) s given a h = refl
 flat-same kept m (flat.Rank f b k) s given a h =
-    let e = offsets-same kept m b s given a (second m.table f b h) in
+    let e = offsets-same kept m b s given a (wanted-second m.table f b h) in
     ap (λ (bs : List Offset). when (not (holds_origin bs)) code.NoOrigin ∷ param_case 1 (length bs) k ∷ []) e
 flat-same kept m (flat.Threshold f k) s given a h = refl
 flat-same kept m (flat.HitMiss f hit miss) s given a h =
@@ -115,7 +120,7 @@ flat-same kept m (flat.HitMiss f hit miss) s given a h =
 gran-same : (kept : List (Option Value)) (m : Machine) (o : GranOp) → IsSound m → ElementsGiven m.table → Agrees kept m
     → first_of (map (wanted_case m.table) (inputs_wanted (op.Gran o))) ≡ None → op_cases m.table kept (op.Gran o) ≡ op_cases m.table m.payloads (op.Gran o)
 gran-same kept m (gran.Skeleton f b levels) s given a h =
-    let e = offsets-same kept m b s given a (second m.table f b h) in
+    let e = offsets-same kept m b s given a (wanted-second m.table f b h) in
     ap (λ (bs : List Offset). binary_case m.table f ∷ when (not (holds_origin bs)) code.NoOrigin ∷ param_case 1 254 levels ∷ []) e
 gran-same kept m (gran.Restore f b levels) s given a h = refl
 gran-same kept m (gran.Spectrum f b levels) s given a h = refl

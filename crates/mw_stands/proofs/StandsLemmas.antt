@@ -2,6 +2,8 @@
 use Rattle.std.proofs.Common.{◌≡◌, ◌≢◌, ℕ, ◌+◌, ◌<◌, Bool, true, false, cond, inl, inr, List, [], ◌∷◌, ◌++◌, length, set, Option, Some, None, refl, sym, ap, ◌∙◌, subst, arith, length-append}
 use Rattle.std.proofs.lemmas.List.{get_or-set_same, get_or-set_other, get_or_past}
 use Rattle.std.proofs.lemmas.Bool.{cases_lt, cases_eq}
+use Rattle.mw_facts.proofs.Elements.{get_or-push_below, get_or-push_last}
+use Rattle.mw_facts.proofs.Numbers.{below_or_last}
 use Rattle.mw_model.specs.declared.names.Name.{Name}
 use Rattle.mw_model.specs.declared.submissions.Submission.{Submission}
 use Rattle.mw_model.specs.declared.calls.Outcome.{Outcome}
@@ -17,16 +19,16 @@ use Rattle.mw_model.specs.Tasks.{Progress}
 use Rattle.mw_model.specs.Stands.{CoreView, StandsFor, Agrees, IsWork, progress_at}
 use Rattle.mw_laws.specs.MachineLaws.{IsSound}
 use Rattle.mw_laws.proofs.RunStates.{reached}
-use Rattle.mw_laws.proofs.RunTables.{push_front, push_last, last_or_before}
 use Rattle.mw_laws.proofs.RunSteps.{pushed}
 use Rattle.mw_laws.proofs.RunCascade.{pending_is}
 use Rattle.mw_store.specs.Stored.{DropsSpent}
+use Rattle.mw_store.proofs.CascadeLemmas.{fate-pending}
 use Rattle.mw_stands.specs.Facts.{IsComplete}
 use Rattle.mw_stands.specs.Changes.{KeepsWork}
 use Rattle.mw_stands.proofs.RunLemmas.{run-push}
 use Rattle.mw_stands.proofs.GivenLemmas.{elements-given}
 use Rattle.mw_stands.proofs.RefusalLemmas.{refusal-kept}
-use Rattle.mw_stands.proofs.FateLemmas.{killed-fate, fate-pending}
+use Rattle.mw_stands.proofs.FateLemmas.{killed-fate}
 use Rattle.mw_stands.proofs.AgreeLemmas.{AgreesBefore, agrees-dropped, agrees-killed}
 use Rattle.mw_stands.proofs.WorkLemmas.{work-pushed, work-killed, work-settled}
 
@@ -82,18 +84,18 @@ stands-added c new m q n e o v x r whole s with told is agrees fresh table kept 
       run = subst L (sym log) (run-push start_state m k c.log (item.Call q r) s.run (v, with, told, sym is));
       table = table ∙ ap (λ w. with_entry w n e o) s.table;
       agrees = subst K (sym kept) agrees;
-      work = λ t l h. elim (last_or_before N t (omega (arith, length-append m.table.names (n ∷ [])))) [
+      work = λ t l h. elim (below_or_last N t (omega (arith, length-append m.table.names (n ∷ [])))) [
         | inl l' ↦
-            let was = s.work t l' (sym (push_front m.table.outcomes o outcome.Pending t (omega (arith, sound.lengths.outcomes))) ∙ h) in
-            (was.0, ap (λ ws. progress_at ws t) work ∙ push_front c.work x None t (omega arith) ∙ was.1, work-pushed m n e o v t was.0 sound l' was.2)
+            let was = s.work t l' (sym (get_or-push_below m.table.outcomes o outcome.Pending t (omega (arith, sound.lengths.outcomes))) ∙ h) in
+            (was.0, ap (λ ws. progress_at ws t) work ∙ get_or-push_below c.work x None t (omega arith) ∙ was.1, work-pushed m n e o v t was.0 sound l' was.2)
         | inr l' ↦
-            let new_one = fresh.0 (sym (push_last m.table.outcomes o outcome.Pending t (omega (arith, sound.lengths.outcomes))) ∙ h) in
-            (new_one.0, ap (λ ws. progress_at ws t) work ∙ push_last c.work x None t (omega arith) ∙ new_one.1, new_one.2 t (omega (arith, length-append m.table.names (n ∷ []))))
+            let new_one = fresh.0 (sym (get_or-push_last m.table.outcomes o outcome.Pending t (omega (arith, sound.lengths.outcomes))) ∙ h) in
+            (new_one.0, ap (λ ws. progress_at ws t) work ∙ get_or-push_last c.work x None t (omega arith) ∙ new_one.1, new_one.2 t (omega (arith, length-append m.table.names (n ∷ []))))
       ];
       idle = λ t p h. elim (cases_lt t N) [
-        | inl l ↦ push_front m.table.outcomes o outcome.Pending t (omega (arith, sound.lengths.outcomes)) ∙ s.idle t p (sym (push_front c.work x None t (omega arith)) ∙ ap (λ ws. progress_at ws t) (sym work) ∙ h)
+        | inl l ↦ get_or-push_below m.table.outcomes o outcome.Pending t (omega (arith, sound.lengths.outcomes)) ∙ s.idle t p (sym (get_or-push_below c.work x None t (omega arith)) ∙ ap (λ ws. progress_at ws t) (sym work) ∙ h)
         | inr g ↦ elim (cases_eq t N) [
-          | inl l ↦ push_last m.table.outcomes o outcome.Pending t (omega (arith, sound.lengths.outcomes)) ∙ fresh.1 p (sym (push_last c.work x None t (omega arith)) ∙ ap (λ ws. progress_at ws t) (sym work) ∙ h)
+          | inl l ↦ get_or-push_last m.table.outcomes o outcome.Pending t (omega (arith, sound.lengths.outcomes)) ∙ fresh.1 p (sym (get_or-push_last c.work x None t (omega arith)) ∙ ap (λ ws. progress_at ws t) (sym work) ∙ h)
           | inr d ↦ get_or_past (m.table.outcomes ++ o ∷ []) t outcome.Pending (omega (arith, length-append m.table.outcomes (o ∷ []), sound.lengths.outcomes))
         ]
       ];

@@ -1,9 +1,9 @@
 -- Events on tasks, for each machine that the core stands for.
 use Rattle.std.specs.Prelude.{option_map}
 use Rattle.std.specs.Option.{option_map_or}
-use Rattle.std.proofs.Common.{◌≡◌, ◌≢◌, ◌↔◌, ℕ, ◌<◌, ◌≤◌, Bool, true, false, cond, ◌&&◌, inl, inr, List, [], ◌∷◌, ◌++◌, length, set, Option, Some, None, IsSome, refl, sym, ap, ◌∙◌, subst, arith}
+use Rattle.std.proofs.Common.{◌≡◌, ◌↔◌, ℕ, ◌<◌, ◌≤◌, Bool, true, false, cond, inl, inr, [], ◌∷◌, ◌++◌, length, set, Option, Some, None, IsSome, refl, sym, ap, ◌∙◌, subst, arith}
 use Rattle.std.proofs.lemmas.List.{get_or-set_same, get_or-set_other, get_or_past}
-use Rattle.std.proofs.lemmas.Bool.{cases_lt, cases_eq}
+use Rattle.std.proofs.lemmas.Bool.{cases_lt, cases_eq, and_parts}
 use Rattle.mw_model.specs.declared.calls.Outcome.TheVariants as outcome
 use Rattle.mw_model.specs.declared.calls.LogItem.TheVariants as item
 use Rattle.mw_model.specs.Refusals.{Table, outcome_at, is_pending}
@@ -31,12 +31,6 @@ work-of c m t p s within pending work =
     let P : Progress → Type 0 = λ q. IsWork m t q in
     subst P same has.2
 
-pub has-work : (c : CoreView) (m : Machine) (t : ℕ) → StandsFor c m → t < length c.table.names → outcome_at c.table.outcomes t ≡ outcome.Pending → (p : Progress) × (progress_at c.work t ≡ Some p) × IsWork m t p
-has-work c m t s within pending =
-    let Named : Table → Type 0 = λ w. t < length w.names in
-    let Pends : Table → Type 0 = λ w. outcome_at w.outcomes t ≡ outcome.Pending in
-    s.work t (subst Named s.table within) (subst Pends s.table pending)
-
 -- the inputs that are kept are the inputs
 pub kept-images : (c : CoreView) (m : Machine) (t : ℕ) → StandsFor c m → t < length c.table.names → outcome_at c.table.outcomes t ≡ outcome.Pending → inputs_there m.table t ≡ true
     → kept_inputs c.table c.kept t ≡ input_values m t
@@ -56,21 +50,10 @@ may-run c t e = go (may_run c.table t) (option_map_or ready_tasks (progress_at c
     go true n e = refl
     go false n e = absurd (omega (arith, e))
 
-pub ready-tasks : (c : CoreView) (t : ℕ) (p : Progress) → progress_at c.work t ≡ Some p → 1 ≤ ready_under c t → 1 ≤ ready_tasks p
-ready-tasks c t p work e =
-    let runs = may-run c t e in
-    let P : Option Progress → Type 0 = λ x. 1 ≤ option_map_or ready_tasks x 0 in
-    let Q : Bool → Type 0 = λ b. 1 ≤ cond b (option_map_or ready_tasks (progress_at c.work t) 0) 0 in
-    subst P work (subst Q runs e)
-
-both : (a b : Bool) → (a && b) ≡ true → (a ≡ true) × (b ≡ true)
-both true b h = (refl, h)
-both false b h = absurd cc
-
 -- the inputs of a ready ticket are there, and it is pending
 pub ready-there : (c : CoreView) (m : Machine) (t : ℕ) → StandsFor c m → 1 ≤ ready_under c t → (outcome_at c.table.outcomes t ≡ outcome.Pending) × (inputs_there m.table t ≡ true)
 ready-there c m t s ready =
-    let parts = both (is_pending (outcome_at c.table.outcomes t)) (inputs_there c.table t) (may-run c t ready) in
+    let parts = and_parts (is_pending (outcome_at c.table.outcomes t)) (inputs_there c.table t) (may-run c t ready) in
     (pending_is (outcome_at c.table.outcomes t) parts.0, ap (λ w. inputs_there w t) (sym s.table) ∙ parts.1)
 
 -- work stands under a ticket that is there

@@ -1,8 +1,10 @@
 -- Work stays what it is while the machine goes on.
-use Rattle.std.proofs.Common.{◌≡◌, ℕ, ◌<◌, Bool, true, false, inl, inr, List, [], ◌∷◌, length, map, set, get_or, Option, None, refl, sym, ap, ◌∙◌, subst, arith}
+use Rattle.std.proofs.Common.{◌≡◌, ℕ, ◌<◌, true, inl, inr, List, [], ◌∷◌, length, map, set, get_or, Option, None, refl, sym, ap, ◌∙◌, subst, arith}
 use Rattle.std.specs.List.{AllByRecursion, list_all}
-use Rattle.std.proofs.lemmas.List.{get_or-set_same, get_or-set_other, get_or_past}
-use Rattle.std.proofs.lemmas.Bool.{cases_lt, cases_eq, cases_Bool}
+use Rattle.std.proofs.lemmas.List.{get_or-set_same, get_or-set_other}
+use Rattle.std.proofs.lemmas.Bool.{cases_eq}
+use Rattle.mw_facts.proofs.Elements.{get_or-push_below}
+use Rattle.mw_facts.proofs.Tests.{list_all-weaker}
 use Rattle.mw_model.specs.declared.names.Name.{Name}
 use Rattle.mw_model.specs.declared.submissions.Submission.{Submission}
 use Rattle.mw_model.specs.declared.calls.Outcome.{Outcome}
@@ -15,10 +17,10 @@ use Rattle.mw_model.specs.Plans.{IsSourceAt, images_of, planes, value_of_planes}
 use Rattle.mw_model.specs.Tasks.{Progress, nothing_planned, planned_of, tile_of_task, sources_of, made_of_planes}
 use Rattle.mw_model.specs.Stands.{IsWork, inputs_of, inputs_there, input_values}
 use Rattle.mw_laws.specs.MachineLaws.{IsSound}
-use Rattle.mw_laws.proofs.RunTables.{push_front}
 use Rattle.mw_laws.proofs.RunSteps.{pushed}
+use Rattle.mw_work.proofs.Later.{there-within, length-values}
 use Rattle.mw_stands.proofs.FateLemmas.{killed-fate, there-stays}
-use Rattle.mw_stands.proofs.AgreeLemmas.{values-pushed, values-long}
+use Rattle.mw_stands.proofs.AgreeLemmas.{values-pushed}
 
 -- work is told by the submission, its value, the values of its inputs, and whether these are there
 pub work-same : (m n : Machine) (t : ℕ) (p : Progress) → IsWork m t p → submission_at n.table.submissions t ≡ submission_at m.table.submissions t
@@ -47,19 +49,6 @@ work-same m n t p w sub val inp there =
 
 -- ---- inputs
 
-pub all-there : (old new : ℕ → Bool) (xs : List ℕ) → ((i : ℕ) → old i ≡ true → new i ≡ true) → list_all old xs ≡ true → list_all new xs ≡ true
-all-there old new [] stays h = refl
-all-there old new (x ∷ xs) stays h =
-    elim (cases_Bool (old x)) [
-      | inl e ↦ let rest : list_all old xs ≡ true = rw e at h in rw (stays x e) (all-there old new xs stays rest)
-      | inr e ↦ let f : false ≡ true = rw e at h in absurd cc
-    ]
-
--- what is there has a place
-pub there-within : (os : List Outcome) (t : ℕ) → is_there (outcome_at os t) ≡ true → t < length os
-there-within os t h =
-    elim (cases_lt t (length os)) [ inl l ↦ l | inr past ↦ let e : outcome_at os t ≡ outcome.Pending = get_or_past os t outcome.Pending past in let f = ap is_there e in absurd cc ]
-
 pub map-below : (f g : ℕ → Option Value) (n : ℕ) (xs : List ℕ) → AllByRecursion (λ i. i < n) xs → ((i : ℕ) → i < n → f i ≡ g i) → map f xs ≡ map g xs
 map-below f g n [] h same = refl
 map-below f g n (x ∷ xs) h same = rw (same x h.0, map-below f g n xs h.1 same) refl
@@ -71,24 +60,24 @@ pub work-pushed : (m : Machine) (n : Name) (e : Submission) (o : Outcome) (x : O
 work-pushed m n e o x t p s within w =
     let k = pushed m n e o x in
     let all = values-pushed m n e o x s in
-    let long = values-long m s in
-    let sub : submission_at k.table.submissions t ≡ submission_at m.table.submissions t = push_front m.table.submissions e no_submission t (omega (arith, s.lengths.submissions)) in
+    let long = length-values m s in
+    let sub : submission_at k.table.submissions t ≡ submission_at m.table.submissions t = get_or-push_below m.table.submissions e no_submission t (omega (arith, s.lengths.submissions)) in
     let value : (i : ℕ) → i < length m.table.names → value_at (values k) i ≡ value_at (values m) i
-    = λ i l. ap (λ vs. value_at vs i) all ∙ push_front (values m) _ None i (omega arith) in
+    = λ i l. ap (λ vs. value_at vs i) all ∙ get_or-push_below (values m) _ None i (omega arith) in
     let inputs : inputs_of k.table t ≡ inputs_of m.table t = ap (λ (d : Submission). tickets d.inputs) sub in
     let inp : input_values k t ≡ input_values m t
     = ap (map (value_at (values k))) inputs ∙ map-below (value_at (values k)) (value_at (values m)) t (inputs_of m.table t) (s.inputs t within) (λ i l. value i (omega arith)) in
     work-same m k t p w sub (value t within) inp (λ h.
     ap (list_all (λ i. is_there (outcome_at k.table.outcomes i))) inputs
-    ∙ all-there (λ i. is_there (outcome_at m.table.outcomes i)) (λ i. is_there (outcome_at k.table.outcomes i)) (inputs_of m.table t)
-    (λ i l. let there : i < length m.table.outcomes = there-within m.table.outcomes i l in ap is_there (push_front m.table.outcomes o outcome.Pending i there) ∙ l) h)
+    ∙ list_all-weaker (λ i. is_there (outcome_at m.table.outcomes i)) (λ i. is_there (outcome_at k.table.outcomes i)) (inputs_of m.table t)
+    (λ i l. let there : i < length m.table.outcomes = there-within m.table.outcomes i l in ap is_there (get_or-push_below m.table.outcomes o outcome.Pending i there) ∙ l) h)
 
 -- other outcomes, where what was there is there
 pub work-outcomes : (m : Machine) (os : List Outcome) (t : ℕ) (p : Progress) → ((i : ℕ) → is_there (outcome_at m.table.outcomes i) ≡ true → is_there (outcome_at os i) ≡ true)
     → IsWork m t p → IsWork (with_table m (record m.table { outcomes = os })) t p
 work-outcomes m os t p stays w =
     work-same m (with_table m (record m.table { outcomes = os })) t p w refl refl refl
-    (λ h. all-there (λ i. is_there (outcome_at m.table.outcomes i)) (λ i. is_there (outcome_at os i)) (inputs_of m.table t) stays h)
+    (λ h. list_all-weaker (λ i. is_there (outcome_at m.table.outcomes i)) (λ i. is_there (outcome_at os i)) (inputs_of m.table t) stays h)
 
 pub work-killed : (m : Machine) (t : ℕ) (cause : Outcome) (u : ℕ) (p : Progress) → IsSound m → t < length m.table.outcomes → outcome_at m.table.outcomes t ≡ outcome.Pending → is_dead cause ≡ true
     → IsWork m u p → IsWork (with_table m (killed m.table t cause)) u p

@@ -1,7 +1,7 @@
 -- Which ready task START takes (own).
-use Rattle.std.specs.Prelude.{ℕ, ◌+◌, ◌%◌, ◌<◌, ◌≤◌, map, sum}
+use Rattle.std.specs.Prelude.{ℕ, ◌+◌, ◌<◌, ◌≤◌, map, sum}
 use Rattle.std.specs.List.{range_with_len}
-use Rattle.mw_model.specs.Stands.{CoreView, ready_under, ready_count}
+use Rattle.mw_model.specs.Stands.{CoreView, ready_under}
 
 -- how many tasks of the tickets before this one are ready
 abbrev pub ready_before : CoreView → ℕ → ℕ

@@ -4,7 +4,7 @@ use Rattle.mw_model.specs.declared.places.Rect.{Rect}
 use Rattle.mw_model.specs.declared.shapes.Kind.{Kind}
 use Rattle.mw_model.specs.Rasters.{Raster}
 use Rattle.mw_model.specs.Windows.{View, seen_at}
-use Rattle.mw_model.specs.Pictures.{Picture}
+use Rattle.mw_model.specs.Pictures.{Picture, picture}
 use Rattle.mw_model.specs.Plans.{is_sum}
 use Rattle.mw_model.specs.PlanSteps.{PlanStep, step_at, kind_of_step, maxval_of_step}
 use Rattle.mw_model.specs.Tasks.{made_in}
@@ -14,9 +14,7 @@ use Rattle.mw_task.specs.Products.{HoldsImage, IsMade, tile_drawn}
 use Rattle.mw_task.specs.declared.tile_result.TileResult.{TileResult}
 use Rattle.mw_task.specs.declared.tile_result.TileResult.TheVariants.{Bits, Grey8, Grey16, Number}
 use Rattle.mw_pieces.proofs.TileCells.{cells_in_are}
-
-abbrev pub picture : Kind → ℕ → ℕ → ℕ → List ℕ → Picture
-picture kind width height maxval samples = record { kind = kind; width = width; height = height; maxval = maxval; samples = samples }
+use Rattle.mw_pieces.proofs.Windows.{source_window}
 
 -- a plane with the values of a tile is the image of the tile
 pub plane_is : (kind : Kind) (maxval : ℕ) (tile : Rect) (value : ℕ → ℕ → ℕ) (p : Raster ℕ) → p.width ≡ tile.width → p.height ≡ tile.height → length p.cells ≡ tile.height * tile.width
@@ -53,21 +51,12 @@ made_of_one t s u tile m not step first tile-is holds =
     made_image t (tile_by s u (window_at t.windows 1) (window_at t.windows 2) tile) m (ap is_sum step ∙ not)
     (tile_is t s u (window_at t.windows 1) (window_at t.windows 2) step (sym first) refl refl ∙ ap (λ (r : Rect). tile_by s u (window_at t.windows 1) (window_at t.windows 2) r) (sym tile-is)) holds
 
--- of what a call gives, if it gives anything
-pub if_ok : {A E : Type 0} (r : Result A E) (P Q : A → Type 0) → ((a : A) → P a → Q a) → IfOk r P → IfOk r Q
-if_ok (Ok a) P Q each p = each a p
-if_ok (Err e) P Q each p = p
-
 pub if_ok_too : {A E : Type 0} (r : Result A E) (P Q R : A → Type 0) → ((a : A) → P a → Q a → R a) → IfOk r P → IfOk r Q → IfOk r R
 if_ok_too (Ok a) P Q R each p q = each a p q
 if_ok_too (Err e) P Q R each p q = p
 
--- a window of a source of this kind and maxval
-abbrev pub source : Kind → ℕ → View ℕ → SourceWindow
-source kind maxval w = record { kind = kind; maxval = maxval; view = w }
-
 -- a plane of a value of what is seen of a window at each place of a tile
-pub slid_plane : (u : SourceWindow) (kind : Kind) (maxval : ℕ) (w : View ℕ) (tile : Rect) (value : ℕ → View ℕ → ℕ → ℕ → ℕ) (p : Raster ℕ) → u ≡ source kind maxval w
+pub slid_plane : (u : SourceWindow) (kind : Kind) (maxval : ℕ) (w : View ℕ) (tile : Rect) (value : ℕ → View ℕ → ℕ → ℕ → ℕ) (p : Raster ℕ) → u ≡ source_window kind maxval w
     → p.width ≡ tile.width → p.height ≡ tile.height → length p.cells ≡ tile.height * tile.width
     → ((x y : ℕ) → x < tile.width → y < tile.height → slice_get p.cells (y * tile.width + x) ≡ Some (value maxval w (tile.x + x) (tile.y + y)))
     → tile_drawn u.kind u.maxval tile (value u.maxval u.view) ≡ picture kind p.width p.height maxval p.cells

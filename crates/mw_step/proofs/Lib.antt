@@ -1,5 +1,6 @@
-pub mod Images
-pub mod PlaceByPlace
-pub mod OfTasks
-pub mod SameMembers
-pub mod Slid
+-- the crate's own
+mod Images
+mod PlaceByPlace
+mod OfTasks
+mod SameMembers
+mod Slid

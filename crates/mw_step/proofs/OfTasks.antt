@@ -1,6 +1,7 @@
 -- What is made of the windows of a task is what its step makes.
 use Rattle.std.proofs.Common.{◌≡◌, ℕ, ◌+◌, ◌-◌, ◌≤◌, min, List, [], ◌∷◌, false, refl, ap, sym, arith, ◌∙◌}
 use Rattle.std.specs.Prelude.{sum}
+use Rattle.std.proofs.Math.Nat.{sub-zero}
 use Rattle.mw_model.specs.declared.places.Offset.{Offset}
 use Rattle.mw_model.specs.declared.places.Rect.{Rect}
 use Rattle.mw_model.specs.Places.{rect, grown, IsWithin}
@@ -21,14 +22,11 @@ use Rattle.mw_step.proofs.PlaceByPlace.{Fills, three_cells}
 place_is_tile : (s : PlanStep) (m n : ℕ) (tile : Rect) → looks_at s ≡ origin → IsWithin tile m n → place_read s m n tile ≡ tile
 place_is_tile s m n tile at within =
     ap (λ (e : List Offset). grown m n (reach_of e) tile) at
-    ∙ ap (λ (t : ℕ). rect t (tile.y - 0) (min (tile.x + tile.width + 0) m - (tile.x - 0)) (min (tile.y + tile.height + 0) n - (tile.y - 0))) (all tile.x)
-    ∙ ap (λ (t : ℕ). rect tile.x t (min (tile.x + tile.width + 0) m - (tile.x - 0)) (min (tile.y + tile.height + 0) n - (tile.y - 0))) (all tile.y)
+    ∙ ap (λ (t : ℕ). rect t (tile.y - 0) (min (tile.x + tile.width + 0) m - (tile.x - 0)) (min (tile.y + tile.height + 0) n - (tile.y - 0))) (sub-zero tile.x)
+    ∙ ap (λ (t : ℕ). rect tile.x t (min (tile.x + tile.width + 0) m - (tile.x - 0)) (min (tile.y + tile.height + 0) n - (tile.y - 0))) (sub-zero tile.y)
     ∙ ap (λ (t : ℕ). rect tile.x tile.y t (min (tile.y + tile.height + 0) n - (tile.y - 0))) (part tile.x tile.width m within.across)
     ∙ ap (λ (t : ℕ). rect tile.x tile.y tile.width t) (part tile.y tile.height n within.down)
   where
-    all : (x : ℕ) → x - 0 ≡ x
-    all x = omega arith
-
     part : (x w m : ℕ) → x + w ≤ m → min (x + w + 0) m - (x - 0) ≡ w
     part x w m le = omega arith
 

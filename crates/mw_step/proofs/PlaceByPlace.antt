@@ -12,11 +12,12 @@ use Rattle.mw_model.specs.Rasters.{Raster, raster}
 use Rattle.mw_model.specs.Windows.{View, seen_at}
 use Rattle.mw_model.specs.PlanSteps.{here}
 use Rattle.mw_model.specs.Tasks.{cells_in}
+use Rattle.mw_model.specs.Pictures.{picture}
 use Rattle.mw_tile.proofs.Shown.{seen_in}
 use Rattle.mw_task.specs.Products.{tile_drawn, three_drawn, both_drawn, each_drawn, plane_drawn}
 use Rattle.mw_pieces.proofs.TileCells.{cells_in_is}
 use Rattle.mw_tile.specs.Windows.{SourceWindow}
-use Rattle.mw_step.proofs.Images.{picture, source}
+use Rattle.mw_pieces.proofs.Windows.{source_window}
 
 -- the cells of a window fill its place
 abbrev pub Fills : Rect → View ℕ → Type 0
@@ -136,15 +137,15 @@ marked_given kind maxval v a b c s t cells s-is t-is cells-is s-size t-size b-pl
     ∙ sym (marked_cells kind maxval v a b c b-place (b-place ∙ c-place) a-size b-size c-size)
 
 -- planes of a source that is looked at by its kind
-pub each_plane : (value : ℕ → ℕ) (u : SourceWindow) (kind : Kind) (maxval : ℕ) (k : Kind) (m : ℕ) (w : View ℕ) (p : Raster ℕ) → u ≡ source kind maxval w → HasSides p w.place → Fills w.place w → p.cells ≡ map value w.cells
+pub each_plane : (value : ℕ → ℕ) (u : SourceWindow) (kind : Kind) (maxval : ℕ) (k : Kind) (m : ℕ) (w : View ℕ) (p : Raster ℕ) → u ≡ source_window kind maxval w → HasSides p w.place → Fills w.place w → p.cells ≡ map value w.cells
     → each_drawn k m value u.view ≡ picture k p.width p.height m p.cells
 each_plane value u kind maxval k m w p is sides size cells = ap (λ (s : SourceWindow). each_drawn k m value s.view) is ∙ each_held k m value w p sides size cells
 
-pub inverted_plane : (u : SourceWindow) (kind : Kind) (maxval : ℕ) (w : View ℕ) (p : Raster ℕ) → u ≡ source kind maxval w → HasSides p w.place → Fills w.place w → p.cells ≡ zip2 (λ (m n : ℕ). m - n) (replicate (w.place.height * w.place.width) maxval) w.cells
+pub inverted_plane : (u : SourceWindow) (kind : Kind) (maxval : ℕ) (w : View ℕ) (p : Raster ℕ) → u ≡ source_window kind maxval w → HasSides p w.place → Fills w.place w → p.cells ≡ zip2 (λ (m n : ℕ). m - n) (replicate (w.place.height * w.place.width) maxval) w.cells
     → each_drawn u.kind u.maxval (λ n. u.maxval - n) u.view ≡ picture kind p.width p.height maxval p.cells
 inverted_plane u kind maxval w p is sides size cells = ap (λ (s : SourceWindow). each_drawn s.kind s.maxval (λ n. s.maxval - n) s.view) is ∙ inverted_held kind maxval w p sides size cells
 
-pub both_plane : (value : ℕ → ℕ → ℕ) (u : SourceWindow) (b second : View ℕ) (kind : Kind) (maxval : ℕ) (w : View ℕ) (p : Raster ℕ) → u ≡ source kind maxval w → second ≡ b → u.view.place ≡ b.place → HasSides p w.place → Fills w.place w → Fills w.place second
+pub both_plane : (value : ℕ → ℕ → ℕ) (u : SourceWindow) (b second : View ℕ) (kind : Kind) (maxval : ℕ) (w : View ℕ) (p : Raster ℕ) → u ≡ source_window kind maxval w → second ≡ b → u.view.place ≡ b.place → HasSides p w.place → Fills w.place w → Fills w.place second
     → p.cells ≡ zip2 value w.cells second.cells → both_drawn u.kind u.maxval value u.view b ≡ picture kind p.width p.height maxval p.cells
 both_plane value u b second kind maxval w p is second-is place sides size other-size cells =
     let same : w.place ≡ second.place = ap (λ (s : SourceWindow). s.view.place) (sym is) ∙ place ∙ ap (λ (v : View ℕ). v.place) (sym second-is) in

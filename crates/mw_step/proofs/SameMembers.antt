@@ -1,6 +1,7 @@
 -- Extrema of lists with the same members, and what is seen under elements with the same offsets.
-use Rattle.std.proofs.Common.{◌≡◌, ℕ, suc, ◌+◌, pos, ◌+ℤ◌, List, [], ◌∷◌, Option, Some, None, IfSome, fold, refl, ap, sym, subst, arith, ◌∙◌}
-use Rattle.std.specs.List.{AllByRecursion, Contains, filter_map, cons_option}
+use Rattle.std.proofs.Common.{◌≡◌, ℕ, ◌+◌, pos, ◌+ℤ◌, List, [], ◌∷◌, Option, Some, None, IfSome, fold, refl, ap, sym, ◌∙◌}
+use Rattle.std.specs.List.{AllByRecursion, filter_map, cons_option}
+use Rattle.mw_facts.proofs.Alls.{all-each_contained, all-contains}
 use Rattle.mw_model.specs.declared.places.Offset.{Offset}
 use Rattle.mw_model.specs.declared.places.OffsetBox.{OffsetBox}
 use Rattle.mw_model.specs.declared.places.Rect.{Rect}
@@ -9,7 +10,6 @@ use Rattle.mw_element.specs.Figures.{FillsBox}
 use Rattle.mw_model.specs.Rasters.{Raster, Sight, seen_under}
 use Rattle.mw_line.specs.Extrema.{IsSlidingExtremum}
 use Rattle.mw_line.proofs.Folds.{IsExtremum}
-use Rattle.mw_task.proofs.AllOf.{all_at}
 use Rattle.mw_task.proofs.Boxes.{box_all, box_at}
 
 -- a value that is merged before the list may be merged after it
@@ -34,20 +34,20 @@ takes_in f laws d (x ∷ xs) = (own, takes_in f laws (f d x) xs)
 takes_start : {A : Type 0} (f : A → A → A) → IsExtremum f → (d : A) (xs : List A) → f (fold f d xs) d ≡ fold f d xs
 takes_start f laws d xs = sym (merged_late f laws d d xs) ∙ ap (λ (t : _). fold f t xs) (laws.is_idempotent d)
 
-stays : {A : Type 0} (f : A → A → A) (a : A) (ys : List A) → AllByRecursion (λ y. f a y ≡ a) ys → fold f a ys ≡ a
-stays f a [] all = refl
-stays f a (y ∷ ys) all = ap (λ (t : _). fold f t ys) all.0 ∙ stays f a ys all.1
+fold-stays : {A : Type 0} (f : A → A → A) (a : A) (ys : List A) → AllByRecursion (λ y. f a y ≡ a) ys → fold f a ys ≡ a
+fold-stays f a [] all = refl
+fold-stays f a (y ∷ ys) all = ap (λ (t : _). fold f t ys) all.0 ∙ fold-stays f a ys all.1
 
 -- an extremum that takes in no member of another list is not changed by that list's extremum
-above : {A : Type 0} (f : A → A → A) → IsExtremum f → (d : A) (xs ys : List A) → AllByRecursion (λ y. f (fold f d xs) y ≡ fold f d xs) ys → f (fold f d xs) (fold f d ys) ≡ fold f d xs
-above f laws d xs ys all =
+fold-above : {A : Type 0} (f : A → A → A) → IsExtremum f → (d : A) (xs ys : List A) → AllByRecursion (λ y. f (fold f d xs) y ≡ fold f d xs) ys → f (fold f d xs) (fold f d ys) ≡ fold f d xs
+fold-above f laws d xs ys all =
     laws.commutes (fold f d xs) (fold f d ys)
     ∙ sym (merged_late f laws d (fold f d xs) ys)
     ∙ ap (λ (t : _). fold f t ys) (laws.commutes d (fold f d xs) ∙ takes_start f laws d xs)
-    ∙ stays f (fold f d xs) ys all
+    ∙ fold-stays f (fold f d xs) ys all
 
 same_extremum : {A : Type 0} (f : A → A → A) → IsExtremum f → (d : A) (xs ys : List A) → AllByRecursion (λ y. f (fold f d xs) y ≡ fold f d xs) ys → AllByRecursion (λ x. f (fold f d ys) x ≡ fold f d ys) xs → fold f d xs ≡ fold f d ys
-same_extremum f laws d xs ys over under = sym (above f laws d xs ys over) ∙ laws.commutes (fold f d xs) (fold f d ys) ∙ above f laws d ys xs under
+same_extremum f laws d xs ys over under = sym (fold-above f laws d xs ys over) ∙ laws.commutes (fold f d xs) (fold f d ys) ∙ fold-above f laws d ys xs under
 
 -- what holds of all that is seen, and of what is seen at each offset
 seen_of : {A : Type 0} (P : A → Type 0) (look : Offset → Option A) (bs : List Offset) → AllByRecursion P (filter_map look bs) → AllByRecursion (λ b. IfSome (look b) P) bs
@@ -66,13 +66,6 @@ of_seen P look (b ∷ bs) all = go (look b) all.0 (of_seen P look bs all.1)
     go (Some v) p rest = (p, rest)
     go None p rest = rest
 
-each_contained : {A : Type 0} (P : A → Type 0) (xs : List A) → ((x : A) → Contains xs x → P x) → AllByRecursion P xs
-each_contained P [] each = tt
-each_contained P (x ∷ xs) each = (each x (0, omega arith, refl), each_contained P xs (λ y has. each y (suc has.0, (let lt = has.1 in omega arith), has.2)))
-
-contained : {A : Type 0} (P : A → Type 0) (xs : List A) (x : A) → AllByRecursion P xs → Contains xs x → P x
-contained P xs x all has = subst P has.2 (all_at P xs has.0 x has.1 all)
-
 -- a full rectangle is seen as its box
 pub box_seen : {A : Type 0} (f : A → A → A) → IsExtremum f → (d : A) (sight : Sight A) (box : OffsetBox) (offsets : List Offset) → FillsBox box offsets → (x y : ℕ)
     → fold f d (seen_under sight (box_offsets box) x y) ≡ fold f d (seen_under sight offsets x y)
@@ -85,8 +78,8 @@ box_seen f laws d sight box offsets fills x y =
     let box_takes = seen_of P look (box_offsets box) (takes_in f laws d boxed) in
     let own_takes = seen_of Q look offsets (takes_in f laws d own) in
     same_extremum f laws d boxed own
-    (of_seen P look offsets (each_contained (λ b. IfSome (look b) P) offsets (λ b has. box_at (λ b. IfSome (look b) P) box box_takes b ((fills b).0 has))))
-    (of_seen Q look (box_offsets box) (box_all (λ b. IfSome (look b) Q) box (λ b inside. contained (λ b. IfSome (look b) Q) offsets b own_takes ((fills b).1 inside))))
+    (of_seen P look offsets (all-each_contained (λ b. IfSome (look b) P) offsets (λ b has. box_at (λ b. IfSome (look b) P) box box_takes b ((fills b).0 has))))
+    (of_seen Q look (box_offsets box) (box_all (λ b. IfSome (look b) Q) box (λ b inside. all-contains (λ b. IfSome (look b) Q) offsets b own_takes ((fills b).1 inside))))
 
 pub box_slides : {A : Type 0} (f : A → A → A) → IsExtremum f → (d : A) (sight : Sight A) (box : OffsetBox) (offsets : List Offset) (tile : Rect) (r : Raster A) → FillsBox box offsets
     → IsSlidingExtremum f d sight (box_offsets box) tile r → IsSlidingExtremum f d sight offsets tile r

@@ -9,14 +9,16 @@ use Rattle.mw_model.specs.declared.shapes.Kind.{Kind}
 use Rattle.mw_model.specs.PlanSteps.{ranked}
 use Rattle.mw_model.specs.Rasters.{Raster, seen_under}
 use Rattle.mw_model.specs.Windows.{View, seen_at}
+use Rattle.mw_model.specs.Pictures.{picture}
 use Rattle.mw_tile.specs.Windows.{SourceWindow}
 use Rattle.mw_task.specs.Products.{tile_drawn}
 use Rattle.mw_line.specs.Extrema.{IsSlidingExtremum}
 use Rattle.mw_rank.specs.Ranks.{IsRank}
-use Rattle.mw_step.proofs.Images.{picture, source, slid_plane}
+use Rattle.mw_pieces.proofs.Windows.{source_window}
+use Rattle.mw_step.proofs.Images.{slid_plane}
 
 -- of an extremum, which of levels up to the maxval is what it is said to be
-pub slid_extremum : (of_seen : ℕ → List ℕ → ℕ) (merge : ℕ → ℕ → ℕ) (neutral : ℕ) (offsets : List Offset) (u : SourceWindow) (kind : Kind) (maxval : ℕ) (w : View ℕ) (tile : Rect) (p : Raster ℕ) → u ≡ source kind maxval w
+pub slid_extremum : (of_seen : ℕ → List ℕ → ℕ) (merge : ℕ → ℕ → ℕ) (neutral : ℕ) (offsets : List Offset) (u : SourceWindow) (kind : Kind) (maxval : ℕ) (w : View ℕ) (tile : Rect) (p : Raster ℕ) → u ≡ source_window kind maxval w
     → ((ns : List ℕ) → fold merge neutral ns ≡ of_seen maxval ns) → IsSlidingExtremum merge neutral (seen_at w) offsets tile p
     → tile_drawn u.kind u.maxval tile (λ x y. of_seen u.maxval (seen_under (seen_at u.view) offsets x y)) ≡ picture kind p.width p.height maxval p.cells
 slid_extremum of_seen merge neutral offsets u kind maxval w tile p is folds slides =
@@ -33,7 +35,7 @@ rank_cells k w offsets element tile p same is x y across down =
     ∙ ap (λ (t : List Offset). ranked k (seen_under (seen_at w) t (tile.x + x) (tile.y + y))) same)
 
 -- of ranks
-pub slid_rank : (k : ℕ) (offsets element : List Offset) (u : SourceWindow) (kind : Kind) (maxval : ℕ) (w : View ℕ) (tile : Rect) (p : Raster ℕ) → u ≡ source kind maxval w → offsets ≡ element → IsRank (λ (n : ℕ). n) k (seen_at w) offsets tile p
+pub slid_rank : (k : ℕ) (offsets element : List Offset) (u : SourceWindow) (kind : Kind) (maxval : ℕ) (w : View ℕ) (tile : Rect) (p : Raster ℕ) → u ≡ source_window kind maxval w → offsets ≡ element → IsRank (λ (n : ℕ). n) k (seen_at w) offsets tile p
     → tile_drawn u.kind u.maxval tile (λ x y. ranked k (seen_under (seen_at u.view) element x y)) ≡ picture kind p.width p.height maxval p.cells
 slid_rank k offsets element u kind maxval w tile p is same ranks =
     slid_plane u kind maxval w tile (λ m v x y. ranked k (seen_under (seen_at v) element x y)) p is ranks.width ranks.height ranks.size (rank_cells k w offsets element tile p same ranks)

@@ -1,11 +1,12 @@
 -- An entry that is added: what is found under its name, and that the columns stay whole.
-use Rattle.std.proofs.Common.{◌≡◌, ℕ, ◌<◌, ◌≤◌, Bool, true, false, not, ltb, cond, List, [], ◌∷◌, ◌++◌, length, get_or, Option, Some, None, refl, sym, subst, arith, cond, inl, inr, All}
+use Rattle.std.proofs.Common.{◌≡◌, ℕ, ◌<◌, ◌≤◌, Bool, false, not, ltb, cond, List, [], ◌∷◌, ◌++◌, length, get_or, Option, None, refl, sym, subst, arith, cond, inl, inr, All}
 use Rattle.std.specs.List.{AllByRecursion, position, position_or_len, list_any}
 use Rattle.std.proofs.lemmas.List.Folds.{list_any_none}
 use Rattle.std.proofs.lemmas.List.Sums.{prefix_len_passes}
 use Rattle.std.proofs.lemmas.List.{get_or_append_left, length-append}
 use Rattle.std.proofs.Math.Seq.{get_or-append_seam}
-use Rattle.std.proofs.lemmas.Bool.{ltb-false, cases_lt}
+use Rattle.std.proofs.lemmas.Bool.{ltb-false, cases_lt, not-true}
+use Rattle.mw_facts.proofs.Finds.{cond-none}
 use Rattle.mw_model.specs.declared.submissions.Submission.{Submission}
 use Rattle.mw_model.specs.declared.names.Name.{Name}
 use Rattle.mw_model.specs.declared.calls.Outcome.{Outcome}
@@ -13,14 +14,6 @@ use Rattle.mw_model.specs.Values.{Value, tickets}
 use Rattle.mw_model.specs.Refusals.{submission_at, no_submission}
 use Rattle.mw_model.specs.Machine.{with_entry}
 use Rattle.mw_store.specs.Stored.{InputsBelow, Stored, IsWhole}
-
-not-true : (b : Bool) → not b ≡ true → b ≡ false
-not-true true e = cc
-not-true false e = refl
-
-cond-none : (b : Bool) (n : ℕ) → cond b (Some n) None ≡ None → b ≡ false
-cond-none true n e = cc
-cond-none false n e = refl
 
 -- where no place is found, no element passes
 pub none-passes : {X : Type 0} → (p : X → Bool) (xs : List X) → position p xs ≡ None → All (λ x. p x ≡ false) xs

@@ -1,11 +1,12 @@
 -- The cascade: each entry beside its inputs, in ticket order, is the outcomes after a kill.
-use Rattle.std.proofs.Common.{zero, suc, lit≤, count_by, ◌⊎◌, inl, inr, subst, add-zero, length-append, ◌≡◌, ℕ, ◌+◌, ◌<◌, ◌≤◌, Bool, true, cond, List, [], ◌∷◌, ◌++◌, length, take, drop, Option, Some, None, refl, sym, ap, ◌∙◌, arith, find}
+use Rattle.std.proofs.Common.{zero, suc, lit≤, count_by, ◌⊎◌, inl, inr, subst, add-zero, length-append, ◌≡◌, ℕ, ◌+◌, ◌<◌, ◌≤◌, true, cond, List, [], ◌∷◌, ◌++◌, length, take, drop, Option, Some, None, refl, sym, ap, ◌∙◌, arith, find}
 use Rattle.std.specs.List.{AllByRecursion}
 use Rattle.std.specs.Option.{option_map_or}
-use Rattle.std.proofs.lemmas.List.{get_or_append_left}
 use Rattle.std.proofs.lemmas.List.Sums.{sum_by-cons, sum_by-append}
 use Rattle.std.proofs.Math.Seq.{get_or-append_seam}
 use Rattle.std.proofs.lemmas.List.{drop_more, get_or-take}
+use Rattle.mw_facts.proofs.Finds.{find-same}
+use Rattle.mw_facts.proofs.Alls.{all-weaker}
 use Rattle.mw_model.specs.declared.submissions.Submission.{Submission}
 use Rattle.mw_model.specs.declared.submissions.Inputs.{Inputs}
 use Rattle.mw_model.specs.declared.calls.Outcome.{Outcome}
@@ -13,21 +14,13 @@ use Rattle.mw_model.specs.declared.calls.Outcome.TheVariants as outcome
 use Rattle.mw_model.specs.Values.{tickets}
 use Rattle.mw_model.specs.Refusals.{is_dead, is_pending, outcome_at, submission_at, no_submission}
 use Rattle.mw_model.specs.Machine.{spread, beside}
-
--- a search looks at the elements alone
-pub find-same : (p q : ℕ → Bool) (xs : List ℕ) → AllByRecursion (λ x. p x ≡ q x) xs → find p xs ≡ find q xs
-find-same p q [] h = refl
-find-same p q (x ∷ xs) h = rw (h.0, find-same p q xs h.1) refl
-
-pub all-map : (P Q : ℕ → Type 0) (xs : List ℕ) → ((x : ℕ) → P x → Q x) → AllByRecursion P xs → AllByRecursion Q xs
-all-map P Q [] f h = tt
-all-map P Q (x ∷ xs) f h = (f x h.0, all-map P Q xs f h.1)
+use Rattle.mw_laws.proofs.RunCascade.{spread_front}
 
 -- what stands beside an entry of ticket t is told by the outcomes below t
 pub beside-take : (os : List Outcome) (t : ℕ) (inputs : Inputs) (o : Outcome) → AllByRecursion (λ i. i < t) (tickets inputs) → beside (take t os) inputs o ≡ beside os inputs o
 beside-take os t inputs o below =
     let e = find-same (λ i. is_dead (outcome_at (take t os) i)) (λ i. is_dead (outcome_at os i)) (tickets inputs)
-    (all-map (λ i. i < t) (λ i. is_dead (outcome_at (take t os) i) ≡ is_dead (outcome_at os i)) (tickets inputs)
+    (all-weaker (λ i. i < t) (λ i. is_dead (outcome_at (take t os) i) ≡ is_dead (outcome_at os i)) (tickets inputs)
     (λ i h. ap is_dead (get_or-take t os i outcome.Pending h)) below) in
     ap (λ f. cond (is_pending o) (option_map_or outcome.Input f outcome.Pending) o) e
 
@@ -72,6 +65,11 @@ count-spread before (e ∷ es) (o ∷ os) =
 abbrev pub Fate : Outcome → Outcome → Type 0
 Fate old new = (new ≡ old) ⊎ ((old ≡ outcome.Pending) × (is_dead new ≡ true))
 
+-- what is pending after such a change was pending before
+pub fate-pending : (old new : Outcome) → Fate old new → is_pending new ≡ true → is_pending old ≡ true
+fate-pending old new (inl same) pends = ap is_pending (sym same) ∙ pends
+fate-pending old new (inr died) pends = ap is_pending died.0
+
 beside-fate : (f : Option ℕ) (o : Outcome) → Fate o (cond (is_pending o) (option_map_or outcome.Input f outcome.Pending) o)
 beside-fate None outcome.Pending = inl refl
 beside-fate (Some s) outcome.Pending = inr (refl, refl)
@@ -81,13 +79,6 @@ beside-fate f outcome.Memory = inl refl
 beside-fate f (outcome.Input s) = inl refl
 beside-fate f outcome.Released = inl refl
 
-pub spread-front : (before : List Outcome) (es : List Submission) (os : List Outcome) (k : ℕ) → k < length before → outcome_at (spread before es os) k ≡ outcome_at before k
-spread-front before [] os k h = refl
-spread-front before (e ∷ es) [] k h = refl
-spread-front before (e ∷ es) (o ∷ os) k h =
-    let within : k < length (before ++ beside before e.inputs o ∷ []) = omega (arith, length-append before (beside before e.inputs o ∷ [])) in
-    spread-front (before ++ beside before e.inputs o ∷ []) es os k within ∙ get_or_append_left before (beside before e.inputs o ∷ []) outcome.Pending k h
-
 pub spread-fate : (before : List Outcome) (es : List Submission) (os : List Outcome) (k : ℕ) → length es ≡ length os → k < length os → Fate (outcome_at os k) (outcome_at (spread before es os) (length before + k))
 spread-fate before [] os k e h = absurd (omega arith)
 spread-fate before (x ∷ es) [] k e h = absurd (omega arith)
@@ -95,7 +86,7 @@ spread-fate before (x ∷ es) (o ∷ os) zero e h =
     let b = beside before x.inputs o in
     let within : length before < length (before ++ b ∷ []) = omega (arith, length-append before (b ∷ [])) in
     let here : outcome_at (spread (before ++ b ∷ []) es os) (length before + 0) ≡ b =
-    rw add-zero (spread-front (before ++ b ∷ []) es os (length before) within ∙ get_or-append_seam before b [] outcome.Pending) in
+    rw add-zero (spread_front (before ++ b ∷ []) es os (length before) within ∙ get_or-append_seam before b [] outcome.Pending) in
     let P : Outcome → Type 0 = λ n. Fate o n in
     subst P (sym here) (beside-fate (find (λ t. is_dead (outcome_at before t)) (tickets x.inputs)) o)
 spread-fate before (x ∷ es) (o ∷ os) (suc k) e h =

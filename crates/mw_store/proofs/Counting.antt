@@ -1,15 +1,12 @@
 -- How many of the first numbers pass a test, as the test changes.
-use Rattle.std.proofs.Common.{◌≡◌, ◌≢◌, ℕ, zero, suc, ◌+◌, ◌<◌, ◌≤◌, Bool, true, false, not, cond, nat_eq, nat_lt, List, [], ◌∷◌, count_by, refl, sym, ap, ◌∙◌, arith, inl, inr, zero-add, add-one}
+use Rattle.std.proofs.Common.{◌≡◌, ◌≢◌, ℕ, zero, suc, ◌+◌, ◌<◌, Bool, true, false, not, cond, nat_eq, nat_lt, List, [], ◌∷◌, count_by, refl, sym, ap, ◌∙◌, arith, inl, inr, zero-add, add-one}
 use Rattle.std.specs.Prelude.{◌||◌}
 use Rattle.std.specs.List.{range_with_len, list_any}
 use Rattle.std.proofs.lemmas.Bool.{cases_lt, lt-ltb, ne_eqb}
-use Rattle.std.proofs.lemmas.List.Sums.{count_by-le-length, sum_by-cons, sum_by_push}
-use Rattle.std.proofs.lemmas.List.FromFn.{length-range_with_len}
+use Rattle.std.proofs.lemmas.List.Sums.{sum_by-cons, sum_by_push}
 use Rattle.mw_facts.proofs.Ranges.{range_with_len-more}
+use Rattle.mw_facts.proofs.Counts.{count_by-same}
 use Rattle.mw_store.specs.Wanted.{one_if}
-
-pub count-most : (p : ℕ → Bool) (n : ℕ) → count_by p (range_with_len 0 n) ≤ n
-count-most p n = omega (arith, count_by-le-length p (range_with_len 0 n), length-range_with_len 0 n)
 
 -- one number more
 pub count-more : (p : ℕ → Bool) (n : ℕ) → count_by p (range_with_len 0 (n + 1)) ≡ count_by p (range_with_len 0 n) + one_if (p n)
@@ -17,11 +14,6 @@ count-more p n = ap (λ (xs : List ℕ). count_by p xs) (range_with_len-more 0 n
 
 count-suc : (p : ℕ → Bool) (n : ℕ) → count_by p (range_with_len 0 (suc n)) ≡ count_by p (range_with_len 0 n) + one_if (p n)
 count-suc p n = ap (λ (k : ℕ). count_by p (range_with_len 0 k)) (sym (add-one n)) ∙ count-more p n
-
-pub count-same : (p q : ℕ → Bool) (n : ℕ) → ((k : ℕ) → k < n → p k ≡ q k) → count_by p (range_with_len 0 n) ≡ count_by q (range_with_len 0 n)
-count-same p q zero same = refl
-count-same p q (suc n) same =
-    omega (arith, count-suc p n, count-suc q n, count-same p q n (λ k lt. same k (omega (arith, lt))), ap one_if (same n (omega arith)))
 
 -- a test that changes at one number
 pub count-change : (p q : ℕ → Bool) (x n : ℕ) → x < n → ((k : ℕ) → k < n → k ≢ x → p k ≡ q k)
@@ -34,7 +26,7 @@ count-change p q x (suc n) lt same =
           omega (arith, count-suc p n, count-suc q n, count-change p q x n less (λ k l ne. same k (omega (arith, l)) ne), ap one_if last)
       | inr more ↦
           let last : x ≡ n = omega (arith, lt, more) in
-          let before = count-same p q n (λ k l. same k (omega (arith, l)) (λ e. absurd (omega (arith, e, l, last)))) in
+          let before = count_by-same p q n (λ k l. same k (omega (arith, l)) (λ e. absurd (omega (arith, e, l, last)))) in
           omega (arith, count-suc p n, count-suc q n, before, ap (λ (k : ℕ). one_if (p k)) last, ap (λ (k : ℕ). one_if (q k)) last)
     ]
 

@@ -1,5 +1,4 @@
 -- what other crates may cite
-pub mod RangeLemmas
 pub mod CascadeLemmas
 -- the crate's own
 mod AddLemmas

@@ -1,13 +1,12 @@
 -- What spares a pass over the entries, as one of them changes.
-use Rattle.std.proofs.Common.{◌≡◌, ℕ, zero, suc, ◌+◌, ◌-◌, ◌<◌, ◌≤◌, ◌⊎◌, inl, inr, Bool, true, false, not, if◌then◌else◌, nat_eq, nat_lt, List, [], ◌∷◌, ◌++◌, length, map, take, set, get_or, count_by, slice_index_or, Option, Some, None, option_map, refl, sym, ap, subst, ◌∙◌, arith, length-append, zero-add}
+use Rattle.std.proofs.Common.{◌≡◌, ℕ, zero, suc, ◌+◌, ◌-◌, ◌<◌, ◌≤◌, ◌⊎◌, inl, inr, Bool, true, false, not, if◌then◌else◌, nat_eq, nat_lt, List, [], ◌∷◌, ◌++◌, length, map, set, get_or, count_by, slice_index_or, Option, Some, None, option_map, refl, sym, ap, subst, ◌∙◌, arith, length-append, zero-add}
 use Rattle.std.specs.Prelude.{◌||◌, ◌&&◌}
 use Rattle.std.specs.List.{AllByRecursion, range_with_len, list_any}
-use Rattle.std.proofs.lemmas.Bool.{cases_lt, eq-eqb, lt-ltb}
+use Rattle.std.proofs.lemmas.Bool.{cases_lt, eq-eqb, lt-ltb, and_parts, and_from, or_left, or_right}
 use Rattle.std.proofs.lemmas.Bool.Decides.{eqb_tells}
 use Rattle.std.proofs.lemmas.List.{get_or-set_same, get_or-set_other, get_or_append_left, get_or-append_right, get_or_past, get_or_read, length-set}
 use Rattle.std.proofs.lemmas.List.Folds.{list_any-append}
 use Rattle.std.proofs.lemmas.List.Sums.{sum_by-set}
-use Rattle.std.proofs.lemmas.Grind.{common_steps}
 use Rattle.std.proofs.Math.ListN.{get_or-map}
 use Rattle.std.proofs.Math.Seq.{get_or-append_seam}
 use Rattle.mw_model.specs.declared.submissions.Submission.{Submission}
@@ -24,14 +23,11 @@ use Rattle.mw_store.specs.Kept.{kept_value}
 use Rattle.mw_store.specs.Stored.{Stored, IsWhole, IsTracked, InputsBelow, DropsSpent, is_spent}
 use Rattle.mw_store.specs.Wanted.{one_if, is_among, is_at, waits_for, wanted_by, spent_by}
 use Rattle.mw_store.specs.Waiting.{Waiting, KnowsWaiting, no_waiting, waiting_at, entry_if, entry_for}
-use Rattle.mw_facts.proofs.Alls.{all-append, all-weaker}
+use Rattle.mw_facts.proofs.Alls.{all-append, all-weaker, all-append_left, all-append_right}
+use Rattle.mw_facts.proofs.Counts.{count_by-most, count_by-same}
 use Rattle.mw_store.proofs.AddLemmas.{whole-push}
-use Rattle.mw_store.proofs.CascadeLemmas.{Fate, spread-fate, count-push}
-use Rattle.mw_store.proofs.Counting.{count-most, count-more, count-same, count-change, count-any, zero-or-more}
-
--- the slice that a list of known length became
-pub front : {X : Type 0} → (xs ys : List X) (n : ℕ) → length xs ≡ n → take n (xs ++ ys) ≡ xs
-front xs ys n h = grind (arith, common_steps)
+use Rattle.mw_store.proofs.CascadeLemmas.{Fate, spread-fate, count-push, fate-pending}
+use Rattle.mw_store.proofs.Counting.{count-more, count-change, count-any, zero-or-more}
 
 -- ---- the inputs of an entry
 
@@ -41,14 +37,6 @@ among-three inputs t =
     list_any-append (nat_eq t) (option_list inputs.a ++ option_list inputs.b) (option_list inputs.c)
     ∙ ap (λ (x : Bool). x || is_at inputs.c t) (list_any-append (nat_eq t) (option_list inputs.a) (option_list inputs.b))
 
-all-left : (P : ℕ → Type 0) (xs ys : List ℕ) → AllByRecursion P (xs ++ ys) → AllByRecursion P xs
-all-left P [] ys all = tt
-all-left P (x ∷ xs) ys all = (all.0, all-left P xs ys all.1)
-
-all-right : (P : ℕ → Type 0) (xs ys : List ℕ) → AllByRecursion P (xs ++ ys) → AllByRecursion P ys
-all-right P [] ys all = all
-all-right P (x ∷ xs) ys all = all-right P xs ys all.1
-
 pub record Within (inputs : Inputs) (n : ℕ) : Type 0 where
   pub a : AllByRecursion (λ i. i < n) (option_list inputs.a)
   pub b : AllByRecursion (λ i. i < n) (option_list inputs.b)
@@ -57,11 +45,11 @@ pub record Within (inputs : Inputs) (n : ℕ) : Type 0 where
 pub inputs-within : (inputs : Inputs) (n : ℕ) → AllByRecursion (λ i. i < n) (tickets inputs) → Within inputs n
 inputs-within inputs n all =
     let P : ℕ → Type 0 = λ i. i < n in
-    let first = all-left P (option_list inputs.a ++ option_list inputs.b) (option_list inputs.c) all in
+    let first = all-append_left P (option_list inputs.a ++ option_list inputs.b) (option_list inputs.c) all in
     record {
-      a = all-left P (option_list inputs.a) (option_list inputs.b) first;
-      b = all-right P (option_list inputs.a) (option_list inputs.b) first;
-      c = all-right P (option_list inputs.a ++ option_list inputs.b) (option_list inputs.c) all;
+      a = all-append_left P (option_list inputs.a) (option_list inputs.b) first;
+      b = all-append_right P (option_list inputs.a) (option_list inputs.b) first;
+      c = all-append_right P (option_list inputs.a ++ option_list inputs.b) (option_list inputs.c) all;
     }
 
 -- the inputs of an entry that was read stand before it
@@ -85,7 +73,7 @@ spent-tells w counts t e is =
     (ap (λ (n : ℕ). nat_eq n 0) is ∙ zero-or-more (wanted_by w.submissions w.outcomes t) ∙ ap not (wanted-tells w t e))
 
 pub wanted-small : (es : List Submission) (os : List Outcome) (t : ℕ) → wanted_by es os t ≤ length os
-wanted-small es os t = count-most (waits_for es os t) (length os)
+wanted-small es os t = count_by-most (waits_for es os t) (length os)
 
 -- ---- how many have a ticket as an input, as the outcomes change
 
@@ -104,7 +92,7 @@ wanted-settled es os t o k within was is =
 pub wanted-kept : (es : List Submission) (os new : List Outcome) (k : ℕ) → length new ≡ length os → ((u : ℕ) → is_pending (outcome_at new u) ≡ is_pending (outcome_at os u)) → wanted_by es new k ≡ wanted_by es os k
 wanted-kept es os new k size same =
     ap (λ (n : ℕ). count_by (waits_for es new k) (range_with_len 0 n)) size
-    ∙ count-same (waits_for es new k) (waits_for es os k) (length os) (λ u l. ap (λ (b : Bool). b && is_among (submission_at es u).inputs k) (same u))
+    ∙ count_by-same (waits_for es new k) (waits_for es os k) (length os) (λ u l. ap (λ (b : Bool). b && is_among (submission_at es u).inputs k) (same u))
 
 pub waits-before : (es : List Submission) (os : List Outcome) (e : Submission) (o : Outcome) (k u : ℕ) → length es ≡ length os → u < length os → waits_for (es ++ e ∷ []) (os ++ o ∷ []) k u ≡ waits_for es os k u
 waits-before es os e o k u same within =
@@ -122,7 +110,7 @@ wanted-push es os e o k same =
     let n = length os in
     let size : length (os ++ o ∷ []) ≡ n + 1 = omega (arith, length-append os (o ∷ [])) in
     ap (λ (m : ℕ). count_by p (range_with_len 0 m)) size ∙ count-more p n
-    ∙ ap (λ (m : ℕ). m + one_if (p n)) (count-same p (waits_for es os k) n (λ u l. waits-before es os e o k u same l))
+    ∙ ap (λ (m : ℕ). m + one_if (p n)) (count_by-same p (waits_for es os k) n (λ u l. waits-before es os e o k u same l))
     ∙ ap (λ (b : Bool). wanted_by es os k + one_if b) (waits-last es os e o k same)
 
 -- ---- what is dropped
@@ -143,10 +131,6 @@ near-enough true spent old new none e = e
 near-enough false true old new none e = e ∙ none refl refl
 near-enough false false old new none e = e
 
-and-true : (a b : Bool) → (a && b) ≡ true → (a ≡ true) × (b ≡ true)
-and-true true b h = (refl, h)
-and-true false b h = cc
-
 zero-not : (n : ℕ) → not (nat_lt 0 n) ≡ true → n ≡ 0
 zero-not zero h = refl
 zero-not (suc n) h =
@@ -155,7 +139,7 @@ zero-not (suc n) h =
 
 released-wanted : (w : Table) (t : ℕ) → length w.outcomes ≡ length w.names → is_spent w t ≡ true → (is_released (outcome_at w.outcomes t) ≡ true) × (wanted_by w.submissions w.outcomes t ≡ 0)
 released-wanted w t e spent =
-    let both = and-true (is_released (outcome_at w.outcomes t)) (not (is_wanted w t)) spent in
+    let both = and_parts (is_released (outcome_at w.outcomes t)) (not (is_wanted w t)) spent in
     (both.0, zero-not (wanted_by w.submissions w.outcomes t) (ap not (wanted-tells w t e) ∙ both.1))
 
 spent-from : (w : Table) (t : ℕ) → length w.outcomes ≡ length w.names → is_released (outcome_at w.outcomes t) ≡ true → wanted_by w.submissions w.outcomes t ≡ 0 → is_spent w t ≡ true
@@ -169,9 +153,6 @@ none-spent w old new e drops t released none = drops t ∙ ap (λ (b : Bool). if
 
 -- ---- who waits, as the outcomes change
 
-both-true : (a b : Bool) → a ≡ true → b ≡ true → (a && b) ≡ true
-both-true a b e f = ap (λ (x : Bool). x && b) e ∙ f
-
 -- nothing becomes pending, and only lists of settled tickets are dropped
 pub waiting-fewer : (es : List Submission) (os new : List Outcome) (lists now : List Waiting) → KnowsWaiting es os lists → length new ≡ length os
     → ((u : ℕ) → is_pending (outcome_at new u) ≡ true → is_pending (outcome_at os u) ≡ true)
@@ -181,8 +162,8 @@ waiting-fewer es os new lists now knows size fewer each = record {
   all = λ t u t-lt pends u-lt waits.
       elim (each t) [
         | inl same ↦
-            let both = and-true (is_pending (outcome_at new u)) (is_among (submission_at es u).inputs t) waits in
-            let was = both-true (is_pending (outcome_at os u)) (is_among (submission_at es u).inputs t) (fewer u both.0) both.1 in
+            let both = and_parts (is_pending (outcome_at new u)) (is_among (submission_at es u).inputs t) waits in
+            let was = and_from (is_pending (outcome_at os u)) (is_among (submission_at es u).inputs t) (fewer u both.0) both.1 in
             ap (list_any (nat_eq u)) same ∙ knows.all t u (omega (arith, t-lt, size)) (fewer t pends) (omega (arith, u-lt, size)) was
         | inr gone ↦ absurd (true-false (is_pending (outcome_at new t)) pends gone.1)
       ];
@@ -244,13 +225,6 @@ among-below (x ∷ xs) t n all h =
       | inr there ↦ among-below xs t n all.1 (ap (λ (b : Bool). b || list_any (nat_eq t) xs) (sym there.0) ∙ h)
     ]
 
-or-left : (a b : Bool) → a ≡ true → (a || b) ≡ true
-or-left a b e = ap (λ (x : Bool). x || b) e
-
-or-right : (a b : Bool) → b ≡ true → (a || b) ≡ true
-or-right true b e = refl
-or-right false b e = e
-
 -- one more entry, which stands in the lists of its pending inputs
 pub waiting-push : (es : List Submission) (os : List Outcome) (e : Submission) (o : Outcome) (lists now : List Waiting) (w : Waiting) (waited : Inputs) → KnowsWaiting es os lists
     → length es ≡ length os → InputsBelow es → AllByRecursion (λ i. i < length os) (tickets e.inputs) → w.tickets ≡ []
@@ -265,17 +239,17 @@ waiting-push es os e o lists now w waited knows same below own none opens each =
       elim (cases_lt u n) [
         | inl less ↦
             let was : waits_for es os t u ≡ true = sym (waits-before es os e o t u same less) ∙ waits in
-            let both = and-true (is_pending (outcome_at os u)) (is_among (submission_at es u).inputs t) was in
+            let both = and_parts (is_pending (outcome_at os u)) (is_among (submission_at es u).inputs t) was in
             let before : t < u = among-below (tickets (submission_at es u).inputs) t u (below u (omega (arith, same, less))) both.1 in
             let pended = ap is_pending (sym (get_or_append_left os (o ∷ []) outcome.Pending t (omega (arith, before, less)))) ∙ pends in
-            tells ∙ or-left (list_any (nat_eq u) (waiting_at lists t)) (list_any (nat_eq u) (entry_for waited n t)) (knows.all t u (omega (arith, before, less)) pended less was)
+            tells ∙ or_left (list_any (nat_eq u) (waiting_at lists t)) (list_any (nat_eq u) (entry_for waited n t)) (knows.all t u (omega (arith, before, less)) pended less was)
         | inr past ↦
             let last : u ≡ n = omega (arith, past, u-lt, size) in
-            let has = (and-true (is_pending o) (is_among e.inputs t) (sym (ap (waits_for (es ++ e ∷ []) (os ++ o ∷ []) t) last ∙ waits-last es os e o t same) ∙ waits)).1 in
+            let has = (and_parts (is_pending o) (is_among e.inputs t) (sym (ap (waits_for (es ++ e ∷ []) (os ++ o ∷ []) t) last ∙ waits-last es os e o t same) ∙ waits)).1 in
             let before : t < n = among-below (tickets e.inputs) t n own has in
             let pended = ap is_pending (sym (get_or_append_left os (o ∷ []) outcome.Pending t before)) ∙ pends in
-            let there : is_among waited t ≡ true = opens t ∙ both-true (is_among e.inputs t) (is_pending (outcome_at os t)) has pended in
-            tells ∙ or-right (list_any (nat_eq u) (waiting_at lists t)) (list_any (nat_eq u) (entry_for waited n t))
+            let there : is_among waited t ≡ true = opens t ∙ and_from (is_among e.inputs t) (is_pending (outcome_at os t)) has pended in
+            tells ∙ or_right (list_any (nat_eq u) (waiting_at lists t)) (list_any (nat_eq u) (entry_for waited n t))
             (ap (λ (k : ℕ). list_any (nat_eq k) (entry_for waited n t)) last ∙ entry-for-tells waited n t ∙ there)
       ];
   below = λ t.
@@ -473,10 +447,6 @@ release-tracked s counts lists left t kept tracked within was kept-size drops =
 
 -- ---- a death
 
-alive : (o new : Outcome) → Fate o new → is_pending new ≡ true → is_pending o ≡ true
-alive o new (inl same) e = ap is_pending (sym same) ∙ e
-alive o new (inr died) e = ap is_pending died.0
-
 -- nothing becomes pending
 pub pending-before-kill : (es : List Submission) (os new : List Outcome) (t : ℕ) (cause : Outcome) → length es ≡ length os → t < length os → is_pending cause ≡ false
     → new ≡ spread [] es (set os t cause) → length new ≡ length os
@@ -487,7 +457,7 @@ pending-before-kill es os new t cause same lt dead is size u e =
           let within' : u < length (set os t cause) = omega (arith, within, length-set os t cause) in
           let fate : Fate (outcome_at (set os t cause) u) (outcome_at (spread [] es (set os t cause)) (0 + u)) = spread-fate [] es (set os t cause) u (same ∙ sym (length-set os t cause)) within' in
           let here : is_pending (outcome_at (spread [] es (set os t cause)) (0 + u)) ≡ true = ap (λ (k : ℕ). is_pending (outcome_at (spread [] es (set os t cause)) k)) (zero-add u) ∙ ap (λ (xs : List Outcome). is_pending (outcome_at xs u)) (sym is) ∙ e in
-          let was = alive (outcome_at (set os t cause) u) (outcome_at (spread [] es (set os t cause)) (0 + u)) fate here in
+          let was = fate-pending (outcome_at (set os t cause) u) (outcome_at (spread [] es (set os t cause)) (0 + u)) fate here in
           elim (eqb_tells u t) [
             | inl self ↦
                 let no : is_pending (outcome_at (set os t cause) u) ≡ false
@@ -586,15 +556,3 @@ push-tracked s counts now lists rest left count n e o v w waited tracked room ow
                 absurd (cc (no, released))
           ];
     }
-
--- nothing yet
-pub tracked-none : IsTracked (record { table = record { names = []; submissions = []; outcomes = [] }; kept = [] }) [] [] 0
-tracked-none = record {
-  whole = record { submissions = refl; outcomes = refl; kept = refl; small = omega arith; inputs = λ t lt. absurd (omega (arith, lt)) };
-  counted = refl;
-  listed = refl;
-  pending = refl;
-  wanted = λ t. refl;
-  waiting = record { all = λ t u lt pends u-lt waits. absurd (omega (arith, lt)); below = λ t. tt };
-  spent = λ t released nobody. refl;
-}

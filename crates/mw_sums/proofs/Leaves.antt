@@ -1,10 +1,9 @@
 -- The first leaves of a tree as a list of numbers.
-use Rattle.std.proofs.Common.{◌≡◌, ◌≢◌, ℕ, zero, suc, ◌+◌, ◌-◌, ◌*◌, ◌<◌, ◌≤◌, ◌^◌, List, [], ◌∷◌, ◌++◌, length, take, drop, sum, ap, sym, ◌∙◌, arith, get_or, set, subst, max, inl, inr, length-append, length-drop, length-set}
+use Rattle.std.proofs.Common.{◌≡◌, ◌≢◌, ℕ, zero, suc, ◌+◌, ◌-◌, ◌*◌, ◌<◌, ◌≤◌, ◌^◌, List, [], ◌∷◌, ◌++◌, length, take, drop, sum, ap, sym, ◌∙◌, arith, get_or, subst, max, inl, inr, length-append, length-drop, zero-add}
 use Rattle.std.proofs.Math.Nat.{pow-suc}
-use Rattle.std.proofs.Math.Seq.{take-append_seam}
 use Rattle.std.proofs.lemmas.Bool.{cases_lt, cases_eq}
-use Rattle.std.proofs.lemmas.List.{ext_get_or, get_or-take, get_or-drop, length-take-le, get_or_append_left, get_or_push, get_or-set_same, get_or-set_other}
-use Rattle.mw_sums.specs.Trees.{span, leaves, IsPower, IsTree, Uses}
+use Rattle.std.proofs.lemmas.List.{ext_get_or, get_or-take, get_or-drop, length-take-le, get_or_append_left, get_or_push}
+use Rattle.mw_sums.specs.Trees.{span, leaves, IsPower, Uses}
 use Rattle.mw_sums.proofs.Spans.{span-add, span-same, span-none, sum-span}
 use Rattle.mw_sums.proofs.Nodes.{node_span}
 
@@ -30,44 +29,16 @@ leaves-push t s room n v t-size s-size lt here others =
       | inr ne ↦ others i ne ∙ sym (get_or_append_left (leaves t room n) (v ∷ []) 0 i (omega arith) ∙ leaf-at t room n i (omega arith))
     ])
 
-pub leaves-set : (t s : List ℕ) (room n place v : ℕ) → length t ≡ 2 * room → length s ≡ 2 * room → n ≤ room → place < n → get_or s (room + place) 0 ≡ v → ((j : ℕ) → j ≢ place → get_or s (room + j) 0 ≡ get_or t (room + j) 0)
-    → leaves s room n ≡ set (leaves t room n) place v
-leaves-set t s room n place v t-size s-size le lt here others =
-    let a = length-leaves t room n t-size le in
-    let b = length-leaves s room n s-size le in
-    let c : length (set (leaves t room n) place v) ≡ length (leaves t room n) = simp length-set in
-    ext_get_or 0 (leaves s room n) (set (leaves t room n) place v) (omega arith) (λ i i-lt. leaf-at s room n i (omega arith) ∙ elim (cases_eq i place) [
-      | inl e ↦ ap (λ (k : ℕ). get_or s (room + k) 0) e ∙ here ∙ sym (ap (λ (k : ℕ). get_or (set (leaves t room n) place v) k 0) e ∙ get_or-set_same (leaves t room n) place v 0 (omega arith))
-      | inr ne ↦ others i ne ∙ sym (get_or-set_other (leaves t room n) place i v 0 ne ∙ leaf-at t room n i (omega arith))
-    ])
-
--- all but the last are left
-pub leaves-pop : (t s : List ℕ) (room n k : ℕ) → length t ≡ 2 * room → length s ≡ 2 * room → n ≤ room → k + 1 ≡ n → ((j : ℕ) → j ≢ k → get_or s (room + j) 0 ≡ get_or t (room + j) 0) → leaves s room k ≡ take k (leaves t room n)
-leaves-pop t s room n k t-size s-size le is others =
-    let a = length-leaves t room n t-size le in
-    let b = length-leaves s room k s-size (omega arith) in
-    let c : length (take k (leaves t room n)) ≡ k = length-take-le k (leaves t room n) (omega arith) in
-    ext_get_or 0 (leaves s room k) (take k (leaves t room n)) (omega arith) (λ i i-lt.
-    leaf-at s room k i (omega arith)
-    ∙ others i (λ e. absurd (omega arith))
-    ∙ sym (get_or-take k (leaves t room n) i 0 (omega arith) ∙ leaf-at t room n i (omega arith)))
-
 -- sums of leaves
 pub sum-first : (t : List ℕ) (room n k : ℕ) → length t ≡ 2 * room → n ≤ room → k ≤ n → sum (take k (leaves t room n)) ≡ span t room k
 sum-first t room n k size n-le k-le =
     sum-span (leaves t room n) k (let e = length-leaves t room n size n-le in omega arith)
-    ∙ span-same (leaves t room n) t 0 room k (λ j lt. ap (λ (i : ℕ). get_or (leaves t room n) i 0) (front j) ∙ leaf-at t room n j (omega arith))
-  where
-    front : (j : ℕ) → 0 + j ≡ j
-    front j = omega arith
+    ∙ span-same (leaves t room n) t 0 room k (λ j lt. ap (λ (i : ℕ). get_or (leaves t room n) i 0) (zero-add j) ∙ leaf-at t room n j (omega arith))
 
 pub sum-all : (t : List ℕ) (room n : ℕ) → length t ≡ 2 * room → n ≤ room → sum (leaves t room n) ≡ span t room n
 sum-all t room n size le =
     sum-span (drop room t) n (omega (arith, length-drop room t))
-    ∙ span-same (drop room t) t 0 room n (λ j lt. ap (λ (i : ℕ). get_or (drop room t) i 0) (front j) ∙ get_or-drop room t j 0)
-  where
-    front : (j : ℕ) → 0 + j ≡ j
-    front j = omega arith
+    ∙ span-same (drop room t) t 0 room n (λ j lt. ap (λ (i : ℕ). get_or (drop room t) i 0) (zero-add j) ∙ get_or-drop room t j 0)
 
 -- the root is the sum of all
 pub root_is : (t : List ℕ) (room n : ℕ) → Uses t room n → 1 ≤ room → get_or t 1 0 ≡ sum (leaves t room n)
@@ -97,41 +68,6 @@ leaf_used t room n place rest uses lt more = elim (cases_lt place n) [
   | inr past ↦ absurd (let none = uses.rest place past lt in omega arith)
 ]
 
--- no numbers
-pub uses_none : Uses [] 0 0
-uses_none = record {
-  tree = record { size = omega arith; few = omega arith; power = λ some. absurd (omega arith); sums = λ q some lt. absurd (omega arith); small = λ j lt. absurd (omega arith) };
-  within = omega arith;
-  rest = λ j from to. absurd (omega arith);
-}
-
--- a leaf more is used
-pub uses_more : (t s : List ℕ) (room n : ℕ) → Uses t room n → n < room → IsTree s room → ((j : ℕ) → j ≢ n → get_or s (room + j) 0 ≡ get_or t (room + j) 0) → Uses s room (n + 1)
-uses_more t s room n uses lt tree others = record {
-  tree = tree;
-  within = omega arith;
-  rest = λ j from to. others j (λ e. absurd (omega arith)) ∙ uses.rest j (omega arith) to;
-}
-
--- a leaf that is used is written
-pub uses_same : (t s : List ℕ) (room n place : ℕ) → Uses t room n → place < n → IsTree s room → ((j : ℕ) → j ≢ place → get_or s (room + j) 0 ≡ get_or t (room + j) 0) → Uses s room n
-uses_same t s room n place uses lt tree others = record {
-  tree = tree;
-  within = uses.within;
-  rest = λ j from to. others j (λ e. absurd (omega arith)) ∙ uses.rest j from to;
-}
-
--- the last leaf that is used is written with 0
-pub uses_less : (t s : List ℕ) (room n k : ℕ) → Uses t room n → k + 1 ≡ n → IsTree s room → get_or s (room + k) 0 ≡ 0 → ((j : ℕ) → j ≢ k → get_or s (room + j) 0 ≡ get_or t (room + j) 0) → Uses s room k
-uses_less t s room n k uses is tree here others = record {
-  tree = tree;
-  within = let le = uses.within in omega arith;
-  rest = λ j from to. elim (cases_eq j k) [
-    | inl e ↦ ap (λ (i : ℕ). get_or s (room + i) 0) e ∙ here
-    | inr ne ↦ others j ne ∙ uses.rest j (omega arith) to
-  ];
-}
-
 -- twice the room
 pub power_twice : (room more : ℕ) → (1 ≤ room → IsPower room) → more ≡ max (2 * room) 1 → IsPower more
 power_twice zero more power is = record { height = 0; is = omega arith }
@@ -150,16 +86,12 @@ room_some t zero n position uses lt =
 room_some t (suc m) n position uses lt = omega arith
 
 -- what a way down has found, in the words of the numbers
-pub found : (t s xs : List ℕ) (room n place rest position : ℕ) → Uses t room n → s ≡ t → leaves t room n ≡ xs → place < room → rest < get_or s (room + place) 0 → span s room place + rest ≡ position
+pub span-found : (t s xs : List ℕ) (room n place rest position : ℕ) → Uses t room n → s ≡ t → leaves t room n ≡ xs → place < room → rest < get_or s (room + place) 0 → span s room place + rest ≡ position
     → (sum (take place xs) + rest ≡ position) × (rest < get_or xs place 0)
-found t s xs room n place rest position uses s-is xs-is lt more before =
+span-found t s xs room n place rest position uses s-is xs-is lt more before =
     let here : rest < get_or t (room + place) 0 = subst (λ (l : List ℕ). rest < get_or l (room + place) 0) s-is more in
     let used = leaf_used t room n place rest uses lt here in
     let first : sum (take place xs) ≡ span t room place = ap (λ (l : List ℕ). sum (take place l)) (sym xs-is) ∙ sum-first t room n place uses.tree.size uses.within (omega arith) in
     let same : span s room place ≡ span t room place = ap (λ (l : List ℕ). span l room place) s-is in
     let at : get_or xs place 0 ≡ get_or t (room + place) 0 = ap (λ (l : List ℕ). get_or l place 0) (sym xs-is) ∙ leaf-at t room n place used in
     (omega arith, omega arith)
-
--- a slice of a vector that was written
-pub written_back : (n : ℕ) (new items : List ℕ) → length new ≡ n → take n (new ++ drop (length new) items) ≡ new
-written_back n new items is = ap (λ (k : ℕ). take k (new ++ drop (length new) items)) (sym is) ∙ take-append_seam new (drop (length new) items)

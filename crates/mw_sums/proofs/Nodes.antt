@@ -1,19 +1,10 @@
 -- The nodes of a tree of sums.
-use Rattle.std.proofs.Common.{◌≡◌, ◌≢◌, ℕ, zero, suc, ◌+◌, ◌-◌, ◌*◌, ◌/◌, ◌<◌, ◌≤◌, ◌^◌, List, length, ap, sym, ◌∙◌, arith, get_or, set, inl, inr}
+use Rattle.std.proofs.Common.{◌≡◌, ℕ, zero, suc, ◌+◌, ◌-◌, ◌*◌, ◌<◌, ◌≤◌, ◌^◌, List, ap, sym, ◌∙◌, arith, get_or, inl, inr}
 use Rattle.std.proofs.Math.Nat.{mul-le-mul_left, pow-suc, one-le-pow}
-use Rattle.std.proofs.lemmas.Bool.{cases_lt, cases_eq}
-use Rattle.std.proofs.lemmas.List.{get_or-set_same, get_or-set_other}
+use Rattle.std.proofs.lemmas.Bool.{cases_lt}
+use Rattle.std.proofs.lemmas.Nat.{mul-le}
 use Rattle.mw_sums.specs.Trees.{span, IsSum, IsTree}
 use Rattle.mw_sums.proofs.Spans.{span-add}
-
-mul_mono : (a b c d : ℕ) → a ≤ b → c ≤ d → a * c ≤ b * d
-mul_mono a b c d p q =
-    let e : c * a ≤ c * b = mul-le-mul_left c p in
-    let f : b * c ≤ b * d = mul-le-mul_left b q in
-    omega (arith, swap a c, swap b c)
-  where
-    swap : (x y : ℕ) → x * y ≡ y * x
-    swap x y = omega arith
 
 -- a node is no more than all leaves may come to
 node_times : (t : List ℕ) (room most fuel q : ℕ) → 2 * room ≤ q + fuel → 1 ≤ q → q < 2 * room → ((r : ℕ) → q ≤ r → r < room → IsSum t r) → ((j : ℕ) → room ≤ j → j < 2 * room → get_or t j 0 ≤ most)
@@ -28,7 +19,7 @@ node_times t room most (suc fuel) q enough some lt sums small =
           let right : b * (2 * q + 1) ≤ most * (2 * room) = node_times t room most fuel (2 * q + 1) (omega arith) (omega arith) (omega arith) (λ r from to. sums r (omega arith) to) small in
           let whole : get_or t q 0 * q ≡ (a + b) * q = ap (λ (k : ℕ). k * q) (sums q (omega arith) inner) in
           halves a b q (get_or t q 0 * q) (most * (2 * room)) left right whole
-      | inr leaf ↦ mul_mono (get_or t q 0) most q (2 * room) (small q leaf lt) (omega arith)
+      | inr leaf ↦ mul-le (get_or t q 0) q most (2 * room) (small q leaf lt) (omega arith)
     ]
   where
     halves : (a b q x lim : ℕ) → a * (2 * q) ≤ lim → b * (2 * q + 1) ≤ lim → x ≡ (a + b) * q → x ≤ lim
@@ -79,39 +70,6 @@ node_span t room (suc k) i sums some fits =
     twice : (p : ℕ) → p + p ≡ p * 2
     twice p = omega arith
 
--- one node is made right, and only the one above it may be wrong then
-pub mended : (t : List ℕ) (room node v : ℕ) → 1 ≤ node → node < room → length t ≡ 2 * room → v ≡ get_or t (2 * node) 0 + get_or t (2 * node + 1) 0 → ((q : ℕ) → 1 ≤ q → q < room → q ≢ node → IsSum t q)
-    → (q : ℕ) → 1 ≤ q → q < room → q ≢ node / 2 → IsSum (set t node v) q
-mended t room node v some lt size v-is sums q q-some q-lt not_above =
-    let left : get_or (set t node v) (2 * q) 0 ≡ get_or t (2 * q) 0 = get_or-set_other t node (2 * q) v 0 (λ e. not_above (even q node e)) in
-    let right : get_or (set t node v) (2 * q + 1) 0 ≡ get_or t (2 * q + 1) 0 = get_or-set_other t node (2 * q + 1) v 0 (λ e. not_above (odd q node e)) in
-    elim (cases_eq q node) [
-      | inl here ↦
-          let at : get_or (set t node v) q 0 ≡ v = ap (λ (k : ℕ). get_or (set t node v) k 0) here ∙ get_or-set_same t node v 0 (omega arith) in
-          let l : get_or t (2 * q) 0 ≡ get_or t (2 * node) 0 = ap (λ (k : ℕ). get_or t (2 * k) 0) here in
-          let r : get_or t (2 * q + 1) 0 ≡ get_or t (2 * node + 1) 0 = ap (λ (k : ℕ). get_or t (2 * k + 1) 0) here in
-          omega arith
-      | inr ne ↦
-          let at : get_or (set t node v) q 0 ≡ get_or t q 0 = get_or-set_other t node q v 0 ne in
-          let s = sums q q-some q-lt ne in
-          omega arith
-    ]
-  where
-    even : (q node : ℕ) → 2 * q ≡ node → q ≡ node / 2
-    even q node e = omega arith
-
-    odd : (q node : ℕ) → 2 * q + 1 ≡ node → q ≡ node / 2
-    odd q node e = omega arith
-
--- at the beginning of a way up from a leaf that is written
-pub written : (t : List ℕ) (room leaf v : ℕ) → room ≤ leaf → ((q : ℕ) → 1 ≤ q → q < room → IsSum t q) → (q : ℕ) → 1 ≤ q → q < room → q ≢ leaf / 2 → IsSum (set t leaf v) q
-written t room leaf v from sums q some lt not_above =
-    let left : get_or (set t leaf v) (2 * q) 0 ≡ get_or t (2 * q) 0 = get_or-set_other t leaf (2 * q) v 0 (λ e. not_above (omega arith)) in
-    let right : get_or (set t leaf v) (2 * q + 1) 0 ≡ get_or t (2 * q + 1) 0 = get_or-set_other t leaf (2 * q + 1) v 0 (λ e. not_above (omega arith)) in
-    let at : get_or (set t leaf v) q 0 ≡ get_or t q 0 = get_or-set_other t leaf q v 0 (λ e. absurd (omega arith)) in
-    let s = sums q some lt in
-    omega arith
-
 -- a node on the way down to the leaf of a position
 pub record Holds (t : List ℕ) (room node rest position : ℕ) : Type 0 where
   pub height : ℕ
@@ -121,26 +79,10 @@ pub record Holds (t : List ℕ) (room node rest position : ℕ) : Type 0 where
   pub here : rest < get_or t node 0
   pub before : span t room (node * 2 ^ height - room) + rest ≡ position
 
-pub at_root : (t : List ℕ) (room position : ℕ) → IsTree t room → 1 ≤ room → position < get_or t 1 0 → Holds t room 1 position position
-at_root t room position tree some lt =
-    let power = tree.power some in
-    let is = power.is in
-    record {
-      height = power.height;
-      some = omega arith;
-      low = omega arith;
-      high = omega arith;
-      here = lt;
-      before = ap (λ (n : ℕ). span t room n + position) (let e : 1 * 2 ^ power.height - room ≡ 0 = omega arith in e) ∙ front position;
-    }
-  where
-    front : (k : ℕ) → 0 + k ≡ k
-    front k = omega arith
-
 -- one step down
-down : (t : List ℕ) (room node rest position h : ℕ) → IsTree t room → node < room → 1 ≤ node → room ≤ node * 2 ^ suc h → node * 2 ^ suc h + 2 ^ suc h ≤ 2 * room → rest < get_or t node 0
+descend-down : (t : List ℕ) (room node rest position h : ℕ) → IsTree t room → node < room → 1 ≤ node → room ≤ node * 2 ^ suc h → node * 2 ^ suc h + 2 ^ suc h ≤ 2 * room → rest < get_or t node 0
     → span t room (node * 2 ^ suc h - room) + rest ≡ position → (rest < get_or t (2 * node) 0 → Holds t room (2 * node) rest position) × (get_or t (2 * node) 0 ≤ rest → Holds t room (2 * node + 1) (rest - get_or t (2 * node) 0) position)
-down t room node rest position h tree inner some low high here before =
+descend-down t room node rest position h tree inner some low high here before =
     let p = 2 ^ h in
     let p-is : 2 ^ suc h ≡ p * 2 = pow-suc 2 h in
     let p-some : 1 ≤ p = one-le-pow h 2 (omega arith) in
@@ -169,10 +111,6 @@ down t room node rest position h tree inner some low high here before =
     along : (n p room : ℕ) → room ≤ 2 * n * p → (2 * n + 1) * p - room ≡ 2 * n * p - room + p
     along n p room le = omega arith
 
-not_leaf : (t : List ℕ) (room node : ℕ) (h : ℕ) → node < room → room ≤ node * 2 ^ h → h ≢ 0
-not_leaf t room node zero inner low e = absurd (omega arith)
-not_leaf t room node (suc h) inner low e = absurd (omega arith)
-
 pub goes_down : (t : List ℕ) (room node rest position : ℕ) → IsTree t room → node < room → Holds t room node rest position
     → (rest < get_or t (2 * node) 0 → Holds t room (2 * node) rest position) × (get_or t (2 * node) 0 ≤ rest → Holds t room (2 * node + 1) (rest - get_or t (2 * node) 0) position)
 goes_down t room node rest position tree inner holds = go holds.height holds.low holds.high holds.before
@@ -180,7 +118,7 @@ goes_down t room node rest position tree inner holds = go holds.height holds.low
     go : (h : ℕ) → room ≤ node * 2 ^ h → node * 2 ^ h + 2 ^ h ≤ 2 * room → span t room (node * 2 ^ h - room) + rest ≡ position
         → (rest < get_or t (2 * node) 0 → Holds t room (2 * node) rest position) × (get_or t (2 * node) 0 ≤ rest → Holds t room (2 * node + 1) (rest - get_or t (2 * node) 0) position)
     go zero low high before = absurd (omega arith)
-    go (suc h) low high before = down t room node rest position h tree inner holds.some low high holds.here before
+    go (suc h) low high before = descend-down t room node rest position h tree inner holds.some low high holds.here before
 
 -- at a leaf
 pub at_leaf : (t : List ℕ) (room node rest position : ℕ) → room ≤ node → Holds t room node rest position → (node < 2 * room) × (span t room (node - room) + rest ≡ position)

@@ -1,13 +1,10 @@
 -- Sums of parts of a list.
-use Rattle.std.proofs.Common.{◌≡◌, ℕ, zero, suc, ◌+◌, ◌<◌, ◌≤◌, List, length, take, sum, refl, ap, sym, ◌∙◌, arith, get_or}
+use Rattle.std.proofs.Common.{◌≡◌, ℕ, zero, suc, ◌+◌, ◌<◌, ◌≤◌, List, length, take, sum, refl, ap, sym, ◌∙◌, arith, get_or, add-zero}
 use Rattle.std.proofs.lemmas.List.Sums.{sum_by_more}
 use Rattle.mw_sums.specs.Trees.{span}
 
 pub span-add : (t : List ℕ) (a m n : ℕ) → span t a (m + n) ≡ span t a m + span t (a + m) n
-span-add t a m zero = ap (span t a) (back m) ∙ sym (back (span t a m))
-  where
-    back : (a : ℕ) → a + 0 ≡ a
-    back a = omega arith
+span-add t a m zero = ap (span t a) (add-zero m) ∙ sym (add-zero (span t a m))
 span-add t a m (suc n) = ap (span t a) (along m n) ∙ (let e = span-add t a m n in let f : get_or t (a + (m + n)) 0 ≡ get_or t (a + m + n) 0 = ap (λ (k : ℕ). get_or t k 0) (grouped a m n) in omega arith)
   where
     along : (m n : ℕ) → m + suc n ≡ suc (m + n)

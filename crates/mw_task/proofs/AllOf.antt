@@ -6,16 +6,11 @@ use Rattle.std.specs.List.{AllByRecursion}
 abbrev pub AllIsRest : {A : Type 0} → (A → Type 0) → List A → ℕ → Type 0
 AllIsRest P xs i = AllByRecursion P xs ↔ AllByRecursion P (drop i xs)
 
-split : {A : Type 0} (P : A → Type 0) (xs : List A) (i : ℕ) (x : A) → i < length xs → x ≡ get_or xs i x → drop i xs ≡ x ∷ drop (i + 1) xs
-split P xs i x lt is = drop-cons xs i x lt ∙ ap (λ (t : _). t ∷ drop (suc i) xs) (sym is) ∙ ap (λ (n : ℕ). x ∷ drop n xs) (sym (add-one i))
-
-pub all_more : {A : Type 0} (P : A → Type 0) (xs : List A) (i : ℕ) (x : A) → i < length xs → x ≡ get_or xs i x → P x → AllIsRest P xs i → AllIsRest P xs (i + 1)
-all_more P xs i x lt is here before =
-    let e = split P xs i x lt is in
-    ((λ all. (subst (AllByRecursion P) e (before.0 all)).1), (λ rest. before.1 (subst (AllByRecursion P) (sym e) (here, rest))))
+drop-split : {A : Type 0} (P : A → Type 0) (xs : List A) (i : ℕ) (x : A) → i < length xs → x ≡ get_or xs i x → drop i xs ≡ x ∷ drop (i + 1) xs
+drop-split P xs i x lt is = drop-cons xs i x lt ∙ ap (λ (t : _). t ∷ drop (suc i) xs) (sym is) ∙ ap (λ (n : ℕ). x ∷ drop n xs) (sym (add-one i))
 
 pub all_fails : {A : Type 0} (P : A → Type 0) (xs : List A) (i : ℕ) (x : A) → i < length xs → x ≡ get_or xs i x → ¬ P x → AllIsRest P xs i → AllByRecursion P xs → ⊥
-all_fails P xs i x lt is not before all = not (subst (AllByRecursion P) (split P xs i x lt is) (before.0 all)).0
+all_fails P xs i x lt is not before all = not (subst (AllByRecursion P) (drop-split P xs i x lt is) (before.0 all)).0
 
 pub all_end : {A : Type 0} (P : A → Type 0) (xs : List A) (i : ℕ) → length xs ≤ i → AllIsRest P xs i → AllByRecursion P xs
 all_end P xs i past before = before.1 (empty P xs i past)
@@ -30,9 +25,3 @@ all_end P xs i past before = before.1 (empty P xs i past)
 pub all_map : {A B : Type 0} (P : B → Type 0) (f : A → B) (xs : List A) → AllByRecursion P (map f xs) ↔ AllByRecursion (λ x. P (f x)) xs
 all_map P f [] = ((λ h. h), (λ h. h))
 all_map P f (x ∷ xs) = ((λ h. (h.0, (all_map P f xs).0 h.1)), (λ h. (h.0, (all_map P f xs).1 h.1)))
-
--- of the element at a place
-pub all_at : {A : Type 0} (P : A → Type 0) (xs : List A) (k : ℕ) (d : A) → k < length xs → AllByRecursion P xs → P (get_or xs k d)
-all_at P [] k d lt all = absurd (omega arith)
-all_at P (x ∷ xs) zero d lt all = all.0
-all_at P (x ∷ xs) (suc k) d lt all = all_at P xs k d (omega arith) all.1

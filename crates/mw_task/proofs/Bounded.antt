@@ -2,15 +2,17 @@
 use Rattle.std.proofs.Common.{◌≡◌, ℕ, zero, suc, ◌+◌, ◌-◌, ◌*◌, ◌<◌, ◌≤◌, ℤ, pos, negsuc, ◌+ℤ◌, ◌-ℤ◌, Bool, true, false, cond, nat_lt, nat_le, ◌==◌, ◌&&◌, min, List, [], ◌∷◌, length, get_or, slice_get, Option, Some, None, unwrap_or, All, refl, sym, subst, arith}
 use Rattle.std.specs.List.{AllByRecursion, cons_option}
 use Rattle.std.proofs.lemmas.Grind.{get_or_default_zero}
-use Rattle.std.proofs.lemmas.Option.{slice_get_within, get_or_from_slice_get}
+use Rattle.std.proofs.lemmas.Option.{slice_get_within, get_or_from_slice_get, none-some}
 use Rattle.mw_model.specs.declared.places.Offset.{Offset}
 use Rattle.mw_model.specs.Places.{box_offsets}
-use Rattle.mw_model.specs.Flat.{least, greatest, in_rising_order, put_in_order}
+use Rattle.mw_model.specs.Flat.{greatest, in_rising_order}
 use Rattle.mw_model.specs.Rasters.{Raster, raster, cell_at, Sight, seen_under}
 use Rattle.mw_model.specs.Windows.{seen_at}
 use Rattle.mw_model.specs.Plans.{is_sum}
 use Rattle.mw_model.specs.PlanSteps.{PlanStep, Erode, Dilate, ErodeBox, DilateBox, Rank, Minus, AtLeast, Invert, Meet, Join, Blank, Mark, MarkLast, Equal, Sum, step_at, here, maxval_of_step}
 use Rattle.mw_model.specs.Tasks.{cells_in}
+use Rattle.mw_model.proofs.Covers.{least_at_most}
+use Rattle.mw_model.proofs.ImageLaws.{index_below, sorted_below}
 use Rattle.mw_tile.specs.Windows.{SourceWindow}
 use Rattle.mw_task.specs.WindowTasks.{WindowTask, window_at, KindsFit, IsBounded, tile_made}
 use Rattle.mw_pieces.proofs.TileCells.{length-cells_in, cells_in_all}
@@ -19,20 +21,14 @@ use Rattle.mw_pieces.proofs.TileCells.{length-cells_in, cells_in_all}
 abbrev pub IsBelow : ℕ → Sight ℕ → Type 0
 IsBelow top f = (column row : ℤ) (v : ℕ) → f column row ≡ Some v → v ≤ top
 
-none_some : (v : ℕ) → None ≡ Some v → ⊥
-none_some v e = cc
-
-some_same : (m n : ℕ) → Some m ≡ Some n → m ≡ n
-some_same m n e = cc
-
 -- the cells of a raster
 raster_below : (top : ℕ) (f : Raster ℕ) → All (λ n. n ≤ top) f.cells → IsBelow top (cell_at f)
-raster_below top f all (negsuc x) row v e = absurd (none_some v e)
-raster_below top f all (pos x) (negsuc y) v e = absurd (none_some v e)
+raster_below top f all (negsuc x) row v e = absurd (none-some v e)
+raster_below top f all (pos x) (negsuc y) v e = absurd (none-some v e)
 raster_below top f all (pos x) (pos y) v e = go (nat_lt x f.width && nat_lt y f.height) e
   where
     go : (b : Bool) → cond b (slice_get f.cells (y * f.width + x)) None ≡ Some v → v ≤ top
-    go false e = absurd (none_some v e)
+    go false e = absurd (none-some v e)
     go true e =
         let lt : y * f.width + x < length f.cells = slice_get_within f.cells (y * f.width + x) v e in
         subst (λ n. n ≤ top) (get_or_from_slice_get f.cells (y * f.width + x) v 0 e) (all (y * f.width + x) 0 lt)
@@ -53,7 +49,7 @@ here_below top f x y below = go (f (pos x) (pos y)) (λ v e. below (pos x) (pos 
     go None each = omega arith
     go (Some v) each = each v refl
 
-abbrev AllUpTo : ℕ → List ℕ → Type 0
+abbrev pub AllUpTo : ℕ → List ℕ → Type 0
 AllUpTo top ns = AllByRecursion (λ n. n ≤ top) ns
 
 seen_below : (top : ℕ) (f : Sight ℕ) (offsets : List Offset) (x y : ℕ) → IsBelow top f → AllUpTo top (seen_under f offsets x y)
@@ -64,34 +60,13 @@ seen_below top f (b ∷ bs) x y below = go (f (pos x +ℤ b.dx) (pos y +ℤ b.dy
     go None each rest = rest
     go (Some v) each rest = (each v refl, rest)
 
-least_below : (top : ℕ) (ns : List ℕ) → least top ns ≤ top
-least_below top [] = omega arith
-least_below top (n ∷ ns) = omega (arith, least_below top ns)
-
-greatest_below : (top : ℕ) (ns : List ℕ) → AllUpTo top ns → greatest ns ≤ top
+pub greatest_below : (top : ℕ) (ns : List ℕ) → AllUpTo top ns → greatest ns ≤ top
 greatest_below top [] all = omega arith
 greatest_below top (n ∷ ns) all = let h = all.0 in omega (arith, greatest_below top ns all.1)
 
-put_below : (top n : ℕ) (ns : List ℕ) → n ≤ top → AllUpTo top ns → AllUpTo top (put_in_order n ns)
-put_below top n [] h all = (h, tt)
-put_below top n (m ∷ ms) h all = go (nat_le n m) (put_below top n ms h all.1)
-  where
-    go : (b : Bool) → AllUpTo top (put_in_order n ms) → AllUpTo top (cond b (n ∷ m ∷ ms) (m ∷ put_in_order n ms))
-    go true rest = (h, all)
-    go false rest = (all.0, rest)
-
-order_below : (top : ℕ) (ns : List ℕ) → AllUpTo top ns → AllUpTo top (in_rising_order ns)
-order_below top [] all = tt
-order_below top (n ∷ ns) all = put_below top n (in_rising_order ns) all.0 (order_below top ns all.1)
-
-at_below : (top : ℕ) (ns : List ℕ) (k : ℕ) → AllUpTo top ns → get_or ns k 0 ≤ top
-at_below top [] k all = omega arith
-at_below top (n ∷ ns) zero all = all.0
-at_below top (n ∷ ns) (suc k) all = at_below top ns k all.1
-
-either : (b : Bool) (top m n : ℕ) → m ≤ top → n ≤ top → cond b m n ≤ top
-either true top m n p q = p
-either false top m n p q = q
+cond-below : (b : Bool) (top m n : ℕ) → m ≤ top → n ≤ top → cond b m n ≤ top
+cond-below true top m n p q = p
+cond-below false top m n p q = q
 
 -- the value of a step at a place
 value_below : (s : PlanStep) (ws : List SourceWindow) (x y : ℕ) → KindsFit s ws → AllByRecursion IsBounded ws → is_sum s ≡ false
@@ -106,15 +81,15 @@ value_below s ws x y kinds all not = go s kinds not
 
     go : (s : PlanStep) → KindsFit s ws → is_sum s ≡ false
         → step_at s (window_at ws 0).maxval (seen_at (window_at ws 0).view) (seen_at (window_at ws 1).view) (seen_at (window_at ws 2).view) x y ≤ maxval_of_step s (window_at ws 0).maxval
-    go (Erode e) kinds not = least_below (window_at ws 0).maxval (seen_under (seen_at (window_at ws 0).view) e x y)
+    go (Erode e) kinds not = least_at_most (window_at ws 0).maxval (seen_under (seen_at (window_at ws 0).view) e x y)
     go (Dilate e) kinds not = greatest_below (window_at ws 0).maxval (seen_under (seen_at (window_at ws 0).view) e x y) (seen_below (window_at ws 0).maxval (seen_at (window_at ws 0).view) e x y first)
-    go (ErodeBox b) kinds not = least_below (window_at ws 0).maxval (seen_under (seen_at (window_at ws 0).view) (box_offsets b) x y)
+    go (ErodeBox b) kinds not = least_at_most (window_at ws 0).maxval (seen_under (seen_at (window_at ws 0).view) (box_offsets b) x y)
     go (DilateBox b) kinds not = greatest_below (window_at ws 0).maxval (seen_under (seen_at (window_at ws 0).view) (box_offsets b) x y) (seen_below (window_at ws 0).maxval (seen_at (window_at ws 0).view) (box_offsets b) x y first)
     go (Rank e k) kinds not =
         let found = seen_under (seen_at (window_at ws 0).view) e x y in
-        at_below (window_at ws 0).maxval (in_rising_order found) (min k (length found) - 1) (order_below (window_at ws 0).maxval found (seen_below (window_at ws 0).maxval (seen_at (window_at ws 0).view) e x y first))
+        index_below (window_at ws 0).maxval (in_rising_order found) (min k (length found) - 1) (sorted_below (window_at ws 0).maxval found (seen_below (window_at ws 0).maxval (seen_at (window_at ws 0).view) e x y first))
     go Minus kinds not = let h = here_below (window_at ws 0).maxval (seen_at (window_at ws 0).view) x y first in omega arith
-    go (AtLeast k) kinds not = either (nat_le k (here (seen_at (window_at ws 0).view) x y)) 1 1 0 (omega arith) (omega arith)
+    go (AtLeast k) kinds not = cond-below (nat_le k (here (seen_at (window_at ws 0).view) x y)) 1 1 0 (omega arith) (omega arith)
     go Invert kinds not = omega arith
     go Meet kinds not = let h = here_below (window_at ws 0).maxval (seen_at (window_at ws 0).view) x y first in omega arith
     go Join kinds not =
@@ -125,11 +100,11 @@ value_below s ws x y kinds all not = go s kinds not
     go (Blank m) kinds not = omega arith
     go (Mark v) kinds not =
         let h = here_below (window_at ws 0).maxval (seen_at (window_at ws 0).view) x y first in
-        either (here (seen_at (window_at ws 1).view) x y == 1 && here (seen_at (window_at ws 2).view) x y == 0) (window_at ws 0).maxval v (here (seen_at (window_at ws 0).view) x y) kinds.0 h
+        cond-below (here (seen_at (window_at ws 1).view) x y == 1 && here (seen_at (window_at ws 2).view) x y == 0) (window_at ws 0).maxval v (here (seen_at (window_at ws 0).view) x y) kinds.0 h
     go (MarkLast v) kinds not =
         let h = here_below (window_at ws 0).maxval (seen_at (window_at ws 0).view) x y first in
-        either (here (seen_at (window_at ws 1).view) x y == 1) (window_at ws 0).maxval v (here (seen_at (window_at ws 0).view) x y) kinds.0 h
-    go (Equal v) kinds not = either (here (seen_at (window_at ws 0).view) x y == v) 1 1 0 (omega arith) (omega arith)
+        cond-below (here (seen_at (window_at ws 1).view) x y == 1) (window_at ws 0).maxval v (here (seen_at (window_at ws 0).view) x y) kinds.0 h
+    go (Equal v) kinds not = cond-below (here (seen_at (window_at ws 0).view) x y == v) 1 1 0 (omega arith) (omega arith)
     go Sum kinds not = absurd (true_false not)
       where
         true_false : true ≡ false → ⊥

@@ -1,27 +1,19 @@
 -- The offsets of a box.
-use Rattle.std.proofs.Common.{◌≡◌, ℕ, zero, suc, ◌+◌, ◌<◌, ◌≤◌, ℤ, pos, negsuc, ◌+ℤ◌, ◌-ℤ◌, ◌≤ℤ◌, neg_ℤ, List, [], ◌∷◌, ◌++◌, map, refl, ap, subst, arith, ◌∙◌}
+use Rattle.std.proofs.Common.{◌≡◌, ℕ, zero, suc, ◌+◌, ◌<◌, ◌≤◌, ℤ, pos, negsuc, ◌+ℤ◌, ◌-ℤ◌, ◌≤ℤ◌, neg_ℤ, List, [], ◌∷◌, map, refl, ap, subst, arith, ◌∙◌, zero-add}
 use Rattle.std.specs.List.{range_with_len, flat_map, AllByRecursion}
 use Rattle.std.proofs.lemmas.Int.{ints}
+use Rattle.mw_facts.proofs.Alls.{all-append, all-append_left, all-append_right, all-weaker}
+use Rattle.mw_facts.proofs.Numbers.{add_one-add}
 use Rattle.mw_model.specs.declared.places.Offset.{Offset}
 use Rattle.mw_model.specs.declared.places.OffsetBox.{OffsetBox}
 use Rattle.mw_model.specs.Places.{span, nonnegative, box_offsets}
 use Rattle.mw_model.specs.declared.places.Reach.{Reach}
 use Rattle.mw_model.specs.Flat.{greatest}
 use Rattle.mw_model.specs.Elements.{reach_of}
+use Rattle.mw_model.proofs.Covers.{offset}
 use Rattle.mw_element.specs.Figures.{InBox}
 use Rattle.mw_task.proofs.AllOf.{all_map}
-
-all_append : {A : Type 0} (P : A → Type 0) (xs ys : List A) → AllByRecursion P xs → AllByRecursion P ys → AllByRecursion P (xs ++ ys)
-all_append P [] ys p q = q
-all_append P (x ∷ xs) ys p q = (p.0, all_append P xs ys p.1 q)
-
-all_left : {A : Type 0} (P : A → Type 0) (xs ys : List A) → AllByRecursion P (xs ++ ys) → AllByRecursion P xs
-all_left P [] ys p = tt
-all_left P (x ∷ xs) ys p = (p.0, all_left P xs ys p.1)
-
-all_right : {A : Type 0} (P : A → Type 0) (xs ys : List A) → AllByRecursion P (xs ++ ys) → AllByRecursion P ys
-all_right P [] ys p = p
-all_right P (x ∷ xs) ys p = all_right P xs ys p.1
+use Rattle.mw_task.proofs.Bounded.{greatest_below}
 
 all_range : (P : ℕ → Type 0) (a n : ℕ) → ((k : ℕ) → a ≤ k → k < a + n → P k) → AllByRecursion P (range_with_len a n)
 all_range P a zero each = tt
@@ -33,21 +25,15 @@ range_all P a (suc n) all zero lt = subst P (none a) all.0
   where
     none : (a : ℕ) → a ≡ a + zero
     none a = omega arith
-range_all P a (suc n) all (suc k) lt = subst P (next a k) (range_all P (a + 1) n all.1 k (omega arith))
-  where
-    next : (a k : ℕ) → a + 1 + k ≡ a + suc k
-    next a k = omega arith
+range_all P a (suc n) all (suc k) lt = subst P (add_one-add a k) (range_all P (a + 1) n all.1 k (omega arith))
 
 all_flat : {A : Type 0} (P : A → Type 0) (row : ℕ → List A) (xs : List ℕ) → AllByRecursion (λ j. AllByRecursion P (row j)) xs → AllByRecursion P (flat_map row xs)
 all_flat P row [] all = tt
-all_flat P row (x ∷ xs) all = all_append P (row x) (flat_map row xs) all.0 (all_flat P row xs all.1)
+all_flat P row (x ∷ xs) all = all-append P (row x) (flat_map row xs) all.0 (all_flat P row xs all.1)
 
 flat_all : {A : Type 0} (P : A → Type 0) (row : ℕ → List A) (xs : List ℕ) → AllByRecursion P (flat_map row xs) → AllByRecursion (λ j. AllByRecursion P (row j)) xs
 flat_all P row [] all = tt
-flat_all P row (x ∷ xs) all = (all_left P (row x) (flat_map row xs) all, flat_all P row xs (all_right P (row x) (flat_map row xs) all))
-
-abbrev offset : ℤ → ℤ → Offset
-offset x y = record { dx = x; dy = y }
+flat_all P row (x ∷ xs) all = (all-append_left P (row x) (flat_map row xs) all, flat_all P row xs (all-append_right P (row x) (flat_map row xs) all))
 
 -- the places of a side
 in_span : (a b : ℤ) (i : ℕ) → i < span a b → (a +ℤ pos i) ≤ℤ b
@@ -101,36 +87,24 @@ box_at P box all b inside =
     let by_rows = flat_all P (λ j. map (λ i. offset (box.x0 +ℤ pos i) (box.y0 +ℤ pos j)) (range_with_len 0 columns)) (range_with_len 0 rows) all in
     let row = range_all (λ j. AllByRecursion P (map (λ i. offset (box.x0 +ℤ pos i) (box.y0 +ℤ pos j)) (range_with_len 0 columns))) 0 rows by_rows down.steps down.small in
     let one = range_all (λ i. P (offset (box.x0 +ℤ pos i) (box.y0 +ℤ pos (0 + down.steps)))) 0 columns ((all_map P (λ i. offset (box.x0 +ℤ pos i) (box.y0 +ℤ pos (0 + down.steps))) (range_with_len 0 columns)).0 row) across.steps across.small in
-    let x-is : box.x0 +ℤ pos (0 + across.steps) ≡ b.dx = ap (λ (n : ℕ). box.x0 +ℤ pos n) (front across.steps) ∙ across.is in
-    let y-is : box.y0 +ℤ pos (0 + down.steps) ≡ b.dy = ap (λ (n : ℕ). box.y0 +ℤ pos n) (front down.steps) ∙ down.is in
+    let x-is : box.x0 +ℤ pos (0 + across.steps) ≡ b.dx = ap (λ (n : ℕ). box.x0 +ℤ pos n) (zero-add across.steps) ∙ across.is in
+    let y-is : box.y0 +ℤ pos (0 + down.steps) ≡ b.dy = ap (λ (n : ℕ). box.y0 +ℤ pos n) (zero-add down.steps) ∙ down.is in
     subst P (ap (λ (z : ℤ). offset z (box.y0 +ℤ pos (0 + down.steps))) x-is ∙ ap (λ (z : ℤ). offset b.dx z) y-is) one
-  where
-    front : (n : ℕ) → 0 + n ≡ n
-    front n = omega arith
-
--- the greatest measure of an offset of a box is that of one that none is above
-greatest_up_to : (m : ℕ) (ns : List ℕ) → AllByRecursion (λ n. n ≤ m) ns → greatest ns ≤ m
-greatest_up_to m [] all = omega arith
-greatest_up_to m (n ∷ ns) all = let h = all.0 in omega (arith, greatest_up_to m ns all.1)
-
-weaker : (m n : ℕ) (ns : List ℕ) → m ≤ n → AllByRecursion (λ k. k ≤ m) ns → AllByRecursion (λ k. k ≤ n) ns
-weaker m n [] le all = tt
-weaker m n (k ∷ ks) le all = ((let h = all.0 in omega arith), weaker m n ks le all.1)
 
 all_up_to_greatest : (ns : List ℕ) → AllByRecursion (λ n. n ≤ greatest ns) ns
 all_up_to_greatest [] = tt
-all_up_to_greatest (n ∷ ns) = (omega arith, weaker (greatest ns) (greatest (n ∷ ns)) ns (omega arith) (all_up_to_greatest ns))
+all_up_to_greatest (n ∷ ns) = (omega arith, all-weaker (λ k. k ≤ greatest ns) (λ k. k ≤ greatest (n ∷ ns)) ns (λ k le. omega (arith, le)) (all_up_to_greatest ns))
 
 greatest_none : (measure : Offset → ℕ) (box : OffsetBox) → ((b : Offset) → InBox box b → ⊥) → greatest (map measure (box_offsets box)) ≡ 0
 greatest_none measure box none =
     let le : greatest (map measure (box_offsets box)) ≤ 0 =
-    greatest_up_to 0 (map measure (box_offsets box)) ((all_map (λ n. n ≤ 0) measure (box_offsets box)).1 (box_all (λ b. measure b ≤ 0) box (λ b inside. absurd (none b inside)))) in
+    greatest_below 0 (map measure (box_offsets box)) ((all_map (λ n. n ≤ 0) measure (box_offsets box)).1 (box_all (λ b. measure b ≤ 0) box (λ b inside. absurd (none b inside)))) in
     omega arith
 
 greatest_at : (measure : Offset → ℕ) (box : OffsetBox) (b : Offset) → InBox box b → ((c : Offset) → InBox box c → measure c ≤ measure b) → greatest (map measure (box_offsets box)) ≡ measure b
 greatest_at measure box b inside each =
     let ns = map measure (box_offsets box) in
-    let le : greatest ns ≤ measure b = greatest_up_to (measure b) ns ((all_map (λ n. n ≤ measure b) measure (box_offsets box)).1 (box_all (λ c. measure c ≤ measure b) box each)) in
+    let le : greatest ns ≤ measure b = greatest_below (measure b) ns ((all_map (λ n. n ≤ measure b) measure (box_offsets box)).1 (box_all (λ c. measure c ≤ measure b) box each)) in
     let ge : measure b ≤ greatest ns = box_at (λ c. measure c ≤ greatest ns) box ((all_map (λ n. n ≤ greatest ns) measure (box_offsets box)).0 (all_up_to_greatest ns)) b inside in
     omega arith
 

@@ -1,5 +1,5 @@
 -- Windows that were cut from whole planes show them wherever the step looks.
-use Rattle.std.proofs.Common.{◌≡◌, ℕ, zero, suc, ◌+◌, ◌-◌, ◌*◌, ◌<◌, ◌≤◌, ◌==◌, ◌&&◌, ℤ, pos, negsuc, ◌+ℤ◌, ◌-ℤ◌, cond, nat_le, min, max, List, [], ◌∷◌, length, map, slice_get, slice_index_or, Option, Some, None, unwrap_or, refl, ap, sym, subst, arith, ◌∙◌, inl, inr}
+use Rattle.std.proofs.Common.{◌≡◌, ℕ, zero, suc, ◌+◌, ◌-◌, ◌*◌, ◌<◌, ◌≤◌, ◌==◌, ◌&&◌, ℤ, pos, negsuc, ◌+ℤ◌, ◌-ℤ◌, cond, nat_le, min, max, List, [], ◌∷◌, length, map, slice_get, slice_index_or, Option, Some, None, unwrap_or, refl, ap, sym, subst, arith, ◌∙◌, inl, inr, zero-add}
 use Rattle.std.specs.Prelude.{sum}
 use Rattle.std.specs.List.{AllByRecursion, cons_option}
 use Rattle.std.proofs.lemmas.Bool.{cases_lt, lt-ltb, le-ltb}
@@ -24,7 +24,7 @@ use Rattle.mw_task.specs.WindowTasks.{sight_of_window, made_of_windows, FitsStep
 use Rattle.mw_model.proofs.ImagePlaces.{drawn_same, sample_bounded}
 use Rattle.mw_element.proofs.Lists.{reach_within}
 use Rattle.mw_grid.proofs.Reaching.{reaches_all, stays_within}
-use Rattle.mw_tile.proofs.Shown.{agrees}
+use Rattle.mw_tile.proofs.Shown.{seen_at-agrees}
 use Rattle.mw_task.specs.Sources.{HasFrame, AreCut}
 use Rattle.std.proofs.lemmas.Grind.{get_or_default_zero}
 use Rattle.std.proofs.lemmas.List.{length-map}
@@ -39,10 +39,7 @@ get_cells r value i j across down =
     slice_get-get_or (cells_in r value) (j * r.width + i) 0 (omega (arith, length-cells_in r value, mul-add-lt j r.width i r.height down across)) ∙ ap (λ (t : ℕ). Some t) (cells_in_at r value i j across down)
 
 get_whole : (f : Picture) (x y : ℕ) → x < f.width → y < f.height → slice_get (whole f).cells (y * f.width + x) ≡ Some (sample f x y)
-get_whole f x y across down = get_cells (rect 0 0 f.width f.height) (sample f) x y across down ∙ ap (λ (t : ℕ). Some (sample f t (0 + y))) (front x) ∙ ap (λ (t : ℕ). Some (sample f x t)) (front y)
-  where
-    front : (n : ℕ) → 0 + n ≡ n
-    front n = omega arith
+get_whole f x y across down = get_cells (rect 0 0 f.width f.height) (sample f) x y across down ∙ ap (λ (t : ℕ). Some (sample f t (0 + y))) (zero-add x) ∙ ap (λ (t : ℕ). Some (sample f x t)) (zero-add y)
 
 -- the written out samples show what the picture has
 sight_whole : (f : Picture) (column row : ℤ) → cell_at (whole f) column row ≡ sample_at f column row
@@ -78,7 +75,7 @@ window_agrees : (place : Rect) (f : Picture) → IsWithin place f.width f.height
     → Agree (seen_at (window_of place f).view) (sample_at f) offsets x y
 window_agrees place f within x y [] reaches = tt
 window_agrees place f within x y (b ∷ bs) reaches =
-    (agrees (window_of place f).view (whole f) (window_is_cut place f within) (pos x +ℤ b.dx) (pos y +ℤ b.dy) reaches.0 ∙ sight_whole f (pos x +ℤ b.dx) (pos y +ℤ b.dy), window_agrees place f within x y bs reaches.1)
+    (seen_at-agrees (window_of place f).view (whole f) (window_is_cut place f within) (pos x +ℤ b.dx) (pos y +ℤ b.dy) reaches.0 ∙ sight_whole f (pos x +ℤ b.dx) (pos y +ℤ b.dy), window_agrees place f within x y bs reaches.1)
 
 agree_seen : (f g : Sight ℕ) (offsets : List Offset) (x y : ℕ) → Agree f g offsets x y → seen_under f offsets x y ≡ seen_under g offsets x y
 agree_seen f g [] x y all = refl
@@ -150,7 +147,7 @@ source_agrees s m n tile (f ∷ fs) zero i j frames within across down =
     window_agrees place f here_f.0 (tile.x + i) (tile.y + j) (looks_at s) here_f.1
 source_agrees s m n tile (f ∷ fs) (suc k) i j frames within across down = source_agrees s m n tile fs k i j frames.1 within across down
 
-top_agrees : (place : Rect) (sources : List Picture) (k : ℕ) → (slice_index_or (map (window_of place) sources) k no_window).maxval ≡ (slice_index_or sources k no_picture).maxval
+pub top_agrees : (place : Rect) (sources : List Picture) (k : ℕ) → (slice_index_or (map (window_of place) sources) k no_window).maxval ≡ (slice_index_or sources k no_picture).maxval
 top_agrees place [] k = refl
 top_agrees place (f ∷ fs) zero = refl
 top_agrees place (f ∷ fs) (suc k) = top_agrees place fs k
@@ -215,7 +212,7 @@ fits_cut s sources m n tile ws cut narrow low wide high count kinds = record {
     go (f ∷ fs) frames = each_read s (f ∷ fs) m n f.width f.height tile frames cut.within narrow low frames.0.width frames.0.height
 
 -- the samples of a window are those of its image
-window_bounded_cut : (f : Picture) (place : Rect) → IsPicture f → IsWithin place f.width f.height → IsBounded (window_of place f)
+pub window_bounded_cut : (f : Picture) (place : Rect) → IsPicture f → IsWithin place f.width f.height → IsBounded (window_of place f)
 window_bounded_cut f place picture within = λ k d lt.
     let cells = cells_in place (sample f) in
     let a = within.across in

@@ -1,4 +1,6 @@
-pub mod AllOf
+-- what other crates may cite
 pub mod Bounded
 pub mod Boxes
 pub mod Cut
+-- the crate's own
+mod AllOf

@@ -1,2 +1,3 @@
+-- what other crates may cite
 pub mod Rows
 pub mod Shown

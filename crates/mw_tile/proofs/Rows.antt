@@ -1,12 +1,12 @@
 -- Rows that are copied one after another.
-use Rattle.std.proofs.Common.{◌≡◌, ℕ, ◌+◌, ◌-◌, ◌*◌, ◌<◌, ◌≤◌, List, ◌++◌, length, take, drop, Option, slice_get, slice_range, refl, ap, sym, subst, arith, ◌∙◌, inl, inr, length-take, length-drop, length-append}
+use Rattle.std.proofs.Common.{◌≡◌, ℕ, ◌+◌, ◌-◌, ◌*◌, ◌<◌, ◌≤◌, List, ◌++◌, length, take, drop, Option, slice_get, slice_range, refl, ap, sym, subst, arith, ◌∙◌, inl, inr, length-take, length-drop, length-append, add_assoc}
 use Rattle.std.proofs.lemmas.Bool.{cases_lt}
 use Rattle.std.proofs.Math.Nat.{mul-le-mul_left}
 use Rattle.std.proofs.lemmas.Nat.{mul-add-lt}
+use Rattle.mw_facts.proofs.Elements.{slice_get-append_left, slice_get-append-add, slice_get-drop, slice_get-take, slice_get-put_below, slice_get-put_within, slice_get-put_above}
 use Rattle.mw_model.specs.declared.places.Rect.{Rect}
 use Rattle.mw_model.specs.Places.{Holds, IsWithin}
 use Rattle.mw_model.specs.Rasters.{Raster, raster}
-use Rattle.mw_pixel.proofs.Lists.{get_left, get_right, get_drop, get_take, get_put_below, get_put_in, get_put_above}
 use Rattle.mw_pixel.specs.Planes.{put_at}
 use Rattle.mw_tile.specs.Cuts.{Pastes}
 
@@ -22,23 +22,20 @@ has_more value w y xs row len row-is before =
     record {
       size = omega (arith, length-append xs row);
       same = λ i j across down. elim (cases_lt j y) [
-        | inl earlier ↦ get_left xs row (j * w + i) (omega (arith, mul-add-lt j w i y earlier across)) ∙ before.same i j across earlier
+        | inl earlier ↦ slice_get-append_left xs row (j * w + i) (omega (arith, mul-add-lt j w i y earlier across)) ∙ before.same i j across earlier
         | inr this ↦
             let j-is : j ≡ y = omega arith in
-            rw j-is (get_right xs row (y * w) i size ∙ row-is i across)
+            rw j-is (slice_get-append-add xs row (y * w) i size ∙ row-is i across)
       ];
     }
 
 -- an element of a part of a row
 get_part : {A : Type 0} (xs : List A) (a n i : ℕ) → i < n → slice_get (slice_range xs a (a + n)) i ≡ slice_get xs (a + i)
-get_part xs a n i lt = get_take (a + n - a) (drop a xs) i (omega arith) ∙ get_drop a xs i
-
-regroup : (a b c : ℕ) → a + b + c ≡ a + (b + c)
-regroup a b c = omega arith
+get_part xs a n i lt = slice_get-take (a + n - a) (drop a xs) i (omega arith) ∙ slice_get-drop a xs i
 
 -- an element of a row that was read from column x on
 pub get_from_column : {A : Type 0} (xs row : List A) (a x n i : ℕ) → row ≡ slice_range xs (a + x) (a + x + n) → i < n → slice_get row i ≡ slice_get xs (a + (x + i))
-get_from_column xs row a x n i row-is lt = ap (λ (t : List _). slice_get t i) row-is ∙ get_part xs (a + x) n i lt ∙ ap (slice_get xs) (regroup a x i)
+get_from_column xs row a x n i row-is lt = ap (λ (t : List _). slice_get t i) row-is ∙ get_part xs (a + x) n i lt ∙ ap (slice_get xs) (add_assoc a x i)
 
 -- an element of a whole row
 pub get_row : {A : Type 0} (xs row : List A) (y v w i : ℕ) → v ≡ w → row ≡ slice_range xs (y * v) (y * v + v) → i < w → slice_get row i ≡ slice_get xs (y * w + i)
@@ -71,24 +68,24 @@ pasted_more w h y old now part row r whole across down lt len row-is before =
     record {
       size = omega (arith, length-append (take a now) (row ++ drop (length row) (drop a now)), length-append row (drop (length row) (drop a now)), length-take a now, length-drop (length row) (drop a now), length-drop a now);
       inside = λ i j i-lt j-lt. elim (cases_lt j y) [
-        | inl earlier ↦ get_put_below a row now (drop (length row) (drop a now)) ((r.y + j) * w + (r.x + i)) (omega arith) (row_below (r.y + j) (r.y + y) w (r.x + i) r.x (omega arith) (omega arith)) ∙ before.inside i j i-lt earlier
+        | inl earlier ↦ slice_get-put_below a row now (drop (length row) (drop a now)) ((r.y + j) * w + (r.x + i)) (omega arith) (row_below (r.y + j) (r.y + y) w (r.x + i) r.x (omega arith) (omega arith)) ∙ before.inside i j i-lt earlier
         | inr this ↦
             let j-is : j ≡ y = omega arith in
-            rw j-is (ap (slice_get (put_at a row now)) (group ((r.y + y) * w) r.x i) ∙ get_put_in a row now (drop (length row) (drop a now)) i (omega arith) (omega arith) ∙ row-is i i-lt)
+            rw j-is (ap (slice_get (put_at a row now)) (group ((r.y + y) * w) r.x i) ∙ slice_get-put_within a row now (drop (length row) (drop a now)) i (omega arith) (omega arith) ∙ row-is i i-lt)
       ];
       outside = λ p q p-lt none.
           let rest : slice_get now (q * w + p) ≡ slice_get old (q * w + p) = before.outside p q p-lt (λ holds. none (wider p q holds)) in
           elim (cases_lt q (r.y + y)) [
-            | inl up ↦ get_put_below a row now (drop (length row) (drop a now)) (q * w + p) (omega arith) (row_below q (r.y + y) w p r.x up p-lt) ∙ rest
+            | inl up ↦ slice_get-put_below a row now (drop (length row) (drop a now)) (q * w + p) (omega arith) (row_below q (r.y + y) w p r.x up p-lt) ∙ rest
             | inr from ↦ elim (cases_lt (r.y + y) q) [
-              | inl under ↦ get_put_above a (length row) row now (q * w + p) (omega arith) refl (omega (arith, row_above q (r.y + y) w p r.x r.width under across)) ∙ rest
+              | inl under ↦ slice_get-put_above a (length row) row now (q * w + p) (omega arith) refl (omega (arith, row_above q (r.y + y) w p r.x r.width under across)) ∙ rest
               | inr to ↦
                   let q-is : r.y + y ≡ q = omega arith in
                   elim (cases_lt p r.x) [
-                    | inl left ↦ get_put_below a row now (drop (length row) (drop a now)) (q * w + p) (omega arith) (omega (arith, ap (λ (t : ℕ). t * w) q-is)) ∙ rest
+                    | inl left ↦ slice_get-put_below a row now (drop (length row) (drop a now)) (q * w + p) (omega arith) (omega (arith, ap (λ (t : ℕ). t * w) q-is)) ∙ rest
                     | inr past ↦ elim (cases_lt p (r.x + r.width)) [
                       | inl here ↦ absurd (none (record { left = past; right = here; top = omega arith; bottom = omega arith }))
-                      | inr right ↦ get_put_above a (length row) row now (q * w + p) (omega arith) refl (omega (arith, ap (λ (t : ℕ). t * w) q-is)) ∙ rest
+                      | inr right ↦ slice_get-put_above a (length row) row now (q * w + p) (omega arith) refl (omega (arith, ap (λ (t : ℕ). t * w) q-is)) ∙ rest
                     ]
                   ]
             ]

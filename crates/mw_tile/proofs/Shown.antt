@@ -22,39 +22,29 @@ use Rattle.mw_pixel.proofs.Cells.{cell_at-inside, cell_at-right, cell_at-below, 
 abbrev own : {A : Type 0} → View A → Raster A
 own w = raster w.place.width w.place.height w.cells
 
-ahead : (x a : ℕ) → a ≤ x → pos x -ℤ pos a ≡ pos (x - a)
-ahead x a le = omega (arith, ints)
+column-ahead : (x a : ℕ) → a ≤ x → pos x -ℤ pos a ≡ pos (x - a)
+column-ahead x a le = omega (arith, ints)
 
-before : (x a : ℕ) → x < a → pos x -ℤ pos a ≡ negsuc (a - x - 1)
-before x a lt = omega (arith, ints)
-
-further : (n a : ℕ) → negsuc n -ℤ pos a ≡ negsuc (n + a)
-further n a = omega (arith, ints)
+negsuc-further : (n a : ℕ) → negsuc n -ℤ pos a ≡ negsuc (n + a)
+negsuc-further n a = omega (arith, ints)
 
 -- a place that the view has
 pub seen_in : {A : Type 0} (w : View A) (x y : ℕ) → Holds w.place x y → seen_at w (pos x) (pos y) ≡ slice_get w.cells ((y - w.place.y) * w.place.width + (x - w.place.x))
 seen_in w x y holds =
-    ap (λ (t : ℤ). cell_at (own w) t (pos y -ℤ pos w.place.y)) (ahead x w.place.x holds.left)
-    ∙ ap (λ (t : ℤ). cell_at (own w) (pos (x - w.place.x)) t) (ahead y w.place.y holds.top)
+    ap (λ (t : ℤ). cell_at (own w) t (pos y -ℤ pos w.place.y)) (column-ahead x w.place.x holds.left)
+    ∙ ap (λ (t : ℤ). cell_at (own w) (pos (x - w.place.x)) t) (column-ahead y w.place.y holds.top)
     ∙ cell_at-inside (own w) (x - w.place.x) (y - w.place.y) (let a = holds.left in let b = holds.right in omega arith) (let a = holds.top in let b = holds.bottom in omega arith)
-
--- a place that it lacks
-seen_left : {A : Type 0} (w : View A) (x : ℕ) (z : ℤ) → x < w.place.x → seen_at w (pos x) z ≡ None
-seen_left w x z lt = ap (λ (t : ℤ). cell_at (own w) t (z -ℤ pos w.place.y)) (before x w.place.x lt)
 
 seen_right : {A : Type 0} (w : View A) (x y : ℕ) → w.place.x + w.place.width ≤ x → seen_at w (pos x) (pos y) ≡ None
 seen_right w x y le =
-    ap (λ (t : ℤ). cell_at (own w) t (pos y -ℤ pos w.place.y)) (ahead x w.place.x (omega arith)) ∙ go (pos y -ℤ pos w.place.y)
+    ap (λ (t : ℤ). cell_at (own w) t (pos y -ℤ pos w.place.y)) (column-ahead x w.place.x (omega arith)) ∙ go (pos y -ℤ pos w.place.y)
   where
     go : (z : ℤ) → cell_at (own w) (pos (x - w.place.x)) z ≡ None
     go (pos j) = cell_at-right (own w) (x - w.place.x) j (omega arith)
     go (negsuc j) = refl
 
-seen_over : {A : Type 0} (w : View A) (z : ℤ) (y : ℕ) → y < w.place.y → seen_at w z (pos y) ≡ None
-seen_over w z y lt = ap (λ (t : ℤ). cell_at (own w) (z -ℤ pos w.place.x) t) (before y w.place.y lt) ∙ cell_at-above (own w) (z -ℤ pos w.place.x) (w.place.y - y - 1)
-
 seen_beneath : {A : Type 0} (w : View A) (x y : ℕ) → w.place.y + w.place.height ≤ y → seen_at w (pos x) (pos y) ≡ None
-seen_beneath w x y le = ap (λ (t : ℤ). cell_at (own w) (pos x -ℤ pos w.place.x) t) (ahead y w.place.y (omega arith)) ∙ go (pos x -ℤ pos w.place.x)
+seen_beneath w x y le = ap (λ (t : ℤ). cell_at (own w) (pos x -ℤ pos w.place.x) t) (column-ahead y w.place.y (omega arith)) ∙ go (pos x -ℤ pos w.place.x)
   where
     go : (z : ℤ) → cell_at (own w) z (pos (y - w.place.y)) ≡ None
     go (negsuc i) = refl
@@ -64,13 +54,13 @@ seen_beneath w x y le = ap (λ (t : ℤ). cell_at (own w) (pos x -ℤ pos w.plac
     ]
 
 seen_none_left : {A : Type 0} (w : View A) (n : ℕ) (z : ℤ) → seen_at w (negsuc n) z ≡ None
-seen_none_left w n z = ap (λ (t : ℤ). cell_at (own w) t (z -ℤ pos w.place.y)) (further n w.place.x)
+seen_none_left w n z = ap (λ (t : ℤ). cell_at (own w) t (z -ℤ pos w.place.y)) (negsuc-further n w.place.x)
 
 seen_none_above : {A : Type 0} (w : View A) (z : ℤ) (n : ℕ) → seen_at w z (negsuc n) ≡ None
-seen_none_above w z n = ap (λ (t : ℤ). cell_at (own w) (z -ℤ pos w.place.x) t) (further n w.place.y) ∙ cell_at-above (own w) (z -ℤ pos w.place.x) (n + w.place.y)
+seen_none_above w z n = ap (λ (t : ℤ). cell_at (own w) (z -ℤ pos w.place.x) t) (negsuc-further n w.place.y) ∙ cell_at-above (own w) (z -ℤ pos w.place.x) (n + w.place.y)
 
-in_both : {A : Type 0} (w : View A) (f : Raster A) (x y : ℕ) → IsCut w f → x < f.width → y < f.height → Holds w.place x y → seen_at w (pos x) (pos y) ≡ cell_at f (pos x) (pos y)
-in_both w f x y cut p q holds =
+seen_at-in_both : {A : Type 0} (w : View A) (f : Raster A) (x y : ℕ) → IsCut w f → x < f.width → y < f.height → Holds w.place x y → seen_at w (pos x) (pos y) ≡ cell_at f (pos x) (pos y)
+seen_at-in_both w f x y cut p q holds =
     let left = holds.left in
     let right = holds.right in
     let top = holds.top in
@@ -85,15 +75,15 @@ in_both w f x y cut p q holds =
     back x a le = omega arith
 
 -- where a view of a frame has each place that the frame has there, it shows what the frame shows
-pub agrees : {A : Type 0} (w : View A) (f : Raster A) → IsCut w f → (column row : ℤ) → Reaches w.place f.width f.height column row → seen_at w column row ≡ cell_at f column row
-agrees w f cut (negsuc n) row reaches = seen_none_left w n row
-agrees w f cut (pos x) (negsuc n) reaches = seen_none_above w (pos x) n
-agrees w f cut (pos x) (pos y) reaches =
+pub seen_at-agrees : {A : Type 0} (w : View A) (f : Raster A) → IsCut w f → (column row : ℤ) → Reaches w.place f.width f.height column row → seen_at w column row ≡ cell_at f column row
+seen_at-agrees w f cut (negsuc n) row reaches = seen_none_left w n row
+seen_at-agrees w f cut (pos x) (negsuc n) reaches = seen_none_above w (pos x) n
+seen_at-agrees w f cut (pos x) (pos y) reaches =
     elim (cases_lt x f.width) [
       | inr past ↦ seen_right w x y (let a = cut.within.across in omega arith) ∙ sym (cell_at-right f x y past)
       | inl p ↦ elim (cases_lt y f.height) [
         | inr past ↦ seen_beneath w x y (let a = cut.within.down in omega arith) ∙ sym (cell_at-below f x y p past)
-        | inl q ↦ in_both w f x y cut p q (reaches x y refl refl p q)
+        | inl q ↦ seen_at-in_both w f x y cut p q (reaches x y refl refl p q)
       ]
     ]
 
@@ -101,7 +91,7 @@ pub seen_under-agrees : {A : Type 0} (w : View A) (f : Raster A) → IsCut w f �
     → AllByRecursion (λ (b : Offset). Reaches w.place f.width f.height (pos column +ℤ b.dx) (pos row +ℤ b.dy)) element → seen_under (seen_at w) element column row ≡ seen_under (cell_at f) element column row
 seen_under-agrees w f cut column row [] reaches = refl
 seen_under-agrees w f cut column row (b ∷ bs) reaches =
-    ap (λ (t : Option _). cons_option t (seen_under (seen_at w) bs column row)) (agrees w f cut (pos column +ℤ b.dx) (pos row +ℤ b.dy) reaches.0)
+    ap (λ (t : Option _). cons_option t (seen_under (seen_at w) bs column row)) (seen_at-agrees w f cut (pos column +ℤ b.dx) (pos row +ℤ b.dy) reaches.0)
     ∙ ap (cons_option (cell_at f (pos column +ℤ b.dx) (pos row +ℤ b.dy))) (seen_under-agrees w f cut column row bs reaches.1)
 
 -- at each place of the tile the window shows under the element what the frame has there

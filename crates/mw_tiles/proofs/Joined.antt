@@ -1,8 +1,8 @@
 -- Rows that are put together from parts, and rectangles from rows.
-use Rattle.std.proofs.Common.{◌≡◌, ℕ, ◌+◌, ◌-◌, ◌*◌, ◌<◌, ◌≤◌, List, [], ◌++◌, length, Option, slice_get, sym, ap, subst, arith, ◌∙◌, inl, inr, length-append}
+use Rattle.std.proofs.Common.{◌≡◌, ℕ, ◌+◌, ◌-◌, ◌*◌, ◌<◌, ◌≤◌, List, ◌++◌, length, Option, slice_get, sym, ap, subst, arith, ◌∙◌, inl, inr, length-append}
 use Rattle.std.proofs.lemmas.Bool.{cases_lt}
 use Rattle.std.proofs.lemmas.Nat.{mul-add-lt}
-use Rattle.std.proofs.lemmas.List.{append_assoc, append-nil}
+use Rattle.std.proofs.lemmas.List.{append_assoc}
 use Rattle.mw_facts.proofs.Elements.{slice_get-append_left, slice_get-append-add}
 use Rattle.mw_model.specs.declared.places.Rect.{Rect}
 use Rattle.mw_model.specs.declared.shapes.Kind.{Kind}
@@ -27,9 +27,6 @@ run_more f x y n rest row size first then k lt =
 
     again : (x n k : ℕ) → n ≤ k → x + n + (k - n) ≡ x + k
     again x n k le = omega arith
-
-pub appends_none : {A : Type 0} (g : Tiling) (tiles : List (Option (List A))) (x y n : ℕ) (old : List A) → n ≡ 0 → HasRowMore g tiles x y n old old
-appends_none g tiles x y n old e = record { row = []; is = sym (append-nil old); size = sym e; shows = λ f shows k lt. absurd (omega arith) }
 
 pub appends_more : {A : Type 0} (g : Tiling) (tiles : List (Option (List A))) (x y at n m : ℕ) (old now part out : List A) → out ≡ now ++ part → x + n ≡ at → m ≡ n + length part → HasRowMore g tiles x y n old now
     → ((f : Raster A) → ShowsTiles g tiles f → HasRun f at y part) → HasRowMore g tiles x y m old out

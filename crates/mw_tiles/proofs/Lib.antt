@@ -1,9 +1,9 @@
 -- what other crates may cite
 pub mod Made
-pub mod Filled
-pub mod Numbers
 pub mod TileTotals
 -- the crate's own
+mod Filled
+mod Numbers
 mod Sides
 mod Joined
 mod Compared

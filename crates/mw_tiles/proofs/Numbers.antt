@@ -1,6 +1,6 @@
 -- The tile that has a place, and what stands there.
 use Rattle.std.proofs.Common.{◌≡◌, ℕ, ◌+◌, ◌-◌, ◌*◌, ◌/◌, ◌%◌, ◌<◌, ◌≤◌, List, length, Option, Some, None, slice_get, slice_range, get_or, sym, ap, subst, arith, ◌∙◌}
-use Rattle.std.proofs.lemmas.Nat.{div-mul-add, div-add-mod'}
+use Rattle.std.proofs.lemmas.Nat.{div-mul-add, mod-mul-add}
 use Rattle.std.proofs.lemmas.List.{get_or_default}
 use Rattle.mw_model.specs.declared.places.Rect.{Rect}
 use Rattle.mw_model.specs.Places.{Holds}
@@ -14,9 +14,6 @@ use Rattle.mw_tile.proofs.Rows.{get_from_column}
 use Rattle.mw_tiles.specs.Tiles.{cells_of, ShowsTiles, StandsIn, HasRun, HasSides}
 use Rattle.mw_tiles.proofs.Sides.{cells_at}
 
-column_of_number : (r columns c : ℕ) → c < columns → (r * columns + c) % columns ≡ c
-column_of_number r columns c lt = omega (arith, div-mul-add r columns c lt, div-add-mod' (r * columns + c) columns, ap (λ (t : ℕ). t * columns) (div-mul-add r columns c lt))
-
 pub number_within : (g : Tiling) (x y n side columns : ℕ) → HasTiles g → x < g.width → y < g.height → n ≡ y / side * columns + x / side → side ≡ g.side → columns ≡ columns_of g → n < tile_count g
 number_within g x y n side columns has across down n-is side-is columns-is =
     let some : 0 < g.side = has.some in
@@ -28,7 +25,7 @@ number_holds g x y n side columns has across down n-is side-is columns-is =
     let c = x / g.side in
     let r = y / g.side in
     let c-lt : c < columns_of g = piece_counts g.width g.side x some across in
-    let at-c : (r * columns_of g + c) % columns_of g ≡ c = column_of_number r (columns_of g) c c-lt in
+    let at-c : (r * columns_of g + c) % columns_of g ≡ c = mod-mul-add r (columns_of g) c c-lt in
     let at-r : (r * columns_of g + c) / columns_of g ≡ r = div-mul-add r (columns_of g) c c-lt in
     let h = piece_has g.width g.side x some across in
     let v = piece_has g.height g.side y some down in

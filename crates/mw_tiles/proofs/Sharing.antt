@@ -1,7 +1,7 @@
 -- Rectangles as the tiles that they meet.
-use Rattle.std.proofs.Common.{◌≡◌, ◌↔◌, ℕ, ◌+◌, ◌-◌, ◌*◌, ◌/◌, ◌<◌, ◌≤◌, Bool, true, false, ◌||◌, IsTrue, List, [], ◌∷◌, ◌++◌, length, get_or, slice_get, Option, Some, None, IsSome, refl, sym, ap, subst, arith, rules, ◌∙◌, inl, inr}
-use Rattle.std.specs.List.{AllByRecursion, list_any}
-use Rattle.std.proofs.lemmas.Bool.{cases_lt}
+use Rattle.std.proofs.Common.{◌≡◌, ◌↔◌, ℕ, ◌+◌, ◌-◌, ◌*◌, ◌/◌, ◌<◌, ◌≤◌, true, false, List, [], ◌∷◌, ◌++◌, get_or, slice_get, Option, Some, None, IsSome, refl, sym, ap, subst, arith, ◌∙◌, inl, inr}
+use Rattle.std.specs.List.{AllByRecursion}
+use Rattle.std.proofs.lemmas.Bool.{cases_lt, or_left, or_right}
 use Rattle.std.proofs.lemmas.List.{get_or_default}
 use Rattle.std.proofs.lemmas.List.Folds.{list_any-append}
 use Rattle.std.proofs.lemmas.Nat.{le-div}
@@ -18,26 +18,19 @@ use Rattle.mw_grid.proofs.Tiles.{HasTiles, tile_within}
 use Rattle.mw_pixel.specs.Images.{raster_of}
 use Rattle.mw_tile.specs.Windows.{IsCut, SourceWindow, window_of}
 use Rattle.mw_tile.specs.Cuts.{view_of}
-use Rattle.mw_pieces.specs.Patches.{Patch, Joint, IsJoint, IsInside, IsPatchOf, ShowsFrame, ShowsIn, Covers, cell_of, frame_value, has_place, held_in, joint, overlap_of, patch, value_in}
+use Rattle.mw_pieces.specs.Patches.{Patch, Joint, IsJoint, IsInside, IsPatchOf, ShowsFrame, ShowsIn, Covers, cell_of, frame_value, has_place, held_in, joint, overlap_of, patch}
 use Rattle.mw_pieces.specs.Shared.{source_joint}
 use Rattle.mw_pieces.proofs.Patches.{agree, has_yes, values_of_shows}
 use Rattle.mw_pieces.proofs.Windows.{window_is, window_matches}
 use Rattle.mw_tiles.specs.Held.{tiled}
 use Rattle.mw_tiles.specs.Filled.{number_at}
 use Rattle.mw_tiles.specs.Shares.{AddsTiles, AreTilesMet, IsTileOf}
-use Rattle.mw_tiles.specs.Tiles.{HasAll, HasAlong, HasSides, HasSizes, IsPlaneOf, ShowsTiles, StandsIn, Tiled, cells_of, tile_cells}
+use Rattle.mw_tiles.specs.Tiles.{HasAll, HasAlong, HasSides, HasSizes, IsPlaneOf, ShowsTiles, Tiled, cells_of, tile_cells}
 use Rattle.mw_tiles.proofs.Filled.{number_only}
 use Rattle.mw_tiles.proofs.Numbers.{number_holds, number_within}
-use Rattle.mw_tiles.proofs.Sides.{cells_at, none_there, sizes_of_sides}
+use Rattle.mw_tiles.proofs.Sides.{none_there, sizes_of_sides}
 
 -- ---- tiles that are added
-
-or_left : (b c : Bool) → b ≡ true → (b || c) ≡ true
-or_left b c e = rw e refl
-
-or_right : (b c : Bool) → c ≡ true → (b || c) ≡ true
-or_right true c e = refl
-or_right false c e = e
 
 held_old : {A : Type 0} (ps qs : List (Patch A)) (x y : ℕ) → held_in ps x y ≡ true → held_in (ps ++ qs) x y ≡ true
 held_old ps qs x y held = list_any-append (λ (p : Patch _). has_place p.place x y) ps qs ∙ or_left (held_in ps x y) (held_in qs x y) held
@@ -233,10 +226,6 @@ pub shared_matches : (k : Kind) (m : ℕ) (g : Tiling) (tiles : List (Option (Ra
 shared_matches k m g tiles p j r s P view within joint is place-is tells f plane =
     let of : IsPlaneOf (tiled k m g tiles) f = subst (λ (q : Tiled). IsPlaneOf q f) (sym view) plane in
     window_matches k m j r f f s P joint refl of.size (within_image p r f within plane) of.kind of.maxval is place-is (tells (raster_of f) of.shows)
-
--- a window of another place, kind or maxval is no window of such an image
-pub other_place : (p : Tiled) (s : SourceWindow) (r q : Rect) → q ≡ s.view.place → (q ≡ r → ⊥) → (f : Picture) → IsPlaneOf p f → IsTrue false ↔ (s ≡ window_of r f)
-other_place p s r q q-is other f plane = ((λ no. absurd cc), (λ e. absurd (other (q-is ∙ ap (λ (t : SourceWindow). t.view.place) e))))
 
 pub missing_at : {A : Type 0} (g : Tiling) (tiles : List (Option (Raster A))) (i : ℕ) (o : Option (Raster A)) → HasSides g tiles → o ≡ get_or tiles i o → o ≡ None → i < tile_count g → IsSome (tile_cells (cells_of tiles) i) → ⊥
 missing_at g tiles i o has read is lt = none_there tiles i (get_or_default tiles i None o (let count = has.count in omega arith) ∙ sym read ∙ is)

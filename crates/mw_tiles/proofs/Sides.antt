@@ -8,8 +8,9 @@ use Rattle.mw_grid.specs.Grids.{Tiling, tile_count, tile_at}
 use Rattle.mw_model.specs.declared.shapes.Kind.{Kind}
 use Rattle.mw_model.specs.declared.shapes.Kind.TheVariants as kind
 use Rattle.mw_model.specs.Pictures.{FitsKind}
-use Rattle.std.proofs.lemmas.List.{length-replicate, length-set}
+use Rattle.std.proofs.lemmas.List.{length-replicate, length-set, map-set, take_at}
 use Rattle.std.proofs.lemmas.Option.{same_Some}
+use Rattle.mw_facts.proofs.Elements.{get_or-replicate_same}
 use Rattle.mw_tiles.specs.Tiles.{Tiled, nothing_placed, cells_of, tile_cells, cells_in_raster, StandsIn, HasSides, HasSizes, AreBounded, IsSound}
 use Rattle.mw_grid.proofs.Tiles.{HasTiles}
 use Rattle.mw_tiles.specs.Held.{tiled, tiled_held, image_of_tile, IsHeld}
@@ -32,19 +33,9 @@ none_there {A} tiles i none some =
     let e : tile_cells (cells_of tiles) i ≡ None = get_or-map (option_map cells_in_raster) tiles i None ∙ ap (option_map cells_in_raster) none in
     let clash : false ≡ true = subst (λ (o : Option (List A)). IsSome o) e some in cc
 
-pub map_set : {A B : Type 0} (f : A → B) (xs : List A) (i : ℕ) (v : A) → map f (set xs i v) ≡ set (map f xs) i (f v)
-map_set f [] i v = refl
-map_set f (x ∷ xs) zero v = refl
-map_set f (x ∷ xs) (suc i) v = ap (λ (t : List _). f x ∷ t) (map_set f xs i v)
-
 pub map_replicate : {A B : Type 0} (f : A → B) (n : ℕ) (v : A) → map f (replicate n v) ≡ replicate n (f v)
 map_replicate f zero v = refl
 map_replicate f (suc n) v = ap (λ (t : List _). f v ∷ t) (map_replicate f n v)
-
-none_in_replicate : {A : Type 0} (n i : ℕ) (v : Option A) → v ≡ None → get_or (replicate n v) i None ≡ None
-none_in_replicate zero i v e = refl
-none_in_replicate (suc n) zero v e = e
-none_in_replicate (suc n) (suc i) v e = none_in_replicate n i v e
 
 -- an element of a list in which one was written over
 one_of : {A : Type 0} (P : ℕ → A → Type 0) (xs : List A) (i j : ℕ) (v d : A) → P i v → P j (get_or xs j d) → P j (get_or (set xs i v) j d)
@@ -67,7 +58,7 @@ pub sides_none : {A : Type 0} (g : Tiling) (tiles : List (Option (Raster A))) (n
 sides_none {A} g tiles n tiles-is n-is = record {
   count = ap length tiles-is ∙ length-replicate n _ ∙ n-is;
   sides = λ i f e.
-      let none : get_or tiles i None ≡ None = ap (λ (t : List (Option (Raster A))). get_or t i None) tiles-is ∙ none_in_replicate n i None refl in
+      let none : get_or tiles i None ≡ None = ap (λ (t : List (Option (Raster A))). get_or t i None) tiles-is ∙ get_or-replicate_same {A = Option (Raster A)} n i None in
       let clash : None ≡ Some f = sym none ∙ e in absurd cc;
 }
 
@@ -75,7 +66,7 @@ sides_none {A} g tiles n tiles-is n-is = record {
 bounded_none : (level : ℕ) (tiles : List (Option (Raster ℕ))) (n : ℕ) → tiles ≡ replicate n None → AreBounded level (cells_of tiles)
 bounded_none level tiles n tiles-is i cells found =
     let none : tile_cells (cells_of tiles) i ≡ None =
-    get_or-map (option_map cells_in_raster) tiles i None ∙ ap (λ (t : List (Option (Raster ℕ))). option_map cells_in_raster (get_or t i None)) tiles-is ∙ ap (option_map cells_in_raster) (none_in_replicate n i None refl)
+    get_or-map (option_map cells_in_raster) tiles i None ∙ ap (λ (t : List (Option (Raster ℕ))). option_map cells_in_raster (get_or t i None)) tiles-is ∙ ap (option_map cells_in_raster) (get_or-replicate_same {A = Option (Raster ℕ)} n i None)
     in
     let clash : None ≡ Some cells = sym none ∙ found in absurd cc
 
@@ -121,16 +112,11 @@ sound_held g (Bits tiles) has held = record { wide = has.wide; high = has.high; 
 sound_held g (Grey8 tiles m) has held = record { wide = has.wide; high = has.high; some = has.some; sizes = sizes_of_sides g tiles.items held.0; bounded = held.1 }
 sound_held g (Grey16 tiles m) has held = record { wide = has.wide; high = has.high; some = has.some; sizes = sizes_of_sides g tiles.items held.0; bounded = held.1 }
 
--- all of a list that is read back over the old one
-written_all : {A : Type 0} (n k : ℕ) (new old : List A) → n ≡ length new → take n (new ++ drop k old) ≡ new
-written_all n k [] old e = ap (λ (m : ℕ). take m ([] ++ drop k old)) e
-written_all n k (x ∷ xs) old e = ap (λ (m : ℕ). take m (x ∷ (xs ++ drop k old))) e ∙ ap (λ (t : List _). x ∷ t) (written_all (length xs) k xs old refl)
-
 -- a list of tiles after one was written, or dropped
 pub held_write : (level n i : ℕ) (g : Tiling) (old new : List (Option (Raster ℕ))) (o : Option (List ℕ)) → n ≡ length old → HasSides g old → HasSides g new → cells_of new ≡ set (cells_of old) i o → IfSome o (λ cells. All (λ n. n ≤ level) cells)
     → AreBounded level (cells_of old) → HasSides g (take n (new ++ drop (length new) old)) × AreBounded level (cells_of (take n (new ++ drop (length new) old)))
 held_write level n i g old new o n-is had has new-is fits before =
-    let all : take n (new ++ drop (length new) old) ≡ new = written_all n (length new) new old (n-is ∙ had.count ∙ sym has.count) in
+    let all : take n (new ++ drop (length new) old) ≡ new = take_at new (drop (length new) old) n (has.count ∙ sym had.count ∙ sym n-is) in
     (subst (HasSides g) (sym all) has, subst (λ (t : List (Option (Raster ℕ))). AreBounded level (cells_of t)) (sym all) (bounded_set level (cells_of old) (cells_of new) i o new-is fits before))
 
 -- the samples of a tile that may be placed
@@ -145,4 +131,4 @@ summed_none k maxval n g numbers numbers-is n-is =
 pub summed_set : (k : Kind) (maxval i n : ℕ) (g : Tiling) (numbers : List (Option ℕ)) (p : Tiled) → summed k maxval g numbers ≡ p → summed k maxval g (set numbers i (Some n)) ≡ record p { tiles = set p.tiles i (Some (n ∷ [])) }
 summed_set k maxval i n g numbers p view =
     subst (λ (q : Tiled). summed k maxval g (set numbers i (Some n)) ≡ record q { tiles = set q.tiles i (Some (n ∷ [])) }) view
-    (ap (λ (t : List (Option (List ℕ))). with_cells k maxval g t) (map_set (option_map alone) numbers i (Some n)))
+    (ap (λ (t : List (Option (List ℕ))). with_cells k maxval g t) (map-set (option_map alone) numbers i (Some n)))

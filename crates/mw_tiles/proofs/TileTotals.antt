@@ -1,8 +1,8 @@
 -- The numbers of tiles add up to that of the frame.
-use Rattle.std.proofs.Common.{◌≡◌, ◌⊎◌, ℕ, zero, suc, ◌+◌, ◌-◌, ◌*◌, ◌/◌, ◌%◌, ◌<◌, ◌≤◌, min, List, [], ◌∷◌, map, length, Option, Some, None, option_map, unwrap_or, get_or, slice_index, sum, sum_by, IsSome, true, false, refl, sym, ap, subst, arith, ◌∙◌, inl, inr}
+use Rattle.std.proofs.Common.{◌≡◌, ◌⊎◌, ℕ, zero, suc, ◌+◌, ◌-◌, ◌*◌, ◌/◌, ◌%◌, ◌<◌, ◌≤◌, min, List, [], ◌∷◌, map, length, Option, Some, None, unwrap_or, get_or, slice_index, sum, IsSome, true, false, refl, sym, ap, subst, arith, ◌∙◌, inl, inr}
 use Rattle.std.specs.List.{range_with_len, flat_map}
 use Rattle.std.proofs.lemmas.Bool.{cases_lt}
-use Rattle.std.proofs.lemmas.Nat.{div-mul-add}
+use Rattle.std.proofs.lemmas.Nat.{div-mul-add, mod-mul-add}
 use Rattle.std.proofs.Math.Nat.{lt-div-mul-add}
 use Rattle.std.proofs.lemmas.List.{ext_get_or, length-map}
 use Rattle.std.proofs.lemmas.List.FromFn.{length-map-range_with_len, get_or-map-range_with_len}
@@ -16,17 +16,12 @@ use Rattle.mw_model.specs.PlanSteps.{Sum, here}
 use Rattle.mw_model.specs.Tasks.{cells_in}
 use Rattle.mw_model.proofs.Covers.{sample_at_in}
 use Rattle.mw_grid.specs.Grids.{Tiling, columns_of, rows_of, tile_count, tile_at}
-use Rattle.mw_grid.proofs.Tiles.{HasTiles, column_of_number}
+use Rattle.mw_grid.proofs.Tiles.{HasTiles}
+use Rattle.mw_grid.proofs.Counts.{total, total-add, total-next}
 use Rattle.mw_pieces.proofs.TileCells.{cells_in_is}
 use Rattle.mw_tiles.specs.Tiles.{Tiled, tile_cells, AreMade, AllPlaced, first_cell, number_in}
-use Rattle.mw_tiles.specs.Sums.{alone, number_or_zero}
 
 -- ---- sums over numbers that follow one another
-
--- the sum of n values from a on
-abbrev total : (ℕ → ℕ) → ℕ → ℕ → ℕ
-total F a zero = 0
-total F a (suc n) = F a + total F (a + 1) n
 
 total_same : (F G : ℕ → ℕ) (a b n : ℕ) → ((k : ℕ) → k < n → F (a + k) ≡ G (b + k)) → total F a n ≡ total G b n
 total_same F G a b zero each = refl
@@ -67,15 +62,6 @@ total_split F a (suc m) n =
     group : (a b c : ℕ) → a + (b + c) ≡ a + b + c
     group a b c = omega arith
 
-total_last : (F : ℕ → ℕ) (a n : ℕ) → total F a (suc n) ≡ total F a n + F (a + n)
-total_last F a n = ap (λ (t : ℕ). total F a t) (more n) ∙ total_split F a n 1 ∙ ap (λ (t : ℕ). total F a n + t) (alone_is (F (a + n)))
-  where
-    more : (n : ℕ) → suc n ≡ n + 1
-    more n = omega arith
-
-    alone_is : (t : ℕ) → t + 0 ≡ t
-    alone_is t = omega arith
-
 total_zero : (a n : ℕ) → total (λ _. 0) a n ≡ 0
 total_zero a zero = refl
 total_zero a (suc n) = none (total (λ _. 0) (a + 1) n) (total_zero (a + 1) n)
@@ -83,17 +69,10 @@ total_zero a (suc n) = none (total (λ _. 0) (a + 1) n) (total_zero (a + 1) n)
     none : (t : ℕ) → t ≡ 0 → 0 + t ≡ 0
     none t e = omega arith
 
-total_both : (F G : ℕ → ℕ) (a n : ℕ) → total (λ k. F k + G k) a n ≡ total F a n + total G a n
-total_both F G a zero = refl
-total_both F G a (suc n) = shuffle (F a) (G a) (total (λ k. F k + G k) (a + 1) n) (total F (a + 1) n) (total G (a + 1) n) (total_both F G (a + 1) n)
-  where
-    shuffle : (a b c d e : ℕ) → c ≡ d + e → a + b + c ≡ a + d + (b + e)
-    shuffle a b c d e same = omega arith
-
 -- two sums, in either order
 total_turned : (F : ℕ → ℕ → ℕ) (a m b n : ℕ) → total (λ i. total (λ j. F i j) b n) a m ≡ total (λ j. total (λ i. F i j) a m) b n
 total_turned F a zero b n = sym (total_zero b n)
-total_turned F a (suc m) b n = ap (λ (t : ℕ). total (λ j. F a j) b n + t) (total_turned F (a + 1) m b n) ∙ sym (total_both (λ j. F a j) (λ j. total (λ i. F i j) (a + 1) m) b n)
+total_turned F a (suc m) b n = ap (λ (t : ℕ). total (λ j. F a j) b n + t) (total_turned F (a + 1) m b n) ∙ sym (total-add (λ j. F a j) (λ j. total (λ i. F i j) (a + 1) m) b n)
 
 -- the piece behind c whole ones
 last_piece : (F : ℕ → ℕ) (p side n : ℕ) → total F 0 (min p n) + total F p (min side (n - p)) ≡ total F 0 (min (p + side) n)
@@ -132,7 +111,7 @@ pieces F side n zero = ap (λ (t : ℕ). total F 0 t) (none side n)
     none : (side n : ℕ) → 0 ≡ min (zero * side) n
     none side n = omega arith
 pieces F side n (suc c) =
-    total_last (λ c. total F (c * side) (min side (n - c * side))) 0 c
+    total-next (λ c. total F (c * side) (min side (n - c * side))) 0 c
     ∙ ap (λ (t : ℕ). total (λ c. total F (c * side) (min side (n - c * side))) 0 c + total F (t * side) (min side (n - t * side))) (front c)
     ∙ ap (λ (t : ℕ). t + total F (c * side) (min side (n - c * side))) (pieces F side n c)
     ∙ last_piece F (c * side) side n
@@ -169,7 +148,7 @@ total_by_rows F columns (suc r) =
     ∙ ap (λ (t : ℕ). t + total (λ i. F (i % columns) (i / columns)) (0 + r * columns) columns) (total_by_rows F columns r)
     ∙ ap (λ (t : ℕ). total (λ r. total (λ c. F c r) 0 columns) 0 r + t) (total_same (λ i. F (i % columns) (i / columns)) (λ c. F c r) (0 + r * columns) 0 columns (λ c lt. here c lt))
     ∙ ap (λ (t : ℕ). total (λ r. total (λ c. F c r) 0 columns) 0 r + total (λ c. F c t) 0 columns) (front r)
-    ∙ sym (total_last (λ r. total (λ c. F c r) 0 columns) 0 r)
+    ∙ sym (total-next (λ r. total (λ c. F c r) 0 columns) 0 r)
   where
     more : (r columns : ℕ) → suc r * columns ≡ r * columns + columns
     more r columns = omega arith
@@ -183,7 +162,7 @@ total_by_rows F columns (suc r) =
     here : (c : ℕ) → c < columns → F ((0 + r * columns + c) % columns) ((0 + r * columns + c) / columns) ≡ F (0 + c) r
     here c lt =
         ap (λ (t : ℕ). F (t % columns) (t / columns)) (start (r * columns) c)
-        ∙ ap (λ (t : ℕ). F t ((r * columns + c) / columns)) (column_of_number r columns c lt ∙ front c)
+        ∙ ap (λ (t : ℕ). F t ((r * columns + c) / columns)) (mod-mul-add r columns c lt ∙ front c)
         ∙ ap (F (0 + c)) (div-mul-add r columns c lt)
 
 -- ---- sums of lists
@@ -275,16 +254,3 @@ tiles_add_up g p f has same all made picture width height =
     ∙ ap (λ (t : ℕ). area (level_at f) 0 t 0 g.height) (sym width)
     ∙ ap (λ (t : ℕ). area (level_at f) 0 f.width 0 t) (sym height)
     ∙ sym (samples_total f picture.size)
-
--- what the numbers of a plane add up to
-pub number_of_summed : (numbers : List (Option ℕ)) → sum_by number_or_zero numbers ≡ sum (map first_cell (map (option_map alone) numbers))
-number_of_summed [] = refl
-number_of_summed (o ∷ os) =
-    sum_by-cons number_or_zero o os
-    ∙ ap (λ (t : ℕ). number_or_zero o + t) (number_of_summed os)
-    ∙ ap (λ (t : ℕ). t + sum (map first_cell (map (option_map alone) os))) (first o)
-    ∙ sym (sum_by-cons (λ x. x) (first_cell (option_map alone o)) (map first_cell (map (option_map alone) os)))
-  where
-    first : (o : Option ℕ) → number_or_zero o ≡ first_cell (option_map alone o)
-    first None = refl
-    first (Some n) = refl

@@ -13,7 +13,7 @@ use Rattle.mw_pixel.specs.Images.{raster_of}
 use Rattle.mw_tile.specs.Windows.{IsCut}
 use Rattle.mw_tile.specs.Cuts.{view_of}
 use Rattle.mw_tiles.specs.Held.{tiled}
-use Rattle.mw_tiles.specs.Tiles.{Tiled, AllPlaced, HasAll, HasFirstRows, HasSides, IsPlaneOf, IsSound, ShowsTiles, StandsIn, cells_of}
+use Rattle.mw_tiles.specs.Tiles.{Tiled, HasFirstRows, HasSides, IsPlaneOf, IsSound, ShowsTiles, StandsIn, cells_of}
 use Rattle.mw_tiles.proofs.Filled.{samples_bounded}
 use Rattle.mw_tiles.proofs.Numbers.{found_at}
 use Rattle.mw_tiles.proofs.Sides.{cells_at}
@@ -30,9 +30,6 @@ whole_shows {A} g tiles i o t q r has read is q-is same lt f shows =
     subst (λ (v : View A). IsCut v f)
     (ap (λ (s : Rect). view_of f.width f.height s t.cells) (sym q-is ∙ same) ∙ ap (λ (m : ℕ). view_of m f.height r t.cells) shows.width ∙ ap (λ (n : ℕ). view_of g.width n r t.cells) shows.height)
     cut
-
-pub frame_is : (g : Tiling) (r : Rect) (w h : ℕ) → r ≡ whole_frame w h → w ≡ g.width → h ≡ g.height → r ≡ whole_frame g.width g.height
-frame_is g r w h r-is w-is h-is = r-is ∙ ap (λ (t : ℕ). whole_frame t h) w-is ∙ ap (λ (t : ℕ). whole_frame g.width t) h-is
 
 -- the rows of a whole frame are the frame
 pub plane_of_rows : {A : Type 0} (g : Tiling) (tiles : List (Option (List A))) (r : Rect) (cells : List A) (p : Raster A) (w h : ℕ) → r ≡ whole_frame g.width g.height → w ≡ g.width → h ≡ g.height → p ≡ raster w h cells → HasFirstRows g tiles r r.height cells
@@ -67,10 +64,6 @@ plane_of_rows {A} g tiles r cells p w h r-is w-is h-is p-is rows f size shows =
         ∙ rows.shows f shows x y (omega (arith, wide)) (omega (arith, high))
         ∙ ap (λ (t : ℕ). slice_get f.cells (t * f.width + (r.x + x))) (front r.y y top)
         ∙ ap (λ (t : ℕ). slice_get f.cells (y * f.width + t)) (front r.x x left)
-
--- each rectangle is placed where all tiles are
-pub all_has : (k : Kind) (m : ℕ) (g : Tiling) (tiles : List (Option (Raster ℕ))) (p : Tiled) (r : Rect) → tiled k m g tiles ≡ p → AllPlaced p → HasAll g (cells_of tiles) r
-all_has k m g tiles p r view all = let each = (subst AllPlaced (sym view) all).each in λ x y holds i lt there. each i lt
 
 -- the image of a plane
 pub image_is : (k : Kind) (m : ℕ) (g : Tiling) (tiles : List (Option (Raster ℕ))) (p : Tiled) (plane : Raster ℕ) → tiled k m g tiles ≡ p → ((f : Raster ℕ) → length f.cells ≡ f.height * f.width → ShowsTiles g (cells_of tiles) f → plane ≡ f)

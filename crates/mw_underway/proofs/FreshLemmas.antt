@@ -4,6 +4,7 @@ use Rattle.std.specs.Prelude.{◌&&◌}
 use Rattle.std.specs.List.{AllByRecursion}
 use Rattle.std.proofs.lemmas.Nat.{mul-le}
 use Rattle.mw_facts.proofs.Counts.{count_by-none}
+use Rattle.mw_facts.proofs.Elements.{get_or-replicate_same}
 use Rattle.mw_grid.proofs.Counts.{count-all}
 use Rattle.mw_model.specs.declared.names.Name.{Name}
 use Rattle.mw_model.specs.declared.operations.Op.{Op}
@@ -28,7 +29,7 @@ use Rattle.mw_plan.specs.PlansOf.{AreValuesOf, HaveFrame, inputs_taken}
 use Rattle.mw_plan.specs.Tables.{IsInputOf}
 use Rattle.mw_plan.proofs.Accepted.{accepted_faultless, accepted_values, machine_values}
 use Rattle.mw_stands.specs.mw_progress.ProgressView.{ProgressView}
-use Rattle.mw_stands.proofs.mw_work.Fresh.{get_or-replicate_same, only-image, tile_count-most, work-fresh}
+use Rattle.mw_stands.proofs.mw_work.Fresh.{only-image, tile_count-most, work-fresh}
 use Rattle.mw_stands.proofs.mw_work.Numbers.{some-tiles, task_count-whole}
 use Rattle.mw_stands.specs.Limits.{FitsLimits, ShapesFit}
 use Rattle.mw_stands.proofs.StandsLemmas.{stands-sound}

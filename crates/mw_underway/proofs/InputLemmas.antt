@@ -2,6 +2,7 @@
 use Rattle.std.proofs.Common.{◌≡◌, ℕ, ◌<◌, true, List, [], ◌∷◌, ◌++◌, map, length, Option, Some, None, refl, ap, ◌∙◌, subst, arith}
 use Rattle.std.specs.Prelude.{option_map, filter_map}
 use Rattle.std.specs.List.{AllByRecursion}
+use Rattle.mw_facts.proofs.Alls.{all-append}
 use Rattle.mw_model.specs.declared.shapes.Shape.{Shape}
 use Rattle.mw_model.specs.declared.shapes.Shape.TheVariants as shape
 use Rattle.mw_model.specs.declared.submissions.Inputs.{Inputs}
@@ -48,10 +49,6 @@ pub record ReadsImage (m : Machine) (t : ℕ) (u : ProgressView) (image : ℕ) :
 all-tickets : (P : ℕ → Type 0) (i : Inputs) (x : ℕ) → i.a ≡ Some x → AllByRecursion P (tickets i) → AllByRecursion P (x ∷ option_list i.b ++ option_list i.c)
 all-tickets P i x first all = let Q : Option ℕ → Type 0 = λ a. AllByRecursion P (option_list a ++ option_list i.b ++ option_list i.c) in subst Q first all
 
-both-lists : (P : ℕ → Type 0) (xs ys : List ℕ) → AllByRecursion P xs → AllByRecursion P ys → AllByRecursion P (xs ++ ys)
-both-lists P [] ys a b = b
-both-lists P (x ∷ xs) ys a b = (a.0, both-lists P xs ys a.1 b)
-
 -- the command of a ticket that is there reads one image, its first input
 pub reads-image : (m : Machine) (t : ℕ) (u : ProgressView) → IsSound m → t < length m.table.names → (r : IsInputAt m.table t u) → ReadsImage m t u r.image
 reads-image m t u s within r =
@@ -59,7 +56,7 @@ reads-image m t u s within r =
     let i = r.image in
     let more = option_list inputs.b ++ option_list inputs.c in
     let below = all-tickets (λ x. x < t) inputs i r.first (s.inputs t within) in
-    let elements = both-lists (λ x. is_element (shape_at m.table.submissions x) ≡ true) (option_list inputs.b) (option_list inputs.c) r.second r.third in
+    let elements = all-append (λ x. is_element (shape_at m.table.submissions x) ≡ true) (option_list inputs.b) (option_list inputs.c) r.second r.third in
     let found = image-value (value_at (values m) i) (shape_at m.table.submissions i) (shape.Image u.input.kind u.tiling.width u.tiling.height u.input.maxval) (s.shapes i (omega (arith, below.0, within))) r.shape refl in
     let rest : filter_map image_of (map (value_at (values m)) more) ≡ [] = no-images m t more (λ x l. s.shapes x (omega (arith, l, within))) below.1 elements in
     let own : tickets inputs ≡ i ∷ more = ap (λ a. option_list a ++ option_list inputs.b ++ option_list inputs.c) r.first in

@@ -1,6 +1,7 @@
 -- What an accepted command is planned from: an image, elements, and the plan that is made of them.
 use Rattle.std.proofs.Common.{◌≡◌, ℕ, ◌+◌, ◌<◌, true, List, [], ◌∷◌, ◌++◌, length, map, Option, Some, None, refl, sym, ap, ◌∙◌, subst}
 use Rattle.std.specs.List.{AllByRecursion}
+use Rattle.mw_facts.proofs.Alls.{all-append_left, all-append_right}
 use Rattle.mw_model.specs.declared.names.Name.{Name}
 use Rattle.mw_model.specs.declared.shapes.Shape.{Shape}
 use Rattle.mw_model.specs.declared.operations.Op.{Op}
@@ -89,21 +90,13 @@ pub record AllTickets (P : ℕ → Type 0) (i : Inputs) : Type 0 where
   pub second : AllByRecursion P (option_list i.b)
   pub third : AllByRecursion P (option_list i.c)
 
-all-left : (P : ℕ → Type 0) (xs ys : List ℕ) → AllByRecursion P (xs ++ ys) → AllByRecursion P xs
-all-left P [] ys all = tt
-all-left P (x ∷ xs) ys all = (all.0, all-left P xs ys all.1)
-
-all-right : (P : ℕ → Type 0) (xs ys : List ℕ) → AllByRecursion P (xs ++ ys) → AllByRecursion P ys
-all-right P [] ys all = all
-all-right P (x ∷ xs) ys all = all-right P xs ys all.1
-
 pub each-ticket : (P : ℕ → Type 0) (i : Inputs) → AllByRecursion P (tickets i) → AllTickets P i
 each-ticket P i all =
-    let both = all-left P (option_list i.a ++ option_list i.b) (option_list i.c) all in
+    let both = all-append_left P (option_list i.a ++ option_list i.b) (option_list i.c) all in
     record {
-      first = all-left P (option_list i.a) (option_list i.b) both;
-      second = all-right P (option_list i.a) (option_list i.b) both;
-      third = all-right P (option_list i.a ++ option_list i.b) (option_list i.c) all;
+      first = all-append_left P (option_list i.a) (option_list i.b) both;
+      second = all-append_right P (option_list i.a) (option_list i.b) both;
+      third = all-append_right P (option_list i.a ++ option_list i.b) (option_list i.c) all;
     }
 
 input-fits : (w : Table) (kept : List (Option Value)) (t : ℕ) (i : Input) → IsInputAt w kept t i → FitsLimits (shape_at w.submissions t) → ImageFits i

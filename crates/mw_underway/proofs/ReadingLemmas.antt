@@ -80,8 +80,5 @@ place-some u tile g r place whole inside grid is =
     let P : Rect → Type 0 = λ q. (1 ≤ q.width) × (1 ≤ q.height) in
     subst P (sym (is ∙ ap (λ (x : Tiling). grown x.width x.height r (tile_at x tile)) grid)) some
 
-pub none-is-some : {A : Type 0} {x : A} → None ≡ Some x → ⊥
-none-is-some e = cc
-
 pub some-items : {A : Type 0} {w : Option A} {x y : A} → w ≡ Some x → w ≡ Some y → x ≡ y
 some-items e f = cc

@@ -1,23 +1,22 @@
 -- Results of running tasks: their windows, what they made, and that they are the true ones.
-use Rattle.std.proofs.Common.{◌≡◌, ℕ, ◌+◌, ◌<◌, ◌≤◌, true, not, inr, List, [], ◌∷◌, length, map, get_or, Option, Some, None, refl, sym, ap, ◌∙◌, subst, arith}
+use Rattle.std.proofs.Common.{◌≡◌, ℕ, ◌<◌, true, not, inr, List, [], ◌∷◌, length, map, get_or, Option, Some, None, refl, sym, ap, ◌∙◌, subst, arith}
 use Rattle.std.specs.Prelude.{IfSome, option_map}
 use Rattle.std.specs.List.{AllByRecursion}
 use Rattle.std.proofs.lemmas.Bool.{and_parts}
-use Rattle.std.proofs.lemmas.Grind.{get_or_default_zero}
+use Rattle.std.proofs.lemmas.Option.{none-some}
 use Rattle.mw_model.specs.declared.calls.Outcome.TheVariants as outcome
 use Rattle.mw_model.specs.declared.places.Reach.{Reach}
 use Rattle.mw_model.specs.declared.places.Rect.{Rect}
 use Rattle.mw_model.specs.declared.tasks.TaskId.{TaskId}
 use Rattle.mw_model.specs.Elements.{reach_of}
 use Rattle.mw_model.specs.Machine.{Machine}
-use Rattle.mw_model.specs.Pictures.{Picture, IsPicture, sample}
-use Rattle.mw_model.proofs.ImagePlaces.{sample_bounded}
+use Rattle.mw_model.specs.Pictures.{Picture, IsPicture}
 use Rattle.mw_model.specs.Places.{IsWithin, grown}
 use Rattle.mw_model.specs.PlanSteps.{PlanStep, looks_at}
 use Rattle.mw_model.specs.Plans.{Plan, Planned, Source, FromInput, FromStep, IsSourceAt, images_of, planes}
 use Rattle.mw_model.specs.Refusals.{Table, outcome_at, submission_at}
 use Rattle.mw_model.specs.Stands.{CoreView, StandsFor, inputs_there, input_values, progress_at, true_planes}
-use Rattle.mw_model.specs.Tasks.{Progress, cells_in, flag, is_running, nothing_planned, place_of_task, planned_of, sources_of, task_count}
+use Rattle.mw_model.specs.Tasks.{Progress, flag, is_running, nothing_planned, place_of_task, planned_of, sources_of, task_count}
 use Rattle.mw_model.specs.Values.{image_of, value_at}
 use Rattle.mw_grid.specs.Grids.{Tiling, tile_at, tile_count}
 use Rattle.mw_tile.specs.Windows.{SourceWindow, window_of}
@@ -26,7 +25,7 @@ use Rattle.mw_task.specs.declared.tile_result.TileResult.{TileResult}
 use Rattle.mw_task.specs.Products.{IsMade}
 use Rattle.mw_task.specs.Sources.{HasFrame}
 use Rattle.mw_task.specs.WindowTasks.{FitsStep, IsBounded, WindowTask, tile_made, window_at}
-use Rattle.mw_pieces.proofs.TileCells.{cells_in_all, length-cells_in}
+use Rattle.mw_task.proofs.Cut.{window_bounded_cut}
 use Rattle.mw_plan.specs.PlansOf.{planes_read}
 use Rattle.mw_plan.proofs.Planes.{plane_is}
 use Rattle.mw_stands.specs.mw_progress.Levels.{Level, level_of, level_of_source, level_of_step, levels, no_level}
@@ -45,23 +44,14 @@ use Rattle.mw_underway.specs.Results.{AreShown, HasLevel, IsFoundOf, IsResultOf,
 use Rattle.mw_underway.specs.SourceWindows.{AreSources, CanReadAll, task_on}
 use Rattle.mw_underway.proofs.AllowedLemmas.{planes-levels}
 use Rattle.mw_underway.proofs.PlannedAtLemmas.{level-is, planned-at}
-use Rattle.mw_underway.proofs.ReadingLemmas.{none-is-some, place-is, task-can-read, task-is}
+use Rattle.mw_underway.proofs.ReadingLemmas.{place-is, task-can-read, task-is}
 use Rattle.mw_underway.proofs.SourceTrueLemmas.{ReadsKept, reads-kept, sources-true}
 
 -- ---- the window of a source
 
--- the samples of a window are those of its image
-window-bounded : (f : Picture) (place : Rect) → IsPicture f → IsWithin place f.width f.height → IsBounded (window_of place f)
-window-bounded f place picture within = λ k d lt.
-    let across = within.across in
-    let down = within.down in
-    let P : ℕ → Type 0 = λ n. n ≤ f.maxval in
-    subst P (sym (get_or_default_zero (cells_in place (sample f)) k d lt))
-    (cells_in_all P place (sample f) (λ i j a b. sample_bounded f picture (place.x + i) (place.y + j) (omega arith) (omega arith)) k (omega (arith, length-cells_in place (sample f))))
-
 pub input-shown : (image : Option Picture) (u : ProgressView) (place : Rect) (k : ℕ) (w : SourceWindow) → IfSome image (HasFrame u.tiling.width u.tiling.height) → HasLevel image u → IfSome image IsPicture
     → IsWithin place u.tiling.width u.tiling.height → option_map (window_of place) image ≡ Some w → IsShown image u place (FromInput k) w
-input-shown None u place k w frame level picture within is = absurd (none-is-some is)
+input-shown None u place k w frame level picture within is = absurd (none-some _ is)
 input-shown (Some f) u place k w frame level picture within is =
     let same : window_of place f ≡ w = cc in
     let Wide : ℕ → Type 0 = λ x. IsWithin place x f.height in
@@ -69,7 +59,7 @@ input-shown (Some f) u place k w frame level picture within is =
     record {
       window = λ g source. sym is ∙ ap (option_map (window_of place)) source.0;
       level = sym (ap level_of_window same) ∙ level;
-      bounded = subst IsBounded same (window-bounded f place picture (subst Wide (sym frame.width) (subst High (sym frame.height) within)));
+      bounded = subst IsBounded same (window_bounded_cut f place picture (subst Wide (sym frame.width) (subst High (sym frame.height) within)));
     }
 
 pub step-shown : (image : Option Picture) (u : ProgressView) (place : Rect) (k : ℕ) (w : SourceWindow) → IsWhole u → k < length u.progress.plan → ((f : Picture) → IsPlaneOf (plane_at u k) f → w ≡ window_of place f)

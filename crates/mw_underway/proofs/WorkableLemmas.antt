@@ -2,6 +2,7 @@
 use Rattle.std.proofs.Common.{◌≡◌, ℕ, zero, suc, ◌<◌, true, List, [], ◌∷◌, length, map, take, get_or, Option, Some, None, refl, sym, ap, ◌∙◌, subst, arith}
 use Rattle.std.specs.Arc.{arc_value}
 use Rattle.std.specs.List.{AllByRecursion}
+use Rattle.mw_facts.proofs.Alls.{all-take}
 use Rattle.mw_model.specs.declared.operations.Op.{Op}
 use Rattle.mw_model.specs.declared.shapes.Shape.{Shape}
 use Rattle.mw_model.specs.declared.shapes.Shape.TheVariants as shape
@@ -68,11 +69,6 @@ values-of : (is : List Input) → AllByRecursion ImageFits is → AreValuesOf is
 values-of [] fits = tt
 values-of (i ∷ is) fits = (value-of i fits.0, values-of is fits.1)
 
-all-taken : {A : Type 0} (P : A → Type 0) (n : ℕ) (xs : List A) → AllByRecursion P xs → AllByRecursion P (take n xs)
-all-taken P zero xs all = tt
-all-taken P (suc n) [] all = tt
-all-taken P (suc n) (x ∷ xs) all = (all.0, all-taken P n xs all.1)
-
 -- ---- plans
 
 first-image : (n : ℕ) (s : Shape) (rest : List Input) (f : Picture) → images_of (map value_in (take n (input.Image s ∷ rest))) ≡ f ∷ [] → f ≡ blank s
@@ -93,7 +89,7 @@ workable o a b c plan s is first fits =
     let n = length (inputs_wanted o) in
     let taken = inputs_taken o a b c in
     let vs = map value_in taken in
-    let values = values-of taken (all-taken ImageFits n (a ∷ b ∷ c ∷ []) fits) in
+    let values = values-of taken (all-take ImageFits n (a ∷ b ∷ c ∷ []) fits) in
     let only = only-image taken vs values is.one in
     let f = only.0 in
     let Taken : Input → Type 0 = λ x. images_of (map value_in (take n (x ∷ b ∷ c ∷ []))) ≡ f ∷ [] in

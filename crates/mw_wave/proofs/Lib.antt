@@ -5,3 +5,5 @@ mod Totals
 mod Jobs
 mod Waving
 mod Turning
+-- what lower crates offer
+pub use Rattle.mw_core.proofs.mw_stands as mw_stands

@@ -1,27 +1,21 @@
 -- Counts of tasks under tickets.
-use Rattle.std.proofs.Common.{◌≡◌, ℕ, ◌+◌, ◌*◌, ◌<◌, ◌≤◌, Bool, true, false, ◌⊎◌, inl, inr, List, length, Option, Some, None, refl, sym, ap, ◌∙◌, subst, arith}
-use Rattle.std.specs.Prelude.{◌&&◌, not}
+use Rattle.std.proofs.Common.{◌≡◌, ℕ, ◌+◌, ◌*◌, ◌<◌, ◌≤◌, false, inl, inr, List, length, Option, Some, None, sym, ap, ◌∙◌, subst, arith}
+use Rattle.std.specs.Prelude.{not}
 use Rattle.std.specs.Option.{option_map_or}
 use Rattle.std.proofs.lemmas.Bool.{cases_lt, cases_Bool}
 use Rattle.std.proofs.lemmas.List.{get_or_past}
 use Rattle.std.proofs.lemmas.List.Sums.{count_by-le-length}
 use Rattle.std.proofs.lemmas.List.FromFn.{length-range_with_len}
+use Rattle.mw_facts.proofs.Finds.{option_cases}
 use Rattle.mw_model.specs.Refusals.{Table, outcome_at, is_pending}
 use Rattle.mw_model.specs.Machine.{Machine}
 use Rattle.mw_model.specs.Tasks.{Progress, task_count, flag, tasks_below, running_tasks, remaining_tasks}
 use Rattle.mw_model.specs.Stands.{CoreView, IsWork, StandsFor, progress_at, running_count}
 use Rattle.mw_laws.proofs.RunStates.{reached}
 use Rattle.mw_core.specs.mw_stands.Events.{WorkStays}
+use Rattle.mw_core.proofs.mw_stands.CountLemmas.{sum-at, sum-most}
 use Rattle.mw_wave.specs.Work.{tasks_left}
-use Rattle.mw_wave.proofs.Totals.{total, total-at, total-falls, total-bounded, total-zero}
-
-pub both_left : (a b : Bool) → (a && b) ≡ true → a ≡ true
-both_left true b h = refl
-both_left false b h = h
-
-pub both_right : (a b : Bool) → (a && b) ≡ true → b ≡ true
-both_right true b h = h
-both_right false b h = cc
+use Rattle.mw_wave.proofs.Totals.{total, total-falls, total-zero}
 
 -- ---- counts under tickets
 
@@ -32,13 +26,9 @@ under f c t = option_map_or f (progress_at c.work t) 0
 abbrev pub over_all : (Progress → ℕ) → CoreView → ℕ
 over_all f c = total (under f c) (length c.table.names)
 
-pub progress_cases : (o : Option Progress) → (o ≡ None) ⊎ ((p : Progress) × (o ≡ Some p))
-progress_cases None = inl refl
-progress_cases (Some p) = inr (p, refl)
-
 -- a settled ticket has no work
 no-work : (c : CoreView) (m : Machine) (u : ℕ) → StandsFor c m → is_pending (outcome_at m.table.outcomes u) ≡ false → progress_at c.work u ≡ None
-no-work c m u s settled_now = elim (progress_cases (progress_at c.work u)) [
+no-work c m u s settled_now = elim (option_cases (progress_at c.work u)) [
   | inl none ↦ none
   | inr some ↦ let e = ap is_pending (s.idle u some.0 some.1) in absurd cc
 ]
@@ -56,19 +46,19 @@ under-falls f c new n u s stays l = elim (cases_Bool (is_pending (outcome_at new
 ]
 
 -- a ticket that settles takes its tasks with it
-pub falls : (f : Progress → ℕ) (c new : CoreView) (n : Machine) (t d : ℕ) → StandsFor new n → WorkStays c new → length new.table.names ≡ length c.table.names → t < length c.table.names
+pub over_all-falls : (f : Progress → ℕ) (c new : CoreView) (n : Machine) (t d : ℕ) → StandsFor new n → WorkStays c new → length new.table.names ≡ length c.table.names → t < length c.table.names
     → is_pending (outcome_at n.table.outcomes t) ≡ false → d ≤ under f c t → over_all f new + d ≤ over_all f c
-falls f c new n t d s stays long l settled_now some =
+over_all-falls f c new n t d s stays long l settled_now some =
     let none : under f new t ≡ 0 = none-under f new n t s settled_now in
     let fewer = total-falls (under f new) (under f c) (length c.table.names) t d l (omega (arith, none, some)) (λ u k other. under-falls f c new n u s stays k) in
     let same : over_all f new ≡ total (under f new) (length c.table.names) = ap (total (under f new)) long in
     omega (arith, same, fewer)
 
 -- where no task was running, and none is under a new ticket, none is running
-pub calm : (c new : CoreView) (n : Machine) → StandsFor new n → WorkStays c new → running_count c ≡ 0
+pub running_count-stays_none : (c new : CoreView) (n : Machine) → StandsFor new n → WorkStays c new → running_count c ≡ 0
     → ((u : ℕ) → length c.table.names ≤ u → u < length new.table.names → under running_tasks new u ≡ 0) → running_count new ≡ 0
-calm c new n s stays none fresh = total-zero (under running_tasks new) (length new.table.names) (λ u l. elim (cases_lt u (length c.table.names)) [
-  | inl b ↦ omega (arith, under-falls running_tasks c new n u s stays b, total-at (under running_tasks c) (length c.table.names) u b, none)
+running_count-stays_none c new n s stays none fresh = total-zero (under running_tasks new) (length new.table.names) (λ u l. elim (cases_lt u (length c.table.names)) [
+  | inl b ↦ omega (arith, under-falls running_tasks c new n u s stays b, sum-at (under running_tasks c) (length c.table.names) u b, none)
   | inr past ↦ fresh u past l
 ])
 
@@ -91,16 +81,12 @@ has-place work t p e = elim (cases_lt t (length work)) [
   | inr past ↦ let none : progress_at work t ≡ None = get_or_past work t None past in absurd cc
 ]
 
-pub not_true : (a : Bool) → not a ≡ true → a ≡ false
-not_true true h = cc
-not_true false h = refl
-
 -- at most so many tasks are left
 pub few-left : (c : CoreView) (m : Machine) → StandsFor c m → tasks_left c ≤ 65536 * 4194304
 few-left c m s =
     let sound = reached c.log m s.run in
     let names = ap (λ (w : Table). length w.names) s.table in
-    let each : (t : ℕ) → t < length c.table.names → under remaining_tasks c t ≤ 4194304 = λ t l. elim (progress_cases (progress_at c.work t)) [
+    let each : (t : ℕ) → t < length c.table.names → under remaining_tasks c t ≤ 4194304 = λ t l. elim (option_cases (progress_at c.work t)) [
       | inl none ↦ let e : under remaining_tasks c t ≡ 0 = ap (λ o. option_map_or remaining_tasks o 0) none in omega (arith, e)
       | inr some ↦
           let p = some.0 in
@@ -108,5 +94,5 @@ few-left c m s =
           let e = count-under remaining_tasks c t p some.1 in
           omega (arith, e, w.small, count_by-le-length (λ n. not (flag p.finished n)) (tasks_below p), length-range_with_len 0 (task_count p))
     ] in
-    let all = total-bounded (under remaining_tasks c) (length c.table.names) each in
+    let all = sum-most (under remaining_tasks c) 4194304 (length c.table.names) each in
     omega (arith, all, names, sound.small)

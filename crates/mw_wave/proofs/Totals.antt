@@ -1,5 +1,5 @@
 -- Sums over the first numbers.
-use Rattle.std.proofs.Common.{◌≡◌, ◌≢◌, ℕ, zero, suc, ◌+◌, ◌*◌, ◌<◌, ◌≤◌, Bool, true, false, cond, map, sum, inl, inr, refl, sym, ap, ◌∙◌, arith}
+use Rattle.std.proofs.Common.{◌≡◌, ◌≢◌, ℕ, zero, suc, ◌+◌, ◌<◌, ◌≤◌, Bool, true, false, cond, map, sum, inl, inr, refl, sym, ap, ◌∙◌, arith}
 use Rattle.std.specs.List.{range_with_len, count_by}
 use Rattle.std.proofs.lemmas.Bool.{cases_lt}
 use Rattle.std.proofs.lemmas.List.Sums.{sum-map}
@@ -11,14 +11,6 @@ total f n = sum (map f (range_with_len 0 n))
 
 pub total-suc : (f : ℕ → ℕ) (n : ℕ) → total f (suc n) ≡ total f n + f n
 total-suc f n = let on : suc n ≡ n + 1 = omega arith in ap (total f) on ∙ sum-more f n
-
--- a term is within the sum
-pub total-at : (f : ℕ → ℕ) (n t : ℕ) → t < n → f t ≤ total f n
-total-at f zero t l = absurd (omega arith)
-total-at f (suc n) t l = elim (cases_lt t n) [
-  | inl b ↦ omega (arith, total-suc f n, total-at f n t b)
-  | inr g ↦ let e : t ≡ n = omega arith in rw e (omega (arith, total-suc f n))
-]
 
 -- larger terms have a larger sum
 pub total-le : (f g : ℕ → ℕ) (n : ℕ) → ((t : ℕ) → t < n → f t ≤ g t) → total f n ≤ total g n
@@ -36,29 +28,13 @@ total-falls f g (suc n) u d l s h = elim (cases_lt u n) [
       omega (arith, total-suc f n, total-suc g n, total-le f g n (λ t k. h t (omega arith) (λ e'. omega (arith, e, e'))), last)
 ]
 
--- none of the terms is over b
-pub total-bounded : (f : ℕ → ℕ) (n : ℕ) → ((t : ℕ) → t < n → f t ≤ 4194304) → total f n ≤ n * 4194304
-total-bounded f zero h = omega arith
-total-bounded f (suc n) h = omega (arith, total-suc f n, total-bounded f n (λ t l. h t (omega arith)), h n (omega arith))
-
 -- how many of the first n numbers pass
 pub count-total : (p : ℕ → Bool) (n : ℕ) → count_by p (range_with_len 0 n) ≡ total (λ t. cond (p t) 1 0) n
 count-total p n = sym (sum-map (λ t. cond (p t) 1 0) (range_with_len 0 n))
 
--- one that passes is counted
-pub count-some : (p : ℕ → Bool) (n t : ℕ) → t < n → p t ≡ true → 1 ≤ count_by p (range_with_len 0 n)
-count-some p n t l e =
-    let counts : ℕ → ℕ = λ i. cond (p i) 1 0 in
-    let one : counts t ≡ 1 = rw e refl in
-    omega (arith, count-total p n, total-at counts n t l, one)
-
 pub total-zero : (f : ℕ → ℕ) (n : ℕ) → ((t : ℕ) → t < n → f t ≡ 0) → total f n ≡ 0
 total-zero f zero h = refl
 total-zero f (suc n) h = omega (arith, total-suc f n, total-zero f n (λ t l. h t (omega arith)), h n (omega arith))
-
--- where none passes
-pub count-none : (p : ℕ → Bool) (n : ℕ) → ((t : ℕ) → t < n → p t ≡ false) → count_by p (range_with_len 0 n) ≡ 0
-count-none p n h = count-total p n ∙ total-zero (λ t. cond (p t) 1 0) n (λ t l. rw (h t l) refl)
 
 -- where one number passes no more, and the others as before
 pub count-falls : (p q : ℕ → Bool) (n k : ℕ) → k < n → p k ≡ false → q k ≡ true → ((t : ℕ) → t ≢ k → p t ≡ q t) → count_by p (range_with_len 0 n) + 1 ≤ count_by q (range_with_len 0 n)

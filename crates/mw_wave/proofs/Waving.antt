@@ -3,8 +3,10 @@ use Rattle.std.proofs.Common.{◌≡◌, ◌≢◌, ℕ, ◌+◌, ◌/◌, ◌%�
 use Rattle.std.specs.Prelude.{◌&&◌, not, nat_lt, Result}
 use Rattle.std.specs.Option.{option_map_or}
 use Rattle.std.specs.List.{range_with_len, count_by, AllZip}
-use Rattle.std.proofs.lemmas.Bool.{cases_lt, cases_Bool, cases_eq}
+use Rattle.std.proofs.lemmas.Bool.{cases_lt, cases_Bool, cases_eq, not-true, and_parts}
 use Rattle.std.proofs.lemmas.List.{append-nil, get_or-set_same, get_or-set_other}
+use Rattle.mw_facts.proofs.Finds.{option_cases}
+use Rattle.mw_facts.proofs.Counts.{count_by-some, count_by-none}
 use Rattle.mw_model.specs.declared.calls.Outcome.TheVariants as outcome
 use Rattle.mw_model.specs.declared.calls.LogItem.{LogItem}
 use Rattle.mw_model.specs.declared.calls.LogItem.TheVariants as item
@@ -21,6 +23,7 @@ use Rattle.mw_task.specs.declared.done.TaskRefused.{TaskRefused}
 use Rattle.mw_core.specs.mw_work.Works.{true_task}
 use Rattle.mw_core.specs.mw_stands.Events.{WorkStays}
 use Rattle.mw_core.specs.mw_stands.TaskEvents.{Kills, Begins, IsResult, IsUnderway, Settles, Places, IsSettled}
+use Rattle.mw_core.proofs.mw_stands.CountLemmas.{sum-at}
 use Rattle.mw_core.specs.TaskAnswers.{Starts, Finishes, Refuses}
 use Rattle.mw_core.specs.declared.answers.Started.{Started}
 use Rattle.mw_core.specs.declared.answers.Started.TheVariants as started
@@ -30,13 +33,13 @@ use Rattle.mw_core.specs.declared.answers.Refusal.{Refusal}
 use Rattle.mw_core.specs.declared.answers.Refusal.TheVariants as refusal
 use Rattle.mw_script_laws.specs.Marks.{OnlyWork}
 use Rattle.mw_wave.specs.Work.{tasks_left, Worked}
-use Rattle.mw_wave.proofs.Totals.{total, total-at, total-falls, total-le, total-zero, count-some, count-none, count-falls}
+use Rattle.mw_wave.proofs.Totals.{total, total-falls, total-le, total-zero, count-falls}
 use Rattle.mw_script_laws.proofs.Finishing.{only_append}
 use Rattle.mw_wave.specs.declared.job.Job.{Job}
 use Rattle.mw_wave.specs.declared.job.Job.TheVariants as job
 use Rattle.mw_wave.specs.Jobs.{IsAnswerTo, IsOf, HasTask, IsAnswered}
 use Rattle.mw_wave.specs.Waves.{GoneOn, Runs, Underway, Took}
-use Rattle.mw_wave.proofs.TicketCounts.{both_left, both_right, under, progress_cases, falls, work-under, count-under, has-place, not_true}
+use Rattle.mw_wave.proofs.TicketCounts.{under, over_all-falls, work-under, count-under, has-place}
 use Rattle.mw_wave.proofs.Jobs.{still-answers, has-answered, has-last}
 
 -- ---- tasks that are running
@@ -48,14 +51,14 @@ same-task m n t p k e f = rw (e, f) refl
 -- one that is running is counted
 runs-counted : (c : CoreView) (t k : ℕ) (p : Progress) → Runs c t k p → 1 ≤ running_count c
 runs-counted c t k p r =
-    omega (arith, count-under running_tasks c t p r.work, count-some (is_running p) (task_count p) k r.number r.runs, total-at (under running_tasks c) (length c.table.names) t r.within)
+    omega (arith, count-under running_tasks c t p r.work, count_by-some (is_running p) (task_count p) k r.number r.runs, sum-at (under running_tasks c) (length c.table.names) t r.within)
 
 -- where none is, none is counted
 none-counted : (c : CoreView) → ((t k : ℕ) (p : Progress) → Runs c t k p → ⊥) → running_count c ≡ 0
-none-counted c none = total-zero (under running_tasks c) (length c.table.names) (λ t l. elim (progress_cases (progress_at c.work t)) [
+none-counted c none = total-zero (under running_tasks c) (length c.table.names) (λ t l. elim (option_cases (progress_at c.work t)) [
   | inl e ↦ ap (λ o. option_map_or running_tasks o 0) e
-  | inr has ↦ count-under running_tasks c t has.0 has.1 ∙ count-none (is_running has.0) (task_count has.0) (λ k b. elim (cases_Bool (is_running has.0 k)) [
-    | inl runs ↦ absurd (none t k has.0 (record { within = l; work = has.1; number = b; runs = runs }))
+  | inr has ↦ count-under running_tasks c t has.0 has.1 ∙ count_by-none (is_running has.0) 0 (task_count has.0) (λ k from b. elim (cases_Bool (is_running has.0 k)) [
+    | inl runs ↦ absurd (none t k has.0 (record { within = l; work = has.1; number = omega (arith, b); runs = runs }))
     | inr rests ↦ rests
   ])
 ])
@@ -123,7 +126,7 @@ kills-ended c new m t id s named k =
       only = tt;
       run = (n, (k.can, refl), refl);
       stands = k.stands;
-      less = falls remaining_tasks c new n t 1 k.stands k.work long within settled_now some;
+      less = over_all-falls remaining_tasks c new n t 1 k.stands k.work long within settled_now some;
       ran = stays-ran c new m n k.stands k.work long is.submissions refl;
       other = settled-other new n t id k.stands named settled_now;
     }
@@ -142,7 +145,7 @@ settles-ended c new m d t s here e =
       only = tt;
       run = (n, (e.can, refl), refl);
       stands = e.stands;
-      less = falls remaining_tasks c new n t 1 e.stands e.work long within settled_now some;
+      less = over_all-falls remaining_tasks c new n t 1 e.stands e.work long within settled_now some;
       ran = stays-ran c new m n e.stands e.work long refl refl;
       other = settled-other new n t d.task e.stands (sym e.ticket) settled_now;
     }
@@ -163,7 +166,7 @@ places-ended c new m d s here e =
     let n = e.result.number in
     let work = work-under c m t p s here e.result.work in
     let count : task_count q ≡ task_count p = rw (e.plan, e.tiles) refl in
-    let unfinished : flag p.finished n ≡ false = not_true (flag p.finished n) (both_right (flag p.started n) (not (flag p.finished n)) e.result.running) in
+    let unfinished : flag p.finished n ≡ false = not-true (flag p.finished n) (and_parts (flag p.started n) (not (flag p.finished n)) e.result.running).1 in
     let ends : flag q.finished n ≡ true = ap (λ fs. flag fs n) e.finished ∙ get_or-set_same p.finished n true false (omega (arith, work.finished, e.result.within)) in
     let as_before : (k : ℕ) → k ≢ n → flag q.finished k ≡ flag p.finished k = λ k x. ap (λ fs. flag fs k) e.finished ∙ get_or-set_other p.finished n k true false x in
     let one_done : remaining_tasks q + 1 ≤ remaining_tasks p = omega (
@@ -356,10 +359,6 @@ refuse-hand m old c new r jobs n refusal.Stranger small h e =
     let P : CoreView → Type 0 = λ x. Underway m old x jobs n in
     subst P (sym e.2) (hand-none m old c (job.Ran (Err r)) jobs n h (λ t k p x is. e.1 (running-underway c h.state r.task t k p x is)))
 
--- an empty place is passed over
-pub nothing-hand : (m : Machine) (old c : CoreView) (jobs : List Job) (n : ℕ) → Underway m old c (job.Nothing ∷ jobs) n → Underway m old c jobs n
-nothing-hand m old c jobs n h = hand-none m old c job.Nothing jobs n h (λ t k p r is. is)
-
 -- ---- a task is taken
 
 take-work : (m : Machine) (old c new : CoreView) (jobs : List Job) (n : ℕ) (w : WindowTask) → (h : Underway m old c jobs n) → Begins c h.state w new → Underway m old new (job.Waits w ∷ jobs) 1
@@ -369,12 +368,12 @@ take-work m old c new jobs n w h b =
     let i = b.number in
     let q : Progress = record p { started = set p.started i true } in
     let work = work-under c h.state t p h.stands b.within b.work in
-    let tests = both_right (may_run c.table t) _ b.ready in
+    let tests = (and_parts (may_run c.table t) _ b.ready).1 in
     let here : (nat_lt i (task_count p) && is_ready p i) ≡ true = ap (λ o. option_map_or (λ r. nat_lt i (task_count r) && is_ready r i) o false) (sym b.work) ∙ tests in
-    let first : nat_lt i (task_count p) ≡ true = both_left _ _ here in
+    let first : nat_lt i (task_count p) ≡ true = (and_parts _ _ here).0 in
     let number : i < task_count p = grind (arith, first) in
-    let ready : is_ready p i ≡ true = both_right (nat_lt i (task_count p)) (is_ready p i) here in
-    let waits : flag p.started i ≡ false = not_true (flag p.started i) (both_left (not (flag p.started i)) _ ready) in
+    let ready : is_ready p i ≡ true = (and_parts (nat_lt i (task_count p)) (is_ready p i) here).1 in
+    let waits : flag p.started i ≡ false = not-true (flag p.started i) (and_parts (not (flag p.started i)) _ ready).0 in
     let unfinished : flag p.finished i ≡ false = elim (cases_Bool (flag p.finished i)) [
       | inl f ↦ let g = work.begun i f in absurd cc
       | inr f ↦ f

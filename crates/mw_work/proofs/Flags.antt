@@ -1,31 +1,12 @@
--- Flags of tasks, and tests over the numbers of a range.
-use Rattle.std.proofs.Common.{◌≡◌, ℕ, zero, suc, ◌+◌, ◌<◌, ◌≤◌, Bool, true, false, not, inl, inr, List, length, set, refl, sym, ap, ◌∙◌, subst, arith}
+-- Tests over the numbers of a range.
+use Rattle.std.proofs.Common.{◌≡◌, ℕ, zero, suc, ◌+◌, ◌<◌, ◌≤◌, Bool, true, not, inl, inr, List, refl, ap, ◌∙◌, subst, arith}
 use Rattle.std.specs.Prelude.{count_by, Contains}
 use Rattle.std.specs.List.{range_with_len, list_all, list_any}
-use Rattle.std.proofs.lemmas.Bool.{cases_lt, cases_eq, cases_Bool, and_parts, or_left, or_right, eq-eqb}
-use Rattle.std.proofs.lemmas.List.{get_or_past, get_or-set_same, get_or-set_other}
+use Rattle.std.proofs.lemmas.Bool.{cases_lt, cases_Bool, and_parts, eq-eqb}
 use Rattle.std.proofs.lemmas.List.Folds.{list_any_at}
 use Rattle.mw_facts.proofs.Counts.{count_by-some}
 use Rattle.mw_model.specs.Plans.{Source, FromStep}
-use Rattle.mw_model.specs.Tasks.{flag, is_step}
-
--- ---- flags
-
-pub flag-past : (flags : List Bool) (n : ℕ) → flag flags n ≡ true → n < length flags
-flag-past flags n h =
-    elim (cases_lt n (length flags)) [ inl l ↦ l | inr past ↦ let e : flag flags n ≡ false = get_or_past flags n false past in absurd cc ]
-
--- a flag that is set stays so where one is set
-pub flag-set : (flags : List Bool) (n k : ℕ) → flag flags k ≡ true → flag (set flags n true) k ≡ true
-flag-set flags n k h =
-    elim (cases_eq k n) [
-      | inl e ↦
-          let within : n < length flags = flag-past flags n (subst (λ (x : ℕ). flag flags x ≡ true) e h) in
-          subst (λ (x : ℕ). flag (set flags n true) x ≡ true) (sym e) (get_or-set_same flags n true false within)
-      | inr d ↦ get_or-set_other flags n k true false d ∙ h
-    ]
-
--- ---- tests over a range
+use Rattle.mw_model.specs.Tasks.{is_step}
 
 pub list_all-range : (p : ℕ → Bool) (a n k : ℕ) → list_all p (range_with_len a n) ≡ true → a ≤ k → k < a + n → p k ≡ true
 list_all-range p a zero k h from to = absurd (omega arith)
@@ -34,14 +15,6 @@ list_all-range p a (suc n) k h from to =
     elim (cases_lt a k) [
       | inl less ↦ list_all-range p (a + 1) n k parts.1 (omega arith) (omega arith)
       | inr there ↦ let e : a ≡ k = omega arith in subst (λ (x : ℕ). p x ≡ true) e parts.0
-    ]
-
-pub list_any-range : (p : ℕ → Bool) (a n k : ℕ) → a ≤ k → k < a + n → p k ≡ true → list_any p (range_with_len a n) ≡ true
-list_any-range p a zero k from to h = absurd (omega arith)
-list_any-range p a (suc n) k from to h =
-    elim (cases_lt a k) [
-      | inl less ↦ or_right (p a) (list_any p (range_with_len (a + 1) n)) (list_any-range p (a + 1) n k (omega arith) (omega arith) h)
-      | inr there ↦ let e : k ≡ a = omega arith in or_left (p a) (list_any p (range_with_len (a + 1) n)) (subst (λ (x : ℕ). p x ≡ true) e h)
     ]
 
 -- where no number passes the negated test, each passes the test

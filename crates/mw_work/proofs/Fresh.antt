@@ -1,5 +1,5 @@
 -- The work of an accepted command: nothing of its plan was started.
-use Rattle.std.proofs.Common.{◌≡◌, ℕ, zero, suc, ◌+◌, ◌-◌, ◌*◌, ◌/◌, ◌<◌, ◌≤◌, true, false, not, cond, List, [], ◌∷◌, length, get_or, replicate, Option, Some, None, refl, sym, ap, ◌∙◌, subst, arith}
+use Rattle.std.proofs.Common.{◌≡◌, ℕ, ◌+◌, ◌-◌, ◌*◌, ◌/◌, ◌<◌, ◌≤◌, true, false, not, cond, List, [], ◌∷◌, length, get_or, replicate, Option, Some, None, refl, sym, ap, ◌∙◌, subst, arith}
 use Rattle.std.specs.Prelude.{count_by}
 use Rattle.std.specs.List.{AllByRecursion}
 use Rattle.std.proofs.lemmas.Nat.{mul-le}
@@ -7,6 +7,7 @@ use Rattle.std.proofs.lemmas.List.{length-replicate}
 use Rattle.std.proofs.lemmas.List.Sums.{sum_by-cons}
 use Rattle.std.proofs.Math.Nat.{div-mul-le_self, mul-le-mul_left}
 use Rattle.mw_facts.proofs.Counts.{count_by-some}
+use Rattle.mw_facts.proofs.Elements.{get_or-replicate_same}
 use Rattle.mw_model.specs.declared.shapes.Shape.{Shape}
 use Rattle.mw_model.specs.declared.operations.Op.{Op}
 use Rattle.mw_model.specs.Values.{Value}
@@ -51,11 +52,6 @@ tasks-most : (steps tiles : ℕ) → steps ≤ 896 → tiles ≤ 4348 → steps 
 tasks-most steps tiles few most = omega (arith, mul-le steps tiles 896 4348 few most)
 
 -- ---- nothing is started
-
-pub get_or-replicate_same : {X : Type 0} → (n k : ℕ) (x : X) → get_or (replicate n x) k x ≡ x
-get_or-replicate_same zero k x = refl
-get_or-replicate_same (suc n) zero x = refl
-get_or-replicate_same (suc n) (suc k) x = get_or-replicate_same n k x
 
 none-flagged : (n k : ℕ) → flag (replicate n false) k ≡ true → ⊥
 none-flagged n k h = let none : flag (replicate n false) k ≡ false = get_or-replicate_same n k false in cc

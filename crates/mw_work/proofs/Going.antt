@@ -13,8 +13,8 @@ use Rattle.mw_model.specs.Tasks.{Progress, flag, task_count, nothing_planned, pl
 use Rattle.mw_model.specs.Stands.{IsWork, inputs_there, input_values, true_cells}
 use Rattle.mw_progress.specs.mw_plan.PlansOf.{CanBeMade, planes_read}
 use Rattle.mw_progress.specs.ProgressView.{ProgressView, IsWhole, IsStarted, IsFinished}
+use Rattle.mw_progress.proofs.Flags.{flag-past, flag-set}
 use Rattle.mw_work.specs.Works.{Finishes, GoesOnUnder, IsPlanned, KeepsTrue, IsTrueWork, IsUnder}
-use Rattle.mw_work.proofs.Flags.{flag-past, flag-set}
 use Rattle.mw_work.proofs.Numbers.{length-placed}
 
 -- ---- the machine goes on

@@ -1,9 +1,10 @@
 -- In all later states of the machine the work under a ticket rests on the same.
-use Rattle.std.proofs.Common.{◌≡◌, ℕ, ◌<◌, Bool, true, inl, inr, List, [], ◌∷◌, length, map, get_or, None, refl, sym, ap, ◌∙◌, arith}
+use Rattle.std.proofs.Common.{◌≡◌, ℕ, ◌<◌, true, inl, inr, List, [], length, map, get_or, None, sym, ap, ◌∙◌, arith}
 use Rattle.std.specs.List.{list_all}
-use Rattle.std.proofs.lemmas.Bool.{and_from, and_parts, cases_lt}
+use Rattle.std.proofs.lemmas.Bool.{cases_lt}
 use Rattle.std.proofs.lemmas.List.{get_or_append_left, get_or_past}
 use Rattle.mw_facts.proofs.Alls.{all-weaker, map-same}
+use Rattle.mw_facts.proofs.Tests.{list_all-weaker}
 use Rattle.mw_model.specs.declared.submissions.Submission.{Submission}
 use Rattle.mw_model.specs.declared.calls.Outcome.{Outcome}
 use Rattle.mw_model.specs.declared.calls.Outcome.TheVariants as outcome
@@ -20,7 +21,7 @@ use Rattle.mw_work.proofs.Going.{under-same}
 get_or-goes_on : {X : Type 0} → (first second : List X) (d : X) (i : ℕ) → GoesOn first second → i < length first → get_or second i d ≡ get_or first i d
 get_or-goes_on first second d i on within = ap (λ (xs : List _). get_or xs i d) on.1 ∙ get_or_append_left first on.0 d i within
 
-length-values : (m : Machine) → IsSound m → length (values m) ≡ length m.table.names
+pub length-values : (m : Machine) → IsSound m → length (values m) ≡ length m.table.names
 length-values m s = omega (arith, length_values [] m.table.submissions m.payloads (s.lengths.payloads ∙ sym s.lengths.submissions), s.lengths.submissions)
 
 -- what is there stays so
@@ -30,15 +31,9 @@ there-stays old new (inr (inl pending)) h = let f = ap is_there pending in absur
 there-stays old new (inr (inr released)) h = ap is_there released.1
 
 -- what is there has a place
-there-within : (os : List Outcome) (i : ℕ) → is_there (outcome_at os i) ≡ true → i < length os
+pub there-within : (os : List Outcome) (i : ℕ) → is_there (outcome_at os i) ≡ true → i < length os
 there-within os i h =
     elim (cases_lt i (length os)) [ inl l ↦ l | inr past ↦ let e : outcome_at os i ≡ outcome.Pending = get_or_past os i outcome.Pending past in let f = ap is_there e in absurd cc ]
-
-list_all-stays : (old new : ℕ → Bool) (xs : List ℕ) → ((i : ℕ) → old i ≡ true → new i ≡ true) → list_all old xs ≡ true → list_all new xs ≡ true
-list_all-stays old new [] stays h = refl
-list_all-stays old new (x ∷ xs) stays h =
-    let parts = and_parts (old x) (list_all old xs) h in
-    and_from (new x) (list_all new xs) (stays x parts.0) (list_all-stays old new xs stays parts.1)
 
 pub goes-on : (m n : Machine) (t : ℕ) → IsSound m → GrowsTo m n → t < length m.table.names → GoesOnUnder m n t
 goes-on m n t s g within =
@@ -55,7 +50,7 @@ goes-on m n t s g within =
       inputs = ap (map (value_at (values n))) inputs ∙ same;
       there = λ h.
           ap (list_all (λ i. is_there (outcome_at n.table.outcomes i))) inputs
-          ∙ list_all-stays (λ i. is_there (outcome_at m.table.outcomes i)) (λ i. is_there (outcome_at n.table.outcomes i)) (inputs_of m.table t)
+          ∙ list_all-weaker (λ i. is_there (outcome_at m.table.outcomes i)) (λ i. is_there (outcome_at n.table.outcomes i)) (inputs_of m.table t)
           (λ i l. there-stays (outcome_at m.table.outcomes i) (outcome_at n.table.outcomes i) (g.outcomes i (omega (arith, there-within m.table.outcomes i l, s.lengths.outcomes))) l) h;
     }
 

@@ -6,11 +6,11 @@ pub mod Later
 pub mod Leveled
 pub mod Making
 pub mod Numbers
-pub mod Pictured
 pub mod Reading
 pub mod Settling
 pub mod Truth
 pub mod Windows
 pub mod Workable
 -- the crate's own
+mod Pictured
 mod Flags

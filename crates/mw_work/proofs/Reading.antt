@@ -4,6 +4,7 @@ use Rattle.std.specs.Prelude.{Contains}
 use Rattle.std.specs.List.{list_any}
 use Rattle.std.proofs.lemmas.Bool.{cases_Bool, and_parts, and_from, or_cases, or_right, not-true, both_ways, lt-ltb}
 use Rattle.mw_facts.proofs.Alls.{all-contains}
+use Rattle.mw_facts.proofs.Tests.{list_any-range}
 use Rattle.mw_model.specs.declared.places.Rect.{Rect}
 use Rattle.mw_model.specs.Places.{Holds, IsWithin}
 use Rattle.mw_model.specs.Elements.{reach_of}
@@ -14,7 +15,7 @@ use Rattle.mw_grid.proofs.Reaching.{stays_within}
 use Rattle.mw_progress.specs.mw_tiles.Tiles.{HasAll}
 use Rattle.mw_progress.specs.ProgressView.{ProgressView, IsPlaneSource, IsWhole, has_all_read, number_of, plane_at}
 use Rattle.mw_work.specs.Works.{IsReadyOrRuns}
-use Rattle.mw_work.proofs.Flags.{list_all-range, list_any-range, list_any-is_step}
+use Rattle.mw_work.proofs.Flags.{list_all-range, list_any-is_step}
 use Rattle.mw_work.proofs.Numbers.{length-tiles, some-whole, step_number-number_of, number_of-within, step_number-within, tile_of_task-number_of, tile_of_task-within, placed-number_of}
 
 -- ---- tasks that are ready or run

@@ -1,10 +1,11 @@
 use Rattle.std.proofs.Common.{◌≡◌, ◌<◌, ◌*◌, ◌+◌, ◌-◌, ◌/◌, ◌+ℤ◌, pos, ℕ, ℤ, List, length, ap, ◌∙◌, arith, to_z, of_z, w64}
 use Rattle.std.proofs.lemmas.Int.{ints}
+use Rattle.mw_facts.proofs.Elements.{take-written}
 use Rattle.mw_model.specs.Rasters.{raster, cell_at}
 use Rattle.mw_lane.specs.Shifted.{merge_at}
 use Rattle.mw_line.specs.Extrema.{over}
 use Rattle.mw_line.proofs.Over.{over_same}
-use Rattle.mw_line.proofs.Rows.{written, rows_fit}
+use Rattle.mw_line.proofs.Rows.{rows_fit}
 use Rattle.mw_bits.specs.Packed.{bit_of}
 use Rattle.mw_bits.proofs.Packs.{stride_wide}
 use Rattle.mw_bits.proofs.boxes.box_words.Goals as goal
@@ -16,7 +17,7 @@ trimmed-requires-clause-words g c = λ y lt.
     let high = c.args.tile.height + (c.args.looked.down - 1) in
     let out = c.slide_box.new.cells in
     let whole : length out ≡ c.in_ok-cells.cells.len = omega arith in
-    let size = ap length (c.as_slice.ensures.value ∙ written c.in_ok-cells.cells.items out c.in_ok-cells.cells.len whole) in
+    let size = ap length (c.as_slice.ensures.value ∙ take-written c.in_ok-cells.cells.items out c.in_ok-cells.cells.len whole) in
     omega (arith, size, whole, c.in_ok-cells.ensures.size, rows_fit y high wide (omega arith), c.stride.ensures.value)
 
 pub returns-clause-cells : goal.returns-clause-cells
@@ -38,7 +39,7 @@ returns-clause-cells g c = λ x y less row_less.
     let x-is : to_x ≡ looked.column = omega (arith, ints) in
     let y-is : to_y ≡ looked.row = omega (arith, ints) in
     c.in_ok-made.ensures.bits x y less row_less
-    ∙ ap (λ (t : List ℕ). bit_of t at) (c.as_slice.ensures.value ∙ written c.in_ok-cells.cells.items out c.in_ok-cells.cells.len whole)
+    ∙ ap (λ (t : List ℕ). bit_of t at) (c.as_slice.ensures.value ∙ take-written c.in_ok-cells.cells.items out c.in_ok-cells.cells.len whole)
     ∙ c.slide_box.ensures x y (omega (arith, inside)) (omega arith)
     ∙ over_same f (λ j. over f (λ i. bit_of c.as_mut_slice.result.now ((y + j) * (64 * wide) + (x + i))) 0 (looked.across - 1))
     (λ j. over f (λ i. seen (looked.column +ℤ pos (x + i)) (looked.row +ℤ pos (y + j))) 0 (looked.across - 1)) 0 (looked.down - 1)

@@ -1,10 +1,10 @@
 use Rattle.std.proofs.Common.{◌≡◌, ℕ, ◌+◌, ◌-◌, ◌*◌, ◌<◌, ◌≤◌, length, refl, ap, ◌∙◌, arith}
 use Rattle.std.specs.List.{AllByRecursion}
+use Rattle.mw_facts.proofs.Alls.{all-weaker}
 use Rattle.mw_line.specs.Extrema.{strided}
 use Rattle.mw_line.proofs.Folds.{IsExtremum}
 use Rattle.mw_run.specs.declared.runs.Run.{Run}
 use Rattle.mw_run.specs.Runs.{start_of, HasRoom}
-use Rattle.mw_run.proofs.RunLists.{all_weaker}
 use Rattle.mw_offset.proofs.Gathers.{gather_below, all_below, IsDoubled, doubled_more, run_value, none_gathered, gathered_more}
 use Rattle.mw_bits.specs.Packed.{bit_of}
 use Rattle.mw_bits.specs.Layouts.{laid_bits}
@@ -80,7 +80,7 @@ returns-else-size-cells g c = λ n blank q lt.
     let value = λ (r : Run). strided f cells n 1 (r.count - 1) (start_of e wide r + q) in
     let same = c.sizes.invariant.cells_size in
     let short : AllByRecursion (λ (r : Run). r.count < 2 * c.sizes.size) runs =
-    all_weaker (HasRoom e wide (64 * length out) (64 * (length c.args.cells.now - 1))) (λ (r : Run). r.count < 2 * c.sizes.size) runs (λ r room. let fits = room.room in omega arith) c.requires.room in
+    all-weaker (HasRoom e wide (64 * length out) (64 * (length c.args.cells.now - 1))) (λ (r : Run). r.count < 2 * c.sizes.size) runs (λ r room. let fits = room.room in omega arith) c.requires.room in
     c.sizes.invariant.done n blank q lt ∙ all_below f n value (2 * c.sizes.size) runs short
 
 pub returns-after-sizes : goal.returns-after-sizes
@@ -90,5 +90,5 @@ returns-after-sizes g c = λ n blank q lt.
     let runs = c.args.runs.now in
     let value = λ (r : Run). strided f cells n 1 (r.count - 1) (start_of c.args.extent c.args.wide r + q) in
     let short : AllByRecursion (λ (r : Run). r.count < 2 * c.sizes.size) runs =
-    all_weaker (λ (r : Run). r.count ≤ c.args.longest) (λ (r : Run). r.count < 2 * c.sizes.size) runs (λ r le. omega arith) c.requires.longest in
+    all-weaker (λ (r : Run). r.count ≤ c.args.longest) (λ (r : Run). r.count < 2 * c.sizes.size) runs (λ r le. omega arith) c.requires.longest in
     c.sizes.invariant.done n blank q lt ∙ all_below f n value (2 * c.sizes.size) runs short

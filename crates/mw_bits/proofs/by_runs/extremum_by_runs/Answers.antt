@@ -3,9 +3,10 @@ use Rattle.std.proofs.lemmas.Int.{ints}
 use Rattle.std.proofs.lemmas.List.{length-replicate}
 use Rattle.mw_model.specs.declared.places.Rect.{Rect}
 use Rattle.std.proofs.lemmas.Nat.{mul-le}
-use Rattle.mw_line.proofs.Padded.{nonnegative_is}
+use Rattle.mw_facts.proofs.Elements.{take-written}
+use Rattle.mw_model.proofs.Nonnegative.{nonnegative_is}
 use Rattle.mw_line.proofs.Folds.{IsExtremum}
-use Rattle.mw_line.proofs.Rows.{written, rows_fit}
+use Rattle.mw_line.proofs.Rows.{rows_fit}
 use Rattle.mw_offset.proofs.Rooms.{row_fits}
 use Rattle.mw_offset.proofs.Seens.{IsLaid, all_room, gather_seen}
 use Rattle.mw_bits.specs.Packed.{bit_of}
@@ -56,7 +57,7 @@ trimmed-requires-clause-words g c = λ y lt.
     let out = c.combine_runs.new.out in
     let whole : length out ≡ c.in_ok-out.out.len = omega arith in
     let old_size : length c.as_mut_slice-2.result.now ≡ count = ap length (c.as_mut_slice-2.ensures.value ∙ c.in_ok-out.ensures) ∙ length-replicate count c.neutral_word.result in
-    let size = ap length (c.as_slice.ensures.value ∙ written c.in_ok-out.out.items out c.in_ok-out.out.len whole) in
+    let size = ap length (c.as_slice.ensures.value ∙ take-written c.in_ok-out.out.items out c.in_ok-out.out.len whole) in
     let there = row_fits y tile.height wide s count lt (omega arith) in
     omega (arith, c.stride-stride.ensures.value)
 
@@ -106,6 +107,6 @@ returns-clause-cells g c =
     let inside : x < 64 * s = omega (arith, stride_wide tile.width x less, c.stride-stride.ensures.value) in
     let there = row_fits y tile.height wide s count row_less (omega arith) in
     c.in_ok-made.ensures.bits x y less row_less
-    ∙ ap (λ (t : List ℕ). bit_of t at) (c.as_slice.ensures.value ∙ written c.in_ok-out.out.items out c.in_ok-out.out.len whole)
+    ∙ ap (λ (t : List ℕ). bit_of t at) (c.as_slice.ensures.value ∙ take-written c.in_ok-out.out.items out c.in_ok-out.out.len whole)
     ∙ c.combine_runs.ensures n (λ q lt. ap (λ (t : List ℕ). bit_of t q) old-is ∙ blank_bit count c.neutral_word.result n q (omega (arith, old_size)) c.neutral_word.ensures) at (omega (arith, there, old_size))
     ∙ gather_seen f laws n w tile_words e (64 * wide) high column row (laid_bits cells) laid c.args.runs.now (all_inside_wider e c.args.extent c.args.runs.now c.widened-laid.ensures.wider c.requires.inside) x y inside row_less

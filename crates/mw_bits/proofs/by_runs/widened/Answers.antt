@@ -1,6 +1,6 @@
 use Rattle.std.proofs.Common.{◌-ℤ◌, arith}
 use Rattle.std.proofs.lemmas.Int.{ints}
-use Rattle.mw_line.proofs.Padded.{nonnegative_is}
+use Rattle.mw_model.proofs.Nonnegative.{nonnegative_is}
 use Rattle.mw_bits.proofs.by_runs.widened.Goals as goal
 
 pub returns-clause-wider : goal.returns-clause-wider

@@ -1,7 +1,8 @@
 use Rattle.std.proofs.Common.{◌≡◌, ℕ, ◌*◌, ◌+◌, ◌<◌, ap, ◌∙◌, arith, List, length, fold}
+use Rattle.mw_facts.proofs.Elements.{take-written}
 use Rattle.mw_model.specs.Rasters.{seen_under}
 use Rattle.mw_model.specs.Windows.{seen_at}
-use Rattle.mw_line.proofs.Rows.{written, rows_fit}
+use Rattle.mw_line.proofs.Rows.{rows_fit}
 use Rattle.mw_bits.specs.Packed.{bit_of}
 use Rattle.mw_bits.proofs.Done.{blank_bit}
 use Rattle.mw_bits.proofs.Packs.{stride_wide}
@@ -21,7 +22,7 @@ returns-clause-cells g c =
     let seen = seen_under (seen_at c.args.set.now) c.args.offsets.now (tile.x + x) (tile.y + y) in
     let wide : x < 64 * s = omega (arith, stride_wide tile.width x less, c.stride-stride.ensures.value) in
     c.in_ok-made.ensures.bits x y less row_less
-    ∙ ap (λ (t : List ℕ). bit_of t at) (c.as_slice.ensures.value ∙ written items out c.in_ok-cells.cells.len whole)
+    ∙ ap (λ (t : List ℕ). bit_of t at) (c.as_slice.ensures.value ∙ take-written items out c.in_ok-cells.cells.len whole)
     ∙ c.combine_offsets.ensures x y wide row_less
     ∙ ap (λ (t : List ℕ). fold f (bit_of t at) seen) (c.as_mut_slice.ensures.value ∙ c.in_ok-cells.ensures)
     ∙ ap (λ (t : ℕ). fold f t seen) (blank_bit (tile.height * s) c.neutral_word.result n at (omega (arith, rows_fit y tile.height s row_less)) c.neutral_word.ensures)

@@ -1,8 +1,9 @@
 use Rattle.std.proofs.Common.{◌≡◌, ℕ, ◌*◌, ◌+◌, ◌+ℤ◌, pos, ℤ, List, ap, ◌∙◌, arith, length, to_z, of_z, w64}
 use Rattle.std.proofs.lemmas.Int.{ints}
+use Rattle.mw_facts.proofs.Elements.{take-written}
 use Rattle.mw_model.specs.Rasters.{raster, cell_at}
 use Rattle.mw_lane.specs.Shifted.{merge_at}
-use Rattle.mw_line.proofs.Rows.{written, rows_fit}
+use Rattle.mw_line.proofs.Rows.{rows_fit}
 use Rattle.mw_bits.specs.Packed.{bit_of}
 use Rattle.mw_bits.proofs.Done.{blank_bit}
 use Rattle.mw_bits.proofs.spread.spread.Goals as goal
@@ -23,7 +24,7 @@ returns-clause-cells g c =
     let seen = λ (column row : ℤ). cell_at (raster set.place.width set.place.height set.cells) column row in
     λ x y less row_less.
     let at = y * (64 * wide) + x in
-    ap (λ (t : List ℕ). bit_of t at) (written items out c.in_ok-cells.cells.len whole)
+    ap (λ (t : List ℕ). bit_of t at) (take-written items out c.in_ok-cells.cells.len whole)
     ∙ c.spread_rows.ensures x y less row_less
     ∙ ap (λ (t : List ℕ). merge_at f (bit_of t at) (seen (to_x +ℤ pos x) (to_y +ℤ pos y))) (c.as_mut_slice.ensures.value ∙ c.in_ok-cells.ensures)
     ∙ ap (λ (t : ℕ). merge_at f t (seen (to_x +ℤ pos x) (to_y +ℤ pos y))) (blank_bit (c.args.high * wide + 1) c.neutral_word.result n at (omega (arith, rows_fit y c.args.high wide row_less)) c.neutral_word.ensures)

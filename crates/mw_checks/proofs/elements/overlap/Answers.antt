@@ -1,8 +1,9 @@
 use Rattle.std.proofs.Common.{sym, ap, ◌∙◌}
 use Rattle.mw_model.specs.Elements.{overlaps}
 use Rattle.mw_model.specs.Values.{value_at}
+use Rattle.mw_element.proofs.Order.{overlaps-none}
 use Rattle.mw_checks.specs.Checks.{kept_offsets}
-use Rattle.mw_checks.proofs.ElementLemmas.{overlaps-none, no-offsets}
+use Rattle.mw_checks.proofs.ElementLemmas.{no-offsets}
 use Rattle.mw_checks.proofs.elements.overlap.Goals as goal
 
 pub returns-in_default-element : goal.returns-in_default-element

@@ -1,5 +1,6 @@
-use Rattle.std.proofs.Common.{◌≡◌, ◌≢◌, ◌++◌, ◌+◌, ◌≤◌, [], take, drop, length, length-drop, ◌∙◌, arith}
+use Rattle.std.proofs.Common.{◌≡◌, ◌≢◌, ◌++◌, ◌+◌, ◌≤◌, ℕ, List, [], take, drop, length, length-drop, sym, subst, ◌∙◌, arith}
 use Rattle.mw_wire.specs.declared.fault.SessionFault.TheVariants.{Write}
+use Rattle.mw_intake.specs.Intake.{IsPortion}
 use Rattle.mw_desk.proofs.Rooms.{some_dropped}
 use Rattle.mw_desk.proofs.Ends.{progress-drained}
 use Rattle.mw_desk.proofs.Serving.{some_left, progress-portion, drains-no-room, drains-finished, drains-cut}
@@ -9,7 +10,7 @@ pub returns-in-Err-clause-ran : goal.returns-in-Err-clause-ran
 returns-in-Err-clause-ran g c = λ left.
     let i = c.portions.invariant in
     let some : drop c.portions.at c.args.piece.now ≢ [] = λ e. some_dropped c.portions.at c.args.piece.now (omega (arith, c.portions-test.true)) e in
-    drains-no-room g.D.Desk.Answer left c.args.intake.now c.args.piece.now c.portions.intake c.feed.new.self c.portions.at c.args.kept.now c.portions.kept
+    drains-no-room g.D.Desk.Answer left c.args.intake.now.bytes c.args.piece.now c.portions.intake.bytes c.feed.new.self.bytes c.portions.at c.args.kept.now c.portions.kept
     (g.W.Write.contents c.args.sink.now.inner) (g.W.Write.contents c.portions.sink.inner) (g.W.Write.contents c.end_within.new.sink.inner) c.end_within.result
     c.in-Err.ensures.err i.progress i.waits some c.end_within.ensures.wrote _ c.end_within.ensures.flag
 
@@ -17,19 +18,19 @@ pub returns-in-Err-drain-clause-ran : goal.returns-in-Err-drain-clause-ran
 returns-in-Err-drain-clause-ran g c = λ left.
     let x = g.W.Write.contents c.args.sink.now.inner in
     let y = g.W.Write.contents c.portions.sink.inner in
-    let fed : c.feed.new.self ≡ c.portions.intake ++ take c.portion-n.result (drop c.portions.at c.args.piece.now) = rw (c.split_at-in-portions.ensures.front, c.split_at.ensures.back) at c.in-Ok.ensures.ok in
-    let h = progress-portion g.D.Desk.Answer c.args.intake.now c.args.piece.now c.portions.intake c.feed.new.self c.portions.at c.portion-n.result c.args.kept.now c.portions.kept x y fed c.portions.invariant.progress in
+    let fed : c.feed.new.self.bytes ≡ c.portions.intake.bytes ++ take c.portion-n.result (drop c.portions.at c.args.piece.now) = rw (c.split_at-in-portions.ensures.front, c.split_at.ensures.back) at c.in-Ok.ensures.ok in
+    let h = progress-portion g.D.Desk.Answer c.args.intake.now.bytes c.args.piece.now c.portions.intake.bytes c.feed.new.self.bytes c.portions.at c.portion-n.result c.args.kept.now c.portions.kept x y fed c.portions.invariant.progress in
     let is_write : c.in-Err-drain.fault ≡ Write = let e = c.in-Err-drain.ensures.flag.0 in cc in
-    drains-cut g.D.Desk.Answer left c.args.intake.now c.args.piece.now c.feed.new.self c.drain.new.intake (c.portions.at + c.portion-n.result) c.args.kept.now c.portions.kept c.drain.new.kept x y (g.W.Write.contents c.drain.new.sink.inner)
+    drains-cut g.D.Desk.Answer left c.args.intake.now.bytes c.args.piece.now c.feed.new.self.bytes c.drain.new.intake.bytes (c.portions.at + c.portion-n.result) c.args.kept.now c.portions.kept c.drain.new.kept x y (g.W.Write.contents c.drain.new.sink.inner)
     c.in-Err-drain.fault is_write h (c.in-Err-drain.ensures.ran some_left)
 
 pub returns-in-Ok-Some-clause-ran : goal.returns-in-Ok-Some-clause-ran
 returns-in-Ok-Some-clause-ran g c = λ left.
     let x = g.W.Write.contents c.args.sink.now.inner in
     let y = g.W.Write.contents c.portions.sink.inner in
-    let fed : c.feed.new.self ≡ c.portions.intake ++ take c.portion-n.result (drop c.portions.at c.args.piece.now) = rw (c.split_at-in-portions.ensures.front, c.split_at.ensures.back) at c.in-Ok.ensures.ok in
-    let h = progress-portion g.D.Desk.Answer c.args.intake.now c.args.piece.now c.portions.intake c.feed.new.self c.portions.at c.portion-n.result c.args.kept.now c.portions.kept x y fed c.portions.invariant.progress in
-    drains-finished g.D.Desk.Answer left c.args.intake.now c.args.piece.now c.feed.new.self c.drain.new.intake (c.portions.at + c.portion-n.result) c.args.kept.now c.portions.kept c.drain.new.kept x y (g.W.Write.contents c.drain.new.sink.inner) c.in-Ok-Some.end
+    let fed : c.feed.new.self.bytes ≡ c.portions.intake.bytes ++ take c.portion-n.result (drop c.portions.at c.args.piece.now) = rw (c.split_at-in-portions.ensures.front, c.split_at.ensures.back) at c.in-Ok.ensures.ok in
+    let h = progress-portion g.D.Desk.Answer c.args.intake.now.bytes c.args.piece.now c.portions.intake.bytes c.feed.new.self.bytes c.portions.at c.portion-n.result c.args.kept.now c.portions.kept x y fed c.portions.invariant.progress in
+    drains-finished g.D.Desk.Answer left c.args.intake.now.bytes c.args.piece.now c.feed.new.self.bytes c.drain.new.intake.bytes (c.portions.at + c.portion-n.result) c.args.kept.now c.portions.kept c.drain.new.kept x y (g.W.Write.contents c.drain.new.sink.inner) c.in-Ok-Some.end
     h (rw c.in-Ok-Some.field-0-is at (c.in-Ok-Some.ensures.ran some_left))
 
 pub portions-preserved : goal.portions-preserved
@@ -38,13 +39,21 @@ portions-preserved g c =
     let piece = c.args.piece.now in
     let x = g.W.Write.contents c.args.sink.now.inner in
     let y = g.W.Write.contents c.portions.sink.inner in
-    let fed : c.feed.new.self ≡ c.portions.intake ++ take c.portion-n.result (drop c.portions.at piece) = rw (c.split_at-in-portions.ensures.front, c.split_at.ensures.back) at c.in-Ok.ensures.ok in
+    let fed : c.feed.new.self.bytes ≡ c.portions.intake.bytes ++ take c.portion-n.result (drop c.portions.at piece) = rw (c.split_at-in-portions.ensures.front, c.split_at.ensures.back) at c.in-Ok.ensures.ok in
     let short : c.portion-n.result ≤ length (drop c.portions.at piece) = rw c.split_at.ensures.back at c.portion-n.ensures.within in
-    let h = progress-portion g.D.Desk.Answer c.args.intake.now piece c.portions.intake c.feed.new.self c.portions.at c.portion-n.result c.args.kept.now c.portions.kept x y fed i.progress in
+    let h = progress-portion g.D.Desk.Answer c.args.intake.now.bytes piece c.portions.intake.bytes c.feed.new.self.bytes c.portions.at c.portion-n.result c.args.kept.now c.portions.kept x y fed i.progress in
     let d = rw c.in-Ok-None.field-0-is at (c.in-Ok-None.ensures.ran some_left) in
     record {
       within = omega (arith, short, length-drop c.portions.at piece, i.within);
-      progress = progress-drained g.D.Desk.Answer (c.args.intake.now ++ take (c.portions.at + c.portion-n.result) piece) c.feed.new.self c.drain.new.intake c.args.kept.now c.portions.kept c.drain.new.kept x y (g.W.Write.contents c.drain.new.sink.inner) h d;
+      progress = progress-drained g.D.Desk.Answer (c.args.intake.now.bytes ++ take (c.portions.at + c.portion-n.result) piece) c.feed.new.self.bytes c.drain.new.intake.bytes c.args.kept.now c.portions.kept c.drain.new.kept x y (g.W.Write.contents c.drain.new.sink.inner) h d;
       waits = c.in-Ok-None.ensures.waits c.in-Ok-None.field-0-is;
+      is_open = c.in-Ok-None.ensures.is_open c.in-Ok-None.field-0-is;
       same = c.in-Ok-None.ensures.same ∙ i.same;
     }
+
+pub drain-requires-clause-tidy : goal.drain-requires-clause-tidy
+drain-requires-clause-tidy g c =
+    let P : List ℕ → Type 0 = λ l. IsPortion c.portions.intake l in
+    let taken = c.split_at-in-portions.ensures.front in
+    let portion : IsPortion c.portions.intake c.split_at-in-portions.result.0.now = subst P (sym taken) c.portion-n.ensures.portion in
+    c.in-Ok.ensures.tidy c.portions.invariant.is_open c.portions.invariant.waits portion

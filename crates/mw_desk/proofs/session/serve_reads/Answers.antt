@@ -4,8 +4,9 @@ use Rattle.mw_model.specs.declared.codes.Code.TheVariants.{Memory}
 use Rattle.mw_model.specs.Lines.{Partial}
 use Rattle.mw_wire.specs.declared.fault.SessionFault.TheVariants.{Read}
 use Rattle.mw_intake.specs.Reading.{front}
+use Rattle.mw_intake.proofs.Front.{front_empty}
 use Rattle.mw_desk.proofs.Ends.{Progress, progress-start, progress-more, progress-drained}
-use Rattle.mw_desk.proofs.Serving.{front-empty, take-front, progress-kept, ran-finished, ran-broken, ran-held, ran-stopped, ran-ended, ran-to-end, write-failed, error-is}
+use Rattle.mw_desk.proofs.Serving.{take-front, progress-kept, ran-finished, ran-broken, ran-held, ran-stopped, ran-ended, ran-to-end, write-failed, error-is}
 use Rattle.mw_desk.proofs.session.serve_reads.Goals as goal
 
 pub returns-in-Err-clause-ran : goal.returns-in-Err-clause-ran
@@ -22,8 +23,9 @@ reads-init g c =
     record {
       taken = [];
       read = Consumes-nil (g.R.Read.remaining c.args.source.now.inner);
-      progress = let P : List ℕ → Type 0 = λ l. Progress g.D.Desk.Answer [] l kept kept x x in subst P (sym c.new-intake.ensures) (progress-start g.D.Desk.Answer [] kept x);
-      waits = let P : List ℕ → Type 0 = λ l. front l ≡ Partial in subst P (sym c.new-intake.ensures) front-empty;
+      progress = let P : List ℕ → Type 0 = λ l. Progress g.D.Desk.Answer [] l kept kept x x in subst P (sym c.new-intake.ensures.bytes) (progress-start g.D.Desk.Answer [] kept x);
+      waits = let P : List ℕ → Type 0 = λ l. front l ≡ Partial in subst P (sym c.new-intake.ensures.bytes) front_empty;
+      is_open = inl c.new-intake.ensures.loose;
       source_clear = c.requires.source_clear;
       sink_clear = c.requires.sink_clear;
       reads = omega (arith, c.requires.unread);
@@ -33,17 +35,17 @@ reads-init g c =
 pub returns-in-Err-receive-clause-ran : goal.returns-in-Err-receive-clause-ran
 returns-in-Err-receive-clause-ran g c =
     let i = c.reads.invariant in
-    let now = progress-kept g.D.Desk.Answer i.taken c.reads.intake c.args.kept.now c.reads.kept (g.W.Write.contents c.args.sink.now.inner) (g.W.Write.contents c.reads.sink.inner) (g.W.Write.contents c.pass_on.new.sink.inner) i.progress c.pass_on.ensures.same_bytes in
+    let now = progress-kept g.D.Desk.Answer i.taken c.reads.intake.bytes c.args.kept.now c.reads.kept (g.W.Write.contents c.args.sink.now.inner) (g.W.Write.contents c.reads.sink.inner) (g.W.Write.contents c.pass_on.new.sink.inner) i.progress c.pass_on.ensures.same_bytes in
     let is_read : c.in-Err-receive.fault ≡ Read = let e = c.in-Err-receive.ensures.fault.0 in cc in
-    ran-stopped g.D.Desk.Answer c.args.kept.now c.reads.kept (g.R.Read.remaining c.args.source.now.inner) (g.R.Read.remaining c.receive.new.source.inner) i.taken c.reads.intake
+    ran-stopped g.D.Desk.Answer c.args.kept.now c.reads.kept (g.R.Read.remaining c.args.source.now.inner) (g.R.Read.remaining c.receive.new.source.inner) i.taken c.reads.intake.bytes
     (g.W.Write.contents c.args.sink.now.inner) (g.W.Write.contents c.pass_on.new.sink.inner) c.in-Err-receive.fault (Consumes-kept _ _ _ _ i.read c.in-Err-receive.ensures.err) now i.waits is_read
 
 pub returns-then-n-eq0-clause-ran : goal.returns-then-n-eq0-clause-ran
 returns-then-n-eq0-clause-ran g c =
     let i = c.reads.invariant in
-    let now = progress-kept g.D.Desk.Answer i.taken c.reads.intake c.args.kept.now c.reads.kept (g.W.Write.contents c.args.sink.now.inner) (g.W.Write.contents c.reads.sink.inner) (g.W.Write.contents c.pass_on.new.sink.inner) i.progress c.pass_on.ensures.same_bytes in
+    let now = progress-kept g.D.Desk.Answer i.taken c.reads.intake.bytes c.args.kept.now c.reads.kept (g.W.Write.contents c.args.sink.now.inner) (g.W.Write.contents c.reads.sink.inner) (g.W.Write.contents c.pass_on.new.sink.inner) i.progress c.pass_on.ensures.same_bytes in
     let zero : c.in-Ok-receive.n ≡ 0 = omega (arith, c.if-n-eq0.true) in
-    ran-to-end g.D.Desk.Answer c.args.kept.now c.reads.kept (g.R.Read.remaining c.args.source.now.inner) (g.R.Read.remaining c.reads.source.inner) (g.R.Read.remaining c.receive.new.source.inner) i.taken c.reads.intake
+    ran-to-end g.D.Desk.Answer c.args.kept.now c.reads.kept (g.R.Read.remaining c.args.source.now.inner) (g.R.Read.remaining c.reads.source.inner) (g.R.Read.remaining c.receive.new.source.inner) i.taken c.reads.intake.bytes
     (g.W.Write.contents c.args.sink.now.inner) (g.W.Write.contents c.pass_on.new.sink.inner) (g.W.Write.contents c.end_of_input.new.sink.inner) c.end_of_input.result i.read (rw zero at c.in-Ok-receive.ensures.ok) (c.in-Ok-receive.ensures.end zero)
     now i.waits c.end_of_input.ensures.quit c.end_of_input.ensures.cut _ c.end_of_input.ensures.flag
 
@@ -53,48 +55,49 @@ returns-then-n-eq0-clause-writer_failed g c = write-failed c.end_of_input.result
 pub returns-in-Err-serve_piece-clause-ran : goal.returns-in-Err-serve_piece-clause-ran
 returns-in-Err-serve_piece-clause-ran g c =
     let i = c.reads.invariant in
-    let now = progress-kept g.D.Desk.Answer i.taken c.reads.intake c.args.kept.now c.reads.kept (g.W.Write.contents c.args.sink.now.inner) (g.W.Write.contents c.reads.sink.inner) (g.W.Write.contents c.pass_on.new.sink.inner) i.progress c.pass_on.ensures.same_bytes in
+    let now = progress-kept g.D.Desk.Answer i.taken c.reads.intake.bytes c.args.kept.now c.reads.kept (g.W.Write.contents c.args.sink.now.inner) (g.W.Write.contents c.reads.sink.inner) (g.W.Write.contents c.pass_on.new.sink.inner) i.progress c.pass_on.ensures.same_bytes in
     let x = g.W.Write.contents c.args.sink.now.inner in
     let y = g.W.Write.contents c.pass_on.new.sink.inner in
     let left = g.R.Read.remaining c.receive.new.source.inner in
     let piece = take c.in-Ok-receive.n c.receive.new.buffer in
     let fits : c.in-Ok-receive.n ≤ c.reads.buffer.len = search rules in
     let same : take c.in-Ok-receive.n c.deref.result.now ≡ piece = ap (λ l. take c.in-Ok-receive.n l) c.deref.ensures.value ∙ take-front c.in-Ok-receive.n c.reads.buffer.len c.receive.new.buffer (drop (length c.receive.new.buffer) c.reads.buffer.items) c.in-Ok-receive.ensures.bound fits in
-    let h = progress-more g.D.Desk.Answer i.taken piece c.reads.intake c.args.kept.now c.reads.kept x y now in
-    ran-broken g.D.Desk.Answer c.args.kept.now c.reads.kept c.serve_piece.new.kept (g.R.Read.remaining c.args.source.now.inner) left (i.taken ++ piece) (c.reads.intake ++ piece) c.serve_piece.new.intake x y (g.W.Write.contents c.serve_piece.new.sink.inner) c.in-Err-serve_piece.fault
+    let h = progress-more g.D.Desk.Answer i.taken piece c.reads.intake.bytes c.args.kept.now c.reads.kept x y now in
+    ran-broken g.D.Desk.Answer c.args.kept.now c.reads.kept c.serve_piece.new.kept (g.R.Read.remaining c.args.source.now.inner) left (i.taken ++ piece) (c.reads.intake.bytes ++ piece) c.serve_piece.new.intake.bytes x y (g.W.Write.contents c.serve_piece.new.sink.inner) c.in-Err-serve_piece.fault
     (Consumes-trans _ _ _ i.taken piece i.read c.in-Ok-receive.ensures.ok) h (rw same at (c.in-Err-serve_piece.ensures.ran left))
 
 pub returns-in-Ok-Some-clause-ran : goal.returns-in-Ok-Some-clause-ran
 returns-in-Ok-Some-clause-ran g c =
     let i = c.reads.invariant in
-    let now = progress-kept g.D.Desk.Answer i.taken c.reads.intake c.args.kept.now c.reads.kept (g.W.Write.contents c.args.sink.now.inner) (g.W.Write.contents c.reads.sink.inner) (g.W.Write.contents c.pass_on.new.sink.inner) i.progress c.pass_on.ensures.same_bytes in
+    let now = progress-kept g.D.Desk.Answer i.taken c.reads.intake.bytes c.args.kept.now c.reads.kept (g.W.Write.contents c.args.sink.now.inner) (g.W.Write.contents c.reads.sink.inner) (g.W.Write.contents c.pass_on.new.sink.inner) i.progress c.pass_on.ensures.same_bytes in
     let x = g.W.Write.contents c.args.sink.now.inner in
     let y = g.W.Write.contents c.pass_on.new.sink.inner in
     let left = g.R.Read.remaining c.receive.new.source.inner in
     let piece = take c.in-Ok-receive.n c.receive.new.buffer in
     let fits : c.in-Ok-receive.n ≤ c.reads.buffer.len = search rules in
     let same : take c.in-Ok-receive.n c.deref.result.now ≡ piece = ap (λ l. take c.in-Ok-receive.n l) c.deref.ensures.value ∙ take-front c.in-Ok-receive.n c.reads.buffer.len c.receive.new.buffer (drop (length c.receive.new.buffer) c.reads.buffer.items) c.in-Ok-receive.ensures.bound fits in
-    let h = progress-more g.D.Desk.Answer i.taken piece c.reads.intake c.args.kept.now c.reads.kept x y now in
-    ran-finished g.D.Desk.Answer c.args.kept.now c.reads.kept c.serve_piece.new.kept (g.R.Read.remaining c.args.source.now.inner) left (i.taken ++ piece) (c.reads.intake ++ piece) c.serve_piece.new.intake x y (g.W.Write.contents c.serve_piece.new.sink.inner) c.in-Ok-Some.end
+    let h = progress-more g.D.Desk.Answer i.taken piece c.reads.intake.bytes c.args.kept.now c.reads.kept x y now in
+    ran-finished g.D.Desk.Answer c.args.kept.now c.reads.kept c.serve_piece.new.kept (g.R.Read.remaining c.args.source.now.inner) left (i.taken ++ piece) (c.reads.intake.bytes ++ piece) c.serve_piece.new.intake.bytes x y (g.W.Write.contents c.serve_piece.new.sink.inner) c.in-Ok-Some.end
     (Consumes-trans _ _ _ i.taken piece i.read c.in-Ok-receive.ensures.ok) h (rw (same, c.in-Ok-Some.field-0-is) at (c.in-Ok-Some.ensures.ran left))
 
 pub reads-preserved : goal.reads-preserved
 reads-preserved g c =
     let i = c.reads.invariant in
-    let now = progress-kept g.D.Desk.Answer i.taken c.reads.intake c.args.kept.now c.reads.kept (g.W.Write.contents c.args.sink.now.inner) (g.W.Write.contents c.reads.sink.inner) (g.W.Write.contents c.pass_on.new.sink.inner) i.progress c.pass_on.ensures.same_bytes in
+    let now = progress-kept g.D.Desk.Answer i.taken c.reads.intake.bytes c.args.kept.now c.reads.kept (g.W.Write.contents c.args.sink.now.inner) (g.W.Write.contents c.reads.sink.inner) (g.W.Write.contents c.pass_on.new.sink.inner) i.progress c.pass_on.ensures.same_bytes in
     let x = g.W.Write.contents c.args.sink.now.inner in
     let y = g.W.Write.contents c.pass_on.new.sink.inner in
     let left = g.R.Read.remaining c.receive.new.source.inner in
     let piece = take c.in-Ok-receive.n c.receive.new.buffer in
     let fits : c.in-Ok-receive.n ≤ c.reads.buffer.len = search rules in
     let same : take c.in-Ok-receive.n c.deref.result.now ≡ piece = ap (λ l. take c.in-Ok-receive.n l) c.deref.ensures.value ∙ take-front c.in-Ok-receive.n c.reads.buffer.len c.receive.new.buffer (drop (length c.receive.new.buffer) c.reads.buffer.items) c.in-Ok-receive.ensures.bound fits in
-    let h = progress-more g.D.Desk.Answer i.taken piece c.reads.intake c.args.kept.now c.reads.kept x y now in
+    let h = progress-more g.D.Desk.Answer i.taken piece c.reads.intake.bytes c.args.kept.now c.reads.kept x y now in
     record {
       taken = i.taken ++ piece;
       read = Consumes-trans _ _ _ i.taken piece i.read c.in-Ok-receive.ensures.ok;
-      progress = progress-drained g.D.Desk.Answer (i.taken ++ piece) (c.reads.intake ++ piece) c.serve_piece.new.intake c.args.kept.now c.reads.kept c.serve_piece.new.kept x y (g.W.Write.contents c.serve_piece.new.sink.inner) h
+      progress = progress-drained g.D.Desk.Answer (i.taken ++ piece) (c.reads.intake.bytes ++ piece) c.serve_piece.new.intake.bytes c.args.kept.now c.reads.kept c.serve_piece.new.kept x y (g.W.Write.contents c.serve_piece.new.sink.inner) h
           (rw (same, c.in-Ok-None.field-0-is) at (c.in-Ok-None.ensures.ran left));
       waits = c.in-Ok-None.ensures.waits c.in-Ok-None.field-0-is;
+      is_open = c.in-Ok-None.ensures.is_open c.in-Ok-None.field-0-is;
       source_clear = c.in-Ok-receive.ensures.kept ∙ i.source_clear;
       sink_clear = c.in-Ok-None.ensures.same ∙ c.in-Ok-pass_on.ensures.kept ∙ i.sink_clear;
       reads = c.receive.ensures.few_reads;
@@ -104,18 +107,18 @@ reads-preserved g c =
 pub returns-clause-ran : goal.returns-clause-ran
 returns-clause-ran g c =
     let i = c.reads.invariant in
-    let h = progress-kept g.D.Desk.Answer i.taken c.reads.intake c.args.kept.now c.reads.kept (g.W.Write.contents c.args.sink.now.inner) (g.W.Write.contents c.reads.sink.inner) (g.W.Write.contents c.pass_on-2.new.sink.inner) i.progress c.pass_on-2.ensures.same_bytes in
-    ran-stopped g.D.Desk.Answer c.args.kept.now c.reads.kept (g.R.Read.remaining c.args.source.now.inner) (g.R.Read.remaining c.reads.source.inner) i.taken c.reads.intake
+    let h = progress-kept g.D.Desk.Answer i.taken c.reads.intake.bytes c.args.kept.now c.reads.kept (g.W.Write.contents c.args.sink.now.inner) (g.W.Write.contents c.reads.sink.inner) (g.W.Write.contents c.pass_on-2.new.sink.inner) i.progress c.pass_on-2.ensures.same_bytes in
+    ran-stopped g.D.Desk.Answer c.args.kept.now c.reads.kept (g.R.Read.remaining c.args.source.now.inner) (g.R.Read.remaining c.reads.source.inner) i.taken c.reads.intake.bytes
     (g.W.Write.contents c.args.sink.now.inner) (g.W.Write.contents c.pass_on-2.new.sink.inner) _ i.read h i.waits refl
 
 pub returns-in-Err-pass_on-clause-ran : goal.returns-in-Err-pass_on-clause-ran
 returns-in-Err-pass_on-clause-ran g c =
     let i = c.reads.invariant in
-    ran-held g.D.Desk.Answer c.args.kept.now c.reads.kept (g.R.Read.remaining c.args.source.now.inner) (g.R.Read.remaining c.reads.source.inner) i.taken c.reads.intake
+    ran-held g.D.Desk.Answer c.args.kept.now c.reads.kept (g.R.Read.remaining c.args.source.now.inner) (g.R.Read.remaining c.reads.source.inner) i.taken c.reads.intake.bytes
     (g.W.Write.contents c.args.sink.now.inner) (g.W.Write.contents c.reads.sink.inner) (g.W.Write.contents c.pass_on.new.sink.inner) _ i.read i.progress i.waits c.pass_on.ensures.same_bytes (error-is _ _ refl c.in-Err-pass_on.ensures.flag.0)
 
 pub returns-in-Err-pass_on-2-clause-ran : goal.returns-in-Err-pass_on-2-clause-ran
 returns-in-Err-pass_on-2-clause-ran g c =
     let i = c.reads.invariant in
-    ran-held g.D.Desk.Answer c.args.kept.now c.reads.kept (g.R.Read.remaining c.args.source.now.inner) (g.R.Read.remaining c.reads.source.inner) i.taken c.reads.intake
+    ran-held g.D.Desk.Answer c.args.kept.now c.reads.kept (g.R.Read.remaining c.args.source.now.inner) (g.R.Read.remaining c.reads.source.inner) i.taken c.reads.intake.bytes
     (g.W.Write.contents c.args.sink.now.inner) (g.W.Write.contents c.reads.sink.inner) (g.W.Write.contents c.pass_on-2.new.sink.inner) _ i.read i.progress i.waits c.pass_on-2.ensures.same_bytes (error-is _ _ refl c.in-Err-pass_on-2.ensures.flag.0)

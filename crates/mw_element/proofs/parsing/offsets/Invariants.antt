@@ -1,6 +1,10 @@
 use Rattle.std.proofs.Common.{◌≡◌}
+use Rattle.std.specs.Prelude.{vec_capacity}
 use Rattle.mw_element.proofs.Rows.{rows_part}
 use Rattle.mw_element.proofs.parsing.offsets.Given as goal
 
 abbrev pub invariant-rows : goal.invariant-rows
-invariant-rows l = l.out.items ≡ rows_part l.bitmap l.ox l.oy 0 l.y
+invariant-rows l = record {
+  made : l.out.items ≡ rows_part l.bitmap l.ox l.oy 0 l.y;
+  room : vec_capacity l.out ≡ l.count;
+}

@@ -2,14 +2,14 @@ use Rattle.std.proofs.Common.{List, subst, sym}
 use Rattle.mw_model.specs.declared.places.Offset.{Offset}
 use Rattle.mw_plan.specs.Asked.{offsets_of_input}
 use Rattle.mw_gran.specs.Sizes.{MakesGran}
-use Rattle.mw_gran.proofs.Meaning.{allowed, gran_plan, few_steps, few_steps_by_box, short_plan}
+use Rattle.mw_gran.proofs.Meaning.{IsAllowed-gran, gran_plan, few_steps, few_steps_by_box, short_plan}
 use Rattle.mw_gran.proofs.plans.plan_of.Goals as goal
 
 pub element-requires : goal.element-requires
-element-requires c = (allowed c.args.op.now c.args.a c.args.b c.args.c (sym c.in_ok-shape_of.ensures.fault)).element
+element-requires c = (IsAllowed-gran c.args.op.now c.args.a c.args.b c.args.c (sym c.in_ok-shape_of.ensures.fault)).element
 
 pub steps-requires : goal.steps-requires
-steps-requires c = (allowed c.args.op.now c.args.a c.args.b c.args.c (sym c.in_ok-shape_of.ensures.fault)).levels
+steps-requires c = (IsAllowed-gran c.args.op.now c.args.a c.args.b c.args.c (sym c.in_ok-shape_of.ensures.fault)).levels
 
 pub returns-clause-plan : goal.returns-clause-plan
 returns-clause-plan c =
@@ -26,5 +26,5 @@ returns-clause-boxed c =
 
 pub returns-clause-short : goal.returns-clause-short
 returns-clause-short c =
-    short_plan c.args.op.now (offsets_of_input c.args.b) c.in_ok-steps.field-0 (allowed c.args.op.now c.args.a c.args.b c.args.c (sym c.in_ok-shape_of.ensures.fault)).levels
+    short_plan c.args.op.now (offsets_of_input c.args.b) c.in_ok-steps.field-0 (IsAllowed-gran c.args.op.now c.args.a c.args.b c.args.c (sym c.in_ok-shape_of.ensures.fault)).levels
     (subst (λ (d : List Offset). MakesGran c.args.op.now d c.in_ok-steps.field-0) c.element.ensures c.in_ok-steps.ensures)

@@ -1,7 +1,7 @@
 use Rattle.std.proofs.Common.{◌≡◌, take, Some, None, ◌∙◌, arith, length-take}
 use Rattle.mw_intake.specs.Reading.{head_of}
 use Rattle.mw_model.specs.declared.requests.Head.TheVariants.{Payload, Alone}
-use Rattle.mw_intake.proofs.Front.{cut_bound, cut_open, cut_head, payload_line, payload_long}
+use Rattle.mw_intake.proofs.Front.{cut_bound, cut_end, cut_open, cut_head, payload_line, payload_long}
 use Rattle.mw_intake.proofs.cut.cut_front.Goals as goal
 
 pub returns-then-end-bytes : goal.returns-then-end-bytes
@@ -20,7 +20,8 @@ pub returns-in-Some-Alone : goal.returns-in-Some-Alone
 returns-in-Some-Alone c =
     let b = cut_bound c.args.bytes.now c.line_end-end.result c.line_end-end.ensures in
     let g : Some (Alone c.in-Some-Alone.ask) ≡ head_of (take c.line_end-end.result c.args.bytes.now) = cc in
-    (omega arith, omega arith, cut_head c.args.bytes.now c.line_end-end.result _ c.line_end-end.ensures (omega arith) (omega arith) g)
+    let place = cut_end c.args.bytes.now c.line_end-end.result c.line_end-end.ensures (omega arith) in
+    (omega arith, omega arith, cut_head c.args.bytes.now c.line_end-end.result _ c.line_end-end.ensures (omega arith) (omega arith) g, omega (arith, place))
 
 pub returns-then-len-gt-PAYLOAD_LIMIT : goal.returns-then-len-gt-PAYLOAD_LIMIT
 returns-then-len-gt-PAYLOAD_LIMIT c =

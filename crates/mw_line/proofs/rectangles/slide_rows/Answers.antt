@@ -1,12 +1,12 @@
 use Rattle.std.proofs.Common.{rules, ◌≡◌, ◌+◌, ◌-◌, ◌*◌, ◌++◌, ◌+ℤ◌, pos, ℕ, ℤ, List, ap, ◌∙◌, arith, length, length-take, take, refl, get_or, to_z, of_z, w64}
 use Rattle.std.proofs.lemmas.Int.{ints}
+use Rattle.mw_facts.proofs.Elements.{take-written, get_or-replicate_same}
 use Rattle.mw_model.specs.Rasters.{raster, cell_at}
 use Rattle.mw_lane.specs.Shifted.{merge_at}
 use Rattle.mw_line.specs.Columns.{IsGrown}
 use Rattle.mw_line.specs.Extrema.{over}
 use Rattle.mw_line.proofs.Growing.{grown_none, grown_longer, row_behind}
 use Rattle.mw_line.proofs.Over.{over_same}
-use Rattle.mw_line.proofs.Rows.{written, get_or-replicate_same}
 use Rattle.mw_line.proofs.rectangles.slide_rows.Goals as goal
 
 pub loop-y-init : goal.loop-y-init
@@ -36,7 +36,7 @@ loop-y-preserved g c =
       made = λ n blank-is.
           let value = λ (x j : ℕ). over f (λ i. at (to_x +ℤ pos (x + i)) (from_y +ℤ pos j) n) 0 (c.args.across - 1) in
           let before : IsGrown f value n w c.args.down y c.as_mut_slice.result.now = rw all (grown_longer f value n w c.args.down y rows (take w line) c.requires.some.1 (omega (arith, c.loop-y.invariant.size)) (c.loop-y.invariant.made n blank-is)) in
-          rw (written c.extend_from_slice.new.self.items grown c.extend_from_slice.new.self.len (omega arith)) (c.grow.ensures value n before (λ x less.
+          rw (take-written c.extend_from_slice.new.self.items grown c.extend_from_slice.new.self.len (omega arith)) (c.grow.ensures value n before (λ x less.
           ap (λ (t : List g.row.P.Denot). get_or t (y * w + x) n) all
           ∙ row_behind w y w rows line n (omega (arith, c.loop-y.invariant.size)) refl (omega arith) x less
           ∙ c.slide_row.ensures x n (omega arith)

@@ -1,6 +1,6 @@
 use Rattle.std.proofs.Common.{arith}
 use Rattle.std.proofs.lemmas.Int.{ints}
-use Rattle.mw_line.proofs.Padded.{nonnegative_is}
+use Rattle.mw_model.proofs.Nonnegative.{nonnegative_is}
 use Rattle.mw_line.proofs.sides.places_before.Goals as goal
 
 pub overflow_add-ahead : goal.overflow_add-ahead

@@ -1,5 +1,6 @@
-use Rattle.std.proofs.Common.{arith, length-set}
-use Rattle.mw_netpbm.proofs.Pixels.{lane_more, lanes_whole, within_more, within_whole}
+use Rattle.std.proofs.Common.{arith, length-set, ◌≤◌}
+use Rattle.mw_facts.proofs.Alls.{all-take_whole}
+use Rattle.mw_netpbm.proofs.Pixels.{lane_more, lanes_whole, within_more}
 use Rattle.mw_netpbm.proofs.blocks.as_lanes.Goals as goal
 
 pub pixels-preserved : goal.pixels-preserved
@@ -13,4 +14,4 @@ pub returns-clause-same : goal.returns-clause-same
 returns-clause-same c = lanes_whole c.pixels.lanes c.args.bits.now c.pixels.i (omega arith) (omega arith) c.pixels.invariant.so_far
 
 pub returns-clause-small : goal.returns-clause-small
-returns-clause-small c = within_whole c.args.bits.now c.pixels.i (omega arith) c.pixels.invariant.small
+returns-clause-small c = all-take_whole (λ s. s ≤ 1) c.args.bits.now c.pixels.i (omega arith) c.pixels.invariant.small

@@ -1,7 +1,8 @@
-use Rattle.std.proofs.Common.{◌≡◌, ◌-◌, Ok, sym, ◌∙◌, arith}
+use Rattle.std.proofs.Common.{◌≡◌, ◌-◌, Ok, sym, ◌∙◌, arith, eqb}
+use Rattle.mw_facts.proofs.Numbers.{one_if-le}
 use Rattle.mw_netpbm.specs.Plain.{plain_at}
 use Rattle.mw_netpbm.specs.Places.{ones_of, place_at}
-use Rattle.mw_netpbm.proofs.PlainLoop.{one_counted, one_small, fault_counted, tail_counted, all_counted}
+use Rattle.mw_netpbm.proofs.PlainLoop.{one_counted, fault_counted, tail_counted, all_counted}
 use Rattle.mw_netpbm.proofs.plain.count_ones.Goals as goal
 
 pub places-preserved : goal.places-preserved
@@ -9,7 +10,7 @@ places-preserved c =
     let h : place_at c.args.places (c.places.left - 1) c.places.rest.now ≡ Ok (c.in-Ok.s, c.in-Ok.after.now) = sym c.in-Ok.ensures.value in
     record {
       value = rw c.one-ones.ensures (sym (one_counted (place_at c.args.places) c.places.left c.places.ones c.places.rest.now c.in-Ok.after.now c.in-Ok.s c.places-test.true h) ∙ c.places.invariant.value);
-      low = omega (arith, c.places.invariant.low, c.places-test.true, one_small c.in-Ok.s, c.one-ones.ensures);
+      low = omega (arith, c.places.invariant.low, c.places-test.true, one_if-le (eqb c.in-Ok.s 1), c.one-ones.ensures);
     }
 
 pub returns-in-Err : goal.returns-in-Err

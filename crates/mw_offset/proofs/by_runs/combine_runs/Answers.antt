@@ -1,11 +1,11 @@
 use Rattle.std.proofs.Common.{◌≡◌, ℕ, ◌+◌, ◌-◌, ◌*◌, ◌<◌, ◌≤◌, List, length, get_or, refl, ap, ◌∙◌, arith}
 use Rattle.std.specs.List.{AllByRecursion}
+use Rattle.mw_facts.proofs.Alls.{all-weaker}
+use Rattle.mw_facts.proofs.Elements.{get_or-replicate_same}
 use Rattle.mw_line.specs.Extrema.{strided}
 use Rattle.mw_line.proofs.Folds.{IsExtremum}
-use Rattle.mw_line.proofs.Rows.{get_or-replicate_same}
 use Rattle.mw_run.specs.declared.runs.Run.{Run}
 use Rattle.mw_run.specs.Runs.{start_of, HasRoom}
-use Rattle.mw_run.proofs.RunLists.{all_weaker}
 use Rattle.mw_offset.proofs.Gathers.{gather_below, all_below, IsDoubled, doubled_more, run_value, none_gathered, gathered_more}
 use Rattle.mw_offset.proofs.by_runs.combine_runs.Goals as goal
 
@@ -58,7 +58,7 @@ returns-else-size-cells g c = λ n blank q lt.
     let value = λ (r : Run). strided f cells n 1 (r.count - 1) (start_of c.args.extent c.args.wide r + q) in
     let same = c.sizes.invariant.doubled.size in
     let short : AllByRecursion (λ (r : Run). r.count < 2 * c.sizes.size) runs =
-    all_weaker (HasRoom c.args.extent c.args.wide (length out) (length cells)) (λ (r : Run). r.count < 2 * c.sizes.size) runs (λ r room. let fits = room.room in omega arith) c.requires.room in
+    all-weaker (HasRoom c.args.extent c.args.wide (length out) (length cells)) (λ (r : Run). r.count < 2 * c.sizes.size) runs (λ r room. let fits = room.room in omega arith) c.requires.room in
     c.sizes.invariant.done n blank q lt ∙ all_below f n value (2 * c.sizes.size) runs short
 
 pub returns-after-sizes : goal.returns-after-sizes
@@ -69,5 +69,5 @@ returns-after-sizes g c = λ n blank q lt.
     let longest = c.longest_of-longest.result in
     let value = λ (r : Run). strided f cells n 1 (r.count - 1) (start_of c.args.extent c.args.wide r + q) in
     let short : AllByRecursion (λ (r : Run). r.count < 2 * c.sizes.size) runs =
-    all_weaker (λ (r : Run). r.count ≤ longest) (λ (r : Run). r.count < 2 * c.sizes.size) runs (λ r le. omega arith) c.longest_of-longest.ensures.all in
+    all-weaker (λ (r : Run). r.count ≤ longest) (λ (r : Run). r.count < 2 * c.sizes.size) runs (λ r le. omega arith) c.longest_of-longest.ensures.all in
     c.sizes.invariant.done n blank q lt ∙ all_below f n value (2 * c.sizes.size) runs short

@@ -1,9 +1,9 @@
 use Rattle.std.proofs.Common.{◌≡◌, ◌+◌, ◌-◌, ◌*◌, ◌-ℤ◌, ◌+ℤ◌, pos, ℕ, ℤ, List, length, replicate, get_or, to_z, of_z, w64, ap, sym, ◌∙◌, arith}
 use Rattle.std.proofs.lemmas.Int.{ints}
 use Rattle.std.proofs.lemmas.List.{length-replicate}
+use Rattle.mw_facts.proofs.Elements.{take-written}
 use Rattle.mw_model.specs.declared.places.Rect.{Rect}
 use Rattle.mw_line.proofs.Folds.{IsExtremum}
-use Rattle.mw_line.proofs.Rows.{written}
 use Rattle.mw_offset.proofs.Rooms.{row_fits}
 use Rattle.mw_offset.proofs.Seens.{IsLaid, all_room, gather_seen}
 use Rattle.mw_offset.proofs.by_runs.extremum_by_runs.Goals as goal
@@ -58,6 +58,6 @@ returns-clause-cells g c =
     λ x y less row_less.
     let fits = row_fits y tile.height wide tile.width count row_less (omega arith) in
     c.in_ok-samples.ensures.cells x y n less row_less
-    ∙ ap (λ (t : List g.row.P.Denot). get_or t (y * wide + x) n) (c.as_slice.ensures.value ∙ written c.in_ok-out.out.items out c.in_ok-out.out.len whole)
+    ∙ ap (λ (t : List g.row.P.Denot). get_or t (y * wide + x) n) (c.as_slice.ensures.value ∙ take-written c.in_ok-out.out.items out c.in_ok-out.out.len whole)
     ∙ c.in_ok-combine_runs.ensures n blank (y * wide + x) (omega (arith, fits, old_size))
     ∙ gather_seen f laws n w tile e wide high column row cells laid c.args.runs.now c.requires.inside x y less row_less

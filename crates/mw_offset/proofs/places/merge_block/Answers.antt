@@ -1,8 +1,8 @@
 use Rattle.std.proofs.Common.{◌≡◌, ℕ, ◌+◌, ◌-◌, ◌≤◌, ◌∙◌, List, ap, arith, fold, get_or, length, refl}
 use Rattle.std.proofs.lemmas.List.{take_all}
+use Rattle.mw_facts.proofs.Alls.{all-get_or}
 use Rattle.mw_offset.specs.Places.{merge_from}
 use Rattle.mw_offset.proofs.Parts.{merged_more}
-use Rattle.mw_run.proofs.RunLists.{all_at}
 use Rattle.mw_offset.proofs.Rooms.{part_merged, part_size}
 use Rattle.mw_offset.proofs.places.merge_block.Goals as goal
 
@@ -23,7 +23,7 @@ loop-place-preserved g c =
     let from = place + at in
     let best = c.loop-place.best in
     let made = c.combine_block.new.acc in
-    let inside = all_at (λ (p : ℕ). p + (at + 64) ≤ length cells) places j 0 (omega arith) c.requires.room in
+    let inside = all-get_or (λ (p : ℕ). p + (at + 64) ≤ length cells) places j 0 (omega arith) c.requires.room in
     let size : length best ≡ 64 = c.loop-place.invariant.size in
     record {
       size = part_size f best cells made from (from + 64 - from) (omega arith) (omega arith) c.combine_block.ensures ∙ size;

@@ -1,8 +1,8 @@
 use Rattle.std.proofs.Common.{◌≡◌, ◌*◌, ◌+◌, ◌+ℤ◌, pos, ℤ, List, ap, ◌∙◌, arith, length, get_or, to_z, of_z, w64}
 use Rattle.std.proofs.lemmas.Int.{ints}
+use Rattle.mw_facts.proofs.Elements.{take-written, get_or-replicate_same}
 use Rattle.mw_model.specs.Rasters.{raster, cell_at}
 use Rattle.mw_lane.specs.Shifted.{merge_at}
-use Rattle.mw_line.proofs.Rows.{written, get_or-replicate_same}
 use Rattle.mw_offset.proofs.spread.spread.Goals as goal
 
 pub returns-clause-cells : goal.returns-clause-cells
@@ -18,9 +18,9 @@ returns-clause-cells g c =
     let y-is : to_y ≡ c.args.row = omega (arith, ints) in
     let seen = λ (column row : ℤ). cell_at (raster c.args.window.now.place.width c.args.window.now.place.height c.args.window.now.cells) column row in
     λ x y less row_less.
-    ap (λ (t : List _). get_or t (y * c.args.wide + x) n) (written items out c.in_ok-cells.cells.len whole)
+    ap (λ (t : List _). get_or t (y * c.args.wide + x) n) (take-written items out c.in_ok-cells.cells.len whole)
     ∙ c.spread_rows.ensures x y n less row_less
     ∙ ap (λ (t : List _). merge_at f (get_or t (y * c.args.wide + x) n) (seen (to_x +ℤ pos x) (to_y +ℤ pos y))) (c.as_mut_slice.ensures.value ∙ c.in_ok-cells.ensures)
-    ∙ ap (λ (t : g.row.P.Denot). merge_at f t (seen (to_x +ℤ pos x) (to_y +ℤ pos y))) (get_or-replicate_same c.in_ok-count.count (y * c.args.wide + x) n)
+    ∙ ap (λ (t : g.row.P.Denot). merge_at f t (seen (to_x +ℤ pos x) (to_y +ℤ pos y))) (get_or-replicate_same (c.args.high * c.args.wide) (y * c.args.wide + x) n)
     ∙ ap (λ (t : ℤ). merge_at f n (seen (t +ℤ pos x) (to_y +ℤ pos y))) x-is
     ∙ ap (λ (t : ℤ). merge_at f n (seen (c.args.column +ℤ pos x) (t +ℤ pos y))) y-is

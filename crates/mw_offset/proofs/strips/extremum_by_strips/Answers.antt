@@ -1,8 +1,8 @@
-use Rattle.std.proofs.Common.{◌≡◌, ◌+◌, ◌*◌, ◌++◌, ℕ, List, length, fold, flat_map, ap, ◌∙◌, arith}
+use Rattle.std.proofs.Common.{◌≡◌, ◌+◌, ◌*◌, ◌++◌, ℕ, List, length, fold, flat_map, ap, ◌∙◌, arith, add_assoc}
 use Rattle.mw_model.specs.Rasters.{seen_under}
 use Rattle.mw_model.specs.Windows.{seen_at}
 use Rattle.mw_run.specs.Runs.{run_offsets}
-use Rattle.mw_offset.proofs.StripRows.{rows_made_on, from_strip}
+use Rattle.mw_offset.proofs.StripRows.{rows_made_on}
 use Rattle.mw_offset.proofs.strips.extremum_by_strips.Goals as goal
 
 pub strips-preserved : goal.strips-preserved
@@ -21,5 +21,5 @@ strips-preserved g c =
       size = omega (arith, c.in_ok-extend_from_slice.ensures.len, c.as_slice.ensures.len, size, known.size);
       within = omega arith;
       made = rw all (rows_made_on (λ (x j : ℕ). under x (tile.y + j)) n tile.width y h c.strips.samples.items part size
-          (λ x j less row_less. c.in_ok-made.ensures.cells x j less row_less ∙ ap (under x) (from_strip tile.y y j)) known.made);
+          (λ x j less row_less. c.in_ok-made.ensures.cells x j less row_less ∙ ap (under x) (add_assoc tile.y y j)) known.made);
     }

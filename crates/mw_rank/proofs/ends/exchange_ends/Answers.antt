@@ -1,6 +1,6 @@
 use Rattle.std.proofs.Common.{arith}
 use Rattle.mw_rank.specs.declared.ends.Ends.{Ends}
-use Rattle.mw_rank.proofs.Edges.{leaving_now, entering_now, length-moving, ended}
+use Rattle.mw_rank.proofs.Edges.{leaving_now, entering_now, length-moving, Tallies-ended}
 use Rattle.mw_rank.proofs.ends.exchange_ends.Goals as goal
 
 pub loop-e-init : goal.loop-e-init
@@ -30,4 +30,4 @@ loop-e-preserved g c = λ ns t.
     c.requires.inside.1 c.requires.inside.2 c.index-samples-e.is c.value-left.ensures.level (c.loop-e.invariant ns t)))
 
 pub returns : goal.returns
-returns g c = λ ns t. ended g.P.Pixel.top_level c.loop-e.histogram g.P.Pixel.level g.P.Pixel.TOP c.args.samples.now c.args.ends.now c.args.i c.loop-e.e-index ns (omega arith) (c.loop-e.invariant ns t)
+returns g c = λ ns t. Tallies-ended g.P.Pixel.top_level c.loop-e.histogram g.P.Pixel.level g.P.Pixel.TOP c.args.samples.now c.args.ends.now c.args.i c.loop-e.e-index ns (omega arith) (c.loop-e.invariant ns t)

@@ -8,7 +8,7 @@ use Rattle.mw_rank.specs.Ranks.{levels_at}
 use Rattle.mw_rank.specs.Tallies.{Tallies, Holds}
 use Rattle.mw_rank.proofs.Counts.{tallies_same}
 use Rattle.mw_rank.proofs.Sights.{length-levels_at}
-use Rattle.mw_rank.proofs.Moves.{staying, leaving, entering, length-staying, more_within, tallies_from}
+use Rattle.mw_rank.proofs.Moves.{staying, levels-leaving, levels-entering, length-staying, more_within, tallies_from}
 use Rattle.mw_rank.proofs.moving.advance.Goals as goal
 
 pub leave-requires-clause-held : goal.leave-requires-clause-held
@@ -22,7 +22,7 @@ leave-requires-clause-held g c =
     let is : get_or runs i r ≡ r = sym (get_or_default runs i none r (omega arith)) in
     subst (λ (b : Offset). Holds g.P.Pixel.top_level c.loop-run.histogram (levels_at level sight b c.args.x c.args.y)) (sym c.start_of-start.ensures) (record {
       others = staying level sight runs i r c.args.x c.args.y;
-      tallies = tallies_same g.P.Pixel.top_level _ _ _ (leaving level sight runs i r c.args.x c.args.y (omega arith) is) c.loop-run.invariant;
+      tallies = tallies_same g.P.Pixel.top_level _ _ _ (levels-leaving level sight runs i r c.args.x c.args.y (omega arith) is) c.loop-run.invariant;
       few = omega (
         arith,
         length-append (levels_at level sight (start_offset r) c.args.x c.args.y) (staying level sight runs i r c.args.x c.args.y),
@@ -62,7 +62,7 @@ enter-requires-clause-room g c =
     record {
       levels = stays;
       tallies = c.leave.ensures stays
-          (tallies_from level sight c.start_of-start.result (start_offset r) c.args.x c.args.y top _ stays c.start_of-start.ensures (tallies_same top _ _ _ (leaving level sight runs i r c.args.x c.args.y (omega arith) is) c.loop-run.invariant));
+          (tallies_from level sight c.start_of-start.result (start_offset r) c.args.x c.args.y top _ stays c.start_of-start.ensures (tallies_same top _ _ _ (levels-leaving level sight runs i r c.args.x c.args.y (omega arith) is) c.loop-run.invariant));
       few = omega (arith, length-staying level sight runs i r c.args.x c.args.y (omega arith) is, c.requires.few);
     }
 
@@ -78,7 +78,7 @@ loop-run-preserved g c =
     let is : get_or runs i r ≡ r = sym (get_or_default runs i none r (omega arith)) in
     let stays = staying level sight runs i r c.args.x c.args.y in
     let left = c.leave.ensures stays
-    (tallies_from level sight c.start_of-start.result (start_offset r) c.args.x c.args.y top _ stays c.start_of-start.ensures (tallies_same top _ _ _ (leaving level sight runs i r c.args.x c.args.y (omega arith) is) c.loop-run.invariant)) in
-    tallies_same top _ _ _ (entering level sight runs i r c.args.x c.args.y (omega arith) is)
+    (tallies_from level sight c.start_of-start.result (start_offset r) c.args.x c.args.y top _ stays c.start_of-start.ensures (tallies_same top _ _ _ (levels-leaving level sight runs i r c.args.x c.args.y (omega arith) is) c.loop-run.invariant)) in
+    tallies_same top _ _ _ (levels-entering level sight runs i r c.args.x c.args.y (omega arith) is)
     (subst (λ (m : ℕ). Tallies top c.enter.new.histogram (levels_at level sight (start_offset r) (c.args.x + 1 + m) c.args.y ++ stays)) (c.from.ensures ∙ c.more_of.ensures)
     (tallies_from level sight (start_offset r) c.start_of-start.result (c.args.x + 1 + c.from.result) c.args.y top _ stays (sym c.start_of-start.ensures) (c.enter.ensures stays left)))

@@ -1,9 +1,10 @@
 use Rattle.std.proofs.Common.{◌≡◌, ℕ, ◌*◌, ◌∙◌, ◌≤◌, List, length, ap, arith, get_or, refl}
+use Rattle.mw_facts.proofs.Counts.{count_by-most}
+use Rattle.mw_facts.proofs.Elements.{take-written}
 use Rattle.mw_grid.specs.Grids.{tile_count}
 use Rattle.mw_ready.specs.Boards.{no_need, reads}
 use Rattle.mw_ready.proofs.Numbers.{product_small}
-use Rattle.mw_ready.proofs.Raising.{readers_next, written_back}
-use Rattle.mw_grid.proofs.Counts.{count-most}
+use Rattle.mw_ready.proofs.Raising.{readers_next}
 use Rattle.mw_ready.proofs.reads.first_readers.Goals as goal
 
 pub raise_sources-requires-clause-fits : goal.raise_sources-requires-clause-fits
@@ -17,7 +18,7 @@ raise_sources-requires-clause-fits c = λ u lt.
     omega (
       arith,
       c.loop-k.invariant.each u (omega (arith, c.loop-k.invariant.size)),
-      count-most (λ t. reads a.needs.now a.grid t u) (k * n),
+      count_by-most (λ t. reads a.needs.now a.grid t u) (k * n),
       product_small k n (omega (arith, c.requires, c.loop-k-test.true)) few,
     )
 
@@ -30,7 +31,7 @@ loop-k-preserved c =
     let new = c.raise_sources.new.counts in
     let value = c.deref_mut.ensures.value in
     let size : length c.deref_mut.result.now ≡ length old.items = ap (λ (xs : List ℕ). length xs) value in
-    let back = written_back old.len new old.items (let ok = old.ok in omega (arith, c.raise_sources.ensures.size)) in
+    let back = take-written old.items new old.len (let ok = old.ok in omega (arith, c.raise_sources.ensures.size)) in
     record {
       size = ap (λ (xs : List ℕ). length xs) back ∙ c.raise_sources.ensures.size ∙ size ∙ c.loop-k.invariant.size;
       each = λ u lt.

@@ -1,7 +1,7 @@
 use Rattle.std.proofs.Common.{◌∙◌, refl, arith}
+use Rattle.mw_facts.proofs.Counts.{count_by-same}
 use Rattle.mw_grid.specs.Blocks.{in_block, sees}
 use Rattle.mw_grid.specs.Grids.{tile_count}
-use Rattle.mw_grid.proofs.Counts.{count-same}
 use Rattle.mw_ready.proofs.Raising.{raises_next, raises_step}
 use Rattle.mw_ready.proofs.reads.raise_step.Goals as goal
 
@@ -11,7 +11,7 @@ loop-tile-preserved c =
     let g = a.grid in
     let tile = c.loop-tile.tile in
     raises_next g a.reach a.step tile c.len-tiles.result c.len.result a.counts.now c.loop-tile.counts _ c.len-tiles.ensures.value (omega (arith, c.loop-tile-test.true, c.len-tiles.ensures.value)) c.requires.within c.loop-tile.invariant
-    (c.len.ensures.value ∙ count-same (in_block g c.meeting.result) (λ w. sees g a.reach w tile) (tile_count g) c.meeting.ensures.meets) refl
+    (c.len.ensures.value ∙ count_by-same (in_block g c.meeting.result) (λ w. sees g a.reach w tile) (tile_count g) c.meeting.ensures.meets) refl
 
 pub returns : goal.returns
 returns c =

@@ -1,10 +1,10 @@
 use Rattle.std.proofs.Common.{◌∙◌}
+use Rattle.mw_facts.proofs.Counts.{count_by-same}
 use Rattle.mw_grid.specs.Grids.{tile_count}
 use Rattle.mw_grid.specs.Blocks.{in_block, sees}
-use Rattle.mw_grid.proofs.Counts.{count-same}
 use Rattle.mw_ready.proofs.waits.tiles_met.Goals as goal
 
 pub returns-clause-value : goal.returns-clause-value
 returns-clause-value c =
     let g = c.args.grid in
-    c.len.ensures.value ∙ count-same (in_block g c.met_by.result) (sees g c.args.reach c.args.tile) (tile_count g) c.met_by.ensures.meets
+    c.len.ensures.value ∙ count_by-same (in_block g c.met_by.result) (sees g c.args.reach c.args.tile) (tile_count g) c.met_by.ensures.meets

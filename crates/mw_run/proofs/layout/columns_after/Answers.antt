@@ -1,6 +1,6 @@
 use Rattle.std.proofs.Common.{arith}
 use Rattle.std.proofs.lemmas.Int.{ints}
-use Rattle.mw_run.proofs.Nonnegative.{nonnegative_is}
+use Rattle.mw_model.proofs.Nonnegative.{nonnegative_is}
 use Rattle.mw_run.proofs.layout.columns_after.Goals as goal
 
 pub returns-clause-value : goal.returns-clause-value

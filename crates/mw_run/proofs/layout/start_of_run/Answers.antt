@@ -1,7 +1,7 @@
 use Rattle.std.proofs.Common.{◌≡◌, ◌+◌, ◌*◌, ◌-ℤ◌, ℕ, ap, ◌∙◌, arith}
 use Rattle.std.proofs.lemmas.Int.{ints}
 use Rattle.mw_model.specs.Places.{nonnegative}
-use Rattle.mw_run.proofs.Nonnegative.{nonnegative_is}
+use Rattle.mw_model.proofs.Nonnegative.{nonnegative_is}
 use Rattle.mw_run.proofs.layout.start_of_run.Goals as goal
 
 pub overflow_mul-result : goal.overflow_mul-result

@@ -1,6 +1,7 @@
 use Rattle.std.proofs.Common.{◌+◌, arith, refl}
+use Rattle.mw_facts.proofs.Alls.{all-push}
 use Rattle.mw_run.specs.Runs.{IsRun}
-use Rattle.mw_run.proofs.RunLists.{runs_more, all_more, longest_more, last_more}
+use Rattle.mw_run.proofs.RunLists.{runs_more, longest_more, last_more}
 use Rattle.mw_run.proofs.runs.runs_of.Goals as goal
 
 pub runs-preserved : goal.runs-preserved
@@ -14,7 +15,7 @@ runs-preserved c =
     record {
       within = omega (arith, c.run_at-run.ensures.room);
       so_far = runs_more offsets runs more run c.runs.at to pushed refl c.run_at-run.ensures.same c.runs.invariant.so_far;
-      runs = rw pushed (all_more IsRun runs run c.runs.invariant.runs c.run_at-run.ensures.run);
+      runs = rw pushed (all-push IsRun runs run c.runs.invariant.runs c.run_at-run.ensures.run);
       longest = longest_more offsets runs more run c.runs.at to pushed refl c.runs-test.true c.run_at-run.ensures.first c.runs.invariant.longest c.runs.invariant.last;
       last = last_more offsets runs more run c.runs.at to pushed refl c.run_at-run.ensures.longest;
     }

@@ -1,4 +1,5 @@
 use Rattle.std.proofs.Common.{List, ap, sym, refl, subst, ◌∙◌}
+use Rattle.std.proofs.lemmas.Result.{IfOk-weaker}
 use Rattle.mw_model.specs.Elements.{Figure}
 use Rattle.mw_model.specs.declared.places.Offset.{Offset}
 use Rattle.mw_model.specs.PlanSteps as plan
@@ -6,7 +7,7 @@ use Rattle.mw_model.specs.PlanSteps.{PlanStep}
 use Rattle.mw_task.specs.Meanings.{meaning}
 use Rattle.mw_task.specs.WindowTasks.{window_at, KindsFit}
 use Rattle.mw_task.specs.Products.{HoldsImage, IsMade}
-use Rattle.mw_step.proofs.Images.{if_ok, made_of_one, tile_by}
+use Rattle.mw_step.proofs.Images.{made_of_one, tile_by}
 use Rattle.mw_step.proofs.OfTasks.{made_of_here, sum_of_here}
 use Rattle.mw_step.proofs.make.made_of.Goals as goal
 
@@ -16,7 +17,7 @@ returns-in-Erode c =
     let e = c.deref.result.now.offsets in
     let u = c.source.result.now in
     let step-is = sym c.step.ensures ∙ ap meaning c.in-Erode.is ∙ ap plan.Erode (sym (ap (λ (f : Figure). f.offsets) c.deref.ensures)) in
-    if_ok c.slide.result (HoldsImage (tile_by (plan.Erode e) u (window_at t.windows 1) (window_at t.windows 2) c.rect-tile.result)) (IsMade t)
+    IfOk-weaker c.slide.result (HoldsImage (tile_by (plan.Erode e) u (window_at t.windows 1) (window_at t.windows 2) c.rect-tile.result)) (IsMade t)
     (λ m holds. made_of_one t (plan.Erode e) u c.rect-tile.result m refl step-is c.source.ensures.window c.rect-tile.ensures holds) c.slide.ensures
 
 pub returns-in-Dilate : goal.returns-in-Dilate
@@ -25,7 +26,7 @@ returns-in-Dilate c =
     let e = c.deref-in-Dilate.result.now.offsets in
     let u = c.source-in-Dilate.result.now in
     let step-is = sym c.step.ensures ∙ ap meaning c.in-Dilate.is ∙ ap plan.Dilate (sym (ap (λ (f : Figure). f.offsets) c.deref-in-Dilate.ensures)) in
-    if_ok c.slide-in-Dilate.result (HoldsImage (tile_by (plan.Dilate e) u (window_at t.windows 1) (window_at t.windows 2) c.rect-tile.result)) (IsMade t)
+    IfOk-weaker c.slide-in-Dilate.result (HoldsImage (tile_by (plan.Dilate e) u (window_at t.windows 1) (window_at t.windows 2) c.rect-tile.result)) (IsMade t)
     (λ m holds. made_of_one t (plan.Dilate e) u c.rect-tile.result m refl step-is c.source-in-Dilate.ensures.window c.rect-tile.ensures holds) c.slide-in-Dilate.ensures
 
 pub returns-in-ErodeBox : goal.returns-in-ErodeBox
@@ -33,7 +34,7 @@ returns-in-ErodeBox c =
     let t = c.args.work.now in
     let s = plan.ErodeBox c.in-ErodeBox.offsets in
     let u = c.source-in-ErodeBox.result.now in
-    if_ok c.slide_box.result (HoldsImage (tile_by s u (window_at t.windows 1) (window_at t.windows 2) c.rect-tile.result)) (IsMade t)
+    IfOk-weaker c.slide_box.result (HoldsImage (tile_by s u (window_at t.windows 1) (window_at t.windows 2) c.rect-tile.result)) (IsMade t)
     (λ m holds. made_of_one t s u c.rect-tile.result m refl (sym c.step.ensures ∙ ap meaning c.in-ErodeBox.is) c.source-in-ErodeBox.ensures.window c.rect-tile.ensures holds) c.slide_box.ensures
 
 pub returns-in-DilateBox : goal.returns-in-DilateBox
@@ -41,55 +42,55 @@ returns-in-DilateBox c =
     let t = c.args.work.now in
     let s = plan.DilateBox c.in-DilateBox.offsets in
     let u = c.source-in-DilateBox.result.now in
-    if_ok c.slide_box-in-DilateBox.result (HoldsImage (tile_by s u (window_at t.windows 1) (window_at t.windows 2) c.rect-tile.result)) (IsMade t)
+    IfOk-weaker c.slide_box-in-DilateBox.result (HoldsImage (tile_by s u (window_at t.windows 1) (window_at t.windows 2) c.rect-tile.result)) (IsMade t)
     (λ m holds. made_of_one t s u c.rect-tile.result m refl (sym c.step.ensures ∙ ap meaning c.in-DilateBox.is) c.source-in-DilateBox.ensures.window c.rect-tile.ensures holds) c.slide_box-in-DilateBox.ensures
 
 pub returns-in-Minus : goal.returns-in-Minus
 returns-in-Minus c =
     let t = c.args.work.now in
-    if_ok c.minus.result (HoldsImage (tile_by plan.Minus c.source-in-Minus.result.now c.source-in-Minus-2.result.now (window_at t.windows 2) c.source-in-Minus.result.now.view.place)) (IsMade t)
+    IfOk-weaker c.minus.result (HoldsImage (tile_by plan.Minus c.source-in-Minus.result.now c.source-in-Minus-2.result.now (window_at t.windows 2) c.source-in-Minus.result.now.view.place)) (IsMade t)
     (λ m holds. made_of_here t plan.Minus c.source-in-Minus.result.now c.source-in-Minus-2.result.now (window_at t.windows 2) _ _ m refl refl (sym c.step.ensures ∙ ap meaning c.in-Minus.is) c.source-in-Minus.ensures.window c.source-in-Minus-2.ensures.window refl c.source-in-Minus.ensures.read holds) c.minus.ensures
 
 pub returns-in-AtLeast : goal.returns-in-AtLeast
 returns-in-AtLeast c =
     let t = c.args.work.now in
-    if_ok c.at_least.result (HoldsImage (tile_by (plan.AtLeast c.in-AtLeast.k) c.source-in-AtLeast.result.now (window_at t.windows 1) (window_at t.windows 2) c.source-in-AtLeast.result.now.view.place)) (IsMade t)
+    IfOk-weaker c.at_least.result (HoldsImage (tile_by (plan.AtLeast c.in-AtLeast.k) c.source-in-AtLeast.result.now (window_at t.windows 1) (window_at t.windows 2) c.source-in-AtLeast.result.now.view.place)) (IsMade t)
     (λ m holds. made_of_here t (plan.AtLeast c.in-AtLeast.k) c.source-in-AtLeast.result.now (window_at t.windows 1) (window_at t.windows 2) _ _ m refl refl (sym c.step.ensures ∙ ap meaning c.in-AtLeast.is) c.source-in-AtLeast.ensures.window refl refl c.source-in-AtLeast.ensures.read holds) c.at_least.ensures
 
 pub returns-in-Invert : goal.returns-in-Invert
 returns-in-Invert c =
     let t = c.args.work.now in
-    if_ok c.invert.result (HoldsImage (tile_by plan.Invert c.source-in-Invert.result.now (window_at t.windows 1) (window_at t.windows 2) c.source-in-Invert.result.now.view.place)) (IsMade t)
+    IfOk-weaker c.invert.result (HoldsImage (tile_by plan.Invert c.source-in-Invert.result.now (window_at t.windows 1) (window_at t.windows 2) c.source-in-Invert.result.now.view.place)) (IsMade t)
     (λ m holds. made_of_here t plan.Invert c.source-in-Invert.result.now (window_at t.windows 1) (window_at t.windows 2) _ _ m refl refl (sym c.step.ensures ∙ ap meaning c.in-Invert.is) c.source-in-Invert.ensures.window refl refl c.source-in-Invert.ensures.read holds) c.invert.ensures
 
 pub returns-in-Meet : goal.returns-in-Meet
 returns-in-Meet c =
     let t = c.args.work.now in
-    if_ok c.merge.result (HoldsImage (tile_by plan.Meet c.source-in-Meet.result.now c.source-in-Meet-2.result.now (window_at t.windows 2) c.source-in-Meet.result.now.view.place)) (IsMade t)
+    IfOk-weaker c.merge.result (HoldsImage (tile_by plan.Meet c.source-in-Meet.result.now c.source-in-Meet-2.result.now (window_at t.windows 2) c.source-in-Meet.result.now.view.place)) (IsMade t)
     (λ m holds. made_of_here t plan.Meet c.source-in-Meet.result.now c.source-in-Meet-2.result.now (window_at t.windows 2) _ _ m refl refl (sym c.step.ensures ∙ ap meaning c.in-Meet.is) c.source-in-Meet.ensures.window c.source-in-Meet-2.ensures.window refl c.source-in-Meet.ensures.read holds) c.merge.ensures
 
 pub returns-in-Join : goal.returns-in-Join
 returns-in-Join c =
     let t = c.args.work.now in
-    if_ok c.merge-in-Join.result (HoldsImage (tile_by plan.Join c.source-in-Join.result.now c.source-in-Join-2.result.now (window_at t.windows 2) c.source-in-Join.result.now.view.place)) (IsMade t)
+    IfOk-weaker c.merge-in-Join.result (HoldsImage (tile_by plan.Join c.source-in-Join.result.now c.source-in-Join-2.result.now (window_at t.windows 2) c.source-in-Join.result.now.view.place)) (IsMade t)
     (λ m holds. made_of_here t plan.Join c.source-in-Join.result.now c.source-in-Join-2.result.now (window_at t.windows 2) _ _ m refl refl (sym c.step.ensures ∙ ap meaning c.in-Join.is) c.source-in-Join.ensures.window c.source-in-Join-2.ensures.window refl c.source-in-Join.ensures.read holds) c.merge-in-Join.ensures
 
 pub returns-in-Mark : goal.returns-in-Mark
 returns-in-Mark c =
     let t = c.args.work.now in
-    if_ok c.mark.result (HoldsImage (tile_by (plan.Mark c.in-Mark.v) c.source-in-Mark.result.now c.source-in-Mark-2.result.now c.source-in-Mark-3.result.now c.source-in-Mark.result.now.view.place)) (IsMade t)
+    IfOk-weaker c.mark.result (HoldsImage (tile_by (plan.Mark c.in-Mark.v) c.source-in-Mark.result.now c.source-in-Mark-2.result.now c.source-in-Mark-3.result.now c.source-in-Mark.result.now.view.place)) (IsMade t)
     (λ m holds. made_of_here t (plan.Mark c.in-Mark.v) c.source-in-Mark.result.now c.source-in-Mark-2.result.now c.source-in-Mark-3.result.now _ _ m refl refl (sym c.step.ensures ∙ ap meaning c.in-Mark.is) c.source-in-Mark.ensures.window c.source-in-Mark-2.ensures.window c.source-in-Mark-3.ensures.window c.source-in-Mark.ensures.read holds) c.mark.ensures
 
 pub returns-in-MarkLast : goal.returns-in-MarkLast
 returns-in-MarkLast c =
     let t = c.args.work.now in
-    if_ok c.mark_last.result (HoldsImage (tile_by (plan.MarkLast c.in-MarkLast.v) c.source-in-MarkLast.result.now c.source-in-MarkLast-2.result.now (window_at t.windows 2) c.source-in-MarkLast.result.now.view.place)) (IsMade t)
+    IfOk-weaker c.mark_last.result (HoldsImage (tile_by (plan.MarkLast c.in-MarkLast.v) c.source-in-MarkLast.result.now c.source-in-MarkLast-2.result.now (window_at t.windows 2) c.source-in-MarkLast.result.now.view.place)) (IsMade t)
     (λ m holds. made_of_here t (plan.MarkLast c.in-MarkLast.v) c.source-in-MarkLast.result.now c.source-in-MarkLast-2.result.now (window_at t.windows 2) _ _ m refl refl (sym c.step.ensures ∙ ap meaning c.in-MarkLast.is) c.source-in-MarkLast.ensures.window c.source-in-MarkLast-2.ensures.window refl c.source-in-MarkLast.ensures.read holds) c.mark_last.ensures
 
 pub returns-in-Equal : goal.returns-in-Equal
 returns-in-Equal c =
     let t = c.args.work.now in
-    if_ok c.equal.result (HoldsImage (tile_by (plan.Equal c.in-Equal.v) c.source-in-Equal.result.now (window_at t.windows 1) (window_at t.windows 2) c.source-in-Equal.result.now.view.place)) (IsMade t)
+    IfOk-weaker c.equal.result (HoldsImage (tile_by (plan.Equal c.in-Equal.v) c.source-in-Equal.result.now (window_at t.windows 1) (window_at t.windows 2) c.source-in-Equal.result.now.view.place)) (IsMade t)
     (λ m holds. made_of_here t (plan.Equal c.in-Equal.v) c.source-in-Equal.result.now (window_at t.windows 1) (window_at t.windows 2) _ _ m refl refl (sym c.step.ensures ∙ ap meaning c.in-Equal.is) c.source-in-Equal.ensures.window refl refl c.source-in-Equal.ensures.read holds) c.equal.ensures
 
 pub blank-requires : goal.blank-requires
@@ -102,7 +103,7 @@ returns-in-Blank c =
     let t = c.args.work.now in
     let s = plan.Blank c.in-Blank.maxval in
     let u = window_at t.windows 0 in
-    if_ok c.blank.result (HoldsImage (tile_by s u (window_at t.windows 1) (window_at t.windows 2) c.rect-tile.result)) (IsMade t)
+    IfOk-weaker c.blank.result (HoldsImage (tile_by s u (window_at t.windows 1) (window_at t.windows 2) c.rect-tile.result)) (IsMade t)
     (λ m holds. made_of_one t s u c.rect-tile.result m refl (sym c.step.ensures ∙ ap meaning c.in-Blank.is) refl c.rect-tile.ensures holds) c.blank.ensures
 
 pub returns-in-Sum : goal.returns-in-Sum
@@ -116,5 +117,5 @@ returns-in-Rank c =
     let s = plan.Rank c.deref-in-Rank.result.now.offsets k in
     let u = c.source-in-Rank.result.now in
     let step-is = sym c.step.ensures ∙ ap meaning c.in-Rank.is ∙ ap (λ (e : List Offset). plan.Rank e k) (sym (ap (λ (f : Figure). f.offsets) c.deref-in-Rank.ensures)) in
-    if_ok c.rank_filter.result (HoldsImage (tile_by s u (window_at t.windows 1) (window_at t.windows 2) c.rect-tile.result)) (IsMade t)
+    IfOk-weaker c.rank_filter.result (HoldsImage (tile_by s u (window_at t.windows 1) (window_at t.windows 2) c.rect-tile.result)) (IsMade t)
     (λ m holds. made_of_one t s u c.rect-tile.result m refl step-is c.source-in-Rank.ensures.window c.rect-tile.ensures holds) c.rank_filter.ensures

@@ -1,8 +1,8 @@
+use Rattle.std.proofs.lemmas.Result.{IfOk-weaker}
 use Rattle.mw_model.specs.Windows.{seen_at}
 use Rattle.mw_model.specs.Places.{box_offsets}
 use Rattle.mw_line.specs.Extrema.{IsSlidingExtremum}
 use Rattle.mw_line.proofs.Folds.{IsExtremum}
-use Rattle.mw_step.proofs.Images.{if_ok}
 use Rattle.mw_step.proofs.SameMembers.{box_slides}
 use Rattle.mw_step.proofs.sliding.under_element.Goals as goal
 
@@ -14,5 +14,5 @@ returns-in-Some g c =
     let sight = seen_at c.args.window.now in
     let e = c.args.element.now.offsets in
     let box = c.in-Some.offsets in
-    if_ok c.under_box.result (IsSlidingExtremum f neutral sight (box_offsets box) c.args.tile) (IsSlidingExtremum f neutral sight e c.args.tile)
+    IfOk-weaker c.under_box.result (IsSlidingExtremum f neutral sight (box_offsets box) c.args.tile) (IsSlidingExtremum f neutral sight e c.args.tile)
     (λ r slides. box_slides f laws neutral sight box e c.args.tile r c.in-Some.ensures.some slides) c.under_box.ensures

@@ -1,13 +1,14 @@
 use Rattle.std.proofs.Common.{◌+◌, ◌&&◌, count_by, Bool, ℕ, ap, sym, ◌∙◌, arith}
 use Rattle.std.specs.List.{range_with_len}
+use Rattle.mw_facts.proofs.Counts.{count_by-most}
 use Rattle.mw_model.specs.Refusals.{submission_at}
 use Rattle.mw_store.specs.Wanted.{is_among, one_if, waits_for}
-use Rattle.mw_store.proofs.Counting.{count-more, count-most}
+use Rattle.mw_store.proofs.Counting.{count-more}
 use Rattle.mw_store.proofs.wanted.count_wanted.Goals as goal
 
 pub raise_inputs-requires-clause-small : goal.raise_inputs-requires-clause-small
 raise_inputs-requires-clause-small c = λ k.
-    omega (arith, c.loop-u.invariant.1 k, count-most (waits_for c.args.submissions.now c.args.outcomes.now k) c.loop-u.u, c.requires.small, c.requires.same, c.loop-u-test.true)
+    omega (arith, c.loop-u.invariant.1 k, count_by-most (waits_for c.args.submissions.now c.args.outcomes.now k) c.loop-u.u, c.requires.small, c.requires.same, c.loop-u-test.true)
 
 pub loop-u-preserved : goal.loop-u-preserved
 loop-u-preserved c = (

@@ -1,8 +1,9 @@
-use Rattle.std.proofs.Common.{◌≡◌, ◌<◌, ◌≤◌, length, List, ap, sym, subst, arith, rules, ◌∙◌}
+use Rattle.std.proofs.Common.{◌≡◌, ◌<◌, length, List, sym, subst, arith, rules, ◌∙◌}
 use Rattle.std.specs.List.{AllByRecursion}
+use Rattle.mw_facts.proofs.Alls.{all-take_whole}
 use Rattle.mw_model.specs.declared.places.Rect.{Rect}
-use Rattle.mw_pieces.specs.Patches.{frame_value, IsPatchOf, Patch, ShowsIn}
-use Rattle.mw_pieces.proofs.Patches.{all_next, all_whole, each_plain, patch_of, read_at, shown_plain}
+use Rattle.mw_pieces.specs.Patches.{frame_value, Patch, ShowsIn}
+use Rattle.mw_pieces.proofs.Patches.{all_next, each_plain, read_at, shown_plain}
 use Rattle.mw_tiles.specs.Tiles.{cells_of, HasAll}
 use Rattle.mw_tiles.proofs.equal.are_tiles.Goals as goal
 
@@ -28,5 +29,5 @@ returns g c = λ f shows.
     let wide : j.frame_width ≡ f.width = sym c.frame_width.ensures ∙ c.if-frame_width-width.false ∙ c.width.ensures.value ∙ sym shows.width in
     let high : j.frame_height ≡ f.height = sym c.frame_height.ensures ∙ c.if-frame_height-height.false ∙ c.height.ensures.value ∙ sym shows.height in
     let P : Patch _ → Type 0 = ShowsIn c.place-place.result (frame_value f) in
-    let all : AllByRecursion P j.pieces = subst (AllByRecursion P) c.pieces-pieces.ensures.value (all_whole P c.pieces-pieces.result.now c.loop-piece.piece-index (omega (arith, c.loop-piece-test.false)) (c.loop-piece.invariant f shows)) in
+    let all : AllByRecursion P j.pieces = subst (AllByRecursion P) c.pieces-pieces.ensures.value (all-take_whole P c.pieces-pieces.result.now c.loop-piece.piece-index (omega (arith, c.loop-piece-test.false)) (c.loop-piece.invariant f shows)) in
     ((λ yes. shown_plain j f c.place-place.result c.pieces-pieces.ensures.joint c.place-place.ensures wide high all), (λ whole. search rules))

@@ -1,7 +1,7 @@
-use Rattle.std.proofs.Common.{◌≡◌, ◌+◌, ◌<◌, ◌≤◌, length, refl, ap, sym, subst, arith, rules, ◌∙◌}
+use Rattle.std.proofs.Common.{◌≡◌, length, refl, ap, arith, rules, ◌∙◌}
 use Rattle.mw_pieces.specs.Patches.{frame_value, overlap_of}
 use Rattle.mw_pieces.proofs.Patches.{above_end, above_more, above_none, row_shows, RowIs}
-use Rattle.mw_tiles.specs.Tiles.{HasRun, cells_of}
+use Rattle.mw_tiles.specs.Tiles.{cells_of}
 use Rattle.mw_tiles.proofs.Sharing.{row_within}
 use Rattle.mw_tiles.proofs.equal.has_rows.Goals as goal
 

@@ -1,4 +1,4 @@
-use Rattle.std.proofs.Common.{◌≡◌, ◌+◌, ◌≤◌, sym, arith, ◌∙◌}
+use Rattle.std.proofs.Common.{arith}
 use Rattle.mw_grid.proofs.Tiles.{HasTiles}
 use Rattle.mw_tiles.specs.Tiles.{cells_of}
 use Rattle.mw_tiles.proofs.Sharing.{joint_of_tiles, shown_of_tiles}

@@ -1,6 +1,5 @@
-use Rattle.std.proofs.Common.{◌≡◌, Some, ap, sym, ◌∙◌}
+use Rattle.std.proofs.Common.{Some, ap, sym, ◌∙◌}
 use Rattle.std.specs.Arc.{arc_value}
-use Rattle.mw_model.specs.declared.places.Rect.{Rect}
 use Rattle.mw_pieces.specs.Patches.{Patch}
 use Rattle.mw_tiles.specs.Tiles.{cells_of}
 use Rattle.mw_tiles.proofs.Numbers.{found_at, stands_at}

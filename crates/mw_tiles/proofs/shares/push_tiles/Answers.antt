@@ -1,4 +1,4 @@
-use Rattle.std.proofs.Common.{◌+◌, ◌≤◌, arith}
+use Rattle.std.proofs.Common.{◌+◌, arith}
 use Rattle.mw_tiles.specs.Tiles.{cells_of}
 use Rattle.mw_tiles.proofs.Sharing.{adds_more, adds_none}
 use Rattle.mw_tiles.proofs.shares.push_tiles.Goals as goal

@@ -1,4 +1,4 @@
-use Rattle.std.proofs.Common.{◌≡◌, ◌+◌, ◌*◌, ◌/◌, ◌<◌, ◌≤◌, List, [], refl, sym, subst, arith, rules}
+use Rattle.std.proofs.Common.{◌≡◌, ◌/◌, List, [], refl, sym, subst, arith, rules}
 use Rattle.mw_grid.proofs.Tiles.{HasTiles}
 use Rattle.mw_pieces.specs.Patches.{Patch}
 use Rattle.mw_tiles.specs.Tiles.{cells_of}

@@ -6,9 +6,10 @@ use Rattle.mw_stands.specs.mw_progress.ProgressView.{number_of}
 use Rattle.mw_stands.proofs.mw_work.Numbers.{length-tiles, number_of-within, planned_of-number_of}
 use Rattle.mw_model.specs.Values.{image_of, value_at}
 use Rattle.std.specs.Prelude.{option_map}
+use Rattle.std.proofs.lemmas.Option.{none-some}
 use Rattle.mw_tile.specs.Windows.{window_of}
 use Rattle.mw_underway.specs.SourceWindows.{AreSources, CanReadAll}
-use Rattle.mw_underway.proofs.ReadingLemmas.{none-is-some, some-items, place-is, place-some, task-can-read, task-is, task-or-none}
+use Rattle.mw_underway.proofs.ReadingLemmas.{some-items, place-is, place-some, task-can-read, task-is, task-or-none}
 use Rattle.mw_underway.proofs.taking.task.Goals as goal
 
 pub windows-requires-clause-there : goal.windows-requires-clause-there
@@ -40,7 +41,7 @@ returns-in_default c = λ fs sources fits.
     let Of : Planned → Type 0 = λ q. AreSources image u q.sources fs in
     let seen = c.in_ok-windows.ensures fs (subst Of (planned ∙ sym c.step-planned.ensures) sources) in
     let none = c.in_default.is in
-    absurd (none-is-some (sym (ap (option_map (λ v. v.items)) none) ∙ seen))
+    absurd (none-some _ (sym (ap (option_map (λ v. v.items)) none) ∙ seen))
 
 pub returns : goal.returns
 returns c =

@@ -1,6 +1,7 @@
 use Rattle.std.proofs.Common.{◌≡◌, ℕ, ◌-◌, ◌+◌, ◌*◌, ◌<◌, List, length, map, ap, sym, ◌∙◌, arith}
+use Rattle.mw_facts.proofs.Elements.{take-written}
 use Rattle.mw_model.specs.declared.places.Rect.{Rect}
-use Rattle.mw_line.proofs.Rows.{written, rows_fit}
+use Rattle.mw_line.proofs.Rows.{rows_fit}
 use Rattle.mw_tile.specs.Cuts.{view_of}
 use Rattle.mw_bits.specs.Packed.{bit_of, stride_of, samples_of}
 use Rattle.mw_bits.proofs.Pairings.{mapped_samples, flipped_place}
@@ -13,7 +14,7 @@ trimmed-requires-clause-words c = λ y lt.
     let whole : length out ≡ c.in_ok-flipped.flipped.len = omega arith in
     let old-is : c.as_mut_slice.result.now ≡ c.words.result.now = c.as_mut_slice.ensures.value ∙ c.in_ok-flipped.ensures.items in
     let packed : length c.words.result.now ≡ place.height * stride_of place.width = c.words.ensures.packed.size ∙ ap (λ (t : Rect). t.height * stride_of t.width) (sym c.place-place.ensures.value) in
-    let size = ap length (c.as_slice.ensures.value ∙ written c.in_ok-flipped.flipped.items out c.in_ok-flipped.flipped.len whole) in
+    let size = ap length (c.as_slice.ensures.value ∙ take-written c.in_ok-flipped.flipped.items out c.in_ok-flipped.flipped.len whole) in
     let step = ap (λ (t : ℕ). y * t) c.stride.ensures.value in
     omega (arith, size, ap length old-is, packed, c.flip_words.auto.words, step, rows_fit y place.height (stride_of place.width) lt)
 
@@ -31,7 +32,7 @@ returns c =
     let bits : (x y : ℕ) → x < place.width → y < place.height → bit_of words (y * (64 * stride_of place.width) + x) ≡ 1 - bit_of old (y * (64 * stride_of place.width) + x) = λ x y less row_less.
     let at = y * (64 * stride_of place.width) + x in
     c.in_ok-words.ensures.bits x y less row_less
-    ∙ ap (λ (t : List ℕ). bit_of t (y * (64 * s) + x)) (c.as_slice.ensures.value ∙ written c.in_ok-flipped.flipped.items out c.in_ok-flipped.flipped.len whole)
+    ∙ ap (λ (t : List ℕ). bit_of t (y * (64 * s) + x)) (c.as_slice.ensures.value ∙ take-written c.in_ok-flipped.flipped.items out c.in_ok-flipped.flipped.len whole)
     ∙ ap (λ (t : ℕ). bit_of out (y * (64 * t) + x)) c.stride.ensures.value
     ∙ c.flip_words.ensures at (flipped_place place.width place.height x y (length c.as_mut_slice.result.now) (ap length old-is ∙ packed) less row_less)
     ∙ ap (λ (t : List ℕ). 1 - bit_of t at) old-is in

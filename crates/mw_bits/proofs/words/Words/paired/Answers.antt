@@ -1,6 +1,6 @@
 use Rattle.std.proofs.Common.{◌≡◌, ℕ, ◌*◌, List, length, ap, sym, ◌∙◌, arith}
+use Rattle.mw_facts.proofs.Elements.{take-written}
 use Rattle.mw_model.specs.declared.places.Rect.{Rect}
-use Rattle.mw_line.proofs.Rows.{written}
 use Rattle.mw_tile.specs.Cuts.{view_of}
 use Rattle.mw_bits.specs.Packed.{bit_of, stride_of, samples_of, IsPacked}
 use Rattle.mw_bits.proofs.Pairings.{paired_samples, paired_packed}
@@ -18,7 +18,7 @@ new-requires g c =
     let old-is : c.as_mut_slice.result.now ≡ first = c.as_mut_slice.ensures.value ∙ c.in_ok-words.ensures.items in
     let size : length c.as_mut_slice.result.now ≡ place.height * stride_of place.width = ap length old-is ∙ c.words.ensures.packed.size in
     let other : IsPacked place.width place.height second = rw c.requires c.words-2.ensures.packed in
-    rw (written c.in_ok-words.words.items out c.in_ok-words.words.len whole, c.place.ensures.value)
+    rw (take-written c.in_ok-words.words.items out c.in_ok-words.words.len whole, c.place.ensures.value)
     (paired_packed f place.width place.height first second out g.met.O.PairOfWords.none_of_none (c.merge_words.auto.words ∙ ap length old-is) c.words.ensures.packed other
     (λ q lt. c.merge_words.ensures q (omega (arith, size, lt)) ∙ ap (λ (t : List ℕ). f (bit_of t q) (bit_of second q)) old-is))
 
@@ -39,7 +39,7 @@ returns g c =
     ∙ ap (λ (t : List ℕ). zip2 f t (samples_of place.width place.height second)) (sym c.words.ensures.samples)
     ∙ ap (zip2 f self.cells) other-is in
     c.new.ensures
-    ∙ ap (λ (t : List ℕ). view_of c.frame_width.result c.frame_height.result c.place.result (samples_of c.place.result.width c.place.result.height t)) (written c.in_ok-words.words.items out c.in_ok-words.words.len whole)
+    ∙ ap (λ (t : List ℕ). view_of c.frame_width.result c.frame_height.result c.place.result (samples_of c.place.result.width c.place.result.height t)) (take-written c.in_ok-words.words.items out c.in_ok-words.words.len whole)
     ∙ ap (λ (t : Rect). view_of c.frame_width.result c.frame_height.result t (samples_of t.width t.height out)) c.place.ensures.value
     ∙ ap (view_of c.frame_width.result c.frame_height.result place) cells
     ∙ ap (λ (t : ℕ). view_of t c.frame_height.result place (zip2 f self.cells c.args.other.now.cells)) c.frame_width.ensures

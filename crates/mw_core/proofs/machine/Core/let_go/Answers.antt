@@ -1,4 +1,6 @@
-use Rattle.std.proofs.Common.{◌≡◌, ◌<◌, ℕ, length, Result, Ok, Err, OnOk, OnErr, sym, subst}
+use Rattle.std.proofs.Common.{◌≡◌, ◌<◌, ◌∷◌, ◌++◌, ◌∙◌, ℕ, [], length, Result, Ok, Err, OnOk, OnErr, ap, sym, subst}
+use Rattle.std.proofs.lemmas.Result.{on_ok_weaker}
+use Rattle.mw_model.specs.declared.calls.LogItem.{LogItem}
 use Rattle.mw_model.specs.declared.calls.Outcome.TheVariants as outcome
 use Rattle.mw_model.specs.Refusals.{outcome_at}
 use Rattle.mw_model.specs.Machine.{settled}
@@ -22,3 +24,9 @@ invariant_of-self c =
     let Done : CoreView → Type 0 = λ d. outcome_at d.table.outcomes t ≡ outcome.Done in
     let got = c.let_go.ensures in
     counts-after c.let_go.result c.self.inside.ledger c.let_go.new.self t c.self.inside.counts c.sound.ensures c.self.invariant (subst Within shown c.requires.within) (subst Done shown c.requires.done) got.table got.works got.err
+
+pub returns-clause-log : goal.returns-clause-log
+returns-clause-log c =
+    let Was : Type 0 = c.let_go.new.self.log ≡ c.self.inside.ledger.log ++ c.short.result ∷ [] in
+    on_ok_weaker {P = Was} c.let_go.result
+    (λ e. e ∙ ap (λ (i : LogItem). c.self.inside.ledger.log ++ i ∷ []) c.short.ensures ∙ ap (λ (d : CoreView). d.log ++ c.args.item ∷ []) c.self.view_is) c.let_go.ensures.log

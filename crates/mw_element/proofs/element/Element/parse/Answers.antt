@@ -3,8 +3,9 @@ use Rattle.mw_model.specs.Elements.{element_side, no_bitmap}
 use Rattle.mw_netpbm.specs.Faults.{bitmap_code_of, facts_of}
 use Rattle.mw_element.specs.Figures.{Rises}
 use Rattle.mw_element.proofs.Order.{offsets_rise}
-use Rattle.mw_element.proofs.Found.{bitmap_sides, no_element, no_place, no_ones, origin_refused, empty_told, facts_same, told, told_element, made_is_figure, made_element, made_only}
+use Rattle.mw_element.proofs.Found.{bitmap_sides, no_element, no_place, IsElement-no_ones, origin_refused, empty_told, facts_same, Told-figure, told_element, made_is_figure, made_element, made_only}
 use Rattle.mw_element.proofs.Few.{few_offsets}
+use Rattle.mw_element.proofs.Room.{offsets_told}
 use Rattle.mw_element.proofs.element.Element.parse.Goals as goal
 
 pub returns-in-Err-clause-only : goal.returns-in-Err-clause-only
@@ -23,7 +24,7 @@ returns-then-ox-facts-clause-refused c =
     origin_refused c.args.bytes.now c.args.ox c.args.oy c.in-Ok.facts f.0 f.1 f.2 c.then-ox-facts.either
 
 pub returns-then-facts-eq0-clause-only : goal.returns-then-facts-eq0-clause-only
-returns-then-facts-eq0-clause-only c = λ figure is. absurd (no_ones c.args.bytes.now c.args.ox c.args.oy c.in-Ok.facts figure c.in-Ok.ensures.only c.if-facts-eq0.true is)
+returns-then-facts-eq0-clause-only c = λ figure is. absurd (IsElement-no_ones c.args.bytes.now c.args.ox c.args.oy c.in-Ok.facts figure c.in-Ok.ensures.only c.if-facts-eq0.true is)
 
 pub returns-then-facts-eq0-clause-refused : goal.returns-then-facts-eq0-clause-refused
 returns-then-facts-eq0-clause-refused c =
@@ -35,44 +36,50 @@ pub returns-in_default-clause-memory : goal.returns-in_default-clause-memory
 returns-in_default-clause-memory c =
     λ e.
     let f = c.in-Ok.ensures.found in
-    told_element c.args.bytes.now c.args.ox c.args.oy f.0 (told c.args.bytes.now c.args.ox c.args.oy c.in-Ok.facts f.0 f.1 f.2 c.if-ox-facts.false c.if-oy-facts.false c.if-facts-eq0.false)
+    told_element c.args.bytes.now c.args.ox c.args.oy f.0 (Told-figure c.args.bytes.now c.args.ox c.args.oy c.in-Ok.facts f.0 f.1 f.2 c.if-ox-facts.false c.if-oy-facts.false c.if-facts-eq0.false)
+
+pub offsets-requires-clause-count : goal.offsets-requires-clause-count
+offsets-requires-clause-count c =
+    let f = c.in-Ok-read_plain_bitmap.bitmap in
+    let is = c.in-Ok-read_plain_bitmap.ensures.found in
+    offsets_told c.args.bytes.now c.in-Ok.facts f c.args.ox c.args.oy is (facts_same c.in-Ok.facts (facts_of f) (c.in-Ok.ensures.only f is))
 
 pub new-requires-clause-figure : goal.new-requires-clause-figure
 new-requires-clause-figure c =
     let f = c.in-Ok-read_plain_bitmap.bitmap in
     let is = c.in-Ok-read_plain_bitmap.ensures.found in
     let same = facts_same c.in-Ok.facts (facts_of f) (c.in-Ok.ensures.only f is) in
-    let t = told c.args.bytes.now c.args.ox c.args.oy c.in-Ok.facts f is same c.if-ox-facts.false c.if-oy-facts.false c.if-facts-eq0.false in
-    made_is_figure c.args.bytes.now c.args.ox c.args.oy c.in-Ok.facts f c.in-Ok-offsets.found.items t same c.in-Ok-offsets.ensures
+    let t = Told-figure c.args.bytes.now c.args.ox c.args.oy c.in-Ok.facts f is same c.if-ox-facts.false c.if-oy-facts.false c.if-facts-eq0.false in
+    made_is_figure c.args.bytes.now c.args.ox c.args.oy c.in-Ok.facts f c.in-Ok-offsets.found.items t same c.in-Ok-offsets.ensures.items
 
 pub returns-in-Ok-offsets-clause-found : goal.returns-in-Ok-offsets-clause-found
 returns-in-Ok-offsets-clause-found c =
     let f = c.in-Ok-read_plain_bitmap.bitmap in
     let is = c.in-Ok-read_plain_bitmap.ensures.found in
     let same = facts_same c.in-Ok.facts (facts_of f) (c.in-Ok.ensures.only f is) in
-    let t = told c.args.bytes.now c.args.ox c.args.oy c.in-Ok.facts f is same c.if-ox-facts.false c.if-oy-facts.false c.if-facts-eq0.false in
-    made_element c.args.bytes.now c.args.ox c.args.oy c.in-Ok.facts f c.in-Ok-offsets.found.items c.new.result t same c.in-Ok-offsets.ensures c.new.ensures
+    let t = Told-figure c.args.bytes.now c.args.ox c.args.oy c.in-Ok.facts f is same c.if-ox-facts.false c.if-oy-facts.false c.if-facts-eq0.false in
+    made_element c.args.bytes.now c.args.ox c.args.oy c.in-Ok.facts f c.in-Ok-offsets.found.items c.new.result t same c.in-Ok-offsets.ensures.items c.new.ensures
 
 pub returns-in-Ok-offsets-clause-only : goal.returns-in-Ok-offsets-clause-only
 returns-in-Ok-offsets-clause-only c =
     let f = c.in-Ok-read_plain_bitmap.bitmap in
     let is = c.in-Ok-read_plain_bitmap.ensures.found in
     let same = facts_same c.in-Ok.facts (facts_of f) (c.in-Ok.ensures.only f is) in
-    let t = told c.args.bytes.now c.args.ox c.args.oy c.in-Ok.facts f is same c.if-ox-facts.false c.if-oy-facts.false c.if-facts-eq0.false in
-    λ figure element. made_only c.args.bytes.now c.args.ox c.args.oy c.in-Ok.facts f c.in-Ok-offsets.found.items c.new.result figure t same c.in-Ok-offsets.ensures c.new.ensures (λ g h. c.in-Ok-read_plain_bitmap.ensures.only g h) element
+    let t = Told-figure c.args.bytes.now c.args.ox c.args.oy c.in-Ok.facts f is same c.if-ox-facts.false c.if-oy-facts.false c.if-facts-eq0.false in
+    λ figure element. made_only c.args.bytes.now c.args.ox c.args.oy c.in-Ok.facts f c.in-Ok-offsets.found.items c.new.result figure t same c.in-Ok-offsets.ensures.items c.new.ensures (λ g h. c.in-Ok-read_plain_bitmap.ensures.only g h) element
 
 pub returns-clause-memory : goal.returns-clause-memory
 returns-clause-memory c =
     λ e.
     let f = c.in-Ok.ensures.found in
-    told_element c.args.bytes.now c.args.ox c.args.oy f.0 (told c.args.bytes.now c.args.ox c.args.oy c.in-Ok.facts f.0 f.1 f.2 c.if-ox-facts.false c.if-oy-facts.false c.if-facts-eq0.false)
+    told_element c.args.bytes.now c.args.ox c.args.oy f.0 (Told-figure c.args.bytes.now c.args.ox c.args.oy c.in-Ok.facts f.0 f.1 f.2 c.if-ox-facts.false c.if-oy-facts.false c.if-facts-eq0.false)
 
 pub new-requires-clause-few : goal.new-requires-clause-few
 new-requires-clause-few c =
-    few_offsets c.args.bytes.now c.in-Ok-read_plain_bitmap.bitmap c.args.ox c.args.oy c.in-Ok-offsets.found.items c.in-Ok-read_plain_bitmap.ensures.found c.in-Ok-offsets.ensures
+    few_offsets c.args.bytes.now c.in-Ok-read_plain_bitmap.bitmap c.args.ox c.args.oy c.in-Ok-offsets.found.items c.in-Ok-read_plain_bitmap.ensures.found c.in-Ok-offsets.ensures.items
 
 pub new-requires-clause-ordered : goal.new-requires-clause-ordered
 new-requires-clause-ordered c =
     let f = c.in-Ok-read_plain_bitmap.bitmap in
     let sides = bitmap_sides c.args.bytes.now element_side f c.in-Ok-read_plain_bitmap.ensures.found in
-    subst Rises (sym c.in-Ok-offsets.ensures) (offsets_rise f c.args.ox c.args.oy sides.2)
+    subst Rises (sym c.in-Ok-offsets.ensures.items) (offsets_rise f c.args.ox c.args.oy sides.2)

@@ -2,7 +2,7 @@ use Rattle.std.proofs.Common.{◌≡◌, ◌∙◌, ℕ, cond, List, Option, Som
 use Rattle.mw_model.specs.Machine.{killed}
 use Rattle.mw_model.specs.Refusals.{Table, is_pending, outcome_at}
 use Rattle.mw_underway.specs.mw_progress.ProgressView.{ProgressView}
-use Rattle.mw_ledger.specs.Books.{Book, IsOrderly, work_at}
+use Rattle.mw_ledger.specs.Books.{Book, IsOrderly, work_at, room_in}
 use Rattle.mw_ledger.proofs.OrderLemmas.{follows-orderly, swept-was}
 use Rattle.mw_ledger.proofs.WorkLemmas.{written-back}
 use Rattle.mw_ledger.proofs.ledger.Ledger.end.Goals as goal
@@ -17,8 +17,8 @@ invariant_of-self c =
     let b = c.self.inside in
     let table = c.kill.ensures.table in
     let ws = c.drop_settled.new.works in
-    let old : Book = record { table = b.store.table; kept = b.store.kept; works = b.works.items; log = b.log.items; side = b.side } in
-    let new : Book = record { table = c.kill.new.self.table; kept = c.kill.new.self.kept; works = ws; log = c.push_reserved.new.self.items; side = b.side } in
+    let old : Book = record { table = b.store.table; kept = b.store.kept; works = b.works.items; log = b.log.items; side = b.side; room = room_in b.log.cap b.log.len b.store.table.outcomes } in
+    let new : Book = record { table = c.kill.new.self.table; kept = c.kill.new.self.kept; works = ws; log = c.push_reserved.new.self.items; side = b.side; room = room_in c.push_reserved.new.self.cap c.push_reserved.new.self.len c.kill.new.self.table.outcomes } in
     let count : length ws ≡ length b.works.items = omega (arith, c.drop_settled.auto.works, ap (λ (xs : List (Option ProgressView)). length xs) c.deref_mut.ensures.value) in
     let was = λ (t : ℕ) (u : ProgressView) (h : work_at ws t ≡ Some u).
     swept-was (is_pending (outcome_at new.table.outcomes t)) (work_at ws t) (work_at old.works t) u (c.drop_settled.ensures t ∙ ap (λ (xs : List (Option ProgressView)). cond (is_pending (outcome_at new.table.outcomes t)) (work_at xs t) None) c.deref_mut.ensures.value) h in

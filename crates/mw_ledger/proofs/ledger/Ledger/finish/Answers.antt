@@ -5,7 +5,7 @@ use Rattle.mw_model.specs.Refusals.{is_pending, outcome_at, shape_at}
 use Rattle.mw_model.specs.Stands.{inputs_of}
 use Rattle.mw_model.specs.Tasks.{remaining_tasks}
 use Rattle.mw_underway.specs.mw_store.Kept.{kept_value}
-use Rattle.mw_ledger.specs.Books.{Book, IsOrderly}
+use Rattle.mw_ledger.specs.Books.{Book, IsOrderly, room_in}
 use Rattle.mw_ledger.proofs.SettleLemmas.{back-at, places-at, settles-at}
 use Rattle.mw_ledger.proofs.ledger.Ledger.finish.Goals as goal
 
@@ -14,7 +14,7 @@ invariant_of-self c =
     let b = c.self.inside in
     let u = c.finished-work.result in
     let d = c.args.done in
-    let mid : Book = record { table = b.store.table; kept = b.store.kept; works = b.works.items; log = b.log.items; side = b.side } in
+    let mid : Book = record { table = b.store.table; kept = b.store.kept; works = b.works.items; log = b.log.items; side = b.side; room = room_in b.log.cap b.log.len b.store.table.outcomes } in
     let e = ap (λ (i : TaskId). i.ticket) c.task-t.ensures in
     let left : 1 ≤ remaining_tasks u.progress = omega (arith, c.if-remaining-gt0.true, c.remaining.ensures.value) in
     let P : Book → Type 0 = λ v. IsOrderly v in
@@ -24,7 +24,7 @@ pub returns-then-remaining-gt0-clause-placed : goal.returns-then-remaining-gt0-c
 returns-then-remaining-gt0-clause-placed c = λ _.
     let b = c.self.inside in
     let u = c.finished-work.result in
-    let mid : Book = record { table = b.store.table; kept = b.store.kept; works = b.works.items; log = b.log.items; side = b.side } in
+    let mid : Book = record { table = b.store.table; kept = b.store.kept; works = b.works.items; log = b.log.items; side = b.side; room = room_in b.log.cap b.log.len b.store.table.outcomes } in
     let e = ap (λ (i : TaskId). i.ticket) c.task-t.ensures in
     let left : 1 ≤ remaining_tasks u.progress = omega (arith, c.if-remaining-gt0.true, c.remaining.ensures.value) in
     places-at c.args.self.now mid c.args.done c.task-t.result.ticket u e c.finished-work.ensures.finishes (c.self.view_is ∙ c.finished-work.ensures.book) left

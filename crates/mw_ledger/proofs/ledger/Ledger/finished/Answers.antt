@@ -1,7 +1,7 @@
 use Rattle.std.proofs.Common.{◌<◌, ◌∙◌, Option, length, ap, sym, subst, arith}
 use Rattle.mw_model.specs.declared.tasks.TaskId.{TaskId}
 use Rattle.mw_underway.specs.mw_progress.ProgressView.{ProgressView}
-use Rattle.mw_ledger.specs.Books.{Book, IsOrderly, work_at}
+use Rattle.mw_ledger.specs.Books.{Book, IsOrderly, work_at, room_in}
 use Rattle.mw_ledger.proofs.OrderLemmas.{with_work, without-orderly}
 use Rattle.mw_ledger.proofs.SettleLemmas.{finished-orderly, finished-plane, finishes-at, fits-at, work-of}
 use Rattle.mw_ledger.proofs.WorkLemmas.{found}
@@ -27,7 +27,7 @@ finish-requires-clause-fits c =
 pub invariant_of-self : goal.invariant_of-self
 invariant_of-self c =
     let b = c.self.inside in
-    let book : Book = record { table = b.store.table; kept = b.store.kept; works = b.works.items; log = b.log.items; side = b.side } in
+    let book : Book = record { table = b.store.table; kept = b.store.kept; works = b.works.items; log = b.log.items; side = b.side; room = room_in b.log.cap b.log.len b.store.table.outcomes } in
     let t = c.task-task.result.ticket in
     let names = ap (λ (v : Book). length v.table.names) c.self.view_is in
     let ticket = ap (λ (i : TaskId). i.ticket) c.task-task.ensures in

@@ -1,7 +1,7 @@
 use Rattle.std.proofs.Common.{◌∙◌, ◌<◌, IsTrue, length, sym, ap, subst, arith}
 use Rattle.mw_model.specs.declared.submissions.Submission.{Submission}
 use Rattle.mw_model.specs.declared.tasks.TaskId.{TaskId}
-use Rattle.mw_ledger.specs.Books.{Book}
+use Rattle.mw_ledger.specs.Books.{Book, room_in}
 use Rattle.mw_ledger.specs.Tasks.{IsFoundAt}
 use Rattle.mw_ledger.proofs.WorkLemmas.{found, found-of}
 use Rattle.mw_ledger.proofs.ledger.Ledger.has_result.Goals as goal
@@ -9,7 +9,7 @@ use Rattle.mw_ledger.proofs.ledger.Ledger.has_result.Goals as goal
 pub returns-in-Some-index-clause-all : goal.returns-in-Some-index-clause-all
 returns-in-Some-index-clause-all c =
     let b = c.self.inside in
-    let book : Book = record { table = b.store.table; kept = b.store.kept; works = b.works.items; log = b.log.items; side = b.side } in
+    let book : Book = record { table = b.store.table; kept = b.store.kept; works = b.works.items; log = b.log.items; side = b.side; room = room_in b.log.cap b.log.len b.store.table.outcomes } in
     let d = c.args.done.now in
     let k = c.task-t.result in
     let u = c.in-Some-index.work in

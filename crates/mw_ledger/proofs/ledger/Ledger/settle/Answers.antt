@@ -1,7 +1,7 @@
 use Rattle.std.proofs.Common.{◌<◌, length, refl, ap, subst, arith}
 use Rattle.std.specs.List.{AllByRecursion}
 use Rattle.mw_model.specs.Refusals.{Table}
-use Rattle.mw_ledger.specs.Books.{Book}
+use Rattle.mw_ledger.specs.Books.{Book, room_in}
 use Rattle.mw_ledger.proofs.OrderLemmas.{follows-orderly}
 use Rattle.mw_ledger.proofs.ledger.Ledger.settle.Goals as goal
 
@@ -9,8 +9,8 @@ pub invariant_of-self : goal.invariant_of-self
 invariant_of-self c =
     let b = c.self.inside in
     let told = c.settle-waiters.ensures in
-    let old : Book = record { table = b.store.table; kept = b.store.kept; works = b.works.items; log = b.log.items; side = b.side } in
-    let new : Book = record { table = c.settle-waiters.new.self.table; kept = c.settle-waiters.new.self.kept; works = b.works.items; log = c.push_reserved.new.self.items; side = b.side } in (
+    let old : Book = record { table = b.store.table; kept = b.store.kept; works = b.works.items; log = b.log.items; side = b.side; room = room_in b.log.cap b.log.len b.store.table.outcomes } in
+    let new : Book = record { table = c.settle-waiters.new.self.table; kept = c.settle-waiters.new.self.kept; works = b.works.items; log = c.push_reserved.new.self.items; side = b.side; room = room_in c.push_reserved.new.self.cap c.push_reserved.new.self.len c.settle-waiters.new.self.table.outcomes } in (
       omega (arith, told.pending, c.push_reserved.ensures.len, c.push_reserved.ensures.capacity, c.self.invariant.0),
       follows-orderly old new c.self.invariant.1 (record {
         stored = c.pending-whole.ensures.whole;

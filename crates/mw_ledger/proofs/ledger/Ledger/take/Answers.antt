@@ -1,7 +1,7 @@
 use Rattle.std.proofs.Common.{◌≡◌, ◌<◌, IfOk, OnErr, Some, slice_index, length, ap, sym, subst, arith, ◌∙◌}
 use Rattle.mw_model.specs.declared.submissions.Submission.{Submission}
 use Rattle.mw_model.specs.Stands.{ready_under}
-use Rattle.mw_ledger.specs.Books.{Book, seen_of}
+use Rattle.mw_ledger.specs.Books.{Book, seen_of, room_in}
 use Rattle.mw_ledger.specs.Tasks.{IsAtWork, TakesAt}
 use Rattle.mw_ledger.proofs.OrderLemmas.{with_work, with-orderly}
 use Rattle.mw_ledger.proofs.WorkLemmas.{found, ready-first, ready-there, same-at, taken-goes_on, takes-at}
@@ -10,14 +10,14 @@ use Rattle.mw_ledger.proofs.ledger.Ledger.take.Goals as goal
 pub unreachable-requires : goal.unreachable-requires
 unreachable-requires c =
     let b = c.self.inside in
-    let book : Book = record { table = b.store.table; kept = b.store.kept; works = b.works.items; log = b.log.items; side = b.side } in
+    let book : Book = record { table = b.store.table; kept = b.store.kept; works = b.works.items; log = b.log.items; side = b.side; room = room_in b.log.cap b.log.len b.store.table.outcomes } in
     let P : Book → Type 0 = λ v. c.args.place < ready_under (seen_of v) c.args.t in
     ready-first book c.args.t c.args.place c.submission.result c.self.invariant.1 (subst P (sym c.self.view_is) c.requires.ready) c.submission.ensures.value c.in_default.is
 
 pub begin-requires-clause-place : goal.begin-requires-clause-place
 begin-requires-clause-place c =
     let b = c.self.inside in
-    let book : Book = record { table = b.store.table; kept = b.store.kept; works = b.works.items; log = b.log.items; side = b.side } in
+    let book : Book = record { table = b.store.table; kept = b.store.kept; works = b.works.items; log = b.log.items; side = b.side; room = room_in b.log.cap b.log.len b.store.table.outcomes } in
     let P : Book → Type 0 = λ v. c.args.place < ready_under (seen_of v) c.args.t in
     let names = ap (λ (v : Book). length v.table.names) c.self.view_is in
     let u = c.in-Some-index_mut.work in
@@ -27,7 +27,7 @@ begin-requires-clause-place c =
 pub invariant_of-self : goal.invariant_of-self
 invariant_of-self c =
     let b = c.self.inside in
-    let book : Book = record { table = b.store.table; kept = b.store.kept; works = b.works.items; log = b.log.items; side = b.side } in
+    let book : Book = record { table = b.store.table; kept = b.store.kept; works = b.works.items; log = b.log.items; side = b.side; room = room_in b.log.cap b.log.len b.store.table.outcomes } in
     let names = ap (λ (v : Book). length v.table.names) c.self.view_is in
     let u = c.in-Some-index_mut.work in
     let order = c.self.invariant.1 in
@@ -40,7 +40,7 @@ invariant_of-self c =
 pub returns-clause-taken : goal.returns-clause-taken
 returns-clause-taken c =
     let b = c.self.inside in
-    let book : Book = record { table = b.store.table; kept = b.store.kept; works = b.works.items; log = b.log.items; side = b.side } in
+    let book : Book = record { table = b.store.table; kept = b.store.kept; works = b.works.items; log = b.log.items; side = b.side; room = room_in b.log.cap b.log.len b.store.table.outcomes } in
     let names = ap (λ (v : Book). length v.table.names) c.self.view_is in
     let u = c.in-Some-index_mut.work in
     let within : c.args.t < length b.store.table.names = omega (arith, c.requires.within, names) in
@@ -54,7 +54,7 @@ returns-clause-taken c =
 pub returns-clause-same : goal.returns-clause-same
 returns-clause-same c =
     let b = c.self.inside in
-    let book : Book = record { table = b.store.table; kept = b.store.kept; works = b.works.items; log = b.log.items; side = b.side } in
+    let book : Book = record { table = b.store.table; kept = b.store.kept; works = b.works.items; log = b.log.items; side = b.side; room = room_in b.log.cap b.log.len b.store.table.outcomes } in
     let names = ap (λ (v : Book). length v.table.names) c.self.view_is in
     let u = c.in-Some-index_mut.work in
     let there = found b.works.items c.args.t c.index_mut.result.now u (omega (arith, c.requires.within, names, c.self.invariant.1.works)) c.index_mut.ensures.value c.in-Some-index_mut.is in

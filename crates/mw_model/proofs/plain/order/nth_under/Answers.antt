@@ -1,7 +1,7 @@
 use Rattle.std.proofs.Common.{◌≡◌, ◌∙◌, sym, arith, length, min, max}
 use Rattle.std.proofs.lemmas.Bool.{iff_false}
 use Rattle.mw_model.specs.Flat.{under}
-use Rattle.mw_model.proofs.PlainRanks.{nth_from, never, not_by_none, not_by_other}
+use Rattle.mw_model.proofs.PlainRanks.{nth_from, nth_of-never, not_by_none, not_by_other}
 use Rattle.mw_model.proofs.plain.order.nth_under.Goals.{in-Some+else-is_nth, in_default}
 use Rattle.mw_model.proofs.plain.order.nth_under.Goals as goal
 
@@ -23,4 +23,4 @@ returns-then-is_nth c =
     nth_from (under c.args.image.now c.args.element.now c.args.x c.args.y) c.args.k c.max-n.result c.in-Some.s n-is (c.is_nth.ensures.0 c.if-is_nth.true)
 
 pub returns : goal.returns
-returns c = never c.args.image.now c.args.element.now c.args.k c.loop-i.i c.args.x c.args.y (omega arith) c.loop-i.invariant
+returns c = nth_of-never c.args.image.now c.args.element.now c.args.k c.loop-i.i c.args.x c.args.y (omega arith) c.loop-i.invariant

@@ -1,5 +1,4 @@
-use Rattle.std.proofs.Common.{◌≡◌, ◌+◌, ◌<◌, ◌≤◌, length, ap, arith, ◌∙◌}
-use Rattle.mw_model.specs.declared.places.Rect.{Rect}
+use Rattle.std.proofs.Common.{◌≡◌, ap, arith, ◌∙◌}
 use Rattle.mw_pieces.specs.Patches.{cell_of, overlap_of, patch}
 use Rattle.mw_pieces.proofs.Patches.{above_more, overlap_begins, row_of_plane, row_same, RowIs}
 use Rattle.mw_pieces.proofs.piece.Piece.agrees.Goals as goal

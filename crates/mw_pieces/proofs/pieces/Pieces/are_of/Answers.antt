@@ -1,9 +1,10 @@
-use Rattle.std.proofs.Common.{◌≡◌, ◌+◌, ◌<◌, ◌≤◌, length, List, ap, sym, subst, arith, rules, ◌∙◌}
+use Rattle.std.proofs.Common.{◌≡◌, ◌<◌, length, List, ap, sym, subst, arith, rules, ◌∙◌}
 use Rattle.std.specs.List.{AllByRecursion}
+use Rattle.mw_facts.proofs.Alls.{all-take_whole}
 use Rattle.mw_model.specs.declared.places.Rect.{Rect}
 use Rattle.mw_grid.specs.Rectangles.{whole_frame}
 use Rattle.mw_pieces.specs.Patches.{IsPatchOf, Patch, ShowsIn}
-use Rattle.mw_pieces.proofs.Patches.{all_next, all_whole, at_frame, each_shows, frame_at, inside_frame, patch_of, read_at, shown_by, within_as}
+use Rattle.mw_pieces.proofs.Patches.{all_next, at_frame, each_shows, frame_at, inside_frame, patch_of, read_at, shown_by, within_as}
 use Rattle.mw_pieces.proofs.pieces.Pieces.are_of.Goals as goal
 
 pub agrees-requires : goal.agrees-requires
@@ -60,5 +61,5 @@ returns g c =
     let high : j.frame_height ≡ f.height = sym c.frame_height.ensures ∙ c.if-frame_height-height.false ∙ c.height-height.ensures.value in
     let at-is = frame_at c.width-width.result c.height-height.result f.width f.height c.whole_frame-at.result c.whole_frame-at.ensures.value c.width-width.ensures.value c.height-height.ensures.value in
     let P : Patch _ → Type 0 = ShowsIn c.place-place.result (at_frame c.whole_frame-at.result f) in
-    let all : AllByRecursion P j.pieces = subst (AllByRecursion P) c.pieces-pieces.ensures.value (all_whole P c.pieces-pieces.result.now c.loop-piece.piece-index (omega (arith, c.loop-piece-test.false)) c.loop-piece.invariant) in
+    let all : AllByRecursion P j.pieces = subst (AllByRecursion P) c.pieces-pieces.ensures.value (all-take_whole P c.pieces-pieces.result.now c.loop-piece.piece-index (omega (arith, c.loop-piece-test.false)) c.loop-piece.invariant) in
     ((λ yes. shown_by j f c.place-place.result c.whole_frame-at.result c.pieces-pieces.ensures.joint c.place-place.ensures at-is wide high all), (λ shows. search rules))

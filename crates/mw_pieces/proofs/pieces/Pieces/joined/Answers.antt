@@ -1,5 +1,3 @@
-use Rattle.std.proofs.Common.{ap, sym, subst, ◌≡◌, arith, ◌+◌, ◌≤◌}
-use Rattle.mw_model.specs.declared.places.Rect.{Rect}
 use Rattle.mw_pieces.proofs.Patches.{within_as}
 use Rattle.mw_pieces.proofs.pieces.Pieces.joined.Goals as goal
 

@@ -1,7 +1,7 @@
-use Rattle.std.proofs.Common.{◌≡◌, ◌+◌, ◌-◌, ◌*◌, ◌<◌, ◌≤◌, length, ap, sym, subst, arith, ◌∙◌}
+use Rattle.std.proofs.Common.{◌≡◌, ◌-◌, ap, sym, subst, arith}
 use Rattle.mw_model.specs.declared.places.Rect.{Rect}
 use Rattle.mw_model.specs.Places.{Holds}
-use Rattle.mw_pieces.specs.Patches.{patch_at, value_in, Patch}
+use Rattle.mw_pieces.specs.Patches.{value_in, Patch}
 use Rattle.mw_pieces.proofs.Patches.{appends_more, part_shows, patch_of, read_at}
 use Rattle.mw_pieces.proofs.pieces.Pieces.push_row.Goals as goal
 

@@ -1,7 +1,7 @@
-use Rattle.std.proofs.Common.{◌≡◌, ◌+◌, ◌-◌, ◌*◌, ◌<◌, ◌≤◌, length, ap, sym, subst, arith, ◌∙◌}
+use Rattle.std.proofs.Common.{◌≡◌, ◌-◌, ap, subst, arith}
 use Rattle.mw_model.specs.declared.places.Rect.{Rect}
 use Rattle.mw_pieces.specs.Patches.{value_in}
-use Rattle.mw_pieces.proofs.Patches.{begins_more, no_rows, rows_are_values, HasFirstRows}
+use Rattle.mw_pieces.proofs.Patches.{begins_more, HasFirstRows}
 use Rattle.mw_pieces.proofs.pieces.Pieces.samples.Goals as goal
 
 pub overflow_add-y-end : goal.overflow_add-y-end

@@ -1,4 +1,4 @@
-use Rattle.std.proofs.Common.{◌≡◌, ap, sym, subst, ◌∙◌}
+use Rattle.std.proofs.Common.{ap, sym, subst, ◌∙◌}
 use Rattle.mw_model.specs.declared.shapes.Kind.TheVariants as kind
 use Rattle.mw_pieces.specs.Shared.{window_held, IsHeld}
 use Rattle.mw_pieces.proofs.Windows.{joined_is}

@@ -1,10 +1,8 @@
-use Rattle.std.proofs.Common.{◌≡◌, ap, sym, subst, ◌∙◌}
-use Rattle.std.specs.Arc.{arc_value}
+use Rattle.std.proofs.Common.{ap, sym, subst, ◌∙◌}
 use Rattle.mw_model.specs.declared.shapes.Kind.TheVariants as kind
 use Rattle.mw_model.specs.Pictures.{Picture}
-use Rattle.mw_pixel.specs.Images.{grey_of, raster_of, set_of, SharesAs}
-use Rattle.mw_pixel.specs.declared.image.SharedView.{SharedView}
-use Rattle.mw_pieces.specs.Patches.{Joint, ShowsFrame}
+use Rattle.mw_pixel.specs.Images.{raster_of, SharesAs}
+use Rattle.mw_pieces.specs.Patches.{ShowsFrame}
 use Rattle.mw_pieces.proofs.Windows.{window_is}
 use Rattle.mw_pieces.proofs.shared.SharedWindow.of_image.Goals as goal
 

@@ -1,5 +1,6 @@
 use Rattle.std.proofs.Common.{◌≡◌, ◌≢◌, ◌<◌, true, List, not, ◌&&◌, length, take, drop, ◌++◌, get_or, set, sym, ap, subst, ◌∙◌, arith}
 use Rattle.std.proofs.lemmas.List.{length-map, get_or_read}
+use Rattle.std.proofs.lemmas.Bool.{both_ways}
 use Rattle.mw_model.specs.Tasks.{is_running}
 use Rattle.mw_grid.specs.Blocks.{sees}
 use Rattle.mw_grid.specs.Grids.{tile_count}
@@ -12,7 +13,7 @@ use Rattle.mw_progress.proofs.Boarded.{runs_is}
 use Rattle.mw_progress.proofs.Opened.{shown_at}
 use Rattle.mw_progress.proofs.Placing.{put_ready}
 use Rattle.mw_progress.proofs.Settled.{Finishing, read_places}
-use Rattle.mw_progress.proofs.Finish.{finish_all, all_new, not_both}
+use Rattle.mw_progress.proofs.Finish.{finish_all, all_new}
 use Rattle.mw_progress.proofs.progress.PlanProgress.finish.Goals as goal
 
 pub finish-requires : goal.finish-requires
@@ -142,7 +143,7 @@ invariant_of-self c =
       sweeps = sweeps;
       keep_is = c.is_kept.ensures;
       kept = λ e. (c.put.new.self, ap (λ (xs : List Place). set xs a.step c.put.new.self) written, c.put.ensures.value ∙ ap (λ (q : Place). placed_in (shown g q) a.tile (cells_of_made a.made)) was, c.put.ensures.form ∙ ap form was);
-      dropped = λ e. absurd (not_both c.is_kept.result c.if-is_kept.true e);
+      dropped = λ e. absurd (both_ways c.is_kept.result e c.if-is_kept.true);
     } in
     let d = finish_all i.plan i.input g i.ready ps f c.self.invariant.0 c.self.invariant.1 c.tasks_are_those_of_work.ensures c.self.invariant.2 in
     (d.whole, d.boarded, d.placed, c.self.invariant.3, c.self.invariant.4)
@@ -175,7 +176,7 @@ invariant_of-self-else-is_kept c =
       board = c.finish.ensures;
       sweeps = sweeps;
       keep_is = c.is_kept.ensures;
-      kept = λ e. absurd (not_both c.is_kept.result e c.if-is_kept.false);
+      kept = λ e. absurd (both_ways c.is_kept.result c.if-is_kept.false e);
       dropped = λ e. written;
     } in
     let d = finish_all i.plan i.input g i.ready ps f c.self.invariant.0 c.self.invariant.1 c.tasks_are_those_of_work.ensures c.self.invariant.2 in
@@ -213,7 +214,7 @@ returns-then-is_kept-clause-finished c =
       sweeps = sweeps;
       keep_is = c.is_kept.ensures;
       kept = λ e. (c.put.new.self, ap (λ (xs : List Place). set xs a.step c.put.new.self) written, c.put.ensures.value ∙ ap (λ (q : Place). placed_in (shown g q) a.tile (cells_of_made a.made)) was, c.put.ensures.form ∙ ap form was);
-      dropped = λ e. absurd (not_both c.is_kept.result c.if-is_kept.true e);
+      dropped = λ e. absurd (both_ways c.is_kept.result e c.if-is_kept.true);
     } in
     let d = finish_all i.plan i.input g i.ready ps f c.self.invariant.0 c.self.invariant.1 c.tasks_are_those_of_work.ensures c.self.invariant.2 in
     subst (λ (u : ProgressView). IsFinished u (underway_kept i.plan i.input g now (set (take i.places.len (swept ++ drop (length swept) ps)) a.step c.put.new.self)) (number_of u.progress a.step a.tile) (cells_of_made a.made)) c.self.view_is d.finished
@@ -250,7 +251,7 @@ returns-then-is_kept-clause-whole c =
       sweeps = sweeps;
       keep_is = c.is_kept.ensures;
       kept = λ e. (c.put.new.self, ap (λ (xs : List Place). set xs a.step c.put.new.self) written, c.put.ensures.value ∙ ap (λ (q : Place). placed_in (shown g q) a.tile (cells_of_made a.made)) was, c.put.ensures.form ∙ ap form was);
-      dropped = λ e. absurd (not_both c.is_kept.result c.if-is_kept.true e);
+      dropped = λ e. absurd (both_ways c.is_kept.result e c.if-is_kept.true);
     } in
     let d = finish_all i.plan i.input g i.ready ps f c.self.invariant.0 c.self.invariant.1 c.tasks_are_those_of_work.ensures c.self.invariant.2 in
     d.whole
@@ -283,7 +284,7 @@ returns-else-is_kept-clause-finished c =
       board = c.finish.ensures;
       sweeps = sweeps;
       keep_is = c.is_kept.ensures;
-      kept = λ e. absurd (not_both c.is_kept.result e c.if-is_kept.false);
+      kept = λ e. absurd (both_ways c.is_kept.result c.if-is_kept.false e);
       dropped = λ e. written;
     } in
     let d = finish_all i.plan i.input g i.ready ps f c.self.invariant.0 c.self.invariant.1 c.tasks_are_those_of_work.ensures c.self.invariant.2 in
@@ -317,7 +318,7 @@ returns-else-is_kept-clause-whole c =
       board = c.finish.ensures;
       sweeps = sweeps;
       keep_is = c.is_kept.ensures;
-      kept = λ e. absurd (not_both c.is_kept.result e c.if-is_kept.false);
+      kept = λ e. absurd (both_ways c.is_kept.result c.if-is_kept.false e);
       dropped = λ e. written;
     } in
     let d = finish_all i.plan i.input g i.ready ps f c.self.invariant.0 c.self.invariant.1 c.tasks_are_those_of_work.ensures c.self.invariant.2 in

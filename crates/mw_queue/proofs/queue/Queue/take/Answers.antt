@@ -3,7 +3,7 @@ use Rattle.std.specs.List.{swap_remove}
 use Rattle.mw_queue.specs.Queues.{Queued, IsQueue, list_at, is_open}
 use Rattle.mw_queue.specs.Shown.{queue_of, items_of}
 use Rattle.mw_queue.proofs.Orders.{list_at-items}
-use Rattle.mw_queue.proofs.Opens.{taken_given, picked, items-set, room-set, room-at, length-items_of}
+use Rattle.mw_queue.proofs.Opens.{taken_given, IsQueue-picked, items-set, room-set, room-at, length-items_of}
 use Rattle.mw_queue.proofs.queue.Queue.take.Goals as goal
 
 pub invariant_of-self : goal.invariant_of-self
@@ -23,13 +23,13 @@ invariant_of-self c =
     )
 
 pub returns-clause-tile : goal.returns-clause-tile
-returns-clause-tile c = omega (arith, c.from.ensures, (picked c.self.inside.ready.items c.args.self.now c.self.inside.total c.find-step.result.0 c.find-step.result.1 c.swap_remove-tile.result c.index_mut.result.now (subst (λ (v : Queued). IsQueue v c.self.inside.total) c.self.view_is c.self.invariant.0) (ap (λ (v : Queued). v.ready) c.self.view_is) c.find-step.ensures.step c.find-step.ensures.at c.index_mut.ensures.value c.swap_remove-tile.ensures.value).0)
+returns-clause-tile c = omega (arith, c.from.ensures, (IsQueue-picked c.self.inside.ready.items c.args.self.now c.self.inside.total c.find-step.result.0 c.find-step.result.1 c.swap_remove-tile.result c.index_mut.result.now (subst (λ (v : Queued). IsQueue v c.self.inside.total) c.self.view_is c.self.invariant.0) (ap (λ (v : Queued). v.ready) c.self.view_is) c.find-step.ensures.step c.find-step.ensures.at c.index_mut.ensures.value c.swap_remove-tile.ensures.value).0)
 
 pub returns-clause-within : goal.returns-clause-within
-returns-clause-within c = omega (arith, c.from.ensures, (picked c.self.inside.ready.items c.args.self.now c.self.inside.total c.find-step.result.0 c.find-step.result.1 c.swap_remove-tile.result c.index_mut.result.now (subst (λ (v : Queued). IsQueue v c.self.inside.total) c.self.view_is c.self.invariant.0) (ap (λ (v : Queued). v.ready) c.self.view_is) c.find-step.ensures.step c.find-step.ensures.at c.index_mut.ensures.value c.swap_remove-tile.ensures.value).1)
+returns-clause-within c = omega (arith, c.from.ensures, (IsQueue-picked c.self.inside.ready.items c.args.self.now c.self.inside.total c.find-step.result.0 c.find-step.result.1 c.swap_remove-tile.result c.index_mut.result.now (subst (λ (v : Queued). IsQueue v c.self.inside.total) c.self.view_is c.self.invariant.0) (ap (λ (v : Queued). v.ready) c.self.view_is) c.find-step.ensures.step c.find-step.ensures.at c.index_mut.ensures.value c.swap_remove-tile.ensures.value).1)
 
 pub returns-clause-opened : goal.returns-clause-opened
 returns-clause-opened c =
     let q = c.args.self.now in
     ap (λ (k : ℕ). is_open q.started q.waiting (c.find-step.result.0 * q.tiles + k)) c.from.ensures
-    ∙ (picked c.self.inside.ready.items c.args.self.now c.self.inside.total c.find-step.result.0 c.find-step.result.1 c.swap_remove-tile.result c.index_mut.result.now (subst (λ (v : Queued). IsQueue v c.self.inside.total) c.self.view_is c.self.invariant.0) (ap (λ (v : Queued). v.ready) c.self.view_is) c.find-step.ensures.step c.find-step.ensures.at c.index_mut.ensures.value c.swap_remove-tile.ensures.value).2
+    ∙ (IsQueue-picked c.self.inside.ready.items c.args.self.now c.self.inside.total c.find-step.result.0 c.find-step.result.1 c.swap_remove-tile.result c.index_mut.result.now (subst (λ (v : Queued). IsQueue v c.self.inside.total) c.self.view_is c.self.invariant.0) (ap (λ (v : Queued). v.ready) c.self.view_is) c.find-step.ensures.step c.find-step.ensures.at c.index_mut.ensures.value c.swap_remove-tile.ensures.value).2

@@ -1,5 +1,6 @@
 use Rattle.std.proofs.Common.{◌-◌, ◌<◌, arith, refl, length}
-use Rattle.mw_rank.proofs.Counts.{not_lowest, next_below, tallies_moved, counter_is}
+use Rattle.std.proofs.lemmas.List.{get_or_read}
+use Rattle.mw_rank.proofs.Counts.{not_lowest, next_below, tallies_moved}
 use Rattle.mw_rank.proofs.histogram.Histogram.lower.Goals as goal
 
 pub overflow_sub-self : goal.overflow_sub-self
@@ -23,7 +24,7 @@ overflow_sub-self-in-loop-self c =
     omega (
       arith,
       c.from.ensures,
-      counter_is h.counts.items (h.level - 1) c.index.result.now within c.index.ensures,
+      get_or_read h.counts.items (h.level - 1) c.index.result.now within c.index.ensures 0,
       next_below c.requires.held.0 h r.others t (not_lowest c.requires.held.0 h r.others t (omega (arith, c.requires.some))),
     )
 
@@ -40,6 +41,6 @@ loop-self-preserved c = record {
       let t = c.loop-self.invariant.tallies top ns before in
       let within : h.level - 1 < length h.counts.items = omega (arith, t.size, t.level) in
       let below = next_below top h ns t (not_lowest top h ns t (omega (arith, c.requires.some))) in
-      tallies_moved top h _ ns refl refl (omega (arith, t.level)) (omega (arith, c.from.ensures, counter_is h.counts.items (h.level - 1) c.index.result.now within c.index.ensures, below)) t;
+      tallies_moved top h _ ns refl refl (omega (arith, t.level)) (omega (arith, c.from.ensures, get_or_read h.counts.items (h.level - 1) c.index.result.now within c.index.ensures 0, below)) t;
   held = c.loop-self.invariant.held;
 }

@@ -1,5 +1,6 @@
 use Rattle.std.proofs.Common.{◌<◌, arith, refl, length}
-use Rattle.mw_rank.proofs.Counts.{not_top, tallies_moved, counter_is}
+use Rattle.std.proofs.lemmas.List.{get_or_read}
+use Rattle.mw_rank.proofs.Counts.{not_top, tallies_moved}
 use Rattle.mw_rank.proofs.histogram.Histogram.raise.Goals as goal
 
 pub overflow_cast-self : goal.overflow_cast-self
@@ -26,7 +27,7 @@ overflow_add-self-in-loop-self-2 c =
     let h = c.loop-self.self in
     let t = c.loop-self.invariant.tallies c.requires.held.0 r.others r.tallies in
     let within : h.level < length h.counts.items = omega (arith, t.size, t.level) in
-    let counter = counter_is h.counts.items h.level c.index.result.now within c.index.ensures in
+    let counter = get_or_read h.counts.items h.level c.index.result.now within c.index.ensures 0 in
     let lower = not_top c.requires.held.0 c.args.n h r.others t (omega (arith, c.requires.within, c.loop-self.invariant.held)) (omega (arith, counter, c.from.ensures, c.loop-self-test.true)) in
     omega (arith, lower, t.short)
 
@@ -43,8 +44,8 @@ loop-self-preserved c =
     let h = c.loop-self.self in
     let now = c.loop-self.invariant.tallies c.requires.held.0 r.others r.tallies in
     let inside : h.level < length h.counts.items = omega (arith, now.size, now.level) in
-    let first = counter_is h.counts.items h.level c.index.result.now inside c.index.ensures in
-    let again = counter_is h.counts.items h.level c.index-in-loop-self.result.now inside c.index-in-loop-self.ensures in
+    let first = get_or_read h.counts.items h.level c.index.result.now inside c.index.ensures 0 in
+    let again = get_or_read h.counts.items h.level c.index-in-loop-self.result.now inside c.index-in-loop-self.ensures 0 in
     record {
       tallies = λ top ns before.
           let t = c.loop-self.invariant.tallies top ns before in
@@ -60,5 +61,5 @@ returns-clause-enough c = λ top ns before.
     let h = c.loop-self.self in
     let t = c.loop-self.invariant.tallies top ns before in
     let within : h.level < length h.counts.items = omega (arith, t.size, t.level) in
-    let counter = counter_is h.counts.items h.level c.index.result.now within c.index.ensures in
+    let counter = get_or_read h.counts.items h.level c.index.result.now within c.index.ensures 0 in
     omega (arith, counter, c.from.ensures, c.loop-self-test.false, t.each h.level, t.below)

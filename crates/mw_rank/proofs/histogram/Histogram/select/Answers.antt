@@ -1,5 +1,5 @@
 use Rattle.std.proofs.Common.{arith}
-use Rattle.mw_rank.proofs.Counts.{selected}
+use Rattle.mw_rank.proofs.Counts.{level-selected}
 use Rattle.mw_rank.proofs.histogram.Histogram.select.Goals as goal
 
 pub raise-requires-clause-within : goal.raise-requires-clause-within
@@ -23,7 +23,7 @@ pub returns-clause-level : goal.returns-clause-level
 returns-clause-level c = λ top ns t.
     let s = c.lower.ensures.tallies top ns t in
     let u = c.raise.ensures.tallies top ns s in
-    selected top c.args.k _ c.raise.new.self ns (omega (arith, u.held, s.held, t.held)) c.raise.ensures.few (c.raise.ensures.enough top ns s) u
+    level-selected top c.args.k _ c.raise.new.self ns (omega (arith, u.held, s.held, t.held)) c.raise.ensures.few (c.raise.ensures.enough top ns s) u
 
 pub returns-clause-small : goal.returns-clause-small
 returns-clause-small c = λ top ns t.

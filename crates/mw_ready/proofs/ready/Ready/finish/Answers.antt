@@ -1,11 +1,11 @@
 use Rattle.std.proofs.Common.{◌≡◌, ℕ, ◌+◌, ◌-◌, ◌*◌, ◌∙◌, ◌++◌, List, length, take, drop, ap, subst, sym, true, set, arith}
 use Rattle.std.proofs.lemmas.List.{get_or_default}
+use Rattle.mw_facts.proofs.Elements.{take-written}
 use Rattle.mw_ready.specs.Boards.{Turns, task_number, Runs, no_need}
 use Rattle.mw_ready.specs.Kept.{board_of, Keeps, CountsReaders, takes}
 use Rattle.mw_ready.specs.Counters.{Lowers, Counted}
 use Rattle.mw_ready.proofs.Keeping.{some_run, readers_wait_given, finish_keeps_given, number_within}
 use Rattle.mw_ready.proofs.ReaderCounts.{readers_counted, finish_readers}
-use Rattle.mw_ready.proofs.Raising.{written_back}
 use Rattle.mw_ready.proofs.ready.Ready.finish.Goals as goal
 
 pub overflow_sub-self : goal.overflow_sub-self
@@ -51,7 +51,7 @@ invariant_of-self c =
     let new-size : length new ≡ a.readers.len = c.lower_sources.ensures.size ∙ ap (λ (xs : List ℕ). length xs) value ∙ (let ok = a.readers.ok in omega arith) in
     let readers = take a.readers.len (new ++ drop (length new) a.readers.items) in
     let lowered : Lowers (takes need a.grid c.args.tile) a.readers.items readers =
-    subst (λ (xs : List ℕ). Lowers (takes need a.grid c.args.tile) a.readers.items xs) (sym (written_back a.readers.len new a.readers.items new-size)) (subst (λ (xs : List ℕ). Lowers (takes need a.grid c.args.tile) xs new) value c.lower_sources.ensures) in (
+    subst (λ (xs : List ℕ). Lowers (takes need a.grid c.args.tile) a.readers.items xs) (sym (take-written a.readers.items new a.readers.len new-size)) (subst (λ (xs : List ℕ). Lowers (takes need a.grid c.args.tile) xs new) value c.lower_sources.ensures) in (
       subst (λ (k : ℕ). Keeps (board_of a.needs.items a.grid c.release_readers.new.queue (set a.finished.items (c.args.step * k + c.args.tile) true)) c.release_readers.new.queue.waiting (a.running - 1) (a.remaining - 1)) (sym c.len.ensures.value)
           (finish_keeps_given b a.queue.waiting c.release_readers.new.queue.waiting c.release_readers.new.queue.started c.deref.result.now a.running a.remaining c.args.step c.args.tile c.self.invariant.0 runs c.deref.ensures.value e.lowers e.same.started),
       e.same.tiles ∙ c.self.invariant.1,

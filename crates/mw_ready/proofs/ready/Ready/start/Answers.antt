@@ -1,7 +1,7 @@
 use Rattle.std.proofs.Common.{◌≡◌, ◌<◌, ◌+◌, ◌*◌, ◌∙◌, subst, sym, refl, arith, length, true}
+use Rattle.mw_facts.proofs.Counts.{count_by-most}
 use Rattle.mw_ready.specs.Boards.{Turns, ready_tasks, is_ready, is_running, task_number, task_count}
 use Rattle.mw_ready.specs.Kept.{board_of}
-use Rattle.mw_grid.proofs.Counts.{count-most}
 use Rattle.mw_ready.proofs.Keeping.{count_is, start_keeps_given, step_of_number, open_number}
 use Rattle.mw_ready.proofs.ready.Ready.start.Goals as goal
 
@@ -16,7 +16,7 @@ overflow_add-self c =
     let a = c.self.inside in
     let b = board_of a.needs.items a.grid a.queue a.finished.items in
     let keeps = c.self.invariant.0 in
-    omega (arith, keeps.running, keeps.small, count-most (is_running b) (task_count b))
+    omega (arith, keeps.running, keeps.small, count_by-most (is_running b) (task_count b))
 
 pub invariant_of-self : goal.invariant_of-self
 invariant_of-self c =

@@ -1,5 +1,5 @@
 use Rattle.std.proofs.Common.{◌≡◌, ◌∙◌, ℕ, ◌<◌, if◌then◌else◌, [], length, map, drop, set, slice_index_or, count_by, None, option_map, refl, ap, sym, arith, subst}
-use Rattle.std.proofs.lemmas.List.{length-map, length-set}
+use Rattle.std.proofs.lemmas.List.{length-map, length-set, take_at}
 use Rattle.std.proofs.lemmas.List.Sums.{sum_by-set}
 use Rattle.mw_model.specs.declared.calls.Outcome.{Outcome}
 use Rattle.mw_model.specs.declared.calls.Outcome.TheVariants as outcome
@@ -11,7 +11,7 @@ use Rattle.mw_store.specs.Stored.{Stored}
 use Rattle.mw_store.specs.Waiting.{waiting_at}
 use Rattle.mw_store.specs.Wanted.{one_if, spent_by, wanted_by}
 use Rattle.mw_store.proofs.CascadeLemmas.{count-spread}
-use Rattle.mw_store.proofs.Tracking.{front, kept-dropped, kill-drops, kill-tracked}
+use Rattle.mw_store.proofs.Tracking.{kept-dropped, kill-drops, kill-tracked}
 use Rattle.mw_store.proofs.columns.Store.kill.Goals as goal
 
 pub returns-clause-table : goal.returns-clause-table
@@ -22,7 +22,7 @@ returns-clause-table c =
     let d = c.deref_mut.ensures.value in
     let l = c.deref_mut.ensures.len in
     let m = c.fail_dependents.auto.outcomes in
-    rw (front c.fail_dependents.new.outcomes _ c.self.inside.outcomes.len (omega arith), a, b, d, ← c.self.view_is) refl
+    rw (take_at c.fail_dependents.new.outcomes _ c.self.inside.outcomes.len (omega arith), a, b, d, ← c.self.view_is) refl
 
 pub invariant_of-self : goal.invariant_of-self
 invariant_of-self c =
@@ -37,8 +37,8 @@ invariant_of-self c =
     let new = c.drop_spent.new.kept in
     let is : os ≡ spread [] a.submissions.items (set a.outcomes.items t c.args.cause) = rw (c.deref.ensures.value, c.deref_mut.ensures.value) at c.fail_dependents.ensures in
     let size : length os ≡ length a.outcomes.items = omega (arith, c.fail_dependents.auto.outcomes, ap length c.deref_mut.ensures.value, length-set a.outcomes.items t c.args.cause) in
-    let shown = front os (drop (length os) (set a.outcomes.items t c.args.cause)) a.outcomes.len (omega (arith, c.fail_dependents.auto.outcomes, c.deref_mut.ensures.len)) in
-    let counts = front now (drop (length now) a.wanted.items) a.wanted.len (omega (arith, c.count_wanted.auto.wanted, c.deref_mut-2.ensures.len)) in
+    let shown = take_at os (drop (length os) (set a.outcomes.items t c.args.cause)) a.outcomes.len (omega (arith, c.fail_dependents.auto.outcomes, c.deref_mut.ensures.len)) in
+    let counts = take_at now (drop (length now) a.wanted.items) a.wanted.len (omega (arith, c.count_wanted.auto.wanted, c.deref_mut-2.ensures.len)) in
     let counted : (k : ℕ) → slice_index_or now k 0 ≡ wanted_by a.submissions.items os k = λ k. rw (c.deref-3.ensures.value, c.deref-4.ensures.value, shown) at (c.count_wanted.ensures k) in
     let each : (k : ℕ) → waiting_at rest k ≡ (if is_pending (outcome_at os k) then waiting_at a.waiting.items k else [])
     = λ k. rw (c.deref-5.ensures.value, shown, c.deref_mut-3.ensures.value) at (c.drop_settled.ensures k) in
@@ -47,7 +47,7 @@ invariant_of-self c =
     = λ k. kept-dropped a.kept.items new k (spent_by os now k) (rw (c.deref-6.ensures.value, shown, c.deref-7.ensures.value, counts, c.deref_mut-4.ensures.value) at (c.drop_spent.ensures k)) in
     let kept-size : length (map (option_map kept_value) new) ≡ length s.kept
     = omega (arith, length-map new (option_map kept_value), length-map a.kept.items (option_map kept_value), c.drop_spent.auto.kept, ap length c.deref_mut-4.ensures.value) in
-    rw (shown, counts, front rest _ a.waiting.len (omega (arith, c.drop_settled.auto.waiting, c.deref_mut-3.ensures.len)), front new _ a.kept.len (omega (arith, c.drop_spent.auto.kept, c.deref_mut-4.ensures.len)))
+    rw (shown, counts, take_at rest _ a.waiting.len (omega (arith, c.drop_settled.auto.waiting, c.deref_mut-3.ensures.len)), take_at new _ a.kept.len (omega (arith, c.drop_spent.auto.kept, c.deref_mut-4.ensures.len)))
     (kill-tracked s a.wanted.items now a.waiting.items rest a.pending c.count_pending-self-inside.result t c.args.cause os (map (option_map kept_value) new) c.self.invariant named c.requires.dead is size
     (omega (arith, c.count_wanted.auto.wanted, ap length c.deref_mut-2.ensures.value)) (omega (arith, c.drop_settled.auto.waiting, ap length c.deref_mut-3.ensures.value)) kept-size
     counted each count (kill-drops s os now (map (option_map kept_value) new) (size ∙ c.self.invariant.whole.outcomes) counted dropped))
@@ -62,12 +62,12 @@ returns-clause-kept c = λ j.
     let now = c.count_wanted.new.wanted in
     let new = c.drop_spent.new.kept in
     let size : length os ≡ length a.outcomes.items = omega (arith, c.fail_dependents.auto.outcomes, ap length c.deref_mut.ensures.value, length-set a.outcomes.items t c.args.cause) in
-    let shown = front os (drop (length os) (set a.outcomes.items t c.args.cause)) a.outcomes.len (omega (arith, c.fail_dependents.auto.outcomes, c.deref_mut.ensures.len)) in
-    let counts = front now (drop (length now) a.wanted.items) a.wanted.len (omega (arith, c.count_wanted.auto.wanted, c.deref_mut-2.ensures.len)) in
+    let shown = take_at os (drop (length os) (set a.outcomes.items t c.args.cause)) a.outcomes.len (omega (arith, c.fail_dependents.auto.outcomes, c.deref_mut.ensures.len)) in
+    let counts = take_at now (drop (length now) a.wanted.items) a.wanted.len (omega (arith, c.count_wanted.auto.wanted, c.deref_mut-2.ensures.len)) in
     let counted : (k : ℕ) → slice_index_or now k 0 ≡ wanted_by a.submissions.items os k = λ k. rw (c.deref-3.ensures.value, c.deref-4.ensures.value, shown) at (c.count_wanted.ensures k) in
     let dropped : (k : ℕ) → value_at (map (option_map kept_value) new) k ≡ (if spent_by os now k then None else value_at s.kept k)
     = λ k. kept-dropped a.kept.items new k (spent_by os now k) (rw (c.deref-6.ensures.value, shown, c.deref-7.ensures.value, counts, c.deref_mut-4.ensures.value) at (c.drop_spent.ensures k)) in
-    rw (shown, front new _ a.kept.len (omega (arith, c.drop_spent.auto.kept, c.deref_mut-4.ensures.len)), ← c.self.view_is)
+    rw (shown, take_at new _ a.kept.len (omega (arith, c.drop_spent.auto.kept, c.deref_mut-4.ensures.len)), ← c.self.view_is)
     (kill-drops s os now (map (option_map kept_value) new) (size ∙ c.self.invariant.whole.outcomes) counted dropped j)
 
 pub returns-clause-pending : goal.returns-clause-pending
@@ -83,7 +83,7 @@ returns-clause-pending c =
     let named : t < length c.self.inside.names.keys = let R : Stored → Type 0 = λ s. t < length s.table.names in subst R (sym v) c.requires.within in
     let within : t < length os = omega (arith, named, c.self.invariant.whole.outcomes) in
     let was : outcome_at os t ≡ outcome.Pending = let W : Stored → Type 0 = λ s. outcome_at s.table.outcomes t ≡ outcome.Pending in subst W (sym v) c.requires.pending in
-    rw (front c.fail_dependents.new.outcomes _ c.self.inside.outcomes.len (omega arith), a, b, d, ← v)
+    rw (take_at c.fail_dependents.new.outcomes _ c.self.inside.outcomes.len (omega arith), a, b, d, ← v)
     (omega (
       arith,
       count-spread [] c.self.inside.submissions.items (set os t c.args.cause),

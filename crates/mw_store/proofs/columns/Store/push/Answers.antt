@@ -1,6 +1,6 @@
 use Rattle.std.proofs.Common.{◌≡◌, ◌∙◌, ◌+◌, ◌&&◌, ◌<◌, ℕ, [], ◌∷◌, ◌++◌, List, length, length-append, map, slice_index_or, option_map, ap, sym, refl, subst, arith}
 use Rattle.std.specs.List.{AllByRecursion}
-use Rattle.std.proofs.lemmas.List.{map-append}
+use Rattle.std.proofs.lemmas.List.{map-append, take_at}
 use Rattle.mw_model.specs.Refusals.{is_pending, outcome_at, ticket_of}
 use Rattle.mw_model.specs.Names.{same_name}
 use Rattle.mw_model.specs.Values.{tickets}
@@ -9,7 +9,7 @@ use Rattle.mw_store.specs.Stored.{Stored}
 use Rattle.mw_store.specs.Waiting.{Waiting, entry_for, waiting_at}
 use Rattle.mw_store.specs.Wanted.{is_among, one_if}
 use Rattle.mw_store.proofs.AddLemmas.{added}
-use Rattle.mw_store.proofs.Tracking.{front, push-tracked, tracked-lists, wanted-small, zero-behind}
+use Rattle.mw_store.proofs.Tracking.{push-tracked, tracked-lists, wanted-small, zero-behind}
 use Rattle.mw_store.proofs.columns.Store.push.Goals as goal
 
 pub invariant_of-self-in_err-reserve_inputs : goal.invariant_of-self-in_err-reserve_inputs
@@ -19,7 +19,7 @@ invariant_of-self-in_err-reserve_inputs c =
     let now = c.reserve_inputs.new.waiting in
     let same : (k : ℕ) → waiting_at now k ≡ waiting_at a.waiting.items k = λ k. c.reserve_inputs.ensures.tickets k ∙ ap (λ (xs : List Waiting). waiting_at xs k) c.deref_mut.ensures.value in
     let size : length now ≡ length a.waiting.items = omega (arith, c.reserve_inputs.auto.waiting, ap length c.deref_mut.ensures.value) in
-    rw (c.reserve.ensures.items, c.reserve-2.ensures.items, c.reserve-3.ensures.items, c.reserve-4.ensures.items, front now _ a.waiting.len (omega (arith, c.reserve_inputs.auto.waiting, c.deref_mut.ensures.len)))
+    rw (c.reserve.ensures.items, c.reserve-2.ensures.items, c.reserve-3.ensures.items, c.reserve-4.ensures.items, take_at now _ a.waiting.len (omega (arith, c.reserve_inputs.auto.waiting, c.deref_mut.ensures.len)))
     (tracked-lists s a.wanted.items a.waiting.items now a.pending c.self.invariant size same)
 
 pub invariant_of-self-in_err-reserve-5 : goal.invariant_of-self-in_err-reserve-5
@@ -29,7 +29,7 @@ invariant_of-self-in_err-reserve-5 c =
     let now = c.reserve_inputs.new.waiting in
     let same : (k : ℕ) → waiting_at now k ≡ waiting_at a.waiting.items k = λ k. c.reserve_inputs.ensures.tickets k ∙ ap (λ (xs : List Waiting). waiting_at xs k) c.deref_mut.ensures.value in
     let size : length now ≡ length a.waiting.items = omega (arith, c.reserve_inputs.auto.waiting, ap length c.deref_mut.ensures.value) in
-    rw (c.reserve.ensures.items, c.reserve-2.ensures.items, c.reserve-3.ensures.items, c.reserve-4.ensures.items, c.reserve-5.ensures.items, front now _ a.waiting.len (omega (arith, c.reserve_inputs.auto.waiting, c.deref_mut.ensures.len)))
+    rw (c.reserve.ensures.items, c.reserve-2.ensures.items, c.reserve-3.ensures.items, c.reserve-4.ensures.items, c.reserve-5.ensures.items, take_at now _ a.waiting.len (omega (arith, c.reserve_inputs.auto.waiting, c.deref_mut.ensures.len)))
     (tracked-lists s a.wanted.items a.waiting.items now a.pending c.self.invariant size same)
 
 pub invariant_of-self-in_err-insert : goal.invariant_of-self-in_err-insert
@@ -39,7 +39,7 @@ invariant_of-self-in_err-insert c =
     let now = c.reserve_inputs.new.waiting in
     let same : (k : ℕ) → waiting_at now k ≡ waiting_at a.waiting.items k = λ k. c.reserve_inputs.ensures.tickets k ∙ ap (λ (xs : List Waiting). waiting_at xs k) c.deref_mut.ensures.value in
     let size : length now ≡ length a.waiting.items = omega (arith, c.reserve_inputs.auto.waiting, ap length c.deref_mut.ensures.value) in
-    rw (c.in_err-insert.ensures.err, c.reserve.ensures.items, c.reserve-2.ensures.items, c.reserve-3.ensures.items, c.reserve-4.ensures.items, c.reserve-5.ensures.items, front now _ a.waiting.len (omega (arith, c.reserve_inputs.auto.waiting, c.deref_mut.ensures.len)))
+    rw (c.in_err-insert.ensures.err, c.reserve.ensures.items, c.reserve-2.ensures.items, c.reserve-3.ensures.items, c.reserve-4.ensures.items, c.reserve-5.ensures.items, take_at now _ a.waiting.len (omega (arith, c.reserve_inputs.auto.waiting, c.deref_mut.ensures.len)))
     (tracked-lists s a.wanted.items a.waiting.items now a.pending c.self.invariant size same)
 
 pub raise_inputs-requires-clause-small : goal.raise_inputs-requires-clause-small
@@ -64,7 +64,7 @@ invariant_of-self-2 c =
     let rest = c.push_inputs.new.waiting in
     let waited = c.pending_inputs-waited.result in
     let counts : c.deref_mut-2.result.now ≡ a.wanted.items ++ 0 ∷ [] = c.deref_mut-2.ensures.value ∙ c.push_reserved-4.ensures.items ∙ ap (λ (xs : List ℕ). xs ++ 0 ∷ []) c.reserve-4.ensures.items in
-    let kept-list = front made _ a.waiting.len (omega (arith, c.reserve_inputs.auto.waiting, c.deref_mut.ensures.len)) in
+    let kept-list = take_at made _ a.waiting.len (omega (arith, c.reserve_inputs.auto.waiting, c.deref_mut.ensures.len)) in
     let lists : c.deref_mut-3.result.now ≡ made ++ c.none.result ∷ [] = c.deref_mut-3.ensures.value ∙ c.push_reserved-5.ensures.items ∙ ap (λ (xs : List Waiting). xs ++ c.none.result ∷ []) (c.reserve-5.ensures.items ∙ kept-list) in
     let same : (k : ℕ) → waiting_at made k ≡ waiting_at a.waiting.items k = λ k. c.reserve_inputs.ensures.tickets k ∙ ap (λ (xs : List Waiting). waiting_at xs k) c.deref_mut.ensures.value in
     let made-size : length made ≡ length a.waiting.items = omega (arith, c.reserve_inputs.auto.waiting, ap length c.deref_mut.ensures.value) in
@@ -86,8 +86,8 @@ invariant_of-self-2 c =
       c.reserve-2.ensures.items,
       c.reserve-3.ensures.items,
       map-append (option_map kept_value) a.kept.items (c.args.value ∷ []),
-      front now _ c.push_reserved-4.new.self.len (omega (arith, c.raise_inputs.auto.wanted, c.deref_mut-2.ensures.len)),
-      front rest _ c.push_reserved-5.new.self.len (omega (arith, c.push_inputs.auto.waiting, c.deref_mut-3.ensures.len)),
+      take_at now _ c.push_reserved-4.new.self.len (omega (arith, c.raise_inputs.auto.wanted, c.deref_mut-2.ensures.len)),
+      take_at rest _ c.push_reserved-5.new.self.len (omega (arith, c.push_inputs.auto.waiting, c.deref_mut-3.ensures.len)),
     )
     (push-tracked s a.wanted.items now made rest a.pending (a.pending + c.one_if_pending.result) c.args.name c.args.submission c.args.outcome (option_map kept_value c.args.value) c.none.result waited
     tracked room below c.requires.kept c.none.ensures counts-size lists-size raised waits each (ap (λ (n : ℕ). a.pending + n) c.one_if_pending.ensures))

@@ -1,6 +1,6 @@
 use Rattle.std.proofs.Common.{◌≡◌, ◌∙◌, ◌&&◌, ◌+◌, ℕ, ◌<◌, if◌then◌else◌, Bool, true, nat_eq, List, length, map, set, get_or, slice_index_or, Option, Some, None, option_map, ap, sym, subst, arith}
 use Rattle.std.specs.List.{AllByRecursion, list_any}
-use Rattle.std.proofs.lemmas.List.{length-map, get_or_read, length-set, map-set}
+use Rattle.std.proofs.lemmas.List.{length-map, get_or_read, length-set, map-set, take_at}
 use Rattle.mw_model.specs.declared.calls.Outcome.TheVariants as outcome
 use Rattle.mw_model.specs.Values.{Value, value_at}
 use Rattle.mw_model.specs.Refusals.{Table, is_pending, no_submission, outcome_at, submission_at}
@@ -9,7 +9,7 @@ use Rattle.mw_store.specs.Kept.{kept_value}
 use Rattle.mw_store.specs.Stored.{Stored}
 use Rattle.mw_store.specs.Waiting.{Waiting, no_waiting, waiting_at}
 use Rattle.mw_store.specs.Wanted.{is_among, one_if, spent_by}
-use Rattle.mw_store.proofs.Tracking.{front, kept-dropped, read-within, counted-before, settled-list, settle-drops, settle-tracked}
+use Rattle.mw_store.proofs.Tracking.{kept-dropped, read-within, counted-before, settled-list, settle-drops, settle-tracked}
 use Rattle.mw_store.proofs.columns.Store.settle.Goals as goal
 
 -- the list that is read at a ticket, and handed out
@@ -88,7 +88,7 @@ invariant_of-self c =
     let rest = set a.waiting.items t left in
     let lowered : (k : ℕ) → slice_index_or now k 0 + one_if (is_among (submission_at a.submissions.items t).inputs k) ≡ slice_index_or a.wanted.items k 0
     = λ k. rw (read, c.deref_mut.ensures.value) at (c.lower_inputs.ensures k) in
-    let counts : c.deref-2.result.now ≡ now = c.deref-2.ensures.value ∙ front now _ a.wanted.len (omega arith) in
+    let counts : c.deref-2.result.now ≡ now = c.deref-2.ensures.value ∙ take_at now _ a.wanted.len (omega arith) in
     let near : ℕ → Bool = λ k. is_among (submission_at a.submissions.items t).inputs k && spent_by (set a.outcomes.items t outcome.Done) now k in
     let dropped : (k : ℕ) → value_at (map (option_map kept_value) new) k ≡ (if near k then None else value_at (set s.kept t (Some v)) k)
     = λ k.
@@ -97,7 +97,7 @@ invariant_of-self c =
     let counts-size : length now ≡ length a.wanted.items = omega (arith, c.lower_inputs.auto.wanted, c.deref_mut.ensures.len) in
     let kept-size : length (map (option_map kept_value) new) ≡ length s.kept
     = omega (arith, length-map new (option_map kept_value), length-map a.kept.items (option_map kept_value), c.drop_inputs.auto.kept, ap length c.deref_mut-2.ensures.value, length-set a.kept.items t (Some c.args.value)) in
-    rw (front new _ a.kept.len (omega arith), front now _ a.wanted.len (omega arith))
+    rw (take_at new _ a.kept.len (omega arith), take_at now _ a.wanted.len (omega arith))
     (settle-tracked s a.wanted.items now a.waiting.items rest a.pending t v (map (option_map kept_value) new) c.self.invariant named was counts-size
     (length-set a.waiting.items t left) kept-size lowered
     (settled-list a.waiting.items t left (omega (arith, named, c.self.invariant.listed)) (ap (λ (w : Waiting). w.tickets) c.replace-list.ensures.after ∙ c.none.ensures))
@@ -117,13 +117,13 @@ returns-clause-kept c = λ j.
     let new = c.drop_inputs.new.kept in
     let lowered : (k : ℕ) → slice_index_or now k 0 + one_if (is_among (submission_at a.submissions.items t).inputs k) ≡ slice_index_or a.wanted.items k 0
     = λ k. rw (read, c.deref_mut.ensures.value) at (c.lower_inputs.ensures k) in
-    let counts : c.deref-2.result.now ≡ now = c.deref-2.ensures.value ∙ front now _ a.wanted.len (omega arith) in
+    let counts : c.deref-2.result.now ≡ now = c.deref-2.ensures.value ∙ take_at now _ a.wanted.len (omega arith) in
     let near : ℕ → Bool = λ k. is_among (submission_at a.submissions.items t).inputs k && spent_by (set a.outcomes.items t outcome.Done) now k in
     let dropped : (k : ℕ) → value_at (map (option_map kept_value) new) k ≡ (if near k then None else value_at (set s.kept t (Some v)) k)
     = λ k.
     kept-dropped (set a.kept.items t (Some c.args.value)) new k (near k) (rw (read, c.deref.ensures.value, counts, c.deref_mut-2.ensures.value) at (c.drop_inputs.ensures k))
     ∙ ap (λ (ks : List (Option Value)). if near k then None else value_at ks k) (map-set (option_map kept_value) a.kept.items t (Some c.args.value)) in
-    rw (front new _ a.kept.len (omega arith), ← c.self.view_is)
+    rw (take_at new _ a.kept.len (omega arith), ← c.self.view_is)
     (settle-drops s a.wanted.items now a.waiting.items a.pending t v (map (option_map kept_value) new) c.self.invariant named was lowered dropped j)
 
 pub returns-clause-all : goal.returns-clause-all

@@ -1,5 +1,5 @@
 use Rattle.std.proofs.Common.{◌≡◌, ℕ, ◌<◌, ◌∙◌, List, sum, ap, sym, subst, get_or, arith}
-use Rattle.mw_sums.proofs.Leaves.{root_is, room_some, found}
+use Rattle.mw_sums.proofs.Leaves.{root_is, room_some, span-found}
 use Rattle.mw_sums.proofs.sums.Sums.find.Goals as goal
 
 pub descend-place-requires-clause-inside : goal.descend-place-requires-clause-inside
@@ -13,19 +13,19 @@ pub returns-clause-before : goal.returns-clause-before
 returns-clause-before c =
     let a = c.self.inside in
     let d = c.descend-place in
-    let f = found a.tree.items c.deref.result.now c.args.self.now a.room a.len d.result.0 d.result.1 c.args.position c.self.invariant c.deref.ensures.value c.self.view_is d.ensures.place d.ensures.here d.ensures.before in
+    let f = span-found a.tree.items c.deref.result.now c.args.self.now a.room a.len d.result.0 d.result.1 c.args.position c.self.invariant c.deref.ensures.value c.self.view_is d.ensures.place d.ensures.here d.ensures.before in
     omega (arith, f.0)
 
 pub returns-clause-here : goal.returns-clause-here
 returns-clause-here c =
     let a = c.self.inside in
     let d = c.descend-place in
-    let f = found a.tree.items c.deref.result.now c.args.self.now a.room a.len d.result.0 d.result.1 c.args.position c.self.invariant c.deref.ensures.value c.self.view_is d.ensures.place d.ensures.here d.ensures.before in
+    let f = span-found a.tree.items c.deref.result.now c.args.self.now a.room a.len d.result.0 d.result.1 c.args.position c.self.invariant c.deref.ensures.value c.self.view_is d.ensures.place d.ensures.here d.ensures.before in
     omega (arith, f.0, f.1)
 
 pub returns-clause-rest : goal.returns-clause-rest
 returns-clause-rest c =
     let a = c.self.inside in
     let d = c.descend-place in
-    let f = found a.tree.items c.deref.result.now c.args.self.now a.room a.len d.result.0 d.result.1 c.args.position c.self.invariant c.deref.ensures.value c.self.view_is d.ensures.place d.ensures.here d.ensures.before in
+    let f = span-found a.tree.items c.deref.result.now c.args.self.now a.room a.len d.result.0 d.result.1 c.args.position c.self.invariant c.deref.ensures.value c.self.view_is d.ensures.place d.ensures.here d.ensures.before in
     omega (arith, f.0)

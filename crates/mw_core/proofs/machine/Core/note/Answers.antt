@@ -1,0 +1,17 @@
+use Rattle.std.proofs.Common.{◌∷◌, ◌++◌, ◌∙◌, [], ap}
+use Rattle.mw_model.specs.declared.calls.LogItem.TheVariants as item
+use Rattle.mw_model.specs.Stands.{CoreView}
+use Rattle.mw_ledger.specs.Books.{Book, seen_of}
+use Rattle.mw_ledger.proofs.CountLemmas.{counts-kept}
+use Rattle.mw_core.proofs.machine.Core.note.Goals as goal
+
+pub invariant_of-self-2 : goal.invariant_of-self-2
+invariant_of-self-2 c =
+    let is = c.in_ok-note.ensures.ok in
+    counts-kept c.self.inside.ledger c.note.new.self c.self.inside.counts (ap (λ (b : Book). b.table) is) (ap (λ (b : Book). b.works) is) c.self.invariant
+
+pub returns-clause-ok : goal.returns-clause-ok
+returns-clause-ok c = ap seen_of c.in_ok-note.ensures.ok ∙ ap (λ (d : CoreView). record d { log = d.log ++ item.Call c.args.call c.args.reply ∷ [] }) c.self.view_is
+
+pub returns-clause-side : goal.returns-clause-side
+returns-clause-side c = ap (λ (b : Book). b.side) c.in_ok-note.ensures.ok ∙ ap (λ (d : CoreView). d.side) c.self.view_is

@@ -1,0 +1,28 @@
+-- A piece is taken apart: the front of it to the payload that is gathered, and the rest of it behind what waits.
+use Rattle.std.proofs.Common.{◌≡◌, ℕ, ◌+◌, ◌<◌, ◌≤◌, ◌⊎◌, inl, inr, List, [], ◌∷◌, ◌++◌, length, drop, Result, Ok, Err, OnOk, OnErr, refl, arith, append_assoc}
+use Rattle.std.proofs.lemmas.Bool.{cases_lt}
+use Rattle.std.proofs.lemmas.List.{append-nil, drop_all}
+
+pub on_ok : {X E : Type 0} {A B : Type 0} (r : Result X E) → OnOk r A → (A → B) → OnOk r B
+on_ok (Ok x) h f = f h
+on_ok (Err e) h f = tt
+
+pub on_err : {X E : Type 0} {A : Type 0} (r : Result X E) → A → OnErr r A
+on_err (Ok x) a = tt
+on_err (Err e) a = a
+
+pub empty : (xs : List ℕ) → length xs ≡ 0 → xs ≡ []
+empty [] e = refl
+empty (x ∷ xs) e = absurd (omega arith)
+
+-- nothing waits, or the payload takes none
+pub fed_both : (line payload waits mine other : List ℕ) → (mine ≡ []) ⊎ (waits ≡ []) → line ++ (payload ++ mine) ++ (waits ++ other) ≡ line ++ payload ++ waits ++ (mine ++ other)
+fed_both line payload waits mine other (inl none) = rw (none, append-nil) (simp append_assoc)
+fed_both line payload waits mine other (inr none) = rw (none, append-nil) (simp append_assoc)
+
+-- so it is where nothing waits while bytes of the payload are missing, and the payload takes no more than these
+pub one_none : (mine rest : List ℕ) (have len at : ℕ) → (have < len → at ≡ length rest) → length mine + have ≤ len → (mine ≡ []) ⊎ (drop at rest ≡ [])
+one_none mine rest have len at ends few = elim (cases_lt have len) [
+  | inl less ↦ inr (drop_all at rest (omega (arith, ends less)))
+  | inr whole ↦ inl (empty mine (omega (arith, whole, few)))
+]

@@ -1,0 +1,56 @@
+use Rattle.std.proofs.Common.{◌≡◌, ℕ, ◌+◌, ◌-◌, ◌≤◌, List, ◌++◌, length, drop, min, inl, refl, sym, ap, subst, ◌∙◌, arith, length-append, length-drop, take-append-drop}
+use Rattle.mw_intake.specs.Intake.{Held, IsPortion, line_for, line_kept}
+use Rattle.mw_intake.proofs.Feeds.{on_ok, fed_both, one_none}
+use Rattle.mw_intake.proofs.Tidy.{tidy_line, tidy_payload}
+use Rattle.mw_intake.proofs.intake.Intake.feed.Goals as goal
+
+pub returns-in-Some-clause-ok : goal.returns-in-Some-clause-ok
+returns-in-Some-clause-ok c =
+    let inv = rw c.in-Some.is at c.self.invariant in
+    let payload = c.self.inside.payload.items in
+    let waits = drop c.self.inside.at c.self.inside.rest.items in
+    let mine = c.split_at.result.0.now in
+    let other = c.split_at.result.1.now in
+    let was : line_kept c.self.inside.wanted ++ payload ++ waits ≡ c.args.self.now.bytes = ap (λ (h : Held). h.bytes) c.self.view_is in
+    let piece : mine ++ other ≡ c.args.piece.now = rw (c.split_at.ensures.front, c.split_at.ensures.back) (take-append-drop c.min.result c.args.piece.now) in
+    let few : length mine + length payload ≤ c.in-Some.len = omega (arith, c.split_at.ensures.front_len, c.min.ensures, c.len.ensures, c.self.inside.payload.ok.0, inv.1.1) in
+    let apart = one_none mine c.self.inside.rest.items (length payload) c.in-Some.len c.self.inside.at inv.1.2 few in
+    on_ok c.append_both.result c.append_both.ensures.ok
+    (λ e. rw (e.0, e.1, c.drop_front.ensures.items, ← was, ← piece) (fed_both (line_kept c.self.inside.wanted) payload waits mine other apart))
+
+pub returns-in_ok-extend_from_slice-in-None-clause-tidy : goal.returns-in_ok-extend_from_slice-in-None-clause-tidy
+returns-in_ok-extend_from_slice-in-None-clause-tidy c = λ o part portion.
+    let inv = rw c.in-None.is at c.self.invariant in
+    let rest = c.self.inside.rest.items in
+    let waits = drop c.self.inside.at rest in
+    let fed = c.extend_from_slice.new.self.items in
+    let was : waits ≡ c.args.self.now.bytes = rw (c.in-None.is, inv.1) at (ap (λ (h : Held). h.bytes) c.self.view_is) in
+    let shown : length rest - c.self.inside.at ≡ c.args.self.now.loose = ap (λ (h : Held). h.loose) c.self.view_is in
+    let items : fed ≡ waits ++ c.args.piece.now = rw c.drop_front.ensures.items at c.in_ok-extend_from_slice-in-None.ensures.items in
+    let new : Held = record { bytes = line_kept c.self.inside.wanted ++ c.self.inside.payload.items ++ fed; loose = length fed - 0; spare = 0 } in
+    let bytes : new.bytes ≡ fed = rw (c.in-None.is, inv.1) refl in
+    let long : length new.bytes ≡ length fed = ap (λ (l : List ℕ). length l) bytes in
+    let long_was : length waits ≡ length c.args.self.now.bytes = ap (λ (l : List ℕ). length l) was in
+    tidy_line c.args.self.now new c.args.piece.now (omega (arith, long)) (bytes ∙ items ∙ ap (λ (l : List ℕ). l ++ c.args.piece.now) was) (omega (arith, shown, long_was, length-drop c.self.inside.at rest)) o portion
+
+pub returns-in-Some-clause-tidy : goal.returns-in-Some-clause-tidy
+returns-in-Some-clause-tidy c =
+    let inv = rw c.in-Some.is at c.self.invariant in
+    let rest = c.self.inside.rest.items in
+    let payload = c.self.inside.payload.items in
+    let waits = drop c.self.inside.at rest in
+    let mine = c.split_at.result.0.now in
+    let other = c.split_at.result.1.now in
+    let line = line_for c.in-Some.field-0-0 c.in-Some.len in
+    let was : line ++ payload ++ waits ≡ c.args.self.now.bytes = rw c.in-Some.is at (ap (λ (h : Held). h.bytes) c.self.view_is) in
+    let shown : length rest - c.self.inside.at ≡ c.args.self.now.loose = ap (λ (h : Held). h.loose) c.self.view_is in
+    let piece : mine ++ other ≡ c.args.piece.now = rw (c.split_at.ensures.front, c.split_at.ensures.back) (take-append-drop c.min.result c.args.piece.now) in
+    let Fits : List ℕ → Type 0 = λ l. IsPortion c.args.self.now l in
+    let few : length payload ≤ c.in-Some.len = omega (arith, inv.1.1) in
+    let whole : length (mine ++ other) ≡ length c.args.piece.now = ap (λ (l : List ℕ). length l) piece in
+    let count : length mine ≡ min (c.in-Some.len - length payload) (length (mine ++ other)) = omega (arith, c.split_at.ensures.front_len, c.min.ensures, c.len.ensures, c.self.inside.payload.ok.0, inv.1.1, whole) in
+    on_ok c.append_both.result c.append_both.ensures.ok
+    (λ e o part portion.
+    let none = tidy_payload c.args.self.now line payload waits mine other c.in-Some.field-0-0 c.in-Some.len was inv.1.0 (omega (arith, shown, length-drop c.self.inside.at rest)) few o part (subst Fits (sym piece) portion) count in
+    let items = ap (λ (l : List ℕ). length l) (rw c.drop_front.ensures.items at e.1) in
+    inl (omega (arith, none, items, length-append waits other)))
