@@ -6,7 +6,7 @@ use Rattle.mw_model.specs.declared.formats.Header.{Header as Head}
 use Rattle.mw_model.specs.NetpbmGrammar.{is_white}
 use Rattle.mw_netpbm.specs.declared.fault.ReadFault.{ReadFault}
 use Rattle.mw_netpbm.specs.declared.fault.ReadFault.TheVariants.{Magic, Header, Size, Maxval}
-use Rattle.mw_netpbm.specs.Reading.{field_at}
+use Rattle.mw_netpbm.specs.Reading.{◌>>=◌, field_at}
 
 -- the format that the first two bytes name
 unfoldable pub magic_at : List ℕ → Result (Format × List ℕ) ReadFault

@@ -2,7 +2,7 @@
 use Rattle.std.specs.Prelude.{ℕ, zero, suc, ◌-◌, false, ◌||◌, List, [], ◌∷◌, Result, Ok, Err, nat_lt, ◌==◌, if◌then◌else◌}
 use Rattle.mw_netpbm.specs.declared.fault.ReadFault.{ReadFault}
 use Rattle.mw_netpbm.specs.declared.fault.ReadFault.TheVariants.{Short, Sample, Trailing}
-use Rattle.mw_netpbm.specs.Reading.{skip_from, digits_from}
+use Rattle.mw_netpbm.specs.Reading.{◌>>=◌, skip_from, digits_from}
 use Rattle.mw_model.specs.NetpbmGrammar.{is_white, is_digit}
 
 -- what follows the last place
