@@ -28,8 +28,8 @@ pub returns-in-Ok-Bad-clause-ran : goal.returns-in-Ok-Bad-clause-ran
 returns-in-Ok-Bad-clause-ran g c = λ left.
     let told = rw c.in-Ok-Bad.field-0-is at c.in-Ok-Bad.ensures.ok in
     drains-ended g.D.Desk.Answer left c.args.intake.now.bytes c.requests.intake.bytes c.next.new.self.bytes c.args.kept.now c.requests.kept
-    (g.W.Write.contents c.args.sink.now.inner) (g.W.Write.contents c.requests.sink.inner) (g.W.Write.contents c.end_within-in-Ok-Bad.new.sink.inner) c.in-Ok-Bad.code c.end_within-in-Ok-Bad.result
-    c.requests.invariant.0 (inl (is_front c.requests.intake.bytes (Fault c.in-Ok-Bad.code) told.0), fault_has_room c.requests.intake.bytes c.in-Ok-Bad.code told.0) c.end_within-in-Ok-Bad.ensures.wrote _ c.end_within-in-Ok-Bad.ensures.flag
+    (g.W.Write.contents c.args.sink.now.inner) (g.W.Write.contents c.requests.sink.inner) (g.W.Write.contents c.end_within.new.sink.inner) c.in-Ok-Bad.code c.end_within.result
+    c.requests.invariant.0 (inl (is_front c.requests.intake.bytes (Fault c.in-Ok-Bad.code) told.0), fault_has_room c.requests.intake.bytes c.in-Ok-Bad.code told.0) c.end_within.ensures.wrote _ c.end_within.ensures.flag
 
 pub returns-then-is_quit-clause-ran : goal.returns-then-is_quit-clause-ran
 returns-then-is_quit-clause-ran g c = λ left.
