@@ -32,7 +32,7 @@ returns-in-Dilate c =
 pub returns-in-ErodeBox : goal.returns-in-ErodeBox
 returns-in-ErodeBox c =
     let t = c.args.work.now in
-    let s = plan.ErodeBox c.in-ErodeBox.offsets in
+    let s = plan.ErodeBox c.in-ErodeBox.sides in
     let u = c.source-in-ErodeBox.result.now in
     IfOk-weaker c.slide_box.result (HoldsImage (tile_by s u (window_at t.windows 1) (window_at t.windows 2) c.rect-tile.result)) (IsMade t)
     (λ m holds. made_of_one t s u c.rect-tile.result m refl (sym c.step.ensures ∙ ap meaning c.in-ErodeBox.is) c.source-in-ErodeBox.ensures.window c.rect-tile.ensures holds) c.slide_box.ensures
@@ -40,7 +40,7 @@ returns-in-ErodeBox c =
 pub returns-in-DilateBox : goal.returns-in-DilateBox
 returns-in-DilateBox c =
     let t = c.args.work.now in
-    let s = plan.DilateBox c.in-DilateBox.offsets in
+    let s = plan.DilateBox c.in-DilateBox.sides in
     let u = c.source-in-DilateBox.result.now in
     IfOk-weaker c.slide_box-in-DilateBox.result (HoldsImage (tile_by s u (window_at t.windows 1) (window_at t.windows 2) c.rect-tile.result)) (IsMade t)
     (λ m holds. made_of_one t s u c.rect-tile.result m refl (sym c.step.ensures ∙ ap meaning c.in-DilateBox.is) c.source-in-DilateBox.ensures.window c.rect-tile.ensures holds) c.slide_box-in-DilateBox.ensures
