@@ -120,9 +120,11 @@ pub fn rectangle<P: Pixel, E: Extremum<P>>(
     if across.count == 0 || down.count == 0 || tile.width == 0 || tile.height == 0 {
         return Plane::filled(alloc, tile.width, tile.height, neutral);
     }
+    let column = first_seen(tile.x, offsets.x0, across.skipped, place.x);
+    let row = first_seen(tile.y, offsets.y0, down.skipped, place.y);
     let slide = Slide {
-        column: first_seen(tile.x, offsets.x0, across.skipped, place.x),
-        row: first_seen(tile.y, offsets.y0, down.skipped, place.y),
+        column,
+        row,
         across: across.count,
         down: down.count,
         width: tile.width as usize,

@@ -25,9 +25,9 @@ loop-y-preserved g c =
     let rows = c.loop-y.rows.items in
     let line = c.slide_row.new.line in
     let grown = c.grow.new.rows in
-    let to_x : ℤ = to_z w64 (of_z w64 c.args.slide.column) in
-    let from_y : ℤ = to_z w64 (of_z w64 c.args.slide.row) in
-    let to_y : ℤ = to_z w64 (of_z w64 (from_y +ℤ to_z w64 y)) in
+    let to_x : ℤ = c.args.slide.column in
+    let from_y : ℤ = c.args.slide.row in
+    let to_y : ℤ = to_z w64 (of_z w64 (to_z w64 (of_z w64 from_y) +ℤ to_z w64 y)) in
     let y-is : to_y ≡ from_y +ℤ pos y = omega (arith, ints) in
     let at = λ (column row : ℤ) (best : g.row.P.Denot). merge_at f best (cell_at (raster window.place.width window.place.height window.cells) column row) in
     let all : c.as_mut_slice.result.now ≡ rows ++ take w line = c.as_mut_slice.ensures.value ∙ c.in_ok-extend_from_slice.ensures.items in
@@ -47,15 +47,4 @@ loop-y-preserved g c =
     }
 
 pub returns-clause-cells : goal.returns-clause-cells
-returns-clause-cells g c =
-    let f = g.E.Extremum.merge in
-    let window = c.args.window.now in
-    let to_x : ℤ = to_z w64 (of_z w64 c.args.slide.column) in
-    let to_y : ℤ = to_z w64 (of_z w64 c.args.slide.row) in
-    let x-is : to_x ≡ c.args.slide.column = omega (arith, ints) in
-    let y-is : to_y ≡ c.args.slide.row = omega (arith, ints) in
-    let at = λ (column row : ℤ) (best : g.row.P.Denot). merge_at f best (cell_at (raster window.place.width window.place.height window.cells) column row) in
-    λ n blank-is x y less row_less.
-    (c.loop-y.invariant.made n blank-is).whole x y less (omega arith)
-    ∙ ap (λ (t : ℤ). over f (λ j. over f (λ i. at (t +ℤ pos (x + i)) (to_y +ℤ pos j) n) 0 (c.args.slide.across - 1)) y (c.args.slide.down - 1)) x-is
-    ∙ ap (λ (t : ℤ). over f (λ j. over f (λ i. at (c.args.slide.column +ℤ pos (x + i)) (t +ℤ pos j) n) 0 (c.args.slide.across - 1)) y (c.args.slide.down - 1)) y-is
+returns-clause-cells g c = λ n blank-is x y less row_less. (c.loop-y.invariant.made n blank-is).whole x y less (omega arith)
