@@ -48,6 +48,7 @@ impl Block {
         ensures meets { (v : ℕ) → v < tile_count grid → in_block grid result v ≡ sees grid reach tile v }
     {
         let (columns, rows, side) = (grid.columns(), grid.rows(), grid.side());
+        // for their ranges
         let (_width, _height) = (grid.width(), grid.height());
         let (column, row) = (tile % columns, tile / columns);
         Block {
@@ -64,6 +65,7 @@ impl Block {
         ensures within { IsBlock grid result }
         ensures meets { (v : ℕ) → v < tile_count grid → in_block grid result v ≡ sees grid reach v tile }
     {
+        // for their ranges
         let (_width, _height, _side) = (grid.width(), grid.height(), grid.side());
         let turned = Reach {
             left: reach.right,
@@ -80,6 +82,7 @@ impl Block {
         ensures value { result ≡ count_below (in_block grid self) (tile_count grid) }
         ensures most { result ≤ tile_count grid }
     {
+        // for their ranges
         let (_columns, _rows) = (grid.columns(), grid.rows());
         (self.bottom - self.top) * (self.right - self.left)
     }

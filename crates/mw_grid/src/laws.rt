@@ -12,6 +12,7 @@ use mw_model::{Offset, Reach};
 pub fn tiles_cover_once(grid: Grid)
     ensures { CoverOnce (tiles_of grid) grid.width grid.height }
 {
+    // for their ranges
     let _width = grid.width();
     let _height = grid.height();
     let _side = grid.side();
@@ -24,6 +25,7 @@ pub fn window_reaches(grid: Grid, i: u32, reach: Reach, element: &[Offset])
     ensures reaches { ReachesAll (grown grid.width grid.height reach (tile_at grid i)) grid.width grid.height element.now (tile_at grid i) }
     ensures within { IsWithin (grown grid.width grid.height reach (tile_at grid i)) grid.width grid.height }
 {
+    // for their ranges
     let _width = grid.width();
     let _height = grid.height();
     let _side = grid.side();

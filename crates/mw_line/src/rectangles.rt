@@ -19,95 +19,84 @@ use mw_pixel::{Extremum, Pixel, Plane, copies};
 use mw_tile::Window;
 use std::alloc::Global;
 
-/// Leaves at each place of the line the extremum of `across` of `wide` places of a row of the window from that column on.
-fn slide_row<P: Pixel, E: Extremum<P>>(
-    window: &Window<P>,
-    column: i64,
-    row: i64,
-    across: usize,
-    wide: usize,
-    blank: &[P],
-    line: &mut [P],
-)
-    requires some { 0 < across }
-    requires room { across ≤ wide }
-    requires within { wide ≤ length blank.now }
-    requires paired { length line.old ≡ length blank.now }
-    ensures { (x : ℕ) (d : P) → x + across ≤ wide → slice_index_or line.new x d ≡ over E.merge (λ i. merge_at E.merge (slice_index_or blank.now (x + i) d) (cell_at (raster window.now.place.width window.now.place.height window.now.cells) (column +ℤ pos (x + i)) row)) 0 (across - 1) }
-{
-    line.copy_from_slice(blank);
-    combine_window_row::<P, E>(window, column, row, line);
-    slide_by::<P, E>(line, wide, 1, across);
-}
-
-/// The extremum of `across` by `down` places of the window from each of `width` places of `high` rows on that has so many
-/// rows.
-fn slide_rows<P: Pixel, E: Extremum<P>>(
-    alloc: Global,
-    window: &Window<P>,
+/// What the rows of a rectangle's pass hold: at each place the extremum of `across` by `down` places of the window from one
+/// on, which for the first place stands in this column and row; there are `width` places in each of `height` rows.
+#[derive(Clone, Copy)]
+struct Slide {
     column: i64,
     row: i64,
     across: usize,
     down: usize,
     width: usize,
-    high: usize,
+    height: usize,
+}
+
+/// Leaves at each of the first places of the line the extremum of `across` places of that row of the window.
+fn slide_row<P: Pixel, E: Extremum<P>>(
+    window: &Window<P>,
+    slide: Slide,
+    row: i64,
+    blank: &[P],
+    line: &mut [P],
+)
+    requires some { (0 < slide.across) × (0 < slide.width) }
+    requires within { slide.width + (slide.across - 1) ≤ length blank.now }
+    requires paired { length line.old ≡ length blank.now }
+    ensures { (x : ℕ) (d : P) → x < slide.width → slice_index_or line.new x d ≡ over E.merge (λ i. merge_at E.merge (slice_index_or blank.now (x + i) d) (cell_at (raster window.now.place.width window.now.place.height window.now.cells) (slide.column +ℤ pos (x + i)) row)) 0 (slide.across - 1) }
+{
+    let wide = slide.width + (slide.across - 1);
+    line.copy_from_slice(blank);
+    combine_window_row::<P, E>(window, slide.column, row, line);
+    slide_by::<P, E>(line, wide, 1, slide.across);
+}
+
+/// The rows before they are cut to the height: as many more as there are places downwards after the first.
+fn slide_rows<P: Pixel, E: Extremum<P>>(
+    alloc: Global,
+    window: &Window<P>,
+    slide: Slide,
     blank: &[P],
     line: &mut [P],
 ) -> Result<Vec<P>, NoMemory>
-    requires some { (0 < across) × (0 < down) }
-    requires room { width + (across - 1) ≤ length blank.now }
-    requires wide { (0 < width) × (width < 2 ^ 32) }
+    requires some { (0 < slide.across) × (0 < slide.down) }
+    requires room { slide.width + (slide.across - 1) ≤ length blank.now }
+    requires wide { (0 < slide.width) × (slide.width < 2 ^ 32) }
     requires paired { length line.old ≡ length blank.now }
-    requires few { high ≤ 2 ^ 40 }
-    requires near { row ≤ℤ pos (2 ^ 40) }
-    ensures size { IfOk result (λ v. vec_len v ≡ high * width) }
-    ensures cells { IfOk result (λ v. (n : P) → blank.now ≡ replicate (length blank.now) n → (x y : ℕ) → x < width → y + down ≤ high → slice_index_or v.items (y * width + x) n ≡ over E.merge (λ j. over E.merge (λ i. merge_at E.merge n (cell_at (raster window.now.place.width window.now.place.height window.now.cells) (column +ℤ pos (x + i)) (row +ℤ pos j))) 0 (across - 1)) y (down - 1)) }
+    requires few { slide.height + (slide.down - 1) ≤ 2 ^ 40 }
+    requires near { slide.row ≤ℤ pos (2 ^ 40) }
+    ensures size { IfOk result (λ v. vec_len v ≡ (slide.height + (slide.down - 1)) * slide.width) }
+    ensures cells { IfOk result (λ v. (n : P) → blank.now ≡ replicate (length blank.now) n → (x y : ℕ) → x < slide.width → y < slide.height → slice_index_or v.items (y * slide.width + x) n ≡ over E.merge (λ j. over E.merge (λ i. merge_at E.merge n (cell_at (raster window.now.place.width window.now.place.height window.now.cells) (slide.column +ℤ pos (x + i)) (slide.row +ℤ pos j))) 0 (slide.across - 1)) y (slide.down - 1)) }
 {
-    let wide = width + (across - 1);
+    let width = slide.width;
+    let high = slide.height + (slide.down - 1);
     let mut rows = Vec::with_capacity(alloc, high.saturating_mul(width))?;
     for y in 0..high {
-        slide_row::<P, E>(window, column, row + y as i64, across, wide, blank, line);
+        slide_row::<P, E>(window, slide, slide.row + y as i64, blank, line);
         rows.extend_from_slice(&line[..width])?;
-        grow::<P, E>(rows.as_mut_slice(), width, y, down);
+        grow::<P, E>(rows.as_mut_slice(), width, y, slide.down);
     }
     Ok(rows)
 }
 
-/// The extremum of `across` by `down` places of the window from each place of `height` rows on.
+/// The rows, over a window that goes on with neutral samples.
 fn boxes<P: Pixel, E: Extremum<P>>(
     alloc: Global,
     window: &Window<P>,
-    column: i64,
-    row: i64,
-    across: usize,
-    down: usize,
+    slide: Slide,
     neutral: P,
-    width: usize,
-    height: usize,
 ) -> Result<Vec<P>, NoMemory>
-    requires some { (0 < across) × (0 < down) × (0 < width) × (0 < height) }
-    requires narrow { (width < 2 ^ 32) × (across ≤ 2 ^ 34) }
-    requires low { (height < 2 ^ 32) × (down ≤ 2 ^ 34) }
-    requires near { row ≤ℤ pos (2 ^ 40) }
-    ensures size { IfOk result (λ v. vec_len v ≡ height * width) }
-    ensures cells { IfOk result (λ v. (x y : ℕ) → x < width → y < height → slice_index_or v.items (y * width + x) neutral ≡ over E.merge (λ j. over E.merge (λ i. merge_at E.merge neutral (cell_at (raster window.now.place.width window.now.place.height window.now.cells) (column +ℤ pos (x + i)) (row +ℤ pos (y + j)))) 0 (across - 1)) 0 (down - 1)) }
+    requires some { (0 < slide.across) × (0 < slide.down) × (0 < slide.width) × (0 < slide.height) }
+    requires narrow { (slide.width < 2 ^ 32) × (slide.across ≤ 2 ^ 34) }
+    requires low { (slide.height < 2 ^ 32) × (slide.down ≤ 2 ^ 34) }
+    requires near { slide.row ≤ℤ pos (2 ^ 40) }
+    ensures size { IfOk result (λ v. vec_len v ≡ slide.height * slide.width) }
+    ensures cells { IfOk result (λ v. (x y : ℕ) → x < slide.width → y < slide.height → slice_index_or v.items (y * slide.width + x) neutral ≡ over E.merge (λ j. over E.merge (λ i. merge_at E.merge neutral (cell_at (raster window.now.place.width window.now.place.height window.now.cells) (slide.column +ℤ pos (x + i)) (slide.row +ℤ pos (y + j)))) 0 (slide.across - 1)) 0 (slide.down - 1)) }
 {
-    let padded = width + (across - 1) + 63;
+    let padded = slide.width + (slide.across - 1) + 63;
     let blank = copies(alloc, padded, neutral)?;
     let mut line = copies(alloc, padded, neutral)?;
-    let mut rows = slide_rows::<P, E>(
-        alloc,
-        window,
-        column,
-        row,
-        across,
-        down,
-        width,
-        height + (down - 1),
-        blank.as_slice(),
-        line.as_mut_slice(),
-    )?;
-    rows.truncate(height * width);
+    let mut rows = slide_rows::<P, E>(alloc, window, slide, blank.as_slice(), line.as_mut_slice())?;
+    rows.truncate(slide.height * slide.width);
     Ok(rows)
 }
 
@@ -133,16 +122,14 @@ pub fn rectangle<P: Pixel, E: Extremum<P>>(
     }
     let column = first_seen(tile.x, offsets.x0, across.skipped, place.x);
     let row = first_seen(tile.y, offsets.y0, down.skipped, place.y);
-    let samples = boxes::<P, E>(
-        alloc,
-        window,
+    let slide = Slide {
         column,
         row,
-        across.count,
-        down.count,
-        neutral,
-        tile.width as usize,
-        tile.height as usize,
-    )?;
+        across: across.count,
+        down: down.count,
+        width: tile.width as usize,
+        height: tile.height as usize,
+    };
+    let samples = boxes::<P, E>(alloc, window, slide, neutral)?;
     Ok(Plane::new(tile.width, tile.height, samples))
 }

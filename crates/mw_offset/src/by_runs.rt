@@ -14,13 +14,20 @@ ghost use Rattle.mw_offset.specs.Places.{places_of};
 ghost use Rattle.mw_run.specs.Runs.{run_offsets, start_of, IsInside, HasRoom, sized, two_parts, gather};
 
 use crate::places::combine_places;
-use crate::spread::{narrowed, spread};
+use crate::spread::{Rows, narrowed, spread};
 use mw_lane::combine_ahead;
 use mw_model::{NoMemory, Rect};
 use mw_pixel::{Extremum, Pixel, copies};
 use mw_run::{Extent, Run, columns_after, first_column, first_row, rows_after, start_of_run};
 use mw_tile::Window;
 use std::alloc::Global;
+
+/// How runs lie in rows of one length: the columns and rows that they take, and that length.
+#[derive(Clone, Copy)]
+struct Laid {
+    extent: Extent,
+    wide: usize,
+}
 
 /// Adds the places of the parts of `size` samples that make up a run, if it has `size` to `2 * size - 1` samples.
 fn push_places(
@@ -70,19 +77,18 @@ fn places_of_size(
 fn combine_sized<P: Pixel, E: Extremum<P>>(
     alloc: Global,
     runs: &[Run],
-    extent: Extent,
-    wide: usize,
+    laid: Laid,
     size: usize,
     cells: &[P],
     out: &mut [P],
 ) -> Result<(), NoMemory>
-    requires room { AllByRecursion (HasRoom extent wide (length out.old) (length cells.now)) runs.now }
+    requires room { AllByRecursion (HasRoom laid.extent laid.wide (length out.old) (length cells.now)) runs.now }
     requires wanted { 0 < length out.old }
     requires some { 0 < size }
     requires few { size ≤ 2 ^ 40 }
-    ensures { OnOk result ((q : ℕ) (d : P) → q < length out.old → slice_index_or out.new q d ≡ fold (sized size (two_parts E.merge cells.now d extent wide size q)) (slice_index_or out.old q d) runs.now) }
+    ensures { OnOk result ((q : ℕ) (d : P) → q < length out.old → slice_index_or out.new q d ≡ fold (sized size (two_parts E.merge cells.now d laid.extent laid.wide size q)) (slice_index_or out.old q d) runs.now) }
 {
-    let places = places_of_size(alloc, runs, extent, wide, size)?;
+    let places = places_of_size(alloc, runs, laid.extent, laid.wide, size)?;
     combine_places::<P, E>(cells, places.as_slice(), out);
     Ok(())
 }
@@ -103,23 +109,22 @@ fn longest_of(runs: &[Run]) -> usize
 fn combine_runs<P: Pixel, E: Extremum<P>>(
     alloc: Global,
     runs: &[Run],
-    extent: Extent,
-    wide: usize,
+    laid: Laid,
     cells: &mut [P],
     out: &mut [P],
 ) -> Result<(), NoMemory>
-    requires room { AllByRecursion (HasRoom extent wide (length out.old) (length cells.old)) runs.now }
+    requires room { AllByRecursion (HasRoom laid.extent laid.wide (length out.old) (length cells.old)) runs.now }
     requires wanted { 0 < length out.old }
-    ensures { OnOk result ((n : P) → out.old ≡ replicate (length out.old) n → (q : ℕ) → q < length out.old → slice_index_or out.new q n ≡ gather E.merge n (λ r. strided E.merge cells.old n 1 (r.count - 1) (start_of extent wide r + q)) runs.now) }
+    ensures { OnOk result ((n : P) → out.old ≡ replicate (length out.old) n → (q : ℕ) → q < length out.old → slice_index_or out.new q n ≡ gather E.merge n (λ r. strided E.merge cells.old n 1 (r.count - 1) (start_of laid.extent laid.wide r + q)) runs.now) }
 {
     let longest = longest_of(runs);
     let mut size = 1usize;
-    combine_sized::<P, E>(alloc, runs, extent, wide, size, cells, out)?;
+    combine_sized::<P, E>(alloc, runs, laid, size, cells, out)?;
     'sizes: while size <= longest / 2 && size <= cells.len() / 2 {
         let left = cells.len() - 2 * size + 1;
         combine_ahead::<P, E>(cells, size, left);
         size *= 2;
-        combine_sized::<P, E>(alloc, runs, extent, wide, size, cells, out)?;
+        combine_sized::<P, E>(alloc, runs, laid, size, cells, out)?;
     }
     Ok(())
 }
@@ -149,16 +154,16 @@ pub(crate) fn extremum_by_runs<P: Pixel, E: Extremum<P>>(
     let high = height + rows_after(extent);
     let column = first_column(tile, extent, place);
     let row = first_row(tile, extent, place);
-    let mut cells = spread::<P, E>(alloc, window, column, row, wide, high, neutral)?;
-    let mut out = copies(alloc, (height - 1) * wide + width, neutral)?;
-    combine_runs::<P, E>(
-        alloc,
-        runs,
-        extent,
+    let rows = Rows {
+        column,
+        row,
         wide,
-        cells.as_mut_slice(),
-        out.as_mut_slice(),
-    )?;
+        high,
+    };
+    let laid = Laid { extent, wide };
+    let mut cells = spread::<P, E>(alloc, window, rows, neutral)?;
+    let mut out = copies(alloc, (height - 1) * wide + width, neutral)?;
+    combine_runs::<P, E>(alloc, runs, laid, cells.as_mut_slice(), out.as_mut_slice())?;
     let samples = narrowed(alloc, out.as_slice(), wide, width, height)?;
     Ok(samples)
 }

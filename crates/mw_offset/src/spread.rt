@@ -9,49 +9,49 @@ use mw_pixel::{Extremum, Pixel, copies};
 use mw_tile::Window;
 use std::alloc::Global;
 
-/// Merges into each of `high` rows what the window has there, from that column and row of the window on.
-fn spread_rows<P: Pixel, E: Extremum<P>>(
-    window: &Window<P>,
-    column: i64,
-    row: i64,
-    wide: usize,
-    high: usize,
-    out: &mut [P],
-)
-    requires size { length out.old ≡ high * wide }
-    requires few { high ≤ 2 ^ 40 }
-    requires near { row ≤ℤ pos (2 ^ 40) }
-    ensures { (x y : ℕ) (d : P) → x < wide → y < high → slice_index_or out.new (y * wide + x) d ≡ merge_at E.merge (slice_index_or out.old (y * wide + x) d) (cell_at (raster window.now.place.width window.now.place.height window.now.cells) (column +ℤ pos x) (row +ℤ pos y)) }
+/// Rows of a window: the column and the row of their first place there, how long they are, and how many.
+#[derive(Clone, Copy)]
+pub(crate) struct Rows {
+    pub column: i64,
+    pub row: i64,
+    pub wide: usize,
+    pub high: usize,
+}
+
+/// Merges into each of the rows what the window has there.
+fn spread_rows<P: Pixel, E: Extremum<P>>(window: &Window<P>, rows: Rows, out: &mut [P])
+    requires size { length out.old ≡ rows.high * rows.wide }
+    requires few { rows.high ≤ 2 ^ 40 }
+    requires near { rows.row ≤ℤ pos (2 ^ 40) }
+    ensures { (x y : ℕ) (d : P) → x < rows.wide → y < rows.high → slice_index_or out.new (y * rows.wide + x) d ≡ merge_at E.merge (slice_index_or out.old (y * rows.wide + x) d) (cell_at (raster window.now.place.width window.now.place.height window.now.cells) (rows.column +ℤ pos x) (rows.row +ℤ pos y)) }
 {
-    for y in 0..high {
+    let wide = rows.wide;
+    for y in 0..rows.high {
         let start = y * wide;
         combine_window_row::<P, E>(
             window,
-            column,
-            row + y as i64,
+            rows.column,
+            rows.row + y as i64,
             &mut out[start..start + wide],
         );
     }
 }
 
-/// The neutral sample at each place of `high` rows, merged with what the window has there.
+/// The neutral sample at each place of the rows, merged with what the window has there.
 pub(crate) fn spread<P: Pixel, E: Extremum<P>>(
     alloc: Global,
     window: &Window<P>,
-    column: i64,
-    row: i64,
-    wide: usize,
-    high: usize,
+    rows: Rows,
     neutral: P,
 ) -> Result<Vec<P>, NoMemory>
-    requires few { high ≤ 2 ^ 20 }
-    requires narrow { wide ≤ 2 ^ 33 }
-    requires near { row ≤ℤ pos (2 ^ 40) }
-    ensures size { IfOk result (λ v. vec_len v ≡ high * wide) }
-    ensures cells { IfOk result (λ v. (x y : ℕ) → x < wide → y < high → slice_index_or v.items (y * wide + x) neutral ≡ merge_at E.merge neutral (cell_at (raster window.now.place.width window.now.place.height window.now.cells) (column +ℤ pos x) (row +ℤ pos y))) }
+    requires few { rows.high ≤ 2 ^ 20 }
+    requires narrow { rows.wide ≤ 2 ^ 33 }
+    requires near { rows.row ≤ℤ pos (2 ^ 40) }
+    ensures size { IfOk result (λ v. vec_len v ≡ rows.high * rows.wide) }
+    ensures cells { IfOk result (λ v. (x y : ℕ) → x < rows.wide → y < rows.high → slice_index_or v.items (y * rows.wide + x) neutral ≡ merge_at E.merge neutral (cell_at (raster window.now.place.width window.now.place.height window.now.cells) (rows.column +ℤ pos x) (rows.row +ℤ pos y))) }
 {
-    let mut cells = copies(alloc, high * wide, neutral)?;
-    spread_rows::<P, E>(window, column, row, wide, high, cells.as_mut_slice());
+    let mut cells = copies(alloc, rows.high * rows.wide, neutral)?;
+    spread_rows::<P, E>(window, rows, cells.as_mut_slice());
     Ok(cells)
 }
 

@@ -61,6 +61,7 @@ impl SharedWindow {
         requires { 1 ≤ maxval }
         ensures { result ≡ grey_joint pieces maxval }
     {
+        // for what holds of all pieces
         let _pieces = pieces.pieces();
         SharedWindow {
             content: Held::Grey8(pieces, maxval),
@@ -72,6 +73,7 @@ impl SharedWindow {
         requires { 256 ≤ maxval }
         ensures { result ≡ grey_joint pieces maxval }
     {
+        // for what holds of all pieces
         let _pieces = pieces.pieces();
         SharedWindow {
             content: Held::Grey16(pieces, maxval),

@@ -92,6 +92,7 @@ impl Image {
         ensures shows { Shows self.now result }
         ensures picture { IsPicture self.now }
     {
+        // `samples` is called for the number of samples alone.
         match &self.content {
             Samples::Bits(plane) => {
                 let _samples = plane.samples();

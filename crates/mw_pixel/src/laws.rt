@@ -12,6 +12,7 @@ use mw_model::Offset;
 pub fn samples_are_seen(image: &Image, element: &[Offset])
     ensures { (x y : ℕ) → seen_under (cell_at (raster_of image.now)) element.now x y ≡ under image.now element.now x y }
 {
+    // for what holds of every image, and the range of the length
     let _view = image.view();
     let _size = element.len();
 }

@@ -58,6 +58,7 @@ impl Queue {
         ensures value { slice_index (order_of self.now) place ≡ result.0 * self.now.tiles + slice_index (list_at self.now.ready result.0) result.1 }
         ensures latest { place ≡ 0 → (s : ℕ) → result.0 < s → s < length self.now.ready → length (list_at self.now.ready s) ≡ 0 }
     {
+        // for the number of open tasks
         let _total = self.count();
         let mut left = place as usize;
         let mut step = self.ready.len();

@@ -57,6 +57,7 @@ fn push_ends<P: Pixel>(
     ensures { IfOk result (λ inside. IsTrue inside → AddsEnds P.level P.TOP (seen_at window.now) window.now.cells run x y count ends.old.items ends.new.items) }
 {
     let place = window.place();
+    // for their number
     let _samples = window.samples();
     match row_in(window, run, y) {
         None => Ok(true),

@@ -209,6 +209,7 @@ fn push_inside<P: Pixel>(
     ensures row { OnOk result (GainsRow P.level (λ i. ranked at.k (levels_under P.level (seen_at window.now) (element_of runs.now) (at.x + i) at.y)) at.width out.old.items out.new.items) }
     ensures moved { OnOk result (Tallies P.top_level histogram.new (levels_under P.level (seen_at window.now) (element_of runs.now) (at.x + at.width) at.y)) }
 {
+    // for the range of their number
     let _runs = runs;
     let samples = window.samples();
     for i in 0..at.width {

@@ -11,5 +11,6 @@ use crate::Ready;
 pub fn tasks_are_those_of_work(ready: &Ready)
     ensures { (p : Progress) → IsBoardOf ready.now.board p → SameTasks ready.now.board p }
 {
+    // for what holds of every board
     let _count = ready.count();
 }

@@ -33,11 +33,20 @@ place_is_tile s m n tile at within =
 pub window_place : (t : WindowTask) (s : PlanStep) (m n : ℕ) (u : SourceWindow) → looks_at s ≡ origin → t.step ≡ s → IsRead t.step t.rect m n u → u.view.place ≡ t.rect
 window_place t s m n u at step read = read.place ∙ place_is_tile t.step m n t.rect (ap looks_at step ∙ at) read.within
 
-pub made_of_here : (t : WindowTask) (s : PlanStep) (u v w : SourceWindow) (m n : ℕ) (made : TileResult) → is_sum s ≡ false → looks_at s ≡ origin → t.step ≡ s → u ≡ window_at t.windows 0 → v ≡ window_at t.windows 1 → w ≡ window_at t.windows 2
-    → IsRead t.step t.rect m n u → HoldsImage (tile_by s u v w u.view.place) made → IsMade t made
-made_of_here t s u v w m n made not at step first second third read holds =
-    made_image t (tile_by s u v w u.view.place) made (ap is_sum step ∙ not)
-    (tile_is t s u v w step (sym first) (sym second) (sym third) ∙ ap (λ (r : Rect). tile_by s u v w r) (sym (window_place t s m n u at step read))) holds
+-- of a task: its step looks at the place itself alone and makes an image, and these are its sources
+pub record LooksHere (t : WindowTask) (s : PlanStep) (u v w : SourceWindow) : Type 0 where
+  pub image : is_sum s ≡ false
+  pub at : looks_at s ≡ origin
+  pub step : t.step ≡ s
+  pub first : u ≡ window_at t.windows 0
+  pub second : v ≡ window_at t.windows 1
+  pub third : w ≡ window_at t.windows 2
+  pub read : (m : ℕ) × (n : ℕ) × IsRead t.step t.rect m n u
+
+pub made_of_here : (t : WindowTask) (s : PlanStep) (u v w : SourceWindow) (made : TileResult) → LooksHere t s u v w → HoldsImage (tile_by s u v w u.view.place) made → IsMade t made
+made_of_here t s u v w made h holds =
+    made_image t (tile_by s u v w u.view.place) made (ap is_sum h.step ∙ h.image)
+    (tile_is t s u v w h.step (sym h.first) (sym h.second) (sym h.third) ∙ ap (λ (r : Rect). tile_by s u v w r) (sym (window_place t s h.read.0 h.read.1 u h.at h.step h.read.2))) holds
 
 pub sum_of_here : (t : WindowTask) (u : SourceWindow) (m n total : ℕ) → t.step ≡ Sum → u ≡ window_at t.windows 0 → IsRead t.step t.rect m n u → Fills u.view.place u.view → total ≡ sum u.view.cells → IsMade t (Number total)
 sum_of_here t u m n total step first read fills total-is =

@@ -100,6 +100,7 @@ pub(crate) fn sample_of<P: Pixel>(level: u16, maxval: P) -> P
     requires { level ≤ P.level maxval }
     ensures { P.level result ≡ level }
 {
+    // for its range
     let _top = maxval.value();
     match P::of(level) {
         Some(sample) => sample,

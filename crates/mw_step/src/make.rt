@@ -22,6 +22,7 @@ fn source<'a>(work: &Work, windows: &'a [AnyWindow], k: usize) -> &'a AnyWindow
     ensures read { IsRead work.now.step work.now.rect (window_at work.now.windows 0).view.frame_width (window_at work.now.windows 0).view.frame_height result.now }
     ensures kinds { KindsFit work.now.step work.now.windows }
 {
+    // for the windows that fit the step
     let _fits = work.windows();
     &windows[k]
 }
@@ -54,18 +55,8 @@ fn made_of(alloc: Global, work: &Work, windows: &[AnyWindow]) -> Result<TileResu
     match work.step() {
         Step::Erode(element) => slide::<Min>(alloc, source(work, windows, 0), element, tile),
         Step::Dilate(element) => slide::<Max>(alloc, source(work, windows, 0), element, tile),
-        Step::ErodeBox(offsets) => slide_box::<Min>(
-            alloc,
-            source(work, windows, 0),
-            *offsets,
-            tile,
-        ),
-        Step::DilateBox(offsets) => slide_box::<Max>(
-            alloc,
-            source(work, windows, 0),
-            *offsets,
-            tile,
-        ),
+        Step::ErodeBox(sides) => slide_box::<Min>(alloc, source(work, windows, 0), *sides, tile),
+        Step::DilateBox(sides) => slide_box::<Max>(alloc, source(work, windows, 0), *sides, tile),
         Step::Rank(element, k) => rank_filter(alloc, source(work, windows, 0), element, *k, tile),
         Step::Minus => minus(alloc, source(work, windows, 0), source(work, windows, 1)),
         Step::AtLeast(k) => at_least(alloc, *k, source(work, windows, 0)),
@@ -73,6 +64,7 @@ fn made_of(alloc: Global, work: &Work, windows: &[AnyWindow]) -> Result<TileResu
         Step::Meet => merge::<Min>(alloc, source(work, windows, 0), source(work, windows, 1)),
         Step::Join => merge::<Max>(alloc, source(work, windows, 0), source(work, windows, 1)),
         Step::Blank(maxval) => {
+            // for the windows that fit the step
             let _fits = work.windows();
             blank(alloc, *maxval, tile)
         }

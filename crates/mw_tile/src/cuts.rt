@@ -30,6 +30,7 @@ pub(crate) fn cut_samples<P: Pixel>(
     requires { IsWithin rect plane.now.width plane.now.height }
     ensures { IfOk result (λ v. IsCut (view_of plane.now.width plane.now.height rect v.items) plane.now) }
 {
+    // for the number of its samples
     let _height = plane.height();
     let mut samples = Vec::with_capacity(alloc, rect.height as usize * rect.width as usize)?;
     for y in 0..rect.height {
@@ -45,6 +46,7 @@ pub fn paste<P: Pixel>(plane: &mut Plane<P>, rect: Rect, part: &Plane<P>)
     requires height { part.now.height ≡ rect.height }
     ensures { Pastes plane.old plane.new part.now rect }
 {
+    // for the number of its samples
     let _size = plane.height();
     for y in 0..rect.height {
         plane.put_row(rect.x, rect.y + y, part.row(y));

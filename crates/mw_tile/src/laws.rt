@@ -20,6 +20,7 @@ use mw_pixel::Pixel;
 pub fn window_shows_frame<P: Pixel>(window: &Window<P>, element: &[Offset])
     ensures { (f : Raster P) (tile : Rect) → IsWindow window.now f element.now tile → (x y : ℕ) → x < tile.width → y < tile.height → seen_under (seen_at window.now) element.now (tile.x + x) (tile.y + y) ≡ seen_under (cell_at f) element.now (tile.x + x) (tile.y + y) }
 {
+    // for their ranges
     let _place = window.place();
     let _size = element.len();
 }
@@ -28,6 +29,7 @@ pub fn window_shows_frame<P: Pixel>(window: &Window<P>, element: &[Offset])
 pub fn window_shows_picture(window: &AnyWindow, element: &[Offset])
     ensures { (f : Picture) (tile : Rect) → IsPicture f → IsWindow window.now.view (raster_of f) element.now tile → (x y : ℕ) → x < tile.width → y < tile.height → seen_under (seen_at window.now.view) element.now (tile.x + x) (tile.y + y) ≡ under f element.now (tile.x + x) (tile.y + y) }
 {
+    // for their ranges
     let _place = window.place();
     let _size = element.len();
 }
@@ -44,6 +46,7 @@ pub fn cut_is_window<P: Pixel>(
     requires reach { WithinReach reach element.now }
     ensures { (f : Raster P) → f.width ≡ grid.width → f.height ≡ grid.height → IsCut window.now f → IsWindow window.now f element.now (tile_at grid i) }
 {
+    // for their ranges
     let _place = window.place();
     let _width = grid.width();
     let _left = reach.left;

@@ -13,20 +13,14 @@ returns-clause-cells g c =
     let f = g.E.Extremum.merge in
     let n = c.args.neutral in
     let window = c.args.window.now in
-    let w = c.args.width in
-    let wide = w + (c.args.across - 1) + 63 in
+    let w = c.args.slide.width in
+    let wide = w + (c.args.slide.across - 1) + 63 in
     let rows = c.in_ok-rows.rows.items in
-    let to_x : ℤ = to_z w64 (of_z w64 c.args.column) in
-    let to_y : ℤ = to_z w64 (of_z w64 c.args.row) in
-    let x-is : to_x ≡ c.args.column = omega (arith, ints) in
-    let y-is : to_y ≡ c.args.row = omega (arith, ints) in
     let at = λ (column row : ℤ). merge_at f n (cell_at (raster window.place.width window.place.height window.cells) column row) in
     let blank : c.as_slice.result.now ≡ replicate wide n = c.as_slice.ensures.value ∙ c.in_ok-blank.ensures in
     let blank-is : c.as_slice.result.now ≡ replicate (length c.as_slice.result.now) n = blank ∙ ap (λ (t : ℕ). replicate t n) (sym (ap length blank ∙ length-replicate wide n)) in
     λ x y less row_less.
     ap (λ (t : List g.row.P.Denot). get_or t (y * w + x) n) c.truncate.ensures.items
-    ∙ get_or-take (c.args.height * w) rows (y * w + x) n (omega (arith, rows_fit y c.args.height w row_less))
+    ∙ get_or-take (c.args.slide.height * w) rows (y * w + x) n (omega (arith, rows_fit y c.args.slide.height w row_less))
     ∙ c.in_ok-rows.ensures.cells n blank-is x y less (omega arith)
-    ∙ over_shift f (λ j. over f (λ i. at (to_x +ℤ pos (x + i)) (to_y +ℤ pos j)) 0 (c.args.across - 1)) y 0 y (c.args.down - 1) (omega arith)
-    ∙ ap (λ (t : ℤ). over f (λ j. over f (λ i. at (t +ℤ pos (x + i)) (to_y +ℤ pos (y + j))) 0 (c.args.across - 1)) 0 (c.args.down - 1)) x-is
-    ∙ ap (λ (t : ℤ). over f (λ j. over f (λ i. at (c.args.column +ℤ pos (x + i)) (t +ℤ pos (y + j))) 0 (c.args.across - 1)) 0 (c.args.down - 1)) y-is
+    ∙ over_shift f (λ j. over f (λ i. at (c.args.slide.column +ℤ pos (x + i)) (c.args.slide.row +ℤ pos j)) 0 (c.args.slide.across - 1)) y 0 y (c.args.slide.down - 1) (omega arith)

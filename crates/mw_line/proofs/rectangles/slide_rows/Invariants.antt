@@ -10,7 +10,7 @@ invariant-loop-y g l =
     let w = l.window in
     let f = g.E.Extremum.merge in
     record {
-      size : vec_len l.rows ≡ l.y * l.width;
+      size : vec_len l.rows ≡ l.y * l.slide.width;
       made : (n : g.row.P.Denot) → l.blank ≡ replicate (length l.blank) n
-          → IsGrown f (λ x j. over f (λ i. merge_at f n (cell_at (raster w.place.width w.place.height w.cells) (l.column +ℤ pos (x + i)) (l.row +ℤ pos j))) 0 (l.across - 1)) n l.width l.down l.y l.rows.items;
+          → IsGrown f (λ x j. over f (λ i. merge_at f n (cell_at (raster w.place.width w.place.height w.cells) (l.slide.column +ℤ pos (x + i)) (l.slide.row +ℤ pos j))) 0 (l.slide.across - 1)) n l.slide.width l.slide.down l.y l.rows.items;
     }

@@ -22,8 +22,8 @@ sizes-init g c =
       doubled = doubled;
       out_size = c.combine_sized.auto.out;
       done = λ n blank q lt.
-          gathered_more f laws cells cells 1 doubled n c.args.extent c.args.wide (length out) q lt (get_or out q n) (get_or c.combine_sized.new.out q n) runs c.requires.room (c.in_ok-combine_sized.ensures q n lt)
-          (ap (λ (t : List g.row.P.Denot). get_or t q n) blank ∙ get_or-replicate_same (length out) q n ∙ none_gathered f n (run_value f cells n c.args.extent c.args.wide q) c.args.extent c.args.wide (length out) (length cells) runs c.requires.room);
+          gathered_more f laws cells cells 1 doubled n c.args.laid.extent c.args.laid.wide (length out) q lt (get_or out q n) (get_or c.combine_sized.new.out q n) runs c.requires.room (c.in_ok-combine_sized.ensures q n lt)
+          (ap (λ (t : List g.row.P.Denot). get_or t q n) blank ∙ get_or-replicate_same (length out) q n ∙ none_gathered f n (run_value f cells n c.args.laid.extent c.args.laid.wide q) c.args.laid.extent c.args.laid.wide (length out) (length cells) runs c.requires.room);
     }
 
 pub sizes-preserved : goal.sizes-preserved
@@ -44,9 +44,9 @@ sizes-preserved g c =
       doubled = doubled;
       out_size = c.combine_sized-in-sizes.auto.out ∙ c.sizes.invariant.out_size;
       done = λ n blank q lt.
-          gathered_more f laws cells made (s * 2) doubled n c.args.extent c.args.wide (length out) q lt (get_or c.sizes.out q n) (get_or c.combine_sized-in-sizes.new.out q n) runs c.requires.room
+          gathered_more f laws cells made (s * 2) doubled n c.args.laid.extent c.args.laid.wide (length out) q lt (get_or c.sizes.out q n) (get_or c.combine_sized-in-sizes.new.out q n) runs c.requires.room
           (c.in_ok-combine_sized-2.ensures q n (omega (arith, c.sizes.invariant.out_size)))
-          (c.sizes.invariant.done n blank q lt ∙ ap (λ (t : ℕ). gather_below f n (run_value f cells n c.args.extent c.args.wide q) t runs) twice);
+          (c.sizes.invariant.done n blank q lt ∙ ap (λ (t : ℕ). gather_below f n (run_value f cells n c.args.laid.extent c.args.laid.wide q) t runs) twice);
     }
 
 pub returns-else-size-cells : goal.returns-else-size-cells
@@ -55,10 +55,10 @@ returns-else-size-cells g c = λ n blank q lt.
     let cells = c.args.cells.now in
     let out = c.args.out.now in
     let runs = c.args.runs.now in
-    let value = λ (r : Run). strided f cells n 1 (r.count - 1) (start_of c.args.extent c.args.wide r + q) in
+    let value = λ (r : Run). strided f cells n 1 (r.count - 1) (start_of c.args.laid.extent c.args.laid.wide r + q) in
     let same = c.sizes.invariant.doubled.size in
     let short : AllByRecursion (λ (r : Run). r.count < 2 * c.sizes.size) runs =
-    all-weaker (HasRoom c.args.extent c.args.wide (length out) (length cells)) (λ (r : Run). r.count < 2 * c.sizes.size) runs (λ r room. let fits = room.room in omega arith) c.requires.room in
+    all-weaker (HasRoom c.args.laid.extent c.args.laid.wide (length out) (length cells)) (λ (r : Run). r.count < 2 * c.sizes.size) runs (λ r room. let fits = room.room in omega arith) c.requires.room in
     c.sizes.invariant.done n blank q lt ∙ all_below f n value (2 * c.sizes.size) runs short
 
 pub returns-after-sizes : goal.returns-after-sizes
@@ -67,7 +67,7 @@ returns-after-sizes g c = λ n blank q lt.
     let cells = c.args.cells.now in
     let runs = c.args.runs.now in
     let longest = c.longest_of-longest.result in
-    let value = λ (r : Run). strided f cells n 1 (r.count - 1) (start_of c.args.extent c.args.wide r + q) in
+    let value = λ (r : Run). strided f cells n 1 (r.count - 1) (start_of c.args.laid.extent c.args.laid.wide r + q) in
     let short : AllByRecursion (λ (r : Run). r.count < 2 * c.sizes.size) runs =
     all-weaker (λ (r : Run). r.count ≤ longest) (λ (r : Run). r.count < 2 * c.sizes.size) runs (λ r le. omega arith) c.longest_of-longest.ensures.all in
     c.sizes.invariant.done n blank q lt ∙ all_below f n value (2 * c.sizes.size) runs short

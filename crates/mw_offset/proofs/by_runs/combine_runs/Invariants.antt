@@ -11,7 +11,7 @@ invariant-sizes g l =
       small : l.size ≤ l.longest + 1;
       doubled : IsDoubled f l.fn.cells l.cells l.size;
       out_size : length l.out ≡ length l.fn.out;
-      done : (n : g.row.P.Denot) → l.fn.out ≡ replicate (length l.fn.out) n → (q : ℕ) → q < length l.fn.out → get_or l.out q n ≡ gather_below f n (λ r. strided f l.fn.cells n 1 (r.count - 1) (start_of l.extent l.wide r + q)) (2 * l.size) l.runs;
+      done : (n : g.row.P.Denot) → l.fn.out ≡ replicate (length l.fn.out) n → (q : ℕ) → q < length l.fn.out → get_or l.out q n ≡ gather_below f n (λ r. strided f l.fn.cells n 1 (r.count - 1) (start_of l.laid.extent l.laid.wide r + q)) (2 * l.size) l.runs;
     }
 
 abbrev pub decreases-sizes : goal.decreases-sizes

@@ -11,7 +11,7 @@ places_of_size-requires-clause-room g c = (length c.args.out.now, length c.args.
 pub combine_places-requires : goal.combine_places-requires
 combine_places-requires g c =
     subst (AllByRecursion (λ (p : ℕ). p + length c.args.out.now ≤ length c.args.cells.now)) (sym (c.as_slice.ensures.value ∙ c.in_ok-places.ensures))
-    (all_places c.args.extent c.args.wide c.args.size (length c.args.out.now) (length c.args.cells.now) c.args.runs.now c.requires.some c.requires.room)
+    (all_places c.args.laid.extent c.args.laid.wide c.args.size (length c.args.out.now) (length c.args.cells.now) c.args.runs.now c.requires.some c.requires.room)
 
 pub returns : goal.returns
 returns g c = λ q d lt.
@@ -19,4 +19,4 @@ returns g c = λ q d lt.
     let laws : IsExtremum f = record { commutes = g.met.E.Extremum.commutes; associates = g.met.E.Extremum.associates; is_idempotent = g.met.E.Extremum.is_idempotent } in
     c.combine_places.ensures q d lt
     ∙ ap (fold (merge_from f c.args.cells.now d q) (get_or c.args.out.now q d)) (c.as_slice.ensures.value ∙ c.in_ok-places.ensures)
-    ∙ places_are_parts f laws c.args.cells.now d c.args.extent c.args.wide c.args.size q (get_or c.args.out.now q d) c.args.runs.now
+    ∙ places_are_parts f laws c.args.cells.now d c.args.laid.extent c.args.laid.wide c.args.size q (get_or c.args.out.now q d) c.args.runs.now

@@ -32,7 +32,7 @@ returns-in-Dilate c =
 pub returns-in-ErodeBox : goal.returns-in-ErodeBox
 returns-in-ErodeBox c =
     let t = c.args.work.now in
-    let s = plan.ErodeBox c.in-ErodeBox.offsets in
+    let s = plan.ErodeBox c.in-ErodeBox.sides in
     let u = c.source-in-ErodeBox.result.now in
     IfOk-weaker c.slide_box.result (HoldsImage (tile_by s u (window_at t.windows 1) (window_at t.windows 2) c.rect-tile.result)) (IsMade t)
     (λ m holds. made_of_one t s u c.rect-tile.result m refl (sym c.step.ensures ∙ ap meaning c.in-ErodeBox.is) c.source-in-ErodeBox.ensures.window c.rect-tile.ensures holds) c.slide_box.ensures
@@ -40,7 +40,7 @@ returns-in-ErodeBox c =
 pub returns-in-DilateBox : goal.returns-in-DilateBox
 returns-in-DilateBox c =
     let t = c.args.work.now in
-    let s = plan.DilateBox c.in-DilateBox.offsets in
+    let s = plan.DilateBox c.in-DilateBox.sides in
     let u = c.source-in-DilateBox.result.now in
     IfOk-weaker c.slide_box-in-DilateBox.result (HoldsImage (tile_by s u (window_at t.windows 1) (window_at t.windows 2) c.rect-tile.result)) (IsMade t)
     (λ m holds. made_of_one t s u c.rect-tile.result m refl (sym c.step.ensures ∙ ap meaning c.in-DilateBox.is) c.source-in-DilateBox.ensures.window c.rect-tile.ensures holds) c.slide_box-in-DilateBox.ensures
@@ -49,49 +49,49 @@ pub returns-in-Minus : goal.returns-in-Minus
 returns-in-Minus c =
     let t = c.args.work.now in
     IfOk-weaker c.minus.result (HoldsImage (tile_by plan.Minus c.source-in-Minus.result.now c.source-in-Minus-2.result.now (window_at t.windows 2) c.source-in-Minus.result.now.view.place)) (IsMade t)
-    (λ m holds. made_of_here t plan.Minus c.source-in-Minus.result.now c.source-in-Minus-2.result.now (window_at t.windows 2) _ _ m refl refl (sym c.step.ensures ∙ ap meaning c.in-Minus.is) c.source-in-Minus.ensures.window c.source-in-Minus-2.ensures.window refl c.source-in-Minus.ensures.read holds) c.minus.ensures
+    (λ m holds. made_of_here t plan.Minus c.source-in-Minus.result.now c.source-in-Minus-2.result.now (window_at t.windows 2) m (record { image = refl; at = refl; step = sym c.step.ensures ∙ ap meaning c.in-Minus.is; first = c.source-in-Minus.ensures.window; second = c.source-in-Minus-2.ensures.window; third = refl; read = (_, _, c.source-in-Minus.ensures.read) }) holds) c.minus.ensures
 
 pub returns-in-AtLeast : goal.returns-in-AtLeast
 returns-in-AtLeast c =
     let t = c.args.work.now in
     IfOk-weaker c.at_least.result (HoldsImage (tile_by (plan.AtLeast c.in-AtLeast.k) c.source-in-AtLeast.result.now (window_at t.windows 1) (window_at t.windows 2) c.source-in-AtLeast.result.now.view.place)) (IsMade t)
-    (λ m holds. made_of_here t (plan.AtLeast c.in-AtLeast.k) c.source-in-AtLeast.result.now (window_at t.windows 1) (window_at t.windows 2) _ _ m refl refl (sym c.step.ensures ∙ ap meaning c.in-AtLeast.is) c.source-in-AtLeast.ensures.window refl refl c.source-in-AtLeast.ensures.read holds) c.at_least.ensures
+    (λ m holds. made_of_here t (plan.AtLeast c.in-AtLeast.k) c.source-in-AtLeast.result.now (window_at t.windows 1) (window_at t.windows 2) m (record { image = refl; at = refl; step = sym c.step.ensures ∙ ap meaning c.in-AtLeast.is; first = c.source-in-AtLeast.ensures.window; second = refl; third = refl; read = (_, _, c.source-in-AtLeast.ensures.read) }) holds) c.at_least.ensures
 
 pub returns-in-Invert : goal.returns-in-Invert
 returns-in-Invert c =
     let t = c.args.work.now in
     IfOk-weaker c.invert.result (HoldsImage (tile_by plan.Invert c.source-in-Invert.result.now (window_at t.windows 1) (window_at t.windows 2) c.source-in-Invert.result.now.view.place)) (IsMade t)
-    (λ m holds. made_of_here t plan.Invert c.source-in-Invert.result.now (window_at t.windows 1) (window_at t.windows 2) _ _ m refl refl (sym c.step.ensures ∙ ap meaning c.in-Invert.is) c.source-in-Invert.ensures.window refl refl c.source-in-Invert.ensures.read holds) c.invert.ensures
+    (λ m holds. made_of_here t plan.Invert c.source-in-Invert.result.now (window_at t.windows 1) (window_at t.windows 2) m (record { image = refl; at = refl; step = sym c.step.ensures ∙ ap meaning c.in-Invert.is; first = c.source-in-Invert.ensures.window; second = refl; third = refl; read = (_, _, c.source-in-Invert.ensures.read) }) holds) c.invert.ensures
 
 pub returns-in-Meet : goal.returns-in-Meet
 returns-in-Meet c =
     let t = c.args.work.now in
     IfOk-weaker c.merge.result (HoldsImage (tile_by plan.Meet c.source-in-Meet.result.now c.source-in-Meet-2.result.now (window_at t.windows 2) c.source-in-Meet.result.now.view.place)) (IsMade t)
-    (λ m holds. made_of_here t plan.Meet c.source-in-Meet.result.now c.source-in-Meet-2.result.now (window_at t.windows 2) _ _ m refl refl (sym c.step.ensures ∙ ap meaning c.in-Meet.is) c.source-in-Meet.ensures.window c.source-in-Meet-2.ensures.window refl c.source-in-Meet.ensures.read holds) c.merge.ensures
+    (λ m holds. made_of_here t plan.Meet c.source-in-Meet.result.now c.source-in-Meet-2.result.now (window_at t.windows 2) m (record { image = refl; at = refl; step = sym c.step.ensures ∙ ap meaning c.in-Meet.is; first = c.source-in-Meet.ensures.window; second = c.source-in-Meet-2.ensures.window; third = refl; read = (_, _, c.source-in-Meet.ensures.read) }) holds) c.merge.ensures
 
 pub returns-in-Join : goal.returns-in-Join
 returns-in-Join c =
     let t = c.args.work.now in
     IfOk-weaker c.merge-in-Join.result (HoldsImage (tile_by plan.Join c.source-in-Join.result.now c.source-in-Join-2.result.now (window_at t.windows 2) c.source-in-Join.result.now.view.place)) (IsMade t)
-    (λ m holds. made_of_here t plan.Join c.source-in-Join.result.now c.source-in-Join-2.result.now (window_at t.windows 2) _ _ m refl refl (sym c.step.ensures ∙ ap meaning c.in-Join.is) c.source-in-Join.ensures.window c.source-in-Join-2.ensures.window refl c.source-in-Join.ensures.read holds) c.merge-in-Join.ensures
+    (λ m holds. made_of_here t plan.Join c.source-in-Join.result.now c.source-in-Join-2.result.now (window_at t.windows 2) m (record { image = refl; at = refl; step = sym c.step.ensures ∙ ap meaning c.in-Join.is; first = c.source-in-Join.ensures.window; second = c.source-in-Join-2.ensures.window; third = refl; read = (_, _, c.source-in-Join.ensures.read) }) holds) c.merge-in-Join.ensures
 
 pub returns-in-Mark : goal.returns-in-Mark
 returns-in-Mark c =
     let t = c.args.work.now in
     IfOk-weaker c.mark.result (HoldsImage (tile_by (plan.Mark c.in-Mark.v) c.source-in-Mark.result.now c.source-in-Mark-2.result.now c.source-in-Mark-3.result.now c.source-in-Mark.result.now.view.place)) (IsMade t)
-    (λ m holds. made_of_here t (plan.Mark c.in-Mark.v) c.source-in-Mark.result.now c.source-in-Mark-2.result.now c.source-in-Mark-3.result.now _ _ m refl refl (sym c.step.ensures ∙ ap meaning c.in-Mark.is) c.source-in-Mark.ensures.window c.source-in-Mark-2.ensures.window c.source-in-Mark-3.ensures.window c.source-in-Mark.ensures.read holds) c.mark.ensures
+    (λ m holds. made_of_here t (plan.Mark c.in-Mark.v) c.source-in-Mark.result.now c.source-in-Mark-2.result.now c.source-in-Mark-3.result.now m (record { image = refl; at = refl; step = sym c.step.ensures ∙ ap meaning c.in-Mark.is; first = c.source-in-Mark.ensures.window; second = c.source-in-Mark-2.ensures.window; third = c.source-in-Mark-3.ensures.window; read = (_, _, c.source-in-Mark.ensures.read) }) holds) c.mark.ensures
 
 pub returns-in-MarkLast : goal.returns-in-MarkLast
 returns-in-MarkLast c =
     let t = c.args.work.now in
     IfOk-weaker c.mark_last.result (HoldsImage (tile_by (plan.MarkLast c.in-MarkLast.v) c.source-in-MarkLast.result.now c.source-in-MarkLast-2.result.now (window_at t.windows 2) c.source-in-MarkLast.result.now.view.place)) (IsMade t)
-    (λ m holds. made_of_here t (plan.MarkLast c.in-MarkLast.v) c.source-in-MarkLast.result.now c.source-in-MarkLast-2.result.now (window_at t.windows 2) _ _ m refl refl (sym c.step.ensures ∙ ap meaning c.in-MarkLast.is) c.source-in-MarkLast.ensures.window c.source-in-MarkLast-2.ensures.window refl c.source-in-MarkLast.ensures.read holds) c.mark_last.ensures
+    (λ m holds. made_of_here t (plan.MarkLast c.in-MarkLast.v) c.source-in-MarkLast.result.now c.source-in-MarkLast-2.result.now (window_at t.windows 2) m (record { image = refl; at = refl; step = sym c.step.ensures ∙ ap meaning c.in-MarkLast.is; first = c.source-in-MarkLast.ensures.window; second = c.source-in-MarkLast-2.ensures.window; third = refl; read = (_, _, c.source-in-MarkLast.ensures.read) }) holds) c.mark_last.ensures
 
 pub returns-in-Equal : goal.returns-in-Equal
 returns-in-Equal c =
     let t = c.args.work.now in
     IfOk-weaker c.equal.result (HoldsImage (tile_by (plan.Equal c.in-Equal.v) c.source-in-Equal.result.now (window_at t.windows 1) (window_at t.windows 2) c.source-in-Equal.result.now.view.place)) (IsMade t)
-    (λ m holds. made_of_here t (plan.Equal c.in-Equal.v) c.source-in-Equal.result.now (window_at t.windows 1) (window_at t.windows 2) _ _ m refl refl (sym c.step.ensures ∙ ap meaning c.in-Equal.is) c.source-in-Equal.ensures.window refl refl c.source-in-Equal.ensures.read holds) c.equal.ensures
+    (λ m holds. made_of_here t (plan.Equal c.in-Equal.v) c.source-in-Equal.result.now (window_at t.windows 1) (window_at t.windows 2) m (record { image = refl; at = refl; step = sym c.step.ensures ∙ ap meaning c.in-Equal.is; first = c.source-in-Equal.ensures.window; second = refl; third = refl; read = (_, _, c.source-in-Equal.ensures.read) }) holds) c.equal.ensures
 
 pub blank-requires : goal.blank-requires
 blank-requires c =
