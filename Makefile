@@ -60,6 +60,7 @@ bench: toolchain python
 	crates/bench_core/out/bench_core measure
 	crates/bench_board/out/bench_board measure
 	python3 bench/command.py $(MORPHD)
+	python3 -B bench/operations.py $(MORPHD)
 	python3 bench/workers.py $(MORPHD)
 	python3 -B bench/listen.py $(MORPHD)
 	@/usr/bin/python3 bench/peers.py || echo "the peers were not measured" >&2
