@@ -12,15 +12,9 @@ returns-clause-cells g c =
     let items = c.in_ok-cells.cells.items in
     let out = c.spread_rows.new.out in
     let whole : length out ≡ c.in_ok-cells.cells.len = omega arith in
-    let to_x : ℤ = to_z w64 (of_z w64 c.args.rows.column) in
-    let to_y : ℤ = to_z w64 (of_z w64 c.args.rows.row) in
-    let x-is : to_x ≡ c.args.rows.column = omega (arith, ints) in
-    let y-is : to_y ≡ c.args.rows.row = omega (arith, ints) in
     let seen = λ (column row : ℤ). cell_at (raster c.args.window.now.place.width c.args.window.now.place.height c.args.window.now.cells) column row in
     λ x y less row_less.
     ap (λ (t : List _). get_or t (y * c.args.rows.wide + x) n) (take-written items out c.in_ok-cells.cells.len whole)
     ∙ c.spread_rows.ensures x y n less row_less
-    ∙ ap (λ (t : List _). merge_at f (get_or t (y * c.args.rows.wide + x) n) (seen (to_x +ℤ pos x) (to_y +ℤ pos y))) (c.as_mut_slice.ensures.value ∙ c.in_ok-cells.ensures)
-    ∙ ap (λ (t : g.row.P.Denot). merge_at f t (seen (to_x +ℤ pos x) (to_y +ℤ pos y))) (get_or-replicate_same (c.args.rows.high * c.args.rows.wide) (y * c.args.rows.wide + x) n)
-    ∙ ap (λ (t : ℤ). merge_at f n (seen (t +ℤ pos x) (to_y +ℤ pos y))) x-is
-    ∙ ap (λ (t : ℤ). merge_at f n (seen (c.args.rows.column +ℤ pos x) (t +ℤ pos y))) y-is
+    ∙ ap (λ (t : List _). merge_at f (get_or t (y * c.args.rows.wide + x) n) (seen (c.args.rows.column +ℤ pos x) (c.args.rows.row +ℤ pos y))) (c.as_mut_slice.ensures.value ∙ c.in_ok-cells.ensures)
+    ∙ ap (λ (t : g.row.P.Denot). merge_at f t (seen (c.args.rows.column +ℤ pos x) (c.args.rows.row +ℤ pos y))) (get_or-replicate_same (c.args.rows.high * c.args.rows.wide) (y * c.args.rows.wide + x) n)

@@ -12,14 +12,17 @@ loop-y-preserved g c =
     let wide = c.args.rows.wide in
     let y = c.loop-y.y in
     let m = y * wide + wide - y * wide in
-    let to_x : ℤ = to_z w64 (of_z w64 c.args.rows.column) in
-    let from_y : ℤ = to_z w64 (of_z w64 c.args.rows.row) in
-    let to_y : ℤ = to_z w64 (of_z w64 (from_y +ℤ to_z w64 y)) in
+    let from_x : ℤ = c.args.rows.column in
+    let from_y : ℤ = c.args.rows.row in
+    let to_x : ℤ = to_z w64 (of_z w64 from_x) in
+    let to_y : ℤ = to_z w64 (of_z w64 (to_z w64 (of_z w64 from_y) +ℤ to_z w64 y)) in
+    let x-is : to_x ≡ from_x = omega (arith, ints) in
     let y-is : to_y ≡ from_y +ℤ pos y = omega (arith, ints) in
     let fits = rows_fit y c.args.rows.high wide c.loop-y-test.true in
     let whole : length (take m (drop (y * wide) c.loop-y.out)) ≡ wide = omega (arith, length-take m (drop (y * wide) c.loop-y.out), length-drop (y * wide) c.loop-y.out, c.loop-y.invariant.size, fits) in
-    rows_more (λ best x j. merge_at f best (cell_at (raster window.place.width window.place.height window.cells) (to_x +ℤ pos x) (from_y +ℤ pos j))) wide c.args.rows.high y m c.args.out.now c.loop-y.out c.combine_window_row.new.out
+    rows_more (λ best x j. merge_at f best (cell_at (raster window.place.width window.place.height window.cells) (from_x +ℤ pos x) (from_y +ℤ pos j))) wide c.args.rows.high y m c.args.out.now c.loop-y.out c.combine_window_row.new.out
     c.loop-y-test.true (omega arith) (omega (arith, c.combine_window_row.auto.out, whole))
     (λ x d less. c.combine_window_row.ensures x d (omega (arith, whole))
-    ∙ ap (λ (t : ℤ). merge_at f (get_or (take m (drop (y * wide) c.loop-y.out)) x d) (cell_at (raster window.place.width window.place.height window.cells) (to_x +ℤ pos x) t)) y-is)
+    ∙ ap (λ (t : ℤ). merge_at f (get_or (take m (drop (y * wide) c.loop-y.out)) x d) (cell_at (raster window.place.width window.place.height window.cells) (t +ℤ pos x) to_y)) x-is
+    ∙ ap (λ (t : ℤ). merge_at f (get_or (take m (drop (y * wide) c.loop-y.out)) x d) (cell_at (raster window.place.width window.place.height window.cells) (from_x +ℤ pos x) t)) y-is)
     c.loop-y.invariant
