@@ -1,21 +1,8 @@
 //! The volume of a set: how many pixels it has.
-ghost use Rattle.std.specs.Prelude.{◌≡◌, ℕ, ◌*◌, ◌<◌, ◌≤◌, ◌^◌, length, slice_index, sum};
-ghost use Rattle.mw_bits.specs.Packed.{bits_in};
+ghost use Rattle.std.specs.Prelude.{◌≡◌, sum};
 
 use crate::Words;
-
-/// How many bits are set.
-fn count_bits(words: &[u64]) -> u64
-    requires { length words.now < 2 ^ 58 }
-    ensures count { result ≡ bits_in words.now }
-    ensures fits { (k : ℕ) → slice_index words.now k < 2 ^ 64 }
-{
-    let mut count = 0u64;
-    for word in words {
-        count += u64::from(word.count_ones());
-    }
-    count
-}
+use mw_word_rows::count_bits;
 
 impl Words {
     /// The sum of all samples, which is the number of pixels in the set.

@@ -14,20 +14,14 @@
 mod boxes;
 mod by_runs;
 mod counting;
-mod doubling;
-mod extremes;
 mod kernel;
 mod levels;
-mod packing;
 mod pairs;
 mod planes;
-mod shifting;
 mod spread;
-mod trimming;
-mod unpacking;
 mod window_rows;
 mod words;
 
-pub use extremes::WordExtremum;
 pub use mw_model::NoMemory;
+pub use mw_word_rows::WordExtremum;
 pub use words::Words;

@@ -1,87 +1,12 @@
 //! Sets that are put together place by place, 64 pixels at a time, and the complement of a set.
-ghost use Rattle.std.specs.Prelude.{◌≡◌, ℕ, ◌-◌, ◌*◌, ◌<◌, min, max, length, map, IfOk};
-ghost use Rattle.std.proofs.Common.{refl};
-ghost use Rattle.std.specs.Int.{bit_at};
+ghost use Rattle.std.specs.Prelude.{◌≡◌, ℕ, ◌-◌, min, max, map, IfOk};
 ghost use lib.Lanes.{zip2};
 ghost use Rattle.mw_tile.specs.Cuts.{view_of};
-ghost use Rattle.mw_bits.specs.Packed.{bit_of};
 
 use crate::Words;
-use crate::trimming::trimmed;
-use crate::words::stride;
 use mw_model::NoMemory;
+use mw_word_rows::{Both, Either, Less, PairOfWords, flip_words, merge_words, stride, trimmed};
 use std::alloc::Global;
-
-/// What becomes of two pixels, 64 pairs at a time.
-pub(crate) trait PairOfWords {
-    ghost of_two: { ℕ → ℕ → ℕ };
-
-    fn of_words(a: u64, b: u64) -> u64
-        ensures { (i : ℕ) → i < 64 → bit_at result i ≡ of_two (bit_at a i) (bit_at b i) };
-
-    ghost none_of_none: { of_two 0 0 ≡ 0 };
-}
-
-/// The pixels of the first set that are not in the second.
-pub(crate) struct Less;
-
-/// The pixels of both sets.
-pub(crate) struct Both;
-
-/// The pixels of either set.
-pub(crate) struct Either;
-
-impl PairOfWords for Less {
-    ghost of_two = { λ (m n : ℕ). m - n };
-
-    #[inline(always)]
-    fn of_words(a: u64, b: u64) -> u64 {
-        a & !b
-    }
-
-    ghost none_of_none = { refl };
-}
-
-impl PairOfWords for Both {
-    ghost of_two = { min };
-
-    #[inline(always)]
-    fn of_words(a: u64, b: u64) -> u64 {
-        a & b
-    }
-
-    ghost none_of_none = { refl };
-}
-
-impl PairOfWords for Either {
-    ghost of_two = { max };
-
-    #[inline(always)]
-    fn of_words(a: u64, b: u64) -> u64 {
-        a | b
-    }
-
-    ghost none_of_none = { refl };
-}
-
-/// Puts the other words into the first ones.
-fn merge_words<O: PairOfWords>(words: &mut [u64], other: &[u64])
-    requires { length words.old ≡ length other.now }
-    ensures { (q : ℕ) → q < 64 * length words.old → bit_of words.new q ≡ O.of_two (bit_of words.old q) (bit_of other.now q) }
-{
-    for i in 0..words.len() {
-        words[i] = O::of_words(words[i], other[i]);
-    }
-}
-
-/// Turns each bit round.
-fn flip_words(words: &mut [u64])
-    ensures { (q : ℕ) → q < 64 * length words.old → bit_of words.new q ≡ 1 - bit_of words.old q }
-{
-    for i in 0..words.len() {
-        words[i] = !words[i];
-    }
-}
 
 impl Words {
     /// What becomes of the pixels of two windows of one place.

@@ -1,10 +1,10 @@
 //! The type of packed sets.
 ghost use Rattle.std.specs.Prelude.{◌≡◌, ℕ, ◌+◌, ◌*◌, ◌/◌, ◌<◌, ◌≤◌, ◌^◌, length, slice_index, replicate, IfOk};
 ghost use Rattle.mw_tile.specs.Cuts.{view_of};
-ghost use Rattle.mw_bits.specs.Packed.{bit_of, stride_of, samples_of, IsPacked};
+ghost use Rattle.mw_word_rows.specs.Packed.{bit_of, stride_of, samples_of, IsPacked};
 
-use mw_model::{NoMemory, Rect};
-use std::alloc::Global;
+use mw_model::Rect;
+use mw_word_rows::stride;
 use std::marker::Model;
 
 /// The samples of a rectangle of a set, with the sides of the frame. Each row stands in words of its own, 64 pixels a
@@ -21,29 +21,13 @@ impl Model for Words {
     ghost use Rattle.std.specs.Prelude.{ℕ};
     ghost use Rattle.mw_model.specs.Windows.{View};
     ghost use Rattle.mw_tile.specs.Cuts.{view_of};
-    ghost use Rattle.mw_bits.specs.Packed.{samples_of, IsPacked};
+    ghost use Rattle.mw_word_rows.specs.Packed.{samples_of, IsPacked};
 
     ghost Value = { View ℕ };
 
     ghost view = { λ a. view_of a.frame_width a.frame_height a.place (samples_of a.place.width a.place.height a.words.items) };
 
     ghost invariant = { λ a. IsPacked a.place.width a.place.height a.words.items };
-}
-
-/// How many words a row has.
-pub(crate) fn stride(width: u32) -> usize
-    ensures value { result ≡ stride_of width }
-    ensures small { result ≤ 67108864 }
-{
-    (width as usize + 63) / 64
-}
-
-/// That many words, all alike.
-pub(crate) fn repeated(alloc: Global, count: usize, word: u64) -> Result<Vec<u64>, NoMemory>
-    ensures { IfOk result (λ v. v.items ≡ replicate count word) }
-{
-    let words = vec![in alloc; word; count]?;
-    Ok(words)
 }
 
 impl Words {

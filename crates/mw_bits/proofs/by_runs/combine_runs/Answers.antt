@@ -6,9 +6,9 @@ use Rattle.mw_line.proofs.Folds.{IsExtremum}
 use Rattle.mw_run.specs.declared.runs.Run.{Run}
 use Rattle.mw_run.specs.Runs.{start_of, HasRoom}
 use Rattle.mw_offset.proofs.Gathers.{gather_below, all_below, IsDoubled, doubled_more, run_value, none_gathered, gathered_more}
-use Rattle.mw_bits.specs.Packed.{bit_of}
-use Rattle.mw_bits.specs.Layouts.{laid_bits}
-use Rattle.mw_bits.proofs.Laid.{length-laid_bits, laid_ahead}
+use Rattle.mw_word_rows.specs.Packed.{bit_of}
+use Rattle.mw_word_rows.specs.Rows.{laid_bits}
+use Rattle.mw_word_rows.proofs.Laid.{length-laid_bits, laid_ahead}
 use Rattle.mw_bits.proofs.by_runs.combine_runs.Goals as goal
 
 pub sizes-init : goal.sizes-init

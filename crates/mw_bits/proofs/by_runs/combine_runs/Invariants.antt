@@ -2,8 +2,8 @@ use Rattle.std.proofs.Common.{◌≡◌, ℕ, ◌+◌, ◌-◌, ◌*◌, ◌<◌
 use Rattle.mw_line.specs.Extrema.{strided}
 use Rattle.mw_run.specs.Runs.{start_of}
 use Rattle.mw_offset.proofs.Gathers.{gather_below, IsDoubled}
-use Rattle.mw_bits.specs.Packed.{bit_of}
-use Rattle.mw_bits.specs.Layouts.{laid_bits}
+use Rattle.mw_word_rows.specs.Packed.{bit_of}
+use Rattle.mw_word_rows.specs.Rows.{laid_bits}
 use Rattle.mw_bits.proofs.by_runs.combine_runs.Given as goal
 
 abbrev pub invariant-sizes : goal.invariant-sizes

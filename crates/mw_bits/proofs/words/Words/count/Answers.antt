@@ -1,5 +1,5 @@
 use Rattle.std.proofs.Common.{sum, ap, sym, ◌∙◌}
-use Rattle.mw_bits.proofs.Counts.{bits_are_sum}
+use Rattle.mw_word_rows.proofs.Counts.{bits_are_sum}
 use Rattle.mw_bits.proofs.words.Words.count.Goals as goal
 
 pub count_bits-requires : goal.count_bits-requires

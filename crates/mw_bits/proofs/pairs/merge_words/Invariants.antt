@@ -1,6 +1,0 @@
-use Rattle.mw_bits.specs.Packed.{bit_of}
-use Rattle.mw_bits.proofs.Done.{WordsDone}
-use Rattle.mw_bits.proofs.pairs.merge_words.Given as goal
-
-abbrev pub invariant-loop-i : goal.invariant-loop-i
-invariant-loop-i g l = WordsDone (λ first q. g.O.PairOfWords.of_two first (bit_of l.other q)) l.i l.fn.words l.words
