@@ -9,19 +9,19 @@ use std::alloc::Global;
 use std::process::Abort;
 
 #[derive(Clone, Copy)]
-struct Frame {
+pub(crate) struct Frame {
     width: u32,
     height: u32,
     maxval: u16,
 }
 
-const BYTES: Frame = Frame {
+pub(crate) const BYTES: Frame = Frame {
     width: 4096,
     height: 4096,
     maxval: 255,
 };
 
-const WORDS: Frame = Frame {
+pub(crate) const WORDS: Frame = Frame {
     width: 8192,
     height: 2048,
     maxval: 65535,
@@ -34,7 +34,7 @@ const ROW: Frame = Frame {
     maxval: 65535,
 };
 
-const SQUARE: &[u8] = b"P1\n3 3\n111\n111\n111\n";
+pub(crate) const SQUARE: &[u8] = b"P1\n3 3\n111\n111\n111\n";
 
 impl Frame {
     fn level(self, x: u32, y: u32) -> u16 {
@@ -52,8 +52,8 @@ fn push_level(rt: &impl Abort, bytes: &mut Vec<u8>, is_wide: bool, level: u16) {
     bytes.push(low).ok().expect(rt, "memory");
 }
 
-/// The raw file of a frame.
-fn file_of(rt: &impl Abort, alloc: Global, frame: Frame) -> Vec<u8> {
+/// The raw file of a frame, or of what it shows so many columns to the left and rows above.
+pub(crate) fn file_of(rt: &impl Abort, alloc: Global, frame: Frame, back: u32) -> Vec<u8> {
     let Frame {
         width,
         height,
@@ -65,7 +65,8 @@ fn file_of(rt: &impl Abort, alloc: Global, frame: Frame) -> Vec<u8> {
     let mut bytes = head.into_bytes();
     for y in 0..height {
         for x in 0..width {
-            push_level(rt, &mut bytes, maxval > 255, frame.level(x, y));
+            let level = frame.level(x.saturating_sub(back), y.saturating_sub(back));
+            push_level(rt, &mut bytes, maxval > 255, level);
         }
     }
     bytes
@@ -103,7 +104,14 @@ fn is_eroded(image: &Image, frame: Frame) -> bool {
 
 /// Erodes a frame as ticket 2, by so many tasks.
 fn erodes(rt: &impl Abort, alloc: Global, core: &mut Core, frame: Frame, tasks: u64) {
-    given(rt, alloc, core, file_of(rt, alloc, frame), SQUARE, (1, 1));
+    given(
+        rt,
+        alloc,
+        core,
+        file_of(rt, alloc, frame, 0),
+        SQUARE,
+        (1, 1),
+    );
     let op = Op::Flat(FlatOp::Erode(name(rt, "f"), name(rt, "b")));
     assert_eq!(rt; submit(rt, core, name(rt, "e"), op), Reply::Accepted(2));
     assert_eq!(rt; work(rt, alloc, core), tasks);
@@ -169,7 +177,7 @@ fn has_spectrum(rt: &impl Abort, alloc: Global, core: &mut Core) {
         rt,
         alloc,
         core,
-        file_of(rt, alloc, ROW),
+        file_of(rt, alloc, ROW, 0),
         &line(rt, alloc),
         (127, 0),
     );

@@ -14,6 +14,8 @@ mod frames;
 #[cfg(test)]
 mod many;
 #[cfg(test)]
+mod owners;
+#[cfg(test)]
 mod served;
 #[cfg(test)]
 mod sessions;

@@ -1,7 +1,11 @@
-//! Many entries, and many items of the log.
+//! Many entries, many items of the log, and long lists of events.
+
+ghost use Rattle.std.specs.List.{AllByRecursion};
+ghost use Rattle.mw_core.specs.EventEffects.{IsServable};
 
 use crate::desk::{given, name, status, submit, work};
 use mw_core::Core;
+use mw_core::events::{Answer, Event, serve_all};
 use mw_model::{Code, FlatOp, Kind, Name, Op, Reply, Shape};
 use std::alloc::Global;
 use std::process::Abort;
@@ -28,6 +32,14 @@ fn fills(rt: &impl Abort, alloc: Global, core: &mut Core) {
     );
 }
 
+/// A picture and an element whose memory was refused are answered so only where nothing else refuses the call.
+fn memory_comes_last(rt: &impl Abort, core: &mut Core, name: Name, code: Code) {
+    let reply = core.load(name, Err(Code::Memory)).ok();
+    assert_eq!(rt; reply, Some(Reply::Refused(code)));
+    let reply = core.element(name, Err(Code::Memory)).ok();
+    assert_eq!(rt; reply, Some(Reply::Refused(code)));
+}
+
 fn all_end(rt: &impl Abort, alloc: Global, core: &mut Core) {
     assert_eq!(rt; core.ready_count(), 65534);
     assert_eq!(rt; work(rt, alloc, core), 65534);
@@ -42,6 +54,8 @@ fn all_end(rt: &impl Abort, alloc: Global, core: &mut Core) {
 fn all_entries_are_pending_at_once(rt: HostRuntime) {
     let mut core = Core::new(rt.alloc(), 128).ok().expect(&rt, "memory");
     fills(&rt, rt.alloc(), &mut core);
+    memory_comes_last(&rt, &mut core, name(&rt, "f"), Code::NameTaken);
+    memory_comes_last(&rt, &mut core, name(&rt, "more"), Code::Full);
     all_end(&rt, rt.alloc(), &mut core);
 }
 
@@ -57,4 +71,32 @@ fn a_log_of_1_000_001_items(rt: HostRuntime) {
     let mut core = Core::new(rt.alloc(), 128).ok().expect(&rt, "memory");
     looks(&rt, &mut core, 1000001);
     assert_eq!(rt; core.log_len(), 1000001);
+}
+
+/// A list of so many questions about a name.
+fn questions(rt: &impl Abort, alloc: Global, name: Name, count: u32) -> Vec<Event>
+    ensures { AllByRecursion IsServable result.items }
+{
+    let mut events = Vec::new(alloc);
+    for _ in 0..count {
+        events.push(Event::Status(name)).ok().expect(rt, "memory");
+    }
+    events
+}
+
+fn answered(rt: &impl Abort, alloc: Global, core: &mut Core, count: u32) -> Vec<Answer> {
+    let events = questions(rt, alloc, name(rt, "z"), count);
+    serve_all(core, alloc, events).ok().expect(rt, "memory")
+}
+
+fn is_unknown(answer: &Answer) -> bool {
+    matches!(answer, Answer::Reply(Reply::Refused(Code::Unknown)))
+}
+
+#[test]
+fn a_list_of_100_000_events(rt: HostRuntime) {
+    let mut core = Core::new(rt.alloc(), 128).ok().expect(&rt, "memory");
+    let answers = answered(&rt, rt.alloc(), &mut core, 100000);
+    assert_eq!(rt; answers.len(), 100000);
+    assert!(rt; answers.iter().all(|answer| is_unknown(answer)));
 }

@@ -1,8 +1,12 @@
-//! Sessions with the longest payload, and with the greatest tiles.
+//! Sessions with the longest payload, with the largest pictures, with many requests, and with the greatest tiles.
 
+ghost use Rattle.std.specs.Prelude.{◌≡◌, ◌≤◌, ◌%◌};
+
+use crate::frames::{BYTES, Frame, SQUARE, WORDS, file_of};
 use crate::served::writes;
 use std::alloc::Global;
 use std::process::Abort;
+use std::thread::Threads;
 
 fn push(rt: &impl Abort, bytes: &mut Vec<u8>, more: &[u8]) {
     bytes.extend_from_slice(more).ok().expect(rt, "memory");
@@ -51,6 +55,54 @@ fn the_longest_payloads_are_read(rt: HostRuntime) {
     );
     let output = b"ERR 25 SAMPLE\nOK 0\nERR 41 UNKNOWN\nDONE 0 GREY 1 1 9\n";
     writes(&rt, rt.alloc(), &input, output, 128);
+}
+
+/// A line that ends with the length of the bytes that follow it, and these.
+fn with_bytes(rt: &impl Abort, alloc: Global, line: &str, bytes: &[u8]) -> Vec<u8> {
+    let count = bytes.len();
+    let head = format!(in alloc; "{line} {count}\n")
+        .ok()
+        .expect(rt, "memory");
+    let mut all = head.into_bytes();
+    push(rt, &mut all, bytes);
+    all
+}
+
+/// A frame is loaded, eroded and handed out, in tiles of this side.
+fn hands_out(rt: &(impl Abort + Threads + Sync), alloc: Global, frame: Frame, side: u32)
+    requires { (64 ≤ side) × (side ≤ 1024) × (side % 64 ≡ 0) }
+{
+    let mut input = with_bytes(rt, alloc, "LOAD f", &file_of(rt, alloc, frame, 0));
+    push(
+        rt,
+        &mut input,
+        &with_bytes(rt, alloc, "ELEMENT b 1 1", SQUARE),
+    );
+    push(rt, &mut input, b"RUN e ERODE f b\nFETCH e\n");
+    let mut output = b"OK 0\nOK 1\nOK 2\n"
+        .to_vec(alloc)
+        .ok()
+        .expect(rt, "memory");
+    let made = file_of(rt, alloc, frame, 1);
+    push(rt, &mut output, &with_bytes(rt, alloc, "IMAGE 2", &made));
+    writes(rt, alloc, &input, &output, side);
+}
+
+#[test]
+fn the_largest_pictures_are_handed_out(rt: HostRuntime) {
+    hands_out(&rt, rt.alloc(), BYTES, 1024);
+    hands_out(&rt, rt.alloc(), WORDS, 256);
+}
+
+#[test]
+fn a_session_of_1_000_001_requests(rt: HostRuntime) {
+    let mut input = Vec::new(rt.alloc());
+    let mut output = Vec::new(rt.alloc());
+    for _ in 0..1000001u32 {
+        push(&rt, &mut input, b"STATUS x\n");
+        push(&rt, &mut output, b"ERR 41 UNKNOWN\n");
+    }
+    writes(&rt, rt.alloc(), &input, &output, 128);
 }
 
 /// The levels of a row of 2,000 samples: 0 in the middle, and 9 elsewhere.

@@ -248,19 +248,22 @@ fn places(come: usize, most: usize) -> usize
     places
 }
 
-/// Makes room for so many bytes more of a payload, of which most will come at last.
+/// Makes room for so many bytes more of a payload, of which most will come at last: for no more than that, nor for more than
+/// twice what has come then, or 128 bytes.
 fn grow(payload: &mut Vec<u8>, more: usize, most: usize) -> Result<(), NoMemory>
     requires { vec_len payload.old + more ≤ most }
     ensures items { payload.new.items ≡ payload.old.items }
     ensures len { vec_len payload.new ≡ vec_len payload.old }
     ensures room { OnOk result (vec_len payload.new + more ≤ vec_capacity payload.new) }
+    ensures announced { OnOk result (vec_capacity payload.new ≤ max (vec_capacity payload.old) most) }
+    ensures few { OnOk result (vec_capacity payload.new ≤ max (vec_capacity payload.old) (2 * max (vec_len payload.old + more) 64)) }
     ensures memory { OnErr result (vec_capacity payload.old < vec_len payload.old + more) }
 {
     let come = payload.len() + more;
     if come <= payload.capacity() {
         return Ok(());
     }
-    payload.reserve(places(come, most) - payload.len())?;
+    payload.reserve_exact(places(come, most) - payload.len())?;
     Ok(())
 }
 
