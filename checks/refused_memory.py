@@ -237,6 +237,12 @@ def before(entries, words):
     return [(worked(entries), None)] + [(worked(killed(entries, t, MEMORY)), "an entry was killed") for t in pending]
 
 
+def is_taken(entries, words):
+    """Whether the request is refused before its payload is looked at: that this finds no memory is then not told. The log
+    has places for its first 16 items from the start, and no session here asks for this behind them."""
+    return words[0] in ("LOAD", "ELEMENT") and ticket(entries, words[1]) is not None
+
+
 def explained(asked, written, status):
     """The one mark with which the machine writes this and ends so, 'nothing' without one, or None."""
     states = [((), 0, "nothing")]
@@ -258,7 +264,7 @@ def explained(asked, written, status):
                 if written.startswith(text, at):
                     following.append((after, at + len(text), kill or mark))
                 lack = refused(b"50 MEMORY")
-                if free and not kill and written.startswith(lack, at):
+                if free and not kill and not is_taken(entries, words) and written.startswith(lack, at):
                     following.append((state, at + len(lack), "a request was answered 50"))
         states = following
     return next(iter(ended), None)

@@ -78,7 +78,7 @@ fn questions(rt: &impl Abort, alloc: Global, name: Name, count: u32) -> Vec<Even
     ensures { AllByRecursion IsServable result.items }
 {
     let mut events = Vec::new(alloc);
-    for _ in 0..count {
+    'events: for _event in 0..count {
         events.push(Event::Status(name)).ok().expect(rt, "memory");
     }
     events
