@@ -1,5 +1,6 @@
 #!/usr/bin/env python3
-"""Looks for code that lets go of what it owns without dropping it: no .rt file says `forget`, `ManuallyDrop` or `leak`.
+"""Looks for code that lets go of what it owns without dropping it: no .rt file says `forget`, `ManuallyDrop`, `MaybeUninit`,
+`leak`, `into_raw` or `unsafe`.
 
     python3 checks/no_leaks.py [FOLDER..]
 
@@ -11,7 +12,7 @@ import re
 import sys
 
 ROOT = os.path.dirname(os.path.dirname(os.path.realpath(__file__)))
-WORDS = re.compile(r"\b(forget|ManuallyDrop|leak)\b")
+WORDS = re.compile(r"\b(forget|ManuallyDrop|MaybeUninit|leak|into_raw\w*|unsafe)\b")
 # What is no code: comments, strings, raw strings and characters. A block comment may hold others.
 OTHER = re.compile(
     r"""//[^\n]*|/\*|[bc]?r(?P<marks>\#*)".*?"(?P=marks)|[bc]?"(?:\\.|[^"\\])*"|b?'(?:\\[^\n]+?|[^'\\\n])'""", re.DOTALL
