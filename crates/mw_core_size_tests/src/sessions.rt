@@ -105,11 +105,15 @@ fn a_session_of_1_000_001_requests(rt: HostRuntime) {
     writes(&rt, rt.alloc(), &input, &output, 128);
 }
 
-/// The levels of a row of 2,000 samples: 0 in the middle, and 9 elsewhere.
-fn row_with(rt: &impl Abort, alloc: Global, low: u32) -> Vec<u8> {
+/// A row of 2,000 samples up to 9: of one level within so many columns of the middle, and of another elsewhere.
+fn row_of(rt: &impl Abort, alloc: Global, reach: u32, inside: u8, outside: u8) -> Vec<u8> {
     let mut bytes = b"P5\n2000 1\n9\n".to_vec(alloc).ok().expect(rt, "memory");
     for x in 0..2000u32 {
-        let level: u8 = if x.abs_diff(1000) <= low { 0 } else { 9 };
+        let level = if x.abs_diff(1000) <= reach {
+            inside
+        } else {
+            outside
+        };
         push(rt, &mut bytes, &[level]);
     }
     bytes
@@ -122,7 +126,7 @@ fn tiles_of_each_side(rt: HostRuntime) {
         .to_vec(rt.alloc())
         .ok()
         .expect(&rt, "memory");
-    push(&rt, &mut input, &row_with(&rt, rt.alloc(), 0));
+    push(&rt, &mut input, &row_of(&rt, rt.alloc(), 0, 0, 9));
     push(
         &rt,
         &mut input,
@@ -132,8 +136,83 @@ fn tiles_of_each_side(rt: HostRuntime) {
         .to_vec(rt.alloc())
         .ok()
         .expect(&rt, "memory");
-    push(&rt, &mut output, &row_with(&rt, rt.alloc(), 1));
+    push(&rt, &mut output, &row_of(&rt, rt.alloc(), 1, 0, 9));
     for k in 1..=16u32 {
         writes(&rt, rt.alloc(), &input, &output, k * 64);
     }
+}
+
+/// The row, and three pixels in a row.
+fn row_and_bar(rt: &impl Abort, alloc: Global) -> Vec<u8> {
+    let mut input = with_bytes(rt, alloc, "LOAD f", &row_of(rt, alloc, 0, 0, 9));
+    push(rt, &mut input, b"ELEMENT b 1 0 11\nP1\n3 1\n111\n");
+    input
+}
+
+/// Commands on the row, and the row that each makes, as `row_of` has it.
+const ROWS: [(&str, u32, u8, u8); 8] = [
+    ("ERODE f b", 1, 0, 9),
+    ("DILATE f b", 0, 9, 9),
+    ("OPEN f b", 0, 0, 9),
+    ("CLOSE f b", 0, 9, 9),
+    ("GRADIENT f b", 1, 9, 0),
+    ("WTOPHAT f b", 0, 0, 0),
+    ("BTOPHAT f b", 0, 9, 0),
+    ("RANK f b 2", 0, 9, 9),
+];
+
+#[test]
+fn rows_by_the_greatest_tiles(rt: HostRuntime) {
+    let mut input = row_and_bar(&rt, rt.alloc());
+    let mut output = b"OK 0\nOK 1\n"
+        .to_vec(rt.alloc())
+        .ok()
+        .expect(&rt, "memory");
+    let mut t = 2u32;
+    for (command, reach, inside, outside) in ROWS {
+        let lines = format!(in rt.alloc(); "RUN r{t} {command}\nFETCH r{t}\n");
+        push(&rt, &mut input, lines.ok().expect(&rt, "memory").as_bytes());
+        let head = format!(in rt.alloc(); "OK {t}\nIMAGE {t} 2012\n");
+        push(&rt, &mut output, head.ok().expect(&rt, "memory").as_bytes());
+        push(
+            &rt,
+            &mut output,
+            &row_of(&rt, rt.alloc(), reach, inside, outside),
+        );
+        t = t.saturating_add(1);
+    }
+    writes(&rt, rt.alloc(), &input, &output, 1024);
+}
+
+/// The file of a set of 2,000 pixels in a row, all but those within so many columns of the middle.
+fn set_of(rt: &impl Abort, alloc: Global, reach: u32) -> Vec<u8> {
+    let mut bytes = b"P4\n2000 1\n".to_vec(alloc).ok().expect(rt, "memory");
+    for place in 0..250u32 {
+        let mut byte = 0u8;
+        for x in 0..8u32 {
+            let far = place.saturating_mul(8).saturating_add(x).abs_diff(1000);
+            byte = (byte << 1) | u8::from(far > reach);
+        }
+        push(rt, &mut bytes, &[byte]);
+    }
+    bytes
+}
+
+#[test]
+fn sets_by_the_greatest_tiles(rt: HostRuntime) {
+    let mut input = row_and_bar(&rt, rt.alloc());
+    push(
+        &rt,
+        &mut input,
+        b"RUN x THRESHOLD f 5\nRUN e ERODE x b\nRUN o DILATE e b\nFETCH x\nFETCH e\nFETCH o\n",
+    );
+    let mut output = b"OK 0\nOK 1\nOK 2\nOK 3\nOK 4\n"
+        .to_vec(rt.alloc())
+        .ok()
+        .expect(&rt, "memory");
+    for (line, reach) in [("IMAGE 2", 0), ("IMAGE 3", 1), ("IMAGE 4", 0)] {
+        let made = set_of(&rt, rt.alloc(), reach);
+        push(&rt, &mut output, &with_bytes(&rt, rt.alloc(), line, &made));
+    }
+    writes(&rt, rt.alloc(), &input, &output, 1024);
 }
