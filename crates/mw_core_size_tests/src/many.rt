@@ -73,13 +73,21 @@ fn a_log_of_1_000_001_items(rt: HostRuntime) {
     assert_eq!(rt; core.log_len(), 1000001);
 }
 
+#[tactic(auto, using(crate::proofs::Questions::one_more))]
+fn push_question(rt: &impl Abort, events: &mut Vec<Event>, name: Name)
+    requires { AllByRecursion IsServable events.old.items }
+    ensures { AllByRecursion IsServable events.new.items }
+{
+    events.push(Event::Status(name)).ok().expect(rt, "memory");
+}
+
 /// A list of so many questions about a name.
 fn questions(rt: &impl Abort, alloc: Global, name: Name, count: u32) -> Vec<Event>
     ensures { AllByRecursion IsServable result.items }
 {
     let mut events = Vec::new(alloc);
-    'events: for _event in 0..count {
-        events.push(Event::Status(name)).ok().expect(rt, "memory");
+    'questions: for _asked in 0..count {
+        push_question(rt, &mut events, name);
     }
     events
 }
