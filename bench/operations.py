@@ -8,6 +8,8 @@ Each time is the best of the rounds, which go over the operations and the sides 
 ratio to the erosion's at the same side, and the greatest resident size that the system counted. The last line is a session of
 30,000 pictures of one pixel, each eroded, and one fetched. Files lie in /dev/shm, that is in memory. OpenCV is measured by a
 Python that has cv2 (Debian: python3-opencv), in one thread; each result is compared with that of the session.
+
+The system counts a program's size from that of this script on, which therefore never holds a picture.
 """
 import argparse
 import os
@@ -45,14 +47,22 @@ def element():
     return b"ELEMENT b %d %d %d\n%s" % (ACROSS // 2, ACROSS // 2, len(bitmap), bitmap)
 
 
+def pieces(file):
+    """The bytes of a file from here on, a row of the picture at a time."""
+    while piece := file.read(SIDE):
+        yield piece
+
+
 def write_sessions():
-    samples = random.Random(1).randbytes(SIDE * SIDE)
-    image = b"P5\n%d %d\n255\n" % (SIDE, SIDE) + samples
+    chance = random.Random(1)
     with open("picture", "wb") as file:
-        file.write(samples)
+        file.writelines(chance.randbytes(SIDE) for _ in range(SIDE))
+    head = b"P5\n%d %d\n255\n" % (SIDE, SIDE)
     for name in OPERATIONS:
-        with open(name, "wb") as file:
-            file.write(b"LOAD f %d\n%s%sRUN r %s f b\nFETCH r\n" % (len(image), image, element(), name.encode()))
+        with open(name, "wb") as file, open("picture", "rb") as picture:
+            file.write(b"LOAD f %d\n%s" % (len(head) + SIDE * SIDE, head))
+            file.writelines(pieces(picture))
+            file.write(element() + b"RUN r %s f b\nFETCH r\n" % name.encode())
     pixel = b"P2\n1 1\n9\n7\n"
     with open("small", "wb") as file:
         file.write(element())
@@ -90,7 +100,7 @@ def is_same(name):
     """Whether the last session's picture is OpenCV's."""
     with open("replies", "rb") as ours, open("opencv-" + name, "rb") as theirs:
         ours.seek(-SIDE * SIDE, os.SEEK_END)
-        return ours.read() == theirs.read()
+        return all(a == b for a, b in zip(pieces(ours), pieces(theirs), strict=True))
 
 
 def main():
