@@ -11,27 +11,31 @@ use Rattle.mw_model.specs.Pictures.{Picture}
 use Rattle.mw_model.specs.Values.{ImageValue, value_at}
 use Rattle.mw_model.specs.Refusals.{Table, is_element, is_pending, outcome_at, shape_at, submission_at}
 use Rattle.mw_model.specs.Machine.{Machine, values}
-use Rattle.mw_model.specs.Tasks.{flag, remaining_tasks}
+use Rattle.mw_model.specs.Tasks.{Progress, flag, remaining_tasks}
 use Rattle.mw_model.specs.Stands.{CoreView, StandsFor, inputs_there}
 use Rattle.mw_grid.proofs.Tiles.{HasTiles}
 use Rattle.mw_task.specs.Products.{IsMade}
 use Rattle.mw_task.specs.WindowTasks.{WindowTask}
 use Rattle.mw_ledger.specs.mw_progress.ProgressView.{ProgressView, cells_of_made, plane_at}
-use Rattle.mw_ledger.specs.mw_work.Works.{Finishes, IsTrueWork, IsUnder, true_task}
+use Rattle.mw_ledger.specs.mw_work.Works as works
+use Rattle.mw_ledger.specs.mw_work.Works.{IsTrueWork, IsUnder, true_task}
 use Rattle.mw_ledger.proofs.mw_work.Curves.{result-curve}
 use Rattle.mw_ledger.proofs.mw_work.Going.{true-finished, true-under, under-finished}
 use Rattle.mw_ledger.proofs.mw_work.Making.{finishes-made}
-use Rattle.mw_ledger.proofs.mw_work.Numbers.{has-tiles, length-tiles, number_of-within}
+use Rattle.mw_ledger.proofs.mw_work.Numbers.{has-tiles, length-tiles, number_of-within, step_number-number_of, tile_number-number_of}
 use Rattle.mw_ledger.proofs.mw_work.Settling.{result-image}
-use Rattle.mw_ledger.specs.mw_stands.TaskEvents.{IsResult, Places, Settles}
+use Rattle.mw_ledger.specs.mw_stands.TaskEvents.{IsResult, IsUnderway, Places, Settles}
 use Rattle.mw_ledger.proofs.mw_stands.GivenLemmas.{elements-given}
 use Rattle.mw_ledger.proofs.mw_stands.TaskLemmas.{work-within}
 use Rattle.mw_ledger.specs.mw_underway.Results.{result_number}
 use Rattle.mw_ledger.proofs.mw_underway.PlanTaskLemmas.{IsResultOn, places, settles}
-use Rattle.mw_ledger.proofs.mw_underway.ResultLemmas.{result-found, result-true}
+use Rattle.mw_ledger.proofs.mw_underway.ResultLemmas.{number-true, result-found, result-true}
 use Rattle.mw_ledger.specs.Books.{Book, IsOrderly, progress_of, seen_of}
-use Rattle.mw_ledger.specs.Tasks.{FinishesAt, IsFoundAt, IsResultAt, PlacesAt, SettlesAt, value_made}
+use Rattle.mw_ledger.specs.Tasks.{FinishesAt, IsFitAt, IsFoundAt, IsResultAt, PlacesAt, SettlesAt, value_made}
 use Rattle.mw_ledger.proofs.SeenLemmas.{progress-seen, work-shown}
+use Rattle.mw_core.specs.declared.answers.Finish.{Finish}
+use Rattle.mw_core.specs.declared.answers.Finish.TheVariants as finish
+use Rattle.mw_core.specs.TaskAnswers.{Finishes, IsOwn, TakenAt}
 use Rattle.mw_core.proofs.FilledLemmas.{full-filled}
 use Rattle.mw_core.proofs.TaskLemmas.{complete-seen, seen-set, under-work}
 
@@ -40,34 +44,34 @@ abbrev pub IsTrueResult : Machine → WindowTask → ProgressView → Type 0
 IsTrueResult m d u = d ≡ true_task m d.task.ticket u.progress (result_number u d)
 
 -- it is that of a running task
-running-here : (b : Book) (d : WindowTask) → (r : IsResultAt b d) → IsResultOn (seen_of b) d r.work (result_number r.work d)
+running-here : (b : Book) (d : WindowTask) → (r : IsFitAt b d) → IsResultOn (seen_of b) d r.work (result_number r.work d)
 running-here b d r =
     let u = r.work in
     record {
       within = r.at.within;
       pending = r.pending;
       work = progress-seen b.works d.task.ticket u r.at.work;
-      in_plan = number_of-within u.progress d.task.step d.task.tile r.result.within (omega (arith, r.result.inside, length-tiles u r.at.whole));
-      running = r.result.running;
+      in_plan = number_of-within u.progress d.task.step d.task.tile r.fit.of.within (omega (arith, r.fit.of.inside, length-tiles u r.at.whole));
+      running = r.fit.of.running;
     }
 
 -- a ticket's work, beside the machine
-result-under : (b : Book) (m : Machine) (d : WindowTask) → StandsFor (seen_of b) m → IsOrderly b → (r : IsResultAt b d) → IsUnder m d.task.ticket r.work
+result-under : (b : Book) (m : Machine) (d : WindowTask) → StandsFor (seen_of b) m → IsOrderly b → (r : IsFitAt b d) → IsUnder m d.task.ticket r.work
 result-under b m d s orderly r = under-work b m d.task.ticket r.work r.image s orderly r.at r.pending
 
 -- what was made is what the task makes by the definitions
 finishes-here : (b : Book) (m : Machine) (d : WindowTask) (v : ProgressView) → StandsFor (seen_of b) m → IsOrderly b → (f : FinishesAt b d v) → IsTrueResult m d f.was.work
-    → Finishes m d.task.ticket f.was.work v (result_number f.was.work d)
+    → works.Finishes m d.task.ticket f.was.work v (result_number f.was.work d)
 finishes-here b m d v s orderly f task =
     let t = d.task.ticket in
     let u = f.was.work in
     let n = result_number u d in
     let TileResult : WindowTask → Type 0 = λ x. IsMade x f.made in
-    finishes-made m t u v n f.made (true-under m t u (result-under b m d s orderly f.was)) (running-here b d f.was).in_plan f.was.result.running (subst TileResult task f.is) f.finished f.whole
+    finishes-made m t u v n f.made (true-under m t u (result-under b m d s orderly f.was)) (running-here b d f.was).in_plan f.was.fit.of.running (subst TileResult task f.is) f.finished f.whole
 
 -- ---- others of the ticket are not finished
 
-pub places-at : (b new : Book) (m : Machine) (d : WindowTask) → StandsFor (seen_of b) m → IsOrderly b → (p : PlacesAt b d new) → IsTrueResult m d p.finishes.was.work → Places (seen_of b) m d (seen_of new)
+places-at : (b new : Book) (m : Machine) (d : WindowTask) → StandsFor (seen_of b) m → IsOrderly b → (p : PlacesAt b d new) → IsTrueResult m d p.finishes.was.work → Places (seen_of b) m d (seen_of new)
 places-at b new m d s orderly p task =
     let c : CoreView = seen_of b in
     let f = p.finishes in
@@ -109,7 +113,7 @@ value-made m t v (shape.Image k w h x) is other work none =
 value-made m t v (shape.Element w h) is other work none = absurd cc
 value-made m t v (shape.Curve n) is other work none = result-curve m t v n work none is
 
-pub settles-at : (b new : Book) (m : Machine) (d : WindowTask) → StandsFor (seen_of b) m → IsOrderly b → (p : SettlesAt b d new) → IsTrueResult m d p.finishes.was.work
+settles-at : (b new : Book) (m : Machine) (d : WindowTask) → StandsFor (seen_of b) m → IsOrderly b → (p : SettlesAt b d new) → IsTrueResult m d p.finishes.was.work
     → Settles (seen_of b) m d d.task.ticket (seen_of new)
 settles-at b new m d s orderly p task =
     let c : CoreView = seen_of b in
@@ -121,7 +125,7 @@ settles-at b new m d s orderly p task =
     let under = result-under b m d s orderly f.was in
     let done = finishes-here b m d v s orderly f task in
     let e = shape_at b.table.submissions t in
-    let there : inputs_there m.table t ≡ true = under.work.there n (and_parts (flag u.progress.started n) (not (flag u.progress.finished n)) f.was.result.running).0 in
+    let there : inputs_there m.table t ≡ true = under.work.there n (and_parts (flag u.progress.started n) (not (flag u.progress.finished n)) f.was.fit.of.running).0 in
     let own : value_at (values m) t ≡ Some (value_made e v)
     = value-made m t v e (ap (λ (w : Table). shape_at w.submissions t) (sym s.table)) (no-element c m t s f.was.at.within f.was.pending) (true-finished m t u v n (true-under m t u under) done) p.last in
     settles c (seen_of new) m d u n (value_made e v) s (complete-seen b orderly) (running-here b d f.was) task there (omega (arith, f.finished.lowered, p.last)) own p.table p.kept
@@ -129,12 +133,55 @@ settles-at b new m d s orderly p task =
 
 -- ---- what the ledger tells of a result
 
--- one that is taken is that of the true task
-pub result-at : (b : Book) (m : Machine) (d : WindowTask) → StandsFor (seen_of b) m → IsOrderly b → (r : IsResultAt b d) → IsTrueResult m d r.work
+-- one that was tested against what is kept is that of the true task
+result-at : (b : Book) (m : Machine) (d : WindowTask) → StandsFor (seen_of b) m → IsOrderly b → (r : IsResultAt b d) → IsTrueResult m d r.fits.work
 result-at b m d s orderly r =
     let t = d.task.ticket in
+    let at = r.fits.at in
+    let u = r.fits.work in
+    result-true (seen_of b) m u r.fits.image d s at.within r.fits.pending (progress-seen b.works t u at.work) at.whole (orderly.planned t u at.work) at.first (record { fit = r.fits.fit; task = r.task })
+
+pub tested-true : (b : Book) (m : Machine) (d : WindowTask) → StandsFor (seen_of b) m → IsOrderly b → IsResultAt b d → (r : IsFitAt b d) → IsTrueResult m d r.work
+tested-true b m d s orderly x r =
+    let True : ProgressView → Type 0 = λ u. IsTrueResult m d u in
+    let one = x.fits.at.work in
+    let other = r.at.work in
+    let same : x.fits.work ≡ r.work = cc in
+    subst True same (result-at b m d s orderly x)
+
+-- one that is the core's own is that of the true task
+pub own-true : (b : Book) (m : Machine) (d : WindowTask) → IsOwn (seen_of b) m d → (r : IsFitAt b d) → IsTrueResult m d r.work
+own-true b m d own r =
     let u = r.work in
-    result-true (seen_of b) m u r.image d s r.at.within r.pending (progress-seen b.works t u r.at.work) r.at.whole (orderly.planned t u r.at.work) r.at.first r.result
+    let t = d.task.ticket in
+    let here = running-here b d r in
+    let inside : d.task.tile < length u.progress.tiles = omega (arith, r.fit.of.inside, length-tiles u r.at.whole) in
+    let underway : IsUnderway (seen_of b) d.task = record {
+      progress = u.progress;
+      number = result_number u d;
+      work = here.work;
+      within = here.in_plan;
+      running = here.running;
+      step = sym (step_number-number_of u.progress d.task.step d.task.tile inside);
+      tile = sym (tile_number-number_of u.progress d.task.step d.task.tile inside);
+    } in
+    let found = own r.at.within underway in
+    let one = found.work in
+    let other = here.work in
+    let same : found.progress ≡ u.progress = cc in
+    let True : Progress → Type 0 = λ p. d ≡ true_task m t p found.number in
+    let Of : ℕ → Type 0 = λ n. d ≡ true_task m t u.progress n in
+    let is = subst True same found.task in
+    subst Of (sym (number-true m u t found.number d is)) is
+
+-- what the ledger has taken, the core has finished
+pub taken-finishes : (b new : Book) (m : Machine) (d : WindowTask) (f : Finish) → StandsFor (seen_of b) m → IsOrderly b → TakenAt b d f new → ((r : IsFitAt b d) → IsTrueResult m d r.work) → Finishes (seen_of b) m d f (seen_of new)
+taken-finishes b new m d finish.Placed s orderly p true = places-at b new m d s orderly p (true p.finishes.was)
+taken-finishes b new m d (finish.Settled t) s orderly p true =
+    let Of : ℕ → Type 0 = λ k. Settles (seen_of b) m d k (seen_of new) in
+    subst Of (sym p.0) (settles-at b new m d s orderly p.1 (true p.1.finishes.was))
+taken-finishes b new m d finish.Late s orderly p true = absurd p
+taken-finishes b new m d finish.Stranger s orderly p true = absurd p
 
 -- and each of the machine's is found
 pub found-at : (b : Book) (m : Machine) (d : WindowTask) → StandsFor (seen_of b) m → IsOrderly b → IsResult (seen_of b) m d → IsFoundAt b d

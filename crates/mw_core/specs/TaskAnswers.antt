@@ -1,11 +1,14 @@
 -- What START, a finished task and a refused task are answered, and do (own).
-use Rattle.std.specs.Prelude.{ℕ, ◌≡◌, ◌≤◌, ◌%◌}
+use Rattle.std.specs.Prelude.{ℕ, ◌≡◌, ◌<◌, ◌≤◌, ◌%◌, length}
+use Rattle.std.specs.List.{AllByRecursion}
 use Rattle.mw_model.specs.declared.tasks.TaskId.{TaskId}
 use Rattle.mw_model.specs.Machine.{Machine}
 use Rattle.mw_model.specs.Stands.{CoreView, ready_under, ready_count}
-use Rattle.mw_task.specs.WindowTasks.{WindowTask}
+use Rattle.mw_task.specs.WindowTasks.{IsBounded, WindowTask}
 use Rattle.mw_ledger.specs.mw_stands.TaskEvents.{Begins, Kills, Places, Settles, IsResult, IsOpen, IsSettled, IsUnderway}
 use Rattle.mw_ledger.specs.mw_stands.Turns.{IsAt}
+use Rattle.mw_ledger.specs.Books.{Book}
+use Rattle.mw_ledger.specs.Tasks.{PlacesAt, SettlesAt}
 use Rattle.mw_core.specs.declared.answers.Started.{Started}
 use Rattle.mw_core.specs.declared.answers.Started.TheVariants as started
 use Rattle.mw_core.specs.declared.answers.Finish.{Finish}
@@ -24,6 +27,21 @@ abbrev pub Picks : CoreView → ℕ → Started → Type 0
 Picks c place (started.Work w) = IsAt c (place % ready_count c) w.task.ticket
 Picks c place (started.Refused t) = IsAt c (place % ready_count c) t
 Picks c place started.Idle = Unit {0}
+
+-- no sample of the windows of a task that is handed out is over the maxval of its source
+abbrev pub StartsBounded : Started → Type 0
+StartsBounded (started.Work w) = AllByRecursion IsBounded w.windows
+StartsBounded s = Unit {0}
+
+-- If the task of its numbers is running, the result is that of it: so of every answer to a task that was taken from the core.
+abbrev pub IsOwn : CoreView → Machine → WindowTask → Type 0
+IsOwn c m d = d.task.ticket < length c.table.names → IsUnderway c d.task → IsResult c m d
+
+-- the ledger has taken the result, and it was the last of its ticket or not
+abbrev pub TakenAt : Book → WindowTask → Finish → Book → Type 0
+TakenAt old d finish.Placed new = PlacesAt old d new
+TakenAt old d (finish.Settled t) new = (t ≡ d.task.ticket) × SettlesAt old d new
+TakenAt old d f new = ⊥
 
 -- the result is taken, and is the last of its ticket or not; or it is late, or a stranger's
 abbrev pub Finishes : CoreView → Machine → WindowTask → Finish → CoreView → Type 0

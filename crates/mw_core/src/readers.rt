@@ -24,6 +24,13 @@ impl Core {
         self.ledger.store().keeps(t)
     }
 
+    /// The side of the tiles that its tasks make, in pixels.
+    pub fn side(&self) -> u32
+        ensures { result ≡ self.now.side }
+    {
+        self.ledger.side()
+    }
+
     /// How many items the log has.
     pub fn log_len(&self) -> usize
         ensures { result ≡ length self.now.log }

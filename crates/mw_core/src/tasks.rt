@@ -1,17 +1,46 @@
 //! Events on tasks: a worker takes one, brings its result, or tells that it found no memory.
 
 ghost use Rattle.std.specs.Prelude.{◌≡◌, ◌↔◌};
+ghost use Rattle.mw_ledger.specs.Books.{seen_of};
+ghost use Rattle.mw_ledger.specs.Counts.{AreCounts};
+ghost use Rattle.mw_ledger.specs.Tasks.{IsFitAt};
+ghost use Rattle.mw_core.specs.TaskAnswers.{TakenAt};
 
 use crate::answers::{Finish, Refusal, Started};
 use crate::machine::Core;
-use mw_ledger::Unfit;
+use mw_ledger::{Counts, Ledger, Unfit};
 use mw_model::{LogItem, NoMemory, Outcome};
 use mw_task::{TaskRefused, TileDone};
 
+/// Takes a result that fits a running task, whose ticket it settles where it is the last.
+fn take_result(ledger: &mut Ledger, counts: &mut Counts, done: TileDone) -> Finish
+    requires fits { IsFitAt ledger.old done }
+    requires counted { AreCounts (seen_of ledger.old) counts.old }
+    ensures taken { TakenAt ledger.old done result ledger.new }
+    ensures counted { AreCounts (seen_of ledger.new) counts.new }
+    ensures side { ledger.new.side ≡ ledger.old.side }
+{
+    ledger.sound();
+    let t = done.task().ticket;
+    let was = ledger.running_of(t);
+    match ledger.finish(done) {
+        None => {
+            counts.follow(ledger, t, was);
+            Finish::Placed
+        }
+        Some(waiters) => {
+            counts.settle(ledger, t, was, waiters.tickets());
+            Finish::Settled(t)
+        }
+    }
+}
+
 impl Core {
+    ghost use Rattle.std.specs.List.{AllByRecursion};
     ghost use Rattle.mw_model.specs.Machine.{Machine};
     ghost use Rattle.mw_model.specs.Stands.{StandsFor, ready_count};
-    ghost use Rattle.mw_core.specs.TaskAnswers.{Starts, Finishes, Refuses, Picks};
+    ghost use Rattle.mw_task.specs.WindowTasks.{IsBounded};
+    ghost use Rattle.mw_core.specs.TaskAnswers.{Starts, StartsBounded, Finishes, IsOwn, Refuses, Picks};
 
     /// A worker takes the ready task of this place. Places are counted from 0 in ticket order, and round again where
     /// there are fewer. `Idle` is answered exactly where no task is ready.
@@ -19,6 +48,7 @@ impl Core {
         ensures task { (m : Machine) → StandsFor self.old m → Starts self.old m result self.new }
         ensures idle { (m : Machine) → StandsFor self.old m → (result ≡ Started.Idle) ↔ (ready_count self.old ≡ 0) }
         ensures turn { Picks self.old place result }
+        ensures bounded { StartsBounded result }
         ensures side { self.new.side ≡ self.old.side }
     {
         let count = self.counts.ready();
@@ -51,20 +81,22 @@ impl Core {
     {
         self.ledger.sound();
         match self.ledger.check_result(&done) {
-            Ok(()) => {
-                let t = done.task().ticket;
-                let was = self.ledger.running_of(t);
-                match self.ledger.finish(done) {
-                    None => {
-                        self.counts.follow(&self.ledger, t, was);
-                        Finish::Placed
-                    }
-                    Some(waiters) => {
-                        self.counts.settle(&self.ledger, t, was, waiters.tickets());
-                        Finish::Settled(t)
-                    }
-                }
-            }
+            Ok(()) => take_result(&mut self.ledger, &mut self.counts, done),
+            Err(Unfit::Late) => Finish::Late,
+            Err(Unfit::Stranger) => Finish::Stranger,
+        }
+    }
+
+    /// The same of a result that is known to be the core's own, as who hands out its tasks can know: the samples of its
+    /// windows are not looked at. All else is tested as by `finish`.
+    pub fn finish_own(&mut self, done: TileDone) -> Finish
+        requires { AllByRecursion IsBounded done.windows }
+        ensures task { (m : Machine) → StandsFor self.old m → IsOwn self.old m done → Finishes self.old m done result self.new }
+        ensures side { self.new.side ≡ self.old.side }
+    {
+        self.ledger.sound();
+        match self.ledger.check_fit(&done) {
+            Ok(()) => take_result(&mut self.ledger, &mut self.counts, done),
             Err(Unfit::Late) => Finish::Late,
             Err(Unfit::Stranger) => Finish::Stranger,
         }

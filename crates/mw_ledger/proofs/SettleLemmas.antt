@@ -5,7 +5,7 @@ use Rattle.mw_model.specs.declared.calls.LogItem.TheVariants as item
 use Rattle.mw_model.specs.declared.calls.Outcome.TheVariants as outcome
 use Rattle.mw_model.specs.declared.shapes.Shape.{Shape}
 use Rattle.mw_model.specs.declared.tasks.TaskId.{TaskId}
-use Rattle.mw_model.specs.Values.{Value, image_of, value_at}
+use Rattle.mw_model.specs.Values.{Value}
 use Rattle.mw_model.specs.Refusals.{is_image, shape_at}
 use Rattle.mw_model.specs.Machine.{settled}
 use Rattle.mw_model.specs.Plans.{is_sum}
@@ -17,7 +17,7 @@ use Rattle.mw_underway.specs.mw_progress.ProgressView.{ProgressView, Fits, IsFin
 use Rattle.mw_underway.specs.mw_store.Stored.{DropsSpent}
 use Rattle.mw_underway.proofs.ResultLemmas.{result-fits}
 use Rattle.mw_ledger.specs.Books.{Book, IsOrderly, work_at}
-use Rattle.mw_ledger.specs.Tasks.{FinishesAt, IsResultAt, PlacesAt, SettlesAt, value_made}
+use Rattle.mw_ledger.specs.Tasks.{FinishesAt, IsFitAt, PlacesAt, SettlesAt, value_made}
 use Rattle.mw_ledger.proofs.OrderLemmas.{finished-goes_on, with_work, with-orderly}
 
 -- the ledger is in order with the work after a task of it was finished, where tasks are left
@@ -68,20 +68,19 @@ settles-at old mid d s after new x v e f is last shaped made told =
 -- ---- the work of a result
 
 -- the work that a look finds is the one that the result is of
-pub work-of : (b : Book) (d : WindowTask) (k : TaskId) (u : ProgressView) (r : IsResultAt b d) → k ≡ d.task → work_at b.works k.ticket ≡ Some u → u ≡ r.work
+pub work-of : (b : Book) (d : WindowTask) (k : TaskId) (u : ProgressView) (r : IsFitAt b d) → k ≡ d.task → work_at b.works k.ticket ≡ Some u → u ≡ r.work
 work-of b d k u r e there =
     let same = ap (λ (i : TaskId). work_at b.works i.ticket) e in
     let work = r.at.work in
     cc
 
-pub fits-at : (b : Book) (d : WindowTask) (k : TaskId) (u : ProgressView) (x : TileResult) (r : IsResultAt b d) → IsOrderly b → k ≡ d.task → u ≡ r.work → FitsStep d.step d.rect d.windows → IsMade d x → Fits u k.step k.tile x
-fits-at b d k u x r o e is fits made =
-    let allowed = (o.planned d.task.ticket r.work r.at.work).allowed in
+pub fits-at : (b : Book) (d : WindowTask) (k : TaskId) (u : ProgressView) (x : TileResult) (r : IsFitAt b d) → k ≡ d.task → u ≡ r.work → FitsStep d.step d.rect d.windows → IsMade d x → Fits u k.step k.tile x
+fits-at b d k u x r e is fits made =
     let Of : ProgressView → Type 0 = λ v. Fits v d.task.step d.task.tile x in
     let At : TaskId → Type 0 = λ i. Fits u i.step i.tile x in
-    subst At (sym e) (subst Of (sym is) (result-fits (image_of (value_at b.kept r.image)) r.work d x r.at.whole allowed r.result fits made))
+    subst At (sym e) (subst Of (sym is) (result-fits r.work d x r.at.whole r.fit fits made))
 
-pub finishes-at : (b : Book) (d : WindowTask) (k : TaskId) (u after : ProgressView) (x : TileResult) (r : IsResultAt b d) → k ≡ d.task → u ≡ r.work → IsMade d x → IsFinished u after (number_of u.progress k.step k.tile) (cells_of_made x)
+pub finishes-at : (b : Book) (d : WindowTask) (k : TaskId) (u after : ProgressView) (x : TileResult) (r : IsFitAt b d) → k ≡ d.task → u ≡ r.work → IsMade d x → IsFinished u after (number_of u.progress k.step k.tile) (cells_of_made x)
     → IsWhole after → FinishesAt b d after
 finishes-at b d k u after x r e is made f whole =
     let At : TaskId → Type 0 = λ i. IsFinished u after (number_of u.progress i.step i.tile) (cells_of_made x) in

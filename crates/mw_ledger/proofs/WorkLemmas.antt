@@ -4,10 +4,11 @@ use Rattle.std.specs.Prelude.{option_map}
 use Rattle.std.specs.Option.{option_map_or}
 use Rattle.std.proofs.Math.Seq.{take-append_seam}
 use Rattle.std.proofs.lemmas.List.{get_or_read, set-get_or}
+use Rattle.mw_model.specs.declared.calls.Outcome.TheVariants as outcome
 use Rattle.mw_model.specs.declared.submissions.Submission.{Submission}
 use Rattle.mw_model.specs.declared.tasks.TaskId.{TaskId}
 use Rattle.mw_model.specs.Values.{image_of, value_at}
-use Rattle.mw_model.specs.Refusals.{submission_at}
+use Rattle.mw_model.specs.Refusals.{outcome_at, submission_at}
 use Rattle.mw_model.specs.Stands.{may_run, progress_at, ready_under}
 use Rattle.mw_model.specs.Tasks.{Progress, is_running, ready_tasks, remaining_tasks}
 use Rattle.mw_grid.specs.Grids.{tile_count}
@@ -15,10 +16,10 @@ use Rattle.mw_task.specs.WindowTasks.{WindowTask}
 use Rattle.mw_underway.specs.mw_progress.ProgressView.{ProgressView, IsWhole, number_of}
 use Rattle.mw_underway.proofs.mw_work.Numbers.{length-tiles, number_of-numbers, number_of-within, some-whole, step_number-number_of, step_number-within, tile_number-number_of, tile_number-within}
 use Rattle.mw_underway.specs.mw_stands.TaskEvents.{IsUnderway}
-use Rattle.mw_underway.specs.Results.{IsFoundOf}
+use Rattle.mw_underway.specs.Results.{IsFitOf, IsFoundOf, IsResultOf}
 use Rattle.mw_underway.specs.SourceWindows.{Takes}
 use Rattle.mw_ledger.specs.Books.{Book, IsOrderly, progress_of, seen_of, work_at}
-use Rattle.mw_ledger.specs.Tasks.{IsAtWork, IsFoundAt, TakesAt}
+use Rattle.mw_ledger.specs.Tasks.{IsAtWork, IsFitAt, IsFoundAt, IsResultAt, TakesAt}
 use Rattle.mw_ledger.proofs.OrderLemmas.{GoesOn, started-goes_on, with_work}
 use Rattle.mw_ledger.proofs.SeenLemmas.{progress-seen, work-shown}
 
@@ -131,3 +132,22 @@ found-of b d k image u is there first whole f =
     let Read : ℕ → Type 0 = λ j. IsFoundOf (image_of (value_at b.kept j)) u d in
     let Of : ProgressView → Type 0 = λ v. IsWhole v → IsFoundOf (image_of (value_at b.kept f.image)) v d in
     subst Read i (subst Of w f.found whole)
+
+-- a result of the work and the image that a look finds is one of the work under its ticket
+pub fit-there : (b : Book) (d : WindowTask) (k : TaskId) (image : ℕ) (u : ProgressView) → k ≡ d.task → d.task.ticket < length b.table.names → outcome_at b.table.outcomes d.task.ticket ≡ outcome.Pending
+    → work_at b.works k.ticket ≡ Some u → (submission_at b.table.submissions k.ticket).inputs.a ≡ Some image → IsWhole u → IsFitOf u d → IsFitAt b d
+fit-there b d k image u is within pending there first whole fit =
+    let Work : TaskId → Type 0 = λ i. work_at b.works i.ticket ≡ Some u in
+    let First : TaskId → Type 0 = λ i. (submission_at b.table.submissions i.ticket).inputs.a ≡ Some image in
+    record {
+      work = u;
+      image = image;
+      at = record { within = within; work = subst Work is there; whole = whole; first = subst First is first };
+      pending = pending;
+      fit = fit;
+    }
+
+pub result-there : (b : Book) (d : WindowTask) (k : TaskId) (image : ℕ) (u : ProgressView) → k ≡ d.task → d.task.ticket < length b.table.names → outcome_at b.table.outcomes d.task.ticket ≡ outcome.Pending
+    → work_at b.works k.ticket ≡ Some u → (submission_at b.table.submissions k.ticket).inputs.a ≡ Some image → IsWhole u → IsResultOf (image_of (value_at b.kept image)) u d → IsResultAt b d
+result-there b d k image u is within pending there first whole r =
+    record { fits = fit-there b d k image u is within pending there first whole r.fit; task = r.task }

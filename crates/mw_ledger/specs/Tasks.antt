@@ -14,8 +14,8 @@ use Rattle.mw_task.specs.WindowTasks.{WindowTask}
 use Rattle.mw_underway.specs.mw_tiles.Filled.{filled}
 use Rattle.mw_underway.specs.mw_progress.ProgressView.{ProgressView, IsFinished, IsWhole, cells_of_made, numbers_of, plane_at}
 use Rattle.mw_underway.specs.mw_store.Stored.{DropsSpent}
-use Rattle.mw_underway.specs.Results.{IsFoundOf, IsResultOf, result_number}
-use Rattle.mw_underway.specs.SourceWindows.{Takes}
+use Rattle.mw_underway.specs.Results.{IsFitOf, IsFoundOf, result_number}
+use Rattle.mw_underway.specs.SourceWindows.{IsTaskOf, Takes}
 use Rattle.mw_ledger.specs.Books.{Book, work_at}
 
 -- There is work under the ticket, on the image under the first of its inputs.
@@ -35,15 +35,20 @@ pub record TakesAt (old : Book) (t : ℕ) (new : Book) (w : Option WindowTask) :
   pub takes : Takes (image_of (value_at old.kept image)) t before number after w
   pub book : new ≡ record old { works = slice_set old.works t (Some after) }
 
--- The result is that of a running task under a pending ticket, on what is kept.
-pub record IsResultAt (b : Book) (d : WindowTask) : Type 0 where
+-- The result is that of a running task under a pending ticket but for what its windows show, and what was made of it fits its place.
+pub record IsFitAt (b : Book) (d : WindowTask) : Type 0 where
   pub work : ProgressView
   pub image : ℕ
   pub at : IsAtWork b d.task.ticket work image
   pub pending : outcome_at b.table.outcomes d.task.ticket ≡ outcome.Pending
-  pub result : IsResultOf (image_of (value_at b.kept image)) work d
+  pub fit : IsFitOf work d
 
--- There are sources on which it is, where the work is whole, as all work of a ledger is.
+-- The result is that of a running task under a pending ticket, on what is kept.
+pub record IsResultAt (b : Book) (d : WindowTask) : Type 0 where
+  pub fits : IsFitAt b d
+  pub task : IsTaskOf (image_of (value_at b.kept fits.image)) d.task.ticket fits.work (result_number fits.work d) d
+
+-- There are sources on which a result is that of a running task, where the work is whole, as all work of a ledger is.
 pub record IsFoundAt (b : Book) (d : WindowTask) : Type 0 where
   pub work : ProgressView
   pub image : ℕ
@@ -55,7 +60,7 @@ pub record IsFoundAt (b : Book) (d : WindowTask) : Type 0 where
 
 -- The task of a result is finished, with what was made.
 pub record FinishesAt (old : Book) (d : WindowTask) (after : ProgressView) : Type 0 where
-  pub was : IsResultAt old d
+  pub was : IsFitAt old d
   pub made : TileResult
   pub is : IsMade d made
   pub finished : IsFinished was.work after (result_number was.work d) (cells_of_made made)

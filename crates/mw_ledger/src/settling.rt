@@ -37,11 +37,11 @@ impl Ledger {
     ghost use Rattle.mw_model.specs.Stands.{inputs_of};
     ghost use Rattle.mw_underway.specs.mw_store.Stored.{DropsSpent};
     ghost use Rattle.mw_ledger.specs.Books.{IsOrderly};
-    ghost use Rattle.mw_ledger.specs.Tasks.{FinishesAt, IsResultAt, PlacesAt, SettlesAt};
+    ghost use Rattle.mw_ledger.specs.Tasks.{FinishesAt, IsFitAt, PlacesAt, SettlesAt};
 
     /// Takes the work of a result's ticket away, and finishes the task in it.
     fn finished(&mut self, done: TileDone) -> PlanProgress
-        requires { IsResultAt self.old done }
+        requires { IsFitAt self.old done }
         ensures finishes { FinishesAt self.old done result }
         ensures book { self.new ≡ record self.old { works = slice_set self.old.works done.task.ticket None } }
         ensures order { 1 ≤ remaining_tasks result.progress → IsOrderly (record self.old { works = slice_set self.old.works done.task.ticket (Some result) }) }
@@ -79,7 +79,7 @@ impl Ledger {
     /// Takes a result. Where it is the last of its ticket, that is settled, and the tickets of those that waited for it are
     /// handed out. No memory is asked for.
     pub fn finish(&mut self, done: TileDone) -> Option<Waiters>
-        requires { IsResultAt self.old done }
+        requires { IsFitAt self.old done }
         ensures placed { result ≡ None → PlacesAt self.old done self.new }
         ensures settled { IfSome result (λ w. SettlesAt self.old done self.new) }
         ensures waiting { IfSome result (λ w. (u : ℕ) → u < length self.old.table.names → (is_pending (outcome_at self.old.table.outcomes u) && list_any (nat_eq done.task.ticket) (inputs_of self.old.table u)) ≡ true

@@ -5,7 +5,7 @@ ghost use Rattle.std.specs.Prelude.{◌≡◌, ◌<◌, ◌≤◌, ◌↔◌, le
 use crate::ledger::Ledger;
 use mw_model::{NoMemory, Outcome, TaskId};
 use mw_task::{TileDone, Work};
-use mw_underway::{begin, is_pending, is_result};
+use mw_underway::{begin, is_fit, is_pending, is_result};
 
 /// Why a task is not taken.
 #[derive(Clone, Copy, PartialEq, Eq, Debug)]
@@ -17,11 +17,13 @@ pub enum Unfit {
 }
 
 impl Ledger {
+    ghost use Rattle.std.specs.List.{AllByRecursion};
     ghost use Rattle.mw_model.specs.Refusals.{outcome_at};
     ghost use Rattle.mw_model.specs.Stands.{progress_at, ready_under};
+    ghost use Rattle.mw_task.specs.WindowTasks.{IsBounded};
     ghost use Rattle.mw_underway.specs.mw_stands.TaskEvents.{IsOpen, IsSettled, IsUnderway};
     ghost use Rattle.mw_ledger.specs.Books.{seen_of};
-    ghost use Rattle.mw_ledger.specs.Tasks.{IsFoundAt, IsResultAt, TakesAt};
+    ghost use Rattle.mw_ledger.specs.Tasks.{IsFitAt, IsFoundAt, IsResultAt, TakesAt};
 
     /// Takes the ready task of the ticket at this place of its order; None, and nothing taken, where it has no windows that
     /// fit its step.
@@ -82,6 +84,27 @@ impl Ledger {
         }
     }
 
+    /// The same but for what the windows show, which is not looked at.
+    fn has_fit(&self, done: &TileDone) -> bool
+        requires within { done.now.task.ticket < length self.now.table.names }
+        requires pending { outcome_at self.now.table.outcomes done.now.task.ticket ≡ Outcome.Pending }
+        requires bounded { AllByRecursion IsBounded done.now.windows }
+        ensures result { IsTrue result → IsFitAt self.now done.now }
+        ensures all { IsFoundAt self.now done.now → IsTrue result }
+    {
+        let t = done.task().ticket;
+        let Some(_image) = self.store.submission(t).inputs.a else {
+            return false;
+        };
+        match &self.works[t as usize] {
+            Some(work) => {
+                let _whole = work.remaining();
+                is_fit(work, done)
+            }
+            None => false,
+        }
+    }
+
     /// Whether the task of these numbers is running.
     fn is_underway(&self, task: TaskId) -> bool
         requires { task.ticket < length self.now.table.names }
@@ -105,6 +128,22 @@ impl Ledger {
     {
         self.check_ticket(done.task().ticket)?;
         if self.has_result(done) {
+            Ok(())
+        } else {
+            Err(Unfit::Stranger)
+        }
+    }
+
+    /// The same of a result on bounded windows, but for what they show, which is not looked at.
+    pub fn check_fit(&self, done: &TileDone) -> Result<(), Unfit>
+        requires { AllByRecursion IsBounded done.now.windows }
+        ensures ok { OnOk result (IsFitAt self.now done.now) }
+        ensures late { result ≡ Err Unfit.Late → IsSettled (seen_of self.now) done.now.task.ticket }
+        ensures open { result ≡ Err Unfit.Stranger → IsOpen (seen_of self.now) done.now.task.ticket }
+        ensures stranger { result ≡ Err Unfit.Stranger → IsFoundAt self.now done.now → ⊥ }
+    {
+        self.check_ticket(done.task().ticket)?;
+        if self.has_fit(done) {
             Ok(())
         } else {
             Err(Unfit::Stranger)

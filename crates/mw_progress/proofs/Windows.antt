@@ -51,14 +51,19 @@ place_of plan input g turns places step place whole lt was =
     let size : length (planes_shown g places) ≡ length plan = whole.planes in
     shown_at g places step ∙ ap (shown g) (sym (get_or_read places step place (omega (arith, size, length-map places (shown g))) was no_place))
 
+-- the place of a step that makes a plane is one of a plane, if it was opened
+pub no_sums : (plan : Plan) (input : Level) (g : Tiling) (turns : Turns) (places : List Place) (step : ℕ) (place : Place) → IsWhole (underway_kept plan input g turns places) → IsPlaced plan g turns.board.started places
+    → step < length plan → is_sum (get_or plan step nothing_planned).step ≡ false → place ≡ get_or places step place → form place ≢ 2
+no_sums plan input g turns places step place whole placed lt plane was =
+    let size : length (planes_shown g places) ≡ length plan = whole.planes in
+    let there : step < length places = omega (arith, lt, size, length-map places (shown g)) in
+    subst (λ (p : Place). form p ≢ 2) (sym (get_or_read places step place there was no_place)) (subst (λ (b : Bool). IsFormOf b (form (place_at places step))) plane (placed.forms step lt))
+
 -- the place is that of a plane
 pub is_open : (plan : Plan) (input : Level) (g : Tiling) (turns : Turns) (places : List Place) (step : ℕ) (rect : Rect) (place : Place) → IsWhole (underway_kept plan input g turns places) → IsPlaced plan g turns.board.started places
     → Asked (underway_kept plan input g turns places) step rect → place ≡ get_or places step place → ((p : Tiled) → place ≡ Plane p → ⊥) → ⊥
 is_open plan input g turns places step rect place whole placed asked was h =
-    let size : length (planes_shown g places) ≡ length plan = whole.planes in
-    let lt : step < length places = omega (arith, asked.known, size, length-map places (shown g)) in
-    let two : form place ≢ 2 = subst (λ (p : Place). form p ≢ 2) (sym (get_or_read places step place lt was no_place)) (subst (λ (b : Bool). IsFormOf b (form (place_at places step))) asked.plane (placed.forms step asked.known)) in
-    let c = no_form place h two in
+    let c = no_form place h (no_sums plan input g turns places step place whole placed asked.known asked.plane was) in
     no_rect g c.0 rect whole.tiling asked.wide asked.high asked.within
     (subst (λ (p : Tiled). HasAll g p.tiles rect) (place_of plan input g turns places step place whole asked.known was ∙ ap (shown g) c.1) asked.placed)
 

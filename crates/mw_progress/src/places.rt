@@ -75,6 +75,18 @@ impl Place {
         }
     }
 
+    /// The kind and maxval of the plane.
+    pub(crate) fn level(&self, grid: Grid) -> PlaneLevel
+        requires { form self.now ≢ 2 }
+        ensures { result ≡ level_of_plane (shown grid self.now) }
+    {
+        match self {
+            Place::Closed(level) => *level,
+            Place::Plane(plane) => PlaneLevel::new(plane.kind(), plane.maxval()),
+            Place::Sums(_) => unreachable!(),
+        }
+    }
+
     /// The sum of the numbers of the tiles; of a place that was not opened, 0.
     pub(crate) fn total(&self, grid: Grid) -> u64
         requires { form self.now ≢ 1 }

@@ -228,6 +228,17 @@ impl PlanProgress {
         self.ready.is_running(step, tile)
     }
 
+    /// The kind and maxval of the plane of a step.
+    pub fn level(&self, step: u32) -> (Kind, u16)
+        requires step { step < length self.now.progress.plan }
+        requires plane { is_sum (slice_index_or self.now.progress.plan step nothing_planned).step ≡ false }
+        ensures kind { result.0 ≡ (plane_at self.now step).kind }
+        ensures maxval { result.1 ≡ (plane_at self.now step).maxval }
+    {
+        let level = self.places[step as usize].level(self.grid);
+        (level.kind(), level.maxval())
+    }
+
     /// The window of a rectangle in the plane of a step, of which each tile that meets the rectangle is placed, as one
     /// more owner of those tiles.
     ///

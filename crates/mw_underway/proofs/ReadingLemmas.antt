@@ -1,11 +1,11 @@
 -- What a ready or running task reads is there.
 use Rattle.std.proofs.Common.{◌≡◌, ℕ, ◌<◌, ◌≤◌, List, [], ◌∷◌, map, get_or, Option, Some, None, refl, sym, ap, ◌∙◌, subst, arith}
-use Rattle.std.specs.Prelude.{IfSome, IsSome, ◌↔◌}
-use Rattle.std.specs.List.{Contains}
+use Rattle.std.specs.Prelude.{IfOk, IfSome, IsSome, ◌↔◌, Result, Ok, Err, option_map}
+use Rattle.std.specs.List.{AllByRecursion, Contains}
 use Rattle.mw_facts.proofs.Finds.{contains-cons}
 use Rattle.mw_model.specs.declared.places.Reach.{Reach}
 use Rattle.mw_model.specs.declared.places.Rect.{Rect}
-use Rattle.mw_model.specs.Pictures.{Picture}
+use Rattle.mw_model.specs.Pictures.{IsPicture, Picture}
 use Rattle.mw_model.specs.Places.{grown, IsWithin}
 use Rattle.mw_model.specs.Elements.{reach_of}
 use Rattle.mw_model.specs.PlanSteps.{PlanStep, looks_at}
@@ -13,13 +13,15 @@ use Rattle.mw_model.specs.Plans.{Planned, Source, FromInput, FromStep}
 use Rattle.mw_model.specs.Tasks.{nothing_planned, place_read, planned_of, place_of_task, task_count}
 use Rattle.mw_grid.specs.Grids.{Tiling, tile_at, tile_count}
 use Rattle.mw_grid.proofs.Tiles.{HasTiles, tile_begins, tile_within}
-use Rattle.mw_task.specs.WindowTasks.{FitsStep, WindowTask}
+use Rattle.mw_task.proofs.Cut.{window_bounded_cut}
+use Rattle.mw_task.specs.Sources.{HasFrame}
+use Rattle.mw_task.specs.WindowTasks.{FitsStep, IsBounded, WindowTask}
 use Rattle.mw_tile.specs.Windows.{SourceWindow, window_of}
 use Rattle.mw_stands.specs.mw_progress.ProgressView.{ProgressView, IsWhole, number_of}
 use Rattle.mw_stands.specs.mw_work.Works.{IsReadyOrRuns}
 use Rattle.mw_stands.proofs.mw_work.Reading.{source-placed, source-plane, source-within}
 use Rattle.mw_stands.proofs.mw_work.Windows.{place_of_task-number_of, task_of-number_of}
-use Rattle.mw_underway.specs.SourceWindows.{AreSources, CanRead, CanReadAll, IsTaskOrNone, task_on}
+use Rattle.mw_underway.specs.SourceWindows.{AreSources, CanRead, CanReadAll, IsOfWork, IsTaskOrNone, task_on}
 
 -- a rectangle in a frame that has a place still has one when it is grown
 pub grown-some : (w h : ℕ) (r : Reach) (t : Rect) → IsWithin t w h → 1 ≤ t.width → 1 ≤ t.height → (1 ≤ (grown w h r t).width) × (1 ≤ (grown w h r t).height)
@@ -38,6 +40,28 @@ pub task-can-read : (u : ProgressView) (n : ℕ) → IsWhole u → n < task_coun
 task-can-read u n whole within runs =
     let ss = (planned_of u.progress n).sources in
     can-read u (place_of_task u.progress n) ss ss (λ s has. has) (λ k has. (source-within u n k whole within has, source-plane u n k whole has, source-placed u n k whole within runs has))
+
+-- its sources are those of the work
+pub read-of-work : (u : ProgressView) (place : Rect) (ss : List Source) → CanReadAll u place ss → AllByRecursion (IsOfWork u) ss
+read-of-work u place [] reads = tt
+read-of-work u place (FromInput i ∷ ss) reads = (tt, read-of-work u place ss reads.1)
+read-of-work u place (FromStep k ∷ ss) reads = ((reads.0.0, reads.0.1), read-of-work u place ss reads.1)
+
+-- the window of an image that is kept is bounded
+bounded-some : (image : Option Picture) (place : Rect) (w h : ℕ) (o : Option SourceWindow) → IfSome image (HasFrame w h) → IfSome image IsPicture → IsWithin place w h → o ≡ option_map (window_of place) image → IfSome o IsBounded
+bounded-some None place w h o frame picture within is =
+    let Bounded : Option SourceWindow → Type 0 = λ x. IfSome x IsBounded in
+    subst Bounded (sym is) tt
+bounded-some (Some f) place w h o frame picture within is =
+    let Bounded : Option SourceWindow → Type 0 = λ x. IfSome x IsBounded in
+    let Wide : ℕ → Type 0 = λ x. IsWithin place x f.height in
+    let High : ℕ → Type 0 = λ y. IsWithin place w y in
+    subst Bounded (sym is) (window_bounded_cut f place picture (subst Wide (sym frame.width) (subst High (sym frame.height) within)))
+
+pub window-bounded : {E : Type 0} (image : Option Picture) (place : Rect) (w h : ℕ) (r : Result (Option SourceWindow) E) → IfSome image (HasFrame w h) → IfSome image IsPicture → IsWithin place w h
+    → IfOk r (λ o. o ≡ option_map (window_of place) image) → IfOk r (λ o. IfSome o IsBounded)
+window-bounded image place w h (Ok o) frame picture within is = bounded-some image place w h o frame picture within is
+window-bounded image place w h (Err e) frame picture within is = tt
 
 -- ---- the parts of a task
 
@@ -60,12 +84,14 @@ task-is t u step tile g r s q ws fs whole inside grid planned same rect windows 
 
 -- a task is made exactly of windows that fit
 pub task-or-none : (image : Option Picture) (t : ℕ) (u : ProgressView) (n : ℕ) (w : Option WindowTask) (d : WindowTask) → IsSome w ↔ FitsStep d.step d.rect d.windows → IfSome w (λ x. x ≡ d) → d.task.ticket ≡ t
-    → ((fs : List Picture) → AreSources image u (planned_of u.progress n).sources fs → d ≡ task_on t u n fs) → IsTaskOrNone image t u n w
-task-or-none image t u n None d fits value ticket is = λ fs sources read.
+    → AllByRecursion IsBounded d.windows → ((fs : List Picture) → AreSources image u (planned_of u.progress n).sources fs → d ≡ task_on t u n fs) → IsTaskOrNone image t u n w
+task-or-none image t u n None d fits value ticket bounded is = λ fs sources read.
     let P : WindowTask → Type 0 = λ x. FitsStep x.step x.rect x.windows in
     let no = fits.1 (subst P (sym (is fs sources)) read) in
     absurd cc
-task-or-none image t u n (Some w) d fits value ticket is = (λ fs sources. value ∙ is fs sources, ap (λ (x : WindowTask). x.task.ticket) value ∙ ticket)
+task-or-none image t u n (Some w) d fits value ticket bounded is =
+    let Bounded : WindowTask → Type 0 = λ x. AllByRecursion IsBounded x.windows in
+    (λ fs sources. value ∙ is fs sources, ap (λ (x : WindowTask). x.task.ticket) value ∙ ticket, subst Bounded (sym value) bounded)
 
 -- the rectangle that is read has a place
 pub place-some : (u : ProgressView) (tile : ℕ) (g : Tiling) (r : Reach) (place : Rect) → IsWhole u → tile < tile_count u.tiling → g ≡ u.tiling → place ≡ grown g.width g.height r (tile_at g tile)

@@ -12,7 +12,7 @@ use Rattle.mw_model.specs.Elements.{reach_of}
 use Rattle.mw_model.specs.Machine.{Machine}
 use Rattle.mw_model.specs.Pictures.{Picture, IsPicture}
 use Rattle.mw_model.specs.Places.{IsWithin, grown}
-use Rattle.mw_model.specs.PlanSteps.{PlanStep, looks_at}
+use Rattle.mw_model.specs.PlanSteps.{PlanStep, kind_of_step, looks_at, maxval_of_step}
 use Rattle.mw_model.specs.Plans.{Plan, Planned, Source, FromInput, FromStep, IsSourceAt, images_of, planes}
 use Rattle.mw_model.specs.Refusals.{Table, outcome_at, submission_at}
 use Rattle.mw_model.specs.Stands.{CoreView, StandsFor, inputs_there, input_values, progress_at, true_planes}
@@ -39,12 +39,12 @@ use Rattle.mw_stands.proofs.mw_work.Truth.{plane-true, plane_at-level}
 use Rattle.mw_stands.specs.TaskEvents.{IsResult}
 use Rattle.mw_stands.proofs.StandsLemmas.{stands-sound}
 use Rattle.mw_stands.proofs.TaskLemmas.{work-of}
-use Rattle.mw_underway.specs.Planning.{IsAllowed, IsPlannedAt, levels_read}
-use Rattle.mw_underway.specs.Results.{AreShown, HasLevel, IsFoundOf, IsResultOf, IsShown, level_of_window, result_number}
-use Rattle.mw_underway.specs.SourceWindows.{AreSources, CanReadAll, task_on}
+use Rattle.mw_underway.specs.Planning.{IsPlannedAt, levels_read}
+use Rattle.mw_underway.specs.Results.{AreShown, HasLevel, IsFitOf, IsFoundOf, IsOfRunning, IsResultOf, IsShown, level_of_window, result_number}
+use Rattle.mw_underway.specs.SourceWindows.{AreSources, CanReadAll, IsOfWork, IsSource, task_on}
 use Rattle.mw_underway.proofs.AllowedLemmas.{planes-levels}
 use Rattle.mw_underway.proofs.PlannedAtLemmas.{level-is, planned-at}
-use Rattle.mw_underway.proofs.ReadingLemmas.{place-is, task-can-read, task-is}
+use Rattle.mw_underway.proofs.ReadingLemmas.{place-is, read-of-work, task-can-read, task-is}
 use Rattle.mw_underway.proofs.SourceTrueLemmas.{ReadsKept, reads-kept, sources-true}
 
 -- ---- the window of a source
@@ -103,36 +103,6 @@ shown-bounded image u place (s ∷ ss) (w ∷ ws) shown = (shown.0.bounded, show
 
 -- ---- a result, part by part
 
--- what is looked up of the work for a result: its tiles, its step, and the rectangle that it reads
-pub record IsLookedUp (u : ProgressView) (d : WindowTask) (g : Tiling) (q : Planned) (place : Rect) : Type 0 where
-  pub whole : IsWhole u
-  pub grid : g ≡ u.tiling
-  pub planned : q ≡ get_or u.progress.plan d.task.step nothing_planned
-  pub reads : place ≡ place_of_task u.progress (result_number u d)
-  pub within : d.task.step < length u.progress.plan
-  pub inside : d.task.tile < tile_count u.tiling
-  pub running : is_running u.progress (result_number u d) ≡ true
-
--- the same of what was asked of the work, by the numbers that the result bears
-pub looked-up : (u : ProgressView) (d : WindowTask) (id : TaskId) (g : Tiling) (r : Reach) (q : Planned) (place : Rect) → id ≡ d.task → IsWhole u → g ≡ u.tiling → q ≡ get_or u.progress.plan id.step nothing_planned
-    → r ≡ reach_of (looks_at q.step) → place ≡ grown g.width g.height r (tile_at g id.tile)
-    → (id.step < length u.progress.plan) × (id.tile < tile_count u.tiling) × (is_running u.progress (number_of u.progress id.step id.tile) ≡ true) → IsLookedUp u d g q place
-looked-up u d id g r q place same whole grid planned reach is runs =
-    let Planned-as : TaskId → Type 0 = λ k. q ≡ get_or u.progress.plan k.step nothing_planned in
-    let Place-of : TaskId → Type 0 = λ k. place ≡ grown g.width g.height r (tile_at g k.tile) in
-    let Runs : TaskId → Type 0 = λ k. (k.step < length u.progress.plan) × (k.tile < tile_count u.tiling) × (is_running u.progress (number_of u.progress k.step k.tile) ≡ true) in
-    let own = subst Planned-as same planned in
-    let running = subst Runs same runs in
-    record {
-      whole = whole;
-      grid = grid;
-      planned = own;
-      reads = place-is u d.task.step d.task.tile g r q place whole running.1 grid own reach (subst Place-of same is);
-      within = running.0;
-      inside = running.1;
-      running = running.2;
-    }
-
 counted-in : (u : ProgressView) (d : WindowTask) → IsWhole u → d.task.tile < tile_count u.tiling → d.task.tile < length u.progress.tiles
 counted-in u d whole inside = omega (arith, inside, length-tiles u whole)
 
@@ -140,28 +110,130 @@ counted-in u d whole inside = omega (arith, inside, length-tiles u whole)
 planned-is : (u : ProgressView) (d : WindowTask) → IsWhole u → d.task.tile < tile_count u.tiling → planned_of u.progress (result_number u d) ≡ get_or u.progress.plan d.task.step nothing_planned
 planned-is u d whole inside = planned_of-number_of u.progress d.task.step d.task.tile (counted-in u d whole inside)
 
-pub result-of : (image : Option Picture) (u : ProgressView) (d : WindowTask) (g : Tiling) (q : Planned) (place : Rect) → IsLookedUp u d g q place → d.rect ≡ tile_at g d.task.tile → d.step ≡ q.step
-    → AreShown image u place q.sources d.windows → IsResultOf image u d
-result-of image u d g q place at rect step shown =
-    let n = result_number u d in
-    let k = d.task.step in
-    let planned : planned_of u.progress n ≡ q = planned-is u d at.whole at.inside ∙ sym at.planned in
-    let Of : List Picture → Planned → Type 0 = λ fs x. AreSources image u x.sources fs in
+-- a result bears the numbers of a running task, by what was asked of the work
+pub of-running : (u : ProgressView) (d : WindowTask) (id : TaskId) (g : Tiling) (q : Planned) (r : Rect) → id ≡ d.task → IsWhole u → g ≡ u.tiling → q ≡ get_or u.progress.plan id.step nothing_planned → r ≡ tile_at g id.tile
+    → (id.step < length u.progress.plan) × (id.tile < tile_count u.tiling) × (is_running u.progress (number_of u.progress id.step id.tile) ≡ true) → d.rect ≡ r → d.step ≡ q.step → IsOfRunning u d
+of-running u d id g q r same whole grid planned at runs rect step =
+    let Planned-as : TaskId → Type 0 = λ k. q ≡ get_or u.progress.plan k.step nothing_planned in
+    let At : TaskId → Type 0 = λ k. r ≡ tile_at g k.tile in
+    let Runs : TaskId → Type 0 = λ k. (k.step < length u.progress.plan) × (k.tile < tile_count u.tiling) × (is_running u.progress (number_of u.progress k.step k.tile) ≡ true) in
+    let own = subst Runs same runs in
     record {
-      within = at.within;
-      inside = at.inside;
-      running = at.running;
-      step = step ∙ ap (λ (x : Planned). x.step) (sym planned);
-      rect = rect ∙ ap (λ (x : Tiling). tile_at x d.task.tile) at.grid ∙ sym (tile_of_task-number_of u k d.task.tile at.whole at.inside);
-      task = λ fs sources. task-is d.task.ticket u k d.task.tile g d.rect d.step q d.windows fs at.whole at.inside at.grid at.planned step rect
-          (shown-windows image u place q.sources d.windows fs shown (subst (Of fs) planned sources) ∙ ap (λ (r : Rect). map (window_of r) fs) at.reads);
-      levels = shown-levels image u place q.sources d.windows shown ∙ ap (λ (x : Planned). map (level_of_source u.input (levels u.progress.plan u.input)) x.sources) at.planned;
-      bounded = shown-bounded image u place q.sources d.windows shown;
+      within = own.0;
+      inside = own.1;
+      running = own.2;
+      step = step ∙ ap (λ (x : Planned). x.step) (subst Planned-as same planned ∙ sym (planned-is u d whole own.1));
+      rect = rect ∙ subst At same at ∙ ap (λ (x : Tiling). tile_at x d.task.tile) grid ∙ sym (tile_of_task-number_of u d.task.step d.task.tile whole own.1);
     }
 
-pub found-rect : (image : Option Picture) (u : ProgressView) (d : WindowTask) (g : Tiling) → IsWhole u → g ≡ u.tiling → IsFoundOf image u d → d.rect ≡ tile_at g d.task.tile
-found-rect image u d g whole grid found =
-    ap (λ (x : WindowTask). x.rect) found.is ∙ tile_of_task-number_of u d.task.step d.task.tile whole found.inside ∙ ap (λ (x : Tiling). tile_at x d.task.tile) (sym grid)
+-- and what was asked of the work is what such a result bears
+pub running-of : (u : ProgressView) (d : WindowTask) (id : TaskId) → id ≡ d.task → IsOfRunning u d
+    → (id.step < length u.progress.plan) × (id.tile < tile_count u.tiling) × (is_running u.progress (number_of u.progress id.step id.tile) ≡ true)
+running-of u d id same of =
+    let Runs : TaskId → Type 0 = λ k. (k.step < length u.progress.plan) × (k.tile < tile_count u.tiling) × (is_running u.progress (number_of u.progress k.step k.tile) ≡ true) in
+    subst Runs (sym same) (of.within, of.inside, of.running)
+
+pub rect-of : (u : ProgressView) (d : WindowTask) (id : TaskId) (g : Tiling) (r : Rect) → id ≡ d.task → IsWhole u → g ≡ u.tiling → r ≡ tile_at g id.tile → IsOfRunning u d → d.rect ≡ r
+rect-of u d id g r same whole grid at of =
+    let At : TaskId → Type 0 = λ k. r ≡ tile_at g k.tile in
+    of.rect ∙ tile_of_task-number_of u d.task.step d.task.tile whole of.inside ∙ ap (λ (x : Tiling). tile_at x d.task.tile) (sym grid) ∙ sym (subst At same at)
+
+pub step-of : (u : ProgressView) (d : WindowTask) (id : TaskId) (q : Planned) → id ≡ d.task → IsWhole u → q ≡ get_or u.progress.plan id.step nothing_planned → IsOfRunning u d → d.step ≡ q.step
+step-of u d id q same whole planned of =
+    let Planned-as : TaskId → Type 0 = λ k. q ≡ get_or u.progress.plan k.step nothing_planned in
+    of.step ∙ ap (λ (x : Planned). x.step) (planned-is u d whole of.inside ∙ sym (subst Planned-as same planned))
+
+-- what is looked up of the work for a result: its step, and the rectangle that it reads
+pub record IsLookedUp (u : ProgressView) (d : WindowTask) (q : Planned) (place : Rect) : Type 0 where
+  pub whole : IsWhole u
+  pub planned : q ≡ get_or u.progress.plan d.task.step nothing_planned
+  pub reads : place ≡ place_of_task u.progress (result_number u d)
+  pub of : IsOfRunning u d
+
+-- the same of what was asked of the work, by the numbers that the result bears
+pub looked-up : (u : ProgressView) (d : WindowTask) (id : TaskId) (g : Tiling) (r : Reach) (q : Planned) (place : Rect) → id ≡ d.task → IsWhole u → g ≡ u.tiling → q ≡ get_or u.progress.plan id.step nothing_planned
+    → r ≡ reach_of (looks_at q.step) → place ≡ grown g.width g.height r (tile_at g id.tile) → IsOfRunning u d → IsLookedUp u d q place
+looked-up u d id g r q place same whole grid planned reach is of =
+    let Planned-as : TaskId → Type 0 = λ k. q ≡ get_or u.progress.plan k.step nothing_planned in
+    let Place-of : TaskId → Type 0 = λ k. place ≡ grown g.width g.height r (tile_at g k.tile) in
+    let own = subst Planned-as same planned in
+    record {
+      whole = whole;
+      planned = own;
+      reads = place-is u d.task.step d.task.tile g r q place whole of.inside grid own reach (subst Place-of same is);
+      of = of;
+    }
+
+first-of : (ls ks : List Level) → ls ≡ ks → get_or ls 0 no_level ≡ get_or ks 0 no_level
+first-of ls ks e = ap (λ (xs : List Level). get_or xs 0 no_level) e
+
+pub result-of : (image : Option Picture) (u : ProgressView) (d : WindowTask) (q : Planned) (place : Rect) → IsLookedUp u d q place → AreShown image u place q.sources d.windows → IsResultOf image u d
+result-of image u d q place at shown =
+    let n = result_number u d in
+    let k = d.task.step in
+    let of = at.of in
+    let planned : planned_of u.progress n ≡ q = planned-is u d at.whole of.inside ∙ sym at.planned in
+    let Of : List Picture → Planned → Type 0 = λ fs x. AreSources image u x.sources fs in
+    let rect = of.rect ∙ tile_of_task-number_of u k d.task.tile at.whole of.inside in
+    let step = of.step ∙ ap (λ (x : Planned). x.step) planned in
+    record {
+      fit = record {
+        of = of;
+        level = first-of _ _ (shown-levels image u place q.sources d.windows shown ∙ ap (λ (x : Planned). map (level_of_source u.input (levels u.progress.plan u.input)) x.sources) at.planned);
+        bounded = shown-bounded image u place q.sources d.windows shown;
+      };
+      task = λ fs sources. task-is d.task.ticket u k d.task.tile u.tiling d.rect d.step q d.windows fs at.whole of.inside refl at.planned step rect
+          (shown-windows image u place q.sources d.windows fs shown (subst (Of fs) planned sources) ∙ ap (λ (r : Rect). map (window_of r) fs) at.reads);
+    }
+
+-- a result that bears the numbers of a running task and begins with its level
+pub fit-of : (u : ProgressView) (d : WindowTask) (q : Planned) → IsOfRunning u d → q ≡ get_or u.progress.plan d.task.step nothing_planned
+    → get_or (map level_of_window d.windows) 0 no_level ≡ get_or (map (level_of_source u.input (levels u.progress.plan u.input)) q.sources) 0 no_level → AllByRecursion IsBounded d.windows → IsFitOf u d
+fit-of u d q of planned level bounded =
+    record { of = of; level = level ∙ ap (λ (x : Planned). get_or (map (level_of_source u.input (levels u.progress.plan u.input)) x.sources) 0 no_level) planned; bounded = bounded }
+
+-- the step of such a result reads sources of the work
+pub of-work : (u : ProgressView) (d : WindowTask) (q : Planned) → IsWhole u → IsOfRunning u d → q ≡ get_or u.progress.plan d.task.step nothing_planned → AllByRecursion (IsOfWork u) q.sources
+of-work u d q whole of planned =
+    let n = result_number u d in
+    let known = number_of-within u.progress d.task.step d.task.tile of.within (counted-in u d whole of.inside) in
+    let Of : Planned → Type 0 = λ x. AllByRecursion (IsOfWork u) x.sources in
+    subst Of (planned-is u d whole of.inside ∙ sym planned) (read-of-work u (place_of_task u.progress n) (planned_of u.progress n).sources (task-can-read u n whole known (inr of.running)))
+
+-- ---- a result that is found
+
+pub found-of-running : (image : Option Picture) (u : ProgressView) (d : WindowTask) → IsFoundOf image u d → IsOfRunning u d
+found-of-running image u d found =
+    record { within = found.within; inside = found.inside; running = found.running; step = ap (λ (x : WindowTask). x.step) found.is; rect = ap (λ (x : WindowTask). x.rect) found.is }
+
+-- a source has the level that is read there
+level-source : (image : Option Picture) (u : ProgressView) (s : Source) (f : Picture) → IsWhole u → HasLevel image u → IsOfWork u s → IsSource image u s f → level_of f ≡ level_of_source u.input (levels u.progress.plan u.input) s
+level-source image u (FromInput k) f whole level of source =
+    let Has : Option Picture → Type 0 = λ o. HasLevel o u in
+    subst Has source.0 level
+level-source image u (FromStep k) f whole level of source =
+    let same : level_of f ≡ level_of_plane (plane_at u k) = λ i. record { kind = source.kind i; maxval = source.maxval i } in
+    same ∙ plane_at-level u k whole of.0
+
+levels-sources : (image : Option Picture) (u : ProgressView) (place : Rect) (ss : List Source) (fs : List Picture) → IsWhole u → HasLevel image u → AllByRecursion (IsOfWork u) ss → AreSources image u ss fs
+    → map level_of_window (map (window_of place) fs) ≡ map (level_of_source u.input (levels u.progress.plan u.input)) ss
+levels-sources image u place [] [] whole level of sources = refl
+levels-sources image u place [] (f ∷ fs) whole level of sources = absurd sources
+levels-sources image u place (s ∷ ss) [] whole level of sources = absurd sources
+levels-sources image u place (s ∷ ss) (f ∷ fs) whole level of sources =
+    let first = level-source image u s f whole level of.0 sources.0 in
+    let rest = levels-sources image u place ss fs whole level of.1 sources.1 in
+    λ i. first i ∷ rest i
+
+-- the windows of a result that is found have the levels that its step reads
+pub found-levels : (image : Option Picture) (u : ProgressView) (d : WindowTask) (q : Planned) → IsWhole u → q ≡ get_or u.progress.plan d.task.step nothing_planned → IsFoundOf image u d
+    → map level_of_window d.windows ≡ map (level_of_source u.input (levels u.progress.plan u.input)) q.sources
+found-levels image u d q whole planned found =
+    let n = result_number u d in
+    let of = of-work u d q whole (found-of-running image u d found) planned in
+    let Of : Planned → Type 0 = λ x. AreSources image u x.sources found.sources in
+    let sources = subst Of (planned-is u d whole found.inside ∙ sym planned) found.are in
+    ap (λ (x : WindowTask). map level_of_window x.windows) found.is ∙ levels-sources image u (place_of_task u.progress n) q.sources found.sources whole found.level of sources
 
 pub found-sources : (image : Option Picture) (u : ProgressView) (d : WindowTask) (q : Planned) → IsWhole u → q ≡ get_or u.progress.plan d.task.step nothing_planned → (found : IsFoundOf image u d) → AreSources image u q.sources found.sources
 found-sources image u d q whole planned found =
@@ -172,13 +244,14 @@ pub found-windows : (image : Option Picture) (u : ProgressView) (d : WindowTask)
 found-windows image u d place is found = ap (λ (x : WindowTask). x.windows) found.is ∙ ap (λ (r : Rect). map (window_of r) found.sources) (sym is)
 
 -- what the task reads is there
-pub looked-up-there : (u : ProgressView) (d : WindowTask) (g : Tiling) (q : Planned) (place : Rect) → IsLookedUp u d g q place → CanReadAll u place q.sources
-looked-up-there u d g q place at =
+pub looked-up-there : (u : ProgressView) (d : WindowTask) (q : Planned) (place : Rect) → IsLookedUp u d q place → CanReadAll u place q.sources
+looked-up-there u d q place at =
     let n = result_number u d in
-    let known = number_of-within u.progress d.task.step d.task.tile at.within (counted-in u d at.whole at.inside) in
+    let of = at.of in
+    let known = number_of-within u.progress d.task.step d.task.tile of.within (counted-in u d at.whole of.inside) in
     let At : Rect → Type 0 = λ r. CanReadAll u r (planned_of u.progress n).sources in
     let Of : Planned → Type 0 = λ x. CanReadAll u place x.sources in
-    subst Of (planned-is u d at.whole at.inside ∙ sym at.planned) (subst At (sym at.reads) (task-can-read u n at.whole known (inr at.running)))
+    subst Of (planned-is u d at.whole of.inside ∙ sym at.planned) (subst At (sym at.reads) (task-can-read u n at.whole known (inr of.running)))
 
 -- ---- what was made
 
@@ -210,21 +283,22 @@ level-made d =
     sym (ap (λ (l : Level). level_of_step d.step (l ∷ [])) first)
 
 -- what was made of a result fits its step and its tile
-pub result-fits : (image : Option Picture) (u : ProgressView) (d : WindowTask) (x : TileResult) → IsWhole u → IsAllowed u.progress.plan u.input → IsResultOf image u d → FitsStep d.step d.rect d.windows → IsMade d x
-    → Fits u d.task.step d.task.tile x
-result-fits image u d x whole allowed r fits is =
+pub result-fits : (u : ProgressView) (d : WindowTask) (x : TileResult) → IsWhole u → IsFitOf u d → FitsStep d.step d.rect d.windows → IsMade d x → Fits u d.task.step d.task.tile x
+result-fits u d x whole r fits is =
     let k = d.task.step in
     let plan = u.progress.plan in
-    let same : d.step ≡ (get_or plan k nothing_planned).step = r.step ∙ ap (λ (q : Planned). q.step) (planned-is u d whole r.inside) in
+    let of = r.of in
+    let same : d.step ≡ (get_or plan k nothing_planned).step = of.step ∙ ap (λ (q : Planned). q.step) (planned-is u d whole of.inside) in
+    let Made : Level → Level = λ l. record { kind = kind_of_step (get_or plan k nothing_planned).step l.kind; maxval = maxval_of_step (get_or plan k nothing_planned).step l.maxval } in
     let read : level_of (tile_made d) ≡ level_of_step (get_or plan k nothing_planned).step (levels_read plan u.input k)
-    = level-made d ∙ ap (λ (s : PlanStep). level_of_step s (map level_of_window d.windows)) same ∙ ap (level_of_step (get_or plan k nothing_planned).step) r.levels in
+    = level-made d ∙ ap (λ (s : PlanStep). level_of_step s (map level_of_window d.windows)) same ∙ ap Made r.level in
     fits-made u k d.task.tile d x whole
     (record {
-      within = r.within;
-      inside = r.inside;
+      within = of.within;
+      inside = of.inside;
       same = same;
-      rect = r.rect ∙ tile_of_task-number_of u k d.task.tile whole r.inside;
-      level = read ∙ sym (levels-step plan u.input k whole.workable.sources r.within) ∙ sym (plane_at-level u k whole r.within);
+      rect = of.rect ∙ tile_of_task-number_of u k d.task.tile whole of.inside;
+      level = read ∙ sym (levels-step plan u.input k whole.workable.sources of.within) ∙ sym (plane_at-level u k whole of.within);
       kinds = fits.kinds;
       bounded = r.bounded;
     })
@@ -279,12 +353,13 @@ result-true c m u image d s within pending work whole planned first r =
     let t = d.task.ticket in
     let n = result_number u d in
     let p : IsPendingOn c m t u image = record { stands = s; within = within; pending = pending; work = work; whole = whole; planned = planned; first = first } in
-    let reads = reads-true c m t u image n p r.running in
-    let known = number_of-within u.progress d.task.step d.task.tile r.within (counted-in u d whole r.inside) in
+    let of = r.fit.of in
+    let reads = reads-true c m t u image n p of.running in
+    let known = number_of-within u.progress d.task.step d.task.tile of.within (counted-in u d whole of.inside) in
     r.task (sources_of u.progress (images_of (input_values m t)) (true_planes m t u.progress) n) (reads.sources n known)
 
 -- the true task of a number, as a result, has this number
-number-true : (m : Machine) (u : ProgressView) (t n : ℕ) (d : WindowTask) → d ≡ true_task m t u.progress n → result_number u d ≡ n
+pub number-true : (m : Machine) (u : ProgressView) (t n : ℕ) (d : WindowTask) → d ≡ true_task m t u.progress n → result_number u d ≡ n
 number-true m u t n d is = ap (λ (x : WindowTask). number_of u.progress x.task.step x.task.tile) is ∙ number_of-numbers u.progress n
 
 -- a true result is found in what is kept

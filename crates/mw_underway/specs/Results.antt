@@ -1,5 +1,5 @@
 -- When a result is that of a running task of the work.
-use Rattle.std.specs.Prelude.{ℕ, ◌≡◌, ◌<◌, true, List, [], ◌∷◌, length, map, Option, Some, IfSome}
+use Rattle.std.specs.Prelude.{ℕ, ◌≡◌, ◌<◌, true, List, [], ◌∷◌, length, map, Option, Some, IfSome, slice_index_or}
 use Rattle.std.specs.List.{AllByRecursion}
 use Rattle.mw_model.specs.declared.places.Rect.{Rect}
 use Rattle.mw_model.specs.Pictures.{Picture}
@@ -8,7 +8,7 @@ use Rattle.mw_model.specs.Tasks.{is_running, planned_of, tile_of_task}
 use Rattle.mw_grid.specs.Grids.{tile_count}
 use Rattle.mw_tile.specs.Windows.{SourceWindow}
 use Rattle.mw_task.specs.WindowTasks.{WindowTask, IsBounded}
-use Rattle.mw_stands.specs.mw_progress.Levels.{Level, level_of, level_of_source, levels}
+use Rattle.mw_stands.specs.mw_progress.Levels.{Level, level_of, level_of_source, levels, no_level}
 use Rattle.mw_stands.specs.mw_progress.ProgressView.{ProgressView, number_of}
 use Rattle.mw_underway.specs.SourceWindows.{AreSources, IsTaskOf, IsWindowOf, task_on}
 use Rattle.mw_underway.specs.Planning.{levels_read}
@@ -38,16 +38,28 @@ AreShown image u place (s ∷ ss) (w ∷ ws) = IsShown image u place s w × AreS
 abbrev pub HasLevel : Option Picture → ProgressView → Type 0
 HasLevel image u = IfSome image (λ f. level_of f ≡ u.input)
 
--- The result is that of a running task, on windows of its sources, of the levels that its step reads.
-pub record IsResultOf (image : Option Picture) (u : ProgressView) (d : WindowTask) : Type 0 where
+-- The result bears the numbers of a running task of the work, and its step and its rectangle.
+pub record IsOfRunning (u : ProgressView) (d : WindowTask) : Type 0 where
   pub within : d.task.step < length u.progress.plan
   pub inside : d.task.tile < tile_count u.tiling
   pub running : is_running u.progress (result_number u d) ≡ true
   pub step : d.step ≡ (planned_of u.progress (result_number u d)).step
   pub rect : d.rect ≡ tile_of_task u.progress (result_number u d)
-  pub task : IsTaskOf image d.task.ticket u (result_number u d) d
-  pub levels : map level_of_window d.windows ≡ levels_read u.progress.plan u.input d.task.step
+
+-- the first window has the level that the step of the result reads first
+abbrev pub HasFirstLevel : ProgressView → WindowTask → Type 0
+HasFirstLevel u d = slice_index_or (map level_of_window d.windows) 0 no_level ≡ slice_index_or (levels_read u.progress.plan u.input d.task.step) 0 no_level
+
+-- So does it, and its windows are bounded and begin with the level that is read first: what was made of them fits its place, whatever they show.
+pub record IsFitOf (u : ProgressView) (d : WindowTask) : Type 0 where
+  pub of : IsOfRunning u d
+  pub level : HasFirstLevel u d
   pub bounded : AllByRecursion IsBounded d.windows
+
+-- The result is that of a running task, on windows of its sources.
+pub record IsResultOf (image : Option Picture) (u : ProgressView) (d : WindowTask) : Type 0 where
+  pub fit : IsFitOf u d
+  pub task : IsTaskOf image d.task.ticket u (result_number u d) d
 
 -- There are sources on which the result is that of a running task, and the image that is kept, if one is, is of the level that the work reads.
 pub record IsFoundOf (image : Option Picture) (u : ProgressView) (d : WindowTask) : Type 0 where

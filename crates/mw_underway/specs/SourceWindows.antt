@@ -10,7 +10,7 @@ use Rattle.mw_model.specs.Refusals.{Table, shape_at, submission_at, is_element}
 use Rattle.mw_model.specs.Plans.{Source, FromInput, FromStep, is_sum}
 use Rattle.mw_model.specs.Tasks.{is_ready, nothing_planned, planned_of, place_of_task, task_count, step_number, tile_number, tile_of_task}
 use Rattle.mw_task.specs.Sources.{HasFrame}
-use Rattle.mw_task.specs.WindowTasks.{WindowTask, FitsStep}
+use Rattle.mw_task.specs.WindowTasks.{WindowTask, FitsStep, IsBounded}
 use Rattle.mw_tile.specs.Windows.{SourceWindow, window_of}
 use Rattle.mw_stands.specs.mw_tiles.Tiles.{HasAll, IsPlaneOf}
 use Rattle.mw_stands.specs.mw_progress.ProgressView.{ProgressView, IsStarted, IsWhole, plane_at}
@@ -57,6 +57,11 @@ abbrev pub IsNoTask : Option Picture → ProgressView → ℕ → Type 0
 IsNoTask image u n =
     (fs : List Picture) → AreSources image u (planned_of u.progress n).sources fs → FitsStep (planned_of u.progress n).step (tile_of_task u.progress n) (map (window_of (place_of_task u.progress n)) fs) → ⊥
 
+-- the source is the image that the work reads, or the plane of one of its steps
+abbrev pub IsOfWork : ProgressView → Source → Type 0
+IsOfWork u (FromInput k) = Unit {0}
+IsOfWork u (FromStep k) = (k < length u.progress.plan) × (is_sum (slice_index_or u.progress.plan k nothing_planned).step ≡ false)
+
 -- the source can be read in this place: all tiles of the step there are kept
 abbrev pub CanRead : ProgressView → Rect → Source → Type 0
 CanRead u place (FromInput k) = Unit {0}
@@ -77,7 +82,7 @@ AreWindowsOf image u place ss ws = (fs : List Picture) → AreSources image u ss
 
 -- this is the task of the number under the ticket, or there is none
 abbrev pub IsTaskOrNone : Option Picture → ℕ → ProgressView → ℕ → Option WindowTask → Type 0
-IsTaskOrNone image t u n (Some w) = IsTaskOf image t u n w × (w.task.ticket ≡ t)
+IsTaskOrNone image t u n (Some w) = IsTaskOf image t u n w × (w.task.ticket ≡ t) × AllByRecursion IsBounded w.windows
 IsTaskOrNone image t u n None = IsNoTask image u n
 
 -- A ready task of this number is started; it is the true one of the work, and bears the ticket.
@@ -86,6 +91,7 @@ pub record TakesOne (image : Option Picture) (t : ℕ) (old : ProgressView) (n :
   pub ready : is_ready old.progress n ≡ true
   pub task : IsTaskOf image t old n w
   pub ticket : w.task.ticket ≡ t
+  pub bounded : AllByRecursion IsBounded w.windows
   pub started : IsStarted old new n
   pub whole : IsWhole new
 

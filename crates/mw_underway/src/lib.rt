@@ -12,5 +12,5 @@ pub use mw_stands::{
     Entry, Fetched, Kept, PlanProgress, Shown, Store, Waiters, WholePlane, is_pending,
 };
 pub use planning::{Unplanned, planned};
-pub use results::is_result;
+pub use results::{is_fit, is_result};
 pub use taking::begin;

@@ -2,11 +2,13 @@
 //! kept of its plan's steps.
 
 ghost use Rattle.std.specs.Prelude.{◌≡◌, ◌<◌, ◌≤◌, ◌++◌, ◌∷◌, [], length, option_map, IfOk, IfSome, IsTrue, Some, true};
+ghost use Rattle.std.specs.List.{AllByRecursion};
 ghost use Rattle.mw_model.specs.Pictures.{Picture};
 ghost use Rattle.mw_model.specs.Places.{IsWithin};
 ghost use Rattle.mw_model.specs.Values.{image_of, value_at};
 ghost use Rattle.mw_plan.specs.Seen.{source, sources};
 ghost use Rattle.mw_task.specs.Sources.{HasFrame};
+ghost use Rattle.mw_task.specs.WindowTasks.{IsBounded};
 ghost use Rattle.mw_tile.specs.Windows.{window_of};
 ghost use Rattle.mw_underway.specs.SourceWindows.{AreWindowsOf, CanRead, CanReadAll, IsSource, IsWindowOf};
 
@@ -48,13 +50,15 @@ fn window(
     requires some { (1 ≤ reading.place.width) × (1 ≤ reading.place.height) }
     requires within { IsWithin reading.place work.now.tiling.width work.now.tiling.height }
     requires there { CanRead work.now reading.place (source from) }
-    ensures { IfOk result (IsWindowOf (image_of (value_at store.now.kept reading.image)) work.now reading.place (source from)) }
+    ensures window { IfOk result (IsWindowOf (image_of (value_at store.now.kept reading.image)) work.now reading.place (source from)) }
+    ensures bounded { IfOk result (λ w. IfSome w IsBounded) }
 {
     match from {
         Source::Input(_) => {
             if !has_frame(store, work, reading.image) {
                 return Ok(None);
             }
+            let _picture = store.image_shape(reading.image);
             store.window(alloc, reading.image, reading.place)
         }
         Source::Step(step) => {
@@ -77,7 +81,8 @@ fn add(
     requires some { (1 ≤ reading.place.width) × (1 ≤ reading.place.height) }
     requires within { IsWithin reading.place work.now.tiling.width work.now.tiling.height }
     requires there { CanRead work.now reading.place (source from) }
-    ensures { IfOk result (λ added. (f : Picture) → IsSource (image_of (value_at store.now.kept reading.image)) work.now (source from) f → (added ≡ true) × (found.new.items ≡ found.old.items ++ window_of reading.place f ∷ [])) }
+    ensures bounded { IfOk result (λ added. AllByRecursion IsBounded found.old.items → AllByRecursion IsBounded found.new.items) }
+    ensures added { IfOk result (λ added. (f : Picture) → IsSource (image_of (value_at store.now.kept reading.image)) work.now (source from) f → (added ≡ true) × (found.new.items ≡ found.old.items ++ window_of reading.place f ∷ [])) }
 {
     let Some(window) = window(alloc, store, work, reading, from)? else {
         return Ok(false);
@@ -98,7 +103,8 @@ pub(crate) fn windows(
     requires some { (1 ≤ reading.place.width) × (1 ≤ reading.place.height) }
     requires within { IsWithin reading.place work.now.tiling.width work.now.tiling.height }
     requires there { CanReadAll work.now reading.place (sources from) }
-    ensures { IfOk result (λ ws. AreWindowsOf (image_of (value_at store.now.kept reading.image)) work.now reading.place (sources from) (option_map (λ v. v.items) ws)) }
+    ensures bounded { IfOk result (λ ws. IfSome (option_map (λ v. v.items) ws) (AllByRecursion IsBounded)) }
+    ensures windows { IfOk result (λ ws. AreWindowsOf (image_of (value_at store.now.kept reading.image)) work.now reading.place (sources from) (option_map (λ v. v.items) ws)) }
 {
     let mut found = Vec::with_capacity(alloc, from.len())?;
     let complete = match from {

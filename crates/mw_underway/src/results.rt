@@ -1,16 +1,19 @@
 //! Whether a result is that of a running task.
 
-ghost use Rattle.std.specs.Prelude.{◌≡◌, ◌<◌, ◌≤◌, ◌↔◌, length, map, IsTrue, List};
+ghost use Rattle.std.specs.Prelude.{◌≡◌, ◌<◌, ◌≤◌, ◌↔◌, length, map, IsTrue, List, Option, slice_index_or};
+ghost use Rattle.std.specs.List.{AllByRecursion};
 ghost use Rattle.mw_model.specs.Pictures.{Picture};
 ghost use Rattle.mw_model.specs.Places.{IsWithin};
 ghost use Rattle.mw_model.specs.Values.{image_of, value_at};
 ghost use Rattle.mw_plan.specs.Seen.{source, sources};
+ghost use Rattle.mw_task.specs.WindowTasks.{IsBounded};
 ghost use Rattle.mw_tile.specs.Windows.{window_of};
-ghost use Rattle.mw_underway.specs.SourceWindows.{AreSources, CanRead, CanReadAll, IsSource};
-ghost use Rattle.mw_underway.specs.Results.{AreShown, HasLevel, IsFoundOf, IsResultOf, IsShown};
+ghost use Rattle.mw_stands.specs.mw_progress.Levels.{level_of_source, levels, no_level};
+ghost use Rattle.mw_underway.specs.SourceWindows.{AreSources, CanRead, CanReadAll, IsOfWork, IsSource};
+ghost use Rattle.mw_underway.specs.Results.{AreShown, HasLevel, IsFitOf, IsFoundOf, IsOfRunning, IsResultOf, IsShown, level_of_window};
 
 use crate::reading::{Reading, has_frame};
-use mw_model::Rect;
+use mw_model::{Kind, Rect};
 use mw_plan::{Source, Sources};
 use mw_stands::{PlanProgress, Store};
 use mw_task::{SharedWindow, TileDone};
@@ -89,11 +92,67 @@ fn are_windows(
     }
 }
 
+/// The kind and maxval of a source.
+fn level_read(work: &PlanProgress, from: Source) -> (Kind, u16)
+    requires { IsOfWork work.now (source from) }
+    ensures kind { result.0 ≡ (level_of_source work.now.input (levels work.now.progress.plan work.now.input) (source from)).kind }
+    ensures maxval { result.1 ≡ (level_of_source work.now.input (levels work.now.progress.plan work.now.input) (source from)).maxval }
+{
+    // What is known of the work, for the levels of its planes.
+    let _whole = work.remaining();
+    match from {
+        Source::Input(_) => work.input(),
+        Source::Step(step) => work.level(u32::from(step)),
+    }
+}
+
+/// Whether the window has the kind and maxval of the source.
+fn is_at_level(work: &PlanProgress, from: Source, window: &SharedWindow) -> bool
+    requires { IsOfWork work.now (source from) }
+    ensures { IsTrue result ↔ (level_of_window window.now ≡ level_of_source work.now.input (levels work.now.progress.plan work.now.input) (source from)) }
+{
+    let (kind, maxval) = level_read(work, from);
+    window.kind() == kind && window.maxval() == maxval
+}
+
+/// Whether the windows are as many as the sources, and the first has the kind and maxval of the first source.
+fn has_first_level(work: &PlanProgress, from: Sources, windows: &[SharedWindow]) -> bool
+    requires { AllByRecursion (IsOfWork work.now) (sources from) }
+    ensures first { IsTrue result → slice_index_or (map level_of_window windows.now) 0 no_level ≡ slice_index_or (map (level_of_source work.now.input (levels work.now.progress.plan work.now.input)) (sources from)) 0 no_level }
+    ensures all { map level_of_window windows.now ≡ map (level_of_source work.now.input (levels work.now.progress.plan work.now.input)) (sources from) → IsTrue result }
+{
+    match (from, windows) {
+        (Sources::Nothing, []) => true,
+        (Sources::One(a), [v]) => is_at_level(work, a, v),
+        (Sources::Two(a, _), [v, _]) => is_at_level(work, a, v),
+        (Sources::Three(a, _, _), [v, _, _]) => is_at_level(work, a, v),
+        _ => false,
+    }
+}
+
 /// Whether the result is that of this rectangle.
 fn is_made_at(done: &TileDone, rect: Rect) -> bool
     ensures { IsTrue result ↔ (done.now.rect ≡ rect) }
 {
     done.rect() == rect
+}
+
+/// Whether a result bears the numbers of a running task of the work, and its step and its rectangle.
+fn is_of_running(work: &PlanProgress, done: &TileDone) -> bool
+    ensures is { IsTrue result → IsOfRunning work.now done.now }
+    ensures all { IsOfRunning work.now done.now → IsTrue result }
+{
+    let _whole = work.remaining();
+    let id = done.task();
+    if !work.is_running(id.step, id.tile) {
+        return false;
+    }
+    let planned = work.step(id.step);
+    let grid = work.grid();
+    if !is_made_at(done, grid.rect(id.tile)) {
+        return false;
+    }
+    done.step().same(&planned.step)
 }
 
 /// Whether a result is that of a running task of the work, made from what is kept of its sources. No memory is asked for.
@@ -105,19 +164,29 @@ pub fn is_result(store: &Store, image: u32, work: &PlanProgress, done: &TileDone
     // Its tiles are placed, as a fact of the work.
     mw_stands::true_tasks();
     let _whole = work.remaining();
-    let id = done.task();
-    if !work.is_running(id.step, id.tile) {
+    if !is_of_running(work, done) {
         return false;
     }
+    let id = done.task();
     let planned = work.step(id.step);
     let grid = work.grid();
     let place = grid.window(id.tile, planned.step.reach());
-    if !is_made_at(done, grid.rect(id.tile)) {
-        return false;
-    }
-    if !done.step().same(&planned.step) {
-        return false;
-    }
     let reading = Reading { image, place };
     are_windows(store, work, reading, planned.sources, done.windows())
+}
+
+/// Whether a result on bounded windows is that of a running task of the work but for what its windows show: the samples
+/// are not looked at.
+pub fn is_fit(work: &PlanProgress, done: &TileDone) -> bool
+    requires { AllByRecursion IsBounded done.now.windows }
+    ensures result { IsTrue result → IsFitOf work.now done.now }
+    ensures all { (image : Option Picture) → IsFoundOf image work.now done.now → IsTrue result }
+{
+    let _whole = work.remaining();
+    if !is_of_running(work, done) {
+        return false;
+    }
+    let id = done.task();
+    let planned = work.step(id.step);
+    has_first_level(work, planned.sources, done.windows())
 }

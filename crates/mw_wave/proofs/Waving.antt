@@ -2,7 +2,7 @@
 use Rattle.std.proofs.Common.{◌≡◌, ◌≢◌, ℕ, ◌+◌, ◌/◌, ◌%◌, ◌<◌, ◌≤◌, Bool, true, false, ◌⊎◌, inl, inr, Ok, Err, List, [], ◌∷◌, ◌++◌, length, set, Some, None, refl, sym, ap, ◌∙◌, subst, arith, append_assoc, div-add-mod'}
 use Rattle.std.specs.Prelude.{◌&&◌, not, nat_lt, Result}
 use Rattle.std.specs.Option.{option_map_or}
-use Rattle.std.specs.List.{range_with_len, count_by, AllZip}
+use Rattle.std.specs.List.{range_with_len, count_by, AllByRecursion, AllZip}
 use Rattle.std.proofs.lemmas.Bool.{cases_lt, cases_Bool, cases_eq, not-true, and_parts}
 use Rattle.std.proofs.lemmas.List.{append-nil, get_or-set_same, get_or-set_other}
 use Rattle.mw_facts.proofs.Finds.{option_cases}
@@ -24,7 +24,7 @@ use Rattle.mw_core.specs.mw_work.Works.{true_task}
 use Rattle.mw_core.specs.mw_stands.Events.{WorkStays}
 use Rattle.mw_core.specs.mw_stands.TaskEvents.{Kills, Begins, IsResult, IsUnderway, Settles, Places, IsSettled}
 use Rattle.mw_core.proofs.mw_stands.CountLemmas.{sum-at}
-use Rattle.mw_core.specs.TaskAnswers.{Starts, Finishes, Refuses}
+use Rattle.mw_core.specs.TaskAnswers.{Starts, Finishes, IsOwn, Refuses}
 use Rattle.mw_core.specs.declared.answers.Started.{Started}
 use Rattle.mw_core.specs.declared.answers.Started.TheVariants as started
 use Rattle.mw_core.specs.declared.answers.Finish.{Finish}
@@ -38,9 +38,9 @@ use Rattle.mw_script_laws.proofs.Finishing.{only_append}
 use Rattle.mw_wave.specs.declared.job.Job.{Job}
 use Rattle.mw_wave.specs.declared.job.Job.TheVariants as job
 use Rattle.mw_wave.specs.Jobs.{IsAnswerTo, IsOf, HasTask, IsAnswered}
-use Rattle.mw_wave.specs.Waves.{GoneOn, Runs, Underway, Took}
+use Rattle.mw_wave.specs.Waves.{GoneOn, IsTrueAnswer, IsTrueJob, IsTrueTask, Runs, Underway, Took}
 use Rattle.mw_wave.proofs.TicketCounts.{under, over_all-falls, work-under, count-under, has-place}
-use Rattle.mw_wave.proofs.Jobs.{still-answers, has-answered, has-last}
+use Rattle.mw_wave.proofs.Jobs.{all-last, still-answers, has-answered, has-last}
 
 -- ---- tasks that are running
 
@@ -77,6 +77,13 @@ record Ran (c : CoreView) (m : Machine) (t k : ℕ) (w : WindowTask) : Type 0 wh
   runs : Runs c t k progress
   task : w ≡ true_task m t progress k
 
+-- there was work under the ticket before, and its tasks are the same
+record WasThere (c : CoreView) (m : Machine) (t : ℕ) (task : ℕ → WindowTask) : Type 0 where
+  progress : Progress
+  within : t < length c.table.names
+  work : progress_at c.work t ≡ Some progress
+  same : (k : ℕ) → task k ≡ true_task m t progress k
+
 -- ---- tasks that end
 
 -- The task of these numbers is not running any more, or was not; each that is running was.
@@ -89,6 +96,7 @@ record Ended (c : CoreView) (m : Machine) (id : TaskId) (new : CoreView) : Type 
   stands : StandsFor new state
   less : tasks_left new + 1 ≤ tasks_left c
   ran : (t k : ℕ) (p : Progress) → Runs new t k p → Ran c m t k (true_task state t p k)
+  kept : (t : ℕ) (p : Progress) → t < length new.table.names → progress_at new.work t ≡ Some p → WasThere c m t (true_task state t p)
   other : (t k : ℕ) (p : Progress) → Runs new t k p → (true_task state t p k).task ≡ id → ⊥
 
 -- what was running, where work stays or goes
@@ -98,6 +106,13 @@ stays-ran c new m n s stays long es ep t k p r =
     let within : t < length c.table.names = omega (arith, long, r.within) in
     let work : progress_at c.work t ≡ Some p = sym (stays t within (runs-pending new n t k p s r)) ∙ r.work in
     record { progress = p; runs = record { within = within; work = work; number = r.number; runs = r.runs }; task = same-task m n t p k es ep }
+
+stays-there : (c new : CoreView) (m n : Machine) → StandsFor new n → WorkStays c new → length new.table.names ≡ length c.table.names → n.table.submissions ≡ m.table.submissions → n.payloads ≡ m.payloads
+    → (t : ℕ) (p : Progress) → t < length new.table.names → progress_at new.work t ≡ Some p → WasThere c m t (true_task n t p)
+stays-there c new m n s stays long es ep t p l there =
+    let within : t < length c.table.names = omega (arith, long, l) in
+    let pends : is_pending (outcome_at new.table.outcomes t) ≡ true = ap (λ (w : Table). is_pending (outcome_at w.outcomes t)) s.table ∙ ap is_pending (s.idle t p there) in
+    record { progress = p; within = within; work = sym (stays t within pends) ∙ there; same = λ k. same-task m n t p k es ep }
 
 -- a settled ticket has no task that is running
 settled-other : (new : CoreView) (n : Machine) (t : ℕ) (id : TaskId) → StandsFor new n → id.ticket ≡ t → is_pending (outcome_at n.table.outcomes t) ≡ false
@@ -128,6 +143,7 @@ kills-ended c new m t id s named k =
       stands = k.stands;
       less = over_all-falls remaining_tasks c new n t 1 k.stands k.work long within settled_now some;
       ran = stays-ran c new m n k.stands k.work long is.submissions refl;
+      kept = stays-there c new m n k.stands k.work long is.submissions refl;
       other = settled-other new n t id k.stands named settled_now;
     }
 
@@ -147,6 +163,7 @@ settles-ended c new m d t s here e =
       stands = e.stands;
       less = over_all-falls remaining_tasks c new n t 1 e.stands e.work long within settled_now some;
       ran = stays-ran c new m n e.stands e.work long refl refl;
+      kept = stays-there c new m n e.stands e.work long refl refl;
       other = settled-other new n t d.task e.stands (sym e.ticket) settled_now;
     }
 
@@ -211,6 +228,14 @@ places-ended c new m d s here e =
           task = refl;
         }
       ];
+      kept = λ u r l x. elim (cases_eq u t) [
+        | inl z ↦
+            let Q : ℕ → Type 0 = λ v. progress_at new.work v ≡ Some r → WasThere c m v (true_task m v r) in
+            subst Q (sym z) (λ y.
+            let same : r ≡ q = cc (y, mine) in
+            record { progress = p; within = here; work = e.result.work; same = λ k. ap (λ v. true_task m t v k) same ∙ same-plan m t k p q e.plan e.tiles e.width e.height }) x
+        | inr z ↦ record { progress = r; within = omega (arith, names, l); work = sym (others u z) ∙ x; same = λ k. refl }
+      ];
       other = λ u k r x z.
           let here_too : u ≡ t = ap (λ (i : TaskId). i.ticket) z in
           let Q : ℕ → Type 0 = λ v. Runs new v k r in
@@ -220,6 +245,28 @@ places-ended c new m d s here e =
           let tile : k % length p.tiles ≡ n % length p.tiles = ap (λ l. k % length l) (sym tiles) ∙ ap (λ (i : TaskId). i.tile) z ∙ ap (λ (w : WindowTask). w.task.tile) e.result.task in
           a.1 (same-number k n (length p.tiles) step tile);
     }
+
+-- ---- true tasks
+
+-- jobs are true tasks, where each that was one is one
+all-true : (c new : CoreView) (m n : Machine) → ((w : WindowTask) → IsTrueTask c m w → IsTrueTask new n w) → (jobs : List Job) → AllByRecursion (IsTrueJob c m) jobs → AllByRecursion (IsTrueJob new n) jobs
+all-true c new m n on [] h = tt
+all-true c new m n on (job.Waits w ∷ jobs) h = (on w h.0, all-true c new m n on jobs h.1)
+all-true c new m n on (job.Ran (Ok d) ∷ jobs) h = (on d h.0, all-true c new m n on jobs h.1)
+all-true c new m n on (job.Ran (Err r) ∷ jobs) h = (tt, all-true c new m n on jobs h.1)
+all-true c new m n on (job.Nothing ∷ jobs) h = (tt, all-true c new m n on jobs h.1)
+
+-- a true task is one still where another has ended
+true-ended : (c new : CoreView) (m : Machine) (id : TaskId) → (e : Ended c m id new) → (w : WindowTask) → IsTrueTask c m w → IsTrueTask new e.state w
+true-ended c new m id e w true_before t k p within there bears =
+    let was = e.kept t p within there in
+    true_before t k was.progress was.within was.work (sym (ap (λ (x : WindowTask). x.task) (was.same k)) ∙ bears) ∙ sym (was.same k)
+
+-- a true task is the core's own
+true-own : (c : CoreView) (m : Machine) (d : WindowTask) → IsTrueTask c m d → IsOwn c m d
+true-own c m d is within u =
+    let bears : (true_task m d.task.ticket u.progress u.number).task ≡ d.task = λ i. record { ticket = d.task.ticket; step = sym u.step i; tile = sym u.tile i } in
+    record { progress = u.progress; number = u.number; work = u.work; within = u.within; running = u.running; task = is d.task.ticket u.number u.progress within u.work bears }
 
 -- ---- the wave goes on
 
@@ -246,6 +293,7 @@ hand-on m old c new j jobs n id small h e bears = record {
         | inl is ↦ absurd (e.other t k p r (bears (true_task e.state t p k) is))
         | inr more ↦ more
       ];
+  tasks = all-true c new h.state e.state (true-ended c new h.state id e) jobs h.tasks.1;
   gone = less-gone old c new n n small h.gone e.less;
 }
 
@@ -262,6 +310,7 @@ die-on m old c new jobs n id h e = record {
       let was = e.ran t k p r in
       let P : WindowTask → Type 0 = λ w. HasTask jobs w in
       subst P (sym was.task) (h.running t k was.progress was.runs);
+  tasks = all-true c new h.state e.state (true-ended c new h.state id e) jobs h.tasks;
   gone = less-gone old c new n 1 (omega arith) h.gone e.less;
 }
 
@@ -279,6 +328,7 @@ hand-none m old c j jobs n h none = record {
     | inl is ↦ absurd (none t k p r is)
     | inr more ↦ more
   ];
+  tasks = h.tasks.1;
   gone = h.gone;
 }
 
@@ -328,8 +378,16 @@ places-past m old c new d jobs n h past e =
             | inl is ↦ absurd (apart u within (sym (ap (λ (w : WindowTask). w.task.ticket) is)))
             | inr rest ↦ rest
           ];
+      tasks = all-true c new h.state h.state
+          (λ w is u k p l there bears.
+          let within : u < length c.table.names = omega (arith, names, l) in
+          is u k p within (sym (others u (apart u within)) ∙ there) bears) jobs h.tasks.1;
       gone = same-gone old c new n h.gone (omega (arith, ap (total (under remaining_tasks new)) names, less)) (omega (arith, ap (total (under running_tasks new)) names, more));
     }
+
+-- a result that is handed back is the core's own
+pub handed-own : (m : Machine) (old c : CoreView) (d : WindowTask) (jobs : List Job) (n : ℕ) → (h : Underway m old c (job.Ran (Ok d) ∷ jobs) n) → IsOwn c h.state d
+handed-own m old c d jobs n h = true-own c h.state d h.tasks.0
 
 -- a result is handed back
 pub finish-hand : (m : Machine) (old c new : CoreView) (d : WindowTask) (jobs : List Job) (n : ℕ) (f : Finish) → n ≤ 1 → (h : Underway m old c (job.Ran (Ok d) ∷ jobs) n) → Finishes c h.state d f new → Underway m old new jobs n
@@ -417,6 +475,27 @@ take-work m old c new jobs n w h b =
             ]) x
         | inr z ↦ inr (h.running u k r (record { within = omega (arith, names, x.within); work = sym (other u z) ∙ x.work; number = x.number; runs = x.runs }))
       ];
+      tasks = (
+        (λ u k r l there bears.
+        let here_too : u ≡ t = ap (λ (x : TaskId). x.ticket) bears in
+        let Q : ℕ → Type 0 = λ v. progress_at new.work v ≡ Some r → (true_task h.state v r k).task ≡ w.task → w ≡ true_task h.state v r k in
+        subst Q (sym here_too) (λ y z.
+        let same : r ≡ q = cc (y, mine) in
+        let task : true_task h.state t r k ≡ true_task h.state t p k = ap (λ v. true_task h.state t v k) same in
+        let both : (true_task h.state t p k).task ≡ (true_task h.state t p i).task = sym (ap (λ (x : WindowTask). x.task) task) ∙ z ∙ ap (λ (x : WindowTask). x.task) b.task in
+        let number : k ≡ i = same-number k i (length p.tiles) (ap (λ (x : TaskId). x.step) both) (ap (λ (x : TaskId). x.tile) both) in
+        b.task ∙ ap (true_task h.state t p) (sym number) ∙ sym task) there bears),
+        all-true c new h.state h.state
+        (λ v is u k r l there bears. elim (cases_eq u t) [
+          | inl z ↦
+              let Q : ℕ → Type 0 = λ x. progress_at new.work x ≡ Some r → (true_task h.state x r k).task ≡ v.task → v ≡ true_task h.state x r k in
+              subst Q (sym z) (λ y bears_it.
+              let same : r ≡ q = cc (y, mine) in
+              let task : true_task h.state t r k ≡ true_task h.state t p k = ap (λ x. true_task h.state t x k) same in
+              is t k p b.within b.work (sym (ap (λ (x : WindowTask). x.task) task) ∙ bears_it) ∙ sym task) there bears
+          | inr z ↦ is u k r (omega (arith, names, l)) (sym (other u z) ∙ there) bears
+        ]) jobs h.tasks,
+      );
       gone = inr (fewer, runs-counted new t i q now);
     }
 
@@ -437,6 +516,7 @@ wave-begins m c s none = record {
   run = refl;
   stands = s;
   running = λ t k p r. absurd (omega (arith, none, runs-counted c t k p r));
+  tasks = tt;
   gone = inl (omega arith);
 }
 
@@ -449,8 +529,30 @@ wave-pushed m old c j jobs n h = record {
   run = h.run;
   stands = h.stands;
   running = λ t k p r. has-last jobs j (true_task h.state t p k) (h.running t k p r);
+  tasks = all-last (IsTrueJob c h.state) jobs j h.tasks.0 h.tasks.1;
   gone = h.gone;
 }
+
+-- an answer to a true task is one
+true-answer : (c : CoreView) (m : Machine) (w : WindowTask) (a : Result WindowTask TaskRefused) → IsAnswerTo w a → IsTrueTask c m w → IsTrueAnswer c m a
+true-answer c m w (Ok d) answered is =
+    let P : WindowTask → Type 0 = λ x. IsTrueTask c m x in
+    subst P (sym answered) is
+true-answer c m w (Err r) answered is = tt
+
+all-answered : (c : CoreView) (m : Machine) (jobs after : List Job) → AllZip IsAnswered jobs after → AllByRecursion (IsTrueJob c m) jobs → AllByRecursion (IsTrueJob c m) after
+all-answered c m [] [] a h = tt
+all-answered c m [] (j ∷ after) a h = absurd a
+all-answered c m (j ∷ jobs) [] a h = absurd a
+all-answered c m (job.Waits w ∷ jobs) (job.Ran x ∷ after) a h = (true-answer c m w x a.0 h.0, all-answered c m jobs after a.1 h.1)
+all-answered c m (job.Waits w ∷ jobs) (job.Waits v ∷ after) a h = absurd a.0
+all-answered c m (job.Waits w ∷ jobs) (job.Nothing ∷ after) a h = absurd a.0
+all-answered c m (job.Ran x ∷ jobs) (j ∷ after) a h =
+    let P : Job → Type 0 = λ i. IsTrueJob c m i in
+    (subst P (sym a.0) h.0, all-answered c m jobs after a.1 h.1)
+all-answered c m (job.Nothing ∷ jobs) (j ∷ after) a h =
+    let P : Job → Type 0 = λ i. IsTrueJob c m i in
+    (subst P (sym a.0) tt, all-answered c m jobs after a.1 h.1)
 
 pub wave-run : (m : Machine) (old c : CoreView) (jobs : List Job) (n : ℕ) (w : WindowTask) (a : Result WindowTask TaskRefused) → IsAnswerTo w a → Underway m old c (job.Waits w ∷ jobs) n → Underway m old c (job.Ran a ∷ jobs) n
 wave-run m old c jobs n w a answered h = record {
@@ -464,6 +566,7 @@ wave-run m old c jobs n w a answered h = record {
     | inl is ↦ inl (still-answers (true_task h.state t p k) w a is answered)
     | inr more ↦ inr more
   ];
+  tasks = (true-answer c h.state w a answered h.tasks.0, h.tasks.1);
   gone = h.gone;
 }
 
@@ -476,6 +579,7 @@ wave-answered m old c jobs after n a h = record {
   run = h.run;
   stands = h.stands;
   running = λ t k p r. has-answered jobs after (true_task h.state t p k) a (h.running t k p r);
+  tasks = all-answered c h.state jobs after a h.tasks;
   gone = h.gone;
 }
 

@@ -1,6 +1,7 @@
 -- The places of a wave, and the answers to its tasks (own).
-use Rattle.std.specs.Prelude.{◌≡◌, Result, Ok, Err, List, [], ◌∷◌, ◌⊎◌}
-use Rattle.mw_task.specs.WindowTasks.{WindowTask}
+use Rattle.std.specs.Prelude.{◌≡◌, IfOk, Result, Ok, Err, List, [], ◌∷◌, ◌⊎◌}
+use Rattle.std.specs.List.{AllByRecursion}
+use Rattle.mw_task.specs.WindowTasks.{IsBounded, WindowTask}
 use Rattle.mw_task.specs.declared.done.TaskRefused.{TaskRefused}
 use Rattle.mw_wave.specs.declared.job.Job.{Job}
 use Rattle.mw_wave.specs.declared.job.Job.TheVariants as job
@@ -27,3 +28,9 @@ IsAnswered (job.Waits w) (job.Ran a) = IsAnswerTo w a
 IsAnswered (job.Waits w) j = ⊥
 IsAnswered (job.Ran a) j = j ≡ job.Ran a
 IsAnswered job.Nothing j = j ≡ job.Nothing
+
+-- no sample of the windows in this place is over the maxval of its source
+abbrev pub IsBoundedJob : Job → Type 0
+IsBoundedJob (job.Waits w) = AllByRecursion IsBounded w.windows
+IsBoundedJob (job.Ran a) = IfOk a (λ d. AllByRecursion IsBounded d.windows)
+IsBoundedJob job.Nothing = Unit {0}

@@ -1,10 +1,15 @@
 //! Who runs the work.
 
+ghost use Rattle.std.specs.Prelude.{◌≤◌};
+
 use std::alloc::{AllocError, Global};
 
-/// Tasks of a wave for each worker. Fewer would start threads more often; more would hold more results that wait to be
-/// handed back.
-const TASKS_PER_WORKER: usize = 16;
+/// How many samples the tasks of a wave make for each worker. They are held until they are handed back: 4 MiB of samples
+/// of 8 bits, twice that of 16. Fewer would start threads anew more often than the tasks are worth.
+const SAMPLES_PER_WORKER: u64 = 4 << 20;
+
+/// Never fewer tasks than this for each worker, so that those that take longer are made up for by others.
+const LEAST_PER_WORKER: u64 = 16;
 
 /// Who runs the work: the allocator, the handle that starts threads, and how many of them may run at once, the one that
 /// has the core among them. No worker counts as one.
@@ -12,6 +17,14 @@ pub struct Crew<'r, T> {
     pub alloc: Global,
     pub rt: &'r T,
     pub workers: usize,
+}
+
+/// How many tasks are taken for each worker, where they make tiles of this side.
+fn per_worker(side: u32) -> usize
+    ensures { 1 ≤ result }
+{
+    let tile = (u64::from(side) * u64::from(side)).max(1);
+    (SAMPLES_PER_WORKER / tile).max(LEAST_PER_WORKER) as usize
 }
 
 impl<T> Copy for Crew<'_, T> {}
@@ -31,10 +44,10 @@ impl<T> Clone for Crew<'_, T> {
 impl<T> Crew<'_, T> {
     ghost use Rattle.std.specs.Prelude.{◌≤◌};
 
-    /// How many tasks are taken at once.
-    pub(crate) fn wave(self) -> usize
+    /// How many tasks are taken at once, where they make tiles of this side.
+    pub(crate) fn wave(self, side: u32) -> usize
         ensures { self.entry.workers ≤ result }
     {
-        self.workers.saturating_mul(TASKS_PER_WORKER)
+        self.workers.saturating_mul(per_worker(side))
     }
 }

@@ -1,6 +1,6 @@
 //! All work of a core, run by one worker or by several: tasks are taken from the core, run, and handed back. With several
-//! workers up to 16 for each are taken at once and run side by side in threads. Only one thread has the core, so nothing
-//! is locked.
+//! workers many are taken at once and run side by side in threads. Only one thread has the core, so nothing is locked, and
+//! each result is known to be that of its task, so no samples are compared.
 //!
 //! ```
 //! let crew = Crew { alloc, rt: &rt, workers: 4 };

@@ -1,32 +1,42 @@
-use Rattle.std.proofs.Common.{◌≡◌, true, false, List, sym, ◌∙◌, subst}
+use Rattle.std.proofs.Common.{◌≡◌, ◌<◌, true, false, List, sym, ◌∙◌, subst}
 use Rattle.std.proofs.lemmas.Bool.{false≢true}
-use Rattle.mw_model.specs.declared.tasks.TaskId.{TaskId}
 use Rattle.mw_model.specs.Values.{image_of, value_at}
-use Rattle.mw_grid.specs.Grids.{tile_at}
+use Rattle.mw_grid.specs.Grids.{Tiling, tile_count}
 use Rattle.mw_plan.specs.Seen.{planned}
 use Rattle.mw_tile.specs.Windows.{SourceWindow}
 use Rattle.mw_underway.specs.Results.{AreShown}
-use Rattle.mw_underway.proofs.ResultLemmas.{found-rect, found-sources, found-windows, looked-up, looked-up-there, result-of}
+use Rattle.mw_underway.proofs.ReadingLemmas.{place-some}
+use Rattle.mw_underway.proofs.ResultLemmas.{found-of-running, found-sources, found-windows, looked-up, looked-up-there, result-of, running-of}
 use Rattle.mw_underway.proofs.results.is_result.Goals as goal
 
-pub returns-then-not-is_made_at-clause-all : goal.returns-then-not-is_made_at-clause-all
-returns-then-not-is_made_at-clause-all c = λ found.
-    let u = c.args.work.now in
-    let d = c.args.done.now in
-    let place = found-rect _ u d c.grid-grid.result c.remaining-whole.ensures.whole c.grid-grid.ensures found in
-    let At : TaskId → Type 0 = λ k. d.rect ≡ tile_at c.grid-grid.result k.tile in
-    let is : c.is_made_at.result ≡ true = c.is_made_at.ensures.1 (subst At (sym c.task-id.ensures) place ∙ sym c.rect.ensures.value) in
-    let not : c.is_made_at.result ≡ false = c.if-not-is_made_at.true in
+pub returns-then-not-is_of_running-clause-all : goal.returns-then-not-is_of_running-clause-all
+returns-then-not-is_of_running-clause-all c = λ found.
+    let is : c.is_of_running.result ≡ true = c.is_of_running.ensures.all (found-of-running _ c.args.work.now c.args.done.now found) in
+    let not : c.is_of_running.result ≡ false = c.if-not-is_of_running.true in
     absurd (false≢true (sym not ∙ is))
+
+pub step-planned-requires : goal.step-planned-requires
+step-planned-requires c = (running-of c.args.work.now c.args.done.now c.task-id.result c.task-id.ensures (c.is_of_running.ensures.is c.if-not-is_of_running.false)).0
+
+pub window-place-requires : goal.window-place-requires
+window-place-requires c =
+    let runs = running-of c.args.work.now c.args.done.now c.task-id.result c.task-id.ensures (c.is_of_running.ensures.is c.if-not-is_of_running.false) in
+    let Inside : Tiling → Type 0 = λ g. c.task-id.result.tile < tile_count g in
+    subst Inside (sym c.grid-grid.ensures) runs.1
+
+pub are_windows-requires-clause-some : goal.are_windows-requires-clause-some
+are_windows-requires-clause-some c =
+    let runs = running-of c.args.work.now c.args.done.now c.task-id.result c.task-id.ensures (c.is_of_running.ensures.is c.if-not-is_of_running.false) in
+    place-some c.args.work.now c.task-id.result.tile c.grid-grid.result c.reach.result c.window-place.result c.remaining-whole.ensures.whole runs.1 c.grid-grid.ensures c.window-place.ensures.value
 
 pub are_windows-requires-clause-there : goal.are_windows-requires-clause-there
 are_windows-requires-clause-there c =
     let u = c.args.work.now in
     let d = c.args.done.now in
     let q = planned c.step-planned.result.now in
-    looked-up-there u d c.grid-grid.result q c.window-place.result
+    looked-up-there u d q c.window-place.result
     (looked-up u d c.task-id.result c.grid-grid.result c.reach.result q c.window-place.result c.task-id.ensures c.remaining-whole.ensures.whole c.grid-grid.ensures c.step-planned.ensures c.reach.ensures c.window-place.ensures.value
-    (c.is_running.ensures.0 c.if-not-is_running.false))
+    (c.is_of_running.ensures.is c.if-not-is_of_running.false))
 
 pub returns-clause-result : goal.returns-clause-result
 returns-clause-result c = λ holds.
@@ -35,11 +45,9 @@ returns-clause-result c = λ holds.
     let image = image_of (value_at c.args.store.now.kept c.args.image) in
     let q = planned c.step-planned.result.now in
     let at = looked-up u d c.task-id.result c.grid-grid.result c.reach.result q c.window-place.result c.task-id.ensures c.remaining-whole.ensures.whole c.grid-grid.ensures c.step-planned.ensures c.reach.ensures c.window-place.ensures.value
-    (c.is_running.ensures.0 c.if-not-is_running.false) in
-    let At : TaskId → Type 0 = λ k. c.rect.result ≡ tile_at c.grid-grid.result k.tile in
+    (c.is_of_running.ensures.is c.if-not-is_of_running.false) in
     let Shown : List SourceWindow → Type 0 = λ ws. AreShown image u c.window-place.result q.sources ws in
-    result-of image u d c.grid-grid.result q c.window-place.result at (c.is_made_at.ensures.0 c.if-not-is_made_at.false ∙ subst At c.task-id.ensures c.rect.ensures.value) (sym c.step.ensures ∙ c.same.ensures.0 c.if-not-same.false)
-    (subst Shown c.windows.ensures.value (c.are_windows.ensures.shown holds))
+    result-of image u d q c.window-place.result at (subst Shown c.windows.ensures.value (c.are_windows.ensures.shown holds))
 
 pub returns-clause-all : goal.returns-clause-all
 returns-clause-all c = λ found.
@@ -48,5 +56,5 @@ returns-clause-all c = λ found.
     let image = image_of (value_at c.args.store.now.kept c.args.image) in
     let q = planned c.step-planned.result.now in
     let at = looked-up u d c.task-id.result c.grid-grid.result c.reach.result q c.window-place.result c.task-id.ensures c.remaining-whole.ensures.whole c.grid-grid.ensures c.step-planned.ensures c.reach.ensures c.window-place.ensures.value
-    (c.is_running.ensures.0 c.if-not-is_running.false) in
+    (c.is_of_running.ensures.is c.if-not-is_of_running.false) in
     c.are_windows.ensures.all found.sources (found-sources image u d q at.whole at.planned found) found.level (c.windows.ensures.value ∙ found-windows image u d c.window-place.result at.reads found)

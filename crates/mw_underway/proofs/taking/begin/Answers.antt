@@ -1,7 +1,8 @@
 use Rattle.std.proofs.Common.{◌≡◌, ℕ, ◌<◌, true, length, Option, refl, subst, arith}
+use Rattle.std.specs.List.{AllByRecursion}
 use Rattle.mw_model.specs.Tasks.{is_ready, task_count}
 use Rattle.mw_model.specs.Values.{image_of, value_at}
-use Rattle.mw_task.specs.WindowTasks.{WindowTask}
+use Rattle.mw_task.specs.WindowTasks.{IsBounded, WindowTask}
 use Rattle.mw_stands.specs.mw_progress.ProgressView.{number_of}
 use Rattle.mw_stands.proofs.mw_work.Numbers.{length-tiles, number_of-within}
 use Rattle.mw_underway.specs.SourceWindows.{IsNoTask, IsTaskOf, IsTaskOrNone}
@@ -28,7 +29,7 @@ returns-clause-taken c =
     let counted : c.task_at-step.result.1 < length u.progress.tiles = omega (arith, at.tile, length-tiles u c.remaining-whole.ensures.whole) in
     let N = number_of u.progress c.task_at-step.result.0 c.task_at-step.result.1 in
     let W : Option WindowTask → Type 0 = λ w. IsTaskOrNone image c.args.t u N w in
-    let some : IsTaskOf image c.args.t u N c.in-Some.task × (c.in-Some.task.task.ticket ≡ c.args.t) = subst W c.in-Some.is c.in_ok-task.ensures in
+    let some : IsTaskOf image c.args.t u N c.in-Some.task × (c.in-Some.task.task.ticket ≡ c.args.t) × AllByRecursion IsBounded c.in-Some.task.windows = subst W c.in-Some.is c.in_ok-task.ensures in
     let P : ℕ → Type 0 = λ n. (n < task_count u.progress) × (is_ready u.progress n ≡ true) × IsTaskOf image c.args.t u n c.in-Some.task in
     let all = subst P at.value (number_of-within u.progress c.task_at-step.result.0 c.task_at-step.result.1 at.step counted, at.ready, some.0) in
-    record { within = all.0; ready = all.1; task = all.2; ticket = some.1; started = c.in_ok-start.ensures.started; whole = c.in_ok-start.ensures.whole }
+    record { within = all.0; ready = all.1; task = all.2; ticket = some.1; bounded = some.2; started = c.in_ok-start.ensures.started; whole = c.in_ok-start.ensures.whole }

@@ -5,9 +5,11 @@ use Rattle.mw_model.specs.Tasks.{planned_of}
 use Rattle.mw_stands.specs.mw_progress.ProgressView.{number_of}
 use Rattle.mw_stands.proofs.mw_work.Numbers.{length-tiles, number_of-within, planned_of-number_of}
 use Rattle.mw_model.specs.Values.{image_of, value_at}
-use Rattle.std.specs.Prelude.{option_map}
+use Rattle.std.specs.Prelude.{IfSome, List, Option, option_map}
+use Rattle.std.specs.List.{AllByRecursion}
+use Rattle.mw_task.specs.WindowTasks.{IsBounded}
 use Rattle.std.proofs.lemmas.Option.{none-some}
-use Rattle.mw_tile.specs.Windows.{window_of}
+use Rattle.mw_tile.specs.Windows.{SourceWindow, window_of}
 use Rattle.mw_underway.specs.SourceWindows.{AreSources, CanReadAll}
 use Rattle.mw_underway.proofs.ReadingLemmas.{some-items, place-is, place-some, task-can-read, task-is, task-or-none}
 use Rattle.mw_underway.proofs.taking.task.Goals as goal
@@ -39,7 +41,7 @@ returns-in_default c = λ fs sources fits.
     let planned = planned_of-number_of u.progress id.step id.tile counted in
     let image = image_of (value_at c.args.store.now.kept c.args.image) in
     let Of : Planned → Type 0 = λ q. AreSources image u q.sources fs in
-    let seen = c.in_ok-windows.ensures fs (subst Of (planned ∙ sym c.step-planned.ensures) sources) in
+    let seen = c.in_ok-windows.ensures.windows fs (subst Of (planned ∙ sym c.step-planned.ensures) sources) in
     let none = c.in_default.is in
     absurd (none-some _ (sym (ap (option_map (λ v. v.items)) none) ∙ seen))
 
@@ -52,9 +54,10 @@ returns c =
     let planned = planned_of-number_of u.progress id.step id.tile counted in
     let image = image_of (value_at c.args.store.now.kept c.args.image) in
     let place = place-is u id.step id.tile c.grid-grid.result c.reach.result _ c.window-place.result whole c.requires.tile c.grid-grid.ensures c.step-planned.ensures c.reach.ensures c.window-place.ensures.value in
-    task-or-none image id.ticket u (number_of u.progress id.step id.tile) c.new.result _ c.new.ensures.fits c.new.ensures.value refl (λ fs sources.
+    let Bounded : Option (List SourceWindow) → Type 0 = λ o. IfSome o (AllByRecursion IsBounded) in
+    task-or-none image id.ticket u (number_of u.progress id.step id.tile) c.new.result _ c.new.ensures.fits c.new.ensures.value refl (subst Bounded (ap (option_map (λ v. v.items)) c.in-Some.is) c.in_ok-windows.ensures.bounded) (λ fs sources.
     let Of : Planned → Type 0 = λ q. AreSources image u q.sources fs in
-    let seen = c.in_ok-windows.ensures fs (subst Of (planned ∙ sym c.step-planned.ensures) sources) in
+    let seen = c.in_ok-windows.ensures.windows fs (subst Of (planned ∙ sym c.step-planned.ensures) sources) in
     let items = some-items (ap (option_map (λ v. v.items)) c.in-Some.is) seen in
     task-is id.ticket u id.step id.tile c.grid-grid.result c.rect-rect.result _ _ _ fs whole c.requires.tile c.grid-grid.ensures c.step-planned.ensures c.in_ok-share.ensures c.rect-rect.ensures.value
     (items ∙ ap (λ (r : Rect). map (window_of r) fs) place))

@@ -51,6 +51,12 @@ returns-in-Ok-Some-clause-turn c =
     let Shown : CoreView → Type 0 = λ x. IsAt x (c.args.place % ready_count x) c.in-Ok-Some.work.task.ticket in
     subst Shown c.self.view_is (subst Of (sym took.takes.ticket) (subst Counted (c.ready-count.ensures ∙ ap sum c.self.invariant.0) (c.find-t.ensures.turn (seen_of b) c.self.invariant)))
 
+pub returns-in-Ok-Some-clause-bounded : goal.returns-in-Ok-Some-clause-bounded
+returns-in-Ok-Some-clause-bounded c =
+    let Taken : Option WindowTask → Type 0 = λ w. TakesAt c.self.inside.ledger c.find-t.result.0 c.take.new.self w in
+    let took = subst Taken c.in-Ok-Some.field-0-is c.in-Ok-Some.ensures.taken in
+    took.takes.bounded
+
 pub returns-in-Ok-None-clause-task : goal.returns-in-Ok-None-clause-task
 returns-in-Ok-None-clause-task c = λ m s.
     let b = c.self.inside.ledger in

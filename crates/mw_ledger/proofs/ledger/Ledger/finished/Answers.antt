@@ -20,9 +20,7 @@ finish-requires-clause-fits c =
     let within : k.ticket < length b.works.items = omega (arith, ticket, r.at.within, names, c.self.invariant.1.works) in
     let there = ap (λ (v : Book). work_at v.works k.ticket) (sym c.self.view_is) ∙ found b.works.items k.ticket c.index_mut.result.now u within c.index_mut.ensures.value (sym c.take.ensures.value ∙ c.in-Some.is) in
     let is = work-of old d k u r c.task-task.ensures there in
-    let P : Book → Type 0 = λ v. IsOrderly v in
-    let order = subst P c.self.view_is c.self.invariant.1 in
-    fits-at old d k u c.into_made.result r order c.task-task.ensures is c.windows-windows.ensures.fits c.into_made.ensures
+    fits-at old d k u c.into_made.result r c.task-task.ensures is c.windows-windows.ensures.fits c.into_made.ensures
 
 pub invariant_of-self : goal.invariant_of-self
 invariant_of-self c =
