@@ -149,5 +149,6 @@ fit-there b d k image u is within pending there first whole fit =
 
 pub result-there : (b : Book) (d : WindowTask) (k : TaskId) (image : ℕ) (u : ProgressView) → k ≡ d.task → d.task.ticket < length b.table.names → outcome_at b.table.outcomes d.task.ticket ≡ outcome.Pending
     → work_at b.works k.ticket ≡ Some u → (submission_at b.table.submissions k.ticket).inputs.a ≡ Some image → IsWhole u → IsResultOf (image_of (value_at b.kept image)) u d → IsResultAt b d
+unfolding fit-there
 result-there b d k image u is within pending there first whole r =
     record { fits = fit-there b d k image u is within pending there first whole r.fit; task = r.task }
