@@ -176,12 +176,12 @@ own-true b m d own r =
 
 -- what the ledger has taken, the core has finished
 pub taken-finishes : (b new : Book) (m : Machine) (d : WindowTask) (f : Finish) → StandsFor (seen_of b) m → IsOrderly b → TakenAt b d f new → ((r : IsFitAt b d) → IsTrueResult m d r.work) → Finishes (seen_of b) m d f (seen_of new)
-taken-finishes b new m d finish.Placed s orderly p true = places-at b new m d s orderly p (true p.finishes.was)
-taken-finishes b new m d (finish.Settled t) s orderly p true =
+taken-finishes b new m d finish.Placed s orderly p is = places-at b new m d s orderly p (is p.finishes.was)
+taken-finishes b new m d (finish.Settled t) s orderly p is =
     let Of : ℕ → Type 0 = λ k. Settles (seen_of b) m d k (seen_of new) in
-    subst Of (sym p.0) (settles-at b new m d s orderly p.1 (true p.1.finishes.was))
-taken-finishes b new m d finish.Late s orderly p true = absurd p
-taken-finishes b new m d finish.Stranger s orderly p true = absurd p
+    subst Of (sym p.0) (settles-at b new m d s orderly p.1 (is p.1.finishes.was))
+taken-finishes b new m d finish.Late s orderly p is = absurd p
+taken-finishes b new m d finish.Stranger s orderly p is = absurd p
 
 -- and each of the machine's is found
 pub found-at : (b : Book) (m : Machine) (d : WindowTask) → StandsFor (seen_of b) m → IsOrderly b → IsResult (seen_of b) m d → IsFoundAt b d

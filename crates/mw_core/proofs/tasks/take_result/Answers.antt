@@ -31,8 +31,8 @@ settle-requires-clause-below c =
     let All : List ℕ → Type 0 = λ us. AllByRecursion (λ u. u < length c.finish.new.self.table.names) us in
     subst All (sym c.tickets.ensures) (subst Below (sym c.in-Some.ensures.settled.table) c.in-Some.ensures.below)
 
-pub returns-clause-counted : goal.returns-clause-counted
-returns-clause-counted c =
+pub returns-in-Some-clause-counted : goal.returns-in-Some-clause-counted
+returns-in-Some-clause-counted c =
     let b = c.args.ledger.now in
     let Named : TaskId → Type 0 = λ k. WaitFor b k.ticket c.in-Some.waiters in
     let Wait : List ℕ → Type 0 = λ us. WaitFor b c.task-t.result.ticket us in
