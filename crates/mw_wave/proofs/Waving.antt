@@ -477,24 +477,24 @@ take-work m old c new jobs n w h b =
       ];
       tasks = (
         (λ u k r l there bears.
-        let here_too : u ≡ t = ap (λ (x : TaskId). x.ticket) bears in
-        let Q : ℕ → Type 0 = λ v. progress_at new.work v ≡ Some r → (true_task h.state v r k).task ≡ w.task → w ≡ true_task h.state v r k in
-        subst Q (sym here_too) (λ y z.
-        let same : r ≡ q = cc (y, mine) in
-        let task : true_task h.state t r k ≡ true_task h.state t p k = ap (λ v. true_task h.state t v k) same in
-        let both : (true_task h.state t p k).task ≡ (true_task h.state t p i).task = sym (ap (λ (x : WindowTask). x.task) task) ∙ z ∙ ap (λ (x : WindowTask). x.task) b.task in
-        let number : k ≡ i = same-number k i (length p.tiles) (ap (λ (x : TaskId). x.step) both) (ap (λ (x : TaskId). x.tile) both) in
-        b.task ∙ ap (true_task h.state t p) (sym number) ∙ sym task) there bears),
+            let here_too : u ≡ t = ap (λ (x : TaskId). x.ticket) bears in
+            let Q : ℕ → Type 0 = λ v. progress_at new.work v ≡ Some r → (true_task h.state v r k).task ≡ w.task → w ≡ true_task h.state v r k in
+            subst Q (sym here_too) (λ y z.
+            let same : r ≡ q = cc (y, mine) in
+            let task : true_task h.state t r k ≡ true_task h.state t p k = ap (λ v. true_task h.state t v k) same in
+            let both : (true_task h.state t p k).task ≡ (true_task h.state t p i).task = sym (ap (λ (x : WindowTask). x.task) task) ∙ z ∙ ap (λ (x : WindowTask). x.task) b.task in
+            let number : k ≡ i = same-number k i (length p.tiles) (ap (λ (x : TaskId). x.step) both) (ap (λ (x : TaskId). x.tile) both) in
+            b.task ∙ ap (true_task h.state t p) (sym number) ∙ sym task) there bears),
         all-true c new h.state h.state
-        (λ v is u k r l there bears. elim (cases_eq u t) [
-          | inl z ↦
-              let Q : ℕ → Type 0 = λ x. progress_at new.work x ≡ Some r → (true_task h.state x r k).task ≡ v.task → v ≡ true_task h.state x r k in
-              subst Q (sym z) (λ y bears_it.
-              let same : r ≡ q = cc (y, mine) in
-              let task : true_task h.state t r k ≡ true_task h.state t p k = ap (λ x. true_task h.state t x k) same in
-              is t k p b.within b.work (sym (ap (λ (x : WindowTask). x.task) task) ∙ bears_it) ∙ sym task) there bears
-          | inr z ↦ is u k r (omega (arith, names, l)) (sym (other u z) ∙ there) bears
-        ]) jobs h.tasks,
+            (λ v is u k r l there bears. elim (cases_eq u t) [
+              | inl z ↦
+                  let Q : ℕ → Type 0 = λ x. progress_at new.work x ≡ Some r → (true_task h.state x r k).task ≡ v.task → v ≡ true_task h.state x r k in
+                  subst Q (sym z) (λ y bears_it.
+                  let same : r ≡ q = cc (y, mine) in
+                  let task : true_task h.state t r k ≡ true_task h.state t p k = ap (λ x. true_task h.state t x k) same in
+                  is t k p b.within b.work (sym (ap (λ (x : WindowTask). x.task) task) ∙ bears_it) ∙ sym task) there bears
+              | inr z ↦ is u k r (omega (arith, names, l)) (sym (other u z) ∙ there) bears
+            ]) jobs h.tasks,
       );
       gone = inr (fewer, runs-counted new t i q now);
     }

@@ -3,15 +3,21 @@ use Rattle.std.specs.Prelude.{Result}
 use Rattle.mw_task.specs.WindowTasks.{WindowTask}
 use Rattle.mw_task.specs.declared.done.TaskRefused.{TaskRefused}
 use Rattle.mw_wave.specs.declared.job.Job.TheVariants as job
+use Rattle.mw_wave.specs.Jobs.{IsBoundedJob}
 use Rattle.mw_wave.specs.Waves.{Underway}
-use Rattle.mw_wave.proofs.Waving.{finish-hand, refuse-hand}
+use Rattle.mw_wave.proofs.Waving.{finish-hand, handed-own, refuse-hand}
 use Rattle.mw_wave.proofs.wave.hand_in.Goals as goal
+
+pub finish_own-answer-requires : goal.finish_own-answer-requires
+finish_own-answer-requires c =
+    let P : Result WindowTask TaskRefused → Type 0 = λ a. IsBoundedJob (job.Ran a) in
+    subst P c.in-Ok.is c.requires
 
 pub returns-in-Ok : goal.returns-in-Ok
 returns-in-Ok c = λ m old jobs n small h.
     let P : Result WindowTask TaskRefused → Type 0 = λ a. Underway m old c.args.core.now (job.Ran a ∷ jobs) n in
     let k = subst P c.in-Ok.is h in
-    finish-hand m old c.args.core.now c.finish-answer.new.self c.in-Ok.done jobs n c.finish-answer.result small k (c.finish-answer.ensures.task k.state k.stands)
+    finish-hand m old c.args.core.now c.finish_own-answer.new.self c.in-Ok.done jobs n c.finish_own-answer.result small k (c.finish_own-answer.ensures.task k.state k.stands (handed-own m old c.args.core.now c.in-Ok.done jobs n k))
 
 pub returns-in-Err : goal.returns-in-Err
 returns-in-Err c = λ m old jobs n small h.
