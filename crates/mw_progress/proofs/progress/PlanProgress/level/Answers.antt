@@ -1,11 +1,8 @@
-use Rattle.std.proofs.Common.{sym, ap, ◌∙◌, subst}
+use Rattle.std.proofs.Common.{◌≡◌, ◌<◌, false, length, get_or, sym, subst}
 use Rattle.mw_model.specs.Plans.{is_sum}
 use Rattle.mw_model.specs.Tasks.{nothing_planned}
-use Rattle.std.proofs.Common.{◌≡◌, ◌<◌, false, length, get_or}
-use Rattle.mw_progress.specs.Levels.{Level}
-use Rattle.mw_progress.specs.ProgressView.{ProgressView, level_of_plane, plane_at}
-use Rattle.mw_progress.specs.Places.{shown}
-use Rattle.mw_progress.proofs.Windows.{no_sums, place_of}
+use Rattle.mw_progress.specs.ProgressView.{ProgressView}
+use Rattle.mw_progress.proofs.Windows.{no_sums}
 use Rattle.mw_progress.proofs.progress.PlanProgress.level.Goals as goal
 
 pub level-level-requires : goal.level-level-requires
