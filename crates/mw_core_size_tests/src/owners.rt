@@ -42,17 +42,19 @@ impl Watched {
     }
 }
 
-fn picture(rt: &impl Abort, alloc: Global) -> Image {
-    let file = b"P5\n5 1\n9\n\x03\x01\x04\x01\x05"
+/// A picture of five bytes.
+fn file(rt: &impl Abort, alloc: Global) -> Vec<u8> {
+    b"P5\n5 1\n9\n\x03\x01\x04\x01\x05"
         .to_vec(alloc)
         .ok()
-        .expect(rt, "memory");
-    read_owned(alloc, file).ok().expect(rt, "an image")
+        .expect(rt, "memory")
 }
 
 /// Loads the picture under a name, and watches its samples.
 fn loaded(rt: &impl Abort, alloc: Global, core: &mut Core, text: &str, wanted: Reply) -> Watched {
-    let image = picture(rt, alloc);
+    let image = read_owned(alloc, file(rt, alloc))
+        .ok()
+        .expect(rt, "an image");
     let watched = Watched::of_image(rt, &image);
     let reply = core.load(name(rt, text), Ok(image)).ok();
     assert_eq!(rt; reply, Some(wanted));
