@@ -1,6 +1,6 @@
 use Rattle.std.proofs.Common.{arith}
-use Rattle.mw_bits.proofs.Funnels.{funnel_below, funnel_above}
-use Rattle.mw_bits.proofs.shifting.funnel.Goals as goal
+use Rattle.mw_words.proofs.Funnels.{funnel_below, funnel_above}
+use Rattle.mw_words.proofs.shifting.funnel.Goals as goal
 
 pub returns-clause-below : goal.returns-clause-below
 returns-clause-below c = λ i within. funnel_below c.args.low c.args.high c.args.shift i (omega arith) within

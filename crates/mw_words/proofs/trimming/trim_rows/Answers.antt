@@ -1,9 +1,8 @@
 use Rattle.std.proofs.Common.{◌≡◌, ℕ, ◌*◌, ◌+◌, ◌-◌, cond, nat_lt, ap, ◌∙◌, arith, length, take, drop, length-take, length-drop}
-use Rattle.mw_line.proofs.Rows.{rows_fit}
-use Rattle.mw_bits.specs.Packed.{bit_of, stride_of}
-use Rattle.mw_bits.proofs.Bits.{bit_of_part}
-use Rattle.mw_bits.proofs.Done.{bit_rows_more_by}
-use Rattle.mw_bits.proofs.trimming.trim_rows.Goals as goal
+use Rattle.mw_words.specs.Packed.{bit_of, stride_of}
+use Rattle.mw_words.proofs.Bits.{bit_of_part, rows_fit}
+use Rattle.mw_words.proofs.Done.{bit_rows_more_by}
+use Rattle.mw_words.proofs.trimming.trim_rows.Goals as goal
 
 pub loop-y-preserved : goal.loop-y-preserved
 loop-y-preserved c =

@@ -2,12 +2,16 @@
 use Rattle.std.proofs.Common.{◌≡◌, ℕ, zero, suc, ◌+◌, ◌*◌, ◌/◌, ◌%◌, ◌<◌, ◌≤◌, List, length, take, drop, get_or, ap, sym, arith, ◌∙◌, inl, inr, length-take}
 use Rattle.std.specs.Int.{bit_at}
 use Rattle.std.specs.Prelude.{All}
+use Rattle.std.proofs.Math.Nat.{mul-le-mul_left}
 use Rattle.std.proofs.lemmas.Bool.{cases_lt}
 use Rattle.std.proofs.lemmas.List.{get_or-take, get_or-drop, get_or_past}
 use Rattle.std.proofs.lemmas.List.FromFn.{get_or-map-range_with_len, fill_by_all, length-map-range_with_len}
 use Rattle.std.proofs.lemmas.Nat.{mul-add-lt, div-mul-add, mod-mul-add, div_below, div-add-mod', mod_below}
 use Rattle.std.proofs.lemmas.Nat.Bits.{bit_at-zero, bit_at-lt}
-use Rattle.mw_bits.specs.Packed.{bit_of, stride_of, samples_of, IsPacked}
+use Rattle.mw_words.specs.Packed.{bit_of, stride_of, samples_of, IsPacked}
+
+pub rows_fit : (y h w : ℕ) → y < h → y * w + w ≤ h * w
+rows_fit y h w lt = let le : y + 1 ≤ h = omega arith in omega (arith, mul-le-mul_left w le)
 
 pub bit_of_word : (words : List ℕ) (k i q : ℕ) → i < 64 → q ≡ 64 * k + i → bit_of words q ≡ bit_at (get_or words k 0) i
 unfolding bit_of

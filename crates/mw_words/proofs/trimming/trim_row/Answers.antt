@@ -1,7 +1,7 @@
 use Rattle.std.proofs.Common.{ℕ, ◌-◌, ◌*◌, ◌/◌, ◌%◌, ◌^◌, List, length, ap, ◌∙◌, arith, refl}
 use Rattle.std.proofs.lemmas.Nat.{one_shl}
-use Rattle.mw_bits.proofs.Trims.{cut_at, trim_last}
-use Rattle.mw_bits.proofs.trimming.trim_row.Goals as goal
+use Rattle.mw_words.proofs.Trims.{cut_at, trim_last}
+use Rattle.mw_words.proofs.trimming.trim_row.Goals as goal
 
 pub returns-then-rest-gt0 : goal.returns-then-rest-gt0
 returns-then-rest-gt0 c = λ x lt.

@@ -4,8 +4,8 @@ use Rattle.std.specs.Int.{bit_at}
 use Rattle.std.proofs.lemmas.Bool.{cases_lt, cases_eq, lt-ltb, le-ltb}
 use Rattle.std.proofs.lemmas.List.{get_or-set_same, get_or-set_other}
 use Rattle.std.proofs.lemmas.Nat.Bits.{bit_at_and, bit_at_ones, bit_at_ones_above, bit_at-lt}
-use Rattle.mw_bits.specs.Packed.{bit_of, stride_of, IsPacked}
-use Rattle.mw_bits.proofs.Bits.{bit_of_word, bit_of_its_word}
+use Rattle.mw_words.specs.Packed.{bit_of, stride_of, IsPacked}
+use Rattle.mw_words.proofs.Bits.{bit_of_word, bit_of_its_word}
 
 -- the bits before a width, and 0 from there on
 abbrev pub cut_at : ℕ → List ℕ → ℕ → ℕ

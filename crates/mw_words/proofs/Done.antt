@@ -7,9 +7,8 @@ use Rattle.std.proofs.lemmas.Bool.{cases_lt}
 use Rattle.std.proofs.lemmas.List.{get_or-set_same, get_or-set_other}
 use Rattle.std.proofs.lemmas.Simd.{get_or-replicate}
 use Rattle.mw_facts.proofs.Parts.{length-put_mid, get_or-put_mid_below as put_mid_below, get_or-put_mid_within as put_mid_at, get_or-put_mid_above as put_mid_above}
-use Rattle.mw_line.proofs.Rows.{rows_fit}
-use Rattle.mw_bits.specs.Packed.{bit_of}
-use Rattle.mw_bits.proofs.Bits.{bit_of_word, bit_of_its_word, bit_of_part}
+use Rattle.mw_words.specs.Packed.{bit_of}
+use Rattle.mw_words.proofs.Bits.{bit_of_word, bit_of_its_word, bit_of_part, rows_fit}
 use borrow.Rule.Slice.PartMut.{put_mid}
 
 -- the bits of the words before i have their values, made from what stood there, and the other words are as they were

@@ -1,8 +1,8 @@
 use Rattle.std.proofs.Common.{◌≡◌, ℕ, ◌*◌, length, ap, ◌∙◌, arith}
 use Rattle.std.proofs.lemmas.List.{length-replicate}
 use Rattle.mw_facts.proofs.Elements.{take-written}
-use Rattle.mw_bits.proofs.Trims.{trimmed_rows, trimmed_bit}
-use Rattle.mw_bits.proofs.trimming.trimmed.Goals as goal
+use Rattle.mw_words.proofs.Trims.{trimmed_rows, trimmed_bit}
+use Rattle.mw_words.proofs.trimming.trimmed.Goals as goal
 
 pub returns-clause-packed : goal.returns-clause-packed
 returns-clause-packed c =

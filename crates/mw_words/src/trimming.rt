@@ -1,6 +1,6 @@
 //! Rows of words cut to a width.
 ghost use Rattle.std.specs.Prelude.{◌≡◌, ℕ, ◌+◌, ◌-◌, ◌*◌, ◌/◌, ◌<◌, ◌≤◌, ◌^◌, length, vec_len, if◌then◌else◌, nat_lt, IfOk};
-ghost use Rattle.mw_bits.specs.Packed.{bit_of, stride_of, IsPacked};
+ghost use Rattle.mw_words.specs.Packed.{bit_of, stride_of, IsPacked};
 
 use crate::words::{repeated, stride};
 use mw_model::NoMemory;
@@ -40,7 +40,7 @@ fn trim_rows(cells: &[u64], wide: usize, width: u32, high: usize, out: &mut [u64
 }
 
 /// The words of the first `width` pixels of each of `high` rows of `wide` words; their other bits are 0.
-pub(crate) fn trimmed(
+pub fn trimmed(
     alloc: Global,
     cells: &[u64],
     wide: usize,

@@ -1,8 +1,7 @@
 -- Sets packed in words of 64 pixels.
 use Rattle.std.specs.Prelude.{◌≡◌, ℕ, ◌+◌, ◌*◌, ◌/◌, ◌%◌, ◌<◌, ◌≤◌, List, length, map, slice_index}
-use Rattle.std.specs.List.{range_with_len, sum_by}
+use Rattle.std.specs.List.{range_with_len}
 use Rattle.std.specs.Int.{bit_at}
-use Rattle.std.specs.Int.RustNames.{count_ones}
 
 -- the bit at a place of a list of words, in each word the lowest bit first
 unfoldable pub bit_of : List ℕ → ℕ → ℕ
@@ -21,7 +20,3 @@ samples_of width height words =
 pub record IsPacked (width height : ℕ) (words : List ℕ) : Type 0 where
   pub size : length words ≡ height * stride_of width
   pub clean : (x y : ℕ) → y < height → width ≤ x → x < 64 * stride_of width → bit_of words (y * (64 * stride_of width) + x) ≡ 0
-
--- how many bits of the words are set
-abbrev pub bits_in : List ℕ → ℕ
-bits_in words = sum_by count_ones words

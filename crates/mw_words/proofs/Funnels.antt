@@ -2,8 +2,8 @@
 use Rattle.std.proofs.Common.{◌≡◌, ℕ, ◌+◌, ◌-◌, ◌*◌, ◌/◌, ◌%◌, ◌^◌, ◌<◌, ◌≤◌, max, bit_or, List, get_or, ap, sym, arith, ◌∙◌, inl, inr, add-zero}
 use Rattle.std.specs.Int.{bit_at}
 use Rattle.std.proofs.lemmas.Bool.{cases_lt}
-use Rattle.mw_bits.specs.Packed.{bit_of}
-use Rattle.mw_bits.proofs.Bits.{bit_of_word}
+use Rattle.mw_words.specs.Packed.{bit_of}
+use Rattle.mw_words.proofs.Bits.{bit_of_word}
 use Rattle.std.proofs.lemmas.Nat.{pow-add, pow_pos, shr-shr, mul-mod_first, div-add-mod'}
 use Rattle.std.proofs.lemmas.Nat.Bits.{bit_at_or, bit_at-zero, bit_at_above, bit_at_cat_low, bit_at_cat_high}
 
