@@ -1,6 +1,6 @@
 use Rattle.std.proofs.Common.{arith}
-use Rattle.mw_lane.proofs.Same.{same_more}
-use Rattle.mw_lane.proofs.equal.equal_rows.Goals as goal
+use Rattle.mw_pixel.proofs.Same.{same_more}
+use Rattle.mw_pixel.proofs.equal.equal_rows.Goals as goal
 
 pub by_block-preserved : goal.by_block-preserved
 by_block-preserved g c = record {

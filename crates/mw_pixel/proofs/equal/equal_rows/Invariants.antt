@@ -1,5 +1,5 @@
 use Rattle.std.proofs.Common.{◌≡◌, ◌-◌, ◌≤◌, length, take}
-use Rattle.mw_lane.proofs.equal.equal_rows.Given as goal
+use Rattle.mw_pixel.proofs.equal.equal_rows.Given as goal
 
 abbrev pub invariant-by_block : goal.invariant-by_block
 invariant-by_block g l = record {
