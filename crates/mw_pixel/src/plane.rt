@@ -111,7 +111,7 @@ impl<P: Grey> Plane<P> {
         P::samples_in(&self.held)
     }
 
-    /// All samples, by rows.
+    /// All samples, by rows, without the plane.
     pub fn into_samples(self) -> Vec<P>
         ensures value { result.items ≡ self.cells }
         ensures size { vec_len result ≡ self.height * self.width }
