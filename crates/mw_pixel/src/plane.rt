@@ -33,6 +33,16 @@ impl<P: Planar> Plane<P> {
         Ok(Plane { held })
     }
 
+    /// A plane of so many columns and rows, whose samples are to be written. It may want memory (`NoMemory`).
+    pub fn blank(alloc: Global, width: u32, height: u32) -> Result<Plane<P>, NoMemory>
+        ensures width { IfOk result (λ p. p.width ≡ width) }
+        ensures height { IfOk result (λ p. p.height ≡ height) }
+        ensures size { IfOk result (λ p. length p.cells ≡ height * width) }
+    {
+        let plane = Plane::filled(alloc, width, height, P::TOP)?;
+        Ok(plane)
+    }
+
     /// The columns.
     pub fn width(&self) -> u32
         ensures value { result ≡ self.now.width }

@@ -2,6 +2,7 @@
 pub mod Bits
 pub mod Done
 pub mod Funnels
+pub mod Fronts
 -- the crate's own
 mod Trims
 mod Copies
