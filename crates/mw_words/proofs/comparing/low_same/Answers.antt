@@ -1,4 +1,3 @@
-use Rattle.std.proofs.Common.{arith}
 use Rattle.std.proofs.lemmas.Bool.{eqb-true, eq-eqb}
 use Rattle.mw_words.proofs.Compared.{low_bits_of_same, same_of_low_bits}
 use Rattle.mw_words.proofs.comparing.low_same.Goals as goal

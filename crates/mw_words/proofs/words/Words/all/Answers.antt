@@ -1,6 +1,5 @@
-use Rattle.std.proofs.Common.{◌≡◌, ℕ, ◌*◌, List, length, replicate, ap, sym, ◌∙◌, arith}
+use Rattle.std.proofs.Common.{ap, ◌∙◌}
 use Rattle.mw_model.specs.Rasters.{raster}
-use Rattle.mw_words.specs.Packed.{stride_of, samples_of, IsPacked}
 use Rattle.mw_words.proofs.Filled.{all_samples}
 use Rattle.mw_words.proofs.words.Words.all.Goals as goal
 

@@ -1,8 +1,7 @@
-use Rattle.std.proofs.Common.{◌≡◌, ℕ, ◌+◌, ◌-◌, ◌*◌, List, length, slice_range, get_or, ap, sym, ◌∙◌, arith}
+use Rattle.std.proofs.Common.{◌≡◌, ℕ, ◌+◌, ◌-◌, ◌*◌, List, length, slice_range, get_or, ap, ◌∙◌, arith}
 use Rattle.mw_facts.proofs.Elements.{take-written}
-use Rattle.mw_facts.proofs.Parts.{length-put_mid}
 use Rattle.mw_model.specs.Rasters.{Raster, raster}
-use Rattle.mw_words.specs.Packed.{samples_of, stride_of}
+use Rattle.mw_words.specs.Packed.{samples_of}
 use Rattle.mw_words.specs.Runs.{put_at}
 use Rattle.mw_words.proofs.Bits.{rows_fit}
 use Rattle.mw_words.proofs.Copies.{RowCopied, copied_packed, copied_samples, copied_whole}

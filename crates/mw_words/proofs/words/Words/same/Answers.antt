@@ -1,4 +1,4 @@
-use Rattle.std.proofs.Common.{◌≡◌, ℕ, ◌*◌, List, length, refl, ap, sym, ◌∙◌}
+use Rattle.std.proofs.Common.{◌≡◌, ℕ, ◌*◌, length, refl, ap, sym, ◌∙◌}
 use Rattle.mw_model.specs.Rasters.{Raster, raster}
 use Rattle.mw_words.specs.Packed.{samples_of, IsPacked}
 use Rattle.mw_words.proofs.Compared.{samples_same, all_bits_same}

@@ -1,4 +1,4 @@
-use Rattle.std.proofs.Common.{◌≡◌, ℕ, ◌*◌, length, ap, sym, ◌∙◌}
+use Rattle.std.proofs.Common.{ℕ, ◌*◌, length, ap, sym, ◌∙◌}
 use Rattle.mw_model.specs.Rasters.{Raster}
 use Rattle.mw_words.proofs.Bits.{length-samples_of, samples_small}
 use Rattle.mw_words.proofs.words.Words.width.Goals as goal
