@@ -163,7 +163,7 @@ old_bit : (w h x y s m count a from : ℕ) (words made cells other_row : List �
     → (i : ℕ) → i < 64 * s → (i < x) ⊎ (x + count ≤ i) → bit_of made i ≡ bit_of words (y * (64 * s) + i)
 old_bit w h x y s m count a from words made cells other_row is i lt out =
     let m-is = is.whole in
-    elim out [ | inl left ↦ is.copied.before i left | inr right ↦ is.copied.after i right ]
+    elim out [ inl left ↦ is.copied.before i left | inr right ↦ is.copied.after i right ]
     ∙ bit_of_part words (y * s) m i (y * (64 * s) + i) (omega arith) (omega arith)
 
 pub copied_packed : (w h x y s m count a from : ℕ) (words made cells other_row : List ℕ) → RowCopied w h x y s m count a from words made cells other_row → IsPacked w h (put_mid (y * s) m words made)

@@ -13,7 +13,7 @@ mod shifting;
 mod trimming;
 mod words;
 
-pub use shifting::funnel;
 pub use mw_model::NoMemory;
+pub use shifting::funnel;
 pub use trimming::trimmed;
 pub use words::{Words, repeated, stride};

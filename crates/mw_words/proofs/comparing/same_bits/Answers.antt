@@ -15,5 +15,5 @@ pub parts-preserved : goal.parts-preserved
 parts-preserved c = (
   omega (arith, c.min-part.ensures, c.parts.invariant.0),
   same_more c.args.place c.args.from c.parts.done c.min-part.result c.bits_from-bits.result c.bits_from-others.result c.args.words.now c.args.other.now
-  (omega (arith, c.min-part.ensures)) c.bits_from-bits.ensures c.bits_from-others.ensures (c.low_same.ensures.0 c.if-not-low_same.false) c.parts.invariant.1
+      (omega (arith, c.min-part.ensures)) c.bits_from-bits.ensures c.bits_from-others.ensures (c.low_same.ensures.0 c.if-not-low_same.false) c.parts.invariant.1,
 )

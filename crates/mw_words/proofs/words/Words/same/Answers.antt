@@ -19,10 +19,9 @@ returns c =
     let height-is : self.height ≡ other.height = sym c.height.ensures ∙ c.if-height.false ∙ c.height-2.ensures in
     let packed : IsPacked self.width self.height others = rw (width-is, height-is) c.words.ensures.packed in
     let others-are : samples_of self.width self.height others ≡ other.cells =
-    ap (λ (t : ℕ). samples_of t self.height others) width-is ∙ ap (λ (t : ℕ). samples_of other.width t others) height-is ∙ sym c.words.ensures.samples in
-    (
+    ap (λ (t : ℕ). samples_of t self.height others) width-is ∙ ap (λ (t : ℕ). samples_of other.width t others) height-is ∙ sym c.words.ensures.samples in (
       λ yes. same_raster self other width-is height-is
-      (c.words-words.ensures.samples ∙ samples_same self.width self.height n words others refl c.words-words.ensures.packed (c.same_bits.ensures.0 yes) ∙ others-are),
+          (c.words-words.ensures.samples ∙ samples_same self.width self.height n words others refl c.words-words.ensures.packed (c.same_bits.ensures.0 yes) ∙ others-are),
       λ same. c.same_bits.ensures.1 (all_bits_same self.width self.height n words others refl c.words-words.ensures.packed packed
-      (sym c.words-words.ensures.samples ∙ ap (λ (t : Raster ℕ). t.cells) same ∙ sym others-are))
+          (sym c.words-words.ensures.samples ∙ ap (λ (t : Raster ℕ). t.cells) same ∙ sym others-are)),
     )

@@ -22,8 +22,7 @@ returns c =
     let are : IsRun u count b c.row-2.result.now other.cells = record {
       inside = omega (arith, c.width-second.ensures.size, rows_fit v other.height other.width c.requires.down_other);
       bits = λ i lt. c.row-2.ensures.samples (u + i) (omega arith) ∙ ap (λ (t : ℕ). get_or other.cells t 0) (group v other.width u i);
-    } in
-    (
+    } in (
       λ true. runs_same x u count a b c.row.result.now c.row-2.result.now self.cells other.cells is are (c.same_bits.ensures.0 true),
-      λ same. c.same_bits.ensures.1 (bits_same x u count a b c.row.result.now c.row-2.result.now self.cells other.cells is are same)
+      λ same. c.same_bits.ensures.1 (bits_same x u count a b c.row.result.now c.row-2.result.now self.cells other.cells is are same),
     )
