@@ -112,31 +112,60 @@ fn define(
     Ok(core.element(name(text)?, element)?)
 }
 
-fn erode(core: &mut Core, text: &[u8], f: &[u8], b: &[u8]) -> Result<Reply, Stop> {
-    let op = Op::Flat(FlatOp::Erode(name(f)?, name(b)?));
-    Ok(core.run(name(text)?, op)?)
+/// The operation of a command, from its image and its element.
+fn op_of(ask: &Ask, f: Name, b: Name) -> Op {
+    match ask {
+        Ask::Erode(_, _, _) => Op::Flat(FlatOp::Erode(f, b)),
+        Ask::Dilate(_, _, _) => Op::Flat(FlatOp::Dilate(f, b)),
+        _ => Op::Flat(FlatOp::Opening(f, b)),
+    }
 }
 
-fn dilate(core: &mut Core, text: &[u8], f: &[u8], b: &[u8]) -> Result<Reply, Stop> {
-    let op = Op::Flat(FlatOp::Dilate(name(f)?, name(b)?));
-    Ok(core.run(name(text)?, op)?)
+fn submit(core: &mut Core, made: &[u8], op: Op) -> Result<Reply, Stop> {
+    Ok(core.run(name(made)?, op)?)
 }
 
-fn open(core: &mut Core, text: &[u8], f: &[u8], b: &[u8]) -> Result<Reply, Stop> {
-    let op = Op::Flat(FlatOp::Opening(name(f)?, name(b)?));
-    Ok(core.run(name(text)?, op)?)
+fn command(
+    core: &mut Core,
+    ask: &Ask,
+    made: &[u8],
+    image: &[u8],
+    element: &[u8],
+) -> Result<Reply, Stop> {
+    let op = op_of(ask, name(image)?, name(element)?);
+    submit(core, made, op)
+}
+
+fn cancel(core: &mut Core, text: &[u8]) -> Result<Reply, Stop> {
+    Ok(core.cancel(name(text)?)?)
+}
+
+fn release(core: &mut Core, text: &[u8]) -> Result<Reply, Stop> {
+    Ok(core.release(name(text)?)?)
+}
+
+fn status(core: &mut Core, text: &[u8]) -> Result<Reply, Stop> {
+    Ok(core.status(name(text)?)?)
+}
+
+/// The answer to a call without a payload.
+fn answer_alone(core: &mut Core, ask: &Ask) -> Result<Reply, Stop> {
+    match ask {
+        Ask::Erode(made, image, element)
+        | Ask::Dilate(made, image, element)
+        | Ask::Open(made, image, element) => command(core, ask, made, image, element),
+        Ask::Cancel(text) => cancel(core, text),
+        Ask::Release(text) => release(core, text),
+        Ask::Status(text) => status(core, text),
+        _ => Err(Stop::List),
+    }
 }
 
 fn answer(alloc: Global, core: &mut Core, ask: &Ask) -> Result<Reply, Stop> {
     match ask {
         Ask::Load(text, bytes) => load(alloc, core, text, bytes),
         Ask::Element(text, bytes, ox) => define(alloc, core, text, bytes, *ox),
-        Ask::Erode(text, f, b) => erode(core, text, f, b),
-        Ask::Dilate(text, f, b) => dilate(core, text, f, b),
-        Ask::Open(text, f, b) => open(core, text, f, b),
-        Ask::Cancel(text) => Ok(core.cancel(name(text)?)?),
-        Ask::Release(text) => Ok(core.release(name(text)?)?),
-        Ask::Status(text) => Ok(core.status(name(text)?)?),
+        _ => answer_alone(core, ask),
     }
 }
 
@@ -157,34 +186,46 @@ const ACROSS: OffsetBox = OffsetBox {
     y1: 0,
 };
 
+const ROW_PLACE: Rect = Rect {
+    x: 0,
+    y: 0,
+    width: 5,
+    height: 1,
+};
+
+/// The window of the whole row, as a core would share it.
+fn shared_row(alloc: Global, samples: Vec<u8>) -> Result<SharedWindow, Stop> {
+    if samples.len() != 5 {
+        return Err(Stop::List);
+    }
+    let plane = Arc::new(alloc, Plane::new(5, 1, samples))?;
+    let pieces = Pieces::of_plane(alloc, plane, ROW_PLACE)?;
+    Ok(SharedWindow::grey8(pieces, 9)?)
+}
+
+fn windows_by_hand(alloc: Global, samples: &[u8]) -> Result<Vec<SharedWindow>, Stop> {
+    let window = shared_row(alloc, samples.to_vec(alloc)?)?;
+    let mut windows = Vec::new(alloc);
+    windows.push(window)?;
+    Ok(windows)
+}
+
 /// A task of the whole row by the bar.
 fn task_by_hand(alloc: Global, ticket: u32, samples: &[u8]) -> Result<Work, Stop> {
-    let place = Rect {
-        x: 0,
-        y: 0,
-        width: 5,
-        height: 1,
-    };
+    let windows = windows_by_hand(alloc, samples)?;
     let task = TaskId {
         ticket,
         step: 0,
         tile: 0,
     };
-    let step = Step::ErodeBox(ACROSS);
-    let samples = samples.to_vec(alloc)?;
-    if samples.len() != 5 {
-        return Err(Stop::List);
-    }
-    let mut windows = Vec::with_capacity(alloc, 1)?;
-    let plane = Arc::new(alloc, Plane::new(5, 1, samples))?;
-    windows.push(SharedWindow::grey8(Pieces::of_plane(alloc, plane, place)?, 9))?;
-    Work::new(task, place, step, windows).ok_or(Stop::List)
+    Work::new(task, ROW_PLACE, Step::ErodeBox(ACROSS), windows).ok_or(Stop::List)
 }
 
 fn done_by_hand(alloc: Global, ticket: u32, samples: &[u8]) -> Result<TileDone, Stop> {
-    run(alloc, task_by_hand(alloc, ticket, samples)?)
-        .ok()
-        .ok_or(Stop::Memory)
+    match run(alloc, task_by_hand(alloc, ticket, samples)?) {
+        Ok(done) => Ok(done),
+        Err(_) => Err(Stop::Memory),
+    }
 }
 
 /// The erosion of five samples under this ticket, by a task that no core gave.
@@ -220,15 +261,22 @@ impl Desk {
         Ok(desk)
     }
 
+    /// The answer to a call whose memory was refused, which has changed nothing.
+    fn again(&mut self, rt: &impl Abort, ask: &Ask, items: usize) -> Result<Reply, Stop> {
+        assert_eq!(rt; self.core.log_len(), items);
+        answer(self.alloc, &mut self.core, ask)
+    }
+
+    fn answer(&mut self, rt: &impl Abort, ask: &Ask) -> Result<Reply, Stop> {
+        let items = self.core.log_len();
+        match answer(self.alloc, &mut self.core, ask) {
+            Err(Stop::Memory) => self.again(rt, ask, items),
+            first => first,
+        }
+    }
+
     fn call(&mut self, rt: &impl Abort, ask: &Ask, wanted: Reply) -> Result<(), Stop> {
-        let before = self.core.log_len();
-        let reply = match answer(self.alloc, &mut self.core, ask) {
-            Err(Stop::Memory) => {
-                assert_eq!(rt; self.core.log_len(), before);
-                answer(self.alloc, &mut self.core, ask)?
-            }
-            first => first?,
-        };
+        let reply = self.answer(rt, ask)?;
         assert_eq!(rt; reply, wanted);
         Ok(())
     }
@@ -347,22 +395,42 @@ impl Desk {
         assert_eq!(rt; self.core.running(), running);
     }
 
-    fn turn(&mut self, rt: &impl Abort, turn: &Turn) -> Result<(), Stop> {
+    fn rest(&mut self, rt: &impl Abort) -> Result<(), Stop> {
+        assert!(rt; matches!(self.started(0), Started::Idle));
+        Ok(())
+    }
+
+    /// A look that changes nothing.
+    fn look(&self, rt: &impl Abort, turn: &Turn) -> Result<(), Stop> {
         match turn {
-            Turn::Call(ask, wanted) => self.call(rt, ask, *wanted)?,
-            Turn::Fetch(text, wanted, bytes) => self.fetch(rt, text, *wanted, bytes)?,
-            Turn::Take(place, ticket) => self.take(rt, *place, *ticket)?,
-            Turn::Rest => assert!(rt; matches!(self.started(0), Started::Idle)),
-            Turn::Bring(wanted) => self.bring(rt, *wanted)?,
-            Turn::ByHand(ticket, samples, wanted) => {
-                self.bring_by_hand(rt, *ticket, samples, *wanted)?;
-            }
             Turn::Tasks(ready, running) => self.tasks(rt, *ready, *running),
             Turn::Left(ticket, left) => assert_eq!(rt; self.left(*ticket), *left),
             Turn::Keeps(ticket, keeps) => assert_eq!(rt; self.core.keeps(*ticket), *keeps),
             Turn::Logged(place, item) => self.item(rt, *place, *item),
+            _ => return Err(Stop::List),
         }
         Ok(())
+    }
+
+    /// What a worker does, or a look.
+    fn work_or_look(&mut self, rt: &impl Abort, turn: &Turn) -> Result<(), Stop> {
+        match turn {
+            Turn::Take(place, ticket) => self.take(rt, *place, *ticket),
+            Turn::Rest => self.rest(rt),
+            Turn::Bring(wanted) => self.bring(rt, *wanted),
+            Turn::ByHand(ticket, samples, wanted) => {
+                self.bring_by_hand(rt, *ticket, samples, *wanted)
+            }
+            _ => self.look(rt, turn),
+        }
+    }
+
+    fn turn(&mut self, rt: &impl Abort, turn: &Turn) -> Result<(), Stop> {
+        match turn {
+            Turn::Call(ask, wanted) => self.call(rt, ask, *wanted),
+            Turn::Fetch(text, wanted, bytes) => self.fetch(rt, text, *wanted, bytes),
+            _ => self.work_or_look(rt, turn),
+        }
     }
 
     pub(crate) fn play(&mut self, rt: &impl Abort, turns: &[Turn]) -> Result<(), Stop> {
