@@ -8,9 +8,10 @@ use crate::jobs::{Job, element_name, image_name, made_name};
 use crate::side::Side;
 use mw_core::{Core, Finish, Started};
 use mw_element::Element;
-use mw_model::{Code, NoMemory, Reply};
+use mw_model::{Code, Name, NoMemory, Op, Reply};
 use mw_netpbm::read_owned;
 use mw_pixel::Image;
+use mw_task::TileDone;
 use std::alloc::Global;
 use std::rt::Clock;
 use std::time::{Duration, Instant};
@@ -48,35 +49,67 @@ pub(crate) fn accepted(reply: Reply) -> Result<(), Fault> {
     }
 }
 
+fn load_image(alloc: Global, core: &mut Core, bytes: Vec<u8>) -> Result<(), Fault> {
+    let name = image_name()?;
+    accepted(core.load(name, image(alloc, bytes))?)
+}
+
+fn load_element(
+    alloc: Global,
+    core: &mut Core,
+    bytes: &[u8],
+    origin: (u32, u32),
+) -> Result<(), Fault> {
+    let name = element_name()?;
+    accepted(core.element(name, element(alloc, bytes, origin))?)
+}
+
 fn load(alloc: Global, core: &mut Core, job: Job) -> Result<(), Fault> {
-    let image = image(alloc, job.file(alloc)?);
-    let element = element(alloc, &job.bitmap(alloc)?, job.origin());
-    accepted(core.load(image_name()?, image)?)?;
-    accepted(core.element(element_name()?, element)?)
+    load_image(alloc, core, job.file(alloc)?)?;
+    load_element(alloc, core, &job.bitmap(alloc)?, job.origin())
+}
+
+fn run(core: &mut Core, made: Name, op: Op) -> Result<(), Fault> {
+    accepted(core.run(made, op)?)
 }
 
 fn submit(core: &mut Core, job: Job) -> Result<(), Fault> {
     for command in 0..job.commands() {
-        accepted(core.run(made_name(command)?, job.op()?)?)?;
+        run(core, made_name(command)?, job.op()?)?;
     }
     Ok(())
 }
 
+/// Takes a task: with the time of the core.
+fn timed_start<R: Clock>(rt: &R, core: &mut Core) -> Result<(Started, Duration), Fault> {
+    let start = Instant::now(rt)?;
+    let started = core.start(0);
+    let time = start.elapsed(rt)?;
+    Ok((started, time))
+}
+
+/// Brings a result: the time of the core.
+fn timed_finish<R: Clock>(rt: &R, core: &mut Core, done: TileDone) -> Result<Duration, Fault> {
+    let start = Instant::now(rt)?;
+    let finish = core.finish(done);
+    let time = start.elapsed(rt)?;
+    match finish {
+        Finish::Placed | Finish::Settled(_) => Ok(time),
+        _ => Err(Fault::Answer),
+    }
+}
+
 /// Takes a task, computes it and brings it: the time of the core, or none where no task is ready.
 fn one_task<R: Clock>(rt: &R, alloc: Global, core: &mut Core) -> Result<Option<Duration>, Fault> {
-    let start = Instant::now(rt)?;
-    let Started::Work(work) = core.start(0) else {
+    let (started, taken) = timed_start(rt, core)?;
+    let Started::Work(work) = started else {
         return Ok(None);
     };
-    let taken = start.elapsed(rt)?;
     let Ok(done) = mw_step::run(alloc, work) else {
         return Err(Fault::Memory);
     };
-    let start = Instant::now(rt)?;
-    match core.finish(done) {
-        Finish::Placed | Finish::Settled(_) => Ok(Some(taken.saturating_add(start.elapsed(rt)?))),
-        _ => Err(Fault::Answer),
-    }
+    let brought = timed_finish(rt, core, done)?;
+    Ok(Some(taken.saturating_add(brought)))
 }
 
 fn work_off<R: Clock>(

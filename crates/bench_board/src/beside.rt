@@ -4,7 +4,7 @@ use crate::alone::accepted;
 use crate::fault::Fault;
 use crate::jobs::{Job, element_name, image_name, made_name};
 use crate::side::Side;
-use mw_model::{NoMemory, Reply};
+use mw_model::{Name, NoMemory, Op, Reply};
 use mw_pool::{Board, Gate, Pass, work};
 use mw_task::{TaskRefused, TileDone, Work};
 use std::alloc::Global;
@@ -70,21 +70,42 @@ fn load<R: Wait>(
     pass: &mut Pass,
     job: Job,
 ) -> Result<(), Fault> {
-    let (file, bitmap) = (job.file(alloc)?, job.bitmap(alloc)?);
-    accepted(board.load(rt, pass, image_name()?, &file)?)?;
-    accepted(board.element(rt, pass, element_name()?, job.origin(), &bitmap)?)
+    load_image(rt, board, pass, &job.file(alloc)?)?;
+    load_element(rt, board, pass, &job.bitmap(alloc)?, job.origin())
+}
+
+fn load_image<R: Wait>(rt: &R, board: &Board, pass: &mut Pass, bytes: &[u8]) -> Result<(), Fault> {
+    accepted(board.load(rt, pass, image_name()?, bytes)?)
+}
+
+fn load_element<R: Wait>(
+    rt: &R,
+    board: &Board,
+    pass: &mut Pass,
+    bytes: &[u8],
+    origin: (u32, u32),
+) -> Result<(), Fault> {
+    accepted(board.element(rt, pass, element_name()?, origin, bytes)?)
+}
+
+fn run<R: Wait>(rt: &R, board: &Board, pass: &mut Pass, made: Name, op: Op) -> Result<(), Fault> {
+    accepted(board.run(rt, pass, made, op)?)
+}
+
+fn wait<R: Wait>(rt: &R, board: &Board, pass: &mut Pass, made: Name) -> Result<(), Fault> {
+    match board.wait(rt, pass, made)? {
+        Reply::Done(_, _) => Ok(()),
+        _ => Err(Fault::Answer),
+    }
 }
 
 /// Submits the commands and waits for all of them.
 fn submit_and_wait<R: Wait>(rt: &R, board: &Board, pass: &mut Pass, job: Job) -> Result<(), Fault> {
     for command in 0..job.commands() {
-        accepted(board.run(rt, pass, made_name(command)?, job.op()?)?)?;
+        run(rt, board, pass, made_name(command)?, job.op()?)?;
     }
     for command in 0..job.commands() {
-        match board.wait(rt, pass, made_name(command)?)? {
-            Reply::Done(_, _) => (),
-            _ => return Err(Fault::Answer),
-        }
+        wait(rt, board, pass, made_name(command)?)?;
     }
     Ok(())
 }
