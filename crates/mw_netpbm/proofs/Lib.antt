@@ -4,6 +4,7 @@ pub mod Exclusive
 pub mod Files
 pub mod Sides
 -- the crate's own
+mod Bands
 mod Blanks
 mod Chunks
 mod Enough
