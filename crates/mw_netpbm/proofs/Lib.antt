@@ -20,6 +20,7 @@ mod Pixels
 mod PlainLoop
 mod Rasters
 mod Refused
+mod RowParts
 mod Rows
 mod Tallies
 mod Whole
