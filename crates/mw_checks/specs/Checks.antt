@@ -9,7 +9,7 @@ use Rattle.mw_model.specs.declared.calls.Given.{Given}
 use Rattle.mw_model.specs.declared.operations.Op.TheVariants as op
 use Rattle.mw_model.specs.declared.operations.FlatOp.{FlatOp}
 use Rattle.mw_model.specs.declared.operations.GranOp.{GranOp}
-use Rattle.mw_model.specs.Values.{Value, value_at, offsets_of}
+use Rattle.mw_model.specs.Values.{Value, value_at, offsets_in}
 use Rattle.mw_model.specs.Refusals.{Table, Wanted, first_of, when, is_dead, is_released, name_taken, no_room, fault_of, wanted_case, inputs_wanted, op_cases}
 
 -- why a check refuses, if it does
@@ -23,7 +23,7 @@ state_case o = first_of (when (is_dead o) code.Dead ∷ when (is_released o) cod
 
 -- the offsets of the element that is kept under the ticket
 abbrev pub kept_offsets : List (Option Value) → ℕ → List Offset
-kept_offsets kept t = unwrap_or (offsets_of (value_at kept t)) []
+kept_offsets kept t = unwrap_or (offsets_in (value_at kept t)) []
 
 -- why an input is refused, if one is: the first such case
 abbrev pub inputs_case : Table → List Wanted → Option Code

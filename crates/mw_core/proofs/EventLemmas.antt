@@ -8,22 +8,22 @@ use Rattle.mw_model.specs.Stands.{CoreView, StandsFor}
 use Rattle.mw_ledger.specs.mw_store.declared.fetched.Fetched.{Fetched}
 use Rattle.mw_core.specs.declared.events.Event.{Event}
 use Rattle.mw_core.specs.declared.events.Answer.{Answer}
-use Rattle.mw_ledger.specs.mw_stands.Events.{Serves, IsFresh, handed_out}
+use Rattle.mw_ledger.specs.mw_stands.Events.{FollowsMachine, IsFresh, handed_out}
 use Rattle.mw_ledger.specs.mw_store.Fetches.{ShowsSome, shown_value}
-use Rattle.mw_core.specs.EventEffects.{Replies, Submits, Fetches, HasEffect, HaveEffects, answer_of, fetch_answer_of}
+use Rattle.mw_core.specs.EventEffects.{ReplyEffect, Submits, Fetches, HasEffect, HaveEffects, answer_of, fetch_answer_of}
 
-replies : (m : Machine) (c : Call) (r : Reply) (old new : CoreView) → StandsFor old m → Serves old c None new r → Replies old m c None r new (after m c None)
+replies : (m : Machine) (c : Call) (r : Reply) (old new : CoreView) → StandsFor old m → FollowsMachine old c None new r → ReplyEffect old m c None r new (after m c None)
 replies m c r old new s served = record { reply = served.reply m s; machine = refl; log = served.log; work = served.work }
 
 stands_for-same : (m : Machine) (old new : CoreView) → StandsFor old m → new ≡ old → StandsFor new m
 stands_for-same m old new s e = let P : CoreView → Type 0 = λ x. StandsFor x m in subst P (sym e) s
 
-pub run-happens : {E : Type 0} → (m : Machine) (c : Call) (r : Result Reply E) (old new : CoreView) → StandsFor old m → IfOk r (Serves old c None new) → ((t : ℕ) → IfOk r (λ x. x ≡ reply.Accepted t → IsFresh new t)) → OnErr r (new ≡ old)
+pub run-happens : {E : Type 0} → (m : Machine) (c : Call) (r : Result Reply E) (old new : CoreView) → StandsFor old m → IfOk r (FollowsMachine old c None new) → ((t : ℕ) → IfOk r (λ x. x ≡ reply.Accepted t → IsFresh new t)) → OnErr r (new ≡ old)
     → (n : Machine) × Submits old m c (answer_of r) new n × StandsFor new n
 run-happens m c (Ok x) old new s served fresh err = (after m c None, (replies m c x old new s served, fresh), served.stands m s)
 run-happens m c (Err e) old new s served fresh err = (m, (err, refl), stands_for-same m old new s err)
 
-pub fetch-happens : {E : Type 0} → (m : Machine) (c : Call) (r : Result Fetched E) (old new : CoreView) → StandsFor old m → IfOk r (λ f. Serves old c None new f.reply)
+pub fetch-happens : {E : Type 0} → (m : Machine) (c : Call) (r : Result Fetched E) (old new : CoreView) → StandsFor old m → IfOk r (λ f. FollowsMachine old c None new f.reply)
     → IfOk r (λ f. shown_value f.value ≡ handed_out m f.reply) → IfOk r (λ f. IsSome (shown_value f.value) ↔ ShowsSome f.reply) → OnErr r (new ≡ old) → (n : Machine) × Fetches old m c (fetch_answer_of r) new n × StandsFor new n
 fetch-happens m c (Ok f) old new s served value shown err = (after m c None, (replies m c f.reply old new s served, value, shown), served.stands m s)
 fetch-happens m c (Err e) old new s served value shown err = (m, (err, refl), stands_for-same m old new s err)

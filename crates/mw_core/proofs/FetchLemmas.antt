@@ -17,7 +17,7 @@ use Rattle.mw_model.specs.Stands.{CoreView, StandsFor}
 use Rattle.mw_laws.specs.MachineLaws.{shape_of_value}
 use Rattle.mw_laws.proofs.RunTables.{is_known, ticket_is, ticket_within, when_so}
 use Rattle.mw_ledger.specs.mw_stands.Events.{handed_out}
-use Rattle.mw_ledger.specs.mw_store.Fetches.{IsShown, ShowsSome, handed_value, shown_value}
+use Rattle.mw_ledger.specs.mw_store.Fetches.{IsShown, ShowsSome, fetchable, shown_value}
 use Rattle.mw_ledger.specs.mw_store.declared.fetched.Shown.{Shown}
 use Rattle.mw_ledger.proofs.mw_stands.RefusalLemmas.{some-same}
 use Rattle.mw_ledger.proofs.mw_stands.StandsLemmas.{stands-sound, stands-reply}
@@ -59,13 +59,13 @@ shown-ticket m n t h =
     })
 
 -- a value that is no element is handed out
-must-be-handed : (v : Option Value) (s : Shape) → option_map shape_of_value v ≡ Some s → is_element s ≡ false → handed_value v ≡ v
+must-be-handed : (v : Option Value) (s : Shape) → option_map shape_of_value v ≡ Some s → is_element s ≡ false → fetchable v ≡ v
 must-be-handed None s h e = refl
 must-be-handed (Some (ImageValue f)) s h e = refl
 must-be-handed (Some (ElementValue b)) s h e = let is : shape_of_figure b ≡ s = cc in let f = ap is_element is in absurd cc
 must-be-handed (Some (CurveValue v)) s h e = refl
 
-shown-value : (c : CoreView) (m : Machine) (n : Name) (t : ℕ) (v : Shown) → StandsFor c m → reply_to m (call.Fetch n) ≡ reply.Shown t → shown_value v ≡ handed_value (value_at c.kept t) → shown_value v ≡ value_at (values m) t
+shown-value : (c : CoreView) (m : Machine) (n : Name) (t : ℕ) (v : Shown) → StandsFor c m → reply_to m (call.Fetch n) ≡ reply.Shown t → shown_value v ≡ fetchable (value_at c.kept t) → shown_value v ≡ value_at (values m) t
 shown-value c m n t v s told is =
     let done = shown-ticket m n t told in
     let sound = stands-sound c m s in
@@ -97,7 +97,7 @@ with-shape : (x : Option Value) (s : Shape) → option_map shape_of_value x ≡ 
 with-shape None s h = absurd cc
 with-shape (Some v) s h = refl
 
-something-shown : (c : CoreView) (m : Machine) (n : Name) (t : ℕ) (v : Shown) → StandsFor c m → reply_to m (call.Fetch n) ≡ reply.Shown t → shown_value v ≡ handed_value (value_at c.kept t) → IsSome (shown_value v)
+something-shown : (c : CoreView) (m : Machine) (n : Name) (t : ℕ) (v : Shown) → StandsFor c m → reply_to m (call.Fetch n) ≡ reply.Shown t → shown_value v ≡ fetchable (value_at c.kept t) → IsSome (shown_value v)
 something-shown c m n t v s told is =
     let P : Option Value → Type 0 = IsSome in
     subst P (sym (shown-value c m n t v s told is)) (with-shape (value_at (values m) t) (shape_at m.table.submissions t) ((stands-sound c m s).shapes t (shown-ticket m n t told).within))

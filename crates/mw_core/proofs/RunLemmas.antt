@@ -22,7 +22,7 @@ use Rattle.mw_ledger.specs.mw_progress.ProgressView.{ProgressView}
 use Rattle.mw_ledger.specs.mw_store.Stored.{Stored}
 use Rattle.mw_ledger.specs.mw_stands.Facts.{IsComplete, stored_of}
 use Rattle.mw_ledger.specs.mw_stands.Limits.{ShapesFit}
-use Rattle.mw_ledger.specs.mw_stands.Events.{Serves, IsFresh}
+use Rattle.mw_ledger.specs.mw_stands.Events.{FollowsMachine, IsFresh}
 use Rattle.mw_ledger.proofs.mw_stands.StandsLemmas.{stands-sound}
 use Rattle.mw_ledger.proofs.mw_stands.CallLemmas.{serves-run}
 use Rattle.mw_ledger.specs.mw_underway.Planning.{IsPlannedBy}
@@ -38,7 +38,7 @@ ruled-out c m s never =
 
 -- so a note of a fault, which cannot be, serves whatever the machine
 pub serves-no-fault : (c new : CoreView) (n : Name) (o : Op) (x : Code) → ((vs : List (Option Value)) → AreValuesAt c.table c.kept vs → ⊥)
-    → new ≡ record c { log = c.log ++ item.Call (call.Run n o) (reply.Refused x) ∷ [] } → Serves c (call.Run n o) None new (reply.Refused x)
+    → new ≡ record c { log = c.log ++ item.Call (call.Run n o) (reply.Refused x) ∷ [] } → FollowsMachine c (call.Run n o) None new (reply.Refused x)
 serves-no-fault c new n o x never is =
     record {
       reply = λ m s. absurd (ruled-out c m s never);
@@ -51,7 +51,7 @@ serves-no-fault c new n o x never is =
 
 pub serves-planned : (c new : CoreView) (n : Name) (o : Op) (side : ℕ) (u : ProgressView) → refusal c.table c.kept (call.Run n o) ≡ None → IsPlannedBy c.table c.kept o (run_submission c.table o) side u → IsComplete c
     → new.table ≡ with_entry c.table n (run_submission c.table o) outcome.Pending → new.kept ≡ c.kept ++ None ∷ [] → new.work ≡ c.work ++ Some u.progress ∷ []
-    → new.log ≡ c.log ++ item.Call (call.Run n o) (reply.Accepted (length c.table.names)) ∷ [] → Serves c (call.Run n o) None new (reply.Accepted (length c.table.names))
+    → new.log ≡ c.log ++ item.Call (call.Run n o) (reply.Accepted (length c.table.names)) ∷ [] → FollowsMachine c (call.Run n o) None new (reply.Accepted (length c.table.names))
 serves-planned c new n o side u free planned whole = serves-run c new n o u.progress free (λ m st clear. planned-work c m n o side u st free clear planned) whole
 
 -- counts of tasks of which none was started

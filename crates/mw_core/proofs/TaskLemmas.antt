@@ -17,7 +17,7 @@ use Rattle.mw_ledger.proofs.mw_work.Numbers.{some-whole, step_number-within}
 use Rattle.mw_ledger.proofs.mw_work.Truth.{plane-true}
 use Rattle.mw_ledger.proofs.mw_work.Windows.{true_task-fits}
 use Rattle.mw_ledger.specs.mw_stands.Facts.{IsComplete}
-use Rattle.mw_ledger.specs.mw_stands.TaskEvents.{Begins}
+use Rattle.mw_ledger.specs.mw_stands.TaskEvents.{BeginsTask}
 use Rattle.mw_ledger.proofs.mw_stands.StandsLemmas.{stands-sound}
 use Rattle.mw_ledger.proofs.mw_stands.TaskLemmas.{ready-there, work-of}
 use Rattle.mw_ledger.specs.mw_underway.Planning.{IsPlannedAt}
@@ -70,7 +70,7 @@ reads-first b m t u image s orderly at pending there =
 -- ---- a task is taken
 
 pub takes-begins : (b new : Book) (m : Machine) (t : ℕ) (w : WindowTask) → StandsFor (seen_of b) m → IsOrderly b → 1 ≤ ready_under (seen_of b) t → TakesAt b t new (Some w)
-    → Begins (seen_of b) m w (seen_of new)
+    → BeginsTask (seen_of b) m w (seen_of new)
 takes-begins b new m t w s orderly ready took =
     let c : CoreView = seen_of b in
     let u = took.before in

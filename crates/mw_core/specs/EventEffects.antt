@@ -43,36 +43,36 @@ abbrev pub Stays : CoreView → Machine → CoreView → Machine → Type 0
 Stays old m new n = (new ≡ old) × (n ≡ m)
 
 -- The reply is the machine's, the machine goes on by the call, the log tells both, and the work of each ticket that goes on pending stays.
-pub record Replies (old : CoreView) (m : Machine) (c : Call) (payload : Option Value) (r : Reply) (new : CoreView) (n : Machine) : Type 0 where
+pub record ReplyEffect (old : CoreView) (m : Machine) (c : Call) (payload : Option Value) (r : Reply) (new : CoreView) (n : Machine) : Type 0 where
   pub reply : r ≡ reply_to m c
   pub machine : n ≡ after m c payload
   pub log : new.log ≡ old.log ++ item.Call c r ∷ []
   pub work : WorkStays old new
 
 -- a session call that answers by a reply, or found no memory
-abbrev pub Calls : CoreView → Machine → Call → Option Value → Answer → CoreView → Machine → Type 0
-Calls old m c p (answer.Reply r) new n = Replies old m c p r new n
-Calls old m c p answer.NoMemory new n = Stays old m new n
-Calls old m c p a new n = ⊥
+abbrev pub CallEffect : CoreView → Machine → Call → Option Value → Answer → CoreView → Machine → Type 0
+CallEffect old m c p (answer.Reply r) new n = ReplyEffect old m c p r new n
+CallEffect old m c p answer.NoMemory new n = Stays old m new n
+CallEffect old m c p a new n = ⊥
 
 -- a LOAD or an ELEMENT: that memory was refused is never told by a reply
 abbrev pub Loads : CoreView → Machine → Call → Option Value → Answer → CoreView → Machine → Type 0
-Loads old m c p (answer.Reply r) new n = Replies old m c p r new n × (r ≢ reply.Refused code.Memory)
-Loads old m c p a new n = Calls old m c p a new n
+Loads old m c p (answer.Reply r) new n = ReplyEffect old m c p r new n × (r ≢ reply.Refused code.Memory)
+Loads old m c p a new n = CallEffect old m c p a new n
 
 -- a RUN: no task of the command that it accepts was started
 abbrev pub Submits : CoreView → Machine → Call → Answer → CoreView → Machine → Type 0
-Submits old m c (answer.Reply r) new n = Replies old m c None r new n × ((t : ℕ) → r ≡ reply.Accepted t → IsFresh new t)
-Submits old m c a new n = Calls old m c None a new n
+Submits old m c (answer.Reply r) new n = ReplyEffect old m c None r new n × ((t : ℕ) → r ≡ reply.Accepted t → IsFresh new t)
+Submits old m c a new n = CallEffect old m c None a new n
 
 -- a CANCEL: memory may be wanting only where it is refused
 abbrev pub Cancels : CoreView → Machine → Call → Answer → CoreView → Machine → Type 0
 Cancels old m c answer.NoMemory new n = (refusal m.table m.payloads c ≢ None) × Stays old m new n
-Cancels old m c a new n = Calls old m c None a new n
+Cancels old m c a new n = CallEffect old m c None a new n
 
 -- a FETCH, with the value that it hands out
 abbrev pub Fetches : CoreView → Machine → Call → Answer → CoreView → Machine → Type 0
-Fetches old m c (answer.Fetched f) new n = Replies old m c None f.reply new n × (shown_value f.value ≡ handed_out m f.reply) × (IsSome (shown_value f.value) ↔ ShowsSome f.reply)
+Fetches old m c (answer.Fetched f) new n = ReplyEffect old m c None f.reply new n × (shown_value f.value ≡ handed_out m f.reply) × (IsSome (shown_value f.value) ↔ ShowsSome f.reply)
 Fetches old m c answer.NoMemory new n = Stays old m new n
 Fetches old m c a new n = ⊥
 
@@ -116,8 +116,8 @@ HasEffect old m (event.Load x g) a new n = Loads old m (call.Load x (given_image
 HasEffect old m (event.Element x g) a new n = Loads old m (call.Element x (given_element g)) (element_payload g) a new n
 HasEffect old m (event.Run x o) a new n = Submits old m (call.Run x o) a new n
 HasEffect old m (event.Cancel x) a new n = Cancels old m (call.Cancel x) a new n
-HasEffect old m (event.Release x) a new n = Calls old m (call.Release x) None a new n
-HasEffect old m (event.Status x) a new n = Calls old m (call.Status x) None a new n
+HasEffect old m (event.Release x) a new n = CallEffect old m (call.Release x) None a new n
+HasEffect old m (event.Status x) a new n = CallEffect old m (call.Status x) None a new n
 HasEffect old m (event.Fetch x) a new n = Fetches old m (call.Fetch x) a new n
 HasEffect old m (event.Start place) a new n = Takes old m place a new n
 HasEffect old m (event.Finish d) a new n = Brings old m d a new n

@@ -5,7 +5,7 @@ use Rattle.mw_model.specs.declared.tasks.TaskId.{TaskId}
 use Rattle.mw_model.specs.Machine.{Machine}
 use Rattle.mw_model.specs.Stands.{CoreView, ready_under, ready_count}
 use Rattle.mw_task.specs.WindowTasks.{IsBounded, WindowTask}
-use Rattle.mw_ledger.specs.mw_stands.TaskEvents.{Begins, Kills, Places, Settles, IsResult, IsOpen, IsSettled, IsUnderway}
+use Rattle.mw_ledger.specs.mw_stands.TaskEvents.{BeginsTask, Kills, Places, Settles, IsResult, IsOpen, IsSettled, IsUnderway}
 use Rattle.mw_ledger.specs.mw_stands.Turns.{IsAt}
 use Rattle.mw_ledger.specs.Books.{Book}
 use Rattle.mw_ledger.specs.Tasks.{PlacesAt, SettlesAt}
@@ -18,7 +18,7 @@ use Rattle.mw_core.specs.declared.answers.Refusal.TheVariants as refusal
 
 -- work for a ready task; or the death of a ticket that has one; or nothing, where no task is ready
 abbrev pub Starts : CoreView → Machine → Started → CoreView → Type 0
-Starts old m (started.Work w) new = Begins old m w new
+Starts old m (started.Work w) new = BeginsTask old m w new
 Starts old m (started.Refused t) new = (1 ≤ ready_under old t) × Kills old m t new
 Starts old m started.Idle new = (ready_count old ≡ 0) × (new ≡ old)
 

@@ -18,7 +18,7 @@ impl Core {
     ghost use Rattle.mw_ledger.specs.mw_underway.Planning.{IsSide};
     ghost use Rattle.mw_ledger.specs.mw_stands.Payloads.{given_image, image_payload, given_element, element_payload};
     ghost use Rattle.mw_checks.specs.Faults.{IsFault};
-    ghost use Rattle.mw_ledger.specs.mw_stands.Events.{Serves, IsFresh};
+    ghost use Rattle.mw_ledger.specs.mw_stands.Events.{FollowsMachine, IsFresh};
 
     /// A core that has accepted nothing yet. The side is that of the tiles, in pixels.
     pub fn new(alloc: Global, side: u32) -> Result<Self, NoMemory>
@@ -50,7 +50,7 @@ impl Core {
 
     fn load_image(&mut self, name: Name, image: Image) -> Result<Reply, NoMemory>
         requires { IsImage image }
-        ensures served { IfOk result (Serves self.old (Call.Load name (given_image (Ok image))) (image_payload (Ok image)) self.new) }
+        ensures served { IfOk result (FollowsMachine self.old (Call.Load name (given_image (Ok image))) (image_payload (Ok image)) self.new) }
         ensures memory { IfOk result (λ r. r ≢ Reply.Refused Code.Memory) }
         ensures err { OnErr result (self.new ≡ self.old) }
         ensures side { self.new.side ≡ self.old.side }
@@ -67,7 +67,7 @@ impl Core {
     /// LOAD. An image whose memory was refused is answered so only where nothing else refuses the call.
     pub fn load(&mut self, name: Name, image: Result<Image, Code>) -> Result<Reply, NoMemory>
         requires { ForOk image IsImage }
-        ensures served { IfOk result (Serves self.old (Call.Load name (given_image image)) (image_payload image) self.new) }
+        ensures served { IfOk result (FollowsMachine self.old (Call.Load name (given_image image)) (image_payload image) self.new) }
         ensures memory { IfOk result (λ r. r ≢ Reply.Refused Code.Memory) }
         ensures err { OnErr result (self.new ≡ self.old) }
         ensures side { self.new.side ≡ self.old.side }
@@ -79,7 +79,7 @@ impl Core {
     }
 
     fn load_element(&mut self, name: Name, element: Element) -> Result<Reply, NoMemory>
-        ensures served { IfOk result (Serves self.old (Call.Element name (given_element (Ok element))) (element_payload (Ok element)) self.new) }
+        ensures served { IfOk result (FollowsMachine self.old (Call.Element name (given_element (Ok element))) (element_payload (Ok element)) self.new) }
         ensures memory { IfOk result (λ r. r ≢ Reply.Refused Code.Memory) }
         ensures err { OnErr result (self.new ≡ self.old) }
         ensures side { self.new.side ≡ self.old.side }
@@ -96,7 +96,7 @@ impl Core {
 
     /// ELEMENT. An element whose memory was refused is answered so only where nothing else refuses the call.
     pub fn element(&mut self, name: Name, element: Result<Element, Code>) -> Result<Reply, NoMemory>
-        ensures served { IfOk result (Serves self.old (Call.Element name (given_element element)) (element_payload element) self.new) }
+        ensures served { IfOk result (FollowsMachine self.old (Call.Element name (given_element element)) (element_payload element) self.new) }
         ensures memory { IfOk result (λ r. r ≢ Reply.Refused Code.Memory) }
         ensures err { OnErr result (self.new ≡ self.old) }
         ensures side { self.new.side ≡ self.old.side }
@@ -109,7 +109,7 @@ impl Core {
 
     /// RUN. Where a command is accepted, its plan, its tasks and the places of its planes are there.
     pub fn run(&mut self, name: Name, op: Op) -> Result<Reply, NoMemory>
-        ensures served { IfOk result (Serves self.old (Call.Run name op) None self.new) }
+        ensures served { IfOk result (FollowsMachine self.old (Call.Run name op) None self.new) }
         ensures fresh { (t : ℕ) → IfOk result (λ r. r ≡ Reply.Accepted t → IsFresh self.new t) }
         ensures err { OnErr result (self.new ≡ self.old) }
         ensures side { self.new.side ≡ self.old.side }
@@ -132,7 +132,7 @@ impl Core {
 
     /// STATUS.
     pub fn status(&mut self, name: Name) -> Result<Reply, NoMemory>
-        ensures served { IfOk result (Serves self.old (Call.Status name) None self.new) }
+        ensures served { IfOk result (FollowsMachine self.old (Call.Status name) None self.new) }
         ensures err { OnErr result (self.new ≡ self.old) }
         ensures side { self.new.side ≡ self.old.side }
     {
@@ -142,7 +142,7 @@ impl Core {
 
     /// CANCEL. That of a pending name takes no memory.
     pub fn cancel(&mut self, name: Name) -> Result<Reply, NoMemory>
-        ensures served { IfOk result (Serves self.old (Call.Cancel name) None self.new) }
+        ensures served { IfOk result (FollowsMachine self.old (Call.Cancel name) None self.new) }
         ensures err { OnErr result (self.new ≡ self.old) }
         ensures side { self.new.side ≡ self.old.side }
         ensures succeeds { (m : Machine) → StandsFor self.old m → refusal m.table m.payloads (Call.Cancel name) ≡ None → IsOk result }
@@ -161,7 +161,7 @@ impl Core {
 
     /// RELEASE.
     pub fn release(&mut self, name: Name) -> Result<Reply, NoMemory>
-        ensures served { IfOk result (Serves self.old (Call.Release name) None self.new) }
+        ensures served { IfOk result (FollowsMachine self.old (Call.Release name) None self.new) }
         ensures err { OnErr result (self.new ≡ self.old) }
         ensures side { self.new.side ≡ self.old.side }
     {

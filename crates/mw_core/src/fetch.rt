@@ -10,13 +10,13 @@ impl Core {
     ghost use Rattle.mw_model.specs.Values.{value_at};
     ghost use Rattle.mw_model.specs.Machine.{Machine};
     ghost use Rattle.mw_model.specs.Stands.{StandsFor};
-    ghost use Rattle.mw_ledger.specs.mw_stands.Events.{Serves, handed_out};
-    ghost use Rattle.mw_ledger.specs.mw_store.Fetches.{IsShown, ShowsSome, handed_value, shown_value};
+    ghost use Rattle.mw_ledger.specs.mw_stands.Events.{FollowsMachine, handed_out};
+    ghost use Rattle.mw_ledger.specs.mw_store.Fetches.{IsShown, ShowsSome, fetchable, shown_value};
 
     /// The value that is kept of a ticket, unless it is an element.
     fn value(&self, t: u32) -> Result<Shown, NoMemory>
         requires { t < length self.now.table.names }
-        ensures { IfOk result (λ v. shown_value v ≡ handed_value (value_at self.now.kept t)) }
+        ensures { IfOk result (λ v. shown_value v ≡ fetchable (value_at self.now.kept t)) }
     {
         let store = self.ledger.store();
         if let Some(plate) = store.plate(t)? {
@@ -41,7 +41,7 @@ impl Core {
 
     /// FETCH. The value is that of the ticket, and is handed out exactly where the reply is `Shown`.
     pub fn fetch(&mut self, name: Name) -> Result<Fetched, NoMemory>
-        ensures served { IfOk result (λ f. Serves self.old (Call.Fetch name) None self.new f.reply) }
+        ensures served { IfOk result (λ f. FollowsMachine self.old (Call.Fetch name) None self.new f.reply) }
         ensures value { (m : Machine) → StandsFor self.old m → IfOk result (λ f. shown_value f.value ≡ handed_out m f.reply) }
         ensures shown { (m : Machine) → StandsFor self.old m → IfOk result (λ f. IsSome (shown_value f.value) ↔ ShowsSome f.reply) }
         ensures err { OnErr result (self.new ≡ self.old) }

@@ -16,7 +16,7 @@ use Rattle.mw_model.specs.declared.places.Reach.{Reach}
 use Rattle.mw_model.specs.Elements.{IsFigure, IsNear, reach_of, same_offset}
 use Rattle.mw_model.specs.Places.{nonnegative, WithinReach}
 use Rattle.mw_element.specs.Figures.{InBox, LiesIn, figure, grown, turned}
-use Rattle.mw_model.specs.Flat.{greatest, negated}
+use Rattle.mw_model.specs.Flat.{greatest, reflected}
 use Rattle.mw_model.proofs.Covers.{offset-same}
 
 -- ---- sameness
@@ -40,9 +40,9 @@ turned_near b n =
     let y = neg_near b.dy n.top n.bottom in
     record { left = x.0; right = x.1; top = y.0; bottom = y.1 }
 
-pub negated_near : (xs : List Offset) → AllByRecursion IsNear xs → AllByRecursion IsNear (negated xs)
-negated_near [] n = tt
-negated_near (x ∷ xs) n = (turned_near x n.0, negated_near xs n.1)
+pub reflected_near : (xs : List Offset) → AllByRecursion IsNear xs → AllByRecursion IsNear (reflected xs)
+reflected_near [] n = tt
+reflected_near (x ∷ xs) n = (turned_near x n.0, reflected_near xs n.1)
 
 neg_same : (x y : ℤ) → neg_ℤ x ≡ neg_ℤ y → x ≡ y
 neg_same x y e = omega (arith, ints, e)
@@ -57,21 +57,21 @@ turned_apart a b e =
     let y = neg_same a.dy b.dy (ap (λ (o : Offset). o.dy) t) in
     true≢false (sym ((same_decides a b).1 (offset-same a.dx a.dy b.dx b.dy x y)) ∙ e))
 
-negated_apart : (a : Offset) (xs : List Offset) → AllByRecursion (λ b. same_offset a b ≡ false) xs → AllByRecursion (λ b. same_offset (turned a) b ≡ false) (negated xs)
-negated_apart a [] h = tt
-negated_apart a (x ∷ xs) h = (turned_apart a x h.0, negated_apart a xs h.1)
+reflected_apart : (a : Offset) (xs : List Offset) → AllByRecursion (λ b. same_offset a b ≡ false) xs → AllByRecursion (λ b. same_offset (turned a) b ≡ false) (reflected xs)
+reflected_apart a [] h = tt
+reflected_apart a (x ∷ xs) h = (turned_apart a x h.0, reflected_apart a xs h.1)
 
-pub negated_distinct : (xs : List Offset) → IsDistinct same_offset xs → IsDistinct same_offset (negated xs)
+pub reflected_distinct : (xs : List Offset) → IsDistinct same_offset xs → IsDistinct same_offset (reflected xs)
 unfolding IsDistinct
-negated_distinct [] h = tt
-negated_distinct (x ∷ xs) h = (negated_apart x xs h.0, negated_distinct xs h.1)
+reflected_distinct [] h = tt
+reflected_distinct (x ∷ xs) h = (reflected_apart x xs h.0, reflected_distinct xs h.1)
 
-pub negated_some : (xs : List Offset) → xs ≢ [] → negated xs ≢ []
-negated_some [] some e = some refl
-negated_some (x ∷ xs) some e = cc
+pub reflected_some : (xs : List Offset) → xs ≢ [] → reflected xs ≢ []
+reflected_some [] some e = some refl
+reflected_some (x ∷ xs) some e = cc
 
-pub negated_figure : (w h : ℕ) (xs : List Offset) → IsFigure (figure w h xs) → IsFigure (figure w h (negated xs))
-negated_figure w h xs is = record { distinct = negated_distinct xs is.distinct; some = negated_some xs is.some; near = negated_near xs is.near; sides = is.sides }
+pub reflected_figure : (w h : ℕ) (xs : List Offset) → IsFigure (figure w h xs) → IsFigure (figure w h (reflected xs))
+reflected_figure w h xs is = record { distinct = reflected_distinct xs is.distinct; some = reflected_some xs is.some; near = reflected_near xs is.near; sides = is.sides }
 
 -- ---- reach
 

@@ -9,7 +9,7 @@ use Rattle.mw_facts.proofs.Alls.{all-weaker, all-append, all-push}
 use Rattle.mw_model.specs.declared.places.Offset.{Offset}
 use Rattle.mw_model.specs.Rasters.{Raster}
 use Rattle.mw_model.specs.Elements.{offset_from, offsets_in_row, offsets_of, overlaps, same_offset}
-use Rattle.mw_model.specs.Flat.{negated}
+use Rattle.mw_model.specs.Flat.{reflected}
 use Rattle.mw_element.specs.Figures.{Rises, by_rows, row_key, turned}
 use Rattle.mw_element.proofs.Lists.{not_same}
 use Rattle.mw_element.proofs.Rows.{row_part, rows_part}
@@ -86,7 +86,7 @@ offsets_rise f ox oy le = rows_rise f ox oy 0 f.height (omega arith)
 
 -- ---- the offsets of a reflected element
 
-before_turned : (b : Offset) (xs : List Offset) → AllByRecursion (λ (c : Offset). row_key b <ℤ row_key c) xs → AllBelow (row_key (turned b)) (negated xs)
+before_turned : (b : Offset) (xs : List Offset) → AllByRecursion (λ (c : Offset). row_key b <ℤ row_key c) xs → AllBelow (row_key (turned b)) (reflected xs)
 before_turned b [] all = tt
 before_turned b (x ∷ xs) all = (omega (arith, ints, all.0), before_turned b xs all.1)
 
@@ -94,25 +94,25 @@ all_reverse : (P : Offset → Type 0) (xs : List Offset) → AllByRecursion P xs
 all_reverse P [] all = tt
 all_reverse P (x ∷ xs) all = subst (AllByRecursion P) (sym (reverse-append (x ∷ []) xs)) (all-push P (reverse xs) x (all_reverse P xs all.1) all.0)
 
-rises_turned : (xs : List Offset) → Rises xs → Rises (reverse (negated xs))
+rises_turned : (xs : List Offset) → Rises xs → Rises (reverse (reflected xs))
 rises_turned [] r = tt
 rises_turned (x ∷ xs) r =
-    subst Rises (sym (reverse-append (turned x ∷ []) (negated xs)))
-    (rises_append (row_key (turned x)) (reverse (negated xs)) (turned x ∷ []) (rises_turned xs r.1) (all_reverse (λ (b : Offset). row_key b <ℤ row_key (turned x)) (negated xs) (before_turned x xs r.0)) (tt, tt) (omega (arith, ints), tt))
+    subst Rises (sym (reverse-append (turned x ∷ []) (reflected xs)))
+    (rises_append (row_key (turned x)) (reverse (reflected xs)) (turned x ∷ []) (rises_turned xs r.1) (all_reverse (λ (b : Offset). row_key b <ℤ row_key (turned x)) (reflected xs) (before_turned x xs r.0)) (tt, tt) (omega (arith, ints), tt))
 
-negated_append : (xs ys : List Offset) → negated (xs ++ ys) ≡ negated xs ++ negated ys
-negated_append [] ys = refl
-negated_append (x ∷ xs) ys = ap (λ (bs : List Offset). turned x ∷ bs) (negated_append xs ys)
+reflected_append : (xs ys : List Offset) → reflected (xs ++ ys) ≡ reflected xs ++ reflected ys
+reflected_append [] ys = refl
+reflected_append (x ∷ xs) ys = ap (λ (bs : List Offset). turned x ∷ bs) (reflected_append xs ys)
 
-negated_reverse : (xs : List Offset) → negated (reverse xs) ≡ reverse (negated xs)
-negated_reverse [] = refl
-negated_reverse (x ∷ xs) =
-    ap negated (reverse-append (x ∷ []) xs) ∙ negated_append (reverse xs) (x ∷ []) ∙ ap (λ (bs : List Offset). bs ++ turned x ∷ []) (negated_reverse xs) ∙ sym (reverse-append (turned x ∷ []) (negated xs))
+reflected_reverse : (xs : List Offset) → reflected (reverse xs) ≡ reverse (reflected xs)
+reflected_reverse [] = refl
+reflected_reverse (x ∷ xs) =
+    ap reflected (reverse-append (x ∷ []) xs) ∙ reflected_append (reverse xs) (x ∷ []) ∙ ap (λ (bs : List Offset). bs ++ turned x ∷ []) (reflected_reverse xs) ∙ sym (reverse-append (turned x ∷ []) (reflected xs))
 
-pub reflected_rise : (is_turned : Bool) (xs : List Offset) → Rises (by_rows is_turned xs) → Rises (by_rows (not is_turned) (negated xs))
+pub reflected_rise : (is_turned : Bool) (xs : List Offset) → Rises (by_rows is_turned xs) → Rises (by_rows (not is_turned) (reflected xs))
 reflected_rise false xs r = rises_turned xs r
 reflected_rise true xs r =
-    let back : reverse (negated (reverse xs)) ≡ negated xs = sym (negated_reverse (reverse xs)) ∙ ap negated (reverse-reverse xs) in
+    let back : reverse (reflected (reverse xs)) ≡ reflected xs = sym (reflected_reverse (reverse xs)) ∙ ap reflected (reverse-reverse xs) in
     subst Rises back (rises_turned (reverse xs) r)
 
 -- ---- one pass over two lists

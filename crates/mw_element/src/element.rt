@@ -35,7 +35,7 @@ impl Element {
     ghost use Rattle.mw_model.specs.declared.places.OffsetBox.{OffsetBox};
     ghost use Rattle.mw_model.specs.Elements.{IsFigure, holds_origin, overlaps, reach_of};
     ghost use Rattle.mw_element.specs.Figures.{FillsBox, Rises, by_rows, figure};
-    ghost use Rattle.mw_model.specs.Flat.{negated};
+    ghost use Rattle.mw_model.specs.Flat.{reflected};
     ghost use Rattle.mw_model.specs.Places.{WithinReach};
 
     pub(crate) fn new(width: u32, height: u32, offsets: Vec<Offset>, is_turned: bool) -> Element
@@ -91,7 +91,7 @@ impl Element {
 
     /// The element with each offset turned round, or `NoMemory`.
     pub fn reflect(&self, alloc: Global) -> Result<Element, NoMemory>
-        ensures { IfOk result (λ e. e ≡ figure self.now.width self.now.height (negated self.now.offsets)) }
+        ensures { IfOk result (λ e. e ≡ figure self.now.width self.now.height (reflected self.now.offsets)) }
     {
         let turned = offsets::turn(alloc, &self.offsets)?;
         Ok(Element::new(self.width, self.height, turned, !self.is_turned))

@@ -6,7 +6,7 @@ ghost use Rattle.mw_model.specs.declared.places.OffsetBox.{OffsetBox};
 ghost use Rattle.mw_model.specs.Elements.{IsNear, holds_origin, overlaps, reach_of, same_offset};
 ghost use Rattle.mw_model.specs.Places.{nonnegative, WithinReach};
 ghost use Rattle.mw_element.specs.Figures.{FillsBox, InBox, LiesIn, Rises, by_rows, grown, row_key, turned};
-ghost use Rattle.mw_model.specs.Flat.{negated};
+ghost use Rattle.mw_model.specs.Flat.{reflected};
 
 use mw_model::{NoMemory, Offset, OffsetBox, Reach};
 use std::alloc::Global;
@@ -30,7 +30,7 @@ fn turn_one(b: Offset) -> Offset
 /// Each offset turned round.
 pub(crate) fn turn(alloc: Global, offsets: &[Offset]) -> Result<Vec<Offset>, NoMemory>
     requires { AllByRecursion IsNear offsets.now }
-    ensures { IfOk result (λ v. v.items ≡ negated offsets.now) }
+    ensures { IfOk result (λ v. v.items ≡ reflected offsets.now) }
 {
     let mut all = Vec::with_capacity(alloc, offsets.len())?;
     'offsets: for b in offsets {

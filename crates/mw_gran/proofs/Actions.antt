@@ -4,7 +4,7 @@ use Rattle.mw_model.specs.declared.shapes.Kind.{Kind}
 use Rattle.mw_model.specs.declared.shapes.Kind.TheVariants.{Bit, Grey}
 use Rattle.mw_model.specs.declared.places.Offset.{Offset}
 use Rattle.mw_model.specs.Pictures.{Picture, sample, drawn, IsPicture, IsSet}
-use Rattle.mw_model.specs.Flat.{under, least, greatest, erosion, dilation, negated}
+use Rattle.mw_model.specs.Flat.{under, least, greatest, erosion, dilation, reflected}
 use Rattle.mw_model.specs.Iterates.{times, residue_mark, skeleton, level_set, union}
 use Rattle.mw_model.specs.PlanSteps.{PlanStep, Join, Blank, Mark, MarkLast, Equal, Sum}
 use Rattle.mw_model.specs.Plans.{plane_of, FromInput}
@@ -99,21 +99,21 @@ pub eroded_framed : (b : List Offset) (n : ℕ) (f : Picture) → IsSet f → Is
 eroded_framed b n f set = times_framed (erosion b) (erosion_framed b) n f f.width f.height (picture_framed f set.picture)
 
 abbrev opened : List Offset → ℕ → Picture → Picture
-opened b n f = dilation (negated b) (erosion b (times n (erosion b) f))
+opened b n f = dilation (reflected b) (erosion b (times n (erosion b) f))
 
 opened_framed : (b : List Offset) (n : ℕ) (f : Picture) → IsSet f → IsFramed (opened b n f) f.width f.height
 opened_framed b n f set =
     let eroded = erosion b (times n (erosion b) f) in
-    dilation_framed (negated b) eroded f.width f.height (erosion_framed b (times n (erosion b) f) f.width f.height (eroded_framed b n f set))
+    dilation_framed (reflected b) eroded f.width f.height (erosion_framed b (times n (erosion b) f) f.width f.height (eroded_framed b n f set))
 
 opened_small : (b : List Offset) (n : ℕ) (f : Picture) → IsSet f → (x y : ℕ) → x < f.width → y < f.height → sample (opened b n f) x y ≤ 1
 opened_small b n f set x y p q =
     let eroded = times n (erosion b) f in
     let shape = eroded_shape b n f in
-    omega (arith, bounded_dilation (negated b) (erosion b eroded) (bounded_erosion b eroded) x y (omega (arith, shape.width)) (omega (arith, shape.height)), shape.maxval, set.maxval)
+    omega (arith, bounded_dilation (reflected b) (erosion b eroded) (bounded_erosion b eroded) x y (omega (arith, shape.width)) (omega (arith, shape.height)), shape.maxval, set.maxval)
 
 pub acts_mark : (b : List Offset) (depth n : ℕ) → n < depth
-    → Acts IsSet (Mark (n + 1)) (λ f. marked b depth n f ∷ times n (erosion b) f ∷ dilation (negated b) (erosion b (times n (erosion b) f)) ∷ []) (marked b depth (suc n))
+    → Acts IsSet (Mark (n + 1)) (λ f. marked b depth n f ∷ times n (erosion b) f ∷ dilation (reflected b) (erosion b (times n (erosion b) f)) ∷ []) (marked b depth (suc n))
 acts_mark b depth n below = record {
   made = λ f set.
       let shape = eroded_shape b n f in

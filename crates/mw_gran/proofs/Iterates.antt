@@ -3,7 +3,7 @@ use Rattle.std.proofs.Common.{◌≡◌, ℕ, zero, suc, ◌+◌, ◌<◌, ◌�
 use Rattle.std.proofs.lemmas.List.FromFn.{map-range_with_len_more}
 use Rattle.mw_model.specs.declared.places.Offset.{Offset}
 use Rattle.mw_model.specs.Pictures.{Picture, sample}
-use Rattle.mw_model.specs.Flat.{under, greatest, dilation, negated}
+use Rattle.mw_model.specs.Flat.{under, greatest, dilation, reflected}
 use Rattle.mw_model.specs.Iterates.{times, level_set, union, restoration, volume, spectrum}
 use Rattle.mw_model.specs.Laws.{SameShape}
 use Rattle.mw_gran.specs.Turns.{restored}
@@ -61,27 +61,27 @@ union-assoc f g h shape =
 pub restored_shape : (b : List Offset) (n m : ℕ) (g : Picture) → SameShape (restored b n m g) (level_set (n + 1) g)
 unfolding restored
 restored_shape b n zero g = shape_itself (level_set (n + 1) g)
-restored_shape b n (suc m) g = shape_trans (redrawn_shape (restored b n m g) (λ x y. max (sample (restored b n m g) x y) (sample (times (suc m) (dilation (negated b)) (level_set (n + m + 2) g)) x y))) (restored_shape b n m g)
+restored_shape b n (suc m) g = shape_trans (redrawn_shape (restored b n m g) (λ x y. max (sample (restored b n m g) x y) (sample (times (suc m) (dilation (reflected b)) (level_set (n + m + 2) g)) x y))) (restored_shape b n m g)
 
 part_shape : (b : List Offset) (k n m : ℕ) (g : Picture) → SameShape (times m (dilation b) (level_set k g)) (level_set n g)
 part_shape b k n m g = shape_trans (dilated_shape b m (level_set k g)) (record { kind = refl; width = refl; height = refl; maxval = refl })
 
 -- one turn: what is restored of the marks above n + 1 is dilated once, and joined with the marks n + 1
-pub restored-turn : (b : List Offset) (n m : ℕ) (g : Picture) → restored b n (suc m) g ≡ union (level_set (n + 1) g) (dilation (negated b) (restored b (n + 1) m g))
+pub restored-turn : (b : List Offset) (n m : ℕ) (g : Picture) → restored b n (suc m) g ≡ union (level_set (n + 1) g) (dilation (reflected b) (restored b (n + 1) m g))
 unfolding restored
-restored-turn b n zero g = ap (λ (k : ℕ). union (level_set (n + 1) g) (dilation (negated b) (level_set k g))) (next n)
+restored-turn b n zero g = ap (λ (k : ℕ). union (level_set (n + 1) g) (dilation (reflected b) (level_set k g))) (next n)
   where
     next : (n : ℕ) → n + zero + 2 ≡ n + 1 + 1
     next n = omega arith
 restored-turn b n (suc m) g =
-    let d = dilation (negated b) in
+    let d = dilation (reflected b) in
     let level = level_set (n + 1) g in
     let rest = restored b (n + 1) m g in
     let part = times (suc m) d (level_set (n + suc m + 2) g) in
     let same : n + suc m + 2 ≡ n + 1 + m + 2 = omega arith in
     ap (λ (t : Picture). union t (d part)) (restored-turn b n m g)
-    ∙ union-assoc level (d rest) (d part) (shape_trans (redrawn_shape rest (λ x y. greatest (under rest (negated b) x y))) (shape_trans (restored_shape b (n + 1) m g) (record { kind = refl; width = refl; height = refl; maxval = refl })))
-    ∙ ap (union level) (sym (dilation-union (negated b) rest part (shape_trans (part_shape (negated b) (n + suc m + 2) (n + 1 + 1) (suc m) g) (shape_sym (restored_shape b (n + 1) m g)))))
+    ∙ union-assoc level (d rest) (d part) (shape_trans (redrawn_shape rest (λ x y. greatest (under rest (reflected b) x y))) (shape_trans (restored_shape b (n + 1) m g) (record { kind = refl; width = refl; height = refl; maxval = refl })))
+    ∙ ap (union level) (sym (dilation-union (reflected b) rest part (shape_trans (part_shape (reflected b) (n + suc m + 2) (n + 1 + 1) (suc m) g) (shape_sym (restored_shape b (n + 1) m g)))))
     ∙ ap (λ (k : ℕ). union level (d (union rest (times (suc m) d (level_set k g))))) same
 
 -- all turns are the restoration
@@ -89,8 +89,8 @@ pub restored-all : (b : List Offset) (m : ℕ) (g : Picture) → restored b 0 m 
 unfolding restored
 restored-all b zero g = refl
 restored-all b (suc m) g =
-    ap (λ (t : Picture). union t (times (suc m) (dilation (negated b)) (level_set (0 + m + 2) g))) (restored-all b m g)
-    ∙ ap (λ (k : ℕ). union (restoration b m g) (times (suc m) (dilation (negated b)) (level_set k g))) (same m)
+    ap (λ (t : Picture). union t (times (suc m) (dilation (reflected b)) (level_set (0 + m + 2) g))) (restored-all b m g)
+    ∙ ap (λ (k : ℕ). union (restoration b m g) (times (suc m) (dilation (reflected b)) (level_set k g))) (same m)
   where
     same : (m : ℕ) → 0 + m + 2 ≡ m + 2
     same m = omega arith

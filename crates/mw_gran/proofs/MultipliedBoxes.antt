@@ -9,15 +9,15 @@ use Rattle.mw_model.specs.declared.places.Offset.{Offset}
 use Rattle.mw_model.specs.declared.places.OffsetBox.{OffsetBox}
 use Rattle.mw_model.specs.Places.{nonnegative, span, box_offsets}
 use Rattle.mw_model.specs.Pictures.{Picture, IsPicture}
-use Rattle.mw_model.specs.Flat.{erosion, dilation, negated}
+use Rattle.mw_model.specs.Flat.{erosion, dilation, reflected}
 use Rattle.mw_model.specs.Iterates.{times, rectangle}
 use Rattle.mw_model.specs.Laws.{HoldsOrigin}
-use Rattle.mw_model.proofs.Covers.{negated-IsTurned, turned_back}
+use Rattle.mw_model.proofs.Covers.{reflected-IsTurned, turned_back}
 use Rattle.mw_gran.specs.Boxes.{multiplied}
 use Rattle.mw_plan.specs.Steps.{turned_box}
 use Rattle.mw_plan.proofs.Boxes.{element_covers, element-way}
 use Rattle.mw_element.specs.Figures.{FillsBox}
-use Rattle.mw_laws.proofs.BoxLaws.{within, covers_within, times-erosion_box, times-dilation_box, negated_rectangle}
+use Rattle.mw_laws.proofs.BoxLaws.{within, covers_within, times-erosion_box, times-dilation_box, reflected_rectangle}
 use Rattle.mw_laws.proofs.Composed.{CoverSame, erosion_same, dilation_same}
 
 -- ---- boxes that hold their origin
@@ -162,10 +162,10 @@ times_same : (first second : Picture → Picture) (n : ℕ) (f : Picture) → ((
 times_same first second zero f same = refl
 times_same first second (suc n) f same = same (times n first f) ∙ ap second (times_same first second n f same)
 
-cover_turned : (b c : List Offset) → CoverSame b c → CoverSame (negated b) (negated c)
+cover_turned : (b c : List Offset) → CoverSame b c → CoverSame (reflected b) (reflected c)
 cover_turned b c same = record {
-  to = λ x y u v covers. negated-IsTurned c u v x y (same.to u v x y (turned_back b x y u v covers));
-  from = λ x y u v covers. negated-IsTurned b u v x y (same.from u v x y (turned_back c x y u v covers));
+  to = λ x y u v covers. reflected-IsTurned c u v x y (same.to u v x y (turned_back b x y u v covers));
+  from = λ x y u v covers. reflected-IsTurned b u v x y (same.from u v x y (turned_back c x y u v covers));
 }
 
 cover_both : (a b c : List Offset) → CoverSame a b → CoverSame b c → CoverSame a c
@@ -196,8 +196,8 @@ module _ (box : OffsetBox) (b : List Offset) (n : ℕ) (f : Picture) (fills : Fi
       ∙ sym (times-dilation_box at.left at.right at.top at.bottom n f picture)
       ∙ sym (times_same (dilation b) (dilation (rectangle at.left at.right at.top at.bottom)) n f (λ g. dilation_same b (rectangle at.left at.right at.top at.bottom) g same))
 
-  -- by the turned box they are those by the negated element
-  pub dilation-multiplied_turned : dilation (box_offsets (multiplied n (turned_box box))) f ≡ times n (dilation (negated b)) f
+  -- by the turned box they are those by the reflected element
+  pub dilation-multiplied_turned : dilation (box_offsets (multiplied n (turned_box box))) f ≡ times n (dilation (reflected b)) f
   dilation-multiplied_turned =
       let at = FillsBox-bounded box b fills holds in
       let is = at.bounds in
@@ -205,7 +205,7 @@ module _ (box : OffsetBox) (b : List Offset) (n : ℕ) (f : Picture) (fills : Fi
       let r = at.right in
       let t = at.top in
       let d = at.bottom in
-      let same = cover_both (negated b) (negated (rectangle l r t d)) (rectangle r l d t) (cover_turned b (rectangle l r t d) (filled_is_rectangle box b l r t d fills is)) (negated_rectangle l r t d) in
+      let same = cover_both (reflected b) (reflected (rectangle l r t d)) (rectangle r l d t) (cover_turned b (rectangle l r t d) (filled_is_rectangle box b l r t d fills is)) (reflected_rectangle l r t d) in
       ap (λ (e : List Offset). dilation e f) (box_is_rectangle (multiplied n (turned_box box)) (n * r) (n * l) (n * d) (n * t) (multiplied_bounds n (turned_box box) r l d t (turned_bounds box l r t d is)))
       ∙ sym (times-dilation_box r l d t n f picture)
-      ∙ sym (times_same (dilation (negated b)) (dilation (rectangle r l d t)) n f (λ g. dilation_same (negated b) (rectangle r l d t) g same))
+      ∙ sym (times_same (dilation (reflected b)) (dilation (rectangle r l d t)) n f (λ g. dilation_same (reflected b) (rectangle r l d t) g same))

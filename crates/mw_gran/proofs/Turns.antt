@@ -4,7 +4,7 @@ use Rattle.std.proofs.lemmas.Bool.{cases_eq}
 use Rattle.mw_model.specs.declared.places.Offset.{Offset}
 use Rattle.mw_model.specs.declared.places.OffsetBox.{OffsetBox}
 use Rattle.mw_model.specs.Pictures.{Picture, IsPicture, IsSet}
-use Rattle.mw_model.specs.Flat.{erosion, dilation, negated}
+use Rattle.mw_model.specs.Flat.{erosion, dilation, reflected}
 use Rattle.mw_model.specs.Iterates.{times, skeleton, level_set, union, restoration, spectrum}
 use Rattle.mw_model.specs.Laws.{HoldsOrigin}
 use Rattle.mw_model.specs.PlanSteps.{PlanStep, ErodeBox, DilateBox, Join, Blank, Mark, MarkLast, Equal, Sum}
@@ -129,9 +129,9 @@ skeleton_turn_more b depth n p p1 p2 p3 m o before after erode dilate slides bel
     let s = after_erosions (suc n) in
     let left : Picture → Picture = times n (erosion b) in
     let next : Picture → Picture = λ f. erosion b (left f) in
-    let opened : Picture → Picture = λ f. dilation (negated b) (next f) in
+    let opened : Picture → Picture = λ f. dilation (reflected b) (next f) in
     let shows_next : Shows IsSet p s next = at.shows_eroded (suc n) (omega arith) in
-    let acts1 = acts_on IsSet dilate (dilation (negated b)) next slides.dilates (dilation_framed (negated b)) shows_next.framed in
+    let acts1 = acts_on IsSet dilate (dilation (reflected b)) next slides.dilates (dilation_framed (reflected b)) shows_next.framed in
     let shown1 = AreShown-alone p s next shows_next in
     let shows1 = now_shows IsSet p p1 dilate (s ∷ []) o (λ f. next f ∷ []) opened push1 shown1 acts1 slides.dilates.plain in
     let sound1 = still_sound IsSet p p1 dilate (s ∷ []) o (λ f. next f ∷ []) opened push1 shown1 acts1 at.sound in
@@ -242,9 +242,9 @@ restoration_turn_more b depth n m p p1 p2 s s1 s2 erode dilate slides below at p
     let mark = FromStep n in
     let level : Picture → Picture = level_set (n + 1) in
     let before : Picture → Picture = restored b (n + 1) m in
-    let grown : Picture → Picture = λ f. dilation (negated b) (before f) in
+    let grown : Picture → Picture = λ f. dilation (reflected b) (before f) in
     let joined : Picture → Picture = λ f. union (level f) (grown f) in
-    let acts1 = acts_on IsPicture dilate (dilation (negated b)) before slides.dilates (dilation_framed (negated b)) at.shows.framed in
+    let acts1 = acts_on IsPicture dilate (dilation (reflected b)) before slides.dilates (dilation_framed (reflected b)) at.shows.framed in
     let shown1 = AreShown-alone p s before at.shows in
     let shows1 = now_shows IsPicture p p1 dilate (s ∷ []) s1 (λ f. before f ∷ []) grown push1 shown1 acts1 slides.dilates.plain in
     let level1 = still_shows IsPicture p p1 dilate (s ∷ []) s1 mark level push1 (at.levels n (omega arith)) in
@@ -330,11 +330,11 @@ same_tells p steps more numbers others e same tells = record {
 }
 
 pub spectrum_turn : (b : List Offset) (depth n : ℕ) (p p1 p2 : Plan) (s1 s2 : Source) → TellsVolumes b depth n p → StillShown p p1
-    → Tells p1 (depth + volume_steps n + (n + 1)) (spectrum b n) → Shows IsPicture p1 s1 (λ f. times (n + 1) (dilation (negated b)) (times (n + 1) (erosion b) f))
+    → Tells p1 (depth + volume_steps n + (n + 1)) (spectrum b n) → Shows IsPicture p1 s1 (λ f. times (n + 1) (dilation (reflected b)) (times (n + 1) (erosion b) f))
     → IsPushed p1 p2 Sum (s1 ∷ []) s2
     → TellsVolumes b depth (n + 1) p2
 spectrum_turn b depth n p p1 p2 s1 s2 at kept tells shows push2 =
-    let opened : Picture → Picture = λ f. times (n + 1) (dilation (negated b)) (times (n + 1) (erosion b) f) in
+    let opened : Picture → Picture = λ f. times (n + 1) (dilation (reflected b)) (times (n + 1) (erosion b) f) in
     let more : suc n ≡ n + 1 = omega arith in
     record {
       tells = same_tells p2 (suc (depth + volume_steps n + (n + 1))) (depth + volume_steps (n + 1)) (λ f. spectrum b n f ++ sum (opened f).samples ∷ []) (spectrum b (n + 1))
@@ -349,15 +349,15 @@ spectrum_turn b depth n p p1 p2 s1 s2 at kept tells shows push2 =
 
 -- n dilations one behind another
 pub dilated_more : (b : List Offset) (k steps : ℕ) (numbers : Picture → List ℕ) (before : Picture → Picture) (p q : Plan) (r s : Source) (erode dilate : PlanStep) → Slides b erode dilate
-    → Tells p (steps + k) numbers → Shows IsPicture p r (λ f. times k (dilation (negated b)) (before f)) → IsPushed p q dilate (r ∷ []) s
-    → Tells q (steps + (k + 1)) numbers × Shows IsPicture q s (λ f. times (k + 1) (dilation (negated b)) (before f))
+    → Tells p (steps + k) numbers → Shows IsPicture p r (λ f. times k (dilation (reflected b)) (before f)) → IsPushed p q dilate (r ∷ []) s
+    → Tells q (steps + (k + 1)) numbers × Shows IsPicture q s (λ f. times (k + 1) (dilation (reflected b)) (before f))
 dilated_more b k steps numbers before p q r s erode dilate slides tells shows pushed =
-    let grown : Picture → Picture = λ f. times k (dilation (negated b)) (before f) in
-    let both = tells_no_more p q dilate r s grown (λ f. dilation (negated b) (grown f)) (steps + k) numbers pushed shows
-    (acts_on IsPicture dilate (dilation (negated b)) grown slides.dilates (dilation_framed (negated b)) shows.framed) slides.dilates.plain tells in
+    let grown : Picture → Picture = λ f. times k (dilation (reflected b)) (before f) in
+    let both = tells_no_more p q dilate r s grown (λ f. dilation (reflected b) (grown f)) (steps + k) numbers pushed shows
+    (acts_on IsPicture dilate (dilation (reflected b)) grown slides.dilates (dilation_framed (reflected b)) shows.framed) slides.dilates.plain tells in
     let more : suc k ≡ k + 1 = omega arith in
     let steps_more : suc (steps + k) ≡ steps + (k + 1) = omega arith in
-    (subst (λ (n : ℕ). Tells q n numbers) steps_more both.0, subst (λ (n : ℕ). Shows IsPicture q s (λ f. times n (dilation (negated b)) (before f))) more both.1)
+    (subst (λ (n : ℕ). Tells q n numbers) steps_more both.0, subst (λ (n : ℕ). Shows IsPicture q s (λ f. times n (dilation (reflected b)) (before f))) more both.1)
 
 volume_steps_twice : (n : ℕ) → 2 * volume_steps n ≡ n * (n + 1) + 2 * n + 2
 volume_steps_twice zero = omega arith
@@ -374,7 +374,7 @@ pub box_turn : (b : List Offset) (box : OffsetBox) (n : ℕ) (p p1 p2 p3 : Plan)
     → Tells p3 (3 * (n + 1) + 1) (spectrum b (n + 1))
 box_turn b box n p p1 p2 p3 s1 s2 s3 fills holds tells push1 push2 push3 =
     let eroded : Picture → Picture = times (n + 1) (erosion b) in
-    let opened : Picture → Picture = λ f. times (n + 1) (dilation (negated b)) (eroded f) in
+    let opened : Picture → Picture = λ f. times (n + 1) (dilation (reflected b)) (eroded f) in
     let acts1 : Acts IsPicture (ErodeBox (multiplied (n + 1) box)) (λ f. f ∷ []) eroded = record {
       made = λ f fits. record { count = refl; kinds = tt };
       plane = λ f fits. plane-erode_box (multiplied (n + 1) box) f f.width f.height (picture_framed f fits) ∙ erosion-multiplied box b (n + 1) f fills holds fits;
@@ -383,7 +383,7 @@ box_turn b box n p p1 p2 p3 s1 s2 s3 fills holds tells push1 push2 push3 =
     let acts2 : Acts IsPicture (DilateBox (multiplied (n + 1) (turned_box box))) (λ f. eroded f ∷ []) opened = record {
       made = λ f fits. record { count = refl; kinds = tt };
       plane = λ f fits. plane-dilate_box (multiplied (n + 1) (turned_box box)) (eroded f) f.width f.height (acts1.framed f fits) ∙ dilation-multiplied_turned box b (n + 1) (eroded f) fills holds (times_picture b (n + 1) f fits);
-      framed = λ f fits. times_framed (dilation (negated b)) (dilation_framed (negated b)) (n + 1) (eroded f) f.width f.height (acts1.framed f fits);
+      framed = λ f fits. times_framed (dilation (reflected b)) (dilation_framed (reflected b)) (n + 1) (eroded f) f.width f.height (acts1.framed f fits);
     } in
     let first = tells_no_more p p1 (ErodeBox (multiplied (n + 1) box)) (FromInput 0) s1 (λ f. f) eroded (3 * n + 1) (spectrum b n) push1 (shows_input IsPicture p IsPicture-itself) acts1 refl tells in
     let second = tells_no_more p1 p2 (DilateBox (multiplied (n + 1) (turned_box box))) s1 s2 eroded opened (suc (3 * n + 1)) (spectrum b n) push2 first.1 acts2 refl first.0 in

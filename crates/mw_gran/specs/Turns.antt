@@ -6,7 +6,7 @@ use Rattle.mw_model.specs.declared.places.OffsetBox.{OffsetBox}
 use Rattle.mw_model.specs.Laws.{HoldsOrigin}
 use Rattle.mw_element.specs.Figures.{FillsBox}
 use Rattle.mw_model.specs.Pictures.{Picture, drawn, IsPicture, IsSet}
-use Rattle.mw_model.specs.Flat.{erosion, dilation, negated}
+use Rattle.mw_model.specs.Flat.{erosion, dilation, reflected}
 use Rattle.mw_model.specs.Iterates.{times, residue_mark, level_set, union, spectrum}
 use Rattle.mw_model.specs.Plans.{Plan, Source, FromInput, FromStep}
 use Rattle.mw_plan.specs.declared.plans.Source.{Source as Read}
@@ -19,7 +19,7 @@ use Rattle.mw_gran.specs.Growing.{IsSound, Shows, Counts}
 -- the steps are the erosion by the element, and the dilation by the element turned round
 pub record Slides (b : List Offset) (erode dilate : PlanStep) : Type 0 where
   pub erodes : ActsAs erode (erosion b)
-  pub dilates : ActsAs dilate (dilation (negated b))
+  pub dilates : ActsAs dilate (dilation (reflected b))
 
 -- where is read what n erosions leave of the image, in a plan that begins with them
 abbrev pub after_erosions : ℕ → Source
@@ -65,7 +65,7 @@ pub record MarksResidues (b : List Offset) (depth n : ℕ) (p : Plan) (marks : O
 -- what m turns restore of the marks above n
 unfoldable pub restored : List Offset → ℕ → ℕ → Picture → Picture
 restored b n zero g = level_set (n + 1) g
-restored b n (suc m) g = union (restored b n m g) (times (suc m) (dilation (negated b)) (level_set (n + m + 2) g))
+restored b n (suc m) g = union (restored b n m g) (times (suc m) (dilation (reflected b)) (level_set (n + m + 2) g))
 
 -- a plan of the sets of the first n levels, rising
 pub record HasLevels (n : ℕ) (p : Plan) : Type 0 where

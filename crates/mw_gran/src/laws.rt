@@ -5,7 +5,7 @@ ghost use Rattle.std.specs.Prelude.{◌≡◌, ℕ, List};
 ghost use Rattle.mw_element.specs.Figures.{FillsBox};
 ghost use Rattle.mw_model.specs.declared.places.Offset.{Offset};
 ghost use Rattle.mw_model.specs.declared.places.OffsetBox.{OffsetBox};
-ghost use Rattle.mw_model.specs.Flat.{erosion, dilation, negated};
+ghost use Rattle.mw_model.specs.Flat.{erosion, dilation, reflected};
 ghost use Rattle.mw_model.specs.Iterates.{times};
 ghost use Rattle.mw_model.specs.Laws.{HoldsOrigin};
 ghost use Rattle.mw_model.specs.Pictures.{Picture, IsPicture};
@@ -20,5 +20,5 @@ pub use mw_laws::laws::{opening_laws, restorations, skeletons, thresholds, volum
 pub fn boxes_are_iterates()
     ensures eroded { (box : OffsetBox) (b : List Offset) (n : ℕ) (f : Picture) → FillsBox box b → HoldsOrigin b → IsPicture f → erosion (box_offsets (multiplied n box)) f ≡ times n (erosion b) f }
     ensures dilated { (box : OffsetBox) (b : List Offset) (n : ℕ) (f : Picture) → FillsBox box b → HoldsOrigin b → IsPicture f → dilation (box_offsets (multiplied n box)) f ≡ times n (dilation b) f }
-    ensures dilated_back { (box : OffsetBox) (b : List Offset) (n : ℕ) (f : Picture) → FillsBox box b → HoldsOrigin b → IsPicture f → dilation (box_offsets (multiplied n (turned_box box))) f ≡ times n (dilation (negated b)) f }
+    ensures dilated_back { (box : OffsetBox) (b : List Offset) (n : ℕ) (f : Picture) → FillsBox box b → HoldsOrigin b → IsPicture f → dilation (box_offsets (multiplied n (turned_box box))) f ≡ times n (dilation (reflected b)) f }
 {}

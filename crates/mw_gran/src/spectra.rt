@@ -8,7 +8,7 @@ ghost use Rattle.std.specs.Arc.{arc_value};
 ghost use Rattle.mw_element.specs.Figures.{FillsBox};
 ghost use Rattle.mw_model.specs.declared.places.Offset.{Offset};
 ghost use Rattle.mw_model.specs.declared.places.OffsetBox.{OffsetBox};
-ghost use Rattle.mw_model.specs.Flat.{dilation, negated};
+ghost use Rattle.mw_model.specs.Flat.{dilation, reflected};
 ghost use Rattle.mw_model.specs.Iterates.{times, spectrum};
 ghost use Rattle.mw_model.specs.Laws.{HoldsOrigin};
 ghost use Rattle.mw_model.specs.Pictures.{Picture, IsPicture};
@@ -33,7 +33,7 @@ fn dilated(plan: &mut Plan, steps: &SlidingSteps, from: Source, n: u32) -> Resul
     requires few { length plan.old < 65000 }
     requires small { n ≤ 32 }
     ensures kept { IfOk result (λ _. StillShown plan.old plan.new) }
-    ensures grown { (b : List Offset) (count : ℕ) (numbers : Picture → List ℕ) (before : Picture → Picture) → Slides b (meaning steps.now.erode) (meaning steps.now.dilate) → Tells plan.old count numbers → Shows IsPicture plan.old (source from) before → IfOk result (λ s. Tells plan.new (count + n) numbers × Shows IsPicture plan.new (source s) (λ f. times n (dilation (negated b)) (before f))) }
+    ensures grown { (b : List Offset) (count : ℕ) (numbers : Picture → List ℕ) (before : Picture → Picture) → Slides b (meaning steps.now.erode) (meaning steps.now.dilate) → Tells plan.old count numbers → Shows IsPicture plan.old (source from) before → IfOk result (λ s. Tells plan.new (count + n) numbers × Shows IsPicture plan.new (source s) (λ f. times n (dilation (reflected b)) (before f))) }
     ensures count { IfOk result (λ _. length plan.new ≡ length plan.old + n) }
 {
     let mut grown = from;

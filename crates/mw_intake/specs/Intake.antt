@@ -30,10 +30,10 @@ asked (request.Wait name) = AskAlone (ask.Wait name)
 asked request.Quit = AskAlone ask.Quit
 
 -- what next answers of the bytes that stood there, and what is left
-abbrev pub Answers : Next → List ℕ → List ℕ → Type 0
-Answers (next.Request r) old new = front old ≡ Found (asked r) new
-Answers next.More old new = (front old ≡ Partial) × (new ≡ old)
-Answers (next.Bad c) old new = (front old ≡ Fault c) × (new ≡ old)
+abbrev pub TellsFront : Next → List ℕ → List ℕ → Type 0
+TellsFront (next.Request r) old new = front old ≡ Found (asked r) new
+TellsFront next.More old new = (front old ≡ Partial) × (new ≡ old)
+TellsFront (next.Bad c) old new = (front old ≡ Fault c) × (new ≡ old)
 
 -- the line, with its LF, awaits a payload of this length
 pub record IsPayloadLine (line : List ℕ) (what : Awaited) (len : ℕ) : Type 0 where

@@ -2,7 +2,7 @@
 
 ghost use Rattle.std.specs.Prelude.{◌≡◌, ◌++◌, ◌≤◌, ◌<◌, ◌+◌, ◌*◌, ◌⊎◌, ℕ, [], length, take, drop, min, max, vec_len, vec_capacity, IfOk, OnOk, OnErr, IsTrue, ◌↔◌};
 ghost use Rattle.std.specs.List.{position_or_len};
-ghost use Rattle.mw_intake.specs.Intake.{Answers, Falls, CameWithLine, IsOpen, IsPortion, IsTidy, Leaves, Misses, asked};
+ghost use Rattle.mw_intake.specs.Intake.{TellsFront, Falls, CameWithLine, IsOpen, IsPortion, IsTidy, Leaves, Misses, asked};
 ghost use Rattle.mw_intake.specs.Reading.{front, is_line_end};
 ghost use Rattle.mw_model.specs.Lines.{AskAlone, Partial, asked_with};
 
@@ -116,7 +116,7 @@ impl Intake {
     /// Cuts the request at the front, if one is there. `Bad` and `More` leave the bytes, so `Bad` is answered again. Memory is
     /// asked for only where bytes of a payload came with its line: never where the payload was fed by portions.
     pub fn next(&mut self) -> Result<Next, NoMemory>
-        ensures ok { IfOk result (λ next. Answers next self.old.bytes self.new.bytes) }
+        ensures ok { IfOk result (λ next. TellsFront next self.old.bytes self.new.bytes) }
         ensures falls { IfOk result (λ next. Falls next self.old.bytes self.new.bytes) }
         ensures err { OnErr result (self.new ≡ self.old) }
         ensures memory { OnErr result (CameWithLine self.old) }

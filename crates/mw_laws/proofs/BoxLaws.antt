@@ -6,12 +6,12 @@ use Rattle.std.proofs.lemmas.Int.{ints}
 use Rattle.std.proofs.Math.Nat.{le_antisymm}
 use Rattle.mw_model.specs.declared.places.Offset.{Offset}
 use Rattle.mw_model.specs.Pictures.{Picture, sample, IsPicture}
-use Rattle.mw_model.specs.Flat.{under, least, greatest, erosion, dilation, negated}
+use Rattle.mw_model.specs.Flat.{under, least, greatest, erosion, dilation, reflected}
 use Rattle.mw_model.specs.Iterates.{times, rectangle}
 use Rattle.mw_laws.proofs.Composed.{AreComposed, CoverSame, erosion-erosion, dilation-dilation, dilation_same}
 use Rattle.mw_model.proofs.ImagePlaces.{same_picture, redrawn_shape, shape_sym, length-rows, sample_bounded}
 use Rattle.mw_model.proofs.ImageOrder.{sample-erosion, sample-dilation}
-use Rattle.mw_model.proofs.Covers.{negated-IsTurned, turned_back, Covers, least_below, below_least, below_greatest, greatest_below}
+use Rattle.mw_model.proofs.Covers.{reflected-IsTurned, turned_back, Covers, least_below, below_least, below_greatest, greatest_below}
 
 covers_either : (cs bs : List Offset) (x y u v : ℕ) → Covers (cs ++ bs) x y u v → Covers cs x y u v ⊎ Covers bs x y u v
 covers_either [] bs x y u v c = inr c
@@ -163,15 +163,15 @@ pub dilation-rows_columns : (left right up down : ℕ) (f : Picture) → dilatio
 dilation-rows_columns left right up down f =
     dilation-dilation (rectangle 0 0 up down) (rectangle left right 0 0) (rectangle left right up down) f (separated left right up down f.width f.height)
 
--- the negated rectangle reaches to the other sides
-pub negated_rectangle : (left right up down : ℕ) → CoverSame (negated (rectangle left right up down)) (rectangle right left down up)
-negated_rectangle left right up down = record {
+-- the reflected rectangle reaches to the other sides
+pub reflected_rectangle : (left right up down : ℕ) → CoverSame (reflected (rectangle left right up down)) (rectangle right left down up)
+reflected_rectangle left right up down = record {
   to = λ x y u v covers.
       let h = within left right up down u v x y (turned_back (rectangle left right up down) x y u v covers) in
       covers_within right left down up x y u v (record { left_of = h.right_of; right_of = h.left_of; above = h.below; below = h.above });
   from = λ x y u v covers.
       let h = within right left down up x y u v covers in
-      negated-IsTurned (rectangle left right up down) u v x y (covers_within left right up down u v x y (record { left_of = h.right_of; right_of = h.left_of; above = h.below; below = h.above }));
+      reflected-IsTurned (rectangle left right up down) u v x y (covers_within left right up down u v x y (record { left_of = h.right_of; right_of = h.left_of; above = h.below; below = h.above }));
 }
 
 -- the rectangle of one place covers that place
@@ -215,11 +215,11 @@ times-dilation_box left right up down zero f picture = no_dilation left right up
 times-dilation_box left right up down (suc n) f picture =
     ap (dilation (rectangle left right up down)) (times-dilation_box left right up down n f picture) ∙ dilation-dilation (rectangle left right up down) (multiplied n left right up down) (multiplied (suc n) left right up down) f (multiplied_composed left right up down n f.width f.height)
 
-pub times-negated_box : (left right up down n : ℕ) (f : Picture) → IsPicture f → times n (dilation (negated (rectangle left right up down))) f ≡ dilation (rectangle (n * right) (n * left) (n * down) (n * up)) f
-times-negated_box left right up down n f picture = each n ∙ times-dilation_box right left down up n f picture
+pub times-reflected_box : (left right up down n : ℕ) (f : Picture) → IsPicture f → times n (dilation (reflected (rectangle left right up down))) f ≡ dilation (rectangle (n * right) (n * left) (n * down) (n * up)) f
+times-reflected_box left right up down n f picture = each n ∙ times-dilation_box right left down up n f picture
   where
-    each : (n : ℕ) → times n (dilation (negated (rectangle left right up down))) f ≡ times n (dilation (rectangle right left down up)) f
+    each : (n : ℕ) → times n (dilation (reflected (rectangle left right up down))) f ≡ times n (dilation (rectangle right left down up)) f
     each zero = refl
     each (suc n) =
-        dilation_same (negated (rectangle left right up down)) (rectangle right left down up) (times n (dilation (negated (rectangle left right up down))) f) (negated_rectangle left right up down)
+        dilation_same (reflected (rectangle left right up down)) (rectangle right left down up) (times n (dilation (reflected (rectangle left right up down))) f) (reflected_rectangle left right up down)
         ∙ ap (dilation (rectangle right left down up)) (each n)

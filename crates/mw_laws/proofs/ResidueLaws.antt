@@ -5,7 +5,7 @@ use Rattle.std.proofs.lemmas.Bool.{cases_eq, cases_order}
 use Rattle.std.proofs.Math.Nat.{zero-add, suc-add}
 use Rattle.mw_model.specs.declared.places.Offset.{Offset}
 use Rattle.mw_model.specs.Pictures.{Picture, sample, IsSet}
-use Rattle.mw_model.specs.Flat.{erosion, dilation, negated, opening}
+use Rattle.mw_model.specs.Flat.{erosion, dilation, reflected, opening}
 use Rattle.mw_model.specs.Iterates.{times, is_residue, skeleton, level_set, restoration}
 use Rattle.mw_model.specs.Laws.{HoldsOrigin}
 use Rattle.mw_model.proofs.ImagePlaces.{sample_bounded}
@@ -30,7 +30,7 @@ module _ (b : List Offset) (depth : ℕ) (f : Picture) (x y : ℕ) (holds : Hold
       let in_width : x < (eroded n).width = omega (arith, shape.width) in
       let in_height : y < (eroded n).height = omega (arith, shape.height) in
       let opening_small : sample (opening b (eroded n)) x y ≤ 1 =
-      omega (arith, bounded_dilation (negated b) (erosion b (eroded n)) (bounded_erosion b (eroded n)) x y in_width in_height, shape.maxval, set.maxval) in
+      omega (arith, bounded_dilation (reflected b) (erosion b (eroded n)) (bounded_erosion b (eroded n)) x y in_width in_height, shape.maxval, set.maxval) in
       let later_shape = eroded_shape b (m - suc n + suc n) f in
       let same : m - suc n + suc n ≡ m = omega arith in
       let falls = eroded_falls b f holds (suc n) (m - suc n) x y (omega (arith, later_shape.width)) (omega (arith, later_shape.height)) in
@@ -89,7 +89,7 @@ module _ (b : List Offset) (depth : ℕ) (f : Picture) (x y : ℕ) (holds : Hold
 
 -- the place is in the n-fold dilation of the places that are marked n + 1, for some n up to the depth
 abbrev pub IsRestored : List Offset → ℕ → Picture → ℕ → ℕ → Type 0
-IsRestored b depth g x y = (n : ℕ) × (n ≤ depth) × (sample (times n (dilation (negated b)) (level_set (n + 1) g)) x y ≡ 1)
+IsRestored b depth g x y = (n : ℕ) × (n ≤ depth) × (sample (times n (dilation (reflected b)) (level_set (n + 1) g)) x y ≡ 1)
 
 restored_small : (b : List Offset) (depth : ℕ) (g : Picture) (x y : ℕ) → x < g.width → y < g.height → sample (restoration b depth g) x y ≤ 1
 restored_small b depth g x y p q =
@@ -99,7 +99,7 @@ restored_small b depth g x y p q =
 pub restored_from : (b : List Offset) (depth : ℕ) (g : Picture) (x y : ℕ) → x < g.width → y < g.height → sample (restoration b depth g) x y ≡ 1 → IsRestored b depth g x y
 restored_from b zero g x y p q e = (0, omega arith, e)
 restored_from b (suc m) g x y p q e =
-    let part = times (suc m) (dilation (negated b)) (level_set (m + 2) g) in
+    let part = times (suc m) (dilation (reflected b)) (level_set (m + 2) g) in
     let before = restoration b m g in
     let shape = restoration_shape b m g in
     let whole = sample-union before part x y (omega (arith, shape.width)) (omega (arith, shape.height)) in
@@ -109,7 +109,7 @@ restored_from b (suc m) g x y p q e =
           let low = restored_small b m g x y p q in
           let here : sample part x y ≡ 1 = upper (sample (restoration b (suc m) g) x y) (sample before x y) (sample part x y) whole e low other in
           let same : m + 2 ≡ suc m + 1 = omega arith in
-          (suc m, omega arith, subst (λ (k : ℕ). sample (times (suc m) (dilation (negated b)) (level_set k g)) x y ≡ 1) same here)
+          (suc m, omega arith, subst (λ (k : ℕ). sample (times (suc m) (dilation (reflected b)) (level_set k g)) x y ≡ 1) same here)
     ]
   where
     upper : (u a c : ℕ) → u ≡ max a c → u ≡ 1 → a ≤ 1 → a ≢ 1 → c ≡ 1
@@ -122,7 +122,7 @@ restored_back b depth g x y p q (n, le, e) =
     let low = restored_small b depth g x y p q in
     equal _ _ high low e
   where
-    level_shape : (k n : ℕ) → ((times n (dilation (negated b)) (level_set k g)).width ≡ g.width) × ((times n (dilation (negated b)) (level_set k g)).height ≡ g.height)
+    level_shape : (k n : ℕ) → ((times n (dilation (reflected b)) (level_set k g)).width ≡ g.width) × ((times n (dilation (reflected b)) (level_set k g)).height ≡ g.height)
     level_shape k zero = (refl, refl)
     level_shape k (suc n) = level_shape k n
 

@@ -14,7 +14,7 @@ use Rattle.mw_model.specs.declared.calls.Outcome.{Outcome}
 use Rattle.mw_model.specs.declared.calls.Outcome.TheVariants as outcome
 use Rattle.mw_model.specs.Values.{tickets}
 use Rattle.mw_model.specs.Refusals.{Table, outcome_at, submission_at, is_dead, is_pending}
-use Rattle.mw_model.specs.Machine.{spread, beside, killed}
+use Rattle.mw_model.specs.Machine.{cascaded, beside, killed}
 use Rattle.mw_laws.specs.MachineLaws.{inputs_at, first_dead, IsKilled}
 
 -- what fits beside an entry is told by the outcomes of its inputs
@@ -25,43 +25,43 @@ beside_same b v inputs o same below =
     (all-weaker (λ i. i < length b) (λ i. is_dead (outcome_at b i) ≡ is_dead (outcome_at v i)) (tickets inputs) (λ i h. ap is_dead (sym (same i h))) below) in
     ap (λ f. cond (is_pending o) (option_map_or outcome.Input f outcome.Pending) o) e
 
-pub spread_front : (b : List Outcome) (es : List Submission) (os : List Outcome) (k : ℕ) → k < length b → outcome_at (spread b es os) k ≡ outcome_at b k
-spread_front b [] os k h = refl
-spread_front b (e ∷ es) [] k h = refl
-spread_front b (e ∷ es) (o ∷ os) k h =
+pub cascaded_front : (b : List Outcome) (es : List Submission) (os : List Outcome) (k : ℕ) → k < length b → outcome_at (cascaded b es os) k ≡ outcome_at b k
+cascaded_front b [] os k h = refl
+cascaded_front b (e ∷ es) [] k h = refl
+cascaded_front b (e ∷ es) (o ∷ os) k h =
     let x = beside b e.inputs o in
     let within : k < length (b ++ x ∷ []) = omega (arith, length-append b (x ∷ [])) in
-    spread_front (b ++ x ∷ []) es os k within ∙ get_or_append_left b (x ∷ []) outcome.Pending k h
+    cascaded_front (b ++ x ∷ []) es os k within ∙ get_or_append_left b (x ∷ []) outcome.Pending k h
 
-length_spread : (b : List Outcome) (es : List Submission) (os : List Outcome) → length es ≡ length os → length (spread b es os) ≡ length b + length os
-length_spread b [] [] h = sym (add-zero (length b))
-length_spread b [] (o ∷ os) h = absurd (omega arith)
-length_spread b (e ∷ es) [] h = absurd (omega arith)
-length_spread b (e ∷ es) (o ∷ os) h =
+length_cascaded : (b : List Outcome) (es : List Submission) (os : List Outcome) → length es ≡ length os → length (cascaded b es os) ≡ length b + length os
+length_cascaded b [] [] h = sym (add-zero (length b))
+length_cascaded b [] (o ∷ os) h = absurd (omega arith)
+length_cascaded b (e ∷ es) [] h = absurd (omega arith)
+length_cascaded b (e ∷ es) (o ∷ os) h =
     let x = beside b e.inputs o in
-    omega (arith, length_spread (b ++ x ∷ []) es os (omega arith), length-append b (x ∷ []))
+    omega (arith, length_cascaded (b ++ x ∷ []) es os (omega arith), length-append b (x ∷ []))
 
 -- each outcome is what fits beside its entry among the outcomes of all
-spread_at : (b : List Outcome) (es : List Submission) (os : List Outcome) (k : ℕ) → length es ≡ length os → k < length os
+cascaded_at : (b : List Outcome) (es : List Submission) (os : List Outcome) (k : ℕ) → length es ≡ length os → k < length os
     → AllByRecursion (λ i. i < length b + k) (tickets (submission_at es k).inputs)
-    → outcome_at (spread b es os) (length b + k) ≡ beside (spread b es os) (submission_at es k).inputs (outcome_at os k)
-spread_at b [] os k e h below = absurd (omega arith)
-spread_at b (x ∷ es) [] k e h below = absurd (omega arith)
-spread_at b (x ∷ es) (o ∷ os) zero e h below =
+    → outcome_at (cascaded b es os) (length b + k) ≡ beside (cascaded b es os) (submission_at es k).inputs (outcome_at os k)
+cascaded_at b [] os k e h below = absurd (omega arith)
+cascaded_at b (x ∷ es) [] k e h below = absurd (omega arith)
+cascaded_at b (x ∷ es) (o ∷ os) zero e h below =
     let v = beside b x.inputs o in
-    let V = spread (b ++ v ∷ []) es os in
+    let V = cascaded (b ++ v ∷ []) es os in
     let in_front : length b < length (b ++ v ∷ []) = omega (arith, length-append b (v ∷ [])) in
-    let here : outcome_at V (length b + 0) ≡ v = rw add-zero (spread_front (b ++ v ∷ []) es os (length b) in_front ∙ get_or-append_seam b v [] outcome.Pending) in
+    let here : outcome_at V (length b + 0) ≡ v = rw add-zero (cascaded_front (b ++ v ∷ []) es os (length b) in_front ∙ get_or-append_seam b v [] outcome.Pending) in
     let P : ℕ → Type 0 = λ n. AllByRecursion (λ i. i < n) (tickets x.inputs) in
     here ∙ beside_same b V x.inputs o
-    (λ t l. let l' : t < length (b ++ v ∷ []) = omega (arith, length-append b (v ∷ [])) in spread_front (b ++ v ∷ []) es os t l' ∙ get_or_append_left b (v ∷ []) outcome.Pending t l)
+    (λ t l. let l' : t < length (b ++ v ∷ []) = omega (arith, length-append b (v ∷ [])) in cascaded_front (b ++ v ∷ []) es os t l' ∙ get_or_append_left b (v ∷ []) outcome.Pending t l)
     (subst P (add-zero (length b)) below)
-spread_at b (x ∷ es) (o ∷ os) (suc k) e h below =
+cascaded_at b (x ∷ es) (o ∷ os) (suc k) e h below =
     let v = beside b x.inputs o in
     let there : length b + suc k ≡ length (b ++ v ∷ []) + k = omega (arith, length-append b (v ∷ [])) in
     let Q : ℕ → Type 0 = λ n. AllByRecursion (λ i. i < n) (tickets (submission_at es k).inputs) in
-    let P : ℕ → Type 0 = λ n. outcome_at (spread (b ++ v ∷ []) es os) n ≡ beside (spread (b ++ v ∷ []) es os) (submission_at es k).inputs (outcome_at os k) in
-    subst P (sym there) (spread_at (b ++ v ∷ []) es os k (omega arith) (omega arith) (subst Q there below))
+    let P : ℕ → Type 0 = λ n. outcome_at (cascaded (b ++ v ∷ []) es os) n ≡ beside (cascaded (b ++ v ∷ []) es os) (submission_at es k).inputs (outcome_at os k) in
+    subst P (sym there) (cascaded_at (b ++ v ∷ []) es os k (omega arith) (omega arith) (subst Q there below))
 
 -- what a kill makes of an entry
 kill_at : (w : Table) (t : ℕ) (cause : Outcome) (u : ℕ) → length w.submissions ≡ length w.outcomes → u < length w.outcomes → AllByRecursion (λ i. i < u) (inputs_at w.submissions u)
@@ -69,11 +69,11 @@ kill_at : (w : Table) (t : ℕ) (cause : Outcome) (u : ℕ) → length w.submiss
 unfolding killed
 kill_at w t cause u same within below =
     let ns = set w.outcomes t cause in
-    let S = spread [] w.submissions ns in
+    let S = cascaded [] w.submissions ns in
     let len : length w.submissions ≡ length ns = omega (arith, length-set w.outcomes t cause) in
     let Q : ℕ → Type 0 = λ n. AllByRecursion (λ i. i < n) (inputs_at w.submissions u) in
     let P : ℕ → Type 0 = λ n. outcome_at S n ≡ beside S (submission_at w.submissions u).inputs (outcome_at ns u) in
-    subst P (zero-add u) (spread_at [] w.submissions ns u len (omega (arith, length-set w.outcomes t cause)) (subst Q (sym (zero-add u)) below))
+    subst P (zero-add u) (cascaded_at [] w.submissions ns u len (omega (arith, length-set w.outcomes t cause)) (subst Q (sym (zero-add u)) below))
 
 -- an outcome that is not pending stays what it is
 beside_settled : (b : List Outcome) (inputs : Inputs) (o : Outcome) → is_pending o ≡ false → beside b inputs o ≡ o
@@ -114,7 +114,7 @@ waits_for (Some x) h = cc
 pub length_killed : (w : Table) (t : ℕ) (cause : Outcome) → length w.submissions ≡ length w.outcomes → length (killed w t cause).outcomes ≡ length w.outcomes
 unfolding killed
 length_killed w t cause same =
-    omega (arith, length_spread [] w.submissions (set w.outcomes t cause) (omega (arith, length-set w.outcomes t cause)), length-set w.outcomes t cause)
+    omega (arith, length_cascaded [] w.submissions (set w.outcomes t cause) (omega (arith, length-set w.outcomes t cause)), length-set w.outcomes t cause)
 
 -- a kill in the words of the entries
 pub is_killed : (w : Table) (t : ℕ) (cause : Outcome) → length w.submissions ≡ length w.outcomes

@@ -5,7 +5,7 @@ use Rattle.std.proofs.lemmas.Bool.{cases_lt, cases_eq, le-leb, lt-leb, eq-eqb, n
 use Rattle.mw_model.specs.declared.places.Offset.{Offset}
 use Rattle.mw_model.specs.declared.shapes.Kind.TheVariants.{Bit}
 use Rattle.mw_model.specs.Pictures.{Picture, sample, sample_at}
-use Rattle.mw_model.specs.Flat.{under, least, greatest, erosion, dilation, negated, opening, closing, threshold, complement, hit_or_miss, set_hit_or_miss}
+use Rattle.mw_model.specs.Flat.{under, least, greatest, erosion, dilation, reflected, opening, closing, threshold, complement, hit_or_miss, set_hit_or_miss}
 use Rattle.mw_model.proofs.ImagePlaces.{sample-drawn, sample-redrawn, drawn_same}
 use Rattle.mw_model.proofs.Covers.{in_frame, outside, seen, sample_at_in, least_at_most}
 use Rattle.mw_model.proofs.ImageOrder.{sample-erosion, sample-dilation}
@@ -90,10 +90,10 @@ threshold-dilation k b f le =
     (λ x y p q. ap (mark k) (sample-dilation b f x y p q) ∙ sym (greatest-mark k le (under f b x y)) ∙ ap greatest (sym (under-threshold k f b x y)))
 
 pub threshold-opening : (k : ℕ) (b : List Offset) (f : Picture) → 1 ≤ k → k ≤ f.maxval → threshold k (opening b f) ≡ opening b (threshold k f)
-threshold-opening k b f low high = threshold-dilation k (negated b) (erosion b f) low ∙ ap (dilation (negated b)) (threshold-erosion k b f high)
+threshold-opening k b f low high = threshold-dilation k (reflected b) (erosion b f) low ∙ ap (dilation (reflected b)) (threshold-erosion k b f high)
 
 pub threshold-closing : (k : ℕ) (b : List Offset) (f : Picture) → 1 ≤ k → k ≤ f.maxval → threshold k (closing b f) ≡ closing b (threshold k f)
-threshold-closing k b f low high = threshold-erosion k (negated b) (dilation b f) high ∙ ap (erosion (negated b)) (threshold-dilation k b f low)
+threshold-closing k b f low high = threshold-erosion k (reflected b) (dilation b f) high ∙ ap (erosion (reflected b)) (threshold-dilation k b f low)
 
 -- the erosion of the complement is the complement of the dilation
 least-minus : (top : ℕ) (ns : List ℕ) → least top (map (λ n. top - n) ns) ≡ top - greatest ns

@@ -2,7 +2,7 @@
 use Rattle.std.proofs.Common.{◌≡◌, ℕ, ◌-◌, ◌≤◌, List, refl, ap, sym, subst, arith, ◌∙◌}
 use Rattle.mw_model.specs.declared.places.Offset.{Offset}
 use Rattle.mw_model.specs.Pictures.{Picture, sample, IsPicture, IsSet}
-use Rattle.mw_model.specs.Flat.{under, least, erosion, dilation, negated, opening, closing, complement, threshold, hit_or_miss, set_hit_or_miss}
+use Rattle.mw_model.specs.Flat.{under, least, erosion, dilation, reflected, opening, closing, complement, threshold, hit_or_miss, set_hit_or_miss}
 use Rattle.mw_model.specs.Iterates.{restoration}
 use Rattle.mw_model.proofs.ImagePlaces.{sample-redrawn, drawn_same, redrawn_itself, sample_bounded}
 use Rattle.mw_model.proofs.ImageOrder.{sample-erosion}
@@ -14,10 +14,10 @@ pub complement_picture : (f : Picture) → IsPicture (complement f)
 complement_picture f = drawn_picture f.kind f.width f.height f.maxval (λ x y. f.maxval - sample f x y) (λ x y p q. omega arith)
 
 pub opening_picture : (b : List Offset) (f : Picture) → IsPicture (opening b f)
-opening_picture b f = dilation_picture (negated b) (erosion b f) (erosion_picture b f)
+opening_picture b f = dilation_picture (reflected b) (erosion b f) (erosion_picture b f)
 
 pub closing_picture : (b : List Offset) (f : Picture) → IsPicture (closing b f)
-closing_picture b f = erosion_picture (negated b) (dilation b f)
+closing_picture b f = erosion_picture (reflected b) (dilation b f)
 
 pub erosion_of_complement : (b : List Offset) (f : Picture) → erosion b (complement f) ≡ complement (dilation b f)
 erosion_of_complement b f =

@@ -5,30 +5,30 @@ ghost use Rattle.std.specs.List.{range_with_len};
 ghost use Rattle.std.specs.List.Sorted.{IsNonDecreasing, IsPermutation};
 ghost use Rattle.mw_model.specs.declared.places.Offset.{Offset};
 ghost use Rattle.mw_model.specs.Pictures.{Picture, sample, IsPicture, IsSet};
-ghost use Rattle.mw_model.specs.Flat.{under, minus, rank, in_rising_order, least, greatest, erosion, dilation, opening, closing, negated, gradient, white_top_hat, black_top_hat, threshold, complement, hit_or_miss, set_hit_or_miss};
+ghost use Rattle.mw_model.specs.Flat.{under, minus, rank, in_rising_order, least, greatest, erosion, dilation, opening, closing, reflected, gradient, white_top_hat, black_top_hat, threshold, complement, hit_or_miss, set_hit_or_miss};
 ghost use Rattle.mw_model.specs.Iterates.{times, rectangle, volume, spectrum, is_residue, level_set, skeleton, restoration};
 ghost use Rattle.mw_model.specs.Curves.{line, volume_lines, fall_lines, rest_line};
 ghost use Rattle.mw_model.specs.Laws.{Below, SameShape, HoldsOrigin};
 
-/// Dilation by the negated element and erosion are adjoint, on images of one shape.
+/// Dilation by the reflected element and erosion are adjoint, on images of one shape.
 pub fn adjoint()
-    ensures { (f g : Picture) (b : List Offset) → IsPicture g → SameShape g f → (Below (dilation (negated b) g) f ↔ Below g (erosion b f)) }
+    ensures { (f g : Picture) (b : List Offset) → IsPicture g → SameShape g f → (Below (dilation (reflected b) g) f ↔ Below g (erosion b f)) }
 {}
 
-/// An opening is never above its image, and opening twice is opening once.
+/// An opening is anti-extensive (never above its image) and idempotent (opening twice is opening once).
 pub fn opening_laws()
-    ensures below { (b : List Offset) (f : Picture) → Below (opening b f) f }
-    ensures twice { (b : List Offset) (f : Picture) → opening b (opening b f) ≡ opening b f }
+    ensures anti_extensive { (b : List Offset) (f : Picture) → Below (opening b f) f }
+    ensures idempotent { (b : List Offset) (f : Picture) → opening b (opening b f) ≡ opening b f }
 {}
 
-/// A closing is never below its image, and closing twice is closing once.
+/// A closing is extensive (never below its image) and idempotent (closing twice is closing once).
 pub fn closing_laws()
-    ensures above { (b : List Offset) (f : Picture) → IsPicture f → Below f (closing b f) }
-    ensures twice { (b : List Offset) (f : Picture) → IsPicture f → closing b (closing b f) ≡ closing b f }
+    ensures extensive { (b : List Offset) (f : Picture) → IsPicture f → Below f (closing b f) }
+    ensures idempotent { (b : List Offset) (f : Picture) → IsPicture f → closing b (closing b f) ≡ closing b f }
 {}
 
-/// Erosion and dilation keep the order of images.
-pub fn rising()
+/// Erosion and dilation are increasing: they keep the order of images.
+pub fn increasing()
     ensures erosion { (b : List Offset) (f g : Picture) → SameShape f g → Below f g → Below (erosion b f) (erosion b g) }
     ensures dilation { (b : List Offset) (f g : Picture) → SameShape f g → Below f g → Below (dilation b f) (dilation b g) }
 {}
@@ -66,7 +66,7 @@ pub fn volumes()
 pub fn boxes()
     ensures eroded { (left right up down n : ℕ) (f : Picture) → IsPicture f → times n (erosion (rectangle left right up down)) f ≡ erosion (rectangle (n * left) (n * right) (n * up) (n * down)) f }
     ensures dilated { (left right up down n : ℕ) (f : Picture) → IsPicture f → times n (dilation (rectangle left right up down)) f ≡ dilation (rectangle (n * left) (n * right) (n * up) (n * down)) f }
-    ensures turned { (left right up down n : ℕ) (f : Picture) → IsPicture f → times n (dilation (negated (rectangle left right up down))) f ≡ dilation (rectangle (n * right) (n * left) (n * down) (n * up)) f }
+    ensures turned { (left right up down n : ℕ) (f : Picture) → IsPicture f → times n (dilation (reflected (rectangle left right up down))) f ≡ dilation (rectangle (n * right) (n * left) (n * down) (n * up)) f }
 {}
 
 /// A full rectangle is a column of rows.
@@ -126,7 +126,7 @@ pub fn residues()
 
 /// A place is restored if it is in the n-fold dilation of the places marked n + 1, for some n up to the depth.
 pub fn restorations()
-    ensures { (b : List Offset) (depth : ℕ) (g : Picture) (x y : ℕ) → x < g.width → y < g.height → ((sample (restoration b depth g) x y ≡ 1) ↔ ((n : ℕ) × (n ≤ depth) × (sample (times n (dilation (negated b)) (level_set (n + 1) g)) x y ≡ 1))) }
+    ensures { (b : List Offset) (depth : ℕ) (g : Picture) (x y : ℕ) → x < g.width → y < g.height → ((sample (restoration b depth g) x y ≡ 1) ↔ ((n : ℕ) × (n ≤ depth) × (sample (times n (dilation (reflected b)) (level_set (n + 1) g)) x y ≡ 1))) }
 {}
 
 /// Erosion and dilation are dual by the complement, and the complement taken twice is the image.

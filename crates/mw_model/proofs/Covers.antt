@@ -5,7 +5,7 @@ use Rattle.std.proofs.lemmas.Bool.{cases_lt, lt-ltb, le-ltb}
 use Rattle.std.proofs.lemmas.Int.{ints}
 use Rattle.mw_model.specs.declared.places.Offset.{Offset}
 use Rattle.mw_model.specs.Pictures.{Picture, sample, sample_at}
-use Rattle.mw_model.specs.Flat.{under, least, greatest, negated}
+use Rattle.mw_model.specs.Flat.{under, least, greatest, reflected}
 
 -- an offset by its two numbers
 abbrev pub offset : ℤ → ℤ → Offset
@@ -23,18 +23,18 @@ Covers (b ∷ bs) x y u v = ((pos x +ℤ b.dx ≡ pos u) × (pos y +ℤ b.dy ≡
 abbrev pub IsTurned : List Offset → List Offset → Type 0
 IsTurned b c = (x y u v : ℕ) → Covers b x y u v → Covers c u v x y
 
-negated-leads_back : (x u : ℕ) (d : ℤ) → pos x +ℤ d ≡ pos u → pos u +ℤ neg_ℤ d ≡ pos x
-negated-leads_back x u d e = omega (arith, ints)
+reflected-leads_back : (x u : ℕ) (d : ℤ) → pos x +ℤ d ≡ pos u → pos u +ℤ neg_ℤ d ≡ pos x
+reflected-leads_back x u d e = omega (arith, ints)
 
 turn_back : (x u : ℕ) (d : ℤ) → pos x +ℤ neg_ℤ d ≡ pos u → pos u +ℤ d ≡ pos x
 turn_back x u d e = omega (arith, ints)
 
-pub negated-IsTurned : (bs : List Offset) → IsTurned bs (negated bs)
-negated-IsTurned [] x y u v c = c
-negated-IsTurned (b ∷ bs) x y u v (inl e) = inl (negated-leads_back x u b.dx e.0, negated-leads_back y v b.dy e.1)
-negated-IsTurned (b ∷ bs) x y u v (inr c) = inr (negated-IsTurned bs x y u v c)
+pub reflected-IsTurned : (bs : List Offset) → IsTurned bs (reflected bs)
+reflected-IsTurned [] x y u v c = c
+reflected-IsTurned (b ∷ bs) x y u v (inl e) = inl (reflected-leads_back x u b.dx e.0, reflected-leads_back y v b.dy e.1)
+reflected-IsTurned (b ∷ bs) x y u v (inr c) = inr (reflected-IsTurned bs x y u v c)
 
-pub turned_back : (bs : List Offset) → IsTurned (negated bs) bs
+pub turned_back : (bs : List Offset) → IsTurned (reflected bs) bs
 turned_back [] x y u v c = c
 turned_back (b ∷ bs) x y u v (inl e) = inl (turn_back x u b.dx e.0, turn_back y v b.dy e.1)
 turned_back (b ∷ bs) x y u v (inr c) = inr (turned_back bs x y u v c)

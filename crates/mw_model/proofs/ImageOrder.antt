@@ -2,10 +2,10 @@
 use Rattle.std.proofs.Common.{◌≡◌, ℕ, ◌<◌, ◌≤◌, List, refl, ap, arith}
 use Rattle.mw_model.specs.declared.places.Offset.{Offset}
 use Rattle.mw_model.specs.Pictures.{Picture, sample, redrawn}
-use Rattle.mw_model.specs.Flat.{under, least, greatest, erosion, dilation, negated, opening, closing}
+use Rattle.mw_model.specs.Flat.{under, least, greatest, erosion, dilation, reflected, opening, closing}
 use Rattle.mw_model.specs.Laws.{Below, SameShape}
 use Rattle.mw_model.proofs.ImagePlaces.{sample-redrawn, drawn_same, redrawn_shape, shape_sym, below_itself}
-use Rattle.mw_model.proofs.Covers.{IsTurned, negated-IsTurned, turned_back, least_below, below_least, below_greatest, greatest_below, least_at_most}
+use Rattle.mw_model.proofs.Covers.{IsTurned, reflected-IsTurned, turned_back, least_below, below_least, below_greatest, greatest_below, least_at_most}
 
 -- no sample is above the maxval
 abbrev pub IsBounded : Picture → Type 0
@@ -75,19 +75,19 @@ one_from_below f value other first second =
     (λ x y p q. omega (arith, first x y p q, second x y p q, sample-redrawn f value x y p q, sample-redrawn f other x y p q))
 
 pub opening_below : (b : List Offset) (f : Picture) → Below (opening b f) f
-opening_below b f = dilation_below f (erosion b f) b (negated b) (turned_back b) (redrawn_shape f _) (below_itself (erosion b f))
+opening_below b f = dilation_below f (erosion b f) b (reflected b) (turned_back b) (redrawn_shape f _) (below_itself (erosion b f))
 
 pub opening_twice : (b : List Offset) (f : Picture) → opening b (opening b f) ≡ opening b f
 opening_twice b f =
-    ap (dilation (negated b)) (one_from_below f (λ x y. least f.maxval (under (opening b f) b x y)) (λ x y. least f.maxval (under f b x y))
+    ap (dilation (reflected b)) (one_from_below f (λ x y. least f.maxval (under (opening b f) b x y)) (λ x y. least f.maxval (under f b x y))
     (erosion_rises (opening b f) f b (redrawn_shape f _) (opening_below b f))
-    (below_erosion (opening b f) (erosion b f) b (negated b) (negated-IsTurned b) (record { kind = refl; width = refl; height = refl; maxval = refl }) (bounded_erosion b f) (below_itself (opening b f))))
+    (below_erosion (opening b f) (erosion b f) b (reflected b) (reflected-IsTurned b) (record { kind = refl; width = refl; height = refl; maxval = refl }) (bounded_erosion b f) (below_itself (opening b f))))
 
 pub closing_above : (b : List Offset) (f : Picture) → IsBounded f → Below f (closing b f)
-closing_above b f bounded = below_erosion (dilation b f) f (negated b) b (turned_back b) (shape_sym (redrawn_shape f _)) bounded (below_itself (dilation b f))
+closing_above b f bounded = below_erosion (dilation b f) f (reflected b) b (turned_back b) (shape_sym (redrawn_shape f _)) bounded (below_itself (dilation b f))
 
 pub closing_twice : (b : List Offset) (f : Picture) → IsBounded f → closing b (closing b f) ≡ closing b f
 closing_twice b f bounded =
-    ap (erosion (negated b)) (one_from_below f (λ x y. greatest (under (closing b f) b x y)) (λ x y. greatest (under f b x y))
-    (dilation_below (dilation b f) (closing b f) (negated b) b (negated-IsTurned b) (record { kind = refl; width = refl; height = refl; maxval = refl }) (below_itself (closing b f)))
+    ap (erosion (reflected b)) (one_from_below f (λ x y. greatest (under (closing b f) b x y)) (λ x y. greatest (under f b x y))
+    (dilation_below (dilation b f) (closing b f) (reflected b) b (reflected-IsTurned b) (record { kind = refl; width = refl; height = refl; maxval = refl }) (below_itself (closing b f)))
     (dilation_rises f (closing b f) b (shape_sym (redrawn_shape f _)) (closing_above b f bounded)))

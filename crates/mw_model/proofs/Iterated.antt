@@ -3,7 +3,7 @@ use Rattle.std.proofs.Common.{◌≡◌, ℕ, zero, suc, ◌+◌, ◌*◌, ◌<�
 use Rattle.std.specs.List.{sum, fold}
 use Rattle.mw_model.specs.declared.places.Offset.{Offset}
 use Rattle.mw_model.specs.Pictures.{Picture}
-use Rattle.mw_model.specs.Flat.{under, least, greatest, erosion, dilation, negated, opening}
+use Rattle.mw_model.specs.Flat.{under, least, greatest, erosion, dilation, reflected, opening}
 use Rattle.mw_model.specs.Iterates.{times, volume}
 use Rattle.mw_model.specs.Laws.{Below, SameShape}
 use Rattle.mw_model.proofs.ImagePlaces.{shape_itself, shape_trans, shape_sym, redrawn_shape, below_itself, below_trans, by_places, length-rows}
@@ -36,17 +36,17 @@ bounded_dilated b (suc n) f bounded = bounded_dilation b (times n (dilation b) f
 
 -- an opening by n erosions and n dilations
 abbrev pub opened : List Offset → ℕ → Picture → Picture
-opened b n f = times n (dilation (negated b)) (times n (erosion b) f)
+opened b n f = times n (dilation (reflected b)) (times n (erosion b) f)
 
 pub opened_shape : (b : List Offset) (n : ℕ) (f : Picture) → SameShape (opened b n f) f
-opened_shape b n f = shape_trans (dilated_shape (negated b) n (times n (erosion b) f)) (eroded_shape b n f)
+opened_shape b n f = shape_trans (dilated_shape (reflected b) n (times n (erosion b) f)) (eroded_shape b n f)
 
 -- One step more is below.
 pub opened_falls : (b : List Offset) (n : ℕ) (f : Picture) → Below (opened b (suc n) f) (opened b n f)
 opened_falls b n f =
     let before = times n (erosion b) f in
-    subst (λ (t : Picture). Below t (opened b n f)) (times_turn (dilation (negated b)) n (erosion b before))
-    (dilated_rises (negated b) n (opening b before) before (redrawn_shape before _) (opening_below b before))
+    subst (λ (t : Picture). Below t (opened b n f)) (times_turn (dilation (reflected b)) n (erosion b before))
+    (dilated_rises (reflected b) n (opening b before) before (redrawn_shape before _) (opening_below b before))
 
 pub opened_below : (b : List Offset) (n : ℕ) (f : Picture) → Below (opened b n f) f
 opened_below b zero f = below_itself f
@@ -74,8 +74,8 @@ sum_below f g shape f_size g_size below =
 opened_size : (b : List Offset) (n : ℕ) (f : Picture) → length f.samples ≡ f.height * f.width → length (opened b n f).samples ≡ (opened b n f).height * (opened b n f).width
 opened_size b zero f size = size
 opened_size b (suc n) f size =
-    let g = times n (dilation (negated b)) (times (suc n) (erosion b) f) in
-    length-rows (λ x y. greatest (under g (negated b) x y)) g.width 0 g.height
+    let g = times n (dilation (reflected b)) (times (suc n) (erosion b) f) in
+    length-rows (λ x y. greatest (under g (reflected b) x y)) g.width 0 g.height
 
 pub volume_falls : (b : List Offset) (n : ℕ) (f : Picture) → length f.samples ≡ f.height * f.width → volume b (suc n) f ≤ volume b n f
 volume_falls b n f size =

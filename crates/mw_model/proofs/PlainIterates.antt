@@ -9,7 +9,7 @@ use Rattle.std.proofs.Math.Nat.{le_antisymm}
 use Rattle.mw_model.specs.declared.places.Offset.{Offset}
 use Rattle.mw_model.specs.declared.shapes.Kind.TheVariants.{Grey}
 use Rattle.mw_model.specs.Pictures.{Picture, sample, drawn, redrawn, IsPicture, IsSmallPicture}
-use Rattle.mw_model.specs.Flat.{erosion, dilation, negated}
+use Rattle.mw_model.specs.Flat.{erosion, dilation, reflected}
 use Rattle.mw_model.specs.Iterates.{times, is_residue, residue_mark, skeleton, level_set, union, restoration}
 use Rattle.mw_model.proofs.ImagePlaces.{sample-drawn, drawn_same, sample_bounded}
 use Rattle.mw_model.proofs.Iterated.{dilated_shape}
@@ -22,17 +22,17 @@ pub all_times : (operator : Picture → Picture) (i n : ℕ) (f g : Picture) →
 all_times operator i n f g low high is = is ∙ ap (λ (k : ℕ). times k operator f) (le_antisymm low high)
 
 -- a part of a restoration has the maxval of a set, and so has the restoration
-pub part_maxval : (b : List Offset) (n m : ℕ) (g restored level part : Picture) → restored ≡ restoration b n g → level ≡ level_set (n + 2) g → part ≡ times m (dilation (negated b)) level
+pub part_maxval : (b : List Offset) (n m : ℕ) (g restored level part : Picture) → restored ≡ restoration b n g → level ≡ level_set (n + 2) g → part ≡ times m (dilation (reflected b)) level
     → part.maxval ≤ restored.maxval
 part_maxval b n m g restored level part restored-is level-is part-is =
     let whole = restoration_shape b n g in
-    let shape = dilated_shape (negated b) m level in
+    let shape = dilated_shape (reflected b) m level in
     omega (arith, ap (λ (t : Picture). t.maxval) restored-is, ap (λ (t : Picture). t.maxval) level-is, ap (λ (t : Picture). t.maxval) part-is, whole.maxval, shape.maxval)
 
-pub restored_more : (b : List Offset) (n : ℕ) (g restored level part new : Picture) → restored ≡ restoration b n g → level ≡ level_set (n + 2) g → part ≡ times (n + 1) (dilation (negated b)) level
+pub restored_more : (b : List Offset) (n : ℕ) (g restored level part new : Picture) → restored ≡ restoration b n g → level ≡ level_set (n + 2) g → part ≡ times (n + 1) (dilation (reflected b)) level
     → new ≡ union restored part → new ≡ restoration b (n + 1) g
 restored_more b n g restored level part new restored-is level-is part-is step =
-    let operator = dilation (negated b) in
+    let operator = dilation (reflected b) in
     let part-now : part ≡ times (suc n) operator (level_set (n + 2) g) =
     part-is ∙ ap (λ (t : Picture). times (n + 1) operator t) level-is ∙ ap (λ (k : ℕ). times k operator (level_set (n + 2) g)) (add-one n) in
     step

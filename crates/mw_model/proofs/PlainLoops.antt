@@ -13,7 +13,7 @@ use Rattle.mw_facts.proofs.Ranges.{range_with_len-more}
 use Rattle.mw_model.specs.declared.places.Offset.{Offset}
 use Rattle.mw_model.specs.declared.shapes.Kind.{Kind}
 use Rattle.mw_model.specs.Pictures.{Picture, picture, sample_at, drawn}
-use Rattle.mw_model.specs.Flat.{under, least, greatest, negated}
+use Rattle.mw_model.specs.Flat.{under, least, greatest, reflected}
 
 under-append : (f : Picture) (bs cs : List Offset) (x y : ℕ) → under f (bs ++ cs) x y ≡ under f bs x y ++ under f cs x y
 under-append f [] cs x y = refl
@@ -136,20 +136,20 @@ whole_picture f kind maxval value width height samples across down is = rw (acro
 
 -- an element as it lies, or turned round
 abbrev pub placed : Bool → List Offset → List Offset
-placed turned bs = if turned then negated bs else bs
+placed turned bs = if turned then reflected bs else bs
 
-length-negated : (bs : List Offset) → length (negated bs) ≡ length bs
-length-negated [] = refl
-length-negated (b ∷ bs) = omega (arith, length-negated bs)
+length-reflected : (bs : List Offset) → length (reflected bs) ≡ length bs
+length-reflected [] = refl
+length-reflected (b ∷ bs) = omega (arith, length-reflected bs)
 
 pub length-placed : (t : Bool) (bs v : List Offset) → placed t bs ≡ v → length v ≡ length bs
-length-placed true bs v e = ap (λ (l : List Offset). length l) (sym e) ∙ length-negated bs
+length-placed true bs v e = ap (λ (l : List Offset). length l) (sym e) ∙ length-reflected bs
 length-placed false bs v e = ap (λ (l : List Offset). length l) (sym e)
 
-get_or-negated : (bs : List Offset) (i : ℕ) (d e : Offset) → i < length bs → get_or (negated bs) i d ≡ record { dx = neg_ℤ (get_or bs i e).dx; dy = neg_ℤ (get_or bs i e).dy }
-get_or-negated [] i d e lt = absurd (omega arith)
-get_or-negated (b ∷ bs) zero d e lt = refl
-get_or-negated (b ∷ bs) (suc i) d e lt = get_or-negated bs i d e (omega arith)
+get_or-reflected : (bs : List Offset) (i : ℕ) (d e : Offset) → i < length bs → get_or (reflected bs) i d ≡ record { dx = neg_ℤ (get_or bs i e).dx; dy = neg_ℤ (get_or bs i e).dy }
+get_or-reflected [] i d e lt = absurd (omega arith)
+get_or-reflected (b ∷ bs) zero d e lt = refl
+get_or-reflected (b ∷ bs) (suc i) d e lt = get_or-reflected bs i d e (omega arith)
 
 sub-add_neg : (x : ℕ) (a : ℤ) → pos x -ℤ a ≡ pos x +ℤ neg_ℤ a
 sub-add_neg x a = omega (arith, ints)
@@ -158,9 +158,9 @@ sub-add_neg x a = omega (arith, ints)
 pub turned_under : (f : Picture) (t : Bool) (bs v : List Offset) (i x y : ℕ) (d e : Offset) (seen : Option ℕ) → t ≡ true → placed t bs ≡ v → i < length v
     → seen ≡ sample_at f (pos x -ℤ (get_or bs i e).dx) (pos y -ℤ (get_or bs i e).dy) → seen ≡ sample_at f (pos x +ℤ (get_or v i d).dx) (pos y +ℤ (get_or v i d).dy)
 turned_under f t bs v i x y d e seen is view lt read =
-    let here : negated bs ≡ v = ap (λ (s : Bool). placed s bs) (sym is) ∙ view in
+    let here : reflected bs ≡ v = ap (λ (s : Bool). placed s bs) (sym is) ∙ view in
     let b : get_or v i d ≡ record { dx = neg_ℤ (get_or bs i e).dx; dy = neg_ℤ (get_or bs i e).dy } =
-    ap (λ (l : List Offset). get_or l i d) (sym here) ∙ get_or-negated bs i d e (omega (arith, length-placed t bs v view)) in
+    ap (λ (l : List Offset). get_or l i d) (sym here) ∙ get_or-reflected bs i d e (omega (arith, length-placed t bs v view)) in
     read ∙ rw (sub-add_neg x (get_or bs i e).dx, sub-add_neg y (get_or bs i e).dy, b) refl
 
 -- the sample under an offset as it lies

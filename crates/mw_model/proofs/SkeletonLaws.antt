@@ -6,11 +6,11 @@ use Rattle.std.proofs.lemmas.Int.{ints}
 use Rattle.mw_model.specs.declared.places.Offset.{Offset}
 use Rattle.mw_model.specs.declared.shapes.Kind.TheVariants.{Bit, Grey}
 use Rattle.mw_model.specs.Pictures.{Picture, sample, IsSet, IsPicture}
-use Rattle.mw_model.specs.Flat.{erosion, dilation, negated, opening}
+use Rattle.mw_model.specs.Flat.{erosion, dilation, reflected, opening}
 use Rattle.mw_model.specs.Iterates.{times, is_residue, residue_mark, skeleton, level_set, union, restoration}
 use Rattle.mw_model.specs.Laws.{Below, SameShape, HoldsOrigin}
 use Rattle.mw_model.proofs.ImagePlaces.{sample-drawn, sample-redrawn, same_picture, sample_bounded, shape_trans, shape_sym, shape_itself, redrawn_shape, below_itself, below_trans, length-rows}
-use Rattle.mw_model.proofs.Covers.{Covers, negated-IsTurned, turned_back, least_below, below_greatest}
+use Rattle.mw_model.proofs.Covers.{Covers, reflected-IsTurned, turned_back, least_below, below_greatest}
 use Rattle.mw_model.proofs.ImageLaws.{drawn_picture}
 use Rattle.mw_model.proofs.ImageOrder.{IsBounded, sample-erosion, sample-dilation, bounded_erosion, bounded_dilation, below_erosion, dilation_below}
 use Rattle.mw_model.proofs.Iterated.{eroded_shape, dilated_shape, dilated_rises, bounded_dilated, opened_below, times_turn, opened_shape}
@@ -30,7 +30,7 @@ erosion_falls b f holds x y p q = omega (arith, sample-erosion b f x y p q, leas
 -- the next erosion is in the opening
 pub erosion_in_opening : (b : List Offset) (f : Picture) → HoldsOrigin b → Below (erosion b f) (opening b f)
 erosion_in_opening b f holds x y p q =
-    omega (arith, sample-dilation (negated b) (erosion b f) x y p q, below_greatest (erosion b f) (negated b) x y x y p q (negated-IsTurned b x y x y (covers_place b holds x y)))
+    omega (arith, sample-dilation (reflected b) (erosion b f) x y p q, below_greatest (erosion b f) (reflected b) x y x y p q (reflected-IsTurned b x y x y (covers_place b holds x y)))
 
 -- later erosions are below earlier ones
 pub eroded_falls : (b : List Offset) (f : Picture) → HoldsOrigin b → (n k : ℕ) → Below (times (k + n) (erosion b) f) (times n (erosion b) f)
@@ -47,12 +47,12 @@ eroded_falls b f holds n (suc k) =
     same n k = omega arith
 
 -- Below the n-fold dilation is below the n-fold erosion.
-pub below_eroded : (b : List Offset) (n : ℕ) (g f : Picture) → SameShape g f → IsBounded g → Below (times n (dilation (negated b)) g) f → Below g (times n (erosion b) f)
+pub below_eroded : (b : List Offset) (n : ℕ) (g f : Picture) → SameShape g f → IsBounded g → Below (times n (dilation (reflected b)) g) f → Below g (times n (erosion b) f)
 below_eroded b zero g f shape bounded below = below
 below_eroded b (suc n) g f shape bounded below =
     subst (λ (t : Picture). Below g t) (times_turn (erosion b) n f)
     (below_eroded b n g (erosion b f) (shape_trans shape (shape_sym (redrawn_shape f _))) bounded
-    (below_erosion f (times n (dilation (negated b)) g) b (negated b) (negated-IsTurned b) (shape_trans (dilated_shape (negated b) n g) shape) (bounded_dilated (negated b) n g bounded) below))
+    (below_erosion f (times n (dilation (reflected b)) g) b (reflected b) (reflected-IsTurned b) (shape_trans (dilated_shape (reflected b) n g) shape) (bounded_dilated (reflected b) n g bounded) below))
 
 pub residue_parts : (b : List Offset) (f : Picture) (x y : ℕ) → is_residue b f x y ≡ true → (sample f x y ≡ 1) × (sample (opening b f) x y ≢ 1)
 residue_parts b f x y e =
@@ -142,32 +142,32 @@ restoration_size : (b : List Offset) (n : ℕ) (g : Picture) → length (restora
 restoration_size b zero g = length-rows (λ x y. if sample g x y == 1 then 1 else 0) g.width 0 g.height
 restoration_size b (suc n) g =
     let before = restoration b n g in
-    length-rows (λ x y. max (sample before x y) (sample (times (suc n) (dilation (negated b)) (level_set (n + 2) g)) x y)) before.width 0 before.height
+    length-rows (λ x y. max (sample before x y) (sample (times (suc n) (dilation (reflected b)) (level_set (n + 2) g)) x y)) before.width 0 before.height
 
 -- the sample of a union
 pub sample-union : (f g : Picture) (x y : ℕ) → x < f.width → y < f.height → sample (union f g) x y ≡ max (sample f x y) (sample g x y)
 sample-union f g x y p q = sample-redrawn f (λ x y. max (sample f x y) (sample g x y)) x y p q
 
 -- each dilated level is below the restoration
-pub part_below : (b : List Offset) (g : Picture) (m n k : ℕ) → n ≤ m → k ≡ n + 1 → Below (times n (dilation (negated b)) (level_set k g)) (restoration b m g)
+pub part_below : (b : List Offset) (g : Picture) (m n k : ℕ) → n ≤ m → k ≡ n + 1 → Below (times n (dilation (reflected b)) (level_set k g)) (restoration b m g)
 part_below b g zero n k le k-is x y p q =
     let n-is : n ≡ 0 = omega arith in
     let one : k ≡ 1 = omega arith in
     base n k n-is one x y p q
   where
-    base : (n k : ℕ) → n ≡ 0 → k ≡ 1 → Below (times n (dilation (negated b)) (level_set k g)) (level_set 1 g)
+    base : (n k : ℕ) → n ≡ 0 → k ≡ 1 → Below (times n (dilation (reflected b)) (level_set k g)) (level_set 1 g)
     base n k n-is one = rw (n-is, one) (below_itself (level_set 1 g))
 part_below b g (suc m) n k le k-is x y p q =
-    let part = times (suc m) (dilation (negated b)) (level_set (m + 2) g) in
+    let part = times (suc m) (dilation (reflected b)) (level_set (m + 2) g) in
     let before = restoration b m g in
-    let here = dilated_shape (negated b) n (level_set k g) in
+    let here = dilated_shape (reflected b) n (level_set k g) in
     let shape = restoration_shape b m g in
     let union_is = sample-union before part x y (omega (arith, here.width, shape.width)) (omega (arith, here.height, shape.height)) in
     elim (cases_eq n (suc m)) [
       | inl same ↦
           let k-now : k ≡ m + 2 = omega arith in
-          let is : times n (dilation (negated b)) (level_set k g) ≡ part =
-          ap (λ (t : ℕ). times t (dilation (negated b)) (level_set k g)) same ∙ ap (λ (t : ℕ). times (suc m) (dilation (negated b)) (level_set t g)) k-now in
+          let is : times n (dilation (reflected b)) (level_set k g) ≡ part =
+          ap (λ (t : ℕ). times t (dilation (reflected b)) (level_set k g)) same ∙ ap (λ (t : ℕ). times (suc m) (dilation (reflected b)) (level_set t g)) k-now in
           omega (arith, union_is, ap (λ (t : Picture). sample t x y) is)
       | inr other ↦ omega (arith, union_is, part_below b g m n k (omega arith) k-is x y p q)
     ]
@@ -178,10 +178,10 @@ restoration_picture b zero g = drawn_picture Bit g.width g.height 1 (λ x y. if 
     (λ x y p q. omega (arith, level_bounded 1 g x y p q, sample-drawn Bit g.width g.height 1 (λ x y. if sample g x y == 1 then 1 else 0) x y p q))
 restoration_picture b (suc n) g =
     let before = restoration b n g in
-    let part = times (suc n) (dilation (negated b)) (level_set (n + 2) g) in
+    let part = times (suc n) (dilation (reflected b)) (level_set (n + 2) g) in
     let shape = restoration_shape b n g in
-    let part_shape = dilated_shape (negated b) (suc n) (level_set (n + 2) g) in
-    let part_bounded = bounded_dilated (negated b) (suc n) (level_set (n + 2) g) (level_bounded (n + 2) g) in
+    let part_shape = dilated_shape (reflected b) (suc n) (level_set (n + 2) g) in
+    let part_bounded = bounded_dilated (reflected b) (suc n) (level_set (n + 2) g) (level_bounded (n + 2) g) in
     drawn_picture before.kind before.width before.height before.maxval (λ x y. max (sample before x y) (sample part x y))
     (λ x y p q. both _ _ _ (sample_bounded before (restoration_picture b n g) x y p q)
     (omega (arith, part_bounded x y (omega (arith, shape.width, part_shape.width)) (omega (arith, shape.height, part_shape.height)), part_shape.maxval, shape.maxval)))
@@ -216,12 +216,12 @@ module _ (b : List Offset) (depth : ℕ) (f : Picture) (holds : HoldsOrigin b) (
   restored_below (suc n) x y p q =
       let g = skeleton b depth f in
       let before = restoration b n g in
-      let part = times (suc n) (dilation (negated b)) (level_set (n + 2) g) in
+      let part = times (suc n) (dilation (reflected b)) (level_set (n + 2) g) in
       let shape = restoration_shape b n g in
       let in_width : x < f.width = omega (arith, shape.width) in
       let in_height : y < f.height = omega (arith, shape.height) in
-      let part_shape = dilated_shape (negated b) (suc n) (level_set (n + 2) g) in
-      let rises = dilated_rises (negated b) (suc n) (level_set (n + 2) g) (eroded (suc n))
+      let part_shape = dilated_shape (reflected b) (suc n) (level_set (n + 2) g) in
+      let rises = dilated_rises (reflected b) (suc n) (level_set (n + 2) g) (eroded (suc n))
       (shape_trans (level_shape (n + 2)) (shape_sym (eroded_shape b (suc n) f))) (level_below b depth f (suc n) (n + 2) (omega arith)) in
       let first = rises x y (omega (arith, part_shape.width)) (omega (arith, part_shape.height)) in
       let whole = opened_shape b (suc n) f in
@@ -243,7 +243,7 @@ module _ (b : List Offset) (depth : ℕ) (f : Picture) (holds : HoldsOrigin b) (
   marked_there n x y lt p q here away =
       let shape = eroded_shape b n f in
       let opening_small : sample (opening b (eroded n)) x y ≤ 1 =
-      omega (arith, bounded_dilation (negated b) (erosion b (eroded n)) (bounded_erosion b (eroded n)) x y (omega (arith, shape.width)) (omega (arith, shape.height)), shape.maxval, set.maxval) in
+      omega (arith, bounded_dilation (reflected b) (erosion b (eroded n)) (bounded_erosion b (eroded n)) x y (omega (arith, shape.width)) (omega (arith, shape.height)), shape.maxval, set.maxval) in
       let gone : (m : ℕ) → n < m → sample (eroded m) x y ≢ 1 = λ m after one.
       let later_shape = eroded_shape b (m - suc n + suc n) f in
       let same : m - suc n + suc n ≡ m = omega arith in
@@ -282,7 +282,7 @@ module _ (b : List Offset) (depth : ℕ) (f : Picture) (holds : HoldsOrigin b) (
           | inl inside ↦
               let next = eroded_below k (suc n) (omega arith) in
               let target = times n (erosion b) restored in
-              let opened = dilation_below target (erosion b (eroded n)) b (negated b) (turned_back b)
+              let opened = dilation_below target (erosion b (eroded n)) b (reflected b) (turned_back b)
               (shape_trans (eroded_shape b (suc n) f) (shape_trans (shape_sym restored_shape) (shape_sym (eroded_shape b n restored)))) next in
               omega (arith, opened x y p q)
           | inr outside ↦

@@ -5,7 +5,7 @@ use Rattle.mw_model.specs.declared.codes.Code.TheVariants as code
 use Rattle.mw_model.specs.declared.formats.Format.TheVariants.{PlainBits}
 use Rattle.mw_model.specs.declared.formats.Header.{Header}
 use Rattle.mw_model.specs.Rasters.{Raster, raster}
-use Rattle.mw_model.specs.NetpbmGrammar.{Begins, IsPixel, IsRaster}
+use Rattle.mw_model.specs.NetpbmGrammar.{BeginsImage, IsPixel, IsRaster}
 use Rattle.mw_model.specs.NetpbmRefusals.{HasMagic, PlainRefuses}
 
 -- there is a pixel, and no side is over the limit (own)
@@ -17,7 +17,7 @@ pub record SidesFit (side width height : ℕ) : Type 0 where
 
 -- a header of a plain bitmap stands at the front, and the raster follows
 pub record BeginsBitmap (bytes : List ℕ) (h : Header) (pixels : List ℕ) : Type 0 where
-  pub begins : Begins bytes h pixels
+  pub begins : BeginsImage bytes h pixels
   pub format : h.format ≡ PlainBits
 
 -- the bytes are a plain bitmap of these pixels

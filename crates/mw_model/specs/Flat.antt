@@ -27,16 +27,16 @@ abbrev pub dilation : List Offset → Picture → Picture
 dilation element f = redrawn f (λ x y. greatest (under f element x y))
 
 -- the element with each offset turned round
-abbrev pub negated : List Offset → List Offset
-negated element = map (λ (b : Offset). record { dx = neg_ℤ b.dx; dy = neg_ℤ b.dy }) element
+abbrev pub reflected : List Offset → List Offset
+reflected element = map (λ (b : Offset). record { dx = neg_ℤ b.dx; dy = neg_ℤ b.dy }) element
 
--- an erosion, and then a dilation by the negated element
+-- an erosion, and then a dilation by the reflected element
 abbrev pub opening : List Offset → Picture → Picture
-opening element f = dilation (negated element) (erosion element f)
+opening element f = dilation (reflected element) (erosion element f)
 
--- a dilation, and then an erosion by the negated element
+-- a dilation, and then an erosion by the reflected element
 abbrev pub closing : List Offset → Picture → Picture
-closing element f = erosion (negated element) (dilation element f)
+closing element f = erosion (reflected element) (dilation element f)
 
 -- f less g at each place, stopping at 0
 abbrev pub minus : Picture → Picture → Picture

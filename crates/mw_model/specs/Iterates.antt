@@ -4,7 +4,7 @@ use Rattle.std.specs.List.{range_with_len}
 use Rattle.mw_model.specs.declared.shapes.Kind.TheVariants.{Bit, Grey}
 use Rattle.mw_model.specs.declared.places.Offset.{Offset}
 use Rattle.mw_model.specs.Pictures.{Picture, sample, drawn, redrawn}
-use Rattle.mw_model.specs.Flat.{erosion, dilation, negated, opening}
+use Rattle.mw_model.specs.Flat.{erosion, dilation, reflected, opening}
 
 -- the operator done n times
 abbrev pub times : ℕ → (Picture → Picture) → Picture → Picture
@@ -43,11 +43,11 @@ union f g = redrawn f (λ x y. max (sample f x y) (sample g x y))
 abbrev pub restoration : List Offset → ℕ → Picture → Picture
 restoration element zero g = level_set 1 g
 restoration element (suc n) g =
-    union (restoration element n g) (times (suc n) (dilation (negated element)) (level_set (n + 2) g))
+    union (restoration element n g) (times (suc n) (dilation (reflected element)) (level_set (n + 2) g))
 
--- the sum of all samples after n erosions and then n dilations by the negated element
+-- the sum of all samples after n erosions and then n dilations by the reflected element
 abbrev pub volume : List Offset → ℕ → Picture → ℕ
-volume element n f = sum (times n (dilation (negated element)) (times n (erosion element) f)).samples
+volume element n f = sum (times n (dilation (reflected element)) (times n (erosion element) f)).samples
 
 -- the volumes from 0 to the depth
 abbrev pub spectrum : List Offset → ℕ → Picture → List ℕ

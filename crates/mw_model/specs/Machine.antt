@@ -150,14 +150,14 @@ beside before inputs o =
     if is_pending o then option_map_or outcome.Input (find (λ t. is_dead (outcome_at before t)) (tickets inputs)) outcome.Pending else o
 
 -- the cascade: in ticket order, each pending entry with a dead input fails
-abbrev pub spread : List Outcome → List Submission → List Outcome → List Outcome
-spread before [] outcomes = before
-spread before (e ∷ es) [] = before
-spread before (e ∷ es) (o ∷ outcomes) = spread (before ++ beside before e.inputs o ∷ []) es outcomes
+abbrev pub cascaded : List Outcome → List Submission → List Outcome → List Outcome
+cascaded before [] outcomes = before
+cascaded before (e ∷ es) [] = before
+cascaded before (e ∷ es) (o ∷ outcomes) = cascaded (before ++ beside before e.inputs o ∷ []) es outcomes
 
 -- t dies by this cause, and what it was an input of fails
 unfoldable pub killed : Table → ℕ → Outcome → Table
-killed w t cause = record w { outcomes = spread [] w.submissions (slice_set w.outcomes t cause) }
+killed w t cause = record w { outcomes = cascaded [] w.submissions (slice_set w.outcomes t cause) }
 
 -- the table after a call that is not refused
 abbrev pub changed : Table → Call → Table

@@ -78,7 +78,7 @@ pub record IsHeader (bytes : List ℕ) (h : Header) : Type 0 where
   pub is_last : IsTrue (is_white last)
 
 -- a header stands at the front of the bytes, and the raster follows
-pub record Begins (bytes : List ℕ) (h : Header) (raster : List ℕ) : Type 0 where
+pub record BeginsImage (bytes : List ℕ) (h : Header) (raster : List ℕ) : Type 0 where
   pub text : List ℕ
   pub parts : bytes ≡ text ++ raster
   pub is_header : IsHeader text h
@@ -174,7 +174,7 @@ picture h samples = record { kind = kind_of h.format; width = h.width; height = 
 pub record IsFile (bytes : List ℕ) (i : Picture) : Type 0 where
   pub header : Header
   pub raster : List ℕ
-  pub begins : Begins bytes header raster
+  pub begins : BeginsImage bytes header raster
   pub size_fits : SizeFits header.width header.height
   pub maxval_fits : MaxvalFits header.maxval
   pub is_raster : IsRaster header raster i.samples

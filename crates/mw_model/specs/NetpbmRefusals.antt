@@ -6,7 +6,7 @@ use Rattle.mw_model.specs.declared.codes.Code.TheVariants as code
 use Rattle.mw_model.specs.declared.formats.Format.{Format}
 use Rattle.mw_model.specs.declared.formats.Format.TheVariants.{PlainBits, PlainGrey, RawBits}
 use Rattle.mw_model.specs.declared.formats.Header.{Header}
-use Rattle.mw_model.specs.NetpbmGrammar.{is_white, is_eol, Blank, magic, Begins, IsTail, IsPixel, IsSample, IsRaster, SizeFits, MaxvalFits}
+use Rattle.mw_model.specs.NetpbmGrammar.{is_white, is_eol, Blank, magic, BeginsImage, IsTail, IsPixel, IsSample, IsRaster, SizeFits, MaxvalFits}
 
 -- the bytes begin as a file of this format
 abbrev pub HasMagic : Format → List ℕ → Type 0
@@ -18,7 +18,7 @@ raw_size RawBits width height maxval = height * ((width + 7) / 8)
 raw_size _ width height maxval = if nat_lt maxval 256 then height * width else 2 * (height * width)
 
 -- at the front of the bytes stands the raster of these samples, and the rest follows
-pub record Leads (h : Header) (bytes samples rest : List ℕ) : Type 0 where
+pub record BeginsRaster (h : Header) (bytes samples rest : List ℕ) : Type 0 where
   pub front : List ℕ
   pub parts : bytes ≡ front ++ rest
   pub is_raster : IsRaster h front samples
@@ -26,8 +26,8 @@ pub record Leads (h : Header) (bytes samples rest : List ℕ) : Type 0 where
 -- a raw raster is too short, or has a sample over the maxval, or does not end the bytes
 pub data RawRefuses (h : Header) (bytes : List ℕ) : Code → Type 0 where
   short : length bytes < raw_size h.format h.width h.height h.maxval → RawRefuses h bytes code.Short
-  over : (samples rest : List ℕ) → Leads h bytes samples rest → ¬ AllByRecursion (λ s. s ≤ h.maxval) samples → RawRefuses h bytes code.Sample
-  more : (samples rest : List ℕ) → Leads h bytes samples rest → AllByRecursion (λ s. s ≤ h.maxval) samples → rest ≢ [] → RawRefuses h bytes code.Trailing
+  over : (samples rest : List ℕ) → BeginsRaster h bytes samples rest → ¬ AllByRecursion (λ s. s ≤ h.maxval) samples → RawRefuses h bytes code.Sample
+  more : (samples rest : List ℕ) → BeginsRaster h bytes samples rest → AllByRecursion (λ s. s ≤ h.maxval) samples → rest ≢ [] → RawRefuses h bytes code.Trailing
 
 -- nothing but white space and comments to the end, which may stand in a comment
 abbrev pub IsSpent : List ℕ → Type 0
@@ -53,7 +53,7 @@ RasterRefusesAs format h bytes c = RawRefuses h bytes c
 -- the bytes are no file, and this code tells why
 pub data Refuses (bytes : List ℕ) : Code → Type 0 where
   no_magic : ((format : Format) → ¬ HasMagic format bytes) → Refuses bytes code.Magic
-  no_header : (format : Format) → HasMagic format bytes → ((h : Header) (raster : List ℕ) → ¬ Begins bytes h raster) → Refuses bytes code.Header
-  bad_size : (h : Header) (raster : List ℕ) → Begins bytes h raster → ¬ SizeFits h.width h.height → Refuses bytes code.Size
-  bad_maxval : (h : Header) (raster : List ℕ) → Begins bytes h raster → SizeFits h.width h.height → ¬ MaxvalFits h.maxval → Refuses bytes code.Maxval
-  bad_raster : (h : Header) (raster : List ℕ) (c : Code) → Begins bytes h raster → SizeFits h.width h.height → MaxvalFits h.maxval → RasterRefusesAs h.format h raster c → Refuses bytes c
+  no_header : (format : Format) → HasMagic format bytes → ((h : Header) (raster : List ℕ) → ¬ BeginsImage bytes h raster) → Refuses bytes code.Header
+  bad_size : (h : Header) (raster : List ℕ) → BeginsImage bytes h raster → ¬ SizeFits h.width h.height → Refuses bytes code.Size
+  bad_maxval : (h : Header) (raster : List ℕ) → BeginsImage bytes h raster → SizeFits h.width h.height → ¬ MaxvalFits h.maxval → Refuses bytes code.Maxval
+  bad_raster : (h : Header) (raster : List ℕ) (c : Code) → BeginsImage bytes h raster → SizeFits h.width h.height → MaxvalFits h.maxval → RasterRefusesAs h.format h raster c → Refuses bytes c

@@ -23,7 +23,7 @@ use Rattle.mw_model.specs.declared.calls.Call.{Call}
 use Rattle.mw_model.specs.declared.calls.Call.TheVariants as call
 use Rattle.mw_model.specs.Names.{same_name}
 use Rattle.mw_model.specs.Elements.{holds_origin, overlaps}
-use Rattle.mw_model.specs.Values.{Value, value_at, offsets_of}
+use Rattle.mw_model.specs.Values.{Value, value_at, offsets_in}
 
 -- What was accepted, in ticket order, and how each entry stands. Every reply but those of 45, 46 and 47 is read off this.
 pub record Table : Type 0 where
@@ -164,7 +164,7 @@ inputs_wanted (op.Gran (gran.Spectrum f b levels)) = AnImage f ∷ AnElement b �
 
 -- the offsets of the element with this name
 abbrev pub offsets_at : Table → List (Option Value) → Name → List Offset
-offsets_at w values n = unwrap_or (offsets_of (value_at values (ticket w n))) []
+offsets_at w values n = unwrap_or (offsets_in (value_at values (ticket w n))) []
 
 -- the image is no set
 abbrev pub binary_case : Table → Name → Option Code

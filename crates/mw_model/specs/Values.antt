@@ -36,9 +36,9 @@ image_of (Some (ImageValue f)) = Some f
 image_of v = None
 
 -- the offsets of the element in the place of an input, if one stands there
-abbrev pub offsets_of : Option Value → Option (List Offset)
-offsets_of (Some (ElementValue b)) = Some b.offsets
-offsets_of v = None
+abbrev pub offsets_in : Option Value → Option (List Offset)
+offsets_in (Some (ElementValue b)) = Some b.offsets
+offsets_in v = None
 
 -- what stands at a ticket, or in the place of an input, if anything does
 abbrev pub value_at : List (Option Value) → ℕ → Option Value
@@ -47,7 +47,7 @@ value_at values t = slice_index_or values t None
 -- an operator on an image and an element, where the inputs are these
 abbrev pub of_both : List (Option Value) → (Picture → List Offset → Value) → Option Value
 of_both inputs operator =
-    option_and_then (λ f. option_map (λ b. operator f b) (offsets_of (value_at inputs 1))) (image_of (value_at inputs 0))
+    option_and_then (λ f. option_map (λ b. operator f b) (offsets_in (value_at inputs 1))) (image_of (value_at inputs 0))
 
 -- an image from an image and an element
 abbrev pub drawn_by : List (Option Value) → (List Offset → Picture → Picture) → Option Value
@@ -56,7 +56,7 @@ drawn_by inputs operator = of_both inputs (λ f b. ImageValue (operator b f))
 -- an image from an image and two elements
 abbrev pub drawn_by_two : List (Option Value) → (List Offset → List Offset → Picture → Picture) → Option Value
 drawn_by_two inputs operator =
-    option_and_then (λ c. of_both inputs (λ f b. ImageValue (operator b c f))) (offsets_of (value_at inputs 2))
+    option_and_then (λ c. of_both inputs (λ f b. ImageValue (operator b c f))) (offsets_in (value_at inputs 2))
 
 -- the value of an operation on the values of its inputs, in argument order
 abbrev pub result_of : Op → List (Option Value) → Option Value

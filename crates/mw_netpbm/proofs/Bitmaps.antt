@@ -8,7 +8,7 @@ use Rattle.mw_model.specs.declared.formats.Format.{Format}
 use Rattle.mw_model.specs.declared.formats.Format.TheVariants.{PlainBits, PlainGrey, RawBits, RawGrey}
 use Rattle.mw_model.specs.declared.formats.Header.{Header as Head}
 use Rattle.mw_model.specs.Rasters.{Raster, raster}
-use Rattle.mw_model.specs.NetpbmGrammar.{Begins, magic, IsPixel, IsPlain, RasterAs}
+use Rattle.mw_model.specs.NetpbmGrammar.{BeginsImage, magic, IsPixel, IsPlain, RasterAs}
 use Rattle.mw_model.specs.NetpbmRefusals.{PlainRefuses, later}
 use Rattle.mw_model.specs.Bitmaps.{SidesFit, BeginsBitmap, IsBitmap, BitmapRefuses, not_plain, no_header, bad_sides, bad_pixels}
 use Rattle.mw_netpbm.specs.declared.fault.ReadFault.{ReadFault}
@@ -31,7 +31,7 @@ use Rattle.mw_netpbm.proofs.Sides.{Within, bind_ok, guard_ok, ok_is, plain_lengt
 
 -- ---- the format
 
-begun_magic : (bytes pixels : List ℕ) (h : Head) → Begins bytes h pixels → (rest : List ℕ) × (magic_at bytes ≡ Ok (h.format, rest)) × (bytes ≡ magic h.format ++ rest)
+begun_magic : (bytes pixels : List ℕ) (h : Head) → BeginsImage bytes h pixels → (rest : List ℕ) × (magic_at bytes ≡ Ok (h.format, rest)) × (bytes ≡ magic h.format ++ rest)
 begun_magic bytes pixels h b =
     let is = b.is_header in
     let fields = is.width ++ (is.height ++ (is.maxval ++ is.last ∷ [])) in
@@ -138,7 +138,7 @@ record ReadHead (side : ℕ) (bytes : List ℕ) (x : Head × List ℕ) : Type 0 
   begins : BeginsBitmap bytes x.0 x.1
   sides : SidesFit side x.0.width x.0.height
 
-plain_begins : (bytes pixels : List ℕ) (h : Head) (m : Format × List ℕ) → Begins bytes h pixels → magic_at bytes ≡ Ok m → m.0 ≡ PlainBits → BeginsBitmap bytes h pixels
+plain_begins : (bytes pixels : List ℕ) (h : Head) (m : Format × List ℕ) → BeginsImage bytes h pixels → magic_at bytes ≡ Ok m → m.0 ≡ PlainBits → BeginsBitmap bytes h pixels
 plain_begins bytes pixels h m b e plain =
     let same : m.0 ≡ h.format = first_is (magic_at bytes) m (h.format, (begun_magic bytes pixels h b).0) e (begun_magic bytes pixels h b).1 in
     record { begins = b; format = sym same ∙ plain }

@@ -16,7 +16,7 @@ use Rattle.mw_netpbm.specs.Heading.{head_at, limits}
 use Rattle.mw_netpbm.specs.Rasters.{grey8_at, grey16_at, words_of, rows_bits, bits_at}
 use Rattle.mw_netpbm.specs.Plain.{plain_at, pixel_at, sample_at}
 use Rattle.mw_netpbm.specs.Whole.{raster_as, image_at, reading}
-use Rattle.mw_model.specs.NetpbmGrammar.{IsLevels, IsRows, IsPixel, IsSample, RasterAs, IsRaster, IsMaxval, Begins, SizeFits, MaxvalFits, IsFile, picture}
+use Rattle.mw_model.specs.NetpbmGrammar.{IsLevels, IsRows, IsPixel, IsSample, RasterAs, IsRaster, IsMaxval, BeginsImage, SizeFits, MaxvalFits, IsFile, picture}
 use Rattle.mw_netpbm.proofs.Whole.{cond-chosen, sample_small}
 use Rattle.mw_netpbm.proofs.Sides.{Within, bind_ok, guard_ok, ok_is, grey8_ok, grey16_ok, bits_ok, plain_length, plain_within}
 use Rattle.mw_netpbm.proofs.Headers.{head_parts, head_whole, capped}
@@ -85,7 +85,7 @@ set_maxval RawBits text m is = is.1
 set_maxval PlainGrey text m is = tt
 set_maxval RawGrey text m is = tt
 
-pub begun_maxval : (bytes raster : List ℕ) (h : Head) → Begins bytes h raster → SetMaxval h.format h.maxval
+pub begun_maxval : (bytes raster : List ℕ) (h : Head) → BeginsImage bytes h raster → SetMaxval h.format h.maxval
 begun_maxval bytes raster h b = set_maxval h.format b.is_header.maxval h.maxval b.is_header.is_maxval
 
 pub record Rastered (h : Head) (bytes : List ℕ) (i : Picture) : Type 0 where
@@ -196,7 +196,7 @@ raster_read RawGrey w h m bytes xs low one len within is = rw (levels_whole w h 
 
 -- ---- the whole file
 
-file_of : (bytes : List ℕ) (i : Picture) (raster : List ℕ) (h : Head) → Begins bytes h raster → SizeFits h.width h.height → MaxvalFits h.maxval → Rastered h raster i → IsFile bytes i
+file_of : (bytes : List ℕ) (i : Picture) (raster : List ℕ) (h : Head) → BeginsImage bytes h raster → SizeFits h.width h.height → MaxvalFits h.maxval → Rastered h raster i → IsFile bytes i
 file_of bytes i raster h begins size maxval r =
     let same : i.samples ≡ r.samples = ap (λ (p : Picture). p.samples) r.shows in
     record {
@@ -211,10 +211,10 @@ file_of bytes i raster h begins size maxval r =
     }
 
 -- a header at the front is read
-pub begun_read : (bytes raster : List ℕ) (h : Head) → Begins bytes h raster → head_at bytes ≡ Ok (capped h, raster)
+pub begun_read : (bytes raster : List ℕ) (h : Head) → BeginsImage bytes h raster → head_at bytes ≡ Ok (capped h, raster)
 begun_read bytes raster h b = ap head_at b.parts ∙ head_whole b.text raster h b.is_header
 
-pub fitting_read : (bytes raster : List ℕ) (h : Head) → Begins bytes h raster → SizeFits h.width h.height → MaxvalFits h.maxval → head_at bytes ≡ Ok (h, raster)
+pub fitting_read : (bytes raster : List ℕ) (h : Head) → BeginsImage bytes h raster → SizeFits h.width h.height → MaxvalFits h.maxval → head_at bytes ≡ Ok (h, raster)
 fitting_read bytes raster h b s m = begun_read bytes raster h b ∙ ap (λ (k : Head). Ok (k, raster)) (fits_cap h s m)
 
 pub file_read : (bytes : List ℕ) (i : Picture) → IsFile bytes i → reading bytes ≡ Ok i

@@ -10,7 +10,7 @@ use Rattle.mw_model.specs.declared.formats.Header.{Header as Head}
 use Rattle.mw_netpbm.specs.Reading.{◌>>=◌, skip_from, gap_at, number_at, field_at}
 use Rattle.mw_model.specs.NetpbmGrammar.{is_white, NoDigit}
 use Rattle.mw_netpbm.specs.Heading.{magic_at, maxval_at, white_at, head_at}
-use Rattle.mw_model.specs.NetpbmGrammar.{Blank, IsNumber, IsField, magic, IsMaxval, IsHeader, Begins}
+use Rattle.mw_model.specs.NetpbmGrammar.{Blank, IsNumber, IsField, magic, IsMaxval, IsHeader, BeginsImage}
 use Rattle.mw_netpbm.proofs.Whole.{cond-chosen}
 use Rattle.mw_netpbm.proofs.Sides.{bind_ok, ok_is}
 use Rattle.mw_netpbm.proofs.Blanks.{skip_blank, skip_visible, Skipped, at_visible, at_end, in_comment, skipped, digit_visible, cap, number_whole, number_parts, white_no_digit}
@@ -188,7 +188,7 @@ same_head format w h v w' h' v' e1 e2 e3 = rw (e1, e2, e3) refl
 -- a header at the front, and the raster
 pub record Headed (bytes raster : List ℕ) (read : Head) : Type 0 where
   pub head : Head
-  pub begins : Begins bytes head raster
+  pub begins : BeginsImage bytes head raster
   pub is_capped : read ≡ capped head
 
 pub head_parts : (bytes : List ℕ) (x : Head × List ℕ) → head_at bytes ≡ Ok x → Headed bytes x.1 x.0

@@ -14,13 +14,13 @@ use Rattle.mw_netpbm.specs.Heading.{head_at, limits, magic_at, maxval_at, white_
 use Rattle.mw_netpbm.specs.Rasters.{grey8_at, grey16_at, words_of, rows_bits, bits_at}
 use Rattle.mw_netpbm.specs.Plain.{plain_at, pixel_at, sample_at, tail_at, bit_at, apart, level_at}
 use Rattle.mw_netpbm.specs.Whole.{raster_as, image_at, reading}
-use Rattle.mw_model.specs.NetpbmGrammar.{IsPixel, IsSample, Begins, SizeFits, MaxvalFits, IsFile, picture, is_white, is_digit, is_eol}
+use Rattle.mw_model.specs.NetpbmGrammar.{IsPixel, IsSample, BeginsImage, SizeFits, MaxvalFits, IsFile, picture, is_white, is_digit, is_eol}
 use Rattle.mw_netpbm.proofs.Whole.{cond-chosen, sample_small}
 use Rattle.mw_netpbm.proofs.Sides.{Within, fold_bound, words_length, rows_length, rows_within, ok_is}
 use Rattle.mw_netpbm.proofs.Headers.{head_parts, capped, magic_whole, magic_parts}
 use Rattle.mw_netpbm.proofs.Blanks.{cap, Skipped, at_visible, at_end, in_comment, skipped, skip_blank, skip_visible, skip_hash}
 use Rattle.mw_netpbm.proofs.Rasters.{pairs_from, rows_from, pixel_parts, pixel_whole, sample_parts, sample_whole, tail_whole, pairs_words, rows_read, tail_from}
-use Rattle.mw_model.specs.NetpbmRefusals.{HasMagic, raw_size, Leads, RawRefuses, short, over, more, PlainRefuses, spent, wrong, later, no_tail, RasterRefusesAs, Refuses, no_magic, no_header, bad_size, bad_maxval, bad_raster, IsSpent, ShowsByte}
+use Rattle.mw_model.specs.NetpbmRefusals.{HasMagic, raw_size, BeginsRaster, RawRefuses, short, over, more, PlainRefuses, spent, wrong, later, no_tail, RasterRefusesAs, Refuses, no_magic, no_header, bad_size, bad_maxval, bad_raster, IsSpent, ShowsByte}
 use Rattle.mw_model.specs.declared.codes.Code.TheVariants as code
 use Rattle.mw_netpbm.specs.Faults.{code_of}
 use Rattle.mw_netpbm.proofs.Files.{limits_ok, read_file, fits_cap, size_within, size_uncapped, size_fine, maxval_fine, fold_within, begun_read, begun_maxval, SetMaxval, limits_fine, maxval_uncapped, maxval_within}
@@ -190,7 +190,7 @@ not_nil n bytes lt e = let len : length (drop n bytes) ≡ 0 = ap length e in ab
 -- the rasters that stand at the front of enough bytes
 
 bits_lead : (w h m : ℕ) (bytes : List ℕ) → h * ((w + 7) / 8) ≤ length bytes
-    → Leads (headed RawBits w h m) bytes (rows_bits w h (take (h * ((w + 7) / 8)) bytes)) (drop (h * ((w + 7) / 8)) bytes)
+    → BeginsRaster (headed RawBits w h m) bytes (rows_bits w h (take (h * ((w + 7) / 8)) bytes)) (drop (h * ((w + 7) / 8)) bytes)
 bits_lead w h m bytes le =
     let n = h * ((w + 7) / 8) in
     let len : length (take n bytes) ≡ n = length-take-le n bytes le in
@@ -200,7 +200,7 @@ bits_lead w h m bytes le =
       is_raster = record { count = rows_length w h (take n bytes) (omega (arith, len)); spelled = rows_from w h (take n bytes) len };
     }
 
-grey8_lead : (w h m : ℕ) (bytes : List ℕ) → m < 256 → h * w ≤ length bytes → Leads (headed RawGrey w h m) bytes (take (h * w) bytes) (drop (h * w) bytes)
+grey8_lead : (w h m : ℕ) (bytes : List ℕ) → m < 256 → h * w ≤ length bytes → BeginsRaster (headed RawGrey w h m) bytes (take (h * w) bytes) (drop (h * w) bytes)
 grey8_lead w h m bytes lt le =
     record {
       front = take (h * w) bytes;
@@ -209,7 +209,7 @@ grey8_lead w h m bytes lt le =
     }
 
 grey16_lead : (w h m : ℕ) (bytes : List ℕ) → 256 ≤ m → 2 * (h * w) ≤ length bytes
-    → Leads (headed RawGrey w h m) bytes (words_of (take (2 * (h * w)) bytes)) (drop (2 * (h * w)) bytes)
+    → BeginsRaster (headed RawGrey w h m) bytes (words_of (take (2 * (h * w)) bytes)) (drop (2 * (h * w)) bytes)
 grey16_lead w h m bytes ge le =
     let n = 2 * (h * w) in
     let len : length (take n bytes) ≡ (h * w) + (h * w) = length-take-le n bytes le ∙ omega arith in
@@ -232,7 +232,7 @@ left_over : (wanted : ℕ) (bytes front rest : List ℕ) → bytes ≡ front ++ 
 left_over wanted bytes front [] parts len some = absurd (some refl)
 left_over wanted bytes front (b ∷ rest) parts len some = omega (arith, ap length parts, length-append front (b ∷ rest), len)
 
-taken8 : (w h m : ℕ) (bytes samples rest : List ℕ) → m < 256 → Leads (headed RawGrey w h m) bytes samples rest → Taken (h * w) bytes samples rest (take (h * w) bytes)
+taken8 : (w h m : ℕ) (bytes samples rest : List ℕ) → m < 256 → BeginsRaster (headed RawGrey w h m) bytes samples rest → Taken (h * w) bytes samples rest (take (h * w) bytes)
 taken8 w h m bytes samples rest lt l =
     let same : l.front ≡ samples = l.is_raster.spelled.0 lt in
     let len : length l.front ≡ h * w = ap length same ∙ l.is_raster.count in
@@ -242,7 +242,7 @@ taken8 w h m bytes samples rest lt l =
       left = left_over (h * w) bytes l.front rest l.parts len;
     }
 
-taken16 : (w h m : ℕ) (bytes samples rest : List ℕ) → 256 ≤ m → Leads (headed RawGrey w h m) bytes samples rest → Taken (2 * (h * w)) bytes samples rest (words_of (take (2 * (h * w)) bytes))
+taken16 : (w h m : ℕ) (bytes samples rest : List ℕ) → 256 ≤ m → BeginsRaster (headed RawGrey w h m) bytes samples rest → Taken (2 * (h * w)) bytes samples rest (words_of (take (2 * (h * w)) bytes))
 taken16 w h m bytes samples rest ge l =
     let p = pairs_words l.front samples (l.is_raster.spelled.1 ge) in
     let len : length l.front ≡ 2 * (h * w) = p.1 ∙ ap (λ k. 2 * k) l.is_raster.count in
@@ -262,8 +262,8 @@ TooLong wanted bytes c = (ltb wanted (length bytes) ≡ true) × (code.Trailing 
 abbrev TooHigh : ℕ → ℕ → List ℕ → List ℕ → Code → Type 0
 TooHigh wanted m bytes samples c = (ltb m (fold max 0 samples) ≡ true) × (code.Sample ≡ c) ⊎ (ltb m (fold max 0 samples) ≡ false) × TooLong wanted bytes c
 
-raw_refuses : (h : Head) (wanted : ℕ) (bytes samples : List ℕ) → wanted ≡ raw_size h.format h.width h.height h.maxval → (wanted ≤ length bytes → Leads h bytes samples (drop wanted bytes))
-    → ((ss rest : List ℕ) → Leads h bytes ss rest → Taken wanted bytes ss rest samples) → RefusesAs code_of (raw_tests wanted h.maxval bytes samples) (RawRefuses h bytes)
+raw_refuses : (h : Head) (wanted : ℕ) (bytes samples : List ℕ) → wanted ≡ raw_size h.format h.width h.height h.maxval → (wanted ≤ length bytes → BeginsRaster h bytes samples (drop wanted bytes))
+    → ((ss rest : List ℕ) → BeginsRaster h bytes ss rest → Taken wanted bytes ss rest samples) → RefusesAs code_of (raw_tests wanted h.maxval bytes samples) (RawRefuses h bytes)
 raw_refuses h wanted bytes samples size leads taken =
     refuses-like code_of (raw_tests wanted h.maxval bytes samples)
     (λ c. (ltb (length bytes) wanted ≡ true) × (code.Short ≡ c) ⊎ (ltb (length bytes) wanted ≡ false) × TooHigh wanted h.maxval bytes samples c) (RawRefuses h bytes)
@@ -478,7 +478,7 @@ raster_refuses RawGrey w h m bytes low one =
 abbrev FitRefusal : List ℕ → Head → Code → Type 0
 FitRefusal raster h c = LimitsRefusal h c ⊎ ((l : Unit {0}) × (limits (capped h) ≡ Ok l) × RasterRefusesAs h.format h raster c)
 
-fit_refuses : (bytes raster : List ℕ) (h : Head) → Begins bytes h raster → RefusesAs code_of (limits (capped h) >>= λ l. image_at (capped h) raster) (FitRefusal raster h)
+fit_refuses : (bytes raster : List ℕ) (h : Head) → BeginsImage bytes h raster → RefusesAs code_of (limits (capped h) >>= λ l. image_at (capped h) raster) (FitRefusal raster h)
 fit_refuses bytes raster h b =
     refuses-then code_of (limits (capped h)) (λ l. image_at (capped h) raster) (LimitsRefusal h) (λ l. RasterRefusesAs h.format h raster) (limits_refuses h)
     (λ l fine.
@@ -487,7 +487,7 @@ fit_refuses bytes raster h b =
     (raster_refuses h.format h.width h.height h.maxval raster fits.1.small (begun_maxval bytes raster h b)))
 
 abbrev AfterHead : List ℕ → List ℕ → Code → Type 0
-AfterHead bytes raster c = (h : Head) × Begins bytes h raster × FitRefusal raster h c
+AfterHead bytes raster c = (h : Head) × BeginsImage bytes h raster × FitRefusal raster h c
 
 after_head : (bytes : List ℕ) (x : Head × List ℕ) → head_at bytes ≡ Ok x → RefusesAs code_of (limits x.0 >>= λ l. image_at x.0 x.1) (AfterHead bytes x.1)
 after_head bytes x is = record {

@@ -17,7 +17,7 @@ use Rattle.mw_model.specs.Elements.{Figure}
 use Rattle.mw_model.specs.Machine.{Machine, inputs_from, ticket_wanted, values}
 use Rattle.mw_model.specs.Refusals.{Table, Wanted, AnImage, AnElement, first_of, inputs_wanted, is_dead, is_element, is_image, is_released, is_there, name_taken, no_room, outcome_at, refusal, shape_at, ticket_of, wanted_case, input_case, when}
 use Rattle.mw_model.specs.Stands.{Agrees}
-use Rattle.mw_model.specs.Values.{Value, ImageValue, ElementValue, CurveValue, offsets_of, option_list, tickets, value_at}
+use Rattle.mw_model.specs.Values.{Value, ImageValue, ElementValue, CurveValue, offsets_in, option_list, tickets, value_at}
 use Rattle.mw_laws.specs.MachineLaws.{IsSound, WithinLimits, shape_of_value}
 use Rattle.mw_laws.proofs.RunShapes.{image_value, no_element}
 use Rattle.mw_laws.proofs.RunTables.{first_none, is_known, ticket_is, ticket_within, when_so}
@@ -78,7 +78,7 @@ element_there (Some (ElementValue b)) s told element some none = absurd cc
 element_there (Some (CurveValue ns)) s told element some none = let e = ap is_element (told (CurveValue ns) refl) in absurd cc
 
 -- what is no element has no offsets
-no_offsets : (v : Option Value) (s : Shape) → ((x : Value) → v ≡ Some x → shape_of_value x ≡ s) → is_element s ≡ false → unwrap_or (offsets_of v) [] ≡ []
+no_offsets : (v : Option Value) (s : Shape) → ((x : Value) → v ≡ Some x → shape_of_value x ≡ s) → is_element s ≡ false → unwrap_or (offsets_in v) [] ≡ []
 no_offsets None s told element = refl
 no_offsets (Some (ImageValue f)) s told element = refl
 no_offsets (Some (ElementValue b)) s told element = let e = ap is_element (told (ElementValue b) refl) in absurd cc
@@ -102,7 +102,7 @@ curve_value (Some (CurveValue numbers)) n is = (numbers, refl)
 -- what holds of an input at a ticket that may be used
 record IsFound (w : Table) (kept values : List (Option Value)) (t : ℕ) (i : Input) : Type 0 where
   tells : HasShape i (shape_at w.submissions t)
-  offsets : unwrap_or (offsets_of (value_at kept t)) [] ≡ offsets_of_input i
+  offsets : unwrap_or (offsets_in (value_at kept t)) [] ≡ offsets_of_input i
   value : IsValueOf i (value_at values t)
 
 found : (w : Table) (kept values : List (Option Value)) (n : Name) (t : ℕ) (i : Input) → AreValuesAt w kept values → IsUsable w n t → IsInputAt w kept t i → IsFound w kept values t i
@@ -117,7 +117,7 @@ found w kept values n t (input.Element e) are usable at =
     let is = figure_is (value_at kept t) (arc_value e.now) at in
     record {
       tells = sym (shape_kept w kept values t (ElementValue (arc_value e.now)) are usable.within is);
-      offsets = ap (λ (v : Option Value). unwrap_or (offsets_of v) []) is;
+      offsets = ap (λ (v : Option Value). unwrap_or (offsets_in v) []) is;
       value = are.own t (ElementValue (arc_value e.now)) is;
     }
 found w kept values n t input.Curve are usable (k, is) = record {
@@ -148,7 +148,7 @@ IsInputOf-taken w kept values x i are none at =
         alive = entry.1.alive;
         kept = entry.1.kept;
         tells = what.tells;
-        offsets = ap (λ (k : ℕ). unwrap_or (offsets_of (value_at kept k)) []) (ticket_is w n t entry.1.known) ∙ what.offsets;
+        offsets = ap (λ (k : ℕ). unwrap_or (offsets_in (value_at kept k)) []) (ticket_is w n t entry.1.known) ∙ what.offsets;
       };
       ticket = is;
       value = what.value;

@@ -6,7 +6,7 @@ use Rattle.mw_model.specs.declared.places.OffsetBox.{OffsetBox}
 use Rattle.mw_model.specs.Places.{box_offsets}
 use Rattle.mw_model.specs.PlanSteps as step
 use Rattle.mw_model.specs.PlanSteps.{PlanStep}
-use Rattle.mw_model.specs.Flat.{negated, rank, threshold}
+use Rattle.mw_model.specs.Flat.{reflected, rank, threshold}
 use Rattle.mw_element.specs.Figures.{FillsBox}
 use Rattle.mw_laws.proofs.Composed.{CoverSame, erosion_same, dilation_same}
 use Rattle.mw_task.proofs.Cut.{plane_of_one}
@@ -27,8 +27,8 @@ acts_by_box Greatest box e same = record { plain = refl; made = λ f. record { c
 pub acts_by_full_box : (x : Extremum) (box : OffsetBox) (e : List Offset) → FillsBox box e → ActsAs (by_box x box) (sliding x e)
 acts_by_full_box x box e fills = acts_by_box x box e (box_same box e fills)
 
-pub acts_by_turned_box : (x : Extremum) (box : OffsetBox) (e : List Offset) → FillsBox box e → ActsAs (by_box x (turned_box box)) (sliding x (negated e))
-acts_by_turned_box x box e fills = acts_by_box x (turned_box box) (negated e) (turned_same box e fills)
+pub acts_by_turned_box : (x : Extremum) (box : OffsetBox) (e : List Offset) → FillsBox box e → ActsAs (by_box x (turned_box box)) (sliding x (reflected e))
+acts_by_turned_box x box e fills = acts_by_box x (turned_box box) (reflected e) (turned_same box e fills)
 
 pub acts_by_rank : (e : List Offset) (k : ℕ) → ActsAs (step.Rank e k) (rank e k)
 acts_by_rank e k = record { plain = refl; made = λ f. record { count = refl; kinds = tt }; plane = λ f. refl }
@@ -44,7 +44,7 @@ pub slides_by_box : (x : Extremum) (s : PlanStep) (box : OffsetBox) (d e : List 
 slides_by_box x s box d e is fills same =
     subst (λ (t : PlanStep). ActsAs t (sliding x e)) (sym is) (subst (λ (t : List Offset). ActsAs (by_box x box) (sliding x t)) same (acts_by_full_box x box d fills))
 
-pub slides_by_turned_box : (x : Extremum) (s : PlanStep) (box t : OffsetBox) (d e : List Offset) → s ≡ by_box x t → t ≡ turned_box box → FillsBox box d → d ≡ e → ActsAs s (sliding x (negated e))
+pub slides_by_turned_box : (x : Extremum) (s : PlanStep) (box t : OffsetBox) (d e : List Offset) → s ≡ by_box x t → t ≡ turned_box box → FillsBox box d → d ≡ e → ActsAs s (sliding x (reflected e))
 slides_by_turned_box x s box t d e is turned fills same =
-    subst (λ (r : PlanStep). ActsAs r (sliding x (negated e))) (sym (is ∙ ap (by_box x) turned))
-    (subst (λ (r : List Offset). ActsAs (by_box x (turned_box box)) (sliding x (negated r))) same (acts_by_turned_box x box d fills))
+    subst (λ (r : PlanStep). ActsAs r (sliding x (reflected e))) (sym (is ∙ ap (by_box x) turned))
+    (subst (λ (r : List Offset). ActsAs (by_box x (turned_box box)) (sliding x (reflected r))) same (acts_by_turned_box x box d fills))

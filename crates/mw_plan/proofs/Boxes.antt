@@ -6,7 +6,7 @@ use Rattle.mw_facts.proofs.Alls.{all-each_contained, all-contains}
 use Rattle.mw_model.specs.declared.places.Offset.{Offset}
 use Rattle.mw_model.specs.declared.places.OffsetBox.{OffsetBox}
 use Rattle.mw_model.specs.Places.{box_offsets}
-use Rattle.mw_model.specs.Flat.{negated}
+use Rattle.mw_model.specs.Flat.{reflected}
 use Rattle.mw_model.specs.Elements.{IsNear, IsFigure, Figure}
 use Rattle.mw_model.proofs.Covers as cover
 use Rattle.mw_model.proofs.Covers.{Covers, offset}
@@ -75,11 +75,11 @@ leads_back b x y u v h = (back x u b.dx h.0, back y v b.dy h.1)
     back : (x u : ℕ) (d : ℤ) → pos x +ℤ d ≡ pos u → pos u +ℤ neg_ℤ d ≡ pos x
     back x u d e = omega (arith, ints)
 
-pub turned_same : (box : OffsetBox) (e : List Offset) → FillsBox box e → CoverSame (box_offsets (turned_box box)) (negated e)
+pub turned_same : (box : OffsetBox) (e : List Offset) → FillsBox box e → CoverSame (box_offsets (turned_box box)) (reflected e)
 turned_same box e fills = record {
   to = λ x y u v c.
       let w = box-way (turned_box box) x y u v c in
-      cover.negated-IsTurned e u v x y (element_covers e (turned w.by) u v x y ((fills (turned w.by)).1 (in_box box w.by w.holds)) (leads_back w.by x y u v w.leads));
+      cover.reflected-IsTurned e u v x y (element_covers e (turned w.by) u v x y ((fills (turned w.by)).1 (in_box box w.by w.holds)) (leads_back w.by x y u v w.leads));
   from = λ x y u v c.
       let w = element-way e u v x y (cover.turned_back e x y u v c) in
       box_covers (turned_box box) (turned w.by) x y u v (in_turned box w.by ((fills w.by).0 w.holds)) (leads_back w.by u v x y w.leads);

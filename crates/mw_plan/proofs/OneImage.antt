@@ -5,7 +5,7 @@ use Rattle.std.specs.List.{AllByRecursion}
 use Rattle.std.proofs.lemmas.Result.{IfOk-weaker}
 use Rattle.mw_model.specs.declared.places.Offset.{Offset}
 use Rattle.mw_model.specs.Pictures.{Picture}
-use Rattle.mw_model.specs.Flat.{negated, minus, erosion, dilation, opening, closing, white_top_hat, black_top_hat}
+use Rattle.mw_model.specs.Flat.{reflected, minus, erosion, dilation, opening, closing, white_top_hat, black_top_hat}
 use Rattle.mw_model.specs.PlanSteps.{PlanStep, Minus}
 use Rattle.mw_model.specs.Plans.{Plan, Planned, Source, FromInput, FromStep, IsSourceAt, is_sum, plane_of}
 use Rattle.mw_model.specs.Tasks.{nothing_planned}
@@ -72,8 +72,8 @@ in_turn_makes s t first second acts_first acts_second = record {
     made f (suc (suc k)) lt = absurd (omega arith)
 
 pub chain_makes : (x : Extremum) (e : List Offset) (plan : Plan) → IsChain x e plan → Makes 2 (filtering x e) plan
-chain_makes Least e plan c = subst (Makes 2 (opening e)) (sym c.is) (in_turn_makes c.first c.second (erosion e) (dilation (negated e)) c.acts_first c.acts_second)
-chain_makes Greatest e plan c = subst (Makes 2 (closing e)) (sym c.is) (in_turn_makes c.first c.second (dilation e) (erosion (negated e)) c.acts_first c.acts_second)
+chain_makes Least e plan c = subst (Makes 2 (opening e)) (sym c.is) (in_turn_makes c.first c.second (erosion e) (dilation (reflected e)) c.acts_first c.acts_second)
+chain_makes Greatest e plan c = subst (Makes 2 (closing e)) (sym c.is) (in_turn_makes c.first c.second (dilation e) (erosion (reflected e)) c.acts_first c.acts_second)
 
 -- the difference of two images of one shape
 pub less_of : (f g : Picture) → g.width ≡ f.width → g.height ≡ f.height → plane_of Minus (f ∷ g ∷ []) f.width f.height ≡ minus f g
@@ -179,10 +179,10 @@ alike_extrema Greatest Greatest e d f = (refl, refl)
 pub residue_makes : (x : Extremum) (e : List Offset) (chain plan : Plan) → IsChain x e chain → plan ≡ chain ++ less (greater x) (lesser x) ∷ [] → Makes 3 (residue x e) plan
 residue_makes Least e chain plan c is =
     subst (Makes 3 (white_top_hat e)) (sym (is ∙ ap (λ (p : Plan). p ++ less (FromInput 0) (FromStep 1) ∷ []) c.is))
-    (below_makes c.first c.second (erosion e) (dilation (negated e)) c.acts_first c.acts_second (λ f. (refl, refl)))
+    (below_makes c.first c.second (erosion e) (dilation (reflected e)) c.acts_first c.acts_second (λ f. (refl, refl)))
 residue_makes Greatest e chain plan c is =
     subst (Makes 3 (black_top_hat e)) (sym (is ∙ ap (λ (p : Plan). p ++ less (FromStep 1) (FromInput 0) ∷ []) c.is))
-    (above_makes c.first c.second (dilation e) (erosion (negated e)) c.acts_first c.acts_second (λ f. (refl, refl)))
+    (above_makes c.first c.second (dilation e) (erosion (reflected e)) c.acts_first c.acts_second (λ f. (refl, refl)))
 
 -- three steps added to a plan without any
 pub three_pushed : (p0 p1 p2 p3 : Plan) (a b d x y z : Planned) → p0 ≡ [] → p1 ≡ p0 ++ a ∷ [] → a ≡ x → p2 ≡ p1 ++ b ∷ [] → b ≡ y → p3 ≡ p2 ++ d ∷ [] → d ≡ z → p3 ≡ x ∷ y ∷ z ∷ []

@@ -6,7 +6,7 @@ use Rattle.mw_model.specs.declared.operations.FlatOp.TheVariants as flat
 use Rattle.mw_model.specs.declared.places.Offset.{Offset}
 use Rattle.mw_model.specs.declared.places.OffsetBox.{OffsetBox}
 use Rattle.mw_model.specs.Pictures.{Picture}
-use Rattle.mw_model.specs.Flat.{erosion, dilation, negated, opening, closing, white_top_hat, black_top_hat, gradient, rank, threshold, hit_or_miss}
+use Rattle.mw_model.specs.Flat.{erosion, dilation, reflected, opening, closing, white_top_hat, black_top_hat, gradient, rank, threshold, hit_or_miss}
 use Rattle.mw_model.specs.PlanSteps.{PlanStep, Minus}
 use Rattle.mw_model.specs.PlanSteps as step
 use Rattle.mw_model.specs.Plans.{Plan, Planned, Source, FromInput, FromStep, IsSourceAt, is_sum, no_picture, plane_of, planes}
@@ -29,7 +29,7 @@ abbrev pub sliding : Extremum → List Offset → Picture → Picture
 sliding Least = erosion
 sliding Greatest = dilation
 
--- an extremum, and then the other by the negated element
+-- an extremum, and then the other by the reflected element
 abbrev pub filtering : Extremum → List Offset → Picture → Picture
 filtering Least = opening
 filtering Greatest = closing
@@ -111,13 +111,13 @@ pub record Makes (count : ℕ) (operator : Picture → Picture) (plan : Plan) : 
   pub made : (f : Picture) (k : ℕ) → k < length plan → CanBeMade (slice_index_or plan k nothing_planned).step (planes_read plan (f ∷ []) f.width f.height k)
   pub last : (f : Picture) → last_plane plan f ≡ operator f
 
--- the plan is an extremum by the element, and then the other by the negated element
+-- the plan is an extremum by the element, and then the other by the reflected element
 pub record IsChain (extremum : Extremum) (e : List Offset) (plan : Plan) : Type 0 where
   pub first : PlanStep
   pub second : PlanStep
   pub is : plan ≡ of_image first ∷ of_step 0 second ∷ []
   pub acts_first : ActsAs first (sliding extremum e)
-  pub acts_second : ActsAs second (sliding (other extremum) (negated e))
+  pub acts_second : ActsAs second (sliding (other extremum) (reflected e))
 
 -- an element stands wherever the operation takes one
 abbrev pub HasElements : FlatOp → Input → Input → Type 0

@@ -4,7 +4,7 @@ ghost use Rattle.std.specs.Prelude.{◌≡◌, ◌≤ℤ◌, pos, negsuc, neg_�
 ghost use Rattle.std.specs.Arc.{arc_value};
 ghost use Rattle.mw_element.specs.Figures.{FillsBox};
 ghost use Rattle.mw_model.specs.declared.places.OffsetBox.{OffsetBox};
-ghost use Rattle.mw_model.specs.Flat.{negated, rank};
+ghost use Rattle.mw_model.specs.Flat.{reflected, rank};
 ghost use Rattle.mw_task.specs.Meanings.{meaning};
 ghost use Rattle.mw_plan.specs.Asked.{is_element_input, offsets_of_input};
 ghost use Rattle.mw_plan.specs.Steps.{ActsAs, IsNearBox, sliding, turned_box};
@@ -65,7 +65,7 @@ pub fn slide(extremum: Extremum, input: Input<'_>) -> Result<Step, NoMemory>
 /// The extremum under the element turned round, or `NoMemory`.
 pub fn slide_turned(alloc: Global, extremum: Extremum, input: Input<'_>) -> Result<Step, NoMemory>
     requires { is_element_input input ≡ true }
-    ensures { IfOk result (λ s. ActsAs (meaning s) (sliding extremum (negated (offsets_of_input input.entry)))) }
+    ensures { IfOk result (λ s. ActsAs (meaning s) (sliding extremum (reflected (offsets_of_input input.entry)))) }
 {
     let element = input.element();
     if let Some(offsets) = turned_rectangle(element) {

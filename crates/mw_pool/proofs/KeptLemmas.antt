@@ -24,7 +24,7 @@ use Rattle.mw_core.specs.declared.answers.Finish.{Finish}
 use Rattle.mw_core.specs.declared.answers.Finish.TheVariants as finish
 use Rattle.mw_core.specs.declared.answers.Refusal.{Refusal}
 use Rattle.mw_core.specs.declared.answers.Refusal.TheVariants as refusal
-use Rattle.mw_core.specs.mw_stands.Events.{Serves}
+use Rattle.mw_core.specs.mw_stands.Events.{FollowsMachine}
 use Rattle.mw_core.proofs.mw_stands.ShownLemmas.{IsPlain, answer-not_shown, refused_or-not_shown}
 use Rattle.mw_core.specs.TaskAnswers.{Starts, Finishes, Refuses}
 use Rattle.mw_core.specs.mw_store.Fetches.{ShowsSome}
@@ -36,7 +36,7 @@ Stands c = ∥ ((m : Machine) × StandsFor c m) ∥₁
 
 -- ---- events
 
-pub stands-served : {A E : Type 0} → (told : A → Reply) (r : Result A E) (old new : CoreView) (c : Call) (p : Option Value) → Stands old → IfOk r (λ a. Serves old c p new (told a)) → OnErr r (new ≡ old) → Stands new
+pub stands-served : {A E : Type 0} → (told : A → Reply) (r : Result A E) (old new : CoreView) (c : Call) (p : Option Value) → Stands old → IfOk r (λ a. FollowsMachine old c p new (told a)) → OnErr r (new ≡ old) → Stands new
 stands-served told (Ok a) old new c p s served stays = ∥∥₁_map s (λ w. (after w.0 c p, served.stands w.0 w.1))
 stands-served told (Err e) old new c p s served stays = subst Stands (sym stays) s
 
@@ -93,7 +93,7 @@ shows-some-if value told (Ok a) c s h = shows-some c (value a) (told a) s h
 shows-some-if value told (Err e) c s h = tt
 
 -- no call but FETCH is answered by `Shown`
-pub plain-shows-nothing : {E : Type 0} → (r : Result Reply E) (old new : CoreView) (c : Call) (p : Option Value) → IsPlain c → Stands old → IfOk r (Serves old c p new) → IfOk r (λ a. ShowsSome a → ⊥)
+pub plain-shows-nothing : {E : Type 0} → (r : Result Reply E) (old new : CoreView) (c : Call) (p : Option Value) → IsPlain c → Stands old → IfOk r (FollowsMachine old c p new) → IfOk r (λ a. ShowsSome a → ⊥)
 plain-shows-nothing (Ok a) old new c p plain s served = λ w.
     no-state old s (λ m st. refused_or-not_shown (refusal m.table m.payloads c) (answer m.table c) w.0 (answer-not_shown m.table c w.0 plain) (sym (served.reply m st) ∙ w.1))
 plain-shows-nothing (Err e) old new c p plain s served = tt
@@ -114,6 +114,6 @@ tells-awaited m n u None e h = let none : reply.Refused code.Unknown ≡ reply.P
 tells-awaited m n u (Some t) e h = (t, e, status-pending t u _ (outcome_at m.table.outcomes t) (rw e at h))
 
 pub no-pending : {E : Type 0} → (r : Result Reply E) (old new : CoreView) (n : Name) → Stands old → ((m : Machine) → StandsFor old m → IsAwaited m.table n → ⊥)
-    → IfOk r (Serves old (call.Status n) None new) → IfOk r (λ a. (u : ℕ) → a ≢ reply.Pending u)
+    → IfOk r (FollowsMachine old (call.Status n) None new) → IfOk r (λ a. (u : ℕ) → a ≢ reply.Pending u)
 no-pending (Ok a) old new n s free served = λ u e. no-state old s (λ m st. free m st (tells-awaited m n u (ticket_of m.table.names n) refl (sym (served.reply m st) ∙ e)))
 no-pending (Err x) old new n s free served = tt

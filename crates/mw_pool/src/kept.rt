@@ -32,7 +32,7 @@ impl Kept {
     ghost use Rattle.mw_model.specs.declared.calls.Call.TheVariants as call;
     ghost use Rattle.mw_model.specs.Receipts.{Covers};
     ghost use Rattle.mw_core.specs.mw_stands.Payloads.{given_image, image_payload, given_element, element_payload};
-    ghost use Rattle.mw_core.specs.mw_stands.Events.{Serves};
+    ghost use Rattle.mw_core.specs.mw_stands.Events.{FollowsMachine};
     ghost use Rattle.mw_core.specs.TaskAnswers.{Starts, Finishes, Refuses};
     ghost use Rattle.mw_core.specs.mw_store.Fetches.{ShowsSome, shown_value};
     ghost use Rattle.mw_pool.specs.Passes.{with_receipt};
@@ -58,7 +58,7 @@ impl Kept {
         image: Result<Image, Code>,
     ) -> Result<Reply, NoMemory>
         requires { ForOk image IsImage }
-        ensures served { IfOk result (Serves self.old.core (call.Load name (given_image image)) (image_payload image) self.new.core) }
+        ensures served { IfOk result (FollowsMachine self.old.core (call.Load name (given_image image)) (image_payload image) self.new.core) }
         ensures shows_nothing { IfOk result (λ r. ¬ ShowsSome r) }
         ensures receipt { IfOk result (λ r. pass.new ≡ with_receipt pass.old (length self.old.core.log) (call.Load name (given_image image)) r) }
         ensures core_stays { OnErr result (self.new.core ≡ self.old.core) }
@@ -74,7 +74,7 @@ impl Kept {
         name: Name,
         element: Result<Element, Code>,
     ) -> Result<Reply, NoMemory>
-        ensures served { IfOk result (Serves self.old.core (call.Element name (given_element element)) (element_payload element) self.new.core) }
+        ensures served { IfOk result (FollowsMachine self.old.core (call.Element name (given_element element)) (element_payload element) self.new.core) }
         ensures shows_nothing { IfOk result (λ r. ¬ ShowsSome r) }
         ensures receipt { IfOk result (λ r. pass.new ≡ with_receipt pass.old (length self.old.core.log) (call.Element name (given_element element)) r) }
         ensures core_stays { OnErr result (self.new.core ≡ self.old.core) }
@@ -85,7 +85,7 @@ impl Kept {
     }
 
     pub fn run(&mut self, pass: &mut Pass, name: Name, op: Op) -> Result<Reply, NoMemory>
-        ensures served { IfOk result (Serves self.old.core (call.Run name op) None self.new.core) }
+        ensures served { IfOk result (FollowsMachine self.old.core (call.Run name op) None self.new.core) }
         ensures shows_nothing { IfOk result (λ r. ¬ ShowsSome r) }
         ensures receipt { IfOk result (λ r. pass.new ≡ with_receipt pass.old (length self.old.core.log) (call.Run name op) r) }
         ensures core_stays { OnErr result (self.new.core ≡ self.old.core) }
@@ -96,7 +96,7 @@ impl Kept {
     }
 
     pub fn cancel(&mut self, pass: &mut Pass, name: Name) -> Result<Reply, NoMemory>
-        ensures served { IfOk result (Serves self.old.core (call.Cancel name) None self.new.core) }
+        ensures served { IfOk result (FollowsMachine self.old.core (call.Cancel name) None self.new.core) }
         ensures shows_nothing { IfOk result (λ r. ¬ ShowsSome r) }
         ensures receipt { IfOk result (λ r. pass.new ≡ with_receipt pass.old (length self.old.core.log) (call.Cancel name) r) }
         ensures core_stays { OnErr result (self.new.core ≡ self.old.core) }
@@ -107,7 +107,7 @@ impl Kept {
     }
 
     pub fn release(&mut self, pass: &mut Pass, name: Name) -> Result<Reply, NoMemory>
-        ensures served { IfOk result (Serves self.old.core (call.Release name) None self.new.core) }
+        ensures served { IfOk result (FollowsMachine self.old.core (call.Release name) None self.new.core) }
         ensures shows_nothing { IfOk result (λ r. ¬ ShowsSome r) }
         ensures receipt { IfOk result (λ r. pass.new ≡ with_receipt pass.old (length self.old.core.log) (call.Release name) r) }
         ensures core_stays { OnErr result (self.new.core ≡ self.old.core) }
@@ -118,7 +118,7 @@ impl Kept {
     }
 
     pub fn status(&mut self, pass: &mut Pass, name: Name) -> Result<Reply, NoMemory>
-        ensures served { IfOk result (Serves self.old.core (call.Status name) None self.new.core) }
+        ensures served { IfOk result (FollowsMachine self.old.core (call.Status name) None self.new.core) }
         ensures shows_nothing { IfOk result (λ r. ¬ ShowsSome r) }
         ensures receipt { IfOk result (λ r. pass.new ≡ with_receipt pass.old (length self.old.core.log) (call.Status name) r) }
         ensures core_stays { OnErr result (self.new.core ≡ self.old.core) }
@@ -129,7 +129,7 @@ impl Kept {
     }
 
     pub fn fetch(&mut self, pass: &mut Pass, name: Name) -> Result<Fetched, NoMemory>
-        ensures served { IfOk result (λ f. Serves self.old.core (call.Fetch name) None self.new.core f.reply) }
+        ensures served { IfOk result (λ f. FollowsMachine self.old.core (call.Fetch name) None self.new.core f.reply) }
         ensures shown { IfOk result (λ f. IsSome (shown_value f.value) ↔ ShowsSome f.reply) }
         ensures receipt { IfOk result (λ f. pass.new ≡ with_receipt pass.old (length self.old.core.log) (call.Fetch name) f.reply) }
         ensures core_stays { OnErr result (self.new.core ≡ self.old.core) }
@@ -157,7 +157,7 @@ impl Kept {
     pub fn end_wait(&mut self, pass: &mut Pass, name: Name) -> Result<Reply, NoMemory>
         requires { (m : Machine) → StandsFor self.old.core m → (self.old.closed ≡ false) × IsAwaited m.table name → ⊥ }
         ensures settled { self.old.closed ≡ false → IfOk result (λ r. (t : ℕ) → r ≢ Reply.Pending t) }
-        ensures served { IfOk result (Serves self.old.core (call.Status name) None self.new.core) }
+        ensures served { IfOk result (FollowsMachine self.old.core (call.Status name) None self.new.core) }
         ensures shows_nothing { IfOk result (λ r. ¬ ShowsSome r) }
         ensures receipt { IfOk result (λ r. pass.new ≡ with_receipt pass.old (length self.old.core.log) (call.Status name) r) }
         ensures core_stays { OnErr result (self.new.core ≡ self.old.core) }

@@ -33,7 +33,7 @@ impl Pass {
     ghost use Rattle.mw_model.specs.Machine.{Machine};
     ghost use Rattle.mw_model.specs.Stands.{StandsFor};
     ghost use Rattle.mw_core.specs.mw_stands.Payloads.{given_image, image_payload, given_element, element_payload};
-    ghost use Rattle.mw_core.specs.mw_stands.Events.{Serves, IsFresh, handed_out};
+    ghost use Rattle.mw_core.specs.mw_stands.Events.{FollowsMachine, IsFresh, handed_out};
     ghost use Rattle.mw_core.specs.mw_store.Fetches.{ShowsSome, shown_value};
     ghost use Rattle.mw_pool.specs.Passes.{with_receipt};
 
@@ -61,7 +61,7 @@ impl Pass {
         image: Result<Image, Code>,
     ) -> Result<Reply, NoMemory>
         requires { ForOk image IsImage }
-        ensures served { IfOk result (Serves core.old (Call.Load name (given_image image)) (image_payload image) core.new) }
+        ensures served { IfOk result (FollowsMachine core.old (Call.Load name (given_image image)) (image_payload image) core.new) }
         ensures memory { IfOk result (λ r. r ≢ Reply.Refused Code.Memory) }
         ensures receipt { IfOk result (λ r. self.new ≡ with_receipt self.old (length core.old.log) (Call.Load name (given_image image)) r) }
         ensures core_stays { OnErr result (core.new ≡ core.old) }
@@ -83,7 +83,7 @@ impl Pass {
         name: Name,
         element: Result<Element, Code>,
     ) -> Result<Reply, NoMemory>
-        ensures served { IfOk result (Serves core.old (Call.Element name (given_element element)) (element_payload element) core.new) }
+        ensures served { IfOk result (FollowsMachine core.old (Call.Element name (given_element element)) (element_payload element) core.new) }
         ensures memory { IfOk result (λ r. r ≢ Reply.Refused Code.Memory) }
         ensures receipt { IfOk result (λ r. self.new ≡ with_receipt self.old (length core.old.log) (Call.Element name (given_element element)) r) }
         ensures core_stays { OnErr result (core.new ≡ core.old) }
@@ -100,7 +100,7 @@ impl Pass {
 
     /// RUN.
     pub fn run(&mut self, core: &mut Core, name: Name, op: Op) -> Result<Reply, NoMemory>
-        ensures served { IfOk result (Serves core.old (Call.Run name op) None core.new) }
+        ensures served { IfOk result (FollowsMachine core.old (Call.Run name op) None core.new) }
         ensures fresh { (t : ℕ) → IfOk result (λ r. r ≡ Reply.Accepted t → IsFresh core.new t) }
         ensures receipt { IfOk result (λ r. self.new ≡ with_receipt self.old (length core.old.log) (Call.Run name op) r) }
         ensures core_stays { OnErr result (core.new ≡ core.old) }
@@ -117,7 +117,7 @@ impl Pass {
 
     /// CANCEL.
     pub fn cancel(&mut self, core: &mut Core, name: Name) -> Result<Reply, NoMemory>
-        ensures served { IfOk result (Serves core.old (Call.Cancel name) None core.new) }
+        ensures served { IfOk result (FollowsMachine core.old (Call.Cancel name) None core.new) }
         ensures receipt { IfOk result (λ r. self.new ≡ with_receipt self.old (length core.old.log) (Call.Cancel name) r) }
         ensures core_stays { OnErr result (core.new ≡ core.old) }
         ensures pass_stays { OnErr result (self.new ≡ self.old) }
@@ -133,7 +133,7 @@ impl Pass {
 
     /// RELEASE.
     pub fn release(&mut self, core: &mut Core, name: Name) -> Result<Reply, NoMemory>
-        ensures served { IfOk result (Serves core.old (Call.Release name) None core.new) }
+        ensures served { IfOk result (FollowsMachine core.old (Call.Release name) None core.new) }
         ensures receipt { IfOk result (λ r. self.new ≡ with_receipt self.old (length core.old.log) (Call.Release name) r) }
         ensures core_stays { OnErr result (core.new ≡ core.old) }
         ensures pass_stays { OnErr result (self.new ≡ self.old) }
@@ -149,7 +149,7 @@ impl Pass {
 
     /// STATUS.
     pub fn status(&mut self, core: &mut Core, name: Name) -> Result<Reply, NoMemory>
-        ensures served { IfOk result (Serves core.old (Call.Status name) None core.new) }
+        ensures served { IfOk result (FollowsMachine core.old (Call.Status name) None core.new) }
         ensures receipt { IfOk result (λ r. self.new ≡ with_receipt self.old (length core.old.log) (Call.Status name) r) }
         ensures core_stays { OnErr result (core.new ≡ core.old) }
         ensures pass_stays { OnErr result (self.new ≡ self.old) }
@@ -165,7 +165,7 @@ impl Pass {
 
     /// FETCH. The value is that of the ticket, and is handed out exactly where the reply is `Shown`.
     pub fn fetch(&mut self, core: &mut Core, name: Name) -> Result<Fetched, NoMemory>
-        ensures served { IfOk result (λ f. Serves core.old (Call.Fetch name) None core.new f.reply) }
+        ensures served { IfOk result (λ f. FollowsMachine core.old (Call.Fetch name) None core.new f.reply) }
         ensures value { (m : Machine) → StandsFor core.old m → IfOk result (λ f. shown_value f.value ≡ handed_out m f.reply) }
         ensures shown { (m : Machine) → StandsFor core.old m → IfOk result (λ f. IsSome (shown_value f.value) ↔ ShowsSome f.reply) }
         ensures receipt { IfOk result (λ f. self.new ≡ with_receipt self.old (length core.old.log) (Call.Fetch name) f.reply) }

@@ -34,7 +34,7 @@ use Rattle.mw_session.specs.Turns.{TellsWork, TellsCall, logged, unlogged, MayLa
 use Rattle.mw_laws.proofs.RunStates.{reached}
 use Rattle.mw_laws.proofs.RunReplay.{refused_leaves, fetch_leaves}
 use Rattle.mw_wave.specs.mw_stands.Payloads.{given_image, image_payload, given_element, element_payload}
-use Rattle.mw_wave.specs.mw_stands.Events.{Serves, IsFresh, handed_out}
+use Rattle.mw_wave.specs.mw_stands.Events.{FollowsMachine, IsFresh, handed_out}
 use Rattle.mw_wave.proofs.mw_stands.ShownLemmas.{IsPlain, answer-not_shown, refused_or-not_shown}
 use Rattle.mw_fetched.specs.mw_store.Fetches.{shown_value}
 use Rattle.mw_fetched.specs.mw_store.declared.fetched.Shown.{Shown}
@@ -127,7 +127,7 @@ unless-cases None a b = inr (refl, refl)
 unless-cases (Some c) a b = inl refl
 
 -- where no entry is added
-calm-old : (old new : CoreView) (c : Call) (p : Option Value) (r : Reply) (m : Machine) → StandsFor old m → Serves old c p new r → running_count old ≡ 0 → length (changed m.table c).names ≡ length m.table.names → running_count new ≡ 0
+calm-old : (old new : CoreView) (c : Call) (p : Option Value) (r : Reply) (m : Machine) → StandsFor old m → FollowsMachine old c p new r → running_count old ≡ 0 → length (changed m.table c).names ≡ length m.table.names → running_count new ≡ 0
 calm-old old new c p r m s e none same =
     let stands = e.stands m s in
     let names : length new.table.names ≡ length m.table.names = elim (unless-cases (refusal m.table m.payloads c) m.table (changed m.table c)) [
@@ -137,7 +137,7 @@ calm-old old new c p r m s e none same =
     running_count-stays_none old new (after m c p) stands e.work none (λ u past l. absurd (omega (arith, past, l, names, ap (λ (w : Table). length w.names) s.table)))
 
 -- where an entry is added under which no task is running
-calm-more : (old new : CoreView) (c : Call) (p : Option Value) (r : Reply) (m : Machine) (name : Name) (e : Submission) (o : Outcome) → StandsFor old m → Serves old c p new r → running_count old ≡ 0
+calm-more : (old new : CoreView) (c : Call) (p : Option Value) (r : Reply) (m : Machine) (name : Name) (e : Submission) (o : Outcome) → StandsFor old m → FollowsMachine old c p new r → running_count old ≡ 0
     → changed m.table c ≡ with_entry m.table name e o → (refusal m.table m.payloads c ≡ None → (u : ℕ) → u ≡ length m.table.names → under running_tasks new u ≡ 0) → running_count new ≡ 0
 calm-more old new c p r m name e o s h none same rests =
     let stands = h.stands m s in
@@ -150,7 +150,7 @@ calm-more old new c p r m name e o s h none same rests =
     ])
 
 -- a given entry is done at once
-given-rests : (old new : CoreView) (c : Call) (p : Option Value) (r : Reply) (m : Machine) (name : Name) (e : Submission) → StandsFor old m → Serves old c p new r → changed m.table c ≡ with_entry m.table name e outcome.Done
+given-rests : (old new : CoreView) (c : Call) (p : Option Value) (r : Reply) (m : Machine) (name : Name) (e : Submission) → StandsFor old m → FollowsMachine old c p new r → changed m.table c ≡ with_entry m.table name e outcome.Done
     → refusal m.table m.payloads c ≡ None → (u : ℕ) → u ≡ length m.table.names → under running_tasks new u ≡ 0
 given-rests old new c p r m name e s h same free u last =
     let sound = reached old.log m s.run in
@@ -158,17 +158,17 @@ given-rests old new c p r m name e s h same free u last =
     let done : outcome_at (m.table.outcomes ++ outcome.Done ∷ []) u ≡ outcome.Done = get_or-push_last m.table.outcomes outcome.Done outcome.Pending u (omega (arith, last, sound.lengths.outcomes)) in
     none-under running_tasks new (after m c p) u (h.stands m s) (ap (λ (w : Table). is_pending (outcome_at w.outcomes u)) next ∙ ap is_pending done)
 
-pub calm-load : (old new : CoreView) (name : Name) (image : Result Picture Code) (r : Reply) (m : Machine) → StandsFor old m → Serves old (call.Load name (given_image image)) (image_payload image) new r → running_count old ≡ 0 → running_count new ≡ 0
+pub calm-load : (old new : CoreView) (name : Name) (image : Result Picture Code) (r : Reply) (m : Machine) → StandsFor old m → FollowsMachine old (call.Load name (given_image image)) (image_payload image) new r → running_count old ≡ 0 → running_count new ≡ 0
 calm-load old new name image r m s h none =
     let c = call.Load name (given_image image) in
     calm-more old new c (image_payload image) r m name _ outcome.Done s h none refl (given-rests old new c (image_payload image) r m name _ s h refl)
 
-pub calm-element : (old new : CoreView) (name : Name) (element : Result Figure Code) (r : Reply) (m : Machine) → StandsFor old m → Serves old (call.Element name (given_element element)) (element_payload element) new r → running_count old ≡ 0 → running_count new ≡ 0
+pub calm-element : (old new : CoreView) (name : Name) (element : Result Figure Code) (r : Reply) (m : Machine) → StandsFor old m → FollowsMachine old (call.Element name (given_element element)) (element_payload element) new r → running_count old ≡ 0 → running_count new ≡ 0
 calm-element old new name element r m s h none =
     let c = call.Element name (given_element element) in
     calm-more old new c (element_payload element) r m name _ outcome.Done s h none refl (given-rests old new c (element_payload element) r m name _ s h refl)
 
-pub calm-run : (old new : CoreView) (name : Name) (op : Op) (r : Reply) (m : Machine) → StandsFor old m → Serves old (call.Run name op) None new r → ((t : ℕ) → r ≡ reply.Accepted t → IsFresh new t) → running_count old ≡ 0 → running_count new ≡ 0
+pub calm-run : (old new : CoreView) (name : Name) (op : Op) (r : Reply) (m : Machine) → StandsFor old m → FollowsMachine old (call.Run name op) None new r → ((t : ℕ) → r ≡ reply.Accepted t → IsFresh new t) → running_count old ≡ 0 → running_count new ≡ 0
 calm-run old new name op r m s h fresh none =
     let c = call.Run name op in
     calm-more old new c None r m name _ outcome.Pending s h none refl (λ free u last.
@@ -176,17 +176,17 @@ calm-run old new name op r m s h fresh none =
     let f = fresh (length m.table.names) told in
     rw last (count-under running_tasks new (length m.table.names) f.progress f.work ∙ f.idle))
 
-pub calm-cancel : (old new : CoreView) (name : Name) (r : Reply) (m : Machine) → StandsFor old m → Serves old (call.Cancel name) None new r → running_count old ≡ 0 → running_count new ≡ 0
+pub calm-cancel : (old new : CoreView) (name : Name) (r : Reply) (m : Machine) → StandsFor old m → FollowsMachine old (call.Cancel name) None new r → running_count old ≡ 0 → running_count new ≡ 0
 unfolding killed
 calm-cancel old new name r m s h none = calm-old old new (call.Cancel name) None r m s h none refl
 
-pub calm-release : (old new : CoreView) (name : Name) (r : Reply) (m : Machine) → StandsFor old m → Serves old (call.Release name) None new r → running_count old ≡ 0 → running_count new ≡ 0
+pub calm-release : (old new : CoreView) (name : Name) (r : Reply) (m : Machine) → StandsFor old m → FollowsMachine old (call.Release name) None new r → running_count old ≡ 0 → running_count new ≡ 0
 calm-release old new name r m s h none = calm-old old new (call.Release name) None r m s h none refl
 
-pub calm-status : (old new : CoreView) (name : Name) (r : Reply) (m : Machine) → StandsFor old m → Serves old (call.Status name) None new r → running_count old ≡ 0 → running_count new ≡ 0
+pub calm-status : (old new : CoreView) (name : Name) (r : Reply) (m : Machine) → StandsFor old m → FollowsMachine old (call.Status name) None new r → running_count old ≡ 0 → running_count new ≡ 0
 calm-status old new name r m s h none = calm-old old new (call.Status name) None r m s h none refl
 
-pub calm-fetch : (old new : CoreView) (name : Name) (r : Reply) (m : Machine) → StandsFor old m → Serves old (call.Fetch name) None new r → running_count old ≡ 0 → running_count new ≡ 0
+pub calm-fetch : (old new : CoreView) (name : Name) (r : Reply) (m : Machine) → StandsFor old m → FollowsMachine old (call.Fetch name) None new r → running_count old ≡ 0 → running_count new ≡ 0
 calm-fetch old new name r m s h none = calm-old old new (call.Fetch name) None r m s h none refl
 
 -- ---- turns
@@ -236,8 +236,8 @@ not_marked e = cc
 
 -- a call that hands out no value was made for it, or found no memory
 pub answered-told : {E : Type 0} → (m : Machine) (q : Asked) (old mid new : CoreView) (h : Ready m q old mid) (c : Call) (p : Option Value) (got : Result Reply E)
-    → IsCallFor q c → ((e : E) → got ≡ Err e → MayLack m q) → IfOk got (Serves mid c p new) → OnErr got (new ≡ mid)
-    → ((r : Reply) → got ≡ Ok r → Serves mid c p new r → Answers h.state q (reply_text r NoValue) (after h.state c p) × (running_count new ≡ 0))
+    → IsCallFor q c → ((e : E) → got ≡ Err e → MayLack m q) → IfOk got (FollowsMachine mid c p new) → OnErr got (new ≡ mid)
+    → ((r : Reply) → got ≡ Ok r → FollowsMachine mid c p new r → Answers h.state q (reply_text r NoValue) (after h.state c p) × (running_count new ≡ 0))
     → Answered m old q (told_text got) new
 answered-told m q old mid new h c p (Ok r) fits lacks served failed answers =
     let a = answers r refl served in
@@ -253,7 +253,7 @@ called-plain m q c p r is plain told = called c p is (plain-text m c r plain tol
 
 -- a FETCH was answered
 pub answered-fetch : (m : Machine) (name : Name) (old mid new : CoreView) (h : Ready m (AskAlone (ask.Fetch name)) old mid) (r : Reply) (v : Shown) (text : List ℕ)
-    → Serves mid (call.Fetch name) None new r → shown_value v ≡ handed_out h.state r → SaysFetched r v text → Answered m old (AskAlone (ask.Fetch name)) text new
+    → FollowsMachine mid (call.Fetch name) None new r → shown_value v ≡ handed_out h.state r → SaysFetched r v text → Answered m old (AskAlone (ask.Fetch name)) text new
 answered-fetch m name old mid new h r v text served value (inl says) =
     let c = call.Fetch name in
     let told = served.reply h.state h.stands in
@@ -276,7 +276,7 @@ answered-memory m q old mid new h lacks failed =
 -- ---- the kinds of requests
 
 pub answered-load : {E : Type 0} → (m : Machine) (name : Name) (bytes : List ℕ) (image : Result Picture Code) (old new : CoreView) (got : Result Reply E)
-    → StandsFor old m → running_count old ≡ 0 → ReadsImage bytes image → IfOk got (Serves old (call.Load name (given_image image)) (image_payload image) new) → IfOk got (λ r. r ≢ reply.Refused code.Memory) → OnErr got (new ≡ old)
+    → StandsFor old m → running_count old ≡ 0 → ReadsImage bytes image → IfOk got (FollowsMachine old (call.Load name (given_image image)) (image_payload image) new) → IfOk got (λ r. r ≢ reply.Refused code.Memory) → OnErr got (new ≡ old)
     → Answered m old (AskLoad name bytes) (told_text got) new
 unfolding ready-at-once
 answered-load {E} m name bytes image old new got s none read served other failed =
@@ -287,7 +287,7 @@ answered-load {E} m name bytes image old new got s none read served other failed
     (λ r is h. (load-answers m (after m c (image_payload image)) name bytes image r read (h.reply m s) (subst P is other) refl, calm-load old new name image r m s h none))
 
 pub answered-element : {E : Type 0} → (m : Machine) (name : Name) (ox oy : ℕ) (bytes : List ℕ) (element : Result Figure Code) (old new : CoreView) (got : Result Reply E)
-    → StandsFor old m → running_count old ≡ 0 → ReadsElement bytes ox oy element → IfOk got (Serves old (call.Element name (given_element element)) (element_payload element) new) → IfOk got (λ r. r ≢ reply.Refused code.Memory) → OnErr got (new ≡ old)
+    → StandsFor old m → running_count old ≡ 0 → ReadsElement bytes ox oy element → IfOk got (FollowsMachine old (call.Element name (given_element element)) (element_payload element) new) → IfOk got (λ r. r ≢ reply.Refused code.Memory) → OnErr got (new ≡ old)
     → Answered m old (AskElement name ox oy bytes) (told_text got) new
 unfolding ready-at-once
 answered-element {E} m name ox oy bytes element old new got s none read served other failed =
@@ -298,7 +298,7 @@ answered-element {E} m name ox oy bytes element old new got s none read served o
     (λ r is h. (element-answers m (after m c (element_payload element)) name ox oy bytes element r read (h.reply m s) (subst P is other) refl, calm-element old new name element r m s h none))
 
 pub answered-run : {E : Type 0} → (m : Machine) (name : Name) (op : Op) (old new : CoreView) (got : Result Reply E)
-    → StandsFor old m → running_count old ≡ 0 → IfOk got (Serves old (call.Run name op) None new) → ((t : ℕ) → IfOk got (λ r. r ≡ reply.Accepted t → IsFresh new t)) → OnErr got (new ≡ old)
+    → StandsFor old m → running_count old ≡ 0 → IfOk got (FollowsMachine old (call.Run name op) None new) → ((t : ℕ) → IfOk got (λ r. r ≡ reply.Accepted t → IsFresh new t)) → OnErr got (new ≡ old)
     → Answered m old (AskAlone (ask.Run name op)) (told_text got) new
 unfolding ready-at-once
 answered-run {E} m name op old new got s none served fresh failed =
@@ -309,7 +309,7 @@ answered-run {E} m name op old new got s none served fresh failed =
     (λ r is h. (called-plain m q c None r (refl, refl) tt (h.reply m s), calm-run old new name op r m s h (λ t. subst (P t) is (fresh t)) none))
 
 pub answered-cancel : {E : Type 0} → (m : Machine) (name : Name) (old new : CoreView) (got : Result Reply E)
-    → StandsFor old m → running_count old ≡ 0 → (refusal m.table m.payloads (call.Cancel name) ≡ None → IsOk got) → IfOk got (Serves old (call.Cancel name) None new) → OnErr got (new ≡ old) → Answered m old (AskAlone (ask.Cancel name)) (told_text got) new
+    → StandsFor old m → running_count old ≡ 0 → (refusal m.table m.payloads (call.Cancel name) ≡ None → IsOk got) → IfOk got (FollowsMachine old (call.Cancel name) None new) → OnErr got (new ≡ old) → Answered m old (AskAlone (ask.Cancel name)) (told_text got) new
 unfolding ready-at-once
 answered-cancel {E} m name old new got s none succeeds served failed =
     let q = AskAlone (ask.Cancel name) in
@@ -319,7 +319,7 @@ answered-cancel {E} m name old new got s none succeeds served failed =
     (λ r is h. (called-plain m q c None r (refl, refl) tt (h.reply m s), calm-cancel old new name r m s h none))
 
 pub answered-release : {E : Type 0} → (m : Machine) (name : Name) (old new : CoreView) (got : Result Reply E)
-    → StandsFor old m → running_count old ≡ 0 → IfOk got (Serves old (call.Release name) None new) → OnErr got (new ≡ old) → Answered m old (AskAlone (ask.Release name)) (told_text got) new
+    → StandsFor old m → running_count old ≡ 0 → IfOk got (FollowsMachine old (call.Release name) None new) → OnErr got (new ≡ old) → Answered m old (AskAlone (ask.Release name)) (told_text got) new
 unfolding ready-at-once
 answered-release m name old new got s none served failed =
     let q = AskAlone (ask.Release name) in
@@ -329,7 +329,7 @@ answered-release m name old new got s none served failed =
 
 -- STATUS, and WAIT
 pub answered-status : {E : Type 0} → (m : Machine) (q : Asked) (name : Name) (old mid new : CoreView) (got : Result Reply E)
-    → IsCallOf q (call.Status name) None → IsCallFor q (call.Status name) → ((e : E) → got ≡ Err e → MayLack m q) → runs_work q ≡ true → AllWorked m old mid → IfOk got (Serves mid (call.Status name) None new) → OnErr got (new ≡ mid) → Answered m old q (told_text got) new
+    → IsCallOf q (call.Status name) None → IsCallFor q (call.Status name) → ((e : E) → got ≡ Err e → MayLack m q) → runs_work q ≡ true → AllWorked m old mid → IfOk got (FollowsMachine mid (call.Status name) None new) → OnErr got (new ≡ mid) → Answered m old q (told_text got) new
 answered-status m q name old mid new got is fits lacks busy w served failed =
     let c = call.Status name in
     let h = ready-by-work m q old mid w busy in

@@ -27,7 +27,7 @@ use Rattle.mw_laws.proofs.RunReplay.{quiet}
 use Rattle.mw_store.specs.Stored.{DropsSpent}
 use Rattle.mw_stands.specs.Facts.{IsComplete}
 use Rattle.mw_stands.specs.Changes.{KeepsWork}
-use Rattle.mw_stands.specs.Events.{Serves, WorkStays}
+use Rattle.mw_stands.specs.Events.{FollowsMachine, WorkStays}
 use Rattle.mw_stands.proofs.AgreeLemmas.{agrees-push, agrees-released}
 use Rattle.mw_stands.proofs.StandsLemmas.{stands-sound, stands-refusal, stands-reply, stands-quiet, stands-added, stands-dies, stands-settled}
 
@@ -51,7 +51,7 @@ quiet-work : (c new : CoreView) (q : Call) (r : Reply) → new ≡ record c { lo
 quiet-work c new q r is t within pending = ap (λ (d : CoreView). progress_at d.work t) is
 
 pub serves-quiet : (c new : CoreView) (q : Call) (v : Option Value) (r : Reply) → IsWith q v → ((m : Machine) → StandsFor c m → after m q v ≡ m) → ((m : Machine) → StandsFor c m → r ≡ reply_to m q)
-    → new ≡ record c { log = c.log ++ item.Call q r ∷ [] } → Serves c q v new r
+    → new ≡ record c { log = c.log ++ item.Call q r ∷ [] } → FollowsMachine c q v new r
 serves-quiet c new q v r with same told is =
     record {
       reply = told;
@@ -61,18 +61,18 @@ serves-quiet c new q v r with same told is =
     }
 
 pub serves-refused : (c new : CoreView) (q : Call) (v : Option Value) (x : Code) → IsWith q v → refusal c.table c.kept q ≡ Some x
-    → new ≡ record c { log = c.log ++ item.Call q (reply.Refused x) ∷ [] } → Serves c q v new (reply.Refused x)
+    → new ≡ record c { log = c.log ++ item.Call q (reply.Refused x) ∷ [] } → FollowsMachine c q v new (reply.Refused x)
 serves-refused c new q v x with why is =
     let case : (m : Machine) → StandsFor c m → refusal m.table m.payloads q ≡ Some x = λ m s. sym (stands-refusal c m q s) ∙ why in
     serves-quiet c new q v (reply.Refused x) with (λ m s. rw (case m s) refl) (λ m s. rw (case m s) refl) is
 
 pub serves-status : (c new : CoreView) (n : Name) (r : Reply) → r ≡ reply_from c.table c.kept (call.Status n)
-    → new ≡ record c { log = c.log ++ item.Call (call.Status n) r ∷ [] } → Serves c (call.Status n) None new r
+    → new ≡ record c { log = c.log ++ item.Call (call.Status n) r ∷ [] } → FollowsMachine c (call.Status n) None new r
 serves-status c new n r told is =
     serves-quiet c new (call.Status n) None r refl (λ m s. quiet (refusal m.table m.payloads (call.Status n)) m) (λ m s. told ∙ stands-reply c m (call.Status n) s) is
 
 pub serves-fetch : (c new : CoreView) (n : Name) (r : Reply) → r ≡ reply_from c.table c.kept (call.Fetch n)
-    → new ≡ record c { log = c.log ++ item.Call (call.Fetch n) r ∷ [] } → Serves c (call.Fetch n) None new r
+    → new ≡ record c { log = c.log ++ item.Call (call.Fetch n) r ∷ [] } → FollowsMachine c (call.Fetch n) None new r
 serves-fetch c new n r told is =
     serves-quiet c new (call.Fetch n) None r refl (λ m s. quiet (refusal m.table m.payloads (call.Fetch n)) m) (λ m s. told ∙ stands-reply c m (call.Fetch n) s) is
 
@@ -89,7 +89,7 @@ pub serves-given : (c new : CoreView) (q : Call) (n : Name) (s : Shape) (v : Val
     → ((m : Machine) → refusal m.table m.payloads q ≡ None → after m q (Some v) ≡ pushed m n (given_submission (given.Good s)) outcome.Done (Some v))
     → ((m : Machine) → refusal m.table m.payloads q ≡ None → reply_to m q ≡ reply.Accepted (length m.table.names))
     → IsComplete c → new.table ≡ with_entry c.table n (given_submission (given.Good s)) outcome.Done → new.kept ≡ c.kept ++ Some v ∷ [] → new.work ≡ c.work ++ None ∷ []
-    → new.log ≡ c.log ++ item.Call q (reply.Accepted (length c.table.names)) ∷ [] → Serves c q (Some v) new (reply.Accepted (length c.table.names))
+    → new.log ≡ c.log ++ item.Call q (reply.Accepted (length c.table.names)) ∷ [] → FollowsMachine c q (Some v) new (reply.Accepted (length c.table.names))
 serves-given c new q n s v with free is told whole table kept work log =
     let e = given_submission (given.Good s) in
     let Answers : Machine → Type 0 = λ m. reply.Accepted (length c.table.names) ≡ reply_to m q in
@@ -155,7 +155,7 @@ pub serves-run : (c new : CoreView) (n : Name) (o : Op) (p : Progress) → refus
     → ((m : Machine) → StandsFor c m → refusal m.table m.payloads (call.Run n o) ≡ None → (t : ℕ) → t + 1 ≡ length (pushed m n (run_submission m.table o) outcome.Pending None).table.names
     → IsWork (pushed m n (run_submission m.table o) outcome.Pending None) t p)
     → IsComplete c → new.table ≡ with_entry c.table n (run_submission c.table o) outcome.Pending → new.kept ≡ c.kept ++ None ∷ [] → new.work ≡ c.work ++ Some p ∷ []
-    → new.log ≡ c.log ++ item.Call (call.Run n o) (reply.Accepted (length c.table.names)) ∷ [] → Serves c (call.Run n o) None new (reply.Accepted (length c.table.names))
+    → new.log ≡ c.log ++ item.Call (call.Run n o) (reply.Accepted (length c.table.names)) ∷ [] → FollowsMachine c (call.Run n o) None new (reply.Accepted (length c.table.names))
 serves-run c new n o p free works whole table kept work log =
     let q = call.Run n o in
     let case : (m : Machine) → StandsFor c m → refusal m.table m.payloads q ≡ None = λ m st. sym (stands-refusal c m q st) ∙ free in
@@ -173,14 +173,14 @@ serves-run c new n o p free works whole table kept work log =
 pub serves-load : (c new : CoreView) (n : Name) (f : Picture) → IsImage f → refusal c.table c.kept (call.Load n (given.Good (shape_of_picture f))) ≡ None → IsComplete c
     → new.table ≡ with_entry c.table n (given_submission (given.Good (shape_of_picture f))) outcome.Done → new.kept ≡ c.kept ++ Some (ImageValue f) ∷ [] → new.work ≡ c.work ++ None ∷ []
     → new.log ≡ c.log ++ item.Call (call.Load n (given.Good (shape_of_picture f))) (reply.Accepted (length c.table.names)) ∷ []
-    → Serves c (call.Load n (given.Good (shape_of_picture f))) (Some (ImageValue f)) new (reply.Accepted (length c.table.names))
+    → FollowsMachine c (call.Load n (given.Good (shape_of_picture f))) (Some (ImageValue f)) new (reply.Accepted (length c.table.names))
 serves-load c new n f image free whole =
     serves-given c new (call.Load n (given.Good (shape_of_picture f))) n (shape_of_picture f) (ImageValue f) (f, refl, image, refl) free (λ m r. rw r refl) (λ m r. rw r refl) whole
 
 pub serves-element : (c new : CoreView) (n : Name) (b : Figure) → IsFigure b → refusal c.table c.kept (call.Element n (given.Good (shape_of_figure b))) ≡ None → IsComplete c
     → new.table ≡ with_entry c.table n (given_submission (given.Good (shape_of_figure b))) outcome.Done → new.kept ≡ c.kept ++ Some (ElementValue b) ∷ [] → new.work ≡ c.work ++ None ∷ []
     → new.log ≡ c.log ++ item.Call (call.Element n (given.Good (shape_of_figure b))) (reply.Accepted (length c.table.names)) ∷ []
-    → Serves c (call.Element n (given.Good (shape_of_figure b))) (Some (ElementValue b)) new (reply.Accepted (length c.table.names))
+    → FollowsMachine c (call.Element n (given.Good (shape_of_figure b))) (Some (ElementValue b)) new (reply.Accepted (length c.table.names))
 serves-element c new n b figure free whole =
     serves-given c new (call.Element n (given.Good (shape_of_figure b))) n (shape_of_figure b) (ElementValue b) (b, refl, figure, refl) free (λ m r. rw r refl) (λ m r. rw r refl) whole
 
@@ -191,7 +191,7 @@ dies-work c new work t within pending = work t ∙ ap (λ b. cond b (progress_at
 
 pub serves-cancel : (c new : CoreView) (n : Name) (t : ℕ) → refusal c.table c.kept (call.Cancel n) ≡ None → t ≡ ticket c.table n → IsComplete c → t < length c.table.names
     → outcome_at c.table.outcomes t ≡ outcome.Pending → new.table ≡ killed c.table t outcome.Cancelled → DropsSpent new.table c.kept new.kept → KeepsWork new.table c.work new.work
-    → new.log ≡ c.log ++ item.Call (call.Cancel n) (reply.Accepted t) ∷ [] → Serves c (call.Cancel n) None new (reply.Accepted t)
+    → new.log ≡ c.log ++ item.Call (call.Cancel n) (reply.Accepted t) ∷ [] → FollowsMachine c (call.Cancel n) None new (reply.Accepted t)
 serves-cancel c new n t free at whole within pending table kept work log =
     let q = call.Cancel n in
     let case : (m : Machine) → StandsFor c m → refusal m.table m.payloads q ≡ None = λ m s. sym (stands-refusal c m q s) ∙ free in
@@ -220,7 +220,7 @@ no-work c m t s done = some-or-none (progress_at c.work t) (λ p h. let e = ap i
 
 pub serves-release : (c new : CoreView) (n : Name) (t : ℕ) → refusal c.table c.kept (call.Release n) ≡ None → t ≡ ticket c.table n → IsComplete c → t < length c.table.names
     → outcome_at c.table.outcomes t ≡ outcome.Done → new.table ≡ settled c.table t outcome.Released → DropsSpent new.table c.kept new.kept → new.work ≡ c.work
-    → new.log ≡ c.log ++ item.Call (call.Release n) (reply.Accepted t) ∷ [] → Serves c (call.Release n) None new (reply.Accepted t)
+    → new.log ≡ c.log ++ item.Call (call.Release n) (reply.Accepted t) ∷ [] → FollowsMachine c (call.Release n) None new (reply.Accepted t)
 serves-release c new n t free at whole within done table kept work log =
     let q = call.Release n in
     let case : (m : Machine) → StandsFor c m → refusal m.table m.payloads q ≡ None = λ m s. sym (stands-refusal c m q s) ∙ free in

@@ -8,10 +8,10 @@ use Rattle.mw_facts.proofs.Tests.{list_any-range}
 use Rattle.mw_model.specs.declared.calls.Outcome.{Outcome}
 use Rattle.mw_model.specs.declared.calls.Outcome.TheVariants as outcome
 use Rattle.mw_model.specs.Refusals.{Table, outcome_at, is_pending, is_dead, is_there}
-use Rattle.mw_model.specs.Machine.{killed, spread}
+use Rattle.mw_model.specs.Machine.{killed, cascaded}
 use Rattle.mw_model.specs.Stands.{is_wanted, inputs_of}
 use Rattle.mw_laws.proofs.RunCascade.{length_killed}
-use Rattle.mw_store.proofs.CascadeLemmas.{Fate, spread-fate}
+use Rattle.mw_store.proofs.CascadeLemmas.{Fate, cascaded-fate}
 
 -- a kill leaves an entry as it is, or it was pending and dies
 pub killed-fate : (w : Table) (t : ℕ) (cause : Outcome) → length w.submissions ≡ length w.outcomes → t < length w.outcomes → outcome_at w.outcomes t ≡ outcome.Pending → is_dead cause ≡ true
@@ -20,12 +20,12 @@ unfolding killed
 killed-fate w t cause same within pending dead u =
     let os = w.outcomes in
     let ns = set os t cause in
-    let after = spread [] w.submissions ns in
+    let after = cascaded [] w.submissions ns in
     let long : length w.submissions ≡ length ns = omega (arith, length-set os t cause) in
     elim (cases_lt u (length os)) [
       | inl l ↦
           let P : ℕ → Type 0 = λ k. Fate (outcome_at ns u) (outcome_at after k) in
-          let fate : Fate (outcome_at ns u) (outcome_at after u) = subst P (zero-add u) (spread-fate [] w.submissions ns u long (omega (arith, length-set os t cause))) in
+          let fate : Fate (outcome_at ns u) (outcome_at after u) = subst P (zero-add u) (cascaded-fate [] w.submissions ns u long (omega (arith, length-set os t cause))) in
           elim (cases_eq u t) [
             | inl e ↦
                 let hit : outcome_at ns u ≡ cause = rw e (get_or-set_same os t cause outcome.Pending within) in

@@ -16,7 +16,7 @@ use Rattle.mw_model.specs.declared.calls.Outcome.TheVariants as outcome
 use Rattle.mw_model.specs.declared.calls.Call.{Call}
 use Rattle.mw_model.specs.declared.calls.Call.TheVariants as call
 use Rattle.mw_model.specs.Elements.{holds_origin, overlaps}
-use Rattle.mw_model.specs.Values.{Value, value_at, value_of, offsets_of}
+use Rattle.mw_model.specs.Values.{Value, value_at, value_of, offsets_in}
 use Rattle.mw_model.specs.Refusals.{Table, AnImage, AnElement, ticket, ticket_of, outcome_at, shape_at, is_pending, is_dead, is_released, is_element, first_of, when, name_taken, no_room, wanted_case, inputs_wanted, offsets_at, binary_case, param_case, op_cases, refusal, submission_at}
 use Rattle.mw_model.specs.Machine.{Machine, values}
 use Rattle.mw_model.specs.Stands.{Agrees, inputs_of}
@@ -89,7 +89,7 @@ offsets-same kept m b s given a h =
     let t = found.0 in
     let same = (kept-element kept m t s given a found.1.within found.1.shape found.1.alive found.1.held).2 in
     let at : ticket m.table b ≡ t = ticket_is m.table b t found.1.found in
-    rw at (ap (λ v. unwrap_or (offsets_of v) []) same)
+    rw at (ap (λ v. unwrap_or (offsets_in v) []) same)
 
 wanted-second : (w : Table) (f b : Name) → first_of (map (wanted_case w) (AnImage f ∷ AnElement b ∷ [])) ≡ None → wanted_case w (AnElement b) ≡ None
 wanted-second w f b h = (first_none (wanted_case w (AnElement b)) [] (first_none (wanted_case w (AnImage f)) _ h).1).0

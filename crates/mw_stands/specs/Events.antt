@@ -16,7 +16,7 @@ WorkStays old new =
     (t : ℕ) → t < length old.table.names → is_pending (outcome_at new.table.outcomes t) ≡ true → progress_at new.work t ≡ progress_at old.work t
 
 -- A session call that comes with this payload is answered so: for each machine that the core stands for the reply is the machine's, and the core then stands for the machine after the call.
-pub record Serves (old : CoreView) (c : Call) (payload : Option Value) (new : CoreView) (r : Reply) : Type 0 where
+pub record FollowsMachine (old : CoreView) (c : Call) (payload : Option Value) (new : CoreView) (r : Reply) : Type 0 where
   pub reply : (m : Machine) → StandsFor old m → r ≡ reply_to m c
   pub stands : (m : Machine) → StandsFor old m → StandsFor new (after m c payload)
   pub log : new.log ≡ old.log ++ item.Call c r ∷ []

@@ -21,7 +21,7 @@ pub record Kills (old : CoreView) (m : Machine) (t : ℕ) (new : CoreView) : Typ
 -- ---- start
 
 -- The task is ready, it is the true task of its numbers, and it is running from then on; nothing else changes.
-pub record Begins (old : CoreView) (m : Machine) (w : WindowTask) (new : CoreView) : Type 0 where
+pub record BeginsTask (old : CoreView) (m : Machine) (w : WindowTask) (new : CoreView) : Type 0 where
   pub progress : Progress
   pub number : ℕ
   pub within : w.task.ticket < length old.table.names

@@ -16,7 +16,7 @@ use Rattle.mw_model.specs.declared.calls.Outcome.{Outcome}
 use Rattle.mw_model.specs.declared.calls.Outcome.TheVariants as outcome
 use Rattle.mw_model.specs.Values.{Value, value_at, option_list, tickets}
 use Rattle.mw_model.specs.Refusals.{Table, is_pending, is_released, outcome_at, submission_at, no_submission}
-use Rattle.mw_model.specs.Machine.{settled, spread, with_entry}
+use Rattle.mw_model.specs.Machine.{settled, cascaded, with_entry}
 use Rattle.mw_model.specs.Stands.{is_wanted}
 use Rattle.mw_store.specs.declared.kept.Kept.{Kept}
 use Rattle.mw_store.specs.Kept.{kept_value}
@@ -26,7 +26,7 @@ use Rattle.mw_store.specs.Waiting.{Waiting, KnowsWaiting, no_waiting, waiting_at
 use Rattle.mw_facts.proofs.Alls.{all-append, all-weaker, all-append_left, all-append_right}
 use Rattle.mw_facts.proofs.Counts.{count_by-most, count_by-same}
 use Rattle.mw_store.proofs.AddLemmas.{whole-push}
-use Rattle.mw_store.proofs.CascadeLemmas.{Fate, spread-fate, count-push, fate-pending}
+use Rattle.mw_store.proofs.CascadeLemmas.{Fate, cascaded-fate, count-push, fate-pending}
 use Rattle.mw_store.proofs.Counting.{count-more, count-change, count-any, zero-or-more}
 
 -- ---- the inputs of an entry
@@ -449,15 +449,15 @@ release-tracked s counts lists left t kept tracked within was kept-size drops =
 
 -- nothing becomes pending
 pub pending-before-kill : (es : List Submission) (os new : List Outcome) (t : ℕ) (cause : Outcome) → length es ≡ length os → t < length os → is_pending cause ≡ false
-    → new ≡ spread [] es (set os t cause) → length new ≡ length os
+    → new ≡ cascaded [] es (set os t cause) → length new ≡ length os
     → (u : ℕ) → is_pending (outcome_at new u) ≡ true → is_pending (outcome_at os u) ≡ true
 pending-before-kill es os new t cause same lt dead is size u e =
     elim (cases_lt u (length os)) [
       | inl within ↦
           let within' : u < length (set os t cause) = omega (arith, within, length-set os t cause) in
-          let fate : Fate (outcome_at (set os t cause) u) (outcome_at (spread [] es (set os t cause)) (0 + u)) = spread-fate [] es (set os t cause) u (same ∙ sym (length-set os t cause)) within' in
-          let here : is_pending (outcome_at (spread [] es (set os t cause)) (0 + u)) ≡ true = ap (λ (k : ℕ). is_pending (outcome_at (spread [] es (set os t cause)) k)) (zero-add u) ∙ ap (λ (xs : List Outcome). is_pending (outcome_at xs u)) (sym is) ∙ e in
-          let was = fate-pending (outcome_at (set os t cause) u) (outcome_at (spread [] es (set os t cause)) (0 + u)) fate here in
+          let fate : Fate (outcome_at (set os t cause) u) (outcome_at (cascaded [] es (set os t cause)) (0 + u)) = cascaded-fate [] es (set os t cause) u (same ∙ sym (length-set os t cause)) within' in
+          let here : is_pending (outcome_at (cascaded [] es (set os t cause)) (0 + u)) ≡ true = ap (λ (k : ℕ). is_pending (outcome_at (cascaded [] es (set os t cause)) k)) (zero-add u) ∙ ap (λ (xs : List Outcome). is_pending (outcome_at xs u)) (sym is) ∙ e in
+          let was = fate-pending (outcome_at (set os t cause) u) (outcome_at (cascaded [] es (set os t cause)) (0 + u)) fate here in
           elim (eqb_tells u t) [
             | inl self ↦
                 let no : is_pending (outcome_at (set os t cause) u) ≡ false
@@ -479,7 +479,7 @@ kill-drops s new now kept size counted dropped k =
     dropped k ∙ ap (λ (b : Bool). if b then None else value_at s.kept k) (spent-tells (with_outcomes s.table new) now k size (counted k))
 
 pub kill-tracked : (s : Stored) (counts now : List ℕ) (lists rest : List Waiting) (left count t : ℕ) (cause : Outcome) (new : List Outcome) (kept : List (Option Value)) → IsTracked s counts lists left
-    → t < length s.table.names → is_pending cause ≡ false → new ≡ spread [] s.table.submissions (set s.table.outcomes t cause)
+    → t < length s.table.names → is_pending cause ≡ false → new ≡ cascaded [] s.table.submissions (set s.table.outcomes t cause)
     → length new ≡ length s.table.outcomes → length now ≡ length counts → length rest ≡ length lists → length kept ≡ length s.kept
     → ((k : ℕ) → slice_index_or now k 0 ≡ wanted_by s.table.submissions new k)
     → ((k : ℕ) → waiting_at rest k ≡ (if is_pending (outcome_at new k) then waiting_at lists k else []))

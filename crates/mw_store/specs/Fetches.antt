@@ -14,13 +14,13 @@ shown_value (shown.Image f) = Some (ImageValue f)
 shown_value (shown.Curve volumes) = Some (CurveValue volumes)
 
 -- a value that may be handed out: any but an element
-abbrev pub handed_value : Option Value → Option Value
-handed_value (Some (ElementValue b)) = None
-handed_value v = v
+abbrev pub fetchable : Option Value → Option Value
+fetchable (Some (ElementValue b)) = None
+fetchable v = v
 
 -- what the core hands out with this reply
 abbrev pub IsShown : CoreView → Reply → Shown → Type 0
-IsShown c (reply.Shown t) v = shown_value v ≡ handed_value (value_at c.kept t)
+IsShown c (reply.Shown t) v = shown_value v ≡ fetchable (value_at c.kept t)
 IsShown c r v = shown_value v ≡ None
 
 -- the reply shows a ticket

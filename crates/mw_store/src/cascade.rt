@@ -4,7 +4,7 @@ ghost use Rattle.std.specs.Prelude.{◌≡◌, ◌<◌, [], length, find};
 ghost use Rattle.std.specs.List.{AllByRecursion};
 ghost use Rattle.mw_model.specs.Values.{tickets, option_list};
 ghost use Rattle.mw_model.specs.Refusals.{is_dead, outcome_at};
-ghost use Rattle.mw_model.specs.Machine.{beside, spread};
+ghost use Rattle.mw_model.specs.Machine.{beside, cascaded};
 ghost use Rattle.mw_store.specs.Stored.{InputsBelow};
 
 use crate::outcomes::is_dead;
@@ -61,7 +61,7 @@ fn beside_inputs(outcomes: &[Outcome], inputs: Inputs, own: Outcome) -> Outcome
 pub fn fail_dependents(submissions: &[Submission], outcomes: &mut [Outcome])
     requires same { length submissions.now ≡ length outcomes.old }
     requires below { InputsBelow submissions.now }
-    ensures { outcomes.new ≡ spread [] submissions.now outcomes.old }
+    ensures { outcomes.new ≡ cascaded [] submissions.now outcomes.old }
 {
     for (t, submission) in submissions.iter().enumerate() {
         outcomes[t] = beside_inputs(outcomes, submission.inputs, outcomes[t]);

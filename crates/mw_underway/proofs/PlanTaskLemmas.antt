@@ -17,7 +17,7 @@ use Rattle.mw_stands.specs.mw_store.Stored.{DropsSpent}
 use Rattle.mw_stands.specs.Facts.{IsComplete}
 use Rattle.mw_stands.specs.mw_work.Works.{true_task}
 use Rattle.mw_underway.specs.SourceWindows.{AreSources, IsTaskOf}
-use Rattle.mw_stands.specs.TaskEvents.{Begins, IsResult, Places, Settles}
+use Rattle.mw_stands.specs.TaskEvents.{BeginsTask, IsResult, Places, Settles}
 use Rattle.mw_stands.proofs.AgreeLemmas.{agrees-done}
 use Rattle.mw_stands.proofs.KeptInputs.{all-there-list}
 use Rattle.mw_stands.proofs.StandsLemmas.{stands-sound, stands-settled}
@@ -38,10 +38,10 @@ ready-here c t p n runs work within ready = rw (runs, work, lt-ltb n (task_count
 pub begins : (c new : CoreView) (m : Machine) (t : ℕ) (u v : ProgressView) (n : ℕ) (image : Option Picture) (w : WindowTask) → StandsFor c m → IsComplete c → t < length c.table.names → 1 ≤ ready_under c t
     → progress_at c.work t ≡ Some u.progress → n < task_count u.progress → is_ready u.progress n ≡ true → IsWork m t v.progress → IsTaskOf image t u n w
     → AreSources image u (planned_of u.progress n).sources (sources_of u.progress (images_of (input_values m t)) (true_planes m t u.progress) n)
-    → IsStarted u v n → new ≡ record c { work = set c.work t (Some v.progress) } → Begins c m w new
+    → IsStarted u v n → new ≡ record c { work = set c.work t (Some v.progress) } → BeginsTask c m w new
 begins c new m t u v n image w s complete within ready work in_plan is_ready after task sources started is =
     let true_is = task-is-true m image t u n w task sources in
-    let P : WindowTask → Type 0 = λ d. Begins c m d new in
+    let P : WindowTask → Type 0 = λ d. BeginsTask c m d new in
     subst P (sym true_is) (record {
       progress = u.progress;
       number = n;

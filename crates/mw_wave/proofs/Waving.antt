@@ -22,7 +22,7 @@ use Rattle.mw_task.specs.WindowTasks.{WindowTask}
 use Rattle.mw_task.specs.declared.done.TaskRefused.{TaskRefused}
 use Rattle.mw_core.specs.mw_work.Works.{true_task}
 use Rattle.mw_core.specs.mw_stands.Events.{WorkStays}
-use Rattle.mw_core.specs.mw_stands.TaskEvents.{Kills, Begins, IsResult, IsUnderway, Settles, Places, IsSettled}
+use Rattle.mw_core.specs.mw_stands.TaskEvents.{Kills, BeginsTask, IsResult, IsUnderway, Settles, Places, IsSettled}
 use Rattle.mw_core.proofs.mw_stands.CountLemmas.{sum-at}
 use Rattle.mw_core.specs.TaskAnswers.{Starts, Finishes, IsOwn, Refuses}
 use Rattle.mw_core.specs.declared.answers.Started.{Started}
@@ -419,7 +419,7 @@ refuse-hand m old c new r jobs n refusal.Stranger small h e =
 
 -- ---- a task is taken
 
-take-work : (m : Machine) (old c new : CoreView) (jobs : List Job) (n : ℕ) (w : WindowTask) → (h : Underway m old c jobs n) → Begins c h.state w new → Underway m old new (job.Waits w ∷ jobs) 1
+take-work : (m : Machine) (old c new : CoreView) (jobs : List Job) (n : ℕ) (w : WindowTask) → (h : Underway m old c jobs n) → BeginsTask c h.state w new → Underway m old new (job.Waits w ∷ jobs) 1
 take-work m old c new jobs n w h b =
     let t = w.task.ticket in
     let p = b.progress in

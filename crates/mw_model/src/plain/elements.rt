@@ -14,17 +14,17 @@ pub struct Element<'a> {
 impl<'a> Model for Element<'a> {
     ghost use Rattle.std.specs.Prelude.{List, if◌then◌else◌};
     ghost use Rattle.mw_model.specs.declared.places.Offset.{Offset};
-    ghost use Rattle.mw_model.specs.Flat.{negated};
+    ghost use Rattle.mw_model.specs.Flat.{reflected};
 
     ghost Value = { List Offset };
 
-    ghost view = { λ a. if a.turned then negated a.offsets.now else a.offsets.now };
+    ghost view = { λ a. if a.turned then reflected a.offsets.now else a.offsets.now };
 }
 
 impl<'a> Element<'a> {
     ghost use Rattle.std.specs.Prelude.{◌≡◌, ◌<◌, ◌+ℤ◌, pos, length, slice_index_or};
     ghost use Rattle.mw_model.specs.Pictures.{sample_at};
-    ghost use Rattle.mw_model.specs.Flat.{negated};
+    ghost use Rattle.mw_model.specs.Flat.{reflected};
 
     pub fn upright(offsets: &'a [Offset]) -> Element<'a>
         ensures { result ≡ offsets.now }
@@ -37,7 +37,7 @@ impl<'a> Element<'a> {
 
     /// The element with each offset turned round.
     pub fn turned(offsets: &'a [Offset]) -> Element<'a>
-        ensures { result ≡ negated offsets.now }
+        ensures { result ≡ reflected offsets.now }
     {
         Element {
             offsets,

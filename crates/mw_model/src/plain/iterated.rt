@@ -2,7 +2,7 @@
 
 ghost use Rattle.std.specs.Prelude.{◌≡◌, ◌+◌, ◌<◌, ◌≤◌, ◌&&◌, ◌==◌, not, IfOk, max, if◌then◌else◌};
 ghost use Rattle.mw_model.specs.Pictures.{sample, redrawn};
-ghost use Rattle.mw_model.specs.Flat.{erosion, dilation, negated};
+ghost use Rattle.mw_model.specs.Flat.{erosion, dilation, reflected};
 ghost use Rattle.mw_model.specs.Iterates.{times, is_residue, skeleton, level_set, union, restoration, volume, spectrum};
 
 use crate::plain::PlainImage;
@@ -140,7 +140,7 @@ pub fn dilated_back_times(
     element: &[Offset],
     n: u32,
 ) -> Result<PlainImage, NoMemory>
-    ensures { IfOk result (λ r. r ≡ times n (dilation (negated element.now)) image.now) }
+    ensures { IfOk result (λ r. r ≡ times n (dilation (reflected element.now)) image.now) }
 {
     let turned = Element::turned(element);
     let mut f = copy(alloc, image)?;

@@ -1,5 +1,5 @@
 use Rattle.std.proofs.Common.{◌≡◌, ℕ, suc, ◌+◌, length, arith, subst}
-use Rattle.mw_model.specs.Flat.{dilation, negated}
+use Rattle.mw_model.specs.Flat.{dilation, reflected}
 use Rattle.mw_model.specs.Iterates.{times}
 use Rattle.mw_model.specs.Pictures.{IsPicture}
 use Rattle.mw_task.specs.Meanings.{meaning}
@@ -38,7 +38,7 @@ returns-clause-grown c = λ b count numbers before slides tells shows.
     let at = c.loop-done.invariant.grown b count numbers before slides tells shows in
     let same : c.loop-done._done ≡ c.args.n = omega arith in (
       subst (λ (k : ℕ). Tells c.loop-done.plan (count + k) numbers) same at.0,
-      subst (λ (k : ℕ). Shows IsPicture c.loop-done.plan (source c.loop-done.grown) (λ f. times k (dilation (negated b)) (before f))) same at.1,
+      subst (λ (k : ℕ). Shows IsPicture c.loop-done.plan (source c.loop-done.grown) (λ f. times k (dilation (reflected b)) (before f))) same at.1,
     )
 
 pub returns-clause-count : goal.returns-clause-count

@@ -1,6 +1,6 @@
 use Rattle.std.proofs.Common.{◌≡◌, ℕ, ◌+◌, List, length}
 use Rattle.mw_model.specs.declared.places.Offset.{Offset}
-use Rattle.mw_model.specs.Flat.{dilation, negated}
+use Rattle.mw_model.specs.Flat.{dilation, reflected}
 use Rattle.mw_model.specs.Iterates.{times}
 use Rattle.mw_model.specs.Pictures.{Picture, IsPicture}
 use Rattle.mw_task.specs.Meanings.{meaning}
@@ -15,5 +15,5 @@ invariant-loop-done l = record {
   kept : StillShown l.fn.plan l.plan;
   grown : (b : List Offset) (count : ℕ) (numbers : Picture → List ℕ) (before : Picture → Picture) → Slides b (meaning l.steps.erode) (meaning l.steps.dilate) → Tells l.fn.plan count numbers
       → Shows IsPicture l.fn.plan (source l.fn.from) before
-      → Tells l.plan (count + l._done) numbers × Shows IsPicture l.plan (source l.grown) (λ f. times l._done (dilation (negated b)) (before f));
+      → Tells l.plan (count + l._done) numbers × Shows IsPicture l.plan (source l.grown) (λ f. times l._done (dilation (reflected b)) (before f));
 }

@@ -4,6 +4,6 @@ use Rattle.mw_laws.proofs.laws.closing_laws.Goals as goal
 
 pub returns : goal.returns
 returns c = record {
-  above = λ b f picture. closing_above b f (sample_bounded f picture);
-  twice = λ b f picture. closing_twice b f (sample_bounded f picture);
+  extensive = λ b f picture. closing_above b f (sample_bounded f picture);
+  idempotent = λ b f picture. closing_twice b f (sample_bounded f picture);
 }

@@ -1,7 +1,7 @@
 use Rattle.std.proofs.Common.{ap, ◌∙◌}
 use Rattle.std.specs.Arc.{arc_value}
 use Rattle.mw_model.specs.Elements.{Figure}
-use Rattle.mw_model.specs.Flat.{negated}
+use Rattle.mw_model.specs.Flat.{reflected}
 use Rattle.mw_task.specs.Meanings.{meaning}
 use Rattle.mw_plan.specs.Asked.{offsets_of_input}
 use Rattle.mw_plan.proofs.Acting.{slides_by_offsets, slides_by_turned_box}
@@ -15,5 +15,5 @@ returns-in-Some c =
 
 pub returns : goal.returns
 returns c =
-    slides_by_offsets c.args.extremum (meaning c.by_element.result) (arc_value c.in_ok-new.field-0).offsets (negated (offsets_of_input c.args.input)) c.by_element.ensures
-    (ap (λ (f : Figure). f.offsets) (c.in_ok-new.ensures.ok ∙ c.in_ok-turned.ensures) ∙ ap negated (ap (λ (f : Figure). f.offsets) c.deref-2.ensures ∙ c.element-element.ensures))
+    slides_by_offsets c.args.extremum (meaning c.by_element.result) (arc_value c.in_ok-new.field-0).offsets (reflected (offsets_of_input c.args.input)) c.by_element.ensures
+    (ap (λ (f : Figure). f.offsets) (c.in_ok-new.ensures.ok ∙ c.in_ok-turned.ensures) ∙ ap reflected (ap (λ (f : Figure). f.offsets) c.deref-2.ensures ∙ c.element-element.ensures))

@@ -2,7 +2,7 @@ use Rattle.std.proofs.Common.{◌≡◌, ◌++◌, ◌∷◌, [], None}
 use Rattle.mw_model.specs.declared.calls.Given.TheVariants as given
 use Rattle.mw_model.specs.declared.calls.Call.TheVariants as call
 use Rattle.mw_model.specs.declared.calls.LogItem.TheVariants as item
-use Rattle.mw_ledger.specs.mw_stands.Events.{Serves}
+use Rattle.mw_ledger.specs.mw_stands.Events.{FollowsMachine}
 use Rattle.mw_checks.specs.Faults.{IsFault}
 use Rattle.mw_ledger.proofs.mw_stands.CallLemmas.{by-each}
 use Rattle.mw_core.proofs.FaultLemmas.{serves-fault-element}
@@ -15,5 +15,5 @@ returns-in-Err-clause-served c =
     let n = c.args.name in
     let q = call.Element n (given.Bad c.in-Err.code) in
     rw c.in-Err.is
-    (by-each c.fault.result (IsFault old.table n c.in-Err.code) (Serves old q None new) (λ r. new ≡ record old { log = old.log ++ item.Call q r ∷ [] }) c.fault.ensures.told c.fault.ensures.ok
+    (by-each c.fault.result (IsFault old.table n c.in-Err.code) (FollowsMachine old q None new) (λ r. new ≡ record old { log = old.log ++ item.Call q r ∷ [] }) c.fault.ensures.told c.fault.ensures.ok
     (λ r told is. serves-fault-element old new n c.in-Err.code r told is))

@@ -3,7 +3,7 @@ use Rattle.mw_model.specs.Machine.{Machine}
 use Rattle.mw_model.specs.Stands.{CoreView, StandsFor, ready_count, ready_under}
 use Rattle.mw_task.specs.WindowTasks.{WindowTask}
 use Rattle.mw_ledger.specs.mw_stands.Facts.{IsComplete}
-use Rattle.mw_ledger.specs.mw_stands.TaskEvents.{Begins, Kills}
+use Rattle.mw_ledger.specs.mw_stands.TaskEvents.{BeginsTask, Kills}
 use Rattle.mw_ledger.specs.mw_stands.Turns.{IsAt}
 use Rattle.mw_ledger.proofs.mw_stands.TaskLemmas.{kills, ready-there}
 use Rattle.mw_ledger.specs.Books.{Book, seen_of}
@@ -37,7 +37,7 @@ returns-in-Ok-Some-clause-task c =
     let Taken : Option WindowTask → Type 0 = λ w. TakesAt b t new w in
     let took = subst Taken c.in-Ok-Some.field-0-is c.in-Ok-Some.ensures.taken in
     let ready : 1 ≤ ready_under (seen_of b) t = omega (arith, c.find-t.ensures.place (seen_of b) c.self.invariant) in
-    let Begun : CoreView → Type 0 = λ x. (m : Machine) → StandsFor x m → Begins x m c.in-Ok-Some.work (seen_of new) in
+    let Begun : CoreView → Type 0 = λ x. (m : Machine) → StandsFor x m → BeginsTask x m c.in-Ok-Some.work (seen_of new) in
     subst Begun c.self.view_is (λ m s. takes-begins b new m t c.in-Ok-Some.work s c.sound.ensures ready took)
 
 pub returns-in-Ok-Some-clause-turn : goal.returns-in-Ok-Some-clause-turn

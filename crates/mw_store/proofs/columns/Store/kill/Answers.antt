@@ -5,12 +5,12 @@ use Rattle.mw_model.specs.declared.calls.Outcome.{Outcome}
 use Rattle.mw_model.specs.declared.calls.Outcome.TheVariants as outcome
 use Rattle.mw_model.specs.Values.{value_at}
 use Rattle.mw_model.specs.Refusals.{Table, is_pending, outcome_at}
-use Rattle.mw_model.specs.Machine.{killed, spread}
+use Rattle.mw_model.specs.Machine.{killed, cascaded}
 use Rattle.mw_store.specs.Kept.{kept_value}
 use Rattle.mw_store.specs.Stored.{Stored}
 use Rattle.mw_store.specs.Waiting.{waiting_at}
 use Rattle.mw_store.specs.Wanted.{one_if, spent_by, wanted_by}
-use Rattle.mw_store.proofs.CascadeLemmas.{count-spread}
+use Rattle.mw_store.proofs.CascadeLemmas.{count-cascaded}
 use Rattle.mw_store.proofs.Tracking.{kept-dropped, kill-drops, kill-tracked}
 use Rattle.mw_store.proofs.columns.Store.kill.Goals as goal
 
@@ -35,7 +35,7 @@ invariant_of-self c =
     let now = c.count_wanted.new.wanted in
     let rest = c.drop_settled.new.waiting in
     let new = c.drop_spent.new.kept in
-    let is : os ≡ spread [] a.submissions.items (set a.outcomes.items t c.args.cause) = rw (c.deref.ensures.value, c.deref_mut.ensures.value) at c.fail_dependents.ensures in
+    let is : os ≡ cascaded [] a.submissions.items (set a.outcomes.items t c.args.cause) = rw (c.deref.ensures.value, c.deref_mut.ensures.value) at c.fail_dependents.ensures in
     let size : length os ≡ length a.outcomes.items = omega (arith, c.fail_dependents.auto.outcomes, ap length c.deref_mut.ensures.value, length-set a.outcomes.items t c.args.cause) in
     let shown = take_at os (drop (length os) (set a.outcomes.items t c.args.cause)) a.outcomes.len (omega (arith, c.fail_dependents.auto.outcomes, c.deref_mut.ensures.len)) in
     let counts = take_at now (drop (length now) a.wanted.items) a.wanted.len (omega (arith, c.count_wanted.auto.wanted, c.deref_mut-2.ensures.len)) in
@@ -86,7 +86,7 @@ returns-clause-pending c =
     rw (take_at c.fail_dependents.new.outcomes _ c.self.inside.outcomes.len (omega arith), a, b, d, ← v)
     (omega (
       arith,
-      count-spread [] c.self.inside.submissions.items (set os t c.args.cause),
+      count-cascaded [] c.self.inside.submissions.items (set os t c.args.cause),
       sum_by-set (λ x. one_if (is_pending x)) os t c.args.cause outcome.Pending within,
       ap (λ (x : Outcome). one_if (is_pending x)) was,
       ap one_if c.requires.dead,
