@@ -1,11 +1,15 @@
 -- Tests on numbers, and induction over the numbers below one.
-use Rattle.std.proofs.Common.{◌≡◌, ℕ, zero, suc, ◌+◌, ◌<◌, Bool, true, false, cond, ltb, min, max, ◌⊎◌, inl, inr, ◌≤◌, refl, arith, not, eqb}
+use Rattle.std.proofs.Common.{◌≡◌, ℕ, zero, suc, ◌+◌, ◌*◌, ◌<◌, Bool, true, false, cond, ltb, min, max, ◌⊎◌, inl, inr, ◌≤◌, refl, arith, not, eqb}
 use Rattle.std.proofs.lemmas.Bool.{cases_lt}
 use Rattle.std.proofs.lemmas.Bool.Decides.{nat_tests}
 use lib.Count.{ones}
 
 pub add_one-add : (a b : ℕ) → a + 1 + b ≡ a + suc b
 add_one-add a b = omega arith
+
+pub factor-positive : (k a b : ℕ) → k < a * b → 0 < b
+factor-positive k a zero lt = absurd (omega arith)
+factor-positive k a (suc b) lt = omega arith
 
 pub ones-bit : (b : ℕ) → b < 2 → ones b ≡ b
 unfolding ones

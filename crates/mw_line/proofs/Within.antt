@@ -4,6 +4,7 @@ use Rattle.std.specs.Prelude.{All, nat_lt, ◌&&◌}
 use Rattle.std.specs.List.{AllByRecursion, cons_option}
 use Rattle.std.proofs.lemmas.Nat.{div_below, mod_below, div-add-mod'}
 use Rattle.std.proofs.lemmas.Option.{get_or_from_slice_get, slice_get_within}
+use Rattle.mw_facts.proofs.Numbers.{factor-positive}
 use Rattle.mw_model.specs.declared.places.Offset.{Offset}
 use Rattle.mw_model.specs.declared.places.Rect.{Rect}
 use Rattle.mw_model.specs.Rasters.{Raster, raster, cell_at, Sight, seen_under}
@@ -35,16 +36,12 @@ cell_within P f all (pos x) (pos y) a e = go (nat_lt x f.width && nat_lt y f.hei
         subst P (get_or_from_slice_get f.cells at a a e) (all at a (slice_get_within f.cells at a e))
     go false e = absurd cc
 
-some_width : (k h w : ℕ) → k < h * w → 0 < w
-some_width k h zero lt = absurd (omega arith)
-some_width k h (suc w) lt = omega arith
-
 -- what holds of the neutral sample and of all of a window holds of all of its extremum, if the operation keeps it
 pub sliding_within : {A : Type 0} (f : A → A → A) (P : A → Type 0) → ((a b : A) → P a → P b → P (f a b)) → (n : A) → P n → (w : View A) → All P w.cells → (element : List Offset) (tile : Rect) (r : Raster A)
     → IsSlidingExtremum f n (seen_at w) element tile r → All P r.cells
 sliding_within f P keeps n here w all element tile r made k d lt =
     let inside : k < tile.height * tile.width = omega (arith, made.size) in
-    let some : 0 < tile.width = some_width k tile.height tile.width inside in
+    let some : 0 < tile.width = factor-positive k tile.height tile.width inside in
     let x = k % tile.width in
     let y = k / tile.width in
     let seen = seen_under (seen_at w) element (tile.x + x) (tile.y + y) in

@@ -33,13 +33,13 @@ use Rattle.mw_stands.proofs.StandsLemmas.{stands-sound, stands-refusal, stands-r
 
 -- ---- facts about an answer
 
-pub by-two : {E : Type 0} → (r : Result Reply E) (x : Reply) (Q : Type 0) (P : Reply → Type 0) → IfOk r (λ y. y ≡ x) → OnOk r Q → (Q → P x) → IfOk r P
-by-two (Ok y) x Q P is q f = subst P (sym is) (f q)
-by-two (Err e) x Q P is q f = tt
+pub IfOk-from-one : {E : Type 0} → (r : Result Reply E) (x : Reply) (Q : Type 0) (P : Reply → Type 0) → IfOk r (λ y. y ≡ x) → OnOk r Q → (Q → P x) → IfOk r P
+IfOk-from-one (Ok y) x Q P is q f = subst P (sym is) (f q)
+IfOk-from-one (Err e) x Q P is q f = tt
 
-pub by-five : {E : Type 0} → (r : Result Reply E) (x : Reply) (Q R S T : Type 0) (P : Reply → Type 0) → IfOk r (λ y. y ≡ x) → OnOk r Q → OnOk r R → OnOk r S → OnOk r T → (Q → R → S → T → P x) → IfOk r P
-by-five (Ok y) x Q R S T P is q r s t f = subst P (sym is) (f q r s t)
-by-five (Err e) x Q R S T P is q r s t f = tt
+pub IfOk-from-four : {E : Type 0} → (r : Result Reply E) (x : Reply) (Q R S T : Type 0) (P : Reply → Type 0) → IfOk r (λ y. y ≡ x) → OnOk r Q → OnOk r R → OnOk r S → OnOk r T → (Q → R → S → T → P x) → IfOk r P
+IfOk-from-four (Ok y) x Q R S T P is q r s t f = subst P (sym is) (f q r s t)
+IfOk-from-four (Err e) x Q R S T P is q r s t f = tt
 
 pub by-each : {E : Type 0} → (r : Result Reply E) (Q P : Reply → Type 0) (S : Reply → Type 0) → IfOk r Q → IfOk r S → ((y : Reply) → Q y → S y → P y) → IfOk r P
 by-each (Ok y) Q P S q s f = f y q s

@@ -7,6 +7,7 @@ use Rattle.std.proofs.lemmas.List.{get_or-take, get_or-drop, get_or_past}
 use Rattle.std.proofs.lemmas.List.FromFn.{get_or-map-range_with_len, fill_by_all, length-map-range_with_len}
 use Rattle.std.proofs.lemmas.Nat.{mul-add-lt, div-mul-add, mod-mul-add, div_below, div-add-mod', mod_below}
 use Rattle.std.proofs.lemmas.Nat.Bits.{bit_at-zero, bit_at-lt}
+use Rattle.mw_facts.proofs.Numbers.{factor-positive}
 use Rattle.mw_word_rows.specs.Packed.{bit_of, stride_of, samples_of, IsPacked}
 
 pub bit_of_word : (words : List ℕ) (k i q : ℕ) → i < 64 → q ≡ 64 * k + i → bit_of words q ≡ bit_at (get_or words k 0) i
@@ -60,10 +61,6 @@ samples_small width height words cells cells-is k d lt =
     ap (λ (t : List ℕ). get_or t k d) cells-is ∙ get_or-map-range_with_len (λ (i : ℕ). bit_of words (i / width * (64 * stride_of width) + i % width)) 0 (height * width) k k d inside (omega arith) in
     omega (arith, is, bit_of-lt words place)
 
-pub some_width : (k h w : ℕ) → k < h * w → 0 < w
-some_width k h zero lt = absurd (omega arith)
-some_width k h (suc w) lt = omega arith
-
 -- samples that are the bits, place by place
 pub samples_are_bits : (width height : ℕ) (words cells : List ℕ) → length cells ≡ height * width
     → ((x y : ℕ) → x < width → y < height → get_or cells (y * width + x) 0 ≡ bit_of words (y * (64 * stride_of width) + x)) → cells ≡ samples_of width height words
@@ -71,7 +68,7 @@ unfolding samples_of
 samples_are_bits width height words cells size same =
     fill_by_all (λ (i : ℕ). bit_of words (i / width * (64 * stride_of width) + i % width)) cells (height * width) 0 size
     (λ k lt.
-    let some = some_width k height width lt in
+    let some = factor-positive k height width lt in
     let split : k ≡ k / width * width + k % width = sym (div-add-mod' k width) in
     ap (λ (t : ℕ). get_or cells t 0) split ∙ same (k % width) (k / width) (mod_below k width some) (div_below k width height some lt))
 

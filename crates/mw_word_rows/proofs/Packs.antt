@@ -9,10 +9,10 @@ use Rattle.std.proofs.lemmas.Nat.{shr-shr, one_shl, pow_pos, div-add-mod', div_b
 use Rattle.std.proofs.lemmas.Nat.Bits.{bit_at_and, bit_at_ones, bit_at-lt, and_pow}
 use Rattle.std.proofs.lemmas.Simd.{bitmask_splat, bit_mask_l, get_or-replicate}
 use Rattle.mw_facts.proofs.Parts.{get_or-put_mid_below as put_mid_below, get_or-put_mid_within as put_mid_at, get_or-put_mid_above as put_mid_above}
-use Rattle.mw_facts.proofs.Numbers.{one_if-not_zero}
+use Rattle.mw_facts.proofs.Numbers.{one_if-not_zero, factor-positive}
 use Rattle.mw_line.proofs.Rows.{RowsMade}
 use Rattle.mw_word_rows.specs.Packed.{stride_of, samples_of, IsPacked}
-use Rattle.mw_word_rows.proofs.Bits.{samples_are_bits, some_width}
+use Rattle.mw_word_rows.proofs.Bits.{samples_are_bits}
 use Rattle.mw_word_rows.proofs.Done.{BitRowsDone}
 use borrow.Rule.Slice.PartMut.{put_mid}
 use lib.Lanes.{zip2, mask_l, top}
@@ -93,7 +93,7 @@ rows_are w h y cells made size whole rows =
     same_number_lists made cells (omega (arith, rows_size, same))
     (λ k lt.
     let few : k < h * w = omega (arith, rows_size, same) in
-    let some = some_width k h w few in
+    let some = factor-positive k h w few in
     let split : k ≡ k / w * w + k % w = sym (div-add-mod' k w) in
     ap (λ (t : ℕ). get_or made t 0) split ∙ rows.done (k % w) (k / w) (mod_below k w some) (omega (arith, div_below k w h some few)) ∙ ap (λ (t : ℕ). get_or cells t 0) (sym split))
 

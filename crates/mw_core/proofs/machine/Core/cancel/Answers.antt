@@ -7,7 +7,7 @@ use Rattle.mw_model.specs.Refusals.{refusal, ticket, outcome_at}
 use Rattle.mw_ledger.specs.mw_store.Stored.{Stored}
 use Rattle.mw_ledger.specs.mw_stands.Facts.{stored_of}
 use Rattle.mw_ledger.specs.mw_stands.Events.{FollowsMachine}
-use Rattle.mw_ledger.proofs.mw_stands.CallLemmas.{by-two, serves-refused, serves-cancel}
+use Rattle.mw_ledger.proofs.mw_stands.CallLemmas.{IfOk-from-one, serves-refused, serves-cancel}
 use Rattle.mw_core.proofs.machine.Core.cancel.Goals as goal
 
 pub returns-in-Err-clause-served : goal.returns-in-Err-clause-served
@@ -17,7 +17,7 @@ returns-in-Err-clause-served c =
     let q = call.Cancel c.args.name in
     let x = c.in-Err.code in
     let why = sym (ap (λ v. refusal v.table v.kept q) seen) ∙ sym c.in-Err.ensures.code in
-    by-two c.note.result (reply.Refused x) (c.note.new.self ≡ record old { log = old.log ++ item.Call q (reply.Refused x) ∷ [] }) (FollowsMachine old q None c.note.new.self) c.note.ensures.reply c.note.ensures.ok
+    IfOk-from-one c.note.result (reply.Refused x) (c.note.new.self ≡ record old { log = old.log ++ item.Call q (reply.Refused x) ∷ [] }) (FollowsMachine old q None c.note.new.self) c.note.ensures.reply c.note.ensures.ok
     (serves-refused old c.note.new.self q None x refl why)
 
 pub returns-in-Ok-clause-served : goal.returns-in-Ok-clause-served

@@ -10,7 +10,7 @@ use Rattle.mw_model.specs.Refusals.{refusal}
 use Rattle.mw_model.specs.Machine.{with_entry, given_submission}
 use Rattle.mw_ledger.specs.mw_stands.Facts.{stored_of}
 use Rattle.mw_ledger.specs.mw_stands.Events.{FollowsMachine}
-use Rattle.mw_ledger.proofs.mw_stands.CallLemmas.{by-two, by-five, serves-refused, serves-element}
+use Rattle.mw_ledger.proofs.mw_stands.CallLemmas.{IfOk-from-one, IfOk-from-four, serves-refused, serves-element}
 use Rattle.mw_core.proofs.machine.Core.load_element.Goals as goal
 
 pub returns-in-Err-clause-served : goal.returns-in-Err-clause-served
@@ -24,7 +24,7 @@ returns-in-Err-clause-served c =
     let why = sym (ap (λ d. refusal d.table d.kept q) seen) ∙ sym c.in-Err.ensures.element in
     let P : Shape → Type 0 = λ s. IfOk c.note.result (FollowsMachine old (call.Element c.args.name (given.Good s)) (Some (ElementValue v)) new) in
     subst P c.shape.ensures
-    (by-two c.note.result (reply.Refused x) (new ≡ record old { log = old.log ++ item.Call q (reply.Refused x) ∷ [] }) (FollowsMachine old q (Some (ElementValue v)) new)
+    (IfOk-from-one c.note.result (reply.Refused x) (new ≡ record old { log = old.log ++ item.Call q (reply.Refused x) ∷ [] }) (FollowsMachine old q (Some (ElementValue v)) new)
     c.note.ensures.reply c.note.ensures.ok (serves-refused old new q (Some (ElementValue v)) x (v, refl, c.offsets-offsets.ensures.figure, c.shape.ensures) why))
 
 pub returns-in-Ok-clause-served : goal.returns-in-Ok-clause-served
@@ -38,7 +38,7 @@ returns-in-Ok-clause-served c =
     let q = call.Element n (given.Good c.shape.result) in
     let accepted = reply.Accepted (length old.table.names) in
     let free = ap (λ d. refusal old.table old.kept (call.Element n (given.Good d))) (sym c.shape.ensures) ∙ sym (ap (λ d. refusal d.table d.kept q) seen) ∙ sym c.in-Ok.ensures.element in
-    by-five c.accept.result accepted (new.table ≡ with_entry old.table n (given_submission (given.Good s)) outcome.Done) (new.kept ≡ old.kept ++ Some (ElementValue v) ∷ [])
+    IfOk-from-four c.accept.result accepted (new.table ≡ with_entry old.table n (given_submission (given.Good s)) outcome.Done) (new.kept ≡ old.kept ++ Some (ElementValue v) ∷ [])
     (new.work ≡ old.work ++ None ∷ []) (new.log ≡ old.log ++ item.Call q accepted ∷ []) (FollowsMachine old (call.Element n (given.Good s)) (Some (ElementValue v)) new)
     c.accept.ensures.reply c.accept.ensures.table c.accept.ensures.kept c.accept.ensures.work c.accept.ensures.log
     (λ table kept work log. serves-element old new n v c.offsets-offsets.ensures.figure free c.whole.ensures.complete table kept work

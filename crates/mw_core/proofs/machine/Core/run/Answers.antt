@@ -12,7 +12,7 @@ use Rattle.mw_ledger.specs.mw_store.Stored.{Stored}
 use Rattle.mw_ledger.specs.mw_stands.Facts.{stored_of}
 use Rattle.mw_ledger.specs.mw_stands.Limits.{FitsLimits}
 use Rattle.mw_ledger.specs.mw_stands.Events.{FollowsMachine}
-use Rattle.mw_ledger.proofs.mw_stands.CallLemmas.{by-two, by-five, serves-refused}
+use Rattle.mw_ledger.proofs.mw_stands.CallLemmas.{IfOk-from-one, IfOk-from-four, serves-refused}
 use Rattle.mw_ledger.proofs.mw_stands.LimitLemmas.{accepted-fits}
 use Rattle.mw_core.proofs.RunLemmas.{serves-no-fault, serves-planned, accepted-fresh, planned-seen, fresh-seen}
 use Rattle.mw_core.proofs.machine.Core.run.Goals as goal
@@ -24,7 +24,7 @@ returns-in-Err-clause-served c =
     let q = call.Run c.args.name c.args.op in
     let x = c.in-Err.code in
     let why = sym (ap (λ v. refusal v.table v.kept q) seen) ∙ sym c.in-Err.ensures.code in
-    by-two c.note.result (reply.Refused x) (c.note.new.self ≡ record old { log = old.log ++ item.Call q (reply.Refused x) ∷ [] }) (FollowsMachine old q None c.note.new.self) c.note.ensures.reply c.note.ensures.ok
+    IfOk-from-one c.note.result (reply.Refused x) (c.note.new.self ≡ record old { log = old.log ++ item.Call q (reply.Refused x) ∷ [] }) (FollowsMachine old q None c.note.new.self) c.note.ensures.reply c.note.ensures.ok
     (serves-refused old c.note.new.self q None x refl why)
 
 pub accept-requires-clause-fits : goal.accept-requires-clause-fits
@@ -61,7 +61,7 @@ returns-in-Ok-planned-clause-served c =
     let is : e ≡ run_submission old.table c.args.op = c.in-Ok.ensures.submission ∙ ap (λ v. run_submission v.table c.args.op) seen in
     let free = sym (ap (λ v. refusal v.table v.kept q) seen) ∙ sym c.in-Ok.ensures.code in
     let planned = planned-seen old c.store-store.result.now c.args.op e c.side-side.result u again is c.in-Ok-planned.ensures.planned in
-    by-five c.accept.result (reply.Accepted (length old.table.names)) (new.table ≡ with_entry old.table c.args.name e outcome.Pending) (new.kept ≡ old.kept ++ None ∷ [])
+    IfOk-from-four c.accept.result (reply.Accepted (length old.table.names)) (new.table ≡ with_entry old.table c.args.name e outcome.Pending) (new.kept ≡ old.kept ++ None ∷ [])
     (new.work ≡ old.work ++ Some u.progress ∷ []) (new.log ≡ old.log ++ item.Call q (reply.Accepted (length old.table.names)) ∷ []) (FollowsMachine old q None new)
     c.accept.ensures.reply c.accept.ensures.table c.accept.ensures.kept c.accept.ensures.work c.accept.ensures.log
     (λ table kept work log. serves-planned old new c.args.name c.args.op c.side-side.result u free planned c.whole.ensures.complete
@@ -85,5 +85,5 @@ returns-in-Err-Fault-clause-served c =
     let x = c.code.result in
     let never : (values : List (Option Value)) → AreValuesAt old.table old.kept values → ⊥
     = λ values at. let At : Stored → Type 0 = λ v. AreValuesAt v.table v.kept values in c.in-Err-Fault.ensures.faultless values c.in-Err-Fault.fault (subst At (sym again) at) (ap Err c.in-Err-Fault.field-0-is) in
-    by-two c.note-in-Err-Fault.result (reply.Refused x) (new ≡ record old { log = old.log ++ item.Call q (reply.Refused x) ∷ [] }) (FollowsMachine old q None new) c.note-in-Err-Fault.ensures.reply c.note-in-Err-Fault.ensures.ok
+    IfOk-from-one c.note-in-Err-Fault.result (reply.Refused x) (new ≡ record old { log = old.log ++ item.Call q (reply.Refused x) ∷ [] }) (FollowsMachine old q None new) c.note-in-Err-Fault.ensures.reply c.note-in-Err-Fault.ensures.ok
     (serves-no-fault old new c.args.name c.args.op x never)

@@ -4,7 +4,7 @@ use Rattle.mw_model.specs.declared.calls.LogItem.TheVariants as item
 use Rattle.mw_model.specs.Machine.{reply_from}
 use Rattle.mw_ledger.specs.mw_stands.Facts.{stored_of}
 use Rattle.mw_ledger.specs.mw_stands.Events.{FollowsMachine}
-use Rattle.mw_ledger.proofs.mw_stands.CallLemmas.{by-two, serves-status}
+use Rattle.mw_ledger.proofs.mw_stands.CallLemmas.{IfOk-from-one, serves-status}
 use Rattle.mw_core.proofs.machine.Core.status.Goals as goal
 
 pub returns-clause-served : goal.returns-clause-served
@@ -14,5 +14,5 @@ returns-clause-served c =
     let q = call.Status c.args.name in
     let r = c.status_reply-reply.result in
     let told = c.status_reply-reply.ensures ∙ ap (λ v. reply_from v.table v.kept q) seen in
-    by-two c.note.result r (c.note.new.self ≡ record old { log = old.log ++ item.Call q r ∷ [] }) (FollowsMachine old q None c.note.new.self) c.note.ensures.reply c.note.ensures.ok
+    IfOk-from-one c.note.result r (c.note.new.self ≡ record old { log = old.log ++ item.Call q r ∷ [] }) (FollowsMachine old q None c.note.new.self) c.note.ensures.reply c.note.ensures.ok
     (serves-status old c.note.new.self c.args.name r told)
