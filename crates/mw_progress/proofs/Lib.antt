@@ -21,4 +21,5 @@ mod Finish
 pub use Rattle.mw_pieces.proofs as mw_pieces
 pub use Rattle.mw_plan.proofs as mw_plan
 pub use Rattle.mw_task.proofs as mw_task
+pub use Rattle.mw_tile_sums.proofs as mw_tile_sums
 pub use Rattle.mw_tiles.proofs as mw_tiles

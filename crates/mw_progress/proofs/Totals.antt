@@ -5,7 +5,7 @@ use Rattle.std.proofs.lemmas.List.Sums.{sum_by-cons}
 use Rattle.mw_model.specs.Plans.{Plan, is_sum, with_number}
 use Rattle.mw_model.specs.Tasks.{nothing_planned}
 use Rattle.mw_grid.specs.Grids.{Tiling, tile_count}
-use Rattle.mw_tiles.specs.Tiles.{number_in, first_cell}
+use Rattle.mw_tile_sums.specs.Sums.{number_in, first_cell}
 use Rattle.mw_progress.specs.Levels.{Level}
 use Rattle.mw_progress.specs.ProgressView.{closed_plane, numbers_of}
 use Rattle.mw_progress.specs.Places.{shown, no_place, place_at, planes_shown}

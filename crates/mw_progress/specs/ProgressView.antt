@@ -11,7 +11,8 @@ use Rattle.mw_pixel.specs.Images.{set_of, grey_of}
 use Rattle.mw_task.specs.Products.{HoldsImage}
 use Rattle.mw_task.specs.declared.tile_result.TileResult.{TileResult}
 use Rattle.mw_task.specs.declared.tile_result.TileResult.TheVariants as made
-use Rattle.mw_tiles.specs.Tiles.{Tiled, nothing_placed, number_in}
+use Rattle.mw_tiles.specs.Tiles.{Tiled, nothing_placed}
+use Rattle.mw_tile_sums.specs.Sums.{number_in}
 use Rattle.mw_progress.specs.Levels.{Level, IsLevel, levels}
 
 -- What is known of the work under a ticket: its tasks, the level of the image that it reads, the frame with its tiles, what is kept of the plane of each step (of a Sum step the number of each tile, as its only cell), and the order in which ready tasks are handed out.

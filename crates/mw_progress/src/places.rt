@@ -3,7 +3,8 @@
 ghost use Rattle.std.specs.Prelude.{◌≡◌, ◌≢◌, ℕ, ◌<◌, ◌≤◌, true, false, Bool, None, length, map, slice_set, IfOk, OnOk};
 ghost use Rattle.mw_model.specs.Pictures.{FitsKind};
 ghost use Rattle.mw_grid.specs.Grids.{tile_count};
-ghost use Rattle.mw_tiles.specs.Tiles.{number_in, tile_cells};
+ghost use Rattle.mw_tiles.specs.Tiles.{tile_cells};
+ghost use Rattle.mw_tile_sums.specs.Sums.{number_in};
 ghost use Rattle.mw_progress.specs.Levels.{IsLevel};
 ghost use Rattle.mw_progress.specs.ProgressView.{cells_of_made, level_of_plane};
 ghost use Rattle.mw_progress.specs.Places.{shown, form, IsFormOf, placed_in, Suits};
@@ -12,7 +13,8 @@ use crate::levels::PlaneLevel;
 use mw_grid::Grid;
 use mw_model::NoMemory;
 use mw_task::TileResult;
-use mw_tiles::{Tile, TileSums, TiledPlane};
+use mw_tile_sums::TileSums;
+use mw_tiles::{Tile, TiledPlane};
 use std::alloc::Global;
 
 /// What is kept of a step's plane. Until a task of the step is started there is nothing but its level.

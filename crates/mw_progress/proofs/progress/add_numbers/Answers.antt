@@ -3,7 +3,7 @@ use Rattle.std.specs.Prelude.{vec_capacity}
 use Rattle.std.specs.Global.{Vec}
 use Rattle.std.proofs.lemmas.List.{get_or_read}
 use Rattle.mw_model.specs.Plans.{Planned, is_sum}
-use Rattle.mw_tiles.specs.Tiles.{number_in}
+use Rattle.mw_tile_sums.specs.Sums.{number_in}
 use Rattle.mw_progress.specs.ProgressView.{numbers_of}
 use Rattle.mw_progress.specs.Places.{shown, no_place, planes_shown}
 use Rattle.mw_progress.specs.declared.places.Place.{Place}

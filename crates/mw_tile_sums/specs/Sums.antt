@@ -1,5 +1,5 @@
--- What is seen of the numbers of a Sum step.
-use Rattle.std.specs.Prelude.{◌≡◌, ℕ, ◌<◌, ◌^◌, All, List, [], ◌∷◌, length, map, Option, option_map, unwrap_or}
+-- What is seen of the numbers of a Sum step, and what they add up to (own).
+use Rattle.std.specs.Prelude.{◌≡◌, ℕ, ◌<◌, ◌^◌, All, List, [], ◌∷◌, length, map, sum, Option, Some, None, option_map, slice_index, unwrap_or}
 use Rattle.mw_model.specs.declared.shapes.Kind.{Kind}
 use Rattle.mw_grid.specs.Grids.{Tiling, tile_count}
 use Rattle.mw_tiles.specs.Tiles.{Tiled}
@@ -20,3 +20,12 @@ number_or_zero o = unwrap_or o 0
 pub record HasNumbers (g : Tiling) (numbers : List (Option ℕ)) : Type 0 where
   pub count : length numbers ≡ tile_count g
   pub small : All (λ o. number_or_zero o < 2 ^ 40) numbers
+
+-- the first cell of a tile that is placed, or 0
+abbrev pub first_cell : Option (List ℕ) → ℕ
+first_cell None = 0
+first_cell (Some cells) = slice_index cells 0
+
+-- the number that the numbers of the tiles add up to
+abbrev pub number_in : Tiled → ℕ
+number_in p = sum (map first_cell p.tiles)

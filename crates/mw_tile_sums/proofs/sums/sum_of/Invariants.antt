@@ -1,6 +1,6 @@
 use Rattle.std.proofs.Common.{◌≡◌, ◌*◌, ◌^◌, ◌≤◌, take, sum_by}
-use Rattle.mw_tiles.specs.Sums.{number_or_zero}
-use Rattle.mw_tiles.proofs.sums.sum_of.Given as goal
+use Rattle.mw_tile_sums.specs.Sums.{number_or_zero}
+use Rattle.mw_tile_sums.proofs.sums.sum_of.Given as goal
 
 abbrev pub invariant-loop-number : goal.invariant-loop-number
 invariant-loop-number l = record {

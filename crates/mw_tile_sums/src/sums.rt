@@ -1,14 +1,7 @@
-//! The numbers of a Sum step, made tile by tile.
-//!
-//! ```text
-//! let mut sums = TileSums::new(alloc, Kind::Grey, 255, grid)?;
-//! sums.place(0, sum_of_the_first_tile);
-//! // once each tile is placed:
-//! let sum = sums.total();
-//! ```
+//! The numbers of tiles, each with its place before it is there, and their sum.
 
 ghost use Rattle.std.specs.Prelude.{◌≡◌, ◌<◌, ◌≤◌, ◌^◌, All, IfOk, None, length, replicate, sum_by};
-ghost use Rattle.mw_tiles.specs.Sums.{number_or_zero};
+ghost use Rattle.mw_tile_sums.specs.Sums.{number_or_zero};
 
 use mw_grid::Grid;
 use mw_model::{Kind, NoMemory};
@@ -30,7 +23,7 @@ impl Model for TileSums {
 
     ghost Value = { Tiled };
 
-    ghost use Rattle.mw_tiles.specs.Sums.{summed, HasNumbers};
+    ghost use Rattle.mw_tile_sums.specs.Sums.{summed, HasNumbers};
 
     ghost view = { λ s. summed s.kind s.maxval s.grid s.numbers.items };
 
@@ -40,7 +33,8 @@ impl Model for TileSums {
 impl TileSums {
     ghost use Rattle.std.specs.Prelude.{◌≡◌, ◌<◌, ◌^◌, [], ◌∷◌, IfOk, None, Some, slice_set};
     ghost use Rattle.mw_grid.specs.Grids.{tile_count};
-    ghost use Rattle.mw_tiles.specs.Tiles.{nothing_placed, number_in, tile_cells};
+    ghost use Rattle.mw_tiles.specs.Tiles.{nothing_placed, tile_cells};
+    ghost use Rattle.mw_tile_sums.specs.Sums.{number_in};
 
     /// No number yet, with the places for all.
     pub fn new(alloc: Global, kind: Kind, maxval: u16, grid: Grid) -> Result<TileSums, NoMemory>

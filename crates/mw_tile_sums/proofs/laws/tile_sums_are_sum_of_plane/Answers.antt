@@ -1,6 +1,6 @@
 use Rattle.std.proofs.Common.{arith}
-use Rattle.mw_tiles.proofs.TileTotals.{tiles_add_up}
-use Rattle.mw_tiles.proofs.laws.tile_sums_are_sum_of_plane.Goals as goal
+use Rattle.mw_tile_sums.proofs.TileTotals.{tiles_add_up}
+use Rattle.mw_tile_sums.proofs.laws.tile_sums_are_sum_of_plane.Goals as goal
 
 pub returns : goal.returns
 returns c = λ p f same all made picture width height.

@@ -19,7 +19,8 @@ use Rattle.mw_grid.specs.Grids.{Tiling, columns_of, rows_of, tile_count, tile_at
 use Rattle.mw_grid.proofs.Tiles.{HasTiles}
 use Rattle.mw_grid.proofs.Counts.{total, total-add, total-next}
 use Rattle.mw_pieces.proofs.TileCells.{cells_in_is}
-use Rattle.mw_tiles.specs.Tiles.{Tiled, tile_cells, AreMade, AllPlaced, first_cell, number_in}
+use Rattle.mw_tiles.specs.Tiles.{Tiled, tile_cells, AreMade, AllPlaced}
+use Rattle.mw_tile_sums.specs.Sums.{first_cell, number_in}
 
 -- ---- sums over numbers that follow one another
 
