@@ -2,3 +2,5 @@
 pub mod TileTotals
 -- the crate's own
 mod Summed
+-- what lower crates offer
+pub use Rattle.mw_pieces.proofs as mw_pieces
