@@ -97,11 +97,7 @@ fn level_of(step: &PlannedStep, input: PlaneLevel, made: &[PlaneLevel]) -> Plane
 }
 
 /// The level of each step of the plan, where it reads an image of this one.
-pub fn levels_of(
-    alloc: Global,
-    plan: &Plan,
-    input: PlaneLevel,
-) -> Result<Vec<PlaneLevel>, NoMemory>
+pub fn levels_of(alloc: Global, plan: &Plan, input: PlaneLevel) -> Result<Vec<PlaneLevel>, NoMemory>
     ensures { IfOk result (λ v. v.items ≡ levels plan.now input) }
 {
     let mut made = Vec::with_capacity(alloc, plan.len())?;

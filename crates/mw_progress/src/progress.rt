@@ -11,8 +11,8 @@ ghost use Rattle.mw_progress.specs.ProgressView.{numbers_of};
 use mw_grid::Grid;
 use mw_model::{Kind, NoMemory, Rect};
 use mw_places::{
-    Place, Plan, PlaneLevel, PlannedStep, Ready, SharedWindow, Step, TileResult, TiledPlane, closed,
-    drop_read, levels_of, needs_of, tasks_are_those_of_work,
+    Place, Plan, PlaneLevel, PlannedStep, Ready, SharedWindow, Step, TileResult, TiledPlane,
+    closed, drop_read, levels_of, needs_of, tasks_are_those_of_work,
 };
 use std::alloc::Global;
 use std::marker::Model;
