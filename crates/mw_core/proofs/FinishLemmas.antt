@@ -16,7 +16,8 @@ use Rattle.mw_model.specs.Stands.{CoreView, StandsFor, inputs_there}
 use Rattle.mw_grid.proofs.Tiles.{HasTiles}
 use Rattle.mw_task.specs.Products.{IsMade}
 use Rattle.mw_task.specs.WindowTasks.{WindowTask}
-use Rattle.mw_ledger.specs.mw_progress.ProgressView.{ProgressView, cells_of_made, plane_at}
+use Rattle.mw_ledger.specs.mw_places.MadeTiles.{cells_of_made}
+use Rattle.mw_ledger.specs.mw_progress.ProgressView.{ProgressView, plane_at}
 use Rattle.mw_ledger.specs.mw_work.Works as works
 use Rattle.mw_ledger.specs.mw_work.Works.{IsTrueWork, IsUnder, true_task}
 use Rattle.mw_ledger.proofs.mw_work.Curves.{result-curve}

@@ -13,7 +13,8 @@ use Rattle.mw_model.specs.Tasks.{nothing_planned, remaining_tasks}
 use Rattle.mw_task.specs.declared.tile_result.TileResult.{TileResult}
 use Rattle.mw_task.specs.Products.{IsMade}
 use Rattle.mw_task.specs.WindowTasks.{FitsStep, WindowTask}
-use Rattle.mw_underway.specs.mw_progress.ProgressView.{ProgressView, Fits, IsFinished, IsWhole, cells_of_made, number_of}
+use Rattle.mw_underway.specs.mw_places.MadeTiles.{cells_of_made}
+use Rattle.mw_underway.specs.mw_progress.ProgressView.{ProgressView, Fits, IsFinished, IsWhole, number_of}
 use Rattle.mw_underway.specs.mw_store.Stored.{DropsSpent}
 use Rattle.mw_underway.proofs.ResultLemmas.{result-fits}
 use Rattle.mw_ledger.specs.Books.{Book, IsOrderly, work_at}

@@ -12,7 +12,8 @@ use Rattle.mw_task.specs.declared.tile_result.TileResult.{TileResult}
 use Rattle.mw_task.specs.Products.{IsMade}
 use Rattle.mw_task.specs.WindowTasks.{WindowTask}
 use Rattle.mw_underway.specs.mw_tiles.Filled.{filled}
-use Rattle.mw_underway.specs.mw_progress.ProgressView.{ProgressView, IsFinished, IsWhole, cells_of_made, numbers_of, plane_at}
+use Rattle.mw_underway.specs.mw_places.MadeTiles.{cells_of_made}
+use Rattle.mw_underway.specs.mw_progress.ProgressView.{ProgressView, IsFinished, IsWhole, numbers_of, plane_at}
 use Rattle.mw_underway.specs.mw_store.Stored.{DropsSpent}
 use Rattle.mw_underway.specs.Results.{IsFitOf, IsFoundOf, result_number}
 use Rattle.mw_underway.specs.SourceWindows.{IsTaskOf, Takes}

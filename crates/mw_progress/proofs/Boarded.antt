@@ -6,12 +6,12 @@ use Rattle.mw_model.specs.Tasks.{Progress}
 use Rattle.mw_grid.specs.Grids.{Tiling, tile_count, tiles_of}
 use Rattle.mw_grid.proofs.Lines.{number_of as number_of_cell}
 use Rattle.mw_grid.proofs.Tiles.{length-tiles_of}
-use Rattle.mw_ready.specs.Boards.{Board, Runs, task_number, task_count, is_ready, ready_tasks}
-use Rattle.mw_ready.specs.Work.{IsBoardOf, SameTasks}
-use Rattle.mw_tiles.specs.Tiles.{Tiled}
-use Rattle.mw_progress.specs.Levels.{Level}
+use Rattle.mw_places.specs.mw_ready.Boards.{Board, Runs, task_number, task_count, is_ready, ready_tasks}
+use Rattle.mw_places.specs.mw_ready.Work.{IsBoardOf, SameTasks}
+use Rattle.mw_places.specs.mw_tiles.Tiles.{Tiled}
+use Rattle.mw_places.specs.Levels.{Level}
 use Rattle.mw_progress.specs.ProgressView.{number_of}
-use Rattle.mw_progress.specs.Places.{underway, IsBoarded}
+use Rattle.mw_progress.specs.Parts.{underway, IsBoarded}
 
 pub board_shows : (plan : Plan) (input : Level) (g : Tiling) (b : Board) (planes : List Tiled) (order : List ℕ) → IsBoarded plan g b → IsBoardOf b (underway plan input g b.started b.finished planes order).progress
 board_shows plan input g b planes order boarded = record {

@@ -8,13 +8,14 @@ use Rattle.mw_model.specs.Tasks.{flag, nothing_planned, remaining_tasks}
 use Rattle.mw_grid.specs.Grids.{Tiling, tile_count, tiles_of}
 use Rattle.mw_grid.proofs.Lines.{number_of as number_of_cell}
 use Rattle.mw_grid.proofs.Tiles.{length-tiles_of, some_tiles}
-use Rattle.mw_ready.specs.Boards.{Turns}
-use Rattle.mw_tiles.specs.Tiles.{Tiled}
-use Rattle.mw_progress.specs.Levels.{Level}
+use Rattle.mw_places.specs.mw_ready.Boards.{Turns}
+use Rattle.mw_places.specs.mw_tiles.Tiles.{Tiled}
+use Rattle.mw_places.specs.Levels.{Level}
+use Rattle.mw_places.specs.Places.{shown, form, no_place, place_at, planes_shown}
+use Rattle.mw_places.specs.declared.places.Place.{Place}
+use Rattle.mw_places.specs.declared.places.Place.TheVariants.{Closed, Plane, Sums}
 use Rattle.mw_progress.specs.ProgressView.{IsWhole, plane_at}
-use Rattle.mw_progress.specs.Places.{shown, form, no_place, place_at, planes_shown, underway_kept, IsPlaced}
-use Rattle.mw_progress.specs.declared.places.Place.{Place}
-use Rattle.mw_progress.specs.declared.places.Place.TheVariants.{Closed, Plane, Sums}
+use Rattle.mw_progress.specs.Parts.{underway_kept, IsPlaced}
 use Rattle.mw_progress.proofs.Opened.{shown_at}
 use Rattle.mw_progress.proofs.Placing.{form_most, is_plane}
 

@@ -11,12 +11,13 @@ use Rattle.mw_grid.specs.Counts.{bit}
 use Rattle.mw_grid.specs.Grids.{Tiling, tile_count, tiles_of}
 use Rattle.mw_grid.proofs.Counts.{count-more, bit-at, bit-other}
 use Rattle.mw_grid.proofs.Tiles.{length-tiles_of}
-use Rattle.mw_ready.specs.Boards.{Board, Turns, task_number}
-use Rattle.mw_ready.specs.Boards as boards
-use Rattle.mw_progress.specs.Levels.{Level}
+use Rattle.mw_places.specs.mw_ready.Boards.{Board, Turns, task_number}
+use Rattle.mw_places.specs.mw_ready.Boards as boards
+use Rattle.mw_places.specs.Levels.{Level}
+use Rattle.mw_places.specs.Places.{shown, form, IsFormOf, no_place, place_at, planes_shown, is_read}
+use Rattle.mw_places.specs.declared.places.Place.{Place}
 use Rattle.mw_progress.specs.ProgressView.{IsWhole, IsFinished, number_of, no_plane, cells_of_planes}
-use Rattle.mw_progress.specs.Places.{shown, form, IsFormOf, no_place, place_at, planes_shown, underway, underway_kept, IsBoarded, IsPlaced, is_read}
-use Rattle.mw_progress.specs.declared.places.Place.{Place}
+use Rattle.mw_progress.specs.Parts.{underway, underway_kept, IsBoarded, IsPlaced}
 use Rattle.mw_progress.proofs.Boarded.{IsTied, same_work, number_lt}
 use Rattle.mw_progress.proofs.Cells.{HasCount, all_counted, length-cells}
 use Rattle.mw_progress.proofs.Finished.{finished_with, is_read_in, Settles, finished_whole}

@@ -9,10 +9,10 @@ use Rattle.mw_model.specs.Plans.{Plan, Source, FromInput, FromStep, IsSourceAt, 
 use Rattle.mw_model.specs.Tasks.{Progress, flag, task_count, tasks_below, nothing_planned, planned_of, step_number, reads, meets, is_step, is_running, is_needed, place_of_task, tile_of_task}
 use Rattle.mw_grid.specs.Grids.{Tiling}
 use Rattle.mw_grid.proofs.Lines.{row_less}
-use Rattle.mw_tiles.specs.Tiles.{Tiled}
-use Rattle.mw_progress.specs.Levels.{Level}
-use Rattle.mw_progress.specs.ProgressView.{IsWorkable, IsPlaneSource, IsWhole, KeepsNeeded, no_plane, cells_of_planes, level_of_plane}
-use Rattle.mw_progress.specs.Places.{underway}
+use Rattle.mw_places.specs.mw_tiles.Tiles.{Tiled}
+use Rattle.mw_places.specs.Levels.{Level, level_of_plane}
+use Rattle.mw_progress.specs.ProgressView.{IsWorkable, IsPlaneSource, IsWhole, KeepsNeeded, no_plane, cells_of_planes}
+use Rattle.mw_progress.specs.Parts.{underway}
 
 -- ---- tests over the tasks
 

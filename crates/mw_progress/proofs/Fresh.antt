@@ -8,16 +8,17 @@ use Rattle.mw_model.specs.Plans.{Plan, is_sum}
 use Rattle.mw_model.specs.Tasks.{Progress, flag, nothing_planned}
 use Rattle.mw_grid.specs.Grids.{Tiling, tile_count, tiles_of}
 use Rattle.mw_grid.proofs.Tiles.{length-tiles_of}
-use Rattle.mw_tiles.specs.Tiles.{Tiled}
-use Rattle.mw_progress.specs.Levels.{Level, no_level, level_of_source, level_of_step, levels, levels_from}
-use Rattle.mw_progress.specs.ProgressView.{IsWorkable, IsFramed, IsWhole, closed_plane, cells_of_planes, level_of_plane, fresh}
-use Rattle.mw_ready.specs.declared.need.Need.{Need}
-use Rattle.mw_ready.specs.Boards.{Board, Turns, no_need}
-use Rattle.mw_ready.specs.Boards as boards
-use Rattle.mw_ready.specs.Work.{IsNeedOf}
-use Rattle.mw_progress.specs.Places.{form, IsFormOf, place_at, planes_shown, underway, underway_kept, IsBoarded, IsPlaced}
-use Rattle.mw_progress.specs.declared.places.Place.{Place}
-use Rattle.mw_progress.specs.declared.places.Place.TheVariants.{Closed}
+use Rattle.mw_places.specs.mw_tiles.Tiles.{Tiled}
+use Rattle.mw_places.specs.Levels.{Level, no_level, level_of_source, level_of_step, levels, levels_from, closed_plane, level_of_plane}
+use Rattle.mw_places.specs.Places.{form, IsFormOf, place_at, planes_shown}
+use Rattle.mw_places.specs.declared.places.Place.{Place}
+use Rattle.mw_places.specs.declared.places.Place.TheVariants.{Closed}
+use Rattle.mw_progress.specs.ProgressView.{IsWorkable, IsFramed, IsWhole, cells_of_planes, fresh}
+use Rattle.mw_places.specs.mw_ready.declared.need.Need.{Need}
+use Rattle.mw_places.specs.mw_ready.Boards.{Board, Turns, no_need}
+use Rattle.mw_places.specs.mw_ready.Boards as boards
+use Rattle.mw_places.specs.mw_ready.Work.{IsNeedOf}
+use Rattle.mw_progress.specs.Parts.{underway, underway_kept, IsBoarded, IsPlaced}
 
 abbrev no_cells : Option (List ℕ)
 no_cells = None

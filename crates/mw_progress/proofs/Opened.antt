@@ -10,13 +10,14 @@ use Rattle.mw_model.specs.Plans.{Plan, is_sum}
 use Rattle.mw_model.specs.Tasks.{nothing_planned}
 use Rattle.mw_model.specs.Tasks as tasks
 use Rattle.mw_grid.specs.Grids.{Tiling, tile_count}
-use Rattle.mw_ready.specs.Boards.{Board, Turns, task_number, task_count}
-use Rattle.mw_ready.specs.Boards as boards
-use Rattle.mw_tiles.specs.Tiles.{Tiled}
-use Rattle.mw_progress.specs.Levels.{Level, no_level, levels, IsLevel}
-use Rattle.mw_progress.specs.ProgressView.{IsWhole, IsStarted, no_plane, level_of_plane}
-use Rattle.mw_progress.specs.Places.{shown, form, IsFormOf, no_place, place_at, planes_shown, underway, underway_kept, IsBoarded, IsPlaced}
-use Rattle.mw_progress.specs.declared.places.Place.{Place}
+use Rattle.mw_places.specs.mw_ready.Boards.{Board, Turns, task_number, task_count}
+use Rattle.mw_places.specs.mw_ready.Boards as boards
+use Rattle.mw_places.specs.mw_tiles.Tiles.{Tiled}
+use Rattle.mw_places.specs.Levels.{Level, no_level, levels, IsLevel, level_of_plane}
+use Rattle.mw_places.specs.Places.{shown, form, IsFormOf, no_place, place_at, planes_shown}
+use Rattle.mw_places.specs.declared.places.Place.{Place}
+use Rattle.mw_progress.specs.ProgressView.{IsWhole, IsStarted, no_plane}
+use Rattle.mw_progress.specs.Parts.{underway, underway_kept, IsBoarded, IsPlaced}
 use Rattle.mw_progress.proofs.Fresh.{length-levels}
 use Rattle.mw_progress.proofs.Started.{started_whole}
 use Rattle.mw_progress.proofs.Boarded.{IsTied, same_work, number_lt, tiles_is}

@@ -9,14 +9,16 @@ use Rattle.mw_model.specs.Tasks.{flag, is_running, nothing_planned}
 use Rattle.mw_grid.specs.Grids.{Tiling, tile_count, tile_at, tiles_of}
 use Rattle.mw_grid.proofs.Lines.{number_of as number_of_cell}
 use Rattle.mw_grid.proofs.Tiles.{length-tiles_of}
-use Rattle.mw_ready.specs.Boards.{Turns}
-use Rattle.mw_task.specs.declared.tile_result.TileResult.{TileResult}
-use Rattle.mw_tiles.specs.Tiles.{Tiled, tile_cells}
-use Rattle.mw_progress.specs.Levels.{Level}
-use Rattle.mw_progress.specs.ProgressView.{IsWhole, IsTileFor, IsSmallNumber, Fits, no_plane, number_of}
-use Rattle.mw_progress.specs.Places.{shown, form, IsFormOf, Suits, place_at, planes_shown, underway, underway_kept, IsPlaced, Swept, SweptAll}
-use Rattle.mw_progress.specs.declared.places.Place.{Place}
-use Rattle.mw_progress.specs.declared.places.Place.TheVariants.{Closed, Plane, Sums}
+use Rattle.mw_places.specs.mw_ready.Boards.{Turns}
+use Rattle.mw_places.specs.mw_task.declared.tile_result.TileResult.{TileResult}
+use Rattle.mw_places.specs.mw_tiles.Tiles.{Tiled, tile_cells}
+use Rattle.mw_places.specs.Levels.{Level}
+use Rattle.mw_places.specs.MadeTiles.{IsTileFor, IsSmallNumber}
+use Rattle.mw_places.specs.Places.{shown, form, IsFormOf, Suits, place_at, planes_shown, Swept, SweptAll}
+use Rattle.mw_places.specs.declared.places.Place.{Place}
+use Rattle.mw_places.specs.declared.places.Place.TheVariants.{Closed, Plane, Sums}
+use Rattle.mw_progress.specs.ProgressView.{IsWhole, Fits, no_plane, number_of}
+use Rattle.mw_progress.specs.Parts.{underway, underway_kept, IsPlaced}
 use Rattle.mw_progress.proofs.Cells.{HasCount, all_counted, cells_at}
 use Rattle.mw_progress.proofs.Opened.{shown_at}
 

@@ -12,18 +12,18 @@ use Rattle.mw_model.specs.Tasks.{Progress, flag, meets, is_needed, is_step, noth
 use Rattle.mw_model.specs.Tasks as tasks
 use Rattle.mw_grid.specs.Grids.{Tiling, tile_count, tile_at, tiles_of}
 use Rattle.mw_grid.specs.Blocks.{sees}
-use Rattle.mw_grid.proofs.Lines.{row_less}
-use Rattle.mw_grid.proofs.Lines.{number_of as number_of_cell}
+use Rattle.mw_grid.proofs.Lines.{row_less, number_of as number_of_cell}
 use Rattle.mw_grid.proofs.Tiles.{length-tiles_of}
-use Rattle.mw_ready.specs.declared.need.Need.{Need}
-use Rattle.mw_ready.specs.Boards.{Board, Turns, step_reads, no_need, task_number}
-use Rattle.mw_ready.specs.Boards as boards
-use Rattle.mw_ready.specs.Work.{SameTasks}
-use Rattle.mw_tiles.specs.Tiles.{Tiled}
-use Rattle.mw_progress.specs.Levels.{Level, no_level}
-use Rattle.mw_progress.specs.ProgressView.{IsWhole, number_of, no_plane, cells_of_planes, level_of_plane}
-use Rattle.mw_progress.specs.Places.{shown, form, IsFormOf, place_at, planes_shown, underway, underway_kept, IsBoarded, IsPlaced, Swept, SweptAll, is_read, placed_in}
-use Rattle.mw_progress.specs.declared.places.Place.{Place}
+use Rattle.mw_places.specs.mw_ready.declared.need.Need.{Need}
+use Rattle.mw_places.specs.mw_ready.Boards.{Board, Turns, step_reads, no_need, task_number}
+use Rattle.mw_places.specs.mw_ready.Boards as boards
+use Rattle.mw_places.specs.mw_ready.Work.{SameTasks}
+use Rattle.mw_places.specs.mw_tiles.Tiles.{Tiled}
+use Rattle.mw_places.specs.Levels.{Level, no_level, level_of_plane}
+use Rattle.mw_places.specs.Places.{shown, form, IsFormOf, place_at, planes_shown, Swept, SweptAll, is_read, placed_in}
+use Rattle.mw_places.specs.declared.places.Place.{Place}
+use Rattle.mw_progress.specs.ProgressView.{IsWhole, number_of, no_plane, cells_of_planes}
+use Rattle.mw_progress.specs.Parts.{underway, underway_kept, IsBoarded, IsPlaced}
 use Rattle.mw_progress.proofs.Boarded.{IsTied, same_work}
 use Rattle.mw_progress.proofs.Cells.{HasCount, all_counted, cells_at, cells_of_task}
 use Rattle.mw_progress.proofs.Opened.{shown_at}

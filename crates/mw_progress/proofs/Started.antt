@@ -5,10 +5,10 @@ use Rattle.std.proofs.lemmas.List.{length-set, get_or-set_other}
 use Rattle.mw_model.specs.Plans.{Plan}
 use Rattle.mw_model.specs.Tasks.{flag, is_ready}
 use Rattle.mw_grid.specs.Grids.{Tiling}
-use Rattle.mw_tiles.specs.Tiles.{Tiled}
-use Rattle.mw_progress.specs.Levels.{Level}
+use Rattle.mw_places.specs.mw_tiles.Tiles.{Tiled}
+use Rattle.mw_places.specs.Levels.{Level}
 use Rattle.mw_progress.specs.ProgressView.{IsWhole, has_all_read}
-use Rattle.mw_progress.specs.Places.{underway}
+use Rattle.mw_progress.specs.Parts.{underway}
 use Rattle.mw_progress.proofs.Flags.{flag-set}
 
 pub started_whole : (plan : Plan) (input : Level) (g : Tiling) (started finished : List Bool) (planes : List Tiled) (order now : List ℕ) (n : ℕ) → IsWhole (underway plan input g started finished planes order)

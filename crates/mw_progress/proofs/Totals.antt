@@ -1,25 +1,13 @@
 -- The numbers of the steps that sum up.
-use Rattle.std.proofs.Common.{◌≡◌, ℕ, zero, suc, ◌+◌, ◌<◌, Bool, true, false, List, [], ◌∷◌, ◌++◌, length, map, drop, get_or, replicate, Option, None, sum, refl, sym, ap, ◌∙◌, arith}
+use Rattle.std.proofs.Common.{◌≡◌, ℕ, ◌+◌, ◌<◌, Bool, true, false, List, [], ◌∷◌, ◌++◌, length, drop, get_or, sym, ap, ◌∙◌, arith}
 use Rattle.std.proofs.lemmas.List.{drop_more, append_assoc}
-use Rattle.std.proofs.lemmas.List.Sums.{sum_by-cons}
 use Rattle.mw_model.specs.Plans.{Plan, is_sum, with_number}
 use Rattle.mw_model.specs.Tasks.{nothing_planned}
-use Rattle.mw_grid.specs.Grids.{Tiling, tile_count}
-use Rattle.mw_tiles.specs.Tiles.{number_in, first_cell}
-use Rattle.mw_progress.specs.Levels.{Level}
-use Rattle.mw_progress.specs.ProgressView.{closed_plane, numbers_of}
-use Rattle.mw_progress.specs.Places.{shown, no_place, place_at, planes_shown}
-use Rattle.mw_progress.specs.declared.places.Place.{Place}
-
-no_sum : (n : ℕ) (o : Option (List ℕ)) → o ≡ None → sum (map first_cell (replicate n o)) ≡ 0
-no_sum zero o e = refl
-no_sum (suc n) o e = sum_by-cons (λ (x : ℕ). x) (first_cell o) (map first_cell (replicate n o)) ∙ none (first_cell o) (sum (map first_cell (replicate n o))) (ap first_cell e) (no_sum n o e)
-  where
-    none : (x y : ℕ) → x ≡ 0 → y ≡ 0 → x + y ≡ 0
-    none x y ex ey = omega arith
-
-pub number_closed : (g : Tiling) (l : Level) → number_in (closed_plane g l) ≡ 0
-number_closed g l = no_sum (tile_count g) None refl
+use Rattle.mw_grid.specs.Grids.{Tiling}
+use Rattle.mw_places.specs.mw_tile_sums.Sums.{number_in}
+use Rattle.mw_places.specs.Places.{shown, no_place, place_at, planes_shown}
+use Rattle.mw_places.specs.declared.places.Place.{Place}
+use Rattle.mw_progress.specs.ProgressView.{numbers_of}
 
 -- one step more
 pub numbers_more : (plan : Plan) (g : Tiling) (places : List Place) (k : ℕ) → k < length plan → length plan ≡ length places

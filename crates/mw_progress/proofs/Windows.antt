@@ -9,13 +9,14 @@ use Rattle.mw_model.specs.Plans.{Plan, is_sum}
 use Rattle.mw_model.specs.Tasks.{nothing_planned}
 use Rattle.mw_grid.specs.Grids.{Tiling, tile_count, tile_at}
 use Rattle.mw_grid.proofs.Tiles.{HasTiles, cover_once, length-tiles_of, tile_of-tiles_of}
-use Rattle.mw_ready.specs.Boards.{Turns}
-use Rattle.mw_tiles.specs.Tiles.{Tiled, HasAll, tile_cells}
-use Rattle.mw_progress.specs.Levels.{Level}
-use Rattle.mw_progress.specs.ProgressView.{ProgressView, IsFramed, IsWhole, plane_at, closed_plane}
-use Rattle.mw_progress.specs.Places.{shown, form, IsFormOf, no_place, place_at, planes_shown, underway_kept, IsPlaced}
-use Rattle.mw_progress.specs.declared.places.Place.{Place}
-use Rattle.mw_progress.specs.declared.places.Place.TheVariants.{Closed, Plane, Sums}
+use Rattle.mw_places.specs.mw_ready.Boards.{Turns}
+use Rattle.mw_places.specs.mw_tiles.Tiles.{Tiled, HasAll, tile_cells}
+use Rattle.mw_places.specs.Levels.{Level, closed_plane}
+use Rattle.mw_places.specs.Places.{shown, form, IsFormOf, no_place, place_at, planes_shown}
+use Rattle.mw_places.specs.declared.places.Place.{Place}
+use Rattle.mw_places.specs.declared.places.Place.TheVariants.{Closed, Plane, Sums}
+use Rattle.mw_progress.specs.ProgressView.{ProgressView, IsFramed, IsWhole, plane_at}
+use Rattle.mw_progress.specs.Parts.{underway_kept, IsPlaced}
 use Rattle.mw_progress.proofs.Opened.{shown_at}
 
 -- a rectangle of the plane of a step, all of which is placed

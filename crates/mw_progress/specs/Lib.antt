@@ -1,7 +1,8 @@
-pub mod Levels
 pub mod ProgressView
-pub mod Places
+pub mod Parts
 -- what lower crates offer
-pub use Rattle.mw_plan.specs as mw_plan
-pub use Rattle.mw_task.specs as mw_task
-pub use Rattle.mw_tiles.specs as mw_tiles
+pub use Rattle.mw_places.specs as mw_places
+pub use Rattle.mw_places.specs.mw_plan as mw_plan
+pub use Rattle.mw_places.specs.mw_task as mw_task
+pub use Rattle.mw_places.specs.mw_tile_sums as mw_tile_sums
+pub use Rattle.mw_places.specs.mw_tiles as mw_tiles

@@ -1,18 +1,15 @@
 -- The work under a ticket: its tasks, and the tiles that are kept of each step (own).
-use Rattle.std.specs.Prelude.{ℕ, ◌≡◌, ◌+◌, ◌*◌, ◌<◌, ◌≤◌, ◌^◌, ◌⊎◌, ◌↔◌, Bool, true, false, not, ◌||◌, List, [], ◌∷◌, length, map, flat_map, replicate, slice_index_or, slice_set, Option, Some, None, IsSome, All}
-use Rattle.std.specs.Arc.{arc_value}
+use Rattle.std.specs.Prelude.{ℕ, ◌≡◌, ◌+◌, ◌*◌, ◌<◌, ◌≤◌, ◌⊎◌, ◌↔◌, Bool, true, false, not, ◌||◌, List, [], ◌∷◌, length, map, flat_map, replicate, slice_index_or, slice_set, Option, Some, None, IsSome}
 use Rattle.std.specs.List.{AllByRecursion, list_all}
 use Rattle.mw_model.specs.declared.shapes.Kind.TheVariants as kind
-use Rattle.mw_model.specs.Pictures.{Picture}
-use Rattle.mw_model.specs.Plans.{Plan, Source, FromStep, IsSourceAt, is_sum, no_picture, with_number}
+use Rattle.mw_model.specs.Plans.{Plan, Source, FromStep, IsSourceAt, is_sum, with_number}
 use Rattle.mw_model.specs.Tasks.{Progress, flag, task_count, tasks_below, nothing_planned, reads, is_needed, remaining_tasks}
-use Rattle.mw_grid.specs.Grids.{Tiling, tile_at, tile_count, tiles_of}
-use Rattle.mw_pixel.specs.Images.{set_of, grey_of}
-use Rattle.mw_task.specs.Products.{HoldsImage}
-use Rattle.mw_task.specs.declared.tile_result.TileResult.{TileResult}
-use Rattle.mw_task.specs.declared.tile_result.TileResult.TheVariants as made
-use Rattle.mw_tiles.specs.Tiles.{Tiled, nothing_placed, number_in}
-use Rattle.mw_progress.specs.Levels.{Level, IsLevel, levels}
+use Rattle.mw_grid.specs.Grids.{Tiling, tile_count, tiles_of}
+use Rattle.mw_places.specs.mw_task.declared.tile_result.TileResult.{TileResult}
+use Rattle.mw_places.specs.mw_tiles.Tiles.{Tiled, nothing_placed}
+use Rattle.mw_places.specs.mw_tile_sums.Sums.{number_in}
+use Rattle.mw_places.specs.Levels.{Level, IsLevel, level_of_plane, levels}
+use Rattle.mw_places.specs.MadeTiles.{IsTileFor, IsSmallNumber}
 
 -- What is known of the work under a ticket: its tasks, the level of the image that it reads, the frame with its tiles, what is kept of the plane of each step (of a Sum step the number of each tile, as its only cell), and the order in which ready tasks are handed out.
 pub record ProgressView : Type 0 where
@@ -51,17 +48,9 @@ no_plane g = nothing_placed kind.Bit 0 g
 abbrev pub plane_at : ProgressView → ℕ → Tiled
 plane_at u k = slice_index_or u.planes k (no_plane u.tiling)
 
--- the plane of a step of which no tile is placed
-abbrev pub closed_plane : Tiling → Level → Tiled
-closed_plane g l = nothing_placed l.kind l.maxval g
-
 -- what is kept of the planes, task by task
 abbrev pub cells_of_planes : List Tiled → List (Option (List ℕ))
 cells_of_planes planes = flat_map (λ (p : Tiled). p.tiles) planes
-
--- the level of a plane
-abbrev pub level_of_plane : Tiled → Level
-level_of_plane p = record { kind = p.kind; maxval = p.maxval }
 
 -- what a finished task made is kept exactly while it is needed
 abbrev pub KeepsNeeded : Progress → Type 0
@@ -111,33 +100,6 @@ fresh plan input g = record {
 }
 
 -- ---- what tasks make
-
--- the image that was made of a tile
-abbrev pub image_of_made : TileResult → Picture
-image_of_made (made.Bits p) = set_of (arc_value p)
-image_of_made (made.Grey8 p maxval) = grey_of (arc_value p) maxval
-image_of_made (made.Grey16 p maxval) = grey_of (arc_value p) maxval
-image_of_made (made.Number n) = no_picture
-
--- its samples; or the number, alone
-abbrev pub cells_of_made : TileResult → List ℕ
-cells_of_made (made.Number n) = n ∷ []
-cells_of_made m = (image_of_made m).samples
-
--- the image may be placed in this tile of the plane: it has the plane's kind and maxval and the sides of the tile, and no sample is over the maxval
-pub record IsTileFor (p : Tiled) (i : ℕ) (m : TileResult) : Type 0 where
-  pub held : HoldsImage (image_of_made m) m
-  pub bounded : All (λ n. n ≤ (image_of_made m).maxval) (image_of_made m).samples
-  pub kind : (image_of_made m).kind ≡ p.kind
-  pub maxval : (image_of_made m).maxval ≡ p.maxval
-  pub width : (image_of_made m).width ≡ (tile_at p.tiling i).width
-  pub height : (image_of_made m).height ≡ (tile_at p.tiling i).height
-
--- what was made is a number of less than 2 to the 40, the sum of a tile
-pub record IsSmallNumber (m : TileResult) : Type 0 where
-  pub number : ℕ
-  pub is : m ≡ made.Number number
-  pub small : number < 2 ^ 40
 
 -- what was made fits the step and the tile
 pub record Fits (u : ProgressView) (step tile : ℕ) (m : TileResult) : Type 0 where

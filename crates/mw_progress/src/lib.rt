@@ -16,16 +16,9 @@
 //! that reads it is finished.
 #![tactic(auto)]
 
-mod dropping;
-mod levels;
-mod needs;
-mod places;
 mod progress;
 
 pub use mw_grid::Grid;
 pub use mw_model::{Kind, NoMemory, Rect};
-pub use mw_pieces::SharedWindow;
-pub use mw_plan::{Plan, PlannedStep};
-pub use mw_task::TileResult;
-pub use mw_tiles::{TiledPlane, WholePlane};
+pub use mw_places::{Plan, PlannedStep, SharedWindow, TileResult, TiledPlane, WholePlane};
 pub use progress::PlanProgress;

@@ -4,21 +4,16 @@ ghost use Rattle.std.specs.Prelude.{◌≡◌, ℕ, ◌+◌, ◌<◌, ◌≤◌,
 ghost use Rattle.mw_model.specs.Plans.{is_sum};
 ghost use Rattle.mw_model.specs.Tasks.{nothing_planned};
 ghost use Rattle.mw_grid.specs.Grids.{tile_count};
-ghost use Rattle.mw_task.specs.Meanings.{meaning};
+ghost use Rattle.mw_places.specs.mw_task.Meanings.{meaning};
+ghost use Rattle.mw_places.specs.Places.{is_read, form, IsFormOf, place_at, planes_shown};
 ghost use Rattle.mw_progress.specs.ProgressView.{numbers_of};
-ghost use Rattle.mw_progress.specs.Places.{is_read, form, IsFormOf, place_at, planes_shown};
 
-use crate::dropping::drop_read;
-use crate::levels::{PlaneLevel, levels_of};
-use crate::needs::needs_of;
-use crate::places::{Place, closed};
 use mw_grid::Grid;
 use mw_model::{Kind, NoMemory, Rect};
-use mw_pieces::SharedWindow;
-use mw_plan::{Plan, PlannedStep};
-use mw_ready::{Ready, tasks_are_those_of_work};
-use mw_task::{Step, TileResult};
-use mw_tiles::TiledPlane;
+use mw_places::{
+    Place, Plan, PlaneLevel, PlannedStep, Ready, SharedWindow, Step, TileResult, TiledPlane,
+    closed, drop_read, levels_of, needs_of, tasks_are_those_of_work,
+};
 use std::alloc::Global;
 use std::marker::Model;
 
@@ -39,7 +34,7 @@ impl Model for PlanProgress {
 
     ghost Value = { ProgressView };
 
-    ghost use Rattle.mw_progress.specs.Places.{underway_kept, IsBoarded, IsPlaced};
+    ghost use Rattle.mw_progress.specs.Parts.{underway_kept, IsBoarded, IsPlaced};
 
     ghost view = { λ a. underway_kept a.plan a.input a.grid a.ready a.places.items };
 
@@ -96,11 +91,12 @@ impl PlanProgress {
     ghost use Rattle.mw_model.specs.Places.{IsWithin};
     ghost use Rattle.mw_model.specs.Tasks.{nothing_planned, is_ready, is_running, ready_tasks, running_tasks, remaining_tasks};
     ghost use Rattle.mw_tile.specs.Windows.{window_of};
-    ghost use Rattle.mw_task.specs.WindowTasks.{IsBounded};
-    ghost use Rattle.mw_tiles.specs.Tiles.{HasAll, IsPlaneOf, nothing_placed};
-    ghost use Rattle.mw_plan.specs.Seen.{planned};
-    ghost use Rattle.mw_progress.specs.Levels.{levels};
-    ghost use Rattle.mw_progress.specs.ProgressView.{IsWorkable, IsWhole, IsStarted, IsFinished, Fits, cells_of_made, fresh, number_of, numbers_of, plane_at, closed_plane};
+    ghost use Rattle.mw_places.specs.mw_task.WindowTasks.{IsBounded};
+    ghost use Rattle.mw_places.specs.mw_tiles.Tiles.{HasAll, IsPlaneOf, nothing_placed};
+    ghost use Rattle.mw_places.specs.mw_plan.Seen.{planned};
+    ghost use Rattle.mw_places.specs.Levels.{levels, closed_plane};
+    ghost use Rattle.mw_places.specs.MadeTiles.{cells_of_made};
+    ghost use Rattle.mw_progress.specs.ProgressView.{IsWorkable, IsWhole, IsStarted, IsFinished, Fits, fresh, number_of, numbers_of, plane_at};
 
     /// The work of a plan that reads one image of this kind and maxval, on a frame of the grid. Nothing of it was started.
     ///

@@ -9,5 +9,6 @@ pub mod Turns
 -- what lower crates offer
 pub use Rattle.mw_store.specs as mw_store
 pub use Rattle.mw_work.specs as mw_work
+pub use Rattle.mw_work.specs.mw_places as mw_places
 pub use Rattle.mw_work.specs.mw_progress as mw_progress
 pub use Rattle.mw_work.specs.mw_tiles as mw_tiles

@@ -1,10 +1,9 @@
 -- what other crates may cite
 pub mod Made
-pub mod TileTotals
+pub mod Sides
 -- the crate's own
 mod Filled
 mod Numbers
-mod Sides
 mod Joined
 mod Compared
 mod Whole

@@ -8,19 +8,18 @@ use Rattle.mw_grid.specs.Grids.{Tiling, tile_count, tile_at}
 use Rattle.mw_model.specs.declared.shapes.Kind.{Kind}
 use Rattle.mw_model.specs.declared.shapes.Kind.TheVariants as kind
 use Rattle.mw_model.specs.Pictures.{FitsKind}
-use Rattle.std.proofs.lemmas.List.{length-replicate, length-set, map-set, take_at}
+use Rattle.std.proofs.lemmas.List.{length-replicate, length-set, take_at}
 use Rattle.std.proofs.lemmas.Option.{same_Some}
 use Rattle.mw_facts.proofs.Elements.{get_or-replicate_same}
 use Rattle.mw_tiles.specs.Tiles.{Tiled, nothing_placed, cells_of, tile_cells, cells_in_raster, StandsIn, HasSides, HasSizes, AreBounded, IsSound}
 use Rattle.mw_grid.proofs.Tiles.{HasTiles}
 use Rattle.mw_tiles.specs.Held.{tiled, tiled_held, image_of_tile, IsHeld}
-use Rattle.mw_tiles.specs.Sums.{alone, summed}
 use Rattle.mw_tiles.specs.declared.tile.Tile.{Tile}
 use Rattle.mw_tiles.specs.declared.plane.Samples.{Samples}
 use Rattle.mw_tiles.specs.declared.plane.Samples.TheVariants.{Bits, Grey8, Grey16}
 
 -- a plane of these cells
-abbrev with_cells : Kind → ℕ → Tiling → List (Option (List ℕ)) → Tiled
+abbrev pub with_cells : Kind → ℕ → Tiling → List (Option (List ℕ)) → Tiled
 with_cells k maxval g cells = record { kind = k; maxval = maxval; tiling = g; tiles = cells }
 
 -- the cells of a tile that is placed
@@ -122,13 +121,3 @@ held_write level n i g old new o n-is had has new-is fits before =
 -- the samples of a tile that may be placed
 pub bounded_tile : (t : Tile) (level : ℕ) (cells : List ℕ) → All (λ s. s ≤ (image_of_tile t).maxval) (image_of_tile t).samples → (image_of_tile t).samples ≡ cells → (image_of_tile t).maxval ≡ level → All (λ n. n ≤ level) cells
 bounded_tile t level cells all cells-is level-is = subst (λ (m : ℕ). All (λ n. n ≤ m) cells) level-is (subst (λ (c : List ℕ). All (λ n. n ≤ (image_of_tile t).maxval) c) cells-is all)
-
--- numbers without any, and after one was written
-pub summed_none : (k : Kind) (maxval n : ℕ) (g : Tiling) (numbers : List (Option ℕ)) → numbers ≡ replicate n None → n ≡ tile_count g → summed k maxval g numbers ≡ nothing_placed k maxval g
-summed_none k maxval n g numbers numbers-is n-is =
-    ap (λ (t : List (Option (List ℕ))). with_cells k maxval g t) (ap (λ (t : List (Option ℕ)). map (option_map alone) t) numbers-is ∙ map_replicate (option_map alone) n None ∙ ap (λ (m : ℕ). replicate m None) n-is)
-
-pub summed_set : (k : Kind) (maxval i n : ℕ) (g : Tiling) (numbers : List (Option ℕ)) (p : Tiled) → summed k maxval g numbers ≡ p → summed k maxval g (set numbers i (Some n)) ≡ record p { tiles = set p.tiles i (Some (n ∷ [])) }
-summed_set k maxval i n g numbers p view =
-    subst (λ (q : Tiled). summed k maxval g (set numbers i (Some n)) ≡ record q { tiles = set q.tiles i (Some (n ∷ [])) }) view
-    (ap (λ (t : List (Option (List ℕ))). with_cells k maxval g t) (map-set (option_map alone) numbers i (Some n)))

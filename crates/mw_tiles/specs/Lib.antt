@@ -1,5 +1,4 @@
 pub mod Tiles
 pub mod Held
-pub mod Sums
 pub mod Filled
 pub mod Shares

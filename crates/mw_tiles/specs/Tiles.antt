@@ -1,5 +1,5 @@
 -- Planes that are made tile by tile: what is placed of one, and of which whole planes that is a part (own).
-use Rattle.std.specs.Prelude.{◌≡◌, ℕ, ◌+◌, ◌*◌, ◌<◌, ◌≤◌, ◌++◌, All, List, length, map, sum, replicate, Option, Some, None, IsSome, option_map, slice_get, slice_index, slice_index_or}
+use Rattle.std.specs.Prelude.{◌≡◌, ℕ, ◌+◌, ◌*◌, ◌<◌, ◌≤◌, ◌++◌, All, List, length, map, replicate, Option, Some, None, IsSome, option_map, slice_get, slice_index_or}
 use Rattle.mw_model.specs.declared.places.Rect.{Rect}
 use Rattle.mw_model.specs.declared.shapes.Kind.{Kind}
 use Rattle.mw_model.specs.Places.{Holds}
@@ -110,12 +110,3 @@ pub record HasRowMore {A : Type 0} (g : Tiling) (tiles : List (Option (List A)))
 pub record HasFirstRows {A : Type 0} (g : Tiling) (tiles : List (Option (List A))) (r : Rect) (y : ℕ) (cells : List A) : Type 0 where
   pub size : length cells ≡ y * r.width
   pub shows : (f : Raster A) → ShowsTiles g tiles f → (i j : ℕ) → i < r.width → j < y → slice_get cells (j * r.width + i) ≡ slice_get f.cells ((r.y + j) * f.width + (r.x + i))
-
--- the first cell of a tile that is placed, or 0
-abbrev pub first_cell : Option (List ℕ) → ℕ
-first_cell None = 0
-first_cell (Some cells) = slice_index cells 0
-
--- the number that the numbers of the tiles add up to
-abbrev pub number_in : Tiled → ℕ
-number_in p = sum (map first_cell p.tiles)

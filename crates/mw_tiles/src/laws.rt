@@ -1,10 +1,10 @@
 //! Why a step's plane may be made tile by tile. Each function is a law, and does nothing.
 
-ghost use Rattle.std.specs.Prelude.{◌≡◌, List, [], ◌∷◌, false, sum};
+ghost use Rattle.std.specs.Prelude.{◌≡◌, List, false};
 ghost use Rattle.mw_model.specs.Pictures.{IsPicture, Picture};
 ghost use Rattle.mw_model.specs.Plans.{is_sum, plane_of};
-ghost use Rattle.mw_model.specs.PlanSteps.{PlanStep, Sum};
-ghost use Rattle.mw_tiles.specs.Tiles.{AllPlaced, AreMade, IsPlaneOf, number_in, Tiled};
+ghost use Rattle.mw_model.specs.PlanSteps.{PlanStep};
+ghost use Rattle.mw_tiles.specs.Tiles.{AreMade, IsPlaneOf, Tiled};
 
 use crate::TiledPlane;
 use mw_grid::Grid;
@@ -12,16 +12,6 @@ use mw_grid::Grid;
 /// Tiles that are each what a step makes there of the whole planes of its sources are parts of the step's plane.
 pub fn tiles_are_plane(grid: Grid)
     ensures { (p : Tiled) (s : PlanStep) (sources : List Picture) → p.tiling ≡ grid → is_sum s ≡ false → (plane_of s sources grid.width grid.height).kind ≡ p.kind → (plane_of s sources grid.width grid.height).maxval ≡ p.maxval → AreMade s sources p → IsPlaneOf p (plane_of s sources grid.width grid.height) }
-{
-    let _width = grid.width();
-    let _height = grid.height();
-    let _side = grid.side();
-}
-
-/// Where every tile has its number, and each is what a Sum step makes there of an image, the numbers add up to that of the
-/// image.
-pub fn tile_sums_are_sum_of_plane(grid: Grid)
-    ensures { (p : Tiled) (f : Picture) → p.tiling ≡ grid → AllPlaced p → AreMade Sum (f ∷ []) p → IsPicture f → f.width ≡ grid.width → f.height ≡ grid.height → number_in p ≡ sum f.samples }
 {
     let _width = grid.width();
     let _height = grid.height();

@@ -19,13 +19,11 @@ mod rows;
 mod shares;
 mod shown;
 mod slots;
-mod sums;
 mod tile;
 
-pub use laws::{plane_is_of_an_image, tile_sums_are_sum_of_plane, tiles_are_plane};
+pub use laws::{plane_is_of_an_image, tiles_are_plane};
 pub use mw_grid::Grid;
 pub use mw_model::{Kind, NoMemory, Rect};
 pub use plane::TiledPlane;
 pub use shown::WholePlane;
-pub use sums::TileSums;
 pub use tile::Tile;

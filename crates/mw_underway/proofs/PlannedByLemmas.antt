@@ -22,7 +22,7 @@ use Rattle.mw_plan.specs.Asked.{IsRefusedBy, fault_in, shape_made}
 use Rattle.mw_plan.specs.PlansOf.{IsPlanOf}
 use Rattle.mw_plan.specs.Tables.{AreInputsOf, AreValuesAt, IsInputOf}
 use Rattle.mw_plan.proofs.Accepted.{accepted_faultless}
-use Rattle.mw_stands.specs.mw_progress.Levels.{Level}
+use Rattle.mw_stands.specs.mw_places.Levels.{Level}
 use Rattle.mw_stands.specs.mw_progress.ProgressView.{IsWhole, IsWorkable, ProgressView, fresh}
 use Rattle.mw_stands.specs.Limits.{ShapesFit}
 use Rattle.mw_underway.specs.SourceWindows.{IsInput}

@@ -28,8 +28,8 @@ use Rattle.mw_task.specs.WindowTasks.{FitsStep, IsBounded, WindowTask, tile_made
 use Rattle.mw_task.proofs.Cut.{window_bounded_cut}
 use Rattle.mw_plan.specs.PlansOf.{planes_read}
 use Rattle.mw_plan.proofs.Planes.{plane_is}
-use Rattle.mw_stands.specs.mw_progress.Levels.{Level, level_of, level_of_source, level_of_step, levels, no_level}
-use Rattle.mw_stands.specs.mw_progress.ProgressView.{Fits, IsWhole, ProgressView, level_of_plane, number_of, plane_at}
+use Rattle.mw_stands.specs.mw_places.Levels.{Level, level_of, level_of_source, level_of_step, levels, no_level, level_of_plane}
+use Rattle.mw_stands.specs.mw_progress.ProgressView.{Fits, IsWhole, ProgressView, number_of, plane_at}
 use Rattle.mw_stands.specs.mw_work.Works.{true_task}
 use Rattle.mw_stands.proofs.mw_work.Going.{true-under}
 use Rattle.mw_stands.proofs.mw_work.Leveled.{get_or-map-level_of, level_of-plane_of, levels-planes}

@@ -15,7 +15,7 @@ use Rattle.mw_model.proofs.ImageLaws.{drawn_picture}
 use Rattle.mw_plan.specs.PlansOf.{AreValuesOf, CanBeMade, HaveFrame, IsPlanOf, IsValueOf, inputs_taken, planes_read}
 use Rattle.mw_plan.specs.declared.inputs.Input.{Input}
 use Rattle.mw_plan.specs.declared.inputs.Input.TheVariants as input
-use Rattle.mw_stands.specs.mw_progress.Levels.{Level, level_of}
+use Rattle.mw_stands.specs.mw_places.Levels.{Level, level_of}
 use Rattle.mw_stands.specs.mw_progress.ProgressView.{IsWorkable}
 use Rattle.mw_stands.proofs.mw_work.Fresh.{only-image}
 use Rattle.mw_stands.proofs.mw_work.Workable.{IsOnImage, levels-fit}

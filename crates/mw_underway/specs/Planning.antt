@@ -12,7 +12,7 @@ use Rattle.mw_model.specs.Refusals.{Table, submission_at, is_image, inputs_wante
 use Rattle.mw_model.specs.Machine.{inputs_from}
 use Rattle.mw_model.specs.Tasks.{nothing_planned}
 use Rattle.mw_task.specs.WindowTasks.{source_count}
-use Rattle.mw_stands.specs.mw_progress.Levels.{Level, no_level, level_of_source, levels}
+use Rattle.mw_stands.specs.mw_places.Levels.{Level, no_level, level_of_source, levels}
 use Rattle.mw_stands.specs.mw_progress.ProgressView.{ProgressView, IsWhole, fresh}
 use Rattle.mw_plan.specs.PlansOf.{IsPlanOf}
 use Rattle.mw_plan.specs.Tables.{AreInputsOf, IsInputOf}

@@ -8,7 +8,7 @@ ghost use Rattle.mw_model.specs.Values.{image_of, value_at};
 ghost use Rattle.mw_plan.specs.Seen.{source, sources};
 ghost use Rattle.mw_task.specs.WindowTasks.{IsBounded};
 ghost use Rattle.mw_tile.specs.Windows.{window_of};
-ghost use Rattle.mw_stands.specs.mw_progress.Levels.{level_of_source, levels, no_level};
+ghost use Rattle.mw_stands.specs.mw_places.Levels.{level_of_source, levels, no_level};
 ghost use Rattle.mw_underway.specs.SourceWindows.{AreSources, CanRead, CanReadAll, IsOfWork, IsSource};
 ghost use Rattle.mw_underway.specs.Results.{AreShown, HasLevel, IsFitOf, IsFoundOf, IsOfRunning, IsResultOf, IsShown, level_of_window};
 

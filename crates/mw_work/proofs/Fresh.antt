@@ -23,7 +23,7 @@ use Rattle.mw_progress.specs.mw_plan.Asked.{is_image_input}
 use Rattle.mw_progress.specs.mw_plan.PlansOf.{AreValuesOf, HaveFrame, inputs_taken}
 use Rattle.mw_progress.specs.mw_plan.declared.inputs.Input.{Input}
 use Rattle.mw_progress.specs.mw_plan.declared.inputs.Input.TheVariants as input
-use Rattle.mw_progress.specs.Levels.{Level}
+use Rattle.mw_progress.specs.mw_places.Levels.{Level}
 use Rattle.mw_progress.specs.ProgressView.{IsFramed, fresh}
 use Rattle.mw_work.specs.Works.{IsAccepted}
 use Rattle.mw_work.proofs.Numbers.{has-tiles, some-tiles}

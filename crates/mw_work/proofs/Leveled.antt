@@ -6,7 +6,7 @@ use Rattle.mw_model.specs.Pictures.{Picture}
 use Rattle.mw_model.specs.PlanSteps.{PlanStep, kind_of_step, maxval_of_step}
 use Rattle.mw_model.specs.Plans.{Plan, Planned, Source, FromInput, FromStep, IsSourceAt, no_picture, plane_of, plane_of_source, planes, planes_from}
 use Rattle.mw_model.specs.Tasks.{nothing_planned}
-use Rattle.mw_progress.specs.Levels.{Level, no_level, level_of, level_of_source, level_of_step, levels, levels_from}
+use Rattle.mw_progress.specs.mw_places.Levels.{Level, no_level, level_of, level_of_source, level_of_step, levels, levels_from}
 
 -- the level behind the last is that of the image behind the last
 pub get_or-map-level_of : (fs : List Picture) (k : ℕ) → get_or (map level_of fs) k no_level ≡ level_of (get_or fs k no_picture)

@@ -25,8 +25,9 @@ use Rattle.mw_progress.specs.mw_task.WindowTasks.{WindowTask, IsBounded, KindsFi
 use Rattle.mw_progress.proofs.mw_task.Bounded.{here_below, window_below, window_bounded, made_below}
 use Rattle.mw_progress.proofs.mw_task.Cut.{made_of_cut}
 use Rattle.mw_progress.proofs.mw_pieces.TileCells.{cells_in_all, length-cells_in}
-use Rattle.mw_progress.specs.Levels.{Level, IsLevel, level_of, levels, no_level}
-use Rattle.mw_progress.specs.ProgressView.{ProgressView, IsFinished, IsWhole, Fits, IsSmallNumber, cells_of_made, image_of_made, level_of_plane, plane_at}
+use Rattle.mw_progress.specs.mw_places.Levels.{Level, IsLevel, level_of, levels, no_level, level_of_plane}
+use Rattle.mw_progress.specs.mw_places.MadeTiles.{IsSmallNumber, cells_of_made, image_of_made}
+use Rattle.mw_progress.specs.ProgressView.{ProgressView, IsFinished, IsWhole, Fits, plane_at}
 use Rattle.mw_work.specs.Works.{Finishes, IsTrueWork, true_sources, true_task}
 use Rattle.mw_work.proofs.Numbers.{length-tiles, some-whole, step_number-within, tile_number-within, tile_of_task-whole}
 use Rattle.mw_work.proofs.Pictured.{true_task-bounded}

@@ -18,7 +18,7 @@ use Rattle.mw_progress.proofs.mw_task.Bounded.{made_below}
 use Rattle.mw_progress.proofs.mw_task.Cut.{bounded_cut, made_of_cut}
 use Rattle.mw_progress.specs.mw_plan.PlansOf.{CanBeMade}
 use Rattle.mw_progress.proofs.mw_plan.WindowsFit.{made_fits}
-use Rattle.mw_progress.specs.Levels.{Level}
+use Rattle.mw_progress.specs.mw_places.Levels.{Level}
 use Rattle.mw_progress.specs.ProgressView.{ProgressView}
 use Rattle.mw_work.specs.Works.{IsTrueWork, true_source, true_sources, true_task}
 use Rattle.mw_work.proofs.Numbers.{some-whole, step_number-within}

@@ -9,8 +9,8 @@ use Rattle.mw_grid.specs.Grids.{Tiling, tile_at, tile_count}
 use Rattle.mw_progress.specs.mw_tiles.Tiles.{AreMade, IsPlaneOf, Tiled}
 use Rattle.mw_progress.proofs.mw_tiles.Made.{plane_is_made}
 use Rattle.mw_progress.proofs.mw_plan.Planes.{length-planes, plane_is}
-use Rattle.mw_progress.specs.Levels.{Level, level_of, levels, no_level}
-use Rattle.mw_progress.specs.ProgressView.{ProgressView, IsWhole, level_of_plane, number_of, plane_at, no_plane}
+use Rattle.mw_progress.specs.mw_places.Levels.{Level, level_of, levels, no_level, level_of_plane}
+use Rattle.mw_progress.specs.ProgressView.{ProgressView, IsWhole, number_of, plane_at, no_plane}
 use Rattle.mw_work.specs.Works.{KeepsTrue, IsTrueWork, true_sources}
 use Rattle.mw_work.proofs.Leveled.{get_or-map-level_of, levels-planes}
 use Rattle.mw_work.proofs.Numbers.{has-tiles, length-tiles, placed-number_of, planned_of-number_of, tile_of_task-number_of}

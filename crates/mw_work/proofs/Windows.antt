@@ -14,7 +14,7 @@ use Rattle.mw_tile.specs.Windows.{SourceWindow, window_of}
 use Rattle.mw_progress.specs.mw_task.Sources.{AreCut, HasFrame}
 use Rattle.mw_progress.specs.mw_task.WindowTasks.{FitsStep, window_at}
 use Rattle.mw_progress.proofs.mw_plan.WindowsFit.{made_fits}
-use Rattle.mw_progress.specs.Levels.{Level, level_of}
+use Rattle.mw_progress.specs.mw_places.Levels.{Level, level_of}
 use Rattle.mw_progress.specs.ProgressView.{ProgressView, number_of, IsWhole, IsPlaneSource}
 use Rattle.mw_work.specs.Works.{AreWindowsOfSources, IsWindowOfSource, IsTrueWork, task_of, true_source, true_task}
 use Rattle.mw_work.proofs.Numbers.{has-tiles, length-tiles, some-whole, step_number-within, tile_number-within, tile_of_task-whole, tile_of_task-within, planned_of-number_of, step_number-number_of, tile_number-number_of, tile_of_task-number_of}

@@ -14,7 +14,7 @@ use Rattle.mw_grid.specs.Grids.{Tiling}
 use Rattle.mw_progress.specs.mw_plan.PlansOf.{CanBeMade, planes_read}
 use Rattle.mw_progress.specs.mw_plan.declared.inputs.Input.{Input}
 use Rattle.mw_progress.proofs.mw_plan.Planes.{length-planes, plane_is}
-use Rattle.mw_progress.specs.Levels.{Level, IsLevel, level_of, levels}
+use Rattle.mw_progress.specs.mw_places.Levels.{Level, IsLevel, level_of, levels}
 use Rattle.mw_progress.specs.ProgressView.{ProgressView, IsWhole, IsWorkable, fresh}
 use Rattle.mw_work.specs.Works.{IsAccepted, IsPlanned, IsUnder}
 use Rattle.mw_work.proofs.Fresh.{image-accepted, work-fresh}

@@ -17,7 +17,7 @@ use Rattle.mw_progress.specs.mw_tiles.Tiles.{AllPlaced, IsPlaneOf}
 use Rattle.mw_progress.specs.mw_plan.PlansOf.{AreValuesOf, CanBeMade, HaveFrame, IsPlanOf, inputs_taken, planes_read}
 use Rattle.mw_progress.specs.mw_plan.Asked.{shape_made}
 use Rattle.mw_progress.specs.mw_plan.declared.inputs.Input.{Input}
-use Rattle.mw_progress.specs.Levels.{level_of}
+use Rattle.mw_progress.specs.mw_places.Levels.{level_of}
 use Rattle.mw_progress.specs.ProgressView.{IsFramed, ProgressView, IsFinished, IsWhole, plane_at}
 
 -- ---- tasks

@@ -1,7 +1,7 @@
 use Rattle.std.proofs.Common.{◌≡◌, ◌≤◌, ◌++◌, length, drop, vec_len}
 use Rattle.std.specs.Prelude.{vec_capacity}
+use Rattle.mw_places.specs.Places.{planes_shown}
 use Rattle.mw_progress.specs.ProgressView.{numbers_of}
-use Rattle.mw_progress.specs.Places.{planes_shown}
 use Rattle.mw_progress.proofs.progress.add_numbers.Given as goal
 
 abbrev pub invariant-loop-k : goal.invariant-loop-k

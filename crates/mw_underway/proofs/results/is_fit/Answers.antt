@@ -4,7 +4,7 @@ use Rattle.mw_model.specs.declared.tasks.TaskId.{TaskId}
 use Rattle.mw_model.specs.Tasks.{nothing_planned}
 use Rattle.mw_plan.specs.Seen.{planned}
 use Rattle.mw_tile.specs.Windows.{SourceWindow}
-use Rattle.mw_stands.specs.mw_progress.Levels.{no_level}
+use Rattle.mw_stands.specs.mw_places.Levels.{no_level}
 use Rattle.mw_underway.specs.Results.{level_of_window}
 use Rattle.mw_underway.proofs.ResultLemmas.{fit-of, found-levels, found-of-running, of-work, running-of}
 use Rattle.mw_underway.proofs.results.is_fit.Goals as goal

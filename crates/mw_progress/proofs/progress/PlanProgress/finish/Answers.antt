@@ -4,11 +4,13 @@ use Rattle.std.proofs.lemmas.Bool.{both_ways}
 use Rattle.mw_model.specs.Tasks.{is_running}
 use Rattle.mw_grid.specs.Blocks.{sees}
 use Rattle.mw_grid.specs.Grids.{tile_count}
-use Rattle.mw_ready.specs.Boards.{step_reads}
-use Rattle.mw_tiles.specs.Tiles.{Tiled, tile_cells}
-use Rattle.mw_progress.specs.ProgressView.{ProgressView, IsFinished, Fits, number_of, cells_of_made}
-use Rattle.mw_progress.specs.Places.{shown, form, no_place, place_at, planes_shown, placed_in, underway_kept, is_read, Suits, SweptAll}
-use Rattle.mw_progress.specs.declared.places.Place.{Place}
+use Rattle.mw_places.specs.mw_ready.Boards.{step_reads}
+use Rattle.mw_places.specs.mw_tiles.Tiles.{Tiled, tile_cells}
+use Rattle.mw_places.specs.MadeTiles.{cells_of_made}
+use Rattle.mw_places.specs.Places.{shown, form, no_place, place_at, planes_shown, placed_in, is_read, Suits, SweptAll}
+use Rattle.mw_places.specs.declared.places.Place.{Place}
+use Rattle.mw_progress.specs.ProgressView.{ProgressView, IsFinished, Fits, number_of}
+use Rattle.mw_progress.specs.Parts.{underway_kept}
 use Rattle.mw_progress.proofs.Boarded.{runs_is}
 use Rattle.mw_progress.proofs.Opened.{shown_at}
 use Rattle.mw_progress.proofs.Placing.{put_ready}

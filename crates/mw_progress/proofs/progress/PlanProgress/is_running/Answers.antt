@@ -1,8 +1,8 @@
 use Rattle.std.proofs.Common.{◌≡◌, ◌<◌, ◌↔◌, IsTrue, true, length, subst}
 use Rattle.mw_model.specs.Tasks.{is_running}
 use Rattle.mw_grid.specs.Grids.{tile_count}
+use Rattle.mw_places.specs.Places.{planes_shown}
 use Rattle.mw_progress.specs.ProgressView.{ProgressView, number_of}
-use Rattle.mw_progress.specs.Places.{planes_shown}
 use Rattle.mw_progress.proofs.Boarded.{runs_is, is_run}
 use Rattle.mw_progress.proofs.progress.PlanProgress.is_running.Goals as goal
 

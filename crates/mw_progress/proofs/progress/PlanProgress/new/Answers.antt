@@ -1,6 +1,6 @@
 use Rattle.std.proofs.Common.{map, sym, ap, subst, ◌∙◌, arith}
+use Rattle.mw_places.specs.declared.places.Place.TheVariants.{Closed}
 use Rattle.mw_progress.specs.ProgressView.{IsWorkable}
-use Rattle.mw_progress.specs.declared.places.Place.TheVariants.{Closed}
 use Rattle.mw_progress.proofs.Fresh.{Beginning, begin_whole, begin_fresh, planes_are}
 use Rattle.mw_progress.proofs.progress.PlanProgress.new.Goals as goal
 

@@ -1,7 +1,7 @@
 use Rattle.std.proofs.Common.{◌≡◌, subst, sym, ◌∙◌}
 use Rattle.mw_model.specs.Tasks.{remaining_tasks}
+use Rattle.mw_places.specs.Places.{planes_shown}
 use Rattle.mw_progress.specs.ProgressView.{ProgressView}
-use Rattle.mw_progress.specs.Places.{planes_shown}
 use Rattle.mw_progress.proofs.Boarded.{same_work}
 use Rattle.mw_progress.proofs.progress.PlanProgress.remaining.Goals as goal
 

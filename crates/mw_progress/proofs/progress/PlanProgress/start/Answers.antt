@@ -2,8 +2,9 @@ use Rattle.std.proofs.Common.{◌≡◌, ℕ, ◌<◌, true, set, sym, ap, subst
 use Rattle.std.specs.Prelude.{slice_index}
 use Rattle.mw_model.specs.Plans.{Planned, is_sum}
 use Rattle.mw_model.specs.Tasks.{ready_tasks}
+use Rattle.mw_places.specs.Places.{planes_shown}
 use Rattle.mw_progress.specs.ProgressView.{ProgressView, IsStarted}
-use Rattle.mw_progress.specs.Places.{planes_shown, underway_kept}
+use Rattle.mw_progress.specs.Parts.{underway_kept}
 use Rattle.mw_progress.proofs.Boarded.{place_is}
 use Rattle.mw_progress.proofs.Opened.{Opening, Starting, on_err, open_level, open_err, open_same, start_whole, start_is}
 use Rattle.mw_progress.proofs.progress.PlanProgress.start.Goals as goal

@@ -1,8 +1,8 @@
 use Rattle.std.proofs.Common.{◌≡◌, ◌<◌, true, subst, sym, ◌∙◌}
 use Rattle.std.specs.Prelude.{slice_index}
 use Rattle.mw_model.specs.Tasks.{ready_tasks, is_ready}
+use Rattle.mw_places.specs.Places.{planes_shown}
 use Rattle.mw_progress.specs.ProgressView.{ProgressView, number_of}
-use Rattle.mw_progress.specs.Places.{planes_shown}
 use Rattle.mw_progress.proofs.Boarded.{place_is, number_is, ready_is}
 use Rattle.mw_progress.proofs.progress.PlanProgress.task_at.Goals as goal
 
