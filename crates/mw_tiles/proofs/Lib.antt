@@ -8,4 +8,5 @@ mod Sides
 mod Joined
 mod Compared
 mod Whole
+mod ReadRows
 mod Sharing

@@ -3,3 +3,5 @@ pub mod Held
 pub mod Sums
 pub mod Filled
 pub mod Shares
+pub mod Rows
+pub mod Views

@@ -21,6 +21,7 @@ mod shown;
 mod slots;
 mod sums;
 mod tile;
+mod tiled_rows;
 
 pub use laws::{plane_is_of_an_image, tile_sums_are_sum_of_plane, tiles_are_plane};
 pub use mw_grid::Grid;
@@ -29,3 +30,4 @@ pub use plane::TiledPlane;
 pub use shown::WholePlane;
 pub use sums::TileSums;
 pub use tile::Tile;
+pub use tiled_rows::{TiledRows, TilesView};
