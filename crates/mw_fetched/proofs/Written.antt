@@ -7,7 +7,7 @@ use Rattle.std.proofs.lemmas.List.{append-nil, drop-drop}
 use Rattle.mw_model.specs.Rasters.{Raster}
 use Rattle.mw_model.specs.Replies.{and_number, handed_text, ticket_line, ImageBytes}
 use Rattle.mw_netpbm.specs.Rows.{rows_bytes}
-use Rattle.mw_netpbm.proofs.RowBytes.{rows_length}
+use Rattle.mw_netpbm.proofs.RowTexts.{rows_length}
 use Rattle.mw_tiles.specs.Rows.{AreCutFrom, TileCells}
 use Rattle.mw_wire.specs.Writes.{CutsShort, Wrote}
 use Rattle.mw_wire.proofs.Writing.{front_of_both, wrote_then}

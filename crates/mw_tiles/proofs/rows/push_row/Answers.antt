@@ -24,4 +24,4 @@ pub returns-in_err-extend_from_slice-clause-succeeds : goal.returns-in_err-exten
 returns-in_err-extend_from_slice-clause-succeeds g c = λ room.
     let from : c.args.x ≤ c.parts.at = c.parts.invariant.from in
     let fits = c.part-row.ensures.fits in
-    omega (arith, c.in_err-extend_from_slice.ensures.full, c.parts.invariant.count, c.parts.invariant.room)
+    absurd (omega (arith, c.in_err-extend_from_slice.ensures.full, c.parts.invariant.count, c.parts.invariant.room))

@@ -1,4 +1,4 @@
-use Rattle.std.proofs.Common.{◌+◌, ◌-◌, ◌≤◌, vec_len, vec_capacity}
+use Rattle.std.proofs.Common.{◌≡◌, ◌+◌, ◌-◌, ◌≤◌, vec_len, vec_capacity}
 use Rattle.mw_tiles.specs.Tiles.{HasRowMore, cells_of}
 use Rattle.mw_tiles.proofs.rows.push_row.Given as goal
 

@@ -19,11 +19,11 @@ words_length (s ∷ ss) = ap length (flat_map-cons two_bytes s ss) ∙ omega (ar
 pub rows_length : {A : Type 0} (bytes : ℕ → List A → List ℕ) (width n : ℕ) → ((row : List A) → length row ≡ width → length (bytes width row) ≡ n) → (height : ℕ) (cells : List A) → length cells ≡ height * width
     → length (rows_bytes bytes width height cells) ≡ height * n
 unfolding rows_bytes
-rows_length bytes width n each zero cells len = refl
+rows_length bytes width n each zero cells len = omega arith
 rows_length bytes width n each (suc height) cells len =
     let le : width ≤ length cells = omega (arith, len) in
     let rest : length (drop width cells) ≡ height * width = omega (arith, length-drop width cells, len) in
-    rw (length-append (bytes width (take width cells)) (rows_bytes bytes width height (drop width cells)), each (take width cells) (length-take-le width cells le), rows_length bytes width n each height (drop width cells) rest) refl
+    rw (length-append (bytes width (take width cells)) (rows_bytes bytes width height (drop width cells)), each (take width cells) (length-take-le width cells le), rows_length bytes width n each height (drop width cells) rest) (omega arith)
 
 -- the rows of a set
 set_rows : (width height : ℕ) (cells : List ℕ) → rows_bytes set_row width height cells ≡ packed_rows width height cells
