@@ -1,16 +1,22 @@
 -- What was written of an image, row by row.
-use Rattle.std.proofs.Common.{◌≡◌, ℕ, suc, ◌+◌, ◌-◌, ◌*◌, ◌<◌, ◌≤◌, List, [], ◌++◌, length, take, drop, Option, Result, Ok, Err, refl, sym, ap, subst, ◌∙◌, arith, append_assoc, length-append}
+use Rattle.std.proofs.Common.{◌≡◌, ℕ, suc, ◌+◌, ◌-◌, ◌*◌, ◌<◌, ◌≤◌, List, [], ◌++◌, length, take, drop, Option, Result, Ok, Err, inl, inr, refl, sym, ap, subst, ◌∙◌, arith, append_assoc, length-append}
 use Rattle.std.specs.Io.KnownBytes.{Appends}
 use Rattle.std.specs.Prelude.{codes}
 use Rattle.std.proofs.KnownBytes.{Appends-trans}
 use Rattle.std.proofs.lemmas.List.{append-nil, drop-drop}
+use Rattle.mw_model.specs.declared.calls.Reply.TheVariants as reply
+use Rattle.mw_model.specs.declared.shapes.Kind.{Kind}
+use Rattle.mw_model.specs.NetpbmWriting.{text_of}
+use Rattle.mw_model.specs.Pictures.{Picture}
 use Rattle.mw_model.specs.Rasters.{Raster}
 use Rattle.mw_model.specs.Replies.{and_number, handed_text, ticket_line, ImageBytes}
-use Rattle.mw_netpbm.specs.Rows.{rows_bytes}
+use Rattle.mw_netpbm.specs.Rows.{header_as, rows_bytes}
 use Rattle.mw_netpbm.proofs.RowTexts.{rows_length}
+use Rattle.mw_store.specs.declared.fetched.Shown.TheVariants as shown
 use Rattle.mw_tiles.specs.Rows.{AreCutFrom, TileCells}
 use Rattle.mw_wire.specs.Writes.{CutsShort, Wrote}
 use Rattle.mw_wire.proofs.Writing.{front_of_both, wrote_then}
+use Rattle.mw_fetched.specs.Texts.{SaysBytes, SaysFetched}
 
 -- The first y rows were written.
 pub record HasRows {A : Type 0} (bytes : ℕ → List A → List ℕ) (f : Raster A) (y : ℕ) (old now : Option (List ℕ)) : Type 0 where
@@ -33,7 +39,13 @@ parts {A} bytes f y row old now lt row-is h =
     ∙ h.rest
 
 pub no_rows : {A : Type 0} (bytes : ℕ → List A → List ℕ) (f : Raster A) (old now : Option (List ℕ)) → Appends old now [] → HasRows bytes f 0 old now
-no_rows bytes f old now wrote = record { text = []; wrote = wrote; rest = refl }
+no_rows bytes f old now wrote = record { text = []; wrote = wrote; rest = ap (λ (n : ℕ). rows_bytes bytes f.width n (drop (0 * f.width) f.cells)) (all f.height) ∙ ap (λ (n : ℕ). rows_bytes bytes f.width f.height (drop n f.cells)) (none f.width) }
+  where
+    all : (n : ℕ) → n - 0 ≡ n
+    all n = omega arith
+
+    none : (n : ℕ) → 0 * n ≡ 0
+    none n = omega arith
 
 -- one row more
 pub more_rows : {A : Type 0} (bytes : ℕ → List A → List ℕ) (f : Raster A) (y w : ℕ) (row : List A) (old now new : Option (List ℕ)) → y < f.height → w ≡ f.width → row ≡ take f.width (drop (y * f.width) f.cells)
@@ -73,3 +85,18 @@ raster_length {A} bytes t f w h n w-is h-is cut each =
 pub image_said : (t len : ℕ) (line head raster : List ℕ) → line ≡ ticket_line (codes "IMAGE") t (and_number len) → len ≡ length head + length raster → line ++ (head ++ raster) ≡ handed_text t (ImageBytes (head ++ raster))
 image_said t len line head raster line-is len-is =
     ap (λ (l : List ℕ). l ++ (head ++ raster)) (line-is ∙ ap (λ (n : ℕ). ticket_line (codes "IMAGE") t (and_number n)) (len-is ∙ sym (length-append head raster)))
+
+-- the header that was made
+pub header_is : (k k' : Kind) (w w' h h' m m' : ℕ) (head : List ℕ) → head ≡ header_as k w h m → k ≡ k' → w ≡ w' → h ≡ h' → m ≡ m' → head ≡ header_as k' w' h' m'
+header_is k k' w w' h h' m m' head is k-is w-is h-is m-is =
+    is
+    ∙ ap (λ (t : Kind). header_as t w h m) k-is
+    ∙ ap (λ (t : ℕ). header_as k' t h m) w-is
+    ∙ ap (λ (t : ℕ). header_as k' w' t m) h-is
+    ∙ ap (λ (t : ℕ). header_as k' w' h' t) m-is
+
+-- the bytes are the image's text
+pub image_fetched : (t : ℕ) (f : Picture) (head raster text : List ℕ) → head ≡ header_as f.kind f.width f.height f.maxval → header_as f.kind f.width f.height f.maxval ++ raster ≡ text_of f → SaysBytes t (head ++ raster) text
+    → SaysFetched (reply.Shown t) (shown.Image f) text
+image_fetched t f head raster text head-is whole (inl said) = inl (said ∙ ap (λ (l : List ℕ). handed_text t (ImageBytes (l ++ raster))) head-is ∙ ap (λ (l : List ℕ). handed_text t (ImageBytes l)) whole)
+image_fetched t f head raster text head-is whole (inr none) = inr (tt, none)

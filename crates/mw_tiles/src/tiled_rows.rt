@@ -8,6 +8,7 @@ use mw_pixel::{Bit, Pixel};
 use std::marker::Model;
 
 /// The tiles of a frame, all of them placed.
+#[derive(Drop)]
 pub struct TiledRows<'a, P: Pixel> {
     grid: Grid,
     tiles: &'a [Option<Placed<P>>],
@@ -71,6 +72,7 @@ impl<'a, P: Pixel> TiledRows<'a, P> {
 }
 
 /// The tiles of a whole plane, to be looked at; beside them the maxval.
+#[derive(Drop)]
 pub enum TilesView<'a> {
     Bits(TiledRows<'a, Bit>),
     Grey8(TiledRows<'a, u8>, u8),
