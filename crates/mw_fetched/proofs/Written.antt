@@ -1,5 +1,5 @@
 -- What was written of an image, row by row.
-use Rattle.std.proofs.Common.{◌≡◌, ℕ, suc, ◌+◌, ◌-◌, ◌*◌, ◌<◌, ◌≤◌, List, [], ◌++◌, length, take, drop, Option, Result, Ok, Err, inl, inr, refl, sym, ap, subst, ◌∙◌, arith, append_assoc, length-append}
+use Rattle.std.proofs.Common.{◌≡◌, ℕ, suc, ◌+◌, ◌-◌, ◌*◌, ◌<◌, ◌≤◌, List, [], ◌++◌, length, take, drop, Option, Err, inl, inr, sym, ap, subst, ◌∙◌, arith, append_assoc, length-append}
 use Rattle.std.specs.Io.KnownBytes.{Appends}
 use Rattle.std.specs.Prelude.{codes}
 use Rattle.std.proofs.KnownBytes.{Appends-trans}
@@ -14,7 +14,7 @@ use Rattle.mw_netpbm.specs.Rows.{header_as, rows_bytes}
 use Rattle.mw_netpbm.proofs.RowTexts.{rows_length}
 use Rattle.mw_store.specs.declared.fetched.Shown.TheVariants as shown
 use Rattle.mw_tiles.specs.Rows.{AreCutFrom, TileCells}
-use Rattle.mw_wire.specs.Writes.{CutsShort, Wrote}
+use Rattle.mw_wire.specs.Writes.{CutsShort}
 use Rattle.mw_wire.proofs.Writing.{front_of_both, wrote_then}
 use Rattle.mw_fetched.specs.Texts.{SaysBytes, SaysFetched}
 

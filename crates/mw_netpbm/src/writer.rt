@@ -12,7 +12,12 @@ use mw_model::NoMemory;
 use mw_pixel::{Bit, Image, Plane, View};
 use std::alloc::{AllocError, Global};
 
-pub(crate) fn grey_head(alloc: Global, width: u32, height: u32, maxval: u16) -> Result<String, AllocError>
+pub(crate) fn grey_head(
+    alloc: Global,
+    width: u32,
+    height: u32,
+    maxval: u16,
+) -> Result<String, AllocError>
     ensures { IfOk result (λ s. string_bytes s ≡ grey_header width height maxval) }
 {
     format!(in alloc; "P5\n{width} {height}\n{maxval}\n")

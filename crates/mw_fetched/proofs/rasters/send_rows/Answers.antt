@@ -1,9 +1,7 @@
-use Rattle.std.proofs.Common.{◌≡◌, ◌+◌, ◌*◌, ◌<◌, ℕ, List, length, take, drop, ap, sym, subst, arith, ◌∙◌}
+use Rattle.std.proofs.Common.{◌≡◌, ◌*◌, ◌<◌, ℕ, List, length, take, drop, ap, sym, subst, arith, ◌∙◌}
 use Rattle.std.specs.Io.KnownBytes.{Appends}
-use Rattle.mw_model.specs.Rasters.{Raster}
-use Rattle.mw_tiles.specs.Rows.{AreCutFrom}
 use Rattle.mw_wire.specs.Writes.{CutsShort}
-use Rattle.mw_fetched.proofs.Written.{all_rows, cut_row, more_rows, no_rows}
+use Rattle.mw_fetched.proofs.Written.{all_rows, cut_row, more_rows}
 use Rattle.mw_fetched.proofs.rasters.send_rows.Goals as goal
 
 pub returns-in-Err-clause-wrote : goal.returns-in-Err-clause-wrote
