@@ -1,6 +1,6 @@
 # `make demo` builds morphd and shows it at work; `make test` is the gate; `make memory` refuses each allocation and each
-# start of a thread in turn; `make soak` runs random sessions beside a plain model, and a server with good and bad clients;
-# `make bench` takes times.
+# start of a thread in turn, and measures what a FETCH takes; `make soak` runs random sessions beside a plain model, and a
+# server with good and bad clients; `make bench` takes times.
 .PHONY: demo morphd test memory soak bench toolchain python compiler
 
 MORPHD = crates/morphd/out/morphd
@@ -35,6 +35,7 @@ demo: python morphd
 memory: toolchain python compiler
 	@python3 -B checks/prove.py morphd mw_memory_tests mw_machine_tests
 	@python3 -B checks/refused_memory.py $(MORPHD)
+	@python3 -B checks/fetch_memory.py $(MORPHD)
 	@python3 -B checks/refused_tests.py crates/mw_memory_tests/out/mw_memory_tests_tests
 	@python3 -B checks/refused_tests.py crates/mw_machine_tests/out/mw_machine_tests_tests
 

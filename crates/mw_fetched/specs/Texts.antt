@@ -4,7 +4,7 @@ use Rattle.mw_model.specs.declared.codes.Code.TheVariants.{Memory}
 use Rattle.mw_model.specs.declared.calls.Reply.{Reply}
 use Rattle.mw_model.specs.Receipts.{MayFail}
 use Rattle.mw_model.specs.Scripts.{handed_value}
-use Rattle.mw_model.specs.Replies.{reply_text, refusal_text}
+use Rattle.mw_model.specs.Replies.{handed_text, reply_text, refusal_text, ImageBytes}
 use Rattle.mw_store.specs.declared.fetched.Shown.{Shown}
 use Rattle.mw_store.specs.Fetches.{shown_value}
 
@@ -15,3 +15,7 @@ fetch_text r v = reply_text r (handed_value (shown_value v))
 -- that, or that the bytes of what it hands out found no memory
 abbrev pub SaysFetched : Reply → Shown → List ℕ → Type 0
 SaysFetched r v text = (text ≡ fetch_text r v) ⊎ (MayFail r × (text ≡ refusal_text Memory))
+
+-- the reply that hands out these bytes of an image, or that they found no memory
+abbrev pub SaysBytes : ℕ → List ℕ → List ℕ → Type 0
+SaysBytes t bytes text = (text ≡ handed_text t (ImageBytes bytes)) ⊎ (text ≡ refusal_text Memory)

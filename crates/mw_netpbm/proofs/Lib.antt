@@ -2,6 +2,7 @@
 pub mod Bitmaps
 pub mod Exclusive
 pub mod Files
+pub mod RowTexts
 pub mod Sides
 -- the crate's own
 mod Blanks

@@ -1,6 +1,7 @@
 pub mod Reading
 pub mod Heading
 pub mod Rasters
+pub mod Rows
 pub mod Swapping
 pub mod Plain
 pub mod Places

@@ -1,6 +1,6 @@
 //! Writing an image.
 
-ghost use Rattle.std.specs.Prelude.{◌≡◌, ℕ, ◌≤◌, ◌<◌, ◌*◌, ◌^◌, ◌++◌, List, length, IfOk, OnOk, Ok, true, nat_lt, string_bytes, slice_index, ◌+◌, ◌-◌, ◌/◌};
+ghost use Rattle.std.specs.Prelude.{◌≡◌, ℕ, ◌≤◌, ◌<◌, ◌*◌, ◌^◌, ◌++◌, List, length, vec_len, vec_capacity, IfOk, OnOk, Ok, true, nat_lt, string_bytes, slice_index, ◌+◌, ◌-◌, ◌/◌};
 ghost use Rattle.mw_model.specs.declared.shapes.Kind.TheVariants as kind;
 ghost use Rattle.mw_model.specs.NetpbmWriting.{two_bytes, grey_raster, grey_header, byte_of, packed, packed_rows, set_header, text_of};
 ghost use Rattle.mw_pixel.specs.Images.{grey_of, set_of};
@@ -12,30 +12,53 @@ use mw_model::NoMemory;
 use mw_pixel::{Bit, Image, Plane, View};
 use std::alloc::{AllocError, Global};
 
-fn grey_head(alloc: Global, width: u32, height: u32, maxval: u16) -> Result<String, AllocError>
+pub(crate) fn grey_head(
+    alloc: Global,
+    width: u32,
+    height: u32,
+    maxval: u16,
+) -> Result<String, AllocError>
     ensures { IfOk result (λ s. string_bytes s ≡ grey_header width height maxval) }
 {
     format!(in alloc; "P5\n{width} {height}\n{maxval}\n")
 }
 
-/// Adds the bytes of samples one by one.
-fn push_rest(out: &mut Vec<u8>, samples: &[u16]) -> Result<(), AllocError>
-    ensures { OnOk result (out.new.items ≡ out.old.items ++ flat_map two_bytes samples.now) }
+/// Adds bytes for which there is room.
+pub(crate) fn append(out: &mut Vec<u8>, bytes: &[u8])
+    requires { vec_len out.old + length bytes.now ≤ vec_capacity out.old }
+    ensures bytes { out.new.items ≡ out.old.items ++ bytes.now }
+    ensures count { vec_len out.new ≡ vec_len out.old + length bytes.now }
+    ensures room { vec_capacity out.old ≤ vec_capacity out.new }
 {
-    'samples: for s in samples {
-        out.extend_from_slice(&[(*s / 256) as u8, (*s % 256) as u8])?;
+    match out.extend_from_slice(bytes) {
+        Ok(()) => {}
+        Err(_) => unreachable!(),
     }
-    Ok(())
 }
 
-fn push_words(out: &mut Vec<u8>, samples: &[u16]) -> Result<(), AllocError>
-    ensures { OnOk result (out.new.items ≡ out.old.items ++ flat_map two_bytes samples.now) }
+/// Adds the bytes of samples one by one. There is room for them.
+fn push_rest(out: &mut Vec<u8>, samples: &[u16])
+    requires { vec_len out.old + 2 * length samples.now ≤ vec_capacity out.old }
+    ensures bytes { out.new.items ≡ out.old.items ++ flat_map two_bytes samples.now }
+    ensures count { vec_len out.new ≡ vec_len out.old + 2 * length samples.now }
+    ensures room { vec_capacity out.old ≤ vec_capacity out.new }
 {
-    out.reserve(samples.len().saturating_mul(2))?;
+    'samples: for s in samples {
+        append(out, &[(*s / 256) as u8, (*s % 256) as u8]);
+    }
+}
+
+/// Adds the bytes of samples, for which there is room.
+pub(crate) fn push_words(out: &mut Vec<u8>, samples: &[u16])
+    requires { vec_len out.old + 2 * length samples.now ≤ vec_capacity out.old }
+    ensures bytes { out.new.items ≡ out.old.items ++ flat_map two_bytes samples.now }
+    ensures count { vec_len out.new ≡ vec_len out.old + 2 * length samples.now }
+    ensures room { vec_capacity out.old ≤ vec_capacity out.new }
+{
     let mut rest = samples;
     'by_block: while rest.len() >= 32 {
         let (front, after) = rest.split_at(32);
-        out.extend_from_slice(&words_as_bytes(front))?;
+        append(out, &words_as_bytes(front));
         rest = after;
     }
     push_rest(out, rest)
@@ -67,7 +90,9 @@ fn grey16(alloc: Global, plane: &Plane<u16>, maxval: u16) -> Result<Vec<u8>, All
 {
     let head = grey_head(alloc, plane.width(), plane.height(), maxval)?;
     let mut out = head.into_bytes();
-    push_words(&mut out, plane.samples())?;
+    let samples = plane.samples();
+    out.reserve(samples.len().saturating_mul(2))?;
+    push_words(&mut out, samples);
     Ok(out)
 }
 
@@ -91,30 +116,36 @@ fn byte(bits: &[Bit]) -> u8
         + bit(bits, 7)
 }
 
-/// Adds so many bytes one by one.
+/// Adds so many bytes one by one. There is room for them.
 #[tactic(auto, using(crate::proofs::Packing::one_byte, crate::proofs::Packing::all_bytes))]
-fn push_bytes(out: &mut Vec<u8>, count: usize, bits: &[Bit]) -> Result<(), AllocError>
-    ensures { OnOk result (out.new.items ≡ out.old.items ++ packed count bits.now) }
+fn push_bytes(out: &mut Vec<u8>, count: usize, bits: &[Bit])
+    requires { vec_len out.old + count ≤ vec_capacity out.old }
+    ensures bytes { out.new.items ≡ out.old.items ++ packed count bits.now }
+    ensures count { vec_len out.new ≡ vec_len out.old + count }
+    ensures room { vec_capacity out.old ≤ vec_capacity out.new }
 {
     let mut left = count;
     let mut rest = bits;
     'bytes: while left > 0 {
         left -= 1;
-        out.push(byte(rest))?;
+        out.push_reserved(byte(rest));
         let (_, after) = rest.split_at(rest.len().min(8));
         rest = after;
     }
-    Ok(())
 }
 
-fn push_packed(out: &mut Vec<u8>, count: usize, bits: &[Bit]) -> Result<(), AllocError>
-    ensures { OnOk result (out.new.items ≡ out.old.items ++ packed count bits.now) }
+/// Adds so many bytes, for which there is room.
+pub(crate) fn push_packed(out: &mut Vec<u8>, count: usize, bits: &[Bit])
+    requires { vec_len out.old + count ≤ vec_capacity out.old }
+    ensures bytes { out.new.items ≡ out.old.items ++ packed count bits.now }
+    ensures count { vec_len out.new ≡ vec_len out.old + count }
+    ensures room { vec_capacity out.old ≤ vec_capacity out.new }
 {
     let mut left = count;
     let mut rest = bits;
     'by_block: while left >= 8 && rest.len() >= 64 {
         let (front, after) = rest.split_at(64);
-        out.extend_from_slice(&bits_as_bytes(front))?;
+        append(out, &bits_as_bytes(front));
         left -= 8;
         rest = after;
     }
@@ -132,17 +163,18 @@ fn push_rows(
     requires area { height * width ≤ length samples.now }
     ensures { OnOk result (out.new.items ≡ out.old.items ++ packed_rows width height samples.now) }
 {
-    out.reserve(height.saturating_mul((width + 7) / 8))?;
+    let count = (width + 7) / 8;
+    out.reserve(height * count)?;
     let mut rest = samples;
     'rows: for y in 0..height {
         let (row, after) = rest.split_at(width);
-        push_packed(out, (width + 7) / 8, row)?;
+        push_packed(out, count, row);
         rest = after;
     }
     Ok(())
 }
 
-fn set_head(alloc: Global, width: u32, height: u32) -> Result<String, AllocError>
+pub(crate) fn set_head(alloc: Global, width: u32, height: u32) -> Result<String, AllocError>
     ensures { IfOk result (λ s. string_bytes s ≡ set_header width height) }
 {
     format!(in alloc; "P4\n{width} {height}\n")

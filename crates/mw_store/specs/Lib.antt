@@ -1,5 +1,6 @@
 pub mod Kept
 pub mod Plates
+pub mod PlateViews
 pub mod ImageShapes
 pub mod Entries
 pub mod Wanted

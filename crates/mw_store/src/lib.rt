@@ -33,5 +33,5 @@ pub use image_shapes::ImageShape;
 pub use kept::{Entry, Kept};
 pub use mw_model::NoMemory;
 pub use outcomes::{is_dead, is_done, is_pending, is_released, is_there};
-pub use plates::Plate;
+pub use plates::{Plate, PlateView};
 pub use waiting::Waiters;

@@ -1,6 +1,7 @@
 //! Shares of images that are kept.
 
 ghost use Rattle.std.specs.Prelude.{◌≡◌, IfOk};
+ghost use Rattle.mw_store.specs.PlateViews.{picture_seen};
 
 use mw_model::NoMemory;
 use mw_pixel::Image;
@@ -13,6 +14,13 @@ use std::marker::Model;
 enum Share {
     Image(Image),
     Tiles(WholePlane),
+}
+
+/// A share of an image, to be looked at: its one plane, or its tiles.
+#[derive(Clone, Copy)]
+pub enum PlateView<'a> {
+    Image(&'a Image),
+    Tiles(&'a WholePlane),
 }
 
 /// A share of a done image. It stays good whatever becomes of the entry.
@@ -47,6 +55,16 @@ impl Plate {
         Ok(Plate {
             share: Share::Tiles(plane.share(alloc)?),
         })
+    }
+
+    /// What is shared, to be looked at.
+    pub fn view(&self) -> PlateView<'_>
+        ensures { picture_seen result ≡ self.now }
+    {
+        match &self.share {
+            Share::Image(image) => PlateView::Image(image),
+            Share::Tiles(plane) => PlateView::Tiles(plane),
+        }
     }
 
     /// The image in one piece. One that stands in tiles is put together; else others may own its plane too, and no

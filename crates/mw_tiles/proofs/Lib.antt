@@ -7,4 +7,5 @@ mod Numbers
 mod Joined
 mod Compared
 mod Whole
+mod ReadRows
 mod Sharing

@@ -2,3 +2,5 @@ pub mod Tiles
 pub mod Held
 pub mod Filled
 pub mod Shares
+pub mod Rows
+pub mod Views

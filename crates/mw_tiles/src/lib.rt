@@ -20,6 +20,7 @@ mod shares;
 mod shown;
 mod slots;
 mod tile;
+mod tiled_rows;
 
 pub use laws::{plane_is_of_an_image, tiles_are_plane};
 pub use mw_grid::Grid;
@@ -27,3 +28,4 @@ pub use mw_model::{Kind, NoMemory, Rect};
 pub use plane::TiledPlane;
 pub use shown::WholePlane;
 pub use tile::Tile;
+pub use tiled_rows::{TiledRows, TilesView};

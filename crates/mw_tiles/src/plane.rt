@@ -6,6 +6,7 @@ use crate::placed::Placed;
 use crate::rows::shared_plane;
 use crate::shares::pieces_of;
 use crate::slots::{no_tiles, put, share_tiles};
+use crate::tiled_rows::{TiledRows, TilesView};
 use mw_grid::Grid;
 use mw_model::{Kind, NoMemory, Rect};
 use mw_pieces::{PiecesView, SharedWindow};
@@ -49,6 +50,7 @@ impl TiledPlane {
     ghost use Rattle.mw_task.specs.WindowTasks.{IsBounded};
     ghost use Rattle.mw_tiles.specs.Tiles.{AllPlaced, HasAll, IsPlaneOf, IsSound, nothing_placed, tile_cells};
     ghost use Rattle.mw_tiles.specs.Held.{image_of_tile, IsTile};
+    ghost use Rattle.mw_tiles.specs.Views.{Shows};
 
     /// The plane without any tile, with the places for all.
     #[tactic(auto, using(crate::proofs::Sides::no_sets))]
@@ -238,6 +240,21 @@ impl TiledPlane {
             Samples::Grey16(tiles, maxval) => {
                 let plane = shared_plane(alloc, grid, tiles)?;
                 Ok(Image::grey16(plane, *maxval))
+            }
+        }
+    }
+
+    /// The tiles, to be looked at, once every one is placed.
+    pub(crate) fn view(&self) -> TilesView<'_>
+        requires { AllPlaced self.now }
+        ensures { (f : Picture) → IsPlaneOf self.now f → Shows f result }
+    {
+        let grid = self.grid;
+        match &self.content {
+            Samples::Bits(tiles) => TilesView::Bits(TiledRows::of(grid, tiles)),
+            Samples::Grey8(tiles, maxval) => TilesView::Grey8(TiledRows::of(grid, tiles), *maxval),
+            Samples::Grey16(tiles, maxval) => {
+                TilesView::Grey16(TiledRows::of(grid, tiles), *maxval)
             }
         }
     }

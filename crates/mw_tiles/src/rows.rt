@@ -1,6 +1,6 @@
 //! The samples of a plane, put together from its tiles row part by row part.
 
-ghost use Rattle.std.specs.Prelude.{◌≡◌, ℕ, ◌+◌, ◌-◌, ◌*◌, ◌<◌, ◌≤◌, IfOk, length};
+ghost use Rattle.std.specs.Prelude.{◌≡◌, ℕ, ◌+◌, ◌-◌, ◌*◌, ◌<◌, ◌≤◌, IfOk, IsOk, length, vec_len, vec_capacity};
 ghost use Rattle.std.specs.Arc.{arc_value};
 ghost use Rattle.mw_model.specs.Places.{IsWithin};
 ghost use Rattle.mw_model.specs.Rasters.{Raster};
@@ -15,8 +15,8 @@ use mw_pixel::{Pixel, Plane};
 use std::alloc::Global;
 use std::sync::Arc;
 
-/// Appends the samples of row y from column x up to column `end`.
-fn push_row<P: Pixel>(
+/// Appends the samples of row y from column x up to column `end`. Where there is room for them, no memory is asked for.
+pub(crate) fn push_row<P: Pixel>(
     grid: Grid,
     tiles: &[Option<Placed<P>>],
     samples: &mut Vec<P>,
@@ -29,7 +29,9 @@ fn push_row<P: Pixel>(
     requires across { end ≤ grid.width }
     requires down { y < grid.height }
     requires placed { HasAlong grid (cells_of tiles.now) x y end }
-    ensures { IfOk result (λ _. HasRowMore grid (cells_of tiles.now) x y (end - x) samples.old.items samples.new.items) }
+    ensures value { IfOk result (λ _. HasRowMore grid (cells_of tiles.now) x y (end - x) samples.old.items samples.new.items) }
+    ensures succeeds { vec_len samples.old + (end - x) ≤ vec_capacity samples.old → IsOk result }
+    ensures room { vec_capacity samples.old ≤ vec_capacity samples.new }
 {
     let mut at = x;
     'parts: while at < end {

@@ -6,8 +6,9 @@ ghost use Rattle.mw_model.specs.Places.{IsWithin};
 ghost use Rattle.mw_tile.specs.Windows.{window_of};
 ghost use Rattle.mw_tiles.specs.Tiles.{AllPlaced, IsPlaneOf};
 ghost use Rattle.mw_tiles.specs.Filled.{filled};
+ghost use Rattle.mw_tiles.specs.Views.{Shows};
 
-use crate::TiledPlane;
+use crate::{TiledPlane, TilesView};
 use mw_model::{Kind, NoMemory, Rect};
 use mw_pieces::SharedWindow;
 use mw_pixel::Image;
@@ -92,6 +93,14 @@ impl WholePlane {
         ensures { IsTrue result ↔ (window.now ≡ window_of rect self.now) }
     {
         self.plane.matches(rect, window)
+    }
+
+    /// The tiles, to be looked at.
+    pub fn view(&self) -> TilesView<'_>
+        ensures shows { Shows self.now result }
+        ensures picture { IsPicture self.now }
+    {
+        self.plane.view()
     }
 
     /// The image in one piece.

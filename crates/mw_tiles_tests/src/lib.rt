@@ -8,4 +8,6 @@ mod numbers;
 #[cfg(test)]
 mod owners;
 #[cfg(test)]
+mod rows;
+#[cfg(test)]
 mod windows;

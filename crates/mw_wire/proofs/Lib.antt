@@ -1,2 +1,2 @@
--- the crate's own
-mod Writing
+-- what other crates may cite
+pub mod Writing

@@ -17,6 +17,6 @@ mod source;
 pub use fault::SessionFault;
 pub use line::ReplyLine;
 pub use reply::{curve_line, image_line, refusal_line, reply_line};
-pub use saying::{end_by, end_within, say, say_curve, say_image, say_told, tell};
+pub use saying::{end_by, end_within, say, say_curve, say_image, say_told, send_both, tell};
 pub use sink::{Sink, pass_on, send};
 pub use source::{READ_LIMIT, Source, receive};

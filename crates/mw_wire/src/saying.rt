@@ -59,7 +59,12 @@ pub fn say_curve<W: Write>(sink: &mut Sink<W>, t: u32, text: &[u8]) -> Result<()
     send_both(sink, curve_line(t, text.len()).as_bytes(), text)
 }
 
-fn send_both<W: Write>(sink: &mut Sink<W>, first: &[u8], second: &[u8]) -> Result<(), SessionFault>
+/// Writes two texts, one after the other. At `Err` a front of both was written.
+pub fn send_both<W: Write>(
+    sink: &mut Sink<W>,
+    first: &[u8],
+    second: &[u8],
+) -> Result<(), SessionFault>
     ensures wrote { Wrote (W.contents sink.old.inner) (W.contents sink.new.inner) (first.now ++ second.now) result }
     ensures kept { OnOk result (sink.new.failed ≡ sink.old.failed) }
     ensures flag { OnErr result ((result ≡ Err SessionFault.Write) × (sink.new.failed ≡ true)) }

@@ -10,4 +10,4 @@ push_row-requires-clause-placed g c =
 
 pub loop-y-preserved : goal.loop-y-preserved
 loop-y-preserved g c =
-    begins_more c.args.grid (cells_of c.args.tiles.now) c.args.rect c.loop-y.y (c.args.rect.x + c.args.rect.width - c.args.rect.x) c.loop-y.samples.items _ (omega arith) c.loop-y.invariant c.in_ok-push_row.ensures
+    begins_more c.args.grid (cells_of c.args.tiles.now) c.args.rect c.loop-y.y (c.args.rect.x + c.args.rect.width - c.args.rect.x) c.loop-y.samples.items _ (omega arith) c.loop-y.invariant c.in_ok-push_row.ensures.value

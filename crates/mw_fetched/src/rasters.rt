@@ -1,0 +1,107 @@
+//! Writing an image in tiles: row by row, so that no plane is put together. All memory is asked for before the first byte.
+
+ghost use Rattle.std.specs.Prelude.{◌≡◌, ◌≤◌, ◌++◌, ℕ, List, length, OnOk, OnErr, Err, true, vec_capacity};
+ghost use Rattle.mw_model.specs.Rasters.{Raster};
+ghost use Rattle.mw_netpbm.specs.Rows.{rows_bytes};
+ghost use Rattle.mw_tiles.specs.Rows.{AreCutFrom};
+ghost use Rattle.mw_fetched.specs.Texts.{SaysBytes, SaysFetched};
+ghost use Rattle.mw_wire.specs.Writes.{Wrote};
+
+use mw_model::{NoMemory, Reply};
+use mw_netpbm::{RowBytes, header};
+use mw_store::Shown;
+use mw_tiles::{TiledRows, TilesView, WholePlane};
+use mw_wire::{ReplyLine, SessionFault, Sink, image_line, say_told, send, send_both};
+use std::alloc::Global;
+use std::io::Write;
+
+/// Writes all rows. There is room for one, and for its bytes.
+fn send_rows<W: Write, P: RowBytes>(
+    sink: &mut Sink<W>,
+    tiles: &TiledRows<P>,
+    samples: &mut Vec<P>,
+    text: &mut Vec<u8>,
+) -> Result<(), SessionFault>
+    requires samples { tiles.now.tiling.width ≤ vec_capacity samples.old }
+    requires text { (row : List P) → length row ≡ tiles.now.tiling.width → length (P.bytes tiles.now.tiling.width row) ≤ vec_capacity text.old }
+    ensures wrote { (f : Raster P) → AreCutFrom f tiles.now → Wrote (W.contents sink.old.inner) (W.contents sink.new.inner) (rows_bytes P.bytes f.width f.height f.cells) result }
+    ensures kept { OnOk result (sink.new.failed ≡ sink.old.failed) }
+    ensures flag { OnErr result ((result ≡ Err SessionFault.Write) × (sink.new.failed ≡ true)) }
+{
+    for y in 0..tiles.height() {
+        tiles.read(y, samples);
+        P::fill(text, samples);
+        match send(sink, text) {
+            Ok(()) => {}
+            Err(fault) => return Err(fault),
+        }
+    }
+    Ok(())
+}
+
+/// Writes a line, the header and all rows.
+fn send_image<W: Write, P: RowBytes>(
+    sink: &mut Sink<W>,
+    line: &ReplyLine,
+    head: &[u8],
+    tiles: &TiledRows<P>,
+    samples: &mut Vec<P>,
+    text: &mut Vec<u8>,
+) -> Result<(), SessionFault>
+    requires samples { tiles.now.tiling.width ≤ vec_capacity samples.old }
+    requires text { (row : List P) → length row ≡ tiles.now.tiling.width → length (P.bytes tiles.now.tiling.width row) ≤ vec_capacity text.old }
+    ensures wrote { (f : Raster P) → AreCutFrom f tiles.now → Wrote (W.contents sink.old.inner) (W.contents sink.new.inner) (line.now ++ (head.now ++ rows_bytes P.bytes f.width f.height f.cells)) result }
+    ensures kept { OnOk result (sink.new.failed ≡ sink.old.failed) }
+    ensures flag { OnErr result ((result ≡ Err SessionFault.Write) × (sink.new.failed ≡ true)) }
+{
+    match send_both(sink, line.as_bytes(), head) {
+        Err(fault) => Err(fault),
+        Ok(()) => send_rows(sink, tiles, samples, text),
+    }
+}
+
+/// Writes the reply that hands out the image with this header, or that there is no room for a row.
+fn say_rows<W: Write, P: RowBytes>(
+    alloc: Global,
+    sink: &mut Sink<W>,
+    t: u32,
+    head: &[u8],
+    tiles: &TiledRows<P>,
+) -> Result<(), SessionFault>
+    ensures said { (f : Raster P) → AreCutFrom f tiles.now → (text : List ℕ) × SaysBytes t (head.now ++ rows_bytes P.bytes f.width f.height f.cells) text × Wrote (W.contents sink.old.inner) (W.contents sink.new.inner) text result }
+    ensures kept { OnOk result (sink.new.failed ≡ sink.old.failed) }
+    ensures flag { OnErr result ((result ≡ Err SessionFault.Write) × (sink.new.failed ≡ true)) }
+{
+    let (width, height) = (tiles.width(), tiles.height());
+    let count = P::byte_count(width);
+    let Ok(mut samples) = Vec::with_capacity(alloc, width as usize) else {
+        return say_told(sink, Err(NoMemory));
+    };
+    let Ok(mut text) = Vec::with_capacity(alloc, count) else {
+        return say_told(sink, Err(NoMemory));
+    };
+    let line = image_line(t, head.len() + height as usize * count);
+    send_image(sink, &line, head, tiles, &mut samples, &mut text)
+}
+
+/// Writes an image in tiles, or that it found no memory.
+pub(crate) fn say_tiles<W: Write>(
+    alloc: Global,
+    sink: &mut Sink<W>,
+    t: u32,
+    plane: &WholePlane,
+) -> Result<(), SessionFault>
+    ensures said { (text : List ℕ) × SaysFetched (Reply.Shown t) (Shown.Image plane.now) text × Wrote (W.contents sink.old.inner) (W.contents sink.new.inner) text result }
+    ensures kept { OnOk result (sink.new.failed ≡ sink.old.failed) }
+    ensures flag { OnErr result ((result ≡ Err SessionFault.Write) × (sink.new.failed ≡ true)) }
+{
+    let (width, height) = (plane.width(), plane.height());
+    let Ok(head) = header(alloc, plane.kind(), width, height, plane.maxval()) else {
+        return say_told(sink, Err(NoMemory));
+    };
+    match plane.view() {
+        TilesView::Bits(tiles) => say_rows(alloc, sink, t, &head, &tiles),
+        TilesView::Grey8(tiles, _) => say_rows(alloc, sink, t, &head, &tiles),
+        TilesView::Grey16(tiles, _) => say_rows(alloc, sink, t, &head, &tiles),
+    }
+}
