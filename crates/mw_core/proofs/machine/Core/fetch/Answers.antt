@@ -20,11 +20,11 @@ returns-clause-value c = λ m s.
     let seen = c.store.ensures ∙ ap stored_of c.self.view_is in
     let q = call.Fetch c.args.name in
     let told = c.fetch_reply-reply.ensures.value ∙ ap (λ v. reply_from v.table v.kept q) seen in
-    fetched-value c.args.self.now m c.args.name c.fetch_reply-reply.result c.in_ok-value.value s told c.in_ok-value.ensures
+    fetched-value c.args.self.now m c.args.name c.fetch_reply-reply.result c.in_ok-value.value s told c.in_ok-value.ensures.shown
 
 pub returns-clause-shown : goal.returns-clause-shown
 returns-clause-shown c = λ m s.
     let seen = c.store.ensures ∙ ap stored_of c.self.view_is in
     let q = call.Fetch c.args.name in
     let told = c.fetch_reply-reply.ensures.value ∙ ap (λ v. reply_from v.table v.kept q) seen in
-    fetched-shown c.args.self.now m c.args.name c.fetch_reply-reply.result c.in_ok-value.value s told c.in_ok-value.ensures
+    fetched-shown c.args.self.now m c.args.name c.fetch_reply-reply.result c.in_ok-value.value s told c.in_ok-value.ensures.shown
