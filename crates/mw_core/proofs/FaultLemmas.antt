@@ -1,5 +1,5 @@
 -- Calls whose payload holds nothing.
-use Rattle.std.proofs.Common.{◌≡◌, ℕ, Bool, true, false, ◌++◌, ◌∷◌, [], Option, Some, None, refl, sym, subst}
+use Rattle.std.proofs.Common.{◌≡◌, ℕ, Bool, true, false, ◌++◌, ◌∷◌, [], Option, Some, None, Result, Ok, Err, OnErr, ◌⊎◌, inl, inr, refl, sym, subst, ◌∙◌}
 use Rattle.std.specs.Option.{option_map_or}
 use Rattle.mw_model.specs.declared.names.Name.{Name}
 use Rattle.mw_model.specs.declared.codes.Code.{Code}
@@ -40,3 +40,14 @@ pub none-before-none : (a b : Option Code) → None ≡ first_of (a ∷ b ∷ No
 none-before-none (Some c) b e = sym e
 none-before-none None (Some c) e = sym e
 none-before-none None None e = refl
+
+-- a clause on an error
+pub on_err : {X E A : Type 0} (r : Result X E) → A → OnErr r A
+on_err (Ok x) a = tt
+on_err (Err e) a = a
+
+-- where an item is not long, its want of memory tells that the log is full
+pub short-full : {X E A B : Type 0} (r : Result X E) (long : Bool) → long ≡ false → OnErr r ((long ≡ true) ⊎ A) → (A → B) → OnErr r B
+short-full (Ok x) long short h f = tt
+short-full (Err e) long short (inl is) f = let no : false ≡ true = sym short ∙ is in cc
+short-full (Err e) long short (inr full) f = f full

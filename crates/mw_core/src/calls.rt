@@ -1,6 +1,6 @@
 //! Session calls: each is one event.
 
-ghost use Rattle.std.specs.Prelude.{◌≡◌, ◌≢◌, ◌⊎◌, ◌++◌, ◌∷◌, [], ℕ, true, OnErr, IfOk, IsOk, Ok, None};
+ghost use Rattle.std.specs.Prelude.{◌≡◌, ◌≢◌, ◌⊎◌, ◌++◌, ◌∷◌, [], ℕ, true, false, OnErr, IfOk, IsOk, Ok, None};
 
 use crate::machine::Core;
 use mw_element::Element;
@@ -20,6 +20,7 @@ impl Core {
     ghost use Rattle.mw_ledger.specs.mw_underway.Planning.{IsSide};
     ghost use Rattle.mw_ledger.specs.mw_stands.Payloads.{given_image, image_payload, given_element, element_payload};
     ghost use Rattle.mw_checks.specs.Faults.{IsFault};
+    ghost use Rattle.mw_log.specs.Short.{is_long};
     ghost use Rattle.mw_ledger.specs.mw_stands.Events.{Serves, IsFresh};
     ghost use Rattle.mw_ledger.specs.mw_stands.Rows.{IsLogFull};
 
@@ -39,6 +40,7 @@ impl Core {
 
     /// A payload that holds nothing.
     fn fault(&mut self, call: Call, name: Name, code: Code) -> Result<Reply, NoMemory>
+        requires short { (c : Code) → is_long (LogItem.Call call (Reply.Refused c)) ≡ false }
         ensures told { IfOk result (λ r. IsFault self.old.table name code r) }
         ensures ok { IfOk result (λ r. self.new ≡ record self.old { log = self.old.log ++ LogItem.Call call r ∷ [] }) }
         ensures err { OnErr result (self.new ≡ self.old) }

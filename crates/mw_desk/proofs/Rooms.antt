@@ -80,11 +80,7 @@ room-for-portion h k waiting n same e some portion less =
       waiting,
       ap (λ (l : List ℕ). l ++ waiting) (sym same),
       elim (partial_gathers k.bytes part) [ inl asks ↦ payload asks part some | inr unended ↦ line part unended some ],
-      take n waiting,
-      drop n waiting,
-      sym (take-append-drop n waiting),
-      portion-kept h k (take n waiting) same portion,
-      less,
+      (take n waiting, drop n waiting, sym (take-append-drop n waiting), portion-kept h k (take n waiting) same portion, less),
     )
 
 some_left : (xs ys : List ℕ) → xs ≢ [] → xs ++ ys ≢ []
@@ -93,15 +89,11 @@ some_left (x ∷ xs) ys n e = cc
 
 -- more bytes that wait
 pub room-more : (h : Held) (rest more : List ℕ) → WantsRoom h rest → WantsRoom h (rest ++ more)
-room-more h rest more (waiting, is, gathers, portion, behind, parts, fits, less) = (
+room-more h rest more (waiting, is, gathers, (portion, behind, parts, fits, less)) = (
   waiting ++ more,
   ap (λ l. l ++ more) is ∙ append_assoc h.bytes waiting more,
   elim gathers [ payload asks part some ↦ payload asks part (some_left waiting more some) | line part unended some ↦ line part unended (some_left waiting more some) ],
-  portion,
-  behind ++ more,
-  ap (λ l. l ++ more) parts ∙ append_assoc portion behind more,
-  fits,
-  less,
+  (portion, behind ++ more, ap (λ l. l ++ more) parts ∙ append_assoc portion behind more, fits, less),
 )
 
 pub room-lacks : (bytes : List ℕ) (h : Held) (rest : List ℕ) → WantsRoom h rest → LacksRoom bytes rest

@@ -33,9 +33,9 @@ one_none mine rest have len at ends few = elim (cases_lt have len) [
 ]
 
 -- Where a payload or what waits behind it has no place for its part of a piece, the piece is longer than there are places for.
-pub spare_lacks : (have cap len loose room mine other n : ℕ) → have ≤ cap → have ≤ len → loose ≤ room → mine ≡ min (len - have) n → n ≡ mine + other → (cap < have + mine) ⊎ ((have + mine ≤ cap) × (room < loose + other))
-    → (if nat_lt cap len then cap - have else len - have + (room - loose)) < n
-spare_lacks have cap len loose room mine other n held within placed part whole full = elim (cases_lt cap len) [
+pub spare_lacks : (have cap len loose seen room mine other n : ℕ) → seen ≡ loose → have ≤ cap → have ≤ len → loose ≤ room → mine ≡ min (len - have) n → n ≡ mine + other → (cap < have + mine) ⊎ ((have + mine ≤ cap) × (room < loose + other))
+    → (if nat_lt cap len then cap - have else len - have + (room - seen)) < n
+spare_lacks have cap len loose seen room mine other n shown held within placed part whole full = elim (cases_lt cap len) [
   | inl less ↦ rw (lt-ltb cap len less) (elim full [ inl a ↦ omega (arith, held, part, whole, a) | inr b ↦ absurd (omega (arith, less, held, within, placed, part, whole, b.0, b.1)) ])
-  | inr enough ↦ rw (le-ltb cap len enough) (elim full [ inl a ↦ absurd (omega (arith, enough, within, part, a)) | inr b ↦ omega (arith, within, placed, part, whole, b.0, b.1) ])
+  | inr enough ↦ rw (le-ltb cap len enough) (elim full [ inl a ↦ absurd (omega (arith, enough, within, part, a)) | inr b ↦ omega (arith, shown, within, placed, part, whole, b.0, b.1) ])
 ]

@@ -48,7 +48,7 @@ returns-in-Some-clause-still c =
     (λ e full.
     let same : length payload.items ≡ length c.self.inside.payload.items = ap (λ (l : List ℕ). length l) e.0 in
     rw (c.in-Some.is, ← payload.ok.0, ← rest.ok.0)
-    (spare_lacks payload.len payload.cap c.in-Some.len rest.len rest.cap (length mine) (length other) (length c.args.piece.now) payload.ok.1 (omega (arith, same, payload.ok.0, inv.1.1)) rest.ok.1
+    (spare_lacks payload.len payload.cap c.in-Some.len rest.len (rest.len - 0) rest.cap (length mine) (length other) (length c.args.piece.now) (omega arith) payload.ok.1 (omega (arith, same, payload.ok.0, inv.1.1)) rest.ok.1
     (omega (arith, c.split_at.ensures.front_len, c.min.ensures, c.len.ensures, c.self.inside.payload.ok.0, same, payload.ok.0)) (omega (arith, whole, length-append mine other)) full))
 
 pub returns-in-Some-clause-tidy : goal.returns-in-Some-clause-tidy
