@@ -2,7 +2,7 @@ use Rattle.std.proofs.Common.{◌≡◌, ◌∙◌, ◌+◌, ◌&&◌, ◌<◌, 
 use Rattle.std.specs.List.{AllByRecursion}
 use Rattle.std.proofs.lemmas.List.{map-append, take_at, length-map}
 use Rattle.std.proofs.lemmas.Bool.{and_parts}
-use Rattle.indexmap.specs.IndexSet.{insert_key, spare}
+use Rattle.indexmap.specs.IndexSet.{spare}
 use Rattle.mw_model.specs.declared.names.Name.{Name}
 use Rattle.mw_model.specs.Refusals.{is_pending, outcome_at, ticket_of}
 use Rattle.mw_model.specs.Names.{same_name}
@@ -13,12 +13,9 @@ use Rattle.mw_store.specs.Stored.{Stored}
 use Rattle.mw_store.specs.Waiting.{Waiting, entry_for, waiting_at}
 use Rattle.mw_store.specs.Wanted.{is_among, one_if}
 use Rattle.mw_store.proofs.AddLemmas.{added}
-use Rattle.mw_store.proofs.PlaceLemmas.{row-more, rows-full}
+use Rattle.mw_store.proofs.PlaceLemmas.{on_err, row-more, rows-full}
 use Rattle.mw_store.proofs.Tracking.{push-tracked, tracked-lists, wanted-small, zero-behind}
 use Rattle.mw_store.proofs.columns.Store.push.Goals as goal
-
-pub invariant_of-self-in_err-reserve_row : goal.invariant_of-self-in_err-reserve_row
-invariant_of-self-in_err-reserve_row c = rw (c.reserve_row.ensures.items) (c.self.invariant.0, record { submissions = row-more _ _ _ c.self.invariant.1.submissions c.reserve_row.ensures.capacity; outcomes = c.self.invariant.1.outcomes; kept = c.self.invariant.1.kept; wanted = c.self.invariant.1.wanted; waiting = c.self.invariant.1.waiting; names = c.self.invariant.1.names })
 
 pub invariant_of-self-in_err-reserve_row-2 : goal.invariant_of-self-in_err-reserve_row-2
 invariant_of-self-in_err-reserve_row-2 c = rw (c.reserve_row.ensures.items, c.reserve_row-2.ensures.items) (c.self.invariant.0, record { submissions = row-more _ _ _ c.self.invariant.1.submissions c.reserve_row.ensures.capacity; outcomes = row-more _ _ _ c.self.invariant.1.outcomes c.reserve_row-2.ensures.capacity; kept = c.self.invariant.1.kept; wanted = c.self.invariant.1.wanted; waiting = c.self.invariant.1.waiting; names = c.self.invariant.1.names })
@@ -72,7 +69,7 @@ invariant_of-self-2 c =
     let v = c.self.view_is in
     let s : Stored = record { table = record { names = a.names.keys; submissions = a.submissions.items; outcomes = a.outcomes.items }; kept = map (option_map kept_value) a.kept.items } in
     let free = ap (λ w. ticket_of w.table.names c.args.name) v ∙ c.requires.free in
-    let names : c.insert.new.self.keys ≡ a.names.keys ++ c.args.name ∷ [] = c.in-Ok.ensures.keys ∙ ap (λ (l : List Name). insert_key _ l c.args.name) c.reserve_name.ensures.keys ∙ added (same_name c.args.name) a.names.keys c.args.name free in
+    let names : c.insert.new.self.keys ≡ a.names.keys ++ c.args.name ∷ [] = c.in-Ok.ensures.keys ∙ added (same_name c.args.name) c.reserve_name.new.names.keys a.names.keys c.args.name c.reserve_name.ensures.keys free in
     let below : AllByRecursion (λ i. i < length a.names.keys) (tickets c.args.submission.inputs)
     = let B : Stored → Type 0 = λ x. AllByRecursion (λ i. i < length x.table.names) (tickets c.args.submission.inputs) in subst B (sym v) c.requires.below in
     let room : length a.names.keys < 65536 = let R : Stored → Type 0 = λ x. length x.table.names < 65536 in subst R (sym v) c.requires.room in
@@ -95,8 +92,9 @@ invariant_of-self-2 c =
     let counts-size : length now ≡ length a.wanted.items + 1 = omega (arith, c.raise_inputs.auto.wanted, ap length counts, length-append a.wanted.items (0 ∷ [])) in
     let lists-size : length rest ≡ length made + 1 = omega (arith, c.push_inputs.auto.waiting, ap length lists, length-append made (c.none.result ∷ [])) in
     let whole = tracked.whole in
-    let more : length c.insert.new.self.keys ≡ length a.names.keys + 1 = omega (arith, ap (λ (l : List Name). length l) names, length-append a.names.keys (c.args.name ∷ [])) in
-    let rows : HasRows (length c.insert.new.self.keys) c.push_reserved.new.self.cap c.push_reserved-2.new.self.cap c.push_reserved-3.new.self.cap c.push_reserved-4.new.self.cap c.push_reserved-5.new.self.cap (length c.insert.new.self.keys + spare c.insert.new.self) = record { submissions = omega (arith, more, c.in_ok-reserve_row.ensures.row, c.push_reserved.ensures.capacity, whole.submissions, a.submissions.ok.0); outcomes = omega (arith, more, c.in_ok-reserve_row-2.ensures.row, c.push_reserved-2.ensures.capacity, whole.outcomes, a.outcomes.ok.0); kept = omega (arith, more, c.in_ok-reserve_row-3.ensures.row, c.push_reserved-3.ensures.capacity, whole.kept, a.kept.ok.0, length-map a.kept.items (option_map kept_value)); wanted = omega (arith, more, c.in_ok-reserve_row-4.ensures.row, c.push_reserved-4.ensures.capacity, tracked.counted, a.wanted.ok.0); waiting = omega (arith, more, c.in_ok-reserve_row-5.ensures.row, c.push_reserved-5.ensures.capacity, tracked.listed, a.waiting.ok.0); names = omega (arith, more, c.in_ok-reserve_name.ensures.row, c.insert.ensures.spare) } in
+    let keys = a.names.keys ++ c.args.name ∷ [] in
+    let more : length keys ≡ length a.names.keys + 1 = length-append a.names.keys (c.args.name ∷ []) in
+    let rows : HasRows (length keys) c.push_reserved.new.self.cap c.push_reserved-2.new.self.cap c.push_reserved-3.new.self.cap c.push_reserved-4.new.self.cap c.push_reserved-5.new.self.cap (length keys + spare c.insert.new.self) = record { submissions = omega (arith, more, c.in_ok-reserve_row.ensures.row, c.push_reserved.ensures.capacity, whole.submissions, a.submissions.ok.0); outcomes = omega (arith, more, c.in_ok-reserve_row-2.ensures.row, c.push_reserved-2.ensures.capacity, whole.outcomes, a.outcomes.ok.0); kept = omega (arith, more, c.in_ok-reserve_row-3.ensures.row, c.push_reserved-3.ensures.capacity, whole.kept, a.kept.ok.0, length-map a.kept.items (option_map kept_value)); wanted = omega (arith, more, c.in_ok-reserve_row-4.ensures.row, c.push_reserved-4.ensures.capacity, tracked.counted, a.wanted.ok.0); waiting = omega (arith, more, c.in_ok-reserve_row-5.ensures.row, c.push_reserved-5.ensures.capacity, tracked.listed, a.waiting.ok.0); names = omega (arith, more, c.in_ok-reserve_name.ensures.row, c.insert.ensures.spare) } in
     rw (
       names,
       c.push_reserved.ensures.items,
@@ -117,35 +115,37 @@ unfolding ticket_of
 returns-clause-table c =
     let v = c.self.view_is in
     let free = ap (λ w. ticket_of w.table.names c.args.name) c.self.view_is ∙ c.requires.free in
-    rw (c.in-Ok.ensures.keys, added (same_name c.args.name) c.self.inside.names.keys c.args.name free, c.push_reserved.ensures.items, c.push_reserved-2.ensures.items, c.reserve_row.ensures.items, c.reserve_row-2.ensures.items, ← v) refl
+    let names : c.insert.new.self.keys ≡ c.self.inside.names.keys ++ c.args.name ∷ []
+    = c.in-Ok.ensures.keys ∙ added (same_name c.args.name) c.reserve_name.new.names.keys c.self.inside.names.keys c.args.name c.reserve_name.ensures.keys free in
+    rw (names, c.push_reserved.ensures.items, c.push_reserved-2.ensures.items, c.reserve_row.ensures.items, c.reserve_row-2.ensures.items, ← v) refl
 
 pub returns-in_err-reserve_row-clause-memory : goal.returns-in_err-reserve_row-clause-memory
 returns-in_err-reserve_row-clause-memory c =
     let a = c.self.inside in
     let whole = c.self.invariant.0.whole in
     let shown = ap (λ (s : Stored). length s.table.names) c.self.view_is in
-    inl (rows-full a.submissions.len (length a.names.keys) (length c.args.self.now.table.names) a.submissions.cap (a.submissions.ok.0 ∙ whole.submissions) shown c.self.invariant.1.submissions c.in_err-reserve_row.ensures.memory)
+    on_err c.from_residual.result (inl (rows-full a.submissions.len (length a.names.keys) (length c.args.self.now.table.names) a.submissions.cap (a.submissions.ok.0 ∙ whole.submissions) shown c.self.invariant.1.submissions c.in_err-reserve_row.ensures.memory))
 
 pub returns-in_err-reserve_row-2-clause-memory : goal.returns-in_err-reserve_row-2-clause-memory
 returns-in_err-reserve_row-2-clause-memory c =
     let a = c.self.inside in
     let whole = c.self.invariant.0.whole in
     let shown = ap (λ (s : Stored). length s.table.names) c.self.view_is in
-    inl (rows-full a.outcomes.len (length a.names.keys) (length c.args.self.now.table.names) a.outcomes.cap (a.outcomes.ok.0 ∙ whole.outcomes) shown c.self.invariant.1.outcomes c.in_err-reserve_row-2.ensures.memory)
+    on_err c.from_residual-in_err-reserve_row-2.result (inl (rows-full a.outcomes.len (length a.names.keys) (length c.args.self.now.table.names) a.outcomes.cap (a.outcomes.ok.0 ∙ whole.outcomes) shown c.self.invariant.1.outcomes c.in_err-reserve_row-2.ensures.memory))
 
 pub returns-in_err-reserve_row-3-clause-memory : goal.returns-in_err-reserve_row-3-clause-memory
 returns-in_err-reserve_row-3-clause-memory c =
     let a = c.self.inside in
     let whole = c.self.invariant.0.whole in
     let shown = ap (λ (s : Stored). length s.table.names) c.self.view_is in
-    inl (rows-full a.kept.len (length a.names.keys) (length c.args.self.now.table.names) a.kept.cap (a.kept.ok.0 ∙ sym (length-map a.kept.items (option_map kept_value)) ∙ whole.kept) shown c.self.invariant.1.kept c.in_err-reserve_row-3.ensures.memory)
+    on_err c.from_residual-in_err-reserve_row-3.result (inl (rows-full a.kept.len (length a.names.keys) (length c.args.self.now.table.names) a.kept.cap (a.kept.ok.0 ∙ sym (length-map a.kept.items (option_map kept_value)) ∙ whole.kept) shown c.self.invariant.1.kept c.in_err-reserve_row-3.ensures.memory))
 
 pub returns-in_err-reserve_row-4-clause-memory : goal.returns-in_err-reserve_row-4-clause-memory
 returns-in_err-reserve_row-4-clause-memory c =
     let a = c.self.inside in
     let whole = c.self.invariant.0.whole in
     let shown = ap (λ (s : Stored). length s.table.names) c.self.view_is in
-    inl (rows-full a.wanted.len (length a.names.keys) (length c.args.self.now.table.names) a.wanted.cap (a.wanted.ok.0 ∙ c.self.invariant.0.counted) shown c.self.invariant.1.wanted c.in_err-reserve_row-4.ensures.memory)
+    on_err c.from_residual-in_err-reserve_row-4.result (inl (rows-full a.wanted.len (length a.names.keys) (length c.args.self.now.table.names) a.wanted.cap (a.wanted.ok.0 ∙ c.self.invariant.0.counted) shown c.self.invariant.1.wanted c.in_err-reserve_row-4.ensures.memory))
 
 pub returns-in_err-reserve_inputs-clause-memory : goal.returns-in_err-reserve_inputs-clause-memory
 returns-in_err-reserve_inputs-clause-memory c =
@@ -155,17 +155,17 @@ returns-in_err-reserve_inputs-clause-memory c =
     = rw (c.deref.ensures.value, c.reserve_row-2.ensures.items) at (c.pending_inputs-waited.ensures.value some.0) in
     let both = and_parts _ _ (sym waits ∙ some.1) in
     let P : Stored → Type 0 = λ s. is_pending (outcome_at s.table.outcomes some.0) ≡ true in
-    inr (some.0, both.0, subst P c.self.view_is both.1)
+    on_err c.from_residual-in_err-reserve_inputs.result (inr (some.0, both.0, subst P c.self.view_is both.1))
 
 pub returns-in_err-reserve_row-5-clause-memory : goal.returns-in_err-reserve_row-5-clause-memory
 returns-in_err-reserve_row-5-clause-memory c =
     let a = c.self.inside in
     let shown = ap (λ (s : Stored). length s.table.names) c.self.view_is in
-    inl (rows-full a.waiting.len (length a.names.keys) (length c.args.self.now.table.names) a.waiting.cap (a.waiting.ok.0 ∙ c.self.invariant.0.listed) shown c.self.invariant.1.waiting c.in_err-reserve_row-5.ensures.memory)
+    on_err c.from_residual-in_err-reserve_row-5.result (inl (rows-full a.waiting.len (length a.names.keys) (length c.args.self.now.table.names) a.waiting.cap (a.waiting.ok.0 ∙ c.self.invariant.0.listed) shown c.self.invariant.1.waiting c.in_err-reserve_row-5.ensures.memory))
 
 pub returns-in_err-reserve_name-clause-memory : goal.returns-in_err-reserve_name-clause-memory
 returns-in_err-reserve_name-clause-memory c =
     let a = c.self.inside in
     let n = length a.names.keys in
     let shown = ap (λ (s : Stored). length s.table.names) c.self.view_is in
-    inl (rows-full n n (length c.args.self.now.table.names) (n + spare a.names) refl shown c.self.invariant.1.names c.in_err-reserve_name.ensures.memory)
+    on_err c.from_residual-in_err-reserve_name.result (inl (rows-full n n (length c.args.self.now.table.names) (n + spare a.names) refl shown c.self.invariant.1.names c.in_err-reserve_name.ensures.memory))
