@@ -4,6 +4,7 @@ use Rattle.mw_model.specs.Machine.{reply_from}
 use Rattle.mw_ledger.specs.mw_stands.Facts.{stored_of}
 use Rattle.mw_ledger.proofs.mw_stands.CallLemmas.{serves-fetch}
 use Rattle.mw_core.proofs.FetchLemmas.{fetched-value, fetched-shown}
+use Rattle.mw_core.proofs.FaultLemmas.{on_err}
 use Rattle.mw_core.proofs.machine.Core.fetch.Goals as goal
 
 pub returns-clause-served : goal.returns-clause-served
@@ -35,7 +36,7 @@ returns-in_err-value-clause-full c =
     let q = call.Fetch c.args.name in
     let told = c.fetch_reply-reply.ensures.value ∙ ap (λ v. reply_from v.table v.kept q) seen in
     let some = c.in_err-value.ensures.memory in
-    inr (some.0, sym told ∙ some.1)
+    on_err c.from_residual.result (inr (some.0, sym told ∙ some.1))
 
 pub returns-in_err-note-clause-full : goal.returns-in_err-note-clause-full
-returns-in_err-note-clause-full c = elim c.in_err-note.ensures.memory [ inl long ↦ let no : false ≡ true = long in absurd cc | inr full ↦ inl full ]
+returns-in_err-note-clause-full c = on_err c.from_residual-in_err-note.result (inl (elim c.in_err-note.ensures.memory [ inl long ↦ let no : false ≡ true = long in absurd cc | inr full ↦ full ]))

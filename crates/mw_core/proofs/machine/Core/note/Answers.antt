@@ -5,6 +5,7 @@ use Rattle.mw_model.specs.declared.calls.LogItem.TheVariants as item
 use Rattle.mw_model.specs.Stands.{CoreView}
 use Rattle.mw_ledger.specs.Books.{Book, seen_of}
 use Rattle.mw_ledger.proofs.CountLemmas.{counts-kept}
+use Rattle.mw_core.proofs.FaultLemmas.{on_err}
 use Rattle.mw_core.proofs.machine.Core.note.Goals as goal
 
 pub invariant_of-self-2 : goal.invariant_of-self-2
@@ -21,4 +22,4 @@ returns-clause-side c = ap (λ (b : Book). b.side) c.in_ok-note.ensures.ok ∙ a
 pub returns-in_err-note-clause-memory : goal.returns-in_err-note-clause-memory
 returns-in_err-note-clause-memory c =
     let P : CoreView → Type 0 = λ d. (is_long (item.Call c.args.call c.args.reply) ≡ true) ⊎ IsLogFull d in
-    subst P c.self.view_is c.in_err-note.ensures.rows
+    on_err c.from_residual.result (subst P c.self.view_is c.in_err-note.ensures.rows)
