@@ -1,6 +1,6 @@
 //! Session calls: each is one event.
 
-ghost use Rattle.std.specs.Prelude.{◌≡◌, ◌≢◌, ◌++◌, ◌∷◌, [], ℕ, true, OnErr, IfOk, IsOk, Ok, None};
+ghost use Rattle.std.specs.Prelude.{◌≡◌, ◌≢◌, ◌⊎◌, ◌++◌, ◌∷◌, [], ℕ, true, false, OnErr, IfOk, IsOk, Ok, None};
 
 use crate::machine::Core;
 use mw_element::Element;
@@ -13,12 +13,16 @@ impl Core {
     ghost use Rattle.std.specs.Result.{ForOk};
     ghost use Rattle.mw_model.specs.Pictures.{IsImage};
     ghost use Rattle.mw_model.specs.Machine.{Machine, start_state};
+    ghost use Rattle.mw_model.specs.Lines.{AskElement, AskLoad};
     ghost use Rattle.mw_model.specs.Refusals.{refusal};
+    ghost use Rattle.mw_model.specs.Scripts.{refused_unread};
     ghost use Rattle.mw_model.specs.Stands.{StandsFor};
     ghost use Rattle.mw_ledger.specs.mw_underway.Planning.{IsSide};
     ghost use Rattle.mw_ledger.specs.mw_stands.Payloads.{given_image, image_payload, given_element, element_payload};
     ghost use Rattle.mw_checks.specs.Faults.{IsFault};
+    ghost use Rattle.mw_log.specs.Short.{is_long};
     ghost use Rattle.mw_ledger.specs.mw_stands.Events.{FollowsMachine, IsFresh};
+    ghost use Rattle.mw_ledger.specs.mw_stands.Rows.{IsLogFull};
 
     /// A core that has accepted nothing yet. The side is that of the tiles, in pixels.
     pub fn new(alloc: Global, side: u32) -> Result<Self, NoMemory>
@@ -36,9 +40,11 @@ impl Core {
 
     /// A payload that holds nothing.
     fn fault(&mut self, call: Call, name: Name, code: Code) -> Result<Reply, NoMemory>
+        requires short { (c : Code) → is_long (LogItem.Call call (Reply.Refused c)) ≡ false }
         ensures told { IfOk result (λ r. IsFault self.old.table name code r) }
         ensures ok { IfOk result (λ r. self.new ≡ record self.old { log = self.old.log ++ LogItem.Call call r ∷ [] }) }
         ensures err { OnErr result (self.new ≡ self.old) }
+        ensures first { OnErr result (IsLogFull self.old ⊎ (refused_unread self.old.table (AskLoad name []) ≡ None)) }
         ensures side { self.new.side ≡ self.old.side }
     {
         match mw_checks::of_given(self.ledger.store(), name, Given::Bad(code)) {
@@ -53,6 +59,7 @@ impl Core {
         ensures served { IfOk result (FollowsMachine self.old (Call.Load name (given_image (Ok image))) (image_payload (Ok image)) self.new) }
         ensures memory { IfOk result (λ r. r ≢ Reply.Refused Code.Memory) }
         ensures err { OnErr result (self.new ≡ self.old) }
+        ensures first { OnErr result (IsLogFull self.old ⊎ (refused_unread self.old.table (AskLoad name []) ≡ None)) }
         ensures side { self.new.side ≡ self.old.side }
     {
         self.whole();
@@ -64,12 +71,14 @@ impl Core {
         }
     }
 
-    /// LOAD. An image whose memory was refused is answered so only where nothing else refuses the call.
+    /// LOAD. An image whose memory was refused is answered so only where nothing else refuses the call. Where another refusal
+    /// stands before the payload's, memory is wanting only where the log is full.
     pub fn load(&mut self, name: Name, image: Result<Image, Code>) -> Result<Reply, NoMemory>
         requires { ForOk image IsImage }
         ensures served { IfOk result (FollowsMachine self.old (Call.Load name (given_image image)) (image_payload image) self.new) }
         ensures memory { IfOk result (λ r. r ≢ Reply.Refused Code.Memory) }
         ensures err { OnErr result (self.new ≡ self.old) }
+        ensures first { OnErr result (IsLogFull self.old ⊎ (refused_unread self.old.table (AskLoad name []) ≡ None)) }
         ensures side { self.new.side ≡ self.old.side }
     {
         match image {
@@ -82,6 +91,7 @@ impl Core {
         ensures served { IfOk result (FollowsMachine self.old (Call.Element name (given_element (Ok element))) (element_payload (Ok element)) self.new) }
         ensures memory { IfOk result (λ r. r ≢ Reply.Refused Code.Memory) }
         ensures err { OnErr result (self.new ≡ self.old) }
+        ensures first { OnErr result (IsLogFull self.old ⊎ (refused_unread self.old.table (AskElement name 0 0 []) ≡ None)) }
         ensures side { self.new.side ≡ self.old.side }
     {
         self.whole();
@@ -94,11 +104,13 @@ impl Core {
         }
     }
 
-    /// ELEMENT. An element whose memory was refused is answered so only where nothing else refuses the call.
+    /// ELEMENT. An element whose memory was refused is answered so only where nothing else refuses the call. Where another
+    /// refusal stands before the payload's, memory is wanting only where the log is full.
     pub fn element(&mut self, name: Name, element: Result<Element, Code>) -> Result<Reply, NoMemory>
         ensures served { IfOk result (FollowsMachine self.old (Call.Element name (given_element element)) (element_payload element) self.new) }
         ensures memory { IfOk result (λ r. r ≢ Reply.Refused Code.Memory) }
         ensures err { OnErr result (self.new ≡ self.old) }
+        ensures first { OnErr result (IsLogFull self.old ⊎ (refused_unread self.old.table (AskElement name 0 0 []) ≡ None)) }
         ensures side { self.new.side ≡ self.old.side }
     {
         match element {
@@ -130,20 +142,22 @@ impl Core {
         }
     }
 
-    /// STATUS.
+    /// STATUS. Memory is wanting only where the log is full.
     pub fn status(&mut self, name: Name) -> Result<Reply, NoMemory>
         ensures served { IfOk result (FollowsMachine self.old (Call.Status name) None self.new) }
         ensures err { OnErr result (self.new ≡ self.old) }
+        ensures full { OnErr result (IsLogFull self.old) }
         ensures side { self.new.side ≡ self.old.side }
     {
         let reply = mw_checks::status_reply(self.ledger.store(), name);
         self.note(Call::Status(name), reply)
     }
 
-    /// CANCEL. That of a pending name takes no memory.
+    /// CANCEL. That of a pending name takes no memory; of another, memory is wanting only where the log is full.
     pub fn cancel(&mut self, name: Name) -> Result<Reply, NoMemory>
         ensures served { IfOk result (FollowsMachine self.old (Call.Cancel name) None self.new) }
         ensures err { OnErr result (self.new ≡ self.old) }
+        ensures full { OnErr result (IsLogFull self.old) }
         ensures side { self.new.side ≡ self.old.side }
         ensures succeeds { (m : Machine) → StandsFor self.old m → refusal m.table m.payloads (Call.Cancel name) ≡ None → IsOk result }
     {
@@ -159,10 +173,11 @@ impl Core {
         }
     }
 
-    /// RELEASE.
+    /// RELEASE. Memory is wanting only where the log is full.
     pub fn release(&mut self, name: Name) -> Result<Reply, NoMemory>
         ensures served { IfOk result (FollowsMachine self.old (Call.Release name) None self.new) }
         ensures err { OnErr result (self.new ≡ self.old) }
+        ensures full { OnErr result (IsLogFull self.old) }
         ensures side { self.new.side ≡ self.old.side }
     {
         self.whole();

@@ -1,6 +1,6 @@
 //! The core: a ledger, and the counts of its tasks. What is private here is said in plain equations, beside any machine.
 
-ghost use Rattle.std.specs.Prelude.{◌≡◌, ◌<◌, ◌≤◌, [], ◌∷◌, ◌++◌, length, OnOk, OnErr, IfOk, IfSome, option_map, false};
+ghost use Rattle.std.specs.Prelude.{◌≡◌, ◌⊎◌, ◌<◌, ◌≤◌, [], ◌∷◌, ◌++◌, length, OnOk, OnErr, IfOk, IfSome, option_map, true, false};
 
 use mw_ledger::{Counts, Entry, Ledger, PlanProgress};
 use mw_log::Compact;
@@ -50,6 +50,7 @@ impl Core {
     ghost use Rattle.mw_ledger.specs.mw_stands.Changes.{KeepsWork};
     ghost use Rattle.mw_ledger.specs.mw_stands.Facts.{IsComplete};
     ghost use Rattle.mw_ledger.specs.mw_stands.Limits.{FitsLimits, ShapesFit};
+    ghost use Rattle.mw_ledger.specs.mw_stands.Rows.{IsLogFull};
     ghost use Rattle.mw_ledger.specs.mw_underway.Planning.{IsPlannedOn, IsSide};
     ghost use Rattle.mw_log.specs.Short.{is_long};
     ghost use Rattle.mw_ledger.specs.Books.{progress_of};
@@ -63,12 +64,13 @@ impl Core {
         self.ledger.sound();
     }
 
-    /// Adds the item of a call that changes no entry.
+    /// Adds the item of a call that changes no entry. Memory is wanting only where the log is full, or for a long item.
     pub(crate) fn note(&mut self, call: Call, reply: Reply) -> Result<Reply, NoMemory>
         ensures reply { IfOk result (λ r. r ≡ reply) }
         ensures ok { OnOk result (self.new ≡ record self.old { log = self.old.log ++ LogItem.Call call reply ∷ [] }) }
         ensures side { self.new.side ≡ self.old.side }
         ensures err { OnErr result (self.new ≡ self.old) }
+        ensures memory { OnErr result ((is_long (LogItem.Call call reply) ≡ true) ⊎ IsLogFull self.old) }
     {
         self.ledger.note(call, reply)?;
         Ok(reply)
@@ -129,7 +131,7 @@ impl Core {
         self.counts.recount(&self.ledger);
     }
 
-    /// Lets a done ticket go.
+    /// Lets a done ticket go. Memory is wanting only where the log is full.
     pub(crate) fn let_go(&mut self, t: u32, item: LogItem) -> Result<(), NoMemory>
         requires within { t < length self.old.table.names }
         requires done { outcome_at self.old.table.outcomes t ≡ Outcome.Done }
@@ -140,6 +142,7 @@ impl Core {
         ensures log { OnOk result (self.new.log ≡ self.old.log ++ item ∷ []) }
         ensures side { self.new.side ≡ self.old.side }
         ensures err { OnErr result (self.new ≡ self.old) }
+        ensures memory { OnErr result (IsLogFull self.old) }
     {
         self.ledger.sound();
         self.ledger.let_go(t, Compact::short(item))

@@ -1,5 +1,5 @@
 -- What is gathered where want of memory ends a session.
-use Rattle.std.proofs.Common.{◌≡◌, ◌≢◌, ℕ, ◌+◌, ◌<◌, ◌≤◌, ◌⊎◌, inl, inr, Option, Some, None, List, [], ◌∷◌, ◌++◌, length, take, drop, length-drop, refl, sym, ◌∙◌, ap, arith, append_assoc}
+use Rattle.std.proofs.Common.{◌≡◌, ◌≢◌, ℕ, ◌+◌, ◌<◌, ◌≤◌, ◌⊎◌, inl, inr, Option, Some, None, List, [], ◌∷◌, ◌++◌, length, take, drop, length-drop, refl, sym, subst, ◌∙◌, ap, arith, append_assoc, take-append-drop}
 use Rattle.std.specs.List.{position_or_len}
 use Rattle.std.proofs.lemmas.Bool.{cases_lt}
 use Rattle.mw_facts.proofs.Positions.{position_length}
@@ -10,7 +10,7 @@ use Rattle.mw_model.specs.declared.codes.Code.{Code}
 use Rattle.mw_model.specs.declared.codes.Code.TheVariants.{Memory}
 use Rattle.mw_model.specs.declared.requests.End.TheVariants as end
 use Rattle.mw_model.specs.Lines.{Partial, Fault, with_payload, after_head}
-use Rattle.mw_intake.specs.Intake.{AsksForPayload}
+use Rattle.mw_intake.specs.Intake.{AsksForPayload, Held, IsPortion, Misses}
 use Rattle.mw_intake.specs.Reading.{front, head_of, is_line_end}
 use Rattle.mw_intake.proofs.Front.{front_long, front_line, front_open, payload_line, payload_long, payload_partial, payload_whole}
 use Rattle.mw_desk.specs.Rooms.{payload, line, WantsRoom, LacksRoom}
@@ -66,21 +66,38 @@ partial_gathers held e =
       | inr unended ↦ inr (omega (arith, unended, position_length is_line_end held))
     ]
 
--- where a portion found no room
-pub room-for-portion : (held waiting : List ℕ) → front held ≡ Partial → waiting ≢ [] → WantsRoom held (held ++ waiting)
-room-for-portion held waiting e some = (waiting, refl, elim (partial_gathers held e) [ inl asks ↦ payload asks e some | inr unended ↦ line e unended some ])
+-- a portion is one wherever these bytes are held
+portion-kept : (h k : Held) (portion : List ℕ) → k.bytes ≡ h.bytes → IsPortion h portion → IsPortion k portion
+portion-kept h k portion e i = record {
+  payload = λ n some misses. i.payload n some (subst (λ (l : List ℕ). Misses l n) e misses);
+  line = λ none. i.line (λ n some misses. none n some (subst (λ (l : List ℕ). Misses l n) (sym e) misses));
+}
+
+-- where a portion found no room, and the bytes are held as they were
+pub room-for-portion : (h k : Held) (waiting : List ℕ) (n : ℕ) → k.bytes ≡ h.bytes → front h.bytes ≡ Partial → waiting ≢ [] → IsPortion h (take n waiting) → k.spare < length (take n waiting) → WantsRoom k (h.bytes ++ waiting)
+room-for-portion h k waiting n same e some portion less =
+    let part : front k.bytes ≡ Partial = ap front same ∙ e in (
+      waiting,
+      ap (λ (l : List ℕ). l ++ waiting) (sym same),
+      elim (partial_gathers k.bytes part) [ inl asks ↦ payload asks part some | inr unended ↦ line part unended some ],
+      (take n waiting, drop n waiting, sym (take-append-drop n waiting), portion-kept h k (take n waiting) same portion, less),
+    )
 
 some_left : (xs ys : List ℕ) → xs ≢ [] → xs ++ ys ≢ []
 some_left [] ys n e = n refl
 some_left (x ∷ xs) ys n e = cc
 
 -- more bytes that wait
-pub room-more : (held rest more : List ℕ) → WantsRoom held rest → WantsRoom held (rest ++ more)
-room-more held rest more (waiting, is, payload asks part some) = (waiting ++ more, ap (λ l. l ++ more) is ∙ append_assoc held waiting more, payload asks part (some_left waiting more some))
-room-more held rest more (waiting, is, line part unended some) = (waiting ++ more, ap (λ l. l ++ more) is ∙ append_assoc held waiting more, line part unended (some_left waiting more some))
+pub room-more : (h : Held) (rest more : List ℕ) → WantsRoom h rest → WantsRoom h (rest ++ more)
+room-more h rest more (waiting, is, gathers, (portion, behind, parts, fits, less)) = (
+  waiting ++ more,
+  ap (λ l. l ++ more) is ∙ append_assoc h.bytes waiting more,
+  elim gathers [ payload asks part some ↦ payload asks part (some_left waiting more some) | line part unended some ↦ line part unended (some_left waiting more some) ],
+  (portion, behind ++ more, ap (λ l. l ++ more) parts ∙ append_assoc portion behind more, fits, less),
+)
 
-pub room-lacks : (bytes held rest : List ℕ) → WantsRoom held rest → LacksRoom bytes rest
-room-lacks bytes held rest w = inr (held, w)
+pub room-lacks : (bytes : List ℕ) (h : Held) (rest : List ℕ) → WantsRoom h rest → LacksRoom bytes rest
+room-lacks bytes h rest w = inr (h, w)
 
 -- a line that is refused is no want of memory
 pub fault_has_room : {X : Type 0} (held : List ℕ) (c : Code) → front held ≡ Fault c → end.Ended c ≡ end.Ended Memory → X

@@ -1,5 +1,5 @@
 -- What the loops of a session keep, and what they end with.
-use Rattle.std.proofs.Common.{Bool, true, false, ◌≡◌, ◌≢◌, ℕ, List, [], ◌∷◌, ◌++◌, ◌+◌, ◌≤◌, length, take, drop, Option, Some, None, Result, Ok, Err, refl, sym, ap, ◌∙◌, subst, inl, inr, append_assoc, arith, take-append-drop, take-add, take-take}
+use Rattle.std.proofs.Common.{Bool, true, false, ◌≡◌, ◌≢◌, ℕ, List, [], ◌∷◌, ◌++◌, ◌+◌, ◌≤◌, length, take, drop, ◌<◌, Option, Some, None, Result, Ok, Err, refl, sym, ap, ◌∙◌, subst, inl, inr, append_assoc, arith, take-append-drop, take-add, take-take}
 use Rattle.std.proofs.lemmas.List.{append-nil, take-append-le}
 use Rattle.std.specs.Io.KnownBytes.{Appends, Consumes, IsAtEnd, Keeps}
 use Rattle.std.proofs.KnownBytes.{Appends-nil, Appends-kept, Consumes-trans}
@@ -10,13 +10,14 @@ use Rattle.mw_model.specs.declared.requests.Ask.TheVariants as ask
 use Rattle.mw_model.specs.declared.requests.End.{End}
 use Rattle.mw_model.specs.declared.requests.End.TheVariants as end
 use Rattle.mw_model.specs.Lines.{Asked, AskAlone, Found, Partial}
+use Rattle.mw_intake.specs.Intake.{Held, IsPortion}
 use Rattle.mw_intake.specs.Reading.{front}
 use Rattle.mw_intake.proofs.Front.{is_front}
 use Rattle.mw_wire.specs.declared.fault.SessionFault.{SessionFault}
 use Rattle.mw_wire.specs.declared.fault.SessionFault.TheVariants as fault
 use Rattle.mw_wire.specs.Writes.{EndsBy, EndedBy, Wrote}
 use Rattle.mw_desk.specs.Rooms.{EndsAt, WantsRoom, LacksRoom}
-use Rattle.mw_desk.specs.Runs.{CameToEnd, BrokeOff, Halted, Drains, DeskRan}
+use Rattle.mw_desk.specs.Runs.{AllAnswered, CameToEnd, BrokeOff, Halted, Drains, DeskRan}
 use Rattle.mw_desk.proofs.Rooms.{room-for-portion, room-more, room-lacks}
 use Rattle.mw_desk.proofs.Ends.{Progress, progress-more, progress-answered, cut-answered, finished-by, cut-by, finished-on, stopped-on, finished-more, finished-for, cut-answer-more, cut-end-more, stopped-for}
 
@@ -66,16 +67,16 @@ module _ {S : Type 0} (Answer : S → Asked → List ℕ → S → Type 0) where
 
   -- ---- answering what waits
 
-  pub drains-partial : (left : Option (List ℕ)) (bytes rest after : List ℕ) (s t : S) (x y : Option (List ℕ)) → after ≡ rest → Progress Answer bytes rest s t x y → front rest ≡ Partial → Drains Answer left bytes after s t x y (Ok None)
+  pub drains-partial : (left : Option (List ℕ)) (bytes rest : List ℕ) (after : Held) (s t : S) (x y : Option (List ℕ)) → after.bytes ≡ rest → Progress Answer bytes rest s t x y → front rest ≡ Partial → Drains Answer left bytes after s t x y (Ok None)
   drains-partial left bytes rest after s t x y same h parts =
-      let P : List ℕ → Type 0 = λ l. Drains Answer left bytes l s t x y (Ok None) in
+      let P : List ℕ → Type 0 = λ l. AllAnswered Answer bytes l s t x y in
       subst P (sym same) (record { asked = h.asked; text = h.text; made = h.made; open_still = parts; wrote = h.wrote })
 
-  pub drains-quit : (left : Option (List ℕ)) (bytes rest more after : List ℕ) (s t : S) (x y : Option (List ℕ)) → Progress Answer bytes rest s t x y → front rest ≡ Found (AskAlone ask.Quit) more → Drains Answer left bytes after s t x y (Ok (Some end.Quit))
+  pub drains-quit : (left : Option (List ℕ)) (bytes rest more : List ℕ) (after : Held) (s t : S) (x y : Option (List ℕ)) → Progress Answer bytes rest s t x y → front rest ≡ Found (AskAlone ask.Quit) more → Drains Answer left bytes after s t x y (Ok (Some end.Quit))
   drains-quit left bytes rest more after s t x y h found =
       finished-by Answer (WantsRoom after) left bytes rest s t x y y end.Quit h (inr (more, is_front rest (Found (AskAlone ask.Quit) more) found), quit_has_room) (Appends-nil y)
 
-  pub drains-ended : (left : Option (List ℕ)) (bytes rest after : List ℕ) (s t : S) (x y z : Option (List ℕ)) (c : Code) (r : Result (Option End) SessionFault) → Progress Answer bytes rest s t x y → EndsAt (WantsRoom after) (IsAtEnd left) rest (end.Ended c) → EndedBy y z c r
+  pub drains-ended : (left : Option (List ℕ)) (bytes rest : List ℕ) (after : Held) (s t : S) (x y z : Option (List ℕ)) (c : Code) (r : Result (Option End) SessionFault) → Progress Answer bytes rest s t x y → EndsAt (WantsRoom after) (IsAtEnd left) rest (end.Ended c) → EndedBy y z c r
       → (A : Type 0) → OnErr r ((r ≡ Err fault.Write) × A) → Drains Answer left bytes after s t x z r
   drains-ended left bytes rest after s t x y z c (Ok o) h ends w A flag =
       let P : Option End → Type 0 = λ e. Drains Answer left bytes after s t x z (Ok e) in
@@ -91,7 +92,7 @@ module _ {S : Type 0} (Answer : S → Asked → List ℕ → S → Type 0) where
   pub progress-given : (bytes rest after : List ℕ) (s k t : S) (x y z : Option (List ℕ)) (q : Asked) (v : Unit {0}) → Progress Answer bytes rest s k x y → front rest ≡ Found q after → q ≢ AskAlone ask.Quit → IsGiven k t q y z (Ok v) → Progress Answer bytes after s t x z
   progress-given bytes rest after s k t x y z q v h found asks a = progress-answered Answer bytes rest after s k t x y z q a.0 h found asks a.1 a.2
 
-  pub drains-broken : (left : Option (List ℕ)) (bytes rest after behind : List ℕ) (s k t : S) (x y z : Option (List ℕ)) (q : Asked) (f : SessionFault) → Progress Answer bytes rest s k x y → front rest ≡ Found q after → q ≢ AskAlone ask.Quit → IsGiven k t q y z (Err f) → f ≡ fault.Write
+  pub drains-broken : (left : Option (List ℕ)) (bytes rest after : List ℕ) (behind : Held) (s k t : S) (x y z : Option (List ℕ)) (q : Asked) (f : SessionFault) → Progress Answer bytes rest s k x y → front rest ≡ Found q after → q ≢ AskAlone ask.Quit → IsGiven k t q y z (Err f) → f ≡ fault.Write
       → Drains Answer left bytes behind s t x z (Err f)
   drains-broken left bytes rest after behind s k t x y z q f h found asks a is =
       let P : SessionFault → Type 0 = λ g. Drains Answer left bytes behind s t x z (Err g) in
@@ -106,16 +107,15 @@ module _ {S : Type 0} (Answer : S → Asked → List ℕ → S → Type 0) where
       subst P (portion-joined had piece at n) (progress-fed (had ++ take at piece) rest (take n (drop at piece)) after s t x y e h)
 
   -- it found no memory
-  pub drains-no-room : (left : Option (List ℕ)) (had piece rest after : List ℕ) (at : ℕ) (s t : S) (x y z : Option (List ℕ)) (r : Result (Option End) SessionFault) → after ≡ rest → Progress Answer (had ++ take at piece) rest s t x y → front rest ≡ Partial → drop at piece ≢ [] → EndedBy y z code.Memory r
-      → (A : Type 0) → OnErr r ((r ≡ Err fault.Write) × A) → Drains Answer left (had ++ piece) after s t x z r
-  drains-no-room left had piece rest after at s t x y z r same h part some w A flag =
-      let P : List ℕ → Type 0 = λ l. Progress Answer l (rest ++ drop at piece) s t x y in
-      let Q : List ℕ → Type 0 = λ l. Drains Answer left (had ++ piece) l s t x z r in
-      let all = subst P (portion-rest had piece at) (progress-more Answer (had ++ take at piece) (drop at piece) rest s t x y h) in
-      subst Q (sym same) (drains-ended left (had ++ piece) (rest ++ drop at piece) rest s t x y z code.Memory r all (inr (inr refl), λ e. room-for-portion rest (drop at piece) part some) w A flag)
+  pub drains-no-room : (left : Option (List ℕ)) (had piece : List ℕ) (held after : Held) (at n : ℕ) (s t : S) (x y z : Option (List ℕ)) (r : Result (Option End) SessionFault) → after.bytes ≡ held.bytes → Progress Answer (had ++ take at piece) held.bytes s t x y → front held.bytes ≡ Partial → drop at piece ≢ []
+      → IsPortion held (take n (drop at piece)) → after.spare < length (take n (drop at piece)) → EndedBy y z code.Memory r → (A : Type 0) → OnErr r ((r ≡ Err fault.Write) × A) → Drains Answer left (had ++ piece) after s t x z r
+  drains-no-room left had piece held after at n s t x y z r same h part some portion less w A flag =
+      let P : List ℕ → Type 0 = λ l. Progress Answer l (held.bytes ++ drop at piece) s t x y in
+      let all = subst P (portion-rest had piece at) (progress-more Answer (had ++ take at piece) (drop at piece) held.bytes s t x y h) in
+      drains-ended left (had ++ piece) (held.bytes ++ drop at piece) after s t x y z code.Memory r all (inr (inr refl), λ e. room-for-portion held after (drop at piece) n same part some portion less) w A flag
 
   -- the session ended while what waited was answered
-  pub drains-finished : (left : Option (List ℕ)) (had piece rest after : List ℕ) (at : ℕ) (s k t : S) (x y z : Option (List ℕ)) (e : End) → Progress Answer (had ++ take at piece) rest s k x y → Drains Answer some_left rest after k t y z (Ok (Some e))
+  pub drains-finished : (left : Option (List ℕ)) (had piece rest : List ℕ) (after : Held) (at : ℕ) (s k t : S) (x y z : Option (List ℕ)) (e : End) → Progress Answer (had ++ take at piece) rest s k x y → Drains Answer some_left rest after k t y z (Ok (Some e))
       → Drains Answer left (had ++ piece) after s t x z (Ok (Some e))
   drains-finished left had piece rest after at s k t x y z e h d =
       let fed = had ++ take at piece in
@@ -123,12 +123,12 @@ module _ {S : Type 0} (Answer : S → Asked → List ℕ → S → Type 0) where
       let ended = finished-on Answer (WantsRoom after) some_left fed rest s k t x y z e h d in
       subst P (portion-rest had piece at) (finished-more Answer (WantsRoom after) (WantsRoom after) left some_left fed (drop at piece) s t x z e not_at_end (λ r w. room-more after r (drop at piece) w) ended)
 
-  stopped_more : (left : Option (List ℕ)) (held fed more : List ℕ) (s t : S) (x z : Option (List ℕ)) → BrokeOff Answer (WantsRoom held) some_left fed s t x z fault.Write → BrokeOff Answer (WantsRoom held) left (fed ++ more) s t x z fault.Write
+  stopped_more : (left : Option (List ℕ)) (held : Held) (fed more : List ℕ) (s t : S) (x z : Option (List ℕ)) → BrokeOff Answer (WantsRoom held) some_left fed s t x z fault.Write → BrokeOff Answer (WantsRoom held) left (fed ++ more) s t x z fault.Write
   stopped_more left held fed more s t x z (inl h) = inl (cut-answer-more Answer fed more s t x z h)
   stopped_more left held fed more s t x z (inr h) = inr (cut-end-more Answer (WantsRoom held) (WantsRoom held) left some_left fed more s t x z not_at_end (λ r w. room-more held r more w) h)
 
   -- writing failed there
-  pub drains-cut : (left : Option (List ℕ)) (had piece rest after : List ℕ) (at : ℕ) (s k t : S) (x y z : Option (List ℕ)) (f : SessionFault) → f ≡ fault.Write → Progress Answer (had ++ take at piece) rest s k x y → Drains Answer some_left rest after k t y z (Err f)
+  pub drains-cut : (left : Option (List ℕ)) (had piece rest : List ℕ) (after : Held) (at : ℕ) (s k t : S) (x y z : Option (List ℕ)) (f : SessionFault) → f ≡ fault.Write → Progress Answer (had ++ take at piece) rest s k x y → Drains Answer some_left rest after k t y z (Err f)
       → Drains Answer left (had ++ piece) after s t x z (Err f)
   drains-cut left had piece rest after at s k t x y z fault.Read is h d = let no : fault.Read ≡ fault.Write = is in cc
   drains-cut left had piece rest after at s k t x y z fault.Write is h d =
@@ -140,7 +140,7 @@ module _ {S : Type 0} (Answer : S → Asked → List ℕ → S → Type 0) where
   -- ---- the whole session
 
   -- it ended while what waited was answered
-  pub ran-finished : (s k t : S) (had left : Option (List ℕ)) (bytes rest after : List ℕ) (x y z : Option (List ℕ)) (e : End) → Consumes had left bytes → Progress Answer bytes rest s k x y → Drains Answer left rest after k t y z (Ok (Some e))
+  pub ran-finished : (s k t : S) (had left : Option (List ℕ)) (bytes rest : List ℕ) (after : Held) (x y z : Option (List ℕ)) (e : End) → Consumes had left bytes → Progress Answer bytes rest s k x y → Drains Answer left rest after k t y z (Ok (Some e))
       → DeskRan Answer s t had left x z (Ok e)
   ran-finished s k t had left bytes rest after x y z e read h d =
       let all = finished-on Answer (WantsRoom after) left bytes rest s k t x y z e h d in
@@ -150,7 +150,7 @@ module _ {S : Type 0} (Answer : S → Asked → List ℕ → S → Type 0) where
   broke_stops lacks left bytes s t x z fault.Read h = h
   broke_stops lacks left bytes s t x z fault.Write h = inl h
 
-  pub ran-broken : (s k t : S) (had left : Option (List ℕ)) (bytes rest after : List ℕ) (x y z : Option (List ℕ)) (f : SessionFault) → Consumes had left bytes → Progress Answer bytes rest s k x y → Drains Answer left rest after k t y z (Err f)
+  pub ran-broken : (s k t : S) (had left : Option (List ℕ)) (bytes rest : List ℕ) (after : Held) (x y z : Option (List ℕ)) (f : SessionFault) → Consumes had left bytes → Progress Answer bytes rest s k x y → Drains Answer left rest after k t y z (Err f)
       → DeskRan Answer s t had left x z (Err f)
   ran-broken s k t had left bytes rest after x y z f read h d =
       let all = stopped-on Answer (WantsRoom after) left bytes rest s k t x y z f h d in

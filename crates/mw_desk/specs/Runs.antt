@@ -5,6 +5,7 @@ use Rattle.mw_model.specs.declared.requests.Ask.TheVariants.{Quit}
 use Rattle.mw_model.specs.declared.requests.End.{End}
 use Rattle.mw_model.specs.Lines.{Asked, AskAlone, Found, Partial}
 use Rattle.mw_model.specs.Scripts.{end_text}
+use Rattle.mw_intake.specs.Intake.{Held}
 use Rattle.mw_intake.specs.Reading.{front}
 use Rattle.mw_wire.specs.declared.fault.SessionFault.{SessionFault}
 use Rattle.mw_wire.specs.declared.fault.SessionFault.TheVariants as fault
@@ -73,12 +74,12 @@ module _ {S : Type 0} (Answer : S → Asked → List ℕ → S → Type 0) where
   Halted lacks left bytes s t before after fault.Read = BrokeOff lacks left bytes s t before after fault.Read
   Halted lacks left bytes s t before after fault.Write = BrokeOff lacks left bytes s t before after fault.Write ⊎ NotPassedOn lacks left bytes s t before after
 
-  -- what waited was answered, up to the end of the session where it came
-  abbrev pub Drains : Option (List ℕ) → List ℕ → List ℕ → S → S → Option (List ℕ) → Option (List ℕ) → Result (Option End) SessionFault → Type 0
-  Drains left bytes rest s t before after result =
+  -- what waited was answered, up to the end of the session where it came, and this is held then
+  abbrev pub Drains : Option (List ℕ) → List ℕ → Held → S → S → Option (List ℕ) → Option (List ℕ) → Result (Option End) SessionFault → Type 0
+  Drains left bytes h s t before after result =
       MatchResult result
-      (λ o. MatchOption o (AllAnswered bytes rest s t before after) (λ end. CameToEnd (WantsRoom rest) left bytes s t before after end))
-      (λ f. BrokeOff (WantsRoom rest) left bytes s t before after f)
+      (λ o. MatchOption o (AllAnswered bytes h.bytes s t before after) (λ end. CameToEnd (WantsRoom h) left bytes s t before after end))
+      (λ f. BrokeOff (WantsRoom h) left bytes s t before after f)
 
   -- A whole session was served: of what the reader had these bytes were taken, and answered up to the end, or to where a fault stopped it.
   pub record DeskRan (s t : S) (had left before after : Option (List ℕ)) (result : Result End SessionFault) : Type 0 where

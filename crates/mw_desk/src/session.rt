@@ -35,7 +35,7 @@ fn drain<W: Write, D: Desk>(
 ) -> Result<Option<End>, SessionFault>
     requires ready { D.ready }
     requires tidy { IsTidy intake.old }
-    ensures ran { (left : Option (List ℕ)) → Drains D.Answer left intake.old.bytes intake.new.bytes kept.old kept.new (W.contents sink.old.inner) (W.contents sink.new.inner) result }
+    ensures ran { (left : Option (List ℕ)) → Drains D.Answer left intake.old.bytes intake.new kept.old kept.new (W.contents sink.old.inner) (W.contents sink.new.inner) result }
     ensures waits { IfOk result (λ o. o ≡ None → front intake.new.bytes ≡ Partial) }
     ensures is_open { IfOk result (λ o. o ≡ None → IsOpen intake.new) }
     ensures same { OnOk result (sink.new.failed ≡ sink.old.failed) }
@@ -59,7 +59,8 @@ fn drain<W: Write, D: Desk>(
 }
 
 /// Serves a piece of the input: feeds it by portions, so that no byte of a payload is copied twice, and answers the
-/// requests that wait after each. Where the session ends, what stands behind is not fed.
+/// requests that wait after each. Where the session ends, what stands behind is not fed. It ends by want of memory only where
+/// the next portion has more bytes than there are places for.
 fn serve_piece<W: Write, D: Desk>(
     intake: &mut Intake,
     sink: &mut Sink<W>,
@@ -71,7 +72,7 @@ fn serve_piece<W: Write, D: Desk>(
     requires some { 0 < length piece.now }
     requires served { front intake.old.bytes ≡ Partial }
     requires is_open { IsOpen intake.old }
-    ensures ran { (left : Option (List ℕ)) → Drains D.Answer left (intake.old.bytes ++ piece.now) intake.new.bytes kept.old kept.new (W.contents sink.old.inner) (W.contents sink.new.inner) result }
+    ensures ran { (left : Option (List ℕ)) → Drains D.Answer left (intake.old.bytes ++ piece.now) intake.new kept.old kept.new (W.contents sink.old.inner) (W.contents sink.new.inner) result }
     ensures waits { IfOk result (λ o. o ≡ None → front intake.new.bytes ≡ Partial) }
     ensures is_open { IfOk result (λ o. o ≡ None → IsOpen intake.new) }
     ensures same { OnOk result (sink.new.failed ≡ sink.old.failed) }

@@ -63,21 +63,19 @@ impl Intake {
         }
     }
 
-    /// Takes the next piece. Memory is wanting only where it has more bytes than there are places for, and then none of
-    /// them is taken.
+    /// Takes the next piece. Memory is wanting only where it has more bytes than there are places for; then none of them is
+    /// taken, and it has more than there are places for still.
     pub fn feed(&mut self, piece: &[u8]) -> Result<(), NoMemory>
         ensures ok { OnOk result (self.new.bytes ≡ self.old.bytes ++ piece.now) }
         ensures err { OnErr result (self.new.bytes ≡ self.old.bytes) }
         ensures memory { OnErr result (self.old.spare < length piece.now) }
+        ensures still { OnErr result (self.new.spare < length piece.now) }
         ensures tidy { OnOk result (IsOpen self.old → front self.old.bytes ≡ Partial → IsPortion self.old piece.now → IsTidy self.new) }
     {
         drop_front(&mut self.rest, self.at);
         self.at = 0;
         match self.wanted {
-            None => {
-                self.rest.extend_from_slice(piece)?;
-                Ok(())
-            }
+            None => append(&mut self.rest, piece),
             Some((_, len)) => {
                 let missing = len as usize - self.payload.len();
                 let (mine, other) = piece.split_at(missing.min(piece.len()));
@@ -258,6 +256,7 @@ fn grow(payload: &mut Vec<u8>, more: usize, most: usize) -> Result<(), NoMemory>
     ensures announced { OnOk result (vec_capacity payload.new ≤ max (vec_capacity payload.old) most) }
     ensures few { OnOk result (vec_capacity payload.new ≤ max (vec_capacity payload.old) (2 * max (vec_len payload.old + more) 64)) }
     ensures memory { OnErr result (vec_capacity payload.old < vec_len payload.old + more) }
+    ensures err { OnErr result (vec_capacity payload.new ≡ vec_capacity payload.old) }
 {
     let come = payload.len() + more;
     if come <= payload.capacity() {
@@ -279,6 +278,20 @@ fn gather(payload: &mut Vec<u8>, mine: &[u8], most: usize) -> Result<(), NoMemor
     Ok(())
 }
 
+/// Appends, or makes no more places.
+fn append(v: &mut Vec<u8>, bytes: &[u8]) -> Result<(), NoMemory>
+    ensures ok { OnOk result (v.new.items ≡ v.old.items ++ bytes.now) }
+    ensures err { OnErr result (v.new.items ≡ v.old.items) }
+    ensures memory { OnErr result (vec_capacity v.old < vec_len v.old + length bytes.now) }
+    ensures still { OnErr result (vec_capacity v.new < vec_len v.new + length bytes.now) }
+{
+    v.reserve(bytes.len())?;
+    let Ok(()) = v.extend_from_slice(bytes) else {
+        unreachable!()
+    };
+    Ok(())
+}
+
 /// Appends to a payload, of which most will come at last, and to what waits behind it; or to neither.
 fn append_both(
     payload: &mut Vec<u8>,
@@ -291,9 +304,10 @@ fn append_both(
     ensures ok { OnOk result ((payload.new.items ≡ payload.old.items ++ mine.now) × (rest.new.items ≡ rest.old.items ++ other.now)) }
     ensures err { OnErr result ((payload.new.items ≡ payload.old.items) × (rest.new.items ≡ rest.old.items)) }
     ensures memory { OnErr result ((vec_capacity payload.old < vec_len payload.old + length mine.now) ⊎ (vec_capacity rest.old < vec_len rest.old + length other.now)) }
+    ensures still { OnErr result ((vec_capacity payload.new < vec_len payload.new + length mine.now) ⊎ ((vec_len payload.new + length mine.now ≤ vec_capacity payload.new) × (vec_capacity rest.new < vec_len rest.new + length other.now))) }
 {
     grow(payload, mine.len(), most)?;
-    rest.extend_from_slice(other)?;
+    append(rest, other)?;
     let Ok(()) = payload.extend_from_slice(mine) else {
         unreachable!()
     };

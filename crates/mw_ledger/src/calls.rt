@@ -3,10 +3,11 @@
 ghost use Rattle.std.specs.Prelude.{◌≡◌, ◌<◌, ◌≤◌, ◌++◌, ◌∷◌, ◌⊎◌, [], length, OnOk, OnErr, IfOk, IfSome, None, true, false};
 
 use crate::ledger::Ledger;
+use crate::places::make_places;
 use crate::sweep::drop_settled;
 use mw_log::Compact;
 use mw_model::{Call, LogItem, Name, NoMemory, Outcome, Reply};
-use mw_underway::{Entry, PlanProgress};
+use mw_underway::{Entry, PlanProgress, reserve_row};
 
 impl Ledger {
     ghost use Rattle.std.specs.List.{AllByRecursion};
@@ -15,11 +16,14 @@ impl Ledger {
     ghost use Rattle.mw_model.specs.Machine.{killed, settled};
     ghost use Rattle.mw_model.specs.Tasks.{remaining_tasks, task_count};
     ghost use Rattle.mw_underway.specs.mw_store.Entries.{submission_of};
+    ghost use Rattle.mw_underway.specs.mw_store.Places.{FillsRows, TakesMore};
     ghost use Rattle.mw_underway.specs.mw_store.Stored.{DropsSpent};
     ghost use Rattle.mw_underway.specs.mw_stands.Limits.{FitsLimits};
     ghost use Rattle.mw_underway.specs.Planning.{IsPlannedOn};
     ghost use Rattle.mw_log.specs.Short.{is_long};
+    ghost use Rattle.mw_ledger.specs.Books.{seen_of};
     ghost use Rattle.mw_ledger.specs.Changes.{KeepsWorks, noted, with_accepted};
+    ghost use Rattle.mw_underway.specs.mw_stands.Rows.{IsLogFull};
 
     /// Adds the item of a call that changes no entry. Memory is wanting only where the log has no room, or the item needs a
     /// block of its own.
@@ -27,14 +31,17 @@ impl Ledger {
         ensures ok { OnOk result (self.new ≡ noted self.old (LogItem.Call call reply) self.new.room) }
         ensures err { OnErr result (self.new ≡ self.old) }
         ensures memory { OnErr result ((is_long (LogItem.Call call reply) ≡ true) ⊎ (self.old.room ≡ 0)) }
+        ensures rows { OnErr result ((is_long (LogItem.Call call reply) ≡ true) ⊎ IsLogFull (seen_of self.old)) }
     {
         let item = Compact::new(self.alloc, LogItem::Call(call, reply))?;
-        self.log.reserve(self.store.pending() + 1)?;
+        make_places(&mut self.log, self.store.pending() + 1)?;
         self.log.push_reserved(item);
         Ok(())
     }
 
-    /// Adds an entry with its work, its item and a place for its end, and answers its ticket.
+    /// Adds an entry with its work, its item and a place for its end, and answers its ticket. Memory is wanting only where the
+    /// item needs a block of its own, the log has less than two places, the entries fill their rows of places, or the entry
+    /// takes more than a place in each column.
     pub fn accept(
         &mut self,
         call: Call,
@@ -52,11 +59,12 @@ impl Ledger {
         ensures ticket { IfOk result (λ t. t ≡ length self.old.table.names) }
         ensures ok { OnOk result (self.new ≡ with_accepted self.old call name entry work self.new.room) }
         ensures err { OnErr result (self.new ≡ record self.old { room = self.new.room }) }
+        ensures memory { OnErr result ((is_long (LogItem.Call call (Reply.Accepted (length self.old.table.names))) ≡ true) ⊎ (self.old.room < 2) ⊎ FillsRows (length self.old.table.names) ⊎ TakesMore self.old.table.outcomes entry) }
     {
         let next = self.store.len();
         let item = Compact::new(self.alloc, LogItem::Call(call, Reply::Accepted(next)))?;
-        self.log.reserve(self.store.pending() + 2)?;
-        self.works.reserve(1)?;
+        make_places(&mut self.log, self.store.pending() + 2)?;
+        reserve_row(&mut self.works)?;
         let t = self.store.add(name, entry)?;
         let _whole = self.store.pending();
         self.works.push_reserved(work);
@@ -94,8 +102,9 @@ impl Ledger {
         ensures side { self.new.side ≡ self.old.side }
         ensures err { OnErr result (self.new ≡ self.old) }
         ensures memory { OnErr result (self.old.room ≡ 0) }
+        ensures rows { OnErr result (IsLogFull (seen_of self.old)) }
     {
-        self.log.reserve(self.store.pending() + 1)?;
+        make_places(&mut self.log, self.store.pending() + 1)?;
         self.store.release(t);
         let _whole = self.store.pending();
         self.log.push_reserved(item);

@@ -19,8 +19,9 @@ pub struct Ledger {
 }
 
 impl Model for Ledger {
-    ghost use Rattle.std.specs.Prelude.{◌+◌, ◌≤◌, count_by, vec_len, vec_capacity};
+    ghost use Rattle.std.specs.Prelude.{◌≡◌, ◌+◌, ◌%◌, ◌≤◌, count_by, vec_len, vec_capacity};
     ghost use Rattle.mw_model.specs.Refusals.{is_pending};
+    ghost use Rattle.mw_underway.specs.mw_store.Places.{HasRow};
     ghost use Rattle.mw_ledger.specs.Books.{Book, IsOrderly, room_in};
 
     ghost Value = { Book };
@@ -34,8 +35,10 @@ impl Model for Ledger {
       room = room_in (vec_capacity l.log) (vec_len l.log) l.store.table.outcomes;
     } };
 
-    // Each pending entry has a place in the log for its end.
-    ghost invariant = { λ l. (vec_len l.log + count_by is_pending l.store.table.outcomes ≤ vec_capacity l.log)
+    // Each pending entry has a place in the log for its end, and places are made by rows.
+    ghost invariant = { λ l. ((vec_len l.log + count_by is_pending l.store.table.outcomes ≤ vec_capacity l.log)
+        × (vec_capacity l.log % 16 ≡ 0)
+        × HasRow (vec_len l.works) (vec_capacity l.works))
         × IsOrderly (record {
           table = l.store.table;
           kept = l.store.kept;

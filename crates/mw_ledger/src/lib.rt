@@ -8,6 +8,7 @@
 mod calls;
 mod counts;
 mod ledger;
+mod places;
 mod settling;
 mod sweep;
 mod tally;

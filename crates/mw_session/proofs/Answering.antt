@@ -41,7 +41,8 @@ use Rattle.mw_fetched.specs.mw_store.declared.fetched.Shown.{Shown}
 use Rattle.mw_wire.specs.Writes.{told_text}
 use Rattle.mw_wave.specs.Work.{AllWorked}
 use Rattle.mw_fetched.specs.Texts.{fetch_text, SaysFetched}
-use Rattle.mw_session.specs.Answering.{ReadsImage, ReadsElement, Answered}
+use Rattle.mw_wave.specs.mw_stands.Rows.{IsLogFull}
+use Rattle.mw_session.specs.Answering.{ReadsImage, ReadsElement, MayWant, Answered}
 use Rattle.mw_wave.proofs.TicketCounts.{under, none-under, count-under, running_count-stays_none}
 
 -- ---- texts
@@ -215,8 +216,8 @@ ready-by-work m q old mid w busy =
 
 -- a request was answered so
 answered : (m : Machine) (q : Asked) (old mid new : CoreView) (h : Ready m q old mid) (b : Bool) (text : List ℕ) (n : Machine) (more : List LogItem)
-    → Replies b h.state q text n → StandsFor new n → running_count new ≡ 0 → new.log ≡ mid.log ++ more → TellsCall (record { request = q; kills = killed_in h.items; no_memory = b }) more → (b ≡ true → MayLack m q) → Answered m old q text new
-answered m q old mid new h b text n more replies stands none log calls lacks = record {
+    → Replies b h.state q text n → StandsFor new n → running_count new ≡ 0 → new.log ≡ mid.log ++ more → TellsCall (record { request = q; kills = killed_in h.items; no_memory = b }) more → (b ≡ true → MayLack m q) → (b ≡ true → MayWant new q) → Answered m old q text new
+answered m q old mid new h b text n more replies stands none log calls lacks wants = record {
   turn = record { request = q; kills = killed_in h.items; no_memory = b };
   state = n;
   items = h.items ++ more;
@@ -226,6 +227,7 @@ answered m q old mid new h b text n more replies stands none log calls lacks = r
     tells = record { before = h.items; call = more; all = refl; work = h.tells; calls = calls };
     lacks = lacks;
   };
+  wants = wants;
   stands = stands;
   idle = none;
   log = log ∙ ap (λ l. l ++ more) h.log ∙ append_assoc old.log h.items more;
@@ -234,18 +236,23 @@ answered m q old mid new h b text n more replies stands none log calls lacks = r
 not_marked : {A : Type 0} → false ≡ true → A
 not_marked e = cc
 
+-- what held of the core before, where a call left it so
+kept_on_err : {E : Type 0} → (got : Result Reply E) (e : E) (old new : CoreView) (P : CoreView → Type 0) → got ≡ Err e → OnErr got (new ≡ old) → OnErr got (P old) → P new
+kept_on_err (Ok r) e old new P is failed held = cc
+kept_on_err (Err d) e old new P is failed held = subst P (sym failed) held
+
 -- a call that hands out no value was made for it, or found no memory
 pub answered-told : {E : Type 0} → (m : Machine) (q : Asked) (old mid new : CoreView) (h : Ready m q old mid) (c : Call) (p : Option Value) (got : Result Reply E)
-    → IsCallFor q c → ((e : E) → got ≡ Err e → MayLack m q) → IfOk got (FollowsMachine mid c p new) → OnErr got (new ≡ mid)
+    → IsCallFor q c → ((e : E) → got ≡ Err e → MayLack m q) → ((e : E) → got ≡ Err e → MayWant new q) → IfOk got (FollowsMachine mid c p new) → OnErr got (new ≡ mid)
     → ((r : Reply) → got ≡ Ok r → FollowsMachine mid c p new r → Answers h.state q (reply_text r NoValue) (after h.state c p) × (running_count new ≡ 0))
     → Answered m old q (told_text got) new
-answered-told m q old mid new h c p (Ok r) fits lacks served failed answers =
+answered-told m q old mid new h c p (Ok r) fits lacks wants served failed answers =
     let a = answers r refl served in
-    answered m q old mid new h false (reply_text r NoValue) (after h.state c p) (item.Call c r ∷ []) a.0 (served.stands h.state h.stands) a.1 served.log (logged c r fits not_marked refl) not_marked
-answered-told m q old mid new h c p (Err e) fits lacks served failed answers =
+    answered m q old mid new h false (reply_text r NoValue) (after h.state c p) (item.Call c r ∷ []) a.0 (served.stands h.state h.stands) a.1 served.log (logged c r fits not_marked refl) not_marked not_marked
+answered-told m q old mid new h c p (Err e) fits lacks wants served failed answers =
     let P : CoreView → Type 0 = λ s. StandsFor s h.state in
     let Q : CoreView → Type 0 = λ s. running_count s ≡ 0 in
-    answered m q old mid new h true (refusal_text code.Memory) h.state [] (refl, refl) (subst P (sym failed) h.stands) (subst Q (sym failed) h.idle) (ap (λ (s : CoreView). s.log) failed ∙ sym (append-nil mid.log)) (unlogged refl refl) (λ k. lacks e refl)
+    answered m q old mid new h true (refusal_text code.Memory) h.state [] (refl, refl) (subst P (sym failed) h.stands) (subst Q (sym failed) h.idle) (ap (λ (s : CoreView). s.log) failed ∙ sym (append-nil mid.log)) (unlogged refl refl) (λ k. lacks e refl) (λ k. wants e refl)
 
 -- a call that answers what the machine does, where the request calls it
 pub called-plain : (m : Machine) (q : Asked) (c : Call) (p : Option Value) (r : Reply) → IsCallOf q c p → IsPlain c → r ≡ reply_to m c → Answers m q (reply_text r NoValue) (after m c p)
@@ -259,42 +266,44 @@ answered-fetch m name old mid new h r v text served value (inl says) =
     let told = served.reply h.state h.stands in
     let same : text ≡ answer_text h.state c = says ∙ fetched-text h.state r v value ∙ ap (λ z. reply_text z (handed h.state z)) told in
     answered m (AskAlone (ask.Fetch name)) old mid new h false text (after h.state c None) (item.Call c r ∷ []) (called c None (refl, refl) same refl)
-    (served.stands h.state h.stands) (calm-fetch mid new name r h.state h.stands served h.idle) served.log (logged c r refl not_marked refl) not_marked
+    (served.stands h.state h.stands) (calm-fetch mid new name r h.state h.stands served h.idle) served.log (logged c r refl not_marked refl) not_marked not_marked
 answered-fetch m name old mid new h r v text served value (inr says) =
     let c = call.Fetch name in
     let P : Machine → Type 0 = λ n. StandsFor new n in
     answered m (AskAlone (ask.Fetch name)) old mid new h true text h.state (item.Call c r ∷ []) (says.1, refl)
-    (subst P (fetch_leaves h.state name None) (served.stands h.state h.stands)) (calm-fetch mid new name r h.state h.stands served h.idle) served.log (logged c r refl (λ e. says.0) refl) (λ e. tt)
+    (subst P (fetch_leaves h.state name None) (served.stands h.state h.stands)) (calm-fetch mid new name r h.state h.stands served h.idle) served.log (logged c r refl (λ e. says.0) refl) (λ e. tt) (λ e. tt)
 
 -- it found no memory
-pub answered-memory : (m : Machine) (q : Asked) (old mid new : CoreView) (h : Ready m q old mid) → MayLack m q → new ≡ mid → Answered m old q (refusal_text code.Memory) new
-answered-memory m q old mid new h lacks failed =
+pub answered-memory : (m : Machine) (q : Asked) (old mid new : CoreView) (h : Ready m q old mid) → MayLack m q → MayWant new q → new ≡ mid → Answered m old q (refusal_text code.Memory) new
+answered-memory m q old mid new h lacks wants failed =
     let P : CoreView → Type 0 = λ s. StandsFor s h.state in
     let Q : CoreView → Type 0 = λ s. running_count s ≡ 0 in
-    answered m q old mid new h true (refusal_text code.Memory) h.state [] (refl, refl) (subst P (sym failed) h.stands) (subst Q (sym failed) h.idle) (ap (λ (s : CoreView). s.log) failed ∙ sym (append-nil mid.log)) (unlogged refl refl) (λ e. lacks)
+    answered m q old mid new h true (refusal_text code.Memory) h.state [] (refl, refl) (subst P (sym failed) h.stands) (subst Q (sym failed) h.idle) (ap (λ (s : CoreView). s.log) failed ∙ sym (append-nil mid.log)) (unlogged refl refl) (λ e. lacks) (λ e. wants)
 
 -- ---- the kinds of requests
 
 pub answered-load : {E : Type 0} → (m : Machine) (name : Name) (bytes : List ℕ) (image : Result Picture Code) (old new : CoreView) (got : Result Reply E)
     → StandsFor old m → running_count old ≡ 0 → ReadsImage bytes image → IfOk got (FollowsMachine old (call.Load name (given_image image)) (image_payload image) new) → IfOk got (λ r. r ≢ reply.Refused code.Memory) → OnErr got (new ≡ old)
-    → Answered m old (AskLoad name bytes) (told_text got) new
+    → OnErr got (IsLogFull old ⊎ (refused_unread old.table (AskLoad name []) ≡ None)) → Answered m old (AskLoad name bytes) (told_text got) new
 unfolding ready-at-once
-answered-load {E} m name bytes image old new got s none read served other failed =
+answered-load {E} m name bytes image old new got s none read served other failed first =
     let q = AskLoad name bytes in
     let c = call.Load name (given_image image) in
     let P : Result Reply E → Type 0 = λ t. IfOk t (λ r. r ≢ reply.Refused code.Memory) in
-    answered-told m q old old new (ready-at-once m q old s none refl) c (image_payload image) got (given_image image, refl) (λ e is. tt) served failed
+    let W : CoreView → Type 0 = λ v. MayWant v q in
+    answered-told m q old old new (ready-at-once m q old s none refl) c (image_payload image) got (given_image image, refl) (λ e is. tt) (λ e is. kept_on_err got e old new W is failed first) served failed
     (λ r is h. (load-answers m (after m c (image_payload image)) name bytes image r read (h.reply m s) (subst P is other) refl, calm-load old new name image r m s h none))
 
 pub answered-element : {E : Type 0} → (m : Machine) (name : Name) (ox oy : ℕ) (bytes : List ℕ) (element : Result Figure Code) (old new : CoreView) (got : Result Reply E)
     → StandsFor old m → running_count old ≡ 0 → ReadsElement bytes ox oy element → IfOk got (FollowsMachine old (call.Element name (given_element element)) (element_payload element) new) → IfOk got (λ r. r ≢ reply.Refused code.Memory) → OnErr got (new ≡ old)
-    → Answered m old (AskElement name ox oy bytes) (told_text got) new
+    → OnErr got (IsLogFull old ⊎ (refused_unread old.table (AskElement name 0 0 []) ≡ None)) → Answered m old (AskElement name ox oy bytes) (told_text got) new
 unfolding ready-at-once
-answered-element {E} m name ox oy bytes element old new got s none read served other failed =
+answered-element {E} m name ox oy bytes element old new got s none read served other failed first =
     let q = AskElement name ox oy bytes in
     let c = call.Element name (given_element element) in
     let P : Result Reply E → Type 0 = λ t. IfOk t (λ r. r ≢ reply.Refused code.Memory) in
-    answered-told m q old old new (ready-at-once m q old s none refl) c (element_payload element) got (given_element element, refl) (λ e is. tt) served failed
+    let W : CoreView → Type 0 = λ v. MayWant v q in
+    answered-told m q old old new (ready-at-once m q old s none refl) c (element_payload element) got (given_element element, refl) (λ e is. tt) (λ e is. kept_on_err got e old new W is failed first) served failed
     (λ r is h. (element-answers m (after m c (element_payload element)) name ox oy bytes element r read (h.reply m s) (subst P is other) refl, calm-element old new name element r m s h none))
 
 pub answered-run : {E : Type 0} → (m : Machine) (name : Name) (op : Op) (old new : CoreView) (got : Result Reply E)
@@ -305,33 +314,33 @@ answered-run {E} m name op old new got s none served fresh failed =
     let q = AskAlone (ask.Run name op) in
     let c = call.Run name op in
     let P : ℕ → Result Reply E → Type 0 = λ t r. IfOk r (λ a. a ≡ reply.Accepted t → IsFresh new t) in
-    answered-told m q old old new (ready-at-once m q old s none refl) c None got refl (λ e is. tt) served failed
+    answered-told m q old old new (ready-at-once m q old s none refl) c None got refl (λ e is. tt) (λ e is. tt) served failed
     (λ r is h. (called-plain m q c None r (refl, refl) tt (h.reply m s), calm-run old new name op r m s h (λ t. subst (P t) is (fresh t)) none))
 
 pub answered-cancel : {E : Type 0} → (m : Machine) (name : Name) (old new : CoreView) (got : Result Reply E)
-    → StandsFor old m → running_count old ≡ 0 → (refusal m.table m.payloads (call.Cancel name) ≡ None → IsOk got) → IfOk got (FollowsMachine old (call.Cancel name) None new) → OnErr got (new ≡ old) → Answered m old (AskAlone (ask.Cancel name)) (told_text got) new
+    → StandsFor old m → running_count old ≡ 0 → (refusal m.table m.payloads (call.Cancel name) ≡ None → IsOk got) → IfOk got (FollowsMachine old (call.Cancel name) None new) → OnErr got (new ≡ old) → OnErr got (IsLogFull old) → Answered m old (AskAlone (ask.Cancel name)) (told_text got) new
 unfolding ready-at-once
-answered-cancel {E} m name old new got s none succeeds served failed =
+answered-cancel {E} m name old new got s none succeeds served failed full =
     let q = AskAlone (ask.Cancel name) in
     let c = call.Cancel name in
     let P : Result Reply E → Type 0 = λ t. IsOk t in
-    answered-told m q old old new (ready-at-once m q old s none refl) c None got refl (λ e is free. let ok = subst P is (succeeds free) in absurd cc) served failed
+    answered-told m q old old new (ready-at-once m q old s none refl) c None got refl (λ e is free. let ok = subst P is (succeeds free) in absurd cc) (λ e is. kept_on_err got e old new IsLogFull is failed full) served failed
     (λ r is h. (called-plain m q c None r (refl, refl) tt (h.reply m s), calm-cancel old new name r m s h none))
 
 pub answered-release : {E : Type 0} → (m : Machine) (name : Name) (old new : CoreView) (got : Result Reply E)
-    → StandsFor old m → running_count old ≡ 0 → IfOk got (FollowsMachine old (call.Release name) None new) → OnErr got (new ≡ old) → Answered m old (AskAlone (ask.Release name)) (told_text got) new
+    → StandsFor old m → running_count old ≡ 0 → IfOk got (FollowsMachine old (call.Release name) None new) → OnErr got (new ≡ old) → OnErr got (IsLogFull old) → Answered m old (AskAlone (ask.Release name)) (told_text got) new
 unfolding ready-at-once
-answered-release m name old new got s none served failed =
+answered-release m name old new got s none served failed full =
     let q = AskAlone (ask.Release name) in
     let c = call.Release name in
-    answered-told m q old old new (ready-at-once m q old s none refl) c None got refl (λ e is. tt) served failed
+    answered-told m q old old new (ready-at-once m q old s none refl) c None got refl (λ e is. tt) (λ e is. kept_on_err got e old new IsLogFull is failed full) served failed
     (λ r is h. (called-plain m q c None r (refl, refl) tt (h.reply m s), calm-release old new name r m s h none))
 
 -- STATUS, and WAIT
 pub answered-status : {E : Type 0} → (m : Machine) (q : Asked) (name : Name) (old mid new : CoreView) (got : Result Reply E)
-    → IsCallOf q (call.Status name) None → IsCallFor q (call.Status name) → ((e : E) → got ≡ Err e → MayLack m q) → runs_work q ≡ true → AllWorked m old mid → IfOk got (FollowsMachine mid (call.Status name) None new) → OnErr got (new ≡ mid) → Answered m old q (told_text got) new
-answered-status m q name old mid new got is fits lacks busy w served failed =
+    → IsCallOf q (call.Status name) None → IsCallFor q (call.Status name) → ((e : E) → got ≡ Err e → MayLack m q) → (IsLogFull new → MayWant new q) → runs_work q ≡ true → AllWorked m old mid → IfOk got (FollowsMachine mid (call.Status name) None new) → OnErr got (new ≡ mid) → OnErr got (IsLogFull mid) → Answered m old q (told_text got) new
+answered-status m q name old mid new got is fits lacks wants busy w served failed full =
     let c = call.Status name in
     let h = ready-by-work m q old mid w busy in
-    answered-told m q old mid new h c None got fits lacks served failed
+    answered-told m q old mid new h c None got fits lacks (λ e same. wants (kept_on_err got e mid new IsLogFull same failed full)) served failed
     (λ r same k. (called-plain h.state q c None r is tt (k.reply h.state h.stands), calm-status mid new name r h.state h.stands k h.idle))

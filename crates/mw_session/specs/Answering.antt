@@ -1,5 +1,5 @@
 -- What reading payloads and answering a request say.
-use Rattle.std.specs.Prelude.{◌≡◌, ◌⊎◌, ◌++◌, ℕ, List, Result, Ok, Err}
+use Rattle.std.specs.Prelude.{◌≡◌, ◌⊎◌, ◌++◌, ℕ, true, List, None, Result, Ok, Err}
 use Rattle.mw_model.specs.declared.codes.Code.{Code}
 use Rattle.mw_model.specs.declared.codes.Code.TheVariants as code
 use Rattle.mw_model.specs.Pictures.{Picture, IsImage}
@@ -8,9 +8,11 @@ use Rattle.mw_model.specs.NetpbmGrammar.{IsFile}
 use Rattle.mw_model.specs.NetpbmRefusals.{Refuses}
 use Rattle.mw_model.specs.Machine.{Machine}
 use Rattle.mw_model.specs.declared.calls.LogItem.{LogItem}
-use Rattle.mw_model.specs.Lines.{Asked}
-use Rattle.mw_model.specs.Scripts.{Turn}
+use Rattle.mw_model.specs.declared.requests.Ask.TheVariants as ask
+use Rattle.mw_model.specs.Lines.{Asked, AskLoad, AskElement, AskAlone}
+use Rattle.mw_model.specs.Scripts.{Turn, refused_unread}
 use Rattle.mw_model.specs.Stands.{CoreView, StandsFor, running_count}
+use Rattle.mw_wave.specs.mw_stands.Rows.{IsLogFull}
 use Rattle.mw_session.specs.Turns.{TurnMade}
 
 -- the payload of a LOAD as an image, or why it is none, or want of memory
@@ -23,6 +25,14 @@ abbrev pub ReadsElement : List ℕ → ℕ → ℕ → Result Figure Code → Ty
 ReadsElement bytes ox oy (Ok b) = IsElement bytes ox oy b
 ReadsElement bytes ox oy (Err c) = (c ≡ code.Memory) ⊎ ElementRefuses bytes ox oy c
 
+-- Want of memory may have refused the request where it left the core so. A submission asks for more than its place in the log only where no refusal stands before its payload's, RUN and FETCH ask for more, and all others for that place alone.
+abbrev pub MayWant : CoreView → Asked → Type 0
+MayWant c (AskLoad name bytes) = IsLogFull c ⊎ (refused_unread c.table (AskLoad name bytes) ≡ None)
+MayWant c (AskElement name ox oy bytes) = IsLogFull c ⊎ (refused_unread c.table (AskElement name ox oy bytes) ≡ None)
+MayWant c (AskAlone (ask.Run name op)) = Unit {0}
+MayWant c (AskAlone (ask.Fetch name)) = Unit {0}
+MayWant c (AskAlone a) = IsLogFull c
+
 -- One request was answered by this text: a turn from this state, after which the core stands for the state that it leads to, and no task is running.
 pub record Answered (m : Machine) (old : CoreView) (r : Asked) (text : List ℕ) (new : CoreView) : Type 0 where
   pub turn : Turn
@@ -30,6 +40,7 @@ pub record Answered (m : Machine) (old : CoreView) (r : Asked) (text : List ℕ)
   pub items : List LogItem
   pub asked : turn.request ≡ r
   pub made : TurnMade m turn text items state
+  pub wants : turn.no_memory ≡ true → MayWant new r
   pub stands : StandsFor new state
   pub idle : running_count new ≡ 0
   pub log : new.log ≡ old.log ++ items

@@ -1,6 +1,7 @@
 pub mod Limits
 pub mod Payloads
 pub mod Facts
+pub mod Rows
 pub mod Changes
 pub mod Counts
 pub mod Events

@@ -3,5 +3,5 @@
 //! ticket is passed on. What the core does, beside any machine, is said in `mw_ledger`.
 #![tactic(auto)]
 
-pub use mw_store::{Entry, Fetched, Kept, Shown, Store, Waiters, is_pending};
+pub use mw_store::{Entry, Fetched, Kept, Shown, Store, Waiters, is_pending, reserve_row};
 pub use mw_work::{PlanProgress, WholePlane, true_tasks};

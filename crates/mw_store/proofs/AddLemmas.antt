@@ -22,8 +22,8 @@ none-passes p xs h k d within =
     not-true (p (get_or xs k d)) (prefix_len_passes (λ x. not (p x)) xs k d (omega arith))
 
 -- a name that is not found is added at the end
-pub added : {X : Type 0} → (p : X → Bool) (xs : List X) (x : X) → position p xs ≡ None → cond (list_any p xs) xs (xs ++ x ∷ []) ≡ xs ++ x ∷ []
-added p xs x h = rw (list_any_none p xs (none-passes p xs h)) refl
+pub added : {X : Type 0} → (p : X → Bool) (now xs : List X) (x : X) → now ≡ xs → position p xs ≡ None → cond (list_any p now) now (now ++ x ∷ []) ≡ xs ++ x ∷ []
+added p now xs x same h = rw (same, list_any_none p xs (none-passes p xs h)) refl
 
 -- one more entry, whose inputs stand before it
 pub inputs-push : (es : List Submission) (e : Submission) → InputsBelow es → AllByRecursion (λ i. i < length es) (tickets e.inputs) → InputsBelow (es ++ e ∷ [])

@@ -1,5 +1,6 @@
 -- what other crates may cite
 pub mod CascadeLemmas
+pub mod PlaceLemmas
 -- the crate's own
 mod AddLemmas
 mod Counting

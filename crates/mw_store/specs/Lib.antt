@@ -5,5 +5,6 @@ pub mod ImageShapes
 pub mod Entries
 pub mod Wanted
 pub mod Waiting
+pub mod Places
 pub mod Stored
 pub mod Fetches

@@ -1,11 +1,12 @@
 //! The table of entries, and the values that are kept of them.
 
-ghost use Rattle.std.specs.Prelude.{count_by, true, false, ◌≡◌, ◌&&◌, ℕ, ◌+◌, ◌<◌, ◌≤◌, [], ◌∷◌, ◌++◌, length, nat_eq, OnOk, OnErr, IfOk, IfSome, Some, None, IsSome, is_some, option_map, slice_set};
+ghost use Rattle.std.specs.Prelude.{count_by, true, false, ◌≡◌, ◌⊎◌, ◌&&◌, ℕ, ◌+◌, ◌<◌, ◌≤◌, [], ◌∷◌, ◌++◌, length, nat_eq, OnOk, OnErr, IfOk, IfSome, Some, None, IsSome, is_some, option_map, slice_set};
 
 use crate::cascade::fail_dependents;
 use crate::image_shapes::ImageShape;
 use crate::kept::{Entry, Kept};
 use crate::outcomes::{count_pending, is_pending, is_there, one_if_pending};
+use crate::places::{reserve_name, reserve_row};
 use crate::plates::Plate;
 use crate::spent::{drop_inputs, drop_one, drop_spent};
 use crate::waiting::{
@@ -38,8 +39,10 @@ pub struct Store {
 }
 
 impl Model for Store {
-    ghost use Rattle.std.specs.Prelude.{map, option_map};
+    ghost use Rattle.std.specs.Prelude.{map, option_map, length, ◌+◌, vec_capacity};
+    ghost use Rattle.indexmap.specs.IndexSet.{spare};
     ghost use Rattle.mw_store.specs.Kept.{kept_value};
+    ghost use Rattle.mw_store.specs.Places.{HasRows};
     ghost use Rattle.mw_store.specs.Stored.{Stored, IsTracked};
 
     ghost Value = { Stored };
@@ -64,7 +67,15 @@ impl Model for Store {
         })
         s.wanted.items
         s.waiting.items
-        s.pending };
+        s.pending
+        × HasRows
+        (length s.names.keys)
+        (vec_capacity s.submissions)
+        (vec_capacity s.outcomes)
+        (vec_capacity s.kept)
+        (vec_capacity s.wanted)
+        (vec_capacity s.waiting)
+        (length s.names.keys + spare s.names) };
 }
 
 impl Store {
@@ -81,6 +92,7 @@ impl Store {
     ghost use Rattle.mw_store.specs.Entries.{op_of, submission_of, outcome_of, payload_in};
     ghost use Rattle.mw_store.specs.ImageShapes.{image_shape_of};
     ghost use Rattle.mw_store.specs.Kept.{kept_value, curve_of, figure_in};
+    ghost use Rattle.mw_store.specs.Places.{AwaitsInput, FillsRows, TakesMore};
     ghost use Rattle.mw_store.specs.Stored.{IsWhole, DropsSpent};
 
     /// An empty store with room for 16 entries.
@@ -363,16 +375,20 @@ impl Store {
         ensures table { OnOk result (self.new.table ≡ with_entry self.old.table name submission outcome) }
         ensures kept { OnOk result (self.new.kept ≡ self.old.kept ++ option_map kept_value value ∷ []) }
         ensures err { OnErr result (self.new ≡ self.old) }
+        ensures memory { OnErr result (FillsRows (length self.old.table.names) ⊎ AwaitsInput self.old.table.outcomes submission.inputs) }
     {
         let t = self.names.len() as u32;
-        self.submissions.reserve(1)?;
-        self.outcomes.reserve(1)?;
-        self.kept.reserve(1)?;
-        self.wanted.reserve(1)?;
+        reserve_row(&mut self.submissions)?;
+        reserve_row(&mut self.outcomes)?;
+        reserve_row(&mut self.kept)?;
+        reserve_row(&mut self.wanted)?;
         let waited = pending_inputs(&self.outcomes, submission.inputs);
         reserve_inputs(&mut self.waiting, waited)?;
-        self.waiting.reserve(1)?;
-        self.names.insert(name)?;
+        reserve_row(&mut self.waiting)?;
+        reserve_name(&mut self.names)?;
+        let Ok(_new) = self.names.insert(name) else {
+            unreachable!()
+        };
         self.submissions.push_reserved(submission);
         self.outcomes.push_reserved(outcome);
         self.kept.push_reserved(value);
@@ -384,7 +400,8 @@ impl Store {
         Ok(t)
     }
 
-    /// Adds an entry under a name that no entry has, and answers its ticket.
+    /// Adds an entry under a name that no entry has, and answers its ticket. Memory is wanting only where the entries fill their
+    /// rows of places, for the owners of an element, or for what a pending input has to know of the entry.
     pub fn add(&mut self, name: Name, entry: Entry) -> Result<u32, NoMemory>
         requires free { ticket_of self.old.table.names name ≡ None }
         requires room { length self.old.table.names < 65536 }
@@ -393,6 +410,7 @@ impl Store {
         ensures table { OnOk result (self.new.table ≡ with_entry self.old.table name (submission_of entry) (outcome_of entry)) }
         ensures kept { OnOk result (self.new.kept ≡ self.old.kept ++ payload_in entry ∷ []) }
         ensures err { OnErr result (self.new ≡ self.old) }
+        ensures memory { OnErr result (FillsRows (length self.old.table.names) ⊎ TakesMore self.old.table.outcomes entry) }
     {
         match entry {
             Entry::Image(image) => {

@@ -2,7 +2,8 @@
 //!
 //! The ticket of an entry is its place in the order of acceptance. An image is kept in one piece, or as the tiles that it
 //! was made of; no contract tells which. A share of it owns its plane or its tiles too, and so does a window of any
-//! rectangle of it: these copy no sample. What takes memory answers `NoMemory`, and the store is then as before.
+//! rectangle of it: these copy no sample. What takes memory answers `NoMemory`, and the store is then as before. `add` takes
+//! some for its columns only where the number of entries is a multiple of 16.
 //! `settle`, `kill` and `release` ask for no memory, and drop what nothing needs any more.
 //!
 //! Beside each ticket stands how many pending entries have it as an input, and beside a pending one the list of these: so
@@ -22,6 +23,7 @@ mod fetched;
 mod image_shapes;
 mod kept;
 mod outcomes;
+mod places;
 mod plates;
 mod spent;
 mod waiting;
@@ -33,5 +35,6 @@ pub use image_shapes::ImageShape;
 pub use kept::{Entry, Kept};
 pub use mw_model::NoMemory;
 pub use outcomes::{is_dead, is_done, is_pending, is_released, is_there};
+pub use places::reserve_row;
 pub use plates::{Plate, PlateView};
 pub use waiting::Waiters;

@@ -1,6 +1,6 @@
 //! For each ticket the entries that wait for it, so that a settling looks at these alone.
 
-ghost use Rattle.std.specs.Prelude.{◌≡◌, ◌≤◌, ◌<◌, ◌+◌, ◌&&◌, ◌++◌, ◌∷◌, [], ℕ, OnOk, length, if◌then◌else◌};
+ghost use Rattle.std.specs.Prelude.{◌≡◌, ◌≤◌, ◌<◌, ◌+◌, ◌&&◌, ◌++◌, ◌∷◌, [], ℕ, OnOk, OnErr, true, length, if◌then◌else◌};
 ghost use Rattle.std.specs.List.{AllByRecursion};
 ghost use Rattle.mw_model.specs.Values.{option_list};
 ghost use Rattle.mw_model.specs.Refusals as words;
@@ -131,6 +131,7 @@ fn reserve_one(waiting: &mut [WaitingList], input: Option<u32>) -> Result<(), No
     ensures tickets { (t : ℕ) → waiting_at waiting.new t ≡ waiting_at waiting.old t }
     ensures more { (t : ℕ) → room_at waiting.old t ≤ room_at waiting.new t }
     ensures room { OnOk result (AllByRecursion (λ i. 3 ≤ room_at waiting.new i) (option_list input)) }
+    ensures memory { OnErr result ((t : ℕ) × (is_at input t ≡ true)) }
 {
     match input {
         Some(t) => {
@@ -141,7 +142,7 @@ fn reserve_one(waiting: &mut [WaitingList], input: Option<u32>) -> Result<(), No
     }
 }
 
-/// Makes room for an entry with these inputs.
+/// Makes room for an entry with these inputs. Memory is wanting only where there is one.
 pub(crate) fn reserve_inputs(waiting: &mut [WaitingList], inputs: Inputs) -> Result<(), NoMemory>
     requires a { AllByRecursion (λ i. i < length waiting.old) (option_list inputs.a) }
     requires b { AllByRecursion (λ i. i < length waiting.old) (option_list inputs.b) }
@@ -150,6 +151,7 @@ pub(crate) fn reserve_inputs(waiting: &mut [WaitingList], inputs: Inputs) -> Res
     ensures a { OnOk result (AllByRecursion (λ i. 3 ≤ room_at waiting.new i) (option_list inputs.a)) }
     ensures b { OnOk result (AllByRecursion (λ i. 3 ≤ room_at waiting.new i) (option_list inputs.b)) }
     ensures c { OnOk result (AllByRecursion (λ i. 3 ≤ room_at waiting.new i) (option_list inputs.c)) }
+    ensures memory { OnErr result ((t : ℕ) × (is_among inputs t ≡ true)) }
 {
     reserve_one(waiting, inputs.a)?;
     reserve_one(waiting, inputs.b)?;

@@ -9,7 +9,7 @@ mod taking;
 
 pub use mw_model::NoMemory;
 pub use mw_stands::{
-    Entry, Fetched, Kept, PlanProgress, Shown, Store, Waiters, WholePlane, is_pending,
+    Entry, Fetched, Kept, PlanProgress, Shown, Store, Waiters, WholePlane, is_pending, reserve_row,
 };
 pub use planning::{Unplanned, planned};
 pub use results::{is_fit, is_result};

@@ -21,13 +21,13 @@ unreachable-requires g c = tidy_never c.requests.intake c.requests.invariant.2 c
 pub returns-in-Ok-More-clause-ran : goal.returns-in-Ok-More-clause-ran
 returns-in-Ok-More-clause-ran g c = λ left.
     let told = rw c.in-Ok-More.field-0-is at c.in-Ok-More.ensures.ok in
-    drains-partial g.D.Desk.Answer left c.args.intake.now.bytes c.requests.intake.bytes c.next.new.self.bytes c.args.kept.now c.requests.kept
+    drains-partial g.D.Desk.Answer left c.args.intake.now.bytes c.requests.intake.bytes c.next.new.self c.args.kept.now c.requests.kept
     (g.W.Write.contents c.args.sink.now.inner) (g.W.Write.contents c.requests.sink.inner) told.1 c.requests.invariant.0 told.0
 
 pub returns-in-Ok-Bad-clause-ran : goal.returns-in-Ok-Bad-clause-ran
 returns-in-Ok-Bad-clause-ran g c = λ left.
     let told = rw c.in-Ok-Bad.field-0-is at c.in-Ok-Bad.ensures.ok in
-    drains-ended g.D.Desk.Answer left c.args.intake.now.bytes c.requests.intake.bytes c.next.new.self.bytes c.args.kept.now c.requests.kept
+    drains-ended g.D.Desk.Answer left c.args.intake.now.bytes c.requests.intake.bytes c.next.new.self c.args.kept.now c.requests.kept
     (g.W.Write.contents c.args.sink.now.inner) (g.W.Write.contents c.requests.sink.inner) (g.W.Write.contents c.end_within.new.sink.inner) c.in-Ok-Bad.code c.end_within.result
     c.requests.invariant.0 (inl (is_front c.requests.intake.bytes (Fault c.in-Ok-Bad.code) told.0), fault_has_room c.requests.intake.bytes c.in-Ok-Bad.code told.0) c.end_within.ensures.wrote _ c.end_within.ensures.flag
 
@@ -35,7 +35,7 @@ pub returns-then-is_quit-clause-ran : goal.returns-then-is_quit-clause-ran
 returns-then-is_quit-clause-ran g c = λ left.
     let found : front c.requests.intake.bytes ≡ Found (asked c.in-Ok-Request.request) c.next.new.self.bytes = rw c.in-Ok-Request.field-0-is at c.in-Ok-Request.ensures.ok in
     let quit : asked c.in-Ok-Request.request ≡ AskAlone ask.Quit = c.if-is_quit.ensures.0 refl in
-    drains-quit g.D.Desk.Answer left c.args.intake.now.bytes c.requests.intake.bytes c.next.new.self.bytes c.next.new.self.bytes c.args.kept.now c.requests.kept
+    drains-quit g.D.Desk.Answer left c.args.intake.now.bytes c.requests.intake.bytes c.next.new.self.bytes c.next.new.self c.args.kept.now c.requests.kept
     (g.W.Write.contents c.args.sink.now.inner) (g.W.Write.contents c.requests.sink.inner) c.requests.invariant.0 (rw quit at found)
 
 pub answer-requires-clause-open_still : goal.answer-requires-clause-open_still
@@ -46,7 +46,7 @@ returns-in-Err-answer-clause-ran g c = λ left.
     let found : front c.requests.intake.bytes ≡ Found (asked c.in-Ok-Request.request) c.next.new.self.bytes = rw c.in-Ok-Request.field-0-is at c.in-Ok-Request.ensures.ok in
     let asks : asked c.in-Ok-Request.request ≢ AskAlone ask.Quit = λ e. let t = c.if-is_quit.ensures.1 e in cc in
     let is_write : c.in-Err-answer.fault ≡ Write = let e = c.in-Err-answer.ensures.flag.0 in cc in
-    drains-broken g.D.Desk.Answer left c.args.intake.now.bytes c.requests.intake.bytes c.next.new.self.bytes c.next.new.self.bytes c.args.kept.now c.requests.kept c.answer.new.kept
+    drains-broken g.D.Desk.Answer left c.args.intake.now.bytes c.requests.intake.bytes c.next.new.self.bytes c.next.new.self c.args.kept.now c.requests.kept c.answer.new.kept
     (g.W.Write.contents c.args.sink.now.inner) (g.W.Write.contents c.requests.sink.inner) (g.W.Write.contents c.answer.new.sink.inner) (asked c.in-Ok-Request.request) c.in-Err-answer.fault
     c.requests.invariant.0 found asks c.in-Err-answer.ensures.answered is_write
 

@@ -1,4 +1,4 @@
-use Rattle.std.proofs.Common.{◌≡◌, ◌≢◌, ◌++◌, ◌+◌, ◌≤◌, ℕ, List, [], take, drop, length, length-drop, sym, subst, ◌∙◌, arith}
+use Rattle.std.proofs.Common.{◌≡◌, ◌≢◌, ◌++◌, ◌+◌, ◌<◌, ◌≤◌, ℕ, List, [], take, drop, length, length-drop, refl, sym, subst, ◌∙◌, arith}
 use Rattle.mw_wire.specs.declared.fault.SessionFault.TheVariants.{Write}
 use Rattle.mw_intake.specs.Intake.{IsPortion}
 use Rattle.mw_desk.proofs.Rooms.{some_dropped}
@@ -10,9 +10,12 @@ pub returns-in-Err-clause-ran : goal.returns-in-Err-clause-ran
 returns-in-Err-clause-ran g c = λ left.
     let i = c.portions.invariant in
     let some : drop c.portions.at c.args.piece.now ≢ [] = λ e. some_dropped c.portions.at c.args.piece.now (omega (arith, c.portions-test.true)) e in
-    drains-no-room g.D.Desk.Answer left c.args.intake.now.bytes c.args.piece.now c.portions.intake.bytes c.feed.new.self.bytes c.portions.at c.args.kept.now c.portions.kept
+    let fed : c.split_at-in-portions.result.0.now ≡ take c.portion-n.result (drop c.portions.at c.args.piece.now) = rw (c.split_at-in-portions.ensures.front, c.split_at.ensures.back) refl in
+    let portion = rw c.split_at.ensures.back at c.portion-n.ensures.portion in
+    let Less : List ℕ → Type 0 = λ l. c.feed.new.self.spare < length l in
+    drains-no-room g.D.Desk.Answer left c.args.intake.now.bytes c.args.piece.now c.portions.intake c.feed.new.self c.portions.at c.portion-n.result c.args.kept.now c.portions.kept
     (g.W.Write.contents c.args.sink.now.inner) (g.W.Write.contents c.portions.sink.inner) (g.W.Write.contents c.end_within.new.sink.inner) c.end_within.result
-    c.in-Err.ensures.err i.progress i.waits some c.end_within.ensures.wrote _ c.end_within.ensures.flag
+    c.in-Err.ensures.err i.progress i.waits some portion (subst Less fed c.in-Err.ensures.still) c.end_within.ensures.wrote _ c.end_within.ensures.flag
 
 pub returns-in-Err-drain-clause-ran : goal.returns-in-Err-drain-clause-ran
 returns-in-Err-drain-clause-ran g c = λ left.
@@ -21,7 +24,7 @@ returns-in-Err-drain-clause-ran g c = λ left.
     let fed : c.feed.new.self.bytes ≡ c.portions.intake.bytes ++ take c.portion-n.result (drop c.portions.at c.args.piece.now) = rw (c.split_at-in-portions.ensures.front, c.split_at.ensures.back) at c.in-Ok.ensures.ok in
     let h = progress-portion g.D.Desk.Answer c.args.intake.now.bytes c.args.piece.now c.portions.intake.bytes c.feed.new.self.bytes c.portions.at c.portion-n.result c.args.kept.now c.portions.kept x y fed c.portions.invariant.progress in
     let is_write : c.in-Err-drain.fault ≡ Write = let e = c.in-Err-drain.ensures.flag.0 in cc in
-    drains-cut g.D.Desk.Answer left c.args.intake.now.bytes c.args.piece.now c.feed.new.self.bytes c.drain.new.intake.bytes (c.portions.at + c.portion-n.result) c.args.kept.now c.portions.kept c.drain.new.kept x y (g.W.Write.contents c.drain.new.sink.inner)
+    drains-cut g.D.Desk.Answer left c.args.intake.now.bytes c.args.piece.now c.feed.new.self.bytes c.drain.new.intake (c.portions.at + c.portion-n.result) c.args.kept.now c.portions.kept c.drain.new.kept x y (g.W.Write.contents c.drain.new.sink.inner)
     c.in-Err-drain.fault is_write h (c.in-Err-drain.ensures.ran some_left)
 
 pub returns-in-Ok-Some-clause-ran : goal.returns-in-Ok-Some-clause-ran
@@ -30,7 +33,7 @@ returns-in-Ok-Some-clause-ran g c = λ left.
     let y = g.W.Write.contents c.portions.sink.inner in
     let fed : c.feed.new.self.bytes ≡ c.portions.intake.bytes ++ take c.portion-n.result (drop c.portions.at c.args.piece.now) = rw (c.split_at-in-portions.ensures.front, c.split_at.ensures.back) at c.in-Ok.ensures.ok in
     let h = progress-portion g.D.Desk.Answer c.args.intake.now.bytes c.args.piece.now c.portions.intake.bytes c.feed.new.self.bytes c.portions.at c.portion-n.result c.args.kept.now c.portions.kept x y fed c.portions.invariant.progress in
-    drains-finished g.D.Desk.Answer left c.args.intake.now.bytes c.args.piece.now c.feed.new.self.bytes c.drain.new.intake.bytes (c.portions.at + c.portion-n.result) c.args.kept.now c.portions.kept c.drain.new.kept x y (g.W.Write.contents c.drain.new.sink.inner) c.in-Ok-Some.end
+    drains-finished g.D.Desk.Answer left c.args.intake.now.bytes c.args.piece.now c.feed.new.self.bytes c.drain.new.intake (c.portions.at + c.portion-n.result) c.args.kept.now c.portions.kept c.drain.new.kept x y (g.W.Write.contents c.drain.new.sink.inner) c.in-Ok-Some.end
     h (rw c.in-Ok-Some.field-0-is at (c.in-Ok-Some.ensures.ran some_left))
 
 pub portions-preserved : goal.portions-preserved

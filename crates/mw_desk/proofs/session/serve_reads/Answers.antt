@@ -63,7 +63,7 @@ returns-in-Err-serve_piece-clause-ran g c =
     let fits : c.in-Ok-receive.n ≤ c.reads.buffer.len = search rules in
     let same : take c.in-Ok-receive.n c.deref.result.now ≡ piece = ap (λ l. take c.in-Ok-receive.n l) c.deref.ensures.value ∙ take-front c.in-Ok-receive.n c.reads.buffer.len c.receive.new.buffer (drop (length c.receive.new.buffer) c.reads.buffer.items) c.in-Ok-receive.ensures.bound fits in
     let h = progress-more g.D.Desk.Answer i.taken piece c.reads.intake.bytes c.args.kept.now c.reads.kept x y now in
-    ran-broken g.D.Desk.Answer c.args.kept.now c.reads.kept c.serve_piece.new.kept (g.R.Read.remaining c.args.source.now.inner) left (i.taken ++ piece) (c.reads.intake.bytes ++ piece) c.serve_piece.new.intake.bytes x y (g.W.Write.contents c.serve_piece.new.sink.inner) c.in-Err-serve_piece.fault
+    ran-broken g.D.Desk.Answer c.args.kept.now c.reads.kept c.serve_piece.new.kept (g.R.Read.remaining c.args.source.now.inner) left (i.taken ++ piece) (c.reads.intake.bytes ++ piece) c.serve_piece.new.intake x y (g.W.Write.contents c.serve_piece.new.sink.inner) c.in-Err-serve_piece.fault
     (Consumes-trans _ _ _ i.taken piece i.read c.in-Ok-receive.ensures.ok) h (rw same at (c.in-Err-serve_piece.ensures.ran left))
 
 pub returns-in-Ok-Some-clause-ran : goal.returns-in-Ok-Some-clause-ran
@@ -77,7 +77,7 @@ returns-in-Ok-Some-clause-ran g c =
     let fits : c.in-Ok-receive.n ≤ c.reads.buffer.len = search rules in
     let same : take c.in-Ok-receive.n c.deref.result.now ≡ piece = ap (λ l. take c.in-Ok-receive.n l) c.deref.ensures.value ∙ take-front c.in-Ok-receive.n c.reads.buffer.len c.receive.new.buffer (drop (length c.receive.new.buffer) c.reads.buffer.items) c.in-Ok-receive.ensures.bound fits in
     let h = progress-more g.D.Desk.Answer i.taken piece c.reads.intake.bytes c.args.kept.now c.reads.kept x y now in
-    ran-finished g.D.Desk.Answer c.args.kept.now c.reads.kept c.serve_piece.new.kept (g.R.Read.remaining c.args.source.now.inner) left (i.taken ++ piece) (c.reads.intake.bytes ++ piece) c.serve_piece.new.intake.bytes x y (g.W.Write.contents c.serve_piece.new.sink.inner) c.in-Ok-Some.end
+    ran-finished g.D.Desk.Answer c.args.kept.now c.reads.kept c.serve_piece.new.kept (g.R.Read.remaining c.args.source.now.inner) left (i.taken ++ piece) (c.reads.intake.bytes ++ piece) c.serve_piece.new.intake x y (g.W.Write.contents c.serve_piece.new.sink.inner) c.in-Ok-Some.end
     (Consumes-trans _ _ _ i.taken piece i.read c.in-Ok-receive.ensures.ok) h (rw (same, c.in-Ok-Some.field-0-is) at (c.in-Ok-Some.ensures.ran left))
 
 pub reads-preserved : goal.reads-preserved

@@ -19,6 +19,6 @@ returns-in-Err-clause-answered g c = (
   _,
   λ m s none.
       let h = ready-by-work m (AskAlone (ask.Fetch c.args.name)) c.args.core.now c.run_all_work.new.core (c.run_all_work.ensures m s none) refl in
-      answered-memory m (AskAlone (ask.Fetch c.args.name)) c.args.core.now c.run_all_work.new.core c.fetch.new.self h tt c.in-Err.ensures.err,
+      answered-memory m (AskAlone (ask.Fetch c.args.name)) c.args.core.now c.run_all_work.new.core c.fetch.new.self h tt tt c.in-Err.ensures.err,
   c.say_told.ensures.wrote,
 )

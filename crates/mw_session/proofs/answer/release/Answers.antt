@@ -4,6 +4,6 @@ use Rattle.mw_session.proofs.answer.release.Goals as goal
 pub returns-clause-answered : goal.returns-clause-answered
 returns-clause-answered g c = (
   _,
-  λ m s none. answered-release m c.args.name c.args.core.now c.release-reply.new.self c.release-reply.result s none c.release-reply.ensures.served c.release-reply.ensures.err,
+  λ m s none. answered-release m c.args.name c.args.core.now c.release-reply.new.self c.release-reply.result s none c.release-reply.ensures.served c.release-reply.ensures.err c.release-reply.ensures.full,
   c.say_told.ensures.wrote,
 )

@@ -8,6 +8,7 @@ use Rattle.mw_ledger.specs.mw_store.Stored.{Stored}
 use Rattle.mw_ledger.specs.mw_stands.Facts.{stored_of}
 use Rattle.mw_ledger.specs.mw_stands.Events.{FollowsMachine}
 use Rattle.mw_ledger.proofs.mw_stands.CallLemmas.{IfOk-from-one, serves-refused, serves-cancel}
+use Rattle.mw_core.proofs.FaultLemmas.{short-full}
 use Rattle.mw_core.proofs.machine.Core.cancel.Goals as goal
 
 pub returns-in-Err-clause-served : goal.returns-in-Err-clause-served
@@ -31,3 +32,6 @@ returns-in-Ok-clause-served c =
     let Pends : Stored → Type 0 = λ v. outcome_at v.table.outcomes t ≡ outcome.Pending in
     serves-cancel old c.end.new.self c.args.name t free (c.in-Ok.ensures.ok ∙ ap (λ v. ticket v.table c.args.name) seen) c.whole.ensures.complete
     (subst Within seen c.in-Ok.ensures.within) (subst Pends seen c.in-Ok.ensures.pending) c.end.ensures.table c.end.ensures.kept c.end.ensures.work c.end.ensures.log
+
+pub returns-in-Err-clause-full : goal.returns-in-Err-clause-full
+returns-in-Err-clause-full c = short-full c.note.result _ refl c.note.ensures.memory (λ full. full)

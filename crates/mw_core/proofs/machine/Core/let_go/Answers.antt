@@ -6,6 +6,7 @@ use Rattle.mw_model.specs.Refusals.{outcome_at}
 use Rattle.mw_model.specs.Machine.{settled}
 use Rattle.mw_model.specs.Stands.{CoreView}
 use Rattle.mw_ledger.specs.Books.{Book, IsOrderly, seen_of}
+use Rattle.mw_ledger.specs.mw_stands.Rows.{IsLogFull}
 use Rattle.mw_ledger.specs.Counts.{AreCounts, Tally}
 use Rattle.mw_ledger.proofs.CountLemmas.{counts-released}
 use Rattle.mw_core.proofs.machine.Core.let_go.Goals as goal
@@ -30,3 +31,8 @@ returns-clause-log c =
     let Was : Type 0 = c.let_go.new.self.log ≡ c.self.inside.ledger.log ++ c.short.result ∷ [] in
     on_ok_weaker {P = Was} c.let_go.result
     (λ e. e ∙ ap (λ (i : LogItem). c.self.inside.ledger.log ++ i ∷ []) c.short.ensures ∙ ap (λ (d : CoreView). d.log ++ c.args.item ∷ []) c.self.view_is) c.let_go.ensures.log
+
+pub returns-clause-memory : goal.returns-clause-memory
+returns-clause-memory c =
+    let P : CoreView → Type 0 = λ d. OnErr c.let_go.result (IsLogFull d) in
+    subst P c.self.view_is c.let_go.ensures.rows

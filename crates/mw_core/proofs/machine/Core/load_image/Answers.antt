@@ -1,4 +1,4 @@
-use Rattle.std.proofs.Common.{◌≡◌, ◌∙◌, ◌++◌, ◌∷◌, [], length, ap, sym, refl, subst, Some, None, IfOk}
+use Rattle.std.proofs.Common.{◌≡◌, ◌∙◌, ◌++◌, ◌∷◌, [], length, ap, sym, refl, subst, inl, inr, Some, None, IfOk}
 use Rattle.mw_model.specs.declared.shapes.Shape.{Shape}
 use Rattle.mw_model.specs.declared.calls.Outcome.TheVariants as outcome
 use Rattle.mw_model.specs.declared.calls.Given.TheVariants as given
@@ -8,9 +8,13 @@ use Rattle.mw_model.specs.declared.calls.LogItem.TheVariants as item
 use Rattle.mw_model.specs.Values.{ImageValue, shape_of_picture}
 use Rattle.mw_model.specs.Refusals.{refusal}
 use Rattle.mw_model.specs.Machine.{with_entry, given_submission}
+use Rattle.mw_model.specs.Lines.{AskLoad}
+use Rattle.mw_model.specs.Scripts.{refused_unread}
+use Rattle.mw_ledger.specs.mw_store.Stored.{Stored}
 use Rattle.mw_ledger.specs.mw_stands.Facts.{stored_of}
 use Rattle.mw_ledger.specs.mw_stands.Events.{FollowsMachine}
 use Rattle.mw_ledger.proofs.mw_stands.CallLemmas.{IfOk-from-one, IfOk-from-four, serves-refused, serves-load}
+use Rattle.mw_core.proofs.FaultLemmas.{none-before-none, on_err, short-full}
 use Rattle.mw_core.proofs.machine.Core.load_image.Goals as goal
 
 pub returns-in-Err-clause-served : goal.returns-in-Err-clause-served
@@ -43,3 +47,12 @@ returns-in-Ok-clause-served c =
     c.accept.ensures.reply c.accept.ensures.table c.accept.ensures.kept c.accept.ensures.work c.accept.ensures.log
     (λ table kept work log. serves-load old new n v c.requires free c.whole.ensures.complete table kept work
     (log ∙ ap (λ d. old.log ++ item.Call (call.Load n (given.Good d)) accepted ∷ []) c.shape.ensures))
+
+pub returns-in-Err-clause-first : goal.returns-in-Err-clause-first
+returns-in-Err-clause-first c = short-full c.note.result _ refl c.note.ensures.memory (λ full. inl full)
+
+pub returns-in-Ok-clause-first : goal.returns-in-Ok-clause-first
+returns-in-Ok-clause-first c =
+    let seen = c.store.ensures ∙ ap stored_of c.self.view_is in
+    let P : Stored → Type 0 = λ d. refused_unread d.table (AskLoad c.args.name []) ≡ None in
+    on_err c.accept.result (inr (subst P seen (none-before-none _ _ c.in-Ok.ensures.load)))

@@ -1,8 +1,11 @@
-use Rattle.std.proofs.Common.{◌∷◌, ◌++◌, ◌∙◌, [], ap}
+use Rattle.std.proofs.Common.{◌≡◌, ◌⊎◌, true, ◌∷◌, ◌++◌, ◌∙◌, [], ap, subst}
+use Rattle.mw_log.specs.Short.{is_long}
+use Rattle.mw_ledger.specs.mw_stands.Rows.{IsLogFull}
 use Rattle.mw_model.specs.declared.calls.LogItem.TheVariants as item
 use Rattle.mw_model.specs.Stands.{CoreView}
 use Rattle.mw_ledger.specs.Books.{Book, seen_of}
 use Rattle.mw_ledger.proofs.CountLemmas.{counts-kept}
+use Rattle.mw_core.proofs.FaultLemmas.{on_err}
 use Rattle.mw_core.proofs.machine.Core.note.Goals as goal
 
 pub invariant_of-self-2 : goal.invariant_of-self-2
@@ -15,3 +18,8 @@ returns-clause-ok c = ap seen_of c.in_ok-note.ensures.ok ∙ ap (λ (d : CoreVie
 
 pub returns-clause-side : goal.returns-clause-side
 returns-clause-side c = ap (λ (b : Book). b.side) c.in_ok-note.ensures.ok ∙ ap (λ (d : CoreView). d.side) c.self.view_is
+
+pub returns-in_err-note-clause-memory : goal.returns-in_err-note-clause-memory
+returns-in_err-note-clause-memory c =
+    let P : CoreView → Type 0 = λ d. (is_long (item.Call c.args.call c.args.reply) ≡ true) ⊎ IsLogFull d in
+    on_err c.from_residual.result (subst P c.self.view_is c.in_err-note.ensures.rows)

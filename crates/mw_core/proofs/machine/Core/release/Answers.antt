@@ -8,6 +8,7 @@ use Rattle.mw_ledger.specs.mw_store.Stored.{Stored}
 use Rattle.mw_ledger.specs.mw_stands.Facts.{stored_of}
 use Rattle.mw_ledger.specs.mw_stands.Events.{FollowsMachine}
 use Rattle.mw_ledger.proofs.mw_stands.CallLemmas.{IfOk-from-one, serves-refused, serves-release}
+use Rattle.mw_core.proofs.FaultLemmas.{short-full}
 use Rattle.mw_core.proofs.machine.Core.release.Goals as goal
 
 pub returns-in-Err-clause-served : goal.returns-in-Err-clause-served
@@ -32,3 +33,6 @@ returns-in_ok-let_go-in-Ok-clause-served c =
     let got = c.in_ok-let_go-in-Ok.ensures in
     serves-release old c.let_go.new.self c.args.name t free (c.in-Ok.ensures.ok ∙ ap (λ v. ticket v.table c.args.name) seen) c.whole.ensures.complete
     (subst Within seen c.in-Ok.ensures.within) (subst Done seen c.in-Ok.ensures.done) got.table got.kept got.work got.log
+
+pub returns-in-Err-clause-full : goal.returns-in-Err-clause-full
+returns-in-Err-clause-full c = short-full c.note.result _ refl c.note.ensures.memory (λ full. full)

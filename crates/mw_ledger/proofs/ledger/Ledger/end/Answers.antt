@@ -1,4 +1,4 @@
-use Rattle.std.proofs.Common.{◌≡◌, ◌∙◌, ℕ, cond, List, Option, Some, None, length, refl, ap, sym, subst, arith}
+use Rattle.std.proofs.Common.{◌≡◌, ◌∙◌, ◌%◌, ℕ, cond, List, Option, Some, None, length, refl, ap, sym, subst, arith}
 use Rattle.mw_model.specs.Machine.{killed}
 use Rattle.mw_model.specs.Refusals.{Table, is_pending, outcome_at}
 use Rattle.mw_underway.specs.mw_progress.ProgressView.{ProgressView}
@@ -31,6 +31,6 @@ invariant_of-self c =
       side = refl;
     }) in
     let P : List (Option ProgressView) → Type 0 = λ xs. IsOrderly (record new { works = xs }) in (
-      omega (arith, c.kill.ensures.pending, c.push_reserved.ensures.len, c.push_reserved.ensures.capacity, c.self.invariant.0),
+      (omega (arith, c.kill.ensures.pending, c.push_reserved.ensures.len, c.push_reserved.ensures.capacity, c.self.invariant.0.0), ap (λ (n : ℕ). n % 16) c.push_reserved.ensures.capacity ∙ c.self.invariant.0.1, c.self.invariant.0.2),
       subst P (sym (written-back b.works.len ws _ (omega (arith, b.works.ok.0, count)))) order,
     )

@@ -1,4 +1,4 @@
-use Rattle.std.proofs.Common.{◌<◌, length, refl, ap, subst, arith}
+use Rattle.std.proofs.Common.{◌∙◌, ◌%◌, ℕ, ◌<◌, length, refl, ap, subst, arith}
 use Rattle.std.specs.List.{AllByRecursion}
 use Rattle.mw_model.specs.Refusals.{Table}
 use Rattle.mw_ledger.specs.Books.{Book, room_in}
@@ -11,7 +11,7 @@ invariant_of-self c =
     let told = c.settle-waiters.ensures in
     let old : Book = record { table = b.store.table; kept = b.store.kept; works = b.works.items; log = b.log.items; side = b.side; room = room_in b.log.cap b.log.len b.store.table.outcomes } in
     let new : Book = record { table = c.settle-waiters.new.self.table; kept = c.settle-waiters.new.self.kept; works = b.works.items; log = c.push_reserved.new.self.items; side = b.side; room = room_in c.push_reserved.new.self.cap c.push_reserved.new.self.len c.settle-waiters.new.self.table.outcomes } in (
-      omega (arith, told.pending, c.push_reserved.ensures.len, c.push_reserved.ensures.capacity, c.self.invariant.0),
+      (omega (arith, told.pending, c.push_reserved.ensures.len, c.push_reserved.ensures.capacity, c.self.invariant.0.0), ap (λ (n : ℕ). n % 16) c.push_reserved.ensures.capacity ∙ c.self.invariant.0.1, c.self.invariant.0.2),
       follows-orderly old new c.self.invariant.1 (record {
         stored = c.pending-whole.ensures.whole;
         submissions = ap (λ (w : Table). w.submissions) told.table;

@@ -12,6 +12,6 @@ returns c =
     let w : Table = record { names = a.names.keys; submissions = a.submissions.items; outcomes = a.outcomes.items } in
     let t = c.args.t in
     let named : t < length a.names.keys = let R : Stored → Type 0 = λ s. t < length s.table.names in subst R (sym c.self.view_is) c.requires in
-    let within : t < length a.wanted.items = omega (arith, named, c.self.invariant.counted) in
-    ap (nat_lt 0) (get_or_read a.wanted.items t c.index.result.now within c.index.ensures 0 ∙ c.self.invariant.wanted t)
-    ∙ wanted-tells w t c.self.invariant.whole.outcomes ∙ ap (λ (s : Stored). is_wanted s.table t) c.self.view_is
+    let within : t < length a.wanted.items = omega (arith, named, c.self.invariant.0.counted) in
+    ap (nat_lt 0) (get_or_read a.wanted.items t c.index.result.now within c.index.ensures 0 ∙ c.self.invariant.0.wanted t)
+    ∙ wanted-tells w t c.self.invariant.0.whole.outcomes ∙ ap (λ (s : Stored). is_wanted s.table t) c.self.view_is

@@ -48,9 +48,9 @@ invariant_of-self c =
     let kept-size : length (map (option_map kept_value) new) ≡ length s.kept
     = omega (arith, length-map new (option_map kept_value), length-map a.kept.items (option_map kept_value), c.drop_spent.auto.kept, ap length c.deref_mut-4.ensures.value) in
     rw (shown, counts, take_at rest _ a.waiting.len (omega (arith, c.drop_settled.auto.waiting, c.deref_mut-3.ensures.len)), take_at new _ a.kept.len (omega (arith, c.drop_spent.auto.kept, c.deref_mut-4.ensures.len)))
-    (kill-tracked s a.wanted.items now a.waiting.items rest a.pending c.count_pending-self-inside.result t c.args.cause os (map (option_map kept_value) new) c.self.invariant named c.requires.dead is size
+    ((kill-tracked s a.wanted.items now a.waiting.items rest a.pending c.count_pending-self-inside.result t c.args.cause os (map (option_map kept_value) new) c.self.invariant.0 named c.requires.dead is size
     (omega (arith, c.count_wanted.auto.wanted, ap length c.deref_mut-2.ensures.value)) (omega (arith, c.drop_settled.auto.waiting, ap length c.deref_mut-3.ensures.value)) kept-size
-    counted each count (kill-drops s os now (map (option_map kept_value) new) (size ∙ c.self.invariant.whole.outcomes) counted dropped))
+    counted each count (kill-drops s os now (map (option_map kept_value) new) (size ∙ c.self.invariant.0.whole.outcomes) counted dropped)), c.self.invariant.1)
 
 pub returns-clause-kept : goal.returns-clause-kept
 returns-clause-kept c = λ j.
@@ -68,7 +68,7 @@ returns-clause-kept c = λ j.
     let dropped : (k : ℕ) → value_at (map (option_map kept_value) new) k ≡ (if spent_by os now k then None else value_at s.kept k)
     = λ k. kept-dropped a.kept.items new k (spent_by os now k) (rw (c.deref-6.ensures.value, shown, c.deref-7.ensures.value, counts, c.deref_mut-4.ensures.value) at (c.drop_spent.ensures k)) in
     rw (shown, take_at new _ a.kept.len (omega (arith, c.drop_spent.auto.kept, c.deref_mut-4.ensures.len)), ← c.self.view_is)
-    (kill-drops s os now (map (option_map kept_value) new) (size ∙ c.self.invariant.whole.outcomes) counted dropped j)
+    (kill-drops s os now (map (option_map kept_value) new) (size ∙ c.self.invariant.0.whole.outcomes) counted dropped j)
 
 pub returns-clause-pending : goal.returns-clause-pending
 returns-clause-pending c =
@@ -81,7 +81,7 @@ returns-clause-pending c =
     let v = c.self.view_is in
     let t = c.args.t in
     let named : t < length c.self.inside.names.keys = let R : Stored → Type 0 = λ s. t < length s.table.names in subst R (sym v) c.requires.within in
-    let within : t < length os = omega (arith, named, c.self.invariant.whole.outcomes) in
+    let within : t < length os = omega (arith, named, c.self.invariant.0.whole.outcomes) in
     let was : outcome_at os t ≡ outcome.Pending = let W : Stored → Type 0 = λ s. outcome_at s.table.outcomes t ≡ outcome.Pending in subst W (sym v) c.requires.pending in
     rw (take_at c.fail_dependents.new.outcomes _ c.self.inside.outcomes.len (omega arith), a, b, d, ← v)
     (omega (
