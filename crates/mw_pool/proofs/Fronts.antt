@@ -1,8 +1,12 @@
 -- Beginnings of one list.
-use Rattle.std.proofs.Common.{◌≡◌, ◌≤◌, List, [], ◌∷◌, ◌++◌, length, refl, ap, sym, ◌∙◌, subst, arith, append_assoc}
+use Rattle.std.proofs.Common.{◌≡◌, ℕ, ◌≤◌, IsTrue, nat_le, List, [], ◌∷◌, ◌++◌, length, refl, ap, sym, ◌∙◌, subst, arith, append_assoc}
+use Rattle.std.proofs.lemmas.Bool.Decides.{nat_tests}
 use mathlib.Core.List.{IsPrefix}
 use Rattle.mw_task.specs.WindowTasks.{WindowTask}
 use Rattle.mw_pool.specs.Rolls.{EndsWith, StandsIn}
+
+pub le-true : (a b : ℕ) → IsTrue (nat_le a b) → a ≤ b
+le-true a b h = grind (arith, nat_tests, h)
 
 -- of two beginnings of one list the shorter begins the longer
 pub prefix-shorter : {A : Type 0} (xs ys zs : List A) → IsPrefix xs zs → IsPrefix ys zs → length xs ≤ length ys → IsPrefix xs ys
@@ -23,6 +27,6 @@ prefix-whole (x ∷ xs) (y ∷ ys) p le =
     let rest = prefix-whole xs ys (p.0, cc (p.1)) (omega arith) in cc (p.1, rest)
 
 -- what ends a beginning stands in the whole
-pub ends-stands : (seen roll : List WindowTask) (w : WindowTask) → EndsWith seen w → IsPrefix seen roll → StandsIn roll w
-ends-stands seen roll w ends begins =
+pub ends_stands : (seen roll : List WindowTask) (w : WindowTask) → EndsWith seen w → IsPrefix seen roll → StandsIn roll w
+ends_stands seen roll w ends begins =
     (ends.0, begins.0, sym begins.1 ∙ ap (λ l. l ++ begins.0) ends.1 ∙ append_assoc ends.0 (w ∷ []) begins.0)

@@ -242,6 +242,7 @@ impl<J: Naming> Roll<J> {
     }
 
     /// Whether the task of a result stands in the roll, where its worker has seen the roll up to it.
+    #[tactic(auto, using(crate::proofs::Fronts::ends_stands))]
     pub fn has(&self, seen: &Option<Front<J>>, done: &TileDone) -> bool
         requires { IfSome seen.now (λ s. EndsWith s done.now) }
         ensures { IsTrue result → StandsIn self.now done.now }
