@@ -190,9 +190,9 @@ started-on old new started.Idle roll w e = unchanged old new roll e.1 w
 
 started-written : (old new : CoreView) (a : Started) (slip : Option (List WindowTask)) (roll written : List WindowTask) → Writes roll a slip written → (w : Standing old roll) → Starts old w.0 a new → Standing new written
 started-written old new (started.Work v) (Some seen) roll written is w b =
-    let now = started-on old new (started.Work v) roll w b in
     let P : List WindowTask → Type 0 = λ l. Standing new l in
-    subst P (sym is.0) (w.0, b.stands, all-push (IsHanded new w.0) roll v now.2 (begun old new w.0 v b))
+    let before : AllByRecursion (IsHanded new w.0) roll = on old new w.0 w.0 roll (begins old new w.0 v b) w.2 in
+    subst P (sym is.0) (w.0, b.stands, all-push (IsHanded new w.0) roll v before (begun old new w.0 v b))
 started-written old new (started.Work v) None roll written is w b = let P : List WindowTask → Type 0 = λ l. Standing new l in subst P (sym is) (started-on old new (started.Work v) roll w b)
 started-written old new (started.Refused t) (Some seen) roll written is w b = absurd is
 started-written old new (started.Refused t) None roll written is w b = let P : List WindowTask → Type 0 = λ l. Standing new l in subst P (sym is) (started-on old new (started.Refused t) roll w b)
