@@ -195,10 +195,11 @@ impl<J: Naming> Board<J> {
             if kept.closed {
                 return None;
             }
-            match kept.start() {
-                (Started::Work(work), slip) => return Some((work, slip)),
-                (Started::Refused(_), _) => self.settled.notify_all(),
-                (Started::Idle, _) => self.sleep(rt, kept),
+            let (started, slip) = kept.start();
+            match started {
+                Started::Work(work) => return Some((work, slip)),
+                Started::Refused(_) => self.settled.notify_all(),
+                Started::Idle => self.sleep(rt, kept),
             }
         }
         None
