@@ -1,7 +1,7 @@
 -- Tasks that were handed out are the core's own through each event.
-use Rattle.std.proofs.Common.{◌≡◌, ◌≢◌, ℕ, ◌/◌, ◌%◌, ◌<◌, ◌≤◌, true, not, inl, inr, List, [], ◌∷◌, ◌++◌, length, map, set, get_or, Option, Some, None, Result, Ok, Err, IfOk, OnErr, refl, sym, ap, ◌∙◌, subst, arith, append-nil, length-append, div-add-mod', get_or-set_same, get_or-set_other}
+use Rattle.std.proofs.Common.{◌≡◌, ℕ, ◌/◌, ◌%◌, ◌<◌, ◌≤◌, true, not, inl, inr, List, [], ◌∷◌, ◌++◌, length, map, set, Option, Some, None, Result, Ok, Err, IfOk, OnErr, refl, sym, ap, ◌∙◌, subst, arith, append-nil, length-append, div-add-mod', get_or-set_same, get_or-set_other}
 use Rattle.std.specs.List.{AllByRecursion}
-use Rattle.std.specs.Coded.{Coded, Coded-set, codes}
+use Rattle.std.specs.Coded.{Coded-set, codes}
 use Rattle.std.proofs.Math.Logic.{∥∥₁_map, ∥∥₁_elim}
 use Rattle.std.proofs.lemmas.Bool.{cases_eq, cases_lt, and_parts}
 use Rattle.std.proofs.lemmas.List.{get_or_past}
@@ -33,7 +33,7 @@ use Rattle.mw_core.specs.declared.answers.Refusal.{Refusal}
 use Rattle.mw_core.specs.declared.answers.Refusal.TheVariants as refusal
 use Rattle.mw_core.specs.TaskAnswers.{Starts, Finishes, IsOwn, Refuses}
 use Rattle.mw_core.specs.mw_stands.Events.{Serves, WorkStays}
-use Rattle.mw_core.specs.mw_stands.TaskEvents.{Begins, Kills, Places, IsUnderway}
+use Rattle.mw_core.specs.mw_stands.TaskEvents.{Begins, Kills, Places}
 use Rattle.mw_core.specs.mw_work.Works.{true_task}
 use Rattle.mw_core.proofs.mw_stands.StandsLemmas.{stands-sound}
 use Rattle.mw_core.proofs.mw_stands.TaskLemmas.{kept-images, work-of}
@@ -103,10 +103,12 @@ same-number a b l e f = sym (div-add-mod' a l) ∙ rw (e, f) (div-add-mod' b l)
 stays : (c new : CoreView) (m n : Machine) → StandsFor c m → StandsFor new n → WorkStays c new → Grown m n → (d : WindowTask) → IsHanded c m d → IsHanded new n d
 stays c new m n s z work g d h =
     let t = d.task.ticket in
-    let named : t < length m.table.names = omega (arith, ap (λ (w : Table). length w.names) s.table, h.0) in
-    (omega (arith, named, g.names, ap (λ (w : Table). length w.names) z.table), λ p k there bears.
-        let pends : is_pending (outcome_at new.table.outcomes t) ≡ true = ap (λ (w : Table). is_pending (outcome_at w.outcomes t)) z.table ∙ ap is_pending (z.idle t p there) in
-        h.1 p k (sym (work t h.0 pends) ∙ there) bears ∙ sym (same-inputs m n t k p (g.inputs t named)))
+    let named : t < length m.table.names = omega (arith, ap (λ (w : Table). length w.names) s.table, h.0) in (
+      omega (arith, named, g.names, ap (λ (w : Table). length w.names) z.table),
+      λ p k there bears.
+          let pends : is_pending (outcome_at new.table.outcomes t) ≡ true = ap (λ (w : Table). is_pending (outcome_at w.outcomes t)) z.table ∙ ap is_pending (z.idle t p there) in
+          h.1 p k (sym (work t h.0 pends) ∙ there) bears ∙ sym (same-inputs m n t k p (g.inputs t named)),
+    )
 
 -- a place that holds work is there
 has-place : (work : List (Option Progress)) (t : ℕ) (p : Progress) → progress_at work t ≡ Some p → t < length work
@@ -119,15 +121,17 @@ has-place work t p e = elim (cases_lt t (length work)) [
 goes : (c new : CoreView) (m : Machine) (t : ℕ) (p q : Progress) → length new.table.names ≡ length c.table.names → progress_at c.work t ≡ Some p → new.work ≡ set c.work t (Some q)
     → ((u k : ℕ) → true_task m u q k ≡ true_task m u p k) → (d : WindowTask) → IsHanded c m d → IsHanded new m d
 goes c new m t p q names was now same d h =
-    let u = d.task.ticket in
-    (omega (arith, names, h.0), λ r k there bears. elim (cases_eq u t) [
-      | inl z ↦
-          let mine : progress_at new.work u ≡ Some q = ap (progress_at new.work) z ∙ ap (λ x. progress_at x t) now ∙ get_or-set_same c.work t (Some q) None (has-place c.work t p was) in
-          let one : r ≡ q = cc (there, mine) in
-          let task : true_task m u r k ≡ true_task m u p k = ap (λ v. true_task m u v k) one ∙ same u k in
-          h.1 p k (ap (progress_at c.work) z ∙ was) (sym (ap (λ (w : WindowTask). w.task) task) ∙ bears) ∙ sym task
-      | inr z ↦ h.1 r k (sym (ap (λ x. progress_at x u) now ∙ get_or-set_other c.work t u (Some q) None z) ∙ there) bears
-    ])
+    let u = d.task.ticket in (
+      omega (arith, names, h.0),
+      λ r k there bears. elim (cases_eq u t) [
+        | inl z ↦
+            let mine : progress_at new.work u ≡ Some q = ap (progress_at new.work) z ∙ ap (λ x. progress_at x t) now ∙ get_or-set_same c.work t (Some q) None (has-place c.work t p was) in
+            let one : r ≡ q = cc (there, mine) in
+            let task : true_task m u r k ≡ true_task m u p k = ap (λ v. true_task m u v k) one ∙ same u k in
+            h.1 p k (ap (progress_at c.work) z ∙ was) (sym (ap (λ (w : WindowTask). w.task) task) ∙ bears) ∙ sym task
+        | inr z ↦ h.1 r k (sym (ap (λ x. progress_at x u) now ∙ get_or-set_other c.work t u (Some q) None z) ∙ there) bears
+      ],
+    )
 
 -- the task that is handed out
 begun : (c new : CoreView) (m : Machine) (w : WindowTask) → Begins c m w new → IsHanded new m w
@@ -136,13 +140,15 @@ begun c new m w b =
     let p = b.progress in
     let i = b.number in
     let q : Progress = record p { started = set p.started i true } in
-    let mine : progress_at new.work t ≡ Some q = ap (λ (x : CoreView). progress_at x.work t) b.started ∙ get_or-set_same c.work t (Some q) None (has-place c.work t p b.work) in
-    (omega (arith, ap (λ (x : CoreView). length x.table.names) b.started, b.within), λ r k there bears.
-        let one : r ≡ q = cc (there, mine) in
-        let task : true_task m t r k ≡ true_task m t p k = ap (λ v. true_task m t v k) one in
-        let both : (true_task m t p k).task ≡ (true_task m t p i).task = sym (ap (λ (x : WindowTask). x.task) task) ∙ bears ∙ ap (λ (x : WindowTask). x.task) b.task in
-        let number : k ≡ i = same-number k i (length p.tiles) (ap (λ (x : TaskId). x.step) both) (ap (λ (x : TaskId). x.tile) both) in
-        b.task ∙ ap (true_task m t p) (sym number) ∙ sym task)
+    let mine : progress_at new.work t ≡ Some q = ap (λ (x : CoreView). progress_at x.work t) b.started ∙ get_or-set_same c.work t (Some q) None (has-place c.work t p b.work) in (
+      omega (arith, ap (λ (x : CoreView). length x.table.names) b.started, b.within),
+      λ r k there bears.
+          let one : r ≡ q = cc (there, mine) in
+          let task : true_task m t r k ≡ true_task m t p k = ap (λ v. true_task m t v k) one in
+          let both : (true_task m t p k).task ≡ (true_task m t p i).task = sym (ap (λ (x : WindowTask). x.task) task) ∙ bears ∙ ap (λ (x : WindowTask). x.task) b.task in
+          let number : k ≡ i = same-number k i (length p.tiles) (ap (λ (x : TaskId). x.step) both) (ap (λ (x : TaskId). x.tile) both) in
+          b.task ∙ ap (true_task m t p) (sym number) ∙ sym task,
+    )
 
 begins : (c new : CoreView) (m : Machine) (w : WindowTask) → Begins c m w new → (d : WindowTask) → IsHanded c m d → IsHanded new m d
 begins c new m w b =
