@@ -20,7 +20,12 @@ pub(crate) const PASSES: u32 = 64;
 const CALLS: u32 = 15_625;
 
 /// Each pass in turn asks for a name that is not known.
-fn calls<R: Wait, J: Naming>(rt: &R, board: &Board<J>, passes: &mut [Pass], unknown: Name) -> Result<(), Fault> {
+fn calls<R: Wait, J: Naming>(
+    rt: &R,
+    board: &Board<J>,
+    passes: &mut [Pass],
+    unknown: Name,
+) -> Result<(), Fault> {
     for _ in 0..CALLS {
         for pass in &mut *passes {
             board.status(rt, pass, unknown)?;
@@ -29,7 +34,11 @@ fn calls<R: Wait, J: Naming>(rt: &R, board: &Board<J>, passes: &mut [Pass], unkn
     Ok(())
 }
 
-fn audited<R: Wait + Clock, J: Naming>(rt: &R, alloc: Global, board: &Board<J>) -> Result<Duration, Fault> {
+fn audited<R: Wait + Clock, J: Naming>(
+    rt: &R,
+    alloc: Global,
+    board: &Board<J>,
+) -> Result<Duration, Fault> {
     let mut passes = Vec::with_capacity(alloc, PASSES as usize)?;
     for _ in 0..PASSES {
         passes.push(board.pass())?;

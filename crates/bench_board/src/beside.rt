@@ -79,7 +79,12 @@ fn load<R: Wait, J: Naming>(
 }
 
 /// Submits the commands and waits for all of them.
-fn submit_and_wait<R: Wait, J: Naming>(rt: &R, board: &Board<J>, pass: &mut Pass, job: Job) -> Result<(), Fault> {
+fn submit_and_wait<R: Wait, J: Naming>(
+    rt: &R,
+    board: &Board<J>,
+    pass: &mut Pass,
+    job: Job,
+) -> Result<(), Fault> {
     for command in 0..job.commands() {
         accepted(board.run(rt, pass, made_name(command)?, job.op()?)?)?;
     }

@@ -37,7 +37,10 @@ impl Gate for Grudging {
 }
 
 /// Eight sessions, once all of them are joined.
-fn all_played<R: Threads + Wait + Abort + Sync, J: Naming + Send + Sync>(rt: &R, desk: Desk<'_, J>) -> Vec<Played> {
+fn all_played<R: Threads + Wait + Abort + Sync, J: Naming + Send + Sync>(
+    rt: &R,
+    desk: Desk<'_, J>,
+) -> Vec<Played> {
     let at = &desk;
     map_indices(
         rt,
@@ -49,7 +52,10 @@ fn all_played<R: Threads + Wait + Abort + Sync, J: Naming + Send + Sync>(rt: &R,
 }
 
 /// Workers end when the board is closed.
-fn beside_workers<R: Threads + Wait + Abort + Sync, J: Naming + Send + Sync>(rt: &R, desk: Desk<'_, J>) -> Vec<Played> {
+fn beside_workers<R: Threads + Wait + Abort + Sync, J: Naming + Send + Sync>(
+    rt: &R,
+    desk: Desk<'_, J>,
+) -> Vec<Played> {
     let gate = Grudging {
         alloc: desk.alloc,
         asked: AtomicU64::new(0),
@@ -114,7 +120,10 @@ fn parted(rt: &impl Abort, alloc: Global, played: Vec<Played>) -> (Vec<Pass>, Ve
     (passes, handed)
 }
 
-fn play_all<R: Threads + Wait + Abort + Sync, J: Naming + Send + Sync>(rt: &R, desk: Desk<'_, J>) -> Summary {
+fn play_all<R: Threads + Wait + Abort + Sync, J: Naming + Send + Sync>(
+    rt: &R,
+    desk: Desk<'_, J>,
+) -> Summary {
     let mut first = desk.board.pass();
     lay_out(rt, desk, &mut first);
     let (mut passes, handed) = parted(rt, desk.alloc, beside_workers(rt, desk));

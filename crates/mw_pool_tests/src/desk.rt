@@ -80,7 +80,12 @@ pub(crate) fn run<R: Wait + Abort, J: Naming>(
     board.run(rt, pass, name(rt, text), op).expect(rt, "memory")
 }
 
-pub(crate) fn wait<R: Wait + Abort, J: Naming>(rt: &R, board: &Board<J>, pass: &mut Pass, text: &[u8]) -> Reply {
+pub(crate) fn wait<R: Wait + Abort, J: Naming>(
+    rt: &R,
+    board: &Board<J>,
+    pass: &mut Pass,
+    text: &[u8],
+) -> Reply {
     board.wait(rt, pass, name(rt, text)).expect(rt, "memory")
 }
 

@@ -59,7 +59,11 @@ impl Gate for Meeting {
 }
 
 /// Waits for both entries, and closes the board.
-fn wait_for_both<R: Wait + Abort, J: Naming>(rt: &R, board: &Board<J>, pass: &mut Pass) -> (Reply, Reply) {
+fn wait_for_both<R: Wait + Abort, J: Naming>(
+    rt: &R,
+    board: &Board<J>,
+    pass: &mut Pass,
+) -> (Reply, Reply) {
     let d = wait(rt, board, pass, b"d");
     let e = wait(rt, board, pass, b"e");
     board.close(rt);

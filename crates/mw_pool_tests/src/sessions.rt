@@ -62,7 +62,11 @@ fn cancel<R: Wait + Abort, J: Naming>(rt: &R, board: &Board<J>, pass: &mut Pass)
 }
 
 /// One session on a board without workers, which is closed at its end.
-fn without_workers<R: Wait + Abort, J: Naming>(rt: &R, board: &Board<J>, pass: &mut Pass) -> [Reply; 5] {
+fn without_workers<R: Wait + Abort, J: Naming>(
+    rt: &R,
+    board: &Board<J>,
+    pass: &mut Pass,
+) -> [Reply; 5] {
     load_both(rt, board, pass);
     let first = run(rt, board, pass, b"e", erosion(rt));
     let cancelled = cancel(rt, board, pass);
@@ -119,7 +123,10 @@ fn status_session<R: Wait + Abort, J: Naming>(rt: &R, board: &Board<J>) -> (Pass
 }
 
 /// Two sessions in threads of their own, one after the other, and what the second is told.
-fn two_sessions<R: Threads + Wait + Abort + Sync, J: Naming + Send + Sync>(rt: &R, board: &Board<J>) -> (Pass, Pass, Reply) {
+fn two_sessions<R: Threads + Wait + Abort + Sync, J: Naming + Send + Sync>(
+    rt: &R,
+    board: &Board<J>,
+) -> (Pass, Pass, Reply) {
     let (one, ()) = join(rt, move || load_session(rt, board), || ());
     let ((two, reply), ()) = join(rt, move || status_session(rt, board), || ());
     (one, two, reply)
@@ -156,7 +163,11 @@ fn core_for_each_pass(rt: HostRuntime) {
 }
 
 /// A row is loaded and eroded, and both images are fetched.
-fn fetch_both<R: Wait + Abort, J: Naming>(rt: &R, alloc: Global, board: &Board<J>) -> (Vec<u8>, Vec<u8>) {
+fn fetch_both<R: Wait + Abort, J: Naming>(
+    rt: &R,
+    alloc: Global,
+    board: &Board<J>,
+) -> (Vec<u8>, Vec<u8>) {
     let mut pass = board.pass();
     load_both(rt, board, &mut pass);
     run(rt, board, &mut pass, b"e", erosion(rt));

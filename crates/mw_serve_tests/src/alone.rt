@@ -51,8 +51,9 @@ fn leaves<R: Wait + Abort>(
     output: &[u8],
     ended: Result<End, SessionFault>,
 ) -> usize {
-    let (left, receipts) =
-        left_alone::<Brand, R>(rt, alloc, input, NewRoll::new()).expect(rt, "memory");
+    let (left, receipts) = left_alone::<Brand, R>(rt, alloc, input, NewRoll::new()).expect(
+        rt, "memory",
+    );
     assert_eq!(rt; left.written.as_slice(), output);
     assert_eq!(rt; left.ended, ended);
     receipts
@@ -170,8 +171,13 @@ fn a_thousand_answers_in_one_write(rt: HostRuntime) -> Result<(), Fail> {
         fails: false,
     });
     let mut sink = Sink::new(BufWriter::with_capacity(alloc, 65536, tally)?);
-    let (ended, _) =
-        served_alone::<Brand, _, _, _>(&rt, alloc, &mut source, &mut sink, NewRoll::new())?;
+    let (ended, _) = served_alone::<Brand, _, _, _>(
+        &rt,
+        alloc,
+        &mut source,
+        &mut sink,
+        NewRoll::new(),
+    )?;
     assert_eq!(rt; ended, Ok(End::Quit));
     assert_eq!(rt; writes.load(Ordering::SeqCst), 1);
     assert_eq!(rt; bytes.load(Ordering::SeqCst), 15_000);
@@ -212,8 +218,13 @@ fn each_answer_comes_before_the_next_read(rt: HostRuntime) -> Result<(), Fail> {
     });
     let writer = BufWriter::with_capacity(rt.alloc(), 4096, Ear { heard: &heard })?;
     let mut sink = Sink::new(writer);
-    let (ended, receipts) =
-        served_alone::<Brand, _, _, _>(&rt, rt.alloc(), &mut source, &mut sink, NewRoll::new())?;
+    let (ended, receipts) = served_alone::<Brand, _, _, _>(
+        &rt,
+        rt.alloc(),
+        &mut source,
+        &mut sink,
+        NewRoll::new(),
+    )?;
     assert_eq!(rt; ended, Ok(End::Quit));
     assert_eq!(rt; heard.load(Ordering::SeqCst), 94);
     assert_eq!(rt; receipts, 7);
@@ -243,8 +254,13 @@ fn a_writer_that_fails(rt: HostRuntime) -> Result<(), Fail> {
         held: Vec::new(rt.alloc()),
         room: 20,
     });
-    let (ended, receipts) =
-        served_alone::<Brand, _, _, _>(&rt, rt.alloc(), &mut source, &mut sink, NewRoll::new())?;
+    let (ended, receipts) = served_alone::<Brand, _, _, _>(
+        &rt,
+        rt.alloc(),
+        &mut source,
+        &mut sink,
+        NewRoll::new(),
+    )?;
     assert_eq!(rt; ended, Err(SessionFault::Write));
     assert_eq!(rt;
         sink.into_inner().held.as_slice(),
