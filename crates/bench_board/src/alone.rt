@@ -62,7 +62,7 @@ fn submit(core: &mut Core, job: Job) -> Result<(), Fault> {
     Ok(())
 }
 
-/// Takes a task, computes it and brings it: the time of the core, or none where no task is ready.
+/// Takes a task, computes it and brings it as the core's own: the time of the core, or none where no task is ready.
 fn one_task<R: Clock>(rt: &R, alloc: Global, core: &mut Core) -> Result<Option<Duration>, Fault> {
     let start = Instant::now(rt)?;
     let Started::Work(work) = core.start(0) else {
@@ -73,7 +73,7 @@ fn one_task<R: Clock>(rt: &R, alloc: Global, core: &mut Core) -> Result<Option<D
         return Err(Fault::Memory);
     };
     let start = Instant::now(rt)?;
-    match core.finish(done) {
+    match core.finish_own(done) {
         Finish::Placed | Finish::Settled(_) => Ok(Some(taken.saturating_add(start.elapsed(rt)?))),
         _ => Err(Fault::Answer),
     }

@@ -1,13 +1,16 @@
 //! Workers work a job off through a board.
 
+ghost use Rattle.std.specs.Prelude.{◌≡◌};
+
 use crate::alone::accepted;
 use crate::fault::Fault;
 use crate::jobs::{Job, element_name, image_name, made_name};
 use crate::side::Side;
 use mw_model::{NoMemory, Reply};
-use mw_pool::{Board, Gate, Pass, work};
+use mw_pool::{Board, Gate, Naming, NewRoll, Pass, work};
 use mw_task::{TaskRefused, TileDone, Work};
 use std::alloc::Global;
+use std::marker::Brand;
 use std::rt::Clock;
 use std::sync::Wait;
 use std::sync::atomic::{AtomicU64, Ordering};
@@ -63,10 +66,10 @@ pub(crate) struct Shift {
     pub(crate) workers: u32,
 }
 
-fn load<R: Wait>(
+fn load<R: Wait, J: Naming>(
     rt: &R,
     alloc: Global,
-    board: &Board,
+    board: &Board<J>,
     pass: &mut Pass,
     job: Job,
 ) -> Result<(), Fault> {
@@ -76,7 +79,12 @@ fn load<R: Wait>(
 }
 
 /// Submits the commands and waits for all of them.
-fn submit_and_wait<R: Wait>(rt: &R, board: &Board, pass: &mut Pass, job: Job) -> Result<(), Fault> {
+fn submit_and_wait<R: Wait, J: Naming>(
+    rt: &R,
+    board: &Board<J>,
+    pass: &mut Pass,
+    job: Job,
+) -> Result<(), Fault> {
     for command in 0..job.commands() {
         accepted(board.run(rt, pass, made_name(command)?, job.op()?)?)?;
     }
@@ -90,9 +98,9 @@ fn submit_and_wait<R: Wait>(rt: &R, board: &Board, pass: &mut Pass, job: Job) ->
 }
 
 /// The time from the first command to the last result, of workers that sleep when it begins.
-fn time_job<R: Wait + Clock>(
+fn time_job<R: Wait + Clock, J: Naming>(
     rt: &R,
-    board: &Board,
+    board: &Board<J>,
     pass: &mut Pass,
     job: Job,
 ) -> Result<Duration, Fault> {
@@ -102,9 +110,9 @@ fn time_job<R: Wait + Clock>(
     Ok(start.elapsed(rt)?)
 }
 
-fn with_workers<R: Threads + Wait + Clock + Sync>(
+fn with_workers<R: Threads + Wait + Clock + Sync, J: Naming + Send + Sync>(
     rt: &R,
-    board: &Board,
+    board: &Board<J>,
     gate: &Timed<'_, R>,
     pass: &mut Pass,
     shift: Shift,
@@ -120,11 +128,11 @@ fn with_workers<R: Threads + Wait + Clock + Sync>(
 }
 
 /// The clock is the runtime once more: the check of borrows wants a second reference to it.
-fn load_and_work_off<R: Threads + Wait + Clock + Sync>(
+fn load_and_work_off<R: Threads + Wait + Clock + Sync, J: Naming + Send + Sync>(
     rt: &R,
     clock: &R,
     alloc: Global,
-    board: &Board,
+    board: &Board<J>,
     shift: Shift,
 ) -> Result<CrewTimes, Fault> {
     let mut pass = board.pass();
@@ -142,10 +150,31 @@ fn load_and_work_off<R: Threads + Wait + Clock + Sync>(
 }
 
 /// A board over a new core with tiles of this side.
-pub(crate) fn new_board(alloc: Global, side: Side) -> Result<Board, NoMemory> {
+pub(crate) fn new_board<J: Naming>(
+    alloc: Global,
+    side: Side,
+    roll: NewRoll,
+) -> Result<Board<J>, NoMemory>
+    requires { roll ≡ J.book }
+{
     match side.core(alloc) {
-        Ok(core) => Ok(Board::new(alloc, core)),
+        Ok(core) => Ok(Board::new(alloc, core, roll)),
         Err(NoMemory) => Err(NoMemory),
+    }
+}
+
+fn on_board<J: Naming + Send + Sync, R: Threads + Wait + Clock + Sync>(
+    rt: &R,
+    alloc: Global,
+    shift: Shift,
+    side: Side,
+    roll: NewRoll,
+) -> Result<CrewTimes, Fault>
+    requires { roll ≡ J.book }
+{
+    match new_board::<J>(alloc, side, roll) {
+        Ok(board) => load_and_work_off(rt, rt, alloc, &board, shift),
+        Err(NoMemory) => Err(Fault::Memory),
     }
 }
 
@@ -156,8 +185,5 @@ pub(crate) fn beside<R: Threads + Wait + Clock + Sync>(
     shift: Shift,
     side: Side,
 ) -> Result<CrewTimes, Fault> {
-    match new_board(alloc, side) {
-        Ok(board) => load_and_work_off(rt, rt, alloc, &board, shift),
-        Err(NoMemory) => Err(Fault::Memory),
-    }
+    on_board::<Brand, R>(rt, alloc, shift, side, NewRoll::new())
 }

@@ -4,12 +4,13 @@ ghost use Rattle.std.specs.Prelude.{◌≡◌};
 ghost use Rattle.mw_model.specs.Machine.{start_state};
 ghost use Rattle.mw_model.specs.Stands.{StandsFor};
 
-use crate::given::{BITMAPS, PICTURES, bitmap_name, picture_name, pictures};
+use crate::given::{BITMAPS, PICTURES, Picture, bitmap_name, picture_name, pictures};
 use crate::play::{Desk, Handed, Played, SESSIONS};
 use crate::replay::{Entries, accepted, replay};
-use mw_pool::{Board, Core, Gate, Pass, work};
+use mw_pool::{Board, Core, Gate, Naming, NewRoll, Pass, work};
 use mw_task::{TaskRefused, TileDone, Work};
 use std::alloc::Global;
+use std::marker::Brand;
 use std::process::Abort;
 use std::sync::Wait;
 use std::sync::atomic::{AtomicU64, Ordering};
@@ -36,7 +37,10 @@ impl Gate for Grudging {
 }
 
 /// Eight sessions, once all of them are joined.
-fn all_played<R: Threads + Wait + Abort + Sync>(rt: &R, desk: Desk<'_>) -> Vec<Played> {
+fn all_played<R: Threads + Wait + Abort + Sync, J: Naming + Send + Sync>(
+    rt: &R,
+    desk: Desk<'_, J>,
+) -> Vec<Played> {
     let at = &desk;
     map_indices(
         rt,
@@ -48,7 +52,10 @@ fn all_played<R: Threads + Wait + Abort + Sync>(rt: &R, desk: Desk<'_>) -> Vec<P
 }
 
 /// Workers end when the board is closed.
-fn beside_workers<R: Threads + Wait + Abort + Sync>(rt: &R, desk: Desk<'_>) -> Vec<Played> {
+fn beside_workers<R: Threads + Wait + Abort + Sync, J: Naming + Send + Sync>(
+    rt: &R,
+    desk: Desk<'_, J>,
+) -> Vec<Played> {
     let gate = Grudging {
         alloc: desk.alloc,
         asked: AtomicU64::new(0),
@@ -65,7 +72,7 @@ fn beside_workers<R: Threads + Wait + Abort + Sync>(rt: &R, desk: Desk<'_>) -> V
 }
 
 /// Loads what is never released.
-fn lay_out<R: Wait + Abort>(rt: &R, desk: Desk<'_>, pass: &mut Pass) {
+fn lay_out<R: Wait + Abort, J: Naming>(rt: &R, desk: Desk<'_, J>, pass: &mut Pass) {
     for number in 0..PICTURES {
         desk.load(rt, pass, picture_name(rt, number), number);
     }
@@ -75,9 +82,9 @@ fn lay_out<R: Wait + Abort>(rt: &R, desk: Desk<'_>, pass: &mut Pass) {
 }
 
 /// All images that are stored under these names.
-fn stored<R: Wait + Abort>(
+fn stored<R: Wait + Abort, J: Naming>(
     rt: &R,
-    desk: Desk<'_>,
+    desk: Desk<'_, J>,
     pass: &mut Pass,
     entries: &Entries,
 ) -> Vec<Handed> {
@@ -113,7 +120,10 @@ fn parted(rt: &impl Abort, alloc: Global, played: Vec<Played>) -> (Vec<Pass>, Ve
     (passes, handed)
 }
 
-fn play_all<R: Threads + Wait + Abort + Sync>(rt: &R, desk: Desk<'_>) -> Summary {
+fn play_all<R: Threads + Wait + Abort + Sync, J: Naming + Send + Sync>(
+    rt: &R,
+    desk: Desk<'_, J>,
+) -> Summary {
     let mut first = desk.board.pass();
     lay_out(rt, desk, &mut first);
     let (mut passes, handed) = parted(rt, desk.alloc, beside_workers(rt, desk));
@@ -132,27 +142,41 @@ fn play_all<R: Threads + Wait + Abort + Sync>(rt: &R, desk: Desk<'_>) -> Summary
 }
 
 /// A board over a new core with tiles of 64 by 64 pixels.
-fn new_board(rt: &impl Abort, alloc: Global) -> Board {
+fn new_board<J: Naming>(rt: &impl Abort, alloc: Global, roll: NewRoll) -> Board<J>
+    requires { roll ≡ J.book }
+{
     let core = Core::new(alloc, 64).expect(rt, "memory");
-    Board::new(alloc, core)
+    Board::new(alloc, core, roll)
+}
+
+fn played<J: Naming + Send + Sync, R: Threads + Wait + Abort + Sync>(
+    rt: &R,
+    alloc: Global,
+    pictures: &[Picture],
+    roll: NewRoll,
+) -> Summary
+    requires { roll ≡ J.book }
+{
+    let board = new_board::<J>(rt, alloc, roll);
+    let desk = Desk {
+        alloc,
+        board: &board,
+        pictures,
+    };
+    play_all(rt, desk)
 }
 
 #[test]
 fn eight_passes_are_one_history(rt: HostRuntime) -> Result<(), Fail> {
     let alloc = rt.alloc();
     let pictures = pictures(alloc)?;
-    let board = new_board(&rt, alloc);
-    let desk = Desk {
-        alloc,
-        board: &board,
-        pictures: &pictures,
-    };
     let wanted = Summary {
         is_plain: true,
         has_many: true,
         is_covered: true,
         is_covered_without_one: false,
     };
-    assert_eq!(rt; play_all(&rt, desk), wanted);
+    let found = played::<Brand, _>(&rt, alloc, &pictures, NewRoll::new());
+    assert_eq!(rt; found, wanted);
     Ok(())
 }

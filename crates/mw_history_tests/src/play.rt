@@ -4,8 +4,8 @@ use crate::dice::Dice;
 use crate::given::{BITMAPS, PICTURES, Picture, bitmap_name, picture_name, session_name};
 use mw_model::{FlatOp, Name, Op, Reply};
 use mw_pixel::Image;
-use mw_pool::{Board, Fetched, Pass, Shown};
-use std::alloc::Global;
+use mw_pool::{Board, Fetched, Naming, Pass, Shown};
+use std::alloc::{AllocError, Global};
 use std::process::Abort;
 use std::sync::Wait;
 
@@ -97,14 +97,27 @@ pub(crate) fn hand_over(rt: &impl Abort, alloc: Global, fetched: Fetched) -> Opt
 }
 
 /// The board that a session calls, and the files that it loads.
-#[derive(Clone, Copy)]
-pub(crate) struct Desk<'a> {
+pub(crate) struct Desk<'a, J: Naming> {
     pub(crate) alloc: Global,
-    pub(crate) board: &'a Board,
+    pub(crate) board: &'a Board<J>,
     pub(crate) pictures: &'a [Picture],
 }
 
-impl Desk<'_> {
+impl<J: Naming> Copy for Desk<'_, J> {}
+
+impl<J: Naming> Clone for Desk<'_, J> {
+    ghost use Rattle.std.specs.Prelude.{◌≡◌, ⊤};
+
+    ghost is_clone = { λ x y. y ≡ x };
+
+    ghost is_infallible = { λ _. ⊤ };
+
+    fn clone(&self) -> Result<Self, AllocError> {
+        Ok(*self)
+    }
+}
+
+impl<J: Naming> Desk<'_, J> {
     /// The image of this maxval less 9; a file that is cut off, where there is none.
     pub(crate) fn load<R: Wait + Abort>(&self, rt: &R, pass: &mut Pass, name: Name, number: u32) {
         let bytes = match self.pictures.get(number as usize) {

@@ -2,7 +2,7 @@
 
 use crate::fault::ListenFault;
 use mw_model::Code;
-use mw_serve::{Board, Gate, Pass, serve, work};
+use mw_serve::{Board, Gate, Naming, Pass, serve, work};
 use mw_wire::{Sink, Source, end_by};
 use std::alloc::{AllocError, Global};
 use std::io::BufWriter;
@@ -12,16 +12,16 @@ use std::thread;
 use std::thread::{JoinHandle, Scope, Threads};
 
 /// What all threads of a server share.
-pub(crate) struct Hall<'h, R, G> {
+pub(crate) struct Hall<'h, R, G, J: Naming> {
     pub rt: &'h R,
     pub alloc: Global,
-    pub board: &'h Board,
+    pub board: &'h Board<J>,
     pub gate: &'h G,
 }
 
-impl<R, G> Copy for Hall<'_, R, G> {}
+impl<R, G, J: Naming> Copy for Hall<'_, R, G, J> {}
 
-impl<R, G> Clone for Hall<'_, R, G> {
+impl<R, G, J: Naming> Clone for Hall<'_, R, G, J> {
     ghost use Rattle.std.specs.Prelude.{◌≡◌, ⊤};
 
     ghost is_clone = { λ x y. y ≡ x };
@@ -37,7 +37,7 @@ impl<R, G> Clone for Hall<'_, R, G> {
 const HELD: usize = 65536;
 
 /// One session, to its end, and the receipts of its calls. A fault of its wire ends this session alone.
-fn session<R: Wait>(rt: &R, alloc: Global, board: &Board, stream: TcpStream) -> Pass {
+fn session<R: Wait, J: Naming>(rt: &R, alloc: Global, board: &Board<J>, stream: TcpStream) -> Pass {
     let mut pass = board.pass();
     // Without this, a short reply would wait until what was sent before it is acknowledged.
     let _quick = stream.set_nodelay(true);
@@ -52,9 +52,9 @@ fn session<R: Wait>(rt: &R, alloc: Global, board: &Board, stream: TcpStream) -> 
 }
 
 /// Starts so many workers.
-fn start_workers<'h, E: 'h, R: Wait + Sync, G: Gate + Sync>(
+fn start_workers<'h, E: 'h, R: Wait + Sync, G: Gate + Sync, J: Naming + Send + Sync>(
     scope: &Scope<'h, E>,
-    hall: Hall<'h, R, G>,
+    hall: Hall<'h, R, G, J>,
     workers: usize,
 ) -> Result<(), ListenFault> {
     let (rt, board, gate) = (hall.rt, hall.board, hall.gate);
@@ -67,9 +67,9 @@ fn start_workers<'h, E: 'h, R: Wait + Sync, G: Gate + Sync>(
 }
 
 /// Accepts so many connections and starts a thread for each. The first fault ends the accepting.
-fn accept_all<'h, E: 'h, R: Wait + Sync, G: Sync>(
+fn accept_all<'h, E: 'h, R: Wait + Sync, G: Sync, J: Naming + Send + Sync>(
     scope: &Scope<'h, E>,
-    hall: Hall<'h, R, G>,
+    hall: Hall<'h, R, G, J>,
     listener: &TcpListener,
     sessions: usize,
     handles: &mut Vec<JoinHandle<Pass>>,
@@ -110,9 +110,9 @@ fn join_all<R: Threads>(
 
 /// Serves so many sessions beside so many workers, and gives the sessions' passes. All sessions that were started are
 /// joined, whatever fails, and then the board is closed, so that the workers end.
-fn serve_within<'h, E: 'h, R: Threads + Wait + Sync, G: Gate + Sync>(
+fn serve_within<'h, E: 'h, R: Threads + Wait + Sync, G: Gate + Sync, J: Naming + Send + Sync>(
     scope: &Scope<'h, E>,
-    hall: Hall<'h, R, G>,
+    hall: Hall<'h, R, G, J>,
     listener: &TcpListener,
     workers: usize,
     sessions: usize,
@@ -136,8 +136,8 @@ fn serve_within<'h, E: 'h, R: Threads + Wait + Sync, G: Gate + Sync>(
 }
 
 /// The same, in threads that are all joined when it returns.
-pub(crate) fn serve_sessions<R: Threads + Wait + Sync, G: Gate + Sync>(
-    hall: Hall<'_, R, G>,
+pub(crate) fn serve_sessions<R: Threads + Wait + Sync, G: Gate + Sync, J: Naming + Send + Sync>(
+    hall: Hall<'_, R, G, J>,
     listener: &TcpListener,
     workers: usize,
     sessions: usize,

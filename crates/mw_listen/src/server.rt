@@ -5,10 +5,11 @@ ghost use Rattle.mw_listen.specs.Listening.{Audited, Listened, Told};
 
 use crate::fault::ListenFault;
 use crate::hall::{Hall, serve_sessions};
-use mw_serve::{Board, Core, Gate};
+use mw_serve::{Board, Core, Gate, Naming, NewRoll};
 use mw_wire::{Sink, send};
 use std::alloc::Global;
 use std::io::Write;
+use std::marker::Brand;
 use std::net::{Ipv4Addr, Net, TcpListener, TcpStream};
 use std::sync::Wait;
 use std::thread::Threads;
@@ -24,16 +25,18 @@ pub struct Service {
 
 /// Serves the sessions of a service on a board of its own, and audits them.
 fn serve_all<
+    J: Naming + Send + Sync,
     R: Net<Listener = TcpListener, Stream = TcpStream> + Threads + Wait + Sync,
     G: Gate + Sync,
->(rt: &R, alloc: Global, service: Service, gate: &G) -> Result<(), ListenFault>
+>(rt: &R, alloc: Global, service: Service, gate: &G, roll: NewRoll) -> Result<(), ListenFault>
+    requires named { roll ≡ J.book }
     requires side { (64 ≤ service.side) × (service.side ≤ 1024) × (service.side % 64 ≡ 0) }
     ensures { IfOk result (λ _. Audited service.sessions) }
 {
     let Ok(core) = Core::new(alloc, service.side) else {
         return Err(ListenFault::Memory);
     };
-    let board = Board::new(alloc, core);
+    let board = Board::<J>::new(alloc, core, roll);
     let Ok(listener) = TcpListener::bind(rt, (Ipv4Addr::LOCALHOST, service.port)) else {
         return Err(ListenFault::Socket);
     };
@@ -68,7 +71,7 @@ pub fn listen<
         let new : Told = record { text = F.contents faults.new.inner; failed = faults.new.failed } in
         Listened service.sessions old new result }
 {
-    match serve_all(rt, alloc, service, gate) {
+    match serve_all::<Brand, R, G>(rt, alloc, service, gate, NewRoll::new()) {
         Ok(()) => 0,
         Err(fault) => {
             let _told = send(faults, fault.line().as_bytes());

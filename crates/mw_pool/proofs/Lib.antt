@@ -1,4 +1,7 @@
 -- the crate's own
 mod AuditLemmas
+mod Fronts
+mod Adding
+mod Handing
 mod KeptLemmas
 mod NameLemmas

@@ -1,20 +1,21 @@
 //! The board: a core behind a lock, for sessions and workers in threads.
 
-ghost use Rattle.std.specs.Prelude.{◌≡◌, ◌↔◌, [], true, IfOk, OnErr, IsTrue, IsSome};
+ghost use Rattle.std.specs.Prelude.{◌≡◌, ◌↔◌, [], true, IfOk, IfSome, OnErr, IsTrue, IsSome};
 
 use crate::kept::Kept;
 use crate::pass::Pass;
 use crate::payloads::{read_element, read_image};
+use crate::roll::{Front, Naming, NewRoll};
 use mw_core::{Core, Fetched, Finish, Refusal, Started};
 use mw_model::{Name, NoMemory, Op, Reply};
 use mw_task::{TaskRefused, TileDone, Work};
 use std::alloc::Global;
 use std::sync::{Condvar, Mutex, MutexGuard, Wait};
 
-/// A core that threads share.
+/// A core that threads share. Its parameter names the roll of the tasks that it hands out.
 #[derive(Drop)]
-pub struct Board {
-    kept: Mutex<Kept>,
+pub struct Board<J: Naming> {
+    kept: Mutex<Kept<J>>,
     /// Workers sleep here until a task is ready.
     ready: Condvar,
     /// Sessions sleep here until an entry is settled.
@@ -24,7 +25,8 @@ pub struct Board {
 
 /// A session call reads its payload without the lock. Then it is one call of the pass, in one hold of the lock. No contract
 /// says what the core was at that moment: what is known is the receipt.
-impl Board {
+impl<J: Naming> Board<J> {
+    ghost use Rattle.std.specs.List.{AllByRecursion};
     ghost use Rattle.mw_model.specs.declared.calls.Given.{Given};
     ghost use Rattle.mw_model.specs.declared.calls.Call.TheVariants as call;
     ghost use Rattle.mw_model.specs.Machine.{Machine};
@@ -32,14 +34,17 @@ impl Board {
     ghost use Rattle.mw_model.specs.Receipts.{Covers};
     ghost use Rattle.mw_core.specs.mw_store.Fetches.{ShowsSome, shown_value};
     ghost use Rattle.mw_pool.specs.Passes.{AddsReceipt};
+    ghost use Rattle.mw_task.specs.WindowTasks.{IsBounded};
     ghost use Rattle.mw_pool.specs.Payloads.{TellsImage, TellsElement};
+    ghost use Rattle.mw_pool.specs.Rolls.{EndsWith};
 
     /// An open board over a core that stands for some state of the machine, as a new one does.
-    pub fn new(alloc: Global, core: Core) -> Board
-        requires { (m : Machine) × StandsFor core m }
+    pub fn new(alloc: Global, core: Core, roll: NewRoll) -> Board<J>
+        requires stands { (m : Machine) × StandsFor core m }
+        requires named { roll ≡ J.book }
     {
         Board {
-            kept: Mutex::new(Kept::new(core)),
+            kept: Mutex::new(Kept::new(core, roll)),
             ready: Condvar::new(),
             settled: Condvar::new(),
             alloc,
@@ -179,15 +184,20 @@ impl Board {
         }
     }
 
-    /// A task to compute, or none once the board is closed. Sleeps while nothing is ready.
-    pub(crate) fn take<R: Wait>(&self, rt: &R) -> Option<Work> {
+    /// A task to compute, with what was seen of the roll up to it, or none once the board is closed. Sleeps while nothing is
+    /// ready.
+    pub(crate) fn take<R: Wait>(&self, rt: &R) -> Option<(Work, Option<Front<J>>)>
+        ensures bounded { IfSome result (λ r. AllByRecursion IsBounded r.0.windows) }
+        ensures slip { IfSome result (λ r. IfSome r.1 (λ seen. EndsWith seen r.0)) }
+    {
         for _ in rt.forever() {
             let mut kept = self.kept.lock(rt);
             if kept.closed {
                 return None;
             }
-            match kept.start() {
-                Started::Work(work) => return Some(work),
+            let (started, slip) = kept.start();
+            match started {
+                Started::Work(work) => return Some((work, slip)),
                 Started::Refused(_) => self.settled.notify_all(),
                 Started::Idle => self.sleep(rt, kept),
             }
@@ -196,17 +206,20 @@ impl Board {
     }
 
     /// Sleeps until a task may be ready.
-    fn sleep<'b, R: Wait>(&'b self, rt: &R, mut kept: MutexGuard<'b, Kept>) {
+    fn sleep<'b, R: Wait>(&'b self, rt: &R, mut kept: MutexGuard<'b, Kept<J>>) {
         kept.asleep = kept.asleep.saturating_add(1);
         let mut kept = self.ready.wait(rt, kept);
         kept.asleep = kept.asleep.saturating_sub(1);
     }
 
-    /// A worker brings a result, and takes one of the ready tasks itself. Where the result was the last of its ticket, the
-    /// others wake sleeping workers, and sessions that wait look again.
-    pub(crate) fn finish<R: Wait>(&self, rt: &R, done: TileDone) {
+    /// A worker brings a result, with what it saw of the roll up to its task, and takes one of the ready tasks itself. Where
+    /// the result was the last of its ticket, the others wake sleeping workers, and sessions that wait look again.
+    pub(crate) fn finish<R: Wait>(&self, rt: &R, done: TileDone, slip: &Option<Front<J>>)
+        requires bounded { AllByRecursion IsBounded done.windows }
+        requires slip { IfSome slip.now (λ seen. EndsWith seen done) }
+    {
         let mut kept = self.kept.lock(rt);
-        let answer = kept.finish(done);
+        let answer = kept.finish(done, slip);
         let wanted = kept.wanted_workers(1);
         drop(kept);
         if let Finish::Settled(_) = answer {

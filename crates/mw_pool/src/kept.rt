@@ -1,11 +1,13 @@
 //! What the lock of a board keeps.
 
-ghost use Rattle.std.specs.Prelude.{◌≡◌, ◌≢◌, ◌↔◌, ◌-◌, min, ℕ, true, false, length, IfOk, OnErr, IsTrue, IsSome, None};
+ghost use Rattle.std.specs.Prelude.{◌≡◌, ◌≢◌, ◌↔◌, ◌-◌, [], min, ℕ, true, false, length, IfOk, IfSome, OnErr, IsTrue, IsSome, None};
 ghost use Rattle.mw_model.specs.Machine.{Machine};
 ghost use Rattle.mw_model.specs.Stands.{StandsFor, ready_count};
+ghost use Rattle.mw_pool.specs.Handed.{AreHanded};
 
 use crate::auditing::audit;
 use crate::pass::Pass;
+use crate::roll::{Front, Naming, NewRoll, Roll};
 use crate::tickets::{is_awaited, place_of};
 use mw_core::{Core, Fetched, Finish, Refusal, Started};
 use mw_element::Element;
@@ -14,33 +16,41 @@ use mw_pixel::Image;
 use mw_task::{TaskRefused, TileDone};
 
 /// A core that stands for some state of the machine: so its log is a run of the machine of one thread that ends in that
-/// state, and each logged reply is that machine's. It is so whenever the lock is free.
+/// state, and each logged reply is that machine's. And each task of the roll is the core's own, as long as it is running. It
+/// is so whenever the lock is free.
 #[derive(Drop)]
-pub(crate) struct Kept {
+pub(crate) struct Kept<J: Naming> {
     pub core: Core,
     /// No worker takes a task any more, and no session waits.
     pub closed: bool,
     /// How many workers sleep.
     pub asleep: u64,
+    /// The tasks that were handed out.
+    pub roll: Roll<J>,
     pub ghost stands: { ∥ ((m : Machine) × StandsFor core m) ∥₁ },
+    pub ghost handed: { AreHanded core roll },
 }
 
 /// Each of these is one event of the core, or none.
-impl Kept {
+impl<J: Naming> Kept<J> {
     ghost use Rattle.std.specs.Result.{ForOk};
+    ghost use Rattle.std.specs.List.{AllByRecursion};
     ghost use Rattle.mw_model.specs.Pictures.{IsImage};
     ghost use Rattle.mw_model.specs.declared.calls.Call.TheVariants as call;
     ghost use Rattle.mw_model.specs.Receipts.{Covers};
     ghost use Rattle.mw_core.specs.mw_stands.Payloads.{given_image, image_payload, given_element, element_payload};
     ghost use Rattle.mw_core.specs.mw_stands.Events.{FollowsMachine};
-    ghost use Rattle.mw_core.specs.TaskAnswers.{Starts, Finishes, Refuses};
+    ghost use Rattle.mw_task.specs.WindowTasks.{IsBounded};
+    ghost use Rattle.mw_core.specs.TaskAnswers.{Starts, StartsBounded, Finishes, Refuses};
     ghost use Rattle.mw_core.specs.mw_store.Fetches.{ShowsSome, shown_value};
     ghost use Rattle.mw_pool.specs.Passes.{with_receipt};
+    ghost use Rattle.mw_pool.specs.Rolls.{EndsWith, IsSlipOf, StandsIn};
     ghost use Rattle.mw_pool.specs.Tickets.{told_at, IsAwaited};
 
     /// An open board's, before any worker sleeps.
-    pub fn new(core: Core) -> Kept
-        requires { (m : Machine) × StandsFor core m }
+    pub fn new(core: Core, roll: NewRoll) -> Kept<J>
+        requires stands { (m : Machine) × StandsFor core m }
+        requires named { roll ≡ J.book }
         ensures core { result.core ≡ core }
         ensures open_still { result.closed ≡ false }
     {
@@ -48,6 +58,7 @@ impl Kept {
             core,
             closed: false,
             asleep: 0,
+            roll: Roll::new(roll),
         }
     }
 
@@ -167,19 +178,49 @@ impl Kept {
         pass.status(&mut self.core, name)
     }
 
-    /// The first ready task in ticket order is taken.
-    pub fn start(&mut self) -> Started
-        ensures task { (m : Machine) → StandsFor self.old.core m → Starts self.old.core m result self.new.core }
+    /// The first ready task in ticket order is taken and written into the roll. Beside it is what is then seen of the roll, if
+    /// it was written.
+    pub fn start(&mut self) -> (Started, Option<Front<J>>)
+        ensures task { (m : Machine) → StandsFor self.old.core m → Starts self.old.core m result.0 self.new.core }
+        ensures bounded { StartsBounded result.0 }
+        ensures slip { IsSlipOf result.0 result.1 }
         ensures rest { (self.new.closed ≡ self.old.closed) × (self.new.asleep ≡ self.old.asleep) }
     {
-        self.core.start(0)
+        let started = self.core.start(0);
+        let slip = self.roll.write(&started);
+        (started, slip)
     }
 
-    pub fn finish(&mut self, done: TileDone) -> Finish
+    /// A result of a task of the roll, which is the core's own: nothing is compared.
+    fn finish_own(&mut self, done: TileDone) -> Finish
+        requires bounded { AllByRecursion IsBounded done.windows }
+        requires handed { StandsIn self.old.roll done }
+        ensures task { (m : Machine) → StandsFor self.old.core m → Finishes self.old.core m done result self.new.core }
+        ensures rest { (self.new.closed ≡ self.old.closed) × (self.new.asleep ≡ self.old.asleep) }
+    {
+        self.core.finish_own(done)
+    }
+
+    /// A result of any task, which is compared with what the core has.
+    fn finish_compared(&mut self, done: TileDone) -> Finish
         ensures task { (m : Machine) → StandsFor self.old.core m → Finishes self.old.core m done result self.new.core }
         ensures rest { (self.new.closed ≡ self.old.closed) × (self.new.asleep ≡ self.old.asleep) }
     {
         self.core.finish(done)
+    }
+
+    /// A worker brings a result, with what it saw of the roll when it took the task.
+    pub fn finish(&mut self, done: TileDone, slip: &Option<Front<J>>) -> Finish
+        requires bounded { AllByRecursion IsBounded done.windows }
+        requires slip { IfSome slip.now (λ seen. EndsWith seen done) }
+        ensures task { (m : Machine) → StandsFor self.old.core m → Finishes self.old.core m done result self.new.core }
+        ensures rest { (self.new.closed ≡ self.old.closed) × (self.new.asleep ≡ self.old.asleep) }
+    {
+        if self.roll.has(slip, &done) {
+            self.finish_own(done)
+        } else {
+            self.finish_compared(done)
+        }
     }
 
     pub fn refuse(&mut self, refused: TaskRefused) -> Refusal

@@ -2,10 +2,12 @@
 //! each call; and the audit of passes against the log.
 //!
 //! Each hold of the lock is one event of the core. No pixel is computed, no payload is read and no text is made under
-//! it, and nothing waits there.
+//! it, and nothing waits there. Nor is a result that a worker brings compared with what the core has: the tasks that were
+//! handed out stand in a roll, by which it is known that the result is of the core's own task.
 //!
 //! ```text
-//! let board = Board::new(alloc, Core::new(alloc, 128)?);
+//! // in a function over `J: Naming`, which the program calls with `Brand` and `NewRoll::new()`:
+//! let board = Board::<J>::new(alloc, Core::new(alloc, 128)?, roll);
 //! // each worker, in a thread of its own, until the board is closed:
 //! work(&rt, &board, &gate);
 //! // each session, in a thread of its own, with a pass of its own:
@@ -27,6 +29,7 @@ mod kept;
 mod pass;
 mod payloads;
 mod places;
+mod roll;
 mod same;
 mod tickets;
 mod workers;
@@ -35,4 +38,5 @@ pub use auditing::audit;
 pub use board::Board;
 pub use mw_core::{Core, Fetched, Finish, NoMemory, Shown, Started};
 pub use pass::Pass;
+pub use roll::{Naming, NewRoll};
 pub use workers::{Gate, work};

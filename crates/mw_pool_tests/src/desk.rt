@@ -2,12 +2,13 @@
 //!
 //! Helpers end the process where a call fails: an exit beside a core or a board is dear to check.
 
+ghost use Rattle.std.specs.Prelude.{◌≡◌};
 ghost use Rattle.mw_model.specs.Machine.{start_state};
 ghost use Rattle.mw_model.specs.Stands.{StandsFor};
 
 use mw_model::{FlatOp, Kind, Name, Op, Reply, Shape};
 use mw_netpbm::write;
-use mw_pool::{Board, Core, Gate, Pass, Shown};
+use mw_pool::{Board, Core, Gate, Naming, NewRoll, Pass, Shown};
 use mw_task::{TaskRefused, TileDone, Work};
 use std::alloc::Global;
 use std::process::Abort;
@@ -50,8 +51,10 @@ pub(crate) fn new_core(rt: &impl Abort, alloc: Global) -> Core
 }
 
 /// A board over a new core.
-pub(crate) fn new_board(rt: &impl Abort, alloc: Global) -> Board {
-    Board::new(alloc, new_core(rt, alloc))
+pub(crate) fn new_board<J: Naming>(rt: &impl Abort, alloc: Global, roll: NewRoll) -> Board<J>
+    requires { roll ≡ J.book }
+{
+    Board::new(alloc, new_core(rt, alloc), roll)
 }
 
 pub(crate) fn erosion(rt: &impl Abort) -> Op {
@@ -67,9 +70,9 @@ pub(crate) fn done(t: u32) -> Reply {
     Reply::Done(t, Shape::Image(Kind::Grey, 5, 1, 9))
 }
 
-pub(crate) fn run<R: Wait + Abort>(
+pub(crate) fn run<R: Wait + Abort, J: Naming>(
     rt: &R,
-    board: &Board,
+    board: &Board<J>,
     pass: &mut Pass,
     text: &[u8],
     op: Op,
@@ -77,7 +80,12 @@ pub(crate) fn run<R: Wait + Abort>(
     board.run(rt, pass, name(rt, text), op).expect(rt, "memory")
 }
 
-pub(crate) fn wait<R: Wait + Abort>(rt: &R, board: &Board, pass: &mut Pass, text: &[u8]) -> Reply {
+pub(crate) fn wait<R: Wait + Abort, J: Naming>(
+    rt: &R,
+    board: &Board<J>,
+    pass: &mut Pass,
+    text: &[u8],
+) -> Reply {
     board.wait(rt, pass, name(rt, text)).expect(rt, "memory")
 }
 
@@ -90,7 +98,7 @@ pub(crate) fn both(rt: &impl Abort, alloc: Global, one: Pass, other: Pass) -> Ve
 }
 
 /// Loads the row under `f`, ticket 0, and the bar under `b`, ticket 1.
-pub(crate) fn load_both<R: Wait + Abort>(rt: &R, board: &Board, pass: &mut Pass) {
+pub(crate) fn load_both<R: Wait + Abort, J: Naming>(rt: &R, board: &Board<J>, pass: &mut Pass) {
     board
         .load(rt, pass, name(rt, b"f"), ROW)
         .expect(rt, "memory");
@@ -111,10 +119,10 @@ pub(crate) fn text_of(rt: &impl Abort, alloc: Global, value: Shown) -> Vec<u8> {
     }
 }
 
-pub(crate) fn fetch<R: Wait + Abort>(
+pub(crate) fn fetch<R: Wait + Abort, J: Naming>(
     rt: &R,
     alloc: Global,
-    board: &Board,
+    board: &Board<J>,
     pass: &mut Pass,
     text: &[u8],
 ) -> Vec<u8> {

@@ -1,12 +1,15 @@
 //! Workers compute beside one another, without the lock.
 
+ghost use Rattle.std.specs.Prelude.{◌≡◌};
+
 use crate::desk::{
     DILATED, ERODED, dilation, done, erosion, fetch, load_both, new_board, run, wait,
 };
 use mw_model::Reply;
-use mw_pool::{Board, Gate, Pass, work};
+use mw_pool::{Board, Gate, Naming, NewRoll, Pass, work};
 use mw_task::{TaskRefused, TileDone, Work};
 use std::alloc::Global;
+use std::marker::Brand;
 use std::process::Abort;
 use std::sync::Wait;
 use std::sync::atomic::{AtomicU64, Ordering};
@@ -56,16 +59,20 @@ impl Gate for Meeting {
 }
 
 /// Waits for both entries, and closes the board.
-fn wait_for_both<R: Wait + Abort>(rt: &R, board: &Board, pass: &mut Pass) -> (Reply, Reply) {
+fn wait_for_both<R: Wait + Abort, J: Naming>(
+    rt: &R,
+    board: &Board<J>,
+    pass: &mut Pass,
+) -> (Reply, Reply) {
     let d = wait(rt, board, pass, b"d");
     let e = wait(rt, board, pass, b"e");
     board.close(rt);
     (d, e)
 }
 
-fn meet<R: Threads + Wait + Abort + Sync>(
+fn meet<R: Threads + Wait + Abort + Sync, J: Naming + Send + Sync>(
     rt: &R,
-    board: &Board,
+    board: &Board<J>,
     gate: &Meeting,
     pass: &mut Pass,
 ) -> (Reply, Reply) {
@@ -78,7 +85,7 @@ fn meet<R: Threads + Wait + Abort + Sync>(
 }
 
 /// An erosion and a dilation, which wait for workers.
-fn lay_out<R: Wait + Abort>(rt: &R, board: &Board) -> Pass {
+fn lay_out<R: Wait + Abort, J: Naming>(rt: &R, board: &Board<J>) -> Pass {
     let mut pass = board.pass();
     load_both(rt, board, &mut pass);
     run(rt, board, &mut pass, b"d", erosion(rt));
@@ -86,18 +93,29 @@ fn lay_out<R: Wait + Abort>(rt: &R, board: &Board) -> Pass {
     pass
 }
 
+/// The replies and the images of both, on a board of its own.
+fn overlapped<J: Naming + Send + Sync, R: Threads + Wait + Abort + Sync>(
+    rt: &R,
+    gate: &Meeting,
+    roll: NewRoll,
+) -> ((Reply, Reply), Vec<u8>, Vec<u8>)
+    requires { roll ≡ J.book }
+{
+    let board = new_board::<J>(rt, gate.alloc, roll);
+    let mut pass = lay_out(rt, &board);
+    let replies = meet(rt, &board, gate, &mut pass);
+    let eroded = fetch(rt, gate.alloc, &board, &mut pass, b"d");
+    let dilated = fetch(rt, gate.alloc, &board, &mut pass, b"e");
+    (replies, eroded, dilated)
+}
+
 /// So no board computes under its lock, or has one worker for all.
 #[test]
 fn two_workers_overlap(rt: HostRuntime) {
-    let alloc = rt.alloc();
-    let board = new_board(&rt, alloc);
-    let gate = Meeting::new(alloc);
-    let mut pass = lay_out(&rt, &board);
-    let replies = meet(&rt, &board, &gate, &mut pass);
+    let gate = Meeting::new(rt.alloc());
+    let (replies, eroded, dilated) = overlapped::<Brand, _>(&rt, &gate, NewRoll::new());
     assert_eq!(rt; replies, (done(2), done(3)));
     assert_eq!(rt; gate.limit_met.load(Ordering::SeqCst), 0);
-    let eroded = fetch(&rt, alloc, &board, &mut pass, b"d");
     assert_eq!(rt; eroded.as_slice(), ERODED);
-    let dilated = fetch(&rt, alloc, &board, &mut pass, b"e");
     assert_eq!(rt; dilated.as_slice(), DILATED);
 }

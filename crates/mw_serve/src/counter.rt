@@ -9,7 +9,7 @@ ghost use Rattle.mw_wire.specs.Writes.{Wrote};
 use mw_desk::Desk;
 use mw_fetched::say_fetched;
 use mw_model::{Name, NoMemory, Request};
-use mw_pool::{Board, Pass};
+use mw_pool::{Board, Naming, Pass};
 use mw_wire::{SessionFault, Sink, say_told};
 use std::alloc::Global;
 use std::io::Write;
@@ -17,13 +17,13 @@ use std::sync::Wait;
 
 /// Answers by calls of the board. Each is one hold of the lock; what is written is made and written without it.
 #[derive(Drop)]
-pub(crate) struct Counter<'b, R> {
+pub(crate) struct Counter<'b, R, J: Naming> {
     pub rt: &'b R,
     pub alloc: Global,
-    pub board: &'b Board,
+    pub board: &'b Board<J>,
 }
 
-impl<'b, R: Wait> Counter<'b, R> {
+impl<'b, R: Wait, J: Naming> Counter<'b, R, J> {
     ghost use Rattle.mw_serve.specs.Serving.{Served};
     ghost use Rattle.mw_model.specs.declared.requests.Ask.TheVariants as Ask;
     ghost use Rattle.mw_model.specs.Lines.{AskAlone};
@@ -45,7 +45,7 @@ impl<'b, R: Wait> Counter<'b, R> {
     }
 }
 
-impl<'b, R: Wait> Desk for Counter<'b, R> {
+impl<'b, R: Wait, J: Naming> Desk for Counter<'b, R, J> {
     ghost use Rattle.mw_serve.specs.Serving.{Served};
 
     type Kept = Pass;

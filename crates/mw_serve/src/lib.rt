@@ -12,5 +12,5 @@ mod session;
 
 pub use laws::{ended_is_served, stopped_is_served};
 pub use mw_model::End;
-pub use mw_pool::{Board, Core, Gate, Pass, work};
+pub use mw_pool::{Board, Core, Gate, Naming, NewRoll, Pass, work};
 pub use session::serve;

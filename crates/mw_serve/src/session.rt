@@ -7,7 +7,7 @@ ghost use Rattle.mw_serve.specs.Serving.{Served};
 use crate::counter::Counter;
 use mw_desk::run_session;
 use mw_model::End;
-use mw_pool::{Board, Pass};
+use mw_pool::{Board, Naming, Pass};
 use mw_wire::{SessionFault, Sink, Source};
 use std::alloc::Global;
 use std::io::{Read, Write};
@@ -18,12 +18,12 @@ use std::sync::Wait;
 /// that request, and ends the session where a line or a payload is gathered.
 ///
 /// A session makes at most 4,294,967,295 reads, and makes one again that was interrupted.
-pub fn serve<R: Read, W: Write, X: Wait>(
+pub fn serve<R: Read, W: Write, X: Wait, J: Naming>(
     rt: &X,
     alloc: Global,
     source: &mut Source<R>,
     sink: &mut Sink<W>,
-    board: &Board,
+    board: &Board<J>,
     pass: &mut Pass,
 ) -> Result<End, SessionFault>
     requires source_clear { source.old.failed ≡ false }

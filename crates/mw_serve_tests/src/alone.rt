@@ -1,12 +1,15 @@
 //! Sessions at a board without workers.
 
+ghost use Rattle.std.specs.Prelude.{◌≡◌, false};
+
 use crate::room::{Client, Ear, GIVEN, Left, Once, Short, new_board, served};
-use mw_model::Code;
-use mw_serve::{End, Pass, serve};
+use mw_model::{Code, NoMemory};
+use mw_serve::{End, Naming, NewRoll, Pass, serve};
 use mw_wire::{SessionFault, Sink, Source};
 use std::alloc::{AllocError, Global};
 use std::io;
-use std::io::{BufWriter, Write};
+use std::io::{BufWriter, Read, Write};
+use std::marker::Brand;
 use std::process::Abort;
 use std::sync::Wait;
 use std::sync::atomic::{AtomicU64, Ordering};
@@ -22,8 +25,15 @@ fn joined(alloc: Global, parts: &[&[u8]]) -> Result<Vec<u8>, AllocError> {
 }
 
 /// What a session at a board of its own leaves, and how many receipts.
-fn left_alone<R: Wait>(rt: &R, alloc: Global, input: Once<'_>) -> Option<(Left, usize)> {
-    let board = new_board(alloc).ok()?;
+fn left_alone<J: Naming, R: Wait>(
+    rt: &R,
+    alloc: Global,
+    input: Once<'_>,
+    roll: NewRoll,
+) -> Option<(Left, usize)>
+    requires { roll ≡ J.book }
+{
+    let board = new_board::<J>(alloc, roll).ok()?;
     let mut pass = board.pass();
     let left = served(rt, alloc, &board, &mut pass, input);
     Some((left, count(&pass)))
@@ -41,10 +51,31 @@ fn leaves<R: Wait + Abort>(
     output: &[u8],
     ended: Result<End, SessionFault>,
 ) -> usize {
-    let (left, receipts) = left_alone(rt, alloc, input).expect(rt, "memory");
+    let (left, receipts) = left_alone::<Brand, R>(rt, alloc, input, NewRoll::new()).expect(
+        rt, "memory",
+    );
     assert_eq!(rt; left.written.as_slice(), output);
     assert_eq!(rt; left.ended, ended);
     receipts
+}
+
+/// Serves a session from a reader to a writer at a board of its own: how it ended, and how many receipts it has.
+fn served_alone<J: Naming, X: Wait, R: Read, W: Write>(
+    rt: &X,
+    alloc: Global,
+    source: &mut Source<R>,
+    sink: &mut Sink<W>,
+    roll: NewRoll,
+) -> Result<(Result<End, SessionFault>, usize), NoMemory>
+    requires named { roll ≡ J.book }
+    requires source_clear { source.old.failed ≡ false }
+    requires sink_clear { sink.old.failed ≡ false }
+    requires unread { source.old.reads ≡ 0 }
+{
+    let board = new_board::<J>(alloc, roll)?;
+    let mut pass = board.pass();
+    let ended = serve(rt, alloc, source, sink, &board, &mut pass);
+    Ok((ended, count(&pass)))
 }
 
 const ASKS: &[u8] =
@@ -126,8 +157,6 @@ impl Write for Tally<'_> {
 #[test]
 fn a_thousand_answers_in_one_write(rt: HostRuntime) -> Result<(), Fail> {
     let alloc = rt.alloc();
-    let board = new_board(alloc)?;
-    let mut pass = board.pass();
     let mut input = Vec::new(alloc);
     for _ in 0..1000u32 {
         input.extend_from_slice(b"STATUS x\n")?;
@@ -142,7 +171,13 @@ fn a_thousand_answers_in_one_write(rt: HostRuntime) -> Result<(), Fail> {
         fails: false,
     });
     let mut sink = Sink::new(BufWriter::with_capacity(alloc, 65536, tally)?);
-    let ended = serve(&rt, alloc, &mut source, &mut sink, &board, &mut pass);
+    let (ended, _) = served_alone::<Brand, _, _, _>(
+        &rt,
+        alloc,
+        &mut source,
+        &mut sink,
+        NewRoll::new(),
+    )?;
     assert_eq!(rt; ended, Ok(End::Quit));
     assert_eq!(rt; writes.load(Ordering::SeqCst), 1);
     assert_eq!(rt; bytes.load(Ordering::SeqCst), 15_000);
@@ -175,8 +210,6 @@ const TALK: [(u64, &[u8]); 7] = [
 /// is read.
 #[test]
 fn each_answer_comes_before_the_next_read(rt: HostRuntime) -> Result<(), Fail> {
-    let board = new_board(rt.alloc())?;
-    let mut pass = board.pass();
     let heard = AtomicU64::new(0);
     let mut source = Source::new(Client {
         lines: &TALK,
@@ -185,10 +218,16 @@ fn each_answer_comes_before_the_next_read(rt: HostRuntime) -> Result<(), Fail> {
     });
     let writer = BufWriter::with_capacity(rt.alloc(), 4096, Ear { heard: &heard })?;
     let mut sink = Sink::new(writer);
-    let ended = serve(&rt, rt.alloc(), &mut source, &mut sink, &board, &mut pass);
+    let (ended, receipts) = served_alone::<Brand, _, _, _>(
+        &rt,
+        rt.alloc(),
+        &mut source,
+        &mut sink,
+        NewRoll::new(),
+    )?;
     assert_eq!(rt; ended, Ok(End::Quit));
     assert_eq!(rt; heard.load(Ordering::SeqCst), 94);
-    assert_eq!(rt; count(&pass), 7);
+    assert_eq!(rt; receipts, 7);
     Ok(())
 }
 
@@ -207,8 +246,6 @@ fn a_reader_that_fails(rt: HostRuntime) {
 /// A writer that fails within the second reply: the third request is not served.
 #[test]
 fn a_writer_that_fails(rt: HostRuntime) -> Result<(), Fail> {
-    let board = new_board(rt.alloc())?;
-    let mut pass = board.pass();
     let mut source = Source::new(Once {
         piece: b"STATUS x\nSTATUS y\nSTATUS z\n",
         fails: false,
@@ -217,13 +254,19 @@ fn a_writer_that_fails(rt: HostRuntime) -> Result<(), Fail> {
         held: Vec::new(rt.alloc()),
         room: 20,
     });
-    let ended = serve(&rt, rt.alloc(), &mut source, &mut sink, &board, &mut pass);
+    let (ended, receipts) = served_alone::<Brand, _, _, _>(
+        &rt,
+        rt.alloc(),
+        &mut source,
+        &mut sink,
+        NewRoll::new(),
+    )?;
     assert_eq!(rt; ended, Err(SessionFault::Write));
     assert_eq!(rt;
         sink.into_inner().held.as_slice(),
         b"ERR 41 UNKNOWN\nERR 4".as_slice()
     );
-    assert_eq!(rt; count(&pass), 2);
+    assert_eq!(rt; receipts, 2);
     Ok(())
 }
 

@@ -1,12 +1,16 @@
 //! Sessions at a board with workers beside.
 
+ghost use Rattle.std.specs.Prelude.{◌≡◌};
+
 use crate::room::{Left, Once, new_board, served};
 use mw_batch::{Crew, batch};
-use mw_pool::{Board, Gate, Pass, work};
+use mw_model::NoMemory;
+use mw_pool::{Board, Gate, Naming, NewRoll, Pass, work};
 use mw_serve::End;
 use mw_task::{TaskRefused, TileDone, Work};
 use mw_wire::{Sink, Source};
 use std::alloc::Global;
+use std::marker::Brand;
 use std::sync::Wait;
 use std::test::Fail;
 use std::thread;
@@ -29,10 +33,10 @@ impl Gate for Kernels {
 }
 
 /// What a session leaves at a board with two workers, which end with it.
-fn served_beside<R: Threads + Wait + Sync>(
+fn served_beside<R: Threads + Wait + Sync, J: Naming + Send + Sync>(
     rt: &R,
     alloc: Global,
-    board: &Board,
+    board: &Board<J>,
     yields: u32,
     input: &'static [u8],
 ) -> (Left, Pass) {
@@ -54,7 +58,7 @@ fn served_beside<R: Threads + Wait + Sync>(
 }
 
 /// Whether the pass alone covers the log of the board.
-fn is_covered<R: Wait>(rt: &R, alloc: Global, board: &Board, pass: Pass) -> bool {
+fn is_covered<R: Wait, J: Naming>(rt: &R, alloc: Global, board: &Board<J>, pass: Pass) -> bool {
     let mut passes = Vec::new(alloc);
     if passes.push(pass).is_err() {
         return false;
@@ -92,17 +96,31 @@ const WORKED: [&[u8]; 8] = [
     b"LOAD x 9\nP4\n9 1\n\xff\xffWAIT x\nFETCH x\nQUIT\n",
 ];
 
+/// What a session leaves at a board of its own with two workers, and whether its pass covers the log.
+fn served_alone<J: Naming + Send + Sync, R: Threads + Wait + Sync>(
+    rt: &R,
+    alloc: Global,
+    yields: u32,
+    input: &'static [u8],
+    roll: NewRoll,
+) -> Result<(Left, bool), NoMemory>
+    requires { roll ≡ J.book }
+{
+    let board = new_board::<J>(alloc, roll)?;
+    let (left, pass) = served_beside(rt, alloc, &board, yields, input);
+    Ok((left, is_covered(rt, alloc, &board, pass)))
+}
+
 /// Beside workers it is written what a script writes, and the pass covers the log.
 #[test]
 fn worked_sessions_beside_workers_write_as_scripts(rt: HostRuntime) -> Result<(), Fail> {
     let alloc = rt.alloc();
     for session in WORKED {
-        let board = new_board(alloc)?;
-        let (left, pass) = served_beside(&rt, alloc, &board, 0, session);
+        let (left, covered) = served_alone::<Brand, _>(&rt, alloc, 0, session, NewRoll::new())?;
         let script = scripted(&rt, alloc, session);
         assert_eq!(rt; left.written.as_slice(), script.as_slice());
         assert_eq!(rt; left.ended, Ok(End::Quit));
-        assert!(rt; is_covered(&rt, alloc, &board, pass));
+        assert!(rt; covered);
     }
     Ok(())
 }
@@ -111,8 +129,7 @@ fn worked_sessions_beside_workers_write_as_scripts(rt: HostRuntime) -> Result<()
 #[test]
 fn a_spectrum_beside_workers(rt: HostRuntime) -> Result<(), Fail> {
     let alloc = rt.alloc();
-    let board = new_board(alloc)?;
-    let (left, _) = served_beside(&rt, alloc, &board, 0, WORKED[6]);
+    let (left, _) = served_alone::<Brand, _>(&rt, alloc, 0, WORKED[6], NewRoll::new())?;
     let curve =
         b"OK 0\nOK 1\nOK 2\nDONE 2 CURVE 3\nCURVE 2 34\nV 0 4\nV 1 3\nV 2 0\nS 0 1\nS 1 3\nR 0\nDONE 2 CURVE 3\nDONE 0 ELEMENT 3 1\n";
     assert_eq!(rt; left.written.as_slice(), curve.as_slice());
@@ -129,9 +146,8 @@ const ERODED: &[u8] =
 #[test]
 fn a_wait_waits_for_slow_workers(rt: HostRuntime) -> Result<(), Fail> {
     let alloc = rt.alloc();
-    let board = new_board(alloc)?;
-    let (left, pass) = served_beside(&rt, alloc, &board, 20_000, EROSION);
+    let (left, covered) = served_alone::<Brand, _>(&rt, alloc, 20_000, EROSION, NewRoll::new())?;
     assert_eq!(rt; left.written.as_slice(), ERODED);
-    assert!(rt; is_covered(&rt, alloc, &board, pass));
+    assert!(rt; covered);
     Ok(())
 }

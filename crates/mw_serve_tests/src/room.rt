@@ -5,7 +5,7 @@ ghost use Rattle.mw_model.specs.Machine.{start_state};
 ghost use Rattle.mw_model.specs.Stands.{StandsFor};
 
 use mw_model::NoMemory;
-use mw_pool::{Board, Core, Pass};
+use mw_pool::{Board, Core, Naming, NewRoll, Pass};
 use mw_serve::{End, serve};
 use mw_wire::{SessionFault, Sink, Source};
 use std::alloc::Global;
@@ -117,18 +117,20 @@ fn new_core(alloc: Global) -> Result<Core, NoMemory>
 }
 
 /// A board over a new core.
-pub(crate) fn new_board(alloc: Global) -> Result<Board, NoMemory> {
+pub(crate) fn new_board<J: Naming>(alloc: Global, roll: NewRoll) -> Result<Board<J>, NoMemory>
+    requires { roll ≡ J.book }
+{
     match new_core(alloc) {
-        Ok(core) => Ok(Board::new(alloc, core)),
+        Ok(core) => Ok(Board::new(alloc, core, roll)),
         Err(NoMemory) => Err(NoMemory),
     }
 }
 
 /// What a session of these bytes leaves, where the reader fails behind them or is at its end.
-pub(crate) fn served<R: Wait>(
+pub(crate) fn served<R: Wait, J: Naming>(
     rt: &R,
     alloc: Global,
-    board: &Board,
+    board: &Board<J>,
     pass: &mut Pass,
     input: Once<'_>,
 ) -> Left {
