@@ -38,8 +38,8 @@ pub fn run(alloc: Global, work: Work) -> Result<TileDone, TaskRefused>
     }
 }
 
-/// Puts the windows together, and makes of them what the step makes in the tile.
-fn make(alloc: Global, work: &Work) -> Result<TileResult, NoMemory>
+/// Puts the windows together, and makes of them what the step makes in the tile. The task stays with who has it.
+pub fn make(alloc: Global, work: &Work) -> Result<TileResult, NoMemory>
     ensures { IfOk result (IsMade work.now) }
 {
     let windows = work.joined(alloc)?;

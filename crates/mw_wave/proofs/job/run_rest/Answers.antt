@@ -1,6 +1,6 @@
 use Rattle.mw_wave.specs.Jobs.{IsAnswered}
 use Rattle.mw_wave.proofs.Jobs.{zip-each}
-use Rattle.mw_wave.proofs.job.answer_all.Goals as goal
+use Rattle.mw_wave.proofs.job.run_rest.Goals as goal
 
 pub returns : goal.returns
 returns g c = zip-each IsAnswered c.args.jobs.now c.for_each_mut.new.s c.for_each_mut.auto.s (λ i d l.
