@@ -48,7 +48,7 @@ abbrev pub IsMadeAt : List Job → Made → Type 0
 IsMadeAt jobs made = IsMadeFor (slice_index_or jobs made.place job.Nothing) made.tile
 
 -- so is all that one worker made
-abbrev pub AreMade : List Job → Vec Made → Type 0
+abbrev pub AreMade : {A : Type 0} → List Job → Vec Made A → Type 0
 AreMade jobs hand = AllByRecursion (IsMadeAt jobs) hand.items
 
 -- no sample of the windows in this place is over the maxval of its source

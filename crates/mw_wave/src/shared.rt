@@ -30,7 +30,7 @@ fn make_at(alloc: Global, jobs: &[Job], place: usize) -> Option<Made>
     match &jobs[place] {
         Job::Waits(work) => Some(Made {
             place,
-            tile: mw_step::make(alloc, work),
+            tile: mw_step::compute(alloc, work),
         }),
         _ => None,
     }
