@@ -3,6 +3,7 @@
 //! ```text
 //! let work = Work::new(task, tile, step, windows)?;    // None where the windows are not those of the step
 //! let done = mw_step::run(alloc, work)?;               // Err only where memory is refused
+//! let made = mw_step::compute(alloc, &work)?;             // the same, where the work is shared
 //! ```
 #![tactic(auto)]
 
@@ -18,4 +19,4 @@ mod singles;
 mod sliding;
 mod thresholds;
 
-pub use make::run;
+pub use make::{compute, run};

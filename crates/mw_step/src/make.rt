@@ -32,14 +32,14 @@ pub fn run(alloc: Global, work: Work) -> Result<TileDone, TaskRefused>
     ensures done { IfOk result (λ d. d ≡ work) }
     ensures refused { IfErr result (λ r. r.task ≡ work.task) }
 {
-    match make(alloc, &work) {
+    match compute(alloc, &work) {
         Ok(made) => Ok(TileDone::new(work, made)),
         Err(NoMemory) => Err(TaskRefused::new(work)),
     }
 }
 
-/// Puts the windows together, and makes of them what the step makes in the tile.
-fn make(alloc: Global, work: &Work) -> Result<TileResult, NoMemory>
+/// Puts the windows together, and makes of them what the step makes in the tile. The task stays with who has it.
+pub fn compute(alloc: Global, work: &Work) -> Result<TileResult, NoMemory>
     ensures { IfOk result (IsMade work.now) }
 {
     let windows = work.joined(alloc)?;

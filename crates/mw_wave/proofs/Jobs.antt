@@ -1,12 +1,15 @@
 -- Places of a wave.
-use Rattle.std.proofs.Common.{◌≡◌, ℕ, suc, ◌<◌, inl, inr, Ok, Err, List, [], ◌∷◌, ◌++◌, length, sym, ap, ◌∙◌, subst, arith}
-use Rattle.std.specs.Prelude.{slice_index_or, Result, IfOk, IfErr}
+use Rattle.std.proofs.Common.{◌≡◌, ℕ, zero, suc, ◌<◌, inl, inr, Ok, Err, List, [], ◌∷◌, ◌++◌, length, refl, sym, ap, ◌∙◌, subst, arith}
+use Rattle.std.specs.Prelude.{slice_index_or, slice_set, Result, IfOk, IfErr, ◌⊎◌, Vec}
 use Rattle.std.specs.List.{AllByRecursion, AllZip}
 use Rattle.mw_task.specs.WindowTasks.{IsBounded, WindowTask}
 use Rattle.mw_task.specs.declared.done.TaskRefused.{TaskRefused}
+use Rattle.mw_task.specs.declared.tile_result.TileResult.{TileResult}
+use Rattle.mw_model.specs.declared.memory.NoMemory.{NoMemory}
+use Rattle.mw_wave.specs.declared.shared.Made.{Made}
 use Rattle.mw_wave.specs.declared.job.Job.{Job}
 use Rattle.mw_wave.specs.declared.job.Job.TheVariants as job
-use Rattle.mw_wave.specs.Jobs.{IsAnswerTo, IsBoundedJob, IsOf, HasTask, IsAnswered}
+use Rattle.mw_wave.specs.Jobs.{IsAnswerTo, IsBoundedJob, IsOf, HasTask, IsAnswered, IsKept, IsMadeFor, IsMadeAt, AreMade}
 
 -- from a fact at each index
 pub zip-each : {X : Type 0} (R : X → X → Type 0) (xs ys : List X) → length ys ≡ length xs → ((i : ℕ) (d : X) → i < length xs → R (slice_index_or xs i d) (slice_index_or ys i d)) → AllZip R xs ys
@@ -75,3 +78,83 @@ bounded-answered (job.Ran b ∷ xs) (y ∷ ys) a h =
 bounded-answered (job.Nothing ∷ xs) (y ∷ ys) a h =
     let P : Job → Type 0 = λ j. IsBoundedJob j in
     (subst P (sym a.0) tt, bounded-answered xs ys a.1 h.1)
+
+-- ---- what workers made of tasks, put into their places
+
+-- from a fact of each element
+pub all-each : {X : Type 0} (P : X → Type 0) (xs : List X) → ((i : ℕ) (d : X) → i < length xs → P (slice_index_or xs i d)) → AllByRecursion P xs
+all-each P [] h = tt
+all-each P (x ∷ xs) h = (h 0 x (omega arith), all-each P xs (λ i d l. h (suc i) d (omega (arith, l))))
+
+answered-then : (i j k : Job) → IsAnswered i j → IsAnswered j k → IsAnswered i k
+answered-then (job.Waits w) (job.Ran a) k h l = let P : Job → Type 0 = λ x. IsAnswered (job.Waits w) x in subst P (sym l) h
+answered-then (job.Waits w) (job.Waits v) k h l = absurd h
+answered-then (job.Waits w) job.Nothing k h l = absurd h
+answered-then (job.Ran a) j k h l = let P : Job → Type 0 = λ x. IsAnswered x k in subst P h l
+answered-then job.Nothing j k h l = let P : Job → Type 0 = λ x. IsAnswered x k in subst P h l
+
+kept-answered : (i j k : Job) → IsKept i j → IsAnswered j k → IsAnswered i k
+kept-answered i j k h l = elim h [
+  | inl a ↦ answered-then i j k a l
+  | inr e ↦ let P : Job → Type 0 = λ x. IsAnswered x k in subst P e l
+]
+
+kept-then : (i j k : Job) → IsKept i j → IsKept j k → IsKept i k
+kept-then i j k h l = elim l [
+  | inl a ↦ inl (kept-answered i j k h a)
+  | inr e ↦ let P : Job → Type 0 = λ x. IsKept i x in subst P (sym e) h
+]
+
+pub all-kept : (xs : List Job) → AllZip IsKept xs xs
+all-kept [] = tt
+all-kept (x ∷ xs) = (inr refl, all-kept xs)
+
+pub all-kept-then : (xs ys zs : List Job) → AllZip IsKept xs ys → AllZip IsKept ys zs → AllZip IsKept xs zs
+all-kept-then [] [] zs h l = l
+all-kept-then [] (y ∷ ys) zs h l = absurd h
+all-kept-then (x ∷ xs) [] zs h l = absurd h
+all-kept-then (x ∷ xs) (y ∷ ys) [] h l = absurd l
+all-kept-then (x ∷ xs) (y ∷ ys) (z ∷ zs) h l = (kept-then x y z h.0 l.0, all-kept-then xs ys zs h.1 l.1)
+
+pub all-kept-answered : (xs ys zs : List Job) → AllZip IsKept xs ys → AllZip IsAnswered ys zs → AllZip IsAnswered xs zs
+all-kept-answered [] [] zs h l = l
+all-kept-answered [] (y ∷ ys) zs h l = absurd h
+all-kept-answered (x ∷ xs) [] zs h l = absurd h
+all-kept-answered (x ∷ xs) (y ∷ ys) [] h l = absurd l
+all-kept-answered (x ∷ xs) (y ∷ ys) (z ∷ zs) h l = (kept-answered x y z h.0 l.0, all-kept-answered xs ys zs h.1 l.1)
+
+-- one place is answered
+pub set-kept : (xs : List Job) (k : ℕ) (d j : Job) → k < length xs → IsAnswered (slice_index_or xs k d) j → AllZip IsKept xs (slice_set xs k j)
+set-kept [] k d j l h = absurd (omega (arith, l))
+set-kept (x ∷ xs) zero d j l h = (inl h, all-kept xs)
+set-kept (x ∷ xs) (suc k) d j l h = (inr refl, set-kept xs k d j (omega (arith, l)) h)
+
+kept-made : (i j : Job) (tile : Result TileResult NoMemory) → IsKept i j → IsMadeFor i tile → IsMadeFor j tile
+kept-made i (job.Ran a) tile h made = tt
+kept-made i job.Nothing tile h made = tt
+kept-made (job.Waits v) (job.Waits w) tile h made = elim h [
+  | inl a ↦ absurd a
+  | inr e ↦ let P : Job → Type 0 = λ x. IsMadeFor x tile in subst P (sym e) made
+]
+kept-made (job.Ran a) (job.Waits w) tile h made = elim h [
+  | inl e ↦ let P : Job → Type 0 = λ x. IsMadeFor x tile in subst P (sym e) made
+  | inr e ↦ let P : Job → Type 0 = λ x. IsMadeFor x tile in subst P (sym e) made
+]
+kept-made job.Nothing (job.Waits w) tile h made = elim h [
+  | inl e ↦ let P : Job → Type 0 = λ x. IsMadeFor x tile in subst P (sym e) made
+  | inr e ↦ let P : Job → Type 0 = λ x. IsMadeFor x tile in subst P (sym e) made
+]
+
+kept-at : (xs ys : List Job) (k : ℕ) → AllZip IsKept xs ys → IsKept (slice_index_or xs k job.Nothing) (slice_index_or ys k job.Nothing)
+kept-at [] [] k h = inr refl
+kept-at [] (y ∷ ys) k h = absurd h
+kept-at (x ∷ xs) [] k h = absurd h
+kept-at (x ∷ xs) (y ∷ ys) zero h = h.0
+kept-at (x ∷ xs) (y ∷ ys) (suc k) h = kept-at xs ys k h.1
+
+pub made-later : (xs ys : List Job) (made : Made) → AllZip IsKept xs ys → IsMadeAt xs made → IsMadeAt ys made
+made-later xs ys made h is = kept-made (slice_index_or xs made.place job.Nothing) (slice_index_or ys made.place job.Nothing) made.tile (kept-at xs ys made.place h) is
+
+pub all-made-later : (xs ys : List Job) (hand : List Made) → AllZip IsKept xs ys → AllByRecursion (IsMadeAt xs) hand → AllByRecursion (IsMadeAt ys) hand
+all-made-later xs ys [] h all = tt
+all-made-later xs ys (m ∷ hand) h all = (made-later xs ys m h all.0, all-made-later xs ys hand h all.1)

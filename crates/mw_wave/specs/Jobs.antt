@@ -1,8 +1,12 @@
 -- The places of a wave, and the answers to its tasks (own).
-use Rattle.std.specs.Prelude.{◌≡◌, IfOk, Result, Ok, Err, List, [], ◌∷◌, ◌⊎◌}
+use Rattle.std.specs.Prelude.{◌≡◌, IfOk, Result, Ok, Err, List, [], ◌∷◌, ◌⊎◌, Vec, slice_index_or}
 use Rattle.std.specs.List.{AllByRecursion}
 use Rattle.mw_task.specs.WindowTasks.{IsBounded, WindowTask}
+use Rattle.mw_task.specs.Products.{IsMade}
 use Rattle.mw_task.specs.declared.done.TaskRefused.{TaskRefused}
+use Rattle.mw_task.specs.declared.tile_result.TileResult.{TileResult}
+use Rattle.mw_model.specs.declared.memory.NoMemory.{NoMemory}
+use Rattle.mw_wave.specs.declared.shared.Made.{Made}
 use Rattle.mw_wave.specs.declared.job.Job.{Job}
 use Rattle.mw_wave.specs.declared.job.Job.TheVariants as job
 
@@ -28,6 +32,24 @@ IsAnswered (job.Waits w) (job.Ran a) = IsAnswerTo w a
 IsAnswered (job.Waits w) j = ⊥
 IsAnswered (job.Ran a) j = j ≡ job.Ran a
 IsAnswered job.Nothing j = j ≡ job.Nothing
+
+-- a task that waited in the place has its answer there, or waits yet, and all else stays
+abbrev pub IsKept : Job → Job → Type 0
+IsKept i j = IsAnswered i j ⊎ (j ≡ i)
+
+-- a worker made this of the task that waits in the place, or had no memory for it
+abbrev pub IsMadeFor : Job → Result TileResult NoMemory → Type 0
+IsMadeFor (job.Waits w) tile = IfOk tile (IsMade w)
+IsMadeFor (job.Ran a) tile = Unit {0}
+IsMadeFor job.Nothing tile = Unit {0}
+
+-- so of the place of this number
+abbrev pub IsMadeAt : List Job → Made → Type 0
+IsMadeAt jobs made = IsMadeFor (slice_index_or jobs made.place job.Nothing) made.tile
+
+-- so is all that one worker made
+abbrev pub AreMade : {A : Type 0} → List Job → Vec Made A → Type 0
+AreMade jobs hand = AllByRecursion (IsMadeAt jobs) hand.items
 
 -- no sample of the windows in this place is over the maxval of its source
 abbrev pub IsBoundedJob : Job → Type 0

@@ -11,6 +11,7 @@
 mod crew;
 mod job;
 mod pick;
+mod shared;
 mod wave;
 mod work;
 

@@ -1,8 +1,5 @@
-use Rattle.mw_wave.specs.Jobs.{IsAnswered}
-use Rattle.mw_wave.proofs.Jobs.{zip-each}
+use Rattle.mw_wave.proofs.Jobs.{all-kept-answered}
 use Rattle.mw_wave.proofs.job.answer_all.Goals as goal
 
-pub returns : goal.returns
-returns g c = zip-each IsAnswered c.args.jobs.now c.for_each_mut.new.s c.for_each_mut.auto.s (λ i d l.
-    let at = (c.for_each_mut.ensures i d l).1 in
-    rw (← at.argument_is, ← at.left) at.call)
+pub returns-in-Ok : goal.returns-in-Ok
+returns-in-Ok g c = all-kept-answered c.args.jobs.now c.put_all.new.jobs c.run_rest.new.jobs c.put_all.ensures c.run_rest.ensures

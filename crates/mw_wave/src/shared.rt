@@ -1,0 +1,102 @@
+//! Tasks of a wave that workers share: each makes the next one that nobody has begun.
+
+ghost use Rattle.std.specs.Prelude.{IfOk, IfSome, vec_items};
+ghost use Rattle.std.specs.List.{AllByRecursion, AllZip};
+ghost use Rattle.mw_wave.specs.Jobs.{AreMade, IsKept, IsMadeAt};
+
+use crate::Crew;
+use crate::job::Job;
+use mw_model::NoMemory;
+use mw_task::TileResult;
+use std::alloc::{AllocError, Global};
+use std::sync::atomic::{AtomicUsize, Ordering};
+use std::thread;
+use std::thread::Threads;
+
+/// What was made for the task in a place of a wave.
+#[derive(Drop)]
+pub struct Made {
+    pub place: usize,
+    pub tile: Result<TileResult, NoMemory>,
+}
+
+/// Makes the task in this place, if one waits there.
+fn make_at(alloc: Global, jobs: &[Job], place: usize) -> Option<Made>
+    ensures { IfSome result (IsMadeAt jobs.now) }
+{
+    if place >= jobs.len() {
+        return None;
+    }
+    match &jobs[place] {
+        Job::Waits(work) => Some(Made {
+            place,
+            tile: mw_step::compute(alloc, work),
+        }),
+        _ => None,
+    }
+}
+
+/// Makes tasks that nobody has begun, until none is left. Who finds no room for what he made makes no more.
+fn make_some(alloc: Global, jobs: &[Job], begun: &AtomicUsize) -> Vec<Made>
+    ensures { AllByRecursion (IsMadeAt jobs.now) result.items }
+{
+    let mut hand = Vec::new(alloc);
+    'tasks: for _turn in 0..jobs.len() {
+        let Some(made) = make_at(alloc, jobs, begun.fetch_add(1, Ordering::SeqCst)) else {
+            return hand;
+        };
+        if hand.push(made).is_err() {
+            return hand;
+        }
+    }
+    hand
+}
+
+/// What each worker made of the tasks that wait, in at most as many threads as there are workers.
+pub(crate) fn make_all<T: Threads + Sync>(
+    crew: Crew<T>,
+    jobs: &[Job],
+) -> Result<Vec<Vec<Made>>, AllocError>
+    ensures { IfOk result (λ hands. AllByRecursion (AreMade jobs.now) hands.items) }
+{
+    let next = AtomicUsize::new(0);
+    let (alloc, begun) = (crew.alloc, &next);
+    thread::map_indices(
+        crew.rt,
+        alloc,
+        crew.workers.min(jobs.len()),
+        &move |_worker: usize| -> Vec<Made>
+            ensures { AllByRecursion (IsMadeAt jobs.entry.now) result.items }
+        { make_some(alloc, jobs, begun) },
+    )
+}
+
+/// Answers the task in its place, if it waits there yet.
+fn put(made: Made, jobs: &mut [Job])
+    requires { IsMadeAt jobs.old made }
+    ensures { AllZip IsKept jobs.old jobs.new }
+{
+    if made.place < jobs.len() {
+        jobs[made.place].keep(made.tile);
+    }
+}
+
+/// Answers the tasks of which one worker made something.
+fn put_hand(hand: Vec<Made>, jobs: &mut [Job])
+    requires { AreMade jobs.old hand }
+    ensures { AllZip IsKept jobs.old jobs.new }
+{
+    for made in hand {
+        put(made, jobs);
+    }
+}
+
+/// Answers the tasks of which the workers made something.
+pub(crate) fn put_all(hands: Vec<Vec<Made>>, jobs: &mut [Job])
+    requires { AllByRecursion (AreMade jobs.old) hands.items }
+    ensures { AllZip IsKept jobs.old jobs.new }
+{
+    for hand in hands {
+        put_hand(hand, jobs);
+    }
+}
