@@ -144,7 +144,8 @@ impl<J: Naming> Front<J> {
 
     /// Whether it is no longer than the other. Both are beginnings of one roll, so it then begins the other.
     fn begins(&self, other: &Front<J>) -> bool
-        ensures { IsTrue result → IsPrefix self.now other.now }
+        ensures short { length self.now ≤ length other.now → IsTrue result }
+        ensures begins { IsTrue result → IsPrefix self.now other.now }
     {
         let mut both = self.seen.again();
         both.learn(&other.seen);
@@ -245,7 +246,8 @@ impl<J: Naming> Roll<J> {
     #[tactic(auto, using(crate::proofs::Fronts::ends_stands))]
     pub fn has(&self, seen: &Option<Front<J>>, done: &TileDone) -> bool
         requires { IfSome seen.now (λ s. EndsWith s done.now) }
-        ensures { IsTrue result → StandsIn self.now done.now }
+        ensures short { IfSome seen.now (λ s. length s ≤ length self.now → IsTrue result) }
+        ensures stands { IsTrue result → StandsIn self.now done.now }
     {
         match seen {
             Some(seen) => seen.begins(&self.front),

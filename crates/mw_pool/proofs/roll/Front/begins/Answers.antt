@@ -4,8 +4,8 @@ use Rattle.mw_task.specs.WindowTasks.{WindowTask}
 use Rattle.mw_pool.proofs.Fronts.{le-true, prefix-shorter}
 use Rattle.mw_pool.proofs.roll.Front.begins.Goals as goal
 
-pub returns : goal.returns
-returns g c = λ shorter.
+pub returns-clause-begins : goal.returns-clause-begins
+returns-clause-begins g c = λ shorter.
     let both = c.learn.new.self.log in
     let this : IsPrefix c.self.inside.seen.log both = subst (λ (l : List WindowTask). IsPrefix l both) (ap (λ s. s.log) c.again-both.ensures) c.learn.ensures.2 in
     let least : c.self.inside.tasks ≤ c.other.inside.tasks = le-true c.self.inside.tasks c.other.inside.tasks shorter in
