@@ -1,6 +1,6 @@
 -- Places of a wave.
 use Rattle.std.proofs.Common.{◌≡◌, ℕ, zero, suc, ◌<◌, inl, inr, Ok, Err, List, [], ◌∷◌, ◌++◌, length, refl, sym, ap, ◌∙◌, subst, arith}
-use Rattle.std.specs.Prelude.{slice_index_or, slice_set, Result, IfOk, IfErr, ◌⊎◌, Vec}
+use Rattle.std.specs.Prelude.{slice_index_or, slice_set, Result, IfOk, IfErr, Vec}
 use Rattle.std.specs.List.{AllByRecursion, AllZip}
 use Rattle.mw_task.specs.WindowTasks.{IsBounded, WindowTask}
 use Rattle.mw_task.specs.declared.done.TaskRefused.{TaskRefused}

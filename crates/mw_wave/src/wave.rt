@@ -85,6 +85,7 @@ fn take_wave<P: Pick>(alloc: Global, most: usize, core: &mut Core, pick: &mut P)
     ensures underway { (m : Machine) (old : CoreView) (others : List Job) → Underway m old core.old others 1 → Underway m old core.new (others ++ result.items) 1 }
     ensures bounded { AllByRecursion IsBoundedJob result.items }
 {
+    let most = core.ready_count().min(most as u64) as usize;
     match Vec::with_capacity(alloc, most) {
         Ok(mut jobs) => {
             take_more(core, pick, most, &mut jobs);
@@ -116,8 +117,8 @@ fn own_part<P: Pick>(
     make_some(alloc, jobs, begun)
 }
 
-/// Makes the tasks of a wave in as many threads as there are workers. The one who has the core does his own part first.
-/// Gives what the others made, and what he made himself.
+/// Makes the tasks of a wave in as many threads as there are workers, and a single one without. The one who has the core does
+/// his own part first. Gives what the others made, and what he made himself.
 fn make_beside<P: Pick, T: Threads + Sync>(
     crew: Crew<T>,
     jobs: &[Job],
@@ -133,8 +134,12 @@ fn make_beside<P: Pick, T: Threads + Sync>(
 {
     let next = AtomicUsize::new(0);
     let (rt, alloc, begun) = (crew.rt, crew.alloc, &next);
-    let others = crew.workers.saturating_sub(1).min(jobs.len());
     let most = crew.wave(core.side());
+    if jobs.len() < 2 {
+        let mine = own_part(alloc, most, jobs, begun, core, pick, beside);
+        return (Ok(Vec::new(alloc)), mine);
+    }
+    let others = crew.workers.saturating_sub(1).min(jobs.len());
     thread::join_mut(
         rt,
         &mut || -> Result<Vec<Vec<Made>>, AllocError>

@@ -1,6 +1,3 @@
-use Rattle.std.proofs.Common.{List, ◌++◌}
-use Rattle.mw_wave.specs.declared.job.Job.{Job}
-use Rattle.mw_wave.specs.Jobs.{IsBoundedJob}
 use Rattle.mw_wave.proofs.Jobs.{bounded-answered}
 use Rattle.mw_wave.proofs.Waving.{wave-answered}
 use Rattle.mw_wave.proofs.wave.turn.Goals as goal
