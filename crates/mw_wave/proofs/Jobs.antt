@@ -1,6 +1,6 @@
 -- Places of a wave.
 use Rattle.std.proofs.Common.{◌≡◌, ℕ, zero, suc, ◌<◌, inl, inr, Ok, Err, List, [], ◌∷◌, ◌++◌, length, refl, sym, ap, ◌∙◌, subst, arith}
-use Rattle.std.specs.Prelude.{slice_index_or, slice_set, Result, IfOk, IfErr, ◌⊎◌, Vec}
+use Rattle.std.specs.Prelude.{slice_index_or, slice_set, Result, IfOk, IfErr, Vec}
 use Rattle.std.specs.List.{AllByRecursion, AllZip}
 use Rattle.mw_task.specs.WindowTasks.{IsBounded, WindowTask}
 use Rattle.mw_task.specs.declared.done.TaskRefused.{TaskRefused}
@@ -30,12 +30,18 @@ answered-one (job.Waits v) job.Nothing w h is = absurd h
 answered-one (job.Ran a) j w h is = subst (λ x. IsOf x w) (sym h) is
 answered-one job.Nothing j w h is = absurd is
 
-pub has-answered : (xs ys : List Job) (w : WindowTask) → AllZip IsAnswered xs ys → HasTask xs w → HasTask ys w
-has-answered [] ys w h has = absurd has
-has-answered (x ∷ xs) [] w h has = absurd h
-has-answered (x ∷ xs) (y ∷ ys) w h has = elim has [
-  | inl is ↦ inl (answered-one x y w h.0 is)
-  | inr more ↦ inr (has-answered xs ys w h.1 more)
+kept-one : (i j : Job) (w : WindowTask) → IsKept i j → IsOf i w → IsOf j w
+kept-one i j w h is = elim h [
+  | inl a ↦ answered-one i j w a is
+  | inr e ↦ subst (λ x. IsOf x w) (sym e) is
+]
+
+pub has-kept : (xs ys : List Job) (w : WindowTask) → AllZip IsKept xs ys → HasTask xs w → HasTask ys w
+has-kept [] ys w h has = absurd has
+has-kept (x ∷ xs) [] w h has = absurd h
+has-kept (x ∷ xs) (y ∷ ys) w h has = elim has [
+  | inl is ↦ inl (kept-one x y w h.0 is)
+  | inr more ↦ inr (has-kept xs ys w h.1 more)
 ]
 
 pub has-last : (xs : List Job) (j : Job) (w : WindowTask) → HasTask (j ∷ xs) w → HasTask (xs ++ j ∷ []) w
@@ -158,3 +164,14 @@ made-later xs ys made h is = kept-made (slice_index_or xs made.place job.Nothing
 pub all-made-later : (xs ys : List Job) (hand : List Made) → AllZip IsKept xs ys → AllByRecursion (IsMadeAt xs) hand → AllByRecursion (IsMadeAt ys) hand
 all-made-later xs ys [] h all = tt
 all-made-later xs ys (m ∷ hand) h all = (made-later xs ys m h all.0, all-made-later xs ys hand h all.1)
+
+pub all-hands-later : {A : Type 0} (xs ys : List Job) (hands : List (Vec Made A)) → AllZip IsKept xs ys → AllByRecursion (AreMade xs) hands → AllByRecursion (AreMade ys) hands
+all-hands-later xs ys [] h all = tt
+all-hands-later xs ys (v ∷ hands) h all = (all-made-later xs ys v.items h all.0, all-hands-later xs ys hands h all.1)
+
+-- the tasks of one of two waves are answered
+pub kept-beside : (xs ys others : List Job) → AllZip IsAnswered xs ys → AllZip IsKept (xs ++ others) (ys ++ others)
+kept-beside [] [] others h = all-kept others
+kept-beside [] (y ∷ ys) others h = absurd h
+kept-beside (x ∷ xs) [] others h = absurd h
+kept-beside (x ∷ xs) (y ∷ ys) others h = (inl h.0, kept-beside xs ys others h.1)

@@ -37,10 +37,10 @@ use Rattle.mw_wave.proofs.Totals.{total, total-falls, total-le, total-zero, coun
 use Rattle.mw_script_laws.proofs.Finishing.{only_append}
 use Rattle.mw_wave.specs.declared.job.Job.{Job}
 use Rattle.mw_wave.specs.declared.job.Job.TheVariants as job
-use Rattle.mw_wave.specs.Jobs.{IsAnswerTo, IsOf, HasTask, IsAnswered}
+use Rattle.mw_wave.specs.Jobs.{IsAnswerTo, IsOf, HasTask, IsAnswered, IsKept}
 use Rattle.mw_wave.specs.Waves.{GoneOn, IsTrueAnswer, IsTrueJob, IsTrueTask, Runs, Underway, Took}
 use Rattle.mw_wave.proofs.TicketCounts.{under, over_all-falls, work-under, count-under, has-place}
-use Rattle.mw_wave.proofs.Jobs.{all-last, still-answers, has-answered, has-last}
+use Rattle.mw_wave.proofs.Jobs.{all-last, still-answers, has-kept, has-last, kept-beside}
 
 -- ---- tasks that are running
 
@@ -520,8 +520,8 @@ wave-begins m c s none = record {
   gone = inl (omega arith);
 }
 
-pub wave-pushed : (m : Machine) (old c : CoreView) (j : Job) (jobs : List Job) (n : ℕ) → Underway m old c (j ∷ jobs) n → Underway m old c (jobs ++ j ∷ []) n
-wave-pushed m old c j jobs n h = record {
+wave-last : (m : Machine) (old c : CoreView) (j : Job) (jobs : List Job) (n : ℕ) → Underway m old c (j ∷ jobs) n → Underway m old c (jobs ++ j ∷ []) n
+wave-last m old c j jobs n h = record {
   items = h.items;
   state = h.state;
   log = h.log;
@@ -533,6 +533,12 @@ wave-pushed m old c j jobs n h = record {
   gone = h.gone;
 }
 
+-- a task that was taken stands last, behind those of the wave that is run meanwhile
+pub wave-pushed : (m : Machine) (old c : CoreView) (j : Job) (others jobs : List Job) (n : ℕ) → Underway m old c (j ∷ (others ++ jobs)) n → Underway m old c (others ++ (jobs ++ j ∷ [])) n
+wave-pushed m old c j others jobs n h =
+    let P : List Job → Type 0 = λ l. Underway m old c l n in
+    subst P (append_assoc others jobs (j ∷ [])) (wave-last m old c j (others ++ jobs) n h)
+
 -- an answer to a true task is one
 true-answer : (c : CoreView) (m : Machine) (w : WindowTask) (a : Result WindowTask TaskRefused) → IsAnswerTo w a → IsTrueTask c m w → IsTrueAnswer c m a
 true-answer c m w (Ok d) answered is =
@@ -540,19 +546,24 @@ true-answer c m w (Ok d) answered is =
     subst P (sym answered) is
 true-answer c m w (Err r) answered is = tt
 
-all-answered : (c : CoreView) (m : Machine) (jobs after : List Job) → AllZip IsAnswered jobs after → AllByRecursion (IsTrueJob c m) jobs → AllByRecursion (IsTrueJob c m) after
-all-answered c m [] [] a h = tt
-all-answered c m [] (j ∷ after) a h = absurd a
-all-answered c m (j ∷ jobs) [] a h = absurd a
-all-answered c m (job.Waits w ∷ jobs) (job.Ran x ∷ after) a h = (true-answer c m w x a.0 h.0, all-answered c m jobs after a.1 h.1)
-all-answered c m (job.Waits w ∷ jobs) (job.Waits v ∷ after) a h = absurd a.0
-all-answered c m (job.Waits w ∷ jobs) (job.Nothing ∷ after) a h = absurd a.0
-all-answered c m (job.Ran x ∷ jobs) (j ∷ after) a h =
-    let P : Job → Type 0 = λ i. IsTrueJob c m i in
-    (subst P (sym a.0) h.0, all-answered c m jobs after a.1 h.1)
-all-answered c m (job.Nothing ∷ jobs) (j ∷ after) a h =
-    let P : Job → Type 0 = λ i. IsTrueJob c m i in
-    (subst P (sym a.0) tt, all-answered c m jobs after a.1 h.1)
+true-answered : (c : CoreView) (m : Machine) (i j : Job) → IsAnswered i j → IsTrueJob c m i → IsTrueJob c m j
+true-answered c m (job.Waits w) (job.Ran x) a h = true-answer c m w x a h
+true-answered c m (job.Waits w) (job.Waits v) a h = absurd a
+true-answered c m (job.Waits w) job.Nothing a h = absurd a
+true-answered c m (job.Ran x) j a h = let P : Job → Type 0 = λ i. IsTrueJob c m i in subst P (sym a) h
+true-answered c m job.Nothing j a h = let P : Job → Type 0 = λ i. IsTrueJob c m i in subst P (sym a) h
+
+true-kept : (c : CoreView) (m : Machine) (i j : Job) → IsKept i j → IsTrueJob c m i → IsTrueJob c m j
+true-kept c m i j k h = elim k [
+  | inl a ↦ true-answered c m i j a h
+  | inr e ↦ let P : Job → Type 0 = λ x. IsTrueJob c m x in subst P (sym e) h
+]
+
+all-true-kept : (c : CoreView) (m : Machine) (jobs after : List Job) → AllZip IsKept jobs after → AllByRecursion (IsTrueJob c m) jobs → AllByRecursion (IsTrueJob c m) after
+all-true-kept c m [] [] a h = tt
+all-true-kept c m [] (j ∷ after) a h = absurd a
+all-true-kept c m (i ∷ jobs) [] a h = absurd a
+all-true-kept c m (i ∷ jobs) (j ∷ after) a h = (true-kept c m i j a.0 h.0, all-true-kept c m jobs after a.1 h.1)
 
 pub wave-run : (m : Machine) (old c : CoreView) (jobs : List Job) (n : ℕ) (w : WindowTask) (a : Result WindowTask TaskRefused) → IsAnswerTo w a → Underway m old c (job.Waits w ∷ jobs) n → Underway m old c (job.Ran a ∷ jobs) n
 wave-run m old c jobs n w a answered h = record {
@@ -570,18 +581,22 @@ wave-run m old c jobs n w a answered h = record {
   gone = h.gone;
 }
 
-pub wave-answered : (m : Machine) (old c : CoreView) (jobs after : List Job) (n : ℕ) → AllZip IsAnswered jobs after → Underway m old c jobs n → Underway m old c after n
-wave-answered m old c jobs after n a h = record {
+wave-kept : (m : Machine) (old c : CoreView) (jobs after : List Job) (n : ℕ) → AllZip IsKept jobs after → Underway m old c jobs n → Underway m old c after n
+wave-kept m old c jobs after n a h = record {
   items = h.items;
   state = h.state;
   log = h.log;
   only = h.only;
   run = h.run;
   stands = h.stands;
-  running = λ t k p r. has-answered jobs after (true_task h.state t p k) a (h.running t k p r);
-  tasks = all-answered c h.state jobs after a h.tasks;
+  running = λ t k p r. has-kept jobs after (true_task h.state t p k) a (h.running t k p r);
+  tasks = all-true-kept c h.state jobs after a h.tasks;
   gone = h.gone;
 }
+
+-- the tasks of one of two waves are answered
+pub wave-answered : (m : Machine) (old c : CoreView) (jobs after others : List Job) (n : ℕ) → AllZip IsAnswered jobs after → Underway m old c (jobs ++ others) n → Underway m old c (after ++ others) n
+wave-answered m old c jobs after others n a h = wave-kept m old c (jobs ++ others) (after ++ others) n (kept-beside jobs after others a) h
 
 pub wave-ends : (m : Machine) (old new : CoreView) → Underway m old new [] 1 → Worked m old new 1
 wave-ends m old new h =

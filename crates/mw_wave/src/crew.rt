@@ -4,9 +4,10 @@ ghost use Rattle.std.specs.Prelude.{◌≤◌};
 
 use std::alloc::{AllocError, Global};
 
-/// How many samples the tasks of a wave make for each worker. They are held until they are handed back: 4 MiB of samples
-/// of 8 bits, twice that of 16. Fewer would start threads anew more often than the tasks are worth.
-const SAMPLES_PER_WORKER: u64 = 4 << 20;
+/// How many samples the tasks of a wave make for each worker. They are held until they are handed back: 2 MiB of samples
+/// of 8 bits, twice that of 16. Fewer would start threads anew more often than the tasks are worth; of more, the first wave is
+/// taken and the last handed back while the others wait.
+const SAMPLES_PER_WORKER: u64 = 2 << 20;
 
 /// Never fewer tasks than this for each worker, so that those that take longer are made up for by others.
 const LEAST_PER_WORKER: u64 = 16;

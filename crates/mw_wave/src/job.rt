@@ -1,15 +1,15 @@
 //! Places of a wave.
 
-ghost use Rattle.std.specs.Prelude.{◌<◌, IfOk};
-ghost use Rattle.std.specs.List.{AllZip};
+ghost use Rattle.std.specs.Prelude.{IfOk};
+ghost use Rattle.std.specs.List.{AllByRecursion, AllZip};
 ghost use Rattle.mw_task.specs.Products.{IsMade};
-ghost use Rattle.mw_wave.specs.Jobs.{IsAnswered, IsAnswerTo};
+ghost use Rattle.mw_wave.specs.Jobs.{AreMade, IsAnswered, IsAnswerTo};
 
 use crate::Crew;
-use crate::shared::{make_all, put_all};
+use crate::shared::{Made, put_all, put_hand};
 use mw_model::NoMemory;
 use mw_task::{TaskRefused, TileDone, TileResult, Work};
-use std::alloc::Global;
+use std::alloc::{AllocError, Global};
 use std::thread::Threads;
 use std::{mem, thread};
 
@@ -57,33 +57,49 @@ impl Job {
     }
 }
 
-/// Runs the tasks that wait yet in their places, in at most so many threads.
-fn run_rest<T: Threads + Sync>(crew: Crew<T>, threads: usize, jobs: &mut [Job])
-    requires { 0 < threads }
+/// Runs the tasks that wait yet in their places, one after another.
+fn run_rest<T: Threads + Sync>(crew: Crew<T>, jobs: &mut [Job])
     ensures { AllZip IsAnswered jobs.old jobs.new }
 {
     let alloc = crew.alloc;
     thread::for_each_mut(
         crew.rt,
         jobs,
-        threads,
+        1,
         &move |_place: usize, job: &mut Job|
             ensures { IsAnswered job.old job.new }
         { job.run(alloc) },
     );
 }
 
-/// Answers all tasks in their places, by as many workers as there are. Each makes the next task that nobody has begun, so
-/// that none waits long for another. What was lost for want of memory is run again in the end.
-pub(crate) fn answer_all<T: Threads + Sync>(crew: Crew<T>, jobs: &mut [Job])
-    requires { 0 < crew.workers }
+/// Answers all tasks in their places by what was made of them: by the others, and by the one who has the core. What was lost
+/// for want of memory is run here.
+fn answer_all<T: Threads + Sync>(
+    crew: Crew<T>,
+    theirs: Result<Vec<Vec<Made>>, AllocError>,
+    mine: Vec<Made>,
+    jobs: &mut [Job],
+)
+    requires theirs { IfOk theirs (λ hands. AllByRecursion (AreMade jobs.old) hands.items) }
+    requires mine { AreMade jobs.old mine }
     ensures { AllZip IsAnswered jobs.old jobs.new }
 {
-    match make_all(crew, jobs) {
-        Ok(hands) => {
-            put_all(hands, jobs);
-            run_rest(crew, 1, jobs);
-        }
-        Err(_) => run_rest(crew, crew.workers, jobs),
-    }
+    put_all(theirs, jobs);
+    put_hand(mine, jobs);
+    run_rest(crew, jobs);
+}
+
+/// The wave with all tasks answered in their places.
+pub(crate) fn answered<T: Threads + Sync>(
+    crew: Crew<T>,
+    theirs: Result<Vec<Vec<Made>>, AllocError>,
+    mine: Vec<Made>,
+    mut jobs: Vec<Job>,
+) -> Vec<Job>
+    requires theirs { IfOk theirs (λ hands. AllByRecursion (AreMade jobs.items) hands.items) }
+    requires mine { AreMade jobs.items mine }
+    ensures { AllZip IsAnswered jobs.items result.items }
+{
+    answer_all(crew, theirs, mine, jobs.as_mut_slice());
+    jobs
 }

@@ -4,7 +4,6 @@ ghost use Rattle.std.specs.Prelude.{IfOk, IfSome, vec_items};
 ghost use Rattle.std.specs.List.{AllByRecursion, AllZip};
 ghost use Rattle.mw_wave.specs.Jobs.{AreMade, IsKept, IsMadeAt};
 
-use crate::Crew;
 use crate::job::Job;
 use mw_model::NoMemory;
 use mw_task::TileResult;
@@ -37,7 +36,7 @@ fn make_at(alloc: Global, jobs: &[Job], place: usize) -> Option<Made>
 }
 
 /// Makes tasks that nobody has begun, until none is left. Who finds no room for what he made makes no more.
-fn make_some(alloc: Global, jobs: &[Job], begun: &AtomicUsize) -> Vec<Made>
+pub(crate) fn make_some(alloc: Global, jobs: &[Job], begun: &AtomicUsize) -> Vec<Made>
     ensures { AllByRecursion (IsMadeAt jobs.now) result.items }
 {
     let mut hand = Vec::new(alloc);
@@ -52,19 +51,20 @@ fn make_some(alloc: Global, jobs: &[Job], begun: &AtomicUsize) -> Vec<Made>
     hand
 }
 
-/// What each worker made of the tasks that wait, in at most as many threads as there are workers.
-pub(crate) fn make_all<T: Threads + Sync>(
-    crew: Crew<T>,
+/// What so many workers made of the tasks that wait, each in a thread.
+pub(crate) fn make_by<T: Threads + Sync>(
+    rt: &T,
+    alloc: Global,
+    workers: usize,
     jobs: &[Job],
+    begun: &AtomicUsize,
 ) -> Result<Vec<Vec<Made>>, AllocError>
     ensures { IfOk result (λ hands. AllByRecursion (AreMade jobs.now) hands.items) }
 {
-    let next = AtomicUsize::new(0);
-    let (alloc, begun) = (crew.alloc, &next);
     thread::map_indices(
-        crew.rt,
+        rt,
         alloc,
-        crew.workers.min(jobs.len()),
+        workers,
         &move |_worker: usize| -> Vec<Made>
             ensures { AllByRecursion (IsMadeAt jobs.entry.now) result.items }
         { make_some(alloc, jobs, begun) },
@@ -82,7 +82,7 @@ fn put(made: Made, jobs: &mut [Job])
 }
 
 /// Answers the tasks of which one worker made something.
-fn put_hand(hand: Vec<Made>, jobs: &mut [Job])
+pub(crate) fn put_hand(hand: Vec<Made>, jobs: &mut [Job])
     requires { AreMade jobs.old hand }
     ensures { AllZip IsKept jobs.old jobs.new }
 {
@@ -91,12 +91,23 @@ fn put_hand(hand: Vec<Made>, jobs: &mut [Job])
     }
 }
 
-/// Answers the tasks of which the workers made something.
-pub(crate) fn put_all(hands: Vec<Vec<Made>>, jobs: &mut [Job])
+/// Answers the tasks of which several workers made something.
+fn put_hands(hands: Vec<Vec<Made>>, jobs: &mut [Job])
     requires { AllByRecursion (AreMade jobs.old) hands.items }
     ensures { AllZip IsKept jobs.old jobs.new }
 {
     for hand in hands {
         put_hand(hand, jobs);
+    }
+}
+
+/// The same, where there was memory for what they made.
+pub(crate) fn put_all(hands: Result<Vec<Vec<Made>>, AllocError>, jobs: &mut [Job])
+    requires { IfOk hands (λ v. AllByRecursion (AreMade jobs.old) v.items) }
+    ensures { AllZip IsKept jobs.old jobs.new }
+{
+    match hands {
+        Ok(hands) => put_hands(hands, jobs),
+        Err(_) => {}
     }
 }

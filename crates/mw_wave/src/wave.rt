@@ -1,22 +1,25 @@
 //! A wave: tasks that are taken from the core, run, and handed back.
 
-ghost use Rattle.std.specs.Prelude.{◌≡◌, ◌<◌, ◌≤◌, ◌+◌, ◌∷◌, [], ℕ, List, IfSome, vec_len, vec_capacity};
+ghost use Rattle.std.specs.Prelude.{◌≡◌, ◌<◌, ◌≤◌, ◌+◌, ◌++◌, ◌∷◌, [], ℕ, List, IfOk, IfSome, vec_len, vec_capacity};
 ghost use Rattle.std.specs.List.{AllByRecursion};
 ghost use Rattle.mw_model.specs.Machine.{Machine};
 ghost use Rattle.mw_model.specs.Stands.{CoreView, StandsFor, ready_count, running_count};
 ghost use Rattle.mw_task.specs.WindowTasks.{IsBounded};
 ghost use Rattle.mw_core.specs.TaskAnswers.{Picks, StartsBounded};
 ghost use Rattle.mw_wave.specs.declared.job.Job.{Job};
-ghost use Rattle.mw_wave.specs.Jobs.{IsBoundedJob};
+ghost use Rattle.mw_wave.specs.Jobs.{AreMade, IsBoundedJob};
 ghost use Rattle.mw_wave.specs.Waves.{Underway, Took};
 ghost use Rattle.mw_wave.specs.Work.{Turned};
 
-use crate::job::{Job, answer_all};
+use crate::job::{Job, answered};
+use crate::shared::{Made, make_by, make_some};
 use crate::{Crew, Pick};
 use mw_core::{Core, Started};
 use mw_task::{TaskRefused, TileDone, Work};
-use std::alloc::Global;
+use std::alloc::{AllocError, Global};
+use std::sync::atomic::AtomicUsize;
 use std::thread::Threads;
+use std::{mem, thread};
 
 /// Takes the ready task of the next place, if one is ready.
 fn start_next<P: Pick>(core: &mut Core, pick: &mut P) -> Started
@@ -36,7 +39,7 @@ fn start_next<P: Pick>(core: &mut Core, pick: &mut P) -> Started
 fn take_more<P: Pick>(core: &mut Core, pick: &mut P, most: usize, jobs: &mut Vec<Job>)
     requires room { vec_len jobs.old + most ≤ vec_capacity jobs.old }
     requires bounded { AllByRecursion IsBoundedJob jobs.old.items }
-    ensures underway { (m : Machine) (old : CoreView) → Underway m old core.old jobs.old.items 1 → Underway m old core.new jobs.new.items 1 }
+    ensures underway { (m : Machine) (old : CoreView) (others : List Job) → Underway m old core.old (others ++ jobs.old.items) 1 → Underway m old core.new (others ++ jobs.new.items) 1 }
     ensures bounded { AllByRecursion IsBoundedJob jobs.new.items }
 {
     'tasks: for _taken in 0..most {
@@ -66,7 +69,7 @@ fn hand_in(core: &mut Core, answer: Result<TileDone, TaskRefused>)
 /// Hands all answers back, in the order in which their tasks were taken.
 fn hand_all(alloc: Global, core: &mut Core, jobs: Vec<Job>)
     requires { AllByRecursion IsBoundedJob jobs.items }
-    ensures { (m : Machine) (old : CoreView) → Underway m old core.old jobs.items 1 → Underway m old core.new [] 1 }
+    ensures { (m : Machine) (old : CoreView) (others : List Job) → Underway m old core.old (jobs.items ++ others) 1 → Underway m old core.new others 1 }
 {
     for job in jobs {
         match job {
@@ -75,6 +78,120 @@ fn hand_all(alloc: Global, core: &mut Core, jobs: Vec<Job>)
             Job::Nothing => {}
         }
     }
+}
+
+/// Takes a wave of up to so many ready tasks, and none where there is no memory for their list.
+fn take_wave<P: Pick>(alloc: Global, most: usize, core: &mut Core, pick: &mut P) -> Vec<Job>
+    ensures underway { (m : Machine) (old : CoreView) (others : List Job) → Underway m old core.old others 1 → Underway m old core.new (others ++ result.items) 1 }
+    ensures bounded { AllByRecursion IsBoundedJob result.items }
+{
+    let most = core.ready_count().min(most as u64) as usize;
+    match Vec::with_capacity(alloc, most) {
+        Ok(mut jobs) => {
+            take_more(core, pick, most, &mut jobs);
+            jobs
+        }
+        Err(_) => Vec::new(alloc),
+    }
+}
+
+/// What the one who has the core does while others make the tasks of a wave: hands the wave before back, takes the wave
+/// that comes next, in its place, and then makes tasks himself.
+fn own_part<P: Pick>(
+    alloc: Global,
+    most: usize,
+    jobs: &[Job],
+    begun: &AtomicUsize,
+    core: &mut Core,
+    pick: &mut P,
+    beside: &mut Vec<Job>,
+) -> Vec<Made>
+    requires { AllByRecursion IsBoundedJob beside.old.items }
+    ensures underway { (m : Machine) (old : CoreView) (others : List Job) → Underway m old core.old (beside.old.items ++ others) 1 → Underway m old core.new (others ++ beside.new.items) 1 }
+    ensures bounded { AllByRecursion IsBoundedJob beside.new.items }
+    ensures made { AreMade jobs.now result }
+{
+    let done = mem::replace(beside, Vec::new(alloc));
+    hand_all(alloc, core, done);
+    *beside = take_wave(alloc, most, core, pick);
+    make_some(alloc, jobs, begun)
+}
+
+/// Makes the tasks of a wave in as many threads as there are workers, and a single one without. The one who has the core does
+/// his own part first. Gives what the others made, and what he made himself.
+fn make_beside<P: Pick, T: Threads + Sync>(
+    crew: Crew<T>,
+    jobs: &[Job],
+    core: &mut Core,
+    pick: &mut P,
+    beside: &mut Vec<Job>,
+) -> (Result<Vec<Vec<Made>>, AllocError>, Vec<Made>)
+    requires { AllByRecursion IsBoundedJob beside.old.items }
+    ensures underway { (m : Machine) (old : CoreView) (others : List Job) → Underway m old core.old (beside.old.items ++ others) 1 → Underway m old core.new (others ++ beside.new.items) 1 }
+    ensures bounded { AllByRecursion IsBoundedJob beside.new.items }
+    ensures theirs { IfOk result.0 (λ hands. AllByRecursion (AreMade jobs.now) hands.items) }
+    ensures mine { AreMade jobs.now result.1 }
+{
+    let next = AtomicUsize::new(0);
+    let (rt, alloc, begun) = (crew.rt, crew.alloc, &next);
+    let most = crew.wave(core.side());
+    if jobs.len() < 2 {
+        let mine = own_part(alloc, most, jobs, begun, core, pick, beside);
+        return (Ok(Vec::new(alloc)), mine);
+    }
+    let others = crew.workers.saturating_sub(1).min(jobs.len());
+    thread::join_mut(
+        rt,
+        &mut || -> Result<Vec<Vec<Made>>, AllocError>
+            ensures { IfOk result (λ hands. AllByRecursion (AreMade jobs.entry.now) hands.items) }
+        { make_by(rt, alloc, others, jobs, begun) },
+        &mut || -> Vec<Made>
+            requires { AllByRecursion IsBoundedJob beside.now.items }
+            ensures { ((m : Machine) (old : CoreView) (others : List Job) → Underway m old core.entry.now (beside.entry.now.items ++ others) 1 → Underway m old core.exit.now (others ++ beside.exit.now.items) 1) × AllByRecursion IsBoundedJob beside.exit.now.items × AreMade jobs.entry.now result }
+        { own_part(alloc, most, jobs, begun, core, pick, beside) },
+    )
+}
+
+/// One turn of work: gives a wave with all tasks answered in their places. Meanwhile the wave before is handed back, and the
+/// wave that comes next is taken in its place.
+fn turn<P: Pick, T: Threads + Sync>(
+    crew: Crew<T>,
+    core: &mut Core,
+    pick: &mut P,
+    jobs: Vec<Job>,
+    beside: &mut Vec<Job>,
+) -> Vec<Job>
+    requires jobs { AllByRecursion IsBoundedJob jobs.items }
+    requires beside { AllByRecursion IsBoundedJob beside.old.items }
+    ensures underway { (m : Machine) (old : CoreView) → Underway m old core.old (beside.old.items ++ jobs.items) 1 → Underway m old core.new (result.items ++ beside.new.items) 1 }
+    ensures jobs { AllByRecursion IsBoundedJob result.items }
+    ensures beside { AllByRecursion IsBoundedJob beside.new.items }
+{
+    let (theirs, mine) = make_beside(crew, jobs.as_slice(), core, pick, beside);
+    answered(crew, theirs, mine, jobs)
+}
+
+/// Runs wave after wave, beginning with these tasks, until none is ready and all are handed back.
+fn run_waves<P: Pick, T: Threads + Sync>(
+    crew: Crew<T>,
+    core: &mut Core,
+    pick: &mut P,
+    mut jobs: Vec<Job>,
+)
+    requires { AllByRecursion IsBoundedJob jobs.items }
+    ensures { (m : Machine) (old : CoreView) → Underway m old core.old jobs.items 1 → Underway m old core.new [] 1 }
+{
+    let mut beside = Vec::new(crew.alloc);
+    'turns: for _turn in 0..u64::MAX {
+        if jobs.is_empty() && beside.is_empty() {
+            return;
+        }
+        let done = turn(crew, core, pick, jobs, &mut beside);
+        jobs = beside;
+        beside = done;
+    }
+    hand_all(crew.alloc, core, beside);
+    hand_all(crew.alloc, core, jobs);
 }
 
 /// An empty list for the tasks of a wave, with so many others beside the first. There is none for one worker, for a task
@@ -92,7 +209,7 @@ fn list<T>(crew: Crew<T>, side: u32, others: u64) -> Option<Vec<Job>>
     }
 }
 
-/// Runs a task that was taken, and others beside it as the wave has room. Where there is no list for them it is run alone.
+/// Runs a task that was taken, and others beside it. Where there are none, or no memory for their list, it is run alone.
 fn run_beside<P: Pick, T: Threads + Sync>(crew: Crew<T>, core: &mut Core, pick: &mut P, first: Work)
     requires { AllByRecursion IsBounded first.windows }
     ensures { (m : Machine) (old : CoreView) → Underway m old core.old (Job.Waits first ∷ []) 1 → Underway m old core.new [] 1 }
@@ -101,8 +218,7 @@ fn run_beside<P: Pick, T: Threads + Sync>(crew: Crew<T>, core: &mut Core, pick: 
         Some(mut jobs) => {
             jobs.push_reserved(Job::Waits(first));
             take_more(core, pick, jobs.capacity() - jobs.len(), &mut jobs);
-            answer_all(crew, jobs.as_mut_slice());
-            hand_all(crew.alloc, core, jobs);
+            run_waves(crew, core, pick, jobs);
         }
         None => hand_in(core, mw_step::run(crew.alloc, first)),
     }
