@@ -47,10 +47,12 @@ invariant_of-self c =
     = λ k. kept-dropped a.kept.items new k (spent_by os now k) (rw (c.deref-6.ensures.value, shown, c.deref-7.ensures.value, counts, c.deref_mut-4.ensures.value) at (c.drop_spent.ensures k)) in
     let kept-size : length (map (option_map kept_value) new) ≡ length s.kept
     = omega (arith, length-map new (option_map kept_value), length-map a.kept.items (option_map kept_value), c.drop_spent.auto.kept, ap length c.deref_mut-4.ensures.value) in
-    rw (shown, counts, take_at rest _ a.waiting.len (omega (arith, c.drop_settled.auto.waiting, c.deref_mut-3.ensures.len)), take_at new _ a.kept.len (omega (arith, c.drop_spent.auto.kept, c.deref_mut-4.ensures.len)))
-    ((kill-tracked s a.wanted.items now a.waiting.items rest a.pending c.count_pending-self-inside.result t c.args.cause os (map (option_map kept_value) new) c.self.invariant.0 named c.requires.dead is size
-    (omega (arith, c.count_wanted.auto.wanted, ap length c.deref_mut-2.ensures.value)) (omega (arith, c.drop_settled.auto.waiting, ap length c.deref_mut-3.ensures.value)) kept-size
-    counted each count (kill-drops s os now (map (option_map kept_value) new) (size ∙ c.self.invariant.0.whole.outcomes) counted dropped)), c.self.invariant.1)
+    rw (shown, counts, take_at rest _ a.waiting.len (omega (arith, c.drop_settled.auto.waiting, c.deref_mut-3.ensures.len)), take_at new _ a.kept.len (omega (arith, c.drop_spent.auto.kept, c.deref_mut-4.ensures.len))) (
+      (kill-tracked s a.wanted.items now a.waiting.items rest a.pending c.count_pending-self-inside.result t c.args.cause os (map (option_map kept_value) new) c.self.invariant.0 named c.requires.dead is size
+          (omega (arith, c.count_wanted.auto.wanted, ap length c.deref_mut-2.ensures.value)) (omega (arith, c.drop_settled.auto.waiting, ap length c.deref_mut-3.ensures.value)) kept-size
+          counted each count (kill-drops s os now (map (option_map kept_value) new) (size ∙ c.self.invariant.0.whole.outcomes) counted dropped)),
+      c.self.invariant.1,
+    )
 
 pub returns-clause-kept : goal.returns-clause-kept
 returns-clause-kept c = λ j.

@@ -106,9 +106,11 @@ invariant_of-self-2 c =
       map-append (option_map kept_value) a.kept.items (c.args.value ∷ []),
       take_at now _ c.push_reserved-4.new.self.len (omega (arith, c.raise_inputs.auto.wanted, c.deref_mut-2.ensures.len)),
       take_at rest _ c.push_reserved-5.new.self.len (omega (arith, c.push_inputs.auto.waiting, c.deref_mut-3.ensures.len)),
+    ) (
+      push-tracked s a.wanted.items now made rest a.pending (a.pending + c.one_if_pending.result) c.args.name c.args.submission c.args.outcome (option_map kept_value c.args.value) c.none.result waited
+          tracked room below c.requires.kept c.none.ensures counts-size lists-size raised waits each (ap (λ (n : ℕ). a.pending + n) c.one_if_pending.ensures),
+      rows,
     )
-    (push-tracked s a.wanted.items now made rest a.pending (a.pending + c.one_if_pending.result) c.args.name c.args.submission c.args.outcome (option_map kept_value c.args.value) c.none.result waited
-    tracked room below c.requires.kept c.none.ensures counts-size lists-size raised waits each (ap (λ (n : ℕ). a.pending + n) c.one_if_pending.ensures), rows)
 
 pub returns-clause-table : goal.returns-clause-table
 unfolding ticket_of

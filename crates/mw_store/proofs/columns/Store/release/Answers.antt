@@ -20,9 +20,11 @@ invariant_of-self c =
     let spent : ℕ → _ = λ k. is_at (Some t) k && spent_by (set a.outcomes.items t outcome.Released) a.wanted.items k in
     let dropped = λ (k : ℕ). kept-dropped a.kept.items new k (spent k) (rw (c.deref.ensures.value, c.deref-2.ensures.value, c.deref_mut.ensures.value) at (c.drop_one.ensures k)) in
     let size : length (map (option_map kept_value) new) ≡ length s.kept = omega (arith, length-map new (option_map kept_value), length-map a.kept.items (option_map kept_value), c.drop_one.auto.kept, c.deref_mut.ensures.len) in
-    rw (take_at new _ a.kept.len (omega arith))
-    ((release-tracked s a.wanted.items a.waiting.items a.pending t (map (option_map kept_value) new) c.self.invariant.0 within was size
-    (release-drops s a.wanted.items a.waiting.items a.pending t (map (option_map kept_value) new) c.self.invariant.0 within was dropped)), c.self.invariant.1)
+    rw (take_at new _ a.kept.len (omega arith)) (
+      (release-tracked s a.wanted.items a.waiting.items a.pending t (map (option_map kept_value) new) c.self.invariant.0 within was size
+          (release-drops s a.wanted.items a.waiting.items a.pending t (map (option_map kept_value) new) c.self.invariant.0 within was dropped)),
+      c.self.invariant.1,
+    )
 
 pub returns-clause-kept : goal.returns-clause-kept
 returns-clause-kept c = λ k.

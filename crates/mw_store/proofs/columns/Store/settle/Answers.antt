@@ -97,11 +97,13 @@ invariant_of-self c =
     let counts-size : length now ≡ length a.wanted.items = omega (arith, c.lower_inputs.auto.wanted, c.deref_mut.ensures.len) in
     let kept-size : length (map (option_map kept_value) new) ≡ length s.kept
     = omega (arith, length-map new (option_map kept_value), length-map a.kept.items (option_map kept_value), c.drop_inputs.auto.kept, ap length c.deref_mut-2.ensures.value, length-set a.kept.items t (Some c.args.value)) in
-    rw (take_at new _ a.kept.len (omega arith), take_at now _ a.wanted.len (omega arith))
-    ((settle-tracked s a.wanted.items now a.waiting.items rest a.pending t v (map (option_map kept_value) new) c.self.invariant.0 named was counts-size
-    (length-set a.waiting.items t left) kept-size lowered
-    (settled-list a.waiting.items t left (omega (arith, named, c.self.invariant.0.listed)) (ap (λ (w : Waiting). w.tickets) c.replace-list.ensures.after ∙ c.none.ensures))
-    (settle-drops s a.wanted.items now a.waiting.items a.pending t v (map (option_map kept_value) new) c.self.invariant.0 named was lowered dropped)), c.self.invariant.1)
+    rw (take_at new _ a.kept.len (omega arith), take_at now _ a.wanted.len (omega arith)) (
+      (settle-tracked s a.wanted.items now a.waiting.items rest a.pending t v (map (option_map kept_value) new) c.self.invariant.0 named was counts-size
+          (length-set a.waiting.items t left) kept-size lowered
+          (settled-list a.waiting.items t left (omega (arith, named, c.self.invariant.0.listed)) (ap (λ (w : Waiting). w.tickets) c.replace-list.ensures.after ∙ c.none.ensures))
+          (settle-drops s a.wanted.items now a.waiting.items a.pending t v (map (option_map kept_value) new) c.self.invariant.0 named was lowered dropped)),
+      c.self.invariant.1,
+    )
 
 pub returns-clause-kept : goal.returns-clause-kept
 returns-clause-kept c = λ j.
