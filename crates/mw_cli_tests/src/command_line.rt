@@ -162,9 +162,9 @@ impl Print for Takes<'_> {
     }
 }
 
-/// Whether this line alone is told of a fault.
+/// Whether this line alone is told of a fault. Who tells nothing does not fail where an empty line is taken.
 fn tells(alloc: Global, fault: &LineFault, line: &str) -> bool {
-    fault.print(&Takes { alloc, line }).is_ok()
+    fault.print(&Takes { alloc, line }).is_ok() && fault.print(&Takes { alloc, line: "" }).is_err()
 }
 
 #[test]
