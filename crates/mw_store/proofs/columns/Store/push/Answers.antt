@@ -3,7 +3,6 @@ use Rattle.std.specs.List.{AllByRecursion}
 use Rattle.std.proofs.lemmas.List.{map-append, take_at, length-map}
 use Rattle.std.proofs.lemmas.Bool.{and_parts}
 use Rattle.indexmap.specs.IndexSet.{spare}
-use Rattle.mw_model.specs.declared.names.Name.{Name}
 use Rattle.mw_model.specs.Refusals.{is_pending, outcome_at, ticket_of}
 use Rattle.mw_model.specs.Names.{same_name}
 use Rattle.mw_model.specs.Values.{tickets}
