@@ -41,23 +41,24 @@ part_of {A} f t own p stands place a b x y n own-is stands-is full left right to
       other_size = run_size t.cells place t.width t.height x y n t-size (omega arith) (omega arith);
     }
 
-pub parts_shown : {A : Type 0} (f : Raster A) (p : Patch A) (x y d n m : ℕ) (row held : List A) → PartOf f p (x + d) y n row held → row ≡ held → m ≡ d + n → ShowsRun f p x y d → ShowsRun f p x y m
-parts_shown f p x y d n m row held part same m-is before k lt =
+pub parts_shown : {A : Type 0} (f : Raster A) (p : Patch A) (x y at d n m : ℕ) (row held : List A) → x + d ≡ at → m ≡ d + n → PartOf f p at y n row held → row ≡ held → ShowsRun f p x y d → ShowsRun f p x y m
+parts_shown f p x y at d n m row held at-is m-is part same before k lt =
     elim (cases_lt k d) [
       | inl early ↦ before k early
       | inr late ↦
           let i = k - d in
           let i-lt : i < n = omega arith in
-          let back : x + d + i ≡ x + k = omega arith in
+          let back : at + i ≡ x + k = omega arith in
           ap (λ (t : ℕ). cell_of p t y) (sym back) ∙ sym (part.own i i-lt) ∙ ap (λ (t : List _). slice_get t i) same ∙ part.other i i-lt ∙ ap (λ (t : ℕ). frame_value f t y) back
     ]
 
-pub parts_same : {A : Type 0} (f : Raster A) (p : Patch A) (x y d n m : ℕ) (row held : List A) → PartOf f p (x + d) y n row held → d + n ≤ m → ShowsRun f p x y m → row ≡ held
-parts_same f p x y d n m row held part fits shows =
-    same_elements row held (part.own_size ∙ sym part.other_size)
-    (λ k lt.
-        let size = part.own_size in
-        part.own k (omega arith) ∙ ap (λ (t : ℕ). cell_of p t y) (group x d k) ∙ shows (d + k) (omega arith) ∙ ap (λ (t : ℕ). frame_value f t y) (sym (group x d k)) ∙ sym (part.other k (omega arith)))
+pub parts_same : {A : Type 0} (f : Raster A) (p : Patch A) (x y at d n m : ℕ) (row held : List A) → x + d ≡ at → d + n ≤ m → PartOf f p at y n row held → ShowsRun f p x y m → row ≡ held
+parts_same f p x y at d n m row held at-is fits part shows =
+    same_elements row held (part.own_size ∙ sym part.other_size) (λ k lt. each k (let size = part.own_size in omega arith))
   where
-    group : (a b c : ℕ) → a + b + c ≡ a + (b + c)
-    group a b c = omega arith
+    again : (k : ℕ) → at + k ≡ x + (d + k)
+    again k = omega arith
+
+    each : (k : ℕ) → k < n → slice_get row k ≡ slice_get held k
+    each k lt =
+        part.own k lt ∙ ap (λ (t : ℕ). cell_of p t y) (again k) ∙ shows (d + k) (omega arith) ∙ ap (λ (t : ℕ). frame_value f t y) (sym (again k)) ∙ sym (part.other k lt)

@@ -1,7 +1,34 @@
 use Rattle.std.proofs.Common.{◌≡◌, ◌<◌, ap, arith, ◌∙◌}
+use Rattle.mw_model.specs.declared.places.Rect.{Rect}
+use Rattle.mw_model.specs.Rasters.{Raster}
 use Rattle.mw_pieces.specs.Patches.{cell_of, overlap_of, patch}
 use Rattle.mw_pieces.proofs.Patches.{above_more, row_same, rows_of, run_in, RowsOf}
 use Rattle.mw_pieces.proofs.piece.Piece.agrees.Goals as goal
+
+pub same_run-requires : goal.same_run-requires
+same_run-requires g c =
+    let p = c.args.self.now in
+    let own = c.plane-own.result.now in
+    let r = c.overlap-here.result in
+    let r-is : r ≡ overlap_of c.args.place p.place = c.overlap-here.ensures ∙ ap (overlap_of c.args.place) c.place.ensures in
+    let xs = ap (λ (q : Rect). q.x) r-is in
+    let ys = ap (λ (q : Rect). q.y) r-is in
+    let ws = ap (λ (q : Rect). q.width) r-is in
+    let hs = ap (λ (q : Rect). q.height) r-is in
+    let us = ap (λ (q : Rect). q.x) c.place-stands.ensures in
+    let vs = ap (λ (q : Rect). q.y) c.place-stands.ensures in
+    let wide = ap (λ (f : Raster _). f.width) c.plane-own.ensures.value in
+    let high = ap (λ (f : Raster _). f.height) c.plane-own.ensures.value in
+    let width = c.requires.width in
+    let height = c.requires.height in
+    let left = c.requires.inside.left in
+    let right = c.requires.inside.right in
+    let above = c.requires.inside.top in
+    let below = c.requires.inside.bottom in
+    let some = c.if-here-eq0.false in
+    let top = c.loop-y.auto.y in
+    let bottom = c.loop-y-test.true in
+    record { across = omega arith; down = omega arith; across_other = omega arith; down_other = omega arith }
 
 pub returns-then-not-same_run : goal.returns-then-not-same_run
 returns-then-not-same_run g c =
@@ -12,6 +39,7 @@ returns-then-not-same_run g c =
     let r = c.overlap-here.result in
     let y = c.loop-y.y in
     let r-is : r ≡ overlap_of c.args.place p.place = c.overlap-here.ensures ∙ ap (overlap_of c.args.place) c.place.ensures in
+    let some = c.if-here-eq0.false in
     let top = c.loop-y.auto.y in
     let bottom = c.loop-y-test.true in
     let rows : RowsOf r c.args.at p f y (run_in own.cells stands own.width r.x y r.width) (run_in f.cells c.args.at f.width r.x y r.width)
@@ -27,6 +55,7 @@ loop-y-preserved g c =
     let r = c.overlap-here.result in
     let y = c.loop-y.y in
     let r-is : r ≡ overlap_of c.args.place p.place = c.overlap-here.ensures ∙ ap (overlap_of c.args.place) c.place.ensures in
+    let some = c.if-here-eq0.false in
     let top = c.loop-y.auto.y in
     let bottom = c.loop-y-test.true in
     let rows : RowsOf r c.args.at p f y (run_in own.cells stands own.width r.x y r.width) (run_in f.cells c.args.at f.width r.x y r.width)

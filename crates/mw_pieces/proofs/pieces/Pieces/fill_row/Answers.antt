@@ -52,6 +52,8 @@ parts-preserved g c =
     let place-is : c.place-place.result ≡ j.place = c.place-place.ensures in
     let ws = ap (λ (q : Rect). q.width) place-is in
     let out-is = c.copy_run.ensures in
+    let count = c.min-count.ensures in
+    let test = c.parts-test.true in
     record {
       to = omega arith;
       width = ap (λ t. t.width) out-is ∙ c.parts.invariant.width;
