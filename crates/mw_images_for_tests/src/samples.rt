@@ -40,6 +40,22 @@ pub fn plane_of<P: Planar>(alloc: Global, image: &PlainImage) -> Result<Plane<P>
     Ok(plane)
 }
 
+/// The levels of a plane, by rows.
+pub fn levels_of<P: Planar>(alloc: Global, plane: &Plane<P>) -> Result<Vec<u16>, Fail> {
+    let mut levels = Vec::new(alloc);
+    for y in 0..plane.height() {
+        for x in 0..plane.width() {
+            levels.push(plane.at(x, y).value())?;
+        }
+    }
+    Ok(levels)
+}
+
+/// Whether the sample in that place has this level; false where there is no such place.
+pub(crate) fn has_level<P: Planar>(plane: &Plane<P>, x: u32, y: u32, level: Option<u16>) -> bool {
+    x < plane.width() && y < plane.height() && Some(plane.at(x, y).value()) == level
+}
+
 /// Whether these are the levels of the samples.
 pub fn are_levels<P: Pixel>(samples: &[P], levels: &[u16]) -> bool {
     samples.len() == levels.len()
@@ -47,4 +63,16 @@ pub fn are_levels<P: Pixel>(samples: &[P], levels: &[u16]) -> bool {
             .iter()
             .zip(levels)
             .all(|(s, level)| s.value() == *level)
+}
+
+/// Whether the plane has these levels, by rows.
+pub fn has_levels<P: Planar>(plane: &Plane<P>, levels: &[u16]) -> bool {
+    let (width, height) = (plane.width(), plane.height());
+    levels.len() == height as usize * width as usize
+        && (0..height).all(|y| {
+            (0..width).all(|x| {
+                let at = y as usize * width as usize + x as usize;
+                has_level(plane, x, y, levels.get(at).copied())
+            })
+        })
 }

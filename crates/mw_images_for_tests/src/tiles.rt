@@ -1,5 +1,6 @@
 //! The tiles of frames, with what an element sees from them.
 
+use crate::samples::has_level;
 use mw_grid::{Grid, side_ok};
 use mw_model::plain::PlainImage;
 use mw_model::{Reach, Rect};
@@ -61,10 +62,6 @@ pub fn parts_of<P: Planar>(
         parts.push(part_of(alloc, plane, grid, i, reach)?)?;
     }
     Ok(parts)
-}
-
-fn has_level<P: Planar>(made: &Plane<P>, x: u32, y: u32, level: Option<u16>) -> bool {
-    x < made.width() && y < made.height() && Some(made.at(x, y).value()) == level
 }
 
 /// Whether a row of the tile has the samples of the whole frame.
