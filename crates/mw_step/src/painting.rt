@@ -81,5 +81,9 @@ pub(crate) fn marked_set(
     // for their samples
     let _first = a.plane().words();
     let _second = set.plane().words();
-    if v == 1 { joined(alloc, a, set) } else { minus(alloc, a, set) }
+    if v == 1 {
+        joined(alloc, a, set)
+    } else {
+        minus(alloc, a, set)
+    }
 }

@@ -9,11 +9,7 @@ use mw_tile::Window;
 use std::alloc::Global;
 
 /// The places of a set with level `v`.
-pub(crate) fn level_of_set(
-    alloc: Global,
-    v: u16,
-    set: &Window<Bit>,
-) -> Result<Plane<Bit>, NoMemory>
+pub(crate) fn level_of_set(alloc: Global, v: u16, set: &Window<Bit>) -> Result<Plane<Bit>, NoMemory>
     ensures width { IfOk result (λ p. p.width ≡ set.now.place.width) }
     ensures height { IfOk result (λ p. p.height ≡ set.now.place.height) }
     ensures cells { IfOk result (λ p. p.cells ≡ map (λ s. if s == v then 1 else 0) set.now.cells) }
@@ -31,11 +27,7 @@ pub(crate) fn level_of_set(
 }
 
 /// The places of a set with level `k` or more.
-pub(crate) fn upper_of_set(
-    alloc: Global,
-    k: u32,
-    set: &Window<Bit>,
-) -> Result<Plane<Bit>, NoMemory>
+pub(crate) fn upper_of_set(alloc: Global, k: u32, set: &Window<Bit>) -> Result<Plane<Bit>, NoMemory>
     ensures width { IfOk result (λ p. p.width ≡ set.now.place.width) }
     ensures height { IfOk result (λ p. p.height ≡ set.now.place.height) }
     ensures cells { IfOk result (λ p. p.cells ≡ map (λ s. if nat_le k s then 1 else 0) set.now.cells) }
