@@ -57,16 +57,16 @@ words_length (suc n) (a ∷ b ∷ bs) e = ap suc (words_length n bs (omega (arit
 bit_within : (n : ℕ) → n % 2 ≤ 1
 bit_within n = omega arith
 
-bits_within : (b : ℕ) → Within 1 (bits_of b)
+pub bits_within : (b : ℕ) → Within 1 (bits_of b)
 unfolding bits_of
 bits_within b = (bit_within (b / 128), (bit_within (b / 64), (bit_within (b / 32), (bit_within (b / 16), (bit_within (b / 8), (bit_within (b / 4), (bit_within (b / 2), (bit_within b, tt))))))))
 
-row_within : (left : ℕ) (bytes : List ℕ) → Within 1 (row_bits left bytes)
+pub row_within : (left : ℕ) (bytes : List ℕ) → Within 1 (row_bits left bytes)
 unfolding row_bits
 row_within left [] = tt
 row_within left (b ∷ bs) = all-append (λ s. s ≤ 1) (take (min left 8) (bits_of b)) (row_bits (left - 8) bs) (all-take (λ s. s ≤ 1) (min left 8) (bits_of b) (bits_within b)) (row_within (left - 8) bs)
 
-bits_length : (b : ℕ) → length (bits_of b) ≡ 8
+pub bits_length : (b : ℕ) → length (bits_of b) ≡ 8
 unfolding bits_of
 bits_length b = refl
 

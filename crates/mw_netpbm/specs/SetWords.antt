@@ -1,0 +1,21 @@
+-- Sets as words of 64 pixels, and their bytes in a file.
+use Rattle.std.specs.Prelude.{ℕ, zero, suc, ◌+◌, ◌*◌, ◌/◌, ◌%◌, List, [], ◌∷◌, ◌++◌, take, drop}
+use Rattle.std.specs.Simd.Lanes.{number_l, digits_l}
+
+-- a byte with its bits turned round
+abbrev pub turn : ℕ → ℕ
+turn b = b / 128 % 2 + 2 * (b / 64 % 2) + 4 * (b / 32 % 2) + 8 * (b / 16 % 2) + 16 * (b / 8 % 2) + 32 * (b / 4 % 2) + 64 * (b / 2 % 2) + 128 * (b % 2)
+
+-- so many words, 64 pixels to each, the first one lowest
+unfoldable pub in_words : ℕ → List ℕ → List ℕ
+in_words zero bits = []
+in_words (suc n) bits = number_l 2 (take 64 bits) ∷ in_words n (drop 64 bits)
+
+-- each row in words of its own
+unfoldable pub in_rows : ℕ → ℕ → List ℕ → List ℕ
+in_rows width zero samples = []
+in_rows width (suc height) samples = in_words ((width + 63) / 64) (take width samples) ++ in_rows width height (drop width samples)
+
+-- the pixels of a word, the lowest first
+unfoldable pub pixels_of : ℕ → List ℕ
+pixels_of word = digits_l 2 64 word
