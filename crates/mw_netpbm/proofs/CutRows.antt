@@ -1,5 +1,5 @@
 -- A row's bytes with their spare bits cleared.
-use Rattle.std.proofs.Common.{◌≡◌, ℕ, zero, suc, ◌+◌, ◌-◌, ◌*◌, ◌/◌, ◌%◌, ◌^◌, ◌<◌, ◌≤◌, Bool, true, false, ◌&&◌, eqb, List, [], ◌∷◌, ◌++◌, length, take, replicate, set, get_or, min, refl, sym, ap, ◌∙◌, arith, append_assoc, inl, inr}
+use Rattle.std.proofs.Common.{◌≡◌, ℕ, zero, suc, ◌+◌, ◌-◌, ◌*◌, ◌/◌, ◌%◌, ◌^◌, ◌<◌, ◌≤◌, Bool, true, false, ◌&&◌, eqb, List, [], ◌∷◌, ◌++◌, length, take, replicate, set, get_or, min, refl, sym, ap, ◌∙◌, arith, append_assoc, inl, inr, w8, Fits}
 use Rattle.std.specs.List.{AllByRecursion, flat_map}
 use Rattle.std.proofs.lemmas.List.{append-nil, replicate-append-replicate}
 use Rattle.mw_facts.proofs.Numbers.{below_or_last}
@@ -59,6 +59,10 @@ cut_byte (suc (suc (suc (suc (suc (suc (suc zero))))))) b few lt = cut_below 7 2
 cut_byte (suc (suc (suc (suc (suc (suc (suc (suc spare)))))))) b few lt = absurd (omega arith)
 
 -- ---- a row
+
+pub bytes_small : (row : List ℕ) → ((i : ℕ) → Fits w8 (get_or row i 0)) → AllByRecursion (λ b. b < 256) row
+bytes_small [] fits = tt
+bytes_small (b ∷ bs) fits = ((fits 0).fits, bytes_small bs (λ i. fits (suc i)))
 
 blank : (k : ℕ) → flat_map bits_of (replicate k 0) ≡ replicate (8 * k) 0
 unfolding bits_of

@@ -72,14 +72,23 @@ pub(crate) fn pixels_as_bytes(words: &[u64]) -> [u8; 64]
     turned(u64x8::from_slice(words).to_le_bytes()).to_array()
 }
 
+/// The bytes with others behind them, all alike.
+pub(crate) fn padded(bytes: &[u8], filler: u8) -> [u8; 64]
+    requires { length bytes.now ≤ 64 }
+    ensures { result ≡ bytes.now ++ replicate (64 - length bytes.now) filler }
+{
+    let mut block = [filler; 64];
+    block[..bytes.len()].copy_from_slice(bytes);
+    block
+}
+
 /// The bytes of so many pixels with blank pixels behind them; the spare bits of the last byte mean nothing.
 pub(crate) fn block_of(count: usize, row: &[u8]) -> [u8; 64]
     requires some { (0 < count) × (count ≤ 512) }
     requires long { length row.now ≡ (count + 7) / 8 }
     ensures { flat_map bits_of result ≡ row_bits count row.now ++ replicate (512 - count) 0 }
 {
-    let mut block = [0u8; 64];
-    block[..row.len()].copy_from_slice(row);
+    let mut block = padded(row, 0);
     let last = row.len() - 1;
     let spare = 8 * row.len() - count;
     block[last] = (block[last] >> spare) << spare;
