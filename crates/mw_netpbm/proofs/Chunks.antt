@@ -2,7 +2,7 @@
 use Rattle.std.proofs.Common.{◌≡◌, ℕ, zero, suc, ◌+◌, ◌-◌, ◌*◌, ◌≤◌, List, [], ◌∷◌, ◌++◌, length, take, drop, min, replicate, refl, sym, ap, ◌∙◌, arith, append_assoc, length-append, ◌/◌}
 use Rattle.std.specs.List.{flat_map}
 use Rattle.std.proofs.lemmas.Grind.{flat_map-append}
-use Rattle.std.proofs.lemmas.List.{take-append-drop, drop-drop, drop-take, get_or-take, length-take-le, take_at, drop_at}
+use Rattle.std.proofs.lemmas.List.{append-nil, take-append-drop, drop-drop, drop-take, get_or-take, length-take-le, take_at, drop_at}
 use Rattle.mw_model.specs.NetpbmGrammar.{bits_of}
 use Rattle.mw_model.specs.NetpbmWriting.{byte_of, packed, two_bytes}
 use Rattle.mw_netpbm.specs.Rasters.{row_bits, words_of}
@@ -62,6 +62,12 @@ set_block out new block bytes front after total left le room front-is after-is i
     ∙ ap (λ (ws : List ℕ). ws ++ in_words m rest) (sym is)
     ∙ ap (λ (bs : List ℕ). block ++ in_words m (row_bits (left - 512) bs)) (sym after-is) in
     one_block out new block (in_words m (row_bits (left - 512) after)) (in_words ((left + 63) / 64) (row_bits left bytes)) total parts so_far e
+
+pub no_more : (out rest total : List ℕ) (left : ℕ) → left ≤ 0 → out ++ in_words ((left + 63) / 64) (row_bits left rest) ≡ total → out ≡ total
+unfolding in_words
+no_more out rest total left le so_far =
+    let none : 0 ≡ left = omega arith in
+    sym (append-nil out) ∙ ap (λ (n : ℕ). out ++ in_words ((n + 63) / 64) (row_bits n rest)) none ∙ so_far
 
 -- the words of a row's last pixels, which stand in a block with blank pixels behind them
 pub rest_words : (left : ℕ) (rest block words : List ℕ) → left ≤ 512 → flat_map bits_of block ≡ row_bits left rest ++ replicate (512 - left) 0 → words ≡ in_words 8 (flat_map bits_of block)

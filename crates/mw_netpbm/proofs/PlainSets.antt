@@ -1,7 +1,9 @@
 -- Plain pixels that are read into words.
-use Rattle.std.proofs.Common.{◌≡◌, ℕ, zero, suc, ◌+◌, ◌-◌, ◌*◌, ◌/◌, ◌%◌, ◌^◌, ◌<◌, ◌≤◌, min, Some, None, List, [], ◌∷◌, ◌++◌, length, take, drop, Result, Ok, Err, refl, sym, ap, ◌∙◌, arith, append_assoc, inl, inr}
+use Rattle.std.proofs.Common.{◌≡◌, ℕ, zero, suc, ◌+◌, ◌-◌, ◌*◌, ◌/◌, ◌%◌, ◌^◌, ◌<◌, ◌≤◌, min, Some, None, List, [], ◌∷◌, ◌++◌, length, take, drop, Result, Ok, Err, refl, sym, ap, subst, ◌∙◌, arith, append_assoc, inl, inr}
 use Rattle.std.specs.Simd.Lanes.{number_l}
+use Rattle.std.proofs.Math.Nat.{pow-succ'}
 use Rattle.std.proofs.lemmas.Bool.{cases_lt}
+use Rattle.std.proofs.lemmas.Nat.{one_shl, pow_below}
 use Rattle.std.proofs.lemmas.List.{append-nil, nil_from_length, take_all, take_at, drop_at}
 use Rattle.std.proofs.lemmas.List.Elements.{recursion_from_All}
 use Rattle.mw_model.specs.Rasters.{raster}
@@ -10,7 +12,7 @@ use Rattle.mw_netpbm.specs.declared.fault.ReadFault.{ReadFault}
 use Rattle.mw_netpbm.specs.declared.fault.ReadFault.TheVariants.{NoMemory}
 use Rattle.mw_netpbm.specs.Reading.{◌>>=◌, Fails, fault_of}
 use Rattle.mw_netpbm.specs.Plain.{plain_at, tail_at, pixel_at, front_at}
-use Rattle.mw_netpbm.specs.SetWords.{in_words, in_rows}
+use Rattle.mw_netpbm.specs.SetWords.{in_words, in_rows, word_at, row_at, words_from}
 use Rattle.mw_netpbm.specs.Whole.{raster_from}
 use Rattle.mw_netpbm.proofs.Sides.{bind_ok, ok_is}
 use Rattle.mw_netpbm.proofs.PlainLoop.{with_front, all_filled, tail_filled}
@@ -18,69 +20,59 @@ use Rattle.mw_netpbm.proofs.InWords.{words_append, rows_are_packed, rows_samples
 use Rattle.mw_netpbm.proofs.Numbered.{doubled}
 use Rattle.mw_netpbm.proofs.Whole.{pixels_fit}
 
--- a pixel and those behind it
-abbrev behind : ℕ → List ℕ × List ℕ → List ℕ × List ℕ
-behind x f = (x ∷ f.0, f.1)
-
 -- ---- fronts
-
--- what is made of so many pixels at the front, and what is then read
-abbrev pub made_of : {A : Type 0} → (List ℕ → List ℕ → Result A ReadFault) → Result (List ℕ × List ℕ) ReadFault → Result A ReadFault
-made_of f front = front >>= λ x. f x.0 x.1
 
 same_pixel : (m n : ℕ) (bytes : List ℕ) → pixel_at m bytes ≡ pixel_at n bytes
 unfolding pixel_at
 same_pixel m n bytes = refl
 
-first_made : {A : Type 0} (f : List ℕ → List ℕ → Result A ReadFault) (x : ℕ) (front : Result (List ℕ × List ℕ) ReadFault) → made_of f (front >>= λ o. Ok (x ∷ o.0, o.1)) ≡ made_of (λ xs rest. f (x ∷ xs) rest) front
-first_made f x (Ok o) = refl
-first_made f x (Err d) = refl
+-- a pixel before those at the front
+abbrev one_before : ℕ → Result (List ℕ × List ℕ) ReadFault → Result (List ℕ × List ℕ) ReadFault
+one_before x front = front >>= λ o. Ok (x ∷ o.0, o.1)
+
+-- a pixel, and so many behind it
+abbrev after_pixel : ℕ → Result (ℕ × List ℕ) ReadFault → Result (List ℕ × List ℕ) ReadFault
+after_pixel n pixel = pixel >>= λ first. one_before first.0 (front_at n first.1)
 
 -- the first of so many pixels at the front
-pub front_more : {A : Type 0} (f : List ℕ → List ℕ → Result A ReadFault) (n : ℕ) (bytes after : List ℕ) (x : ℕ) → pixel_at 0 bytes ≡ Ok (x, after) → made_of f (front_at (suc n) bytes) ≡ made_of (λ xs rest. f (x ∷ xs) rest) (front_at n after)
+front_more : (n : ℕ) (bytes after : List ℕ) (x : ℕ) → pixel_at 0 bytes ≡ Ok (x, after) → front_at (suc n) bytes ≡ one_before x (front_at n after)
 unfolding front_at
-front_more f n bytes after x is =
-    let here : pixel_at n bytes ≡ Ok (x, after) = same_pixel n 0 bytes ∙ is in
-    ap (λ (r : Result (ℕ × List ℕ) ReadFault). made_of f (r >>= λ first. front_at n first.1 >>= λ others. Ok (first.0 ∷ others.0, others.1))) here
-    ∙ first_made f x (front_at n after)
+front_more n bytes after x is = ap (after_pixel n) (same_pixel n 0 bytes ∙ is)
 
-pub front_fault : (n : ℕ) (bytes : List ℕ) (d : ReadFault) → pixel_at 0 bytes ≡ Err d → front_at (suc n) bytes ≡ Err d
+front_fault : (n : ℕ) (bytes : List ℕ) (d : ReadFault) → pixel_at 0 bytes ≡ Err d → front_at (suc n) bytes ≡ Err d
 unfolding front_at
-front_fault n bytes d is =
-    let here : pixel_at n bytes ≡ Err d = same_pixel n 0 bytes ∙ is in
-    ap (λ (r : Result (ℕ × List ℕ) ReadFault). r >>= λ first. front_at n first.1 >>= λ others. Ok (first.0 ∷ others.0, others.1)) here
+front_fault n bytes d is = ap (after_pixel n) (same_pixel n 0 bytes ∙ is)
 
--- pixels behind pixels
+-- pixels before those at the front
 abbrev joined : List ℕ → Result (List ℕ × List ℕ) ReadFault → Result (List ℕ × List ℕ) ReadFault
 joined xs front = front >>= λ o. Ok (xs ++ o.0, o.1)
+
+-- pixels at the front, and so many behind them
+abbrev then_front : ℕ → Result (List ℕ × List ℕ) ReadFault → Result (List ℕ × List ℕ) ReadFault
+then_front m front = front >>= λ f. joined f.0 (front_at m f.1)
 
 joined_nil : (front : Result (List ℕ × List ℕ) ReadFault) → front ≡ joined [] front
 joined_nil (Ok o) = refl
 joined_nil (Err d) = refl
 
-joined_more : (x : ℕ) (xs : List ℕ) (front : Result (List ℕ × List ℕ) ReadFault) → (joined xs front >>= λ o. Ok (x ∷ o.0, o.1)) ≡ joined (x ∷ xs) front
+joined_more : (x : ℕ) (xs : List ℕ) (front : Result (List ℕ × List ℕ) ReadFault) → one_before x (joined xs front) ≡ joined (x ∷ xs) front
 joined_more x xs (Ok o) = refl
 joined_more x xs (Err d) = refl
 
-first_joined : (m x : ℕ) (front : Result (List ℕ × List ℕ) ReadFault)
-    → ((front >>= λ f. joined f.0 (front_at m f.1)) >>= λ o. Ok (x ∷ o.0, o.1)) ≡ ((front >>= λ o. Ok (x ∷ o.0, o.1)) >>= λ f. joined f.0 (front_at m f.1))
+first_joined : (m x : ℕ) (front : Result (List ℕ × List ℕ) ReadFault) → one_before x (then_front m front) ≡ then_front m (one_before x front)
 first_joined m x (Ok f) = joined_more x f.0 (front_at m f.1)
 first_joined m x (Err d) = refl
 
-then_joined : (n m : ℕ) (pixel : Result (ℕ × List ℕ) ReadFault) → ((bytes : List ℕ) → front_at (n + m) bytes ≡ (front_at n bytes >>= λ f. joined f.0 (front_at m f.1)))
-    → (pixel >>= λ first. front_at (n + m) first.1 >>= λ others. Ok (first.0 ∷ others.0, others.1))
-    ≡ ((pixel >>= λ first. front_at n first.1 >>= λ others. Ok (first.0 ∷ others.0, others.1)) >>= λ f. joined f.0 (front_at m f.1))
-then_joined n m (Ok p) parts = ap (λ (r : Result (List ℕ × List ℕ) ReadFault). r >>= λ o. Ok (p.0 ∷ o.0, o.1)) (parts p.1) ∙ first_joined m p.0 (front_at n p.1)
+then_joined : (n m : ℕ) (pixel : Result (ℕ × List ℕ) ReadFault) → ((bytes : List ℕ) → front_at (n + m) bytes ≡ then_front m (front_at n bytes)) → after_pixel (n + m) pixel ≡ then_front m (after_pixel n pixel)
+then_joined n m (Ok p) parts = ap (one_before p.0) (parts p.1) ∙ first_joined m p.0 (front_at n p.1)
 then_joined n m (Err d) parts = refl
 
-front_parts : (n m : ℕ) (bytes : List ℕ) → front_at (n + m) bytes ≡ (front_at n bytes >>= λ f. joined f.0 (front_at m f.1))
+front_parts : (n m : ℕ) (bytes : List ℕ) → front_at (n + m) bytes ≡ then_front m (front_at n bytes)
 unfolding front_at
 front_parts zero m bytes = let count : 0 + m ≡ m = omega arith in ap (λ (k : ℕ). front_at k bytes) count ∙ joined_nil (front_at m bytes)
 front_parts (suc n) m bytes =
     let count : suc n + m ≡ suc (n + m) = omega arith in
-    ap (λ (k : ℕ). front_at k bytes) count
-    ∙ ap (λ (r : Result (ℕ × List ℕ) ReadFault). r >>= λ first. front_at (n + m) first.1 >>= λ others. Ok (first.0 ∷ others.0, others.1)) (same_pixel (n + m) n bytes)
-    ∙ then_joined n m (pixel_at n bytes) (front_parts n m)
+    ap (λ (k : ℕ). front_at k bytes) count ∙ ap (after_pixel (n + m)) (same_pixel (n + m) n bytes) ∙ then_joined n m (pixel_at n bytes) (front_parts n m)
 
 pub front_length : (n : ℕ) (bytes : List ℕ) (f : List ℕ × List ℕ) → front_at n bytes ≡ Ok f → length f.0 ≡ n
 unfolding front_at
@@ -92,46 +84,100 @@ front_length (suc n) bytes f is =
 
 -- ---- a word
 
+-- pixels as a word
+abbrev counted : Result (List ℕ × List ℕ) ReadFault → Result (ℕ × List ℕ) ReadFault
+counted front = front >>= λ f. Ok (number_l 2 f.0, f.1)
+
+-- a pixel moved to its place
+pub shifted : (s i : ℕ) → s ≤ 1 → i < 64 → s * 2 ^ i % 2 ^ 64 ≡ s * 2 ^ i
+shifted zero i le lt = let none : 0 * 2 ^ i ≡ 0 = omega arith in ap (λ (n : ℕ). n % 2 ^ 64) none ∙ sym none
+shifted (suc zero) i le lt = one_shl i 64 lt ∙ omega arith
+shifted (suc (suc s)) i le lt = absurd (omega arith)
+
+once : (s i : ℕ) → s ≤ 1 → s * 2 ^ i ≤ 2 ^ i
+once zero i le = omega arith
+once (suc zero) i le = omega arith
+once (suc (suc s)) i le = absurd (omega arith)
+
+pub grown : (word s i : ℕ) → word < 2 ^ i → s ≤ 1 → i < 64 → word + s * 2 ^ i % 2 ^ 64 < 2 ^ (i + 1)
+grown word s i less le lt =
+    let next : i + 1 ≡ suc i = omega arith in
+    let twice : 2 ^ (i + 1) ≡ 2 * 2 ^ i = ap (λ (k : ℕ). 2 ^ k) next ∙ pow-succ' 2 i in
+    omega (arith, less, twice, shifted s i le lt, once s i le)
+
+pub fits_word : (n i : ℕ) → n < 2 ^ (i + 1) → i < 64 → n < 2 ^ 64
+fits_word n i less lt =
+    elim (cases_lt (i + 1) 64) [
+      | inl below ↦ omega (arith, less, pow_below (i + 1) 64 below)
+      | inr last ↦ let whole : i + 1 ≡ 64 = omega arith in subst (λ (k : ℕ). n < 2 ^ k) whole less
+    ]
+
+-- a word so far, and the pixels from a bit of it on
+abbrev pub numbered : ℕ → ℕ → Result (List ℕ × List ℕ) ReadFault → Result (ℕ × List ℕ) ReadFault
+numbered word i front = front >>= λ f. Ok (word + 2 ^ i * number_l 2 f.0, f.1)
+
+sums : (i word new s n : ℕ) → new ≡ word + s * 2 ^ i → word + 2 ^ i * (s + 2 * n) ≡ new + 2 ^ (i + 1) * n
+sums i word new s n new-is =
+    let next : i + 1 ≡ suc i = omega arith in
+    let twice : 2 ^ (i + 1) * n ≡ 2 * (2 ^ i * n) = ap (λ (k : ℕ). 2 ^ k * n) next ∙ doubled i n in
+    omega (arith, twice, new-is)
+
+same_sum : (i word new s : ℕ) → new ≡ word + s * 2 ^ i → (front : Result (List ℕ × List ℕ) ReadFault) → numbered word i (one_before s front) ≡ numbered new (i + 1) front
+same_sum i word new s new-is (Ok f) =
+    let made : ℕ → Result (ℕ × List ℕ) ReadFault = λ n. Ok (n, f.1) in
+    ap made (sums i word new s (number_l 2 f.0) new-is)
+same_sum i word new s new-is (Err d) = refl
+
 pub one_pixel_more : (count i word new s : ℕ) (bytes after : List ℕ) (total : Result (ℕ × List ℕ) ReadFault) → i < count → pixel_at 0 bytes ≡ Ok (s, after) → new ≡ word + s * 2 ^ i
-    → made_of (λ xs rest. Ok (word + 2 ^ i * number_l 2 xs, rest)) (front_at (count - i) bytes) ≡ total
-    → made_of (λ xs rest. Ok (new + 2 ^ (i + 1) * number_l 2 xs, rest)) (front_at (count - (i + 1)) after) ≡ total
+    → numbered word i (front_at (count - i) bytes) ≡ total → numbered new (i + 1) (front_at (count - (i + 1)) after) ≡ total
 one_pixel_more count i word new s bytes after total lt is new-is so_far =
     let left = count - (i + 1) in
     let k : suc (count - (i + 1)) ≡ count - i = omega arith in
     sym (same_sum i word new s new-is (front_at left after))
-    ∙ sym (front_more (λ xs rest. Ok (word + 2 ^ i * number_l 2 xs, rest)) left bytes after s is)
-    ∙ ap (λ (n : ℕ). made_of (λ xs rest. Ok (word + 2 ^ i * number_l 2 xs, rest)) (front_at n bytes)) k
+    ∙ sym (ap (numbered word i) (front_more left bytes after s is))
+    ∙ ap (λ (n : ℕ). numbered word i (front_at n bytes)) k
     ∙ so_far
-  where
-    sums : (i word new s n : ℕ) → new ≡ word + s * 2 ^ i → word + 2 ^ i * (s + 2 * n) ≡ new + 2 ^ (i + 1) * n
-    sums i word new s n new-is =
-        let next : i + 1 ≡ suc i = omega arith in
-        let twice : 2 ^ (i + 1) * n ≡ 2 * (2 ^ i * n) = ap (λ (k : ℕ). 2 ^ k * n) next ∙ doubled i n in
-        omega (arith, twice, new-is)
 
-    same_sum : (i word new s : ℕ) → new ≡ word + s * 2 ^ i → (front : Result (List ℕ × List ℕ) ReadFault)
-        → made_of (λ xs rest. Ok (word + 2 ^ i * number_l 2 (s ∷ xs), rest)) front ≡ made_of (λ xs rest. Ok (new + 2 ^ (i + 1) * number_l 2 xs, rest)) front
-    same_sum i word new s new-is (Ok f) = ap (λ (n : ℕ). Ok (n, f.1)) (sums i word new s (number_l 2 f.0) new-is)
-    same_sum i word new s new-is (Err d) = refl
-
-pub fault_pixel : (count i word : ℕ) (bytes : List ℕ) (d : ReadFault) (total : Result (ℕ × List ℕ) ReadFault) → i < count → pixel_at 0 bytes ≡ Err d
-    → made_of (λ xs rest. Ok (word + 2 ^ i * number_l 2 xs, rest)) (front_at (count - i) bytes) ≡ total → Err d ≡ total
+pub fault_pixel : (count i word : ℕ) (bytes : List ℕ) (d : ReadFault) (total : Result (ℕ × List ℕ) ReadFault) → i < count → pixel_at 0 bytes ≡ Err d → numbered word i (front_at (count - i) bytes) ≡ total → Err d ≡ total
 fault_pixel count i word bytes d total lt is so_far =
     let k : count - i ≡ suc (count - (i + 1)) = omega arith in
-    sym (ap (made_of (λ xs rest. Ok (word + 2 ^ i * number_l 2 xs, rest))) (ap (λ (n : ℕ). front_at n bytes) k ∙ front_fault (count - (i + 1)) bytes d is)) ∙ so_far
+    sym (ap (numbered word i) (ap (λ (n : ℕ). front_at n bytes) k ∙ front_fault (count - (i + 1)) bytes d is)) ∙ so_far
 
-pub all_pixels : (count i word : ℕ) (bytes : List ℕ) (total : Result (ℕ × List ℕ) ReadFault) → count ≤ i → made_of (λ xs rest. Ok (word + 2 ^ i * number_l 2 xs, rest)) (front_at (count - i) bytes) ≡ total → Ok (word, bytes) ≡ total
+pub all_pixels : (count i word : ℕ) (bytes : List ℕ) (total : Result (ℕ × List ℕ) ReadFault) → count ≤ i → numbered word i (front_at (count - i) bytes) ≡ total → Ok (word, bytes) ≡ total
 unfolding front_at
 all_pixels count i word bytes total le so_far =
     let none : 0 ≡ count - i = omega arith in
     let alone : word ≡ word + 2 ^ i * 0 = omega arith in
-    ap (λ (n : ℕ). Ok (n, bytes)) alone ∙ ap (λ (n : ℕ). made_of (λ xs rest. Ok (word + 2 ^ i * number_l 2 xs, rest)) (front_at n bytes)) none ∙ so_far
+    let made : ℕ → Result (ℕ × List ℕ) ReadFault = λ n. Ok (n, bytes) in
+    ap made alone ∙ ap (λ (n : ℕ). numbered word i (front_at n bytes)) none ∙ so_far
+
+one_pixel : (n : ℕ) → n ≡ 0 + 2 ^ 0 * n
+one_pixel n = omega arith
+
+none_yet : (front : Result (List ℕ × List ℕ) ReadFault) → numbered 0 0 front ≡ counted front
+none_yet (Ok f) = let made : ℕ → Result (ℕ × List ℕ) ReadFault = λ n. Ok (n, f.1) in ap made (sym (one_pixel (number_l 2 f.0)))
+none_yet (Err d) = refl
+
+pub no_pixels : (count : ℕ) (bytes : List ℕ) → numbered 0 0 (front_at (count - 0) bytes) ≡ word_at count bytes
+no_pixels count bytes = let all : count - 0 ≡ count = omega arith in ap (λ (n : ℕ). numbered 0 0 (front_at n bytes)) all ∙ none_yet (front_at count bytes)
 
 -- ---- a row
 
+-- the words so far, and those of pixels
+abbrev worded : List ℕ → ℕ → Result (List ℕ × List ℕ) ReadFault → Result (List ℕ × List ℕ) ReadFault
+worded out k front = front >>= λ f. Ok (out ++ in_words k f.0, f.1)
+
 -- the words so far, and those of the pixels that are still to come
 abbrev pub words_made : List ℕ → ℕ → List ℕ → Result (List ℕ × List ℕ) ReadFault
-words_made out left bytes = made_of (λ xs rest. Ok (out ++ in_words ((left + 63) / 64) xs, rest)) (front_at left bytes)
+words_made out left bytes = worded out ((left + 63) / 64) (front_at left bytes)
+
+single : (xs : List ℕ) → length xs ≤ 64 → in_words 1 xs ≡ number_l 2 xs ∷ in_words 0 []
+unfolding in_words
+single xs le = ap (λ (zs : List ℕ). number_l 2 zs ∷ []) (take_all 64 xs le)
+
+behind_one : (n : ℕ) (words : List ℕ) → (n ∷ in_words 0 []) ++ words ≡ n ∷ words
+unfolding in_words
+behind_one n words = refl
 
 word_first : (k left count : ℕ) (xs ys : List ℕ) → count ≡ min left 64 → 0 < left → length xs ≡ count → length ys ≡ left - count → k ≡ (left + 63) / 64 → in_words k (xs ++ ys) ≡ number_l 2 xs ∷ in_words ((left - count + 63) / 64) ys
 word_first k left count xs ys count-is some len others k-is =
@@ -151,15 +197,12 @@ word_first k left count xs ys count-is some len others k-is =
           ap (λ (n : ℕ). in_words n (xs ++ ys)) more
           ∙ words_append 1 ((left - count + 63) / 64) xs ys (omega arith)
           ∙ ap (λ (ws : List ℕ). ws ++ in_words ((left - count + 63) / 64) ys) (single xs (omega arith))
+          ∙ behind_one (number_l 2 xs) (in_words ((left - count + 63) / 64) ys)
     ]
-  where
-    single : (xs : List ℕ) → length xs ≤ 64 → in_words 1 xs ≡ number_l 2 xs ∷ in_words 0 []
-    unfolding in_words
-    single xs le = ap (λ (zs : List ℕ). number_l 2 zs ∷ []) (take_all 64 xs le)
 
 joined_words : (k left count word : ℕ) (out new xs : List ℕ) (front : Result (List ℕ × List ℕ) ReadFault) → count ≡ min left 64 → 0 < left → length xs ≡ count → k ≡ (left + 63) / 64 → number_l 2 xs ≡ word → new ≡ out ++ word ∷ []
     → ((g : List ℕ × List ℕ) → front ≡ Ok g → length g.0 ≡ left - count)
-    → made_of (λ zs rest. Ok (out ++ in_words k zs, rest)) (joined xs front) ≡ made_of (λ ys rest. Ok (new ++ in_words ((left - count + 63) / 64) ys, rest)) front
+    → worded out k (joined xs front) ≡ worded new ((left - count + 63) / 64) front
 joined_words k left count word out new xs (Ok g) count-is some len k-is word-is new-is others =
     let last = in_words ((left - count + 63) / 64) g.0 in
     let whole : out ++ in_words k (xs ++ g.0) ≡ new ++ last =
@@ -167,13 +210,15 @@ joined_words k left count word out new xs (Ok g) count-is some len k-is word-is 
     ∙ ap (λ (n : ℕ). out ++ n ∷ last) word-is
     ∙ sym (append_assoc out (word ∷ []) last)
     ∙ ap (λ (ws : List ℕ). ws ++ last) (sym new-is) in
-    ap (λ (ws : List ℕ). Ok (ws, g.1)) whole
+    let made : List ℕ → Result (List ℕ × List ℕ) ReadFault = λ ws. Ok (ws, g.1) in
+    ap made whole
 joined_words k left count word out new xs (Err d) count-is some len k-is word-is new-is others = refl
 
-pub one_word_more : (left count word : ℕ) (out new bytes after : List ℕ) (total : Result (List ℕ × List ℕ) ReadFault) → 0 < left → count ≡ min left 64 → Ok (word, after) ≡ made_of (λ xs rest. Ok (number_l 2 xs, rest)) (front_at count bytes) → new ≡ out ++ word ∷ []
+pub one_word_more : (left count word : ℕ) (out new bytes after : List ℕ) (total : Result (List ℕ × List ℕ) ReadFault) → 0 < left → count ≡ min left 64 → Ok (word, after) ≡ word_at count bytes → new ≡ out ++ word ∷ []
     → words_made out left bytes ≡ total → words_made new (left - count) after ≡ total
 one_word_more left count word out new bytes after total some count-is is new-is so_far =
-    let a = bind_ok (front_at count bytes) (λ x. Ok (number_l 2 x.0, x.1)) (word, after) (sym is) in
+    let made : List ℕ × List ℕ → Result (ℕ × List ℕ) ReadFault = λ x. Ok (number_l 2 x.0, x.1) in
+    let a = bind_ok (front_at count bytes) made (word, after) (sym is) in
     let same = ok_is (number_l 2 a.0.0, a.0.1) (word, after) a.2 in
     let word-is : number_l 2 a.0.0 ≡ word = ap (λ (p : ℕ × List ℕ). p.0) same in
     let after-is : a.0.1 ≡ after = ap (λ (p : ℕ × List ℕ). p.1) same in
@@ -183,31 +228,36 @@ one_word_more left count word out new bytes after total some count-is is new-is 
     let parts : front_at left bytes ≡ joined a.0.0 others =
     ap (λ (n : ℕ). front_at n bytes) count-adds
     ∙ front_parts count (left - count) bytes
-    ∙ ap (λ (r : Result (List ℕ × List ℕ) ReadFault). r >>= λ f. joined f.0 (front_at (left - count) f.1)) a.1 in
+    ∙ ap (then_front (left - count)) a.1 in
     ap (words_made new (left - count)) (sym after-is)
     ∙ sym (joined_words k left count word out new a.0.0 others count-is some (front_length count bytes a.0 a.1) refl word-is new-is (λ g g-is. front_length (left - count) a.0.1 g g-is))
-    ∙ sym (ap (made_of (λ xs rest. Ok (out ++ in_words k xs, rest))) parts)
+    ∙ sym (ap (worded out k) parts)
     ∙ so_far
 
-front_err : {A : Type 0} (f : List ℕ → List ℕ → A) (front : Result (List ℕ × List ℕ) ReadFault) (d : ReadFault) → Err d ≡ made_of (λ xs rest. Ok (f xs rest)) front → front ≡ Err d
-front_err f (Ok x) d is = absurd cc
-front_err f (Err e) d is = let same : e ≡ d = cc in ap (λ (x : ReadFault). Err x) same
+counted_err : (front : Result (List ℕ × List ℕ) ReadFault) (d : ReadFault) → Err d ≡ counted front → front ≡ Err d
+counted_err (Ok f) d is = absurd cc
+counted_err (Err e) d is = let same : e ≡ d = cc in ap (λ (x : ReadFault). Err x) same
 
-pub fault_word : (left count : ℕ) (out bytes : List ℕ) (d : ReadFault) (total : Result (List ℕ × List ℕ) ReadFault) → 0 < left → count ≡ min left 64 → Err d ≡ made_of (λ xs rest. Ok (number_l 2 xs, rest)) (front_at count bytes) → words_made out left bytes ≡ total → Err d ≡ total
+worded_err : (out : List ℕ) (k : ℕ) (front : Result (List ℕ × List ℕ) ReadFault) (d : ReadFault) → Err d ≡ worded out k front → front ≡ Err d
+worded_err out k (Ok f) d is = absurd cc
+worded_err out k (Err e) d is = let same : e ≡ d = cc in ap (λ (x : ReadFault). Err x) same
+
+pub fault_word : (left count : ℕ) (out bytes : List ℕ) (d : ReadFault) (total : Result (List ℕ × List ℕ) ReadFault) → 0 < left → count ≡ min left 64 → Err d ≡ word_at count bytes → words_made out left bytes ≡ total → Err d ≡ total
 fault_word left count out bytes d total some count-is is so_far =
     let k = (left + 63) / 64 in
     let count-adds : left ≡ count + (left - count) = omega arith in
     let parts : front_at left bytes ≡ Err d =
     ap (λ (n : ℕ). front_at n bytes) count-adds
     ∙ front_parts count (left - count) bytes
-    ∙ ap (λ (r : Result (List ℕ × List ℕ) ReadFault). r >>= λ f. joined f.0 (front_at (left - count) f.1)) (front_err (λ xs rest. (number_l 2 xs, rest)) (front_at count bytes) d is) in
-    sym (ap (made_of (λ xs rest. Ok (out ++ in_words k xs, rest))) parts) ∙ so_far
+    ∙ ap (then_front (left - count)) (counted_err (front_at count bytes) d is) in
+    sym (ap (worded out k) parts) ∙ so_far
 
 pub all_words : (left : ℕ) (out bytes : List ℕ) (total : Result (List ℕ × List ℕ) ReadFault) → left ≤ 0 → words_made out left bytes ≡ total → Ok (out, bytes) ≡ total
 unfolding front_at in_words
 all_words left out bytes total le so_far =
     let none : 0 ≡ left = omega arith in
-    ap (λ (ws : List ℕ). Ok (ws, bytes)) (sym (append-nil out)) ∙ ap (λ (n : ℕ). words_made out n bytes) none ∙ so_far
+    let made : List ℕ → Result (List ℕ × List ℕ) ReadFault = λ ws. Ok (ws, bytes) in
+    ap made (sym (append-nil out)) ∙ ap (λ (n : ℕ). words_made out n bytes) none ∙ so_far
 
 -- ---- rows
 
@@ -223,25 +273,31 @@ cons_front : (x : ℕ) (xs : List ℕ) (read : Result (List ℕ) ReadFault) → 
 cons_front x xs (Ok ys) = refl
 cons_front x xs (Err d) = refl
 
-first_front : (m x : ℕ) (front : Result (List ℕ × List ℕ) ReadFault)
-    → (made_of (λ xs rest. with_front xs (plain_at pixel_at m rest)) front >>= λ others. Ok (x ∷ others)) ≡ made_of (λ xs rest. with_front xs (plain_at pixel_at m rest)) (front >>= λ o. Ok (x ∷ o.0, o.1))
+-- pixels at the front, and the others
+abbrev then_plain : ℕ → Result (List ℕ × List ℕ) ReadFault → Result (List ℕ) ReadFault
+then_plain m front = front >>= λ f. with_front f.0 (plain_at pixel_at m f.1)
+
+-- a pixel before the others
+abbrev pixel_plain : ℕ → Result (List ℕ) ReadFault → Result (List ℕ) ReadFault
+pixel_plain x read = read >>= λ others. Ok (x ∷ others)
+
+abbrev after_plain : ℕ → Result (ℕ × List ℕ) ReadFault → Result (List ℕ) ReadFault
+after_plain n pixel = pixel >>= λ first. pixel_plain first.0 (plain_at pixel_at n first.1)
+
+first_front : (m x : ℕ) (front : Result (List ℕ × List ℕ) ReadFault) → pixel_plain x (then_plain m front) ≡ then_plain m (one_before x front)
 first_front m x (Ok f) = cons_front x f.0 (plain_at pixel_at m f.1)
 first_front m x (Err d) = refl
 
-then_front : (n m : ℕ) (pixel : Result (ℕ × List ℕ) ReadFault) → ((bytes : List ℕ) → plain_at pixel_at (n + m) bytes ≡ made_of (λ xs rest. with_front xs (plain_at pixel_at m rest)) (front_at n bytes))
-    → (pixel >>= λ first. plain_at pixel_at (n + m) first.1 >>= λ others. Ok (first.0 ∷ others))
-    ≡ made_of (λ xs rest. with_front xs (plain_at pixel_at m rest)) (pixel >>= λ first. front_at n first.1 >>= λ others. Ok (first.0 ∷ others.0, others.1))
-then_front n m (Ok p) parts = ap (λ (r : Result (List ℕ) ReadFault). r >>= λ others. Ok (p.0 ∷ others)) (parts p.1) ∙ first_front m p.0 (front_at n p.1)
-then_front n m (Err d) parts = refl
+all_front : (n m : ℕ) (pixel : Result (ℕ × List ℕ) ReadFault) → ((bytes : List ℕ) → plain_at pixel_at (n + m) bytes ≡ then_plain m (front_at n bytes)) → after_plain (n + m) pixel ≡ then_plain m (after_pixel n pixel)
+all_front n m (Ok p) parts = ap (pixel_plain p.0) (parts p.1) ∙ first_front m p.0 (front_at n p.1)
+all_front n m (Err d) parts = refl
 
-plain_parts : (n m : ℕ) (bytes : List ℕ) → plain_at pixel_at (n + m) bytes ≡ made_of (λ xs rest. with_front xs (plain_at pixel_at m rest)) (front_at n bytes)
+plain_parts : (n m : ℕ) (bytes : List ℕ) → plain_at pixel_at (n + m) bytes ≡ then_plain m (front_at n bytes)
 unfolding plain_at front_at
 plain_parts zero m bytes = let count : 0 + m ≡ m = omega arith in ap (λ (k : ℕ). plain_at pixel_at k bytes) count ∙ front_nil (plain_at pixel_at m bytes)
 plain_parts (suc n) m bytes =
     let count : suc n + m ≡ suc (n + m) = omega arith in
-    ap (λ (k : ℕ). plain_at pixel_at k bytes) count
-    ∙ ap (λ (r : Result (ℕ × List ℕ) ReadFault). r >>= λ first. plain_at pixel_at (n + m) first.1 >>= λ others. Ok (first.0 ∷ others)) (same_pixel (n + m) n bytes)
-    ∙ then_front n m (pixel_at n bytes) (plain_parts n m)
+    ap (λ (k : ℕ). plain_at pixel_at k bytes) count ∙ ap (after_plain (n + m)) (same_pixel (n + m) n bytes) ∙ all_front n m (pixel_at n bytes) (plain_parts n m)
 
 row_then : (width m : ℕ) (out new row : List ℕ) (read : Result (List ℕ) ReadFault) → length row ≡ width → out ++ in_words ((width + 63) / 64) row ≡ new
     → (with_front row read >>= λ xs. Ok (out ++ in_rows width (suc m) xs)) ≡ (read >>= λ ys. Ok (new ++ in_rows width m ys))
@@ -257,7 +313,7 @@ row_then width m out new row (Ok ys) len new-is =
 row_then width m out new row (Err d) len new-is = refl
 
 -- the pixels of one row, and of the others
-row_parts : (width height y : ℕ) (bytes : List ℕ) → y < height → plain_at pixel_at ((height - y) * width) bytes ≡ made_of (λ xs rest. with_front xs (plain_at pixel_at ((height - (y + 1)) * width) rest)) (front_at width bytes)
+row_parts : (width height y : ℕ) (bytes : List ℕ) → y < height → plain_at pixel_at ((height - y) * width) bytes ≡ then_plain ((height - (y + 1)) * width) (front_at width bytes)
 row_parts width height y bytes lt =
     let m = height - (y + 1) in
     let k : height - y ≡ suc (height - (y + 1)) = omega arith in
@@ -269,7 +325,8 @@ row_parts width height y bytes lt =
 
 pub one_row_read : (width height y : ℕ) (out new bytes after : List ℕ) (total : Result (List ℕ) ReadFault) → y < height → Ok (new, after) ≡ words_made out width bytes → rows_made out width (height - y) bytes ≡ total → rows_made new width (height - (y + 1)) after ≡ total
 one_row_read width height y out new bytes after total lt is so_far =
-    let a = bind_ok (front_at width bytes) (λ x. Ok (out ++ in_words ((width + 63) / 64) x.0, x.1)) (new, after) (sym is) in
+    let made : List ℕ × List ℕ → Result (List ℕ × List ℕ) ReadFault = λ x. Ok (out ++ in_words ((width + 63) / 64) x.0, x.1) in
+    let a = bind_ok (front_at width bytes) made (new, after) (sym is) in
     let same = ok_is (out ++ in_words ((width + 63) / 64) a.0.0, a.0.1) (new, after) a.2 in
     let new-is : out ++ in_words ((width + 63) / 64) a.0.0 ≡ new = ap (λ (p : List ℕ × List ℕ). p.0) same in
     let after-is : a.0.1 ≡ after = ap (λ (p : List ℕ × List ℕ). p.1) same in
@@ -277,7 +334,7 @@ one_row_read width height y out new bytes after total lt is so_far =
     let k : suc (height - (y + 1)) ≡ height - y = omega arith in
     let read = plain_at pixel_at (m * width) a.0.1 in
     let parts : plain_at pixel_at ((height - y) * width) bytes ≡ with_front a.0.0 read =
-    row_parts width height y bytes lt ∙ ap (made_of (λ xs rest. with_front xs (plain_at pixel_at (m * width) rest))) a.1 in
+    row_parts width height y bytes lt ∙ ap (then_plain (m * width)) a.1 in
     ap (rows_made new width m) (sym after-is)
     ∙ sym (row_then width m out new a.0.0 read (front_length width bytes a.0 a.1) new-is)
     ∙ ap (λ (n : ℕ). with_front a.0.0 read >>= λ xs. Ok (out ++ in_rows width n xs)) k
@@ -288,7 +345,7 @@ pub fault_row : (width height y : ℕ) (out bytes : List ℕ) (d : ReadFault) (t
 fault_row width height y out bytes d total lt is so_far =
     let m = height - (y + 1) in
     let parts : plain_at pixel_at ((height - y) * width) bytes ≡ Err d =
-    row_parts width height y bytes lt ∙ ap (made_of (λ xs rest. with_front xs (plain_at pixel_at (m * width) rest))) (front_err (λ xs rest. (out ++ in_words ((width + 63) / 64) xs, rest)) (front_at width bytes) d is) in
+    row_parts width height y bytes lt ∙ ap (then_plain (m * width)) (worded_err out ((width + 63) / 64) (front_at width bytes) d is) in
     sym (ap (λ (r : Result (List ℕ) ReadFault). r >>= λ xs. Ok (out ++ in_rows width (height - y) xs)) parts) ∙ so_far
 
 end_rows : (out : List ℕ) (read : Result (List ℕ) ReadFault) → Ok out ≡ with_front out read → Ok out ≡ (read >>= λ xs. Ok (out ++ []))

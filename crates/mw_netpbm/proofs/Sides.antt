@@ -1,7 +1,7 @@
 -- What is read has as many samples as was asked for, none over the maxval.
 use Rattle.std.proofs.Common.{◌≡◌, ℕ, zero, suc, ◌+◌, ◌-◌, ◌*◌, ◌/◌, ◌%◌, ◌≤◌, Bool, true, false, cond, ltb, List, [], ◌∷◌, length, take, drop, Result, Ok, Err, min, max, fold, refl, sym, ap, subst, ◌∙◌, arith, length-append, length-drop}
 use Rattle.std.specs.List.{AllByRecursion}
-use Rattle.std.proofs.lemmas.Bool.{ltb-false}
+use Rattle.std.proofs.lemmas.Bool.{ltb-false, le-ltb}
 use Rattle.std.proofs.lemmas.List.{length-take, take_all}
 use Rattle.mw_facts.proofs.Alls.{all-append, all-take}
 use Rattle.mw_netpbm.specs.declared.fault.ReadFault.{ReadFault}
@@ -107,6 +107,13 @@ grey16_ok count m bytes xs e =
     let long : length bytes ≡ count + count = omega arith in
     let whole : words_of bytes ≡ xs = sym all ∙ same in
     (omega arith, whole, ap length (sym whole) ∙ words_length count bytes long, subst (λ ys. Within m ys) same (fold_bound (words_of (take n bytes)) 0 m low).1)
+
+pub bits_whole : (width height : ℕ) (bytes : List ℕ) → height * ((width + 7) / 8) ≤ length bytes → length bytes ≤ height * ((width + 7) / 8) → bits_at width height bytes ≡ Ok (rows_bits width height bytes)
+unfolding bits_at
+bits_whole width height bytes enough no_more =
+    let n : ℕ = height * ((width + 7) / 8) in
+    ap (λ (b : Bool). cond b (Err Short) (cond (ltb n (length bytes)) (Err Trailing) (Ok (rows_bits width height bytes)))) (le-ltb (length bytes) n enough)
+    ∙ ap (λ (b : Bool). cond b (Err Trailing) (Ok (rows_bits width height bytes))) (le-ltb n (length bytes) no_more)
 
 pub bits_ok : (width height : ℕ) (bytes xs : List ℕ) → bits_at width height bytes ≡ Ok xs → (length bytes ≡ height * ((width + 7) / 8)) × (rows_bits width height bytes ≡ xs) × (length xs ≡ height * width) × Within 1 xs
 unfolding bits_at

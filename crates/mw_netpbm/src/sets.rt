@@ -1,11 +1,10 @@
 //! Plain sets: the pixels of a plain raster, read into words.
 
-ghost use Rattle.std.specs.Prelude.{◌≡◌, ◌≢◌, ◌+◌, ◌*◌, ◌/◌, ◌<◌, ◌≤◌, ◌^◌, ◌++◌, IfOk, OnOk, Ok, Some, vec_len, vec_capacity};
-ghost use Rattle.std.specs.Simd.Lanes.{number_l};
+ghost use Rattle.std.specs.Prelude.{◌≡◌, ◌≢◌, ◌+◌, ◌*◌, ◌/◌, ◌<◌, ◌≤◌, ◌^◌, IfOk, OnOk, Some, vec_len, vec_capacity};
 ghost use Rattle.mw_netpbm.specs.declared.fault.ReadFault.TheVariants.{Short};
-ghost use Rattle.mw_netpbm.specs.Reading.{◌>>=◌, seen, Gives, fault_of};
-ghost use Rattle.mw_netpbm.specs.Plain.{plain_at, pixel_at, front_at};
-ghost use Rattle.mw_netpbm.specs.SetWords.{in_words, in_rows};
+ghost use Rattle.mw_netpbm.specs.Reading.{seen, Gives, fault_of};
+ghost use Rattle.mw_netpbm.specs.Plain.{plain_at, pixel_at};
+ghost use Rattle.mw_netpbm.specs.SetWords.{word_at, row_at, words_from};
 ghost use Rattle.mw_netpbm.specs.Whole.{raster_from};
 
 use crate::fault::ReadFault;
@@ -18,7 +17,7 @@ use std::alloc::{AllocError, Global};
 #[inline(always)]
 fn word(count: usize, bytes: &[u8]) -> Result<(u64, &[u8]), ReadFault>
     requires { count ≤ 64 }
-    ensures { seen (λ x. (x.0, x.1.now)) result ≡ (front_at count bytes.now >>= λ f. Ok (number_l 2 f.0, f.1)) }
+    ensures { seen (λ x. (x.0, x.1.now)) result ≡ word_at count bytes.now }
 {
     let mut word = 0u64;
     let mut rest = bytes;
@@ -38,7 +37,7 @@ fn word(count: usize, bytes: &[u8]) -> Result<(u64, &[u8]), ReadFault>
 fn row<'a>(out: &mut Vec<u64>, width: usize, bytes: &'a [u8]) -> Result<&'a [u8], ReadFault>
     requires wide { width < 2 ^ 60 }
     requires room { vec_len out.old + (width + 63) / 64 ≤ vec_capacity out.old }
-    ensures value { seen (λ rest. (out.new.items, rest.now)) result ≡ (front_at width bytes.now >>= λ f. Ok (out.old.items ++ in_words ((width + 63) / 64) f.0, f.1)) }
+    ensures value { seen (λ rest. (out.new.items, rest.now)) result ≡ row_at out.old.items width bytes.now }
     ensures len { OnOk result (vec_len out.new ≡ vec_len out.old + (width + 63) / 64) }
     ensures capacity { vec_capacity out.new ≡ vec_capacity out.old }
 {
@@ -68,7 +67,7 @@ fn rows(
     requires wide { width < 2 ^ 32 }
     requires high { height < 2 ^ 32 }
     requires long { fault_of (plain_at pixel_at (height * width) bytes.now) ≢ Some Short }
-    ensures value { IfOk result (λ found. seen (λ v. v.items) found ≡ (plain_at pixel_at (height * width) bytes.now >>= λ xs. Ok (in_rows width height xs))) }
+    ensures value { IfOk result (λ found. seen (λ v. v.items) found ≡ words_from width height (plain_at pixel_at (height * width) bytes.now)) }
     ensures few { IfOk result (λ found. IfOk found (λ v. vec_capacity v ≤ height * ((width + 63) / 64))) }
 {
     let stride = (width + 63) / 64;

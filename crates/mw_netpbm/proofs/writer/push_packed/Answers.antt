@@ -17,6 +17,6 @@ by_block-preserved c =
 pub returns : goal.returns
 returns c =
     let rest = c.by_block.rest.now in
-    c.in_ok-extend_from_slice.ensures.items
+    c.in_ok-extend_from_slice-2.ensures.items
     ∙ ap (λ (bs : List ℕ). c.by_block.out.items ++ bs) (rest_bytes c.by_block.left (8 - length rest) rest c.eight_words.result c.pixels_as_bytes-bytes.result (omega arith) c.eight_words.ensures c.pixels_as_bytes-bytes.ensures)
     ∙ c.by_block.invariant.made
