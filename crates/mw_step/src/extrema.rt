@@ -1,10 +1,11 @@
 //! The lesser and the greater of levels, whatever samples hold them.
 
+use mw_bits::WordExtremum;
 use mw_pixel::{Bit, Extremum, Max, Min};
 
 /// An extremum of samples of every type, and what it is of their levels: of two, and of all that are seen in an image with
 /// a maxval.
-pub(crate) trait LevelExtremum: Extremum<Bit> + Extremum<u8> + Extremum<u16> {
+pub(crate) trait LevelExtremum: WordExtremum + Extremum<u8> + Extremum<u16> {
     ghost use Rattle.std.specs.Prelude.{◌≡◌, ℕ, List, fold};
 
     ghost of_two: { ℕ → ℕ → ℕ };

@@ -7,8 +7,8 @@ use Rattle.mw_facts.proofs.Elements.{slice_get-drop, slice_get-take, slice_get-p
 use Rattle.mw_model.specs.declared.places.Rect.{Rect}
 use Rattle.mw_model.specs.Places.{Holds, IsWithin}
 use Rattle.mw_model.specs.Rasters.{Raster, raster}
-use Rattle.mw_words.specs.Runs.{put_at}
-use Rattle.mw_words.proofs.Fronts.{HasFront, front_more}
+use Rattle.mw_words.specs.Runs.{put_at, HasFront}
+use Rattle.mw_words.proofs.Fronts.{front_more}
 use Rattle.mw_tile.specs.Windows.{IsCut}
 use Rattle.mw_tile.specs.Cuts.{stood_at, Pastes}
 
@@ -20,7 +20,11 @@ get_part xs a n i lt = slice_get-take (a + n - a) (drop a xs) i (omega arith) �
 pub length-run : {A : Type 0} (xs : List A) (a n : ℕ) → a + n ≤ length xs → length (slice_range xs a (a + n)) ≡ n
 length-run xs a n le = omega (arith, length-take (a + n - a) (drop a xs), length-drop a xs)
 
-run_fits : (y h w x n : ℕ) → y < h → x + n ≤ w → y * w + x + n ≤ h * w
+-- an element of a part of a row, from a column on
+pub get_from_column : {A : Type 0} (xs row : List A) (a x n i : ℕ) → row ≡ slice_range xs (a + x) (a + x + n) → i < n → slice_get row i ≡ slice_get xs (a + (x + i))
+get_from_column xs row a x n i row-is lt = ap (λ (t : List _). slice_get t i) row-is ∙ get_part xs (a + x) n i lt ∙ ap (slice_get xs) (add_assoc a x i)
+
+pub run_fits : (y h w x n : ℕ) → y < h → x + n ≤ w → y * w + x + n ≤ h * w
 run_fits y h w x n lt across = let le : y + 1 ≤ h = omega arith in omega (arith, mul-le-mul_left w le)
 
 -- what stands at a place of a rectangle of the frame, counted by rows

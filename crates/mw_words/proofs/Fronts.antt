@@ -3,12 +3,7 @@ use Rattle.std.proofs.Common.{◌≡◌, ℕ, ◌+◌, ◌-◌, ◌<◌, ◌≤�
 use Rattle.std.proofs.lemmas.Bool.{cases_lt}
 use Rattle.mw_facts.proofs.Elements.{slice_get-put_below, slice_get-put_within}
 use Rattle.mw_facts.proofs.Parts.{length-put_mid}
-use Rattle.mw_words.specs.Runs.{put_at}
-
--- of so many cells the first n have their values
-pub record HasFront {A : Type 0} (value : ℕ → Option A) (n total : ℕ) (cells : List A) : Type 0 where
-  pub size : length cells ≡ total
-  pub same : (k : ℕ) → k < n → slice_get cells k ≡ value k
+use Rattle.mw_words.specs.Runs.{put_at, HasFront}
 
 pub front_more : {A : Type 0} (value : ℕ → Option A) (n m total : ℕ) (cells out row : List A) → out ≡ put_at n row cells → length row ≡ m → n + m ≤ total → ((i : ℕ) → i < m → slice_get row i ≡ value (n + i))
     → HasFront value n total cells → HasFront value (n + m) total out

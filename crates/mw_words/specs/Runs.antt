@@ -1,11 +1,16 @@
 -- Samples of a row that are written over others.
-use Rattle.std.specs.Prelude.{◌≡◌, ℕ, ◌+◌, ◌-◌, ◌<◌, ◌≤◌, List, ◌++◌, length, take, drop}
+use Rattle.std.specs.Prelude.{◌≡◌, ℕ, ◌+◌, ◌-◌, ◌<◌, ◌≤◌, List, ◌++◌, length, take, drop, Option, slice_get}
 use Rattle.std.specs.Int.{bit_at}
 use Rattle.mw_words.specs.Packed.{bit_of}
 
 -- the cells with a row written over them from a place on
 abbrev pub put_at : {A : Type 0} → ℕ → List A → List A → List A
 put_at start row cells = take start cells ++ (row ++ drop (length row) (drop start cells))
+
+-- of so many cells the first n have their values
+pub record HasFront {A : Type 0} (value : ℕ → Option A) (n total : ℕ) (cells : List A) : Type 0 where
+  pub size : length cells ≡ total
+  pub same : (k : ℕ) → k < n → slice_get cells k ≡ value k
 
 -- from a bit on the new word has so many lowest bits of the other; else it is the old
 pub record IsBlended (lead count word other made : ℕ) : Type 0 where
