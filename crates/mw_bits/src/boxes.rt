@@ -11,13 +11,14 @@ ghost use Rattle.mw_model.specs.Windows.{seen_at};
 ghost use Rattle.mw_tile.specs.Windows.{IsWindow};
 ghost use Rattle.mw_lane.specs.Shifted.{merge_at};
 ghost use Rattle.mw_line.specs.Extrema.{over, IsSlidingExtremum};
-ghost use Rattle.mw_word_rows.specs.Packed.{bit_of, stride_of, IsPacked};
+ghost use Rattle.mw_words.specs.Packed.{bit_of, stride_of, IsPacked};
 
 use crate::spread::spread;
 use crate::{WordExtremum, Words};
 use mw_line::{first_seen, seen_across, seen_down};
 use mw_model::{NoMemory, OffsetBox, Rect};
-use mw_word_rows::{repeated, slide_words, stride, trimmed};
+use mw_word_rows::slide_words;
+use mw_words::{repeated, stride, trimmed};
 use std::alloc::Global;
 
 /// How many pixels of a set are looked at, and from which column and row of it on by the tile's first pixel.

@@ -6,14 +6,14 @@ ghost use Rattle.mw_model.specs.Rasters.{Raster, raster, cell_at, seen_under};
 ghost use Rattle.mw_model.specs.Windows.{seen_at};
 ghost use Rattle.mw_tile.specs.Windows.{IsWindow};
 ghost use Rattle.mw_line.specs.Extrema.{IsSlidingExtremum};
-ghost use Rattle.mw_word_rows.specs.Packed.{bit_of, stride_of, IsPacked};
+ghost use Rattle.mw_words.specs.Packed.{bit_of, stride_of, IsPacked};
 
 use crate::by_runs::{extremum_by_runs, is_near};
 use crate::spread::spread_rows;
 use crate::{WordExtremum, Words};
 use mw_model::{NoMemory, Offset, Rect};
 use mw_run::{extent_of, place_of, runs_of};
-use mw_word_rows::{repeated, stride, trimmed};
+use mw_words::{repeated, stride, trimmed};
 use std::alloc::Global;
 
 /// Merges into each bit of the tile's rows what is seen under the element there.

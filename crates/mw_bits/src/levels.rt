@@ -2,13 +2,14 @@
 //! line of pixels, which is packed, so that no plane of one byte a pixel is made.
 ghost use Rattle.std.specs.Prelude.{◌≡◌, ℕ, ◌*◌, ◌==◌, length, map, cond, nat_le, if◌then◌else◌, IfOk};
 ghost use Rattle.mw_tile.specs.Cuts.{view_of};
-ghost use Rattle.mw_word_rows.specs.Packed.{stride_of, IsPacked, samples_of};
+ghost use Rattle.mw_words.specs.Packed.{stride_of, IsPacked, samples_of};
 
 use crate::Words;
 use mw_model::NoMemory;
 use mw_pixel::{Bit, Pixel, copies};
 use mw_tile::Window;
-use mw_word_rows::{pack_row, repeated, stride};
+use mw_word_rows::pack_row;
+use mw_words::{repeated, stride};
 use std::alloc::Global;
 
 /// Whether a level belongs to a set that a number picks.

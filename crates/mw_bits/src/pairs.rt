@@ -5,7 +5,8 @@ ghost use Rattle.mw_tile.specs.Cuts.{view_of};
 
 use crate::Words;
 use mw_model::NoMemory;
-use mw_word_rows::{Both, Either, Less, PairOfWords, flip_words, merge_words, stride, trimmed};
+use mw_word_rows::{Both, Either, Less, PairOfWords, flip_words, merge_words};
+use mw_words::{stride, trimmed};
 use std::alloc::Global;
 
 impl Words {

@@ -1,13 +1,14 @@
 //! Windows of sets as words, and words as planes.
 ghost use Rattle.std.specs.Prelude.{◌≡◌, ℕ, ◌*◌, ◌+◌, ◌<◌, ◌≤◌, length, slice_index, vec_len, All, IfOk};
 ghost use Rattle.mw_model.specs.Rasters.{raster};
-ghost use Rattle.mw_word_rows.specs.Packed.{bit_of, stride_of, IsPacked, samples_of};
+ghost use Rattle.mw_words.specs.Packed.{bit_of, stride_of, IsPacked, samples_of};
 
 use crate::Words;
 use mw_model::NoMemory;
 use mw_pixel::{Bit, Plane, copies};
 use mw_tile::Window;
-use mw_word_rows::{pack_row, repeated, stride, unpack_row};
+use mw_word_rows::{pack_row, unpack_row};
+use mw_words::{repeated, stride};
 use std::alloc::Global;
 
 /// Packs the rows of a window, each into words of its own.

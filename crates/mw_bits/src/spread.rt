@@ -2,12 +2,12 @@
 ghost use Rattle.std.specs.Prelude.{◌≡◌, ℕ, ◌+◌, ◌*◌, ◌<◌, ◌≤◌, ◌^◌, negsuc, pos, ◌+ℤ◌, ◌≤ℤ◌, length, vec_len, IfOk};
 ghost use Rattle.mw_model.specs.Rasters.{raster, cell_at};
 ghost use Rattle.mw_lane.specs.Shifted.{merge_at};
-ghost use Rattle.mw_word_rows.specs.Packed.{bit_of};
+ghost use Rattle.mw_words.specs.Packed.{bit_of};
 
 use crate::window_rows::combine_window_row;
 use crate::{WordExtremum, Words};
 use mw_model::NoMemory;
-use mw_word_rows::repeated;
+use mw_words::repeated;
 use std::alloc::Global;
 
 /// Merges into each of `high` rows of `wide` words what the set has there, from that column and row of it on.

@@ -2,7 +2,7 @@
 ghost use Rattle.std.specs.Prelude.{◌≡◌, ℕ, ◌+◌, ◌*◌, ◌<◌, ◌≤◌, ◌^◌, negsuc, pos, ◌+ℤ◌, ◌≤ℤ◌, length};
 ghost use Rattle.mw_model.specs.Rasters.{raster, cell_at};
 ghost use Rattle.mw_lane.specs.Shifted.{merge_at};
-ghost use Rattle.mw_word_rows.specs.Packed.{bit_of};
+ghost use Rattle.mw_words.specs.Packed.{bit_of};
 
 use crate::{WordExtremum, Words};
 use mw_word_rows::combine_row;

@@ -1,10 +1,10 @@
 //! The type of packed sets.
 ghost use Rattle.std.specs.Prelude.{◌≡◌, ℕ, ◌+◌, ◌*◌, ◌/◌, ◌<◌, ◌≤◌, ◌^◌, length, slice_index, replicate, IfOk};
 ghost use Rattle.mw_tile.specs.Cuts.{view_of};
-ghost use Rattle.mw_word_rows.specs.Packed.{bit_of, stride_of, samples_of, IsPacked};
+ghost use Rattle.mw_words.specs.Packed.{bit_of, stride_of, samples_of, IsPacked};
 
 use mw_model::Rect;
-use mw_word_rows::stride;
+use mw_words::stride;
 use std::marker::Model;
 
 /// The samples of a rectangle of a set, with the sides of the frame. Each row stands in words of its own, 64 pixels a
@@ -21,7 +21,7 @@ impl Model for Words {
     ghost use Rattle.std.specs.Prelude.{ℕ};
     ghost use Rattle.mw_model.specs.Windows.{View};
     ghost use Rattle.mw_tile.specs.Cuts.{view_of};
-    ghost use Rattle.mw_word_rows.specs.Packed.{samples_of, IsPacked};
+    ghost use Rattle.mw_words.specs.Packed.{samples_of, IsPacked};
 
     ghost Value = { View ℕ };
 

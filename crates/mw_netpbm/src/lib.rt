@@ -15,6 +15,7 @@ mod plain;
 mod raw;
 mod reader;
 mod room;
+mod sets;
 mod short;
 mod words;
 mod writer;

@@ -1,8 +1,8 @@
 use Rattle.std.proofs.Common.{◌≡◌, ◌+◌, ◌-◌, ◌*◌, ℕ, List, length, take, drop, get_or, ap, arith, ◌∙◌, length-take, length-drop}
 use Rattle.mw_model.specs.declared.places.Rect.{Rect}
 use Rattle.mw_line.proofs.Rows.{rows_fit}
-use Rattle.mw_word_rows.specs.Packed.{stride_of}
-use Rattle.mw_word_rows.proofs.Done.{bit_rows_more_by}
+use Rattle.mw_words.specs.Packed.{stride_of}
+use Rattle.mw_words.proofs.Done.{bit_rows_more_by}
 use Rattle.mw_word_rows.proofs.Packs.{packed_row, all_packed, samples_packed}
 use Rattle.mw_bits.proofs.planes.pack_rows.Goals as goal
 

@@ -1,6 +1,6 @@
 use Rattle.std.proofs.Common.{get_or, slice_range, ◌*◌, ◌+◌}
-use Rattle.mw_word_rows.specs.Packed.{stride_of}
-use Rattle.mw_word_rows.proofs.Done.{BitRowsDone}
+use Rattle.mw_words.specs.Packed.{stride_of}
+use Rattle.mw_words.proofs.Done.{BitRowsDone}
 use Rattle.mw_bits.proofs.planes.pack_rows.Given as goal
 
 abbrev pub invariant-loop-y : goal.invariant-loop-y

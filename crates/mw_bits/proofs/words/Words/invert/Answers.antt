@@ -3,7 +3,7 @@ use Rattle.mw_facts.proofs.Elements.{take-written}
 use Rattle.mw_model.specs.declared.places.Rect.{Rect}
 use Rattle.mw_line.proofs.Rows.{rows_fit}
 use Rattle.mw_tile.specs.Cuts.{view_of}
-use Rattle.mw_word_rows.specs.Packed.{bit_of, stride_of, samples_of}
+use Rattle.mw_words.specs.Packed.{bit_of, stride_of, samples_of}
 use Rattle.mw_bits.proofs.Pairings.{mapped_samples, flipped_place}
 use Rattle.mw_bits.proofs.words.Words.invert.Goals as goal
 

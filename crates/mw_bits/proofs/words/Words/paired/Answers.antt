@@ -2,7 +2,7 @@ use Rattle.std.proofs.Common.{◌≡◌, ℕ, ◌*◌, List, length, ap, sym, �
 use Rattle.mw_facts.proofs.Elements.{take-written}
 use Rattle.mw_model.specs.declared.places.Rect.{Rect}
 use Rattle.mw_tile.specs.Cuts.{view_of}
-use Rattle.mw_word_rows.specs.Packed.{bit_of, stride_of, samples_of, IsPacked}
+use Rattle.mw_words.specs.Packed.{bit_of, stride_of, samples_of, IsPacked}
 use Rattle.mw_bits.proofs.Pairings.{paired_samples, paired_packed}
 use Rattle.mw_bits.proofs.words.Words.paired.Goals as goal
 use lib.Lanes.{zip2}

@@ -1,6 +1,6 @@
 use Rattle.std.proofs.Common.{ℕ, ◌*◌, length, ap, sym, ◌∙◌}
 use Rattle.mw_model.specs.Windows.{View}
-use Rattle.mw_word_rows.proofs.Bits.{length-samples_of}
+use Rattle.mw_words.proofs.Bits.{length-samples_of}
 use Rattle.mw_bits.proofs.words.Words.place.Goals as goal
 
 pub returns-clause-size : goal.returns-clause-size

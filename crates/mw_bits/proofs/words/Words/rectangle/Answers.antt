@@ -3,8 +3,8 @@ use Rattle.mw_model.specs.Places.{box_offsets}
 use Rattle.mw_model.specs.Rasters.{raster}
 use Rattle.mw_model.specs.Windows.{View, seen_at}
 use Rattle.mw_line.proofs.Tiles.{tile_made, on_frame}
-use Rattle.mw_word_rows.specs.Packed.{samples_of}
-use Rattle.mw_word_rows.proofs.Bits.{sample_is_bit, length-samples_of}
+use Rattle.mw_words.specs.Packed.{samples_of}
+use Rattle.mw_words.proofs.Bits.{sample_is_bit, length-samples_of}
 use Rattle.mw_bits.proofs.words.Words.rectangle.Goals as goal
 
 pub returns-clause-over_window : goal.returns-clause-over_window

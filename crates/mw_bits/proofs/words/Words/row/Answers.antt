@@ -1,7 +1,7 @@
 use Rattle.std.proofs.Common.{◌≡◌, ◌+◌, ◌*◌, ℕ, get_or, ◌-◌, ap, sym, ◌∙◌, arith}
 use Rattle.mw_model.specs.Windows.{View}
-use Rattle.mw_word_rows.specs.Packed.{samples_of}
-use Rattle.mw_word_rows.proofs.Bits.{row_sample, row_clean}
+use Rattle.mw_words.specs.Packed.{samples_of}
+use Rattle.mw_words.proofs.Bits.{row_sample, row_clean}
 use Rattle.mw_bits.proofs.words.Words.row.Goals as goal
 
 pub returns-clause-samples : goal.returns-clause-samples

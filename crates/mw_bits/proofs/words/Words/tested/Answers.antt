@@ -2,7 +2,7 @@ use Rattle.std.proofs.Common.{◌≡◌, ℕ, List, length, map, ap, ◌∙◌, 
 use Rattle.mw_facts.proofs.Elements.{take-written}
 use Rattle.mw_model.specs.declared.places.Rect.{Rect}
 use Rattle.mw_tile.specs.Cuts.{view_of}
-use Rattle.mw_word_rows.specs.Packed.{samples_of}
+use Rattle.mw_words.specs.Packed.{samples_of}
 use Rattle.mw_bits.proofs.words.Words.tested.Goals as goal
 
 pub new-requires-2 : goal.new-requires-2

@@ -1,7 +1,7 @@
 use Rattle.std.proofs.Common.{◌*◌, ℕ, length, ap, arith, ◌∙◌}
 use Rattle.mw_model.specs.declared.places.Rect.{Rect}
 use Rattle.mw_model.specs.Rasters.{Raster}
-use Rattle.mw_word_rows.proofs.Bits.{samples_small}
+use Rattle.mw_words.proofs.Bits.{samples_small}
 use Rattle.mw_bits.proofs.words.Words.to_plane.Goals as goal
 
 pub new-requires-2 : goal.new-requires-2

@@ -2,7 +2,7 @@ use Rattle.std.proofs.Common.{◌≡◌, ◌≤◌, ◌*◌, ℕ, length, ap, sy
 use Rattle.mw_model.specs.declared.places.Rect.{Rect}
 use Rattle.mw_model.specs.Windows.{View}
 use Rattle.std.proofs.lemmas.Nat.{mul-le}
-use Rattle.mw_word_rows.specs.Packed.{stride_of}
+use Rattle.mw_words.specs.Packed.{stride_of}
 use Rattle.mw_bits.proofs.words.Words.words.Goals as goal
 
 pub returns-clause-few : goal.returns-clause-few
