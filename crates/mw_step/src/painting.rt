@@ -5,7 +5,7 @@ ghost use Rattle.std.specs.Int.{bit_at};
 ghost use lib.Lanes.{zip2};
 ghost use Rattle.mw_words.specs.Packed.{bit_of, stride_of};
 
-use mw_bits::{joined, minus};
+use mw_bits::{join, minus};
 use mw_model::NoMemory;
 use mw_pixel::{Bit, Grey, Pixel, Plane};
 use mw_tile::Window;
@@ -82,7 +82,7 @@ pub(crate) fn marked_set(
     let _first = a.plane().words();
     let _second = set.plane().words();
     if v == 1 {
-        joined(alloc, a, set)
+        join(alloc, a, set)
     } else {
         minus(alloc, a, set)
     }

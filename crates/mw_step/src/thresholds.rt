@@ -2,7 +2,7 @@
 
 ghost use Rattle.std.specs.Prelude.{◌≡◌, ◌*◌, ◌==◌, length, map, IfOk, nat_le, if◌then◌else◌};
 
-use mw_bits::{at_least, equal, inverted, joined};
+use mw_bits::{at_least, equal, invert, join};
 use mw_model::NoMemory;
 use mw_pixel::{Bit, Grey, Plane};
 use mw_tile::Window;
@@ -19,9 +19,9 @@ pub(crate) fn level_of_set(alloc: Global, v: u16, set: &Window<Bit>) -> Result<P
     // for its samples
     let _words = set.plane().words();
     match v {
-        0 => Ok(inverted(alloc, set)?),
+        0 => Ok(invert(alloc, set)?),
         // the set itself
-        1 => Ok(joined(alloc, set, set)?),
+        1 => Ok(join(alloc, set, set)?),
         _ => Ok(Plane::filled(alloc, place.width, place.height, Bit::new(false))?),
     }
 }
@@ -39,7 +39,7 @@ pub(crate) fn upper_of_set(alloc: Global, k: u32, set: &Window<Bit>) -> Result<P
     match k {
         0 => Ok(Plane::filled(alloc, place.width, place.height, Bit::SET)?),
         // the set itself
-        1 => Ok(joined(alloc, set, set)?),
+        1 => Ok(join(alloc, set, set)?),
         _ => Ok(Plane::filled(alloc, place.width, place.height, Bit::new(false))?),
     }
 }
