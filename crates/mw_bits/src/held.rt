@@ -21,7 +21,7 @@ pub(crate) fn words_of(set: &Window<Bit>) -> &[u64]
 }
 
 /// The words of a row, counted from the window's first.
-pub(crate) fn row_of(set: &Window<Bit>, y: u32) -> &[u64]
+pub fn row_of(set: &Window<Bit>, y: u32) -> &[u64]
     requires { y < set.now.place.height }
     ensures length { length result.now ≡ stride_of set.now.place.width }
     ensures samples { (x : ℕ) → x < set.now.place.width → bit_of result.now x ≡ slice_index set.now.cells (y * set.now.place.width + x) }

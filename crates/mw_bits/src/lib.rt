@@ -22,6 +22,7 @@ mod window_rows;
 
 pub use boxes::rectangle;
 pub use counting::count;
+pub use held::row_of;
 pub use kernel::extremum;
 pub use levels::{at_least, equal};
 pub use mw_model::NoMemory;
