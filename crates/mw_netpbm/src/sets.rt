@@ -89,12 +89,7 @@ fn rows(
 /// over where memory is refused.
 #[tactic(auto, using(crate::proofs::Faults::Fails_fault, crate::proofs::Faults::Fails_from))]
 #[inline(never)]
-pub(crate) fn set(
-    alloc: Global,
-    width: u32,
-    height: u32,
-    bytes: &[u8],
-) -> Result<Words, ReadFault>
+pub(crate) fn set(alloc: Global, width: u32, height: u32, bytes: &[u8]) -> Result<Words, ReadFault>
     ensures { Gives (λ f. f) result (raster_from width height (plain_at pixel_at (height * width) bytes.now)) }
 {
     let count = height as usize * width as usize;
