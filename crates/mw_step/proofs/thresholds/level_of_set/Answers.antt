@@ -1,6 +1,5 @@
-use Rattle.std.proofs.Common.{ℕ, List, ◌≡◌, ◌-◌, max, map, sym, refl, ap, ◌∙◌}
+use Rattle.std.proofs.Common.{ℕ, ◌-◌, max, map, sym, refl, ap, ◌∙◌}
 use Rattle.std.specs.Prelude.{◌==◌, if◌then◌else◌}
-use Rattle.mw_model.specs.Rasters.{Raster}
 use Rattle.mw_step.proofs.Levels.{each_level, with_itself}
 use Rattle.mw_step.proofs.thresholds.level_of_set.Goals as goal
 
