@@ -32,7 +32,9 @@ pub fn plane_of<P: Planar>(alloc: Global, image: &PlainImage) -> Result<Plane<P>
     let mut plane = Plane::blank(alloc, width, height)?;
     for y in 0..height {
         for x in 0..width {
-            let level = image.sample_at(i64::from(x), i64::from(y)).ok_or("other sides")?;
+            let level = image
+                .sample_at(i64::from(x), i64::from(y))
+                .ok_or("other sides")?;
             let dot = Plane::filled(alloc, 1, 1, sample_of::<P>(level)?)?;
             put(&mut plane, x, y, &dot);
         }

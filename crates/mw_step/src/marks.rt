@@ -15,7 +15,12 @@ use mw_tile::{AnyWindow, Window};
 use std::alloc::Global;
 
 /// The samples, with level `v` in each place of the set.
-fn mark_places(alloc: Global, v: u16, a: &AnyWindow, places: &Window<Bit>) -> Result<TileResult, NoMemory>
+fn mark_places(
+    alloc: Global,
+    v: u16,
+    a: &AnyWindow,
+    places: &Window<Bit>,
+) -> Result<TileResult, NoMemory>
     requires place { a.now.view.place ≡ places.now.place }
     requires level { v ≤ a.now.maxval }
     ensures held { IfOk result (HoldsImage (plane_drawn a.now.kind a.now.maxval a.now.view.place (zip2 (λ s m. if m == 1 then v else s) a.now.view.cells places.now.cells))) }
@@ -61,6 +66,11 @@ pub(crate) fn mark(
 {
     let first = bits_of(set);
     let rest = minus(alloc, first, bits_of(other))?;
-    let places = Window::new(first.frame_width(), first.frame_height(), first.place(), rest);
+    let places = Window::new(
+        first.frame_width(),
+        first.frame_height(),
+        first.place(),
+        rest,
+    );
     mark_places(alloc, v, a, &places)
 }

@@ -5,7 +5,8 @@ ghost use Rattle.std.specs.Int.{bit_at};
 ghost use lib.Lanes.{zip2};
 ghost use Rattle.mw_words.specs.Packed.{bit_of, stride_of};
 
-use mw_bits::{joined, minus};
+use crate::thresholds::is_sound;
+use mw_bits::{join, minus, row_of};
 use mw_model::NoMemory;
 use mw_pixel::{Bit, Grey, Pixel, Plane};
 use mw_tile::Window;
@@ -54,12 +55,13 @@ pub(crate) fn marked<P: Grey>(
     ensures size { length a.now.cells ≡ a.now.place.height * a.now.place.width }
 {
     let place = a.place();
-    let words = set.plane().words();
+    // for the number of its pixels
+    is_sound(set);
     let width = place.width as usize;
     let mut samples = Vec::from_slice(alloc, a.samples())?;
     for y in 0..place.height {
         let start = y as usize * width;
-        mark_row(&mut samples[start..start + width], words.row(y), v);
+        mark_row(&mut samples[start..start + width], row_of(set, y), v);
     }
     Ok(Plane::new(place.width, place.height, samples))
 }
@@ -78,8 +80,11 @@ pub(crate) fn marked_set(
     ensures cells { IfOk result (λ p. p.cells ≡ zip2 (λ s m. if m == 1 then v else s) a.now.cells set.now.cells) }
     ensures size { length a.now.cells ≡ a.now.place.height * a.now.place.width }
 {
-    // for their samples
-    let _first = a.plane().words();
-    let _second = set.plane().words();
-    if v == 1 { joined(alloc, a, set) } else { minus(alloc, a, set) }
+    is_sound(a);
+    is_sound(set);
+    if v == 1 {
+        join(alloc, a, set)
+    } else {
+        minus(alloc, a, set)
+    }
 }

@@ -41,7 +41,7 @@ pub(crate) fn merge<E: LevelExtremum>(
         alloc,
         a,
         b,
-        |set, other| mw_bits::merged::<E>(alloc, set, other),
+        |set, other| E::of_sets(alloc, set, other),
         |first, second| merged::<_, E>(alloc, first, second)
     )
 }

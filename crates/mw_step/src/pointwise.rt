@@ -50,7 +50,11 @@ pub(crate) fn merged<P: Grey, E: Extremum<P>>(
 }
 
 /// The top less each sample.
-pub(crate) fn inverted<P: Lanes + Grey>(alloc: Global, top: P, a: &Window<P>) -> Result<Plane<P>, NoMemory>
+pub(crate) fn inverted<P: Lanes + Grey>(
+    alloc: Global,
+    top: P,
+    a: &Window<P>,
+) -> Result<Plane<P>, NoMemory>
     ensures width { IfOk result (λ p. p.width ≡ a.now.place.width) }
     ensures height { IfOk result (λ p. p.height ≡ a.now.place.height) }
     ensures cells { IfOk result (λ p. p.cells ≡ zip2 P.difference (replicate (a.now.place.height * a.now.place.width) top) a.now.cells) }

@@ -5,7 +5,7 @@ ghost use Rattle.std.specs.Prelude.{◌≡◌, ℕ, ◌<◌, ◌^◌, length, If
 ghost use Rattle.mw_model.specs.Windows.{seen_at};
 ghost use Rattle.mw_rank.specs.Ranks.{IsRank};
 
-use mw_bits::{at_least, levels};
+use mw_bits::{as_levels, at_least};
 use mw_model::{NoMemory, Offset, Rect};
 use mw_pixel::{Bit, Plane};
 use mw_rank::rank;
@@ -24,7 +24,7 @@ pub(crate) fn rank_of_set(
     requires { length offsets.now < 2 ^ 16 }
     ensures { IfOk result (IsRank (λ (n : ℕ). n) k (seen_at set.now) offsets.now tile) }
 {
-    let window = levels(alloc, set)?;
+    let window = as_levels(alloc, set)?;
     let ranks = rank(alloc, &window, offsets, k, tile)?;
     Ok(at_least(alloc, &Window::whole(ranks), 1)?)
 }

@@ -20,7 +20,7 @@ pub(crate) fn invert(alloc: Global, a: &AnyWindow) -> Result<TileResult, NoMemor
     of_samples!(
         alloc,
         a,
-        |set| mw_bits::inverted(alloc, set),
+        |set| mw_bits::invert(alloc, set),
         |samples, maxval| inverted(alloc, maxval, samples)
     )
 }

@@ -1,12 +1,22 @@
 //! Sets of the places with a level, or with a level or more. A set has the levels 0 and 1 alone.
 
-ghost use Rattle.std.specs.Prelude.{◌≡◌, ◌*◌, ◌==◌, length, map, IfOk, nat_le, if◌then◌else◌};
+ghost use Rattle.std.specs.Prelude.{◌≡◌, ℕ, ◌*◌, ◌≤◌, ◌==◌, All, length, map, IfOk, nat_le, if◌then◌else◌};
 
-use mw_bits::{at_least, equal, inverted, joined};
+use mw_bits::{at_least, equal, invert, join};
 use mw_model::NoMemory;
 use mw_pixel::{Bit, Grey, Plane};
 use mw_tile::Window;
 use std::alloc::Global;
+
+/// What is so of each set: a call that is made only for these facts.
+pub(crate) fn is_sound(set: &Window<Bit>)
+    ensures size { length set.now.cells ≡ set.now.place.height * set.now.place.width }
+    ensures small { All (λ s. s ≤ 1) set.now.cells }
+{
+    let plane = set.plane();
+    let _width = plane.width();
+    let _words = plane.words();
+}
 
 /// The places of a set with level `v`.
 pub(crate) fn level_of_set(
@@ -19,15 +29,16 @@ pub(crate) fn level_of_set(
     ensures cells { IfOk result (λ p. p.cells ≡ map (λ s. if s == v then 1 else 0) set.now.cells) }
     ensures size { length set.now.cells ≡ set.now.place.height * set.now.place.width }
 {
+    is_sound(set);
     let place = set.place();
-    // for its samples
-    let _words = set.plane().words();
-    match v {
-        0 => Ok(inverted(alloc, set)?),
-        // the set itself
-        1 => Ok(joined(alloc, set, set)?),
-        _ => Ok(Plane::filled(alloc, place.width, place.height, Bit::new(false))?),
+    if v == 0 {
+        return Ok(invert(alloc, set)?);
     }
+    if v == 1 {
+        // the set itself
+        return Ok(join(alloc, set, set)?);
+    }
+    Ok(Plane::filled(alloc, place.width, place.height, Bit::new(false))?)
 }
 
 /// The places of a set with level `k` or more.
@@ -41,15 +52,16 @@ pub(crate) fn upper_of_set(
     ensures cells { IfOk result (λ p. p.cells ≡ map (λ s. if nat_le k s then 1 else 0) set.now.cells) }
     ensures size { length set.now.cells ≡ set.now.place.height * set.now.place.width }
 {
+    is_sound(set);
     let place = set.place();
-    // for its samples
-    let _words = set.plane().words();
-    match k {
-        0 => Ok(Plane::filled(alloc, place.width, place.height, Bit::SET)?),
-        // the set itself
-        1 => Ok(joined(alloc, set, set)?),
-        _ => Ok(Plane::filled(alloc, place.width, place.height, Bit::new(false))?),
+    if k == 0 {
+        return Ok(Plane::filled(alloc, place.width, place.height, Bit::SET)?);
     }
+    if k == 1 {
+        // the set itself
+        return Ok(join(alloc, set, set)?);
+    }
+    Ok(Plane::filled(alloc, place.width, place.height, Bit::new(false))?)
 }
 
 /// The places of a window in levels of grey with level `v`.

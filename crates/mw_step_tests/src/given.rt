@@ -26,7 +26,10 @@ pub(crate) const TASK: TaskId = TaskId {
 
 /// Five samples of these levels in a row.
 fn row<P: Planar>(alloc: Global, levels: &[u16; 5]) -> Result<Pieces<P>, Fail> {
-    whole_window(alloc, plane_of::<P>(alloc, &grey_row(alloc, 65535, levels)?)?)
+    whole_window(
+        alloc,
+        plane_of::<P>(alloc, &grey_row(alloc, 65535, levels)?)?,
+    )
 }
 
 pub(crate) fn levels(alloc: Global, levels: &[u16; 5], maxval: u8) -> Result<SharedWindow, Fail> {

@@ -62,8 +62,8 @@ parts-preserved g c =
     let right = c.requires.right in
     let part : (f : Raster _) → ShowsTiles c.args.grid (cells_of c.args.tiles.now) f → PartOf f p c.parts.at c.args.y n (run_in own.cells c.place-stands.result own.width c.parts.at c.args.y n) (run_in t.cells place t.width c.parts.at c.args.y n)
     = λ f shows.
-        part_of f t own p c.place-stands.result place c.args.grid.width c.args.grid.height c.parts.at c.args.y n c.plane-own.ensures.value c.place-stands.ensures c.plane-own.ensures.full (omega arith) (omega arith) c.requires.top c.requires.bottom stands
-        (subst (λ (r : Rect). IsCut (view_of c.args.grid.width c.args.grid.height r t.cells) f) (sym place-is) (subst (λ (u : Raster _). IsCut (view_of c.args.grid.width c.args.grid.height (tile_at c.args.grid i) u.cells) f) (sym tile-is) (c.tile_of.ensures.value f shows))) here (omega arith) in
+    part_of f t own p c.place-stands.result place c.args.grid.width c.args.grid.height c.parts.at c.args.y n c.plane-own.ensures.value c.place-stands.ensures c.plane-own.ensures.full (omega arith) (omega arith) c.requires.top c.requires.bottom stands
+    (subst (λ (r : Rect). IsCut (view_of c.args.grid.width c.args.grid.height r t.cells) f) (sym place-is) (subst (λ (u : Raster _). IsCut (view_of c.args.grid.width c.args.grid.height (tile_at c.args.grid i) u.cells) f) (sym tile-is) (c.tile_of.ensures.value f shows))) here (omega arith) in
     record {
       from = omega arith;
       to = omega arith;
@@ -91,8 +91,8 @@ returns-then-not-same_run g c = λ f shows.
     let right = c.requires.right in
     let part : (f : Raster _) → ShowsTiles c.args.grid (cells_of c.args.tiles.now) f → PartOf f p c.parts.at c.args.y n (run_in own.cells c.place-stands.result own.width c.parts.at c.args.y n) (run_in t.cells place t.width c.parts.at c.args.y n)
     = λ f shows.
-        part_of f t own p c.place-stands.result place c.args.grid.width c.args.grid.height c.parts.at c.args.y n c.plane-own.ensures.value c.place-stands.ensures c.plane-own.ensures.full (omega arith) (omega arith) c.requires.top c.requires.bottom stands
-        (subst (λ (r : Rect). IsCut (view_of c.args.grid.width c.args.grid.height r t.cells) f) (sym place-is) (subst (λ (u : Raster _). IsCut (view_of c.args.grid.width c.args.grid.height (tile_at c.args.grid i) u.cells) f) (sym tile-is) (c.tile_of.ensures.value f shows))) here (omega arith) in
+    part_of f t own p c.place-stands.result place c.args.grid.width c.args.grid.height c.parts.at c.args.y n c.plane-own.ensures.value c.place-stands.ensures c.plane-own.ensures.full (omega arith) (omega arith) c.requires.top c.requires.bottom stands
+    (subst (λ (r : Rect). IsCut (view_of c.args.grid.width c.args.grid.height r t.cells) f) (sym place-is) (subst (λ (u : Raster _). IsCut (view_of c.args.grid.width c.args.grid.height (tile_at c.args.grid i) u.cells) f) (sym tile-is) (c.tile_of.ensures.value f shows))) here (omega arith) in
     ((λ no. absurd cc), (λ whole. c.if-not-same_run.ensures.1 (parts_same f p c.args.x c.args.y c.parts.at (c.parts.at - c.args.x) n c.args.count _ _ (omega arith) (omega arith) (part f shows) whole)))
 
 pub returns : goal.returns

@@ -43,7 +43,7 @@ returns-then-not-same_run g c =
     let top = c.loop-y.auto.y in
     let bottom = c.loop-y-test.true in
     let rows : RowsOf r c.args.at p f y (run_in own.cells stands own.width r.x y r.width) (run_in f.cells c.args.at f.width r.x y r.width)
-    = rows_of r c.args.place c.args.at stands p own f y r-is (omega arith) c.plane-own.ensures.value c.place-stands.ensures c.plane-own.ensures.full c.requires.width c.requires.height c.height.ensures.size c.requires.inside (omega arith) (omega arith) in
+    = rows_of r c.args.place c.args.at stands p own f y r-is (omega arith) c.plane-own.ensures.value c.place-stands.ensures c.plane-own.ensures.full c.requires.width c.requires.height c.height-height.ensures.size c.requires.inside (omega arith) (omega arith) in
     ((λ no. absurd cc), (λ shows. c.if-not-same_run.ensures.1 (row_same r c.args.place (cell_of (patch c.args.at f.cells)) p y _ _ r-is (omega arith) (omega arith) rows.own_size rows.other_size rows.own rows.other shows)))
 
 pub loop-y-preserved : goal.loop-y-preserved
@@ -59,5 +59,5 @@ loop-y-preserved g c =
     let top = c.loop-y.auto.y in
     let bottom = c.loop-y-test.true in
     let rows : RowsOf r c.args.at p f y (run_in own.cells stands own.width r.x y r.width) (run_in f.cells c.args.at f.width r.x y r.width)
-    = rows_of r c.args.place c.args.at stands p own f y r-is (omega arith) c.plane-own.ensures.value c.place-stands.ensures c.plane-own.ensures.full c.requires.width c.requires.height c.height.ensures.size c.requires.inside (omega arith) (omega arith) in
+    = rows_of r c.args.place c.args.at stands p own f y r-is (omega arith) c.plane-own.ensures.value c.place-stands.ensures c.plane-own.ensures.full c.requires.width c.requires.height c.height-height.ensures.size c.requires.inside (omega arith) (omega arith) in
     above_more r (cell_of (patch c.args.at f.cells)) p y _ _ rows.own rows.other (c.same_run.ensures.0 c.if-not-same_run.false) c.loop-y.invariant

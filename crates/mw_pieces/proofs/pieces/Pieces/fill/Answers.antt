@@ -36,7 +36,7 @@ pub loop-y-preserved : goal.loop-y-preserved
 loop-y-preserved g c = record {
   width = c.fill_row.ensures.width;
   height = c.fill_row.ensures.height;
-  first = subst (λ n. HasFirst c.args.self.now n _) (next_row c.loop-y.y c.args.self.now.place.width) c.fill_row.ensures.more;
+  first = subst (λ n. HasFirst c.args.self.now n c.fill_row.new.out.cells) (next_row c.loop-y.y c.args.self.now.place.width) c.fill_row.ensures.more;
 }
 
 pub returns-clause-values : goal.returns-clause-values

@@ -1,6 +1,7 @@
-use Rattle.std.proofs.Common.{◌≡◌, ◌-◌, ap, sym, subst, arith}
+use Rattle.std.proofs.Common.{◌≡◌, ◌+◌, ap, sym, subst, arith, ◌∙◌}
 use Rattle.mw_model.specs.declared.places.Rect.{Rect}
 use Rattle.mw_model.specs.Places.{Holds}
+use Rattle.mw_model.specs.Rasters.{Raster}
 use Rattle.mw_pieces.specs.Patches.{Patch}
 use Rattle.mw_pieces.proofs.Patches.{fills_more, patch_of, read_at}
 use Rattle.mw_pieces.proofs.pieces.Pieces.fill_row.Goals as goal
@@ -54,10 +55,15 @@ parts-preserved g c =
     let out-is = c.copy_run.ensures in
     let count = c.min-count.ensures in
     let test = c.parts-test.true in
+    let holds : Holds p.place (c.place-place.result.x + c.parts.done) (c.place-place.result.y + c.args.y)
+    = subst (λ (q : Patch _). Holds q.place (c.place-place.result.x + c.parts.done) (c.place-place.result.y + c.args.y)) (sym is) c.find-k.ensures.holds in
+    let right = holds.right in
+    let xs = ap (λ (q : Rect). q.x) c.place-held.ensures in
+    let vs = ap (λ (q : Rect). q.width) c.place-held.ensures in
     record {
       to = omega arith;
-      width = ap (λ t. t.width) out-is ∙ c.parts.invariant.width;
-      height = ap (λ t. t.height) out-is ∙ c.parts.invariant.height;
+      width = ap (λ (t : Raster _). t.width) out-is ∙ c.parts.invariant.width;
+      height = ap (λ (t : Raster _). t.height) out-is ∙ c.parts.invariant.height;
       first = fills_more j c.place-place.result c.place-held.result c.find-k.result c.args.y c.parts.done c.min-count.result p c.plane.result.now c.parts.out _ c.pieces-pieces.ensures.joint c.find-k.ensures.within is place-is c.place-held.ensures
           c.plane.ensures.value c.find-k.ensures.holds (omega arith) (omega arith) c.requires.down c.parts.invariant.width out-is c.parts.invariant.first;
     }
