@@ -11,6 +11,7 @@ ghost use Rattle.mw_netpbm.specs.Faults.{bitmap_code_of, facts_of};
 use crate::fault::{BitmapFault, ReadFault, as_bitmap_fault};
 use crate::head::read_bitmap_head;
 use crate::plain::{self, Places};
+use crate::sets;
 use mw_pixel::{Bit, Plane};
 use std::alloc::Global;
 
@@ -60,11 +61,9 @@ fn pixels(alloc: Global, bytes: &[u8], side: u32) -> Result<Plane<Bit>, ReadFaul
     match read_bitmap_head(bytes, side) {
         Err(fault) => Err(fault),
         Ok((head, rest)) => {
-            let count = head.height as usize * head.width as usize;
-            let found = plain::samples(alloc, Places::Pixels, count, rest);
-            match found {
+            match sets::set(alloc, head.width as u32, head.height as u32, rest) {
                 Err(fault) => Err(fault),
-                Ok(samples) => Ok(Plane::new(head.width as u32, head.height as u32, samples)),
+                Ok(words) => Ok(Plane::of_words(words)),
             }
         }
     }

@@ -16,7 +16,7 @@ use mw_pixel::Pixel;
 use std::alloc::{AllocError, Global};
 
 #[tactic(auto, unfolding(crate::specs::Plain::tail_at))]
-fn tail(bytes: &[u8]) -> Result<(), ReadFault>
+pub(crate) fn tail(bytes: &[u8]) -> Result<(), ReadFault>
     ensures { fault_of result ≡ fault_of (tail_at bytes.now) }
 {
     match bytes {
@@ -27,7 +27,7 @@ fn tail(bytes: &[u8]) -> Result<(), ReadFault>
 }
 
 #[tactic(auto, unfolding(crate::specs::Plain::bit_at, crate::specs::Plain::pixel_at))]
-fn pixel(left: usize, bytes: &[u8]) -> Result<(u16, &[u8]), ReadFault>
+pub(crate) fn pixel(left: usize, bytes: &[u8]) -> Result<(u16, &[u8]), ReadFault>
     ensures value { seen (λ x. (x.0, x.1.now)) result ≡ pixel_at left bytes.now }
     ensures small { IfOk result (λ x. x.0 ≤ 1) }
 {
@@ -181,7 +181,7 @@ fn fill<P: Pixel>(
 
 /// The first fault, without memory.
 #[inline(never)]
-fn check(places: Places, count: usize, bytes: &[u8]) -> Result<(), ReadFault>
+pub(crate) fn check(places: Places, count: usize, bytes: &[u8]) -> Result<(), ReadFault>
     ensures { fault_of result ≡ fault_of (plain_at (place_at places) count bytes.now) }
 {
     match count_ones(places, count, bytes) {

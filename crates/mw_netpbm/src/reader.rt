@@ -3,37 +3,35 @@
 ghost use Rattle.std.specs.Prelude.{◌≡◌, ℕ, ◌≤◌, ◌<◌, ◌*◌, ◌-◌, ◌^◌, List, length, drop, ◌≢◌, IfOk, IfErr, Ok, Err, true, nat_lt, MatchResult};
 ghost use Rattle.mw_netpbm.specs.Reading.{seen, Gives};
 ghost use Rattle.mw_netpbm.specs.Heading.{head_at, limits};
-ghost use Rattle.mw_netpbm.specs.Whole.{IsFit, set_from, grey_from, image_at, reading};
+ghost use Rattle.mw_netpbm.specs.Whole.{IsFit, grey_from, image_at, reading};
 ghost use Rattle.mw_netpbm.specs.Faults.{code_of};
 ghost use Rattle.mw_model.specs.NetpbmGrammar.{IsFile};
 ghost use Rattle.mw_model.specs.NetpbmRefusals.{Refuses};
 ghost use Rattle.mw_model.specs.Pictures.{Picture, IsImage};
+ghost use Rattle.mw_pixel.specs.Images.{set_of};
 ghost use Rattle.mw_model.specs.declared.formats.Format.TheVariants as Format;
 
 use crate::fault::ReadFault;
 use crate::head::{check_limits, read_head};
 use crate::plain::{self, Places};
-use crate::raw;
+use crate::{raw, sets};
 use mw_model::{Format, Header};
-use mw_pixel::{Bit, Image, Plane};
+use mw_pixel::{Image, Plane};
+use mw_words::Words;
 use std::alloc::Global;
 use std::sync::Arc;
 
-/// The set of these pixels.
+/// The image of the set that was found.
 #[tactic(auto, using(crate::proofs::Faults::Fails_from))]
-fn set_image(
-    alloc: Global,
-    width: u32,
-    height: u32,
-    found: Result<Vec<Bit>, ReadFault>,
-) -> Result<Image, ReadFault>
-    requires { IfOk found (λ v. IsFit (height * width) 1 v.items) }
-    ensures { Gives (λ i. i) result (set_from width height (seen (λ v. v.items) found)) }
+fn set_image(alloc: Global, found: Result<Words, ReadFault>) -> Result<Image, ReadFault>
+    ensures { Gives (λ i. i) result (seen set_of found) }
 {
     match found {
         Err(fault) => Err(fault),
-        Ok(samples) => {
-            let plane = Plane::new(width, height, samples);
+        Ok(words) => {
+            let plane = Plane::of_words(words);
+            // for its samples
+            let _words = plane.words();
             Ok(Image::bits(Arc::new(alloc, plane)?))
         }
     }
@@ -99,12 +97,12 @@ fn raster(alloc: Global, head: &Header, raster: &[u8]) -> Result<Image, ReadFaul
     let count = height as usize * width as usize;
     match head.format {
         Format::PlainBits => {
-            let found = plain::samples(alloc, Places::Pixels, count, raster);
-            set_image(alloc, width, height, found)
+            let found = sets::set(alloc, width, height, raster);
+            set_image(alloc, found)
         }
         Format::RawBits => {
-            let found = raw::bits(alloc, width as usize, height as usize, raster);
-            set_image(alloc, width, height, found)
+            let found = raw::bits(alloc, width, height, raster);
+            set_image(alloc, found)
         }
         Format::PlainGrey if maxval < 256 => {
             let found = plain::samples(alloc, Places::Samples(maxval), count, raster);

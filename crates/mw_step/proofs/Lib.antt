@@ -1,5 +1,6 @@
 -- the crate's own
 mod Images
+mod Levels
 mod PlaceByPlace
 mod OfTasks
 mod SameMembers

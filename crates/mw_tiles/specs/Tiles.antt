@@ -1,5 +1,5 @@
 -- Planes that are made tile by tile: what is placed of one, and of which whole planes that is a part (own).
-use Rattle.std.specs.Prelude.{◌≡◌, ℕ, ◌+◌, ◌*◌, ◌<◌, ◌≤◌, ◌++◌, All, List, length, map, replicate, Option, Some, None, IsSome, option_map, slice_get, slice_index_or}
+use Rattle.std.specs.Prelude.{◌≡◌, ℕ, ◌+◌, ◌*◌, ◌<◌, ◌≤◌, All, List, length, map, replicate, Option, Some, None, IsSome, option_map, slice_index_or}
 use Rattle.mw_model.specs.declared.places.Rect.{Rect}
 use Rattle.mw_model.specs.declared.shapes.Kind.{Kind}
 use Rattle.mw_model.specs.Places.{Holds}
@@ -11,6 +11,7 @@ use Rattle.mw_grid.specs.Grids.{Tiling, tile_at, tile_count}
 use Rattle.mw_tile.specs.Windows.{IsCut}
 use Rattle.mw_tile.specs.Cuts.{view_of}
 use Rattle.mw_pixel.specs.Images.{raster_of}
+use Rattle.mw_pieces.specs.Patches.{Patch, cell_of, frame_value}
 
 -- A plane on a frame that is cut into tiles: its kind and maxval, and the cells of each tile that is placed.
 pub record Tiled : Type 0 where
@@ -80,9 +81,9 @@ HasAt g tiles x y = (i : ℕ) → i < tile_count g → Holds (tile_at g i) x y �
 abbrev pub HasAll : {A : Type 0} → Tiling → List (Option (List A)) → Rect → Type 0
 HasAll g tiles r = (x y : ℕ) → Holds r x y → HasAt g tiles x y
 
--- the row is what the frame has from column x of row y on
-abbrev pub HasRun : {A : Type 0} → Raster A → ℕ → ℕ → List A → Type 0
-HasRun f x y row = (k : ℕ) → k < length row → slice_get row k ≡ slice_get f.cells (y * f.width + (x + k))
+-- in so many columns of a row from x on the piece has what the frame has
+abbrev pub ShowsRun : {A : Type 0} → Raster A → Patch A → ℕ → ℕ → ℕ → Type 0
+ShowsRun f p x y n = (k : ℕ) → k < n → cell_of p (x + k) y ≡ frame_value f (x + k) y
 
 -- this image is one of those of which the plane is a part: it is of the plane's kind, maxval and frame, and has in each tile that is placed the cells that are placed
 pub record IsPlaneOf (p : Tiled) (f : Picture) : Type 0 where
@@ -98,15 +99,3 @@ AreMade s sources p = (i : ℕ) (cells : List ℕ) → i < tile_count p.tiling �
 -- the tiles under a row are placed, from column x up to column `end`
 abbrev pub HasAlong : {A : Type 0} → Tiling → List (Option (List A)) → ℕ → ℕ → ℕ → Type 0
 HasAlong g tiles x y end = (k : ℕ) → x ≤ k → k < end → HasAt g tiles k y
-
--- the new cells are the old and behind them n more, which each whole frame with these tiles has from column x of row y on
-pub record HasRowMore {A : Type 0} (g : Tiling) (tiles : List (Option (List A))) (x y n : ℕ) (old new : List A) : Type 0 where
-  pub row : List A
-  pub is : new ≡ old ++ row
-  pub size : length row ≡ n
-  pub shows : (f : Raster A) → ShowsTiles g tiles f → HasRun f x y row
-
--- a list has the first rows of a rectangle of each whole frame with these tiles
-pub record HasFirstRows {A : Type 0} (g : Tiling) (tiles : List (Option (List A))) (r : Rect) (y : ℕ) (cells : List A) : Type 0 where
-  pub size : length cells ≡ y * r.width
-  pub shows : (f : Raster A) → ShowsTiles g tiles f → (i j : ℕ) → i < r.width → j < y → slice_get cells (j * r.width + i) ≡ slice_get f.cells ((r.y + j) * f.width + (r.x + i))

@@ -1,21 +1,21 @@
 //! Whether a window in pieces is what the tiles have in its rectangle. Where a piece is the size of a tile and in its place,
 //! it is compared with that tile row by row; another is compared row part by row part.
 
-ghost use Rattle.std.specs.Prelude.{◌≡◌, ◌↔◌, ◌+◌, ◌*◌, ◌<◌, ◌≤◌, IsTrue, length};
+ghost use Rattle.std.specs.Prelude.{◌↔◌, ◌+◌, ◌<◌, ◌≤◌, IsTrue};
 ghost use Rattle.mw_model.specs.Places.{IsWithin};
 ghost use Rattle.mw_model.specs.Rasters.{Raster};
 ghost use Rattle.mw_pieces.specs.Patches.{frame_value, IsPatchOf, ShowsFrame, ShowsIn};
-ghost use Rattle.mw_tiles.specs.Tiles.{cells_of, HasAll, HasAlong, HasRun, HasSides, ShowsTiles};
+ghost use Rattle.mw_tiles.specs.Tiles.{cells_of, HasAll, HasAlong, HasSides, ShowsRun, ShowsTiles};
 
-use crate::parts::{part, whole_tile};
+use crate::parts::{tile_number, tile_of, whole_tile};
 use crate::placed::Placed;
 use mw_grid::Grid;
-use mw_lane::{Lanes, equal_rows};
 use mw_model::Rect;
 use mw_pieces::{Piece, Pieces, overlap};
+use mw_pixel::Planar;
 
 /// Whether the window is one of the tiles' frame, and shows what the tiles have there.
-pub(crate) fn are_tiles<P: Lanes>(
+pub(crate) fn are_tiles<P: Planar>(
     grid: Grid,
     tiles: &[Option<Placed<P>>],
     window: &Pieces<P>,
@@ -41,7 +41,7 @@ pub(crate) fn are_tiles<P: Lanes>(
 }
 
 /// Whether the piece has in the rectangle what the tiles have there.
-fn is_piece<P: Lanes>(
+fn is_piece<P: Planar>(
     grid: Grid,
     tiles: &[Option<Placed<P>>],
     place: Rect,
@@ -63,7 +63,7 @@ fn is_piece<P: Lanes>(
 }
 
 /// The same, where no tile stands in the piece's place.
-fn has_rows<P: Lanes>(
+fn has_rows<P: Planar>(
     grid: Grid,
     tiles: &[Option<Placed<P>>],
     place: Rect,
@@ -82,32 +82,46 @@ fn has_rows<P: Lanes>(
         return true;
     }
     for y in here.y..here.y + here.height {
-        let row = piece.part(here.x, y, here.width);
-        if !is_row(grid, tiles, row, here.x, y) {
+        if !is_row(grid, tiles, piece, here.x, y, here.width) {
             return false;
         }
     }
     true
 }
 
-/// Whether the samples are those of row y from column x on.
-fn is_row<P: Lanes>(grid: Grid, tiles: &[Option<Placed<P>>], row: &[P], x: u32, y: u32) -> bool
+/// Whether so many samples of row y of the piece from column x on are those of the tiles.
+fn is_row<P: Planar>(
+    grid: Grid,
+    tiles: &[Option<Placed<P>>],
+    piece: &Piece<P>,
+    x: u32,
+    y: u32,
+    count: u32,
+) -> bool
     requires sides { HasSides grid tiles.now }
-    requires across { x + length row.now ≤ grid.width }
+    requires across { x + count ≤ grid.width }
     requires down { y < grid.height }
-    requires placed { HasAlong grid (cells_of tiles.now) x y (x + length row.now) }
-    ensures { (f : Raster P) → ShowsTiles grid (cells_of tiles.now) f → IsTrue result ↔ HasRun f x y row.now }
+    requires placed { HasAlong grid (cells_of tiles.now) x y (x + count) }
+    requires left { piece.now.place.x ≤ x }
+    requires right { x + count ≤ piece.now.place.x + piece.now.place.width }
+    requires top { piece.now.place.y ≤ y }
+    requires bottom { y < piece.now.place.y + piece.now.place.height }
+    ensures { (f : Raster P) → ShowsTiles grid (cells_of tiles.now) f → IsTrue result ↔ ShowsRun f piece.now x y count }
 {
-    let _width = grid.width();
-    let end = x + row.len() as u32;
+    // for their ranges
+    let (_width, _height) = (grid.width(), grid.height());
+    let (own, stands) = (piece.plane(), piece.place());
+    let end = x + count;
     let mut at = x;
     'parts: while at < end {
-        let held = part(grid, tiles, at, y, end);
-        let from = (at - x) as usize;
-        if !equal_rows(held, &row[from..from + held.len()]) {
+        let i = tile_number(grid, at, y);
+        let (tile, place) = (tile_of(grid, tiles, i).plane(), grid.rect(i));
+        let stop = end.min(place.x + place.width);
+        let (row, held) = (y - stands.y, y - place.y);
+        if !own.same_run(at - stands.x, row, tile, at - place.x, held, stop - at) {
             return false;
         }
-        at += held.len() as u32;
+        at = stop;
     }
     true
 }

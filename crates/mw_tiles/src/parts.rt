@@ -1,20 +1,20 @@
-//! Rows of a plane, read tile by tile.
+//! Tiles of a plane, by their numbers and places.
 
-ghost use Rattle.std.specs.Prelude.{◌≡◌, ℕ, ◌+◌, ◌-◌, ◌*◌, ◌<◌, ◌≤◌, IfSome, length, slice_range};
+ghost use Rattle.std.specs.Prelude.{◌+◌, ◌*◌, ◌<◌, IfSome, IsSome};
 ghost use Rattle.mw_model.specs.Rasters.{Raster};
 ghost use Rattle.mw_model.specs.Places.{Holds};
 ghost use Rattle.mw_grid.specs.Grids.{tile_at, tile_count};
 ghost use Rattle.mw_tile.specs.Windows.{IsCut};
 ghost use Rattle.mw_tile.specs.Cuts.{view_of};
-ghost use Rattle.mw_tiles.specs.Tiles.{cells_of, HasAt, HasRun, HasSides, ShowsTiles, StandsIn};
+ghost use Rattle.mw_tiles.specs.Tiles.{cells_of, tile_cells, HasSides, ShowsTiles, StandsIn};
 
 use crate::placed::Placed;
 use mw_grid::Grid;
 use mw_model::Rect;
-use mw_pixel::{Pixel, Plane};
+use mw_pixel::Planar;
 
 /// The number of the tile that has column x of row y.
-fn tile_number(grid: Grid, x: u32, y: u32) -> u32
+pub(crate) fn tile_number(grid: Grid, x: u32, y: u32) -> u32
     requires across { x < grid.width }
     requires down { y < grid.height }
     ensures within { result < tile_count grid }
@@ -26,7 +26,7 @@ fn tile_number(grid: Grid, x: u32, y: u32) -> u32
 }
 
 /// The tile that the rectangle is, if it is one, and placed.
-pub(crate) fn whole_tile<P: Pixel>(
+pub(crate) fn whole_tile<P: Planar>(
     grid: Grid,
     tiles: &[Option<Placed<P>>],
     rect: Rect,
@@ -48,43 +48,16 @@ pub(crate) fn whole_tile<P: Pixel>(
     }
 }
 
-/// The samples of row y from column x to the end of the tile there, or to column `end` if that comes first.
-pub(crate) fn part<P: Pixel>(
-    grid: Grid,
-    tiles: &[Option<Placed<P>>],
-    x: u32,
-    y: u32,
-    end: u32,
-) -> &[P]
+/// The tile of a number.
+pub(crate) fn tile_of<P: Planar>(grid: Grid, tiles: &[Option<Placed<P>>], i: u32) -> &Placed<P>
     requires sides { HasSides grid tiles.now }
-    requires some { x < end }
-    requires across { end ≤ grid.width }
-    requires down { y < grid.height }
-    requires placed { HasAt grid (cells_of tiles.now) x y }
-    ensures some { 1 ≤ length result.now }
-    ensures fits { x + length result.now ≤ end }
-    ensures value { (f : Raster P) → ShowsTiles grid (cells_of tiles.now) f → HasRun f x y result.now }
+    requires within { i < tile_count grid }
+    requires placed { IsSome (tile_cells (cells_of tiles.now) i) }
+    ensures stands { StandsIn (tile_at grid i) result.now }
+    ensures value { (f : Raster P) → ShowsTiles grid (cells_of tiles.now) f → IsCut (view_of grid.width grid.height (tile_at grid i) result.now.cells) f }
 {
-    let _width = grid.width();
-    let i = tile_number(grid, x, y);
-    let tile = grid.rect(i);
     match &tiles[i as usize] {
-        Some(placed) => part_in(tile, placed.plane(), x, y, end),
-        None => &[],
+        Some(placed) => placed,
+        None => unreachable!(),
     }
-}
-
-/// The samples of a row of a tile, from a column of the frame to the tile's end or to column `end`.
-fn part_in<P: Pixel>(tile: Rect, plane: &Plane<P>, x: u32, y: u32, end: u32) -> &[P]
-    requires holds { Holds tile x y }
-    requires stands { StandsIn tile plane.now }
-    requires some { x < end }
-    requires small { tile.x + tile.width ≤ 8192 }
-    ensures some { 1 ≤ length result.now }
-    ensures fits { x + length result.now ≤ end }
-    ensures inside { x + length result.now ≤ tile.x + tile.width }
-    ensures value { result.now ≡ slice_range plane.now.cells ((y - tile.y) * plane.now.width + (x - tile.x)) ((y - tile.y) * plane.now.width + (x - tile.x) + length result.now) }
-{
-    let count = end.min(tile.x + tile.width) - x;
-    plane.part(x - tile.x, y - tile.y, count)
 }

@@ -4,17 +4,17 @@ ghost use Rattle.std.specs.Prelude.{◌≡◌, ◌*◌, IfOk, length};
 ghost use Rattle.std.specs.Arc.{arc_value};
 
 use mw_model::NoMemory;
-use mw_pixel::{Pixel, Plane};
+use mw_pixel::{Planar, Plane};
 use std::marker::Model;
 use std::sync::Arc;
 
 /// A tile that is placed. It shares its plane with all who read it.
 #[derive(Drop)]
-pub(crate) struct Placed<P: Pixel> {
+pub(crate) struct Placed<P: Planar> {
     plane: Arc<Plane<P>>,
 }
 
-impl<P: Pixel> Model for Placed<P> {
+impl<P: Planar> Model for Placed<P> {
     ghost use Rattle.std.specs.Arc.{arc_value};
     ghost use Rattle.mw_model.specs.Rasters.{Raster};
 
@@ -23,7 +23,7 @@ impl<P: Pixel> Model for Placed<P> {
     ghost view = { λ t. arc_value t.plane };
 }
 
-impl<P: Pixel> Placed<P> {
+impl<P: Planar> Placed<P> {
     /// The tile with this plane.
     pub(crate) fn new(plane: Arc<Plane<P>>) -> Placed<P>
         ensures value { result ≡ arc_value plane }

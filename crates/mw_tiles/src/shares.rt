@@ -12,11 +12,11 @@ use crate::placed::Placed;
 use mw_grid::Grid;
 use mw_model::{NoMemory, Rect};
 use mw_pieces::{Piece, Pieces};
-use mw_pixel::Pixel;
+use mw_pixel::Planar;
 use std::alloc::Global;
 
 /// Adds a tile, if it is placed.
-fn push_tile<P: Pixel>(
+fn push_tile<P: Planar>(
     grid: Grid,
     tiles: &[Option<Placed<P>>],
     i: u32,
@@ -39,7 +39,7 @@ fn push_tile<P: Pixel>(
 }
 
 /// Adds the tiles of the numbers from `first` up to `end`, those that are placed.
-fn push_tiles<P: Pixel>(
+fn push_tiles<P: Planar>(
     grid: Grid,
     tiles: &[Option<Placed<P>>],
     first: u32,
@@ -68,7 +68,7 @@ fn end_of(side: u32, at: u32, count: u32) -> u32
 }
 
 /// The tiles that a rectangle meets, those that are placed.
-fn tiles_met<P: Pixel>(
+fn tiles_met<P: Planar>(
     alloc: Global,
     grid: Grid,
     tiles: &[Option<Placed<P>>],
@@ -98,7 +98,7 @@ fn tiles_met<P: Pixel>(
 }
 
 /// The window of a rectangle whose tiles are placed, as those tiles.
-pub(crate) fn pieces_of<P: Pixel>(
+pub(crate) fn pieces_of<P: Planar>(
     alloc: Global,
     grid: Grid,
     tiles: &[Option<Placed<P>>],

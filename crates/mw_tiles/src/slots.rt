@@ -7,11 +7,11 @@ ghost use Rattle.mw_tiles.specs.Tiles.{cells_in_raster, cells_of, HasSides, Stan
 use crate::placed::Placed;
 use mw_grid::Grid;
 use mw_model::NoMemory;
-use mw_pixel::Pixel;
+use mw_pixel::Planar;
 use std::alloc::Global;
 
 /// So many places without a tile.
-pub(crate) fn no_tiles<P: Pixel>(
+pub(crate) fn no_tiles<P: Planar>(
     alloc: Global,
     count: usize,
 ) -> Result<Vec<Option<Placed<P>>>, NoMemory>
@@ -25,7 +25,7 @@ pub(crate) fn no_tiles<P: Pixel>(
 }
 
 /// Writes a tile, or that there is none, over what stands in a place.
-pub(crate) fn put<P: Pixel>(
+pub(crate) fn put<P: Planar>(
     grid: Grid,
     tiles: &mut [Option<Placed<P>>],
     i: u32,
@@ -41,7 +41,7 @@ pub(crate) fn put<P: Pixel>(
 }
 
 /// One more owner of each tile, in the same places.
-pub(crate) fn share_tiles<P: Pixel>(
+pub(crate) fn share_tiles<P: Planar>(
     alloc: Global,
     tiles: &[Option<Placed<P>>],
 ) -> Result<Vec<Option<Placed<P>>>, NoMemory>
@@ -55,7 +55,7 @@ pub(crate) fn share_tiles<P: Pixel>(
 }
 
 /// One more owner of a tile, if it is placed.
-fn share_tile<P: Pixel>(tile: &Option<Placed<P>>) -> Result<Option<Placed<P>>, NoMemory>
+fn share_tile<P: Planar>(tile: &Option<Placed<P>>) -> Result<Option<Placed<P>>, NoMemory>
     ensures { IfOk result (λ t. t ≡ tile.now) }
 {
     match tile {

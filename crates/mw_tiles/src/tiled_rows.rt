@@ -1,20 +1,19 @@
-//! Whole planes, read row by row. A row goes where there is room for it, so that reading one asks for no memory.
+//! Whole planes, read row by row. A row goes over that of a plane of one row, so that reading one asks for no memory.
 
 use crate::placed::Placed;
-use crate::rows::push_row;
+use crate::rows::copy_row;
 use mw_grid::Grid;
-use mw_model::NoMemory;
-use mw_pixel::{Bit, Pixel};
+use mw_pixel::{Bit, Planar, Plane};
 use std::marker::Model;
 
 /// The tiles of a frame, all of them placed.
 #[derive(Drop)]
-pub struct TiledRows<'a, P: Pixel> {
+pub struct TiledRows<'a, P: Planar> {
     grid: Grid,
     tiles: &'a [Option<Placed<P>>],
 }
 
-impl<'a, P: Pixel> Model for TiledRows<'a, P> {
+impl<'a, P: Planar> Model for TiledRows<'a, P> {
     ghost use Rattle.mw_tiles.specs.Tiles.{cells_of, HasSides};
     ghost use Rattle.mw_tiles.specs.Rows.{EachPlaced, TileCells};
 
@@ -25,8 +24,8 @@ impl<'a, P: Pixel> Model for TiledRows<'a, P> {
     ghost invariant = { λ r. HasSides r.grid r.tiles.now × EachPlaced r.grid (cells_of r.tiles.now) };
 }
 
-impl<'a, P: Pixel> TiledRows<'a, P> {
-    ghost use Rattle.std.specs.Prelude.{◌≡◌, ◌*◌, ◌<◌, ◌≤◌, take, drop, length, vec_capacity};
+impl<'a, P: Planar> TiledRows<'a, P> {
+    ghost use Rattle.std.specs.Prelude.{◌≡◌, ◌*◌, ◌<◌, ◌≤◌, take, drop, length};
     ghost use Rattle.mw_model.specs.Rasters.{Raster};
     ghost use Rattle.mw_tiles.specs.Tiles.{cells_of, HasSides};
     ghost use Rattle.mw_tiles.specs.Rows.{AreCutFrom, EachPlaced};
@@ -55,19 +54,17 @@ impl<'a, P: Pixel> TiledRows<'a, P> {
         self.grid.height()
     }
 
-    /// Puts the samples of row y in the place of those that stand in `row`, where there is room for them.
-    pub fn read(&self, y: u32, row: &mut Vec<P>)
+    /// Writes the samples of row y over those of a plane of one row.
+    pub fn read(&self, y: u32, row: &mut Plane<P>)
         requires down { y < self.now.tiling.height }
-        requires room { self.now.tiling.width ≤ vec_capacity row.old }
-        ensures value { (f : Raster P) → AreCutFrom f self.now → row.new.items ≡ take f.width (drop (y * f.width) f.cells) }
-        ensures count { length row.new.items ≡ self.now.tiling.width }
-        ensures room { vec_capacity row.old ≤ vec_capacity row.new }
+        requires width { row.old.width ≡ self.now.tiling.width }
+        requires height { row.old.height ≡ 1 }
+        ensures value { (f : Raster P) → AreCutFrom f self.now → row.new.cells ≡ take f.width (drop (y * f.width) f.cells) }
+        ensures width { row.new.width ≡ self.now.tiling.width }
+        ensures height { row.new.height ≡ 1 }
+        ensures count { length row.new.cells ≡ self.now.tiling.width }
     {
-        row.clear();
-        match push_row(self.grid, self.tiles, row, 0, y, self.grid.width()) {
-            Ok(()) => {}
-            Err(NoMemory) => unreachable!(),
-        }
+        copy_row(self.grid, self.tiles, y, row)
     }
 }
 

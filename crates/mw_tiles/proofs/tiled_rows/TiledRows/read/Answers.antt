@@ -1,20 +1,19 @@
-use Rattle.std.proofs.Common.{◌-◌, ap, arith, sym, subst}
+use Rattle.std.proofs.Common.{ap, arith, sym, subst}
 use Rattle.mw_tiles.specs.Rows.{AreCutFrom, TileCells}
 use Rattle.mw_tiles.specs.Tiles.{cells_of}
 use Rattle.mw_tiles.proofs.ReadRows.{row_is}
 use Rattle.mw_tiles.proofs.tiled_rows.TiledRows.read.Goals as goal
 
-pub push_row-requires : goal.push_row-requires
-push_row-requires g c = record {
+pub copy_row-requires : goal.copy_row-requires
+copy_row-requires g c = record {
   sides = c.self.invariant.0;
-  some = omega arith;
-  across = omega arith;
   down = omega (arith, ap (λ (t : TileCells _). t.tiling.height) c.self.view_is);
   placed = λ k le lt i within holds. c.self.invariant.1 i within;
+  width = omega (arith, c.requires.width, ap (λ (t : TileCells _). t.tiling.width) c.self.view_is);
+  height = c.requires.height;
 }
 
 pub returns-clause-value : goal.returns-clause-value
 returns-clause-value g c = λ f cut.
     let t : TileCells _ = record { tiling = c.self.inside.grid; tiles = cells_of c.self.inside.tiles.now } in
-    row_is t f c.args.y (c.width.result - 0) c.clear.new.self.items c.push_row.new.samples.items (omega (arith, ap (λ (t : TileCells _). t.tiling.height) c.self.view_is)) c.clear.ensures.items (omega (arith, c.width.ensures.value))
-    (subst (AreCutFrom f) (sym c.self.view_is) cut) c.in-Ok.ensures.value
+    row_is t f c.args.y c.copy_row.new.out (omega (arith, ap (λ (t : TileCells _). t.tiling.height) c.self.view_is)) (subst (AreCutFrom f) (sym c.self.view_is) cut) c.copy_row.ensures
