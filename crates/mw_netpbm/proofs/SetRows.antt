@@ -2,7 +2,7 @@
 use Rattle.std.proofs.Common.{◌≡◌, ℕ, zero, suc, ◌+◌, ◌-◌, ◌*◌, ◌/◌, ◌<◌, ◌≤◌, List, [], ◌∷◌, ◌++◌, length, take, drop, replicate, get_or, refl, sym, ap, ◌∙◌, arith, inl, inr, length-take}
 use Rattle.std.specs.List.{flat_map}
 use Rattle.std.proofs.lemmas.Bool.{cases_lt}
-use Rattle.std.proofs.lemmas.List.{get_or-take, get_or-drop, get_or_past, drop-drop}
+use Rattle.std.proofs.lemmas.List.{get_or-take, get_or-drop, get_or_past, drop-drop, take_all}
 use Rattle.mw_model.specs.NetpbmWriting.{byte_of, packed, packed_rows}
 use Rattle.mw_words.specs.Packed.{bit_of}
 use Rattle.mw_netpbm.specs.SetWords.{pixels_of}
@@ -53,3 +53,13 @@ one_row_more width height y out new cells total lt so_far e =
     ap (λ (n : ℕ). new ++ packed_rows width (height - (y + 1)) (drop n cells)) (sym next)
     ∙ ap (λ (bs : List ℕ). new ++ packed_rows width (height - (y + 1)) bs) (sym (drop-drop width (y * width) cells))
     ∙ more_rows width height y out new (drop (y * width) cells) total lt so_far e
+
+-- the words of a set of one row are packed as its pixels
+pub only_row : (width height count : ℕ) (row cells : List ℕ) → height ≡ 1 → length cells ≡ height * width → ((x : ℕ) → x < width → bit_of row x ≡ get_or cells (0 * width + x) 0) → ((x : ℕ) → width ≤ x → bit_of row x ≡ 0)
+    → packed count (flat_map pixels_of row) ≡ packed count cells
+only_row width height count row cells one size bits clean =
+    let whole : length cells ≡ 1 * width = size ∙ ap (λ (n : ℕ). n * width) one in
+    row_bytes width count (0 * width) row cells bits clean ∙ ap (λ (n : ℕ). packed count (take width (drop n cells))) (none width) ∙ ap (packed count) (take_all width cells (omega arith))
+  where
+    none : (n : ℕ) → 0 * n ≡ 0
+    none n = omega arith

@@ -70,6 +70,13 @@ impl<P: Planar> Plane<P> {
         self.held.at(x, y)
     }
 
+    /// What holds the samples.
+    pub fn held(&self) -> &P::Held
+        ensures { P.Held.shown result.now ≡ self.now }
+    {
+        &self.held
+    }
+
     /// Whether both planes have the same sides and samples.
     pub fn same(&self, other: &Plane<P>) -> bool
         ensures { IsTrue result ↔ (self.now ≡ other.now) }
