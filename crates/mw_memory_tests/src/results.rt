@@ -2,11 +2,12 @@
 //! as it was.
 
 use crate::makers::has;
-use mw_bits::{WordExtremum, Words};
+use mw_bits::WordExtremum;
 use mw_line::{Steps, line, rectangle};
 use mw_model::{NoMemory, Offset, OffsetBox, Rect};
+use mw_netpbm::{BitmapFault, read_plain_bitmap};
 use mw_offset::extremum;
-use mw_pixel::{Bit, Extremum, Max, Min, Pixel, Plane};
+use mw_pixel::{Bit, Extremum, Grey, Max, Min, Plane};
 use mw_rank::rank;
 use mw_tile::Window;
 use std::alloc::Global;
@@ -56,12 +57,12 @@ fn far_in_a_row(width: u32) -> Rect {
     }
 }
 
-fn copied<P: Pixel>(alloc: Global, samples: &[P]) -> Result<Vec<P>, Fail> {
+fn copied<P: Grey>(alloc: Global, samples: &[P]) -> Result<Vec<P>, Fail> {
     Ok(once_more!(_, samples.to_vec(alloc)))
 }
 
 /// The window that has a whole row of so many samples.
-fn row_of<P: Pixel>(rt: &impl Abort, width: u32, samples: Vec<P>) -> Window<P> {
+fn row_of<P: Grey>(rt: &impl Abort, width: u32, samples: Vec<P>) -> Window<P> {
     assert!(rt; samples.len() == width as usize);
     Window::whole(Plane::new(width, 1, samples))
 }
@@ -200,39 +201,32 @@ fn ranks(rt: HostRuntime) -> Result<(), Fail> {
 
 const SET: [u16; 7] = [0, 1, 1, 1, 0, 1, 0];
 
-/// The words of the set, from a window that stays as it was.
-fn words_of_set(rt: &impl Abort, alloc: Global) -> Result<Words, Fail> {
-    let (zero, one) = (Bit::new(false), Bit::SET);
-    let pixels = [zero, one, one, one, zero, one, zero];
-    let window = row_of(rt, 7, copied(alloc, &pixels)?);
-    let words = once_more!(NoMemory, Words::from_plane(alloc, &window));
-    assert!(rt; window.samples() == pixels.as_slice());
-    Ok(words)
-}
-
-/// Whether the words are these seven pixels.
-fn are_pixels(alloc: Global, words: &Words, pixels: &[u16]) -> Result<bool, Fail> {
-    let plane = once_more!(NoMemory, words.to_plane(alloc));
-    Ok(has(&plane, 7, 1, pixels))
+/// The window that has the set.
+fn set(alloc: Global) -> Result<Window<Bit>, Fail> {
+    let plane = once_more!(
+        BitmapFault::NoMemory,
+        read_plain_bitmap(alloc, b"P1\n7 1\n0111010\n", 255)
+    );
+    Ok(Window::whole(plane))
 }
 
 fn extremum_of<E: WordExtremum>(
     alloc: Global,
-    words: &Words,
+    set: &Window<Bit>,
     offsets: &[Offset],
     tile: Rect,
-) -> Result<Words, NoMemory> {
-    words.extremum::<E>(alloc, offsets, tile)
+) -> Result<Plane<Bit>, NoMemory> {
+    mw_bits::extremum::<E>(alloc, set, offsets, tile)
 }
 
 fn words_by<E: WordExtremum>(
     alloc: Global,
-    words: &Words,
+    set: &Window<Bit>,
     offsets: &[Offset],
     tile: Rect,
-) -> Result<Words, NoMemory> {
-    match extremum_of::<E>(alloc, words, offsets, tile) {
-        Err(NoMemory) => extremum_of::<E>(alloc, words, offsets, tile),
+) -> Result<Plane<Bit>, NoMemory> {
+    match extremum_of::<E>(alloc, set, offsets, tile) {
+        Err(NoMemory) => extremum_of::<E>(alloc, set, offsets, tile),
         first => first,
     }
 }
@@ -245,10 +239,10 @@ fn is_extremum<E: WordExtremum>(
     tile: Rect,
     wanted: &[u16],
 ) -> Result<(), Fail> {
-    let words = words_of_set(rt, alloc)?;
-    let made = words_by::<E>(alloc, &words, offsets, tile)?;
-    assert!(rt; are_pixels(alloc, &made, wanted)?);
-    assert!(rt; are_pixels(alloc, &words, &SET)?);
+    let set = set(alloc)?;
+    let made = words_by::<E>(alloc, &set, offsets, tile)?;
+    assert!(rt; has(&made, 7, 1, wanted));
+    assert!(rt; has(set.plane(), 7, 1, &SET));
     Ok(())
 }
 

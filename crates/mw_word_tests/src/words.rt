@@ -1,10 +1,10 @@
 //! Sets as words beside the plain program, over tiles and over the whole frame, at the seams of the words.
 
-use mw_bits::{WordExtremum, Words};
+use mw_bits::{WordExtremum, count, extremum};
 use mw_element::Element;
 use mw_images_for_tests::{
-    BAR, Part, bit_row, element, extrema, full_square, long_line, noise, parts_of, plane_of,
-    shows_tile,
+    BAR, Part, bit_row, element, extrema, full_square, levels_of, long_line, noise, parts_of,
+    plane_of, shows_tile,
 };
 use mw_model::plain::PlainImage;
 use mw_model::{Kind, NoMemory, Offset, Rect};
@@ -16,23 +16,23 @@ use std::test::Fail;
 
 fn words_by<E: WordExtremum>(
     alloc: Global,
-    words: &Words,
+    set: &Window<Bit>,
     offsets: &[Offset],
     tile: Rect,
-) -> Result<Words, NoMemory> {
-    words.extremum::<E>(alloc, offsets, tile)
+) -> Result<Window<Bit>, NoMemory> {
+    Ok(Window::whole(extremum::<E>(alloc, set, offsets, tile)?))
 }
 
-/// Whether the words are the pixels of the tile, and are counted so.
+/// Whether the set has the pixels of the tile, and is counted so.
 fn show_tile(
     alloc: Global,
-    words: &Words,
+    set: &Window<Bit>,
     tile: Rect,
     whole: &PlainImage,
-) -> Result<bool, NoMemory> {
-    let plane = words.to_plane(alloc)?;
-    let count = plane.samples().iter().filter(|s| s.is_set()).count() as u64;
-    Ok(words.count() == count && shows_tile(&plane, tile, whole))
+) -> Result<bool, Fail> {
+    let pixels = levels_of(alloc, set.plane())?;
+    let wanted = pixels.iter().filter(|s| **s == 1).count() as u64;
+    Ok(count(set) == wanted && shows_tile(set.plane(), tile, whole))
 }
 
 /// Stops where the words do not give in the tile what is wanted there of the whole frame.
@@ -43,8 +43,7 @@ fn agree_on_tile<E: WordExtremum>(
     offsets: &[Offset],
     wanted: &PlainImage,
 ) -> Result<(), Fail> {
-    let words = Words::from_plane(alloc, &part.window)?;
-    let made = words_by::<E>(alloc, &words, offsets, part.tile)?;
+    let made = words_by::<E>(alloc, &part.window, offsets, part.tile)?;
     assert!(rt;
         show_tile(alloc, &made, part.tile, wanted)?,
         "words in {:?}",
@@ -168,36 +167,36 @@ fn any_set(alloc: Global) -> Result<PlainImage, Fail> {
     noise(alloc, Kind::Bit, 70, 3, 1)
 }
 
-/// All of a set as words.
-fn all_words(alloc: Global, set: &PlainImage) -> Result<Words, Fail> {
-    let window = Window::whole(plane_of::<Bit>(alloc, set)?);
-    Ok(Words::from_plane(alloc, &window)?)
+/// The window that has all of a set.
+fn window_of(alloc: Global, set: &PlainImage) -> Result<Window<Bit>, Fail> {
+    Ok(Window::whole(plane_of::<Bit>(alloc, set)?))
 }
 
-/// The words of all of a set, which are as wanted.
+/// What is made of all of a set, which is as wanted.
 fn made_as<E: WordExtremum>(
     rt: &impl Abort,
     alloc: Global,
-    words: &Words,
+    set: &Window<Bit>,
     offsets: &[Offset],
     wanted: &PlainImage,
-) -> Result<Words, Fail> {
-    let made = words_by::<E>(alloc, words, offsets, words.place())?;
-    assert!(rt; show_tile(alloc, &made, words.place(), wanted)?);
+) -> Result<Window<Bit>, Fail> {
+    let made = words_by::<E>(alloc, set, offsets, set.place())?;
+    assert!(rt; show_tile(alloc, &made, set.place(), wanted)?);
     Ok(made)
 }
 
-/// Both extrema of a set; the words of the erosion are handed back with it.
+/// Both extrema of a set; the erosion is handed back in words and in samples.
 fn made_by(
     rt: &impl Abort,
     alloc: Global,
     set: &PlainImage,
     offsets: &[Offset],
-) -> Result<(Words, PlainImage), Fail> {
-    let words = all_words(alloc, set)?;
+) -> Result<(Window<Bit>, PlainImage), Fail> {
+    let window = window_of(alloc, set)?;
     let (eroded, dilated) = extrema(alloc, set, offsets)?;
-    made_as::<Max>(rt, alloc, &words, offsets, &dilated)?;
-    Ok((made_as::<Min>(rt, alloc, &words, offsets, &eroded)?, eroded))
+    made_as::<Max>(rt, alloc, &window, offsets, &dilated)?;
+    let made = made_as::<Min>(rt, alloc, &window, offsets, &eroded)?;
+    Ok((made, eroded))
 }
 
 const APART: [Offset; 4] = [
