@@ -3,8 +3,10 @@
 
 ghost use Rattle.std.specs.Prelude.{◌≡◌};
 
+use mw_bits::at_least;
 use mw_model::Rect;
-use mw_pixel::{Pixel, Plane};
+use mw_pixel::{Bit, Grey, Pixel, Planar, Plane};
+use mw_tile::Window;
 use std::alloc::Global;
 use std::process::Abort;
 
@@ -90,7 +92,7 @@ fn sample<P: Pixel>(x: u32, y: u32) -> P {
 }
 
 /// A plane that rises with each column and each row.
-pub(crate) fn slope<P: Pixel>(rt: &impl Abort, alloc: Global, sides: Sides) -> Plane<P> {
+pub(crate) fn slope<P: Grey>(rt: &impl Abort, alloc: Global, sides: Sides) -> Plane<P> {
     let mut samples = Vec::new(alloc);
     for y in 0..sides.height {
         for x in 0..sides.width {
@@ -113,15 +115,23 @@ pub(crate) fn is_row<P: Pixel>(row: &[P], width: u32, look: Look, y: u32) -> boo
     x == width
 }
 
+/// The set whose pixels begin at the diagonal.
+pub(crate) fn set_slope(rt: &impl Abort, alloc: Global, sides: Sides) -> Plane<Bit> {
+    let levels = Window::whole(slope::<u16>(rt, alloc, sides));
+    at_least(alloc, &levels, 4096).expect(rt, "memory")
+}
+
 /// Whether a plane has at each place the sample that is looked for from there.
-pub(crate) fn shows<P: Pixel>(made: &Plane<P>, sides: Sides, look: Look) -> bool {
+pub(crate) fn shows<P: Planar>(made: &Plane<P>, sides: Sides, look: Look) -> bool {
     if made.width() != sides.width || made.height() != sides.height {
         return false;
     }
-    for y in 0..made.height() {
+    for y in 0..sides.height {
         let from = look.row(y, sides.height);
-        if !is_row(made.row(y), sides.width, look, from) {
-            return false;
+        for x in 0..sides.width {
+            if made.at(x, y) != sample::<P>(look.column(x, sides.width), from) {
+                return false;
+            }
         }
     }
     true
