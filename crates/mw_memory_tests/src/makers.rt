@@ -72,8 +72,9 @@ fn a_copy_of_a_plane_stands_alone(rt: HostRuntime) -> Result<(), Fail> {
     assert_eq!(rt; samples.len(), 6);
     let mut copy = Plane::new(3, 2, samples);
     assert!(rt; copy.same(&plane));
-    copy.put_row(1, 1, &[8, 9]);
-    assert_eq!(rt; copy.samples(), [100, 200, 300, 400, 8, 9].as_slice());
+    let eights = once_more!(NoMemory, Plane::filled(rt.alloc(), 2, 1, 8u16));
+    copy.copy_run(1, 1, &eights, 0, 0, 2);
+    assert_eq!(rt; copy.samples(), [100, 200, 300, 400, 8, 8].as_slice());
     assert_eq!(rt; plane.samples(), [100, 200, 300, 400, 500, 600].as_slice());
     Ok(())
 }
