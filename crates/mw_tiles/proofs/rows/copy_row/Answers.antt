@@ -1,4 +1,4 @@
-use Rattle.std.proofs.Common.{◌≡◌, ◌+◌, ◌-◌, ◌≤◌, ap, sym, subst, arith}
+use Rattle.std.proofs.Common.{◌≡◌, ℕ, ◌+◌, ◌-◌, ◌≤◌, ap, sym, subst, arith}
 use Rattle.mw_model.specs.declared.places.Rect.{Rect}
 use Rattle.mw_model.specs.Places.{Holds}
 use Rattle.mw_model.specs.Rasters.{Raster}
@@ -57,8 +57,8 @@ parts-preserved g c =
     let next : c.parts.at + n ≡ c.min-stop.result = omega arith in
     record {
       to = omega arith;
-      row = subst (λ (m : _). HasFirstOfRow c.args.grid (cells_of c.args.tiles.now) c.args.y m _) next
-      (row_more c.args.grid (cells_of c.args.tiles.now) t c.parts.out _ place c.args.y c.parts.at n stands here (omega arith) (omega arith)
+      row = subst (λ (m : ℕ). HasFirstOfRow c.args.grid (cells_of c.args.tiles.now) c.args.y m c.copy_run.new.self) next
+      (row_more c.args.grid (cells_of c.args.tiles.now) t c.parts.out c.copy_run.new.self place c.args.y c.parts.at n stands here (omega arith) (omega arith)
       (λ f shows. subst (λ (r : Rect). IsCut (view_of c.args.grid.width c.args.grid.height r t.cells) f) (sym place-is) (subst (λ (u : Raster _). IsCut (view_of c.args.grid.width c.args.grid.height (tile_at c.args.grid i) u.cells) f) (sym tile-is) (c.tile_of.ensures.value f shows)))
       c.copy_run.ensures c.parts.invariant.row);
     }
@@ -68,4 +68,4 @@ returns g c =
     let test = c.parts-test.false in
     let to = c.parts.invariant.to in
     let all : c.parts.at ≡ c.args.grid.width = omega (arith, c.width-width.ensures.value) in
-    subst (λ (m : _). HasFirstOfRow c.args.grid (cells_of c.args.tiles.now) c.args.y m c.parts.out) all c.parts.invariant.row
+    subst (λ (m : ℕ). HasFirstOfRow c.args.grid (cells_of c.args.tiles.now) c.args.y m c.parts.out) all c.parts.invariant.row

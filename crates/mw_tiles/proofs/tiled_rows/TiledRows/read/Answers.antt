@@ -1,4 +1,4 @@
-use Rattle.std.proofs.Common.{ap, arith, sym, subst}
+use Rattle.std.proofs.Common.{ap, arith, sym, subst, ◌∙◌}
 use Rattle.mw_tiles.specs.Rows.{AreCutFrom, TileCells}
 use Rattle.mw_tiles.specs.Tiles.{cells_of}
 use Rattle.mw_tiles.proofs.ReadRows.{row_is}
@@ -17,3 +17,12 @@ pub returns-clause-value : goal.returns-clause-value
 returns-clause-value g c = λ f cut.
     let t : TileCells _ = record { tiling = c.self.inside.grid; tiles = cells_of c.self.inside.tiles.now } in
     row_is t f c.args.y c.copy_row.new.out (omega (arith, ap (λ (t : TileCells _). t.tiling.height) c.self.view_is)) (subst (AreCutFrom f) (sym c.self.view_is) cut) c.copy_row.ensures
+
+pub returns-clause-width : goal.returns-clause-width
+returns-clause-width g c = c.copy_row.ensures.width ∙ ap (λ (t : TileCells _). t.tiling.width) c.self.view_is
+
+pub returns-clause-height : goal.returns-clause-height
+returns-clause-height g c = c.copy_row.ensures.height
+
+pub returns-clause-count : goal.returns-clause-count
+returns-clause-count g c = c.copy_row.ensures.size ∙ ap (λ (t : TileCells _). t.tiling.width) c.self.view_is
