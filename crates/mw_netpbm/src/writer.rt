@@ -1,6 +1,6 @@
 //! Writing an image.
 
-ghost use Rattle.std.specs.Prelude.{◌≡◌, ℕ, ◌≤◌, ◌<◌, ◌*◌, ◌^◌, ◌++◌, List, length, vec_len, vec_capacity, IfOk, OnOk, Ok, true, nat_lt, string_bytes, slice_index, ◌+◌, ◌-◌, ◌/◌};
+ghost use Rattle.std.specs.Prelude.{◌≡◌, ℕ, ◌≤◌, ◌<◌, ◌*◌, ◌^◌, ◌++◌, List, length, vec_len, vec_capacity, IfOk, OnOk, Ok, true, nat_lt, string_bytes, ◌+◌, ◌-◌, ◌/◌};
 ghost use Rattle.mw_model.specs.declared.shapes.Kind.TheVariants as kind;
 ghost use Rattle.mw_model.specs.NetpbmWriting.{two_bytes, grey_raster, grey_header, packed, packed_rows, set_header, text_of};
 ghost use Rattle.mw_pixel.specs.Images.{grey_of, set_of};
