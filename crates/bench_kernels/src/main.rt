@@ -16,7 +16,7 @@ use mw_grid::{Grid, side_ok};
 use mw_line::rectangle;
 use mw_model::{NoMemory, Offset, OffsetBox, Reach, Rect};
 use mw_offset::extremum;
-use mw_pixel::{Extremum, Max, Min, Pixel, Plane};
+use mw_pixel::{Extremum, Grey, Max, Min, Plane};
 use mw_rank::rank;
 use mw_tile::{Window, paste};
 use std::alloc::{AllocError, AllocFailed, Global};
@@ -88,7 +88,7 @@ fn reach(k: u8) -> Reach {
 }
 
 /// Samples without a pattern.
-fn noise<P: Pixel>(alloc: Global) -> Result<Vec<P>, Fault>
+fn noise<P: Grey>(alloc: Global) -> Result<Vec<P>, Fault>
     ensures { IfOk result (λ v. vec_len v ≡ 4096 * 4096) }
 {
     let mut samples = Vec::new(alloc);
@@ -211,7 +211,7 @@ impl Case {
     }
 
     /// What the filter makes of a window.
-    fn run<P: Pixel, E: Extremum<P>>(
+    fn run<P: Grey, E: Extremum<P>>(
         self,
         alloc: Global,
         window: &Window<P>,
@@ -238,7 +238,7 @@ impl Case {
 }
 
 /// One pass over the whole image.
-fn whole<P: Pixel, E: Extremum<P>>(
+fn whole<P: Grey, E: Extremum<P>>(
     alloc: Global,
     plane: &Arc<Plane<P>>,
     case: Case,
@@ -250,7 +250,7 @@ fn whole<P: Pixel, E: Extremum<P>>(
 }
 
 /// One pass over all tiles.
-fn tiled<P: Pixel, E: Extremum<P>>(
+fn tiled<P: Grey, E: Extremum<P>>(
     alloc: Global,
     plane: &Plane<P>,
     case: Case,
@@ -274,7 +274,7 @@ fn tiled<P: Pixel, E: Extremum<P>>(
 }
 
 /// The microseconds of a case on the whole image, or on tiles where a side is given.
-fn time<R: std::rt::Clock, P: Pixel, E: Extremum<P>>(
+fn time<R: std::rt::Clock, P: Grey, E: Extremum<P>>(
     rt: &R,
     alloc: Global,
     plane: &Arc<Plane<P>>,
@@ -302,7 +302,7 @@ fn time<R: std::rt::Clock, P: Pixel, E: Extremum<P>>(
 }
 
 /// Times the wanted cases on samples of one type.
-fn measure<R: std::rt::Clock + Print, P: Pixel, E: Extremum<P>>(
+fn measure<R: std::rt::Clock + Print, P: Grey, E: Extremum<P>>(
     rt: &R,
     alloc: Global,
     wanted: &str,

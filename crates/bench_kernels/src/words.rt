@@ -1,9 +1,9 @@
-//! Times of sets as words: packing, unpacking, erosions by rectangles and discs, on the words alone and, by discs, as a
-//! step of a plan takes them, with each tile cut, packed, eroded, unpacked and pasted.
+//! Times of sets as words: made of levels and taken as levels, erosions by rectangles and discs, of the whole frame and, by
+//! discs, as a step of a plan takes them, with each tile cut, eroded and pasted.
 ghost use Rattle.std.specs.Prelude.{◌≡◌, ◌*◌, ◌≤◌, ◌%◌, vec_len, IfOk};
 
 use crate::{FRAME, Fault, SIDE, disc, reach, square};
-use mw_bits::Words;
+use mw_bits::{as_levels, at_least, extremum, rectangle};
 use mw_grid::Grid;
 use mw_model::Offset;
 use mw_pixel::{Bit, Min, Plane};
@@ -11,15 +11,15 @@ use mw_tile::{Window, paste};
 use std::alloc::Global;
 use std::time::Instant;
 
-/// Nine of ten pixels, without a pattern.
-fn dots(alloc: Global) -> Result<Vec<Bit>, Fault>
+/// Levels up to 9, without a pattern: nine of ten are over 0.
+fn dots(alloc: Global) -> Result<Vec<u8>, Fault>
     ensures { IfOk result (λ v. vec_len v ≡ 4096 * 4096) }
 {
     let mut pixels = Vec::new(alloc);
     let mut state = 1u32;
     for i in 0..SIDE as usize * SIDE as usize {
         state = state.wrapping_mul(1664525).wrapping_add(1013904223);
-        pixels.push(Bit::new((state >> 16) % 10 > 0))?;
+        pixels.push(((state >> 16) % 10) as u8)?;
     }
     Ok(pixels)
 }
@@ -42,70 +42,70 @@ fn steps(
     for i in 0..grid.len() {
         let tile = grid.rect(i);
         let window = Window::cut(alloc, plane, grid.window(i, reach(k)))?;
-        let words = Words::from_plane(alloc, &window)?;
-        let made = words.extremum::<Min>(alloc, offsets, tile)?;
-        paste(out, tile, &made.to_plane(alloc)?);
+        let made = extremum::<Min>(alloc, &window, offsets, tile)?;
+        paste(out, tile, &made);
     }
     Ok(())
 }
 
-/// The best of five packings and unpackings of the frame.
-fn time_packing<R: std::rt::Clock + Print>(
+/// The best of five sets of levels, and of five planes of the levels of a set.
+fn time_levels<R: std::rt::Clock + Print>(
     rt: &R,
     alloc: Global,
-    window: &Window<Bit>,
+    levels: &Window<u8>,
+    set: &Window<Bit>,
 ) -> Result<(), Fault> {
-    let mut packing = u128::MAX;
-    let mut unpacking = u128::MAX;
+    let mut making = u128::MAX;
+    let mut taking = u128::MAX;
     for _ in 0..5 {
         let start = Instant::now(rt)?;
-        let words = Words::from_plane(alloc, window)?;
-        packing = packing.min(start.elapsed(rt)?.as_micros());
+        let _set = at_least(alloc, levels, 1)?;
+        making = making.min(start.elapsed(rt)?.as_micros());
         let start = Instant::now(rt)?;
-        let _plane = words.to_plane(alloc)?;
-        unpacking = unpacking.min(start.elapsed(rt)?.as_micros());
+        let _levels = as_levels(alloc, set)?;
+        taking = taking.min(start.elapsed(rt)?.as_micros());
     }
-    println!(rt; "set packed into words: {packing} us")?;
-    println!(rt; "set unpacked from words: {unpacking} us")?;
+    println!(rt; "set made of levels: {making} us")?;
+    println!(rt; "set taken as levels: {taking} us")?;
     Ok(())
 }
 
-/// The best of five erosions of the frame by a disc of k pixels across, words to words.
+/// The best of five erosions of the frame by a disc of k pixels across.
 fn time_words<R: std::rt::Clock + Print>(
     rt: &R,
     alloc: Global,
-    words: &Words,
+    set: &Window<Bit>,
     k: u8,
 ) -> Result<(), Fault> {
     let offsets = disc(alloc, k)?;
     let mut best = u128::MAX;
     for _ in 0..5 {
         let start = Instant::now(rt)?;
-        let _made = words.extremum::<Min>(alloc, offsets.as_slice(), FRAME)?;
+        let _made = extremum::<Min>(alloc, set, offsets.as_slice(), FRAME)?;
         best = best.min(start.elapsed(rt)?.as_micros());
     }
     println!(rt; "disc of {k}, a set in words, whole: {best} us")?;
     Ok(())
 }
 
-/// The best of five erosions of the frame by a square of k pixels across, words to words.
+/// The best of five erosions of the frame by a square of k pixels across.
 fn time_rectangle<R: std::rt::Clock + Print>(
     rt: &R,
     alloc: Global,
-    words: &Words,
+    set: &Window<Bit>,
     k: u8,
 ) -> Result<(), Fault> {
     let mut best = u128::MAX;
     for _ in 0..5 {
         let start = Instant::now(rt)?;
-        let _made = words.rectangle::<Min>(alloc, square(k), FRAME)?;
+        let _made = rectangle::<Min>(alloc, set, square(k), FRAME)?;
         best = best.min(start.elapsed(rt)?.as_micros());
     }
     println!(rt; "rectangle {k} x {k}, a set in words, whole: {best} us")?;
     Ok(())
 }
 
-/// The best of five erosions by a disc of k pixels across, tile by tile and from samples to samples.
+/// The best of five erosions by a disc of k pixels across, tile by tile.
 fn time_steps<R: std::rt::Clock + Print>(
     rt: &R,
     alloc: Global,
@@ -124,22 +124,21 @@ fn time_steps<R: std::rt::Clock + Print>(
         steps(alloc, plane, grid, offsets.as_slice(), k, &mut out)?;
         best = best.min(start.elapsed(rt)?.as_micros());
     }
-    println!(rt; "disc of {k}, a set in samples, tiles of {side}: {best} us")?;
+    println!(rt; "disc of {k}, a set in words, tiles of {side}: {best} us")?;
     Ok(())
 }
 
 pub(crate) fn time_sets<R: std::rt::Clock + Print>(rt: &R, alloc: Global) -> Result<(), Fault> {
-    let window = Window::whole(Plane::new(SIDE, SIDE, dots(alloc)?));
-    time_packing(rt, alloc, &window)?;
-    let words = Words::from_plane(alloc, &window)?;
-    let plane = words.to_plane(alloc)?;
+    let levels = Window::whole(Plane::new(SIDE, SIDE, dots(alloc)?));
+    let set = Window::whole(at_least(alloc, &levels, 1)?);
+    time_levels(rt, alloc, &levels, &set)?;
     for k in [3u8, 15, 63, 127] {
-        time_rectangle(rt, alloc, &words, k)?;
+        time_rectangle(rt, alloc, &set, k)?;
     }
     for k in [5u8, 15, 31] {
-        time_words(rt, alloc, &words, k)?;
+        time_words(rt, alloc, &set, k)?;
         for side in [128u32, 512, 1024] {
-            time_steps(rt, alloc, &plane, k, side)?;
+            time_steps(rt, alloc, set.plane(), k, side)?;
         }
     }
     Ok(())

@@ -4,8 +4,8 @@ use Rattle.std.proofs.lemmas.List.{get_or-map, length-map}
 use Rattle.std.proofs.lemmas.Nat.{mul-add-lt}
 use Rattle.std.proofs.lemmas.Simd.{get_or-zip2, length-zip2}
 use Rattle.mw_line.proofs.Rows.{rows_fit}
-use Rattle.mw_word_rows.specs.Packed.{bit_of, stride_of, samples_of, IsPacked}
-use Rattle.mw_word_rows.proofs.Bits.{length-samples_of, sample_is_bit, samples_are_bits}
+use Rattle.mw_words.specs.Packed.{bit_of, stride_of, samples_of, IsPacked}
+use Rattle.mw_words.proofs.Bits.{length-samples_of, sample_is_bit, samples_are_bits}
 use Rattle.mw_word_rows.proofs.Packs.{stride_wide}
 use lib.Lanes.{zip2}
 

@@ -10,7 +10,7 @@ use Rattle.mw_line.specs.Extrema.{strided, over}
 use Rattle.mw_line.proofs.Over.{over_same, over_strided}
 use Rattle.mw_line.proofs.Rows.{rows_fit}
 use Rattle.mw_line.proofs.Tiles.{IsLooked, tile_sees_nothing}
-use Rattle.mw_word_rows.specs.Packed.{bit_of}
+use Rattle.mw_words.specs.Packed.{bit_of}
 use Rattle.mw_word_rows.specs.Rows.{laid_bits}
 use Rattle.mw_word_rows.proofs.Laid.{laid_bit}
 

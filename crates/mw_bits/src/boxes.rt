@@ -11,13 +11,17 @@ ghost use Rattle.mw_model.specs.Windows.{seen_at};
 ghost use Rattle.mw_tile.specs.Windows.{IsWindow};
 ghost use Rattle.mw_lane.specs.Shifted.{merge_at};
 ghost use Rattle.mw_line.specs.Extrema.{over, IsSlidingExtremum};
-ghost use Rattle.mw_word_rows.specs.Packed.{bit_of, stride_of, IsPacked};
+ghost use Rattle.mw_words.specs.Packed.{bit_of, stride_of, IsPacked};
 
+use crate::WordExtremum;
+use crate::held::plane_of;
 use crate::spread::spread;
-use crate::{WordExtremum, Words};
 use mw_line::{first_seen, seen_across, seen_down};
 use mw_model::{NoMemory, OffsetBox, Rect};
-use mw_word_rows::{repeated, slide_words, stride, trimmed};
+use mw_pixel::{Bit, Plane};
+use mw_tile::Window;
+use mw_word_rows::slide_words;
+use mw_words::{repeated, stride, trimmed};
 use std::alloc::Global;
 
 /// How many pixels of a set are looked at, and from which column and row of it on by the tile's first pixel.
@@ -62,7 +66,7 @@ fn slide_box<E: WordExtremum>(
 /// The extremum of `across` by `down` pixels of the set from each place of the tile on, counted from that column and row.
 fn box_words<E: WordExtremum>(
     alloc: Global,
-    set: &Words,
+    set: &Window<Bit>,
     looked: Looked,
     tile: Rect,
 ) -> Result<Vec<u64>, NoMemory>
@@ -99,7 +103,7 @@ fn blank_words<E: WordExtremum>(alloc: Global, tile: Rect) -> Result<Vec<u64>, N
 /// The words of the tile: the extremum of a neutral pixel and what the set has under the box.
 fn rectangle_words<E: WordExtremum>(
     alloc: Global,
-    set: &Words,
+    set: &Window<Bit>,
     offsets: OffsetBox,
     tile: Rect,
 ) -> Result<Vec<u64>, NoMemory>
@@ -123,23 +127,18 @@ fn rectangle_words<E: WordExtremum>(
     Ok(made)
 }
 
-impl Words {
-    /// The extremum of a neutral pixel and what the set has under the box, at each place of the tile: the erosion for
-    /// `Min`, the dilation for `Max`. Where the window has all that the frame has there, this is the extremum over the
-    /// frame. It may want memory (`NoMemory`).
-    pub fn rectangle<E: WordExtremum>(
-        &self,
-        alloc: Global,
-        offsets: OffsetBox,
-        tile: Rect,
-    ) -> Result<Words, NoMemory>
-        ensures frame_width { IfOk result (λ r. r.frame_width ≡ self.now.frame_width) }
-        ensures frame_height { IfOk result (λ r. r.frame_height ≡ self.now.frame_height) }
-        ensures place { IfOk result (λ r. r.place ≡ tile) }
-        ensures over_window { IfOk result (λ r. IsSlidingExtremum E.merge (E.neutral_of 1) (seen_at self.now) (box_offsets offsets) tile (raster tile.width tile.height r.cells)) }
-        ensures over_frame { IfOk result (λ r. (f : Raster ℕ) → IsWindow self.now f (box_offsets offsets) tile → IsSlidingExtremum E.merge (E.neutral_of 1) (cell_at f) (box_offsets offsets) tile (raster tile.width tile.height r.cells)) }
-    {
-        let words = rectangle_words::<E>(alloc, self, offsets, tile)?;
-        Ok(Words::new(self.frame_width(), self.frame_height(), tile, words))
-    }
+/// The extremum of a neutral pixel and what the set has under the box, at each place of the tile: the erosion for `Min`,
+/// the dilation for `Max`. Where the window has all that the frame has there, this is the extremum over the frame. It may
+/// want memory (`NoMemory`).
+pub fn rectangle<E: WordExtremum>(
+    alloc: Global,
+    set: &Window<Bit>,
+    offsets: OffsetBox,
+    tile: Rect,
+) -> Result<Plane<Bit>, NoMemory>
+    ensures over_window { IfOk result (IsSlidingExtremum E.merge (E.neutral_of 1) (seen_at set.now) (box_offsets offsets) tile) }
+    ensures over_frame { IfOk result (λ r. (f : Raster ℕ) → IsWindow set.now f (box_offsets offsets) tile → IsSlidingExtremum E.merge (E.neutral_of 1) (cell_at f) (box_offsets offsets) tile r) }
+{
+    let words = rectangle_words::<E>(alloc, set, offsets, tile)?;
+    Ok(plane_of(tile.width, tile.height, words))
 }

@@ -11,15 +11,18 @@ ghost use Rattle.mw_model.specs.Windows.{seen_at};
 ghost use Rattle.mw_line.specs.Extrema.{strided};
 ghost use Rattle.mw_run.specs.declared.runs.Run.{Run};
 ghost use Rattle.mw_run.specs.Runs.{run_offsets, start_of, IsInside, IsWider, HasRoom, sized, two_parts, gather};
-ghost use Rattle.mw_word_rows.specs.Packed.{bit_of, stride_of, IsPacked};
+ghost use Rattle.mw_words.specs.Packed.{bit_of, stride_of, IsPacked};
 ghost use Rattle.mw_word_rows.specs.Rows.{laid_bits};
 ghost use Rattle.mw_bits.specs.Layouts.{AreNear, IsNear};
 
+use crate::WordExtremum;
 use crate::spread::spread;
-use crate::{WordExtremum, Words};
 use mw_model::{NoMemory, Rect};
+use mw_pixel::Bit;
 use mw_run::{Extent, Run, columns_after, first_column, first_row, rows_after, start_of_run};
-use mw_word_rows::{combine_ahead, combine_both, combine_from, repeated, stride, trimmed};
+use mw_tile::Window;
+use mw_word_rows::{combine_ahead, combine_both, combine_from};
+use mw_words::{repeated, stride, trimmed};
 use std::alloc::Global;
 
 /// Merges the bits from two places on into the words.
@@ -129,7 +132,7 @@ fn widened(extent: Extent, words: usize) -> Extent
 /// The words of the tile: the extremum of neutral pixels and what the set has under the runs.
 pub(crate) fn extremum_by_runs<E: WordExtremum>(
     alloc: Global,
-    set: &Words,
+    set: &Window<Bit>,
     runs: &[Run],
     extent: Extent,
     tile: Rect,

@@ -1,15 +1,15 @@
 //! The volume of a set: how many pixels it has.
-ghost use Rattle.std.specs.Prelude.{◌≡◌, sum};
+ghost use Rattle.std.specs.Prelude.{◌≡◌, ◌*◌, length, sum};
 
-use crate::Words;
+use crate::held::words_of;
+use mw_pixel::Bit;
+use mw_tile::Window;
 use mw_word_rows::count_bits;
 
-impl Words {
-    /// The sum of all samples, which is the number of pixels in the set.
-    pub fn count(&self) -> u64
-        ensures { result ≡ sum self.now.cells }
-    {
-        let words = self.words();
-        count_bits(words)
-    }
+/// The sum of all samples, which is the number of pixels in the set.
+pub fn count(set: &Window<Bit>) -> u64
+    ensures value { result ≡ sum set.now.cells }
+    ensures size { length set.now.cells ≡ set.now.place.height * set.now.place.width }
+{
+    count_bits(words_of(set))
 }

@@ -2,23 +2,26 @@
 //! the tile, one offset after another, each as the set's words shifted against those of the tile. What lies outside the
 //! window is no pixel.
 ghost use Rattle.std.specs.Prelude.{◌≡◌, ℕ, ◌+◌, ◌*◌, ◌<◌, ◌≤◌, ◌^◌, pos, negsuc, ◌+ℤ◌, ◌-ℤ◌, ◌≤ℤ◌, length, fold, IfOk, IsTrue};
-ghost use Rattle.mw_model.specs.Rasters.{Raster, raster, cell_at, seen_under};
+ghost use Rattle.mw_model.specs.Rasters.{Raster, cell_at, seen_under};
 ghost use Rattle.mw_model.specs.Windows.{seen_at};
 ghost use Rattle.mw_tile.specs.Windows.{IsWindow};
 ghost use Rattle.mw_line.specs.Extrema.{IsSlidingExtremum};
-ghost use Rattle.mw_word_rows.specs.Packed.{bit_of, stride_of, IsPacked};
+ghost use Rattle.mw_words.specs.Packed.{bit_of, stride_of, IsPacked};
 
+use crate::WordExtremum;
 use crate::by_runs::{extremum_by_runs, is_near};
+use crate::held::plane_of;
 use crate::spread::spread_rows;
-use crate::{WordExtremum, Words};
 use mw_model::{NoMemory, Offset, Rect};
+use mw_pixel::{Bit, Plane};
 use mw_run::{extent_of, place_of, runs_of};
-use mw_word_rows::{repeated, stride, trimmed};
+use mw_tile::Window;
+use mw_words::{repeated, stride, trimmed};
 use std::alloc::Global;
 
 /// Merges into each bit of the tile's rows what is seen under the element there.
 fn combine_offsets<E: WordExtremum>(
-    set: &Words,
+    set: &Window<Bit>,
     offsets: &[Offset],
     tile: Rect,
     stride: usize,
@@ -39,7 +42,7 @@ fn combine_offsets<E: WordExtremum>(
 /// The words of the tile, one offset after another.
 fn extremum_by_offsets<E: WordExtremum>(
     alloc: Global,
-    set: &Words,
+    set: &Window<Bit>,
     offsets: &[Offset],
     tile: Rect,
 ) -> Result<Vec<u64>, NoMemory>
@@ -63,7 +66,7 @@ fn has_layout(tile: Rect) -> bool
 /// The words of the tile, by horizontal runs where these can be laid out around it.
 fn extremum_words<E: WordExtremum>(
     alloc: Global,
-    set: &Words,
+    set: &Window<Bit>,
     offsets: &[Offset],
     tile: Rect,
 ) -> Result<Vec<u64>, NoMemory>
@@ -83,23 +86,17 @@ fn extremum_words<E: WordExtremum>(
     Ok(made)
 }
 
-impl Words {
-    /// The extremum of a neutral pixel and what the set has under the element, at each place of the tile: the erosion
-    /// for `Min`, the dilation for `Max`. Where the window has all that the frame has there, this is the extremum over
-    /// the frame.
-    pub fn extremum<E: WordExtremum>(
-        &self,
-        alloc: Global,
-        offsets: &[Offset],
-        tile: Rect,
-    ) -> Result<Words, NoMemory>
-        ensures frame_width { IfOk result (λ r. r.frame_width ≡ self.now.frame_width) }
-        ensures frame_height { IfOk result (λ r. r.frame_height ≡ self.now.frame_height) }
-        ensures place { IfOk result (λ r. r.place ≡ tile) }
-        ensures over_window { IfOk result (λ r. IsSlidingExtremum E.merge (E.neutral_of 1) (seen_at self.now) offsets.now tile (raster tile.width tile.height r.cells)) }
-        ensures over_frame { IfOk result (λ r. (f : Raster ℕ) → IsWindow self.now f offsets.now tile → IsSlidingExtremum E.merge (E.neutral_of 1) (cell_at f) offsets.now tile (raster tile.width tile.height r.cells)) }
-    {
-        let words = extremum_words::<E>(alloc, self, offsets, tile)?;
-        Ok(Words::new(self.frame_width(), self.frame_height(), tile, words))
-    }
+/// The extremum of a neutral pixel and what the set has under the element, at each place of the tile: the erosion for
+/// `Min`, the dilation for `Max`. Where the window has all that the frame has there, this is the extremum over the frame.
+pub fn extremum<E: WordExtremum>(
+    alloc: Global,
+    set: &Window<Bit>,
+    offsets: &[Offset],
+    tile: Rect,
+) -> Result<Plane<Bit>, NoMemory>
+    ensures over_window { IfOk result (IsSlidingExtremum E.merge (E.neutral_of 1) (seen_at set.now) offsets.now tile) }
+    ensures over_frame { IfOk result (λ r. (f : Raster ℕ) → IsWindow set.now f offsets.now tile → IsSlidingExtremum E.merge (E.neutral_of 1) (cell_at f) offsets.now tile r) }
+{
+    let words = extremum_words::<E>(alloc, set, offsets, tile)?;
+    Ok(plane_of(tile.width, tile.height, words))
 }

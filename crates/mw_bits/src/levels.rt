@@ -1,14 +1,14 @@
 //! Sets of the places of a grey window that have a level, or a level or more, as words: a row of samples is tested into a
 //! line of pixels, which is packed, so that no plane of one byte a pixel is made.
 ghost use Rattle.std.specs.Prelude.{◌≡◌, ℕ, ◌*◌, ◌==◌, length, map, cond, nat_le, if◌then◌else◌, IfOk};
-ghost use Rattle.mw_tile.specs.Cuts.{view_of};
-ghost use Rattle.mw_word_rows.specs.Packed.{stride_of, IsPacked, samples_of};
+ghost use Rattle.mw_words.specs.Packed.{stride_of, IsPacked, samples_of};
 
-use crate::Words;
+use crate::held::plane_of;
 use mw_model::NoMemory;
-use mw_pixel::{Bit, Pixel, copies};
+use mw_pixel::{Bit, Grey, Pixel, Plane, copies};
 use mw_tile::Window;
-use mw_word_rows::{pack_row, repeated, stride};
+use mw_word_rows::pack_row;
+use mw_words::{repeated, stride};
 use std::alloc::Global;
 
 /// Whether a level belongs to a set that a number picks.
@@ -54,7 +54,7 @@ fn test_row<P: Pixel, T: LevelTest>(src: &[P], k: u32, line: &mut [Bit])
 }
 
 /// Tests and packs each row of the window.
-fn test_rows<P: Pixel, T: LevelTest>(window: &Window<P>, k: u32, line: &mut [Bit], out: &mut [u64])
+fn test_rows<P: Grey, T: LevelTest>(window: &Window<P>, k: u32, line: &mut [Bit], out: &mut [u64])
     requires line { length line.old ≡ window.now.place.width }
     requires room { length out.old ≡ window.now.place.height * stride_of window.now.place.width }
     ensures packed { IsPacked window.now.place.width window.now.place.height out.new }
@@ -70,33 +70,37 @@ fn test_rows<P: Pixel, T: LevelTest>(window: &Window<P>, k: u32, line: &mut [Bit
     }
 }
 
-impl Words {
-    /// The places of a window whose sample is in the set.
-    fn tested<P: Pixel, T: LevelTest>(
-        alloc: Global,
-        window: &Window<P>,
-        k: u32,
-    ) -> Result<Words, NoMemory>
-        ensures { IfOk result (λ w. w ≡ view_of window.now.frame_width window.now.frame_height window.now.place (map (λ s. T.is_in k (P.level s)) window.now.cells)) }
-    {
-        let place = window.place();
-        let mut line = copies(alloc, place.width as usize, Bit::new(false))?;
-        let mut words = repeated(alloc, place.height as usize * stride(place.width), 0u64)?;
-        test_rows::<P, T>(window, k, line.as_mut_slice(), words.as_mut_slice());
-        Ok(Words::new(window.frame_width(), window.frame_height(), place, words))
-    }
+/// The places of a window whose sample is in the set.
+fn tested<P: Grey, T: LevelTest>(
+    alloc: Global,
+    window: &Window<P>,
+    k: u32,
+) -> Result<Plane<Bit>, NoMemory>
+    ensures width { IfOk result (λ p. p.width ≡ window.now.place.width) }
+    ensures height { IfOk result (λ p. p.height ≡ window.now.place.height) }
+    ensures cells { IfOk result (λ p. p.cells ≡ map (λ s. T.is_in k (P.level s)) window.now.cells) }
+{
+    let place = window.place();
+    let mut line = copies(alloc, place.width as usize, Bit::new(false))?;
+    let mut words = repeated(alloc, place.height as usize * stride(place.width), 0u64)?;
+    test_rows::<P, T>(window, k, line.as_mut_slice(), words.as_mut_slice());
+    Ok(plane_of(place.width, place.height, words))
+}
 
-    /// The places of a window with level `k` or more. It may want memory (`NoMemory`).
-    pub fn at_least<P: Pixel>(alloc: Global, window: &Window<P>, k: u32) -> Result<Words, NoMemory>
-        ensures { IfOk result (λ w. w ≡ view_of window.now.frame_width window.now.frame_height window.now.place (map (λ s. if nat_le k (P.level s) then 1 else 0) window.now.cells)) }
-    {
-        Words::tested::<P, FromLevel>(alloc, window, k)
-    }
+/// The places of a window with level `k` or more. It may want memory (`NoMemory`).
+pub fn at_least<P: Grey>(alloc: Global, window: &Window<P>, k: u32) -> Result<Plane<Bit>, NoMemory>
+    ensures width { IfOk result (λ p. p.width ≡ window.now.place.width) }
+    ensures height { IfOk result (λ p. p.height ≡ window.now.place.height) }
+    ensures cells { IfOk result (λ p. p.cells ≡ map (λ s. if nat_le k (P.level s) then 1 else 0) window.now.cells) }
+{
+    tested::<P, FromLevel>(alloc, window, k)
+}
 
-    /// The places of a window with level `v`. It may want memory (`NoMemory`).
-    pub fn equal<P: Pixel>(alloc: Global, window: &Window<P>, v: u32) -> Result<Words, NoMemory>
-        ensures { IfOk result (λ w. w ≡ view_of window.now.frame_width window.now.frame_height window.now.place (map (λ s. if P.level s == v then 1 else 0) window.now.cells)) }
-    {
-        Words::tested::<P, OfLevel>(alloc, window, v)
-    }
+/// The places of a window with level `v`. It may want memory (`NoMemory`).
+pub fn equal<P: Grey>(alloc: Global, window: &Window<P>, v: u32) -> Result<Plane<Bit>, NoMemory>
+    ensures width { IfOk result (λ p. p.width ≡ window.now.place.width) }
+    ensures height { IfOk result (λ p. p.height ≡ window.now.place.height) }
+    ensures cells { IfOk result (λ p. p.cells ≡ map (λ s. if P.level s == v then 1 else 0) window.now.cells) }
+{
+    tested::<P, OfLevel>(alloc, window, v)
 }

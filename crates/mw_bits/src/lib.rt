@@ -1,27 +1,31 @@
-//! Sets as words of 64 pixels: windows of sets packed and unpacked, counted, put together and made of levels of grey, and
-//! their extrema over any list of offsets and over boxes.
+//! Kernels on sets as words of 64 pixels: windows of sets counted, put together and made of levels of grey, and their extrema
+//! over any list of offsets and over boxes.
 //!
 //! ```text
-//! let words = Words::from_plane(alloc, &window)?;
-//! let eroded = words.extremum::<Min>(alloc, element.offsets(), tile)?;
-//! let opened = eroded.rectangle::<Max>(alloc, offsets, tile)?;
-//! let rest = words.minus(alloc, &opened)?;
-//! let samples = eroded.to_plane(alloc)?;
-//! let volume = eroded.count();
+//! let eroded = extremum::<Min>(alloc, &window, element.offsets(), tile)?;
+//! let opened = rectangle::<Max>(alloc, &Window::whole(eroded), offsets, tile)?;
+//! let rest = minus(alloc, &window, &Window::whole(opened))?;
+//! let volume = count(&window);
 //! ```
 #![tactic(auto)]
 
 mod boxes;
 mod by_runs;
 mod counting;
+mod held;
 mod kernel;
 mod levels;
 mod pairs;
-mod planes;
 mod spread;
+mod unpacked;
 mod window_rows;
-mod words;
 
+pub use boxes::rectangle;
+pub use counting::count;
+pub use held::row_of;
+pub use kernel::extremum;
+pub use levels::{at_least, equal};
 pub use mw_model::NoMemory;
 pub use mw_word_rows::WordExtremum;
-pub use words::Words;
+pub use pairs::{invert, join, meet, minus};
+pub use unpacked::as_levels;

@@ -2,17 +2,19 @@
 ghost use Rattle.std.specs.Prelude.{◌≡◌, ℕ, ◌+◌, ◌*◌, ◌<◌, ◌≤◌, ◌^◌, negsuc, pos, ◌+ℤ◌, ◌≤ℤ◌, length, vec_len, IfOk};
 ghost use Rattle.mw_model.specs.Rasters.{raster, cell_at};
 ghost use Rattle.mw_lane.specs.Shifted.{merge_at};
-ghost use Rattle.mw_word_rows.specs.Packed.{bit_of};
+ghost use Rattle.mw_words.specs.Packed.{bit_of};
 
+use crate::WordExtremum;
 use crate::window_rows::combine_window_row;
-use crate::{WordExtremum, Words};
 use mw_model::NoMemory;
-use mw_word_rows::repeated;
+use mw_pixel::Bit;
+use mw_tile::Window;
+use mw_words::repeated;
 use std::alloc::Global;
 
 /// Merges into each of `high` rows of `wide` words what the set has there, from that column and row of it on.
 pub(crate) fn spread_rows<E: WordExtremum>(
-    set: &Words,
+    set: &Window<Bit>,
     column: i64,
     row: i64,
     wide: usize,
@@ -36,7 +38,7 @@ pub(crate) fn spread_rows<E: WordExtremum>(
 /// Neutral pixels in each of `high` rows of `wide` words, merged with what the set has there, and one word more.
 pub(crate) fn spread<E: WordExtremum>(
     alloc: Global,
-    set: &Words,
+    set: &Window<Bit>,
     column: i64,
     row: i64,
     wide: usize,

@@ -2,14 +2,17 @@
 ghost use Rattle.std.specs.Prelude.{◌≡◌, ℕ, ◌+◌, ◌*◌, ◌<◌, ◌≤◌, ◌^◌, negsuc, pos, ◌+ℤ◌, ◌≤ℤ◌, length};
 ghost use Rattle.mw_model.specs.Rasters.{raster, cell_at};
 ghost use Rattle.mw_lane.specs.Shifted.{merge_at};
-ghost use Rattle.mw_word_rows.specs.Packed.{bit_of};
+ghost use Rattle.mw_words.specs.Packed.{bit_of};
 
-use crate::{WordExtremum, Words};
+use crate::WordExtremum;
+use crate::held::row_of;
+use mw_pixel::Bit;
+use mw_tile::Window;
 use mw_word_rows::combine_row;
 
 /// Merges into each bit what the set has in that row, so many columns further on, both counted from its first place.
 pub(crate) fn combine_window_row<E: WordExtremum>(
-    set: &Words,
+    set: &Window<Bit>,
     column: i64,
     row: i64,
     out: &mut [u64],
@@ -21,6 +24,6 @@ pub(crate) fn combine_window_row<E: WordExtremum>(
 {
     let place = set.place();
     if row >= 0 && row < i64::from(place.height) {
-        combine_row::<E>(set.row(row as u32), place.width, column, out);
+        combine_row::<E>(row_of(set, row as u32), place.width, column, out);
     }
 }

@@ -41,11 +41,6 @@ none-before-none (Some c) b e = sym e
 none-before-none None (Some c) e = sym e
 none-before-none None None e = refl
 
--- a clause on an error
-pub on_err : {X E A : Type 0} (r : Result X E) → A → OnErr r A
-on_err (Ok x) a = tt
-on_err (Err e) a = a
-
 -- where an item is not long, its want of memory tells that the log is full
 pub short-full : {X E A B : Type 0} (r : Result X E) (long : Bool) → long ≡ false → OnErr r ((long ≡ true) ⊎ A) → (A → B) → OnErr r B
 short-full (Ok x) long short h f = tt

@@ -4,7 +4,7 @@
 use crate::desk::{fetch, given, image_of, name, submit, work};
 use mw_core::{Core, Shown};
 use mw_model::{FlatOp, GranOp, Op, Reply};
-use mw_pixel::{Image, Pixel, Plane, View};
+use mw_pixel::{Grey, Image, Pixel, Plane, View};
 use std::alloc::Global;
 use std::process::Abort;
 
@@ -84,7 +84,7 @@ fn is_row<P: Pixel>(row: &[P], frame: Frame, y: u32) -> bool {
     x == frame.width
 }
 
-fn is_plane<P: Pixel>(plane: &Plane<P>, frame: Frame) -> bool {
+fn is_plane<P: Grey>(plane: &Plane<P>, frame: Frame) -> bool {
     for y in 0..plane.height() {
         if !is_row(plane.row(y), frame, y.saturating_sub(1)) {
             return false;

@@ -105,9 +105,10 @@ fn a_session_of_1_000_001_requests(rt: HostRuntime) {
     writes(&rt, rt.alloc(), &input, &output, 128);
 }
 
-/// A row of 2,000 samples up to 9: of one level within so many columns of the middle, and of another elsewhere.
-fn row_of(rt: &impl Abort, alloc: Global, reach: u32, inside: u8, outside: u8) -> Vec<u8> {
-    let mut bytes = b"P5\n2000 1\n9\n".to_vec(alloc).ok().expect(rt, "memory");
+/// A row of 2,000 samples behind this header: of one level within so many columns of the middle, and of another elsewhere.
+fn row_behind(rt: &impl Abort, alloc: Global, head: &[u8], levels: (u32, u8, u8)) -> Vec<u8> {
+    let (reach, inside, outside) = levels;
+    let mut bytes = head.to_vec(alloc).ok().expect(rt, "memory");
     for x in 0..2000u32 {
         let level = if x.abs_diff(1000) <= reach {
             inside
@@ -117,6 +118,11 @@ fn row_of(rt: &impl Abort, alloc: Global, reach: u32, inside: u8, outside: u8) -
         push(rt, &mut bytes, &[level]);
     }
     bytes
+}
+
+/// Such a row of samples up to 9.
+fn row_of(rt: &impl Abort, alloc: Global, reach: u32, inside: u8, outside: u8) -> Vec<u8> {
+    row_behind(rt, alloc, b"P5\n2000 1\n9\n", (reach, inside, outside))
 }
 
 /// The erosion of the row by three pixels, over several tiles.
@@ -213,6 +219,47 @@ fn sets_by_the_greatest_tiles(rt: HostRuntime) {
     for (line, reach) in [("IMAGE 2", 0), ("IMAGE 3", 1), ("IMAGE 4", 0)] {
         let made = set_of(&rt, rt.alloc(), reach);
         push(&rt, &mut output, &with_bytes(&rt, rt.alloc(), line, &made));
+    }
+    writes(&rt, rt.alloc(), &input, &output, 1024);
+}
+
+/// The file of the set of these two pixels in a row of 2,000.
+fn two_pixels(rt: &impl Abort, alloc: Global, first: u32, second: u32) -> Vec<u8> {
+    let mut bytes = b"P4\n2000 1\n".to_vec(alloc).ok().expect(rt, "memory");
+    for place in 0..250u32 {
+        let mut byte = 0u8;
+        for x in 0..8u32 {
+            let column = place.saturating_mul(8).saturating_add(x);
+            byte = (byte << 1) | u8::from(column == first || column == second);
+        }
+        push(rt, &mut bytes, &[byte]);
+    }
+    bytes
+}
+
+/// All but the middle one of 2,000 pixels: what one erosion by three leaves has mark 2, and gives the set back. The pixels
+/// without one at their left are the first of the row and the one behind the middle.
+#[test]
+fn skeletons_by_the_greatest_tiles(rt: HostRuntime) {
+    let mut input = row_and_bar(&rt, rt.alloc());
+    push(
+        &rt,
+        &mut input,
+        b"RUN x THRESHOLD f 5\nRUN s SKELETON x b 1\nRUN r RESTORE s b 1\nELEMENT c 0 0 8\nP1\n1 1\n1ELEMENT g 1 0 9\nP1\n2 1\n10RUN h HITMISS x c g\nFETCH s\nFETCH r\nFETCH h\n",
+    );
+    let mut output = b"OK 0\nOK 1\nOK 2\nOK 3\nOK 4\nOK 5\nOK 6\nOK 7\n"
+        .to_vec(rt.alloc())
+        .ok()
+        .expect(&rt, "memory");
+    let marks = row_behind(&rt, rt.alloc(), b"P5\n2000 1\n2\n", (1, 0, 2));
+    let restored = set_of(&rt, rt.alloc(), 0);
+    let edges = two_pixels(&rt, rt.alloc(), 0, 1001);
+    for (line, made) in [
+        ("IMAGE 3", &marks),
+        ("IMAGE 4", &restored),
+        ("IMAGE 7", &edges),
+    ] {
+        push(&rt, &mut output, &with_bytes(&rt, rt.alloc(), line, made));
     }
     writes(&rt, rt.alloc(), &input, &output, 1024);
 }

@@ -2,7 +2,7 @@
 
 use crate::desk::fetch;
 use mw_core::{Core, Shown};
-use mw_images_for_tests::are_levels;
+use mw_images_for_tests::has_levels;
 use mw_model::plain::PlainImage;
 use mw_model::{Kind, Name, Shape};
 use mw_pixel::{Image, View};
@@ -29,9 +29,9 @@ pub(crate) fn file_of(alloc: Global, image: &PlainImage) -> Result<Vec<u8>, Allo
 
 fn has_samples(image: &Image, wanted: &[u16]) -> bool {
     match image.view() {
-        View::Bits(plane) => are_levels(plane.samples(), wanted),
-        View::Grey8(plane, _) => are_levels(plane.samples(), wanted),
-        View::Grey16(plane, _) => are_levels(plane.samples(), wanted),
+        View::Bits(plane) => has_levels(plane, wanted),
+        View::Grey8(plane, _) => has_levels(plane, wanted),
+        View::Grey16(plane, _) => has_levels(plane, wanted),
     }
 }
 

@@ -50,9 +50,7 @@ fn drain<W: Write, D: Desk>(
                 if is_quit(&request) {
                     return Ok(Some(End::Quit));
                 }
-                if let Err(fault) = desk.answer(sink, kept, request) {
-                    return Err(fault);
-                }
+                desk.answer(sink, kept, request)?;
             }
         }
     }
@@ -87,11 +85,10 @@ fn serve_piece<W: Write, D: Desk>(
             Err(NoMemory) => return end_within(sink, Code::Memory),
             Ok(()) => {}
         }
-        match drain(intake, sink, desk, kept) {
-            Err(fault) => return Err(fault),
-            Ok(Some(end)) => return Ok(Some(end)),
-            Ok(None) => at += n,
+        if let Some(end) = drain(intake, sink, desk, kept)? {
+            return Ok(Some(end));
         }
+        at += n;
     }
     Ok(None)
 }
@@ -135,27 +132,17 @@ fn serve_reads<R: Read, W: Write, D: Desk>(
         Err(_) => return end_by(sink, Code::Memory),
     };
     'reads: while source.reads() < READ_LIMIT {
-        match pass_on(sink) {
-            Err(fault) => return Err(fault),
-            Ok(()) => {}
-        }
-        let n = match receive(source, buffer.as_mut_slice()) {
-            Err(fault) => return Err(fault),
-            Ok(n) => n,
-        };
+        pass_on(sink)?;
+        let n = receive(source, buffer.as_mut_slice())?;
         if n == 0 {
             return end_of_input(sink, &intake);
         }
-        match serve_piece(&mut intake, sink, desk, kept, &buffer[..n]) {
-            Err(fault) => return Err(fault),
-            Ok(Some(end)) => return Ok(end),
-            Ok(None) => {}
+        if let Some(end) = serve_piece(&mut intake, sink, desk, kept, &buffer[..n])? {
+            return Ok(end);
         }
     }
-    match pass_on(sink) {
-        Err(fault) => Err(fault),
-        Ok(()) => Err(SessionFault::Read),
-    }
+    pass_on(sink)?;
+    Err(SessionFault::Read)
 }
 
 /// Serves a session: reads to the end, to QUIT or to a fault. The answers to what came with one read go to the writer one
@@ -182,11 +169,7 @@ pub fn run_session<R: Read, W: Write, D: Desk>(
     ensures reader_failed { source.new.failed ≡ true → result ≡ Err SessionFault.Read }
     ensures writer_failed { sink.new.failed ≡ true → result ≡ Err SessionFault.Write }
 {
-    match serve_reads(alloc, source, sink, desk, kept) {
-        Err(fault) => Err(fault),
-        Ok(end) => match pass_on(sink) {
-            Err(fault) => Err(fault),
-            Ok(()) => Ok(end),
-        },
-    }
+    let end = serve_reads(alloc, source, sink, desk, kept)?;
+    pass_on(sink)?;
+    Ok(end)
 }

@@ -3,7 +3,7 @@
 ghost use Rattle.std.specs.Prelude.{◌≡◌};
 ghost use Rattle.mw_element.specs.Faults.{element_code_of};
 
-use mw_model::Code;
+use mw_model::{Code, NoMemory};
 use mw_netpbm::BitmapFault;
 
 /// Why bytes with an origin are no element: the first case that holds, from top to bottom. Memory stands apart.
@@ -29,5 +29,27 @@ impl ElementFault {
             ElementFault::Empty => Code::Empty,
             ElementFault::NoMemory => Code::Memory,
         }
+    }
+}
+
+impl From<BitmapFault> for ElementFault {
+    ghost use Rattle.std.specs.Prelude.{◌≡◌};
+    ghost use Rattle.mw_element.specs.declared.fault.ElementFault.TheVariants as fault;
+
+    ghost from_gives = { λ f e. e ≡ fault.Bitmap f };
+
+    fn from(fault: BitmapFault) -> ElementFault {
+        ElementFault::Bitmap(fault)
+    }
+}
+
+impl From<NoMemory> for ElementFault {
+    ghost use Rattle.std.specs.Prelude.{◌≡◌};
+    ghost use Rattle.mw_element.specs.declared.fault.ElementFault.TheVariants as fault;
+
+    ghost from_gives = { λ _ e. e ≡ fault.NoMemory };
+
+    fn from(_error: NoMemory) -> ElementFault {
+        ElementFault::NoMemory
     }
 }

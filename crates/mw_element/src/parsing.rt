@@ -81,10 +81,7 @@ impl Element {
         // Memory is wanting only where the bytes are an element.
         ensures memory { result ≡ Err ElementFault.NoMemory → (figure : Figure) × IsElement bytes.now ox oy figure }
     {
-        let facts = match scan_plain_bitmap(bytes, SIDE) {
-            Ok(facts) => facts,
-            Err(fault) => return Err(ElementFault::Bitmap(fault)),
-        };
+        let facts = scan_plain_bitmap(bytes, SIDE)?;
         if ox >= facts.width || oy >= facts.height {
             return Err(ElementFault::Origin);
         }
@@ -94,9 +91,7 @@ impl Element {
         let Ok(bitmap) = read_plain_bitmap(alloc, bytes, SIDE) else {
             return Err(ElementFault::NoMemory);
         };
-        match offsets(alloc, &bitmap, ox, oy, facts.ones as usize) {
-            Ok(found) => Ok(Element::new(facts.width, facts.height, found, false)),
-            Err(NoMemory) => Err(ElementFault::NoMemory),
-        }
+        let found = offsets(alloc, &bitmap, ox, oy, facts.ones as usize)?;
+        Ok(Element::new(facts.width, facts.height, found, false))
     }
 }

@@ -9,32 +9,31 @@ ghost use Rattle.mw_wire.specs.Writes.{Wrote};
 
 use mw_model::{NoMemory, Reply};
 use mw_netpbm::{RowBytes, header};
+use mw_pixel::Plane;
 use mw_store::Shown;
 use mw_tiles::{TiledRows, TilesView, WholePlane};
 use mw_wire::{ReplyLine, SessionFault, Sink, image_line, say_told, send, send_both};
 use std::alloc::Global;
 use std::io::Write;
 
-/// Writes all rows. There is room for one, and for its bytes.
+/// Writes all rows. There is a plane for one, and room for its bytes.
 fn send_rows<W: Write, P: RowBytes>(
     sink: &mut Sink<W>,
     tiles: &TiledRows<P>,
-    samples: &mut Vec<P>,
+    row: &mut Plane<P>,
     text: &mut Vec<u8>,
 ) -> Result<(), SessionFault>
-    requires samples { tiles.now.tiling.width ≤ vec_capacity samples.old }
-    requires text { (row : List P) → length row ≡ tiles.now.tiling.width → length (P.bytes tiles.now.tiling.width row) ≤ vec_capacity text.old }
+    requires width { row.old.width ≡ tiles.now.tiling.width }
+    requires height { row.old.height ≡ 1 }
+    requires text { (cells : List P) → length cells ≡ tiles.now.tiling.width → length (P.bytes tiles.now.tiling.width cells) ≤ vec_capacity text.old }
     ensures wrote { (f : Raster P) → AreCutFrom f tiles.now → Wrote (W.contents sink.old.inner) (W.contents sink.new.inner) (rows_bytes P.bytes f.width f.height f.cells) result }
     ensures kept { OnOk result (sink.new.failed ≡ sink.old.failed) }
     ensures flag { OnErr result ((result ≡ Err SessionFault.Write) × (sink.new.failed ≡ true)) }
 {
     for y in 0..tiles.height() {
-        tiles.read(y, samples);
-        P::fill(text, samples);
-        match send(sink, text) {
-            Ok(()) => {}
-            Err(fault) => return Err(fault),
-        }
+        tiles.read(y, row);
+        P::fill(text, row.held());
+        send(sink, text)?;
     }
     Ok(())
 }
@@ -45,19 +44,18 @@ fn send_image<W: Write, P: RowBytes>(
     line: &ReplyLine,
     head: &[u8],
     tiles: &TiledRows<P>,
-    samples: &mut Vec<P>,
+    row: &mut Plane<P>,
     text: &mut Vec<u8>,
 ) -> Result<(), SessionFault>
-    requires samples { tiles.now.tiling.width ≤ vec_capacity samples.old }
-    requires text { (row : List P) → length row ≡ tiles.now.tiling.width → length (P.bytes tiles.now.tiling.width row) ≤ vec_capacity text.old }
+    requires width { row.old.width ≡ tiles.now.tiling.width }
+    requires height { row.old.height ≡ 1 }
+    requires text { (cells : List P) → length cells ≡ tiles.now.tiling.width → length (P.bytes tiles.now.tiling.width cells) ≤ vec_capacity text.old }
     ensures wrote { (f : Raster P) → AreCutFrom f tiles.now → Wrote (W.contents sink.old.inner) (W.contents sink.new.inner) (line.now ++ (head.now ++ rows_bytes P.bytes f.width f.height f.cells)) result }
     ensures kept { OnOk result (sink.new.failed ≡ sink.old.failed) }
     ensures flag { OnErr result ((result ≡ Err SessionFault.Write) × (sink.new.failed ≡ true)) }
 {
-    match send_both(sink, line.as_bytes(), head) {
-        Err(fault) => Err(fault),
-        Ok(()) => send_rows(sink, tiles, samples, text),
-    }
+    send_both(sink, line.as_bytes(), head)?;
+    send_rows(sink, tiles, row, text)
 }
 
 /// Writes the reply that hands out the image with this header, or that there is no room for a row.
@@ -74,14 +72,14 @@ fn say_rows<W: Write, P: RowBytes>(
 {
     let (width, height) = (tiles.width(), tiles.height());
     let count = P::byte_count(width);
-    let Ok(mut samples) = Vec::with_capacity(alloc, width as usize) else {
+    let Ok(mut row) = Plane::<P>::blank(alloc, width, 1) else {
         return say_told(sink, Err(NoMemory));
     };
     let Ok(mut text) = Vec::with_capacity(alloc, count) else {
         return say_told(sink, Err(NoMemory));
     };
     let line = image_line(t, head.len() + height as usize * count);
-    send_image(sink, &line, head, tiles, &mut samples, &mut text)
+    send_image(sink, &line, head, tiles, &mut row, &mut text)
 }
 
 /// Writes an image in tiles, or that it found no memory.

@@ -93,7 +93,8 @@ fn a_plane_by_rows(rt: HostRuntime) -> Result<(), Fail> {
 #[test]
 fn a_plane_is_written(rt: HostRuntime) -> Result<(), Fail> {
     let mut plane = Plane::new(3, 2, vec![in rt.alloc(); 1u8, 2, 3, 4, 5, 6]?);
-    plane.put_row(1, 1, &[8, 9]);
+    let row = Plane::new(2, 1, vec![in rt.alloc(); 8u8, 9]?);
+    plane.copy_run(1, 1, &row, 0, 0, 2);
     assert!(rt; plane.into_samples().as_slice() == [1, 2, 3, 4, 8, 9].as_slice());
     Ok(())
 }

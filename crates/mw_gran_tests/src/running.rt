@@ -1,10 +1,10 @@
 //! Runs plans step by step over whole planes.
 
 use mw_gran::Plan;
-use mw_images_for_tests::{image, plane_of, rect, whole_window};
+use mw_images_for_tests::{image, levels_of, plane_of, rect, whole_window};
 use mw_model::plain::PlainImage;
 use mw_model::{Kind, TaskId};
-use mw_pixel::{Bit, Pixel, Plane};
+use mw_pixel::{Bit, Planar, Plane};
 use mw_plan::{PlannedStep, Source};
 use mw_step::run;
 use mw_task::{SharedWindow, TileResult, Work};
@@ -47,16 +47,13 @@ fn whole(alloc: Global, image: &PlainImage) -> Result<SharedWindow, Fail> {
 }
 
 /// The plane with its maxval.
-fn image_of<P: Pixel>(
+fn image_of<P: Planar>(
     alloc: Global,
     kind: Kind,
     maxval: u16,
     plane: &Plane<P>,
 ) -> Result<PlainImage, Fail> {
-    let mut levels = Vec::new(alloc);
-    for sample in plane.samples() {
-        levels.push(sample.value())?;
-    }
+    let levels = levels_of(alloc, plane)?;
     image(alloc, kind, plane.width(), plane.height(), maxval, &levels)
 }
 

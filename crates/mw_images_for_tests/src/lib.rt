@@ -15,6 +15,6 @@ mod windows;
 
 pub use elements::{BAR, element, full_square, long_line};
 pub use images::{bit_row, extrema, grey_row, image, noise};
-pub use samples::{are_levels, plane_of, row_of, sample_of};
+pub use samples::{are_levels, has_levels, levels_of, plane_of, row_of, sample_of};
 pub use tiles::{Part, parts_of, rect, shows_tile};
 pub use windows::whole_window;

@@ -1,16 +1,17 @@
 //! The tiles of frames, with what an element sees from them.
 
+use crate::samples::has_level;
 use mw_grid::{Grid, side_ok};
 use mw_model::plain::PlainImage;
 use mw_model::{Reach, Rect};
-use mw_pixel::{Pixel, Plane};
+use mw_pixel::{Planar, Plane};
 use mw_tile::Window;
 use std::alloc::Global;
 use std::test::Fail;
 
 /// A tile, and the window that has what lies within a reach of it.
 #[derive(Drop)]
-pub struct Part<P: Pixel> {
+pub struct Part<P: Planar> {
     pub tile: Rect,
     pub window: Window<P>,
 }
@@ -25,7 +26,7 @@ pub fn rect(x: u32, y: u32, width: u32, height: u32) -> Rect {
     }
 }
 
-fn part_of<P: Pixel>(
+fn part_of<P: Planar>(
     alloc: Global,
     plane: &Plane<P>,
     grid: Grid,
@@ -49,7 +50,7 @@ fn grid_of(width: u32, height: u32, side: u32) -> Result<Grid, Fail> {
 }
 
 /// All tiles of a plane of 1 to 8,192 columns and rows, of a side that tiles may have.
-pub fn parts_of<P: Pixel>(
+pub fn parts_of<P: Planar>(
     alloc: Global,
     plane: &Plane<P>,
     reach: Reach,
@@ -63,12 +64,8 @@ pub fn parts_of<P: Pixel>(
     Ok(parts)
 }
 
-fn has_level<P: Pixel>(made: &Plane<P>, x: u32, y: u32, level: Option<u16>) -> bool {
-    x < made.width() && y < made.height() && Some(made.at(x, y).value()) == level
-}
-
 /// Whether a row of the tile has the samples of the whole frame.
-fn shows_row<P: Pixel>(made: &Plane<P>, y: u32, tile: Rect, whole: &PlainImage) -> bool {
+fn shows_row<P: Planar>(made: &Plane<P>, y: u32, tile: Rect, whole: &PlainImage) -> bool {
     let row = i64::from(tile.y) + i64::from(y);
     (0..made.width()).all(|x| {
         let column = i64::from(tile.x) + i64::from(x);
@@ -77,7 +74,7 @@ fn shows_row<P: Pixel>(made: &Plane<P>, y: u32, tile: Rect, whole: &PlainImage) 
 }
 
 /// Whether these are the samples of the tile.
-pub fn shows_tile<P: Pixel>(made: &Plane<P>, tile: Rect, whole: &PlainImage) -> bool {
+pub fn shows_tile<P: Planar>(made: &Plane<P>, tile: Rect, whole: &PlainImage) -> bool {
     made.width() == tile.width
         && made.height() == tile.height
         && (0..made.height()).all(|y| shows_row(made, y, tile, whole))

@@ -5,7 +5,7 @@ use mw_line::rectangle;
 use mw_model::plain::PlainImage;
 use mw_model::{Kind, Offset, OffsetBox, Rect, plain};
 use mw_offset::extremum;
-use mw_pixel::{Bit, Extremum, Max, Min, Pixel};
+use mw_pixel::{Extremum, Grey, Max, Min};
 use mw_tile::Window;
 use std::alloc::Global;
 use std::process::Abort;
@@ -16,12 +16,12 @@ fn offset(dx: i16, dy: i16) -> Offset {
 }
 
 /// The window that has all of an image.
-fn window_of<P: Pixel>(alloc: Global, image: &PlainImage) -> Result<Window<P>, Fail> {
+fn window_of<P: Grey>(alloc: Global, image: &PlainImage) -> Result<Window<P>, Fail> {
     Ok(Window::whole(plane_of::<P>(alloc, image)?))
 }
 
 /// Stops where the extremum by offsets has other samples.
-fn by_offsets<P: Pixel, E: Extremum<P>>(
+fn by_offsets<P: Grey, E: Extremum<P>>(
     rt: &impl Abort,
     window: (Global, &Window<P>),
     offsets: &[Offset],
@@ -36,7 +36,7 @@ fn by_offsets<P: Pixel, E: Extremum<P>>(
 }
 
 /// The same for the extremum by a box.
-fn by_box<P: Pixel, E: Extremum<P>>(
+fn by_box<P: Grey, E: Extremum<P>>(
     rt: &impl Abort,
     window: (Global, &Window<P>),
     offsets: OffsetBox,
@@ -58,7 +58,7 @@ const ROW: Rect = Rect {
 };
 
 /// The row of five samples.
-fn five<P: Pixel>(alloc: Global) -> Result<Window<P>, Fail> {
+fn five<P: Grey>(alloc: Global) -> Result<Window<P>, Fail> {
     window_of::<P>(alloc, &grey_row(alloc, 9, &[3, 1, 4, 1, 5])?)
 }
 
@@ -88,7 +88,7 @@ fn offsets_far_apart(rt: HostRuntime) -> Result<(), Fail> {
 }
 
 /// Four columns and three rows.
-fn twelve<P: Pixel>(alloc: Global, greatest: u16) -> Result<Window<P>, Fail> {
+fn twelve<P: Grey>(alloc: Global, greatest: u16) -> Result<Window<P>, Fail> {
     let cells = [5, 6, 7, 2, 9, 8, greatest, 4, 3, 1, 0, 6];
     window_of::<P>(alloc, &image(alloc, Kind::Grey, 4, 3, 999, &cells)?)
 }
@@ -137,13 +137,12 @@ fn a_disc_beside_its_offsets_one_by_one(rt: HostRuntime) -> Result<(), Fail> {
 }
 
 #[test]
-fn a_set(rt: HostRuntime) -> Result<(), Fail> {
-    let (zero, one) = (Bit::new(false), Bit::SET);
+fn the_levels_of_a_set(rt: HostRuntime) -> Result<(), Fail> {
     let middle = image(rt.alloc(), Kind::Bit, 3, 1, 1, &[0, 1, 0])?;
-    let window = window_of::<Bit>(rt.alloc(), &middle)?;
+    let window = window_of::<u8>(rt.alloc(), &middle)?;
     let (set, tile) = ((rt.alloc(), &window), rect(0, 0, 3, 1));
     let offsets = [offset(0, 0), offset(1, 0)];
-    by_offsets::<Bit, Max>(&rt, set, &offsets, zero, tile, &[one, one, zero])
+    by_offsets::<u8, Max>(&rt, set, &offsets, 0, tile, &[1, 1, 0])
 }
 
 fn columns_and_rows(x0: i32, x1: i32, y0: i32, y1: i32) -> OffsetBox {

@@ -6,7 +6,7 @@ use mw_images_for_tests::{
 };
 use mw_model::plain::PlainImage;
 use mw_model::{Kind, Rect, plain};
-use mw_pixel::{Bit, Pixel, Plane};
+use mw_pixel::{Grey, Plane};
 use mw_rank::rank;
 use mw_tile::Window;
 use std::alloc::Global;
@@ -22,7 +22,7 @@ struct Wanted<'a> {
 }
 
 /// Stops where a rank of a window is not in the tile what is wanted there of the whole frame.
-fn agree_on_tile<P: Pixel>(
+fn agree_on_tile<P: Grey>(
     rt: &impl Abort,
     alloc: Global,
     window: &Window<P>,
@@ -41,7 +41,7 @@ fn agree_on_tile<P: Pixel>(
 }
 
 /// Stops where a rank of a plane is not as wanted, by the windows of the grid's tiles.
-fn agree_on_grid<P: Pixel>(
+fn agree_on_grid<P: Grey>(
     rt: &impl Abort,
     alloc: Global,
     plane: &Plane<P>,
@@ -65,7 +65,7 @@ fn tiles_of(width: u32, height: u32) -> [Rect; 4] {
 }
 
 /// Stops where a rank of a plane is not as wanted, by the window that has all of it.
-fn agree_on_whole<P: Pixel>(
+fn agree_on_whole<P: Grey>(
     rt: &impl Abort,
     alloc: Global,
     plane: Plane<P>,
@@ -88,7 +88,7 @@ fn ranked(
     Ok(plain::rank(alloc, image, element.offsets(), k)?)
 }
 
-fn agree<P: Pixel>(
+fn agree<P: Grey>(
     rt: &impl Abort,
     alloc: Global,
     image: &PlainImage,
@@ -103,7 +103,7 @@ fn agree<P: Pixel>(
 }
 
 /// The same on grey images without a pattern.
-fn agree_on_greys<P: Pixel>(
+fn agree_on_greys<P: Grey>(
     rt: &impl Abort,
     alloc: Global,
     maxval: u16,
@@ -120,12 +120,12 @@ fn agree_on_greys<P: Pixel>(
 fn agree_on_sets(rt: &impl Abort, alloc: Global, element: &Element, k: u32) -> Result<(), Fail> {
     for (width, height) in [(1, 1), (5, 4), (67, 2), (2, 67)] {
         let image = noise(alloc, Kind::Bit, width, height, 1)?;
-        agree::<Bit>(rt, alloc, &image, element, k)?;
+        agree::<u8>(rt, alloc, &image, element, k)?;
     }
     Ok(())
 }
 
-/// One rank of sets, bytes and samples of two bytes.
+/// One rank of the levels of sets, bytes and samples of two bytes.
 fn agree_by(rt: &impl Abort, alloc: Global, element: &Element, k: u32) -> Result<(), Fail> {
     agree_on_sets(rt, alloc, element, k)?;
     for maxval in [9, 255] {

@@ -141,7 +141,7 @@ const RIGHT_PIXEL: Rect = Rect {
 
 #[test]
 fn a_window_with_its_own_samples(rt: HostRuntime) -> Result<(), Fail> {
-    let own = Window::new(2, 1, RIGHT_PIXEL, vec![in rt.alloc(); 7u8]?);
+    let own = Window::new(2, 1, RIGHT_PIXEL, Plane::filled(rt.alloc(), 1, 1, 7u8)?);
     assert!(rt; own.samples() == [7].as_slice());
     Ok(())
 }

@@ -3,7 +3,7 @@
 use mw_images_for_tests::{BAR, bit_row, grey_row, image, plane_of, rect};
 use mw_model::plain::PlainImage;
 use mw_model::{Kind, Offset, Rect};
-use mw_pixel::{Bit, Pixel};
+use mw_pixel::Grey;
 use mw_rank::{rank, ranks_are_rank_filter};
 use mw_tile::Window;
 use std::alloc::Global;
@@ -11,7 +11,7 @@ use std::process::Abort;
 use std::test::Fail;
 
 /// Stops where a rank of an image has other samples.
-fn is_ranked<P: Pixel>(
+fn is_ranked<P: Grey>(
     rt: &impl Abort,
     image: (Global, &PlainImage),
     offsets: &[Offset],
@@ -54,11 +54,10 @@ fn ranks_of_samples_of_two_bytes(rt: HostRuntime) -> Result<(), Fail> {
 }
 
 #[test]
-fn ranks_of_a_set(rt: HostRuntime) -> Result<(), Fail> {
-    let (zero, one) = (Bit::new(false), Bit::SET);
+fn ranks_of_the_levels_of_a_set(rt: HostRuntime) -> Result<(), Fail> {
     let row = bit_row(rt.alloc(), &[0, 1, 1, 0, 0])?;
     let (set, tile) = ((rt.alloc(), &row), rect(0, 0, 5, 1));
-    is_ranked::<Bit>(&rt, set, &BAR, 2, tile, &[one, one, one, zero, zero])
+    is_ranked::<u8>(&rt, set, &BAR, 2, tile, &[1, 1, 1, 0, 0])
 }
 
 #[test]

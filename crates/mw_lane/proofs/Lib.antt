@@ -1,5 +1,4 @@
 -- the crate's own
-mod Same
 mod Blocks
 mod Differences
 mod Parts

@@ -1,10 +1,10 @@
 //! What the kernels need of a type of samples, one at a time and 64 at a time.
-ghost use Rattle.std.specs.Prelude.{◌≡◌, ℕ, ◌-◌, ◌↔◌, IsTrue, nat_le, if◌then◌else◌, length, map};
+ghost use Rattle.std.specs.Prelude.{◌≡◌, ℕ, ◌-◌, nat_le, if◌then◌else◌, length, map};
 ghost use lib.Lanes.{zip2};
 
 use mw_pixel::{Bit, Pixel};
 
-/// Samples that can be subtracted, cut at a level and compared. The block methods are plain loops unless a type has
+/// Samples that can be subtracted and cut at a level. The block methods are plain loops unless a type has
 /// vector code for them.
 pub trait Lanes: Pixel {
     ghost difference: { Self → Self → Self };
@@ -12,10 +12,6 @@ pub trait Lanes: Pixel {
     /// The first sample less the second, or 0 where the second is greater.
     fn subtract(a: Self, b: Self) -> Self
         ensures { result ≡ difference a b };
-
-    /// Whether the samples are one.
-    fn is_same(a: Self, b: Self) -> bool
-        ensures { IsTrue result ↔ (a ≡ b) };
 
     /// The difference of each of 64 pairs, in place.
     fn subtract_block(acc: &mut [Self], other: &[Self])
@@ -37,20 +33,6 @@ pub trait Lanes: Pixel {
         for i in 0..src.len() {
             out[i] = Bit::new(src[i].value() >= k);
         }
-    }
-
-    /// Whether 64 pairs are equal.
-    fn equal_block(a: &[Self], b: &[Self]) -> bool
-        requires whole { length a.now ≡ 64 }
-        requires paired { length b.now ≡ 64 }
-        ensures { IsTrue result ↔ (a.now ≡ b.now) }
-    {
-        // without an early end, which would keep it from being vector code
-        let mut same = true;
-        for i in 0..a.len() {
-            same = same & Self::is_same(a[i], b[i]);
-        }
-        same
     }
 
     ghost level_of_difference: { (a b : Self) → Self.level (difference a b) ≡ Self.level a - Self.level b };

@@ -46,11 +46,6 @@ impl Lanes for u16 {
     }
 
     #[inline(always)]
-    fn is_same(a: u16, b: u16) -> bool {
-        a == b
-    }
-
-    #[inline(always)]
     fn subtract_block(acc: &mut [u16], other: &[u16]) {
         differences(acc, other).copy_to_slice(acc);
     }
@@ -61,12 +56,5 @@ impl Lanes for u16 {
         for i in 0..64 {
             out[i] = Bit::new(marks[i] != 0);
         }
-    }
-
-    #[inline(always)]
-    fn equal_block(a: &[u16], b: &[u16]) -> bool {
-        let first = Simd::<u16, 64>::from_slice(a);
-        let second = Simd::<u16, 64>::from_slice(b);
-        first.simd_ne(second).to_bitmask() == 0
     }
 }

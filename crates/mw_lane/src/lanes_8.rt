@@ -49,11 +49,6 @@ impl Lanes for u8 {
     }
 
     #[inline(always)]
-    fn is_same(a: u8, b: u8) -> bool {
-        a == b
-    }
-
-    #[inline(always)]
     fn subtract_block(acc: &mut [u8], other: &[u8]) {
         differences(acc, other).copy_to_slice(acc);
     }
@@ -64,12 +59,5 @@ impl Lanes for u8 {
         for i in 0..64 {
             out[i] = Bit::new(marks[i] != 0);
         }
-    }
-
-    #[inline(always)]
-    fn equal_block(a: &[u8], b: &[u8]) -> bool {
-        let first = Simd::<u8, 64>::from_slice(a);
-        let second = Simd::<u8, 64>::from_slice(b);
-        first.simd_ne(second).to_bitmask() == 0
     }
 }

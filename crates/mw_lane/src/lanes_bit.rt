@@ -16,9 +16,4 @@ impl Lanes for Bit {
     fn subtract(a: Bit, b: Bit) -> Bit {
         Bit::new(a.is_set() && !b.is_set())
     }
-
-    #[inline(always)]
-    fn is_same(a: Bit, b: Bit) -> bool {
-        a.is_set() == b.is_set()
-    }
 }

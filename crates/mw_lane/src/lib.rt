@@ -1,5 +1,5 @@
-//! Kernels over whole rows of samples: the extremum of two rows, their difference, the set of the samples from a level
-//! on, and whether two rows are equal.
+//! Kernels over whole rows of samples: the extremum of two rows, their difference, and the set of the samples from a level
+//! on.
 //!
 //! Each does its work 64 samples at a time, by vector code for bytes and 16-bit samples, and one at a time for the rest
 //! of a row. Its contract is the plain loop, so a caller never sees which samples went through vectors.
@@ -13,7 +13,6 @@
 
 mod ahead;
 mod combine;
-mod equal;
 mod lanes;
 mod lanes_16;
 mod lanes_8;
@@ -24,8 +23,8 @@ mod threshold;
 
 pub use ahead::combine_ahead;
 pub use combine::combine_rows;
-pub use equal::equal_rows;
 pub use lanes::Lanes;
+pub use mw_pixel::equal_rows;
 pub use shifted::combine_shifted;
 pub use subtract::subtract_rows;
 pub use threshold::threshold_row;

@@ -2,6 +2,7 @@
 pub mod BoxLaws
 pub mod Composed
 pub mod RunCascade
+pub mod RunGrowth
 pub mod RunReplay
 pub mod RunShapes
 pub mod RunStates
@@ -12,7 +13,6 @@ pub mod RunWaiting
 -- the crate's own
 mod ResidueLaws
 mod RunExamples
-mod RunGrowth
 mod RunLimits
 mod RunReach
 mod RunSettling

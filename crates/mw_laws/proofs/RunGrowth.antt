@@ -64,7 +64,7 @@ grows_on a b c f g = record {
 
 -- ---- each kind of change
 
-grows_added : (m : Machine) (n : Name) (e : Submission) (o : Outcome) (p : Option Value) → IsSound m → GrowsTo m (pushed m n e o p)
+pub grows_added : (m : Machine) (n : Name) (e : Submission) (o : Outcome) (p : Option Value) → IsSound m → GrowsTo m (pushed m n e o p)
 grows_added m n e o p s = record {
   names = (n ∷ [], refl);
   submissions = (e ∷ [], refl);

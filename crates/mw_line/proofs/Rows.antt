@@ -2,13 +2,11 @@
 use Rattle.std.proofs.Common.{◌≡◌, ℕ, ◌+◌, ◌*◌, ◌<◌, ◌≤◌, List, ◌++◌, length, take, drop, get_or, ap, sym, arith, ◌∙◌, inl, inr, length-append, length-take}
 use Rattle.std.proofs.lemmas.Bool.{cases_lt}
 use Rattle.std.proofs.lemmas.Nat.{mul-add-lt}
-use Rattle.std.proofs.Math.Nat.{add-sub_cancel_left, mul-le-mul_left}
+use Rattle.std.proofs.Math.Nat.{add-sub_cancel_left}
 use Rattle.std.proofs.lemmas.List.{get_or-take, get_or-drop, get_or_append_left, get_or-append_right}
+pub use Rattle.mw_words.proofs.Bits.{rows_fit}
 use Rattle.mw_facts.proofs.Parts.{length-put_mid, get_or-put_mid_below, get_or-put_mid_within, get_or-put_mid_above}
 use borrow.Rule.Slice.PartMut.{put_mid}
-
-pub rows_fit : (y h w : ℕ) → y < h → y * w + w ≤ h * w
-rows_fit y h w lt = let le : y + 1 ≤ h = omega arith in omega (arith, mul-le-mul_left w le)
 
 -- the rows above y have their values, made from what stood there, and the others are as they were
 pub record RowsDone {A : Type 0} (value : A → ℕ → ℕ → A) (w h y : ℕ) (old out : List A) : Type 0 where

@@ -15,7 +15,7 @@ use crate::doubling::slide_by;
 use crate::sides::{first_seen, seen_across, seen_down};
 use crate::window_rows::combine_window_row;
 use mw_model::{NoMemory, OffsetBox, Rect};
-use mw_pixel::{Extremum, Pixel, Plane, copies};
+use mw_pixel::{Extremum, Grey, Plane, copies};
 use mw_tile::Window;
 use std::alloc::Global;
 
@@ -32,7 +32,7 @@ struct Slide {
 }
 
 /// Leaves at each of the first places of the line the extremum of `across` places of that row of the window.
-fn slide_row<P: Pixel, E: Extremum<P>>(
+fn slide_row<P: Grey, E: Extremum<P>>(
     window: &Window<P>,
     slide: Slide,
     row: i64,
@@ -51,7 +51,7 @@ fn slide_row<P: Pixel, E: Extremum<P>>(
 }
 
 /// The rows before they are cut to the height: as many more as there are places downwards after the first.
-fn slide_rows<P: Pixel, E: Extremum<P>>(
+fn slide_rows<P: Grey, E: Extremum<P>>(
     alloc: Global,
     window: &Window<P>,
     slide: Slide,
@@ -79,7 +79,7 @@ fn slide_rows<P: Pixel, E: Extremum<P>>(
 }
 
 /// The rows, over a window that goes on with neutral samples.
-fn boxes<P: Pixel, E: Extremum<P>>(
+fn boxes<P: Grey, E: Extremum<P>>(
     alloc: Global,
     window: &Window<P>,
     slide: Slide,
@@ -103,7 +103,7 @@ fn boxes<P: Pixel, E: Extremum<P>>(
 /// The extremum of the neutral sample and what the window has under the box, at each place of the tile. Where the window
 /// has all that the frame has there, this is the extremum over the frame. No sample is over the greatest of the neutral one
 /// and those of the window. It may want memory (`NoMemory`).
-pub fn rectangle<P: Pixel, E: Extremum<P>>(
+pub fn rectangle<P: Grey, E: Extremum<P>>(
     alloc: Global,
     window: &Window<P>,
     offsets: OffsetBox,

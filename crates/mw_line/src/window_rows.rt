@@ -4,12 +4,12 @@ ghost use Rattle.mw_model.specs.Rasters.{raster, cell_at};
 ghost use Rattle.mw_lane.specs.Shifted.{merge_at};
 
 use mw_lane::combine_shifted;
-use mw_pixel::{Extremum, Pixel};
+use mw_pixel::{Extremum, Grey};
 use mw_tile::Window;
 
 /// Merges into each sample what the window has in that row, so many columns further on, both counted from the window's
 /// first place.
-pub fn combine_window_row<P: Pixel, E: Extremum<P>>(
+pub fn combine_window_row<P: Grey, E: Extremum<P>>(
     window: &Window<P>,
     column: i64,
     row: i64,

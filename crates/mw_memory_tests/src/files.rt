@@ -1,5 +1,6 @@
 //! Images, bitmaps and elements from the bytes of files, and the bytes that are written of images.
 
+use crate::makers::has;
 use mw_element::{Element, ElementFault, Offset};
 use mw_model::{Kind, NoMemory, Shape};
 use mw_netpbm::{BitmapFault, ReadFault, Text, parts, read, read_owned, read_plain_bitmap, write};
@@ -200,12 +201,7 @@ fn bitmap_in(alloc: Global, bytes: &[u8]) -> Result<Plane<Bit>, Fail> {
 #[test]
 fn bitmaps_are_read(rt: HostRuntime) -> Result<(), Fail> {
     let step = bitmap_in(rt.alloc(), b"P1 # a step\n3 2\n010\n011\n")?;
-    assert!(rt; step.width() == 3 && step.height() == 2);
-    let (zero, one) = (Bit::new(false), Bit::SET);
-    assert_eq!(rt;
-        step.samples(),
-        [zero, one, zero, zero, one, one].as_slice()
-    );
+    assert!(rt; has(&step, 3, 2, &[0, 1, 0, 0, 1, 1]));
     Ok(())
 }
 

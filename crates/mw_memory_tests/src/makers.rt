@@ -4,7 +4,7 @@
 use crate::files::shows;
 use mw_model::{Kind, NoMemory, Rect, Shape};
 use mw_netpbm::{ReadFault, read};
-use mw_pixel::{Bit, Image, Pixel, Plane, SharedView, copies};
+use mw_pixel::{Bit, Image, Pixel, Planar, Plane, SharedView, copies};
 use mw_tile::{Window, cut};
 use std::alloc::Global;
 use std::process::Abort;
@@ -12,7 +12,7 @@ use std::sync::Arc;
 use std::test::Fail;
 
 /// A plane with one sample everywhere, of this many samples in all.
-fn is_filled<P: Pixel>(
+fn is_filled<P: Planar>(
     rt: &impl Abort,
     alloc: Global,
     width: u32,
@@ -22,8 +22,12 @@ fn is_filled<P: Pixel>(
 ) -> Result<(), Fail> {
     let plane = once_more!(NoMemory, Plane::filled(alloc, width, height, sample));
     assert!(rt; plane.width() == width && plane.height() == height);
-    assert_eq!(rt; plane.samples().len(), count);
-    assert!(rt; plane.samples().iter().all(|s| *s == sample));
+    assert_eq!(rt; height as usize * width as usize, count);
+    for y in 0..height {
+        for x in 0..width {
+            assert!(rt; plane.at(x, y) == sample);
+        }
+    }
     Ok(())
 }
 
@@ -68,7 +72,9 @@ fn a_copy_of_a_plane_stands_alone(rt: HostRuntime) -> Result<(), Fail> {
     assert_eq!(rt; samples.len(), 6);
     let mut copy = Plane::new(3, 2, samples);
     assert!(rt; copy.same(&plane));
-    copy.put_row(1, 1, &[8, 9]);
+    let other = once_more!(_, [8u16, 9].to_vec(rt.alloc()));
+    assert_eq!(rt; other.len(), 2);
+    copy.copy_run(1, 1, &Plane::new(2, 1, other), 0, 0, 2);
     assert_eq!(rt; copy.samples(), [100, 200, 300, 400, 8, 9].as_slice());
     assert_eq!(rt; plane.samples(), [100, 200, 300, 400, 500, 600].as_slice());
     Ok(())
@@ -142,15 +148,20 @@ fn owns(owner: &SharedView, width: u32, height: u32, maxval: u16, levels: &[u16]
     }
 }
 
-pub(crate) fn has<P: Pixel>(plane: &Plane<P>, width: u32, height: u32, levels: &[u16]) -> bool {
-    let samples = plane.samples();
-    plane.width() == width
-        && plane.height() == height
-        && samples.len() == levels.len()
-        && samples
-            .iter()
-            .zip(levels)
-            .all(|(s, level)| s.value() == *level)
+/// Whether the plane has these sides, and these levels by rows.
+pub(crate) fn has<P: Planar>(plane: &Plane<P>, width: u32, height: u32, levels: &[u16]) -> bool {
+    if plane.width() != width || plane.height() != height {
+        return false;
+    }
+    for y in 0..height {
+        for x in 0..width {
+            let at = y as usize * width as usize + x as usize;
+            if levels.get(at).copied() != Some(plane.at(x, y).value()) {
+                return false;
+            }
+        }
+    }
+    levels.len() == height as usize * width as usize
 }
 
 /// The image of a file, and one more owner of its plane.

@@ -2,11 +2,11 @@
 //! as it was.
 
 use crate::makers::has;
-use mw_bits::{WordExtremum, Words};
+use mw_bits::{WordExtremum, as_levels, at_least};
 use mw_line::{Steps, line, rectangle};
 use mw_model::{NoMemory, Offset, OffsetBox, Rect};
 use mw_offset::extremum;
-use mw_pixel::{Bit, Extremum, Max, Min, Pixel, Plane};
+use mw_pixel::{Bit, Extremum, Grey, Max, Min, Plane};
 use mw_rank::rank;
 use mw_tile::Window;
 use std::alloc::Global;
@@ -56,12 +56,12 @@ fn far_in_a_row(width: u32) -> Rect {
     }
 }
 
-fn copied<P: Pixel>(alloc: Global, samples: &[P]) -> Result<Vec<P>, Fail> {
+fn copied<P: Grey>(alloc: Global, samples: &[P]) -> Result<Vec<P>, Fail> {
     Ok(once_more!(_, samples.to_vec(alloc)))
 }
 
 /// The window that has a whole row of so many samples.
-fn row_of<P: Pixel>(rt: &impl Abort, width: u32, samples: Vec<P>) -> Window<P> {
+fn row_of<P: Grey>(rt: &impl Abort, width: u32, samples: Vec<P>) -> Window<P> {
     assert!(rt; samples.len() == width as usize);
     Window::whole(Plane::new(width, 1, samples))
 }
@@ -198,41 +198,42 @@ fn ranks(rt: HostRuntime) -> Result<(), Fail> {
     Ok(())
 }
 
+const SEVEN: [u8; 7] = [0, 4, 9, 5, 3, 4, 1];
+
+/// The places of the seven samples with level 4 or more.
 const SET: [u16; 7] = [0, 1, 1, 1, 0, 1, 0];
 
-/// The words of the set, from a window that stays as it was.
-fn words_of_set(rt: &impl Abort, alloc: Global) -> Result<Words, Fail> {
-    let (zero, one) = (Bit::new(false), Bit::SET);
-    let pixels = [zero, one, one, one, zero, one, zero];
-    let window = row_of(rt, 7, copied(alloc, &pixels)?);
-    let words = once_more!(NoMemory, Words::from_plane(alloc, &window));
-    assert!(rt; window.samples() == pixels.as_slice());
-    Ok(words)
+/// The set in words, from levels that stay as they were.
+fn set_of_levels(rt: &impl Abort, alloc: Global) -> Result<Window<Bit>, Fail> {
+    let levels = row_of(rt, 7, copied(alloc, &SEVEN)?);
+    let set = once_more!(NoMemory, at_least(alloc, &levels, 4));
+    are(rt, levels.samples(), &SEVEN);
+    Ok(Window::whole(set))
 }
 
-/// Whether the words are these seven pixels.
-fn are_pixels(alloc: Global, words: &Words, pixels: &[u16]) -> Result<bool, Fail> {
-    let plane = once_more!(NoMemory, words.to_plane(alloc));
-    Ok(has(&plane, 7, 1, pixels))
+/// Whether the set is these seven pixels, and has them as its levels.
+fn are_pixels(alloc: Global, set: &Window<Bit>, pixels: &[u16]) -> Result<bool, Fail> {
+    let levels = once_more!(NoMemory, as_levels(alloc, set));
+    Ok(has(levels.plane(), 7, 1, pixels) && has(set.plane(), 7, 1, pixels))
 }
 
 fn extremum_of<E: WordExtremum>(
     alloc: Global,
-    words: &Words,
+    set: &Window<Bit>,
     offsets: &[Offset],
     tile: Rect,
-) -> Result<Words, NoMemory> {
-    words.extremum::<E>(alloc, offsets, tile)
+) -> Result<Plane<Bit>, NoMemory> {
+    mw_bits::extremum::<E>(alloc, set, offsets, tile)
 }
 
 fn words_by<E: WordExtremum>(
     alloc: Global,
-    words: &Words,
+    set: &Window<Bit>,
     offsets: &[Offset],
     tile: Rect,
-) -> Result<Words, NoMemory> {
-    match extremum_of::<E>(alloc, words, offsets, tile) {
-        Err(NoMemory) => extremum_of::<E>(alloc, words, offsets, tile),
+) -> Result<Plane<Bit>, NoMemory> {
+    match extremum_of::<E>(alloc, set, offsets, tile) {
+        Err(NoMemory) => extremum_of::<E>(alloc, set, offsets, tile),
         first => first,
     }
 }
@@ -245,10 +246,10 @@ fn is_extremum<E: WordExtremum>(
     tile: Rect,
     wanted: &[u16],
 ) -> Result<(), Fail> {
-    let words = words_of_set(rt, alloc)?;
-    let made = words_by::<E>(alloc, &words, offsets, tile)?;
+    let set = set_of_levels(rt, alloc)?;
+    let made = Window::whole(words_by::<E>(alloc, &set, offsets, tile)?);
     assert!(rt; are_pixels(alloc, &made, wanted)?);
-    assert!(rt; are_pixels(alloc, &words, &SET)?);
+    assert!(rt; are_pixels(alloc, &set, &SET)?);
     Ok(())
 }
 

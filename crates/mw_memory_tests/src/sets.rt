@@ -1,13 +1,9 @@
 //! What kernels make of a set is a set: an image can be made of it, since no sample is over 1.
 
-ghost use Rattle.std.specs.Prelude.{◌≤◌, All, IfOk};
-
 use crate::files::shows;
-use mw_bits::Words;
-use mw_line::rectangle;
+use mw_bits::{WordExtremum, as_levels, at_least, extremum, rectangle};
 use mw_model::{Kind, NoMemory, Offset, OffsetBox, Rect, Shape};
-use mw_offset::extremum;
-use mw_pixel::{Bit, Extremum, Image, Max, Min, Plane, copies};
+use mw_pixel::{Bit, Image, Max, Min, Plane};
 use mw_tile::Window;
 use std::alloc::Global;
 use std::process::Abort;
@@ -33,73 +29,64 @@ const BAR: OffsetBox = OffsetBox {
 
 const SET: Shape = Shape::Image(Kind::Bit, 3, 2, 1);
 
-/// A window of pixels, all of the set.
-fn full(alloc: Global) -> Result<Window<Bit>, NoMemory>
-    ensures { IfOk result (λ w. All (λ s. s ≤ 1) w.cells) }
-{
-    let pixels = copies(alloc, 6, Bit::SET)?;
-    Ok(Window::new(3, 2, FRAME, pixels))
+/// Pixels, all of the set.
+fn full(alloc: Global) -> Result<Plane<Bit>, NoMemory> {
+    Plane::filled(alloc, 3, 2, Bit::SET)
 }
 
 /// The image of a plane of pixels.
-fn image_of(alloc: Global, plane: Plane<Bit>) -> Result<Image, NoMemory>
-    requires { All (λ s. s ≤ 1) plane.cells }
-{
+fn image_of(alloc: Global, plane: Plane<Bit>) -> Result<Image, NoMemory> {
+    // no sample is over 1
+    let _words = plane.words();
     match Arc::new(alloc, plane) {
         Ok(plane) => Ok(Image::bits(plane)),
         Err(refused) => Ok(Image::bits(Arc::new(alloc, refused.value)?)),
     }
 }
 
-/// The set of words, as an image.
-fn unpacked(alloc: Global, words: &Words) -> Result<Image, NoMemory> {
-    let plane = words.to_plane(alloc)?;
-    image_of(alloc, plane)
+/// All pixels, taken as levels and made of them again, as an image.
+fn of_levels(alloc: Global) -> Result<Image, NoMemory> {
+    let window = Window::whole(full(alloc)?);
+    let levels = as_levels(alloc, &window)?;
+    let made = at_least(alloc, &levels, 1)?;
+    image_of(alloc, made)
 }
 
 /// The extremum by the pixel to the right, as an image.
-fn by_offsets<E: Extremum<Bit>>(alloc: Global, neutral: Bit) -> Result<Image, NoMemory>
-    requires { neutral ≤ 1 }
-{
-    let window = full(alloc)?;
-    let made = extremum::<Bit, E>(alloc, &window, &RIGHT, neutral, FRAME)?;
+fn by_offsets<E: WordExtremum>(alloc: Global) -> Result<Image, NoMemory> {
+    let window = Window::whole(full(alloc)?);
+    let made = extremum::<E>(alloc, &window, &RIGHT, FRAME)?;
     image_of(alloc, made)
 }
 
 /// The extremum by a pixel and the one to the right, as an image.
-fn by_box<E: Extremum<Bit>>(alloc: Global, neutral: Bit) -> Result<Image, NoMemory>
-    requires { neutral ≤ 1 }
-{
-    let window = full(alloc)?;
-    let made = rectangle::<Bit, E>(alloc, &window, BAR, neutral, FRAME)?;
+fn by_box<E: WordExtremum>(alloc: Global) -> Result<Image, NoMemory> {
+    let window = Window::whole(full(alloc)?);
+    let made = rectangle::<E>(alloc, &window, BAR, FRAME)?;
     image_of(alloc, made)
 }
 
 #[test]
 fn words_are_images(rt: HostRuntime) -> Result<(), Fail> {
-    let window = once_more!(NoMemory, full(rt.alloc()));
-    let words = once_more!(NoMemory, Words::from_plane(rt.alloc(), &window));
-    let image = once_more!(NoMemory, unpacked(rt.alloc(), &words));
+    let image = once_more!(NoMemory, of_levels(rt.alloc()));
     assert!(rt; shows(&image, SET, &[1; 6]));
     Ok(())
 }
 
 #[test]
 fn extrema_by_offsets_are_images(rt: HostRuntime) -> Result<(), Fail> {
-    let outside = Bit::new(false);
-    let eroded = once_more!(NoMemory, by_offsets::<Min>(rt.alloc(), Bit::SET));
+    let eroded = once_more!(NoMemory, by_offsets::<Min>(rt.alloc()));
     assert!(rt; shows(&eroded, SET, &[1; 6]));
-    let dilated = once_more!(NoMemory, by_offsets::<Max>(rt.alloc(), outside));
+    let dilated = once_more!(NoMemory, by_offsets::<Max>(rt.alloc()));
     assert!(rt; shows(&dilated, SET, &[1, 1, 0, 1, 1, 0]));
     Ok(())
 }
 
 #[test]
 fn extrema_by_a_box_are_images(rt: HostRuntime) -> Result<(), Fail> {
-    let outside = Bit::new(false);
-    let eroded = once_more!(NoMemory, by_box::<Min>(rt.alloc(), Bit::SET));
+    let eroded = once_more!(NoMemory, by_box::<Min>(rt.alloc()));
     assert!(rt; shows(&eroded, SET, &[1; 6]));
-    let dilated = once_more!(NoMemory, by_box::<Max>(rt.alloc(), outside));
+    let dilated = once_more!(NoMemory, by_box::<Max>(rt.alloc()));
     assert!(rt; shows(&dilated, SET, &[1; 6]));
     Ok(())
 }

@@ -6,7 +6,7 @@ ghost use Rattle.std.specs.Arc.{arc_value};
 ghost use Rattle.mw_model.specs.Rasters.{raster};
 
 use mw_model::NoMemory;
-use mw_pixel::{Bit, HeldPlane, Image, Pixel, Plane, SharedView};
+use mw_pixel::{Bit, HeldPlane, Image, Planar, Plane, SharedView};
 use mw_tile::{AnyWindow, Window};
 use std::alloc::Global;
 use std::process::Abort;
@@ -14,14 +14,14 @@ use std::sync::Arc;
 use std::test::Fail;
 
 /// Three columns and two rows of one sample.
-fn filled<P: Pixel>(alloc: Global, sample: P) -> Result<Plane<P>, NoMemory>
+fn filled<P: Planar>(alloc: Global, sample: P) -> Result<Plane<P>, NoMemory>
     ensures { IfOk result (λ p. p ≡ raster 3 2 (replicate 6 sample)) }
 {
     Plane::filled(alloc, 3, 2, sample)
 }
 
 /// The same, asked for once more where memory was refused.
-fn plane_of<P: Pixel>(alloc: Global, sample: P) -> Result<Plane<P>, NoMemory>
+fn plane_of<P: Planar>(alloc: Global, sample: P) -> Result<Plane<P>, NoMemory>
     ensures { IfOk result (λ p. p ≡ raster 3 2 (replicate 6 sample)) }
 {
     match filled(alloc, sample) {
@@ -31,7 +31,7 @@ fn plane_of<P: Pixel>(alloc: Global, sample: P) -> Result<Plane<P>, NoMemory>
 }
 
 /// The plane, which others can own. Where memory was refused the plane came back, and is handed over once more.
-fn owned<P: Pixel>(alloc: Global, plane: Plane<P>) -> Result<Arc<Plane<P>>, NoMemory>
+fn owned<P: Planar>(alloc: Global, plane: Plane<P>) -> Result<Arc<Plane<P>>, NoMemory>
     ensures { IfOk result (λ p. arc_value p ≡ plane) }
 {
     match Arc::new(alloc, plane) {
@@ -41,7 +41,7 @@ fn owned<P: Pixel>(alloc: Global, plane: Plane<P>) -> Result<Arc<Plane<P>>, NoMe
 }
 
 /// A plane of one sample, which others can own.
-fn owned_of<P: Pixel>(alloc: Global, sample: P) -> Result<Arc<Plane<P>>, NoMemory>
+fn owned_of<P: Planar>(alloc: Global, sample: P) -> Result<Arc<Plane<P>>, NoMemory>
     ensures { IfOk result (λ p. arc_value p ≡ raster 3 2 (replicate 6 sample)) }
 {
     owned(alloc, plane_of(alloc, sample)?)

@@ -7,20 +7,25 @@ pub mod Sides
 -- the crate's own
 mod Blanks
 mod Chunks
+mod CutRows
 mod Enough
 mod Faults
 mod FewDigits
 mod Headers
+mod InWords
 mod Lanes
 mod Made
 mod Masks
+mod Numbered
 mod Outcomes
 mod Packing
-mod Pixels
 mod PlainLoop
+mod PlainSets
 mod Rasters
 mod Refused
 mod Rows
+mod SetRows
 mod Tallies
+mod Turning
 mod Whole
 mod Written

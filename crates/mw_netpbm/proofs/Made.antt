@@ -1,9 +1,16 @@
 -- Images made of what is read.
-use Rattle.std.proofs.Common.{◌≡◌, ℕ, List, [], ◌∷◌, map, Result, Ok, Err, refl, sym, ap, ◌∙◌}
+use Rattle.std.proofs.Common.{◌≡◌, ℕ, List, [], ◌∷◌, map, Result, Ok, Err, refl, sym, ap, subst, ◌∙◌}
 use Rattle.std.specs.Prelude.{IfOk}
 use Rattle.mw_netpbm.specs.declared.fault.ReadFault.{ReadFault}
-use Rattle.mw_netpbm.specs.Reading.{seen, Gives}
-use Rattle.mw_netpbm.specs.Whole.{IsFit}
+use Rattle.mw_netpbm.specs.Reading.{Fails, seen, Gives}
+use Rattle.mw_netpbm.specs.Whole.{IsFit, raster_from, set_from}
+use Rattle.mw_model.specs.declared.formats.Format.TheVariants.{RawBits}
+use Rattle.mw_model.specs.NetpbmGrammar.{picture}
+use Rattle.mw_model.specs.Pictures.{Picture}
+use Rattle.mw_model.specs.Rasters.{Raster, raster}
+use Rattle.mw_pixel.specs.Images.{set_of}
+use Rattle.mw_netpbm.proofs.Faults.{Fails_then, Fails_back, Fails_same}
+use Rattle.mw_netpbm.proofs.Sides.{ok_is}
 
 pub map_same : (xs : List ℕ) → map (λ x. x) xs ≡ xs
 map_same [] = refl
@@ -26,3 +33,15 @@ pub seen_fit : {X : Type 0} (view : X → List ℕ) (found : Result X ReadFault)
     → IfOk found (λ v. IsFit count m (view v))
 seen_fit view (Ok v) read count m e fit = fit (view v) (sym e)
 seen_fit view (Err d) read count m e fit = tt
+
+-- the image of a set is given as its raster was found
+pub set_made : (width height : ℕ) (found : Result (Raster ℕ) ReadFault) (read : Result (List ℕ) ReadFault) (made : Result Picture ReadFault) → Gives (λ f. f) found (raster_from width height read) → Gives (λ i. i) made (seen set_of found)
+    → Gives (λ i. i) made (set_from width height read)
+set_made width height (Ok f) (Ok xs) made g k =
+    let image : Raster ℕ → Result Picture ReadFault = λ p. Ok (set_of p) in
+    subst (λ (r : Result Picture ReadFault). Gives (λ i. i) made r) (ap image (sym (ok_is (raster width height xs) f g))) k
+set_made width height (Ok f) (Err d) made g k = absurd cc
+set_made width height (Err d) read (Ok i) g k = absurd cc
+set_made width height (Err d) read (Err e) g k =
+    subst (λ (x : ReadFault). Fails x (set_from width height read)) (Fails_same Picture e d k)
+    (Fails_then d read (λ xs. picture (record { format = RawBits; width = width; height = height; maxval = 1 }) xs) (Fails_back d read (raster width height) g))

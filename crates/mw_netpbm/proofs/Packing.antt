@@ -1,6 +1,6 @@
 -- Packing pixels into bytes.
-use Rattle.std.proofs.Common.{◌≡◌, ℕ, zero, suc, ◌+◌, ◌-◌, ◌*◌, ◌/◌, ◌%◌, ◌<◌, ◌≤◌, cond, eqb, List, [], ◌∷◌, ◌++◌, length, take, drop, min, refl, sym, ap, ◌∙◌, arith, append_assoc, length-drop}
-use Rattle.std.proofs.lemmas.List.{take-append-drop, nil_from_length, length-take-le, append-nil, drop_min}
+use Rattle.std.proofs.Common.{◌≡◌, ℕ, zero, suc, ◌+◌, ◌-◌, ◌*◌, ◌/◌, ◌%◌, ◌<◌, ◌≤◌, List, [], ◌∷◌, ◌++◌, length, take, drop, min, refl, sym, ap, ◌∙◌, arith, append_assoc, length-drop}
+use Rattle.std.proofs.lemmas.List.{take-append-drop, nil_from_length, length-take-le, append-nil}
 use Rattle.mw_facts.proofs.Alls.{all-take, all-drop}
 use Rattle.mw_model.specs.NetpbmGrammar.{bits_of}
 use Rattle.mw_netpbm.specs.Rasters.{row_bits}
@@ -8,22 +8,6 @@ use Rattle.mw_model.specs.NetpbmWriting.{byte_of, packed, packed_rows}
 use Rattle.mw_model.specs.NetpbmGrammar.{IsRows}
 use Rattle.mw_netpbm.proofs.Sides.{Within}
 use Rattle.mw_netpbm.proofs.Rasters.{row_is}
-
-pub one_byte : (out rest total : List ℕ) (left : ℕ) → 0 < left → out ++ packed left rest ≡ total
-    → (out ++ byte_of rest ∷ []) ++ packed (left - 1) (drop (min (length rest) 8) rest) ≡ total
-unfolding packed
-one_byte out rest total left lt so_far =
-    let k : left ≡ suc (left - 1) = omega arith in
-    let m : min (length rest) 8 ≡ min 8 (length rest) = omega arith in
-    let d : drop (min (length rest) 8) rest ≡ drop 8 rest = ap (λ n. drop n rest) m ∙ drop_min 8 rest in
-    let one : out ++ packed (suc (left - 1)) rest ≡ total = ap (λ n. out ++ packed n rest) (sym k) ∙ so_far in
-    rw (d, append_assoc) one
-
-pub all_bytes : (out rest total : List ℕ) (left : ℕ) → left ≤ 0 → out ++ packed left rest ≡ total → out ≡ total
-unfolding packed
-all_bytes out rest total left le so_far =
-    let z : left ≡ 0 = omega arith in
-    sym (append-nil out) ∙ ap (λ n. out ++ packed n rest) (sym z) ∙ so_far
 
 pub more_rows : (width height y : ℕ) (out new rest total : List ℕ) → y < height
     → out ++ packed_rows width (height - y) rest ≡ total
@@ -42,15 +26,6 @@ all_rows width height y out rest total le so_far =
     sym (append-nil out) ∙ ap (λ n. out ++ packed_rows width n rest) (sym z) ∙ so_far
 
 -- ---- what is packed is spelled so
-
-bit_cases : (b : ℕ) → b ≤ 1 → cond (eqb b 1) 1 0 ≡ b
-bit_cases zero le = refl
-bit_cases (suc zero) le = refl
-bit_cases (suc (suc b)) le = absurd (omega arith)
-
--- the test of a bit, as a number
-pub bit_is : (n : ℕ) → cond (eqb (n % 2) 1) 1 0 ≡ n % 2
-bit_is n = bit_cases (n % 2) (omega arith)
 
 eight : (b0 b1 b2 b3 b4 b5 b6 b7 : ℕ) → b0 ≤ 1 → b1 ≤ 1 → b2 ≤ 1 → b3 ≤ 1 → b4 ≤ 1 → b5 ≤ 1 → b6 ≤ 1 → b7 ≤ 1
     → bits_of (128 * b0 + 64 * b1 + 32 * b2 + 16 * b3 + 8 * b4 + 4 * b5 + 2 * b6 + b7) ≡ b0 ∷ b1 ∷ b2 ∷ b3 ∷ b4 ∷ b5 ∷ b6 ∷ b7 ∷ []

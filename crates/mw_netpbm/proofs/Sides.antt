@@ -1,7 +1,7 @@
 -- What is read has as many samples as was asked for, none over the maxval.
 use Rattle.std.proofs.Common.{◌≡◌, ℕ, zero, suc, ◌+◌, ◌-◌, ◌*◌, ◌/◌, ◌%◌, ◌≤◌, Bool, true, false, cond, ltb, List, [], ◌∷◌, length, take, drop, Result, Ok, Err, min, max, fold, refl, sym, ap, subst, ◌∙◌, arith, length-append, length-drop}
 use Rattle.std.specs.List.{AllByRecursion}
-use Rattle.std.proofs.lemmas.Bool.{ltb-false}
+use Rattle.std.proofs.lemmas.Bool.{ltb-false, le-ltb}
 use Rattle.std.proofs.lemmas.List.{length-take, take_all}
 use Rattle.mw_facts.proofs.Alls.{all-append, all-take}
 use Rattle.mw_netpbm.specs.declared.fault.ReadFault.{ReadFault}
@@ -57,16 +57,16 @@ words_length (suc n) (a ∷ b ∷ bs) e = ap suc (words_length n bs (omega (arit
 bit_within : (n : ℕ) → n % 2 ≤ 1
 bit_within n = omega arith
 
-bits_within : (b : ℕ) → Within 1 (bits_of b)
+pub bits_within : (b : ℕ) → Within 1 (bits_of b)
 unfolding bits_of
 bits_within b = (bit_within (b / 128), (bit_within (b / 64), (bit_within (b / 32), (bit_within (b / 16), (bit_within (b / 8), (bit_within (b / 4), (bit_within (b / 2), (bit_within b, tt))))))))
 
-row_within : (left : ℕ) (bytes : List ℕ) → Within 1 (row_bits left bytes)
+pub row_within : (left : ℕ) (bytes : List ℕ) → Within 1 (row_bits left bytes)
 unfolding row_bits
 row_within left [] = tt
 row_within left (b ∷ bs) = all-append (λ s. s ≤ 1) (take (min left 8) (bits_of b)) (row_bits (left - 8) bs) (all-take (λ s. s ≤ 1) (min left 8) (bits_of b) (bits_within b)) (row_within (left - 8) bs)
 
-bits_length : (b : ℕ) → length (bits_of b) ≡ 8
+pub bits_length : (b : ℕ) → length (bits_of b) ≡ 8
 unfolding bits_of
 bits_length b = refl
 
@@ -107,6 +107,13 @@ grey16_ok count m bytes xs e =
     let long : length bytes ≡ count + count = omega arith in
     let whole : words_of bytes ≡ xs = sym all ∙ same in
     (omega arith, whole, ap length (sym whole) ∙ words_length count bytes long, subst (λ ys. Within m ys) same (fold_bound (words_of (take n bytes)) 0 m low).1)
+
+pub bits_whole : (width height : ℕ) (bytes : List ℕ) → height * ((width + 7) / 8) ≤ length bytes → length bytes ≤ height * ((width + 7) / 8) → bits_at width height bytes ≡ Ok (rows_bits width height bytes)
+unfolding bits_at
+bits_whole width height bytes enough no_more =
+    let n : ℕ = height * ((width + 7) / 8) in
+    ap (λ (b : Bool). cond b (Err Short) (cond (ltb n (length bytes)) (Err Trailing) (Ok (rows_bits width height bytes)))) (le-ltb (length bytes) n enough)
+    ∙ ap (λ (b : Bool). cond b (Err Trailing) (Ok (rows_bits width height bytes))) (le-ltb n (length bytes) no_more)
 
 pub bits_ok : (width height : ℕ) (bytes xs : List ℕ) → bits_at width height bytes ≡ Ok xs → (length bytes ≡ height * ((width + 7) / 8)) × (rows_bits width height bytes ≡ xs) × (length xs ≡ height * width) × Within 1 xs
 unfolding bits_at

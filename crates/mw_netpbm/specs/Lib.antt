@@ -9,3 +9,4 @@ pub mod Short
 pub mod Tallies
 pub mod Whole
 pub mod Faults
+pub mod SetWords

@@ -27,6 +27,14 @@ bit_at (b ∷ bs) = if (b == 48) || (b == 49) then Ok (b - 48, bs) else Err Samp
 unfoldable pub pixel_at : ℕ → List ℕ → Result (ℕ × List ℕ) ReadFault
 pixel_at left bytes = bit_at (skip_from false bytes)
 
+-- so many pixels at the front, and what follows them
+unfoldable pub front_at : ℕ → List ℕ → Result (List ℕ × List ℕ) ReadFault
+front_at zero bytes = Ok ([], bytes)
+front_at (suc n) bytes = do
+  first ← pixel_at n bytes
+  others ← front_at n first.1
+  Ok (first.0 ∷ others.0, others.1)
+
 -- a sample is told from the next by white space
 unfoldable pub apart : ℕ → ℕ × List ℕ → Result (ℕ × List ℕ) ReadFault
 apart zero found = Ok found

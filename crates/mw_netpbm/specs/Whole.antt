@@ -57,9 +57,13 @@ bitmap_head_at side bytes = do
   l ← side_limits side h.0
   Ok h
 
+-- the samples that are read, in rows of these sides
+abbrev pub raster_from : ℕ → ℕ → Result (List ℕ) ReadFault → Result (Raster ℕ) ReadFault
+raster_from width height read = read >>= λ xs. Ok (raster width height xs)
+
 -- the pixels of these sides
 abbrev pub pixels_from : Head → Result (List ℕ) ReadFault → Result (Raster ℕ) ReadFault
-pixels_from h read = read >>= λ xs. Ok (raster h.width h.height xs)
+pixels_from h read = raster_from h.width h.height read
 
 -- the pixels of a plain bitmap
 unfoldable pub bitmap_at : ℕ → List ℕ → Result (Raster ℕ) ReadFault

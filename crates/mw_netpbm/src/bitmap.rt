@@ -11,6 +11,7 @@ ghost use Rattle.mw_netpbm.specs.Faults.{bitmap_code_of, facts_of};
 use crate::fault::{BitmapFault, ReadFault, as_bitmap_fault};
 use crate::head::read_bitmap_head;
 use crate::plain::{self, Places};
+use crate::sets;
 use mw_pixel::{Bit, Plane};
 use std::alloc::Global;
 
@@ -57,35 +58,21 @@ pub fn scan_plain_bitmap(bytes: &[u8], side: u32) -> Result<BitmapFacts, BitmapF
 fn pixels(alloc: Global, bytes: &[u8], side: u32) -> Result<Plane<Bit>, ReadFault>
     ensures { Gives (λ f. f) result (bitmap_at side bytes.now) }
 {
-    match read_bitmap_head(bytes, side) {
-        Err(fault) => Err(fault),
-        Ok((head, rest)) => {
-            let count = head.height as usize * head.width as usize;
-            let found = plain::samples(alloc, Places::Pixels, count, rest);
-            match found {
-                Err(fault) => Err(fault),
-                Ok(samples) => Ok(Plane::new(head.width as u32, head.height as u32, samples)),
-            }
-        }
-    }
+    let (head, rest) = read_bitmap_head(bytes, side)?;
+    let words = sets::set(alloc, head.width as u32, head.height as u32, rest)?;
+    Ok(Plane::of_words(words))
 }
 
 #[tactic(auto, unfolding(crate::specs::Faults::facts_at))]
 fn facts(bytes: &[u8], side: u32) -> Result<BitmapFacts, ReadFault>
     ensures { seen (λ x. x) result ≡ facts_at side bytes.now }
 {
-    match read_bitmap_head(bytes, side) {
-        Err(fault) => Err(fault),
-        Ok((head, rest)) => {
-            let count = head.height as usize * head.width as usize;
-            match plain::count_ones(Places::Pixels, count, rest) {
-                Err(fault) => Err(fault),
-                Ok(ones) => Ok(BitmapFacts {
-                    width: head.width as u32,
-                    height: head.height as u32,
-                    ones,
-                }),
-            }
-        }
-    }
+    let (head, rest) = read_bitmap_head(bytes, side)?;
+    let count = head.height as usize * head.width as usize;
+    let ones = plain::count_ones(Places::Pixels, count, rest)?;
+    Ok(BitmapFacts {
+        width: head.width as u32,
+        height: head.height as u32,
+        ones,
+    })
 }

@@ -1,30 +1,14 @@
-//! Blocks of raw samples, by SIMD: 32 words and their 64 bytes, 64 pixels and their eight bytes.
+//! Blocks of raw samples, by SIMD: 32 samples and their 64 bytes, 512 pixels and their 64 bytes.
 
-ghost use Rattle.std.specs.Prelude.{◌≡◌, ◌==◌, ◌≤◌, length, map, if◌then◌else◌};
-ghost use Rattle.std.specs.List.{AllByRecursion, flat_map};
+ghost use Rattle.std.specs.Prelude.{◌≡◌, ◌+◌, ◌-◌, ◌*◌, ◌/◌, ◌<◌, ◌≤◌, ◌++◌, length, map, replicate};
+ghost use Rattle.std.specs.List.{flat_map};
 ghost use Rattle.mw_model.specs.NetpbmGrammar.{bits_of};
 ghost use Rattle.mw_model.specs.NetpbmWriting.{packed, two_bytes};
-ghost use Rattle.mw_netpbm.specs.Rasters.{words_of};
+ghost use Rattle.mw_netpbm.specs.Rasters.{words_of, row_bits};
 ghost use Rattle.mw_netpbm.specs.Swapping.{swap};
+ghost use Rattle.mw_netpbm.specs.SetWords.{turn, in_words, pixels_of};
 
-use mw_pixel::Bit;
 use std::simd::prelude::*;
-
-/// Each of eight bytes eight times.
-const EIGHT_TIMES: [usize; 64] = [
-    0, 0, 0, 0, 0, 0, 0, 0, 1, 1, 1, 1, 1, 1, 1, 1, 2, 2, 2, 2, 2, 2, 2, 2, 3, 3, 3, 3, 3, 3, 3, 3,
-    4, 4, 4, 4, 4, 4, 4, 4, 5, 5, 5, 5, 5, 5, 5, 5, 6, 6, 6, 6, 6, 6, 6, 6, 7, 7, 7, 7, 7, 7, 7, 7,
-];
-
-/// Eight lanes after eight, the last of each eight first.
-const LAST_FIRST: [usize; 64] = [
-    7, 6, 5, 4, 3, 2, 1, 0, 15, 14, 13, 12, 11, 10, 9, 8, 23, 22, 21, 20, 19, 18, 17, 16, 31, 30,
-    29, 28, 27, 26, 25, 24, 39, 38, 37, 36, 35, 34, 33, 32, 47, 46, 45, 44, 43, 42, 41, 40, 55, 54,
-    53, 52, 51, 50, 49, 48, 63, 62, 61, 60, 59, 58, 57, 56,
-];
-
-/// The bytes 128, 64, 32, 16, 8, 4, 2 and 1, the first one lowest.
-const HIGHEST_FIRST: u64 = 0x0102_0408_1020_4080;
 
 /// Each word with its two bytes swapped.
 #[inline(always)]
@@ -54,50 +38,69 @@ pub(crate) fn words_as_bytes(samples: &[u16]) -> [u8; 64]
         .to_array()
 }
 
-/// A pixel for each lane, 1 where the lane is not 0.
+/// Each byte with its bits turned round: neighbours are swapped, then pairs, then fours.
 #[inline(always)]
-fn as_pixels(lanes: [u8; 64]) -> [Bit; 64]
-    ensures { result ≡ map (λ n. if n == 0 then 0 else 1) lanes }
+fn turned(bytes: u8x64) -> u8x64
+    ensures { result ≡ map turn bytes }
 {
-    let mut pixels = [Bit::new(false); 64];
-    'lanes: for i in 0..64 {
-        pixels[i] = Bit::new(lanes[i] != 0);
-    }
-    pixels
+    let one = u8x64::splat(1);
+    let two = u8x64::splat(2);
+    let four = u8x64::splat(4);
+    let odd = u8x64::splat(0x55);
+    let pair = u8x64::splat(0x33);
+    let low = u8x64::splat(0x0f);
+    let first = ((bytes >> one) & odd) | ((bytes & odd) << one);
+    let second = ((first >> two) & pair) | ((first & pair) << two);
+    ((second >> four) & low) | ((second & low) << four)
 }
 
-/// The 64 pixels in eight bytes.
+/// The eight words of the 512 pixels in 64 bytes.
 #[inline(always)]
-pub(crate) fn bits_in(bytes: &[u8]) -> [Bit; 64]
-    requires { length bytes.now ≡ 8 }
-    ensures { result ≡ flat_map bits_of bytes.now }
+pub(crate) fn pixels_in(bytes: &[u8]) -> [u64; 8]
+    requires { length bytes.now ≡ 64 }
+    ensures { result ≡ in_words 8 (flat_map bits_of bytes.now) }
 {
-    let each = u8x8::from_slice(bytes).swizzle(EIGHT_TIMES);
-    let places = u64x8::splat(HIGHEST_FIRST).to_le_bytes();
-    as_pixels((each & places).to_array())
+    u64x8::from_le_bytes(turned(u8x64::from_slice(bytes))).to_array()
 }
 
-/// A lane for each of 64 pixels: 1 or 0.
+/// The bytes of the 512 pixels in eight words.
 #[inline(always)]
-fn as_lanes(bits: &[Bit]) -> [u8; 64]
-    requires { length bits.now ≡ 64 }
-    ensures same { result ≡ bits.now }
-    ensures small { AllByRecursion (λ s. s ≤ 1) bits.now }
+pub(crate) fn pixels_as_bytes(words: &[u64]) -> [u8; 64]
+    requires { length words.now ≡ 8 }
+    ensures { result ≡ packed 64 (flat_map pixels_of words.now) }
 {
-    let mut lanes = [0; 64];
-    'pixels: for i in 0..64 {
-        lanes[i] = bits[i].number();
-    }
-    lanes
+    turned(u64x8::from_slice(words).to_le_bytes()).to_array()
 }
 
-/// The bytes of 64 pixels, the first pixel highest.
-#[inline(always)]
-pub(crate) fn bits_as_bytes(bits: &[Bit]) -> [u8; 8]
-    requires { length bits.now ≡ 64 }
-    ensures { result ≡ packed 8 bits.now }
+/// The bytes with others behind them, all alike.
+pub(crate) fn padded(bytes: &[u8], filler: u8) -> [u8; 64]
+    requires { length bytes.now ≤ 64 }
+    ensures { result ≡ bytes.now ++ replicate (64 - length bytes.now) filler }
 {
-    let lanes = u8x64::from_array(as_lanes(bits)).swizzle(LAST_FIRST);
-    let mask = lanes.simd_ne(u8x64::splat(0)).to_bitmask();
-    mask.to_le_bytes()
+    let mut block = [filler; 64];
+    block[..bytes.len()].copy_from_slice(bytes);
+    block
+}
+
+/// The bytes of so many pixels with blank pixels behind them; the spare bits of the last byte mean nothing.
+pub(crate) fn block_of(count: usize, row: &[u8]) -> [u8; 64]
+    requires some { (0 < count) × (count ≤ 512) }
+    requires long { length row.now ≡ (count + 7) / 8 }
+    ensures { flat_map bits_of result ≡ row_bits count row.now ++ replicate (512 - count) 0 }
+{
+    let mut block = padded(row, 0);
+    let last = row.len() - 1;
+    let spare = 8 * row.len() - count;
+    block[last] = (block[last] >> spare) << spare;
+    block
+}
+
+/// The words with words of 0 behind them.
+pub(crate) fn eight_words(words: &[u64]) -> [u64; 8]
+    requires { length words.now ≤ 8 }
+    ensures { result ≡ words.now ++ replicate (8 - length words.now) 0 }
+{
+    let mut block = [0u64; 8];
+    block[..words.len()].copy_from_slice(words);
+    block
 }

@@ -16,6 +16,7 @@ mod raw;
 mod reader;
 mod room;
 mod row_bytes;
+mod sets;
 mod short;
 mod words;
 mod writer;

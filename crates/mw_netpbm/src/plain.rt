@@ -16,7 +16,7 @@ use mw_pixel::Pixel;
 use std::alloc::{AllocError, Global};
 
 #[tactic(auto, unfolding(crate::specs::Plain::tail_at))]
-fn tail(bytes: &[u8]) -> Result<(), ReadFault>
+pub(crate) fn tail(bytes: &[u8]) -> Result<(), ReadFault>
     ensures { fault_of result ≡ fault_of (tail_at bytes.now) }
 {
     match bytes {
@@ -27,7 +27,7 @@ fn tail(bytes: &[u8]) -> Result<(), ReadFault>
 }
 
 #[tactic(auto, unfolding(crate::specs::Plain::bit_at, crate::specs::Plain::pixel_at))]
-fn pixel(left: usize, bytes: &[u8]) -> Result<(u16, &[u8]), ReadFault>
+pub(crate) fn pixel(left: usize, bytes: &[u8]) -> Result<(u16, &[u8]), ReadFault>
     ensures value { seen (λ x. (x.0, x.1.now)) result ≡ pixel_at left bytes.now }
     ensures small { IfOk result (λ x. x.0 ≤ 1) }
 {
@@ -131,17 +131,11 @@ pub(crate) fn count_ones(places: Places, count: usize, bytes: &[u8]) -> Result<u
     let mut rest = bytes;
     'places: while left > 0 {
         left -= 1;
-        match place(places, left, rest) {
-            Ok((s, after)) => {
-                ones += one(s);
-                rest = after;
-            }
-            Err(fault) => return Err(fault),
-        }
+        let (s, after) = place(places, left, rest)?;
+        ones += one(s);
+        rest = after;
     }
-    if let Err(fault) = tail(rest) {
-        return Err(fault);
-    }
+    tail(rest)?;
     Ok(ones)
 }
 
@@ -181,13 +175,11 @@ fn fill<P: Pixel>(
 
 /// The first fault, without memory.
 #[inline(never)]
-fn check(places: Places, count: usize, bytes: &[u8]) -> Result<(), ReadFault>
+pub(crate) fn check(places: Places, count: usize, bytes: &[u8]) -> Result<(), ReadFault>
     ensures { fault_of result ≡ fault_of (plain_at (place_at places) count bytes.now) }
 {
-    match count_ones(places, count, bytes) {
-        Ok(_ones) => Ok(()),
-        Err(fault) => Err(fault),
-    }
+    let _ones = count_ones(places, count, bytes)?;
+    Ok(())
 }
 
 /// What the places hold. A raster that may be too short is checked before memory is asked for; nor is a fault passed over
@@ -204,17 +196,13 @@ pub(crate) fn samples<P: Pixel>(
     ensures { Gives (λ v. map P.level v.items) result (plain_at (place_at places) count bytes.now) }
 {
     if !has_room(places, count, bytes) {
-        if let Err(fault) = check(places, count, bytes) {
-            return Err(fault);
-        }
+        check(places, count, bytes)?;
     }
     match fill(alloc, places, count, bytes) {
         Ok(Ok(samples)) => Ok(samples),
         Ok(Err(fault)) => Err(fault),
         Err(_refused) => {
-            if let Err(fault) = check(places, count, bytes) {
-                return Err(fault);
-            }
+            check(places, count, bytes)?;
             Err(ReadFault::NoMemory)
         }
     }

@@ -1,13 +1,14 @@
-//! Raw rasters: samples of one or two bytes, or pixels of one bit; by vectors, 64 bytes or pixels at a time.
+//! Raw rasters: samples of one or two bytes, or pixels of one bit, which become words; by vectors, 64 bytes at a time.
 
 ghost use Rattle.std.specs.Prelude.{◌≡◌, ℕ, ◌≤◌, ◌<◌, ◌*◌, ◌+◌, ◌/◌, ◌++◌, ◌^◌, List, length, IfOk, OnOk, fold, max, take, drop, vec_len};
 ghost use Rattle.mw_netpbm.specs.Reading.{seen, Gives};
-ghost use Rattle.mw_model.specs.NetpbmGrammar.{bits_of};
 ghost use Rattle.mw_netpbm.specs.Rasters.{words_of, row_bits, rows_bits, grey8_at, grey16_at, bits_at};
+ghost use Rattle.mw_netpbm.specs.SetWords.{in_words, in_rows};
+ghost use Rattle.mw_netpbm.specs.Whole.{raster_from};
 
-use crate::blocks::{bits_in, words_in};
+use crate::blocks::{block_of, pixels_in, words_in};
 use crate::fault::ReadFault;
-use mw_pixel::Bit;
+use mw_words::Words;
 use std::alloc::{AllocError, Global};
 use std::simd::prelude::*;
 
@@ -48,10 +49,8 @@ pub(crate) fn grey8(
 ) -> Result<Vec<u8>, ReadFault>
     ensures { Gives (λ v. v.items) result (grey8_at count maxval raster.now) }
 {
-    match samples8(count, maxval, raster) {
-        Err(fault) => Err(fault),
-        Ok(samples) => Ok(Vec::from_slice(alloc, samples)?),
-    }
+    let samples = samples8(count, maxval, raster)?;
+    Ok(Vec::from_slice(alloc, samples)?)
 }
 
 /// Takes the first bytes away.
@@ -75,9 +74,7 @@ pub(crate) fn owned_grey8(
     ensures { seen (λ v. v.items) result ≡ grey8_at count maxval (drop start file.items) }
 {
     let (_, raster) = file.split_at(start);
-    if let Err(fault) = samples8(count, maxval, raster) {
-        return Err(fault);
-    }
+    let _samples = samples8(count, maxval, raster)?;
     drop_front(&mut file, start);
     Ok(file)
 }
@@ -169,62 +166,44 @@ pub(crate) fn grey16(
     Ok(words(alloc, count, samples)?)
 }
 
-#[tactic(auto, unfolding(mw_model::specs::NetpbmGrammar::bits_of), using(crate::proofs::Packing::bit_is))]
-fn push_bits(out: &mut Vec<Bit>, byte: u8, count: usize) -> Result<(), AllocError>
-    requires { count ≤ 8 }
-    ensures { OnOk result (out.new.items ≡ out.old.items ++ take count (bits_of byte)) }
+/// Adds the words of a row's last pixels.
+fn push_rest(out: &mut Vec<u64>, left: usize, rest: &[u8]) -> Result<(), AllocError>
+    requires some { (0 < left) × (left ≤ 512) }
+    requires long { length rest.now ≡ (left + 7) / 8 }
+    ensures { OnOk result (out.new.items ≡ out.old.items ++ in_words ((left + 63) / 64) (row_bits left rest.now)) }
 {
-    let bits = [
-        Bit::new(byte / 128 % 2 == 1),
-        Bit::new(byte / 64 % 2 == 1),
-        Bit::new(byte / 32 % 2 == 1),
-        Bit::new(byte / 16 % 2 == 1),
-        Bit::new(byte / 8 % 2 == 1),
-        Bit::new(byte / 4 % 2 == 1),
-        Bit::new(byte / 2 % 2 == 1),
-        Bit::new(byte % 2 == 1),
-    ];
-    out.extend_from_slice(&bits[..count])?;
+    let words = pixels_in(&block_of(left, rest));
+    out.extend_from_slice(&words[..(left + 63) / 64])?;
     Ok(())
 }
 
-/// Adds the pixels byte by byte.
-#[tactic(auto, unfolding(crate::specs::Rasters::row_bits))]
-fn push_rest(out: &mut Vec<Bit>, width: usize, row: &[u8]) -> Result<(), AllocError>
-    ensures { OnOk result (out.new.items ≡ out.old.items ++ row_bits width row.now) }
+/// Adds the words of a row.
+fn push_row(out: &mut Vec<u64>, width: usize, row: &[u8]) -> Result<(), AllocError>
+    requires wide { width ≤ 8192 }
+    requires long { length row.now ≡ (width + 7) / 8 }
+    ensures { OnOk result (out.new.items ≡ out.old.items ++ in_words ((width + 63) / 64) (row_bits width row.now)) }
 {
     let mut left = width;
     let mut rest = row;
-    'row: while let [byte, after @ ..] = rest {
-        push_bits(out, *byte, left.min(8))?;
-        left = left.saturating_sub(8);
+    'by_block: while left >= 512 {
+        let (front, after) = rest.split_at(64);
+        out.extend_from_slice(&pixels_in(front))?;
+        left -= 512;
         rest = after;
+    }
+    if left > 0 {
+        push_rest(out, left, rest)?;
     }
     Ok(())
 }
 
-fn push_row(out: &mut Vec<Bit>, width: usize, row: &[u8]) -> Result<(), AllocError>
-    ensures { OnOk result (out.new.items ≡ out.old.items ++ row_bits width row.now) }
-{
-    let mut left = width;
-    let mut rest = row;
-    'by_block: while left >= 64 && rest.len() >= 8 {
-        let (front, after) = rest.split_at(8);
-        out.extend_from_slice(&bits_in(front))?;
-        left -= 64;
-        rest = after;
-    }
-    push_rest(out, left, rest)
-}
-
-#[tactic(auto, unfolding(crate::specs::Rasters::rows_bits))]
-fn rows(alloc: Global, width: usize, height: usize, raster: &[u8]) -> Result<Vec<Bit>, AllocError>
+fn rows(alloc: Global, width: usize, height: usize, raster: &[u8]) -> Result<Vec<u64>, AllocError>
     requires wide { width ≤ 8192 }
     requires high { height ≤ 8192 }
     requires long { height * ((width + 7) / 8) ≤ length raster.now }
-    ensures { IfOk result (λ v. v.items ≡ rows_bits width height raster.now) }
+    ensures { IfOk result (λ v. v.items ≡ in_rows width height (rows_bits width height raster.now)) }
 {
-    let mut out = Vec::with_capacity(alloc, height * width)?;
+    let mut out = Vec::with_capacity(alloc, height * ((width + 63) / 64))?;
     let stride = (width + 7) / 8;
     let mut rest = raster;
     'rows: for y in 0..height {
@@ -239,20 +218,21 @@ fn rows(alloc: Global, width: usize, height: usize, raster: &[u8]) -> Result<Vec
 #[tactic(auto, unfolding(crate::specs::Rasters::bits_at))]
 pub(crate) fn bits(
     alloc: Global,
-    width: usize,
-    height: usize,
+    width: u32,
+    height: u32,
     raster: &[u8],
-) -> Result<Vec<Bit>, ReadFault>
+) -> Result<Words, ReadFault>
     requires wide { width ≤ 8192 }
     requires high { height ≤ 8192 }
-    ensures { Gives (λ v. v.items) result (bits_at width height raster.now) }
+    ensures { Gives (λ f. f) result (raster_from width height (bits_at width height raster.now)) }
 {
-    let count = height * ((width + 7) / 8);
+    let count = height as usize * ((width as usize + 7) / 8);
     if raster.len() < count {
         return Err(ReadFault::Short);
     }
     if raster.len() > count {
         return Err(ReadFault::Trailing);
     }
-    Ok(rows(alloc, width, height, raster)?)
+    let words = rows(alloc, width as usize, height as usize, raster)?;
+    Ok(Words::new(width, height, words))
 }

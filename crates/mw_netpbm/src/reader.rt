@@ -3,40 +3,33 @@
 ghost use Rattle.std.specs.Prelude.{◌≡◌, ℕ, ◌≤◌, ◌<◌, ◌*◌, ◌-◌, ◌^◌, List, length, drop, ◌≢◌, IfOk, IfErr, Ok, Err, true, nat_lt, MatchResult};
 ghost use Rattle.mw_netpbm.specs.Reading.{seen, Gives};
 ghost use Rattle.mw_netpbm.specs.Heading.{head_at, limits};
-ghost use Rattle.mw_netpbm.specs.Whole.{IsFit, set_from, grey_from, image_at, reading};
+ghost use Rattle.mw_netpbm.specs.Whole.{IsFit, grey_from, image_at, reading};
 ghost use Rattle.mw_netpbm.specs.Faults.{code_of};
 ghost use Rattle.mw_model.specs.NetpbmGrammar.{IsFile};
 ghost use Rattle.mw_model.specs.NetpbmRefusals.{Refuses};
 ghost use Rattle.mw_model.specs.Pictures.{Picture, IsImage};
+ghost use Rattle.mw_pixel.specs.Images.{set_of};
 ghost use Rattle.mw_model.specs.declared.formats.Format.TheVariants as Format;
 
 use crate::fault::ReadFault;
 use crate::head::{check_limits, read_head};
 use crate::plain::{self, Places};
-use crate::raw;
+use crate::{raw, sets};
 use mw_model::{Format, Header};
-use mw_pixel::{Bit, Image, Plane};
+use mw_pixel::{Image, Plane};
+use mw_words::Words;
 use std::alloc::Global;
 use std::sync::Arc;
 
-/// The set of these pixels.
+/// The image of the set that was found.
 #[tactic(auto, using(crate::proofs::Faults::Fails_from))]
-fn set_image(
-    alloc: Global,
-    width: u32,
-    height: u32,
-    found: Result<Vec<Bit>, ReadFault>,
-) -> Result<Image, ReadFault>
-    requires { IfOk found (λ v. IsFit (height * width) 1 v.items) }
-    ensures { Gives (λ i. i) result (set_from width height (seen (λ v. v.items) found)) }
+fn set_image(alloc: Global, found: Result<Words, ReadFault>) -> Result<Image, ReadFault>
+    ensures { Gives (λ i. i) result (seen set_of found) }
 {
-    match found {
-        Err(fault) => Err(fault),
-        Ok(samples) => {
-            let plane = Plane::new(width, height, samples);
-            Ok(Image::bits(Arc::new(alloc, plane)?))
-        }
-    }
+    let plane = Plane::of_words(found?);
+    // for its samples
+    let _words = plane.words();
+    Ok(Image::bits(Arc::new(alloc, plane)?))
 }
 
 /// The picture of these samples, of one byte each.
@@ -52,13 +45,8 @@ fn grey8_image(
     requires fit { IfOk found (λ v. IsFit (height * width) maxval v.items) }
     ensures { Gives (λ i. i) result (grey_from width height maxval (seen (λ v. v.items) found)) }
 {
-    match found {
-        Err(fault) => Err(fault),
-        Ok(samples) => {
-            let plane = Plane::new(width, height, samples);
-            Ok(Image::grey8(Arc::new(alloc, plane)?, maxval))
-        }
-    }
+    let plane = Plane::new(width, height, found?);
+    Ok(Image::grey8(Arc::new(alloc, plane)?, maxval))
 }
 
 /// The picture of these samples, of two bytes each.
@@ -74,13 +62,8 @@ fn grey16_image(
     requires fit { IfOk found (λ v. IsFit (height * width) maxval v.items) }
     ensures { Gives (λ i. i) result (grey_from width height maxval (seen (λ v. v.items) found)) }
 {
-    match found {
-        Err(fault) => Err(fault),
-        Ok(samples) => {
-            let plane = Plane::new(width, height, samples);
-            Ok(Image::grey16(Arc::new(alloc, plane)?, maxval))
-        }
-    }
+    let plane = Plane::new(width, height, found?);
+    Ok(Image::grey16(Arc::new(alloc, plane)?, maxval))
 }
 
 /// The image in the raster under a header.
@@ -99,12 +82,12 @@ fn raster(alloc: Global, head: &Header, raster: &[u8]) -> Result<Image, ReadFaul
     let count = height as usize * width as usize;
     match head.format {
         Format::PlainBits => {
-            let found = plain::samples(alloc, Places::Pixels, count, raster);
-            set_image(alloc, width, height, found)
+            let found = sets::set(alloc, width, height, raster);
+            set_image(alloc, found)
         }
         Format::RawBits => {
-            let found = raw::bits(alloc, width as usize, height as usize, raster);
-            set_image(alloc, width, height, found)
+            let found = raw::bits(alloc, width, height, raster);
+            set_image(alloc, found)
         }
         Format::PlainGrey if maxval < 256 => {
             let found = plain::samples(alloc, Places::Samples(maxval), count, raster);
@@ -138,15 +121,9 @@ fn opened(bytes: &[u8]) -> Result<(Header, &[u8]), ReadFault>
     ensures some { IfOk result (λ x. 1 ≤ x.0.maxval) }
     ensures maxval { IfOk result (λ x. x.0.maxval ≤ 65535) }
 {
-    match read_head(bytes) {
-        Err(fault) => Err(fault),
-        Ok((head, rest)) => {
-            if let Err(fault) = check_limits(&head) {
-                return Err(fault);
-            }
-            Ok((head, rest))
-        }
-    }
+    let (head, rest) = read_head(bytes)?;
+    check_limits(&head)?;
+    Ok((head, rest))
 }
 
 /// The image that the bytes hold.
@@ -154,10 +131,8 @@ fn opened(bytes: &[u8]) -> Result<(Header, &[u8]), ReadFault>
 fn whole(alloc: Global, bytes: &[u8]) -> Result<Image, ReadFault>
     ensures { Gives (λ i. i) result (reading bytes.now) }
 {
-    match opened(bytes) {
-        Err(fault) => Err(fault),
-        Ok((head, rest)) => raster(alloc, &head, rest),
-    }
+    let (head, rest) = opened(bytes)?;
+    raster(alloc, &head, rest)
 }
 
 /// The picture in the raster that begins there, in the vector of the file. What stands before it is no longer than it is,
@@ -190,17 +165,13 @@ fn owned_raster(
 fn whole_owned(alloc: Global, bytes: Vec<u8>) -> Result<Image, ReadFault>
     ensures { Gives (λ i. i) result (reading bytes.items) }
 {
-    match opened(&bytes) {
-        Err(fault) => Err(fault),
-        Ok((head, rest)) => {
-            let start = bytes.len() - rest.len();
-            match head.format {
-                Format::RawGrey if head.maxval < 256 && start <= rest.len() => {
-                    owned_raster(alloc, &head, start, bytes)
-                }
-                _ => raster(alloc, &head, rest),
-            }
+    let (head, rest) = opened(&bytes)?;
+    let start = bytes.len() - rest.len();
+    match head.format {
+        Format::RawGrey if head.maxval < 256 && start <= rest.len() => {
+            owned_raster(alloc, &head, start, bytes)
         }
+        _ => raster(alloc, &head, rest),
     }
 }
 

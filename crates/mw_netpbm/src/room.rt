@@ -1,7 +1,7 @@
 //! How many samples a plain raster can have, by its bytes alone: so a raster that is too short is told before memory is
 //! asked for its samples. The bytes are looked at by vectors, 64 at a time.
 
-ghost use Rattle.std.specs.Prelude.{◌≡◌, ◌≢◌, ◌+◌, ◌-◌, ◌≤◌, ◌^◌, ◌↔◌, ◌++◌, ◌==◌, ◌||◌, true, false, Some, length, map, min, replicate, IsTrue};
+ghost use Rattle.std.specs.Prelude.{◌≡◌, ◌≢◌, ◌+◌, ◌-◌, ◌≤◌, ◌^◌, ◌↔◌, ◌==◌, ◌||◌, true, false, Some, length, map, min, IsTrue};
 ghost use Rattle.std.specs.Simd.Lanes.{mask_l};
 ghost use Rattle.mw_model.specs.NetpbmGrammar.{is_white};
 ghost use Rattle.mw_netpbm.specs.declared.fault.ReadFault.TheVariants.{Short};
@@ -10,6 +10,7 @@ ghost use Rattle.mw_netpbm.specs.Plain.{plain_at};
 ghost use Rattle.mw_netpbm.specs.Reading.{fault_of};
 ghost use Rattle.mw_netpbm.specs.Tallies.{signs_in, words_in, ends_white, has_hash, room_for};
 
+use crate::blocks::padded;
 use crate::plain::Places;
 use std::simd::prelude::*;
 
@@ -79,16 +80,6 @@ impl Tally {
     }
 }
 
-/// The last bytes, with blanks behind them.
-fn padded(bytes: &[u8]) -> [u8; 64]
-    requires { length bytes.now ≤ 64 }
-    ensures { result ≡ bytes.now ++ replicate (64 - length bytes.now) 32 }
-{
-    let mut block = [b' '; 64];
-    block[..bytes.len()].copy_from_slice(bytes);
-    block
-}
-
 #[inline(never)]
 fn counted(bytes: &[u8]) -> Tally
     ensures signs { result.signs ≡ min (signs_in bytes.now) (2 ^ 64 - 1) }
@@ -107,7 +98,7 @@ fn counted(bytes: &[u8]) -> Tally
         tally = tally.with(front);
         rest = after;
     }
-    let last = padded(rest);
+    let last = padded(rest, b' ');
     tally.with(&last)
 }
 

@@ -1,16 +1,17 @@
 //! Rows of samples as the bytes that they have in a written image, for who writes an image row by row: memory is asked for
-//! the header alone.
+//! the header alone. A row is lent as what holds a plane of one row: words for a set.
 
 ghost use Rattle.std.specs.Prelude.{◌≡◌, ◌≤◌, ℕ, List, length, IfOk, string_bytes, vec_capacity};
 ghost use Rattle.mw_netpbm.specs.Rows.{header_as};
 
 use crate::writer::{append, grey_head, push_packed, push_words, set_head};
 use mw_model::{Kind, NoMemory};
-use mw_pixel::{Bit, Pixel};
+use mw_pixel::{Bit, Listed, Planar};
+use mw_words::Words;
 use std::alloc::{AllocError, Global};
 
 /// Samples of which rows are written.
-pub trait RowBytes: Pixel {
+pub trait RowBytes: Planar {
     /// The bytes of a row of so many samples.
     ghost bytes: { ℕ → List Self → List ℕ };
 
@@ -20,10 +21,11 @@ pub trait RowBytes: Pixel {
         ensures value { (row : List Self) → length row ≡ width → length (bytes width row) ≡ result }
         ensures small { result ≤ 16384 };
 
-    /// Puts the bytes of a row in the place of those that stand in `out`, where there is room for them.
-    fn fill(out: &mut Vec<u8>, row: &[Self])
-        requires { length (bytes (length row.now) row.now) ≤ vec_capacity out.old }
-        ensures value { out.new.items ≡ bytes (length row.now) row.now }
+    /// Puts the bytes of a plane of one row in the place of those that stand in `out`, where there is room for them.
+    fn fill(out: &mut Vec<u8>, row: &Self::Held)
+        requires one { (Self.Held.shown row.now).height ≡ 1 }
+        requires room { length (bytes (Self.Held.shown row.now).width (Self.Held.shown row.now).cells) ≤ vec_capacity out.old }
+        ensures value { out.new.items ≡ bytes (Self.Held.shown row.now).width (Self.Held.shown row.now).cells }
         ensures room { vec_capacity out.old ≤ vec_capacity out.new };
 }
 
@@ -36,9 +38,14 @@ impl RowBytes for Bit {
         (width as usize + 7) / 8
     }
 
-    fn fill(out: &mut Vec<u8>, row: &[Bit]) {
+    fn fill(out: &mut Vec<u8>, row: &Words)
+        requires one { row.now.height ≡ 1 }
+        requires room { length (set_row row.now.width row.now.cells) ≤ vec_capacity out.old }
+        ensures value { out.new.items ≡ set_row row.now.width row.now.cells }
+        ensures room { vec_capacity out.old ≤ vec_capacity out.new }
+    {
         out.clear();
-        push_packed(out, (row.len() + 7) / 8, row);
+        push_packed(out, (row.width() as usize + 7) / 8, row.row(0));
     }
 }
 
@@ -51,9 +58,14 @@ impl RowBytes for u8 {
         width as usize
     }
 
-    fn fill(out: &mut Vec<u8>, row: &[u8]) {
+    fn fill(out: &mut Vec<u8>, row: &Listed<u8>)
+        requires one { row.now.height ≡ 1 }
+        requires room { length (byte_row row.now.width row.now.cells) ≤ vec_capacity out.old }
+        ensures value { out.new.items ≡ byte_row row.now.width row.now.cells }
+        ensures room { vec_capacity out.old ≤ vec_capacity out.new }
+    {
         out.clear();
-        append(out, row);
+        append(out, row.samples());
     }
 }
 
@@ -66,9 +78,14 @@ impl RowBytes for u16 {
         2 * width as usize
     }
 
-    fn fill(out: &mut Vec<u8>, row: &[u16]) {
+    fn fill(out: &mut Vec<u8>, row: &Listed<u16>)
+        requires one { row.now.height ≡ 1 }
+        requires room { length (word_row row.now.width row.now.cells) ≤ vec_capacity out.old }
+        ensures value { out.new.items ≡ word_row row.now.width row.now.cells }
+        ensures room { vec_capacity out.old ≤ vec_capacity out.new }
+    {
         out.clear();
-        push_words(out, row);
+        push_words(out, row.samples());
     }
 }
 

@@ -1,15 +1,17 @@
 //! Writing an image.
 
-ghost use Rattle.std.specs.Prelude.{◌≡◌, ℕ, ◌≤◌, ◌<◌, ◌*◌, ◌^◌, ◌++◌, List, length, vec_len, vec_capacity, IfOk, OnOk, Ok, true, nat_lt, string_bytes, slice_index, ◌+◌, ◌-◌, ◌/◌};
+ghost use Rattle.std.specs.Prelude.{◌≡◌, ℕ, ◌≤◌, ◌<◌, ◌*◌, ◌^◌, ◌++◌, List, length, vec_len, vec_capacity, IfOk, OnOk, Ok, true, nat_lt, string_bytes, ◌+◌, ◌-◌, ◌/◌};
 ghost use Rattle.mw_model.specs.declared.shapes.Kind.TheVariants as kind;
-ghost use Rattle.mw_model.specs.NetpbmWriting.{two_bytes, grey_raster, grey_header, byte_of, packed, packed_rows, set_header, text_of};
+ghost use Rattle.mw_model.specs.NetpbmWriting.{two_bytes, grey_raster, grey_header, packed, packed_rows, set_header, text_of};
 ghost use Rattle.mw_pixel.specs.Images.{grey_of, set_of};
 ghost use Rattle.std.specs.List.{flat_map};
 ghost use Rattle.mw_model.specs.Rasters.{Raster};
+ghost use Rattle.mw_netpbm.specs.SetWords.{pixels_of};
 
-use crate::blocks::{bits_as_bytes, words_as_bytes};
+use crate::blocks::{eight_words, pixels_as_bytes, words_as_bytes};
 use mw_model::NoMemory;
 use mw_pixel::{Bit, Image, Plane, View};
+use mw_words::Words;
 use std::alloc::{AllocError, Global};
 
 pub(crate) fn grey_head(
@@ -96,80 +98,36 @@ fn grey16(alloc: Global, plane: &Plane<u16>, maxval: u16) -> Result<Vec<u8>, All
     Ok(out)
 }
 
-fn bit(bits: &[Bit], i: usize) -> u8
-    ensures value { result ≡ slice_index bits.now i }
-    ensures small { result ≤ 1 }
-{
-    if i < bits.len() { bits[i].number() } else { 0 }
-}
-
-fn byte(bits: &[Bit]) -> u8
-    ensures { result ≡ byte_of bits.now }
-{
-    128 * bit(bits, 0)
-        + 64 * bit(bits, 1)
-        + 32 * bit(bits, 2)
-        + 16 * bit(bits, 3)
-        + 8 * bit(bits, 4)
-        + 4 * bit(bits, 5)
-        + 2 * bit(bits, 6)
-        + bit(bits, 7)
-}
-
-/// Adds so many bytes one by one. There is room for them.
-#[tactic(auto, using(crate::proofs::Packing::one_byte, crate::proofs::Packing::all_bytes))]
-fn push_bytes(out: &mut Vec<u8>, count: usize, bits: &[Bit])
-    requires { vec_len out.old + count ≤ vec_capacity out.old }
-    ensures bytes { out.new.items ≡ out.old.items ++ packed count bits.now }
+/// Adds so many bytes of the words of a row, for which there is room.
+pub(crate) fn push_packed(out: &mut Vec<u8>, count: usize, words: &[u64])
+    requires few { count < 2 ^ 60 }
+    requires long { length words.now ≡ (count + 7) / 8 }
+    requires room { vec_len out.old + count ≤ vec_capacity out.old }
+    ensures bytes { out.new.items ≡ out.old.items ++ packed count (flat_map pixels_of words.now) }
     ensures count { vec_len out.new ≡ vec_len out.old + count }
     ensures room { vec_capacity out.old ≤ vec_capacity out.new }
 {
     let mut left = count;
-    let mut rest = bits;
-    'bytes: while left > 0 {
-        left -= 1;
-        out.push_reserved(byte(rest));
-        let (_, after) = rest.split_at(rest.len().min(8));
+    let mut rest = words;
+    'by_block: while left >= 64 {
+        let (front, after) = rest.split_at(8);
+        append(out, &pixels_as_bytes(front));
+        left -= 64;
         rest = after;
     }
+    let bytes = pixels_as_bytes(&eight_words(rest));
+    append(out, &bytes[..left])
 }
 
-/// Adds so many bytes, for which there is room.
-pub(crate) fn push_packed(out: &mut Vec<u8>, count: usize, bits: &[Bit])
-    requires { vec_len out.old + count ≤ vec_capacity out.old }
-    ensures bytes { out.new.items ≡ out.old.items ++ packed count bits.now }
-    ensures count { vec_len out.new ≡ vec_len out.old + count }
-    ensures room { vec_capacity out.old ≤ vec_capacity out.new }
+/// Adds the bytes of a set, row by row.
+fn push_rows(out: &mut Vec<u8>, set: &Words) -> Result<(), AllocError>
+    ensures { OnOk result (out.new.items ≡ out.old.items ++ packed_rows set.now.width set.now.height set.now.cells) }
 {
-    let mut left = count;
-    let mut rest = bits;
-    'by_block: while left >= 8 && rest.len() >= 64 {
-        let (front, after) = rest.split_at(64);
-        append(out, &bits_as_bytes(front));
-        left -= 8;
-        rest = after;
-    }
-    push_bytes(out, left, rest)
-}
-
-#[tactic(auto, using(crate::proofs::Packing::all_rows))]
-fn push_rows(
-    out: &mut Vec<u8>,
-    width: usize,
-    height: usize,
-    samples: &[Bit],
-) -> Result<(), AllocError>
-    requires small { (width ≤ 2 ^ 32) × (height ≤ 2 ^ 32) }
-    requires area { height * width ≤ length samples.now }
-    ensures { OnOk result (out.new.items ≡ out.old.items ++ packed_rows width height samples.now) }
-{
-    let count = (width + 7) / 8;
-    out.reserve(height * count)?;
-    let mut rest = samples;
+    let count = (set.width() as usize + 7) / 8;
+    let height = set.height();
+    out.reserve(height as usize * count)?;
     'rows: for y in 0..height {
-        let (row, after) = rest.split_at(width);
-        push_packed(out, count, row);
-        rest = after;
+        push_packed(out, count, set.row(y));
     }
     Ok(())
 }
@@ -185,12 +143,7 @@ fn bits(alloc: Global, plane: &Plane<Bit>) -> Result<Vec<u8>, AllocError>
 {
     let head = set_head(alloc, plane.width(), plane.height())?;
     let mut out = head.into_bytes();
-    push_rows(
-        &mut out,
-        plane.width() as usize,
-        plane.height() as usize,
-        plane.samples(),
-    )?;
+    push_rows(&mut out, plane.words())?;
     Ok(out)
 }
 

@@ -17,7 +17,7 @@ use crate::places::combine_places;
 use crate::spread::{Rows, narrowed, spread};
 use mw_lane::combine_ahead;
 use mw_model::{NoMemory, Rect};
-use mw_pixel::{Extremum, Pixel, copies};
+use mw_pixel::{Extremum, Grey, Pixel, copies};
 use mw_run::{Extent, Run, columns_after, first_column, first_row, rows_after, start_of_run};
 use mw_tile::Window;
 use std::alloc::Global;
@@ -130,7 +130,7 @@ fn combine_runs<P: Pixel, E: Extremum<P>>(
 }
 
 /// The extremum of the neutral sample and what the window has under the runs, at each place of the tile.
-pub(crate) fn extremum_by_runs<P: Pixel, E: Extremum<P>>(
+pub(crate) fn extremum_by_runs<P: Grey, E: Extremum<P>>(
     alloc: Global,
     window: &Window<P>,
     runs: &[Run],

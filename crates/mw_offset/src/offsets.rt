@@ -12,13 +12,13 @@ ghost use Rattle.mw_line.specs.Extrema.{IsSlidingExtremum};
 use crate::strips::extremum_by_strips;
 use mw_line::combine_window_row;
 use mw_model::{NoMemory, Offset, Rect};
-use mw_pixel::{Extremum, Pixel, Plane, copies};
+use mw_pixel::{Extremum, Grey, Plane, copies};
 use mw_run::{Extent, columns_after, extent_of, place_of, rows_after, runs_of};
 use mw_tile::Window;
 use std::alloc::Global;
 
 /// Merges into each sample of a row of the frame, from `column` on, the sample at an offset from there.
-fn combine_offset<P: Pixel, E: Extremum<P>>(
+fn combine_offset<P: Grey, E: Extremum<P>>(
     window: &Window<P>,
     offset: Offset,
     column: u64,
@@ -36,7 +36,7 @@ fn combine_offset<P: Pixel, E: Extremum<P>>(
 }
 
 /// Merges into each sample of a row of the frame, from `column` on, what is seen under the element there.
-fn combine_offsets<P: Pixel, E: Extremum<P>>(
+fn combine_offsets<P: Grey, E: Extremum<P>>(
     window: &Window<P>,
     offsets: &[Offset],
     column: u64,
@@ -53,7 +53,7 @@ fn combine_offsets<P: Pixel, E: Extremum<P>>(
 }
 
 /// Merges into each sample of the tile what is seen under the element there.
-fn combine_tile<P: Pixel, E: Extremum<P>>(
+fn combine_tile<P: Grey, E: Extremum<P>>(
     window: &Window<P>,
     offsets: &[Offset],
     tile: Rect,
@@ -89,7 +89,7 @@ fn is_near(extent: Extent) -> bool
 }
 
 /// The samples of the tile, one offset after another.
-fn extremum_by_offsets<P: Pixel, E: Extremum<P>>(
+fn extremum_by_offsets<P: Grey, E: Extremum<P>>(
     alloc: Global,
     window: &Window<P>,
     offsets: &[Offset],
@@ -105,7 +105,7 @@ fn extremum_by_offsets<P: Pixel, E: Extremum<P>>(
 }
 
 /// The samples of the tile, by horizontal runs where these can be laid out around it.
-fn extremum_samples<P: Pixel, E: Extremum<P>>(
+fn extremum_samples<P: Grey, E: Extremum<P>>(
     alloc: Global,
     window: &Window<P>,
     offsets: &[Offset],
@@ -138,7 +138,7 @@ fn extremum_samples<P: Pixel, E: Extremum<P>>(
 /// The extremum of the neutral sample and what the window has under the element, at each place of the tile. Where the
 /// window has all that the frame has there, this is the extremum over the frame. No sample is over the greatest of the
 /// neutral one and those of the window. It may want memory (`NoMemory`).
-pub fn extremum<P: Pixel, E: Extremum<P>>(
+pub fn extremum<P: Grey, E: Extremum<P>>(
     alloc: Global,
     window: &Window<P>,
     offsets: &[Offset],

@@ -5,7 +5,7 @@ ghost use Rattle.mw_lane.specs.Shifted.{merge_at};
 
 use mw_line::combine_window_row;
 use mw_model::NoMemory;
-use mw_pixel::{Extremum, Pixel, copies};
+use mw_pixel::{Extremum, Grey, Pixel, copies};
 use mw_tile::Window;
 use std::alloc::Global;
 
@@ -19,7 +19,7 @@ pub(crate) struct Rows {
 }
 
 /// Merges into each of the rows what the window has there.
-fn spread_rows<P: Pixel, E: Extremum<P>>(window: &Window<P>, rows: Rows, out: &mut [P])
+fn spread_rows<P: Grey, E: Extremum<P>>(window: &Window<P>, rows: Rows, out: &mut [P])
     requires size { length out.old ≡ rows.high * rows.wide }
     requires few { rows.high ≤ 2 ^ 40 }
     requires near { rows.row ≤ℤ pos (2 ^ 40) }
@@ -38,7 +38,7 @@ fn spread_rows<P: Pixel, E: Extremum<P>>(window: &Window<P>, rows: Rows, out: &m
 }
 
 /// The neutral sample at each place of the rows, merged with what the window has there.
-pub(crate) fn spread<P: Pixel, E: Extremum<P>>(
+pub(crate) fn spread<P: Grey, E: Extremum<P>>(
     alloc: Global,
     window: &Window<P>,
     rows: Rows,

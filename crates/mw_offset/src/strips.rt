@@ -10,7 +10,7 @@ ghost use Rattle.mw_run.specs.Runs.{run_offsets, IsInside};
 
 use crate::by_runs::extremum_by_runs;
 use mw_model::{NoMemory, Rect};
-use mw_pixel::{Extremum, Pixel};
+use mw_pixel::{Extremum, Grey};
 use mw_run::{Extent, Run, rows_after};
 use mw_tile::Window;
 use std::alloc::Global;
@@ -32,7 +32,7 @@ fn rows_of_strip(width: u32, extent: Extent) -> usize
 }
 
 /// The extremum of the neutral sample and what the window has under the runs, at each place of the tile.
-pub(crate) fn extremum_by_strips<P: Pixel, E: Extremum<P>>(
+pub(crate) fn extremum_by_strips<P: Grey, E: Extremum<P>>(
     alloc: Global,
     window: &Window<P>,
     runs: &[Run],

@@ -1,10 +1,11 @@
 -- Windows as the pieces of a frame that they are made of (own).
-use Rattle.std.specs.Prelude.{◌≡◌, ℕ, ◌+◌, ◌-◌, ◌*◌, ◌<◌, ◌≤◌, Bool, true, ◌&&◌, nat_le, nat_lt, min, max, cond, List, [], ◌∷◌, ◌++◌, length, Option, None, slice_get, slice_index_or}
+use Rattle.std.specs.Prelude.{◌≡◌, ℕ, ◌+◌, ◌-◌, ◌*◌, ◌/◌, ◌%◌, ◌<◌, ◌≤◌, Bool, true, ◌&&◌, nat_le, nat_lt, min, max, cond, List, [], ◌∷◌, length, Option, None, slice_get, slice_index_or}
 use Rattle.std.specs.List.{AllByRecursion, list_any}
 use Rattle.mw_model.specs.declared.places.Rect.{Rect}
 use Rattle.mw_model.specs.Places.{rect, Holds, IsWithin}
 use Rattle.mw_model.specs.Rasters.{Raster}
 use Rattle.mw_model.specs.Windows.{View}
+use Rattle.mw_words.specs.Runs.{HasFront}
 
 -- Cells of a rectangle of a frame, by rows.
 pub record Patch (A : Type 0) : Type 0 where
@@ -106,12 +107,13 @@ pub record IsJoined {A : Type 0} (j : Joint A) (w : View A) : Type 0 where
   pub place : w.place ≡ j.place
   pub values : HasValues (value_in j.pieces) j.place w.cells
 
--- the new cells are the old and behind them n more, with the values from column x of row y on
-pub record HasRowMore {A : Type 0} (value : ℕ → ℕ → Option A) (x y n : ℕ) (old new : List A) : Type 0 where
-  pub row : List A
-  pub is : new ≡ old ++ row
-  pub size : length row ≡ n
-  pub same : (k : ℕ) → k < n → slice_get row k ≡ value (x + k) y
+-- what the pieces have at a place of the window, counted by rows
+abbrev pub window_value : {A : Type 0} → Joint A → ℕ → Option A
+window_value j k = value_in j.pieces (j.place.x + k % j.place.width) (j.place.y + k / j.place.width)
+
+-- of the cells of the window the first n are those that the pieces have
+abbrev pub HasFirst : {A : Type 0} → Joint A → ℕ → List A → Type 0
+HasFirst j n cells = HasFront (window_value j) n (j.place.height * j.place.width) cells
 
 -- this plane is the window that the pieces make
 pub record IsWholeOf {A : Type 0} (j : Joint A) (p : Raster A) : Type 0 where

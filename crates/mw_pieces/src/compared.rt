@@ -2,11 +2,10 @@
 
 use crate::{Piece, Pieces, overlap};
 use mw_grid::whole_frame;
-use mw_lane::{Lanes, equal_rows};
 use mw_model::Rect;
-use mw_pixel::Plane;
+use mw_pixel::{Planar, Plane};
 
-impl<P: Lanes> Piece<P> {
+impl<P: Planar> Piece<P> {
     ghost use Rattle.std.specs.Prelude.{◌≡◌, ◌↔◌, ◌+◌, ◌<◌, ◌^◌, IsTrue};
     ghost use Rattle.mw_pieces.specs.Patches.{cell_of, patch, IsInside, ShowsIn};
 
@@ -25,10 +24,19 @@ impl<P: Lanes> Piece<P> {
         if here.width == 0 {
             return true;
         }
+        // for its size
+        let _height = plane.height();
+        let (own, stands) = (self.plane(), self.place());
         for y in here.y..here.y + here.height {
-            let row = self.part(here.x, y, here.width);
-            let held = plane.part(here.x - at.x, y - at.y, here.width);
-            if !equal_rows(row, held) {
+            let (row, held) = (y - stands.y, y - at.y);
+            if !own.same_run(
+                here.x - stands.x,
+                row,
+                plane,
+                here.x - at.x,
+                held,
+                here.width,
+            ) {
                 return false;
             }
         }
@@ -36,7 +44,7 @@ impl<P: Lanes> Piece<P> {
     }
 }
 
-impl<P: Lanes> Pieces<P> {
+impl<P: Planar> Pieces<P> {
     ghost use Rattle.std.specs.Prelude.{◌↔◌, IsTrue};
     ghost use Rattle.mw_pieces.specs.Patches.{ShowsFrame};
 

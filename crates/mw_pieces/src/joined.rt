@@ -3,16 +3,16 @@
 use crate::Pieces;
 use crate::places::has;
 use mw_model::NoMemory;
-use mw_pixel::{Pixel, Plane};
+use mw_pixel::{Planar, Plane};
 use mw_tile::Window;
 use std::alloc::Global;
 use std::sync::Arc;
 
-impl<P: Pixel> Pieces<P> {
-    ghost use Rattle.std.specs.Prelude.{◌≡◌, ◌+◌, ◌<◌, ◌≤◌, true, length, IfOk, IfSome};
+impl<P: Planar> Pieces<P> {
+    ghost use Rattle.std.specs.Prelude.{◌≡◌, ◌+◌, ◌*◌, ◌<◌, true, length, IfOk, IfSome};
     ghost use Rattle.std.specs.Arc.{arc_value};
     ghost use Rattle.mw_model.specs.Places.{Holds};
-    ghost use Rattle.mw_pieces.specs.Patches.{held_in, patch_at, value_in, HasRowMore, HasValues, IsJoined, IsWholeOf};
+    ghost use Rattle.mw_pieces.specs.Patches.{held_in, patch_at, value_in, HasFirst, HasValues, IsJoined, IsWholeOf};
 
     /// The number of a piece that has column x of row y. The piece of the number `hint` is tried first.
     fn find(&self, hint: usize, x: u32, y: u32) -> usize
@@ -31,46 +31,64 @@ impl<P: Pixel> Pieces<P> {
         unreachable!()
     }
 
-    /// Appends the samples of a row of the window. The piece of the number `first` is tried first.
-    fn push_row(&self, samples: &mut Vec<P>, first: usize, y: u32) -> Result<(), NoMemory>
-        requires top { self.now.place.y ≤ y }
-        requires bottom { y < self.now.place.y + self.now.place.height }
-        ensures { IfOk result (λ _. HasRowMore (value_in self.now.pieces) self.now.place.x y self.now.place.width samples.old.items samples.new.items) }
+    /// Writes the samples of row y of the window, counted from its first. The piece of the number `first` is tried first.
+    fn fill_row(&self, out: &mut Plane<P>, first: usize, y: u32)
+        requires width { out.old.width ≡ self.now.place.width }
+        requires height { out.old.height ≡ self.now.place.height }
+        requires down { y < self.now.place.height }
+        requires before { HasFirst self.now (y * self.now.place.width) out.old.cells }
+        ensures width { out.new.width ≡ self.now.place.width }
+        ensures height { out.new.height ≡ self.now.place.height }
+        ensures more { HasFirst self.now (y * self.now.place.width + self.now.place.width) out.new.cells }
     {
         let (place, pieces) = (self.place(), self.pieces());
         // for their ranges
         let (_width, _height) = (self.frame_width(), self.frame_height());
-        let end = place.x + place.width;
         let mut next = first;
-        let mut at = place.x;
-        'parts: while at < end {
-            let k = self.find(next, at, y);
+        let mut done = 0;
+        'parts: while done < place.width {
+            let (column, row) = (place.x + done, place.y + y);
+            let k = self.find(next, column, row);
             let piece = &pieces[k];
             let held = piece.place();
-            let stop = end.min(held.x + held.width);
-            samples.extend_from_slice(piece.part(at, y, stop - at))?;
-            at = stop;
+            let count = (place.width - done).min(held.x + held.width - column);
+            out.copy_run(done, y, piece.plane(), column - held.x, row - held.y, count);
+            done += count;
             next = k + 1;
         }
-        Ok(())
     }
 
-    /// The samples of the window, by rows.
-    fn samples(&self, alloc: Global) -> Result<Vec<P>, NoMemory>
-        ensures { IfOk result (λ v. HasValues (value_in self.now.pieces) self.now.place v.items) }
+    /// Writes the samples of the window.
+    fn fill(&self, out: &mut Plane<P>)
+        requires width { out.old.width ≡ self.now.place.width }
+        requires height { out.old.height ≡ self.now.place.height }
+        requires size { length out.old.cells ≡ self.now.place.height * self.now.place.width }
+        ensures width { out.new.width ≡ self.now.place.width }
+        ensures height { out.new.height ≡ self.now.place.height }
+        ensures values { HasValues (value_in self.now.pieces) self.now.place out.new.cells }
     {
         let (place, _pieces) = (self.place(), self.pieces());
         // for their ranges
         let (_width, _height) = (self.frame_width(), self.frame_height());
-        let mut samples = Vec::with_capacity(alloc, place.height as usize * place.width as usize)?;
         let mut first = 0;
-        for y in place.y..place.y + place.height {
+        for y in 0..place.height {
             if place.width > 0 {
-                first = self.find(first, place.x, y);
+                first = self.find(first, place.x, place.y + y);
             }
-            self.push_row(&mut samples, first, y)?;
+            self.fill_row(out, first, y);
         }
-        Ok(samples)
+    }
+
+    /// The samples of the window, in a plane of their own.
+    fn copied(&self, alloc: Global) -> Result<Plane<P>, NoMemory>
+        ensures width { IfOk result (λ p. p.width ≡ self.now.place.width) }
+        ensures height { IfOk result (λ p. p.height ≡ self.now.place.height) }
+        ensures values { IfOk result (λ p. HasValues (value_in self.now.pieces) self.now.place p.cells) }
+    {
+        let place = self.place();
+        let mut out = Plane::blank(alloc, place.width, place.height)?;
+        self.fill(&mut out);
+        Ok(out)
     }
 
     /// One more owner of the plane of the piece that is the window, if one is.
@@ -100,7 +118,7 @@ impl<P: Pixel> Pieces<P> {
         if let Some(plane) = self.whole()? {
             return Ok(Window::standing(width, height, place, plane));
         }
-        let samples = self.samples(alloc)?;
-        Ok(Window::new(width, height, place, samples))
+        let plane = self.copied(alloc)?;
+        Ok(Window::new(width, height, place, plane))
     }
 }

@@ -1,23 +1,23 @@
 //! Pieces of a frame.
 
-ghost use Rattle.std.specs.Prelude.{◌≡◌, ℕ, ◌+◌, ◌<◌, ◌≤◌, IfOk, length, slice_get};
+ghost use Rattle.std.specs.Prelude.{◌≡◌, IfOk};
 ghost use Rattle.std.specs.Arc.{arc_value};
 ghost use Rattle.mw_model.specs.Rasters.{raster};
-ghost use Rattle.mw_pieces.specs.Patches.{cell_of, patch, IsFull};
+ghost use Rattle.mw_pieces.specs.Patches.{patch, IsFull};
 
 use mw_model::{NoMemory, Rect};
-use mw_pixel::{Pixel, Plane};
+use mw_pixel::{Planar, Plane};
 use std::marker::Model;
 use std::sync::Arc;
 
 /// The samples of a rectangle of a frame, of which others can be owners too.
 #[derive(Drop)]
-pub struct Piece<P: Pixel> {
+pub struct Piece<P: Planar> {
     place: Rect,
     plane: Arc<Plane<P>>,
 }
 
-impl<P: Pixel> Model for Piece<P> {
+impl<P: Planar> Model for Piece<P> {
     ghost use Rattle.std.specs.Prelude.{◌≡◌};
     ghost use Rattle.std.specs.Arc.{arc_value};
     ghost use Rattle.mw_pieces.specs.Patches.{patch, Patch};
@@ -29,7 +29,7 @@ impl<P: Pixel> Model for Piece<P> {
     ghost invariant = { λ p. ((arc_value p.plane).width ≡ p.place.width) × ((arc_value p.plane).height ≡ p.place.height) };
 }
 
-impl<P: Pixel> Piece<P> {
+impl<P: Planar> Piece<P> {
     /// The piece that has these samples in the rectangle.
     pub fn new(place: Rect, plane: Arc<Plane<P>>) -> Piece<P>
         requires width { (arc_value plane).width ≡ place.width }
@@ -49,16 +49,14 @@ impl<P: Pixel> Piece<P> {
         self.place
     }
 
-    /// So many samples of row y of the frame, from its column x on.
-    pub fn part(&self, x: u32, y: u32, count: u32) -> &[P]
-        requires left { self.now.place.x ≤ x }
-        requires right { x + count ≤ self.now.place.x + self.now.place.width }
-        requires top { self.now.place.y ≤ y }
-        requires bottom { y < self.now.place.y + self.now.place.height }
-        ensures count { length result.now ≡ count }
-        ensures value { (k : ℕ) → k < count → slice_get result.now k ≡ cell_of self.now (x + k) y }
+    /// The samples, whoever else owns them.
+    pub fn plane(&self) -> &Plane<P>
+        ensures value { result.now ≡ raster self.now.place.width self.now.place.height self.now.cells }
+        ensures full { IsFull self.now }
     {
-        self.plane.part(x - self.place.x, y - self.place.y, count)
+        // for the size
+        let _width = self.plane.width();
+        &self.plane
     }
 
     /// One more owner of the samples.

@@ -5,21 +5,21 @@ ghost use Rattle.std.specs.Prelude.{◌≡◌};
 use crate::Piece;
 use mw_grid::whole_frame;
 use mw_model::{NoMemory, Rect};
-use mw_pixel::{Pixel, Plane};
+use mw_pixel::{Planar, Plane};
 use std::alloc::Global;
 use std::marker::Model;
 use std::sync::Arc;
 
 /// A window of a frame as pieces of it, which together have each place of the window.
 #[derive(Drop)]
-pub struct Pieces<P: Pixel> {
+pub struct Pieces<P: Planar> {
     frame_width: u32,
     frame_height: u32,
     place: Rect,
     pieces: Vec<Piece<P>>,
 }
 
-impl<P: Pixel> Model for Pieces<P> {
+impl<P: Planar> Model for Pieces<P> {
     ghost use Rattle.mw_pieces.specs.Patches.{joint, Joint, IsJoint};
 
     ghost Value = { Joint P };
@@ -29,7 +29,7 @@ impl<P: Pixel> Model for Pieces<P> {
     ghost invariant = { λ a. IsJoint (joint a.frame_width a.frame_height a.place a.pieces.items) };
 }
 
-impl<P: Pixel> Pieces<P> {
+impl<P: Planar> Pieces<P> {
     ghost use Rattle.std.specs.Prelude.{◌≡◌, [], ◌∷◌, IfOk};
     ghost use Rattle.std.specs.Arc.{arc_value};
     ghost use Rattle.mw_model.specs.Places.{IsWithin};

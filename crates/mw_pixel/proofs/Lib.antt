@@ -3,3 +3,4 @@ pub mod Cells
 -- the crate's own
 mod Lanes
 mod Held
+mod Same

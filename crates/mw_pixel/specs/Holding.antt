@@ -5,6 +5,6 @@ use Rattle.mw_pixel.specs.declared.holding.Owners.{Owners}
 use Rattle.mw_pixel.specs.declared.holding.Owners.TheVariants as owners
 
 -- the plane that is held
-abbrev pub held_plane : {P : Type 0} → Owners P → Raster P
+abbrev pub held_plane : {P Held : Type 0} → Owners P Held → Raster P
 held_plane (owners.One p) = p
 held_plane (owners.Several p) = arc_value p

@@ -3,23 +3,23 @@
 ghost use Rattle.std.specs.Prelude.{◌≡◌};
 ghost use Rattle.std.specs.Arc.{arc_value};
 
-use crate::{Pixel, Plane};
+use crate::{Planar, Plane};
 use std::marker::Model;
 use std::sync::Arc;
 
 #[derive(Drop)]
-enum Owners<P: Pixel> {
+enum Owners<P: Planar> {
     One(Plane<P>),
     Several(Arc<Plane<P>>),
 }
 
 /// A plane that has one owner, or that others may own too. Which of both it is, is no part of its value.
 #[derive(Drop)]
-pub struct HeldPlane<P: Pixel> {
+pub struct HeldPlane<P: Planar> {
     owners: Owners<P>,
 }
 
-impl<P: Pixel> Model for HeldPlane<P> {
+impl<P: Planar> Model for HeldPlane<P> {
     ghost use Rattle.mw_model.specs.Rasters.{Raster};
     ghost use Rattle.mw_pixel.specs.Holding.{held_plane};
 
@@ -28,7 +28,7 @@ impl<P: Pixel> Model for HeldPlane<P> {
     ghost view = { λ h. held_plane h.owners };
 }
 
-impl<P: Pixel> HeldPlane<P> {
+impl<P: Planar> HeldPlane<P> {
     /// A plane that no other owns.
     pub fn alone(plane: Plane<P>) -> HeldPlane<P>
         ensures { result ≡ plane }

@@ -95,15 +95,15 @@ impl Image {
         // `samples` is called for the number of samples alone.
         match &self.content {
             Samples::Bits(plane) => {
-                let _samples = plane.samples();
+                let _width = plane.width();
                 View::Bits(plane)
             }
             Samples::Grey8(plane, maxval) => {
-                let _samples = plane.samples();
+                let _width = plane.width();
                 View::Grey8(plane, *maxval)
             }
             Samples::Grey16(plane, maxval) => {
-                let _samples = plane.samples();
+                let _width = plane.width();
                 View::Grey16(plane, *maxval)
             }
         }

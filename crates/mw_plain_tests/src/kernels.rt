@@ -8,21 +8,21 @@ use mw_line::rectangle;
 use mw_model::plain::PlainImage;
 use mw_model::{Kind, OffsetBox};
 use mw_offset::extremum;
-use mw_pixel::{Bit, Extremum, Max, Min, Pixel, Plane};
+use mw_pixel::{Extremum, Grey, Max, Min, Plane};
 use std::alloc::Global;
 use std::process::Abort;
 use std::test::Fail;
 
 /// What an extremum by an element makes of a whole frame.
 #[derive(Drop)]
-pub(crate) struct Wanted<'a, P: Pixel> {
+pub(crate) struct Wanted<'a, P: Grey> {
     pub(crate) element: &'a Element,
     pub(crate) neutral: P,
     pub(crate) whole: &'a PlainImage,
 }
 
 /// Stops where the kernel by offsets does not give in the tile what is wanted there of the whole frame.
-fn agree_by_offsets<P: Pixel, E: Extremum<P>>(
+fn agree_by_offsets<P: Grey, E: Extremum<P>>(
     rt: &impl Abort,
     alloc: Global,
     part: &Part<P>,
@@ -39,7 +39,7 @@ fn agree_by_offsets<P: Pixel, E: Extremum<P>>(
 }
 
 /// The same for the kernel by a box.
-fn agree_by_box<P: Pixel, E: Extremum<P>>(
+fn agree_by_box<P: Grey, E: Extremum<P>>(
     rt: &impl Abort,
     alloc: Global,
     part: &Part<P>,
@@ -56,7 +56,7 @@ fn agree_by_box<P: Pixel, E: Extremum<P>>(
 }
 
 /// Stops where a kernel does not give in the tile what is wanted there of the whole frame.
-fn agree_on_tile<P: Pixel, E: Extremum<P>>(
+fn agree_on_tile<P: Grey, E: Extremum<P>>(
     rt: &impl Abort,
     alloc: Global,
     part: &Part<P>,
@@ -70,7 +70,7 @@ fn agree_on_tile<P: Pixel, E: Extremum<P>>(
 }
 
 /// Stops where a kernel does not give on a tile what is wanted there of the whole frame.
-fn agree_on_tiles<P: Pixel, E: Extremum<P>>(
+fn agree_on_tiles<P: Grey, E: Extremum<P>>(
     rt: &impl Abort,
     alloc: Global,
     plane: &Plane<P>,
@@ -84,7 +84,7 @@ fn agree_on_tiles<P: Pixel, E: Extremum<P>>(
 }
 
 /// One extremum of a plane, in tiles of 64 columns and in one piece.
-pub(crate) fn agree_by_sides<P: Pixel, E: Extremum<P>>(
+pub(crate) fn agree_by_sides<P: Grey, E: Extremum<P>>(
     rt: &impl Abort,
     alloc: Global,
     plane: &Plane<P>,
@@ -95,7 +95,7 @@ pub(crate) fn agree_by_sides<P: Pixel, E: Extremum<P>>(
 }
 
 /// One extremum of an image, beside what it is to be.
-pub(crate) fn makes<P: Pixel, E: Extremum<P>>(
+pub(crate) fn makes<P: Grey, E: Extremum<P>>(
     rt: &impl Abort,
     alloc: Global,
     image: &PlainImage,
@@ -112,7 +112,7 @@ pub(crate) fn makes<P: Pixel, E: Extremum<P>>(
 }
 
 /// Both extrema of an image.
-fn agree<P: Pixel, Least: Extremum<P>, Greatest: Extremum<P>>(
+fn agree<P: Grey, Least: Extremum<P>, Greatest: Extremum<P>>(
     rt: &impl Abort,
     alloc: Global,
     image: &PlainImage,
@@ -124,7 +124,7 @@ fn agree<P: Pixel, Least: Extremum<P>, Greatest: Extremum<P>>(
 }
 
 /// The kernels and the plain program by one element, on images without a pattern.
-fn agree_on_noise<P: Pixel, Least: Extremum<P>, Greatest: Extremum<P>>(
+fn agree_on_noise<P: Grey, Least: Extremum<P>, Greatest: Extremum<P>>(
     rt: &impl Abort,
     alloc: Global,
     kind: Kind,
@@ -138,10 +138,10 @@ fn agree_on_noise<P: Pixel, Least: Extremum<P>, Greatest: Extremum<P>>(
     Ok(())
 }
 
-/// Sets, bytes with a low and with the greatest maxval, and samples of two bytes with the least, with a middle and with
-/// the greatest.
+/// The levels of sets, bytes with a low and with the greatest maxval, and samples of two bytes with the least, with a
+/// middle and with the greatest.
 fn agree_by(rt: &impl Abort, alloc: Global, element: &Element) -> Result<(), Fail> {
-    agree_on_noise::<Bit, Min, Max>(rt, alloc, Kind::Bit, 1, element)?;
+    agree_on_noise::<u8, Min, Max>(rt, alloc, Kind::Bit, 1, element)?;
     for maxval in [9, 255] {
         agree_on_noise::<u8, Min, Max>(rt, alloc, Kind::Grey, maxval, element)?;
     }

@@ -4,7 +4,7 @@ use crate::kernels::makes;
 use mw_images_for_tests::{BAR, bit_row, element, full_square, grey_row, long_line};
 use mw_model::plain;
 use mw_model::plain::PlainImage;
-use mw_pixel::{Bit, Max, Min};
+use mw_pixel::{Max, Min};
 use std::alloc::Global;
 use std::test::Fail;
 
@@ -31,7 +31,7 @@ fn a_place_reaches_over_the_seam(rt: HostRuntime) -> Result<(), Fail> {
     places[63] = 1;
     let wanted = bit_row(alloc, &places)?;
     let bar = element(alloc, b"P1\n3 1\n111\n", 1, 0)?;
-    makes::<Bit, Max>(&rt, alloc, &f, &bar, &wanted)
+    makes::<u8, Max>(&rt, alloc, &f, &bar, &wanted)
 }
 
 #[test]

@@ -2,11 +2,11 @@
 
 ghost use Rattle.std.specs.Prelude.{◌≤◌, ◌↔◌, IsTrue, All};
 
-use mw_grid::whole_frame;
+use mw_images_for_tests::{levels_of, plane_of, whole_window};
 use mw_model::plain::PlainImage;
 use mw_model::{Kind, Shape};
 use mw_pieces::Pieces;
-use mw_pixel::{Bit, Pixel, Plane};
+use mw_pixel::{Bit, Planar, Plane};
 use mw_task::{Element, SharedWindow, TileResult};
 use std::alloc::Global;
 use std::process::Abort;
@@ -55,21 +55,8 @@ pub(crate) fn element(alloc: Global, bytes: &[u8], ox: u32, oy: u32) -> Result<A
     Ok(Arc::new(alloc, element).ok().ok_or("there is memory")?)
 }
 
-fn samples_of<P: Pixel>(alloc: Global, levels: &[u16]) -> Result<Vec<P>, Fail> {
-    let mut samples = Vec::new(alloc);
-    for level in levels {
-        let sample = P::of(*level).ok_or("a level of the type")?;
-        samples.push(sample).ok().ok_or("there is memory")?;
-    }
-    Ok(samples)
-}
-
-fn window<P: Pixel>(rt: &impl Abort, alloc: Global, image: &PlainImage) -> Result<Pieces<P>, Fail> {
-    let samples = samples_of::<P>(alloc, image.samples())?;
-    let (width, height) = (image.width(), image.height());
-    assert_eq!(rt; samples.len(), height as usize * width as usize);
-    let plane = Arc::new(alloc, Plane::new(width, height, samples))?;
-    Ok(Pieces::of_plane(alloc, plane, whole_frame(width, height))?)
+fn window<P: Planar>(alloc: Global, image: &PlainImage) -> Result<Pieces<P>, Fail> {
+    whole_window(alloc, plane_of::<P>(alloc, image)?)
 }
 
 /// The window that has the whole image.
@@ -81,35 +68,27 @@ pub(crate) fn whole(
     let maxval = image.maxval();
     assert!(rt; 1 <= maxval);
     match image.kind() {
-        Kind::Bit => Ok(SharedWindow::bits(window::<Bit>(rt, alloc, image)?)),
+        Kind::Bit => Ok(SharedWindow::bits(window::<Bit>(alloc, image)?)),
         Kind::Grey => {
             if maxval <= 255 {
-                let levels = window::<u8>(rt, alloc, image)?;
+                let levels = window::<u8>(alloc, image)?;
                 Ok(SharedWindow::grey8(levels, maxval as u8))
             } else {
-                let levels = window::<u16>(rt, alloc, image)?;
+                let levels = window::<u16>(alloc, image)?;
                 Ok(SharedWindow::grey16(levels, maxval))
             }
         }
     }
 }
 
-fn levels<P: Pixel>(alloc: Global, plane: &Plane<P>) -> Result<Vec<u16>, Fail> {
-    let mut levels = Vec::new(alloc);
-    for sample in plane.samples() {
-        levels.push(sample.value())?;
-    }
-    Ok(levels)
-}
-
-fn image_of<P: Pixel>(
+fn image_of<P: Planar>(
     rt: &impl Abort,
     alloc: Global,
     kind: Kind,
     maxval: u16,
     plane: &Plane<P>,
 ) -> Result<PlainImage, Fail> {
-    let samples = levels(alloc, plane)?;
+    let samples = levels_of(alloc, plane)?;
     image(rt, (kind, plane.width(), plane.height(), maxval), samples)
 }
 

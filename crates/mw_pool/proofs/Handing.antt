@@ -1,12 +1,10 @@
 -- Tasks that were handed out are the core's own through each event.
-use Rattle.std.proofs.Common.{◌≡◌, ℕ, ◌/◌, ◌%◌, ◌<◌, ◌≤◌, true, not, inl, inr, List, [], ◌∷◌, ◌++◌, length, map, set, Option, Some, None, Result, Ok, Err, IfOk, OnErr, refl, sym, ap, ◌∙◌, subst, arith, append-nil, length-append, div-add-mod', get_or-set_same, get_or-set_other}
+use Rattle.std.proofs.Common.{◌≡◌, ℕ, ◌<◌, ◌≤◌, true, not, inl, inr, List, [], ◌∷◌, ◌++◌, length, map, set, Option, Some, None, Result, Ok, Err, IfOk, OnErr, refl, sym, ap, ◌∙◌, subst, arith, append-nil, length-append, get_or-set_same, get_or-set_other}
 use Rattle.std.specs.List.{AllByRecursion}
 use Rattle.std.specs.Coded.{Coded-set, codes}
 use Rattle.std.proofs.Math.Logic.{∥∥₁_map, ∥∥₁_elim}
-use Rattle.std.proofs.lemmas.Bool.{cases_eq, cases_lt, and_parts}
-use Rattle.std.proofs.lemmas.List.{get_or_past}
+use Rattle.std.proofs.lemmas.Bool.{cases_eq, and_parts}
 use Rattle.mw_facts.proofs.Alls.{all-weaker, all-append_right, all-push}
-use Rattle.mw_facts.proofs.Elements.{get_or-push_below}
 use Rattle.mw_model.specs.declared.names.Name.{Name}
 use Rattle.mw_model.specs.declared.codes.Code.{Code}
 use Rattle.mw_model.specs.declared.submissions.Submission.{Submission}
@@ -16,14 +14,14 @@ use Rattle.mw_model.specs.declared.calls.Call.{Call}
 use Rattle.mw_model.specs.declared.calls.Call.TheVariants as call
 use Rattle.mw_model.specs.declared.calls.Reply.{Reply}
 use Rattle.mw_model.specs.declared.tasks.TaskId.{TaskId}
-use Rattle.mw_model.specs.Values.{Value, tickets, value_at, value_of, values_after}
+use Rattle.mw_model.specs.Values.{Value, tickets, value_at, values_after}
 use Rattle.mw_model.specs.Refusals.{Table, is_pending, outcome_at, refusal, submission_at}
 use Rattle.mw_model.specs.Machine.{Machine, after, changed, given_submission, killed, payload_of, run_submission, settled, unless_refused, values, with_table}
 use Rattle.mw_model.specs.Tasks.{Progress, flag, is_running}
 use Rattle.mw_model.specs.Stands.{CoreView, StandsFor, input_values, inputs_there, progress_at}
-use Rattle.mw_laws.specs.MachineLaws.{GrowsTo, IsSound}
+use Rattle.mw_laws.specs.MachineLaws.{IsSound}
+use Rattle.mw_laws.proofs.RunGrowth.{grows_added}
 use Rattle.mw_laws.proofs.RunSteps.{pushed}
-use Rattle.mw_laws.proofs.RunValues.{values_push}
 use Rattle.mw_task.specs.WindowTasks.{WindowTask}
 use Rattle.mw_core.specs.declared.answers.Started.{Started}
 use Rattle.mw_core.specs.declared.answers.Started.TheVariants as started
@@ -36,7 +34,7 @@ use Rattle.mw_core.specs.mw_stands.Events.{FollowsMachine, WorkStays}
 use Rattle.mw_core.specs.mw_stands.TaskEvents.{BeginsTask, Kills, Places}
 use Rattle.mw_core.specs.mw_work.Works.{true_task}
 use Rattle.mw_core.proofs.mw_stands.StandsLemmas.{stands-sound}
-use Rattle.mw_core.proofs.mw_stands.TaskLemmas.{kept-images, work-of}
+use Rattle.mw_core.proofs.mw_stands.TaskLemmas.{has-place, kept-images, same-number, same-plan, work-of}
 use Rattle.mw_core.proofs.mw_stands.mw_work.Later.{goes-on}
 use Rattle.mw_pool.specs.Handed.{AreHanded, IsHanded}
 use Rattle.mw_pool.specs.Rolls.{StandsIn, Writes}
@@ -55,19 +53,10 @@ same-grown m n a b c = record {
       ∙ ap (λ ps. map (value_at (values_after [] m.table.submissions ps)) (tickets (submission_at m.table.submissions t).inputs)) c;
 }
 
-pushed-grows : (m : Machine) (n : Name) (e : Submission) (o : Outcome) (p : Option Value) → IsSound m → GrowsTo m (pushed m n e o p)
-pushed-grows m n e o p s = record {
-  names = (n ∷ [], refl);
-  submissions = (e ∷ [], refl);
-  payloads = (p ∷ [], refl);
-  values = (value_of (values m) (tickets e.inputs) e.command p ∷ [], values_push [] m.table.submissions m.payloads e p (omega (arith, s.lengths.submissions, s.lengths.payloads)));
-  outcomes = λ t h. inl (get_or-push_below m.table.outcomes o outcome.Pending t (omega (arith, s.lengths.outcomes)));
-}
-
 pushed-grown : (m : Machine) (n : Name) (e : Submission) (o : Outcome) (p : Option Value) → IsSound m → Grown m (pushed m n e o p)
 pushed-grown m n e o p s = record {
   names = omega (arith, length-append m.table.names (n ∷ []));
-  inputs = λ t l. (goes-on m (pushed m n e o p) t s (pushed-grows m n e o p s) l).inputs;
+  inputs = λ t l. (goes-on m (pushed m n e o p) t s (grows_added m n e o p s) l).inputs;
 }
 
 killed-grown : (m : Machine) (t : ℕ) (cause : Outcome) → Grown m (with_table m (killed m.table t cause))
@@ -95,10 +84,6 @@ called-grown m (call.Fetch n) p None s = same-grown m _ refl refl (append-nil m.
 same-inputs : (m n : Machine) (t k : ℕ) (p : Progress) → input_values n t ≡ input_values m t → true_task n t p k ≡ true_task m t p k
 same-inputs m n t k p e = rw e refl
 
--- a task is that of its numbers alone
-same-number : (a b l : ℕ) → a / l ≡ b / l → a % l ≡ b % l → a ≡ b
-same-number a b l e f = sym (div-add-mod' a l) ∙ rw (e, f) (div-add-mod' b l)
-
 -- where other work stays or goes
 stays : (c new : CoreView) (m n : Machine) → StandsFor c m → StandsFor new n → WorkStays c new → Grown m n → (d : WindowTask) → IsHanded c m d → IsHanded new n d
 stays c new m n s z work g d h =
@@ -109,13 +94,6 @@ stays c new m n s z work g d h =
           let pends : is_pending (outcome_at new.table.outcomes t) ≡ true = ap (λ (w : Table). is_pending (outcome_at w.outcomes t)) z.table ∙ ap is_pending (z.idle t p there) in
           h.1 p k (sym (work t h.0 pends) ∙ there) bears ∙ sym (same-inputs m n t k p (g.inputs t named)),
     )
-
--- a place that holds work is there
-has-place : (work : List (Option Progress)) (t : ℕ) (p : Progress) → progress_at work t ≡ Some p → t < length work
-has-place work t p e = elim (cases_lt t (length work)) [
-  | inl l ↦ l
-  | inr past ↦ let none : progress_at work t ≡ None = get_or_past work t None past in absurd cc
-]
 
 -- where the work under one ticket goes on, and its tasks stay the same
 goes : (c new : CoreView) (m : Machine) (t : ℕ) (p q : Progress) → length new.table.names ≡ length c.table.names → progress_at c.work t ≡ Some p → new.work ≡ set c.work t (Some q)
@@ -154,10 +132,6 @@ begins : (c new : CoreView) (m : Machine) (w : WindowTask) → BeginsTask c m w 
 begins c new m w b =
     goes c new m w.task.ticket b.progress (record b.progress { started = set b.progress.started b.number true }) (ap (λ (x : CoreView). length x.table.names) b.started) b.work
     (ap (λ (x : CoreView). x.work) b.started) (λ u k. refl)
-
--- a task of one progress is that of another with the same plan on the same tiles
-same-plan : (m : Machine) (t k : ℕ) (p q : Progress) → q.plan ≡ p.plan → q.tiles ≡ p.tiles → q.width ≡ p.width → q.height ≡ p.height → true_task m t q k ≡ true_task m t p k
-same-plan m t k p q a b c d = rw (a, b, c, d) refl
 
 places : (c new : CoreView) (m : Machine) (e : WindowTask) → StandsFor c m → Places c m e new → (d : WindowTask) → IsHanded c m d → IsHanded new m d
 places c new m e s x =

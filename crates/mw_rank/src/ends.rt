@@ -9,7 +9,7 @@ use crate::histogram::Histogram;
 use crate::runs::more_of;
 use crate::seen::row_in;
 use mw_model::{NoMemory, Rect};
-use mw_pixel::Pixel;
+use mw_pixel::{Grey, Pixel};
 use mw_run::{Run, place_of};
 use mw_tile::Window;
 
@@ -44,7 +44,7 @@ fn column_in(place: Rect, run: Run, x: u64, count: u32) -> Option<usize>
 }
 
 /// Adds a run's ends, where the window has its row; says whether the window has their columns.
-fn push_ends<P: Pixel>(
+fn push_ends<P: Grey>(
     ends: &mut Vec<Ends>,
     window: &Window<P>,
     run: Run,
@@ -74,7 +74,7 @@ fn push_ends<P: Pixel>(
 }
 
 /// The ends of all runs at column x of row y; says whether the window has their columns there and `count` columns on.
-pub(crate) fn row_ends<P: Pixel>(
+pub(crate) fn row_ends<P: Grey>(
     ends: &mut Vec<Ends>,
     window: &Window<P>,
     runs: &[Run],

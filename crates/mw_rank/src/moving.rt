@@ -17,14 +17,14 @@ use crate::histogram::Histogram;
 use crate::runs::{more_of, start_of};
 use crate::seen::seen_part;
 use mw_model::{NoMemory, Offset, Rect};
-use mw_pixel::{Pixel, Plane};
+use mw_pixel::{Grey, Pixel, Plane};
 use mw_run::{Run, place_of, runs_of};
 use mw_tile::Window;
 use std::alloc::Global;
 
 /// The level that a window has in that row and column, both counted from its first place.
 #[inline(always)]
-fn level_in<P: Pixel>(window: &Window<P>, column: i64, row: i64) -> Option<u16>
+fn level_in<P: Grey>(window: &Window<P>, column: i64, row: i64) -> Option<u16>
     ensures levels { option_to_list result ≡ map P.level (option_to_list (cell_at (raster window.now.place.width window.now.place.height window.now.cells) column row)) }
     ensures small { IfSome result (λ s. s ≤ P.top_level) }
 {
@@ -38,7 +38,7 @@ fn level_in<P: Pixel>(window: &Window<P>, column: i64, row: i64) -> Option<u16>
 
 /// The level that is seen at an offset from column x of row y of the frame.
 #[inline(always)]
-fn level_at<P: Pixel>(window: &Window<P>, offset: Offset, x: u64, y: u64) -> Option<u16>
+fn level_at<P: Grey>(window: &Window<P>, offset: Offset, x: u64, y: u64) -> Option<u16>
     requires near { x ≤ 2 ^ 40 }
     requires high { y ≤ 2 ^ 40 }
     ensures levels { option_to_list result ≡ levels_at P.level (seen_at window.now) offset x y }
@@ -52,7 +52,7 @@ fn level_at<P: Pixel>(window: &Window<P>, offset: Offset, x: u64, y: u64) -> Opt
 
 /// Counts what is seen at an offset.
 #[inline(always)]
-fn enter<P: Pixel>(histogram: &mut Histogram, window: &Window<P>, offset: Offset, x: u64, y: u64)
+fn enter<P: Grey>(histogram: &mut Histogram, window: &Window<P>, offset: Offset, x: u64, y: u64)
     requires near { x ≤ 2 ^ 40 }
     requires high { y ≤ 2 ^ 40 }
     requires room { HasRoom P.top_level histogram.old }
@@ -65,7 +65,7 @@ fn enter<P: Pixel>(histogram: &mut Histogram, window: &Window<P>, offset: Offset
 
 /// Takes back what is seen at an offset.
 #[inline(always)]
-fn leave<P: Pixel>(histogram: &mut Histogram, window: &Window<P>, offset: Offset, x: u64, y: u64)
+fn leave<P: Grey>(histogram: &mut Histogram, window: &Window<P>, offset: Offset, x: u64, y: u64)
     requires near { x ≤ 2 ^ 40 }
     requires high { y ≤ 2 ^ 40 }
     requires held { Holds P.top_level histogram.old (levels_at P.level (seen_at window.now) offset x y) }
@@ -97,7 +97,7 @@ fn leave_part<P: Pixel>(histogram: &mut Histogram, samples: &[P])
 }
 
 /// Counts what is seen under the element.
-fn enter_all<P: Pixel>(histogram: &mut Histogram, window: &Window<P>, runs: &[Run], x: u64, y: u64)
+fn enter_all<P: Grey>(histogram: &mut Histogram, window: &Window<P>, runs: &[Run], x: u64, y: u64)
     requires near { x ≤ 2 ^ 40 }
     requires high { y ≤ 2 ^ 40 }
     requires few { length (element_of runs.now) < 2 ^ 16 }
@@ -110,7 +110,7 @@ fn enter_all<P: Pixel>(histogram: &mut Histogram, window: &Window<P>, runs: &[Ru
 }
 
 /// Takes back what is seen under the element.
-fn leave_all<P: Pixel>(histogram: &mut Histogram, window: &Window<P>, runs: &[Run], x: u64, y: u64)
+fn leave_all<P: Grey>(histogram: &mut Histogram, window: &Window<P>, runs: &[Run], x: u64, y: u64)
     requires near { x ≤ 2 ^ 40 }
     requires high { y ≤ 2 ^ 40 }
     requires few { length (element_of runs.now) < 2 ^ 16 }
@@ -123,7 +123,7 @@ fn leave_all<P: Pixel>(histogram: &mut Histogram, window: &Window<P>, runs: &[Ru
 }
 
 /// Moves the element one column on.
-fn advance<P: Pixel>(histogram: &mut Histogram, window: &Window<P>, runs: &[Run], x: u64, y: u64)
+fn advance<P: Grey>(histogram: &mut Histogram, window: &Window<P>, runs: &[Run], x: u64, y: u64)
     requires near { x ≤ 2 ^ 39 }
     requires high { y ≤ 2 ^ 40 }
     requires few { length (element_of runs.now) < 2 ^ 16 }
@@ -172,7 +172,7 @@ struct Row {
 }
 
 /// Adds the ranks of the places.
-fn push_row<P: Pixel>(
+fn push_row<P: Grey>(
     out: &mut Vec<P>,
     histogram: &mut Histogram,
     window: &Window<P>,
@@ -195,7 +195,7 @@ fn push_row<P: Pixel>(
 }
 
 /// Adds the ranks of the places, where the ends of the runs are known.
-fn push_inside<P: Pixel>(
+fn push_inside<P: Grey>(
     out: &mut Vec<P>,
     histogram: &mut Histogram,
     window: &Window<P>,
@@ -221,7 +221,7 @@ fn push_inside<P: Pixel>(
 }
 
 /// Adds the ranks of the places, by the ends of the runs where they are inside.
-fn push_middle<P: Pixel>(
+fn push_middle<P: Grey>(
     out: &mut Vec<P>,
     histogram: &mut Histogram,
     ends: &mut Vec<Ends>,
@@ -245,7 +245,7 @@ fn push_middle<P: Pixel>(
 }
 
 /// Adds the ranks of a row: the inner columns by the ends of the runs.
-fn push_columns<P: Pixel>(
+fn push_columns<P: Grey>(
     out: &mut Vec<P>,
     histogram: &mut Histogram,
     ends: &mut Vec<Ends>,
@@ -285,7 +285,7 @@ fn push_columns<P: Pixel>(
 }
 
 /// Adds the ranks of a row, before and after which the histogram is empty.
-fn push_whole_row<P: Pixel>(
+fn push_whole_row<P: Grey>(
     out: &mut Vec<P>,
     histogram: &mut Histogram,
     ends: &mut Vec<Ends>,
@@ -309,7 +309,7 @@ fn push_whole_row<P: Pixel>(
 }
 
 /// The ranks of a tile, by rows.
-fn rank_samples<P: Pixel>(
+fn rank_samples<P: Grey>(
     alloc: Global,
     window: &Window<P>,
     offsets: &[Offset],
@@ -343,7 +343,7 @@ fn rank_samples<P: Pixel>(
 /// from 1, or the last where there are fewer; 0 where there is none. Where the window has all that the frame has there,
 /// this is the rank filter of the frame. The element has fewer than 65,536 offsets, as the counters have 16 bits. It
 /// may want memory (`NoMemory`).
-pub fn rank<P: Pixel>(
+pub fn rank<P: Grey>(
     alloc: Global,
     window: &Window<P>,
     offsets: &[Offset],

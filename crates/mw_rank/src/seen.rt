@@ -7,12 +7,12 @@ ghost use Rattle.mw_rank.specs.Ranks.{levels_under};
 ghost use Rattle.mw_rank.specs.Runs.{offsets_of};
 
 use crate::runs::more_of;
-use mw_pixel::Pixel;
+use mw_pixel::Grey;
 use mw_run::{Run, place_of};
 use mw_tile::Window;
 
 /// The row of the window in which a run lies, where the window has it.
-pub(crate) fn row_in<P: Pixel>(window: &Window<P>, run: Run, y: u64) -> Option<usize>
+pub(crate) fn row_in<P: Grey>(window: &Window<P>, run: Run, y: u64) -> Option<usize>
     requires { y ≤ 2 ^ 40 }
     ensures { MatchOption result ((column : ℤ) → cell_at (raster window.now.place.width window.now.place.height window.now.cells) column (pos y +ℤ run.dy -ℤ pos window.now.place.y) ≡ None) (λ row. (row < window.now.place.height) × (pos y +ℤ run.dy -ℤ pos window.now.place.y ≡ pos row)) }
 {
@@ -35,7 +35,7 @@ fn clamped(column: i64, width: u32) -> usize
 }
 
 /// The samples of the window that a run shows at column x of row y of the frame.
-pub(crate) fn seen_part<P: Pixel>(window: &Window<P>, run: Run, x: u64, y: u64) -> &[P]
+pub(crate) fn seen_part<P: Grey>(window: &Window<P>, run: Run, x: u64, y: u64) -> &[P]
     requires near { x ≤ 2 ^ 40 }
     requires high { y ≤ 2 ^ 40 }
     ensures { map P.level result.now ≡ levels_under P.level (seen_at window.now) (offsets_of run) x y }

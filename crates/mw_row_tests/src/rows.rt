@@ -1,10 +1,10 @@
 //! Calls on rows of 0 to 200 samples, beside plain loops and the plain program.
 
 use mw_images_for_tests::{are_levels, noise, row_of};
-use mw_lane::{Lanes, combine_rows, equal_rows, subtract_rows, threshold_row};
+use mw_lane::{Lanes, combine_rows, subtract_rows, threshold_row};
 use mw_model::plain::PlainImage;
 use mw_model::{Kind, plain};
-use mw_pixel::{Bit, Extremum, Max, Min, Pixel, copies};
+use mw_pixel::{Bit, Blocks, Extremum, Max, Min, Pixel, copies, equal_rows};
 use std::alloc::Global;
 use std::process::Abort;
 use std::test::Fail;
@@ -123,7 +123,7 @@ fn changed(alloc: Global, levels: &[u16], place: usize) -> Result<Vec<u16>, Fail
 }
 
 /// Stops where rows of these levels are one or two, and are not said to be.
-fn is_one<P: Lanes>(
+fn is_one<P: Blocks>(
     rt: &impl Abort,
     alloc: Global,
     f: &[u16],
@@ -144,7 +144,7 @@ fn longer(alloc: Global, levels: &[u16]) -> Result<Vec<u16>, Fail> {
 }
 
 /// A row is its copy, no longer one, and none that differs in one place from `first` on.
-fn tell_apart<P: Lanes>(
+fn tell_apart<P: Blocks>(
     rt: &impl Abort,
     alloc: Global,
     levels: &[u16],
@@ -160,8 +160,7 @@ fn tell_apart<P: Lanes>(
     Ok(())
 }
 
-/// The two extrema, the difference and the thresholds of a row, and whether it is told from another length and from a row
-/// with another last sample.
+/// The two extrema, the difference and the thresholds of a row.
 fn agree<P: Lanes, Least: Extremum<P>, Greatest: Extremum<P>>(
     rt: &impl Abort,
     alloc: Global,
@@ -171,7 +170,11 @@ fn agree<P: Lanes, Least: Extremum<P>, Greatest: Extremum<P>>(
 ) -> Result<(), Fail> {
     merge::<P, Least, Greatest>(rt, alloc, f.samples(), g.samples())?;
     subtract::<P>(rt, alloc, f, g)?;
-    threshold::<P>(rt, alloc, f, levels)?;
+    threshold::<P>(rt, alloc, f, levels)
+}
+
+/// Whether a row is told from one of another length and from one with another last sample.
+fn tell_last<P: Blocks>(rt: &impl Abort, alloc: Global, f: &PlainImage) -> Result<(), Fail> {
     tell_apart::<P>(rt, alloc, f.samples(), f.samples().len().saturating_sub(1))
 }
 
@@ -193,6 +196,7 @@ fn rows_of_bytes(rt: HostRuntime) -> Result<(), Fail> {
         // a byte is less than 256 and 300, whatever it is
         let levels = [0, 1, 100, 128, 255, 256, 300, 65535];
         agree::<u8, Min, Max>(&rt, rt.alloc(), &f, &g, &levels)?;
+        tell_last::<u8>(&rt, rt.alloc(), &f)?;
     }
     Ok(())
 }
@@ -204,6 +208,7 @@ fn rows_of_two_bytes(rt: HostRuntime) -> Result<(), Fail> {
         let g = greys(rt.alloc(), width, 40000)?;
         let levels = [0, 1, 100, 256, 32768, 65535];
         agree::<u16, Min, Max>(&rt, rt.alloc(), &f, &g, &levels)?;
+        tell_last::<u16>(&rt, rt.alloc(), &f)?;
     }
     Ok(())
 }
@@ -220,8 +225,6 @@ fn rows_of_pixels(rt: HostRuntime) -> Result<(), Fail> {
 
 #[test]
 fn rows_that_differ_in_one_sample(rt: HostRuntime) -> Result<(), Fail> {
-    let set = noise(rt.alloc(), Kind::Bit, 210, 1, 1)?;
-    tell_apart::<Bit>(&rt, rt.alloc(), set.samples(), 0)?;
     let levels = greys(rt.alloc(), 210, 255)?;
     tell_apart::<u8>(&rt, rt.alloc(), levels.samples(), 0)?;
     tell_apart::<u16>(&rt, rt.alloc(), levels.samples(), 0)

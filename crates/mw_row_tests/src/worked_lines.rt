@@ -4,7 +4,7 @@ use mw_line::{
     Steps, combine_window_row, line, slide_by, sliding_maximum_is_dilation,
     sliding_minimum_is_erosion, windows_of_a_row_are_operators,
 };
-use mw_pixel::{Bit, Extremum, Max, Min, Plane};
+use mw_pixel::{Extremum, Max, Min, Plane};
 use mw_tile::Window;
 use std::alloc::Global;
 use std::process::Abort;
@@ -104,10 +104,10 @@ fn every_second_sample_of_a_row(rt: HostRuntime) {
 
 #[test]
 fn a_row_of_a_window(rt: HostRuntime) -> Result<(), Fail> {
-    let window = Window::whole(Plane::filled(rt.alloc(), 2, 1, Bit::SET)?);
-    let mut out = [Bit::new(false); 3];
-    combine_window_row::<Bit, Max>(&window, -1, 0, &mut out);
-    assert!(rt; out == [Bit::new(false), Bit::SET, Bit::SET]);
+    let window = Window::whole(Plane::filled(rt.alloc(), 2, 1, 7u8)?);
+    let mut out = [0u8; 3];
+    combine_window_row::<u8, Max>(&window, -1, 0, &mut out);
+    assert_eq!(rt; out, [0, 7, 7]);
     Ok(())
 }
 

@@ -134,6 +134,29 @@ fn a_thousand_lines_at_once(rt: HostRuntime) -> Result<(), Fail> {
     Ok(())
 }
 
+/// A picture whose file is longer than 16 MiB is loaded at a board.
+#[test]
+fn a_long_file_is_loaded(rt: HostRuntime) -> Result<(), Fail> {
+    let alloc = rt.alloc();
+    let samples = Vec::from_elem(alloc, 0u8, 16_777_216)?;
+    let input = joined(
+        alloc,
+        &[
+            b"LOAD f 16777233\nP5\n4096 4096\n255\n",
+            &samples,
+            b"STATUS f\n",
+        ],
+    )?;
+    let piece = Once {
+        piece: &input,
+        fails: false,
+    };
+    let output = b"OK 0\nDONE 0 GREY 4096 4096 255\n";
+    let receipts = leaves(&rt, alloc, piece, output, Ok(End::Quit));
+    assert_eq!(rt; receipts, 2);
+    Ok(())
+}
+
 /// Counts the writes that it is asked for, and takes all.
 #[derive(Drop)]
 struct Tally<'a> {

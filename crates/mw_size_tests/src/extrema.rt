@@ -4,7 +4,7 @@ use crate::slopes::{Look, SQUARE, Sides, WIDE, is_row, shows, slope};
 use mw_line::{Steps, line, rectangle};
 use mw_model::{Offset, OffsetBox};
 use mw_offset::extremum;
-use mw_pixel::{Extremum, Max, Min, Pixel};
+use mw_pixel::{Extremum, Grey, Max, Min};
 use mw_rank::rank;
 use mw_tile::Window;
 use std::alloc::Global;
@@ -74,7 +74,7 @@ const OUTSIDE: OffsetBox = OffsetBox {
 };
 
 /// The extremum over the frame under a full square.
-fn squared<P: Pixel, E: Extremum<P>>(
+fn squared<P: Grey, E: Extremum<P>>(
     rt: &impl Abort,
     alloc: Global,
     sides: Sides,
@@ -126,7 +126,7 @@ const THREE: [Offset; 3] = [
 const APART: [Offset; 2] = [Offset { dx: -1500, dy: 0 }, Offset { dx: 0, dy: 0 }];
 
 /// The extremum over the frame under a list of offsets.
-fn listed<P: Pixel, E: Extremum<P>>(
+fn listed<P: Grey, E: Extremum<P>>(
     rt: &impl Abort,
     alloc: Global,
     sides: Sides,
@@ -152,7 +152,7 @@ fn extrema_of_words_by_offsets(rt: HostRuntime) {
 }
 
 /// The middle one of the samples under three pixels in a row.
-fn ranked<P: Pixel>(rt: &impl Abort, alloc: Global, sides: Sides) {
+fn ranked<P: Grey>(rt: &impl Abort, alloc: Global, sides: Sides) {
     let window = Window::whole(slope::<P>(rt, alloc, sides));
     let made = rank(alloc, &window, &THREE, 2, sides.frame());
     assert!(rt; shows(&made.expect(rt, "memory"), sides, Look::Middle));

@@ -1,8 +1,8 @@
 //! Files of 16,777,216 samples, read and written.
 
-use crate::slopes::{Look, SQUARE, Sides, WIDE, shows, slope};
+use crate::slopes::{Look, SQUARE, Sides, WIDE, sample, shows, slope};
 use mw_netpbm::{parts, read, read_owned, write};
-use mw_pixel::{Bit, Image, Pixel, Plane, View};
+use mw_pixel::{Bit, Image, Pixel, Planar, Plane, View};
 use std::alloc::Global;
 use std::process::Abort;
 
@@ -25,22 +25,21 @@ fn raw(rt: &impl Abort, alloc: Global, sides: Sides, maxval: u16) -> Vec<u8> {
     bytes
 }
 
-/// The pixels of eight columns of a row, the first one the highest bit.
-fn eight(row: &[Bit]) -> u8 {
-    let mut byte = 0u8;
-    for bit in row {
-        byte = (byte << 1) | bit.number();
-    }
-    byte
-}
-
 /// A raw file of a set whose width is a multiple of 8.
 fn raw_set(rt: &impl Abort, alloc: Global, sides: Sides) -> Vec<u8> {
     let Sides { width, height } = sides;
     let head = format!(in alloc; "P4\n{width} {height}\n").expect(rt, "memory");
     let mut bytes = head.into_bytes();
-    for row in slope::<Bit>(rt, alloc, sides).samples().chunks(8) {
-        bytes.push(eight(row)).expect(rt, "memory");
+    for y in 0..height {
+        let mut byte = 0u8;
+        for x in 0..width {
+            // the first of eight columns is the highest bit
+            byte = (byte << 1) | sample::<Bit>(x, y).number();
+            if x % 8 == 7 {
+                bytes.push(byte).expect(rt, "memory");
+                byte = 0;
+            }
+        }
     }
     bytes
 }
@@ -94,37 +93,45 @@ fn plain(rt: &impl Abort, alloc: Global, magic: &str, maxval: &str, sides: Sides
     let Sides { width, height } = sides;
     let head = format!(in alloc; "{magic}\n{width} {height}\n{maxval}").expect(rt, "memory");
     let mut bytes = head.into_bytes();
-    for bit in slope::<Bit>(rt, alloc, sides).samples() {
-        push_all(rt, &mut bytes, &[b'0' | bit.number(), b' ']);
+    for y in 0..height {
+        for x in 0..width {
+            let digit = b'0' | sample::<Bit>(x, y).number();
+            push_all(rt, &mut bytes, &[digit, b' ']);
+        }
     }
     bytes
 }
 
-fn are_pixels<P: Pixel>(plane: &Plane<P>, wanted: &Plane<Bit>) -> bool {
-    let (found, wanted) = (plane.samples(), wanted.samples());
-    found.len() == wanted.len()
-        && found
-            .iter()
-            .zip(wanted)
-            .all(|(s, t)| s.value() == t.value())
+/// Whether the levels of the plane are the pixels of the slope of a set.
+fn are_pixels<P: Planar>(plane: &Plane<P>, sides: Sides) -> bool {
+    if plane.width() != sides.width || plane.height() != sides.height {
+        return false;
+    }
+    for y in 0..sides.height {
+        for x in 0..sides.width {
+            if plane.at(x, y).value() != sample::<Bit>(x, y).value() {
+                return false;
+            }
+        }
+    }
+    true
 }
 
-/// Whether the image has the pixels of the set as its levels.
-fn has_pixels(image: &Image, set: &Plane<Bit>) -> bool {
+/// Whether the image has the pixels of the slope of a set as its levels.
+fn has_pixels(image: &Image, sides: Sides) -> bool {
     match image.view() {
-        View::Bits(plane) => are_pixels(plane, set),
-        View::Grey8(plane, _) => are_pixels(plane, set),
-        View::Grey16(plane, _) => are_pixels(plane, set),
+        View::Bits(plane) => are_pixels(plane, sides),
+        View::Grey8(plane, _) => are_pixels(plane, sides),
+        View::Grey16(plane, _) => are_pixels(plane, sides),
     }
 }
 
 /// A plain set, and plain levels of one byte and of two.
 #[test]
 fn plain_files(rt: HostRuntime) {
-    let set = slope::<Bit>(&rt, rt.alloc(), SQUARE);
     for (magic, maxval) in [("P1", ""), ("P2", "9\n"), ("P2", "300\n")] {
         let bytes = plain(&rt, rt.alloc(), magic, maxval, SQUARE);
         let image = read(rt.alloc(), &bytes).expect(&rt, "an image");
-        assert!(rt; has_pixels(&image, &set), "{magic} {maxval}");
+        assert!(rt; has_pixels(&image, SQUARE), "{magic} {maxval}");
     }
 }

@@ -2,13 +2,13 @@
 
 use crate::slopes::{Look, SQUARE, Sides, WIDE, shows, slope};
 use mw_model::Rect;
-use mw_pixel::{Pixel, Plane, copies};
+use mw_pixel::{Grey, Plane, copies};
 use mw_tile::{Window, cut};
 use std::alloc::Global;
 use std::process::Abort;
 
 /// The whole frame, and all of it but its first and its last column.
-fn is_cut<P: Pixel>(rt: &impl Abort, alloc: Global, sides: Sides) {
+fn is_cut<P: Grey>(rt: &impl Abort, alloc: Global, sides: Sides) {
     let plane = slope::<P>(rt, alloc, sides);
     assert!(rt; plane.width() == sides.width && plane.height() == sides.height);
     assert!(rt; sides.width >= 2);

@@ -1,9 +1,9 @@
 //! Sets as words of 64 pixels.
 
 use crate::slopes::{Look, SQUARE, Sides, WIDE, shows, slope};
-use mw_bits::Words;
-use mw_model::{Offset, OffsetBox};
-use mw_pixel::{Bit, Max, Min};
+use mw_bits::{at_least, count, equal, extremum, invert, join, meet, minus, rectangle};
+use mw_model::{NoMemory, Offset, OffsetBox};
+use mw_pixel::{Bit, Max, Min, Plane};
 use mw_tile::Window;
 use std::alloc::Global;
 use std::process::Abort;
@@ -27,32 +27,22 @@ const SEVEN: OffsetBox = OffsetBox {
     y1: 7,
 };
 
-fn words(rt: &impl Abort, alloc: Global, sides: Sides) -> Words {
-    let window = Window::whole(slope::<Bit>(rt, alloc, sides));
-    Words::from_plane(alloc, &window).expect(rt, "memory")
+/// The window that has all of the set whose pixels begin at the diagonal.
+fn window_of(rt: &impl Abort, alloc: Global, sides: Sides) -> Window<Bit> {
+    let levels = Window::whole(slope::<u16>(rt, alloc, sides));
+    Window::whole(at_least(alloc, &levels, 4096).expect(rt, "memory"))
 }
 
-fn are(rt: &impl Abort, alloc: Global, words: &Words, sides: Sides, look: Look) {
-    let plane = words.to_plane(alloc).expect(rt, "memory");
-    assert!(rt; shows(&plane, sides, look));
-}
-
-/// Packed, and both extrema by offsets and by a square.
+/// Both extrema by offsets, and one by a square.
 fn are_extrema(rt: &impl Abort, alloc: Global, sides: Sides) {
-    let set = words(rt, alloc, sides);
-    are(rt, alloc, &set, sides, Look::Here);
-    let made = set
-        .extremum::<Min>(alloc, &EIGHT, sides.frame())
-        .expect(rt, "memory");
-    are(rt, alloc, &made, sides, Look::Least(1));
-    let made = set
-        .extremum::<Max>(alloc, &EIGHT, sides.frame())
-        .expect(rt, "memory");
-    are(rt, alloc, &made, sides, Look::Greatest(1));
-    let made = set
-        .rectangle::<Min>(alloc, SEVEN, sides.frame())
-        .expect(rt, "memory");
-    are(rt, alloc, &made, sides, Look::Least(7));
+    let set = window_of(rt, alloc, sides);
+    assert!(rt; shows(set.plane(), sides, Look::Here));
+    let made = extremum::<Min>(alloc, &set, &EIGHT, sides.frame()).expect(rt, "memory");
+    assert!(rt; shows(&made, sides, Look::Least(1)));
+    let made = extremum::<Max>(alloc, &set, &EIGHT, sides.frame()).expect(rt, "memory");
+    assert!(rt; shows(&made, sides, Look::Greatest(1)));
+    let made = rectangle::<Min>(alloc, &set, SEVEN, sides.frame()).expect(rt, "memory");
+    assert!(rt; shows(&made, sides, Look::Least(7)));
 }
 
 #[test]
@@ -61,36 +51,37 @@ fn extrema_of_sets(rt: HostRuntime) {
     are_extrema(&rt, rt.alloc(), WIDE);
 }
 
+/// How many pixels a plane that was made has.
+fn counted(rt: &impl Abort, made: Result<Plane<Bit>, NoMemory>) -> u64 {
+    count(&Window::whole(made.expect(rt, "memory")))
+}
+
 /// What a set and its complement have together, and without each other.
-fn are_paired(rt: &impl Abort, alloc: Global, set: &Words) {
-    let rest = set.invert(alloc).expect(rt, "memory");
+fn are_paired(rt: &impl Abort, alloc: Global, set: &Window<Bit>) {
+    let rest = Window::whole(invert(alloc, set).expect(rt, "memory"));
     assert!(rt; set.place() == rest.place());
-    let all = set.count();
-    assert_eq!(rt; all.saturating_add(rest.count()), 16777216);
-    assert_eq!(rt; set.meet(alloc, &rest).expect(rt, "memory").count(), 0);
-    assert_eq!(rt;
-        set.join(alloc, &rest).expect(rt, "memory").count(),
-        16777216
-    );
-    assert_eq!(rt; set.minus(alloc, &rest).expect(rt, "memory").count(), all);
+    let all = count(set);
+    assert_eq!(rt; all.saturating_add(count(&rest)), 16777216);
+    assert_eq!(rt; counted(rt, meet(alloc, set, &rest)), 0);
+    assert_eq!(rt; counted(rt, join(alloc, set, &rest)), 16777216);
+    assert_eq!(rt; counted(rt, minus(alloc, set, &rest)), all);
 }
 
 #[test]
 fn pairs_of_sets(rt: HostRuntime) {
-    let set = words(&rt, rt.alloc(), SQUARE);
+    let set = window_of(&rt, rt.alloc(), SQUARE);
     // of row y the last y pixels
-    assert_eq!(rt; set.count(), 4095 * 4096 / 2);
+    assert_eq!(rt; count(&set), 4095 * 4096 / 2);
     are_paired(&rt, rt.alloc(), &set);
-    are_paired(&rt, rt.alloc(), &words(&rt, rt.alloc(), WIDE));
+    are_paired(&rt, rt.alloc(), &window_of(&rt, rt.alloc(), WIDE));
 }
 
 /// The places of a level or more, and those of exactly this level.
 fn are_levels(rt: &impl Abort, alloc: Global, sides: Sides) {
     let window = Window::whole(slope::<u16>(rt, alloc, sides));
-    let high = Words::at_least(alloc, &window, 4096).expect(rt, "memory");
-    are(rt, alloc, &high, sides, Look::Here);
-    let corner = Words::equal(alloc, &window, 0).expect(rt, "memory");
-    assert_eq!(rt; corner.count(), 1);
+    let high = at_least(alloc, &window, 4096).expect(rt, "memory");
+    assert!(rt; shows(&high, sides, Look::Here));
+    assert_eq!(rt; counted(rt, equal(alloc, &window, 0)), 1);
 }
 
 #[test]

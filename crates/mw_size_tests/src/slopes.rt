@@ -4,7 +4,7 @@
 ghost use Rattle.std.specs.Prelude.{◌≡◌};
 
 use mw_model::Rect;
-use mw_pixel::{Pixel, Plane};
+use mw_pixel::{Grey, Pixel, Planar, Plane};
 use std::alloc::Global;
 use std::process::Abort;
 
@@ -85,12 +85,13 @@ fn level<P: Pixel>(x: u32, y: u32) -> u16 {
     u16::try_from(steps).unwrap_or(top).min(top)
 }
 
-fn sample<P: Pixel>(x: u32, y: u32) -> P {
+/// The sample at a place.
+pub(crate) fn sample<P: Pixel>(x: u32, y: u32) -> P {
     P::of(level::<P>(x, y)).unwrap_or(P::TOP)
 }
 
 /// A plane that rises with each column and each row.
-pub(crate) fn slope<P: Pixel>(rt: &impl Abort, alloc: Global, sides: Sides) -> Plane<P> {
+pub(crate) fn slope<P: Grey>(rt: &impl Abort, alloc: Global, sides: Sides) -> Plane<P> {
     let mut samples = Vec::new(alloc);
     for y in 0..sides.height {
         for x in 0..sides.width {
@@ -114,14 +115,16 @@ pub(crate) fn is_row<P: Pixel>(row: &[P], width: u32, look: Look, y: u32) -> boo
 }
 
 /// Whether a plane has at each place the sample that is looked for from there.
-pub(crate) fn shows<P: Pixel>(made: &Plane<P>, sides: Sides, look: Look) -> bool {
+pub(crate) fn shows<P: Planar>(made: &Plane<P>, sides: Sides, look: Look) -> bool {
     if made.width() != sides.width || made.height() != sides.height {
         return false;
     }
-    for y in 0..made.height() {
+    for y in 0..sides.height {
         let from = look.row(y, sides.height);
-        if !is_row(made.row(y), sides.width, look, from) {
-            return false;
+        for x in 0..sides.width {
+            if made.at(x, y) != sample::<P>(look.column(x, sides.width), from) {
+                return false;
+            }
         }
     }
     true

@@ -1,9 +1,10 @@
 -- Events on tasks, for each machine that the core stands for.
 use Rattle.std.specs.Prelude.{option_map}
 use Rattle.std.specs.Option.{option_map_or}
-use Rattle.std.proofs.Common.{◌≡◌, ◌↔◌, ℕ, ◌<◌, ◌≤◌, Bool, true, false, cond, inl, inr, [], ◌∷◌, ◌++◌, length, set, Option, Some, None, IsSome, refl, sym, ap, ◌∙◌, subst, arith}
+use Rattle.std.proofs.Common.{◌≡◌, ◌↔◌, ℕ, ◌/◌, ◌%◌, ◌<◌, ◌≤◌, Bool, true, false, cond, inl, inr, List, [], ◌∷◌, ◌++◌, length, set, Option, Some, None, IsSome, refl, sym, ap, ◌∙◌, subst, arith}
 use Rattle.std.proofs.lemmas.List.{get_or-set_same, get_or-set_other, get_or_past}
 use Rattle.std.proofs.lemmas.Bool.{cases_lt, cases_eq, and_parts}
+use Rattle.std.proofs.lemmas.Nat.{div-add-mod'}
 use Rattle.mw_model.specs.declared.calls.Outcome.TheVariants as outcome
 use Rattle.mw_model.specs.declared.calls.LogItem.TheVariants as item
 use Rattle.mw_model.specs.Refusals.{Table, outcome_at, is_pending}
@@ -11,6 +12,7 @@ use Rattle.mw_model.specs.Machine.{Machine, CanDie, killed}
 use Rattle.mw_model.specs.Tasks.{Progress, ready_tasks, remaining_tasks}
 use Rattle.mw_model.specs.Stands.{CoreView, StandsFor, IsWork, may_run, progress_at, inputs_there, input_values, ready_under, remaining_of}
 use Rattle.mw_laws.proofs.RunCascade.{pending_is}
+use Rattle.mw_work.specs.Works.{true_task}
 use Rattle.mw_store.specs.Stored.{DropsSpent}
 use Rattle.mw_stands.specs.Facts.{IsComplete}
 use Rattle.mw_stands.specs.Changes.{KeepsWork}
@@ -19,7 +21,23 @@ use Rattle.mw_stands.proofs.CallLemmas.{dies-work}
 use Rattle.mw_stands.proofs.KeptInputs.{kept_inputs, inputs-kept}
 use Rattle.mw_stands.proofs.StandsLemmas.{stands-sound, stands-dies}
 
+-- ---- tasks by their numbers
+
+-- two numbers of tasks of as many tiles a step
+pub same-number : (a b l : ℕ) → a / l ≡ b / l → a % l ≡ b % l → a ≡ b
+same-number a b l e f = sym (div-add-mod' a l) ∙ rw (e, f) (div-add-mod' b l)
+
+-- the true task of a number is told by the plan and the tiling
+pub same-plan : (m : Machine) (t k : ℕ) (p q : Progress) → q.plan ≡ p.plan → q.tiles ≡ p.tiles → q.width ≡ p.width → q.height ≡ p.height → true_task m t q k ≡ true_task m t p k
+same-plan m t k p q a b c d = rw (a, b, c, d) refl
+
 -- ---- what the core and the machine have under a ticket
+
+pub has-place : (work : List (Option Progress)) (t : ℕ) (p : Progress) → progress_at work t ≡ Some p → t < length work
+has-place work t p e = elim (cases_lt t (length work)) [
+  | inl l ↦ l
+  | inr past ↦ let none : progress_at work t ≡ None = get_or_past work t None past in absurd cc
+]
 
 -- the work under a pending ticket is work by the definitions
 pub work-of : (c : CoreView) (m : Machine) (t : ℕ) (p : Progress) → StandsFor c m → t < length c.table.names → outcome_at c.table.outcomes t ≡ outcome.Pending → progress_at c.work t ≡ Some p → IsWork m t p

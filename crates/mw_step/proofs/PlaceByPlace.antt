@@ -8,6 +8,7 @@ use Rattle.std.proofs.lemmas.Option.{unwrap_or-slice_get}
 use Rattle.std.proofs.lemmas.Simd.{get_or-zip2, length-zip2}
 use Rattle.mw_model.specs.declared.places.Rect.{Rect}
 use Rattle.mw_model.specs.declared.shapes.Kind.{Kind}
+use Rattle.mw_model.specs.declared.shapes.Kind.TheVariants as kind
 use Rattle.mw_model.specs.Rasters.{Raster, raster}
 use Rattle.mw_model.specs.Windows.{View, seen_at}
 use Rattle.mw_model.specs.PlanSteps.{here}
@@ -145,6 +146,10 @@ pub inverted_plane : (u : SourceWindow) (kind : Kind) (maxval : ℕ) (w : View �
     → each_drawn u.kind u.maxval (λ n. u.maxval - n) u.view ≡ picture kind p.width p.height maxval p.cells
 inverted_plane u kind maxval w p is sides size cells = ap (λ (s : SourceWindow). each_drawn s.kind s.maxval (λ n. s.maxval - n) s.view) is ∙ inverted_held kind maxval w p sides size cells
 
+pub flipped_plane : (u : SourceWindow) (w : View ℕ) (p : Raster ℕ) → u ≡ source_window kind.Bit 1 w → HasSides p w.place → Fills w.place w → p.cells ≡ map (λ (n : ℕ). 1 - n) w.cells
+    → each_drawn u.kind u.maxval (λ n. u.maxval - n) u.view ≡ picture kind.Bit p.width p.height 1 p.cells
+flipped_plane u w p is sides size cells = ap (λ (s : SourceWindow). each_drawn s.kind s.maxval (λ n. s.maxval - n) s.view) is ∙ each_held kind.Bit 1 (λ (n : ℕ). 1 - n) w p sides size cells
+
 pub both_plane : (value : ℕ → ℕ → ℕ) (u : SourceWindow) (b second : View ℕ) (kind : Kind) (maxval : ℕ) (w : View ℕ) (p : Raster ℕ) → u ≡ source_window kind maxval w → second ≡ b → u.view.place ≡ b.place → HasSides p w.place → Fills w.place w → Fills w.place second
     → p.cells ≡ zip2 value w.cells second.cells → both_drawn u.kind u.maxval value u.view b ≡ picture kind p.width p.height maxval p.cells
 both_plane value u b second kind maxval w p is second-is place sides size other-size cells =
@@ -152,3 +157,12 @@ both_plane value u b second kind maxval w p is second-is place sides size other-
     ap (λ (s : SourceWindow). both_drawn s.kind s.maxval value s.view b) is
     ∙ ap (λ (v : View ℕ). both_drawn kind maxval value w v) (sym second-is)
     ∙ both_held kind maxval value w second p sides same size other-size cells
+
+pub marked_plane : (u : SourceWindow) (v level : ℕ) (marks : List ℕ) (kind : Kind) (maxval : ℕ) (w : View ℕ) (p : Raster ℕ) → u ≡ source_window kind maxval w → HasSides p w.place → level ≡ v → p.cells ≡ zip2 (λ (s m : ℕ). if m == 1 then level else s) w.cells marks
+    → plane_drawn u.kind u.maxval u.view.place (zip2 (λ (s m : ℕ). if m == 1 then v else s) u.view.cells marks) ≡ picture kind p.width p.height maxval p.cells
+marked_plane u v level marks kind maxval w p is sides same cells =
+    ap (λ (t : SourceWindow). plane_drawn t.kind t.maxval t.view.place (zip2 (λ (s m : ℕ). if m == 1 then v else s) t.view.cells marks)) is
+    ∙ ap (λ (t : ℕ). picture kind t w.place.height maxval (zip2 (λ (s m : ℕ). if m == 1 then v else s) w.cells marks)) (sym sides.width)
+    ∙ ap (λ (t : ℕ). picture kind p.width t maxval (zip2 (λ (s m : ℕ). if m == 1 then v else s) w.cells marks)) (sym sides.height)
+    ∙ ap (λ (t : ℕ). picture kind p.width p.height maxval (zip2 (λ (s m : ℕ). if m == 1 then t else s) w.cells marks)) (sym same)
+    ∙ ap (λ (t : List ℕ). picture kind p.width p.height maxval t) (sym cells)

@@ -58,7 +58,7 @@ seen_of P look (b ∷ bs) all = go (look b) all (λ rest. seen_of P look bs rest
     go (Some v) all rest = (all.0, rest all.1)
     go None all rest = (tt, rest all)
 
-of_seen : {A : Type 0} (P : A → Type 0) (look : Offset → Option A) (bs : List Offset) → AllByRecursion (λ b. IfSome (look b) P) bs → AllByRecursion P (filter_map look bs)
+pub of_seen : {A : Type 0} (P : A → Type 0) (look : Offset → Option A) (bs : List Offset) → AllByRecursion (λ b. IfSome (look b) P) bs → AllByRecursion P (filter_map look bs)
 of_seen P look [] all = tt
 of_seen P look (b ∷ bs) all = go (look b) all.0 (of_seen P look bs all.1)
   where

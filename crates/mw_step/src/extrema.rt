@@ -1,17 +1,29 @@
 //! The lesser and the greater of levels, whatever samples hold them.
 
-use mw_pixel::{Bit, Extremum, Max, Min};
+use mw_bits::{WordExtremum, join, meet};
+use mw_model::NoMemory;
+use mw_pixel::{Bit, Extremum, Max, Min, Plane};
+use mw_tile::Window;
+use std::alloc::Global;
 
 /// An extremum of samples of every type, and what it is of their levels: of two, and of all that are seen in an image with
 /// a maxval.
-pub(crate) trait LevelExtremum: Extremum<Bit> + Extremum<u8> + Extremum<u16> {
-    ghost use Rattle.std.specs.Prelude.{◌≡◌, ℕ, List, fold};
+pub(crate) trait LevelExtremum: WordExtremum + Extremum<u8> + Extremum<u16> {
+    ghost use Rattle.std.specs.Prelude.{◌≡◌, ℕ, ◌*◌, List, fold, length, IfOk};
+    ghost use lib.Lanes.{zip2};
 
     ghost of_two: { ℕ → ℕ → ℕ };
 
     ghost of_seen: { ℕ → List ℕ → ℕ };
 
-    ghost bits_merge: { ⟦<Self as Extremum<Bit>>⟧.merge ≡ of_two };
+    /// The extremum of each two pixels of two sets.
+    fn of_sets(alloc: Global, a: &Window<Bit>, b: &Window<Bit>) -> Result<Plane<Bit>, NoMemory>
+        requires { a.now.place ≡ b.now.place }
+        ensures width { IfOk result (λ p. p.width ≡ a.now.place.width) }
+        ensures height { IfOk result (λ p. p.height ≡ a.now.place.height) }
+        ensures cells { IfOk result (λ p. p.cells ≡ zip2 of_two a.now.cells b.now.cells) }
+        ensures first { length a.now.cells ≡ a.now.place.height * a.now.place.width }
+        ensures second { length b.now.cells ≡ a.now.place.height * a.now.place.width };
 
     ghost bytes_merge: { ⟦<Self as Extremum<u8>>⟧.merge ≡ of_two };
 
@@ -33,7 +45,9 @@ impl LevelExtremum for Min {
 
     ghost of_seen = { least };
 
-    ghost bits_merge = { refl };
+    fn of_sets(alloc: Global, a: &Window<Bit>, b: &Window<Bit>) -> Result<Plane<Bit>, NoMemory> {
+        meet(alloc, a, b)
+    }
 
     ghost bytes_merge = { refl };
 
@@ -55,7 +69,9 @@ impl LevelExtremum for Max {
 
     ghost of_seen = { λ m ns. greatest ns };
 
-    ghost bits_merge = { refl };
+    fn of_sets(alloc: Global, a: &Window<Bit>, b: &Window<Bit>) -> Result<Plane<Bit>, NoMemory> {
+        join(alloc, a, b)
+    }
 
     ghost bytes_merge = { refl };
 

@@ -9,7 +9,8 @@ ghost use Rattle.mw_task.specs.Products.{HoldsImage, tile_drawn};
 
 use crate::extrema::LevelExtremum;
 use crate::kinds::of_samples;
-use crate::sliding::{under_box, under_element};
+use crate::ranks::rank_of_set;
+use crate::sliding::{set_under_element, under_box, under_element};
 use mw_element::Element;
 use mw_model::{NoMemory, OffsetBox, Rect};
 use mw_rank::rank;
@@ -29,6 +30,7 @@ pub(crate) fn slide<E: LevelExtremum>(
     of_samples!(
         alloc,
         window,
+        |set| set_under_element::<E>(alloc, set, element, tile),
         |samples, maxval| under_element::<_, E>(alloc, samples, element, maxval, tile)
     )
 }
@@ -45,6 +47,7 @@ pub(crate) fn slide_box<E: LevelExtremum>(
     of_samples!(
         alloc,
         window,
+        |set| mw_bits::rectangle::<E>(alloc, set, offsets, tile),
         |samples, maxval| under_box::<_, E>(alloc, samples, offsets, maxval, tile)
     )
 }
@@ -63,6 +66,7 @@ pub(crate) fn rank_filter(
     of_samples!(
         alloc,
         window,
+        |set| rank_of_set(alloc, set, offsets, k, tile),
         |samples, maxval| rank(alloc, samples, offsets, k, tile)
     )
 }

@@ -1,7 +1,7 @@
-//! One body for windows of every type of samples.
+//! One body for windows of sets, and one for windows of levels of both types of samples.
 //!
 //! ```text
-//! of_samples!(alloc, window, |samples, maxval| inverted(alloc, maxval, samples))
+//! of_samples!(alloc, window, |set| inverted_set(alloc, set), |samples, maxval| inverted(alloc, maxval, samples))
 //! ```
 
 ghost use Rattle.std.specs.Prelude.{◌≡◌, ◌≤◌, IfOk};
@@ -17,13 +17,12 @@ use mw_tile::{AnyWindow, Window, WindowView};
 use std::alloc::Global;
 use std::sync::Arc;
 
-/// What is made by one body of the samples of a window and the maxval of its source.
+/// What is made by one body of a set, and by another of levels and the maxval of their source.
 macro_rules! of_samples {
-    ($alloc:expr, $window:expr, |$samples:ident, $maxval:ident| $plane:expr) => {
+    ($alloc:expr, $window:expr, |$set:ident| $made:expr, |$samples:ident, $maxval:ident| $plane:expr) => {
         match $window.view() {
-            mw_tile::WindowView::Bits($samples) => {
-                let $maxval = mw_pixel::Bit::SET;
-                let plane = $plane?;
+            mw_tile::WindowView::Bits($set) => {
+                let plane = $made?;
                 $crate::kinds::made_bits($alloc, plane)
             }
             mw_tile::WindowView::Grey8($samples, $maxval) => {
@@ -38,13 +37,13 @@ macro_rules! of_samples {
     };
 }
 
-/// What is made by one body of the samples of two windows of one kind and maxval.
+/// What is made by one body of two sets, and by another of the levels of two windows of one kind and maxval.
 macro_rules! of_both {
-    ($alloc:expr, $a:expr, $b:expr, |$first:ident, $second:ident| $plane:expr) => {
+    ($alloc:expr, $a:expr, $b:expr, |$set:ident, $other:ident| $made:expr, |$first:ident, $second:ident| $plane:expr) => {
         match $a.view() {
-            mw_tile::WindowView::Bits($first) => {
-                let $second = $crate::kinds::bits_of($b);
-                let plane = $plane?;
+            mw_tile::WindowView::Bits($set) => {
+                let $other = $crate::kinds::bits_of($b);
+                let plane = $made?;
                 $crate::kinds::made_bits($alloc, plane)
             }
             mw_tile::WindowView::Grey8($first, maxval) => {

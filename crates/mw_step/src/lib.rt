@@ -15,6 +15,7 @@ mod marks;
 mod painting;
 mod pairs;
 mod pointwise;
+mod ranks;
 mod singles;
 mod sliding;
 mod thresholds;

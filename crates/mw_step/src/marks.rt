@@ -6,23 +6,30 @@ ghost use Rattle.mw_model.specs.declared.shapes.Kind.TheVariants as kind;
 ghost use Rattle.mw_task.specs.Products.{HoldsImage, both_drawn, three_drawn, plane_drawn};
 
 use crate::kinds::{bits_of, of_samples, sample_of};
-use crate::painting::{marked, without};
+use crate::painting::{marked, marked_set, without};
+use crate::thresholds::is_sound;
 use mw_model::NoMemory;
 use mw_pixel::Bit;
 use mw_task::TileResult;
-use mw_tile::AnyWindow;
+use mw_tile::{AnyWindow, Window};
 use std::alloc::Global;
 
 /// The samples, with level `v` in each place of the set.
-fn mark_places(alloc: Global, v: u16, a: &AnyWindow, places: &[Bit]) -> Result<TileResult, NoMemory>
-    requires size { length places.now ≡ a.now.view.place.height * a.now.view.place.width }
+fn mark_places(
+    alloc: Global,
+    v: u16,
+    a: &AnyWindow,
+    places: &Window<Bit>,
+) -> Result<TileResult, NoMemory>
+    requires place { a.now.view.place ≡ places.now.place }
     requires level { v ≤ a.now.maxval }
-    ensures held { IfOk result (HoldsImage (plane_drawn a.now.kind a.now.maxval a.now.view.place (zip2 (λ s m. if m == 1 then v else s) a.now.view.cells places.now))) }
+    ensures held { IfOk result (HoldsImage (plane_drawn a.now.kind a.now.maxval a.now.view.place (zip2 (λ s m. if m == 1 then v else s) a.now.view.cells places.now.cells))) }
     ensures fills { IfOk result (λ _. length a.now.view.cells ≡ a.now.view.place.height * a.now.view.place.width) }
 {
     of_samples!(
         alloc,
         a,
+        |set| marked_set(alloc, v, set, places),
         |samples, maxval| marked(alloc, sample_of(v, maxval), samples, places)
     )
 }
@@ -40,7 +47,8 @@ pub(crate) fn mark_last(
     ensures { IfOk result (HoldsImage (both_drawn a.now.kind a.now.maxval (λ s m. if m == 1 then v else s) a.now.view set.now.view)) }
 {
     let places = bits_of(set);
-    mark_places(alloc, v, a, places.samples())
+    is_sound(places);
+    mark_places(alloc, v, a, places)
 }
 
 /// The first source, with level `v` where the set is and the other is not.

@@ -1,74 +1,119 @@
-//! Levels that are put into the places of a set, and sets less other sets.
+//! Levels that are put into the places of a set, and sets less other sets. A word of 64 places without a pixel is skipped
+//! at once.
 
-ghost use Rattle.std.specs.Prelude.{◌≡◌, ◌*◌, ◌==◌, ◌&&◌, length, vec_len, IfOk, if◌then◌else◌};
+ghost use Rattle.std.specs.Prelude.{◌≡◌, ℕ, ◌*◌, ◌<◌, ◌≤◌, ◌==◌, ◌&&◌, length, slice_index_or, IfOk, if◌then◌else◌};
+ghost use Rattle.std.specs.Int.{bit_at};
 ghost use lib.Lanes.{zip2};
+ghost use Rattle.mw_words.specs.Packed.{bit_of, stride_of};
 
+use crate::thresholds::is_sound;
+use mw_bits::{join, minus, row_of};
 use mw_model::NoMemory;
-use mw_pixel::{Bit, Pixel, Plane};
+use mw_pixel::{Bit, Grey, Pixel, Plane};
 use mw_tile::Window;
 use std::alloc::Global;
 
-fn only(m: Bit, n: Bit) -> Bit
-    ensures { result ≡ (if m == 1 && n == 0 then 1 else 0) }
-{
-    Bit::new(m.is_set() && !n.is_set())
-}
-
-/// Takes the second set out of the first.
-fn take_out(acc: &mut [Bit], other: &[Bit])
-    requires { length acc.old ≡ length other.now }
-    ensures { acc.new ≡ zip2 (λ m n. if m == 1 && n == 0 then 1 else 0) acc.old other.now }
-{
-    for i in 0..acc.len() {
-        acc[i] = only(acc[i], other[i]);
-    }
-}
-
 /// The places of the first set that are not in the second.
-pub(crate) fn without(alloc: Global, a: &Window<Bit>, b: &Window<Bit>) -> Result<Vec<Bit>, NoMemory>
+pub(crate) fn without(
+    alloc: Global,
+    a: &Window<Bit>,
+    b: &Window<Bit>,
+) -> Result<Window<Bit>, NoMemory>
     requires { a.now.place ≡ b.now.place }
-    ensures places { IfOk result (λ v. v.items ≡ zip2 (λ m n. if m == 1 && n == 0 then 1 else 0) a.now.cells b.now.cells) }
-    ensures size { IfOk result (λ v. vec_len v ≡ a.now.place.height * a.now.place.width) }
+    ensures place { IfOk result (λ w. w.place ≡ a.now.place) }
+    ensures places { IfOk result (λ w. w.cells ≡ zip2 (λ m n. if m == 1 && n == 0 then 1 else 0) a.now.cells b.now.cells) }
     ensures first { length a.now.cells ≡ a.now.place.height * a.now.place.width }
     ensures second { length b.now.cells ≡ a.now.place.height * a.now.place.width }
 {
-    let other = b.samples();
-    let mut places = Vec::from_slice(alloc, a.samples())?;
-    take_out(&mut places, other);
-    Ok(places)
+    is_sound(a);
+    is_sound(b);
+    let place = a.place();
+    let rest = minus(alloc, a, b)?;
+    Ok(Window::new(a.frame_width(), a.frame_height(), place, rest))
 }
 
-fn chosen<P: Pixel>(mark: Bit, v: P, s: P) -> P
-    ensures { result ≡ (if mark == 1 then v else s) }
+fn chosen<P: Pixel>(mark: bool, v: P, s: P) -> P
+    ensures { result ≡ (if mark then v else s) }
 {
-    if mark.is_set() { v } else { s }
+    if mark { v } else { s }
 }
 
-/// Puts the level into each place of the set.
-fn mark_row<P: Pixel>(acc: &mut [P], set: &[Bit], v: P)
-    requires { length acc.old ≡ length set.now }
-    ensures { acc.new ≡ zip2 (λ s m. if m == 1 then v else s) acc.old set.now }
+/// Puts the level into each place of a word of a set.
+fn mark_word<P: Pixel>(acc: &mut [P], word: u64, v: P)
+    requires { length acc.old ≤ 64 }
+    ensures { (x : ℕ) (d : P) → x < length acc.old → slice_index_or acc.new x d ≡ (if bit_at word x == 1 then v else slice_index_or acc.old x d) }
 {
+    if word == 0 {
+        return;
+    }
     for i in 0..acc.len() {
-        acc[i] = chosen(set[i], v, acc[i]);
+        acc[i] = chosen((word >> i) & 1 == 1, v, acc[i]);
+    }
+}
+
+/// Puts the level into each place of a row of a set.
+fn mark_row<P: Pixel>(acc: &mut [P], words: &[u64], v: P)
+    requires { length words.now ≡ stride_of (length acc.old) }
+    ensures { (x : ℕ) (d : P) → x < length acc.old → slice_index_or acc.new x d ≡ (if bit_of words.now x == 1 then v else slice_index_or acc.old x d) }
+{
+    for k in 0..words.len() {
+        let start = 64 * k;
+        let count = (acc.len() - start).min(64);
+        mark_word(&mut acc[start..start + count], words[k], v);
+    }
+}
+
+/// Puts the level into each place of a set, row by row.
+fn mark_rows<P: Pixel>(acc: &mut [P], set: &Window<Bit>, v: P)
+    requires { length acc.old ≡ set.now.place.height * set.now.place.width }
+    ensures { acc.new ≡ zip2 (λ s m. if m == 1 then v else s) acc.old set.now.cells }
+{
+    is_sound(set);
+    let place = set.place();
+    let width = place.width as usize;
+    for y in 0..place.height {
+        let start = y as usize * width;
+        mark_row(&mut acc[start..start + width], row_of(set, y), v);
     }
 }
 
 /// The samples of the window, with the level in each place of the set.
-pub(crate) fn marked<P: Pixel>(
+pub(crate) fn marked<P: Grey>(
     alloc: Global,
     v: P,
     a: &Window<P>,
-    set: &[Bit],
+    set: &Window<Bit>,
 ) -> Result<Plane<P>, NoMemory>
-    requires { length set.now ≡ a.now.place.height * a.now.place.width }
+    requires { a.now.place ≡ set.now.place }
     ensures width { IfOk result (λ p. p.width ≡ a.now.place.width) }
     ensures height { IfOk result (λ p. p.height ≡ a.now.place.height) }
-    ensures cells { IfOk result (λ p. p.cells ≡ zip2 (λ s m. if m == 1 then v else s) a.now.cells set.now) }
+    ensures cells { IfOk result (λ p. p.cells ≡ zip2 (λ s m. if m == 1 then v else s) a.now.cells set.now.cells) }
     ensures size { length a.now.cells ≡ a.now.place.height * a.now.place.width }
 {
     let place = a.place();
     let mut samples = Vec::from_slice(alloc, a.samples())?;
-    mark_row(&mut samples, set, v);
+    mark_rows(&mut samples, set, v);
     Ok(Plane::new(place.width, place.height, samples))
+}
+
+/// The set, with the pixel `v`, 0 or 1, in each place of another set.
+pub(crate) fn marked_set(
+    alloc: Global,
+    v: u16,
+    a: &Window<Bit>,
+    set: &Window<Bit>,
+) -> Result<Plane<Bit>, NoMemory>
+    requires place { a.now.place ≡ set.now.place }
+    requires level { v ≤ 1 }
+    ensures width { IfOk result (λ p. p.width ≡ a.now.place.width) }
+    ensures height { IfOk result (λ p. p.height ≡ a.now.place.height) }
+    ensures cells { IfOk result (λ p. p.cells ≡ zip2 (λ s m. if m == 1 then v else s) a.now.cells set.now.cells) }
+    ensures size { length a.now.cells ≡ a.now.place.height * a.now.place.width }
+{
+    is_sound(a);
+    is_sound(set);
+    if v == 1 {
+        return Ok(join(alloc, a, set)?);
+    }
+    Ok(minus(alloc, a, set)?)
 }

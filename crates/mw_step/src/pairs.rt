@@ -22,6 +22,7 @@ pub(crate) fn minus(alloc: Global, a: &AnyWindow, b: &AnyWindow) -> Result<TileR
         alloc,
         a,
         b,
+        |set, other| mw_bits::minus(alloc, set, other),
         |first, second| differences(alloc, first, second)
     )
 }
@@ -40,6 +41,7 @@ pub(crate) fn merge<E: LevelExtremum>(
         alloc,
         a,
         b,
+        |set, other| E::of_sets(alloc, set, other),
         |first, second| merged::<_, E>(alloc, first, second)
     )
 }

@@ -5,12 +5,12 @@ ghost use lib.Lanes.{zip2};
 
 use mw_lane::{Lanes, combine_rows, subtract_rows};
 use mw_model::NoMemory;
-use mw_pixel::{Extremum, Pixel, Plane};
+use mw_pixel::{Extremum, Grey, Plane};
 use mw_tile::Window;
 use std::alloc::Global;
 
 /// Each sample of the first window less that of the second, stopping at 0.
-pub(crate) fn differences<P: Lanes>(
+pub(crate) fn differences<P: Lanes + Grey>(
     alloc: Global,
     a: &Window<P>,
     b: &Window<P>,
@@ -30,7 +30,7 @@ pub(crate) fn differences<P: Lanes>(
 }
 
 /// The extremum of each pair of samples.
-pub(crate) fn merged<P: Pixel, E: Extremum<P>>(
+pub(crate) fn merged<P: Grey, E: Extremum<P>>(
     alloc: Global,
     a: &Window<P>,
     b: &Window<P>,
@@ -50,7 +50,11 @@ pub(crate) fn merged<P: Pixel, E: Extremum<P>>(
 }
 
 /// The top less each sample.
-pub(crate) fn inverted<P: Lanes>(alloc: Global, top: P, a: &Window<P>) -> Result<Plane<P>, NoMemory>
+pub(crate) fn inverted<P: Lanes + Grey>(
+    alloc: Global,
+    top: P,
+    a: &Window<P>,
+) -> Result<Plane<P>, NoMemory>
     ensures width { IfOk result (λ p. p.width ≡ a.now.place.width) }
     ensures height { IfOk result (λ p. p.height ≡ a.now.place.height) }
     ensures cells { IfOk result (λ p. p.cells ≡ zip2 P.difference (replicate (a.now.place.height * a.now.place.width) top) a.now.cells) }

@@ -6,9 +6,9 @@ ghost use Rattle.mw_task.specs.Products.{HoldsImage, each_drawn, tile_drawn};
 
 use crate::kinds::{made_bits, made_bytes, made_words, of_samples};
 use crate::pointwise::inverted;
-use crate::thresholds::{level_set, upper_set};
+use crate::thresholds::{level_of_set, level_set, upper_of_set, upper_set};
 use mw_model::{NoMemory, Rect};
-use mw_pixel::{Bit, Pixel, Plane};
+use mw_pixel::{Pixel, Plane};
 use mw_task::TileResult;
 use mw_tile::{AnyWindow, WindowView};
 use std::alloc::Global;
@@ -17,7 +17,12 @@ use std::alloc::Global;
 pub(crate) fn invert(alloc: Global, a: &AnyWindow) -> Result<TileResult, NoMemory>
     ensures { IfOk result (HoldsImage (each_drawn a.now.kind a.now.maxval (λ n. a.now.maxval - n) a.now.view)) }
 {
-    of_samples!(alloc, a, |samples, maxval| inverted(alloc, maxval, samples))
+    of_samples!(
+        alloc,
+        a,
+        |set| mw_bits::invert(alloc, set),
+        |samples, maxval| inverted(alloc, maxval, samples)
+    )
 }
 
 /// The set of the places with level `k` or more.
@@ -25,7 +30,7 @@ pub(crate) fn at_least(alloc: Global, k: u32, a: &AnyWindow) -> Result<TileResul
     ensures { IfOk result (HoldsImage (each_drawn kind.Bit 1 (λ n. if nat_le k n then 1 else 0) a.now.view)) }
 {
     match a.view() {
-        WindowView::Bits(samples) => made_bits(alloc, upper_set(alloc, k, samples)?),
+        WindowView::Bits(set) => made_bits(alloc, upper_of_set(alloc, k, set)?),
         WindowView::Grey8(samples, _) => made_bits(alloc, upper_set(alloc, k, samples)?),
         WindowView::Grey16(samples, _) => made_bits(alloc, upper_set(alloc, k, samples)?),
     }
@@ -36,7 +41,7 @@ pub(crate) fn equal(alloc: Global, v: u16, a: &AnyWindow) -> Result<TileResult, 
     ensures { IfOk result (HoldsImage (each_drawn kind.Bit 1 (λ n. if n == v then 1 else 0) a.now.view)) }
 {
     match a.view() {
-        WindowView::Bits(samples) => made_bits(alloc, level_set(alloc, v, samples)?),
+        WindowView::Bits(set) => made_bits(alloc, level_of_set(alloc, v, set)?),
         WindowView::Grey8(samples, _) => made_bits(alloc, level_set(alloc, v, samples)?),
         WindowView::Grey16(samples, _) => made_bits(alloc, level_set(alloc, v, samples)?),
     }
@@ -64,7 +69,7 @@ pub(crate) fn sum_up(a: &AnyWindow) -> u64
     ensures fills { length a.now.view.cells ≡ a.now.view.place.height * a.now.view.place.width }
 {
     match a.view() {
-        WindowView::Bits(w) => total(w.samples()),
+        WindowView::Bits(w) => mw_bits::count(w),
         WindowView::Grey8(w, _) => total(w.samples()),
         WindowView::Grey16(w, _) => total(w.samples()),
     }

@@ -5,16 +5,17 @@ ghost use Rattle.mw_model.specs.Places.{box_offsets};
 ghost use Rattle.mw_model.specs.Windows.{seen_at};
 ghost use Rattle.mw_line.specs.Extrema.{IsSlidingExtremum};
 
+use mw_bits::WordExtremum;
 use mw_element::Element;
 use mw_line::rectangle;
 use mw_model::{NoMemory, OffsetBox, Rect};
-use mw_pixel::{Extremum, Pixel, Plane};
+use mw_pixel::{Bit, Extremum, Grey, Plane};
 use mw_tile::Window;
 use std::alloc::Global;
 
 /// The extremum of the samples under the element, at each place of the tile, of an image with this maxval. A full
 /// rectangle is slid by doubling, any other element offset by offset.
-pub(crate) fn under_element<P: Pixel, E: Extremum<P>>(
+pub(crate) fn under_element<P: Grey, E: Extremum<P>>(
     alloc: Global,
     window: &Window<P>,
     element: &Element,
@@ -33,7 +34,7 @@ pub(crate) fn under_element<P: Pixel, E: Extremum<P>>(
 }
 
 /// The extremum of the samples under the box, at each place of the tile, of an image with this maxval.
-pub(crate) fn under_box<P: Pixel, E: Extremum<P>>(
+pub(crate) fn under_box<P: Grey, E: Extremum<P>>(
     alloc: Global,
     window: &Window<P>,
     offsets: OffsetBox,
@@ -43,4 +44,19 @@ pub(crate) fn under_box<P: Pixel, E: Extremum<P>>(
     ensures { IfOk result (IsSlidingExtremum E.merge (E.neutral_of maxval) (seen_at window.now) (box_offsets offsets) tile) }
 {
     rectangle::<P, E>(alloc, window, offsets, E::neutral(maxval), tile)
+}
+
+/// The extremum of what a set has under the element, at each place of the tile.
+pub(crate) fn set_under_element<E: WordExtremum>(
+    alloc: Global,
+    set: &Window<Bit>,
+    element: &Element,
+    tile: Rect,
+) -> Result<Plane<Bit>, NoMemory>
+    ensures { IfOk result (IsSlidingExtremum E.merge (E.neutral_of 1) (seen_at set.now) element.now.offsets tile) }
+{
+    match element.as_rectangle() {
+        Some(offsets) => Ok(mw_bits::rectangle::<E>(alloc, set, offsets, tile)?),
+        None => Ok(mw_bits::extremum::<E>(alloc, set, element.offsets(), tile)?),
+    }
 }

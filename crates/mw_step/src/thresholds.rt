@@ -1,25 +1,63 @@
-//! Sets of the places with a level, or with a level or more.
+//! Sets of the places with a level, or with a level or more. A set has the levels 0 and 1 alone.
 
-ghost use Rattle.std.specs.Prelude.{◌≡◌, ◌*◌, ◌==◌, length, map, IfOk, nat_le, if◌then◌else◌};
+ghost use Rattle.std.specs.Prelude.{◌≡◌, ℕ, ◌*◌, ◌≤◌, ◌==◌, All, length, map, IfOk, nat_le, if◌then◌else◌};
 
-use mw_lane::{Lanes, threshold_row};
+use mw_bits::{at_least, equal, invert, join};
 use mw_model::NoMemory;
-use mw_pixel::{Bit, Pixel, Plane};
+use mw_pixel::{Bit, Grey, Plane};
 use mw_tile::Window;
 use std::alloc::Global;
 
-/// Puts those places into the set whose sample has level `v`.
-fn level_row<P: Pixel>(src: &[P], v: u16, out: &mut [Bit])
-    requires { length out.old ≡ length src.now }
-    ensures { out.new ≡ map (λ s. if P.level s == v then 1 else 0) src.now }
+/// What is so of each set: a call that is made only for these facts.
+pub(crate) fn is_sound(set: &Window<Bit>)
+    ensures size { length set.now.cells ≡ set.now.place.height * set.now.place.width }
+    ensures small { All (λ s. s ≤ 1) set.now.cells }
 {
-    for i in 0..src.len() {
-        out[i] = Bit::new(src[i].value() == v);
-    }
+    let plane = set.plane();
+    let _width = plane.width();
+    let _words = plane.words();
 }
 
-/// The set of the places with level `v`.
-pub(crate) fn level_set<P: Pixel>(
+/// The places of a set with level `v`.
+pub(crate) fn level_of_set(alloc: Global, v: u16, set: &Window<Bit>) -> Result<Plane<Bit>, NoMemory>
+    ensures width { IfOk result (λ p. p.width ≡ set.now.place.width) }
+    ensures height { IfOk result (λ p. p.height ≡ set.now.place.height) }
+    ensures cells { IfOk result (λ p. p.cells ≡ map (λ s. if s == v then 1 else 0) set.now.cells) }
+    ensures size { length set.now.cells ≡ set.now.place.height * set.now.place.width }
+{
+    is_sound(set);
+    let place = set.place();
+    if v == 0 {
+        return Ok(invert(alloc, set)?);
+    }
+    if v == 1 {
+        // the set itself
+        return Ok(join(alloc, set, set)?);
+    }
+    Ok(Plane::filled(alloc, place.width, place.height, Bit::new(false))?)
+}
+
+/// The places of a set with level `k` or more.
+pub(crate) fn upper_of_set(alloc: Global, k: u32, set: &Window<Bit>) -> Result<Plane<Bit>, NoMemory>
+    ensures width { IfOk result (λ p. p.width ≡ set.now.place.width) }
+    ensures height { IfOk result (λ p. p.height ≡ set.now.place.height) }
+    ensures cells { IfOk result (λ p. p.cells ≡ map (λ s. if nat_le k s then 1 else 0) set.now.cells) }
+    ensures size { length set.now.cells ≡ set.now.place.height * set.now.place.width }
+{
+    is_sound(set);
+    let place = set.place();
+    if k == 0 {
+        return Ok(Plane::filled(alloc, place.width, place.height, Bit::SET)?);
+    }
+    if k == 1 {
+        // the set itself
+        return Ok(join(alloc, set, set)?);
+    }
+    Ok(Plane::filled(alloc, place.width, place.height, Bit::new(false))?)
+}
+
+/// The places of a window in levels of grey with level `v`.
+pub(crate) fn level_set<P: Grey>(
     alloc: Global,
     v: u16,
     a: &Window<P>,
@@ -29,26 +67,13 @@ pub(crate) fn level_set<P: Pixel>(
     ensures cells { IfOk result (λ p. p.cells ≡ map (λ s. if P.level s == v then 1 else 0) a.now.cells) }
     ensures size { length a.now.cells ≡ a.now.place.height * a.now.place.width }
 {
-    let place = a.place();
-    let levels = a.samples();
-    let plane = Plane::filled(alloc, place.width, place.height, Bit::new(false))?;
-    let mut samples = plane.into_samples();
-    level_row(levels, v, &mut samples);
-    Ok(Plane::new(place.width, place.height, samples))
+    // for their number
+    let _samples = a.samples();
+    Ok(equal(alloc, a, u32::from(v))?)
 }
 
-/// Puts those places into the set whose sample has level `k` or more.
-fn upper_row<P: Pixel>(src: &[P], k: u32, out: &mut [Bit])
-    requires { length out.old ≡ length src.now }
-    ensures { out.new ≡ map (λ s. if nat_le k (P.level s) then 1 else 0) src.now }
-{
-    for i in 0..src.len() {
-        out[i] = Bit::new(u32::from(src[i].value()) >= k);
-    }
-}
-
-/// The set of the places with level `k` or more.
-pub(crate) fn upper_set<P: Lanes>(
+/// The places of a window in levels of grey with level `k` or more.
+pub(crate) fn upper_set<P: Grey>(
     alloc: Global,
     k: u32,
     a: &Window<P>,
@@ -58,14 +83,7 @@ pub(crate) fn upper_set<P: Lanes>(
     ensures cells { IfOk result (λ p. p.cells ≡ map (λ s. if nat_le k (P.level s) then 1 else 0) a.now.cells) }
     ensures size { length a.now.cells ≡ a.now.place.height * a.now.place.width }
 {
-    let place = a.place();
-    let levels = a.samples();
-    let plane = Plane::filled(alloc, place.width, place.height, Bit::new(false))?;
-    let mut samples = plane.into_samples();
-    if k <= 65535 {
-        threshold_row(levels, k as u16, &mut samples);
-    } else {
-        upper_row(levels, k, &mut samples);
-    }
-    Ok(Plane::new(place.width, place.height, samples))
+    // for their number
+    let _samples = a.samples();
+    Ok(at_least(alloc, a, k)?)
 }

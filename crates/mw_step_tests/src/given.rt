@@ -1,9 +1,9 @@
 //! What the tests of steps are given: rows of five samples as windows, elements, and what a step makes of them.
 
-use mw_images_for_tests::{element, row_of, whole_window};
+use mw_images_for_tests::{element, grey_row, has_levels, plane_of, whole_window};
 use mw_model::{Rect, TaskId};
 use mw_pieces::Pieces;
-use mw_pixel::{Bit, Pixel, Plane};
+use mw_pixel::{Bit, Planar};
 use mw_step::run;
 use mw_task::{Element, SharedWindow, Step, TileDone, TileResult, Work};
 use std::alloc::Global;
@@ -25,12 +25,11 @@ pub(crate) const TASK: TaskId = TaskId {
 };
 
 /// Five samples of these levels in a row.
-fn row<P: Pixel>(alloc: Global, levels: &[u16; 5]) -> Result<Pieces<P>, Fail> {
-    let samples = row_of::<P>(alloc, levels)?;
-    if samples.len() != 5 {
-        return Err("five samples".into());
-    }
-    whole_window(alloc, Plane::new(5, 1, samples))
+fn row<P: Planar>(alloc: Global, levels: &[u16; 5]) -> Result<Pieces<P>, Fail> {
+    whole_window(
+        alloc,
+        plane_of::<P>(alloc, &grey_row(alloc, 65535, levels)?)?,
+    )
 }
 
 pub(crate) fn levels(alloc: Global, levels: &[u16; 5], maxval: u8) -> Result<SharedWindow, Fail> {
@@ -96,14 +95,9 @@ fn is_grey(made: &TileResult, levels: &[u8; 5], maxval: u8) -> bool {
     }
 }
 
-fn is_set(made: &TileResult, pixels: &[u8; 5]) -> bool {
+fn is_set(made: &TileResult, pixels: &[u16; 5]) -> bool {
     match made {
-        TileResult::Bits(plane) => plane.samples().len() == 5
-            && plane
-                .samples()
-                .iter()
-                .zip(pixels)
-                .all(|(bit, pixel)| bit.number() == *pixel),
+        TileResult::Bits(plane) => has_levels(plane, pixels),
         _ => false,
     }
 }
@@ -128,7 +122,7 @@ pub(crate) fn makes_set(
     alloc: Global,
     step: Step,
     windows: Vec<SharedWindow>,
-    wanted: &[u8; 5],
+    wanted: &[u16; 5],
 ) -> Result<(), Fail> {
     let made = made(alloc, step, windows)?;
     assert!(rt; is_set(&made, wanted));

@@ -9,6 +9,13 @@ use crate::kept::Kept;
 use crate::outcomes::is_released;
 use mw_model::{Inputs, Outcome};
 
+/// Drops what stands in a place.
+fn clear(place: &mut Option<Kept>)
+    ensures { place.new ≡ None }
+{
+    *place = None;
+}
+
 /// Drops the value of an input, if there is one and it is spent.
 pub fn drop_one(outcomes: &[Outcome], wanted: &[u32], kept: &mut [Option<Kept>], input: Option<u32>)
     requires counts { length wanted.now ≡ length outcomes.now }
@@ -18,7 +25,7 @@ pub fn drop_one(outcomes: &[Outcome], wanted: &[u32], kept: &mut [Option<Kept>],
 {
     if let Some(t) = input {
         if is_released(outcomes[t as usize]) && wanted[t as usize] == 0 {
-            kept[t as usize] = None;
+            clear(&mut kept[t as usize]);
         }
     }
 }
@@ -45,7 +52,7 @@ pub fn drop_spent(outcomes: &[Outcome], wanted: &[u32], kept: &mut [Option<Kept>
 {
     for (t, outcome) in outcomes.iter().enumerate() {
         if is_released(*outcome) && wanted[t] == 0 {
-            kept[t] = None;
+            clear(&mut kept[t]);
         }
     }
 }

@@ -14,10 +14,10 @@ ghost use Rattle.mw_pixel.specs.Images.{raster_of};
 use crate::{AnyWindow, Window};
 use mw_grid::Grid;
 use mw_model::{Offset, Reach};
-use mw_pixel::Pixel;
+use mw_pixel::Planar;
 
 /// At each place of the tile a window shows under the element what the whole frame has there.
-pub fn window_shows_frame<P: Pixel>(window: &Window<P>, element: &[Offset])
+pub fn window_shows_frame<P: Planar>(window: &Window<P>, element: &[Offset])
     ensures { (f : Raster P) (tile : Rect) → IsWindow window.now f element.now tile → (x y : ℕ) → x < tile.width → y < tile.height → seen_under (seen_at window.now) element.now (tile.x + x) (tile.y + y) ≡ seen_under (cell_at f) element.now (tile.x + x) (tile.y + y) }
 {
     // for their ranges
@@ -35,7 +35,7 @@ pub fn window_shows_picture(window: &AnyWindow, element: &[Offset])
 }
 
 /// What was cut at a tile that is grown by the reach is a window for that tile.
-pub fn cut_is_window<P: Pixel>(
+pub fn cut_is_window<P: Planar>(
     window: &Window<P>,
     grid: Grid,
     i: u32,

@@ -1,4 +1,5 @@
-//! The windows of samples that the tiles of a frame are computed from.
+//! The windows of samples that the tiles of a frame are computed from. What the server's tasks read is handed to them in
+//! pieces, which `mw_pieces` makes such a window of.
 //!
 //! ```text
 //! let grid = mw_grid::Grid::new(frame_width, frame_height, 128);

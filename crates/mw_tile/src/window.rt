@@ -1,29 +1,29 @@
 //! Samples of a rectangle of a frame.
 
-ghost use Rattle.std.specs.Prelude.{◌≡◌, ◌↔◌, ◌+◌, ◌*◌, ◌<◌, ◌≤◌, IsTrue, length, slice_range, vec_len, IfOk};
+ghost use Rattle.std.specs.Prelude.{◌≡◌, ◌↔◌, ◌+◌, ◌*◌, ◌<◌, ◌≤◌, IsTrue, length, slice_range, IfOk};
 ghost use Rattle.std.specs.Arc.{arc_value};
 ghost use Rattle.mw_model.specs.Places.{IsWithin};
 ghost use Rattle.mw_tile.specs.Windows.{IsCut};
 ghost use Rattle.mw_tile.specs.Cuts.{stood_at, view_of, whole_of};
 
-use crate::cuts::cut_samples;
+use crate::cuts::cut;
 use mw_grid::whole_frame;
 use mw_model::{NoMemory, Rect};
-use mw_pixel::{HeldPlane, Pixel, Plane};
+use mw_pixel::{Grey, HeldPlane, Planar, Plane};
 use std::alloc::Global;
 use std::marker::Model;
 use std::sync::Arc;
 
 /// The samples of a rectangle of a frame, with the sides of that frame. They stand by rows.
 #[derive(Drop)]
-pub struct Window<P: Pixel> {
+pub struct Window<P: Planar> {
     frame_width: u32,
     frame_height: u32,
     place: Rect,
     held: HeldPlane<P>,
 }
 
-impl<P: Pixel> Model for Window<P> {
+impl<P: Planar> Model for Window<P> {
     ghost use Rattle.std.specs.Prelude.{◌≡◌};
     ghost use Rattle.mw_model.specs.Places.{IsWithin};
     ghost use Rattle.mw_model.specs.Windows.{View};
@@ -36,18 +36,19 @@ impl<P: Pixel> Model for Window<P> {
     ghost invariant = { λ a. (a.held.width ≡ a.place.width) × (a.held.height ≡ a.place.height) × IsWithin a.place a.frame_width a.frame_height };
 }
 
-impl<P: Pixel> Window<P> {
+impl<P: Planar> Window<P> {
     /// A window with samples of its own.
-    pub fn new(frame_width: u32, frame_height: u32, place: Rect, samples: Vec<P>) -> Window<P>
+    pub fn new(frame_width: u32, frame_height: u32, place: Rect, plane: Plane<P>) -> Window<P>
         requires within { IsWithin place frame_width frame_height }
-        requires size { vec_len samples ≡ place.height * place.width }
-        ensures { result ≡ view_of frame_width frame_height place samples.items }
+        requires width { plane.width ≡ place.width }
+        requires height { plane.height ≡ place.height }
+        ensures { result ≡ view_of frame_width frame_height place plane.cells }
     {
         Window {
             frame_width,
             frame_height,
             place,
-            held: HeldPlane::alone(Plane::new(place.width, place.height, samples)),
+            held: HeldPlane::alone(plane),
         }
     }
 
@@ -57,8 +58,8 @@ impl<P: Pixel> Window<P> {
         ensures place { IfOk result (λ w. w.place ≡ place) }
         ensures cut { IfOk result (λ w. IsCut w plane.now) }
     {
-        let samples = cut_samples(alloc, plane, place)?;
-        Ok(Window::new(plane.width(), plane.height(), place, samples))
+        let part = cut(alloc, plane, place)?;
+        Ok(Window::new(plane.width(), plane.height(), place, part))
     }
 
     /// The window that has the whole plane.
@@ -133,6 +134,29 @@ impl<P: Pixel> Window<P> {
         self.place
     }
 
+    /// The samples, whoever else owns them.
+    pub fn plane(&self) -> &Plane<P>
+        ensures width { result.now.width ≡ self.now.place.width }
+        ensures height { result.now.height ≡ self.now.place.height }
+        ensures cells { result.now.cells ≡ self.now.cells }
+    {
+        // for its sides
+        let _place = self.place;
+        self.held.plane()
+    }
+
+    /// Whether both windows have the same place of frames with the same sides, and the same samples.
+    pub fn same(&self, other: &Window<P>) -> bool
+        ensures { IsTrue result ↔ (self.now ≡ other.now) }
+    {
+        self.frame_width == other.frame_width
+            && self.frame_height == other.frame_height
+            && self.place == other.place
+            && self.held.plane().same(other.held.plane())
+    }
+}
+
+impl<P: Grey> Window<P> {
     /// All samples, by rows.
     pub fn samples(&self) -> &[P]
         ensures value { result.now ≡ self.now.cells }
@@ -148,15 +172,5 @@ impl<P: Pixel> Window<P> {
         ensures length { length result.now ≡ self.now.place.width }
     {
         self.held.plane().row(y)
-    }
-
-    /// Whether both windows have the same place of frames with the same sides, and the same samples.
-    pub fn same(&self, other: &Window<P>) -> bool
-        ensures { IsTrue result ↔ (self.now ≡ other.now) }
-    {
-        self.frame_width == other.frame_width
-            && self.frame_height == other.frame_height
-            && self.place == other.place
-            && self.held.plane().same(other.held.plane())
     }
 }

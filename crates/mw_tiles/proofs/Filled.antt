@@ -1,7 +1,6 @@
 -- A whole image of which the tiles are a part: it is 0 where no tile is placed.
-use Rattle.std.proofs.Common.{◌≡◌, ℕ, ◌+◌, ◌-◌, ◌*◌, ◌/◌, ◌%◌, ◌<◌, ◌≤◌, All, List, length, Option, Some, None, get_or, refl, sym, ap, subst, arith, ◌∙◌, inl, inr}
+use Rattle.std.proofs.Common.{◌≡◌, ℕ, ◌+◌, ◌-◌, ◌*◌, ◌<◌, ◌≤◌, All, List, length, Option, Some, None, get_or, refl, sym, ap, subst, arith, ◌∙◌, inl, inr}
 use Rattle.std.proofs.lemmas.Bool.{cases_lt}
-use Rattle.std.proofs.lemmas.Nat.{div-add-mod'}
 use Rattle.std.proofs.lemmas.List.{get_or_past}
 use Rattle.std.proofs.lemmas.List.Elements.{All-from_get_or}
 use Rattle.mw_model.specs.declared.places.Rect.{Rect}
@@ -9,27 +8,16 @@ use Rattle.mw_model.specs.Places.{Holds, IsWithin}
 use Rattle.mw_model.specs.Pictures.{Picture, sample, IsPicture}
 use Rattle.mw_model.specs.Tasks.{cells_in}
 use Rattle.mw_model.proofs.ImagePlaces.{length-rows, sample-drawn, by_places, sample_bounded}
-use Rattle.mw_grid.specs.Grids.{Tiling, columns_of, tile_count, tile_at}
-use Rattle.mw_grid.proofs.Lines.{piece_only}
+use Rattle.mw_grid.specs.Grids.{Tiling, tile_count, tile_at}
 use Rattle.mw_grid.proofs.Tiles.{HasTiles}
 use Rattle.mw_tile.specs.Windows.{SourceWindow, window_of}
 use Rattle.mw_task.specs.WindowTasks.{IsBounded}
 use Rattle.mw_pieces.proofs.TileCells.{length-cells_in, cells_in_is, cells_in_all}
-use Rattle.mw_tiles.specs.Tiles.{Tiled, tile_cells, HasSizes, AreBounded, IsSound, IsPlaneOf}
-use Rattle.mw_tiles.specs.Filled.{number_at, cell_or, cell_in, filled_value, filled}
+use Rattle.mw_frame_tiles.specs.Tiles.{HasSizes, number_at, tile_cells}
+use Rattle.mw_frame_tiles.proofs.Numbers.{number_only}
+use Rattle.mw_tiles.specs.Tiles.{Tiled, AreBounded, IsSound, IsPlaneOf}
+use Rattle.mw_tiles.specs.Filled.{cell_or, cell_in, filled_value, filled}
 use Rattle.mw_tiles.proofs.Made.{shows_drawn}
-
-pub number_only : (g : Tiling) (i x y : ℕ) → 0 < g.side → Holds (tile_at g i) x y → number_at g x y ≡ i
-number_only g i x y some holds =
-    let left = holds.left in
-    let right = holds.right in
-    let top = holds.top in
-    let bottom = holds.bottom in
-    let c = i % columns_of g in
-    let r = i / columns_of g in
-    let same-c : x / g.side ≡ c = piece_only g.side x c some left (omega arith) in
-    let same-r : y / g.side ≡ r = piece_only g.side y r some top (omega arith) in
-    ap (λ (t : ℕ). t * columns_of g + x / g.side) same-r ∙ ap (λ (t : ℕ). r * columns_of g + t) same-c ∙ div-add-mod' i (columns_of g)
 
 filled_at : (g : Tiling) (tiles : List (Option (List ℕ))) (i : ℕ) (cells : List ℕ) (a b : ℕ) → 0 < g.side → tile_cells tiles i ≡ Some cells → a < (tile_at g i).width → b < (tile_at g i).height
     → get_or cells (b * (tile_at g i).width + a) 0 ≡ filled_value g tiles ((tile_at g i).x + a) ((tile_at g i).y + b)

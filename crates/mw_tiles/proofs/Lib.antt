@@ -3,9 +3,5 @@ pub mod Made
 pub mod Sides
 -- the crate's own
 mod Filled
-mod Numbers
-mod Joined
-mod Compared
+mod Windows
 mod Whole
-mod ReadRows
-mod Sharing

@@ -1,71 +1,15 @@
--- Rectangles that are one tile, and frames whose tiles are all placed.
-use Rattle.std.proofs.Common.{◌≡◌, ℕ, ◌+◌, ◌*◌, ◌<◌, ◌≤◌, All, List, length, Option, Some, get_or, slice_get, refl, sym, ap, subst, arith, ◌∙◌}
-use Rattle.mw_facts.proofs.Elements.{same_elements}
-use Rattle.mw_model.specs.declared.places.Rect.{Rect}
+-- Images of planes whose tiles are all placed.
+use Rattle.std.proofs.Common.{◌≡◌, ℕ, ◌*◌, ◌≤◌, All, List, length, Option, sym, ap, subst, ◌∙◌}
 use Rattle.mw_model.specs.declared.shapes.Kind.{Kind}
 use Rattle.mw_model.specs.Pictures.{Picture, picture}
-use Rattle.mw_model.specs.Rasters.{Raster, raster}
-use Rattle.mw_model.specs.Windows.{View}
-use Rattle.mw_model.proofs.ImagePlaces.{by_places}
-use Rattle.mw_grid.specs.Grids.{Tiling, tile_count, tile_at}
-use Rattle.mw_grid.specs.Rectangles.{whole_frame}
+use Rattle.mw_model.specs.Rasters.{Raster}
+use Rattle.mw_grid.specs.Grids.{Tiling}
 use Rattle.mw_pixel.specs.Images.{raster_of}
-use Rattle.mw_tile.specs.Windows.{IsCut}
-use Rattle.mw_tile.specs.Cuts.{view_of}
+use Rattle.mw_frame_tiles.specs.Tiles.{ShowsTiles, cells_of}
 use Rattle.mw_tiles.specs.Held.{tiled}
-use Rattle.mw_tiles.specs.Tiles.{Tiled, HasFirstRows, HasSides, IsPlaneOf, IsSound, ShowsTiles, StandsIn, cells_of}
+use Rattle.mw_tiles.specs.Tiles.{Tiled, IsPlaneOf, IsSound}
 use Rattle.mw_tiles.proofs.Filled.{samples_bounded}
-use Rattle.mw_tiles.proofs.Numbers.{found_at}
-use Rattle.mw_tiles.proofs.Sides.{cells_at}
 
--- the tile that was read from the list at its number stands in its rectangle
-pub whole_stands : {A : Type 0} (g : Tiling) (tiles : List (Option (Raster A))) (i : ℕ) (o : Option (Raster A)) (t : Raster A) (q r : Rect) → HasSides g tiles → o ≡ get_or tiles i o → o ≡ Some t → q ≡ tile_at g i → q ≡ r → i < tile_count g → StandsIn r t
-whole_stands g tiles i o t q r has read is q-is same lt = subst (λ (s : Rect). StandsIn s t) (sym q-is ∙ same) (has.sides i t (found_at g tiles i o t t has read is refl lt))
-
--- and is what each whole frame with these tiles has there
-pub whole_shows : {A : Type 0} (g : Tiling) (tiles : List (Option (Raster A))) (i : ℕ) (o : Option (Raster A)) (t : Raster A) (q r : Rect) → HasSides g tiles → o ≡ get_or tiles i o → o ≡ Some t → q ≡ tile_at g i → q ≡ r → i < tile_count g
-    → (f : Raster A) → ShowsTiles g (cells_of tiles) f → IsCut (view_of g.width g.height r t.cells) f
-whole_shows {A} g tiles i o t q r has read is q-is same lt f shows =
-    let cut : IsCut (view_of f.width f.height (tile_at g i) t.cells) f = shows.shown i t.cells lt (cells_at tiles i t (found_at g tiles i o t t has read is refl lt)) in
-    subst (λ (v : View A). IsCut v f)
-    (ap (λ (s : Rect). view_of f.width f.height s t.cells) (sym q-is ∙ same) ∙ ap (λ (m : ℕ). view_of m f.height r t.cells) shows.width ∙ ap (λ (n : ℕ). view_of g.width n r t.cells) shows.height)
-    cut
-
--- the rows of a whole frame are the frame
-pub plane_of_rows : {A : Type 0} (g : Tiling) (tiles : List (Option (List A))) (r : Rect) (cells : List A) (p : Raster A) (w h : ℕ) → r ≡ whole_frame g.width g.height → w ≡ g.width → h ≡ g.height → p ≡ raster w h cells → HasFirstRows g tiles r r.height cells
-    → (f : Raster A) → length f.cells ≡ f.height * f.width → ShowsTiles g tiles f → p ≡ f
-plane_of_rows {A} g tiles r cells p w h r-is w-is h-is p-is rows f size shows =
-    p-is
-    ∙ ap (λ (t : ℕ). raster t h cells) (w-is ∙ sym shows.width)
-    ∙ ap (λ (t : ℕ). raster f.width t cells) (h-is ∙ sym shows.height)
-    ∙ ap (λ (t : List A). raster f.width f.height t) (same_elements cells f.cells (count ∙ sym size) (λ k lt. by_places (λ k. slice_get cells k ≡ slice_get f.cells k) f.width f.height each k (omega (arith, count))))
-  where
-    wide : r.width ≡ f.width
-    wide = ap (λ (q : Rect). q.width) r-is ∙ sym shows.width
-
-    high : r.height ≡ f.height
-    high = ap (λ (q : Rect). q.height) r-is ∙ sym shows.height
-
-    count : length cells ≡ f.height * f.width
-    count = rows.size ∙ ap (λ (t : ℕ). t * r.width) high ∙ ap (λ (t : ℕ). f.height * t) wide
-
-    left : r.x ≡ 0
-    left = ap (λ (q : Rect). q.x) r-is
-
-    top : r.y ≡ 0
-    top = ap (λ (q : Rect). q.y) r-is
-
-    front : (m k : ℕ) → m ≡ 0 → m + k ≡ k
-    front m k e = omega arith
-
-    each : (x y : ℕ) → x < f.width → y < f.height → slice_get cells (y * f.width + x) ≡ slice_get f.cells (y * f.width + x)
-    each x y across down =
-        ap (λ (t : ℕ). slice_get cells (y * t + x)) (sym wide)
-        ∙ rows.shows f shows x y (omega (arith, wide)) (omega (arith, high))
-        ∙ ap (λ (t : ℕ). slice_get f.cells (t * f.width + (r.x + x))) (front r.y y top)
-        ∙ ap (λ (t : ℕ). slice_get f.cells (y * f.width + t)) (front r.x x left)
-
--- the image of a plane
 pub image_is : (k : Kind) (m : ℕ) (g : Tiling) (tiles : List (Option (Raster ℕ))) (p : Tiled) (plane : Raster ℕ) → tiled k m g tiles ≡ p → ((f : Raster ℕ) → length f.cells ≡ f.height * f.width → ShowsTiles g (cells_of tiles) f → plane ≡ f)
     → (f : Picture) → IsPlaneOf p f → picture k plane.width plane.height m plane.cells ≡ f
 image_is k m g tiles p plane view whole f plane-of =

@@ -1,12 +1,9 @@
 -- The image that a plane shows: it is 0 where no tile is placed.
-use Rattle.std.specs.Prelude.{ℕ, ◌+◌, ◌-◌, ◌*◌, ◌/◌, List, Option, Some, None, slice_index_or}
+use Rattle.std.specs.Prelude.{ℕ, ◌+◌, ◌-◌, ◌*◌, List, Option, Some, None, slice_index_or}
 use Rattle.mw_model.specs.Pictures.{Picture, drawn}
-use Rattle.mw_grid.specs.Grids.{Tiling, columns_of, tile_at}
+use Rattle.mw_grid.specs.Grids.{Tiling, tile_at}
+pub use Rattle.mw_frame_tiles.specs.Tiles.{number_at}
 use Rattle.mw_tiles.specs.Tiles.{Tiled, tile_cells}
-
--- the number of the tile that has a place
-abbrev pub number_at : Tiling → ℕ → ℕ → ℕ
-number_at g x y = y / g.side * columns_of g + x / g.side
 
 -- a cell of a tile, or 0 where there is none
 abbrev pub cell_or : Option (List ℕ) → ℕ → ℕ

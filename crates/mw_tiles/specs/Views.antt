@@ -2,9 +2,9 @@
 use Rattle.std.specs.Prelude.{◌≡◌, ◌≤◌}
 use Rattle.mw_model.specs.Pictures.{Picture}
 use Rattle.mw_pixel.specs.Images.{grey_of, raster_of, set_of}
-use Rattle.mw_tiles.specs.Rows.{AreCutFrom}
-use Rattle.mw_tiles.specs.declared.tiled_rows.TilesView.{TilesView}
-use Rattle.mw_tiles.specs.declared.tiled_rows.TilesView.TheVariants as view
+use Rattle.mw_frame_tiles.specs.Rows.{AreCutFrom}
+use Rattle.mw_tiles.specs.declared.tiles_view.TilesView.{TilesView}
+use Rattle.mw_tiles.specs.declared.tiles_view.TilesView.TheVariants as view
 
 -- what is looked at is this image, in tiles
 abbrev pub Shows : Picture → TilesView → Type 0

@@ -10,22 +10,17 @@
 //! ```
 #![tactic(auto)]
 
-mod equal;
 mod laws;
-mod parts;
-mod placed;
 mod plane;
-mod rows;
-mod shares;
 mod shown;
-mod slots;
 mod tile;
-mod tiled_rows;
+mod tiles_view;
 
 pub use laws::{plane_is_of_an_image, tiles_are_plane};
+pub use mw_frame_tiles::TiledRows;
 pub use mw_grid::Grid;
 pub use mw_model::{Kind, NoMemory, Rect};
 pub use plane::TiledPlane;
 pub use shown::WholePlane;
 pub use tile::Tile;
-pub use tiled_rows::{TiledRows, TilesView};
+pub use tiles_view::TilesView;

@@ -1,12 +1,9 @@
 //! Planes that are made tile by tile.
 
-use crate::Tile;
-use crate::equal::are_tiles;
-use crate::placed::Placed;
-use crate::rows::shared_plane;
-use crate::shares::pieces_of;
-use crate::slots::{no_tiles, put, share_tiles};
-use crate::tiled_rows::{TiledRows, TilesView};
+use crate::{Tile, TilesView};
+use mw_frame_tiles::{
+    Placed, TiledRows, are_tiles, no_tiles, pieces_of, put, share_tiles, shared_plane,
+};
 use mw_grid::Grid;
 use mw_model::{Kind, NoMemory, Rect};
 use mw_pieces::{PiecesView, SharedWindow};

@@ -12,7 +12,7 @@ use mw_images_for_tests::plane_of;
 use mw_model::plain::PlainImage;
 use mw_model::{Kind, Rect};
 use mw_pieces::{Pieces, SharedWindow};
-use mw_pixel::{Bit, Pixel, Plane};
+use mw_pixel::{Bit, Planar, Plane};
 use mw_tile::cut;
 use mw_tiles::{Tile, TiledPlane};
 use std::alloc::Global;
@@ -20,7 +20,7 @@ use std::sync::Arc;
 use std::test::Fail;
 
 /// The samples of a rectangle of the image.
-fn cut_of<P: Pixel>(alloc: Global, image: &PlainImage, rect: Rect) -> Result<Plane<P>, Fail>
+fn cut_of<P: Planar>(alloc: Global, image: &PlainImage, rect: Rect) -> Result<Plane<P>, Fail>
     ensures width { IfOk result (λ p. p.width ≡ rect.width) }
     ensures height { IfOk result (λ p. p.height ≡ rect.height) }
 {
@@ -29,12 +29,6 @@ fn cut_of<P: Pixel>(alloc: Global, image: &PlainImage, rect: Rect) -> Result<Pla
         return Err("a rectangle of the image".into());
     }
     Ok(cut(alloc, &plane, rect)?)
-}
-
-fn bits_fit(samples: &[Bit]) -> bool
-    ensures { IsTrue result ↔ All (λ s. s ≤ 1) samples.now }
-{
-    samples.iter().all(|s| s.number() <= 1)
 }
 
 fn bytes_fit(samples: &[u8], maxval: u8) -> bool
@@ -53,9 +47,8 @@ fn bit_tile(alloc: Global, image: &PlainImage, rect: Rect) -> Result<Tile, Fail>
     ensures { IfOk result (MayStand kind.Bit 1 rect) }
 {
     let plane = cut_of::<Bit>(alloc, image, rect)?;
-    if !bits_fit(plane.samples()) {
-        return Err("samples of a set".into());
-    }
+    // for its samples
+    let _words = plane.words();
     Ok(Tile::Bits(Arc::new(alloc, plane)?))
 }
 
@@ -222,7 +215,7 @@ pub(crate) fn matches_in(plane: &TiledPlane, rect: Rect, window: &SharedWindow) 
 }
 
 /// The window of a rectangle that is cut out of the image.
-fn cut_window<P: Pixel>(alloc: Global, image: &PlainImage, rect: Rect) -> Result<Pieces<P>, Fail> {
+fn cut_window<P: Planar>(alloc: Global, image: &PlainImage, rect: Rect) -> Result<Pieces<P>, Fail> {
     let plane = plane_of::<P>(alloc, image)?;
     if !is_within(rect, plane.width(), plane.height()) {
         return Err("a rectangle of the image".into());

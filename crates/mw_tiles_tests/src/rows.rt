@@ -1,30 +1,30 @@
 //! Whole planes, read row by row over the seams of tiles, of all kinds of samples.
 
 use crate::given::tiled;
-use mw_images_for_tests::{are_levels, noise};
+use mw_images_for_tests::{has_levels, noise};
 use mw_model::Kind;
-use mw_pixel::Pixel;
+use mw_pixel::{Planar, Plane};
 use mw_tiles::{TiledRows, TilesView, WholePlane};
 use std::alloc::Global;
 use std::test::Fail;
 
-/// Whether the rows are these levels, one after another. The room for a row is the same for all of them.
-fn has_rows<P: Pixel>(alloc: Global, tiles: &TiledRows<P>, levels: &[u16]) -> Result<bool, Fail> {
+/// Whether the rows are these levels, one after another. One plane of one row serves for all of them.
+fn has_rows<P: Planar>(alloc: Global, tiles: &TiledRows<P>, levels: &[u16]) -> Result<bool, Fail> {
     let width = tiles.width();
-    let mut row = Vec::with_capacity(alloc, width as usize)?;
+    let mut row = Plane::<P>::blank(alloc, width, 1)?;
     let mut rest = levels;
     for y in 0..tiles.height() {
         tiles.read(y, &mut row);
-        if rest.len() < row.len() {
+        if rest.len() < width as usize {
             return Ok(false);
         }
-        let (wanted, after) = rest.split_at(row.len());
-        if !are_levels(&row, wanted) {
+        let (wanted, after) = rest.split_at(width as usize);
+        if !has_levels(&row, wanted) {
             return Ok(false);
         }
         rest = after;
     }
-    Ok(rest.is_empty() && row.capacity() == width as usize)
+    Ok(rest.is_empty())
 }
 
 #[test]

@@ -1,7 +1,7 @@
 //! Windows over the seams of tiles, of all kinds of samples.
 
 use crate::given::{matches_in, same, tiled, wanted, window_in};
-use mw_images_for_tests::{are_levels, image, noise, rect};
+use mw_images_for_tests::{has_levels, image, noise, rect};
 use mw_model::plain::PlainImage;
 use mw_model::{Kind, Rect};
 use mw_pixel::{Image, View};
@@ -104,11 +104,11 @@ fn windows_of_another_kind_do_not_match(rt: HostRuntime) -> Result<(), Fail> {
     Ok(())
 }
 
-fn has_levels(image: &Image, levels: &[u16]) -> bool {
+fn shows_levels(image: &Image, levels: &[u16]) -> bool {
     match image.view() {
-        View::Bits(plane) => are_levels(plane.samples(), levels),
-        View::Grey8(plane, _) => are_levels(plane.samples(), levels),
-        View::Grey16(plane, _) => are_levels(plane.samples(), levels),
+        View::Bits(plane) => has_levels(plane, levels),
+        View::Grey8(plane, _) => has_levels(plane, levels),
+        View::Grey16(plane, _) => has_levels(plane, levels),
     }
 }
 
@@ -119,7 +119,7 @@ fn images_in_one_piece(rt: HostRuntime) -> Result<(), Fail> {
         let whole = tiled(rt.alloc(), &image)?.image(rt.alloc())?;
         assert!(rt; whole.kind() == kind && whole.maxval() == maxval);
         assert!(rt; whole.width() == 150 && whole.height() == 140);
-        assert!(rt; has_levels(&whole, image.samples()));
+        assert!(rt; shows_levels(&whole, image.samples()));
     }
     Ok(())
 }

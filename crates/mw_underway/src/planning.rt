@@ -9,7 +9,7 @@ ghost use Rattle.mw_plan.specs.Asked.{IsRefusedBy, fault_in};
 ghost use Rattle.mw_plan.specs.PlansOf.{IsPlanOf};
 ghost use Rattle.mw_plan.specs.Tables.{AreValuesAt};
 ghost use Rattle.mw_stands.specs.Limits.{ShapesFit};
-ghost use Rattle.mw_underway.specs.Planning.{IsLookedUp, IsPlannedBy, IsSide, unplanned_of};
+ghost use Rattle.mw_underway.specs.Planning.{IsLookedUp, IsPlannedBy, IsSide};
 
 use mw_grid::Grid;
 use mw_model::{Call, Name, NoMemory, Op, Shape, Submission};
@@ -25,13 +25,28 @@ pub enum Unplanned {
     Fault(PlanFault),
 }
 
-/// Why there is no work, where there is no plan.
-fn unplanned_of(fault: PlanFault) -> Unplanned
-    ensures { result ≡ unplanned_of fault }
-{
-    match fault {
-        PlanFault::NoMemory => Unplanned::NoMemory,
-        _ => Unplanned::Fault(fault),
+impl From<PlanFault> for Unplanned {
+    ghost use Rattle.std.specs.Prelude.{◌≡◌};
+    ghost use Rattle.mw_underway.specs.Planning.{unplanned_of};
+
+    ghost from_gives = { λ f e. e ≡ unplanned_of f };
+
+    fn from(fault: PlanFault) -> Unplanned {
+        match fault {
+            PlanFault::NoMemory => Unplanned::NoMemory,
+            _ => Unplanned::Fault(fault),
+        }
+    }
+}
+
+impl From<NoMemory> for Unplanned {
+    ghost use Rattle.std.specs.Prelude.{◌≡◌};
+    ghost use Rattle.mw_underway.specs.declared.planning.Unplanned.TheVariants as Unplanned;
+
+    ghost from_gives = { λ _ e. e ≡ Unplanned.NoMemory };
+
+    fn from(_error: NoMemory) -> Unplanned {
+        Unplanned::NoMemory
     }
 }
 
@@ -90,13 +105,8 @@ pub fn planned(
     let a = input_of(store, inputs.a);
     let b = input_of(store, inputs.b);
     let c = input_of(store, inputs.c);
-    let plan = match plan_of(alloc, op, a, b, c) {
-        Ok(plan) => plan,
-        Err(fault) => return Err(unplanned_of(fault)),
-    };
+    let plan = plan_of(alloc, op, a, b, c)?;
     let grid = Grid::new(width, height, side);
-    match PlanProgress::new(alloc, plan, grid, kind, maxval) {
-        Ok(work) => Ok(work),
-        Err(NoMemory) => Err(Unplanned::NoMemory),
-    }
+    let work = PlanProgress::new(alloc, plan, grid, kind, maxval)?;
+    Ok(work)
 }

@@ -1,9 +1,8 @@
 -- Counts of tasks under tickets.
-use Rattle.std.proofs.Common.{◌≡◌, ℕ, ◌+◌, ◌*◌, ◌<◌, ◌≤◌, false, inl, inr, List, length, Option, Some, None, sym, ap, ◌∙◌, subst, arith}
+use Rattle.std.proofs.Common.{◌≡◌, ℕ, ◌+◌, ◌*◌, ◌<◌, ◌≤◌, false, inl, inr, length, Some, None, sym, ap, ◌∙◌, subst, arith}
 use Rattle.std.specs.Prelude.{not}
 use Rattle.std.specs.Option.{option_map_or}
 use Rattle.std.proofs.lemmas.Bool.{cases_lt, cases_Bool}
-use Rattle.std.proofs.lemmas.List.{get_or_past}
 use Rattle.std.proofs.lemmas.List.Sums.{count_by-le-length}
 use Rattle.std.proofs.lemmas.List.FromFn.{length-range_with_len}
 use Rattle.mw_facts.proofs.Finds.{option_cases}
@@ -73,13 +72,6 @@ work-under c m t p s l e =
 
 pub count-under : (f : Progress → ℕ) (c : CoreView) (t : ℕ) (p : Progress) → progress_at c.work t ≡ Some p → under f c t ≡ f p
 count-under f c t p e = ap (λ o. option_map_or f o 0) e
-
--- a place that holds work is there
-pub has-place : (work : List (Option Progress)) (t : ℕ) (p : Progress) → progress_at work t ≡ Some p → t < length work
-has-place work t p e = elim (cases_lt t (length work)) [
-  | inl l ↦ l
-  | inr past ↦ let none : progress_at work t ≡ None = get_or_past work t None past in absurd cc
-]
 
 -- at most so many tasks are left
 pub few-left : (c : CoreView) (m : Machine) → StandsFor c m → tasks_left c ≤ 65536 * 4194304

@@ -1,5 +1,5 @@
 -- The steps of a wave: what is known while several tasks are running.
-use Rattle.std.proofs.Common.{◌≡◌, ◌≢◌, ℕ, ◌+◌, ◌/◌, ◌%◌, ◌<◌, ◌≤◌, Bool, true, false, ◌⊎◌, inl, inr, Ok, Err, List, [], ◌∷◌, ◌++◌, length, set, Some, None, refl, sym, ap, ◌∙◌, subst, arith, append_assoc, div-add-mod'}
+use Rattle.std.proofs.Common.{◌≡◌, ◌≢◌, ℕ, ◌+◌, ◌/◌, ◌%◌, ◌<◌, ◌≤◌, Bool, true, false, ◌⊎◌, inl, inr, Ok, Err, List, [], ◌∷◌, ◌++◌, length, set, Some, None, refl, sym, ap, ◌∙◌, subst, arith, append_assoc}
 use Rattle.std.specs.Prelude.{◌&&◌, not, nat_lt, Result}
 use Rattle.std.specs.Option.{option_map_or}
 use Rattle.std.specs.List.{range_with_len, count_by, AllByRecursion, AllZip}
@@ -24,6 +24,7 @@ use Rattle.mw_core.specs.mw_work.Works.{true_task}
 use Rattle.mw_core.specs.mw_stands.Events.{WorkStays}
 use Rattle.mw_core.specs.mw_stands.TaskEvents.{Kills, BeginsTask, IsResult, IsUnderway, Settles, Places, IsSettled}
 use Rattle.mw_core.proofs.mw_stands.CountLemmas.{sum-at}
+use Rattle.mw_core.proofs.mw_stands.TaskLemmas.{has-place, same-number, same-plan}
 use Rattle.mw_core.specs.TaskAnswers.{Starts, Finishes, IsOwn, Refuses}
 use Rattle.mw_core.specs.declared.answers.Started.{Started}
 use Rattle.mw_core.specs.declared.answers.Started.TheVariants as started
@@ -39,7 +40,7 @@ use Rattle.mw_wave.specs.declared.job.Job.{Job}
 use Rattle.mw_wave.specs.declared.job.Job.TheVariants as job
 use Rattle.mw_wave.specs.Jobs.{IsAnswerTo, IsOf, HasTask, IsAnswered, IsKept}
 use Rattle.mw_wave.specs.Waves.{GoneOn, IsTrueAnswer, IsTrueJob, IsTrueTask, Runs, Underway, Took}
-use Rattle.mw_wave.proofs.TicketCounts.{under, over_all-falls, work-under, count-under, has-place}
+use Rattle.mw_wave.proofs.TicketCounts.{under, over_all-falls, work-under, count-under}
 use Rattle.mw_wave.proofs.Jobs.{all-last, still-answers, has-kept, has-last, kept-beside}
 
 -- ---- tasks that are running
@@ -66,10 +67,6 @@ none-counted c none = total-zero (under running_tasks c) (length c.table.names) 
 -- the ticket of a running task is pending
 runs-pending : (c : CoreView) (m : Machine) (t k : ℕ) (p : Progress) → StandsFor c m → Runs c t k p → is_pending (outcome_at c.table.outcomes t) ≡ true
 runs-pending c m t k p s r = ap (λ (w : Table). is_pending (outcome_at w.outcomes t)) s.table ∙ ap is_pending (s.idle t p r.work)
-
--- a task is that of its numbers alone
-same-number : (a b l : ℕ) → a / l ≡ b / l → a % l ≡ b % l → a ≡ b
-same-number a b l e f = sym (div-add-mod' a l) ∙ rw (e, f) (div-add-mod' b l)
 
 -- the task was running before, and is the same task
 record Ran (c : CoreView) (m : Machine) (t k : ℕ) (w : WindowTask) : Type 0 where
@@ -170,10 +167,6 @@ settles-ended c new m d t s here e =
 none_runs : (a b : Bool) → b ≡ true → (a && not b) ≡ false
 none_runs true b h = rw h refl
 none_runs false b h = refl
-
--- a task of one progress is that of another with the same plan on the same tiles
-same-plan : (m : Machine) (t k : ℕ) (p q : Progress) → q.plan ≡ p.plan → q.tiles ≡ p.tiles → q.width ≡ p.width → q.height ≡ p.height → true_task m t q k ≡ true_task m t p k
-same-plan m t k p q a b c d = rw (a, b, c, d) refl
 
 places-ended : (c new : CoreView) (m : Machine) (d : WindowTask) → StandsFor c m → d.task.ticket < length c.table.names → Places c m d new → Ended c m d.task new
 places-ended c new m d s here e =

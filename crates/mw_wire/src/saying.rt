@@ -69,10 +69,8 @@ pub fn send_both<W: Write>(
     ensures kept { OnOk result (sink.new.failed ≡ sink.old.failed) }
     ensures flag { OnErr result ((result ≡ Err SessionFault.Write) × (sink.new.failed ≡ true)) }
 {
-    match send(sink, first) {
-        Err(fault) => Err(fault),
-        Ok(()) => send(sink, second),
-    }
+    send(sink, first)?;
+    send(sink, second)
 }
 
 fn send_in_parts<W: Write>(
@@ -85,10 +83,8 @@ fn send_in_parts<W: Write>(
     ensures kept { OnOk result (sink.new.failed ≡ sink.old.failed) }
     ensures flag { OnErr result ((result ≡ Err SessionFault.Write) × (sink.new.failed ≡ true)) }
 {
-    match send(sink, line.as_bytes()) {
-        Err(fault) => Err(fault),
-        Ok(()) => send_both(sink, front, rest),
-    }
+    send(sink, line.as_bytes())?;
+    send_both(sink, front, rest)
 }
 
 /// Writes the refusal that ends a session.
@@ -97,10 +93,8 @@ pub fn end_by<W: Write>(sink: &mut Sink<W>, code: Code) -> Result<End, SessionFa
     ensures kept { OnOk result (sink.new.failed ≡ sink.old.failed) }
     ensures flag { OnErr result ((result ≡ Err SessionFault.Write) × (sink.new.failed ≡ true)) }
 {
-    match send(sink, refusal_line(code).as_bytes()) {
-        Ok(()) => Ok(End::Ended(code)),
-        Err(fault) => Err(fault),
-    }
+    send(sink, refusal_line(code).as_bytes())?;
+    Ok(End::Ended(code))
 }
 
 /// Writes the refusal that ends a session, where it may also go on.
@@ -109,10 +103,8 @@ pub fn end_within<W: Write>(sink: &mut Sink<W>, code: Code) -> Result<Option<End
     ensures kept { OnOk result (sink.new.failed ≡ sink.old.failed) }
     ensures flag { OnErr result ((result ≡ Err SessionFault.Write) × (sink.new.failed ≡ true)) }
 {
-    match end_by(sink, code) {
-        Ok(end) => Ok(Some(end)),
-        Err(fault) => Err(fault),
-    }
+    let end = end_by(sink, code)?;
+    Ok(Some(end))
 }
 
 /// Writes the line that tells a fault.

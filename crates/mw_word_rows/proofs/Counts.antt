@@ -9,8 +9,9 @@ use Rattle.std.proofs.lemmas.Nat.{ones_cat, div-mul-add, mod-mul-add}
 use Rattle.std.proofs.lemmas.Nat.Bits.{bit_at_lowest, bit_at-suc}
 use Rattle.mw_facts.proofs.Numbers.{add_one-add}
 use Rattle.mw_line.proofs.Rows.{rows_fit}
-use Rattle.mw_word_rows.specs.Packed.{bit_of, stride_of, samples_of, bits_in, IsPacked}
-use Rattle.mw_word_rows.proofs.Bits.{bit_of_word}
+use Rattle.mw_words.specs.Packed.{bit_of, stride_of, samples_of, IsPacked}
+use Rattle.mw_word_rows.specs.Rows.{bits_in}
+use Rattle.mw_words.proofs.Bits.{bit_of_word}
 use lib.Count.{ones}
 
 -- the sum of f at the n places from a on

@@ -11,9 +11,9 @@ use Rattle.std.proofs.lemmas.Simd.{bitmask_splat, bit_mask_l, get_or-replicate}
 use Rattle.mw_facts.proofs.Parts.{get_or-put_mid_below as put_mid_below, get_or-put_mid_within as put_mid_at, get_or-put_mid_above as put_mid_above}
 use Rattle.mw_facts.proofs.Numbers.{one_if-not_zero, factor-positive}
 use Rattle.mw_line.proofs.Rows.{RowsMade}
-use Rattle.mw_word_rows.specs.Packed.{stride_of, samples_of, IsPacked}
-use Rattle.mw_word_rows.proofs.Bits.{samples_are_bits}
-use Rattle.mw_word_rows.proofs.Done.{BitRowsDone}
+use Rattle.mw_words.specs.Packed.{stride_of, samples_of, IsPacked}
+use Rattle.mw_words.proofs.Bits.{samples_are_bits}
+use Rattle.mw_words.proofs.Done.{BitRowsDone}
 use borrow.Rule.Slice.PartMut.{put_mid}
 use lib.Lanes.{zip2, mask_l, top}
 

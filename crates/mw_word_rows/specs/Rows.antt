@@ -1,7 +1,8 @@
 -- Rows of words, and the bits of all words as one list.
 use Rattle.std.specs.Prelude.{ℕ, ◌-◌, ◌*◌, ◌^◌, List, length, map, cond, nat_lt, Option, Some, None, ℤ, pos, negsuc}
-use Rattle.std.specs.List.{range_with_len}
-use Rattle.mw_word_rows.specs.Packed.{bit_of}
+use Rattle.std.specs.List.{range_with_len, sum_by}
+use Rattle.std.specs.Int.RustNames.{count_ones}
+use Rattle.mw_words.specs.Packed.{bit_of}
 
 -- the pixel at a place of a row of so many, where the row has that place
 abbrev pub pixel_at : List ℕ → ℕ → ℤ → Option ℕ
@@ -15,3 +16,7 @@ words_before = 2 ^ 35
 -- the bits of all words but the last, which is there to be shifted in
 unfoldable pub laid_bits : List ℕ → List ℕ
 laid_bits words = map (bit_of words) (range_with_len 0 (64 * (length words - 1)))
+
+-- how many bits of the words are set
+abbrev pub bits_in : List ℕ → ℕ
+bits_in words = sum_by count_ones words

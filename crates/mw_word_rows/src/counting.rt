@@ -1,6 +1,6 @@
 //! How many bits of words are set.
 ghost use Rattle.std.specs.Prelude.{◌≡◌, ℕ, ◌<◌, ◌^◌, length, slice_index};
-ghost use Rattle.mw_word_rows.specs.Packed.{bits_in};
+ghost use Rattle.mw_word_rows.specs.Rows.{bits_in};
 
 /// How many bits are set.
 pub fn count_bits(words: &[u64]) -> u64

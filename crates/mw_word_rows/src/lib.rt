@@ -14,9 +14,7 @@ mod extremes;
 mod merging;
 mod packing;
 mod padding;
-mod rows;
 mod shifting;
-mod trimming;
 mod unpacking;
 
 pub use counting::count_bits;
@@ -26,7 +24,5 @@ pub use merging::{Both, Either, Less, PairOfWords, flip_words, merge_words};
 pub use mw_model::NoMemory;
 pub use packing::pack_row;
 pub use padding::combine_row;
-pub use rows::{repeated, stride};
 pub use shifting::{combine_ahead, combine_both, combine_from};
-pub use trimming::trimmed;
 pub use unpacking::unpack_row;

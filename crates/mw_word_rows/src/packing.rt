@@ -1,7 +1,7 @@
 //! Pixels packed into words: 64 at a time, by comparing 64 bytes with 0 at once. Measured: 3 ms for 4096 by 4096 pixels.
 ghost use Rattle.std.specs.Prelude.{◌≡◌, ℕ, ◌*◌, ◌+◌, ◌<◌, ◌≤◌, ◌^◌, length, slice_index, slice_range};
 ghost use Rattle.std.specs.Int.{bit_at};
-ghost use Rattle.mw_word_rows.specs.Packed.{bit_of, stride_of};
+ghost use Rattle.mw_words.specs.Packed.{bit_of, stride_of};
 
 use mw_pixel::Bit;
 use std::simd::Simd;

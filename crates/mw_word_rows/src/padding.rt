@@ -2,11 +2,11 @@
 ghost use Rattle.std.specs.Prelude.{◌≡◌, ℕ, ◌+◌, ◌*◌, ◌<◌, ◌≤◌, ◌^◌, negsuc, pos, ◌+ℤ◌, ◌-ℤ◌, ◌≤ℤ◌, length};
 ghost use Rattle.std.specs.Int.{bit_at};
 ghost use Rattle.mw_lane.specs.Shifted.{merge_at};
-ghost use Rattle.mw_word_rows.specs.Packed.{bit_of, stride_of};
+ghost use Rattle.mw_words.specs.Packed.{bit_of, stride_of};
 ghost use Rattle.mw_word_rows.specs.Rows.{pixel_at, words_before};
 
 use crate::WordExtremum;
-use crate::shifting::funnel;
+use mw_words::funnel;
 
 /// So many words are thought to stand before a row, so that no place of interest is negative.
 const BEFORE: u64 = 34359738368;

@@ -2,19 +2,10 @@
 //! bit p % 64 of word p / 64.
 ghost use Rattle.std.specs.Prelude.{◌≡◌, ℕ, ◌+◌, ◌-◌, ◌*◌, ◌/◌, ◌<◌, ◌≤◌, length};
 ghost use Rattle.std.specs.Int.{bit_at};
-ghost use Rattle.mw_word_rows.specs.Packed.{bit_of};
+ghost use Rattle.mw_words.specs.Packed.{bit_of};
 
 use crate::WordExtremum;
-
-/// The 64 bits from bit `shift` of the lower word on.
-#[inline(always)]
-pub(crate) fn funnel(low: u64, high: u64, shift: u32) -> u64
-    requires { shift < 64 }
-    ensures below { (i : ℕ) → shift + i < 64 → bit_at result i ≡ bit_at low (shift + i) }
-    ensures above { (i : ℕ) → i < 64 → 64 ≤ shift + i → bit_at result i ≡ bit_at high (shift + i - 64) }
-{
-    (low >> shift) | ((high << 1) << (63 - shift))
-}
+use mw_words::funnel;
 
 /// Merges into each bit the one `start` places further on in the cells.
 pub fn combine_from<E: WordExtremum>(cells: &[u64], start: usize, out: &mut [u64])

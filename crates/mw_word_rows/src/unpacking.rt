@@ -1,7 +1,7 @@
 //! Words unpacked into pixels, eight at a time. Measured: 5 ms for 4096 by 4096 pixels.
 ghost use Rattle.std.specs.Prelude.{◌≡◌, ℕ, ◌*◌, ◌+◌, ◌<◌, ◌≤◌, ◌^◌, length, slice_index};
 ghost use Rattle.std.specs.Int.{bit_at};
-ghost use Rattle.mw_word_rows.specs.Packed.{bit_of};
+ghost use Rattle.mw_words.specs.Packed.{bit_of};
 
 use mw_pixel::Bit;
 

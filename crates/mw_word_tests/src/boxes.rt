@@ -1,11 +1,10 @@
-//! Extrema of words under boxes beside the kernel of rectangles over samples, at the seams of the words.
+//! Extrema of words under boxes beside the kernel of rectangles over levels, at the seams of the words.
 
-use mw_bits::{WordExtremum, Words};
-use mw_images_for_tests::{bit_row, noise, plane_of, rect};
-use mw_line::rectangle;
+use mw_bits::{WordExtremum, as_levels};
+use mw_images_for_tests::{bit_row, has_levels, levels_of, noise, plane_of, rect};
 use mw_model::plain::PlainImage;
-use mw_model::{Kind, NoMemory, OffsetBox, Rect};
-use mw_pixel::{Bit, Max, Min};
+use mw_model::{Kind, OffsetBox, Rect};
+use mw_pixel::{Bit, Extremum, Max, Min};
 use mw_tile::Window;
 use std::alloc::Global;
 use std::process::Abort;
@@ -63,30 +62,31 @@ const BOXES: [OffsetBox; 8] = [
     },
 ];
 
-/// Whether the words show in the tile what the kernel over samples makes there.
-fn agrees<E: WordExtremum>(
+/// Whether the words show in the tile what the kernel over levels makes there.
+fn agrees<E: WordExtremum + Extremum<u8>>(
     alloc: Global,
-    window: &Window<Bit>,
-    words: &Words,
+    set: &Window<Bit>,
+    levels: &Window<u8>,
     offsets: OffsetBox,
     tile: Rect,
-) -> Result<bool, NoMemory> {
-    let made = words.rectangle::<E>(alloc, offsets, tile)?.to_plane(alloc)?;
-    let wanted = rectangle::<Bit, E>(alloc, window, offsets, E::neutral(Bit::SET), tile)?;
-    Ok(made.samples() == wanted.samples())
+) -> Result<bool, Fail> {
+    let made = mw_bits::rectangle::<E>(alloc, set, offsets, tile)?;
+    let outside = <E as Extremum<u8>>::neutral(1);
+    let wanted = mw_line::rectangle::<u8, E>(alloc, levels, offsets, outside, tile)?;
+    Ok(has_levels(&made, &levels_of(alloc, &wanted)?))
 }
 
-/// Stops where a box gives another extremum on words than on samples.
-fn agree_by_boxes<E: WordExtremum>(
+/// Stops where a box gives another extremum on words than on levels.
+fn agree_by_boxes<E: WordExtremum + Extremum<u8>>(
     rt: &impl Abort,
     alloc: Global,
-    window: &Window<Bit>,
+    set: &Window<Bit>,
     tile: Rect,
 ) -> Result<(), Fail> {
-    let words = Words::from_plane(alloc, window)?;
+    let levels = as_levels(alloc, set)?;
     for offsets in BOXES {
         assert!(rt;
-            agrees::<E>(alloc, window, &words, offsets, tile)?,
+            agrees::<E>(alloc, set, &levels, offsets, tile)?,
             "{offsets:?} in {tile:?}"
         );
     }
@@ -105,7 +105,7 @@ fn agree(rt: &impl Abort, alloc: Global, set: &PlainImage) -> Result<(), Fail> {
 }
 
 #[test]
-fn boxes_agree_with_samples(rt: HostRuntime) -> Result<(), Fail> {
+fn boxes_agree_with_levels(rt: HostRuntime) -> Result<(), Fail> {
     for width in [1, 63, 64, 65, 127, 128, 129] {
         agree(&rt, rt.alloc(), &noise(rt.alloc(), Kind::Bit, width, 4, 1)?)?;
     }

@@ -1,4 +1,4 @@
-//! Tests of sets as words of 64 pixels: packed, unpacked and counted, and their extrema beside the plain program.
+//! Tests of sets as words of 64 pixels: counted, compared and put together, and their extrema beside the plain program.
 //!
 //! ```text
 //! rt test     // in this folder
@@ -11,5 +11,7 @@ mod boxes;
 mod packed;
 #[cfg(test)]
 mod pairs;
+#[cfg(test)]
+mod seams;
 #[cfg(test)]
 mod words;

@@ -1,7 +1,7 @@
-//! Worked sets: packed and unpacked, and a bar over the seam of two words.
+//! Worked sets: counted, taken as levels, and a bar over the seam of two words.
 
-use mw_bits::{WordExtremum, Words};
-use mw_images_for_tests::{BAR, bit_row, image, plane_of, rect};
+use mw_bits::{WordExtremum, as_levels, count, extremum};
+use mw_images_for_tests::{BAR, bit_row, has_levels, image, levels_of, plane_of, rect};
 use mw_model::Kind;
 use mw_model::plain::PlainImage;
 use mw_pixel::{Bit, Max, Min};
@@ -24,11 +24,13 @@ fn every_third(alloc: Global) -> Result<PlainImage, Fail> {
 }
 
 #[test]
-fn packed_and_unpacked(rt: HostRuntime) -> Result<(), Fail> {
-    let window = window_of(rt.alloc(), &every_third(rt.alloc())?)?;
-    let words = Words::from_plane(rt.alloc(), &window)?;
-    assert_eq!(rt; words.count(), 65);
-    assert!(rt; words.to_plane(rt.alloc())?.samples() == window.samples());
+fn counted_and_as_levels(rt: HostRuntime) -> Result<(), Fail> {
+    let set = every_third(rt.alloc())?;
+    let window = window_of(rt.alloc(), &set)?;
+    assert_eq!(rt; count(&window), 65);
+    let levels = as_levels(rt.alloc(), &window)?;
+    assert!(rt; has_levels(levels.plane(), set.samples()));
+    assert!(rt; has_levels(window.plane(), &levels_of(rt.alloc(), levels.plane())?));
     Ok(())
 }
 
@@ -43,8 +45,9 @@ fn last_three(alloc: Global) -> Result<PlainImage, Fail> {
 
 /// How many pixels an extremum of the last three by a bar has.
 fn count_by_bar<E: WordExtremum>(alloc: Global) -> Result<u64, Fail> {
-    let words = Words::from_plane(alloc, &window_of(alloc, &last_three(alloc)?)?)?;
-    Ok(words.extremum::<E>(alloc, &BAR, rect(0, 0, 65, 1))?.count())
+    let window = window_of(alloc, &last_three(alloc)?)?;
+    let made = extremum::<E>(alloc, &window, &BAR, rect(0, 0, 65, 1))?;
+    Ok(count(&Window::whole(made)))
 }
 
 #[test]

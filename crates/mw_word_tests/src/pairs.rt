@@ -1,10 +1,10 @@
 //! Sets in words that are put together, turned round and made of levels, beside the kernels over samples.
 
-use mw_bits::Words;
-use mw_images_for_tests::{noise, plane_of};
+use mw_bits::{at_least, count, equal, invert, join, meet, minus};
+use mw_images_for_tests::{has_levels, noise, plane_of};
 use mw_lane::{combine_rows, subtract_rows, threshold_row};
 use mw_model::{Kind, NoMemory};
-use mw_pixel::{Bit, Extremum, Max, Min, copies};
+use mw_pixel::{Bit, Extremum, Max, Min, Plane, copies};
 use mw_tile::Window;
 use std::alloc::Global;
 use std::process::Abort;
@@ -48,9 +48,13 @@ fn merged<E: Extremum<Bit>>(
     Ok(made)
 }
 
-/// Whether the words have these pixels.
-fn shows(alloc: Global, words: &Words, pixels: &[Bit]) -> Result<bool, NoMemory> {
-    Ok(words.to_plane(alloc)?.samples() == pixels)
+/// Whether the set has these pixels.
+fn shows(alloc: Global, set: &Plane<Bit>, pixels: &[Bit]) -> Result<bool, NoMemory> {
+    let mut levels = Vec::with_capacity(alloc, pixels.len())?;
+    for pixel in pixels {
+        levels.push(u16::from(pixel.number()))?;
+    }
+    Ok(has_levels(set, &levels))
 }
 
 /// Stops where the sets that are made of levels have other pixels than by the kernels over samples.
@@ -58,9 +62,10 @@ fn agree_on_levels(rt: &impl Abort, alloc: Global, window: &Window<u8>) -> Resul
     let from = upper(alloc, window, 5)?;
     let above = upper(alloc, window, 6)?;
     let level = less(alloc, from.as_slice(), above.as_slice())?;
-    assert!(rt; shows(alloc, &Words::at_least(alloc, window, 5)?, from.as_slice())?);
-    assert!(rt; shows(alloc, &Words::equal(alloc, window, 5)?, level.as_slice())?);
-    assert_eq!(rt; Words::at_least(alloc, window, 65536)?.count(), 0);
+    assert!(rt; shows(alloc, &at_least(alloc, window, 5)?, from.as_slice())?);
+    assert!(rt; shows(alloc, &equal(alloc, window, 5)?, level.as_slice())?);
+    let none = Window::whole(at_least(alloc, window, 65536)?);
+    assert_eq!(rt; count(&none), 0);
     Ok(())
 }
 
@@ -75,14 +80,14 @@ fn sets_of_levels_agree_with_samples(rt: HostRuntime) -> Result<(), Fail> {
 /// A set in words, and its pixels.
 #[derive(Drop)]
 struct Both {
-    words: Words,
+    set: Window<Bit>,
     pixels: Vec<Bit>,
 }
 
 /// The places with level `k` or more.
 fn from_level(alloc: Global, window: &Window<u8>, k: u16) -> Result<Both, NoMemory> {
     Ok(Both {
-        words: Words::at_least(alloc, window, u32::from(k))?,
+        set: Window::whole(at_least(alloc, window, u32::from(k))?),
         pixels: upper(alloc, window, k)?,
     })
 }
@@ -91,36 +96,64 @@ fn from_level(alloc: Global, window: &Window<u8>, k: u16) -> Result<Both, NoMemo
 fn turned(alloc: Global, set: &Both) -> Result<Both, NoMemory> {
     let all = copies(alloc, set.pixels.len(), Bit::SET)?;
     Ok(Both {
-        words: set.words.invert(alloc)?,
+        set: Window::whole(invert(alloc, &set.set)?),
         pixels: less(alloc, all.as_slice(), set.pixels.as_slice())?,
     })
 }
 
-/// Stops where two sets are put together otherwise than by the kernels over samples.
-fn agree_on_sets(rt: &impl Abort, alloc: Global, a: &Both, b: &Both) -> Result<(), Fail> {
-    if a.words.place() != b.words.place() {
+/// Stops where a set has other pixels than those wanted.
+fn are(rt: &impl Abort, alloc: Global, set: &Plane<Bit>, wanted: &[Bit]) -> Result<(), Fail> {
+    assert!(rt; shows(alloc, set, wanted)?);
+    Ok(())
+}
+
+/// What is in the first set alone, in words.
+fn without(alloc: Global, a: &Window<Bit>, b: &Window<Bit>) -> Result<Plane<Bit>, Fail> {
+    if a.place() != b.place() {
         return Err("other places".into());
     }
-    let (first, second) = (a.pixels.as_slice(), b.pixels.as_slice());
-    let minus = a.words.minus(alloc, &b.words)?;
-    assert!(rt; shows(alloc, &minus, less(alloc, first, second)?.as_slice())?);
-    let meet = a.words.meet(alloc, &b.words)?;
-    assert!(rt;
-        shows(
-            alloc,
-            &meet,
-            merged::<Min>(alloc, first, second)?.as_slice()
-        )?
-    );
-    let join = a.words.join(alloc, &b.words)?;
-    assert!(rt;
-        shows(
-            alloc,
-            &join,
-            merged::<Max>(alloc, first, second)?.as_slice()
-        )?
-    );
-    Ok(())
+    Ok(minus(alloc, a, b)?)
+}
+
+/// What is in both sets, in words.
+fn in_both(alloc: Global, a: &Window<Bit>, b: &Window<Bit>) -> Result<Plane<Bit>, Fail> {
+    if a.place() != b.place() {
+        return Err("other places".into());
+    }
+    Ok(meet(alloc, a, b)?)
+}
+
+/// What is in either set, in words.
+fn in_either(alloc: Global, a: &Window<Bit>, b: &Window<Bit>) -> Result<Plane<Bit>, Fail> {
+    if a.place() != b.place() {
+        return Err("other places".into());
+    }
+    Ok(join(alloc, a, b)?)
+}
+
+/// Stops where one set without the other is otherwise than by the kernel over samples.
+fn agree_apart(rt: &impl Abort, alloc: Global, a: &Both, b: &Both) -> Result<(), Fail> {
+    let wanted = less(alloc, a.pixels.as_slice(), b.pixels.as_slice())?;
+    let made = without(alloc, &a.set, &b.set)?;
+    are(rt, alloc, &made, wanted.as_slice())
+}
+
+/// Stops where two sets have other pixels together than by the kernels over samples.
+fn agree_together(rt: &impl Abort, alloc: Global, a: &Both, b: &Both) -> Result<(), Fail> {
+    let wanted = merged::<Min>(alloc, a.pixels.as_slice(), b.pixels.as_slice())?;
+    are(
+        rt,
+        alloc,
+        &in_both(alloc, &a.set, &b.set)?,
+        wanted.as_slice(),
+    )?;
+    let wanted = merged::<Max>(alloc, a.pixels.as_slice(), b.pixels.as_slice())?;
+    are(
+        rt,
+        alloc,
+        &in_either(alloc, &a.set, &b.set)?,
+        wanted.as_slice(),
+    )
 }
 
 #[test]
@@ -129,8 +162,9 @@ fn sets_that_are_put_together_agree_with_samples(rt: HostRuntime) -> Result<(), 
         let window = levels(rt.alloc(), width)?;
         let a = from_level(rt.alloc(), &window, 4)?;
         let b = turned(rt.alloc(), &from_level(rt.alloc(), &window, 8)?)?;
-        assert!(&rt; shows(rt.alloc(), &b.words, b.pixels.as_slice())?);
-        agree_on_sets(&rt, rt.alloc(), &a, &b)?;
+        assert!(&rt; shows(rt.alloc(), b.set.plane(), b.pixels.as_slice())?);
+        agree_apart(&rt, rt.alloc(), &a, &b)?;
+        agree_together(&rt, rt.alloc(), &a, &b)?;
     }
     Ok(())
 }

@@ -1,13 +1,13 @@
 //! Sets as words beside the plain program, over tiles and over the whole frame, at the seams of the words.
 
-use mw_bits::{WordExtremum, Words};
+use mw_bits::{WordExtremum, count, extremum, rectangle};
 use mw_element::Element;
 use mw_images_for_tests::{
-    BAR, Part, bit_row, element, extrema, full_square, long_line, noise, parts_of, plane_of,
-    shows_tile,
+    BAR, Part, bit_row, element, extrema, full_square, levels_of, long_line, noise, parts_of,
+    plane_of, shows_tile,
 };
 use mw_model::plain::PlainImage;
-use mw_model::{Kind, NoMemory, Offset, Rect};
+use mw_model::{Kind, NoMemory, Offset, OffsetBox, Rect};
 use mw_pixel::{Bit, Max, Min, Plane};
 use mw_tile::Window;
 use std::alloc::Global;
@@ -16,23 +16,23 @@ use std::test::Fail;
 
 fn words_by<E: WordExtremum>(
     alloc: Global,
-    words: &Words,
+    set: &Window<Bit>,
     offsets: &[Offset],
     tile: Rect,
-) -> Result<Words, NoMemory> {
-    words.extremum::<E>(alloc, offsets, tile)
+) -> Result<Window<Bit>, NoMemory> {
+    Ok(Window::whole(extremum::<E>(alloc, set, offsets, tile)?))
 }
 
-/// Whether the words are the pixels of the tile, and are counted so.
+/// Whether the set has the pixels of the tile, and is counted so.
 fn show_tile(
     alloc: Global,
-    words: &Words,
+    set: &Window<Bit>,
     tile: Rect,
     whole: &PlainImage,
-) -> Result<bool, NoMemory> {
-    let plane = words.to_plane(alloc)?;
-    let count = plane.samples().iter().filter(|s| s.is_set()).count() as u64;
-    Ok(words.count() == count && shows_tile(&plane, tile, whole))
+) -> Result<bool, Fail> {
+    let pixels = levels_of(alloc, set.plane())?;
+    let wanted = pixels.iter().filter(|s| **s == 1).count() as u64;
+    Ok(count(set) == wanted && shows_tile(set.plane(), tile, whole))
 }
 
 /// Stops where the words do not give in the tile what is wanted there of the whole frame.
@@ -43,11 +43,27 @@ fn agree_on_tile<E: WordExtremum>(
     offsets: &[Offset],
     wanted: &PlainImage,
 ) -> Result<(), Fail> {
-    let words = Words::from_plane(alloc, &part.window)?;
-    let made = words_by::<E>(alloc, &words, offsets, part.tile)?;
+    let made = words_by::<E>(alloc, &part.window, offsets, part.tile)?;
     assert!(rt;
         show_tile(alloc, &made, part.tile, wanted)?,
         "words in {:?}",
+        part.tile
+    );
+    Ok(())
+}
+
+/// The same of the words by a box.
+fn agree_by_box<E: WordExtremum>(
+    rt: &impl Abort,
+    alloc: Global,
+    part: &Part<Bit>,
+    offsets: OffsetBox,
+    wanted: &PlainImage,
+) -> Result<(), Fail> {
+    let made = rectangle::<E>(alloc, &part.window, offsets, part.tile)?;
+    assert!(rt;
+        show_tile(alloc, &Window::whole(made), part.tile, wanted)?,
+        "box in {:?}",
         part.tile
     );
     Ok(())
@@ -64,6 +80,9 @@ fn agree_on_tiles<E: WordExtremum>(
 ) -> Result<(), Fail> {
     for part in &parts_of(alloc, plane, element.reach(), side)? {
         agree_on_tile::<E>(rt, alloc, part, element.offsets(), wanted)?;
+        if let Some(offsets) = element.as_rectangle() {
+            agree_by_box::<E>(rt, alloc, part, offsets, wanted)?;
+        }
     }
     Ok(())
 }
@@ -109,6 +128,7 @@ fn agree_by(rt: &impl Abort, alloc: Global, element: &Element) -> Result<(), Fai
 const BITMAPS: &[(&[u8], u32, u32)] = &[
     (b"P1\n3 1\n111\n", 1, 0),
     (b"P1\n3 3\n010111010\n", 1, 1),
+    (b"P1\n3 3\n111111111\n", 1, 1),
     (b"P1\n2 4\n11111111\n", 0, 3),
     (b"P1\n4 2\n0001 0001\n", 0, 1),
     (b"P1\n3 3\n101010101\n", 1, 1),
@@ -168,36 +188,36 @@ fn any_set(alloc: Global) -> Result<PlainImage, Fail> {
     noise(alloc, Kind::Bit, 70, 3, 1)
 }
 
-/// All of a set as words.
-fn all_words(alloc: Global, set: &PlainImage) -> Result<Words, Fail> {
-    let window = Window::whole(plane_of::<Bit>(alloc, set)?);
-    Ok(Words::from_plane(alloc, &window)?)
+/// The window that has all of a set.
+fn window_of(alloc: Global, set: &PlainImage) -> Result<Window<Bit>, Fail> {
+    Ok(Window::whole(plane_of::<Bit>(alloc, set)?))
 }
 
-/// The words of all of a set, which are as wanted.
+/// What is made of all of a set, which is as wanted.
 fn made_as<E: WordExtremum>(
     rt: &impl Abort,
     alloc: Global,
-    words: &Words,
+    set: &Window<Bit>,
     offsets: &[Offset],
     wanted: &PlainImage,
-) -> Result<Words, Fail> {
-    let made = words_by::<E>(alloc, words, offsets, words.place())?;
-    assert!(rt; show_tile(alloc, &made, words.place(), wanted)?);
+) -> Result<Window<Bit>, Fail> {
+    let made = words_by::<E>(alloc, set, offsets, set.place())?;
+    assert!(rt; show_tile(alloc, &made, set.place(), wanted)?);
     Ok(made)
 }
 
-/// Both extrema of a set; the words of the erosion are handed back with it.
+/// Both extrema of a set; the erosion is handed back in words and in samples.
 fn made_by(
     rt: &impl Abort,
     alloc: Global,
     set: &PlainImage,
     offsets: &[Offset],
-) -> Result<(Words, PlainImage), Fail> {
-    let words = all_words(alloc, set)?;
+) -> Result<(Window<Bit>, PlainImage), Fail> {
+    let window = window_of(alloc, set)?;
     let (eroded, dilated) = extrema(alloc, set, offsets)?;
-    made_as::<Max>(rt, alloc, &words, offsets, &dilated)?;
-    Ok((made_as::<Min>(rt, alloc, &words, offsets, &eroded)?, eroded))
+    made_as::<Max>(rt, alloc, &window, offsets, &dilated)?;
+    let made = made_as::<Min>(rt, alloc, &window, offsets, &eroded)?;
+    Ok((made, eroded))
 }
 
 const APART: [Offset; 4] = [

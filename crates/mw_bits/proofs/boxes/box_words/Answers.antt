@@ -6,7 +6,7 @@ use Rattle.mw_lane.specs.Shifted.{merge_at}
 use Rattle.mw_line.specs.Extrema.{over}
 use Rattle.mw_line.proofs.Over.{over_same}
 use Rattle.mw_line.proofs.Rows.{rows_fit}
-use Rattle.mw_word_rows.specs.Packed.{bit_of}
+use Rattle.mw_words.specs.Packed.{bit_of}
 use Rattle.mw_word_rows.proofs.Packs.{stride_wide}
 use Rattle.mw_bits.proofs.boxes.box_words.Goals as goal
 

@@ -2,7 +2,7 @@ use Rattle.std.proofs.Common.{◌≡◌, ℕ, ◌+◌, ◌-◌, ◌*◌, ◌<◌
 use Rattle.mw_line.specs.Extrema.{strided}
 use Rattle.mw_run.specs.Runs.{start_of}
 use Rattle.mw_offset.proofs.Gathers.{gather_below, IsDoubled}
-use Rattle.mw_word_rows.specs.Packed.{bit_of}
+use Rattle.mw_words.specs.Packed.{bit_of}
 use Rattle.mw_word_rows.specs.Rows.{laid_bits}
 use Rattle.mw_bits.proofs.by_runs.combine_runs.Given as goal
 

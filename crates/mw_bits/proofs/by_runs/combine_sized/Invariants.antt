@@ -1,6 +1,6 @@
 use Rattle.std.proofs.Common.{◌≡◌, ℕ, ◌*◌, ◌<◌, length, take, fold}
 use Rattle.mw_run.specs.Runs.{sized, two_parts}
-use Rattle.mw_word_rows.specs.Packed.{bit_of}
+use Rattle.mw_words.specs.Packed.{bit_of}
 use Rattle.mw_word_rows.specs.Rows.{laid_bits}
 use Rattle.mw_bits.proofs.by_runs.combine_sized.Given as goal
 

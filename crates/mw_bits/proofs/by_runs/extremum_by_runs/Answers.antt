@@ -9,9 +9,9 @@ use Rattle.mw_line.proofs.Folds.{IsExtremum}
 use Rattle.mw_line.proofs.Rows.{rows_fit}
 use Rattle.mw_offset.proofs.Rooms.{row_fits}
 use Rattle.mw_offset.proofs.Seens.{IsLaid, all_room, gather_seen}
-use Rattle.mw_word_rows.specs.Packed.{bit_of}
+use Rattle.mw_words.specs.Packed.{bit_of}
 use Rattle.mw_word_rows.specs.Rows.{laid_bits}
-use Rattle.mw_word_rows.proofs.Done.{blank_bit}
+use Rattle.mw_words.proofs.Done.{blank_bit}
 use Rattle.mw_word_rows.proofs.Laid.{laid_bit, length-laid_bits}
 use Rattle.mw_bits.proofs.NearRuns.{counts_of_inside, columns_few, all_inside_wider}
 use Rattle.mw_word_rows.proofs.Packs.{stride_wide}

@@ -3,8 +3,8 @@ use Rattle.mw_facts.proofs.Elements.{take-written}
 use Rattle.mw_model.specs.Rasters.{seen_under}
 use Rattle.mw_model.specs.Windows.{seen_at}
 use Rattle.mw_line.proofs.Rows.{rows_fit}
-use Rattle.mw_word_rows.specs.Packed.{bit_of}
-use Rattle.mw_word_rows.proofs.Done.{blank_bit}
+use Rattle.mw_words.specs.Packed.{bit_of}
+use Rattle.mw_words.proofs.Done.{blank_bit}
 use Rattle.mw_word_rows.proofs.Packs.{stride_wide}
 use Rattle.mw_bits.proofs.kernel.extremum_by_offsets.Goals as goal
 

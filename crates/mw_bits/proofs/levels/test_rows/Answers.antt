@@ -2,8 +2,8 @@ use Rattle.std.proofs.Common.{◌≡◌, ◌+◌, ◌-◌, ◌*◌, ℕ, List, l
 use Rattle.std.proofs.lemmas.List.{length-map, take-map, drop-map}
 use Rattle.mw_model.specs.declared.places.Rect.{Rect}
 use Rattle.mw_line.proofs.Rows.{rows_fit}
-use Rattle.mw_word_rows.specs.Packed.{stride_of}
-use Rattle.mw_word_rows.proofs.Done.{bit_rows_more_by}
+use Rattle.mw_words.specs.Packed.{stride_of}
+use Rattle.mw_words.proofs.Done.{bit_rows_more_by}
 use Rattle.mw_word_rows.proofs.Packs.{packed_row, all_packed, samples_packed}
 use Rattle.mw_bits.proofs.levels.test_rows.Goals as goal
 

@@ -4,8 +4,8 @@ use Rattle.mw_facts.proofs.Elements.{take-written}
 use Rattle.mw_model.specs.Rasters.{raster, cell_at}
 use Rattle.mw_lane.specs.Shifted.{merge_at}
 use Rattle.mw_line.proofs.Rows.{rows_fit}
-use Rattle.mw_word_rows.specs.Packed.{bit_of}
-use Rattle.mw_word_rows.proofs.Done.{blank_bit}
+use Rattle.mw_words.specs.Packed.{bit_of}
+use Rattle.mw_words.proofs.Done.{blank_bit}
 use Rattle.mw_bits.proofs.spread.spread.Goals as goal
 
 pub returns-clause-cells : goal.returns-clause-cells

@@ -3,8 +3,8 @@ use Rattle.std.proofs.lemmas.Int.{ints}
 use Rattle.mw_model.specs.Rasters.{raster, cell_at}
 use Rattle.mw_lane.specs.Shifted.{merge_at}
 use Rattle.mw_line.proofs.Rows.{rows_fit}
-use Rattle.mw_word_rows.specs.Packed.{bit_of}
-use Rattle.mw_word_rows.proofs.Done.{bit_rows_more}
+use Rattle.mw_words.specs.Packed.{bit_of}
+use Rattle.mw_words.proofs.Done.{bit_rows_more}
 use Rattle.mw_bits.proofs.spread.spread_rows.Goals as goal
 
 pub loop-y-preserved : goal.loop-y-preserved

@@ -4,7 +4,7 @@ use Rattle.std.proofs.lemmas.Int.{ints}
 use Rattle.mw_model.specs.declared.places.Rect.{Rect}
 use Rattle.mw_model.specs.Rasters.{raster, cell_at}
 use Rattle.mw_lane.specs.Shifted.{merge_at}
-use Rattle.mw_word_rows.specs.Packed.{bit_of}
+use Rattle.mw_words.specs.Packed.{bit_of}
 use Rattle.mw_word_rows.specs.Rows.{pixel_at}
 use Rattle.mw_word_rows.proofs.Paddings.{row_shows}
 use Rattle.mw_bits.proofs.window_rows.combine_window_row.Goals as goal
@@ -15,7 +15,7 @@ returns-then-row-from g c =
     let set = c.args.set.now in
     let w = set.place.width in
     let h = set.place.height in
-    let row = c.row.result.now in
+    let row = c.row_of.result.now in
     let to_x : ℤ = to_z w64 (of_z w64 c.args.column) in
     let to_y : ℤ = to_z w64 (of_z w64 c.args.row) in
     let x-is : to_x ≡ c.args.column = omega (arith, ints) in
@@ -28,5 +28,5 @@ returns-then-row-from g c =
     c.combine_row.ensures x lt
     ∙ ap (λ (t : ℕ). merge_at f best (pixel_at row t (to_x +ℤ pos x))) width-is
     ∙ ap (λ (t : ℤ). merge_at f best (pixel_at row w (t +ℤ pos x))) x-is
-    ∙ ap (merge_at f best) (row_shows w h (nat_abs to_y) row set.cells c.place-place.ensures.size y-lt c.row.ensures.samples (c.args.column +ℤ pos x))
+    ∙ ap (merge_at f best) (row_shows w h (nat_abs to_y) row set.cells c.row_of.ensures.size y-lt c.row_of.ensures.samples (c.args.column +ℤ pos x))
     ∙ ap (λ (t : ℤ). merge_at f best (cell_at (raster w h set.cells) (c.args.column +ℤ pos x) t)) y-is

@@ -1,4 +1,5 @@
 use Rattle.std.proofs.Common.{◌≡◌, ◌≢◌, ◌∙◌, refl, inl, subst}
+use Rattle.std.proofs.lemmas.Result.{err_from_is_err_and}
 use Rattle.mw_wire.specs.declared.fault.SessionFault.TheVariants.{Write}
 use Rattle.mw_model.specs.declared.requests.Ask.TheVariants as ask
 use Rattle.mw_model.specs.declared.requests.Next.{Next}
@@ -41,14 +42,17 @@ returns-then-is_quit-clause-ran g c = λ left.
 pub answer-requires-clause-open_still : goal.answer-requires-clause-open_still
 answer-requires-clause-open_still g c = λ e. let t = c.if-is_quit.ensures.1 e in cc
 
-pub returns-in-Err-answer-clause-ran : goal.returns-in-Err-answer-clause-ran
-returns-in-Err-answer-clause-ran g c = λ left.
+pub returns-in_err-answer-in-Ok-Request-clause-ran : goal.returns-in_err-answer-in-Ok-Request-clause-ran
+returns-in_err-answer-in-Ok-Request-clause-ran g c = λ left.
+    let fault = c.in_err-answer-in-Ok-Request.field-0.0 in
     let found : front c.requests.intake.bytes ≡ Found (asked c.in-Ok-Request.request) c.next.new.self.bytes = rw c.in-Ok-Request.field-0-is at c.in-Ok-Request.ensures.ok in
     let asks : asked c.in-Ok-Request.request ≢ AskAlone ask.Quit = λ e. let t = c.if-is_quit.ensures.1 e in cc in
-    let is_write : c.in-Err-answer.fault ≡ Write = let e = c.in-Err-answer.ensures.flag.0 in cc in
-    drains-broken g.D.Desk.Answer left c.args.intake.now.bytes c.requests.intake.bytes c.next.new.self.bytes c.next.new.self c.args.kept.now c.requests.kept c.answer.new.kept
-    (g.W.Write.contents c.args.sink.now.inner) (g.W.Write.contents c.requests.sink.inner) (g.W.Write.contents c.answer.new.sink.inner) (asked c.in-Ok-Request.request) c.in-Err-answer.fault
-    c.requests.invariant.0 found asks c.in-Err-answer.ensures.answered is_write
+    let is_write : fault ≡ Write = let e = c.in_err-answer-in-Ok-Request.ensures.flag.0 in cc in
+    let p = err_from_is_err_and c.from_residual.result c.from_residual.ensures.1 in
+    rw (p.1, p.2)
+    (drains-broken g.D.Desk.Answer left c.args.intake.now.bytes c.requests.intake.bytes c.next.new.self.bytes c.next.new.self c.args.kept.now c.requests.kept c.answer.new.kept
+    (g.W.Write.contents c.args.sink.now.inner) (g.W.Write.contents c.requests.sink.inner) (g.W.Write.contents c.answer.new.sink.inner) (asked c.in-Ok-Request.request) fault
+    c.requests.invariant.0 found asks c.in_err-answer-in-Ok-Request.ensures.answered is_write)
 
 pub returns-in-Ok-More-clause-is_open : goal.returns-in-Ok-More-clause-is_open
 returns-in-Ok-More-clause-is_open g c = λ e.
@@ -64,7 +68,7 @@ requests-preserved g c =
     let asks : asked c.in-Ok-Request.request ≢ AskAlone ask.Quit = λ e. let t = c.if-is_quit.ensures.1 e in cc in (
       progress-given g.D.Desk.Answer c.args.intake.now.bytes c.requests.intake.bytes c.next.new.self.bytes c.args.kept.now c.requests.kept c.answer.new.kept
           (g.W.Write.contents c.args.sink.now.inner) (g.W.Write.contents c.requests.sink.inner) (g.W.Write.contents c.answer.new.sink.inner) (asked c.in-Ok-Request.request) tt
-          c.requests.invariant.0 found asks c.in_default.ensures.answered,
-      c.in_default.ensures.same ∙ c.requests.invariant.1,
+          c.requests.invariant.0 found asks c.in_ok-answer-in-Ok-Request.ensures.answered,
+      c.in_ok-answer-in-Ok-Request.ensures.same ∙ c.requests.invariant.1,
       inl (left c.requests.invariant.2).0,
     )

@@ -1,4 +1,5 @@
 use Rattle.std.proofs.Common.{◌≡◌, ℕ, List, [], ◌++◌, ◌∙◌, ◌≤◌, take, drop, length, ap, rules, refl, inl, inr, sym, subst, arith}
+use Rattle.std.proofs.lemmas.Result.{err_from_is_err_and}
 use Rattle.std.proofs.KnownBytes.{Consumes-nil, Consumes-trans, Consumes-kept}
 use Rattle.mw_model.specs.declared.codes.Code.TheVariants.{Memory}
 use Rattle.mw_model.specs.Lines.{Partial}
@@ -32,53 +33,57 @@ reads-init g c =
       buffer = c.in-Ok.ensures.len;
     }
 
-pub returns-in-Err-receive-clause-ran : goal.returns-in-Err-receive-clause-ran
-returns-in-Err-receive-clause-ran g c =
+pub returns-in_err-n-clause-ran : goal.returns-in_err-n-clause-ran
+returns-in_err-n-clause-ran g c =
     let i = c.reads.invariant in
     let now = progress-kept g.D.Desk.Answer i.taken c.reads.intake.bytes c.args.kept.now c.reads.kept (g.W.Write.contents c.args.sink.now.inner) (g.W.Write.contents c.reads.sink.inner) (g.W.Write.contents c.pass_on.new.sink.inner) i.progress c.pass_on.ensures.same_bytes in
-    let is_read : c.in-Err-receive.fault ≡ Read = let e = c.in-Err-receive.ensures.fault.0 in cc in
-    ran-stopped g.D.Desk.Answer c.args.kept.now c.reads.kept (g.R.Read.remaining c.args.source.now.inner) (g.R.Read.remaining c.receive.new.source.inner) i.taken c.reads.intake.bytes
-    (g.W.Write.contents c.args.sink.now.inner) (g.W.Write.contents c.pass_on.new.sink.inner) c.in-Err-receive.fault (Consumes-kept _ _ _ _ i.read c.in-Err-receive.ensures.err) now i.waits is_read
+    let is_read : c.in_err-n.field-0.0 ≡ Read = let e = c.in_err-n.ensures.fault.0 in cc in
+    let p = err_from_is_err_and c.from_residual-in_err-n.result c.from_residual-in_err-n.ensures.1 in
+    rw (p.1, p.2)
+    (ran-stopped g.D.Desk.Answer c.args.kept.now c.reads.kept (g.R.Read.remaining c.args.source.now.inner) (g.R.Read.remaining c.receive.new.source.inner) i.taken c.reads.intake.bytes
+    (g.W.Write.contents c.args.sink.now.inner) (g.W.Write.contents c.pass_on.new.sink.inner) c.in_err-n.field-0.0 (Consumes-kept _ _ _ _ i.read c.in_err-n.ensures.err) now i.waits is_read)
 
 pub returns-then-n-eq0-clause-ran : goal.returns-then-n-eq0-clause-ran
 returns-then-n-eq0-clause-ran g c =
     let i = c.reads.invariant in
     let now = progress-kept g.D.Desk.Answer i.taken c.reads.intake.bytes c.args.kept.now c.reads.kept (g.W.Write.contents c.args.sink.now.inner) (g.W.Write.contents c.reads.sink.inner) (g.W.Write.contents c.pass_on.new.sink.inner) i.progress c.pass_on.ensures.same_bytes in
-    let zero : c.in-Ok-receive.n ≡ 0 = omega (arith, c.if-n-eq0.true) in
+    let zero : c.in_ok-n.n ≡ 0 = omega (arith, c.if-n-eq0.true) in
     ran-to-end g.D.Desk.Answer c.args.kept.now c.reads.kept (g.R.Read.remaining c.args.source.now.inner) (g.R.Read.remaining c.reads.source.inner) (g.R.Read.remaining c.receive.new.source.inner) i.taken c.reads.intake.bytes
-    (g.W.Write.contents c.args.sink.now.inner) (g.W.Write.contents c.pass_on.new.sink.inner) (g.W.Write.contents c.end_of_input.new.sink.inner) c.end_of_input.result i.read (rw zero at c.in-Ok-receive.ensures.ok) (c.in-Ok-receive.ensures.end zero)
+    (g.W.Write.contents c.args.sink.now.inner) (g.W.Write.contents c.pass_on.new.sink.inner) (g.W.Write.contents c.end_of_input.new.sink.inner) c.end_of_input.result i.read (rw zero at c.in_ok-n.ensures.ok) (c.in_ok-n.ensures.end zero)
     now i.waits c.end_of_input.ensures.quit c.end_of_input.ensures.cut _ c.end_of_input.ensures.flag
 
 pub returns-then-n-eq0-clause-writer_failed : goal.returns-then-n-eq0-clause-writer_failed
-returns-then-n-eq0-clause-writer_failed g c = write-failed c.end_of_input.result c.end_of_input.new.sink.failed c.pass_on.new.sink.failed (c.in-Ok-pass_on.ensures.kept ∙ c.reads.invariant.sink_clear) c.end_of_input.ensures.same c.end_of_input.ensures.flag
+returns-then-n-eq0-clause-writer_failed g c = write-failed c.end_of_input.result c.end_of_input.new.sink.failed c.pass_on.new.sink.failed (c.in_ok-pass_on.ensures.kept ∙ c.reads.invariant.sink_clear) c.end_of_input.ensures.same c.end_of_input.ensures.flag
 
-pub returns-in-Err-serve_piece-clause-ran : goal.returns-in-Err-serve_piece-clause-ran
-returns-in-Err-serve_piece-clause-ran g c =
+pub returns-in_err-end-clause-ran : goal.returns-in_err-end-clause-ran
+returns-in_err-end-clause-ran g c =
     let i = c.reads.invariant in
     let now = progress-kept g.D.Desk.Answer i.taken c.reads.intake.bytes c.args.kept.now c.reads.kept (g.W.Write.contents c.args.sink.now.inner) (g.W.Write.contents c.reads.sink.inner) (g.W.Write.contents c.pass_on.new.sink.inner) i.progress c.pass_on.ensures.same_bytes in
     let x = g.W.Write.contents c.args.sink.now.inner in
     let y = g.W.Write.contents c.pass_on.new.sink.inner in
     let left = g.R.Read.remaining c.receive.new.source.inner in
-    let piece = take c.in-Ok-receive.n c.receive.new.buffer in
-    let fits : c.in-Ok-receive.n ≤ c.reads.buffer.len = search rules in
-    let same : take c.in-Ok-receive.n c.deref.result.now ≡ piece = ap (λ l. take c.in-Ok-receive.n l) c.deref.ensures.value ∙ take-front c.in-Ok-receive.n c.reads.buffer.len c.receive.new.buffer (drop (length c.receive.new.buffer) c.reads.buffer.items) c.in-Ok-receive.ensures.bound fits in
+    let piece = take c.in_ok-n.n c.receive.new.buffer in
+    let fits : c.in_ok-n.n ≤ c.reads.buffer.len = search rules in
+    let same : take c.in_ok-n.n c.deref.result.now ≡ piece = ap (λ l. take c.in_ok-n.n l) c.deref.ensures.value ∙ take-front c.in_ok-n.n c.reads.buffer.len c.receive.new.buffer (drop (length c.receive.new.buffer) c.reads.buffer.items) c.in_ok-n.ensures.bound fits in
     let h = progress-more g.D.Desk.Answer i.taken piece c.reads.intake.bytes c.args.kept.now c.reads.kept x y now in
-    ran-broken g.D.Desk.Answer c.args.kept.now c.reads.kept c.serve_piece.new.kept (g.R.Read.remaining c.args.source.now.inner) left (i.taken ++ piece) (c.reads.intake.bytes ++ piece) c.serve_piece.new.intake x y (g.W.Write.contents c.serve_piece.new.sink.inner) c.in-Err-serve_piece.fault
-    (Consumes-trans _ _ _ i.taken piece i.read c.in-Ok-receive.ensures.ok) h (rw same at (c.in-Err-serve_piece.ensures.ran left))
+    let p = err_from_is_err_and c.from_residual-in_err-end.result c.from_residual-in_err-end.ensures.1 in
+    rw (p.1, p.2)
+    (ran-broken g.D.Desk.Answer c.args.kept.now c.reads.kept c.serve_piece.new.kept (g.R.Read.remaining c.args.source.now.inner) left (i.taken ++ piece) (c.reads.intake.bytes ++ piece) c.serve_piece.new.intake x y (g.W.Write.contents c.serve_piece.new.sink.inner) c.in_err-end.field-0.0
+    (Consumes-trans _ _ _ i.taken piece i.read c.in_ok-n.ensures.ok) h (rw same at (c.in_err-end.ensures.ran left)))
 
-pub returns-in-Ok-Some-clause-ran : goal.returns-in-Ok-Some-clause-ran
-returns-in-Ok-Some-clause-ran g c =
+pub returns-in-Some-clause-ran : goal.returns-in-Some-clause-ran
+returns-in-Some-clause-ran g c =
     let i = c.reads.invariant in
     let now = progress-kept g.D.Desk.Answer i.taken c.reads.intake.bytes c.args.kept.now c.reads.kept (g.W.Write.contents c.args.sink.now.inner) (g.W.Write.contents c.reads.sink.inner) (g.W.Write.contents c.pass_on.new.sink.inner) i.progress c.pass_on.ensures.same_bytes in
     let x = g.W.Write.contents c.args.sink.now.inner in
     let y = g.W.Write.contents c.pass_on.new.sink.inner in
     let left = g.R.Read.remaining c.receive.new.source.inner in
-    let piece = take c.in-Ok-receive.n c.receive.new.buffer in
-    let fits : c.in-Ok-receive.n ≤ c.reads.buffer.len = search rules in
-    let same : take c.in-Ok-receive.n c.deref.result.now ≡ piece = ap (λ l. take c.in-Ok-receive.n l) c.deref.ensures.value ∙ take-front c.in-Ok-receive.n c.reads.buffer.len c.receive.new.buffer (drop (length c.receive.new.buffer) c.reads.buffer.items) c.in-Ok-receive.ensures.bound fits in
+    let piece = take c.in_ok-n.n c.receive.new.buffer in
+    let fits : c.in_ok-n.n ≤ c.reads.buffer.len = search rules in
+    let same : take c.in_ok-n.n c.deref.result.now ≡ piece = ap (λ l. take c.in_ok-n.n l) c.deref.ensures.value ∙ take-front c.in_ok-n.n c.reads.buffer.len c.receive.new.buffer (drop (length c.receive.new.buffer) c.reads.buffer.items) c.in_ok-n.ensures.bound fits in
     let h = progress-more g.D.Desk.Answer i.taken piece c.reads.intake.bytes c.args.kept.now c.reads.kept x y now in
-    ran-finished g.D.Desk.Answer c.args.kept.now c.reads.kept c.serve_piece.new.kept (g.R.Read.remaining c.args.source.now.inner) left (i.taken ++ piece) (c.reads.intake.bytes ++ piece) c.serve_piece.new.intake x y (g.W.Write.contents c.serve_piece.new.sink.inner) c.in-Ok-Some.end
-    (Consumes-trans _ _ _ i.taken piece i.read c.in-Ok-receive.ensures.ok) h (rw (same, c.in-Ok-Some.field-0-is) at (c.in-Ok-Some.ensures.ran left))
+    ran-finished g.D.Desk.Answer c.args.kept.now c.reads.kept c.serve_piece.new.kept (g.R.Read.remaining c.args.source.now.inner) left (i.taken ++ piece) (c.reads.intake.bytes ++ piece) c.serve_piece.new.intake x y (g.W.Write.contents c.serve_piece.new.sink.inner) c.in-Some.end
+    (Consumes-trans _ _ _ i.taken piece i.read c.in_ok-n.ensures.ok) h (rw (same, c.in-Some.is) at (c.in_ok-end.ensures.ran left))
 
 pub reads-preserved : goal.reads-preserved
 reads-preserved g c =
@@ -87,19 +92,19 @@ reads-preserved g c =
     let x = g.W.Write.contents c.args.sink.now.inner in
     let y = g.W.Write.contents c.pass_on.new.sink.inner in
     let left = g.R.Read.remaining c.receive.new.source.inner in
-    let piece = take c.in-Ok-receive.n c.receive.new.buffer in
-    let fits : c.in-Ok-receive.n ≤ c.reads.buffer.len = search rules in
-    let same : take c.in-Ok-receive.n c.deref.result.now ≡ piece = ap (λ l. take c.in-Ok-receive.n l) c.deref.ensures.value ∙ take-front c.in-Ok-receive.n c.reads.buffer.len c.receive.new.buffer (drop (length c.receive.new.buffer) c.reads.buffer.items) c.in-Ok-receive.ensures.bound fits in
+    let piece = take c.in_ok-n.n c.receive.new.buffer in
+    let fits : c.in_ok-n.n ≤ c.reads.buffer.len = search rules in
+    let same : take c.in_ok-n.n c.deref.result.now ≡ piece = ap (λ l. take c.in_ok-n.n l) c.deref.ensures.value ∙ take-front c.in_ok-n.n c.reads.buffer.len c.receive.new.buffer (drop (length c.receive.new.buffer) c.reads.buffer.items) c.in_ok-n.ensures.bound fits in
     let h = progress-more g.D.Desk.Answer i.taken piece c.reads.intake.bytes c.args.kept.now c.reads.kept x y now in
     record {
       taken = i.taken ++ piece;
-      read = Consumes-trans _ _ _ i.taken piece i.read c.in-Ok-receive.ensures.ok;
+      read = Consumes-trans _ _ _ i.taken piece i.read c.in_ok-n.ensures.ok;
       progress = progress-drained g.D.Desk.Answer (i.taken ++ piece) (c.reads.intake.bytes ++ piece) c.serve_piece.new.intake.bytes c.args.kept.now c.reads.kept c.serve_piece.new.kept x y (g.W.Write.contents c.serve_piece.new.sink.inner) h
-          (rw (same, c.in-Ok-None.field-0-is) at (c.in-Ok-None.ensures.ran left));
-      waits = c.in-Ok-None.ensures.waits c.in-Ok-None.field-0-is;
-      is_open = c.in-Ok-None.ensures.is_open c.in-Ok-None.field-0-is;
-      source_clear = c.in-Ok-receive.ensures.kept ∙ i.source_clear;
-      sink_clear = c.in-Ok-None.ensures.same ∙ c.in-Ok-pass_on.ensures.kept ∙ i.sink_clear;
+          (rw (same, c.in_default.is) at (c.in_ok-end.ensures.ran left));
+      waits = c.in_ok-end.ensures.waits c.in_default.is;
+      is_open = c.in_ok-end.ensures.is_open c.in_default.is;
+      source_clear = c.in_ok-n.ensures.kept ∙ i.source_clear;
+      sink_clear = c.in_ok-end.ensures.same ∙ c.in_ok-pass_on.ensures.kept ∙ i.sink_clear;
       reads = c.receive.ensures.few_reads;
       buffer = i.buffer;
     }
@@ -111,14 +116,18 @@ returns-clause-ran g c =
     ran-stopped g.D.Desk.Answer c.args.kept.now c.reads.kept (g.R.Read.remaining c.args.source.now.inner) (g.R.Read.remaining c.reads.source.inner) i.taken c.reads.intake.bytes
     (g.W.Write.contents c.args.sink.now.inner) (g.W.Write.contents c.pass_on-2.new.sink.inner) _ i.read h i.waits refl
 
-pub returns-in-Err-pass_on-clause-ran : goal.returns-in-Err-pass_on-clause-ran
-returns-in-Err-pass_on-clause-ran g c =
+pub returns-in_err-pass_on-clause-ran : goal.returns-in_err-pass_on-clause-ran
+returns-in_err-pass_on-clause-ran g c =
     let i = c.reads.invariant in
-    ran-held g.D.Desk.Answer c.args.kept.now c.reads.kept (g.R.Read.remaining c.args.source.now.inner) (g.R.Read.remaining c.reads.source.inner) i.taken c.reads.intake.bytes
-    (g.W.Write.contents c.args.sink.now.inner) (g.W.Write.contents c.reads.sink.inner) (g.W.Write.contents c.pass_on.new.sink.inner) _ i.read i.progress i.waits c.pass_on.ensures.same_bytes (error-is _ _ refl c.in-Err-pass_on.ensures.flag.0)
+    let p = err_from_is_err_and c.from_residual.result c.from_residual.ensures.1 in
+    rw (p.1, p.2)
+    (ran-held g.D.Desk.Answer c.args.kept.now c.reads.kept (g.R.Read.remaining c.args.source.now.inner) (g.R.Read.remaining c.reads.source.inner) i.taken c.reads.intake.bytes
+    (g.W.Write.contents c.args.sink.now.inner) (g.W.Write.contents c.reads.sink.inner) (g.W.Write.contents c.pass_on.new.sink.inner) _ i.read i.progress i.waits c.pass_on.ensures.same_bytes (error-is _ _ refl c.in_err-pass_on.ensures.flag.0))
 
-pub returns-in-Err-pass_on-2-clause-ran : goal.returns-in-Err-pass_on-2-clause-ran
-returns-in-Err-pass_on-2-clause-ran g c =
+pub returns-in_err-pass_on-2-clause-ran : goal.returns-in_err-pass_on-2-clause-ran
+returns-in_err-pass_on-2-clause-ran g c =
     let i = c.reads.invariant in
-    ran-held g.D.Desk.Answer c.args.kept.now c.reads.kept (g.R.Read.remaining c.args.source.now.inner) (g.R.Read.remaining c.reads.source.inner) i.taken c.reads.intake.bytes
-    (g.W.Write.contents c.args.sink.now.inner) (g.W.Write.contents c.reads.sink.inner) (g.W.Write.contents c.pass_on-2.new.sink.inner) _ i.read i.progress i.waits c.pass_on-2.ensures.same_bytes (error-is _ _ refl c.in-Err-pass_on-2.ensures.flag.0)
+    let p = err_from_is_err_and c.from_residual-in_err-pass_on-2.result c.from_residual-in_err-pass_on-2.ensures.1 in
+    rw (p.1, p.2)
+    (ran-held g.D.Desk.Answer c.args.kept.now c.reads.kept (g.R.Read.remaining c.args.source.now.inner) (g.R.Read.remaining c.reads.source.inner) i.taken c.reads.intake.bytes
+    (g.W.Write.contents c.args.sink.now.inner) (g.W.Write.contents c.reads.sink.inner) (g.W.Write.contents c.pass_on-2.new.sink.inner) _ i.read i.progress i.waits c.pass_on-2.ensures.same_bytes (error-is _ _ refl c.in_err-pass_on-2.ensures.flag.0))

@@ -8,6 +8,7 @@ abbrev pub invariant-loop-y : goal.invariant-loop-y
 invariant-loop-y g l = record {
   wrote : (f : Raster _) → AreCutFrom f l.tiles → HasRows g.P.RowBytes.bytes f l.y (g.W.Write.contents l.fn.sink.inner) (g.W.Write.contents l.sink.inner);
   kept : l.sink.failed ≡ l.fn.sink.failed;
-  samples : vec_capacity l.fn.samples ≤ vec_capacity l.samples;
+  width : l.row.width ≡ l.fn.row.width;
+  height : l.row.height ≡ 1;
   text : vec_capacity l.fn.text ≤ vec_capacity l.text;
 }

@@ -1,5 +1,4 @@
-use Rattle.std.proofs.Common.{◌≡◌, ◌*◌, ◌+◌, ◌-◌, ◌+ℤ◌, pos, ℕ, ℤ, List, ap, sym, ◌∙◌, arith, length, replicate, get_or, to_z, of_z, w64}
-use Rattle.std.proofs.lemmas.Int.{ints}
+use Rattle.std.proofs.Common.{◌≡◌, ◌*◌, ◌+◌, ◌-◌, ◌+ℤ◌, pos, ℕ, ℤ, List, ap, sym, ◌∙◌, arith, length, replicate, get_or}
 use Rattle.std.proofs.lemmas.List.{length-replicate, get_or-take}
 use Rattle.mw_model.specs.Rasters.{raster, cell_at}
 use Rattle.mw_lane.specs.Shifted.{merge_at}

@@ -1,4 +1,5 @@
 use Rattle.std.proofs.Common.{◌≡◌, ◌-◌, Ok, sym, ◌∙◌, arith, eqb}
+use Rattle.std.proofs.lemmas.Result.{err_from_is_err_and}
 use Rattle.mw_facts.proofs.Numbers.{one_if-le}
 use Rattle.mw_netpbm.specs.Plain.{plain_at}
 use Rattle.mw_netpbm.specs.Places.{ones_of, place_at}
@@ -7,17 +8,21 @@ use Rattle.mw_netpbm.proofs.plain.count_ones.Goals as goal
 
 pub places-preserved : goal.places-preserved
 places-preserved c =
-    let h : place_at c.args.places (c.places.left - 1) c.places.rest.now ≡ Ok (c.in-Ok.s, c.in-Ok.after.now) = sym c.in-Ok.ensures.value in
+    let h : place_at c.args.places (c.places.left - 1) c.places.rest.now ≡ Ok (c.in_ok-s.s, c.in_ok-s.after.now) = sym c.in_ok-s.ensures.value in
     record {
-      value = rw c.one-ones.ensures (sym (one_counted (place_at c.args.places) c.places.left c.places.ones c.places.rest.now c.in-Ok.after.now c.in-Ok.s c.places-test.true h) ∙ c.places.invariant.value);
-      low = omega (arith, c.places.invariant.low, c.places-test.true, one_if-le (eqb c.in-Ok.s 1), c.one-ones.ensures);
+      value = rw c.one-ones.ensures (sym (one_counted (place_at c.args.places) c.places.left c.places.ones c.places.rest.now c.in_ok-s.after.now c.in_ok-s.s c.places-test.true h) ∙ c.places.invariant.value);
+      low = omega (arith, c.places.invariant.low, c.places-test.true, one_if-le (eqb c.in_ok-s.s 1), c.one-ones.ensures);
     }
 
-pub returns-in-Err : goal.returns-in-Err
-returns-in-Err c = fault_counted (place_at c.args.places) c.places.left c.places.ones c.places.rest.now c.in-Err.fault (ones_of (plain_at (place_at c.args.places) c.args.count c.args.bytes.now)) c.places-test.true (sym c.in-Err.ensures.value) c.places.invariant.value
+pub returns-in_err-s : goal.returns-in_err-s
+returns-in_err-s c =
+    let p = err_from_is_err_and c.from_residual.result c.from_residual.ensures.1 in
+    rw (p.1, p.2) (fault_counted (place_at c.args.places) c.places.left c.places.ones c.places.rest.now c.in_err-s.field-0.0 (ones_of (plain_at (place_at c.args.places) c.args.count c.args.bytes.now)) c.places-test.true (sym c.in_err-s.ensures.value) c.places.invariant.value)
 
-pub returns-in-Err-tail : goal.returns-in-Err-tail
-returns-in-Err-tail c = tail_counted (place_at c.args.places) c.places.left c.places.ones c.places.rest.now c.in-Err-tail.fault (ones_of (plain_at (place_at c.args.places) c.args.count c.args.bytes.now)) c.places-test.false (sym c.in-Err-tail.ensures) c.places.invariant.value
+pub returns-in_err-tail : goal.returns-in_err-tail
+returns-in_err-tail c =
+    let p = err_from_is_err_and c.from_residual-in_err-tail.result c.from_residual-in_err-tail.ensures.1 in
+    rw (p.1, p.2) (tail_counted (place_at c.args.places) c.places.left c.places.ones c.places.rest.now c.in_err-tail.field-0.0 (ones_of (plain_at (place_at c.args.places) c.args.count c.args.bytes.now)) c.places-test.false (sym c.in_err-tail.ensures) c.places.invariant.value)
 
 pub returns : goal.returns
-returns c = all_counted (place_at c.args.places) c.places.left c.places.ones c.places.rest.now (ones_of (plain_at (place_at c.args.places) c.args.count c.args.bytes.now)) c.places-test.false (sym c.in_default.ensures) c.places.invariant.value
+returns c = all_counted (place_at c.args.places) c.places.left c.places.ones c.places.rest.now (ones_of (plain_at (place_at c.args.places) c.args.count c.args.bytes.now)) c.places-test.false (sym c.in_ok-tail.ensures) c.places.invariant.value

@@ -2,8 +2,8 @@ use Rattle.std.proofs.Common.{sym}
 use Rattle.mw_netpbm.proofs.Headers.{head_last}
 use Rattle.mw_netpbm.proofs.reader.opened.Goals as goal
 
-pub returns-in_default-clause-shorter : goal.returns-in_default-clause-shorter
-returns-in_default-clause-shorter c = (head_last c.args.bytes.now (c.in-Ok.head, c.in-Ok.rest.now) (sym c.in-Ok.ensures)).0
+pub returns-clause-shorter : goal.returns-clause-shorter
+returns-clause-shorter c = (head_last c.args.bytes.now (c.in_ok-head.head, c.in_ok-head.rest.now) (sym c.in_ok-head.ensures)).0
 
-pub returns-in_default-clause-last : goal.returns-in_default-clause-last
-returns-in_default-clause-last c = (head_last c.args.bytes.now (c.in-Ok.head, c.in-Ok.rest.now) (sym c.in-Ok.ensures)).1
+pub returns-clause-last : goal.returns-clause-last
+returns-clause-last c = (head_last c.args.bytes.now (c.in_ok-head.head, c.in_ok-head.rest.now) (sym c.in_ok-head.ensures)).1

@@ -1,5 +1,4 @@
-use Rattle.std.proofs.Common.{◌≡◌, ◌*◌, ◌+◌, ◌+ℤ◌, pos, ℤ, List, ap, ◌∙◌, arith, length, get_or, to_z, of_z, w64}
-use Rattle.std.proofs.lemmas.Int.{ints}
+use Rattle.std.proofs.Common.{◌≡◌, ◌*◌, ◌+◌, ◌+ℤ◌, pos, ℤ, List, ap, ◌∙◌, arith, length, get_or}
 use Rattle.mw_facts.proofs.Elements.{take-written, get_or-replicate_same}
 use Rattle.mw_model.specs.Rasters.{raster, cell_at}
 use Rattle.mw_lane.specs.Shifted.{merge_at}

@@ -3,7 +3,7 @@ use Rattle.mw_step.proofs.Slid.{slid_rank}
 use Rattle.mw_step.proofs.flat.rank_filter.Goals as goal
 
 pub returns-in_ok-plane-in-Bits : goal.returns-in_ok-plane-in-Bits
-returns-in_ok-plane-in-Bits c = c.made_bits.ensures _ (slid_rank c.args.k c.offsets-offsets.result.now c.args.element.now.offsets c.args.window.now kind.Bit 1 c.in-Bits.samples.now c.args.tile c.in_ok-plane-in-Bits.plane c.in-Bits.ensures c.offsets-offsets.ensures.value c.in_ok-plane-in-Bits.ensures.over_window)
+returns-in_ok-plane-in-Bits c = c.made_bits.ensures _ (slid_rank c.args.k c.offsets-offsets.result.now c.args.element.now.offsets c.args.window.now kind.Bit 1 c.in-Bits.set.now c.args.tile c.in_ok-plane-in-Bits.plane c.in-Bits.ensures c.offsets-offsets.ensures.value c.in_ok-plane-in-Bits.ensures)
 
 pub returns-in_ok-plane-in-Grey8 : goal.returns-in_ok-plane-in-Grey8
 returns-in_ok-plane-in-Grey8 c = c.made_bytes.ensures _ (slid_rank c.args.k c.offsets-offsets.result.now c.args.element.now.offsets c.args.window.now kind.Grey c.in-Grey8.maxval c.in-Grey8.samples.now c.args.tile c.in_ok-plane-in-Grey8.plane c.in-Grey8.ensures.0 c.offsets-offsets.ensures.value c.in_ok-plane-in-Grey8.ensures.over_window)

@@ -4,7 +4,7 @@ use Rattle.mw_step.proofs.Slid.{slid_extremum}
 use Rattle.mw_step.proofs.flat.slide_box.Goals as goal
 
 pub returns-in_ok-plane-in-Bits : goal.returns-in_ok-plane-in-Bits
-returns-in_ok-plane-in-Bits g c = c.made_bits.ensures _ (slid_extremum g.E.LevelExtremum.of_seen g.E.Extremum-1.merge (g.E.Extremum-1.neutral_of 1) (box_offsets c.args.offsets) c.args.window.now kind.Bit 1 c.in-Bits.samples.now c.args.tile c.in_ok-plane-in-Bits.plane c.in-Bits.ensures (g.met.E.LevelExtremum.bits_fold 1) c.in_ok-plane-in-Bits.ensures)
+returns-in_ok-plane-in-Bits g c = c.made_bits.ensures _ (slid_extremum g.E.LevelExtremum.of_seen g.E.Extremum-1.merge (g.E.Extremum-1.neutral_of 1) (box_offsets c.args.offsets) c.args.window.now kind.Bit 1 c.in-Bits.set.now c.args.tile c.in_ok-plane-in-Bits.plane c.in-Bits.ensures (g.met.E.LevelExtremum.bits_fold 1) c.in_ok-plane-in-Bits.ensures.over_window)
 
 pub returns-in_ok-plane-in-Grey8 : goal.returns-in_ok-plane-in-Grey8
 returns-in_ok-plane-in-Grey8 g c = c.made_bytes.ensures _ (slid_extremum g.E.LevelExtremum.of_seen g.E.Extremum-2.merge (g.E.Extremum-2.neutral_of c.in-Grey8.maxval) (box_offsets c.args.offsets) c.args.window.now kind.Grey c.in-Grey8.maxval c.in-Grey8.samples.now c.args.tile c.in_ok-plane-in-Grey8.plane c.in-Grey8.ensures.0 (g.met.E.LevelExtremum.bytes_fold c.in-Grey8.maxval) c.in_ok-plane-in-Grey8.ensures)

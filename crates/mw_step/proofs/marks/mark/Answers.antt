@@ -1,4 +1,4 @@
-use Rattle.std.proofs.Common.{◌≡◌, ◌*◌, ℕ, length, subst, ◌∙◌}
+use Rattle.std.proofs.Common.{◌≡◌, ◌*◌, ℕ, length, subst}
 use Rattle.std.specs.Prelude.{◌==◌, ◌&&◌, if◌then◌else◌}
 use lib.Lanes.{zip2}
 use Rattle.mw_model.specs.Pictures.{Picture}
@@ -13,9 +13,9 @@ returns c =
     let K = c.args.a.now.kind in
     let M = c.args.a.now.maxval in
     let v = c.args.v in
-    if_ok_too c.mark_places.result (HoldsImage (plane_drawn K M a.place (zip2 (λ (s m : ℕ). if m == 1 then v else s) a.cells c.deref.result.now))) (λ _. length a.cells ≡ a.place.height * a.place.width)
+    if_ok_too c.mark_places.result (HoldsImage (plane_drawn K M a.place (zip2 (λ (s m : ℕ). if m == 1 then v else s) a.cells c.in_ok-places.places.cells))) (λ _. length a.cells ≡ a.place.height * a.place.width)
     (HoldsImage (three_drawn K M (λ s m n. if m == 1 && n == 0 then v else s) a c.args.set.now.view c.args.other.now.view))
     (λ m holds fills. subst (λ (f : Picture). HoldsImage f m)
-    (marked_given K M v a c.args.set.now.view c.args.other.now.view c.bits_of.result.now c.bits_of-2.result.now c.deref.result.now c.bits_of.ensures c.bits_of-2.ensures (c.deref.ensures.value ∙ c.in_ok-places.ensures.places)
+    (marked_given K M v a c.args.set.now.view c.args.other.now.view c.bits_of.result.now c.bits_of-2.result.now c.in_ok-places.places.cells c.bits_of.ensures c.bits_of-2.ensures c.in_ok-places.ensures.places
     c.without.ensures.first c.without.ensures.second c.requires.place c.requires.other_place fills) holds)
     c.mark_places.ensures.held c.mark_places.ensures.fills

@@ -1,4 +1,4 @@
-use Rattle.std.proofs.Common.{◌≡◌, ◌*◌, ℕ, length, subst}
+use Rattle.std.proofs.Common.{◌≡◌, ◌*◌, ℕ, length, refl, subst}
 use Rattle.std.specs.Prelude.{◌==◌, if◌then◌else◌}
 use lib.Lanes.{zip2}
 use Rattle.mw_model.specs.Pictures.{Picture}
@@ -13,8 +13,8 @@ returns c =
     let K = c.args.a.now.kind in
     let M = c.args.a.now.maxval in
     let v = c.args.v in
-    if_ok_too c.mark_places.result (HoldsImage (plane_drawn K M a.place (zip2 (λ (s m : ℕ). if m == 1 then v else s) a.cells c.samples.result.now))) (λ _. length a.cells ≡ a.place.height * a.place.width)
+    if_ok_too c.mark_places.result (HoldsImage (plane_drawn K M a.place (zip2 (λ (s m : ℕ). if m == 1 then v else s) a.cells c.bits_of-places.result.now.cells))) (λ _. length a.cells ≡ a.place.height * a.place.width)
     (HoldsImage (both_drawn K M (λ s m. if m == 1 then v else s) a c.args.set.now.view))
     (λ m holds fills. subst (λ (f : Picture). HoldsImage f m)
-    (both_given K M (λ s m. if m == 1 then v else s) a c.args.set.now.view c.bits_of-places.result.now c.samples.result.now c.bits_of-places.ensures c.samples.ensures.value c.samples.ensures.size c.requires.place fills) holds)
+    (both_given K M (λ s m. if m == 1 then v else s) a c.args.set.now.view c.bits_of-places.result.now c.bits_of-places.result.now.cells c.bits_of-places.ensures refl c.is_sound.ensures.size c.requires.place fills) holds)
     c.mark_places.ensures.held c.mark_places.ensures.fills

@@ -1,7 +1,8 @@
-use Rattle.std.proofs.Common.{◌≡◌, ℕ}
+use Rattle.std.proofs.Common.{ℕ, ◌*◌}
 use Rattle.std.specs.Prelude.{◌==◌, if◌then◌else◌}
-use Rattle.mw_facts.proofs.Merged.{merged}
+use Rattle.mw_words.specs.Packed.{bit_of}
+use Rattle.mw_step.proofs.Painted.{CellsDone}
 use Rattle.mw_step.proofs.painting.mark_row.Given as goal
 
-abbrev pub invariant-loop-i : goal.invariant-loop-i
-invariant-loop-i g l = l.acc ≡ merged (λ s (m : ℕ). if m == 1 then l.v else s) l.i l.initial.acc l.set
+abbrev pub invariant-loop-k : goal.invariant-loop-k
+invariant-loop-k g l = CellsDone (λ s (x : ℕ). if bit_of l.words x == 1 then l.v else s) (64 * l.k) l.initial.acc l.acc

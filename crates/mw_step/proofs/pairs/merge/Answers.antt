@@ -5,10 +5,10 @@ use Rattle.mw_step.proofs.PlaceByPlace.{both_plane}
 use Rattle.mw_step.proofs.pairs.merge.Goals as goal
 
 pub returns-in_ok-plane-in-Bits : goal.returns-in_ok-plane-in-Bits
-returns-in_ok-plane-in-Bits g c = c.made_bits.ensures _ (both_plane g.E.LevelExtremum.of_two c.args.a.now c.args.b.now.view c.bits_of-second.result.now kind.Bit 1 c.in-Bits.first.now c.in_ok-plane-in-Bits.plane c.in-Bits.ensures c.bits_of-second.ensures c.requires.place (record { width = c.in_ok-plane-in-Bits.ensures.width; height = c.in_ok-plane-in-Bits.ensures.height }) c.merged.ensures.first c.merged.ensures.second (c.in_ok-plane-in-Bits.ensures.cells ∙ ap (λ (f : ℕ → ℕ → ℕ). zip2 f c.in-Bits.first.now.cells c.bits_of-second.result.now.cells) g.met.E.LevelExtremum.bits_merge))
+returns-in_ok-plane-in-Bits g c = c.made_bits.ensures _ (both_plane g.E.LevelExtremum.of_two c.args.a.now c.args.b.now.view c.bits_of-other.result.now kind.Bit 1 c.in-Bits.set.now c.in_ok-plane-in-Bits.plane c.in-Bits.ensures c.bits_of-other.ensures c.requires.place (record { width = c.in_ok-plane-in-Bits.ensures.width; height = c.in_ok-plane-in-Bits.ensures.height }) c.of_sets.ensures.first c.of_sets.ensures.second c.in_ok-plane-in-Bits.ensures.cells)
 
 pub returns-in_ok-plane-in-Grey8 : goal.returns-in_ok-plane-in-Grey8
-returns-in_ok-plane-in-Grey8 g c = c.made_bytes.ensures _ (both_plane g.E.LevelExtremum.of_two c.args.a.now c.args.b.now.view c.bytes_of-second.result.now kind.Grey c.in-Grey8.maxval c.in-Grey8.first.now c.in_ok-plane-in-Grey8.plane c.in-Grey8.ensures.0 c.bytes_of-second.ensures c.requires.place (record { width = c.in_ok-plane-in-Grey8.ensures.width; height = c.in_ok-plane-in-Grey8.ensures.height }) c.merged-in-Grey8.ensures.first c.merged-in-Grey8.ensures.second (c.in_ok-plane-in-Grey8.ensures.cells ∙ ap (λ (f : ℕ → ℕ → ℕ). zip2 f c.in-Grey8.first.now.cells c.bytes_of-second.result.now.cells) g.met.E.LevelExtremum.bytes_merge))
+returns-in_ok-plane-in-Grey8 g c = c.made_bytes.ensures _ (both_plane g.E.LevelExtremum.of_two c.args.a.now c.args.b.now.view c.bytes_of-second.result.now kind.Grey c.in-Grey8.maxval c.in-Grey8.first.now c.in_ok-plane-in-Grey8.plane c.in-Grey8.ensures.0 c.bytes_of-second.ensures c.requires.place (record { width = c.in_ok-plane-in-Grey8.ensures.width; height = c.in_ok-plane-in-Grey8.ensures.height }) c.merged.ensures.first c.merged.ensures.second (c.in_ok-plane-in-Grey8.ensures.cells ∙ ap (λ (f : ℕ → ℕ → ℕ). zip2 f c.in-Grey8.first.now.cells c.bytes_of-second.result.now.cells) g.met.E.LevelExtremum.bytes_merge))
 
 pub returns-in_ok-plane-in-Grey16 : goal.returns-in_ok-plane-in-Grey16
 returns-in_ok-plane-in-Grey16 g c = c.made_words.ensures _ (both_plane g.E.LevelExtremum.of_two c.args.a.now c.args.b.now.view c.words_of-second.result.now kind.Grey c.in-Grey16.maxval c.in-Grey16.first.now c.in_ok-plane-in-Grey16.plane c.in-Grey16.ensures.0 c.words_of-second.ensures c.requires.place (record { width = c.in_ok-plane-in-Grey16.ensures.width; height = c.in_ok-plane-in-Grey16.ensures.height }) c.merged-in-Grey16.ensures.first c.merged-in-Grey16.ensures.second (c.in_ok-plane-in-Grey16.ensures.cells ∙ ap (λ (f : ℕ → ℕ → ℕ). zip2 f c.in-Grey16.first.now.cells c.words_of-second.result.now.cells) g.met.E.LevelExtremum.words_merge))

@@ -1,4 +1,5 @@
 use Rattle.std.proofs.Common.{◌≡◌, sym, ap, ◌∙◌, subst}
+use Rattle.std.proofs.lemmas.Result.{err_from_is_err_and}
 use Rattle.mw_model.specs.declared.shapes.Shape.TheVariants as shape
 use Rattle.mw_grid.specs.Grids.{Tiling}
 use Rattle.mw_plan.specs.Asked.{fault_in}
@@ -7,8 +8,8 @@ use Rattle.mw_underway.specs.Planning.{unplanned_of}
 use Rattle.mw_underway.proofs.PlannedByLemmas.{LooksUp, faultless-plan, no-fault, only-memory, plan-works, planned-by}
 use Rattle.mw_underway.proofs.planning.planned.Goals as goal
 
-pub returns-in-Err-clause-faultless : goal.returns-in-Err-clause-faultless
-returns-in-Err-clause-faultless c = λ values f are is.
+pub returns-in_err-plan-clause-faultless : goal.returns-in_err-plan-clause-faultless
+returns-in_err-plan-clause-faultless c = λ values f are is.
     let w = c.args.store.now.table in
     let kept = c.args.store.now.kept in
     let e = c.args.submission in
@@ -28,8 +29,10 @@ returns-in-Err-clause-faultless c = λ values f are is.
       third = c.input_of-c.ensures;
     } in
     let none = no-fault w kept values c.args.name c.args.op e c.in-Some.first s i j k looks are in
-    let memory = only-memory (fault_in c.args.op i j k) c.plan_of.result c.in-Err.fault c.plan_of.ensures.refused c.in-Err.is none in
-    let told = c.unplanned_of.ensures ∙ ap unplanned_of memory in
+    let memory = only-memory (fault_in c.args.op i j k) c.plan_of.result c.in_err-plan.field-0.0 c.plan_of.ensures.refused c.in_err-plan.was none in
+    let p = err_from_is_err_and c.from_residual.result c.from_residual.ensures.1 in
+    let told = p.2 ∙ ap unplanned_of memory in
+    let err = p.1 in
     cc
 
 pub new-requires : goal.new-requires
@@ -52,11 +55,11 @@ new-requires c =
       second = c.input_of-b.ensures;
       third = c.input_of-c.ensures;
     } in
-    let none = faultless-plan (fault_in c.args.op i j k) c.plan_of.result c.in-Ok.plan c.plan_of.ensures.refused c.in-Ok.is in
-    (plan-works w kept c.args.name c.args.op e c.in-Some.first s i j k c.in-Ok.plan looks none c.in-Ok.ensures.plan).0
+    let none = faultless-plan (fault_in c.args.op i j k) c.plan_of.result c.in_ok-plan.plan c.plan_of.ensures.refused c.in_ok-plan.was in
+    (plan-works w kept c.args.name c.args.op e c.in-Some.first s i j k c.in_ok-plan.plan looks none c.in_ok-plan.ensures.plan).0
 
-pub returns-in-Ok-new-clause-planned : goal.returns-in-Ok-new-clause-planned
-returns-in-Ok-new-clause-planned c =
+pub returns-clause-planned : goal.returns-clause-planned
+returns-clause-planned c =
     let w = c.args.store.now.table in
     let kept = c.args.store.now.kept in
     let e = c.args.submission in
@@ -75,9 +78,9 @@ returns-in-Ok-new-clause-planned c =
       second = c.input_of-b.ensures;
       third = c.input_of-c.ensures;
     } in
-    let u = c.in-Ok-new.work in
-    let made = c.in-Ok-new.ensures in
-    let none = faultless-plan (fault_in c.args.op i j k) c.plan_of.result c.in-Ok.plan c.plan_of.ensures.refused c.in-Ok.is in
-    let Fresh : Tiling → Type 0 = λ g. u.progress ≡ fresh c.in-Ok.plan u.input g in
-    planned-by w kept c.args.name c.args.op e c.in-Some.first c.in-Image.kind c.in-Image.width c.in-Image.height c.in-Image.maxval c.args.side i j k c.in-Ok.plan u looks none c.in-Ok.ensures.plan
+    let u = c.in_ok-work.work in
+    let made = c.in_ok-work.ensures in
+    let none = faultless-plan (fault_in c.args.op i j k) c.plan_of.result c.in_ok-plan.plan c.plan_of.ensures.refused c.in_ok-plan.was in
+    let Fresh : Tiling → Type 0 = λ g. u.progress ≡ fresh c.in_ok-plan.plan u.input g in
+    planned-by w kept c.args.name c.args.op e c.in-Some.first c.in-Image.kind c.in-Image.width c.in-Image.height c.in-Image.maxval c.args.side i j k c.in_ok-plan.plan u looks none c.in_ok-plan.ensures.plan
     (record { input = made.input; tiling = made.tiling ∙ c.new-grid.ensures; progress = subst Fresh (sym made.tiling) made.progress; whole = made.whole })

@@ -1,7 +1,7 @@
 use Rattle.std.proofs.Common.{◌≡◌, ◌+◌, ◌≤◌, get_or, take, arith}
 use Rattle.std.proofs.lemmas.List.Sums.{fold_more}
 use Rattle.std.proofs.lemmas.Nat.{ones-le}
-use Rattle.mw_word_rows.specs.Packed.{bits_in}
+use Rattle.mw_word_rows.specs.Rows.{bits_in}
 use Rattle.mw_word_rows.proofs.counting.count_bits.Goals as goal
 use lib.Count.{ones}
 

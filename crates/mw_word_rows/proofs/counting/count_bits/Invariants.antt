@@ -1,5 +1,5 @@
 use Rattle.std.proofs.Common.{◌≡◌, ◌*◌, ◌≤◌, take}
-use Rattle.mw_word_rows.specs.Packed.{bits_in}
+use Rattle.mw_word_rows.specs.Rows.{bits_in}
 use Rattle.mw_word_rows.proofs.counting.count_bits.Given as goal
 
 abbrev pub invariant-loop-word : goal.invariant-loop-word

@@ -2,7 +2,7 @@ use Rattle.std.proofs.Common.{◌≡◌, ℕ, ◌+◌, ◌*◌, ◌<◌, pos, �
 use Rattle.std.specs.Int.{bit_at}
 use Rattle.mw_lane.specs.Shifted.{merge_at}
 use Rattle.mw_word_rows.specs.Rows.{pixel_at, words_before}
-use Rattle.mw_word_rows.proofs.Done.{WordsDone}
+use Rattle.mw_words.proofs.Done.{WordsDone}
 use Rattle.mw_word_rows.proofs.Paddings.{padded_at}
 use Rattle.mw_word_rows.proofs.padding.combine_row.Given as goal
 

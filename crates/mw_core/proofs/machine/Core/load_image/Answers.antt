@@ -14,7 +14,8 @@ use Rattle.mw_ledger.specs.mw_store.Stored.{Stored}
 use Rattle.mw_ledger.specs.mw_stands.Facts.{stored_of}
 use Rattle.mw_ledger.specs.mw_stands.Events.{FollowsMachine}
 use Rattle.mw_ledger.proofs.mw_stands.CallLemmas.{IfOk-from-one, IfOk-from-four, serves-refused, serves-load}
-use Rattle.mw_core.proofs.FaultLemmas.{none-before-none, on_err, short-full}
+use Rattle.mw_ledger.proofs.mw_stands.mw_store.PlaceLemmas.{on_err}
+use Rattle.mw_core.proofs.FaultLemmas.{none-before-none, short-full}
 use Rattle.mw_core.proofs.machine.Core.load_image.Goals as goal
 
 pub returns-in-Err-clause-served : goal.returns-in-Err-clause-served

@@ -1,6 +1,6 @@
 use Rattle.std.proofs.Common.{ap, List, None, Option, set, subst, sym, ◌∙◌}
 use Rattle.mw_model.specs.Rasters.{Raster}
-use Rattle.mw_tiles.specs.Tiles.{cells_of}
+use Rattle.mw_frame_tiles.specs.Tiles.{cells_of}
 use Rattle.mw_tiles.specs.Held.{IsHeld}
 use Rattle.mw_tiles.specs.declared.plane.TiledPlane.TheInside.{Inside}
 use Rattle.mw_tiles.proofs.Sides.{held_write}

@@ -1,8 +1,7 @@
 use Rattle.std.proofs.Common.{ap, sym, ◌∙◌}
 use Rattle.mw_model.specs.declared.shapes.Kind.TheVariants as kind
 use Rattle.mw_tiles.specs.Held.{tiled, tiled_held}
-use Rattle.mw_tiles.proofs.Joined.{all_placed}
-use Rattle.mw_tiles.proofs.Sharing.{shared_is}
+use Rattle.mw_tiles.proofs.Windows.{all_placed, shared_is}
 use Rattle.mw_tiles.proofs.plane.TiledPlane.in_pieces.Goals as goal
 
 pub pieces_of-requires-clause-placed : goal.pieces_of-requires-clause-placed

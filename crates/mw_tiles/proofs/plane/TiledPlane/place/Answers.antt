@@ -1,7 +1,8 @@
 use Rattle.std.proofs.Common.{ap, List, Option, set, Some, subst, sym, ◌∙◌}
 use Rattle.std.specs.Arc.{arc_value}
 use Rattle.mw_model.specs.Rasters.{Raster}
-use Rattle.mw_tiles.specs.Tiles.{Tiled, cells_of}
+use Rattle.mw_frame_tiles.specs.Tiles.{cells_of}
+use Rattle.mw_tiles.specs.Tiles.{Tiled}
 use Rattle.mw_tiles.specs.Held.{image_of_tile, IsHeld, tiled_held}
 use Rattle.mw_tiles.specs.declared.plane.Samples.{Samples}
 use Rattle.mw_tiles.specs.declared.tile.Tile.{Tile}

@@ -1,0 +1,19 @@
+use Rattle.std.proofs.Common.{◌∙◌}
+use Rattle.mw_model.specs.Places.{box_offsets}
+use Rattle.mw_model.specs.Windows.{seen_at}
+use Rattle.mw_line.proofs.Tiles.{tile_made, on_frame}
+use Rattle.mw_words.specs.Packed.{samples_of}
+use Rattle.mw_words.proofs.Bits.{sample_is_bit, length-samples_of}
+use Rattle.mw_bits.proofs.boxes.rectangle.Goals as goal
+
+pub returns-clause-over_window : goal.returns-clause-over_window
+returns-clause-over_window g c =
+    let tile = c.args.tile in
+    let words = c.in_ok-words.words.items in
+    tile_made g.E.Extremum.merge (g.E.Extremum.neutral_of 1) 0 (seen_at c.args.set.now) (box_offsets c.args.offsets) tile (samples_of tile.width tile.height words) c.plane_of.result c.plane_of.ensures
+    (length-samples_of tile.width tile.height words)
+    (λ x y less row_less. sample_is_bit tile.width tile.height words x y less row_less ∙ c.in_ok-words.ensures.cells x y less row_less)
+
+pub returns-clause-over_frame : goal.returns-clause-over_frame
+returns-clause-over_frame g c = λ f window.
+    on_frame g.E.Extremum.merge (g.E.Extremum.neutral_of 1) c.args.set.now f (box_offsets c.args.offsets) c.args.tile c.plane_of.result (returns-clause-over_window g c) window

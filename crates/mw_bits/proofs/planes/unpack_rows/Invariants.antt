@@ -1,8 +1,0 @@
-use Rattle.std.proofs.Common.{◌*◌, ◌+◌, get_or}
-use Rattle.mw_line.proofs.Rows.{RowsMade}
-use Rattle.mw_bits.proofs.planes.unpack_rows.Given as goal
-
-abbrev pub invariant-loop-y : goal.invariant-loop-y
-invariant-loop-y l = record {
-  made : RowsMade (λ x j. get_or l.words.cells (j * l.words.place.width + x) 0) 0 l.words.place.width l.y l.samples.items;
-}

@@ -1,0 +1,8 @@
+-- what other crates may cite
+pub mod Sides
+pub mod Numbers
+-- the crate's own
+mod Sharing
+mod Joined
+mod Compared
+mod ReadRows

@@ -1,6 +1,0 @@
-use Rattle.std.specs.Int.{w16}
-use Rattle.mw_lane.proofs.Same.{same_block}
-use Rattle.mw_lane.proofs.lanes_16.U16Lanes.equal_block.Goals as goal
-
-pub returns : goal.returns
-returns c = same_block w16 c.args.a.now c.args.b.now c.requires.whole c.requires.paired

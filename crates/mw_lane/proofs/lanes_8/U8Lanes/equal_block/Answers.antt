@@ -1,6 +1,0 @@
-use Rattle.std.specs.Int.{w8}
-use Rattle.mw_lane.proofs.Same.{same_block}
-use Rattle.mw_lane.proofs.lanes_8.U8Lanes.equal_block.Goals as goal
-
-pub returns : goal.returns
-returns c = same_block w8 c.args.a.now c.args.b.now c.requires.whole c.requires.paired

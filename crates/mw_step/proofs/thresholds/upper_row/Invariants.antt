@@ -1,7 +1,0 @@
-use Rattle.std.proofs.Common.{◌≡◌, ℕ}
-use Rattle.std.specs.Prelude.{nat_le, if◌then◌else◌}
-use Rattle.mw_facts.proofs.Merged.{merged}
-use Rattle.mw_step.proofs.thresholds.upper_row.Given as goal
-
-abbrev pub invariant-loop-i : goal.invariant-loop-i
-invariant-loop-i g l = l.out ≡ merged (λ (_ : ℕ) (s : g.row.P.Denot). if nat_le l.k (g.P.Pixel.level s) then 1 else 0) l.i l.initial.out l.src

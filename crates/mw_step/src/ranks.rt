@@ -1,0 +1,40 @@
+//! Ranks of sets: the bits of a tile's window are written out as levels of one byte and ranked as those, since no kernel
+//! counts words yet. What is written out is one window of one tile, and never a plane.
+
+ghost use Rattle.std.specs.Prelude.{◌≡◌, ℕ, ◌<◌, ◌^◌, length, IfOk};
+ghost use Rattle.mw_model.specs.Windows.{seen_at};
+ghost use Rattle.mw_rank.specs.Ranks.{IsRank};
+
+use crate::thresholds::is_sound;
+use mw_bits::{as_levels, at_least};
+use mw_model::{NoMemory, Offset, Rect};
+use mw_pixel::{Bit, Plane};
+use mw_rank::rank;
+use mw_tile::Window;
+use std::alloc::Global;
+
+/// At each place of the tile, of the pixels that a set has under the element in rising order, number k, counted from 1, or
+/// the last where there are fewer; 0 where there is none.
+pub(crate) fn rank_of_set(
+    alloc: Global,
+    set: &Window<Bit>,
+    offsets: &[Offset],
+    k: u32,
+    tile: Rect,
+) -> Result<Plane<Bit>, NoMemory>
+    requires { length offsets.now < 2 ^ 16 }
+    ensures { IfOk result (IsRank (λ (n : ℕ). n) k (seen_at set.now) offsets.now tile) }
+{
+    is_sound(set);
+    let window = as_levels(alloc, set)?;
+    let ranks = rank(alloc, &window, offsets, k, tile)?;
+    let (width, height) = (tile.width, tile.height);
+    let place = Rect {
+        x: 0,
+        y: 0,
+        width,
+        height,
+    };
+    let levels = Window::new(width, height, place, ranks);
+    Ok(at_least(alloc, &levels, 1)?)
+}
