@@ -36,6 +36,7 @@ memory: toolchain python compiler
 	@python3 -B checks/prove.py morphd mw_memory_tests mw_machine_tests
 	@python3 -B checks/refused_memory.py $(MORPHD)
 	@python3 -B checks/fetch_memory.py $(MORPHD)
+	@python3 -B checks/set_memory.py $(MORPHD)
 	@python3 -B checks/refused_tests.py crates/mw_memory_tests/out/mw_memory_tests_tests
 	@python3 -B checks/refused_tests.py crates/mw_machine_tests/out/mw_machine_tests_tests
 

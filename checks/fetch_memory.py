@@ -1,22 +1,21 @@
 #!/usr/bin/env python3
 """Measures what a FETCH adds to the greatest resident size of `morphd batch`: pictures of 4096 x 4096 without a pattern, a set
 and levels of one and of two bytes, are loaded and opened by 5 x 5, and the result is fetched, or its STATUS asked for in place
-of that. An image goes out row by row, so a FETCH may add at most a tenth of what a frame takes in memory.
+of that. An image goes out row by row, so a FETCH may add at most a tenth of what a frame takes in memory, or 1 MiB.
 
     python3 checks/fetch_memory.py crates/morphd/out/morphd [--tile SIDE ..]
-
-The system counts a program's size from that of this script on, which therefore never holds a picture.
 """
 import argparse
 import os
 import random
-import subprocess
 import tempfile
+
+from resident import resident
 
 SIDE, ACROSS = 4096, 5
 # The header of a picture, how many bytes a row of it has in the file, and how many a sample takes in memory.
 KINDS = {
-    "set": (b"P4\n%d %d\n" % (SIDE, SIDE), SIDE // 8, 1),
+    "set": (b"P4\n%d %d\n" % (SIDE, SIDE), SIDE // 8, 1 / 8),
     "one byte": (b"P5\n%d %d\n255\n" % (SIDE, SIDE), SIDE, 1),
     "two bytes": (b"P5\n%d %d\n65535\n" % (SIDE, SIDE), 2 * SIDE, 2),
 }
@@ -31,18 +30,6 @@ def write_session(name, asked, chance):
         file.writelines(chance.randbytes(row) for _ in range(SIDE))
         file.write(b"ELEMENT b 2 2 %d\n%s" % (len(bitmap), bitmap))
         file.write(b"RUN r OPEN f b\n%s r\n" % asked.encode())
-
-
-def resident(program, tile):
-    """The greatest resident size of a session by one worker, in MiB, and how many bytes it wrote."""
-    words = [program, "batch", "--tile", str(tile), "--workers", "1"]
-    with open("session", "rb") as asked, open("replies", "wb") as replies:
-        made = subprocess.Popen(words, stdin=asked, stdout=replies)
-        _, status, usage = os.wait4(made.pid, 0)
-    made.returncode = os.waitstatus_to_exitcode(status)
-    if made.returncode:
-        raise SystemExit("%s ended with status %d" % (" ".join(words), made.returncode))
-    return usage.ru_maxrss / 1024, os.path.getsize("replies")
 
 
 def main():
@@ -60,17 +47,18 @@ def main():
             for asked in ASKED:
                 write_session(name, asked, random.Random(1))
                 for tile in given.tile:
-                    sizes[asked, tile], wrote = resident(program, tile)
+                    sizes[asked, tile] = resident(program, tile)
+                    wrote = os.path.getsize("replies")
                     if asked == "FETCH" and wrote < len(head) + row * SIDE:
                         raise SystemExit("%s, tiles of %d: no image was written" % (name, tile))
             frame = sample * SIDE * SIDE / 2**20
             for tile in given.tile:
                 before, after = (sizes[asked, tile] for asked in ASKED)
                 print("| %s | %d | %.0f | %.1f | %.1f |" % (name, tile, frame, before, after))
-                if after - before > frame / 10:
+                if after - before > max(frame / 10, 1):
                     over.append("%s, tiles of %d: %.1f MiB more" % (name, tile, after - before))
     if over:
-        raise SystemExit("a FETCH adds over a tenth of a frame: " + "; ".join(over))
+        raise SystemExit("a FETCH adds over a tenth of a frame, or 1 MiB: " + "; ".join(over))
 
 
 if __name__ == "__main__":

@@ -10,6 +10,7 @@ import shutil
 import subprocess
 import sys
 import tempfile
+from concurrent.futures import ThreadPoolExecutor
 
 ROOT = os.path.dirname(os.path.dirname(os.path.realpath(__file__)))
 PARTS = ("src", "specs", "proofs")
@@ -36,8 +37,9 @@ def changed(room, name):
 
 
 def main():
-    with tempfile.TemporaryDirectory() as room:
-        found = [file for name in copied(room) for file in changed(room, name)]
+    with tempfile.TemporaryDirectory() as room, ThreadPoolExecutor(os.cpu_count()) as crew:
+        names = copied(room)
+        found = sum(crew.map(changed, [room] * len(names), names), [])
     for file in found:
         print(f"{file}: run rt fmt in the crate's folder", file=sys.stderr)
     sys.exit(1 if found else 0)
