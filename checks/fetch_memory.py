@@ -5,12 +5,11 @@ of that. An image goes out row by row, so a FETCH may add at most a tenth of wha
 
     python3 checks/fetch_memory.py crates/morphd/out/morphd [--tile SIDE ..]
 """
-import argparse
 import os
 import random
 import tempfile
 
-from resident import resident
+from resident import asked_for, resident
 
 SIDE, ACROSS = 4096, 5
 # The header of a picture, how many bytes a row of it has in the file, and how many a sample takes in memory.
@@ -33,11 +32,7 @@ def write_session(name, asked, chance):
 
 
 def main():
-    words = argparse.ArgumentParser(description="what a FETCH adds to the resident size")
-    words.add_argument("program")
-    words.add_argument("--tile", type=int, nargs="+", default=[64, 128, 1024])
-    given = words.parse_args()
-    program, over = os.path.abspath(given.program), []
+    (program, tiles), over = asked_for("what a FETCH adds to the resident size"), []
     with tempfile.TemporaryDirectory(dir="/dev/shm") as folder:
         os.chdir(folder)
         print("| opened and fetched | tiles | a frame, MiB | with STATUS | with FETCH |")
@@ -46,13 +41,13 @@ def main():
             sizes = {}
             for asked in ASKED:
                 write_session(name, asked, random.Random(1))
-                for tile in given.tile:
+                for tile in tiles:
                     sizes[asked, tile] = resident(program, tile)
                     wrote = os.path.getsize("replies")
                     if asked == "FETCH" and wrote < len(head) + row * SIDE:
                         raise SystemExit("%s, tiles of %d: no image was written" % (name, tile))
             frame = sample * SIDE * SIDE / 2**20
-            for tile in given.tile:
+            for tile in tiles:
                 before, after = (sizes[asked, tile] for asked in ASKED)
                 print("| %s | %d | %.0f | %.1f | %.1f |" % (name, tile, frame, before, after))
                 if after - before > max(frame / 10, 1):

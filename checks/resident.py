@@ -1,10 +1,21 @@
 """The greatest resident size of a session of `morphd batch`, for the checks that measure memory."""
+import argparse
+import os
 import shutil
 import subprocess
 import time
 
 # A request whose refusal ends the replies: its name is one that no session here has.
 LAST, REFUSED = b"STATUS no-such-name\n", b"ERR 41 UNKNOWN\n"
+
+
+def asked_for(what):
+    """The program and the sides of tiles that the command line names."""
+    words = argparse.ArgumentParser(description=what)
+    words.add_argument("program")
+    words.add_argument("--tile", type=int, nargs="+", default=[64, 128, 1024])
+    given = words.parse_args()
+    return os.path.abspath(given.program), given.tile
 
 
 def ended(made):

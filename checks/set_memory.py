@@ -9,12 +9,11 @@ The first lines are of each command that sets meet, run on a set without a patte
 restored from are levels of one byte, and stand apart with that frame allowed. Behind them stands what a stored set takes: the
 difference between sessions of 4 and of 36 loads, for each of the 32.
 """
-import argparse
 import os
 import random
 import tempfile
 
-from resident import resident
+from resident import asked_for, resident
 
 SIDE = 4096
 HEAD = b"P4\n%d %d\n" % (SIDE, SIDE)
@@ -81,18 +80,14 @@ def stored(program):
 
 
 def main():
-    words = argparse.ArgumentParser(description="the greatest resident size of sessions on sets")
-    words.add_argument("program")
-    words.add_argument("--tile", type=int, nargs="+", default=[64, 128, 1024])
-    given = words.parse_args()
-    program, over = os.path.abspath(given.program), []
+    (program, tiles), over = asked_for("the greatest resident size of sessions on sets"), []
     with tempfile.TemporaryDirectory(dir="/dev/shm") as folder:
         os.chdir(folder)
         print("| command | tiles | MiB | at most |")
         print("|---|---:|---:|---:|")
         limits = [(it, FRAME) for it in COMMANDS] + [(it, 3 * FRAME) for it in OF_LEVELS]
         for command, limit in limits:
-            over += [(command, tile) for tile in given.tile if not measure(program, tile, command, limit)]
+            over += [(command, tile) for tile in tiles if not measure(program, tile, command, limit)]
         each = stored(program)
     print("each stored set: %.2f MiB" % each)
     if each > 2.2:
