@@ -1,2 +1,3 @@
 -- what other crates may cite
+pub mod Orders
 pub mod RunLists

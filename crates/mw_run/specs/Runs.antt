@@ -1,5 +1,5 @@
 -- An element as horizontal runs of offsets.
-use Rattle.std.specs.Prelude.{◌≡◌, ℕ, ◌+◌, ◌-◌, ◌*◌, ◌<◌, ◌≤◌, ◌&&◌, nat_le, nat_lt, if◌then◌else◌, slice_index_or, List, [], ◌∷◌, length, map, pos, ◌+ℤ◌, ◌-ℤ◌, ◌≤ℤ◌}
+use Rattle.std.specs.Prelude.{◌≡◌, ◌⊎◌, ℕ, ◌+◌, ◌-◌, ◌*◌, ◌<◌, ◌≤◌, ◌&&◌, nat_le, nat_lt, if◌then◌else◌, slice_index_or, List, [], ◌∷◌, length, map, flat_map, reverse, pos, ◌+ℤ◌, ◌-ℤ◌, ◌≤ℤ◌}
 use Rattle.std.specs.List.{range_with_len}
 use Rattle.mw_model.specs.declared.places.Offset.{Offset}
 use Rattle.mw_model.specs.Places.{nonnegative}
@@ -31,6 +31,10 @@ start_offset r = record { dx = r.dx; dy = r.dy }
 -- each run is as long as it can be: the one after it does not continue it
 abbrev pub AreLongest : List Run → Type 0
 AreLongest runs = (k : ℕ) (r : Run) → k + 1 < length runs → Continues (slice_index_or runs k r) (start_offset (slice_index_or runs (k + 1) r)) → ⊥
+
+-- the runs have the list's offsets in its order, or all of them in the opposite order
+abbrev pub AreEitherWay : List Offset → List Run → Type 0
+AreEitherWay offsets runs = (flat_map run_offsets runs ≡ offsets) ⊎ (flat_map run_offsets runs ≡ reverse offsets)
 
 -- the first extent has the columns and rows of the second
 pub record IsWider (e o : Extent) : Type 0 where

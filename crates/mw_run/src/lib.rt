@@ -13,4 +13,4 @@ mod runs;
 pub use layout::{columns_after, first_column, first_row, rows_after, start_of_run};
 pub use mw_model::NoMemory;
 pub use places::place_of;
-pub use runs::{Extent, Run, extent_of, runs_of};
+pub use runs::{Extent, Run, extent_of, runs_either_way, runs_of};

@@ -1,9 +1,9 @@
 //! An element as horizontal runs, and the columns and rows that they take.
-ghost use Rattle.std.specs.Prelude.{◌≡◌, ℕ, ◌+◌, ◌*◌, ◌<◌, ◌≤◌, ◌^◌, ℤ, pos, ◌-ℤ◌, ◌+ℤ◌, ◌≤ℤ◌, length, take, drop, IsTrue, flat_map, IfOk, IfSome, IsSome, ◌↔◌};
+ghost use Rattle.std.specs.Prelude.{◌≡◌, ℕ, ◌+◌, ◌*◌, ◌<◌, ◌≤◌, ◌^◌, ℤ, pos, ◌-ℤ◌, ◌+ℤ◌, ◌≤ℤ◌, length, take, drop, reverse, IsTrue, flat_map, IfOk, IfSome, IsSome, ◌↔◌};
 ghost use Rattle.std.specs.List.{AllByRecursion};
 ghost use Rattle.mw_model.specs.Places.{nonnegative};
 ghost use Rattle.mw_run.specs.declared.runs.Extent.{Extent};
-ghost use Rattle.mw_run.specs.Runs.{run_offsets, offset_at, start_offset, Continues, AreLongest, IsRun, IsInside, IsWider};
+ghost use Rattle.mw_run.specs.Runs.{run_offsets, offset_at, start_offset, Continues, AreEitherWay, AreLongest, IsRun, IsInside, IsWider};
 
 use mw_model::{NoMemory, Offset};
 use std::alloc::Global;
@@ -84,6 +84,28 @@ pub fn runs_of(alloc: Global, offsets: &[Offset]) -> Result<Vec<Run>, NoMemory>
         at += run.count as usize;
     }
     Ok(runs)
+}
+
+/// The offsets in the opposite order.
+fn opposite(alloc: Global, offsets: &[Offset]) -> Result<Vec<Offset>, NoMemory>
+    ensures { IfOk result (λ v. v.items ≡ reverse offsets.now) }
+{
+    let turned = offsets.iter().rev().copied().collect(alloc)?;
+    Ok(turned)
+}
+
+/// The list's runs, or, where none of them has two offsets, those of the list in the opposite order: so a reflected element
+/// has as few runs as the element. For an extremum, which takes no notice of the order.
+pub fn runs_either_way(alloc: Global, offsets: &[Offset]) -> Result<Vec<Run>, NoMemory>
+    ensures offsets { IfOk result (λ v. AreEitherWay offsets.now v.items) }
+    ensures runs { IfOk result (λ v. AllByRecursion IsRun v.items) }
+{
+    let runs = runs_of(alloc, offsets)?;
+    if runs.len() < offsets.len() {
+        return Ok(runs);
+    }
+    let turned = opposite(alloc, offsets)?;
+    runs_of(alloc, turned.as_slice())
 }
 
 /// The extent of one run.
