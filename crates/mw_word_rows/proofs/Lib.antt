@@ -3,3 +3,6 @@ pub mod Packs
 pub mod Counts
 pub mod Paddings
 pub mod Laid
+pub mod FilledMargins
+-- the crate's own
+mod FunnelPairs

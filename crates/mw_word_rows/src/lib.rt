@@ -11,6 +11,7 @@
 mod counting;
 mod doubling;
 mod extremes;
+mod margins;
 mod merging;
 mod packing;
 mod padding;
@@ -20,6 +21,7 @@ mod unpacking;
 pub use counting::count_bits;
 pub use doubling::slide_words;
 pub use extremes::WordExtremum;
+pub use margins::copy_rows;
 pub use merging::{Both, Either, Less, PairOfWords, flip_words, merge_words};
 pub use mw_model::NoMemory;
 pub use packing::pack_row;

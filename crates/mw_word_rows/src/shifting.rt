@@ -1,6 +1,6 @@
 //! Words merged with words that lie any number of bits further on. The bits of all words are one row of places: place p is
 //! bit p % 64 of word p / 64.
-ghost use Rattle.std.specs.Prelude.{◌≡◌, ℕ, ◌+◌, ◌-◌, ◌*◌, ◌/◌, ◌<◌, ◌≤◌, length};
+ghost use Rattle.std.specs.Prelude.{◌≡◌, ℕ, ◌+◌, ◌-◌, ◌*◌, ◌/◌, ◌%◌, ◌<◌, ◌≤◌, length};
 ghost use Rattle.std.specs.Int.{bit_at};
 ghost use Rattle.mw_words.specs.Packed.{bit_of};
 
@@ -20,8 +20,24 @@ pub fn combine_from<E: WordExtremum>(cells: &[u64], start: usize, out: &mut [u64
     }
 }
 
-/// Merges into each bit the ones `start` and `other` places further on in the cells, in one pass.
-pub fn combine_both<E: WordExtremum>(cells: &[u64], start: usize, other: usize, out: &mut [u64])
+/// Merges the ones at two places that lie as far into their words: these are merged first, and shifted once.
+fn combine_aligned<E: WordExtremum>(cells: &[u64], start: usize, other: usize, out: &mut [u64])
+    requires first { start / 64 + length out.old < length cells.now }
+    requires second { other / 64 + length out.old < length cells.now }
+    requires aligned { start % 64 ≡ other % 64 }
+    ensures { (q : ℕ) → q < 64 * length out.old → bit_of out.new q ≡ E.merge (E.merge (bit_of out.old q) (bit_of cells.now (start + q))) (bit_of cells.now (other + q)) }
+{
+    let (first, second) = (start / 64, other / 64);
+    let shift = (start % 64) as u32;
+    for i in 0..out.len() {
+        let low = E::combine_words(cells[first + i], cells[second + i]);
+        let high = E::combine_words(cells[first + i + 1], cells[second + i + 1]);
+        out[i] = E::combine_words(out[i], funnel(low, high, shift));
+    }
+}
+
+/// Merges the ones at two places, each shifted by itself.
+fn combine_apart<E: WordExtremum>(cells: &[u64], start: usize, other: usize, out: &mut [u64])
     requires first { start / 64 + length out.old < length cells.now }
     requires second { other / 64 + length out.old < length cells.now }
     ensures { (q : ℕ) → q < 64 * length out.old → bit_of out.new q ≡ E.merge (E.merge (bit_of out.old q) (bit_of cells.now (start + q))) (bit_of cells.now (other + q)) }
@@ -33,6 +49,19 @@ pub fn combine_both<E: WordExtremum>(cells: &[u64], start: usize, other: usize, 
         let far = funnel(cells[second + i], cells[second + i + 1], turn);
         let best = E::combine_words(out[i], near);
         out[i] = E::combine_words(best, far);
+    }
+}
+
+/// Merges into each bit the ones `start` and `other` places further on in the cells, in one pass.
+pub fn combine_both<E: WordExtremum>(cells: &[u64], start: usize, other: usize, out: &mut [u64])
+    requires first { start / 64 + length out.old < length cells.now }
+    requires second { other / 64 + length out.old < length cells.now }
+    ensures { (q : ℕ) → q < 64 * length out.old → bit_of out.new q ≡ E.merge (E.merge (bit_of out.old q) (bit_of cells.now (start + q))) (bit_of cells.now (other + q)) }
+{
+    if start % 64 == other % 64 {
+        combine_aligned::<E>(cells, start, other, out);
+    } else {
+        combine_apart::<E>(cells, start, other, out);
     }
 }
 

@@ -1,7 +1,7 @@
 use Rattle.std.proofs.Common.{◌+◌}
 use Rattle.mw_words.specs.Packed.{bit_of}
 use Rattle.mw_words.proofs.Done.{WordsDone}
-use Rattle.mw_word_rows.proofs.shifting.combine_both.Given as goal
+use Rattle.mw_word_rows.proofs.shifting.combine_apart.Given as goal
 
 abbrev pub invariant-loop-i : goal.invariant-loop-i
 invariant-loop-i g l =

@@ -3,7 +3,7 @@ use Rattle.std.specs.Int.{bit_at}
 use Rattle.mw_words.specs.Packed.{bit_of}
 use Rattle.mw_words.proofs.Done.{words_more}
 use Rattle.mw_words.proofs.Funnels.{IsFunnel, funnel_at}
-use Rattle.mw_word_rows.proofs.shifting.combine_both.Goals as goal
+use Rattle.mw_word_rows.proofs.shifting.combine_apart.Goals as goal
 
 pub loop-i-preserved : goal.loop-i-preserved
 loop-i-preserved g c =
