@@ -4,3 +4,4 @@ mod Differences
 mod Parts
 mod Halves
 mod Marks
+mod Tested
