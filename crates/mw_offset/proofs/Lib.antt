@@ -5,4 +5,5 @@ pub mod Gathers
 pub mod Seens
 -- the crate's own
 mod Parts
+mod Pushed
 mod StripRows

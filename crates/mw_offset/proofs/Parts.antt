@@ -1,9 +1,9 @@
 -- Parts of runs, merged at their places.
-use Rattle.std.proofs.Common.{◌≡◌, ℕ, ◌+◌, ◌-◌, ◌*◌, ◌<◌, ◌≤◌, Bool, true, false, List, [], ◌∷◌, ◌++◌, length, take, get_or, set, fold, flat_map, refl, ap, sym, arith, ◌∙◌, inl, inr, length-set, get_or-set_same, get_or-set_other, append-nil}
+use Rattle.std.proofs.Common.{◌≡◌, ℕ, ◌+◌, ◌-◌, ◌<◌, ◌≤◌, Bool, true, false, List, [], ◌∷◌, ◌++◌, length, take, get_or, fold, flat_map, refl, ap, sym, arith, ◌∙◌, append-nil}
 use Rattle.std.specs.List.{AllByRecursion}
 use Rattle.std.specs.Prelude.{nat_le, nat_lt, ◌&&◌, if◌then◌else◌}
-use Rattle.std.proofs.lemmas.Bool.{cases_lt, ltb-false}
-use Rattle.std.proofs.lemmas.List.{take_more, get_or_default}
+use Rattle.std.proofs.lemmas.Bool.{ltb-false}
+use Rattle.std.proofs.lemmas.List.{take_more, get_or_default, get_or_append_left}
 use Rattle.std.proofs.lemmas.List.Concat.{flat_map-append, flat_map-cons}
 use Rattle.std.proofs.lemmas.List.Sums.{fold-append}
 use Rattle.mw_facts.proofs.Alls.{all-append}
@@ -11,8 +11,8 @@ use Rattle.mw_line.proofs.Folds.{IsExtremum}
 use Rattle.mw_run.specs.declared.runs.Run.{Run}
 use Rattle.mw_run.specs.declared.runs.Extent.{Extent}
 use Rattle.mw_offset.proofs.Rooms.{merged_again}
-use Rattle.mw_offset.specs.Places.{merge_from, places_of}
-use Rattle.mw_run.specs.Runs.{start_of, HasRoom, sized, two_parts}
+use Rattle.mw_offset.specs.Places.{merge_from, places_of, sized_below}
+use Rattle.mw_run.specs.Runs.{start_of, HasRoom, two_parts}
 
 -- the samples below `at` have their values, and the others are as they were
 pub record PartsDone {A : Type 0} (value : A → ℕ → A → A) (at : ℕ) (old out : List A) : Type 0 where
@@ -24,31 +24,17 @@ pub record PartsDone {A : Type 0} (value : A → ℕ → A → A) (at : ℕ) (ol
 pub parts_none : {A : Type 0} (value : A → ℕ → A → A) (old : List A) → PartsDone value 0 old old
 parts_none value old = record { within = omega arith; size = refl; done = λ q d lt. absurd (omega arith); rest = λ q d le. refl }
 
--- a sample more
-pub parts_one : {A : Type 0} (value : A → ℕ → A → A) (at : ℕ) (old out : List A) (a v : A) → at < length out → a ≡ get_or out at a → ((d : A) → v ≡ value d at a) → PartsDone value at old out → PartsDone value (at + 1) old (set out at v)
-parts_one value at old out a v lt a-is v-is before = record {
-  within = omega (arith, before.size);
-  size = length-set out at v ∙ before.size;
-  done = λ q d less. elim (cases_lt q at) [
-    | inl early ↦ get_or-set_other out at q v d (omega arith) ∙ before.done q d early
-    | inr late ↦
-        let here : q ≡ at = omega arith in
-        rw here (get_or-set_same out at v d lt ∙ v-is d ∙ ap (value d at) (a-is ∙ get_or_default out at a d lt ∙ before.rest at d (omega arith)))
-  ];
-  rest = λ q d from. get_or-set_other out at q v d (omega arith) ∙ before.rest q d (omega arith);
-}
+-- what holds of the values that stand there holds whatever stands for those that do not
+pub any_default : {A : Type 0} (value : A → A) (made part : List A) (x : ℕ) (d e : A) → x < length made → x < length part → get_or made x d ≡ value (get_or part x d) → get_or made x e ≡ value (get_or part x e)
+any_default value made part x d e lt less is = get_or_default made x e d lt ∙ is ∙ ap value (get_or_default part x d e less)
+
+-- the front of a list that was written over
+pub front_kept : {A : Type 0} (f : A → ℕ → A) (places : List ℕ) (front back rest : List A) (q : ℕ) (d : A) → front ≡ rest → q < length rest → fold f (get_or (front ++ back) q d) places ≡ fold f (get_or rest q d) places
+front_kept f places front back rest q d same lt =
+    ap (λ (t : _). fold f t places) (get_or_append_left front back d q (omega (arith, ap length same)) ∙ ap (λ (t : List _). get_or t q d) same)
 
 pub fold_taken : {A B : Type 0} (f : A → B → A) (best : A) (xs : List B) (j : ℕ) (d : B) → j < length xs → fold f best (take (j + 1) xs) ≡ f (fold f best (take j xs)) (get_or xs j d)
 fold_taken f best xs j d lt = ap (fold f best) (take_more xs j d lt) ∙ fold-append f best (take j xs) (get_or xs j d ∷ [])
-
--- one place more is merged into a sample
-pub merged_one : {A : Type 0} (f : A → A → A) (cells : List A) (d : A) (q j place : ℕ) (places : List ℕ) (best found made s : A) → j < length places → place ≡ get_or places j 0 → place + q < length cells → found ≡ fold (merge_from f cells d q) best (take j places)
-    → s ≡ get_or cells (place + q) s → made ≡ f found s → made ≡ fold (merge_from f cells d q) best (take (j + 1) places)
-merged_one f cells d q j place places best found made s lt place-is room found-is s-is made-is =
-    made-is
-    ∙ ap (λ (t : _). f t s) found-is
-    ∙ ap (f (fold (merge_from f cells d q) best (take j places))) (s-is ∙ get_or_default cells (place + q) s d room ∙ ap (λ (t : ℕ). get_or cells (t + q) d) place-is)
-    ∙ sym (fold_taken (merge_from f cells d q) best places j 0 lt)
 
 -- one place more is merged into a block
 pub merged_more : {A : Type 0} (f : A → A → A) (cells : List A) (d : A) (at q j place : ℕ) (places : List ℕ) (best found made : A) → j < length places → place ≡ get_or places j 0 → found ≡ fold (merge_from f cells d (at + q)) best (take j places)
@@ -61,15 +47,15 @@ merged_more f cells d at q j place places best found made lt place-is found-is m
     ∙ sym (fold_taken (merge_from f cells d (at + q)) best places j 0 lt)
 
 -- the places of one run more
-pub more_places : (e : Extent) (wide size : ℕ) (runs : List Run) (i : ℕ) (r : Run) (old new : List ℕ) → i < length runs → r ≡ get_or runs i r → new ≡ old ++ places_of e wide size r → old ≡ flat_map (places_of e wide size) (take i runs)
-    → new ≡ flat_map (places_of e wide size) (take (i + 1) runs)
-more_places e wide size runs i r old new lt is new-is old-is =
+pub more_places : (e : Extent) (wide size next : ℕ) (runs : List Run) (i : ℕ) (r : Run) (old new : List ℕ) → i < length runs → r ≡ get_or runs i r → new ≡ old ++ places_of e wide size next r → old ≡ flat_map (places_of e wide size next) (take i runs)
+    → new ≡ flat_map (places_of e wide size next) (take (i + 1) runs)
+more_places e wide size next runs i r old new lt is new-is old-is =
     new-is
-    ∙ ap (λ (t : List ℕ). t ++ places_of e wide size r) old-is
-    ∙ ap (λ (t : List ℕ). flat_map (places_of e wide size) (take i runs) ++ t) (sym (append-nil (places_of e wide size r)) ∙ sym (flat_map-cons (places_of e wide size) r []))
-    ∙ sym (flat_map-append (places_of e wide size) (take i runs) (r ∷ []))
-    ∙ ap (λ (t : Run). flat_map (places_of e wide size) (take i runs ++ t ∷ [])) is
-    ∙ ap (flat_map (places_of e wide size)) (sym (take_more runs i r lt))
+    ∙ ap (λ (t : List ℕ). t ++ places_of e wide size next r) old-is
+    ∙ ap (λ (t : List ℕ). flat_map (places_of e wide size next) (take i runs) ++ t) (sym (append-nil (places_of e wide size next r)) ∙ sym (flat_map-cons (places_of e wide size next) r []))
+    ∙ sym (flat_map-append (places_of e wide size next) (take i runs) (r ∷ []))
+    ∙ ap (λ (t : Run). flat_map (places_of e wide size next) (take i runs ++ t ∷ [])) is
+    ∙ ap (flat_map (places_of e wide size next)) (sym (take_more runs i r lt))
 
 -- a run's first and last samples, where they are not the same
 two_merged : {A : Type 0} (f : A → A → A) → IsExtremum f → (cells : List A) (d : A) (q x y : ℕ) (best : A) (b : Bool) → (b ≡ false → y ≡ x)
@@ -82,14 +68,14 @@ no_second : (start size count : ℕ) → nat_lt size count ≡ false → start +
 no_second start size count is = let short = ltb-false size count is in omega arith
 
 -- merging at the places of runs is merging their two parts
-pub places_are_parts : {A : Type 0} (f : A → A → A) → IsExtremum f → (cells : List A) (d : A) (e : Extent) (wide size q : ℕ) (best : A) (runs : List Run)
-    → fold (merge_from f cells d q) best (flat_map (places_of e wide size) runs) ≡ fold (sized size (two_parts f cells d e wide size q)) best runs
-places_are_parts f laws cells d e wide size q best [] = refl
-places_are_parts f laws cells d e wide size q best (r ∷ rs) =
-    ap (fold (merge_from f cells d q) best) (flat_map-cons (places_of e wide size) r rs)
-    ∙ fold-append (merge_from f cells d q) best (places_of e wide size r) (flat_map (places_of e wide size) rs)
-    ∙ ap (λ (t : _). fold (merge_from f cells d q) t (flat_map (places_of e wide size) rs)) (either (nat_le size r.count && nat_lt r.count (2 * size)))
-    ∙ places_are_parts f laws cells d e wide size q (sized size (two_parts f cells d e wide size q) best r) rs
+pub places_are_parts : {A : Type 0} (f : A → A → A) → IsExtremum f → (cells : List A) (d : A) (e : Extent) (wide size next q : ℕ) (best : A) (runs : List Run)
+    → fold (merge_from f cells d q) best (flat_map (places_of e wide size next) runs) ≡ fold (sized_below size next (two_parts f cells d e wide size q)) best runs
+places_are_parts f laws cells d e wide size next q best [] = refl
+places_are_parts f laws cells d e wide size next q best (r ∷ rs) =
+    ap (fold (merge_from f cells d q) best) (flat_map-cons (places_of e wide size next) r rs)
+    ∙ fold-append (merge_from f cells d q) best (places_of e wide size next r) (flat_map (places_of e wide size next) rs)
+    ∙ ap (λ (t : _). fold (merge_from f cells d q) t (flat_map (places_of e wide size next) rs)) (either (nat_le size r.count && nat_lt r.count next))
+    ∙ places_are_parts f laws cells d e wide size next q (sized_below size next (two_parts f cells d e wide size q) best r) rs
   where
     either : (b : Bool) → fold (merge_from f cells d q) best (if b then start_of e wide r ∷ (if nat_lt size r.count then (start_of e wide r + (r.count - size)) ∷ [] else []) else [])
         ≡ (if b then two_parts f cells d e wide size q best r else best)
@@ -97,13 +83,13 @@ places_are_parts f laws cells d e wide size q best (r ∷ rs) =
     either false = refl
 
 -- at each place there is room for all samples
-pub all_places : (e : Extent) (wide size n m : ℕ) (runs : List Run) → 0 < size → AllByRecursion (HasRoom e wide n m) runs → AllByRecursion (λ (p : ℕ). p + n ≤ m) (flat_map (places_of e wide size) runs)
-all_places e wide size n m [] some all = tt
-all_places e wide size n m (r ∷ rs) some all =
+pub all_places : (e : Extent) (wide size next n m : ℕ) (runs : List Run) → 0 < size → AllByRecursion (HasRoom e wide n m) runs → AllByRecursion (λ (p : ℕ). p + n ≤ m) (flat_map (places_of e wide size next) runs)
+all_places e wide size next n m [] some all = tt
+all_places e wide size next n m (r ∷ rs) some all =
     let fits = all.0.room in
-    rw (flat_map-cons (places_of e wide size) r rs)
-    (all-append (λ (p : ℕ). p + n ≤ m) (places_of e wide size r) (flat_map (places_of e wide size) rs)
-    (either (λ (p : ℕ). p + n ≤ m) (start_of e wide r) (start_of e wide r + (r.count - size)) (nat_le size r.count && nat_lt r.count (2 * size)) (nat_lt size r.count) (omega arith) (omega arith)) (all_places e wide size n m rs some all.1))
+    rw (flat_map-cons (places_of e wide size next) r rs)
+    (all-append (λ (p : ℕ). p + n ≤ m) (places_of e wide size next r) (flat_map (places_of e wide size next) rs)
+    (either (λ (p : ℕ). p + n ≤ m) (start_of e wide r) (start_of e wide r + (r.count - size)) (nat_le size r.count && nat_lt r.count next) (nat_lt size r.count) (omega arith) (omega arith)) (all_places e wide size next n m rs some all.1))
   where
     either : (P : ℕ → Type 0) (x y : ℕ) (b c : Bool) → P x → P y → AllByRecursion P (if b then x ∷ (if c then y ∷ [] else []) else [])
     either P x y true true here there = (here, (there, tt))

@@ -1,5 +1,5 @@
 -- Places of a row of samples, laid out around a tile, at which runs are looked up.
-use Rattle.std.specs.Prelude.{ℕ, ◌+◌, ◌-◌, ◌*◌, ◌&&◌, nat_le, nat_lt, if◌then◌else◌, slice_index_or, List, [], ◌∷◌}
+use Rattle.std.specs.Prelude.{ℕ, ◌+◌, ◌-◌, ◌&&◌, nat_le, nat_lt, if◌then◌else◌, slice_index_or, List, [], ◌∷◌}
 use Rattle.mw_run.specs.declared.runs.Run.{Run}
 use Rattle.mw_run.specs.declared.runs.Extent.{Extent}
 use Rattle.mw_run.specs.Runs.{start_of}
@@ -8,7 +8,11 @@ use Rattle.mw_run.specs.Runs.{start_of}
 abbrev pub merge_from : {A : Type 0} → (A → A → A) → List A → A → ℕ → A → ℕ → A
 merge_from merge cells d q best p = merge best (slice_index_or cells (p + q) d)
 
--- where the parts of `size` offsets begin that make up a run, if it has `size` to `2 * size - 1` offsets
-abbrev pub places_of : Extent → ℕ → ℕ → Run → List ℕ
-places_of e wide size r =
-    if nat_le size r.count && nat_lt r.count (2 * size) then start_of e wide r ∷ (if nat_lt size r.count then (start_of e wide r + (r.count - size)) ∷ [] else []) else []
+-- where the parts of `size` offsets begin that make up a run, if it has `size` offsets or more, and less than `next`
+abbrev pub places_of : Extent → ℕ → ℕ → ℕ → Run → List ℕ
+places_of e wide size next r =
+    if nat_le size r.count && nat_lt r.count next then start_of e wide r ∷ (if nat_lt size r.count then (start_of e wide r + (r.count - size)) ∷ [] else []) else []
+
+-- a step that is taken at the runs of `size` offsets and more, and less than `next`
+abbrev pub sized_below : {A : Type 0} → ℕ → ℕ → (A → Run → A) → A → Run → A
+sized_below size next step best r = if nat_le size r.count && nat_lt r.count next then step best r else best

@@ -9,6 +9,7 @@
 mod by_runs;
 mod offsets;
 mod places;
+mod sizes;
 mod spread;
 mod strips;
 

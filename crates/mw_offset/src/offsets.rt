@@ -13,7 +13,7 @@ use crate::strips::extremum_by_strips;
 use mw_line::combine_window_row;
 use mw_model::{NoMemory, Offset, Rect};
 use mw_pixel::{Extremum, Grey, Plane, copies};
-use mw_run::{Extent, columns_after, extent_of, place_of, rows_after, runs_of};
+use mw_run::{Extent, columns_after, extent_of, place_of, rows_after, runs_either_way};
 use mw_tile::Window;
 use std::alloc::Global;
 
@@ -115,7 +115,7 @@ fn extremum_samples<P: Grey, E: Extremum<P>>(
     ensures size { IfOk result (λ v. vec_len v ≡ tile.height * tile.width) }
     ensures cells { IfOk result (λ v. (x y : ℕ) → x < tile.width → y < tile.height → slice_index_or v.items (y * tile.width + x) neutral ≡ fold E.merge neutral (seen_under (seen_at window.now) offsets.now (tile.x + x) (tile.y + y))) }
 {
-    let runs = runs_of(alloc, offsets)?;
+    let runs = runs_either_way(alloc, offsets)?;
     if tile.width > 0 && tile.height > 0 {
         if let Some(extent) = extent_of(runs.as_slice()) {
             if is_near(extent) && tile.y <= u32::MAX - tile.height {

@@ -1,6 +1,7 @@
 //! Samples merged with those at several places of another row: a block of them stays in registers until those of all
-//! places are merged into it.
-ghost use Rattle.std.specs.Prelude.{◌≡◌, ℕ, ◌+◌, ◌<◌, ◌≤◌, length, fold, slice_index_or};
+//! places are merged into it. The last samples of a row are merged as a block too, so there are 63 cells more than are
+//! asked for.
+ghost use Rattle.std.specs.Prelude.{◌≡◌, ℕ, ◌+◌, ◌-◌, ◌*◌, ◌<◌, ◌≤◌, length, fold, slice_index_or};
 ghost use Rattle.std.specs.List.{AllByRecursion};
 ghost use Rattle.mw_offset.specs.Places.{merge_from};
 
@@ -22,30 +23,59 @@ fn merge_block<P: Pixel, E: Extremum<P>>(cells: &[P], places: &[usize], at: usiz
     block.copy_from_slice(&best);
 }
 
-/// The extremum of a sample and those of the cells that stand `at` places after each of the places.
-fn merge_one<P: Pixel, E: Extremum<P>>(cells: &[P], places: &[usize], at: usize, sample: P) -> P
-    requires { AllByRecursion (λ p. p + (at + 1) ≤ length cells.now) places.now }
-    ensures { (d : P) → result ≡ fold (merge_from E.merge cells.now d at) sample places.now }
+/// Merges into at most 64 samples those of the cells that stand `at` places after each of the places.
+fn merge_rest<P: Pixel, E: Extremum<P>>(cells: &[P], places: &[usize], at: usize, rest: &mut [P])
+    requires some { 0 < length rest.old }
+    requires few { length rest.old ≤ 64 }
+    requires cells { 64 ≤ length cells.now }
+    requires room { AllByRecursion (λ p. p + (at + 64) ≤ length cells.now) places.now }
+    ensures { (q : ℕ) (d : P) → q < length rest.old → slice_index_or rest.new q d ≡ fold (merge_from E.merge cells.now d (at + q)) (slice_index_or rest.old q d) places.now }
 {
-    let mut best = sample;
-    for place in places {
-        best = E::combine(best, cells[*place + at]);
-    }
-    best
+    let count = rest.len();
+    let mut block = [rest[0]; 64];
+    block[..count].copy_from_slice(rest);
+    merge_block::<P, E>(cells, places, at, &mut block);
+    rest.copy_from_slice(&block[..count]);
 }
 
-/// Merges into each sample those of the cells that stand as far after each of the places.
-pub(crate) fn combine_places<P: Pixel, E: Extremum<P>>(cells: &[P], places: &[usize], out: &mut [P])
-    requires { AllByRecursion (λ p. p + length out.old ≤ length cells.now) places.now }
-    ensures { (q : ℕ) (d : P) → q < length out.old → slice_index_or out.new q d ≡ fold (merge_from E.merge cells.now d q) (slice_index_or out.old q d) places.now }
+/// Merges into each sample that of the cells that stands `from` places and as many more after each of the places.
+fn combine_places<P: Pixel, E: Extremum<P>>(
+    cells: &[P],
+    places: &[usize],
+    from: usize,
+    out: &mut [P],
+)
+    requires cells { from + length out.old + 63 ≤ length cells.now }
+    requires room { AllByRecursion (λ p. p + (from + length out.old + 63) ≤ length cells.now) places.now }
+    ensures { (q : ℕ) (d : P) → q < length out.old → slice_index_or out.new q d ≡ fold (merge_from E.merge cells.now d (from + q)) (slice_index_or out.old q d) places.now }
 {
     let mut at = 0usize;
     'by_block: while out.len() - at >= 64 {
-        merge_block::<P, E>(cells, places, at, &mut out[at..at + 64]);
+        merge_block::<P, E>(cells, places, from + at, &mut out[at..at + 64]);
         at += 64;
     }
-    'by_one: while at < out.len() {
-        out[at] = merge_one::<P, E>(cells, places, at, out[at]);
-        at += 1;
+    if at < out.len() {
+        merge_rest::<P, E>(cells, places, from + at, &mut out[at..]);
+    }
+}
+
+/// Merges into each sample of rows that lie behind one another those of the cells, in rows of `wide`, that stand as far
+/// after each of the places.
+pub(crate) fn combine_rows_at<P: Pixel, E: Extremum<P>>(
+    cells: &[P],
+    wide: usize,
+    places: &[usize],
+    width: usize,
+    height: usize,
+    out: &mut [P],
+)
+    requires size { length out.old ≡ height * width }
+    requires cells { (height - 1) * wide + width + 63 ≤ length cells.now }
+    requires room { AllByRecursion (λ p. p + ((height - 1) * wide + width + 63) ≤ length cells.now) places.now }
+    ensures { (x y : ℕ) (d : P) → x < width → y < height → slice_index_or out.new (y * width + x) d ≡ fold (merge_from E.merge cells.now d (y * wide + x)) (slice_index_or out.old (y * width + x) d) places.now }
+{
+    for y in 0..height {
+        let start = y * width;
+        combine_places::<P, E>(cells, places, y * wide, &mut out[start..start + width]);
     }
 }

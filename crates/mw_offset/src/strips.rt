@@ -1,16 +1,16 @@
 //! The extremum by runs, one strip of the tile's rows after another, so that the rows of a strip stay in the processor's
 //! cache from their spreading to their last merge. With passes over the whole tile, discs of 5 to 31 places took 1.3 to 2.3
 //! times as long on one tile of 4096 x 4096 samples.
-ghost use Rattle.std.specs.Prelude.{◌≡◌, ℕ, ◌+◌, ◌*◌, ◌<◌, ◌≤◌, ◌^◌, ◌-ℤ◌, ◌≤ℤ◌, slice_index_or, fold, flat_map, vec_len, IfOk};
+ghost use Rattle.std.specs.Prelude.{◌≡◌, ℕ, ◌+◌, ◌*◌, ◌<◌, ◌≤◌, ◌^◌, ◌-ℤ◌, ◌≤ℤ◌, length, slice_index_or, fold, flat_map, vec_len, IfOk, OnOk};
 ghost use Rattle.std.specs.List.{AllByRecursion};
 ghost use Rattle.mw_model.specs.Places.{nonnegative};
 ghost use Rattle.mw_model.specs.Rasters.{seen_under};
 ghost use Rattle.mw_model.specs.Windows.{seen_at};
 ghost use Rattle.mw_run.specs.Runs.{run_offsets, IsInside};
 
-use crate::by_runs::extremum_by_runs;
+use crate::by_runs::{Looked, merge_runs};
 use mw_model::{NoMemory, Rect};
-use mw_pixel::{Extremum, Grey};
+use mw_pixel::{Extremum, Grey, copies};
 use mw_run::{Extent, Run, rows_after};
 use mw_tile::Window;
 use std::alloc::Global;
@@ -31,6 +31,53 @@ fn rows_of_strip(width: u32, extent: Extent) -> usize
     in_cache.max(32).max(rows_after(extent))
 }
 
+/// Merges into neutral samples, at each place of the tile, what the window has under the runs.
+fn merge_strips<P: Grey, E: Extremum<P>>(
+    alloc: Global,
+    window: &Window<P>,
+    runs: &[Run],
+    looked: Looked,
+    neutral: P,
+    out: &mut [P],
+) -> Result<(), NoMemory>
+    requires inside { AllByRecursion (IsInside looked.extent) runs.now }
+    requires some { (0 < looked.tile.width) × (looked.tile.y + looked.tile.height < 2 ^ 32) }
+    requires wide { looked.extent.left ≤ℤ looked.extent.right }
+    requires high { looked.extent.top ≤ℤ looked.extent.bottom }
+    requires few_rows { nonnegative (looked.extent.bottom -ℤ looked.extent.top) ≤ 1023 }
+    requires size { length out.old ≡ looked.tile.height * looked.tile.width }
+    requires blank { (q : ℕ) → slice_index_or out.old q neutral ≡ neutral }
+    ensures { OnOk result ((x y : ℕ) → x < looked.tile.width → y < looked.tile.height → slice_index_or out.new (y * looked.tile.width + x) neutral ≡ fold E.merge neutral (seen_under (seen_at window.now) (flat_map run_offsets runs.now) (looked.tile.x + x) (looked.tile.y + y))) }
+{
+    let Looked { tile, extent } = looked;
+    let most = rows_of_strip(tile.width, extent);
+    let width = tile.width as usize;
+    let mut y = 0u32;
+    'strips: while y < tile.height {
+        let height = most.min((tile.height - y) as usize);
+        let strip = Rect {
+            x: tile.x,
+            y: tile.y + y,
+            width: tile.width,
+            height: height as u32,
+        };
+        let start = y as usize * width;
+        merge_runs::<P, E>(
+            alloc,
+            window,
+            runs,
+            Looked {
+                tile: strip,
+                extent,
+            },
+            neutral,
+            &mut out[start..start + height * width],
+        )?;
+        y += height as u32;
+    }
+    Ok(())
+}
+
 /// The extremum of the neutral sample and what the window has under the runs, at each place of the tile.
 pub(crate) fn extremum_by_strips<P: Grey, E: Extremum<P>>(
     alloc: Global,
@@ -48,20 +95,8 @@ pub(crate) fn extremum_by_strips<P: Grey, E: Extremum<P>>(
     ensures size { IfOk result (λ v. vec_len v ≡ tile.height * tile.width) }
     ensures cells { IfOk result (λ v. (x y : ℕ) → x < tile.width → y < tile.height → slice_index_or v.items (y * tile.width + x) neutral ≡ fold E.merge neutral (seen_under (seen_at window.now) (flat_map run_offsets runs.now) (tile.x + x) (tile.y + y))) }
 {
-    let most = rows_of_strip(tile.width, extent);
-    let mut samples = Vec::with_capacity(alloc, tile.height as usize * tile.width as usize)?;
-    let mut y = 0u32;
-    'strips: while y < tile.height {
-        let height = most.min((tile.height - y) as usize) as u32;
-        let strip = Rect {
-            x: tile.x,
-            y: tile.y + y,
-            width: tile.width,
-            height,
-        };
-        let made = extremum_by_runs::<P, E>(alloc, window, runs, extent, neutral, strip)?;
-        samples.extend_from_slice(made.as_slice())?;
-        y += height;
-    }
+    let looked = Looked { tile, extent };
+    let mut samples = copies(alloc, tile.height as usize * tile.width as usize, neutral)?;
+    merge_strips::<P, E>(alloc, window, runs, looked, neutral, samples.as_mut_slice())?;
     Ok(samples)
 }

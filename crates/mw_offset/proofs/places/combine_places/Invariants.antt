@@ -1,16 +1,10 @@
-use Rattle.std.proofs.Common.{◌-◌, fold, length}
+use Rattle.std.proofs.Common.{◌-◌, ◌+◌, fold, length}
 use Rattle.mw_offset.specs.Places.{merge_from}
 use Rattle.mw_offset.proofs.Parts.{PartsDone}
 use Rattle.mw_offset.proofs.places.combine_places.Given as goal
 
 abbrev pub invariant-by_block : goal.invariant-by_block
-invariant-by_block g l = PartsDone (λ d q best. fold (merge_from g.E.Extremum.merge l.cells d q) best l.places) l.at l.fn.out l.out
+invariant-by_block g l = PartsDone (λ d q best. fold (merge_from g.E.Extremum.merge l.cells d (l.from + q)) best l.places) l.at l.fn.out l.out
 
 abbrev pub decreases-by_block : goal.decreases-by_block
 decreases-by_block g l = length l.fn.out - l.at
-
-abbrev pub invariant-by_one : goal.invariant-by_one
-invariant-by_one g l = PartsDone (λ d q best. fold (merge_from g.E.Extremum.merge l.cells d q) best l.places) l.at l.fn.out l.out
-
-abbrev pub decreases-by_one : goal.decreases-by_one
-decreases-by_one g l = length l.fn.out - l.at

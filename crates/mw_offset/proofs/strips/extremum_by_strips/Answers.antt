@@ -1,25 +1,14 @@
-use Rattle.std.proofs.Common.{◌≡◌, ◌+◌, ◌*◌, ◌++◌, ℕ, List, length, fold, flat_map, ap, ◌∙◌, arith, add_assoc}
-use Rattle.mw_model.specs.Rasters.{seen_under}
-use Rattle.mw_model.specs.Windows.{seen_at}
-use Rattle.mw_run.specs.Runs.{run_offsets}
-use Rattle.mw_offset.proofs.StripRows.{rows_made_on}
+use Rattle.std.proofs.Common.{◌≡◌, ◌+◌, ◌*◌, ◌∙◌, List, length, get_or, ap, arith}
+use Rattle.mw_facts.proofs.Elements.{take-written, get_or-replicate_same}
 use Rattle.mw_offset.proofs.strips.extremum_by_strips.Goals as goal
 
-pub strips-preserved : goal.strips-preserved
-strips-preserved g c =
-    let f = g.E.Extremum.merge in
-    let n = c.args.neutral in
-    let tile = c.args.tile in
-    let y = c.strips.y in
-    let h = c.min-height.result in
-    let part = c.in_ok-made.made.items in
-    let known = c.strips.invariant in
-    let under = λ (x down : ℕ). fold f n (seen_under (seen_at c.args.window.now) (flat_map run_offsets c.args.runs.now) (tile.x + x) down) in
-    let size : length part ≡ h * tile.width = omega (arith, c.in_ok-made.ensures.size) in
-    let all : c.extend_from_slice.new.self.items ≡ c.strips.samples.items ++ part = c.in_ok-extend_from_slice.ensures.items ∙ ap (λ (t : List g.row.P.Denot). c.strips.samples.items ++ t) c.as_slice.ensures.value in
-    record {
-      size = omega (arith, c.in_ok-extend_from_slice.ensures.len, c.as_slice.ensures.len, size, known.size);
-      within = omega arith;
-      made = rw all (rows_made_on (λ (x j : ℕ). under x (tile.y + j)) n tile.width y h c.strips.samples.items part size
-          (λ x j less row_less. c.in_ok-made.ensures.cells x j less row_less ∙ ap (under x) (add_assoc tile.y y j)) known.made);
-    }
+pub merge_strips-requires-clause-blank : goal.merge_strips-requires-clause-blank
+merge_strips-requires-clause-blank g c = λ q.
+    ap (λ (t : List g.row.P.Denot). get_or t q c.args.neutral) (c.as_mut_slice.ensures.value ∙ c.in_ok-samples.ensures) ∙ get_or-replicate_same (c.args.tile.height * c.args.tile.width) q c.args.neutral
+
+pub returns-clause-cells : goal.returns-clause-cells
+returns-clause-cells g c = λ x y less row_less.
+    let items = c.in_ok-samples.samples.items in
+    let out = c.merge_strips.new.out in
+    let whole : length out ≡ c.in_ok-samples.samples.len = omega arith in
+    ap (λ (t : List g.row.P.Denot). get_or t (y * c.args.tile.width + x) c.args.neutral) (take-written items out c.in_ok-samples.samples.len whole) ∙ c.in_ok-merge_strips.ensures x y less row_less

@@ -4,7 +4,7 @@ use Rattle.mw_facts.proofs.Alls.{all-get_or}
 use Rattle.mw_run.specs.declared.runs.Run.{Run}
 use Rattle.mw_run.specs.Runs.{HasRoom}
 use Rattle.mw_offset.proofs.Parts.{more_places}
-use Rattle.mw_offset.proofs.by_runs.places_of_size.Goals as goal
+use Rattle.mw_offset.proofs.by_runs.places_of_sizes.Goals as goal
 
 pub push_places-requires-clause-inside : goal.push_places-requires-clause-inside
 push_places-requires-clause-inside c =
@@ -24,4 +24,4 @@ loop-i-preserved c =
     let none : Run = record { dx = pos 0; dy = pos 0; count = 0 } in
     let runs = c.args.runs.now in
     let run = get_or runs c.loop-i.i none in
-    more_places c.args.extent c.args.wide c.args.size runs c.loop-i.i run c.loop-i.places.items c.push_places.new.places.items (omega arith) (get_or_default runs c.loop-i.i none run (omega arith)) c.in_ok-push_places.ensures c.loop-i.invariant
+    more_places c.args.extent c.args.wide c.args.sizes.least c.args.sizes.next runs c.loop-i.i run c.loop-i.places.items c.push_places.new.places.items (omega arith) (get_or_default runs c.loop-i.i none run (omega arith)) c.in_ok-push_places.ensures c.loop-i.invariant
