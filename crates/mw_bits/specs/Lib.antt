@@ -1,1 +1,3 @@
 pub mod Layouts
+pub mod Uniform
+pub mod Waiting

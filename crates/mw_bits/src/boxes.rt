@@ -16,12 +16,13 @@ ghost use Rattle.mw_words.specs.Packed.{bit_of, stride_of, IsPacked};
 use crate::WordExtremum;
 use crate::held::plane_of;
 use crate::spread::spread;
+use crate::uniform::settled_box;
 use mw_line::{first_seen, seen_across, seen_down};
 use mw_model::{NoMemory, OffsetBox, Rect};
 use mw_pixel::{Bit, Plane};
 use mw_tile::Window;
 use mw_word_rows::slide_words;
-use mw_words::{repeated, stride, trimmed};
+use mw_words::{Words, repeated, stride, trimmed};
 use std::alloc::Global;
 
 /// How many pixels of a set are looked at, and from which column and row of it on by the tile's first pixel.
@@ -139,6 +140,10 @@ pub fn rectangle<E: WordExtremum>(
     ensures over_window { IfOk result (IsSlidingExtremum E.merge (E.neutral_of 1) (seen_at set.now) (box_offsets offsets) tile) }
     ensures over_frame { IfOk result (λ r. (f : Raster ℕ) → IsWindow set.now f (box_offsets offsets) tile → IsSlidingExtremum E.merge (E.neutral_of 1) (cell_at f) (box_offsets offsets) tile r) }
 {
+    if let Some(pixel) = settled_box::<E>(set, offsets, tile) {
+        let plain = Words::filled(alloc, tile.width, tile.height, pixel)?;
+        return Ok(Plane::of_words(plain));
+    }
     let words = rectangle_words::<E>(alloc, set, offsets, tile)?;
     Ok(plane_of(tile.width, tile.height, words))
 }

@@ -1,21 +1,25 @@
-//! The extremum over horizontal runs. The set is spread over rows of so many words, which are doubled: the words merged
-//! with themselves, shifted by 1, 2, 4 .. bits. A run of k pixels is then its first 2^j and its last 2^j pixels, so that it
-//! takes two merges; and since all rows have as many words, each merge takes all rows of the tile at once.
+//! The extremum over horizontal runs. The set is spread over rows of so many words, which are merged with themselves, shifted,
+//! so that each bit is the extremum of 1, 2, 4 .. pixels, or of a length between that many runs have: a chain in which each
+//! length is at most twice the one before (Urbach and Wilkinson, 2008). A run is then one merge, or two, of its first and its
+//! last pixels; and since all rows have as many words, each merge takes all rows of the tile at once, and two merges one pass.
 //!
 //! Measured on a set of 4096 by 4096 pixels, words to words in one thread: 7 ms by a disc of 15, 13 ms by one of 31.
-ghost use Rattle.std.specs.Prelude.{◌≡◌, ℕ, ◌+◌, ◌-◌, ◌*◌, ◌/◌, ◌<◌, ◌≤◌, ◌^◌, ℤ, pos, negsuc, ◌+ℤ◌, ◌-ℤ◌, ◌≤ℤ◌, length, fold, flat_map, slice_index_or, vec_len, IfOk, IsTrue};
+ghost use Rattle.std.specs.Prelude.{◌≡◌, ℕ, ◌+◌, ◌-◌, ◌*◌, ◌/◌, ◌<◌, ◌≤◌, ◌^◌, ℤ, pos, negsuc, ◌+ℤ◌, ◌-ℤ◌, ◌≤ℤ◌, length, fold, flat_map, slice_index_or, vec_len, IfOk, IfSome, IsTrue};
 ghost use Rattle.std.specs.List.{AllByRecursion};
 ghost use Rattle.mw_model.specs.Places.{nonnegative};
 ghost use Rattle.mw_model.specs.Rasters.{seen_under};
 ghost use Rattle.mw_model.specs.Windows.{seen_at};
 ghost use Rattle.mw_line.specs.Extrema.{strided};
 ghost use Rattle.mw_run.specs.declared.runs.Run.{Run};
-ghost use Rattle.mw_run.specs.Runs.{run_offsets, start_of, IsInside, IsWider, HasRoom, sized, two_parts, gather};
+ghost use Rattle.mw_run.specs.Runs.{run_offsets, start_of, IsInside, IsWider, HasRoom, two_parts, gather};
+ghost use Rattle.mw_offset.specs.Places.{sized_below};
 ghost use Rattle.mw_words.specs.Packed.{bit_of, stride_of, IsPacked};
 ghost use Rattle.mw_word_rows.specs.Rows.{laid_bits};
+ghost use Rattle.mw_bits.specs.Waiting.{with_waiting};
 ghost use Rattle.mw_bits.specs.Layouts.{AreNear, IsNear};
 
 use crate::WordExtremum;
+use crate::sizes::{Sizes, counts_of, next_size};
 use crate::spread::spread;
 use mw_model::{NoMemory, Rect};
 use mw_pixel::Bit;
@@ -25,68 +29,114 @@ use mw_word_rows::{combine_ahead, combine_both, combine_from};
 use mw_words::{repeated, stride, trimmed};
 use std::alloc::Global;
 
-/// Merges the bits from two places on into the words.
-fn combine_two<E: WordExtremum>(cells: &[u64], start: usize, extra: usize, out: &mut [u64])
+/// How runs lie in rows of one length: the columns and rows that they take, and that length in bits.
+#[derive(Clone, Copy)]
+struct Laid {
+    extent: Extent,
+    wide: usize,
+}
+
+/// Merges the bits from a place on, beside those that wait to be merged with others; with none waiting, these wait.
+fn combine_next<E: WordExtremum>(
+    cells: &[u64],
+    waiting: Option<usize>,
+    start: usize,
+    out: &mut [u64],
+) -> Option<usize>
+    requires first { IfSome waiting (λ a. a / 64 + length out.old < length cells.now) }
+    requires room { start / 64 + length out.old < length cells.now }
+    ensures first { IfSome result (λ a. a / 64 + length out.old < length cells.now) }
+    ensures value { (q : ℕ) → q < 64 * length out.old → with_waiting E.merge cells.now q result (bit_of out.new q) ≡ E.merge (with_waiting E.merge cells.now q waiting (bit_of out.old q)) (bit_of cells.now (start + q)) }
+{
+    match waiting {
+        Some(first) => {
+            combine_both::<E>(cells, first, start, out);
+            None
+        }
+        None => Some(start),
+    }
+}
+
+/// Merges the bits that still wait.
+fn combine_last<E: WordExtremum>(cells: &[u64], waiting: Option<usize>, out: &mut [u64])
+    requires { IfSome waiting (λ a. a / 64 + length out.old < length cells.now) }
+    ensures { (q : ℕ) → q < 64 * length out.old → bit_of out.new q ≡ with_waiting E.merge cells.now q waiting (bit_of out.old q) }
+{
+    if let Some(first) = waiting {
+        combine_from::<E>(cells, first, out);
+    }
+}
+
+/// Merges a run's first bits and, where it has `extra` more, its last ones.
+fn combine_run<E: WordExtremum>(
+    cells: &[u64],
+    waiting: Option<usize>,
+    start: usize,
+    extra: usize,
+    out: &mut [u64],
+) -> Option<usize>
+    requires first { IfSome waiting (λ a. a / 64 + length out.old < length cells.now) }
     requires room { start + extra + 64 * length out.old ≤ 64 * (length cells.now - 1) }
     requires some { 0 < length cells.now }
     requires few { length cells.now < 2 ^ 58 }
-    ensures { (q d : ℕ) → q < 64 * length out.old → bit_of out.new q ≡ E.merge (E.merge (bit_of out.old q) (slice_index_or (laid_bits cells.now) (start + q) d)) (slice_index_or (laid_bits cells.now) (start + extra + q) d) }
+    ensures first { IfSome result (λ a. a / 64 + length out.old < length cells.now) }
+    ensures value { (q d : ℕ) → q < 64 * length out.old → with_waiting E.merge cells.now q result (bit_of out.new q) ≡ E.merge (E.merge (with_waiting E.merge cells.now q waiting (bit_of out.old q)) (slice_index_or (laid_bits cells.now) (start + q) d)) (slice_index_or (laid_bits cells.now) (start + extra + q) d) }
 {
-    if extra > 0 {
-        combine_both::<E>(cells, start, start + extra, out);
-    } else {
-        combine_from::<E>(cells, start, out);
+    let first = combine_next::<E>(cells, waiting, start, out);
+    if extra == 0 {
+        return first;
     }
+    combine_next::<E>(cells, first, start + extra, out)
 }
 
-/// Merges the runs of `size` to `2 * size - 1` pixels, where each cell is the extremum of `size` pixels.
+/// Merges the runs of `size` pixels and more, and less than `next`, where each cell is the extremum of `size` pixels: two
+/// places of the cells in one pass.
 fn combine_sized<E: WordExtremum>(
     runs: &[Run],
-    extent: Extent,
-    wide: usize,
-    size: usize,
+    laid: Laid,
+    sizes: Sizes,
     cells: &[u64],
     out: &mut [u64],
 )
-    requires room { AllByRecursion (HasRoom extent wide (64 * length out.old) (64 * (length cells.now - 1))) runs.now }
-    requires positive { 0 < size }
-    requires small { size ≤ 2 ^ 40 }
+    requires room { AllByRecursion (HasRoom laid.extent laid.wide (64 * length out.old) (64 * (length cells.now - 1))) runs.now }
+    requires positive { 0 < sizes.least }
     requires some { 0 < length cells.now }
     requires few { length cells.now < 2 ^ 58 }
-    ensures { (q d : ℕ) → q < 64 * length out.old → bit_of out.new q ≡ fold (sized size (two_parts E.merge (laid_bits cells.now) d extent wide size q)) (bit_of out.old q) runs.now }
+    ensures { (q d : ℕ) → q < 64 * length out.old → bit_of out.new q ≡ fold (sized_below sizes.least sizes.next (two_parts E.merge (laid_bits cells.now) d laid.extent laid.wide sizes.least q)) (bit_of out.old q) runs.now }
 {
+    let mut waiting: Option<usize> = None;
     for i in 0..runs.len() {
         let run = runs[i];
         let count = run.count as usize;
-        if size <= count && count < 2 * size {
-            let start = start_of_run(run, extent, wide);
-            combine_two::<E>(cells, start, count - size, out);
+        if sizes.least <= count && count < sizes.next {
+            let start = start_of_run(run, laid.extent, laid.wide);
+            waiting = combine_run::<E>(cells, waiting, start, count - sizes.least, out);
         }
     }
+    combine_last::<E>(cells, waiting, out);
 }
 
-/// Merges each run into the words, and doubles the cells. No run is longer than `longest`.
+/// Merges each run into the words, the shorter ones first, and grows the cells.
 fn combine_runs<E: WordExtremum>(
     runs: &[Run],
-    extent: Extent,
-    wide: usize,
-    longest: usize,
+    laid: Laid,
+    counts: &[usize],
     cells: &mut [u64],
     out: &mut [u64],
 )
-    requires room { AllByRecursion (HasRoom extent wide (64 * length out.old) (64 * (length cells.old - 1))) runs.now }
-    requires longest { AllByRecursion (λ (r : Run). r.count ≤ longest) runs.now }
-    requires small { longest < 2 ^ 34 }
+    requires room { AllByRecursion (HasRoom laid.extent laid.wide (64 * length out.old) (64 * (length cells.old - 1))) runs.now }
+    requires longest { AllByRecursion (λ (r : Run). r.count < length counts.now) runs.now }
+    requires within { length counts.now ≤ 64 * (length cells.old - 1) + 1 }
     requires some { 0 < length cells.old }
-    requires few { length cells.old < 2 ^ 58 }
-    ensures { (n : ℕ) → ((q : ℕ) → q < 64 * length out.old → bit_of out.old q ≡ n) → (q : ℕ) → q < 64 * length out.old → bit_of out.new q ≡ gather E.merge n (λ r. strided E.merge (laid_bits cells.old) n 1 (r.count - 1) (start_of extent wide r + q)) runs.now }
+    requires few { length cells.old < 2 ^ 57 }
+    ensures { (n : ℕ) → ((q : ℕ) → q < 64 * length out.old → bit_of out.old q ≡ n) → (q : ℕ) → q < 64 * length out.old → bit_of out.new q ≡ gather E.merge n (λ r. strided E.merge (laid_bits cells.old) n 1 (r.count - 1) (start_of laid.extent laid.wide r + q)) runs.now }
 {
-    let mut size = 1usize;
-    combine_sized::<E>(runs, extent, wide, size, cells, out);
-    'sizes: while size <= longest / 2 && size <= 32 * (cells.len() - 1) {
-        combine_ahead::<E>(cells, size);
-        size *= 2;
-        combine_sized::<E>(runs, extent, wide, size, cells, out);
+    let mut sizes = next_size(counts, 1, cells.len(), out.len());
+    combine_sized::<E>(runs, laid, sizes, cells, out);
+    'sizes: while sizes.next < counts.len() {
+        combine_ahead::<E>(cells, sizes.next - sizes.least);
+        sizes = next_size(counts, sizes.next, cells.len(), out.len());
+        combine_sized::<E>(runs, laid, sizes, cells, out);
     }
 }
 
@@ -154,13 +204,17 @@ pub(crate) fn extremum_by_runs<E: WordExtremum>(
     let high = height + rows_after(laid);
     let column = first_column(tile, laid, place);
     let row = first_row(tile, laid, place);
+    let counts = counts_of(alloc, runs, columns + 1)?;
     let mut cells = spread::<E>(alloc, set, column, row, wide, high)?;
     let mut out = repeated(alloc, (height - 1) * wide + stride, E::neutral_word())?;
+    let rows = Laid {
+        extent: laid,
+        wide: 64 * wide,
+    };
     combine_runs::<E>(
         runs,
-        laid,
-        64 * wide,
-        columns + 1,
+        rows,
+        counts.as_slice(),
         cells.as_mut_slice(),
         out.as_mut_slice(),
     );

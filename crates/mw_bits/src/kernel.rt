@@ -12,11 +12,12 @@ use crate::WordExtremum;
 use crate::by_runs::{extremum_by_runs, is_near};
 use crate::held::plane_of;
 use crate::spread::spread_rows;
+use crate::uniform::settled;
 use mw_model::{NoMemory, Offset, Rect};
 use mw_pixel::{Bit, Plane};
-use mw_run::{extent_of, place_of, runs_of};
+use mw_run::{extent_of, place_of, runs_either_way};
 use mw_tile::Window;
-use mw_words::{repeated, stride, trimmed};
+use mw_words::{Words, repeated, stride, trimmed};
 use std::alloc::Global;
 
 /// Merges into each bit of the tile's rows what is seen under the element there.
@@ -73,7 +74,7 @@ fn extremum_words<E: WordExtremum>(
     ensures packed { IfOk result (λ v. IsPacked tile.width tile.height v.items) }
     ensures cells { IfOk result (λ v. (x y : ℕ) → x < tile.width → y < tile.height → bit_of v.items (y * (64 * stride_of tile.width) + x) ≡ fold E.merge (E.neutral_of 1) (seen_under (seen_at set.now) offsets.now (tile.x + x) (tile.y + y))) }
 {
-    let runs = runs_of(alloc, offsets)?;
+    let runs = runs_either_way(alloc, offsets)?;
     if has_layout(tile) {
         if let Some(extent) = extent_of(runs.as_slice()) {
             if is_near(extent) {
@@ -97,6 +98,10 @@ pub fn extremum<E: WordExtremum>(
     ensures over_window { IfOk result (IsSlidingExtremum E.merge (E.neutral_of 1) (seen_at set.now) offsets.now tile) }
     ensures over_frame { IfOk result (λ r. (f : Raster ℕ) → IsWindow set.now f offsets.now tile → IsSlidingExtremum E.merge (E.neutral_of 1) (cell_at f) offsets.now tile r) }
 {
+    if let Some(pixel) = settled::<E>(set, offsets, tile) {
+        let plain = Words::filled(alloc, tile.width, tile.height, pixel)?;
+        return Ok(Plane::of_words(plain));
+    }
     let words = extremum_words::<E>(alloc, set, offsets, tile)?;
     Ok(plane_of(tile.width, tile.height, words))
 }

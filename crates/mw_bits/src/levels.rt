@@ -1,9 +1,11 @@
 //! Sets of the places of a grey window that have a level, or a level or more, as words: a row of samples is tested into a
 //! line of pixels, which is packed, so that no plane of one byte a pixel is made.
-ghost use Rattle.std.specs.Prelude.{◌≡◌, ℕ, ◌*◌, ◌==◌, length, map, cond, nat_le, if◌then◌else◌, IfOk};
+ghost use Rattle.std.specs.Prelude.{◌≡◌, ℕ, ◌*◌, ◌<◌, ◌==◌, length, map, cond, nat_le, slice_index, if◌then◌else◌, IfOk};
+ghost use Rattle.std.specs.Int.{bit_at};
 ghost use Rattle.mw_words.specs.Packed.{stride_of, IsPacked, samples_of};
 
 use crate::held::plane_of;
+use mw_lane::LevelBlocks;
 use mw_model::NoMemory;
 use mw_pixel::{Bit, Grey, Pixel, Plane, copies};
 use mw_tile::Window;
@@ -17,6 +19,11 @@ pub(crate) trait LevelTest {
 
     fn holds(k: u32, level: u16) -> bool
         ensures { cond result 1 0 ≡ is_in k level };
+
+    /// Which of 64 samples have such a level, a bit each.
+    fn of_block<P: LevelBlocks>(k: u32, block: &[P]) -> u64
+        requires { length block.now ≡ 64 }
+        ensures { (i : ℕ) → i < 64 → bit_at result i ≡ slice_index (map (λ s. is_in k (P.level s)) block.now) i };
 }
 
 /// The level is the number or more.
@@ -32,6 +39,11 @@ impl LevelTest for FromLevel {
     fn holds(k: u32, level: u16) -> bool {
         u32::from(level) >= k
     }
+
+    #[inline(always)]
+    fn of_block<P: LevelBlocks>(k: u32, block: &[P]) -> u64 {
+        P::at_least(block, k)
+    }
 }
 
 impl LevelTest for OfLevel {
@@ -40,6 +52,11 @@ impl LevelTest for OfLevel {
     #[inline(always)]
     fn holds(k: u32, level: u16) -> bool {
         u32::from(level) == k
+    }
+
+    #[inline(always)]
+    fn of_block<P: LevelBlocks>(k: u32, block: &[P]) -> u64 {
+        P::equal(block, k)
     }
 }
 

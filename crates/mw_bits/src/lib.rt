@@ -11,16 +11,20 @@
 
 mod boxes;
 mod by_runs;
+mod compared;
 mod counting;
 mod held;
 mod kernel;
 mod levels;
 mod pairs;
+mod sizes;
 mod spread;
+mod uniform;
 mod unpacked;
 mod window_rows;
 
 pub use boxes::rectangle;
+pub use compared::{level_set, threshold};
 pub use counting::count;
 pub use held::row_of;
 pub use kernel::extremum;

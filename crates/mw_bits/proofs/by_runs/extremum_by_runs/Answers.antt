@@ -3,7 +3,10 @@ use Rattle.std.proofs.lemmas.Int.{ints}
 use Rattle.std.proofs.lemmas.List.{length-replicate}
 use Rattle.mw_model.specs.declared.places.Rect.{Rect}
 use Rattle.std.proofs.lemmas.Nat.{mul-le}
+use Rattle.std.proofs.Math.Nat.{mul-le-mul_left}
+use Rattle.mw_facts.proofs.Alls.{all-weaker}
 use Rattle.mw_facts.proofs.Elements.{take-written}
+use Rattle.mw_run.specs.declared.runs.Run.{Run}
 use Rattle.mw_model.proofs.Nonnegative.{nonnegative_is}
 use Rattle.mw_line.proofs.Folds.{IsExtremum}
 use Rattle.mw_line.proofs.Rows.{rows_fit}
@@ -32,8 +35,25 @@ combine_runs-requires-clause-room g c =
     (omega (arith, c.widened-laid.ensures.columns)) (ap (λ (t : ℕ). tile.height + t) c.rows_after.ensures.value) (omega (arith, out_size)) (omega (arith, c.in_ok-cells.ensures.size))
     (all_inside_wider e c.args.extent c.args.runs.now c.widened-laid.ensures.wider c.requires.inside)
 
+pub counts_of-requires-clause-all : goal.counts_of-requires-clause-all
+counts_of-requires-clause-all g c = counts_of_inside c.args.extent c.columns_after-columns.result c.args.runs.now c.columns_after-columns.ensures.value c.requires.inside
+
 pub combine_runs-requires-clause-longest : goal.combine_runs-requires-clause-longest
-combine_runs-requires-clause-longest g c = counts_of_inside c.args.extent c.columns_after-columns.result c.args.runs.now c.columns_after-columns.ensures.value c.requires.inside
+combine_runs-requires-clause-longest g c =
+    let columns = c.columns_after-columns.result in
+    let size : length c.as_slice.result.now ≡ columns + 2 = omega (arith, c.as_slice.ensures.len, c.in_ok-counts.ensures) in
+    all-weaker (λ (r : Run). r.count ≤ columns + 1) (λ (r : Run). r.count < length c.as_slice.result.now) c.args.runs.now (λ r le. omega arith)
+    (counts_of_inside c.args.extent columns c.args.runs.now c.columns_after-columns.ensures.value c.requires.inside)
+
+pub combine_runs-requires-clause-within : goal.combine_runs-requires-clause-within
+combine_runs-requires-clause-within g c =
+    let columns = c.columns_after-columns.result in
+    let tile = c.args.tile in
+    let wide = c.stride-stride.result + (columns + 63) / 64 in
+    let high = tile.height + c.rows_after.result in
+    let some : 1 ≤ high = omega (arith, c.requires.some) in
+    let size = ap length c.as_mut_slice.ensures.value in
+    omega (arith, c.in_ok-cells.ensures.size, mul-le-mul_left wide some, c.stride-stride.ensures.value, c.as_slice.ensures.len, c.in_ok-counts.ensures)
 
 pub combine_runs-requires-clause-few : goal.combine_runs-requires-clause-few
 combine_runs-requires-clause-few g c =
@@ -58,7 +78,7 @@ trimmed-requires-clause-words g c = λ y lt.
     let out = c.combine_runs.new.out in
     let whole : length out ≡ c.in_ok-out.out.len = omega arith in
     let old_size : length c.as_mut_slice-2.result.now ≡ count = ap length (c.as_mut_slice-2.ensures.value ∙ c.in_ok-out.ensures) ∙ length-replicate count c.neutral_word.result in
-    let size = ap length (c.as_slice.ensures.value ∙ take-written c.in_ok-out.out.items out c.in_ok-out.out.len whole) in
+    let size = ap length (c.as_slice-2.ensures.value ∙ take-written c.in_ok-out.out.items out c.in_ok-out.out.len whole) in
     let there = row_fits y tile.height wide s count lt (omega arith) in
     omega (arith, c.stride-stride.ensures.value)
 
@@ -108,6 +128,6 @@ returns-clause-cells g c =
     let inside : x < 64 * s = omega (arith, stride_wide tile.width x less, c.stride-stride.ensures.value) in
     let there = row_fits y tile.height wide s count row_less (omega arith) in
     c.in_ok-made.ensures.bits x y less row_less
-    ∙ ap (λ (t : List ℕ). bit_of t at) (c.as_slice.ensures.value ∙ take-written c.in_ok-out.out.items out c.in_ok-out.out.len whole)
+    ∙ ap (λ (t : List ℕ). bit_of t at) (c.as_slice-2.ensures.value ∙ take-written c.in_ok-out.out.items out c.in_ok-out.out.len whole)
     ∙ c.combine_runs.ensures n (λ q lt. ap (λ (t : List ℕ). bit_of t q) old-is ∙ blank_bit count c.neutral_word.result n q (omega (arith, old_size)) c.neutral_word.ensures) at (omega (arith, there, old_size))
     ∙ gather_seen f laws n w tile_words e (64 * wide) high column row (laid_bits cells) laid c.args.runs.now (all_inside_wider e c.args.extent c.args.runs.now c.widened-laid.ensures.wider c.requires.inside) x y inside row_less

@@ -1,9 +1,18 @@
-use Rattle.std.proofs.Common.{◌∙◌}
+use Rattle.std.proofs.Common.{cond, ◌∙◌}
 use Rattle.mw_model.specs.Windows.{seen_at}
 use Rattle.mw_line.proofs.Tiles.{tile_made, on_frame}
 use Rattle.mw_words.specs.Packed.{samples_of}
 use Rattle.mw_words.proofs.Bits.{sample_is_bit, length-samples_of}
+use Rattle.mw_bits.proofs.UniformSeen.{uniform_made}
 use Rattle.mw_bits.proofs.kernel.extremum.Goals as goal
+
+pub returns-in-Some-clause-over_window : goal.returns-in-Some-clause-over_window
+returns-in-Some-clause-over_window g c =
+    uniform_made g.E.Extremum.merge (g.E.Extremum.neutral_of 1) (cond c.in-Some.pixel 1 0) (seen_at c.args.set.now) c.args.offsets.now c.args.tile c.of_words.result (c.of_words.ensures ∙ c.in_ok-plain.ensures) c.in-Some.ensures
+
+pub returns-in-Some-clause-over_frame : goal.returns-in-Some-clause-over_frame
+returns-in-Some-clause-over_frame g c = λ f window.
+    on_frame g.E.Extremum.merge (g.E.Extremum.neutral_of 1) c.args.set.now f c.args.offsets.now c.args.tile c.of_words.result (returns-in-Some-clause-over_window g c) window
 
 pub returns-clause-over_window : goal.returns-clause-over_window
 returns-clause-over_window g c =

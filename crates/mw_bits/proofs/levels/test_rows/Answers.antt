@@ -1,14 +1,12 @@
-use Rattle.std.proofs.Common.{◌≡◌, ◌+◌, ◌-◌, ◌*◌, ℕ, List, length, take, drop, map, get_or, slice_range, ap, sym, arith, ◌∙◌, length-take, length-drop}
-use Rattle.std.proofs.lemmas.List.{length-map, take-map, drop-map}
+use Rattle.std.proofs.Common.{◌≡◌, ◌+◌, ◌-◌, ◌*◌, ℕ, List, length, take, drop, map, get_or, ap, arith, ◌∙◌, length-take, length-drop}
+use Rattle.std.proofs.lemmas.List.{length-map}
 use Rattle.mw_model.specs.declared.places.Rect.{Rect}
 use Rattle.mw_line.proofs.Rows.{rows_fit}
 use Rattle.mw_words.specs.Packed.{stride_of}
 use Rattle.mw_words.proofs.Done.{bit_rows_more_by}
 use Rattle.mw_word_rows.proofs.Packs.{packed_row, all_packed, samples_packed}
+use Rattle.mw_bits.proofs.LevelRows.{part_mapped}
 use Rattle.mw_bits.proofs.levels.test_rows.Goals as goal
-
-part_mapped : {A : Type 0} (f : A → ℕ) (xs : List A) (a b : ℕ) → map f (slice_range xs a b) ≡ slice_range (map f xs) a b
-part_mapped f xs a b = sym (ap (take (b - a)) (drop-map f a xs) ∙ take-map f (b - a) (drop a xs))
 
 pub loop-y-preserved : goal.loop-y-preserved
 loop-y-preserved g c =

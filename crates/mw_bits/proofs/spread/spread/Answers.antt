@@ -26,7 +26,7 @@ returns-clause-cells g c =
     let at = y * (64 * wide) + x in
     ap (λ (t : List ℕ). bit_of t at) (take-written items out c.in_ok-cells.cells.len whole)
     ∙ c.spread_rows.ensures x y less row_less
-    ∙ ap (λ (t : List ℕ). merge_at f (bit_of t at) (seen (to_x +ℤ pos x) (to_y +ℤ pos y))) (c.as_mut_slice.ensures.value ∙ c.in_ok-cells.ensures)
+    ∙ ap (λ (t : List ℕ). merge_at f (bit_of t at) (seen (to_x +ℤ pos x) (to_y +ℤ pos y))) (c.as_mut_slice-2.ensures.value ∙ c.in_ok-cells.ensures)
     ∙ ap (λ (t : ℕ). merge_at f t (seen (to_x +ℤ pos x) (to_y +ℤ pos y))) (blank_bit (c.args.high * wide + 1) c.neutral_word.result n at (omega (arith, rows_fit y c.args.high wide row_less)) c.neutral_word.ensures)
     ∙ ap (λ (t : ℤ). merge_at f n (seen (t +ℤ pos x) (to_y +ℤ pos y))) x-is
     ∙ ap (λ (t : ℤ). merge_at f n (seen (c.args.column +ℤ pos x) (t +ℤ pos y))) y-is

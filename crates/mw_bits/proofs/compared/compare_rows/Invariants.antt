@@ -1,0 +1,10 @@
+use Rattle.std.proofs.Common.{map}
+use Rattle.mw_words.specs.Packed.{stride_of}
+use Rattle.mw_words.proofs.Done.{BitRowsDone}
+use Rattle.mw_word_rows.proofs.Packs.{packed_row}
+use Rattle.mw_bits.proofs.compared.compare_rows.Given as goal
+
+abbrev pub invariant-loop-y : goal.invariant-loop-y
+invariant-loop-y g l =
+    let w = l.window.place.width in
+    BitRowsDone (packed_row (map (λ s. g.T.LevelTest.is_in l.k (g.P.Pixel.level s)) l.window.cells) w) (stride_of w) l.window.place.height l.y l.fn.out l.out
