@@ -249,6 +249,13 @@ gains_joined level value more n m t old mid new t-is more-is first second = reco
   ];
 }
 
+-- a row in three parts
+pub gains_parts : {A : Type 0} (level : A → ℕ) (value : ℕ → ℕ) (x middle last first count rest width : ℕ) (out left inside all : List A) → middle ≡ x + first → last ≡ x + (first + count) → first + count + rest ≡ width → GainsRow level (λ i. value (x + i)) first out left
+    → GainsRow level (λ i. value (middle + i)) count left inside → GainsRow level (λ i. value (last + i)) rest inside all → GainsRow level (λ i. value (x + i)) width out all
+gains_parts level value x middle last first count rest width out left inside all middle-is last-is width-is one two three =
+    gains_joined level (λ i. value (x + i)) (λ i. value (last + i)) (first + count) rest width out inside all width-is (λ i. ap value (let there : last + i ≡ x + (first + count + i) = omega arith in there))
+    (gains_joined level (λ i. value (x + i)) (λ i. value (middle + i)) first count (first + count) out left inside refl (λ i. ap value (let there : middle + i ≡ x + (first + i) = omega arith in there)) one two) three
+
 -- one pair of ends later there is one level less
 pub length-moving : {A : Type 0} (level : A → ℕ) (d : A) (samples : List A) (ends : List Ends) (ns : List ℕ) (i j : ℕ) → j < length ends
     → suc (length (levels_entered level d samples (take j ends) i ++ (levels_left level d samples (drop (j + 1) ends) i ++ ns))) ≡ length (levels_left level d samples ends i ++ ns)

@@ -6,3 +6,6 @@ mod Rows
 mod Edges
 mod Parts
 mod Elements
+mod Lanes
+mod Standing
+mod Seeking

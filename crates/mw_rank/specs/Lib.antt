@@ -2,3 +2,4 @@ pub mod Ranks
 pub mod Runs
 pub mod Tallies
 pub mod Ends
+pub mod Counting

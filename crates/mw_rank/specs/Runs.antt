@@ -1,9 +1,13 @@
 -- Elements as horizontal runs of offsets.
-use Rattle.std.specs.Prelude.{ℕ, zero, suc, ◌-◌, List, [], ◌∷◌, pos, ◌+ℤ◌}
+use Rattle.std.specs.Prelude.{ℕ, ℤ, zero, suc, ◌-◌, List, [], ◌∷◌, pos, ◌+ℤ◌}
 use Rattle.std.specs.List.{flat_map}
 use Rattle.mw_model.specs.declared.places.Offset.{Offset}
 use Rattle.mw_run.specs.declared.runs.Run.{Run}
 use Rattle.mw_run.specs.Runs.{start_offset}
+
+-- the run of these parts
+abbrev pub run_at : ℤ → ℤ → ℕ → Run
+run_at dx dy count = record { dx = dx; dy = dy; count = count }
 
 -- the offset to the right
 abbrev pub next_offset : Offset → Offset

@@ -28,7 +28,7 @@ pub(crate) struct Columns {
 }
 
 /// The column of the place in which a run begins, where both its ends stay in the place's columns for so many more.
-fn column_in(place: Rect, run: Run, x: u64, count: u32) -> Option<usize>
+pub(crate) fn column_in(place: Rect, run: Run, x: u64, count: u32) -> Option<usize>
     requires { x ≤ 2 ^ 40 }
     ensures { IfSome result (λ column. (pos x +ℤ run.dx -ℤ pos place.x ≡ pos column) × (column + (run.count - 1 + 1) + count ≤ place.width)) }
 {
@@ -96,7 +96,7 @@ pub(crate) fn row_ends<P: Grey>(
 }
 
 /// How many columns a run reaches to the left of its origin.
-fn columns_before(run: Run) -> u64
+pub(crate) fn columns_before(run: Run) -> u64
     ensures { result ≤ 2 ^ 34 }
 {
     if run.dx < 0 {
@@ -106,7 +106,7 @@ fn columns_before(run: Run) -> u64
 }
 
 /// How many columns there are from a run's origin to the one after its last.
-fn columns_after(run: Run) -> u64
+pub(crate) fn columns_after(run: Run) -> u64
     ensures { result ≤ 2 ^ 34 }
 {
     let after = i64::from(run.dx) + i64::from(more_of(run)) + 1;
@@ -114,6 +114,26 @@ fn columns_after(run: Run) -> u64
         return after as u64;
     }
     0
+}
+
+/// The columns of the tile from which so many to the left, and so many less one to the right, are in columns of the
+/// window.
+pub(crate) fn columns_within(tile: Rect, place: Rect, left: u64, right: u64) -> Columns
+    requires left { left ≤ 2 ^ 34 }
+    requires right { right ≤ 2 ^ 34 }
+    ensures { result.first + result.count ≤ tile.width }
+{
+    let width = u64::from(tile.width);
+    let begin = (u64::from(place.x) + left).saturating_sub(u64::from(tile.x));
+    let first = begin.min(width);
+    let end = (u64::from(place.x) + u64::from(place.width)).saturating_sub(
+        u64::from(tile.x) + right,
+    );
+    let stop = end.max(first).min(width);
+    Columns {
+        first: first as u32,
+        count: (stop - first) as u32,
+    }
 }
 
 /// The columns of the tile at which the ends of the runs are in columns of the window; `row_ends` looks whether they are.
@@ -126,17 +146,7 @@ pub(crate) fn inner_columns(runs: &[Run], tile: Rect, place: Rect) -> Columns
         left = left.max(columns_before(*run));
         right = right.max(columns_after(*run));
     }
-    let width = u64::from(tile.width);
-    let begin = (u64::from(place.x) + left).saturating_sub(u64::from(tile.x));
-    let first = begin.min(width);
-    let end = (u64::from(place.x) + u64::from(place.width)).saturating_sub(
-        u64::from(tile.x) + right,
-    );
-    let stop = end.max(first).min(width);
-    Columns {
-        first: first as u32,
-        count: (stop - first) as u32,
-    }
+    columns_within(tile, place, left, right)
 }
 
 /// Moves the element one column on, so many columns after the one of which the ends are known.

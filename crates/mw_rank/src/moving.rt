@@ -97,7 +97,13 @@ fn leave_part<P: Pixel>(histogram: &mut Histogram, samples: &[P])
 }
 
 /// Counts what is seen under the element.
-fn enter_all<P: Grey>(histogram: &mut Histogram, window: &Window<P>, runs: &[Run], x: u64, y: u64)
+pub(crate) fn enter_all<P: Grey>(
+    histogram: &mut Histogram,
+    window: &Window<P>,
+    runs: &[Run],
+    x: u64,
+    y: u64,
+)
     requires near { x ≤ 2 ^ 40 }
     requires high { y ≤ 2 ^ 40 }
     requires few { length (element_of runs.now) < 2 ^ 16 }
@@ -110,7 +116,13 @@ fn enter_all<P: Grey>(histogram: &mut Histogram, window: &Window<P>, runs: &[Run
 }
 
 /// Takes back what is seen under the element.
-fn leave_all<P: Grey>(histogram: &mut Histogram, window: &Window<P>, runs: &[Run], x: u64, y: u64)
+pub(crate) fn leave_all<P: Grey>(
+    histogram: &mut Histogram,
+    window: &Window<P>,
+    runs: &[Run],
+    x: u64,
+    y: u64,
+)
     requires near { x ≤ 2 ^ 40 }
     requires high { y ≤ 2 ^ 40 }
     requires few { length (element_of runs.now) < 2 ^ 16 }
@@ -145,7 +157,7 @@ fn advance<P: Grey>(histogram: &mut Histogram, window: &Window<P>, runs: &[Run],
 
 /// The sample of a level.
 #[inline(always)]
-fn sample_of<P: Pixel>(level: u16) -> P
+pub(crate) fn sample_of<P: Pixel>(level: u16) -> P
     requires { level ≤ P.top_level }
     ensures { P.level result ≡ level }
 {
@@ -157,22 +169,22 @@ fn sample_of<P: Pixel>(level: u16) -> P
 
 /// The places of a row of the frame from column x on, and the number of the rank that is wanted there.
 #[derive(Clone, Copy)]
-struct Stretch {
-    x: u64,
-    y: u64,
-    width: u32,
-    k: u32,
+pub(crate) struct Stretch {
+    pub x: u64,
+    pub y: u64,
+    pub width: u32,
+    pub k: u32,
 }
 
 /// A row of a tile, and those of its columns at which the ends of the runs are in columns of the window.
 #[derive(Clone, Copy)]
-struct Row {
-    at: Stretch,
-    inner: Columns,
+pub(crate) struct Row {
+    pub at: Stretch,
+    pub inner: Columns,
 }
 
 /// Adds the ranks of the places.
-fn push_row<P: Grey>(
+pub(crate) fn push_row<P: Grey>(
     out: &mut Vec<P>,
     histogram: &mut Histogram,
     window: &Window<P>,
@@ -309,7 +321,7 @@ fn push_whole_row<P: Grey>(
 }
 
 /// The ranks of a tile, by rows.
-fn rank_samples<P: Grey>(
+pub(crate) fn rank_samples<P: Grey>(
     alloc: Global,
     window: &Window<P>,
     offsets: &[Offset],

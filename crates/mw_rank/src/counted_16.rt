@@ -1,0 +1,54 @@
+//! Counting 16-bit samples.
+ghost use Rattle.std.specs.Prelude.{◌≡◌, ℕ, ◌+◌, ◌<◌, length, slice_index_or};
+ghost use Rattle.mw_rank.specs.Counting.{levels_on, HasPlaces};
+ghost use Rattle.mw_rank.specs.Tallies.{count_under};
+
+use super::Counted;
+use std::simd::Simd;
+use std::simd::prelude::*;
+
+/// How many of the samples at the places, and as many columns on, are not above the last level.
+#[inline(always)]
+fn counts_up_to(samples: &[u16], places: &[usize], last: Simd<u16, 32>) -> Simd<u16, 32>
+    requires lanes { length last ≡ 32 }
+    requires inside { HasPlaces samples.now 32 places.now }
+    requires few { length places.now < 256 }
+    ensures size { length result ≡ 32 }
+    ensures counts { (i : ℕ) → i < 32 → slice_index_or result i 0 ≡ count_under (slice_index_or last i 0 + 1) (levels_on (λ s. s) 65535 samples.now places.now i) }
+{
+    let one = Simd::<u16, 32>::splat(1);
+    let none = Simd::<u16, 32>::splat(0);
+    let mut counts = none;
+    for place in places {
+        let here = Simd::<u16, 32>::from_slice(&samples[*place..*place + 32]);
+        counts = counts + here.simd_le(last).select(one, none);
+    }
+    counts
+}
+
+impl Counted for u16 {
+    ghost use Rattle.std.proofs.Common.{arith, refl};
+
+    ghost BITS = { 16 };
+
+    ghost WORK = { 500 };
+
+    const BITS: u32 = 16;
+
+    const WORK: usize = 500;
+
+    ghost few_bits = { Prim.omega arith };
+
+    ghost has_bits = { refl };
+
+    #[inline(always)]
+    fn raise(found: &mut [u16], samples: &[u16], places: &[usize], step: u16, n: u16) {
+        let old = Simd::<u16, 32>::from_slice(found);
+        let last = old + Simd::<u16, 32>::splat(step - 1);
+        let counts = counts_up_to(samples, places, last);
+        counts
+            .simd_lt(Simd::<u16, 32>::splat(n))
+            .select(last + Simd::<u16, 32>::splat(1), old)
+            .copy_to_slice(found);
+    }
+}
