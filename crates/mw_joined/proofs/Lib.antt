@@ -1,0 +1,4 @@
+-- the crate's own
+mod Pasted
+mod WordRuns
+mod Laid

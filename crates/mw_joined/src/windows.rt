@@ -1,0 +1,79 @@
+//! Windows that are put together.
+
+ghost use Rattle.std.specs.Prelude.{◌≡◌, IfOk};
+ghost use Rattle.mw_pieces.specs.Patches.{IsJoined};
+
+use crate::{bits, levels};
+use mw_model::NoMemory;
+use mw_pieces::{Pieces, PiecesView, SharedWindow};
+use mw_pixel::{Bit, Grey, Planar, Plane, Words, copies};
+use mw_tile::{AnyWindow, Window};
+use mw_words::{repeated, stride};
+use std::alloc::Global;
+
+/// Whether one piece is the window.
+fn is_one<P: Planar>(pieces: &Pieces<P>) -> bool {
+    match pieces.pieces() {
+        [piece] => piece.place() == pieces.place(),
+        _ => false,
+    }
+}
+
+/// Whether the window can share the samples of its only piece.
+fn is_shared(window: &SharedWindow) -> bool {
+    match window.view() {
+        PiecesView::Bits(pieces) => is_one(pieces),
+        PiecesView::Grey8(pieces, _) => is_one(pieces),
+        PiecesView::Grey16(pieces, _) => is_one(pieces),
+    }
+}
+
+/// The window of a source in levels of grey.
+fn of_levels<P: Grey>(alloc: Global, pieces: &Pieces<P>) -> Result<Window<P>, NoMemory>
+    ensures { IfOk result (IsJoined pieces.now) }
+{
+    let (width, height, place) = (pieces.frame_width(), pieces.frame_height(), pieces.place());
+    // for what holds of all pieces
+    let _pieces = pieces.pieces();
+    let mut samples = copies(alloc, place.height as usize * place.width as usize, P::TOP)?;
+    levels::lay_all(&mut samples, pieces);
+    let plane = Plane::new(place.width, place.height, samples);
+    Ok(Window::new(width, height, place, plane))
+}
+
+/// The window of a set.
+fn of_set(alloc: Global, pieces: &Pieces<Bit>) -> Result<Window<Bit>, NoMemory>
+    ensures { IfOk result (IsJoined pieces.now) }
+{
+    let (width, height, place) = (pieces.frame_width(), pieces.frame_height(), pieces.place());
+    // for what holds of all pieces
+    let _pieces = pieces.pieces();
+    let mut words = repeated(alloc, place.height as usize * stride(place.width), 0)?;
+    bits::lay_all(&mut words, pieces);
+    let plane = Plane::of_words(Words::new(place.width, place.height, words));
+    Ok(Window::new(width, height, place, plane))
+}
+
+/// The window, put together. Where one piece is the window, it is one more owner of that piece's samples; else it has
+/// samples of its own.
+pub fn joined(alloc: Global, window: &SharedWindow) -> Result<AnyWindow, NoMemory>
+    ensures { IfOk result (λ w. w ≡ window.now) }
+{
+    if is_shared(window) {
+        return window.joined(alloc);
+    }
+    match window.view() {
+        PiecesView::Bits(pieces) => {
+            let joined = of_set(alloc, pieces)?;
+            Ok(AnyWindow::bits(joined))
+        }
+        PiecesView::Grey8(pieces, maxval) => {
+            let joined = of_levels(alloc, pieces)?;
+            Ok(AnyWindow::grey8(joined, maxval))
+        }
+        PiecesView::Grey16(pieces, maxval) => {
+            let joined = of_levels(alloc, pieces)?;
+            Ok(AnyWindow::grey16(joined, maxval))
+        }
+    }
+}
