@@ -1,12 +1,17 @@
 -- Lists of which the cells before a place have their new values.
-use Rattle.std.proofs.Common.{◌≡◌, ℕ, ◌+◌, ◌-◌, ◌<◌, ◌≤◌, ◌≢◌, List, length, take, drop, set, get_or, ap, sym, arith, ◌∙◌, inl, inr}
+use Rattle.std.proofs.Common.{◌≡◌, ℕ, ◌+◌, ◌-◌, ◌*◌, ◌%◌, ◌^◌, ◌<◌, ◌≤◌, ◌≢◌, Bool, true, false, bit_and, List, length, take, drop, set, get_or, w64, refl, ap, sym, arith, ◌∙◌, inl, inr}
+use Rattle.std.specs.Int.{bit_at, bit_not, trailing_zeros}
+use Rattle.std.specs.Prelude.{◌==◌, if◌then◌else◌}
 use Rattle.std.proofs.Math.ListN.{length-set}
-use Rattle.std.proofs.lemmas.Bool.{cases_lt}
+use Rattle.std.proofs.lemmas.Bool.{cases_lt, cases_eq}
 use Rattle.std.proofs.lemmas.List.{get_or-set_same, get_or-set_other, get_or-take, get_or-drop, get_or_read, ext_get_or}
+use Rattle.std.proofs.lemmas.Nat.{and_le_l}
+use Rattle.std.proofs.lemmas.Nat.Bits.{bit_at_clear_same, bit_at_clear_other, bit_at-trailing_zeros, bit_at-zero, bit_at-lt}
 use Rattle.std.proofs.lemmas.Simd.{get_or-zip2, length-zip2}
 use Rattle.mw_facts.proofs.Parts.{length-put_mid, get_or-put_mid_below as put_mid_below, get_or-put_mid_within as put_mid_at, get_or-put_mid_above as put_mid_above}
 use borrow.Rule.Slice.PartMut.{put_mid}
 use lib.Lanes.{zip2}
+use mir.Val.{Fits}
 
 -- the cells before n have their values, made from what stood there, and the others are as they were
 pub record CellsDone {A : Type 0} (value : A → ℕ → A) (n : ℕ) (old out : List A) : Type 0 where
@@ -61,3 +66,72 @@ pub cells_all : {A : Type 0} (f : A → ℕ → A) (n : ℕ) (old out : List A) 
 cells_all f n old out marks d all same before =
     let size = before.size in
     ext_get_or d out (zip2 f old marks) (size ∙ sym (length-zip2 f old marks same)) (λ x lt. before.done x d (omega arith) (omega arith) ∙ sym (get_or-zip2 f old marks x d 0 d (omega arith) (omega arith)))
+
+-- the places of a word that are not left in another have got a value, and the others are as they were
+pub record BitsLeft {A : Type 0} (v : A) (word left : ℕ) (old out : List A) : Type 0 where
+  pub size : length out ≡ length old
+  pub some : (x : ℕ) → x < 64 → bit_at left x ≤ bit_at word x
+  pub marked : (x : ℕ) (d : A) → x < length old → get_or out x d ≡ (if bit_at left x == 1 then get_or old x d else (if bit_at word x == 1 then v else get_or old x d))
+
+pub all_left : {A : Type 0} (v : A) (word : ℕ) (old : List A) → BitsLeft v word word old old
+all_left v word old = record { size = refl; some = λ x lt. omega arith; marked = λ x d lt. sym (either (bit_at word x == 1) v (get_or old x d)) }
+  where
+    either : {A : Type 0} (b : Bool) (v s : A) → (if b then s else (if b then v else s)) ≡ s
+    either true v s = refl
+    either false v s = refl
+
+-- the lowest place that is left gets the value
+pub one_less : {A : Type 0} (v : A) (word left place : ℕ) (old out : List A) → length old ≤ 64 → place < length old → bit_at left place ≡ 1 → BitsLeft v word left old out
+    → BitsLeft v word (bit_and left (bit_not w64 (1 * 2 ^ place % 2 ^ 64))) old (set out place v)
+one_less v word left place old out short lt here before =
+    let size = before.size in
+    let rest = bit_and left (bit_not w64 (1 * 2 ^ place % 2 ^ 64)) in
+    let gone : bit_at rest place ≡ 0 = bit_at_clear_same w64 left place (omega arith) in
+    record {
+      size = length-set out place v ∙ size;
+      some = λ x less. elim (cases_eq x place) [
+        | inl same ↦ let none : bit_at rest x ≡ 0 = ap (bit_at rest) same ∙ gone in omega arith
+        | inr other ↦ let kept = bit_at_clear_other w64 left place (omega arith) x less other in let known = before.some x less in omega arith
+      ];
+      marked = λ x d less. elim (cases_eq x place) [
+        | inl same ↦
+            let known = before.some place (omega arith) in
+            let set-there : bit_at word x ≡ 1 = let few = bit_at-lt word place in let is = ap (bit_at word) same in omega arith in
+            let none : bit_at rest x ≡ 0 = ap (bit_at rest) same ∙ gone in
+            ap (λ (t : ℕ). get_or (set out place v) t d) same
+            ∙ get_or-set_same out place v d (omega arith)
+            ∙ sym (ap (λ (t : ℕ). if t == 1 then v else get_or old x d) set-there)
+            ∙ sym (ap (λ (t : ℕ). if t == 1 then get_or old x d else (if bit_at word x == 1 then v else get_or old x d)) none)
+        | inr other ↦
+            get_or-set_other out place x v d other
+            ∙ before.marked x d less
+            ∙ sym (ap (λ (t : ℕ). if t == 1 then get_or old x d else (if bit_at word x == 1 then v else get_or old x d)) (bit_at_clear_other w64 left place (omega arith) x (omega arith) other))
+      ];
+    }
+
+pub none_left : {A : Type 0} (v : A) (word : ℕ) (old out : List A) → BitsLeft v word 0 old out → (x : ℕ) (d : A) → x < length old → get_or out x d ≡ (if bit_at word x == 1 then v else get_or old x d)
+none_left v word old out before x d lt =
+    before.marked x d lt ∙ ap (λ (t : ℕ). if t == 1 then get_or old x d else (if bit_at word x == 1 then v else get_or old x d)) (bit_at-zero x)
+
+-- the lowest place that is left
+pub lowest_left : (left : ℕ) → (left ≡ 0 → ⊥) → Fits w64 left → (trailing_zeros w64 left < 64) × (bit_at left (trailing_zeros w64 left) ≡ 1)
+lowest_left left some fits = let few = fits.fits in let lowest = bit_at-trailing_zeros w64 left (omega arith) few in (lowest.0, lowest.1)
+
+-- a place that is left is one of the samples
+pub left_within : (word left place n : ℕ) → place < 64 → bit_at left place ≡ 1 → bit_at left place ≤ bit_at word place → ((x : ℕ) → x < 64 → n ≤ x → bit_at word x ≡ 0) → place < n
+left_within word left place n lt here some clean =
+    elim (cases_lt place n) [
+      | inl within ↦ within
+      | inr past ↦ let none = clean place lt past in absurd (omega arith)
+    ]
+
+-- a word without one of its bits is less
+pub smaller_left : (left place : ℕ) → place < 64 → bit_at left place ≡ 1 → bit_and left (bit_not w64 (1 * 2 ^ place % 2 ^ 64)) < left
+smaller_left left place lt here =
+    let rest = bit_and left (bit_not w64 (1 * 2 ^ place % 2 ^ 64)) in
+    let gone : bit_at rest place ≡ 0 = bit_at_clear_same w64 left place (omega arith) in
+    let le : rest ≤ left = and_le_l left (bit_not w64 (1 * 2 ^ place % 2 ^ 64)) in
+    elim (cases_eq rest left) [
+      | inl same ↦ let is = ap (λ (t : ℕ). bit_at t place) same in absurd (omega arith)
+      | inr other ↦ omega arith
+    ]

@@ -13,7 +13,7 @@ use crate::ranks::rank_of_set;
 use crate::sliding::{set_under_element, under_box, under_element};
 use mw_element::Element;
 use mw_model::{NoMemory, OffsetBox, Rect};
-use mw_rank::rank;
+use mw_rank::rank_of_grey;
 use mw_task::TileResult;
 use mw_tile::AnyWindow;
 use std::alloc::Global;
@@ -67,6 +67,6 @@ pub(crate) fn rank_filter(
         alloc,
         window,
         |set| rank_of_set(alloc, set, offsets, k, tile),
-        |samples, maxval| rank(alloc, samples, offsets, k, tile)
+        |samples, maxval| rank_of_grey(alloc, samples, offsets, k, tile)
     )
 }

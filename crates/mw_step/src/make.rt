@@ -38,11 +38,23 @@ pub fn run(alloc: Global, work: Work) -> Result<TileDone, TaskRefused>
     }
 }
 
+/// The windows of the work, put together in order.
+fn put_together(alloc: Global, work: &Work) -> Result<Vec<AnyWindow>, NoMemory>
+    ensures { IfOk result (λ v. v.items ≡ work.now.windows) }
+{
+    let windows = work.windows();
+    let mut joined = Vec::with_capacity(alloc, windows.len())?;
+    for window in windows {
+        joined.push(mw_joined::joined(alloc, window)?)?;
+    }
+    Ok(joined)
+}
+
 /// Puts the windows together, and makes of them what the step makes in the tile. The task stays with who has it.
 pub fn compute(alloc: Global, work: &Work) -> Result<TileResult, NoMemory>
     ensures { IfOk result (IsMade work.now) }
 {
-    let windows = work.joined(alloc)?;
+    let windows = put_together(alloc, work)?;
     made_of(alloc, work, &windows)
 }
 

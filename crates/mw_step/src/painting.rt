@@ -1,5 +1,5 @@
-//! Levels that are put into the places of a set, and sets less other sets. A word of 64 places without a pixel is skipped
-//! at once.
+//! Levels that are put into the places of a set, and sets less other sets. Of a word of 64
+//! places with few pixels only these are looked at.
 
 ghost use Rattle.std.specs.Prelude.{◌≡◌, ℕ, ◌*◌, ◌<◌, ◌≤◌, ◌==◌, ◌&&◌, length, slice_index_or, IfOk, if◌then◌else◌};
 ghost use Rattle.std.specs.Int.{bit_at};
@@ -38,22 +38,48 @@ fn chosen<P: Pixel>(mark: bool, v: P, s: P) -> P
     if mark { v } else { s }
 }
 
-/// Puts the level into each place of a word of a set.
-fn mark_word<P: Pixel>(acc: &mut [P], word: u64, v: P)
+/// Puts the level into each place of a word of a set, which has none past the samples: one place after another.
+fn mark_few<P: Pixel>(acc: &mut [P], word: u64, v: P)
+    requires short { length acc.old ≤ 64 }
+    requires clean { (x : ℕ) → x < 64 → length acc.old ≤ x → bit_at word x ≡ 0 }
+    ensures { (x : ℕ) (d : P) → x < length acc.old → slice_index_or acc.new x d ≡ (if bit_at word x == 1 then v else slice_index_or acc.old x d) }
+{
+    let mut left = word;
+    while left != 0 {
+        let place = left.trailing_zeros();
+        acc[place as usize] = v;
+        left &= !(1 << place);
+    }
+}
+
+/// Puts the level into each place of a word of a set, and looks at all of them.
+fn mark_many<P: Pixel>(acc: &mut [P], word: u64, v: P)
     requires { length acc.old ≤ 64 }
     ensures { (x : ℕ) (d : P) → x < length acc.old → slice_index_or acc.new x d ≡ (if bit_at word x == 1 then v else slice_index_or acc.old x d) }
 {
-    if word == 0 {
-        return;
-    }
     for i in 0..acc.len() {
         acc[i] = chosen((word >> i) & 1 == 1, v, acc[i]);
     }
 }
 
+/// Puts the level into each place of a word of a set, which has none past the samples.
+#[inline]
+fn mark_word<P: Pixel>(acc: &mut [P], word: u64, v: P)
+    requires short { length acc.old ≤ 64 }
+    requires clean { (x : ℕ) → x < 64 → length acc.old ≤ x → bit_at word x ≡ 0 }
+    ensures { (x : ℕ) (d : P) → x < length acc.old → slice_index_or acc.new x d ≡ (if bit_at word x == 1 then v else slice_index_or acc.old x d) }
+{
+    if word.count_ones() <= 16 {
+        mark_few(acc, word, v);
+    } else {
+        mark_many(acc, word, v);
+    }
+}
+
 /// Puts the level into each place of a row of a set.
 fn mark_row<P: Pixel>(acc: &mut [P], words: &[u64], v: P)
-    requires { length words.now ≡ stride_of (length acc.old) }
+    requires words { length words.now ≡ stride_of (length acc.old) }
+    requires clean { (x : ℕ) → length acc.old ≤ x → bit_of words.now x ≡ 0 }
     ensures { (x : ℕ) (d : P) → x < length acc.old → slice_index_or acc.new x d ≡ (if bit_of words.now x == 1 then v else slice_index_or acc.old x d) }
 {
     for k in 0..words.len() {

@@ -9,7 +9,7 @@ use crate::thresholds::is_sound;
 use mw_bits::{as_levels, at_least};
 use mw_model::{NoMemory, Offset, Rect};
 use mw_pixel::{Bit, Plane};
-use mw_rank::rank;
+use mw_rank::rank_of_grey;
 use mw_tile::Window;
 use std::alloc::Global;
 
@@ -27,7 +27,7 @@ pub(crate) fn rank_of_set(
 {
     is_sound(set);
     let window = as_levels(alloc, set)?;
-    let ranks = rank(alloc, &window, offsets, k, tile)?;
+    let ranks = rank_of_grey(alloc, &window, offsets, k, tile)?;
     let (width, height) = (tile.width, tile.height);
     let place = Rect {
         x: 0,

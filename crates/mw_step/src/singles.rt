@@ -7,8 +7,9 @@ ghost use Rattle.mw_task.specs.Products.{HoldsImage, each_drawn, tile_drawn};
 use crate::kinds::{made_bits, made_bytes, made_words, of_samples};
 use crate::pointwise::inverted;
 use crate::thresholds::{level_of_set, level_set, upper_of_set, upper_set};
+use mw_lane::LevelBlocks;
 use mw_model::{NoMemory, Rect};
-use mw_pixel::{Pixel, Plane};
+use mw_pixel::Plane;
 use mw_task::TileResult;
 use mw_tile::{AnyWindow, WindowView};
 use std::alloc::Global;
@@ -75,14 +76,20 @@ pub(crate) fn sum_up(a: &AnyWindow) -> u64
     }
 }
 
-/// The sum of the levels.
-fn total<P: Pixel>(samples: &[P]) -> u64
+/// The sum of the levels, of 64 samples at a time.
+fn total<P: LevelBlocks>(samples: &[P]) -> u64
     requires { length samples.now ≤ 67108864 }
     ensures { result ≡ sum_by P.level samples.now }
 {
-    let mut total: u64 = 0;
-    for sample in samples {
-        total += u64::from(sample.value());
+    let mut total = 0u64;
+    let mut at = 0usize;
+    'by_block: while samples.len() - at >= 64 {
+        total += P::sum(&samples[at..at + 64]);
+        at += 64;
+    }
+    'by_one: while at < samples.len() {
+        total += u64::from(samples[at].value());
+        at += 1;
     }
     total
 }

@@ -2,7 +2,8 @@
 
 ghost use Rattle.std.specs.Prelude.{◌≡◌, ℕ, ◌*◌, ◌≤◌, ◌==◌, All, length, map, IfOk, nat_le, if◌then◌else◌};
 
-use mw_bits::{at_least, equal, invert, join};
+use mw_bits::{invert, join};
+use mw_lane::LevelBlocks;
 use mw_model::NoMemory;
 use mw_pixel::{Bit, Grey, Plane};
 use mw_tile::Window;
@@ -57,7 +58,7 @@ pub(crate) fn upper_of_set(alloc: Global, k: u32, set: &Window<Bit>) -> Result<P
 }
 
 /// The places of a window in levels of grey with level `v`.
-pub(crate) fn level_set<P: Grey>(
+pub(crate) fn level_set<P: LevelBlocks + Grey>(
     alloc: Global,
     v: u16,
     a: &Window<P>,
@@ -69,11 +70,11 @@ pub(crate) fn level_set<P: Grey>(
 {
     // for their number
     let _samples = a.samples();
-    Ok(equal(alloc, a, u32::from(v))?)
+    Ok(mw_bits::level_set(alloc, a, u32::from(v))?)
 }
 
 /// The places of a window in levels of grey with level `k` or more.
-pub(crate) fn upper_set<P: Grey>(
+pub(crate) fn upper_set<P: LevelBlocks + Grey>(
     alloc: Global,
     k: u32,
     a: &Window<P>,
@@ -85,5 +86,5 @@ pub(crate) fn upper_set<P: Grey>(
 {
     // for their number
     let _samples = a.samples();
-    Ok(at_least(alloc, a, k)?)
+    Ok(mw_bits::threshold(alloc, a, k)?)
 }
