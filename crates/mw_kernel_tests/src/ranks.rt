@@ -6,8 +6,8 @@ use mw_images_for_tests::{
 };
 use mw_model::plain::PlainImage;
 use mw_model::{Kind, Rect, plain};
-use mw_pixel::{Grey, Plane};
-use mw_rank::rank;
+use mw_pixel::Plane;
+use mw_rank::{Counted, rank, rank_of_grey};
 use mw_tile::Window;
 use std::alloc::Global;
 use std::process::Abort;
@@ -22,7 +22,7 @@ struct Wanted<'a> {
 }
 
 /// Stops where a rank of a window is not in the tile what is wanted there of the whole frame.
-fn agree_on_tile<P: Grey>(
+fn agree_on_tile<P: Counted>(
     rt: &impl Abort,
     alloc: Global,
     window: &Window<P>,
@@ -37,11 +37,17 @@ fn agree_on_tile<P: Grey>(
         "rank {} in {tile:?}",
         wanted.k
     );
+    let made = rank_of_grey(alloc, window, offsets, wanted.k, tile)?;
+    assert!(rt;
+        shows_tile(&made, tile, wanted.whole),
+        "rank {} in {tile:?}, by the quicker way",
+        wanted.k
+    );
     Ok(())
 }
 
 /// Stops where a rank of a plane is not as wanted, by the windows of the grid's tiles.
-fn agree_on_grid<P: Grey>(
+fn agree_on_grid<P: Counted>(
     rt: &impl Abort,
     alloc: Global,
     plane: &Plane<P>,
@@ -65,7 +71,7 @@ fn tiles_of(width: u32, height: u32) -> [Rect; 4] {
 }
 
 /// Stops where a rank of a plane is not as wanted, by the window that has all of it.
-fn agree_on_whole<P: Grey>(
+fn agree_on_whole<P: Counted>(
     rt: &impl Abort,
     alloc: Global,
     plane: Plane<P>,
@@ -88,7 +94,7 @@ fn ranked(
     Ok(plain::rank(alloc, image, element.offsets(), k)?)
 }
 
-fn agree<P: Grey>(
+fn agree<P: Counted>(
     rt: &impl Abort,
     alloc: Global,
     image: &PlainImage,
@@ -103,7 +109,7 @@ fn agree<P: Grey>(
 }
 
 /// The same on grey images without a pattern.
-fn agree_on_greys<P: Grey>(
+fn agree_on_greys<P: Counted>(
     rt: &impl Abort,
     alloc: Global,
     maxval: u16,

@@ -9,6 +9,7 @@ ghost use Rattle.mw_tiles_tests.specs.Given.{HasOneMore, MayStand};
 
 use mw_grid::{Grid, is_within};
 use mw_images_for_tests::plane_of;
+use mw_joined::joined;
 use mw_model::plain::PlainImage;
 use mw_model::{Kind, Rect};
 use mw_pieces::{Pieces, SharedWindow};
@@ -201,9 +202,10 @@ pub(crate) fn window_in(alloc: Global, plane: &TiledPlane, rect: Rect) -> Result
     Ok(plane.shared(alloc, rect)?)
 }
 
-/// Whether both windows show the same, put together.
+/// Whether both windows show the same, put together row by row and in blocks.
 pub(crate) fn same(alloc: Global, a: &SharedWindow, b: &SharedWindow) -> Result<bool, Fail> {
-    Ok(a.joined(alloc)?.same(&b.joined(alloc)?))
+    let wanted = b.joined(alloc)?;
+    Ok(a.joined(alloc)?.same(&wanted) && joined(alloc, a)?.same(&wanted))
 }
 
 /// Whether a window is that of a rectangle of such a plane.

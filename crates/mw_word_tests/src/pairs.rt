@@ -1,6 +1,6 @@
 //! Sets in words that are put together, turned round and made of levels, beside the kernels over samples.
 
-use mw_bits::{at_least, count, equal, invert, join, meet, minus};
+use mw_bits::{at_least, count, equal, invert, join, level_set, meet, minus, threshold};
 use mw_images_for_tests::{has_levels, noise, plane_of};
 use mw_lane::{combine_rows, subtract_rows, threshold_row};
 use mw_model::{Kind, NoMemory};
@@ -64,6 +64,8 @@ fn agree_on_levels(rt: &impl Abort, alloc: Global, window: &Window<u8>) -> Resul
     let level = less(alloc, from.as_slice(), above.as_slice())?;
     assert!(rt; shows(alloc, &at_least(alloc, window, 5)?, from.as_slice())?);
     assert!(rt; shows(alloc, &equal(alloc, window, 5)?, level.as_slice())?);
+    assert!(rt; shows(alloc, &threshold(alloc, window, 5)?, from.as_slice())?);
+    assert!(rt; shows(alloc, &level_set(alloc, window, 5)?, level.as_slice())?);
     let none = Window::whole(at_least(alloc, window, 65536)?);
     assert_eq!(rt; count(&none), 0);
     Ok(())
