@@ -3,11 +3,11 @@ pub mod Folds
 pub mod Joined
 pub mod Over
 pub mod Rows
+pub mod Seen
 pub mod Tiles
 pub mod Within
 -- the crate's own
 mod Cut
-mod Seen
 mod SlidRows
 mod Spans
 mod Levels
