@@ -4,6 +4,7 @@ pub mod Rooms
 pub mod Gathers
 pub mod Seens
 -- the crate's own
+mod HeldRows
 mod Parts
 mod Pushed
 mod StripRows

@@ -1,47 +1,29 @@
-use Rattle.std.proofs.Common.{◌≡◌, ◌*◌, ◌+◌, ◌+ℤ◌, ℕ, ℤ, pos, ap, ◌∙◌, arith, to_z, of_z, w64, length}
+use Rattle.std.proofs.Common.{◌≡◌, ℕ, ℤ, pos, ◌+◌, ◌*◌, ◌+ℤ◌, ap, sym, ◌∙◌, arith}
 use Rattle.std.proofs.lemmas.Int.{ints}
-use Rattle.std.proofs.Math.Nat.{mul-le-mul_left}
 use Rattle.std.specs.Option.{unwrap_or}
 use Rattle.mw_model.specs.Rasters.{raster, cell_at}
-use Rattle.mw_line.proofs.Rows.{rows_fit}
-use Rattle.mw_offset.proofs.Pushed.{appended_same, rows_pushed}
+use Rattle.mw_offset.specs.Rows.{AreRows}
+use Rattle.mw_offset.proofs.HeldRows.{rows_same}
 use Rattle.mw_offset.proofs.Rooms.{row_within}
 use Rattle.mw_offset.proofs.spread.spread.Goals as goal
-
-pub push_window_row-requires : goal.push_window_row-requires
-push_window_row-requires g c =
-    let wide = c.args.rows.wide in
-    let high = c.args.rows.high in
-    let fits = rows_fit c.loop-y.y high wide c.loop-y-test.true in
-    let few = mul-le-mul_left wide c.requires.few in
-    omega (arith, fits, few, c.requires.narrow, c.loop-y.invariant.size, c.loop-y.cells.ok.0)
-
-pub loop-y-init : goal.loop-y-init
-loop-y-init g c = record { size = omega (arith, ap length c.in_ok-cells.ensures.items); done = λ x j less row_less. absurd (omega arith) }
-
-pub loop-y-preserved : goal.loop-y-preserved
-loop-y-preserved g c =
-    let w = c.args.window.now in
-    let n = c.args.neutral in
-    let wide = c.args.rows.wide in
-    let y = c.loop-y.y in
-    let from_x : ℤ = c.args.rows.column in
-    let from_y : ℤ = c.args.rows.row in
-    let to_x : ℤ = to_z w64 (of_z w64 from_x) in
-    let to_y : ℤ = to_z w64 (of_z w64 (to_z w64 (of_z w64 from_y) +ℤ to_z w64 y)) in
-    let x-is : to_x ≡ from_x = omega (arith, ints) in
-    let y-is : to_y ≡ from_y +ℤ pos y = omega (arith, ints) in
-    let value = λ (column row : ℤ) (x : ℕ). unwrap_or (cell_at (raster w.place.width w.place.height w.cells) (column +ℤ pos x) row) n in
-    let made = c.push_window_row.new.cells.items in
-    rows_pushed (λ x j. unwrap_or (cell_at (raster w.place.width w.place.height w.cells) (from_x +ℤ pos x) (from_y +ℤ pos j)) n) n wide y c.loop-y.cells.items made
-    (appended_same (value to_x to_y) (value from_x (from_y +ℤ pos y)) n wide c.loop-y.cells.items made
-    (λ x less. ap (λ (t : ℤ). value t to_y x) x-is ∙ ap (λ (t : ℤ). value from_x t x) y-is)
-    c.in_ok-push_window_row.ensures)
-    c.loop-y.invariant
+use Rattle.mw_offset.proofs.spread.spread.Goals.{in-Some+in_ok-push_held, in_default+in_ok-push_rows}
 
 pub returns-clause-cells : goal.returns-clause-cells
 returns-clause-cells g c = λ x y less row_less.
-    let here = row_within x y c.args.rows.wide c.args.rows.high less row_less in
-    let end : c.loop-y.y ≡ c.args.rows.high = omega arith in
-    let size = c.loop-y.invariant.size ∙ ap (λ (t : ℕ). t * c.args.rows.wide) end in
-    c.in_ok-resize.ensures.by_index.0 (y * c.args.rows.wide + x) c.args.neutral (omega (arith, here)) (omega (arith, here, size, c.loop-y.cells.ok.0)) ∙ c.loop-y.invariant.done x y less (omega arith)
+    let w = c.args.window.now in
+    let rows = c.args.rows in
+    let n = c.args.neutral in
+    let seen = λ (column row : ℤ). unwrap_or (cell_at (raster w.place.width w.place.height w.cells) column row) n in
+    let value = λ (x y : ℕ). seen (rows.column +ℤ pos x) (rows.row +ℤ pos y) in
+    let made : AreRows value n rows.wide rows.high c.match-held_row.cells.items = elim c.match-held_row.branch [
+      | in-Some+in_ok-push_held h ↦
+          let row = h.in-Some.row in
+          let stands = h.in-Some.ensures in
+          let column-is : (x : ℕ) → pos x ≡ rows.column +ℤ pos x = λ x. omega (arith, ints, stands.0) in
+          let row-is : (y : ℕ) → pos (row + y) ≡ rows.row +ℤ pos y = λ y. omega (arith, ints, stands.2) in
+          let same = λ (x y : ℕ). ap (λ (t : ℤ). seen t (pos (row + y))) (column-is x) ∙ ap (λ (t : ℤ). seen (rows.column +ℤ pos x) t) (row-is y) in
+          rw h.cells-is (rows_same (λ x y. seen (pos x) (pos (row + y))) value n w.place.width rows.wide rows.high h.push_held.new.cells.items (sym stands.1) same (h.in_ok-push_held.ensures n))
+      | in_default+in_ok-push_rows h ↦ rw h.cells-is h.in_ok-push_rows.ensures
+    ] in
+    let here = row_within x y rows.wide rows.high less row_less in
+    c.in_ok-resize.ensures.by_index.0 (y * rows.wide + x) n (omega (arith, here)) (omega (arith, here, made.size, c.match-held_row.cells.ok.0)) ∙ made.made x y less row_less
