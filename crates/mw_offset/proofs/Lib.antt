@@ -6,5 +6,4 @@ pub mod Seens
 -- the crate's own
 mod HeldRows
 mod Parts
-mod Pushed
 mod StripRows
