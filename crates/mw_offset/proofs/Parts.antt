@@ -1,18 +1,20 @@
 -- Parts of runs, merged at their places.
-use Rattle.std.proofs.Common.{◌≡◌, ℕ, ◌+◌, ◌-◌, ◌<◌, ◌≤◌, Bool, true, false, List, [], ◌∷◌, ◌++◌, length, take, get_or, fold, flat_map, refl, ap, sym, arith, ◌∙◌, append-nil}
+use Rattle.std.proofs.Common.{◌≡◌, ℕ, ◌+◌, ◌-◌, ◌<◌, ◌≤◌, Bool, true, false, List, [], ◌∷◌, ◌++◌, length, take, drop, get_or, fold, flat_map, refl, ap, sym, arith, ◌∙◌, append-nil, inl, inr}
 use Rattle.std.specs.List.{AllByRecursion}
 use Rattle.std.specs.Prelude.{nat_le, nat_lt, ◌&&◌, if◌then◌else◌}
-use Rattle.std.proofs.lemmas.Bool.{ltb-false}
-use Rattle.std.proofs.lemmas.List.{take_more, get_or_default, get_or_append_left}
+use Rattle.std.proofs.lemmas.Bool.{cases_lt, ltb-false}
+use Rattle.std.proofs.lemmas.List.{take_more, get_or_default, get_or_append_left, get_or-take, get_or-drop}
 use Rattle.std.proofs.lemmas.List.Concat.{flat_map-append, flat_map-cons}
 use Rattle.std.proofs.lemmas.List.Sums.{fold-append}
 use Rattle.mw_facts.proofs.Alls.{all-append}
+use Rattle.mw_facts.proofs.Parts.{get_or-put_mid_below, get_or-put_mid_within}
 use Rattle.mw_line.proofs.Folds.{IsExtremum}
 use Rattle.mw_run.specs.declared.runs.Run.{Run}
 use Rattle.mw_run.specs.declared.runs.Extent.{Extent}
 use Rattle.mw_offset.proofs.Rooms.{merged_again}
 use Rattle.mw_offset.specs.Places.{merge_from, places_of, sized_below}
 use Rattle.mw_run.specs.Runs.{start_of, HasRoom, two_parts}
+use borrow.Rule.Slice.PartMut.{put_mid}
 
 -- the samples below `at` have their values, and the others are as they were
 pub record PartsDone {A : Type 0} (value : A → ℕ → A → A) (at : ℕ) (old out : List A) : Type 0 where
@@ -23,6 +25,44 @@ pub record PartsDone {A : Type 0} (value : A → ℕ → A → A) (at : ℕ) (ol
 
 pub parts_none : {A : Type 0} (value : A → ℕ → A → A) (old : List A) → PartsDone value 0 old old
 parts_none value old = record { within = omega arith; size = refl; done = λ q d lt. absurd (omega arith); rest = λ q d le. refl }
+
+absorbed : {A : Type 0} (f : A → A → A) → IsExtremum f → (cells : List A) (d : A) (q : ℕ) (best x : A) (places : List ℕ)
+    → f (fold (merge_from f cells d q) (f best x) places) x ≡ fold (merge_from f cells d q) (f best x) places
+absorbed f laws cells d q best x [] = merged_again f laws best x
+absorbed f laws cells d q best x (p ∷ ps) =
+    let y = get_or cells (p + q) d in
+    let turned : f (f best x) y ≡ f (f best y) x = laws.associates best x y ∙ ap (f best) (laws.commutes x y) ∙ sym (laws.associates best y x) in
+    ap (λ (t : _). f (fold (merge_from f cells d q) t ps) x) turned ∙ absorbed f laws cells d q (f best y) x ps ∙ ap (λ (t : _). fold (merge_from f cells d q) t ps) (sym turned)
+
+-- what is merged twice at the same places is merged once
+pub merged_twice : {A : Type 0} (f : A → A → A) → IsExtremum f → (cells : List A) (d : A) (q : ℕ) (best : A) (places : List ℕ)
+    → fold (merge_from f cells d q) (fold (merge_from f cells d q) best places) places ≡ fold (merge_from f cells d q) best places
+merged_twice f laws cells d q best [] = refl
+merged_twice f laws cells d q best (p ∷ ps) =
+    let x = get_or cells (p + q) d in
+    ap (λ (t : _). fold (merge_from f cells d q) t ps) (absorbed f laws cells d q best x ps) ∙ merged_twice f laws cells d q (f best x) ps
+
+-- the last samples, of which some had their values before
+pub last_done : {A : Type 0} (value : A → ℕ → A → A) (at start m : ℕ) (old out made : List A) → ((d : A) (q : ℕ) (a : A) → value d q (value d q a) ≡ value d q a) → start ≤ at → length old ≡ start + m → length made ≡ m
+    → ((q : ℕ) (d : A) → q < m → get_or made q d ≡ value d (start + q) (get_or (take m (drop start out)) q d))
+    → PartsDone value at old out → (q : ℕ) (d : A) → q < length old → get_or (put_mid start m out made) q d ≡ value d q (get_or old q d)
+last_done value at start m old out made again le size len made-is before q d lt =
+    elim (cases_lt q start) [
+      | inl earlier ↦ get_or-put_mid_below start m out made q d room earlier ∙ before.done q d (omega arith)
+      | inr from ↦
+          let here : start + (q - start) ≡ q = omega arith in
+          get_or-put_mid_within start m out made q d room from (omega arith)
+          ∙ made-is (q - start) d (omega arith)
+          ∙ ap (value d (start + (q - start))) (get_or-take m (drop start out) (q - start) d (omega arith) ∙ get_or-drop start out (q - start) d)
+          ∙ ap (λ (t : ℕ). value d t (get_or out t d)) here
+          ∙ elim (cases_lt q at) [
+            | inl done ↦ ap (value d q) (before.done q d done) ∙ again d q (get_or old q d)
+            | inr rest ↦ ap (value d q) (before.rest q d rest)
+          ]
+    ]
+  where
+    room : start ≤ length out
+    room = omega (arith, before.size)
 
 -- what holds of the values that stand there holds whatever stands for those that do not
 pub any_default : {A : Type 0} (value : A → A) (made part : List A) (x : ℕ) (d e : A) → x < length made → x < length part → get_or made x d ≡ value (get_or part x d) → get_or made x e ≡ value (get_or part x e)

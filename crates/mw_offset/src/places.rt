@@ -1,6 +1,6 @@
 //! Samples merged with those at several places of another row: a block of them stays in registers until those of all
-//! places are merged into it. The last samples of a row are merged as a block too, so there are 63 cells more than are
-//! asked for.
+//! places are merged into it. The samples of a row that is shorter than a block are merged as one too, so there are 63
+//! cells more than are asked for.
 ghost use Rattle.std.specs.Prelude.{◌≡◌, ℕ, ◌+◌, ◌-◌, ◌*◌, ◌<◌, ◌≤◌, length, fold, slice_index_or};
 ghost use Rattle.std.specs.List.{AllByRecursion};
 ghost use Rattle.mw_offset.specs.Places.{merge_from};
@@ -38,6 +38,30 @@ fn merge_rest<P: Pixel, E: Extremum<P>>(cells: &[P], places: &[usize], at: usize
     rest.copy_from_slice(&block[..count]);
 }
 
+/// Merges into a block or more of samples those of the cells that stand `from` places and as many more after each of the
+/// places. What is merged twice is merged once, so the last block may begin within the one before.
+fn combine_blocks<P: Pixel, E: Extremum<P>>(
+    cells: &[P],
+    places: &[usize],
+    from: usize,
+    out: &mut [P],
+)
+    requires block { 64 ≤ length out.old }
+    requires cells { from + length out.old ≤ length cells.now }
+    requires room { AllByRecursion (λ p. p + (from + length out.old) ≤ length cells.now) places.now }
+    ensures { (q : ℕ) (d : P) → q < length out.old → slice_index_or out.new q d ≡ fold (merge_from E.merge cells.now d (from + q)) (slice_index_or out.old q d) places.now }
+{
+    let mut at = 0usize;
+    'by_block: while out.len() - at >= 64 {
+        merge_block::<P, E>(cells, places, from + at, &mut out[at..at + 64]);
+        at += 64;
+    }
+    if at < out.len() {
+        let last = out.len() - 64;
+        merge_block::<P, E>(cells, places, from + last, &mut out[last..last + 64]);
+    }
+}
+
 /// Merges into each sample that of the cells that stands `from` places and as many more after each of the places.
 fn combine_places<P: Pixel, E: Extremum<P>>(
     cells: &[P],
@@ -49,13 +73,10 @@ fn combine_places<P: Pixel, E: Extremum<P>>(
     requires room { AllByRecursion (λ p. p + (from + length out.old + 63) ≤ length cells.now) places.now }
     ensures { (q : ℕ) (d : P) → q < length out.old → slice_index_or out.new q d ≡ fold (merge_from E.merge cells.now d (from + q)) (slice_index_or out.old q d) places.now }
 {
-    let mut at = 0usize;
-    'by_block: while out.len() - at >= 64 {
-        merge_block::<P, E>(cells, places, from + at, &mut out[at..at + 64]);
-        at += 64;
-    }
-    if at < out.len() {
-        merge_rest::<P, E>(cells, places, from + at, &mut out[at..]);
+    if out.len() >= 64 {
+        combine_blocks::<P, E>(cells, places, from, out);
+    } else if out.len() > 0 {
+        merge_rest::<P, E>(cells, places, from, out);
     }
 }
 

@@ -1,7 +1,7 @@
 use Rattle.std.proofs.Common.{◌-◌, ◌+◌, fold, length}
 use Rattle.mw_offset.specs.Places.{merge_from}
 use Rattle.mw_offset.proofs.Parts.{PartsDone}
-use Rattle.mw_offset.proofs.places.combine_places.Given as goal
+use Rattle.mw_offset.proofs.places.combine_blocks.Given as goal
 
 abbrev pub invariant-by_block : goal.invariant-by_block
 invariant-by_block g l = PartsDone (λ d q best. fold (merge_from g.E.Extremum.merge l.cells d (l.from + q)) best l.places) l.at l.fn.out l.out
