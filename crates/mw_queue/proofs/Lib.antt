@@ -3,3 +3,4 @@ mod Counts
 mod Lists
 mod Opens
 mod Orders
+mod Tops

@@ -46,3 +46,8 @@ pub record IsQueue (q : Queued) (total : ℕ) : Type 0 where
   pub small : length q.waiting < 2 ^ 31
   pub listed : (s : ℕ) → s < length q.ready → Listed q.tiles (λ t. is_open q.started q.waiting (s * q.tiles + t)) (list_at q.ready s)
   pub count : total ≡ count_below (is_open q.started q.waiting) (length q.waiting)
+
+-- From the step `top` on no list has an open task.
+pub record IsTop (lists : List (List ℕ)) (top : ℕ) : Type 0 where
+  pub within : top ≤ length lists
+  pub none : (s : ℕ) → top ≤ s → s < length lists → length (list_at lists s) ≡ 0

@@ -1,4 +1,5 @@
-//! The queue of open tasks.
+//! The queue of open tasks. It keeps past which step no task is open: of a long plan few steps have open tasks at a time,
+//! and the latest of them is found without a look at the lists behind it.
 
 ghost use Rattle.std.specs.Prelude.{◌≡◌, ℕ, ◌+◌, ◌-◌, ◌*◌, ◌/◌, ◌<◌, ◌≤◌, ◌^◌, length, true, false, replicate, IfOk, slice_set, slice_index, vec_len, vec_capacity, List};
 
@@ -13,19 +14,21 @@ pub struct Queue {
     started: Vec<bool>,
     waiting: Vec<u32>,
     ready: Vec<Vec<u16>>,
+    top: usize,
     total: u32,
 }
 
 impl Model for Queue {
-    ghost use Rattle.mw_queue.specs.Queues.{Queued, IsQueue};
-    ghost use Rattle.mw_queue.specs.Shown.{queue_of, HasRoom};
+    ghost use Rattle.mw_queue.specs.Queues.{Queued, IsQueue, IsTop};
+    ghost use Rattle.mw_queue.specs.Shown.{queue_of, items_of, HasRoom};
 
     ghost Value = { Queued };
 
     ghost view = { λ a. queue_of a.started.items a.waiting.items a.tiles a.ready.items };
 
     ghost invariant = { λ a. IsQueue (queue_of a.started.items a.waiting.items a.tiles a.ready.items) a.total
-        × HasRoom a.tiles a.ready.items };
+        × HasRoom a.tiles a.ready.items
+        × IsTop (items_of a.ready.items) a.top };
 }
 
 impl Queue {
@@ -61,7 +64,7 @@ impl Queue {
         // for the number of open tasks
         let _total = self.count();
         let mut left = place as usize;
-        let mut step = self.ready.len();
+        let mut step = self.top;
         while step > 0 {
             step -= 1;
             let count = self.ready[step].len();
@@ -102,6 +105,7 @@ impl Queue {
         let task = step * self.tiles as usize + tile as usize;
         self.started[task] = true;
         self.total -= 1;
+        self.top = lowered(&self.ready, self.top);
         (step as u32, u32::from(tile))
     }
 
@@ -117,10 +121,11 @@ impl Queue {
         let left = self.waiting[task as usize] - 1;
         self.waiting[task as usize] = left;
         if left == 0 {
-            let step = task / self.tiles;
+            let step = (task / self.tiles) as usize;
             let tile = task % self.tiles;
-            self.ready[step as usize].push_reserved(tile as u16);
+            self.ready[step].push_reserved(tile as u16);
             self.total += 1;
+            self.top = self.top.max(step + 1);
         }
     }
 
@@ -150,18 +155,37 @@ impl Queue {
             total += list.len() as u32;
             ready.push_reserved(list);
         }
+        let top = lowered(&ready, steps);
         Ok(Queue {
             tiles,
             started,
             waiting,
             ready,
+            top,
             total,
         })
     }
 }
 
 ghost use Rattle.std.specs.Prelude.{nat_eq};
-ghost use Rattle.mw_queue.specs.Queues.{Listed};
+ghost use Rattle.mw_queue.specs.Queues.{Listed, list_at};
+ghost use Rattle.mw_queue.specs.Shown.{items_of};
+
+/// How many of so many steps are left without the last ones that have no open task.
+fn lowered(ready: &[Vec<u16>], top: usize) -> usize
+    requires { top ≤ length ready.now }
+    ensures within { result ≤ top }
+    ensures none { (s : ℕ) → result ≤ s → s < top → length (list_at (items_of ready.now) s) ≡ 0 }
+{
+    let mut step = top;
+    while step > 0 {
+        if !ready[step - 1].is_empty() {
+            return step;
+        }
+        step -= 1;
+    }
+    0
+}
 
 /// The tiles of a step that wait for nothing, with room for all tiles of a step.
 fn free_tiles(alloc: Global, waiting: &[u32], step: usize, tiles: u32) -> Result<Vec<u16>, NoMemory>

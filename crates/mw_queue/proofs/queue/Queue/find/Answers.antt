@@ -1,8 +1,22 @@
-use Rattle.std.proofs.Common.{ℕ, ◌-◌, ◌<◌, ◌≤◌, length, List, ap, subst, ◌∙◌, arith}
-use Rattle.mw_queue.specs.Queues.{Queued, IsQueue, list_at}
+use Rattle.std.proofs.Common.{ℕ, ◌-◌, ◌<◌, ◌≤◌, length, List, ap, subst, ◌∙◌, arith, get_or}
+use Rattle.mw_queue.specs.Queues.{Queued, IsQueue, IsTop, list_at}
 use Rattle.mw_queue.proofs.Orders.{handed-here, handed-later, length-handed_less, list-length, list_empty}
 use Rattle.mw_queue.proofs.Opens.{steps_small, length-items_of}
+use Rattle.mw_queue.proofs.Tops.{handed-all}
 use Rattle.mw_queue.proofs.queue.Queue.find.Goals as goal
+
+pub loop-step-init : goal.loop-step-init
+loop-step-init c =
+    let q = c.args.self.now in
+    let top = subst (λ (v : Queued). IsTop v.ready c.self.inside.top) c.self.view_is c.self.invariant.2 in
+    let same = handed-all q.ready q.tiles c.self.inside.top top in
+    record {
+      within = top.within;
+      low = omega (arith, c.requires, c.count-total.ensures.value, c.count-total.ensures.order, ap (λ (xs : List ℕ). length xs) same);
+      value = ap (λ (xs : List ℕ). get_or xs c.args.place 0) same;
+      front = λ first. first;
+      latest = λ first. top.none;
+    }
 
 pub returns-then-left-count-clause-value : goal.returns-then-left-count-clause-value
 returns-then-left-count-clause-value c =

@@ -4,6 +4,7 @@ use Rattle.mw_queue.specs.Queues.{Queued, list_at}
 use Rattle.mw_queue.specs.Shown.{queue_of, items_of}
 use Rattle.mw_queue.proofs.Orders.{list_at-items, list-length}
 use Rattle.mw_queue.proofs.Opens.{list_room, opened_given, still_waits, items-set, room-set, room-at, total_small, length-items_of}
+use Rattle.mw_queue.proofs.Tops.{top-held, top-raised}
 use Rattle.mw_queue.proofs.queue.Queue.settle.Goals as goal
 
 pub push_reserved-requires : goal.push_reserved-requires
@@ -37,6 +38,8 @@ invariant_of-self c =
       opened_given q a.total c.args.task (c.index.result.now - 1) (items_of (set a.ready.items s c.push_reserved.new.self)) c.self.invariant.0 within waits idle c.if-left-eq0.true
           (items-set a.ready.items s c.push_reserved.new.self (list_at q.ready s ++ c.args.task % a.tiles ∷ []) (c.push_reserved.ensures.items ∙ ap (λ (xs : List ℕ). xs ++ c.args.task % a.tiles ∷ []) (sym list-is))),
       room-set a.tiles s a.ready.items c.push_reserved.new.self c.self.invariant.1 s-lt (omega (arith, c.push_reserved.ensures.capacity, room-at a.tiles s a.ready.items w.result.now c.self.invariant.1 s-lt w.ensures.value)),
+      top-held a.ready.items c.max-self-inside.result s c.push_reserved.new.self
+          (top-raised (items_of a.ready.items) a.top c.max-self-inside.result c.self.invariant.2 (omega (arith, c.max-self-inside.ensures)) (omega (arith, c.max-self-inside.ensures, room.0, c.self.invariant.2.within))) (omega (arith, c.max-self-inside.ensures)),
     )
 
 pub invariant_of-self-else-left-eq0 : goal.invariant_of-self-else-left-eq0
@@ -45,4 +48,4 @@ invariant_of-self-else-left-eq0 c =
     let q = queue_of a.started.items a.waiting.items a.tiles a.ready.items in
     let within = subst (λ (v : Queued). c.args.task < length v.waiting) (sym c.self.view_is) c.requires.within in
     let waits = subst (λ (v : Queued). 0 < get_or v.waiting c.args.task 0) (sym c.self.view_is) c.requires.waits in
-    (still_waits q a.total c.args.task (c.index.result.now - 1) c.self.invariant.0 within waits c.if-left-eq0.false, c.self.invariant.1)
+    (still_waits q a.total c.args.task (c.index.result.now - 1) c.self.invariant.0 within waits c.if-left-eq0.false, c.self.invariant.1, c.self.invariant.2)
