@@ -1,8 +1,8 @@
 -- The tasks that read a tile stand in a block of each step.
-use Rattle.std.proofs.Common.{◌≡◌, ℕ, ◌+◌, ◌*◌, ◌%◌, ◌<◌, ◌≤◌, Bool, true, false, ◌&&◌, List, nat_eq, refl, ap, subst, ◌∙◌, arith, get_or, length, inl, inr}
+use Rattle.std.proofs.Common.{◌≡◌, ℕ, ◌+◌, ◌*◌, ◌%◌, ◌<◌, ◌≤◌, Bool, true, false, ◌&&◌, List, nat_eq, refl, ap, ◌∙◌, arith, get_or, length, inl, inr}
 use Rattle.std.proofs.Math.Bool.{and-false}
 use Rattle.std.proofs.Math.Nat.{mul-le-mul_left}
-use Rattle.std.proofs.lemmas.Bool.{cases_eq, ne_eqb, and_parts, eqb-true}
+use Rattle.std.proofs.lemmas.Bool.{cases_eq, cases_lt, ne_eqb, and_parts, eqb-true}
 use Rattle.std.proofs.lemmas.Nat.{mod_below}
 use Rattle.mw_model.specs.Places.{grown}
 use Rattle.mw_model.specs.Tasks.{flag, meets}
@@ -17,7 +17,8 @@ use Rattle.mw_ready.specs.Boards.{step_of, tile_of_task, step_reads, reads_tile,
 use Rattle.mw_ready.specs.Kept.{is_near}
 use Rattle.mw_queue.specs.Queues.{Queued}
 use Rattle.mw_ready.specs.Counters.{Lowers, Waiting}
-use Rattle.mw_ready.proofs.Lowering.{and_bits, range_more, lowers_more}
+use Rattle.mw_ready.specs.Links.{Skips}
+use Rattle.mw_ready.proofs.Lowering.{and_bits, range_more, lowers_more, lowers_same}
 
 -- a block of a step by what its tiles are
 pub at_step_is : (g : Tiling) (b shifted : Block) (q : ℕ → Bool) (k t : ℕ) → 0 < tile_count g → ((t : ℕ) → in_block g shifted t ≡ nat_eq (step_of g t) k && in_block g b (t % tile_count g))
@@ -79,21 +80,38 @@ step_waits needs need g k step tile old now is so started waiting lowers = λ t 
     (omega (arith, lowers.each t t-lt, was.0), ap (λ (xs : List Bool). flag xs t) started ∙ was.1)
 
 -- at the end every step has been looked at
-lowers_all : (needs : List Need) (g : Tiling) (n step tile : ℕ) (old now : List ℕ) → length old ≡ n * tile_count g → Lowers (readers needs g step tile n) old now → Lowers (λ t. reads_tile needs g t step tile) old now
-lowers_all needs g n step tile old now size lowers =
+pub lowers_all_given : (needs : List Need) (g : Tiling) (n k step tile : ℕ) (old now : List ℕ) → n ≤ k → length old ≡ n * tile_count g → Lowers (readers needs g step tile k) old now → Lowers (λ t. reads_tile needs g t step tile) old now
+lowers_all_given needs g n k step tile old now le size lowers =
     record {
       size = lowers.size;
       each = λ t lt.
           let s : step_of g t < n = row_less n (tile_count g) t (some t n (tile_count g) (omega arith)) (omega arith) in
-          let all : readers needs g step tile n t ≡ reads_tile needs g t step tile = rw (in-yes 0 n (step_of g t) (omega arith) s) refl in
+          let all : readers needs g step tile k t ≡ reads_tile needs g t step tile = rw (in-yes 0 k (step_of g t) (omega arith) (omega arith)) refl in
           omega (arith, lowers.each t lt, ap bit all);
     }
   where
     some : (t n m : ℕ) → t < n * m → 0 < m
     some t n m lt = grind arith
 
-pub lowers_all_given : (needs : List Need) (g : Tiling) (n k step tile : ℕ) (old now : List ℕ) → k ≡ n → length old ≡ n * tile_count g → Lowers (readers needs g step tile k) old now → Lowers (λ t. reads_tile needs g t step tile) old now
-lowers_all_given needs g n k step tile old now e size lowers = lowers_all needs g n step tile old now size (subst (λ (m : ℕ). Lowers (readers needs g step tile m) old now) e lowers)
+-- steps that do not read are passed
+pub lowers_past : (needs : List Need) (g : Tiling) (k next step tile : ℕ) (old now : List ℕ) → Skips needs step k next → Lowers (readers needs g step tile k) old now → Lowers (readers needs g step tile next) old now
+lowers_past needs g k next step tile old now skips lowers = lowers_same (readers needs g step tile k) (readers needs g step tile next) old now same lowers
+  where
+    same : (t : ℕ) → readers needs g step tile k t ≡ readers needs g step tile next t
+    same t = elim (cases_lt (step_of g t) k) [
+      | inl before ↦ rw (in-yes 0 k (step_of g t) (omega arith) before, in-yes 0 next (step_of g t) (omega arith) (omega (arith, skips.ordered))) refl
+      | inr from ↦ elim (cases_lt (step_of g t) next) [
+        | inl between ↦ rw (in-high 0 k (step_of g t) from, in-yes 0 next (step_of g t) (omega arith) between, skips.none (step_of g t) from between) refl
+        | inr behind ↦ rw (in-high 0 k (step_of g t) from, in-high 0 next (step_of g t) behind) refl
+      ]
+    ]
+
+-- before the first reader nothing is lowered
+pub lowers_none : (needs : List Need) (g : Tiling) (first step tile : ℕ) (counts : List ℕ) → Skips needs step 0 first → Lowers (readers needs g step tile first) counts counts
+lowers_none needs g first step tile counts skips = lowers_past needs g 0 first step tile counts counts skips (record {
+  size = refl;
+  each = λ t lt. let none : bit (readers needs g step tile 0 t) ≡ 0 = rw (in-high 0 0 (step_of g t) (omega arith)) refl in omega arith;
+})
 
 pub boxes_fit : (k n rows columns : ℕ) → k < n → (k * rows + rows) * columns ≤ n * (rows * columns)
 boxes_fit k n rows columns lt =

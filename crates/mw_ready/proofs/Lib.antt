@@ -7,4 +7,5 @@ mod Keeping
 mod Firsts
 mod Raising
 mod ReaderCounts
+mod Joining
 mod Tied

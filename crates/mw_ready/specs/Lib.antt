@@ -2,3 +2,4 @@ pub mod Boards
 pub mod Work
 pub mod Counters
 pub mod Kept
+pub mod Links

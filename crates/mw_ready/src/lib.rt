@@ -11,12 +11,13 @@
 //! ```
 //!
 //! Each task has a counter of the unfinished tasks that it reads. A finished tile lowers the counters of its readers
-//! alone, and a task whose counter comes to zero joins the list of its step. A second counter has the number of the
-//! unfinished tasks that read the task, so that its tile can be dropped with the last of them. Twelve bytes a task are
-//! all that it takes.
+//! alone, and a task whose counter comes to zero joins the list of its step. Which steps read a step is made out once, so
+//! no task costs a walk over the plan. A second counter has the number of the unfinished tasks that read the task, so that
+//! its tile can be dropped with the last of them. Besides its needs a board takes twelve bytes a task and forty a step.
 #![tactic(auto)]
 
 mod laws;
+mod links;
 mod need;
 mod readers;
 mod reads;

@@ -2,6 +2,7 @@
 
 ghost use Rattle.std.specs.Prelude.{◌≡◌, ℕ, ◌+◌, ◌*◌, ◌<◌, ◌≤◌, ◌↔◌, IsTrue, IfOk, length, true, slice_set, slice_index, vec_len};
 
+use crate::links::{Link, links_of};
 use crate::need::Need;
 use crate::readers::release_readers;
 use crate::reads::{first_readers, lower_sources};
@@ -20,6 +21,7 @@ pub struct Ready {
     grid: Grid,
     queue: Queue,
     readers: Vec<u32>,
+    links: Vec<Link>,
     finished: Vec<bool>,
     running: u32,
     remaining: u32,
@@ -31,6 +33,7 @@ impl Model for Ready {
     ghost use Rattle.mw_ready.specs.Boards.{Turns};
     ghost use Rattle.mw_queue.specs.Queues.{order_of};
     ghost use Rattle.mw_ready.specs.Kept.{Keeps, CountsReaders, board_of};
+    ghost use Rattle.mw_ready.specs.Links.{Linked};
 
     ghost Value = { Turns };
 
@@ -39,7 +42,8 @@ impl Model for Ready {
     ghost invariant = { λ a. Keeps (board_of a.needs.items a.grid a.queue a.finished.items) a.queue.waiting a.running a.remaining
         × (a.queue.tiles ≡ tile_count a.grid)
         × (length a.needs.items ≤ 65535)
-        × CountsReaders (board_of a.needs.items a.grid a.queue a.finished.items) a.readers.items };
+        × CountsReaders (board_of a.needs.items a.grid a.queue a.finished.items) a.readers.items
+        × Linked a.needs.items a.links.items 0 };
 }
 
 impl Ready {
@@ -53,7 +57,7 @@ impl Ready {
     ///
     /// # Errors
     ///
-    /// `NoMemory`, where about twelve bytes for each task are not to be had.
+    /// `NoMemory`, where about twelve bytes for each task, and sixteen more for each step, are not to be had.
     pub fn new(alloc: Global, needs: Vec<Need>, grid: Grid) -> Result<Ready, NoMemory>
         requires { vec_len needs ≤ 65535 }
         ensures { IfOk result (λ r. r.board ≡ fresh needs.items grid) }
@@ -63,12 +67,14 @@ impl Ready {
         let remaining = waiting.len() as u32;
         let finished = vec![in alloc; false; waiting.len()]?;
         let readers = first_readers(alloc, &needs, grid)?;
+        let links = links_of(alloc, &needs)?;
         let queue = Queue::new(alloc, needs.len(), tiles, waiting)?;
         Ok(Ready {
             needs,
             grid,
             queue,
             readers,
+            links,
             finished,
             running: 0,
             remaining,
@@ -181,6 +187,13 @@ impl Ready {
         let need = self.needs[step as usize];
         let steps = self.needs.len() as u32;
         lower_sources(&mut self.readers, self.grid, need, steps, tile);
-        release_readers(&mut self.queue, &self.needs, self.grid, step, tile);
+        release_readers(
+            &mut self.queue,
+            &self.needs,
+            &self.links,
+            self.grid,
+            step,
+            tile,
+        );
     }
 }

@@ -58,4 +58,5 @@ invariant_of-self c =
       c.self.invariant.2,
       subst (λ (k : ℕ). CountsReaders (board_of a.needs.items a.grid c.release_readers.new.queue (set a.finished.items (c.args.step * k + c.args.tile) true)) readers) (sym c.len.ensures.value)
           (finish_readers b a.readers.items readers a.queue.waiting c.release_readers.new.queue.started need a.running a.remaining c.args.step c.args.tile c.self.invariant.0 c.self.invariant.3 runs need-is lowered),
+      c.self.invariant.4,
     )

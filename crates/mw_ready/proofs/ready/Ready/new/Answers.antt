@@ -2,6 +2,7 @@ use Rattle.std.proofs.Common.{◌≡◌, ℕ, ◌*◌, ◌∙◌, List, length, 
 use Rattle.mw_grid.specs.Grids.{tile_count}
 use Rattle.mw_ready.specs.declared.need.Need.{Need}
 use Rattle.mw_ready.specs.Kept.{read_count, reader_count}
+use Rattle.mw_ready.specs.Links.{Linked}
 use Rattle.mw_ready.proofs.Numbers.{product_small}
 use Rattle.mw_ready.proofs.Keeping.{keeps_fresh}
 use Rattle.mw_ready.proofs.ReaderCounts.{readers_fresh}
@@ -31,4 +32,5 @@ invariant_of-result c =
       omega (arith, c.requires, needs-len),
       readers_fresh needs.items g q c.in_ok-finished.finished.items c.in_ok-readers.readers.items (fin ∙ ap (λ (k : ℕ). replicate k false) size) (let ok = c.in_ok-readers.readers.ok in omega (arith, readers-size))
           (λ u lt. subst (λ (xs : List Need). get_or c.in_ok-readers.readers.items u 0 ≡ reader_count xs g (length xs * tile_count g) u) c.deref-2.ensures.value (c.in_ok-readers.ensures.each u (omega (arith, readers-size)))),
+      subst (λ (xs : List Need). Linked xs c.in_ok-links.links.items 0) c.deref-3.ensures.value c.in_ok-links.ensures,
     )

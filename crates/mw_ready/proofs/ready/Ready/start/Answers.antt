@@ -27,6 +27,7 @@ invariant_of-self c =
       e.tiles ∙ c.self.invariant.1,
       c.self.invariant.2,
       record { size = c.self.invariant.3.size; each = c.self.invariant.3.each },
+      c.self.invariant.4,
     )
 
 pub returns-clause-step : goal.returns-clause-step
