@@ -1,31 +1,24 @@
 -- The search for a rank by counting.
-use Rattle.std.proofs.Common.{◌≡◌, ℕ, suc, ◌+◌, ◌-◌, ◌*◌, ◌%◌, ◌^◌, ◌<◌, ◌≤◌, List, [], ◌∷◌, ◌++◌, length, get_or, set, take, drop, get_or-set_same, get_or-set_other, refl, ap, sym, arith, ◌∙◌, inl, inr, subst, length-drop, length-append}
+use Rattle.std.proofs.Common.{◌≡◌, ℕ, ◌+◌, ◌-◌, ◌*◌, ◌%◌, ◌^◌, ◌<◌, ◌≤◌, List, [], ◌∷◌, ◌++◌, length, get_or, set, take, drop, get_or-set_same, get_or-set_other, refl, ap, sym, arith, ◌∙◌, inl, inr, subst, length-drop, length-append}
 use Rattle.std.specs.Prelude.{min, max}
 use Rattle.std.proofs.lemmas.Bool.{cases_lt, lt-ltb, le-ltb}
 use Rattle.std.proofs.lemmas.Grind.{pow_more}
-use Rattle.std.proofs.lemmas.Nat.{pow_pos, pow_below}
+use Rattle.std.proofs.lemmas.Nat.{pow_below}
 use Rattle.std.proofs.lemmas.List.{get_or-drop, get_or_append_left, get_or-append-add, get_or_default, take_rest}
 use Rattle.std.proofs.Math.ListN.{length-map}
-use Rattle.std.proofs.Math.Nat.{pow-le-pow_right}
 use Rattle.mw_model.specs.PlanSteps.{ranked}
 use Rattle.mw_model.proofs.PlainRanks.{nth_from}
-use Rattle.mw_rank.specs.Counting.{levels_on, HasPlaces, AllUnder, IsBetween, raised}
+use Rattle.mw_rank.specs.Counting.{levels_on, HasPlaces, AllUnder, AreFrom, IsBetween, raised}
 use Rattle.mw_rank.specs.Ranks.{GainsRow}
 use Rattle.mw_rank.specs.Tallies.{count_under}
 use Rattle.mw_rank.proofs.Edges.{gains_joined}
-use Rattle.mw_rank.proofs.Counts.{count-cons, count-zero, one-lt}
+use Rattle.mw_rank.proofs.Counts.{count_all, count_none}
 
 raised_low : (step n v : ℕ) (ns : List ℕ) → count_under (v + step) ns < n → raised step n ns v ≡ v + step
 raised_low step n v ns few = rw (lt-ltb (count_under (v + step) ns) n few) refl
 
 raised_not : (step n v : ℕ) (ns : List ℕ) → n ≤ count_under (v + step) ns → raised step n ns v ≡ v
 raised_not step n v ns enough = rw (le-ltb (count_under (v + step) ns) n enough) refl
-
-raised_within : (step n v : ℕ) (ns : List ℕ) → raised step n ns v ≤ v + step
-raised_within step n v ns = elim (cases_lt (count_under (v + step) ns) n) [
-  | inl few ↦ omega (arith, raised_low step n v ns few)
-  | inr enough ↦ omega (arith, raised_not step n v ns enough)
-]
 
 double : (b : ℕ) → 2 ^ (b + 1) ≡ 2 ^ b + 2 ^ b
 double b = omega (arith, pow_more 2 b)
@@ -42,57 +35,43 @@ narrowed n v b ns t = elim (cases_lt (count_under (v + 2 ^ b) ns) n) [
       subst (λ (u : ℕ). IsBetween n u (2 ^ b) ns) (sym (raised_not (2 ^ b) n v ns enough)) half
 ]
 
--- 32 searches with so many bits left of all
-pub record AreBetween {A : Type 0} (level : A → ℕ) (d : A) (samples : List A) (places : List ℕ) (n bits all : ℕ) (found : List A) : Type 0 where
-  pub between : (i : ℕ) → i < 32 → IsBetween n (level (get_or found i d)) (2 ^ bits) (levels_on level d samples places i)
-  pub room : (i : ℕ) → i < 32 → level (get_or found i d) + 2 ^ bits ≤ 2 ^ all
+-- 32 searches with so many bits left
+abbrev pub AreBetween : {A : Type 0} → (A → ℕ) → A → List A → List ℕ → ℕ → ℕ → List A → Type 0
+AreBetween level d samples places n bits found = (i : ℕ) → i < 32 → IsBetween n (level (get_or found i d)) (2 ^ bits) (levels_on level d samples places i)
 
-count_all : {A : Type 0} (level : A → ℕ) (d : A) (samples : List A) (limit i : ℕ) (places : List ℕ) → AllUnder level d samples limit → HasPlaces samples 32 places → i < 32 → count_under limit (levels_on level d samples places i) ≡ length places
-count_all level d samples limit i [] small inside lt = refl
-count_all level d samples limit i (p ∷ ps) small inside lt =
-    omega (
-      arith,
-      count-cons limit (level (get_or samples (p + i) d)) (levels_on level d samples ps i),
-      one-lt (level (get_or samples (p + i) d)) limit (small (p + i) (let here : p + 32 ≤ length samples = inside 0 (omega arith) in omega arith)),
-      count_all level d samples limit i ps small (λ q less. inside (suc q) (omega arith)) lt,
-    )
-
-pub between_first : {A : Type 0} (level : A → ℕ) (d : A) (samples : List A) (places : List ℕ) (n all : ℕ) (found : List A) → 1 ≤ n → n ≤ length places → HasPlaces samples 32 places → AllUnder level d samples (2 ^ all)
-    → ((i : ℕ) → i < 32 → level (get_or found i d) ≡ 0) → AreBetween level d samples places n all all found
-between_first level d samples places n all found some within inside small lowest = record {
-  between = λ i lt.
-      let ns = levels_on level d samples places i in
-      let whole : count_under (0 + 2 ^ all) ns ≡ count_under (2 ^ all) ns = ap (λ (u : ℕ). count_under u ns) (let e : 0 + 2 ^ all ≡ 2 ^ all = omega arith in e) in
-      let start : IsBetween n 0 (2 ^ all) ns = record { few = omega (arith, count-zero ns); enough = omega (arith, whole, count_all level d samples (2 ^ all) i places small inside lt) } in
-      subst (λ (v : ℕ). IsBetween n v (2 ^ all) ns) (sym (lowest i lt)) start;
-  room = λ i lt. omega (arith, lowest i lt);
+pub from_lowest : {A : Type 0} (level : A → ℕ) (d : A) (samples : List A) (places : List ℕ) (limit : ℕ) (found : List A) → HasPlaces samples 32 places → AllUnder level d samples limit → ((i : ℕ) → i < 32 → level (get_or found i d) ≡ 0)
+    → AreFrom level d samples places limit found
+from_lowest level d samples places limit found inside small lowest = record {
+  low = λ q i lt less. omega (arith, lowest i less);
+  high = λ q i lt less. omega (arith, small (get_or places q 0 + i) (omega (arith, inside q lt)));
 }
 
-pub between_next : {A : Type 0} (level : A → ℕ) (d : A) (samples : List A) (places : List ℕ) (n b all : ℕ) (old new : List A) → ((i : ℕ) → i < 32 → level (get_or new i d) ≡ raised (2 ^ b) n (levels_on level d samples places i) (level (get_or old i d)))
-    → AreBetween level d samples places n (b + 1) all old → AreBetween level d samples places n b all new
-between_next level d samples places n b all old new step before = record {
-  between = λ i lt. subst (λ (v : ℕ). IsBetween n v (2 ^ b) (levels_on level d samples places i)) (sym (step i lt)) (narrowed n (level (get_or old i d)) b (levels_on level d samples places i) (before.between i lt));
-  room = λ i lt. omega (arith, step i lt, raised_within (2 ^ b) n (level (get_or old i d)) (levels_on level d samples places i), double b, before.room i lt);
-}
+pub between_first : {A : Type 0} (level : A → ℕ) (d : A) (samples : List A) (places : List ℕ) (n bits : ℕ) (found : List A) → 1 ≤ n → n ≤ length places → AreFrom level d samples places (2 ^ bits) found → AreBetween level d samples places n bits found
+between_first level d samples places n bits found some within from = λ i less.
+    let v = level (get_or found i d) in
+    record { few = omega (arith, count_none level d samples v i places (λ q lt. from.low q i lt less)); enough = omega (arith, count_all level d samples (v + 2 ^ bits) i places (λ q lt. from.high q i lt less)) }
+
+pub between_next : {A : Type 0} (level : A → ℕ) (d : A) (samples : List A) (places : List ℕ) (n b : ℕ) (old new : List A) → ((i : ℕ) → i < 32 → level (get_or new i d) ≡ raised (2 ^ b) n (levels_on level d samples places i) (level (get_or old i d)))
+    → AreBetween level d samples places n (b + 1) old → AreBetween level d samples places n b new
+between_next level d samples places n b old new step before = λ i lt.
+    subst (λ (v : ℕ). IsBetween n v (2 ^ b) (levels_on level d samples places i)) (sym (step i lt)) (narrowed n (level (get_or old i d)) b (levels_on level d samples places i) (before i lt))
 
 pub step_is : (b : ℕ) → b < 16 → 1 * 2 ^ b % 65536 ≡ 2 ^ b
 step_is b lt = let small : 2 ^ b < 65536 = pow_below b 16 lt in omega arith
 
+-- a step is a level
+pub step_small : (b most top : ℕ) → b < most → top + 1 ≡ 2 ^ most → 2 ^ b ≤ top
+step_small b most top lt top-is = omega (arith, pow_below b most lt)
+
 -- with one bit less than some
-pub bits_before : {A : Type 0} (level : A → ℕ) (d : A) (samples : List A) (places : List ℕ) (n bits all : ℕ) (found : List A) → 1 ≤ bits → AreBetween level d samples places n bits all found → AreBetween level d samples places n (bits - 1 + 1) all found
-bits_before level d samples places n bits all found some t = subst (λ (b : ℕ). AreBetween level d samples places n b all found) (let e : bits ≡ bits - 1 + 1 = omega arith in e) t
+pub bits_before : {A : Type 0} (level : A → ℕ) (d : A) (samples : List A) (places : List ℕ) (n bits : ℕ) (found : List A) → 1 ≤ bits → AreBetween level d samples places n bits found → AreBetween level d samples places n (bits - 1 + 1) found
+bits_before level d samples places n bits found some t = subst (λ (b : ℕ). AreBetween level d samples places n b found) (let e : bits ≡ bits - 1 + 1 = omega arith in e) t
 
--- the samples have room for a step
-pub room_left : {A : Type 0} (level : A → ℕ) (d : A) (samples : List A) (places : List ℕ) (n b all most top : ℕ) (found : List A) → all ≤ most → top + 1 ≡ 2 ^ most → AreBetween level d samples places n (b + 1) all found → (i : ℕ) → i < 32 → level (get_or found i d) + 2 ^ b ≤ top
-room_left level d samples places n b all most top found within top-is before i lt =
-    let pows : 2 ^ all ≤ 2 ^ most = pow-le-pow_right (omega arith) within in
-    omega (arith, pows, before.room i lt, double b, pow_pos b)
-
-pub between_last : {A : Type 0} (level : A → ℕ) (d : A) (samples : List A) (places : List ℕ) (n k all : ℕ) (found : List A) → n ≡ max 1 (min k (length places)) → AreBetween level d samples places n 0 all found
+pub between_last : {A : Type 0} (level : A → ℕ) (d : A) (samples : List A) (places : List ℕ) (n k : ℕ) (found : List A) → n ≡ max 1 (min k (length places)) → AreBetween level d samples places n 0 found
     → (i : ℕ) → i < 32 → level (get_or found i d) ≡ ranked k (levels_on level d samples places i)
-between_last level d samples places n k all found n-is before i lt =
+between_last level d samples places n k found n-is before i lt =
     let ns = levels_on level d samples places i in
-    let last = before.between i lt in
+    let last = before i lt in
     nth_from ns k n (level (get_or found i d)) (omega (arith, n-is, length-map places (λ (p : ℕ). level (get_or samples (p + i) d)))) (last.few, last.enough)
 
 -- a level that is over no level seen so far, and the next

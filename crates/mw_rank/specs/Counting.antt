@@ -29,6 +29,11 @@ pub record AddsPlace {A : Type 0} (level : A → ℕ) (d : A) (sight : Sight A) 
   pub is : new ≡ old ++ added
   pub are : ArePlaces level d sight samples (offset ∷ []) x y n added
 
+-- at all places, so many of 32 columns on, the levels are not below the column's own, and below it and the range
+pub record AreFrom {A : Type 0} (level : A → ℕ) (d : A) (samples : List A) (places : List ℕ) (range : ℕ) (found : List A) : Type 0 where
+  pub low : (q i : ℕ) → q < length places → i < 32 → level (slice_index_or found i d) ≤ level (slice_index_or samples (slice_index_or places q 0 + i) d)
+  pub high : (q i : ℕ) → q < length places → i < 32 → level (slice_index_or samples (slice_index_or places q 0 + i) d) < level (slice_index_or found i d) + range
+
 -- the level that is looked for is not below v, and not above it by more than the range
 pub record IsBetween (n v range : ℕ) (ns : List ℕ) : Type 0 where
   pub few : count_under v ns < n

@@ -7,17 +7,25 @@ use super::Counted;
 use std::simd::Simd;
 use std::simd::prelude::*;
 
-/// How many of the samples at the places, and as many columns on, are not above the last level.
+/// How many of the samples at the places, and as many columns on, are not above the sums of the levels and `more`.
 #[inline(always)]
-fn counts_up_to(samples: &[u16], places: &[usize], last: Simd<u16, 32>) -> Simd<u16, 32>
-    requires lanes { length last ≡ 32 }
+fn counts_up_to(
+    samples: &[u16],
+    places: &[usize],
+    levels: Simd<u16, 32>,
+    more: u16,
+) -> Simd<u16, 32>
+    requires lanes { length levels ≡ 32 }
     requires inside { HasPlaces samples.now 32 places.now }
     requires few { length places.now < 256 }
     ensures size { length result ≡ 32 }
-    ensures counts { (i : ℕ) → i < 32 → slice_index_or result i 0 ≡ count_under (slice_index_or last i 0 + 1) (levels_on (λ s. s) 65535 samples.now places.now i) }
+    ensures counts { (i : ℕ) → i < 32 → slice_index_or result i 0 ≡ count_under (slice_index_or levels i 0 + more + 1) (levels_on (λ s. s) 65535 samples.now places.now i) }
 {
     let one = Simd::<u16, 32>::splat(1);
     let none = Simd::<u16, 32>::splat(0);
+    // no further than to the top of the type
+    let room = Simd::<u16, 32>::splat(u16::MAX) - levels;
+    let last = levels + room.simd_min(Simd::<u16, 32>::splat(more));
     let mut counts = none;
     for place in places {
         let here = Simd::<u16, 32>::from_slice(&samples[*place..*place + 32]);
@@ -42,13 +50,27 @@ impl Counted for u16 {
     ghost has_bits = { refl };
 
     #[inline(always)]
+    fn lowest(found: &mut [u16], samples: &[u16], places: &[usize]) -> u16 {
+        let mut low = Simd::<u16, 32>::splat(u16::MAX);
+        let mut high = Simd::<u16, 32>::splat(0);
+        for place in places {
+            let here = Simd::<u16, 32>::from_slice(&samples[*place..*place + 32]);
+            low = low.simd_min(here);
+            high = high.simd_max(here);
+        }
+        low.copy_to_slice(found);
+        (high - low).reduce_or()
+    }
+
+    #[inline(always)]
     fn raise(found: &mut [u16], samples: &[u16], places: &[usize], step: u16, n: u16) {
+        let less = step - 1;
         let old = Simd::<u16, 32>::from_slice(found);
-        let last = old + Simd::<u16, 32>::splat(step - 1);
-        let counts = counts_up_to(samples, places, last);
+        let next = old + Simd::<u16, 32>::splat(less) + Simd::<u16, 32>::splat(1);
+        let counts = counts_up_to(samples, places, old, less);
         counts
             .simd_lt(Simd::<u16, 32>::splat(n))
-            .select(last + Simd::<u16, 32>::splat(1), old)
+            .select(next, old)
             .copy_to_slice(found);
     }
 }

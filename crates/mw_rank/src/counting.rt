@@ -16,7 +16,7 @@ use crate::ends::Columns;
 use crate::histogram::Histogram;
 use crate::moving::{Row, Stretch, enter_all, leave_all, push_row, rank_samples};
 use crate::places::{inner_places, row_places};
-use crate::search::{Search, bits_in, push_blocks};
+use crate::search::{Search, are_close, bits_in, push_blocks};
 use mw_model::{NoMemory, Offset, Rect};
 use mw_pixel::{Grey, Plane, copies};
 use mw_run::{Run, runs_of};
@@ -86,15 +86,15 @@ fn push_inner<P: Counted>(
     window: &Window<P>,
     element: Element,
     at: Stretch,
-    bits: u32,
+    search: Search,
 ) -> Result<(), NoMemory>
     requires near { at.x + at.width ≤ 2 ^ 39 }
     requires high { at.y ≤ 2 ^ 40 }
     requires wide { 32 ≤ at.width }
     requires few { length element.offsets.now < 256 }
     requires same { element_of element.runs.now ≡ element.offsets.now }
-    requires within { bits ≤ P.BITS }
-    requires small { AllUnder P.level P.TOP window.now.cells (2 ^ bits) }
+    requires within { search.bits ≤ P.BITS }
+    requires small { AllUnder P.level P.TOP window.now.cells (2 ^ search.bits) }
     requires whole { length scratch.old.found.items ≡ 32 }
     requires empty { Tallies P.top_level scratch.old.histogram [] }
     ensures row { OnOk result (GainsRow P.level (λ i. ranked at.k (levels_under P.level (seen_at window.now) element.entry.offsets.now (at.x + i) at.y)) at.width out.old.items out.new.items) }
@@ -102,7 +102,7 @@ fn push_inner<P: Counted>(
     ensures empty { OnOk result (Tallies P.top_level scratch.new.histogram []) }
 {
     if known_places(&mut scratch.places, window, element.offsets, at)? {
-        let search = Search { k: at.k, bits };
+        let search = Search { k: at.k, ..search };
         let found = scratch.found.as_mut_slice();
         push_blocks(
             out,
@@ -125,7 +125,7 @@ fn push_parts<P: Counted>(
     window: &Window<P>,
     element: Element,
     row: Row,
-    bits: u32,
+    search: Search,
 ) -> Result<(), NoMemory>
     requires near { row.at.x < 2 ^ 32 }
     requires high { row.at.y ≤ 2 ^ 40 }
@@ -133,8 +133,8 @@ fn push_parts<P: Counted>(
     requires inner { row.inner.first + row.inner.count ≤ row.at.width }
     requires few { length element.offsets.now < 256 }
     requires same { element_of element.runs.now ≡ element.offsets.now }
-    requires within { bits ≤ P.BITS }
-    requires small { AllUnder P.level P.TOP window.now.cells (2 ^ bits) }
+    requires within { search.bits ≤ P.BITS }
+    requires small { AllUnder P.level P.TOP window.now.cells (2 ^ search.bits) }
     requires whole { length scratch.old.found.items ≡ 32 }
     requires empty { Tallies P.top_level scratch.old.histogram [] }
     ensures row { OnOk result (GainsRow P.level (λ i. ranked row.at.k (levels_under P.level (seen_at window.now) element.entry.offsets.now (row.at.x + i) row.at.y)) row.at.width out.old.items out.new.items) }
@@ -159,7 +159,7 @@ fn push_parts<P: Counted>(
         ..at
     };
     push_edge(out, &mut scratch.histogram, window, element.runs, left)?;
-    push_inner(out, scratch, window, element, inside, bits)?;
+    push_inner(out, scratch, window, element, inside, search)?;
     push_edge(out, &mut scratch.histogram, window, element.runs, right)?;
     Ok(())
 }
@@ -201,7 +201,7 @@ fn count_samples<P: Counted>(
             k: search.k,
         };
         let row = Row { at, inner };
-        push_parts(&mut out, &mut scratch, window, element, row, search.bits)?;
+        push_parts(&mut out, &mut scratch, window, element, row, search)?;
     }
     Ok(out)
 }
@@ -223,7 +223,8 @@ fn samples_of<P: Counted>(
         // the histogram walks over levels, more of them where there are more bits
         let walk = (1usize << bits) / 64;
         if (offsets.len() * bits as usize).saturating_sub(walk) <= P::WORK {
-            let search = Search { k, bits };
+            let are_close = are_close(window.samples(), bits);
+            let search = Search { k, bits, are_close };
             return count_samples(alloc, window, offsets, search, tile, inner);
         }
     }

@@ -1,8 +1,10 @@
 //! The search for a rank by counting, for blocks of columns, after Ataman, Aatre and Wong (1980): the level is found bit by
 //! bit from the highest, as it is the one of rank n if fewer than n levels are below it, and n or more below the next.
+//! Where levels of samples near one another are close, the search begins at the lowest in each column, with the bits by
+//! which the others are above it.
 ghost use Rattle.std.specs.Prelude.{◌≡◌, ℕ, ◌+◌, ◌-◌, ◌<◌, ◌≤◌, ◌^◌, length, slice_index_or, OnOk};
 ghost use Rattle.mw_model.specs.PlanSteps.{ranked};
-ghost use Rattle.mw_rank.specs.Counting.{levels_on, HasPlaces, AllUnder};
+ghost use Rattle.mw_rank.specs.Counting.{levels_on, HasPlaces, AllUnder, AreFrom};
 ghost use Rattle.mw_rank.specs.Ranks.{GainsRow};
 
 use crate::Counted;
@@ -10,16 +12,25 @@ use crate::moving::sample_of;
 use mw_model::NoMemory;
 use mw_pixel::Pixel;
 
-/// The greatest level of the samples, or 0.
-fn greatest<P: Pixel>(samples: &[P]) -> u16
-    ensures most { AllUnder P.level P.TOP samples.now (result + 1) }
-    ensures small { result ≤ P.top_level }
+/// The levels that samples have between them.
+#[derive(Clone, Copy)]
+struct Extent {
+    least: u16,
+    most: u16,
+}
+
+/// The least and the greatest level of the samples; where there are none, the greatest is 0.
+fn extent_of<P: Pixel>(samples: &[P]) -> Extent
+    ensures most { AllUnder P.level P.TOP samples.now (result.most + 1) }
+    ensures small { result.most ≤ P.top_level }
 {
+    let mut least = u16::MAX;
     let mut most = 0;
     for sample in samples {
+        least = least.min(sample.value());
         most = most.max(sample.value());
     }
-    most
+    Extent { least, most }
 }
 
 /// How many bits a level has.
@@ -40,14 +51,29 @@ pub(crate) fn bits_in<P: Counted>(samples: &[P]) -> u32
     ensures within { result ≤ P.BITS }
     ensures small { AllUnder P.level P.TOP samples.now (2 ^ result) }
 {
-    bits_of::<P>(greatest(samples))
+    bits_of::<P>(extent_of(samples).most)
 }
 
-/// A rank that is wanted of levels of so many bits.
+/// Whether levels of samples near one another are mostly so close that a look at how close they are saves more than it
+/// takes, which is the time of a bit. It looks at 32 of each 1000.
+pub(crate) fn are_close<P: Counted>(samples: &[P], bits: u32) -> bool {
+    let mut saved = 0u64;
+    let mut taken = 0u64;
+    for part in samples.chunks(1000) {
+        let extent = extent_of(&part[..part.len().min(32)]);
+        let apart = bits_of::<P>(extent.most.saturating_sub(extent.least));
+        saved = saved.saturating_add(u64::from(bits.saturating_sub(apart)));
+        taken = taken.saturating_add(1);
+    }
+    saved / 3 > taken / 2
+}
+
+/// A rank that is wanted of levels of so many bits, which may be close to one another where they are near.
 #[derive(Clone, Copy)]
 pub(crate) struct Search {
     pub k: u32,
     pub bits: u32,
+    pub are_close: bool,
 }
 
 /// Makes all of them the lowest level.
@@ -60,6 +86,23 @@ fn clear<P: Pixel>(found: &mut [P])
     }
 }
 
+/// Makes the levels those from which the search begins, for each of 32 columns; says how many bits it has.
+fn begin<P: Counted>(found: &mut [P], samples: &[P], places: &[usize], search: Search) -> u32
+    requires whole { length found.old ≡ 32 }
+    requires inside { HasPlaces samples.now 32 places.now }
+    requires within { search.bits ≤ P.BITS }
+    requires small { AllUnder P.level P.TOP samples.now (2 ^ search.bits) }
+    ensures within { result ≤ P.BITS }
+    ensures from { AreFrom P.level P.TOP samples.now places.now (2 ^ result) found.new }
+{
+    if search.are_close {
+        let apart = P::lowest(found, samples, places);
+        return bits_of::<P>(apart.value());
+    }
+    clear(found);
+    search.bits
+}
+
 /// Of the samples at the places, and as many columns on, number k in rising order, for each of 32 columns.
 fn find<P: Counted>(found: &mut [P], samples: &[P], places: &[usize], search: Search)
     requires whole { length found.old ≡ 32 }
@@ -70,9 +113,9 @@ fn find<P: Counted>(found: &mut [P], samples: &[P], places: &[usize], search: Se
     requires small { AllUnder P.level P.TOP samples.now (2 ^ search.bits) }
     ensures { (i : ℕ) → i < 32 → P.level (slice_index_or found.new i P.TOP) ≡ ranked search.k (levels_on P.level P.TOP samples.now places.now i) }
 {
-    clear(found);
+    let bits = begin(found, samples, places, search);
     let n = (places.len() as u32).min(search.k).max(1) as u16;
-    for bit in (0..search.bits).rev() {
+    for bit in (0..bits).rev() {
         P::raise(found, samples, places, 1u16 << bit, n);
     }
 }
