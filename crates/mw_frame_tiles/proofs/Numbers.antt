@@ -1,5 +1,6 @@
 -- The tile that has a place, and what stands there.
-use Rattle.std.proofs.Common.{◌≡◌, ℕ, ◌+◌, ◌*◌, ◌/◌, ◌%◌, ◌<◌, List, Option, Some, None, get_or, refl, sym, ap, subst, arith, ◌∙◌}
+use Rattle.std.proofs.Common.{◌≡◌, ℕ, ◌+◌, ◌-◌, ◌*◌, ◌/◌, ◌%◌, ◌<◌, ◌≤◌, List, Option, Some, None, get_or, min, refl, sym, ap, subst, arith, ◌∙◌}
+use Rattle.std.proofs.Math.Nat.{lt-div-mul-add, mul-le-mul_left}
 use Rattle.std.proofs.lemmas.Nat.{div-add-mod', div-mul-add, mod-mul-add}
 use Rattle.std.proofs.lemmas.List.{get_or_default}
 use Rattle.mw_model.specs.declared.places.Rect.{Rect}
@@ -7,7 +8,7 @@ use Rattle.mw_model.specs.Places.{Holds}
 use Rattle.mw_model.specs.Rasters.{Raster}
 use Rattle.mw_model.specs.Windows.{View}
 use Rattle.mw_grid.specs.Grids.{Tiling, columns_of, rows_of, tile_count, tile_at}
-use Rattle.mw_grid.proofs.Lines.{piece_has, piece_counts, piece_only, number_of}
+use Rattle.mw_grid.proofs.Lines.{piece_begins, piece_has, piece_counts, piece_only, number_of}
 use Rattle.mw_grid.proofs.Tiles.{HasTiles}
 use Rattle.mw_tile.specs.Windows.{IsCut}
 use Rattle.mw_tile.specs.Cuts.{view_of}
@@ -31,6 +32,61 @@ number_holds g x y n side columns has across down n-is side-is columns-is =
     let v = piece_has g.height g.side y some down in
     let here : Holds (tile_at g (r * columns_of g + c)) x y = record { left = rw at-c h.0; right = rw at-c h.1; top = rw at-r v.0; bottom = rw at-r v.1 } in
     rw (n-is, side-is, columns-is) here
+
+-- a tile that begins in this column, and has row y so far under its top
+pub record IsAlong (g : Tiling) (y at under n : ℕ) : Type 0 where
+  pub within : n < tile_count g
+  pub holds : Holds (tile_at g n) at y
+  pub left : (tile_at g n).x ≡ at
+  pub top : y - (tile_at g n).y ≡ under
+  pub width : (tile_at g n).width ≡ min g.side (g.width - at)
+
+-- the tiles that have a row follow one another
+pub along_row : (g : Tiling) (y k n at under side columns : ℕ) → HasTiles g → y < g.height → k < columns → n ≡ y / side * columns + k → at ≡ k * side → under ≡ y % side → side ≡ g.side → columns ≡ columns_of g → IsAlong g y at under n
+along_row g y k n at under side columns has down lt n-is at-is under-is side-is columns-is = record {
+  within = number_within g at y n side columns has across down n-at side-is columns-is;
+  holds = number_holds g at y n side columns has across down n-at side-is columns-is;
+  left = ap (λ (t : ℕ). t * g.side) column ∙ sym begins;
+  top = ap (λ (t : ℕ). y - t * g.side) row ∙ below ∙ sym (under-is ∙ ap (λ (t : ℕ). y % t) side-is);
+  width = ap (λ (t : ℕ). min g.side (g.width - t * g.side)) column ∙ ap (λ (t : ℕ). min g.side (g.width - t)) (sym begins);
+}
+  where
+    some : 0 < g.side
+    some = has.some
+
+    counts : k < columns_of g
+    counts = omega (arith, columns-is)
+
+    begins : at ≡ k * g.side
+    begins = at-is ∙ ap (λ (t : ℕ). k * t) side-is
+
+    across : at < g.width
+    across = let first = piece_begins g.width g.side k some has.wide counts in omega (arith, begins)
+
+    piece : at / side ≡ k
+    piece = ap (λ (t : ℕ). at / t) side-is ∙ piece_only g.side at k some (omega (arith, begins)) (omega (arith, begins, some))
+
+    n-at : n ≡ y / side * columns + at / side
+    n-at = n-is ∙ ap (λ (t : ℕ). y / side * columns + t) (sym piece)
+
+    same : n ≡ y / g.side * columns_of g + k
+    same = n-is ∙ ap (λ (t : ℕ). y / t * columns + k) side-is ∙ ap (λ (t : ℕ). y / g.side * t + k) columns-is
+
+    column : n % columns_of g ≡ k
+    column = ap (λ (t : ℕ). t % columns_of g) same ∙ mod-mul-add (y / g.side) (columns_of g) k counts
+
+    row : n / columns_of g ≡ y / g.side
+    row = ap (λ (t : ℕ). t / columns_of g) same ∙ div-mul-add (y / g.side) (columns_of g) k counts
+
+    below : y - y / g.side * g.side ≡ y % g.side
+    below = let whole = div-add-mod' y g.side in omega arith
+
+-- all tiles of a row are as wide as the frame
+pub columns_fill : (g : Tiling) (k : ℕ) → HasTiles g → columns_of g ≤ k → min g.width (k * g.side) ≡ g.width
+columns_fill g k has le =
+    let some : 0 < g.side = has.some in
+    let past : g.width - 1 < (g.width - 1) / g.side * g.side + g.side = lt-div-mul-add some in
+    omega (arith, mul-le-mul_left g.side le)
 
 -- a tile has each of its places alone
 pub number_only : (g : Tiling) (i x y : ℕ) → 0 < g.side → Holds (tile_at g i) x y → number_at g x y ≡ i

@@ -1,5 +1,5 @@
 -- A row that was read from tiles is that of each whole frame with these tiles.
-use Rattle.std.proofs.Common.{◌≡◌, ℕ, ◌+◌, ◌*◌, ◌<◌, ◌≤◌, List, length, Option, take, drop, slice_get, refl, sym, ap, arith, ◌∙◌, length-drop}
+use Rattle.std.proofs.Common.{◌≡◌, ℕ, ◌+◌, ◌-◌, ◌*◌, ◌<◌, ◌≤◌, List, length, Option, take, drop, slice_get, slice_range, refl, sym, ap, arith, ◌∙◌, length-drop}
 use Rattle.std.proofs.lemmas.List.{length-take-le}
 use Rattle.mw_facts.proofs.Elements.{same_elements, slice_get-drop, slice_get-take}
 use Rattle.mw_facts.proofs.Parts.{length-put_mid}
@@ -24,10 +24,10 @@ no_cells_yet g tiles y p width height size =
     record { width = width; height = height; size = all; shows = λ f shows. record { size = all; same = λ k lt. absurd (omega arith) } }
 
 -- one tile more
-pub row_more : {A : Type 0} (g : Tiling) (tiles : List (Option (List A))) (t now out : Raster A) (place : Rect) (y at n : ℕ) → StandsIn place t → Holds place at y → at + n ≤ place.x + place.width → at + n ≤ g.width
-    → ((f : Raster A) → ShowsTiles g tiles f → IsCut (view_of g.width g.height place t.cells) f) → out ≡ raster now.width now.height (put_at (0 * now.width + at) (run_in t.cells place t.width at y n) now.cells)
+pub row_more : {A : Type 0} (g : Tiling) (tiles : List (Option (List A))) (t now out : Raster A) (place : Rect) (y at n a : ℕ) → StandsIn place t → Holds place at y → at + n ≤ place.x + place.width → at + n ≤ g.width
+    → ((f : Raster A) → ShowsTiles g tiles f → IsCut (view_of g.width g.height place t.cells) f) → a ≡ (y - place.y) * t.width + (at - place.x) → out ≡ raster now.width now.height (put_at (0 * now.width + at) (slice_range t.cells a (a + n)) now.cells)
     → HasFirstOfRow g tiles y at now → HasFirstOfRow g tiles y (at + n) out
-row_more {A} g tiles t now out place y at n stands holds fits room cut out-is before =
+row_more {A} g tiles t now out place y at n a stands holds fits room cut a-is out-is before =
     let from = holds.left in
     let above = holds.top in
     let under = holds.bottom in
@@ -37,7 +37,7 @@ row_more {A} g tiles t now out place y at n stands holds fits room cut out-is be
     let t-size : length t.cells ≡ t.height * t.width = stands.size ∙ ap (λ (k : ℕ). k * place.width) (sym high) ∙ ap (λ (k : ℕ). t.height * k) (sym wide) in
     let len : length part ≡ n = run_size t.cells place t.width t.height at y n t-size (omega arith) (omega arith) in
     let row : RowIs (cell_of (patch place t.cells)) at y n part = row_of_plane t.cells part place at y n t.width wide from refl in
-    let cells-is : out.cells ≡ put_at at part now.cells = ap (λ (p : Raster A). p.cells) out-is ∙ ap (λ (a : ℕ). put_at a part now.cells) (only now.width) in
+    let cells-is : out.cells ≡ put_at at part now.cells = ap (λ (p : Raster A). p.cells) out-is ∙ ap (λ (b : ℕ). put_at (0 * now.width + at) (slice_range t.cells b (b + n)) now.cells) a-is ∙ ap (λ (b : ℕ). put_at b part now.cells) (only now.width) in
     let size = before.size in
     record {
       width = ap (λ (p : Raster A). p.width) out-is ∙ before.width;

@@ -7,7 +7,7 @@ ghost use Rattle.mw_grid.specs.Rectangles.{whole_frame};
 ghost use Rattle.mw_frame_tiles.specs.Rows.{HasFirstOfRow};
 ghost use Rattle.mw_frame_tiles.specs.Tiles.{cells_of, HasAll, HasAlong, HasSides, ShowsTiles};
 
-use crate::parts::{tile_number, tile_of};
+use crate::parts::tile_of;
 use crate::placed::Placed;
 use mw_grid::Grid;
 use mw_model::NoMemory;
@@ -62,7 +62,7 @@ pub fn shared_plane<P: Planar>(
     Ok(Arc::new(alloc, plane)?)
 }
 
-/// Writes row y of the frame over the only row of a plane, tile by tile.
+/// Writes row y of the frame over the only row of a plane, tile by tile: those that have it follow one another.
 pub(crate) fn copy_row<P: Planar>(
     grid: Grid,
     tiles: &[Option<Placed<P>>],
@@ -79,12 +79,11 @@ pub(crate) fn copy_row<P: Planar>(
     // for the number of its samples, and what holds of every grid
     let _size = out.height();
     let (width, _height) = (grid.width(), grid.height());
-    let mut at = 0;
-    'parts: while at < width {
-        let i = tile_number(grid, at, y);
-        let (tile, place) = (tile_of(grid, tiles, i).plane(), grid.rect(i));
-        let stop = width.min(place.x + place.width);
-        out.copy_run(at, 0, tile, at - place.x, y - place.y, stop - at);
-        at = stop;
+    let (side, columns) = (grid.side(), grid.columns());
+    let (first, within) = (y / side * columns, y % side);
+    for column in 0..columns {
+        let tile = tile_of(grid, tiles, first + column).plane();
+        let at = column * side;
+        out.copy_run(at, 0, tile, 0, within, side.min(width - at));
     }
 }
