@@ -111,7 +111,7 @@ Tallies-known top s h ns t = elim (cases_lt top s) [
   | inl high ↦ absurd (omega (arith, count-cons (top + 1) s ns, one-le s (top + 1) (omega arith), t.all, count_by-le-length (λ r. nat_lt r (top + 1)) ns))
 ]
 
-count_rises : (s : ℕ) (ns : List ℕ) → count_under s ns ≤ count_under (s + 1) ns
+pub count_rises : (s : ℕ) (ns : List ℕ) → count_under s ns ≤ count_under (s + 1) ns
 count_rises s [] = omega arith
 count_rises s (n ∷ ns) = elim (cases_lt n s) [
   | inl low ↦ omega (arith, count-cons s n ns, count-cons (s + 1) n ns, one-lt n s low, one-lt n (s + 1) (omega arith), count_rises s ns)

@@ -18,16 +18,16 @@ use Rattle.mw_rank.specs.Tallies.{count_under}
 use Rattle.mw_rank.proofs.Counts.{count-append, count-cons, count_all}
 
 -- lanes of xs where the test holds, and else those of ys
-pub record IsChosen (t : ℕ → ℕ → Bool) (us vs xs ys made : List ℕ) : Type 0 where
-  pub size : length made ≡ 32
-  pub lanes : (i : ℕ) → i < 32 → get_or made i 0 ≡ cond (t (get_or us i 0) (get_or vs i 0)) (get_or xs i 0) (get_or ys i 0)
+pub record IsChosen (n : ℕ) (t : ℕ → ℕ → Bool) (us vs xs ys made : List ℕ) : Type 0 where
+  pub size : length made ≡ n
+  pub lanes : (i : ℕ) → i < n → get_or made i 0 ≡ cond (t (get_or us i 0) (get_or vs i 0)) (get_or xs i 0) (get_or ys i 0)
 
-pub chosen : (w : Width) (t : ℕ → ℕ → Bool) (us vs xs ys : List ℕ) → length us ≡ 32 → length vs ≡ 32 → length xs ≡ 32 → length ys ≡ 32
-    → IsChosen t us vs xs ys (sel_l {A = ℕ} (map (top (hbits w)) (zip2 (λ (a b : ℕ). cond (t a b) (2 ^ bits w - 1) 0) us vs)) xs ys)
-chosen w t us vs xs ys us-long vs-long xs-long ys-long =
+pub chosen : (n : ℕ) (w : Width) (t : ℕ → ℕ → Bool) (us vs xs ys : List ℕ) → length us ≡ n → length vs ≡ n → length xs ≡ n → length ys ≡ n
+    → IsChosen n t us vs xs ys (sel_l {A = ℕ} (map (top (hbits w)) (zip2 (λ (a b : ℕ). cond (t a b) (2 ^ bits w - 1) 0) us vs)) xs ys)
+chosen n w t us vs xs ys us-long vs-long xs-long ys-long =
     rw (tops_compared w t us vs)
-    (let long : length (zip2 t us vs) ≡ 32 = length-zip2 t us vs (omega arith) ∙ us-long in
-    let made : IsChosen t us vs xs ys (sel_l (zip2 t us vs) xs ys) = record {
+    (let long : length (zip2 t us vs) ≡ n = length-zip2 t us vs (omega arith) ∙ us-long in
+    let made : IsChosen n t us vs xs ys (sel_l (zip2 t us vs) xs ys) = record {
       size = length-sel_l (zip2 t us vs) xs ys (omega arith) (omega arith) ∙ long;
       lanes = λ i lt. get_or-sel_l (zip2 t us vs) xs ys i 0 (omega arith) (omega arith) (omega arith) ∙ ap (λ (b : Bool). cond b (get_or xs i 0) (get_or ys i 0)) (get_or-zip2 t us vs i 0 0 false (omega arith) (omega arith));
     } in made)
@@ -94,7 +94,7 @@ counted_more w plus minus d samples places last counts j of lt few last-long ins
     let ones : List ℕ = replicate 32 1 in
     let zeros : List ℕ = replicate 32 0 in
     let made = sel_l {A = ℕ} (map (top (hbits w)) (zip2 (λ (a b : ℕ). cond (leb a b) (2 ^ bits w - 1) 0) here last)) ones zeros in
-    let are : IsChosen leb here last ones zeros made = chosen w leb here last ones zeros (load_size samples p (inside j lt)) last-long refl refl in
+    let are : IsChosen 32 leb here last ones zeros made = chosen 32 w leb here last ones zeros (load_size samples p (inside j lt)) last-long refl refl in
     record {
       size = length-zip2 plus counts made (omega (arith, before.size, are.size)) ∙ before.size;
       lanes = λ i less.
@@ -127,7 +127,7 @@ are_last w plus minus most more levels of long fit =
     let room = zip2 minus (replicate 32 most) levels in
     let steps : List ℕ = replicate 32 more in
     let room-long : length room ≡ 32 = length-zip2 minus (replicate 32 most) levels (omega (arith, long)) in
-    let are : IsChosen ltb room steps room steps _ = chosen w ltb room steps room steps room-long refl room-long refl in
+    let are : IsChosen 32 ltb room steps room steps _ = chosen 32 w ltb room steps room steps room-long refl room-long refl in
     let within : (i : ℕ) → i < 32 → get_or levels i 0 ≤ most = λ i lt. of.fits (get_or levels i 0) (Each1-get_or (Fits w) levels i 0 (omega arith) fit) in
     record {
       size = length-zip2 plus levels _ (omega (arith, are.size)) ∙ long;
@@ -183,7 +183,7 @@ raised_lane w plus minus most step n samples places found counts of some few who
     let next-long : length next ≡ 32 = length-zip2 plus last (replicate 32 1) last-long ∙ last-long in
     let ns = levels_on (λ (s : ℕ). s) most samples places i in
     let made = sel_l {A = ℕ} (map (top (hbits w)) (zip2 (λ (a b : ℕ). cond (ltb a b) (2 ^ bits w - 1) 0) counts (replicate 32 n))) next old in
-    let are : IsChosen ltb counts (replicate 32 n) next old made = chosen w ltb counts (replicate 32 n) next old counts-long refl next-long old-long in
+    let are : IsChosen 32 ltb counts (replicate 32 n) next old made = chosen 32 w ltb counts (replicate 32 n) next old counts-long refl next-long old-long in
     let v = get_or found i most in
     let old-is : get_or old i 0 ≡ v = ap (λ (l : List ℕ). get_or l i 0) same ∙ get_or_default found i 0 most (omega arith) in
     let count-is : get_or counts i 0 ≡ count_under (v + step) ns = counted i lt ∙ ap (λ (t : ℕ). count_under t ns) (let e : get_or old i 0 + (step - 1) + 1 ≡ v + step = omega (arith, old-is) in e) in
@@ -221,8 +221,8 @@ seen_more w d samples places low high j lt inside before =
     let p = get_or places j 0 in
     let here = chunk 0 32 (take (p + 32 - p) (drop p samples)) in
     let long : length here ≡ 32 = load_size samples p (inside j lt) in
-    let less = chosen w ltb low here low here before.low_size long before.low_size long in
-    let more = chosen w ltb high here here high before.high_size long long before.high_size in
+    let less = chosen 32 w ltb low here low here before.low_size long before.low_size long in
+    let more = chosen 32 w ltb high here here high before.high_size long long before.high_size in
     record {
       low_size = less.size;
       high_size = more.size;

@@ -1,11 +1,12 @@
+-- what other crates may cite
+pub mod Counts
+pub mod Sights
+pub mod Moves
+pub mod Elements
+pub mod Rows
+pub mod Lanes
 -- the crate's own
-mod Counts
-mod Sights
-mod Moves
-mod Rows
 mod Edges
 mod Parts
-mod Elements
-mod Lanes
 mod Standing
 mod Seeking

@@ -22,5 +22,6 @@ mod seen;
 pub use counted::Counted;
 pub use counting::rank_of_grey;
 pub use laws::ranks_are_rank_filter;
-pub use moving::rank;
+pub use moving::{rank, sample_of};
 pub use mw_model::NoMemory;
+pub use search::bits_in;

@@ -157,7 +157,7 @@ fn advance<P: Grey>(histogram: &mut Histogram, window: &Window<P>, runs: &[Run],
 
 /// The sample of a level.
 #[inline(always)]
-pub(crate) fn sample_of<P: Pixel>(level: u16) -> P
+pub fn sample_of<P: Pixel>(level: u16) -> P
     requires { level ≤ P.top_level }
     ensures { P.level result ≡ level }
 {

@@ -47,7 +47,7 @@ fn bits_of<P: Counted>(level: u16) -> u32
 }
 
 /// How many bits the levels of the samples have.
-pub(crate) fn bits_in<P: Counted>(samples: &[P]) -> u32
+pub fn bits_in<P: Counted>(samples: &[P]) -> u32
     ensures within { result ≤ P.BITS }
     ensures small { AllUnder P.level P.TOP samples.now (2 ^ result) }
 {

@@ -1,0 +1,37 @@
+use Rattle.std.proofs.Common.{ℕ, ◌≡◌, ◌+◌, ap, sym, refl, arith}
+use Rattle.mw_rank_rows.proofs.Steps.{holds_same, seen_from}
+use Rattle.mw_rank_rows.proofs.slide.rank_rows.Goals as goal
+
+pub enter_all-requires-clause-known : goal.enter_all-requires-clause-known
+enter_all-requires-clause-known g c =
+    let known = c.requires.known in
+    (known.0, known.1, known.2, known.3, known.4, holds_same known.0 (λ v j. 0) (λ v j. known.2 v c.args.span.x 0 j) c.args.counts.now c.args.lanes.now (λ v j lt. known.4.none v c.args.span.x j) known.5)
+
+pub slide-steps-requires-clause-known : goal.slide-steps-requires-clause-known
+slide-steps-requires-clause-known g c =
+    let known = c.requires.known in
+    let start = holds_same known.0 (λ v j. 0) (λ v j. known.2 v c.args.span.x 0 j) c.args.counts.now c.args.lanes.now (λ v j lt. known.4.none v c.args.span.x j) known.5 in
+    (known.0, known.1, known.2, known.3, known.4, c.enter_all.ensures known.0 known.1 known.2 known.3 known.4 start, known.6)
+
+pub leave_all-requires-clause-known : goal.leave_all-requires-clause-known
+leave_all-requires-clause-known g c =
+    let known = c.requires.known in
+    let span = c.args.span in
+    let start = holds_same known.0 (λ v j. 0) (λ v j. known.2 v span.x 0 j) c.args.counts.now c.args.lanes.now (λ v j lt. known.4.none v span.x j) known.5 in
+    let moved = c.slide-steps.ensures.moved known.0 known.1 known.2 known.3 known.4 (c.enter_all.ensures known.0 known.1 known.2 known.3 known.4 start) in
+    (known.0, known.1, known.2, known.3, known.4, seen_from known.0 known.2 c.slide-steps.new.counts c.slide-steps.new.lanes (span.x + span.width) (span.x + c.from.result) span.columns span.columns (ap (λ (n : ℕ). span.x + n) (sym c.from.ensures)) refl moved)
+
+pub returns-clause-empty : goal.returns-clause-empty
+returns-clause-empty g c = λ levels column seen shows slides t.
+    let span = c.args.span in
+    let start = holds_same levels (λ v j. 0) (λ v j. seen v span.x 0 j) c.args.counts.now c.args.lanes.now (λ v j lt. slides.none v span.x j) t in
+    let moved = c.slide-steps.ensures.moved levels column seen shows slides (c.enter_all.ensures levels column seen shows slides start) in
+    let last = seen_from levels seen c.slide-steps.new.counts c.slide-steps.new.lanes (span.x + span.width) (span.x + c.from.result) span.columns span.columns (ap (λ (n : ℕ). span.x + n) (sym c.from.ensures)) refl moved in
+    let end = span.x + c.from.result + span.columns in
+    holds_same levels (λ v j. seen v end 0 j) (λ v j. 0) c.leave_all.new.counts c.leave_all.new.lanes (λ v j lt. sym (slides.none v end j)) (c.leave_all.ensures levels column seen shows slides last)
+
+pub returns-clause-found : goal.returns-clause-found
+returns-clause-found g c = λ levels column seen shows slides t.
+    let span = c.args.span in
+    let start = holds_same levels (λ v j. 0) (λ v j. seen v span.x 0 j) c.args.counts.now c.args.lanes.now (λ v j lt. slides.none v span.x j) t in
+    c.slide-steps.ensures.found levels column seen shows slides (c.enter_all.ensures levels column seen shows slides start)

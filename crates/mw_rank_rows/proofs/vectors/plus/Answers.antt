@@ -1,0 +1,6 @@
+use Rattle.std.proofs.Common.{ℕ, ◌+◌, ◌%◌, ◌∙◌, arith}
+use Rattle.std.proofs.lemmas.Simd.{length-zip2}
+use Rattle.mw_rank_rows.proofs.vectors.plus.Goals as goal
+
+pub returns-clause-size : goal.returns-clause-size
+returns-clause-size c = length-zip2 (λ (x y : ℕ). (x + y) % 65536) c.args.a c.args.b (omega arith) ∙ c.requires.first

@@ -1,0 +1,4 @@
+pub mod Lanes
+pub mod Columns
+pub mod Tables
+pub mod Rectangles

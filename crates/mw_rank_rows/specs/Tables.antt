@@ -1,0 +1,36 @@
+-- What eight lanes hold, and the columns that enter and leave.
+use Rattle.std.specs.Prelude.{◌≡◌, ℕ, ℤ, pos, ◌+ℤ◌, ◌-ℤ◌, ◌+◌, ◌-◌, ◌*◌, ◌<◌, ◌≤◌, List, length, min, slice_index_or}
+use Rattle.mw_rank.specs.Counting.{AllUnder}
+use Rattle.mw_rank_rows.specs.declared.lanes.Lanes.{Lanes}
+use Rattle.mw_rank_rows.specs.Columns.{total, column_count}
+use Rattle.mw_rank_rows.specs.Lanes.{Counts, IsFound}
+
+-- of so many levels, lane j has u v j samples below v
+pub record Holds (levels : ℕ) (u : ℕ → ℕ → ℕ) (counts : List ℕ) (l : Lanes) : Type 0 where
+  pub table : Counts levels u counts l.front.level l.front.below
+  pub lanes : length l.held ≡ 8
+  pub held : (j : ℕ) → j < 8 → slice_index_or l.held j 0 ≡ u levels j
+
+-- the rows of samples, which begin at a column of the frame, show each column that is dx from a place: below v, lane j
+-- counts `column v x j` samples of the one at x
+pub record ShowsColumns {A : Type 0} (level : A → ℕ) (d : A) (levels : ℕ) (column : ℕ → ℕ → ℕ → ℕ) (samples : List A) (width rows : ℕ) (marks : List ℕ) (first : ℕ) (dx : ℤ) (all : List ℕ) : Type 0 where
+  pub inside : (i at : ℕ) → i < rows → at < width → i * width + at < length samples
+  pub marked : rows + 7 ≤ length marks
+  pub under : AllUnder level d samples levels
+  pub lanes : length all ≡ 8
+  pub every : (j : ℕ) → j < 8 → slice_index_or all j 0 ≡ total (λ i. slice_index_or marks (i + j) 0) rows
+  pub seen : (x at v j : ℕ) → j < 8 → at < width → pos x +ℤ dx -ℤ pos first ≡ pos at → column v x j ≡ column_count level d samples width at marks v j rows
+  pub unseen : (x v j : ℕ) → j < 8 → ((at : ℕ) → at < width → pos x +ℤ dx -ℤ pos first ≡ pos at → ⊥) → column v x j ≡ 0
+
+-- `seen v x c j` samples below v are seen in c columns from x on: it grows by the column that enters, and loses the one that leaves
+pub record Slides (columns : ℕ) (column : ℕ → ℕ → ℕ → ℕ) (seen : ℕ → ℕ → ℕ → ℕ → ℕ) : Type 0 where
+  pub none : (v x j : ℕ) → seen v x 0 j ≡ 0
+  pub enters : (v x c j : ℕ) → seen v x (c + 1) j ≡ seen v x c j + column v (x + c) j
+  pub leaves : (v x c j : ℕ) → seen v x (c + 1) j ≡ column v x j + seen v (x + 1) c j
+  pub rises : (v x c j : ℕ) → seen v x c j ≤ seen (v + 1) x c j
+  pub few : (v x c j : ℕ) → c ≤ columns → seen v x c j < 65536
+
+-- the first n columns of eight rows have the levels that were found for a rank
+abbrev pub HasFound : {A : Type 0} → (A → ℕ) → ℕ → (ℕ → ℕ → ℕ → ℕ → ℕ) → ℕ → ℕ → ℕ → ℕ → ℕ → List A → Type 0
+HasFound {A} level levels seen columns k x width n made = (r q : ℕ) (e : A) → r < 8 → q < n
+    → IsFound levels (λ v j. seen v (x + q) columns j) (min k (seen levels (x + q) columns (7 - r))) (7 - r) (level (slice_index_or made (r * width + q) e))

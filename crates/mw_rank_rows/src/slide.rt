@@ -1,0 +1,156 @@
+//! Eight rows of results: the element slides along them, and each step takes back one column of samples and counts another.
+ghost use Rattle.std.specs.Prelude.{◌≡◌, ℕ, ◌+◌, ◌-◌, ◌*◌, ◌<◌, ◌≤◌, ◌^◌, pos, ◌+ℤ◌, ◌-ℤ◌, length, slice_index_or, MatchOption};
+ghost use Rattle.mw_rank_rows.specs.Lanes.{Rises};
+ghost use Rattle.mw_rank_rows.specs.Tables.{Holds, ShowsColumns, Slides, HasFound};
+
+use crate::column::{Sheet, enter_column, leave_column};
+use crate::lanes::Lanes;
+use crate::search::select;
+use crate::vectors::{at_most, minus, plus};
+use mw_pixel::Pixel;
+use mw_rank::sample_of;
+use mw_run::place_of;
+use std::simd::Simd;
+
+/// A sheet of samples, and where an element sees its columns.
+#[derive(Clone, Copy)]
+pub(crate) struct Strip<'a, P: Pixel> {
+    pub sheet: Sheet<'a, P>,
+    /// The column of the frame at which the sheet begins.
+    pub first: u32,
+    /// The first column of the element.
+    pub dx: i16,
+}
+
+/// The column of the sheet that the first column of the element, placed at column x of the frame, lies in.
+#[inline(always)]
+fn column_of<P: Pixel>(strip: Strip<P>, x: u64) -> Option<usize>
+    requires { x ≤ 2 ^ 40 }
+    ensures { MatchOption result ((at : ℕ) → at < strip.entry.sheet.width → pos x +ℤ strip.entry.dx -ℤ pos strip.entry.first ≡ pos at → ⊥) (λ at. (at < strip.entry.sheet.width) × (pos x +ℤ strip.entry.dx -ℤ pos strip.entry.first ≡ pos at)) }
+{
+    let column = place_of(x, strip.dx, strip.first);
+    if column < 0 || column as usize >= strip.sheet.width {
+        return None;
+    }
+    Some(column as usize)
+}
+
+/// Counts the column that the first column of the element sees at x.
+#[inline(always)]
+fn enter<P: Pixel>(counts: &mut [u16], lanes: &mut Lanes, strip: Strip<P>, all: Simd<u16, 8>, x: u64)
+    requires near { x ≤ 2 ^ 40 }
+    requires known { (levels : ℕ) × (column : ℕ → ℕ → ℕ → ℕ) × (u : ℕ → ℕ → ℕ) × ShowsColumns P.level P.TOP levels column strip.sheet.samples.now strip.sheet.width strip.sheet.rows strip.sheet.marks.now strip.first strip.dx all × Holds levels u counts.old lanes.old }
+    ensures { (levels : ℕ) (column : ℕ → ℕ → ℕ → ℕ) (u w : ℕ → ℕ → ℕ) → ShowsColumns P.level P.TOP levels column strip.entry.sheet.samples.now strip.entry.sheet.width strip.entry.sheet.rows strip.entry.sheet.marks.now strip.entry.first strip.entry.dx all → Holds levels u counts.old lanes.old → ((v j : ℕ) → j < 8 → w v j ≡ u v j + column v x j) → ((j : ℕ) → j < 8 → w levels j < 65536) → Holds levels w counts.new lanes.new }
+{
+    if let Some(at) = column_of(strip, x) {
+        lanes.front.below = enter_column(counts, lanes.front, strip.sheet, at);
+        lanes.held = plus(lanes.held, all);
+    }
+}
+
+/// Takes back the column that the first column of the element sees at x.
+#[inline(always)]
+fn leave<P: Pixel>(counts: &mut [u16], lanes: &mut Lanes, strip: Strip<P>, all: Simd<u16, 8>, x: u64)
+    requires near { x ≤ 2 ^ 40 }
+    requires known { (levels : ℕ) × (column : ℕ → ℕ → ℕ → ℕ) × (u : ℕ → ℕ → ℕ) × ShowsColumns P.level P.TOP levels column strip.sheet.samples.now strip.sheet.width strip.sheet.rows strip.sheet.marks.now strip.first strip.dx all × Holds levels u counts.old lanes.old }
+    ensures { (levels : ℕ) (column : ℕ → ℕ → ℕ → ℕ) (u w : ℕ → ℕ → ℕ) → ShowsColumns P.level P.TOP levels column strip.entry.sheet.samples.now strip.entry.sheet.width strip.entry.sheet.rows strip.entry.sheet.marks.now strip.entry.first strip.entry.dx all → Holds levels u counts.old lanes.old → ((v j : ℕ) → j < 8 → u v j ≡ w v j + column v x j) → Rises w → Holds levels w counts.new lanes.new }
+{
+    if let Some(at) = column_of(strip, x) {
+        lanes.front.below = leave_column(counts, lanes.front, strip.sheet, at);
+        lanes.held = minus(lanes.held, all);
+    }
+}
+
+/// Counts all that the element sees at x.
+fn enter_all<P: Pixel>(counts: &mut [u16], lanes: &mut Lanes, strip: Strip<P>, all: Simd<u16, 8>, x: u64, columns: u32)
+    requires near { x + columns ≤ 2 ^ 40 }
+    requires known { (levels : ℕ) × (column : ℕ → ℕ → ℕ → ℕ) × (seen : ℕ → ℕ → ℕ → ℕ → ℕ) × ShowsColumns P.level P.TOP levels column strip.sheet.samples.now strip.sheet.width strip.sheet.rows strip.sheet.marks.now strip.first strip.dx all × Slides columns column seen × Holds levels (λ v j. seen v x 0 j) counts.old lanes.old }
+    ensures { (levels : ℕ) (column : ℕ → ℕ → ℕ → ℕ) (seen : ℕ → ℕ → ℕ → ℕ → ℕ) → ShowsColumns P.level P.TOP levels column strip.entry.sheet.samples.now strip.entry.sheet.width strip.entry.sheet.rows strip.entry.sheet.marks.now strip.entry.first strip.entry.dx all → Slides columns column seen → Holds levels (λ v j. seen v x 0 j) counts.old lanes.old → Holds levels (λ v j. seen v x columns j) counts.new lanes.new }
+{
+    for c in 0..columns {
+        enter(counts, lanes, strip, all, x + u64::from(c));
+    }
+}
+
+/// Takes back all that the element sees at x.
+fn leave_all<P: Pixel>(counts: &mut [u16], lanes: &mut Lanes, strip: Strip<P>, all: Simd<u16, 8>, x: u64, columns: u32)
+    requires near { x + columns ≤ 2 ^ 40 }
+    requires known { (levels : ℕ) × (column : ℕ → ℕ → ℕ → ℕ) × (seen : ℕ → ℕ → ℕ → ℕ → ℕ) × ShowsColumns P.level P.TOP levels column strip.sheet.samples.now strip.sheet.width strip.sheet.rows strip.sheet.marks.now strip.first strip.dx all × Slides columns column seen × Holds levels (λ v j. seen v x columns j) counts.old lanes.old }
+    ensures { (levels : ℕ) (column : ℕ → ℕ → ℕ → ℕ) (seen : ℕ → ℕ → ℕ → ℕ → ℕ) → ShowsColumns P.level P.TOP levels column strip.entry.sheet.samples.now strip.entry.sheet.width strip.entry.sheet.rows strip.entry.sheet.marks.now strip.entry.first strip.entry.dx all → Slides columns column seen → Holds levels (λ v j. seen v x columns j) counts.old lanes.old → Holds levels (λ v j. seen v (x + columns) 0 j) counts.new lanes.new }
+{
+    for c in 0..columns {
+        leave(counts, lanes, strip, all, x + u64::from(c));
+    }
+}
+
+/// Writes a level for each of eight rows into a column; the first lane is the last row.
+#[inline(always)]
+fn put_column<P: Pixel>(made: &mut [P], width: usize, at: usize, levels: Simd<u16, 8>)
+    requires whole { length made.old ≡ 8 * width }
+    requires inside { at < width }
+    requires lanes { length levels ≡ 8 }
+    requires small { (j : ℕ) → j < 8 → slice_index_or levels j 0 ≤ P.top_level }
+    ensures put { (r : ℕ) (e : P) → r < 8 → P.level (slice_index_or made.new (r * width + at) e) ≡ slice_index_or levels (7 - r) 0 }
+    ensures others { (r q : ℕ) (e : P) → q < width → (q ≡ at → ⊥) → slice_index_or made.new (r * width + q) e ≡ slice_index_or made.old (r * width + q) e }
+    ensures size { length made.new ≡ length made.old }
+{
+    let levels = levels.to_array();
+    for r in 0..8usize {
+        made[r * width + at] = sample_of(levels[7 - r]);
+    }
+}
+
+/// A stretch of columns of the frame, the columns of the element, and the number of the rank that is wanted.
+#[derive(Clone, Copy)]
+pub(crate) struct Span {
+    pub x: u64,
+    pub width: u32,
+    pub columns: u32,
+    pub k: u16,
+}
+
+/// The ranks of eight rows, where the lanes hold what the element sees at the first column; how far the searches went.
+fn slide<P: Pixel>(made: &mut [P], counts: &mut [u16], lanes: &mut Lanes, strip: Strip<P>, all: Simd<u16, 8>, span: Span) -> usize
+    requires whole { length made.old ≡ 8 * span.width }
+    requires some { 1 ≤ span.columns }
+    requires near { span.x + span.width + span.columns ≤ 2 ^ 40 }
+    requires known { (levels : ℕ) × (column : ℕ → ℕ → ℕ → ℕ) × (seen : ℕ → ℕ → ℕ → ℕ → ℕ) × ShowsColumns P.level P.TOP levels column strip.sheet.samples.now strip.sheet.width strip.sheet.rows strip.sheet.marks.now strip.first strip.dx all × Slides span.columns column seen × Holds levels (λ v j. seen v span.x span.columns j) counts.old lanes.old × (levels ≤ P.top_level + 1) }
+    ensures moved { (levels : ℕ) (column : ℕ → ℕ → ℕ → ℕ) (seen : ℕ → ℕ → ℕ → ℕ → ℕ) → ShowsColumns P.level P.TOP levels column strip.entry.sheet.samples.now strip.entry.sheet.width strip.entry.sheet.rows strip.entry.sheet.marks.now strip.entry.first strip.entry.dx all → Slides span.columns column seen → Holds levels (λ v j. seen v span.x span.columns j) counts.old lanes.old → Holds levels (λ v j. seen v (span.x + span.width) span.columns j) counts.new lanes.new }
+    ensures found { (levels : ℕ) (column : ℕ → ℕ → ℕ → ℕ) (seen : ℕ → ℕ → ℕ → ℕ → ℕ) → ShowsColumns P.level P.TOP levels column strip.entry.sheet.samples.now strip.entry.sheet.width strip.entry.sheet.rows strip.entry.sheet.marks.now strip.entry.first strip.entry.dx all → Slides span.columns column seen → Holds levels (λ v j. seen v span.x span.columns j) counts.old lanes.old → HasFound P.level levels seen span.columns span.k span.x span.width span.width made.new }
+    ensures size { length made.new ≡ length made.old }
+{
+    let mut steps = 0usize;
+    for i in 0..span.width {
+        let x = span.x + u64::from(i);
+        let n = at_most(lanes.held, span.k);
+        let found = select(counts, &mut lanes.front, n);
+        put_column(made, span.width as usize, i as usize, found.levels);
+        steps = steps.saturating_add(found.steps);
+        leave(counts, lanes, strip, all, x);
+        enter(counts, lanes, strip, all, x + u64::from(span.columns));
+    }
+    steps
+}
+
+/// The ranks of eight rows, by lanes that are empty before and after; how far the searches went.
+pub(crate) fn rank_rows<P: Pixel>(
+    made: &mut [P],
+    counts: &mut [u16],
+    lanes: &mut Lanes,
+    strip: Strip<P>,
+    all: Simd<u16, 8>,
+    span: Span,
+) -> usize
+    requires whole { length made.old ≡ 8 * span.width }
+    requires some { 1 ≤ span.columns }
+    requires near { span.x + span.width + span.columns ≤ 2 ^ 40 }
+    requires known { (levels : ℕ) × (column : ℕ → ℕ → ℕ → ℕ) × (seen : ℕ → ℕ → ℕ → ℕ → ℕ) × ShowsColumns P.level P.TOP levels column strip.sheet.samples.now strip.sheet.width strip.sheet.rows strip.sheet.marks.now strip.first strip.dx all × Slides span.columns column seen × Holds levels (λ v j. 0) counts.old lanes.old × (levels ≤ P.top_level + 1) }
+    ensures empty { (levels : ℕ) (column : ℕ → ℕ → ℕ → ℕ) (seen : ℕ → ℕ → ℕ → ℕ → ℕ) → ShowsColumns P.level P.TOP levels column strip.entry.sheet.samples.now strip.entry.sheet.width strip.entry.sheet.rows strip.entry.sheet.marks.now strip.entry.first strip.entry.dx all → Slides span.columns column seen → Holds levels (λ v j. 0) counts.old lanes.old → Holds levels (λ v j. 0) counts.new lanes.new }
+    ensures found { (levels : ℕ) (column : ℕ → ℕ → ℕ → ℕ) (seen : ℕ → ℕ → ℕ → ℕ → ℕ) → ShowsColumns P.level P.TOP levels column strip.entry.sheet.samples.now strip.entry.sheet.width strip.entry.sheet.rows strip.entry.sheet.marks.now strip.entry.first strip.entry.dx all → Slides span.columns column seen → Holds levels (λ v j. 0) counts.old lanes.old → HasFound P.level levels seen span.columns span.k span.x span.width span.width made.new }
+    ensures size { length made.new ≡ length made.old }
+{
+    enter_all(counts, lanes, strip, all, span.x, span.columns);
+    let steps = slide(made, counts, lanes, strip, all, span);
+    leave_all(counts, lanes, strip, all, span.x + u64::from(span.width), span.columns);
+    steps
+}
