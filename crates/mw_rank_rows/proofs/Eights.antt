@@ -46,9 +46,10 @@ all_tests w t us vs us-long vs-long =
     rw (tops_compared w t us vs)
     (let long : length (zip2 t us vs) ≡ 8 = length-zip2 t us vs (omega arith) ∙ us-long in
     let small : mask_l (zip2 t us vs) % 18446744073709551616 ≡ mask_l (zip2 t us vs) = mask_l-mod (zip2 t us vs) 64 (omega arith) in
-    rw small
-    ((λ full. all_of_mask t 8 us vs us-long vs-long (ap (λ (m : ℕ). m + 1) (eqb-true (mask_l (zip2 t us vs)) 255 full))),
-    (λ all. eq-eqb (mask_l (zip2 t us vs)) 255 (let full = mask_of_all t 8 us vs us-long vs-long all in omega arith))))
+    rw small (
+      (λ full. all_of_mask t 8 us vs us-long vs-long (ap (λ (m : ℕ). m + 1) (eqb-true (mask_l (zip2 t us vs)) 255 full))),
+      (λ all. eq-eqb (mask_l (zip2 t us vs)) 255 (let full = mask_of_all t 8 us vs us-long vs-long all in omega arith)),
+    ))
 
 pub one_if-le : (b : Bool) → cond b 1 0 ≤ 1
 one_if-le true = omega arith

@@ -63,8 +63,7 @@ ranked_at [] k number n level number-is short n-is few enough = elim few [
   | inr lowest ↦ lowest
 ]
 ranked_at (s ∷ ns) k number n level number-is short n-is few enough =
-    nth_from (s ∷ ns) k n level (omega (arith, number-is, n-is))
-    (
+    nth_from (s ∷ ns) k n level (omega (arith, number-is, n-is)) (
       elim few [
         | inl less ↦ less
         | inr lowest ↦ omega (arith, ap (λ (v : ℕ). count_under v (s ∷ ns)) lowest, count-zero (s ∷ ns), number-is, n-is)
@@ -78,7 +77,7 @@ pub found_ranked : {A : Type 0} (level : A → ℕ) (d : A) (w : View A) (t : Re
 found_ranked level d w t levels k number x y width made under few number-is found r q e down lt =
     let ns = levels_under level (seen_at w) (offsets_in t t.rows) (x + q) (y + r) in
     let same : (v : ℕ) → seen_below level (seen_at w) t y v (x + q) t.columns (7 - r) ≡ count_under v ns = λ v.
-        sym (seen_whole level (seen_at w) t v (x + q) (y + (7 - (7 - r))) t.rows) ∙ ap (λ (n : ℕ). count_under v (levels_under level (seen_at w) (offsets_in t t.rows) (x + q) (y + n))) (let back : 7 - (7 - r) ≡ r = omega arith in back) in
+    sym (seen_whole level (seen_at w) t v (x + q) (y + (7 - (7 - r))) t.rows) ∙ ap (λ (n : ℕ). count_under v (levels_under level (seen_at w) (offsets_in t t.rows) (x + q) (y + n))) (let back : 7 - (7 - r) ≡ r = omega arith in back) in
     let s = level (get_or made (r * width + q) e) in
     let here = found r q e down lt in
     let all : seen_below level (seen_at w) t y levels (x + q) t.columns (7 - r) ≡ length ns = same levels ∙ levels_within level d w levels (x + q) (y + r) (offsets_in t t.rows) under in

@@ -25,9 +25,9 @@ pub lowered : (levels : ℕ) (u : ℕ → ℕ → ℕ) (counts : List ℕ) (leve
 lowered levels u counts level below here b high lanes here-is b-is t =
     counts_at levels u counts level (level - 1) below b (omega (arith, t.inside)) lanes
     (λ j lt.
-        let whole : u (level - 1 + 1) j ≡ u level j = ap (λ (w : ℕ). u w j) (let same : level - 1 + 1 ≡ level = omega arith in same) in
-        let step = t.each (level - 1) j (omega (arith, t.inside)) lt in
-        omega (arith, whole, step, here-is j lt, t.under j lt, b-is j lt (omega (arith, whole, step, here-is j lt, t.under j lt)) (omega (arith, t.under j lt, small levels u counts level below level j (omega (arith, t.inside)) lt t))))
+    let whole : u (level - 1 + 1) j ≡ u level j = ap (λ (w : ℕ). u w j) (let same : level - 1 + 1 ≡ level = omega arith in same) in
+    let step = t.each (level - 1) j (omega (arith, t.inside)) lt in
+    omega (arith, whole, step, here-is j lt, t.under j lt, b-is j lt (omega (arith, whole, step, here-is j lt, t.under j lt)) (omega (arith, t.under j lt, small levels u counts level below level j (omega (arith, t.inside)) lt t))))
     t
 
 -- how many samples are not above a level

@@ -89,12 +89,12 @@ slides level sight t y few = record {
   few = λ v x c j within.
       let all = total-within (λ r. count_under v (levels_under level sight (offsets_from (row_start t r) c) x (y + (7 - j)))) t.rows t.columns
       (λ r lt.
-          omega (
-            arith,
-            count_by-le-length (λ s. nat_lt s v) (levels_under level sight (offsets_from (row_start t r) c) x (y + (7 - j))),
-            length-levels level sight (offsets_from (row_start t r) c) x (y + (7 - j)),
-            length-offsets (row_start t r) c,
-          )) in
+      omega (
+        arith,
+        count_by-le-length (λ s. nat_lt s v) (levels_under level sight (offsets_from (row_start t r) c) x (y + (7 - j))),
+        length-levels level sight (offsets_from (row_start t r) c) x (y + (7 - j)),
+        length-offsets (row_start t r) c,
+      )) in
       omega (arith, all, length-offsets_in t t.rows);
 }
 

@@ -20,8 +20,8 @@ column_whole level d levels column samples width rows marks first dx all x at j 
     s.seen x at levels j lt across is
     ∙ total-same (λ i. get_or marks (i + j) 0 * cond (nat_lt (level (get_or samples (i * width + at) d)) levels) 1 0) (λ i. get_or marks (i + j) 0) rows
     (λ i less.
-        ap (λ (b : Bool). get_or marks (i + j) 0 * one_if b) (lt-ltb (level (get_or samples (i * width + at) d)) levels (s.under (i * width + at) (s.inside i at less across)))
-        ∙ (let e : get_or marks (i + j) 0 * 1 ≡ get_or marks (i + j) 0 = omega arith in e))
+    ap (λ (b : Bool). get_or marks (i + j) 0 * one_if b) (lt-ltb (level (get_or samples (i * width + at) d)) levels (s.under (i * width + at) (s.inside i at less across)))
+    ∙ (let e : get_or marks (i + j) 0 * 1 ≡ get_or marks (i + j) 0 = omega arith in e))
     ∙ sym (s.every j lt)
 
 -- the same numbers of samples, said in another way

@@ -158,13 +158,13 @@ column_seen level d w t s samples marks rest x y v at j size are marked rest-is 
     ∙ total-part f s.skip s.rows late
     (λ q less. ap (λ (n : ℕ). get_or marks (q + j) 0 * n) (unseen q (λ r inside is. shown.early q r less inside (omega (arith, ints, is)))) ∙ never (get_or marks (q + j) 0))
     (λ i less.
-        let q = s.skip + s.rows + i in
-        ap (λ (n : ℕ). get_or marks (q + j) 0 * n) (unseen q (λ r inside is. shown.late q r (omega arith) (omega (arith, shown.within)) inside (omega (arith, ints, is)))) ∙ never (get_or marks (q + j) 0))
+    let q = s.skip + s.rows + i in
+    ap (λ (n : ℕ). get_or marks (q + j) 0 * n) (unseen q (λ r inside is. shown.late q r (omega arith) (omega (arith, shown.within)) inside (omega (arith, ints, is)))) ∙ never (get_or marks (q + j) 0))
     ∙ total-same (λ i. f (s.skip + i)) (λ i. get_or rest (i + j) 0 * cond (nat_lt (level (get_or samples (i * w.place.width + at) d)) v) 1 0) s.rows
     (λ i less.
-        ap (λ (n : ℕ). get_or marks (s.skip + i + j) 0 * n) (row_seen level d w t s samples x y v at i size are shown across column less)
-        ∙ ap (λ (m : ℕ). m * one_if (nat_lt (level (get_or samples (i * w.place.width + at) d)) v))
-        (ap (λ (p : ℕ). get_or marks p 0) (let e : s.skip + i + j ≡ s.skip + (i + j) = omega arith in e) ∙ sym (ap (λ (l : List ℕ). get_or l (i + j) 0) rest-is ∙ get_or-drop s.skip marks (i + j) 0)))
+    ap (λ (n : ℕ). get_or marks (s.skip + i + j) 0 * n) (row_seen level d w t s samples x y v at i size are shown across column less)
+    ∙ ap (λ (m : ℕ). m * one_if (nat_lt (level (get_or samples (i * w.place.width + at) d)) v))
+    (ap (λ (p : ℕ). get_or marks p 0) (let e : s.skip + i + j ≡ s.skip + (i + j) = omega arith in e) ∙ sym (ap (λ (l : List ℕ). get_or l (i + j) 0) rest-is ∙ get_or-drop s.skip marks (i + j) 0)))
   where
     never : (a : ℕ) → a * 0 ≡ 0
     never a = omega arith

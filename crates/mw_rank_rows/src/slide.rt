@@ -37,7 +37,13 @@ fn column_of<P: Pixel>(strip: Strip<P>, x: u64) -> Option<usize>
 
 /// Counts the column that the first column of the element sees at x.
 #[inline(always)]
-fn enter<P: Pixel>(counts: &mut [u16], lanes: &mut Lanes, strip: Strip<P>, all: Simd<u16, 8>, x: u64)
+fn enter<P: Pixel>(
+    counts: &mut [u16],
+    lanes: &mut Lanes,
+    strip: Strip<P>,
+    all: Simd<u16, 8>,
+    x: u64,
+)
     requires near { x ≤ 2 ^ 40 }
     requires known { (levels : ℕ) × (column : ℕ → ℕ → ℕ → ℕ) × (u : ℕ → ℕ → ℕ) × ShowsColumns P.level P.TOP levels column strip.sheet.samples.now strip.sheet.width strip.sheet.rows strip.sheet.marks.now strip.first strip.dx all × Holds levels u counts.old lanes.old }
     ensures { (levels : ℕ) (column : ℕ → ℕ → ℕ → ℕ) (u w : ℕ → ℕ → ℕ) → ShowsColumns P.level P.TOP levels column strip.entry.sheet.samples.now strip.entry.sheet.width strip.entry.sheet.rows strip.entry.sheet.marks.now strip.entry.first strip.entry.dx all → Holds levels u counts.old lanes.old → ((v j : ℕ) → j < 8 → w v j ≡ u v j + column v x j) → ((j : ℕ) → j < 8 → w levels j < 65536) → Holds levels w counts.new lanes.new }
@@ -50,7 +56,13 @@ fn enter<P: Pixel>(counts: &mut [u16], lanes: &mut Lanes, strip: Strip<P>, all: 
 
 /// Takes back the column that the first column of the element sees at x.
 #[inline(always)]
-fn leave<P: Pixel>(counts: &mut [u16], lanes: &mut Lanes, strip: Strip<P>, all: Simd<u16, 8>, x: u64)
+fn leave<P: Pixel>(
+    counts: &mut [u16],
+    lanes: &mut Lanes,
+    strip: Strip<P>,
+    all: Simd<u16, 8>,
+    x: u64,
+)
     requires near { x ≤ 2 ^ 40 }
     requires known { (levels : ℕ) × (column : ℕ → ℕ → ℕ → ℕ) × (u : ℕ → ℕ → ℕ) × ShowsColumns P.level P.TOP levels column strip.sheet.samples.now strip.sheet.width strip.sheet.rows strip.sheet.marks.now strip.first strip.dx all × Holds levels u counts.old lanes.old }
     ensures { (levels : ℕ) (column : ℕ → ℕ → ℕ → ℕ) (u w : ℕ → ℕ → ℕ) → ShowsColumns P.level P.TOP levels column strip.entry.sheet.samples.now strip.entry.sheet.width strip.entry.sheet.rows strip.entry.sheet.marks.now strip.entry.first strip.entry.dx all → Holds levels u counts.old lanes.old → ((v j : ℕ) → j < 8 → u v j ≡ w v j + column v x j) → Rises w → Holds levels w counts.new lanes.new }
@@ -62,7 +74,14 @@ fn leave<P: Pixel>(counts: &mut [u16], lanes: &mut Lanes, strip: Strip<P>, all: 
 }
 
 /// Counts all that the element sees at x.
-fn enter_all<P: Pixel>(counts: &mut [u16], lanes: &mut Lanes, strip: Strip<P>, all: Simd<u16, 8>, x: u64, columns: u32)
+fn enter_all<P: Pixel>(
+    counts: &mut [u16],
+    lanes: &mut Lanes,
+    strip: Strip<P>,
+    all: Simd<u16, 8>,
+    x: u64,
+    columns: u32,
+)
     requires near { x + columns ≤ 2 ^ 40 }
     requires known { (levels : ℕ) × (column : ℕ → ℕ → ℕ → ℕ) × (seen : ℕ → ℕ → ℕ → ℕ → ℕ) × ShowsColumns P.level P.TOP levels column strip.sheet.samples.now strip.sheet.width strip.sheet.rows strip.sheet.marks.now strip.first strip.dx all × Slides columns column seen × Holds levels (λ v j. seen v x 0 j) counts.old lanes.old }
     ensures { (levels : ℕ) (column : ℕ → ℕ → ℕ → ℕ) (seen : ℕ → ℕ → ℕ → ℕ → ℕ) → ShowsColumns P.level P.TOP levels column strip.entry.sheet.samples.now strip.entry.sheet.width strip.entry.sheet.rows strip.entry.sheet.marks.now strip.entry.first strip.entry.dx all → Slides columns column seen → Holds levels (λ v j. seen v x 0 j) counts.old lanes.old → Holds levels (λ v j. seen v x columns j) counts.new lanes.new }
@@ -73,7 +92,14 @@ fn enter_all<P: Pixel>(counts: &mut [u16], lanes: &mut Lanes, strip: Strip<P>, a
 }
 
 /// Takes back all that the element sees at x.
-fn leave_all<P: Pixel>(counts: &mut [u16], lanes: &mut Lanes, strip: Strip<P>, all: Simd<u16, 8>, x: u64, columns: u32)
+fn leave_all<P: Pixel>(
+    counts: &mut [u16],
+    lanes: &mut Lanes,
+    strip: Strip<P>,
+    all: Simd<u16, 8>,
+    x: u64,
+    columns: u32,
+)
     requires near { x + columns ≤ 2 ^ 40 }
     requires known { (levels : ℕ) × (column : ℕ → ℕ → ℕ → ℕ) × (seen : ℕ → ℕ → ℕ → ℕ → ℕ) × ShowsColumns P.level P.TOP levels column strip.sheet.samples.now strip.sheet.width strip.sheet.rows strip.sheet.marks.now strip.first strip.dx all × Slides columns column seen × Holds levels (λ v j. seen v x columns j) counts.old lanes.old }
     ensures { (levels : ℕ) (column : ℕ → ℕ → ℕ → ℕ) (seen : ℕ → ℕ → ℕ → ℕ → ℕ) → ShowsColumns P.level P.TOP levels column strip.entry.sheet.samples.now strip.entry.sheet.width strip.entry.sheet.rows strip.entry.sheet.marks.now strip.entry.first strip.entry.dx all → Slides columns column seen → Holds levels (λ v j. seen v x columns j) counts.old lanes.old → Holds levels (λ v j. seen v (x + columns) 0 j) counts.new lanes.new }
@@ -110,7 +136,14 @@ pub(crate) struct Span {
 }
 
 /// The ranks of eight rows, where the lanes hold what the element sees at the first column; how far the searches went.
-fn slide<P: Pixel>(made: &mut [P], counts: &mut [u16], lanes: &mut Lanes, strip: Strip<P>, all: Simd<u16, 8>, span: Span) -> usize
+fn slide<P: Pixel>(
+    made: &mut [P],
+    counts: &mut [u16],
+    lanes: &mut Lanes,
+    strip: Strip<P>,
+    all: Simd<u16, 8>,
+    span: Span,
+) -> usize
     requires whole { length made.old ≡ 8 * span.width }
     requires some { 1 ≤ span.columns }
     requires near { span.x + span.width + span.columns ≤ 2 ^ 40 }
@@ -151,6 +184,13 @@ pub(crate) fn rank_rows<P: Pixel>(
 {
     enter_all(counts, lanes, strip, all, span.x, span.columns);
     let steps = slide(made, counts, lanes, strip, all, span);
-    leave_all(counts, lanes, strip, all, span.x + u64::from(span.width), span.columns);
+    leave_all(
+        counts,
+        lanes,
+        strip,
+        all,
+        span.x + u64::from(span.width),
+        span.columns,
+    );
     steps
 }

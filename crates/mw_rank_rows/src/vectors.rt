@@ -70,7 +70,11 @@ pub(crate) fn at_most(a: Simd<u16, 8>, n: u16) -> Simd<u16, 8>
 
 /// One more in the lanes that are below those of n.
 #[inline(always)]
-pub(crate) fn one_more_below(levels: Simd<u16, 8>, sums: Simd<u16, 8>, n: Simd<u16, 8>) -> Simd<u16, 8>
+pub(crate) fn one_more_below(
+    levels: Simd<u16, 8>,
+    sums: Simd<u16, 8>,
+    n: Simd<u16, 8>,
+) -> Simd<u16, 8>
     requires levels { length levels ≡ 8 }
     requires sums { length sums ≡ 8 }
     requires n { length n ≡ 8 }

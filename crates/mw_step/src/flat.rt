@@ -13,7 +13,7 @@ use crate::ranks::rank_of_set;
 use crate::sliding::{set_under_element, under_box, under_element};
 use mw_element::Element;
 use mw_model::{NoMemory, OffsetBox, Rect};
-use mw_rank::rank_of_grey;
+use mw_rank_rows::rank_of_grey;
 use mw_task::TileResult;
 use mw_tile::AnyWindow;
 use std::alloc::Global;

@@ -9,7 +9,7 @@ use crate::thresholds::is_sound;
 use mw_bits::{as_levels, at_least};
 use mw_model::{NoMemory, Offset, Rect};
 use mw_pixel::{Bit, Plane};
-use mw_rank::rank_of_grey;
+use mw_rank_rows::rank_of_grey;
 use mw_tile::Window;
 use std::alloc::Global;
 

@@ -32,8 +32,8 @@ loop-done-preserved g c =
       whole = c.rank_group-more.ensures.size ∙ c.loop-done.invariant.whole;
       empty = c.rank_group-more.ensures.empty c.args.levels c.requires.under c.loop-done.invariant.empty;
       rows = rows_more g.P.Pixel.level (λ x y. value (tile.x + x) (tile.y + y)) tile.width done from c.loop-done.out.items made c.extend_from_slice.new.self.items (omega arith) (omega arith) (c.rank_group-more.ensures.size ∙ c.loop-done.invariant.whole)
-      (c.in_ok-extend_from_slice.ensures.items ∙ ap (λ (l : List _). c.loop-done.out.items ++ l) (take_rest made ((done - from) * tile.width)))
-      (λ r q e down lt. c.rank_group-more.ensures.found r q e down lt ∙ ap (λ (x : ℕ). value (x + q) (c.from-in-loop-done.result + c.from-in-loop-done-2.result + r)) c.from.ensures ∙ ap (value (tile.x + q)) (y-is r)) c.loop-done.invariant.rows;
+          (c.in_ok-extend_from_slice.ensures.items ∙ ap (λ (l : List _). c.loop-done.out.items ++ l) (take_rest made ((done - from) * tile.width)))
+          (λ r q e down lt. c.rank_group-more.ensures.found r q e down lt ∙ ap (λ (x : ℕ). value (x + q) (c.from-in-loop-done.result + c.from-in-loop-done-2.result + r)) c.from.ensures ∙ ap (value (tile.x + q)) (y-is r)) c.loop-done.invariant.rows;
     }
 
 pub returns : goal.returns

@@ -43,9 +43,9 @@ loop-below-preserved c =
     let held = c.requires.held in
     let level = c.loop-below.level in
     let up : (levels : ℕ) (u : ℕ → ℕ → ℕ) → Counts levels u c.args.counts.now c.args.front.level c.args.front.below → level + 1 < levels = λ levels u before.
-        let t = c.loop-below.invariant.counts held.0 held.1 held.2 in
-        let room : level + 1 < held.0 = has_room held.0 held.1 level _ _ 0 t.inside (c.loop-below.invariant.next held.0 held.1 held.2 0 (omega arith)) (less 0 (omega arith)) (held.3 0 (omega arith)) in
-        omega (arith, t.size, before.size) in
+    let t = c.loop-below.invariant.counts held.0 held.1 held.2 in
+    let room : level + 1 < held.0 = has_room held.0 held.1 level _ _ 0 t.inside (c.loop-below.invariant.next held.0 held.1 held.2 0 (omega arith)) (less 0 (omega arith)) (held.3 0 (omega arith)) in
+    omega (arith, t.size, before.size) in
     record {
       counts = λ levels u before. counts_at levels u c.args.counts.now level (level + 1) c.loop-below.below c.loop-below.next (up levels u before) c.loop-below.invariant.lanes (c.loop-below.invariant.next levels u before) (c.loop-below.invariant.counts levels u before);
       few = λ few j lt. inl (less j lt);

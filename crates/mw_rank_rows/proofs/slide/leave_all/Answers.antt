@@ -21,11 +21,11 @@ loop-c-preserved g c = λ levels column seen shows slides t.
     let rest = c.args.columns - (n + 1) in
     c.leave.ensures levels column (λ v j. seen v (x + n) (c.args.columns - n) j) (λ v j. seen v (x + (n + 1)) rest j) shows (c.loop-c.invariant levels column seen shows slides t)
     (λ v j lt.
-        ap (λ (m : ℕ). seen v (x + n) m j) (let e : c.args.columns - n ≡ rest + 1 = omega arith in e)
-        ∙ slides.leaves v (x + n) rest j
-        ∙ ap (λ (m : ℕ). column v (x + n) j + seen v m rest j) (let e : x + n + 1 ≡ x + (n + 1) = omega arith in e)
-        ∙ ap (λ (m : ℕ). column v (x + m) j + seen v (x + (n + 1)) rest j) (sym c.from.ensures)
-        ∙ (let e : column v (x + c.from.result) j + seen v (x + (n + 1)) rest j ≡ seen v (x + (n + 1)) rest j + column v (x + c.from.result) j = omega arith in e))
+    ap (λ (m : ℕ). seen v (x + n) m j) (let e : c.args.columns - n ≡ rest + 1 = omega arith in e)
+    ∙ slides.leaves v (x + n) rest j
+    ∙ ap (λ (m : ℕ). column v (x + n) j + seen v m rest j) (let e : x + n + 1 ≡ x + (n + 1) = omega arith in e)
+    ∙ ap (λ (m : ℕ). column v (x + m) j + seen v (x + (n + 1)) rest j) (sym c.from.ensures)
+    ∙ (let e : column v (x + c.from.result) j + seen v (x + (n + 1)) rest j ≡ seen v (x + (n + 1)) rest j + column v (x + c.from.result) j = omega arith in e))
     (λ v j. slides.rises v (x + (n + 1)) rest j)
 
 pub returns : goal.returns

@@ -40,14 +40,13 @@ enter-requires-clause-known g c =
     let p = span.x + c.loop-i.i in
     let u = λ (v j : ℕ). seen v p span.columns j in
     let w = λ (v j : ℕ). seen v (p + 1) (span.columns - 1) j in
-    let t = c.loop-i.invariant.moved levels known.1 seen known.3 known.4 known.5 in
-    (
+    let t = c.loop-i.invariant.moved levels known.1 seen known.3 known.4 known.5 in (
       levels,
       known.1,
       w,
       known.3,
       c.leave.ensures levels known.1 u w known.3 (held_front levels u c.loop-i.counts c.loop-i.lanes c.select-found.new.front (c.select-found.ensures.counts levels u t.table) t)
-      (λ v j lt. step_left span.columns known.1 seen p _ v j c.requires.some (ap (λ (n : ℕ). span.x + n) c.from.ensures) known.4) (λ v j. known.4.rises v (p + 1) (span.columns - 1) j),
+          (λ v j lt. step_left span.columns known.1 seen p _ v j c.requires.some (ap (λ (n : ℕ). span.x + n) c.from.ensures) known.4) (λ v j. known.4.rises v (p + 1) (span.columns - 1) j),
     )
 
 pub loop-i-preserved : goal.loop-i-preserved

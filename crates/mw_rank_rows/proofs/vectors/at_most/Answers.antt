@@ -6,7 +6,7 @@ use Rattle.mw_rank.proofs.Lanes.{chosen}
 use Rattle.mw_rank_rows.proofs.vectors.at_most.Goals as goal
 
 pub returns-clause-size : goal.returns-clause-size
-returns-clause-size c = 
+returns-clause-size c =
     let n = c.args.n in
     (chosen 8 w16 ltb c.args.a (replicate 8 n) c.args.a (replicate 8 n) c.requires refl c.requires refl).size
 
