@@ -89,35 +89,28 @@ found_ranked level d w t levels k number x y width made under few number-is foun
     ])
     (omega (arith, here.enough, same (s + 1)))
 
--- the rows of one group more, of which some were there
-pub rows_more : {A : Type 0} (level : A → ℕ) (value : ℕ → ℕ → ℕ) (width done from : ℕ) (out made new : List A) → from ≤ done → done ≤ from + 8 → length made ≡ 8 * width → new ≡ out ++ drop ((done - from) * width) made
-    → ((r q : ℕ) (e : A) → r < 8 → q < width → level (get_or made (r * width + q) e) ≡ value q (from + r)) → HasRows level value width done out → HasRows level value width (from + 8) new
-rows_more level value width done from out made new low high whole new-is found before = record {
-  size = ap length new-is ∙ length-append out (drop ((done - from) * width) made) ∙ omega (arith, length-drop ((done - from) * width) made, whole, before.size, sizes done from width low, mul-le-mul_right width (let e : done - from ≤ 8 = omega arith in e));
-  made = λ x j d lt down. elim (cases_lt j done) [
-    | inl early ↦ ap (λ (l : List _). level (get_or l (j * width + x) d)) new-is ∙ ap level (get_or_append_left out (drop ((done - from) * width) made) d (j * width + x) (omega (arith, before.size, mul-add-lt j width x done early lt))) ∙ before.made x j d lt early
-    | inr late ↦
-        let place : j * width + x ≡ length out + ((j - done) * width + x) = omega (arith, before.size, behind j done width late) in
-        ap (λ (l : List _). level (get_or l (j * width + x) d)) new-is
-        ∙ ap (λ (p : ℕ). level (get_or (out ++ drop ((done - from) * width) made) p d)) place
-        ∙ ap level (get_or-append-add out (drop ((done - from) * width) made) ((j - done) * width + x) d ∙ get_or-drop ((done - from) * width) made ((j - done) * width + x) d)
-        ∙ ap (λ (p : ℕ). level (get_or made p d)) (let e : (done - from) * width + ((j - done) * width + x) ≡ (j - from) * width + x = omega (arith, both j done from width late low) in e)
-        ∙ found (j - from) x d (omega arith) lt
-        ∙ ap (value x) (let e : from + (j - from) ≡ j = omega arith in e)
-  ];
-}
-  where
-    split : (done from gap w : ℕ) → done ≡ from + gap → (from + 8) * w + gap * w ≡ done * w + 8 * w
-    split done from gap w e = rw e (grind arith)
-
-    sizes : (done from w : ℕ) → from ≤ done → (from + 8) * w + (done - from) * w ≡ done * w + 8 * w
-    sizes done from w le = let e : done ≡ from + (done - from) = omega arith in split done from (done - from) w e
-
-    behind : (j done w : ℕ) → done ≤ j → j * w ≡ done * w + (j - done) * w
-    behind j done w le = ap (λ (n : ℕ). n * w) (let e : j ≡ done + (j - done) = omega arith in e) ∙ add-mul done (j - done) w
-
-    both : (j done from w : ℕ) → done ≤ j → from ≤ done → (done - from) * w + (j - done) * w ≡ (j - from) * w
-    both j done from w late low = sym (add-mul (done - from) (j - done) w) ∙ ap (λ (n : ℕ). n * w) (let e : done - from + (j - done) ≡ j - from = omega arith in e)
+-- some rows more, of which some were there
+pub rows_more : {A : Type 0} (level : A → ℕ) (value : ℕ → ℕ → ℕ) (width done from n : ℕ) (out made new : List A) → from ≤ done → done ≤ from + n → length made ≡ n * width → new ≡ out ++ drop ((done - from) * width) made
+    → ((r q : ℕ) (e : A) → r < n → q < width → level (get_or made (r * width + q) e) ≡ value q (from + r)) → HasRows level value width done out → HasRows level value width (from + n) new
+rows_more level value width done from n out made new low high whole new-is found before =
+    let gap = done - from in
+    let behind : done * width ≡ from * width + gap * width = ap (λ (m : ℕ). m * width) (let e : done ≡ from + gap = omega arith in e) ∙ add-mul from gap width in
+    record {
+      size = ap length new-is ∙ length-append out (drop (gap * width) made) ∙ omega (arith, length-drop (gap * width) made, whole, before.size, behind, add-mul from n width, mul-le-mul_right width (let e : gap ≤ n = omega arith in e));
+      made = λ x j d lt down. elim (cases_lt j done) [
+        | inl early ↦ ap (λ (l : List _). level (get_or l (j * width + x) d)) new-is ∙ ap level (get_or_append_left out (drop (gap * width) made) d (j * width + x) (omega (arith, before.size, mul-add-lt j width x done early lt))) ∙ before.made x j d lt early
+        | inr late ↦
+            let on = j - done in
+            let ahead : j * width ≡ done * width + on * width = ap (λ (m : ℕ). m * width) (let e : j ≡ done + on = omega arith in e) ∙ add-mul done on width in
+            let both : (j - from) * width ≡ gap * width + on * width = ap (λ (m : ℕ). m * width) (let e : j - from ≡ gap + on = omega arith in e) ∙ add-mul gap on width in
+            ap (λ (l : List _). level (get_or l (j * width + x) d)) new-is
+            ∙ ap (λ (p : ℕ). level (get_or (out ++ drop (gap * width) made) p d)) (let e : j * width + x ≡ length out + (on * width + x) = omega (arith, before.size, ahead) in e)
+            ∙ ap level (get_or-append-add out (drop (gap * width) made) (on * width + x) d ∙ get_or-drop (gap * width) made (on * width + x) d)
+            ∙ ap (λ (p : ℕ). level (get_or made p d)) (let e : gap * width + (on * width + x) ≡ (j - from) * width + x = omega (arith, both) in e)
+            ∙ found (j - from) x d (omega arith) lt
+            ∙ ap (value x) (let e : from + (j - from) ≡ j = omega arith in e)
+      ];
+    }
 
 pub no_rows : {A : Type 0} (level : A → ℕ) (value : ℕ → ℕ → ℕ) (width : ℕ) (items : List A) → items ≡ [] → HasRows level value width 0 items
 no_rows level value width items none = record { size = ap length none ∙ (let e : 0 ≡ 0 * width = omega arith in e); made = λ x j d lt less. absurd (omega arith) }

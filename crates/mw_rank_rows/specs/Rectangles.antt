@@ -1,6 +1,10 @@
 -- Rectangles of offsets, and the rows of a window that eight rows of results look at.
-use Rattle.std.specs.Prelude.{◌≡◌, ℕ, ℤ, zero, suc, pos, ◌+ℤ◌, ◌+◌, ◌<◌, ◌≤◌, ◌&&◌, List, [], ◌++◌, length, nat_le, nat_lt, cond, slice_index_or}
+use Rattle.std.specs.Prelude.{◌≡◌, ℕ, ℤ, zero, suc, pos, ◌+ℤ◌, ◌+◌, ◌*◌, ◌<◌, ◌≤◌, ◌&&◌, List, [], ◌++◌, length, nat_le, nat_lt, cond, slice_index_or}
+use Rattle.mw_model.specs.PlanSteps.{ranked}
+use Rattle.mw_model.specs.Rasters.{Sight}
 use Rattle.mw_model.specs.declared.places.Offset.{Offset}
+use Rattle.mw_model.specs.declared.places.Rect.{Rect}
+use Rattle.mw_rank.specs.Ranks.{levels_under}
 use Rattle.mw_rank.specs.Runs.{offsets_from}
 use Rattle.mw_rank_rows.specs.declared.rectangle.Rectangle.{Rectangle}
 use Rattle.mw_rank_rows.specs.declared.group.Shown.{Shown}
@@ -31,3 +35,8 @@ pub record IsShown (top : ℤ) (count height : ℕ) (s : Shown) : Type 0 where
   pub at : (i : ℕ) → i < s.rows → top +ℤ pos (s.skip + i) ≡ pos (s.first + i)
   pub early : (q r : ℕ) → q < s.skip → r < height → top +ℤ pos q ≡ pos r → ⊥
   pub late : (q r : ℕ) → s.skip + s.rows ≤ q → q < count → r < height → top +ℤ pos q ≡ pos r → ⊥
+
+-- eight rows, by rows, that have the ranks of eight rows of results
+abbrev pub AreRanks : {A : Type 0} → (A → ℕ) → ℕ → Sight A → List Offset → Rect → List A → Type 0
+AreRanks {A} level k sight element place made = (r q : ℕ) (e : A) → r < 8 → q < place.width
+    → level (slice_index_or made (r * place.width + q) e) ≡ ranked k (levels_under level sight element (place.x + q) (place.y + r))

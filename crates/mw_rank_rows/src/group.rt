@@ -1,10 +1,8 @@
 //! Eight rows of results, of a window that may show a part of what they look at.
-ghost use Rattle.std.specs.Prelude.{◌≡◌, ℕ, ℤ, ◌+◌, ◌*◌, ◌<◌, ◌≤◌, ◌^◌, pos, negsuc, ◌≤ℤ◌, length, slice_index_or};
-ghost use Rattle.mw_model.specs.PlanSteps.{ranked};
+ghost use Rattle.std.specs.Prelude.{◌≡◌, ℕ, ℤ, ◌+◌, ◌*◌, ◌<◌, ◌≤◌, ◌^◌, pos, negsuc, ◌≤ℤ◌, length, IsTrue, OnOk};
 ghost use Rattle.mw_model.specs.Windows.{seen_at};
 ghost use Rattle.mw_rank.specs.Counting.{AllUnder};
-ghost use Rattle.mw_rank.specs.Ranks.{levels_under};
-ghost use Rattle.mw_rank_rows.specs.Rectangles.{offsets_in, AreMarks, IsShown};
+ghost use Rattle.mw_rank_rows.specs.Rectangles.{AreRanks, AreMarks, IsRectangle, IsShown};
 ghost use Rattle.mw_rank_rows.specs.Tables.{Holds};
 
 use crate::column::Sheet;
@@ -12,9 +10,12 @@ use crate::lanes::Lanes;
 use crate::marks::sum_of_marks;
 use crate::rectangle::Rectangle;
 use crate::slide::{Span, Strip, rank_rows};
+use mw_model::{NoMemory, Offset, Rect};
 use mw_pixel::Grey;
+use mw_rank::rank;
 use mw_run::place_of;
 use mw_tile::Window;
+use std::alloc::Global;
 
 /// Rows that a window shows of some: how many come before them, its first of them, and how many they are.
 #[derive(Clone, Copy)]
@@ -48,52 +49,47 @@ fn shown_rows(top: i64, count: usize, height: u32) -> Shown
     }
 }
 
-/// The first place of eight rows of results in the frame, how many columns they have, and what is wanted there.
+/// Eight rows of results, the rectangle that they are ranked under, its offsets and marks, and the number that is wanted.
 #[derive(Clone, Copy)]
-pub(crate) struct Group {
-    pub x: u64,
-    pub y: u64,
-    pub width: u32,
+pub(crate) struct Group<'a> {
+    pub place: Rect,
     pub rectangle: Rectangle,
+    pub offsets: &'a [Offset],
+    pub marks: &'a [u16],
     pub k: u32,
 }
 
-/// The ranks of eight rows; how far the searches went.
-pub(crate) fn rank_group<P: Grey>(
+/// The ranks of eight rows, by counters that are 0 before and after; says whether it has all of them.
+fn rank_together<P: Grey>(
     made: &mut [P],
     counts: &mut [u16],
     lanes: &mut Lanes,
     window: &Window<P>,
-    marks: &[u16],
     group: Group,
-) -> usize
-    requires whole { length made.old ≡ 8 * group.width }
-    requires near { group.x ≤ 2 ^ 39 }
-    requires high { group.y ≤ 2 ^ 39 }
-    requires some { 1 ≤ group.rectangle.columns }
+) -> bool
+    requires whole { length made.old ≡ 8 * group.place.width }
+    requires rectangle { IsRectangle group.rectangle group.offsets.now }
     requires low { group.rectangle.rows ≤ 2 ^ 15 }
-    requires few { length (offsets_in group.rectangle group.rectangle.rows) < 2 ^ 16 }
-    requires marks { AreMarks group.rectangle.rows marks.now }
+    requires few { length group.offsets.now < 2 ^ 16 }
+    requires marks { AreMarks group.rectangle.rows group.marks.now }
     requires known { (levels : ℕ) × AllUnder P.level P.TOP window.now.cells levels × Holds levels (λ v j. 0) counts.old lanes.old × (levels ≤ P.top_level + 1) }
     ensures empty { (levels : ℕ) → AllUnder P.level P.TOP window.now.cells levels → Holds levels (λ v j. 0) counts.old lanes.old → Holds levels (λ v j. 0) counts.new lanes.new }
-    ensures found { (r q : ℕ) (e : P) → r < 8 → q < group.width → P.level (slice_index_or made.new (r * group.width + q) e) ≡ ranked group.k (levels_under P.level (seen_at window.now) (offsets_in group.rectangle group.rectangle.rows) (group.x + q) (group.y + r)) }
+    ensures found { IsTrue result → AreRanks P.level group.entry.k (seen_at window.now) group.entry.offsets.now group.entry.place made.new }
     ensures size { length made.new ≡ length made.old }
 {
     let place = window.place();
     let rectangle = group.rectangle;
-    let count = rectangle.rows as usize + 7;
-    let shown = shown_rows(
-        place_of(group.y, rectangle.dy, place.y),
-        count,
-        place.height,
-    );
+    let x = u64::from(group.place.x);
+    let y = u64::from(group.place.y);
+    let top = place_of(y, rectangle.dy, place.y);
+    let shown = shown_rows(top, rectangle.rows as usize + 7, place.height);
     let width = place.width as usize;
     let from = shown.first * width;
     let sheet = Sheet {
         samples: &window.samples()[from..from + shown.rows * width],
         width,
         rows: shown.rows,
-        marks: &marks[shown.skip..],
+        marks: &group.marks[shown.skip..],
     };
     let all = sum_of_marks(sheet.marks, shown.rows);
     let strip = Strip {
@@ -102,10 +98,38 @@ pub(crate) fn rank_group<P: Grey>(
         dx: rectangle.dx,
     };
     let span = Span {
-        x: group.x,
-        width: group.width,
+        x,
+        width: group.place.width,
         columns: rectangle.columns,
         k: group.k.clamp(1, 65535) as u16,
     };
     rank_rows(made, counts, lanes, strip, all, span)
+}
+
+/// The ranks of eight rows, by counters that are 0 before and after; says whether the rows went together.
+pub(crate) fn rank_group<P: Grey>(
+    alloc: Global,
+    made: &mut [P],
+    counts: &mut [u16],
+    lanes: &mut Lanes,
+    window: &Window<P>,
+    group: Group,
+) -> Result<bool, NoMemory>
+    requires whole { length made.old ≡ 8 * group.place.width }
+    requires eight { group.place.height ≡ 8 }
+    requires rectangle { IsRectangle group.rectangle group.offsets.now }
+    requires low { group.rectangle.rows ≤ 2 ^ 15 }
+    requires few { length group.offsets.now < 2 ^ 16 }
+    requires marks { AreMarks group.rectangle.rows group.marks.now }
+    requires known { (levels : ℕ) × AllUnder P.level P.TOP window.now.cells levels × Holds levels (λ v j. 0) counts.old lanes.old × (levels ≤ P.top_level + 1) }
+    ensures empty { OnOk result ((levels : ℕ) → AllUnder P.level P.TOP window.now.cells levels → Holds levels (λ v j. 0) counts.old lanes.old → Holds levels (λ v j. 0) counts.new lanes.new) }
+    ensures found { OnOk result (AreRanks P.level group.entry.k (seen_at window.now) group.entry.offsets.now group.entry.place made.new) }
+    ensures size { length made.new ≡ length made.old }
+{
+    if rank_together(made, counts, lanes, window, group) {
+        return Ok(true);
+    }
+    let apart = rank(alloc, window, group.offsets, group.k, group.place)?;
+    made.copy_from_slice(apart.samples());
+    Ok(false)
 }

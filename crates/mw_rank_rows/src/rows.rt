@@ -1,11 +1,11 @@
 //! The rank filter of a tile, eight rows after eight.
-ghost use Rattle.std.specs.Prelude.{◌≡◌, ℕ, ◌+◌, ◌*◌, ◌<◌, ◌≤◌, ◌^◌, length, IfOk, IfSome, IsTrue};
+ghost use Rattle.std.specs.Prelude.{◌≡◌, ℕ, ◌+◌, ◌*◌, ◌<◌, ◌≤◌, ◌^◌, ◌++◌, length, drop, IfOk, IfSome, IsTrue, OnOk};
 ghost use Rattle.mw_model.specs.PlanSteps.{ranked};
 ghost use Rattle.mw_model.specs.Rasters.{Raster, cell_at};
 ghost use Rattle.mw_model.specs.Windows.{seen_at};
 ghost use Rattle.mw_rank.specs.Counting.{AllUnder};
 ghost use Rattle.mw_rank.specs.Ranks.{levels_under, IsRank, HasRows};
-ghost use Rattle.mw_rank_rows.specs.Rectangles.{offsets_in};
+ghost use Rattle.mw_rank_rows.specs.Rectangles.{IsRectangle};
 ghost use Rattle.mw_tile.specs.Windows.{IsWindow};
 
 use crate::group::{Group, rank_group};
@@ -19,67 +19,120 @@ use mw_run::runs_of;
 use mw_tile::Window;
 use std::alloc::Global;
 
-/// How far a search may go for each column on average.
-const FAR: usize = 128;
+/// Adds the samples from that place on.
+fn push_from<P: Grey>(out: &mut Vec<P>, made: &[P], skip: usize) -> Result<(), NoMemory>
+    requires { skip ≤ length made.now }
+    ensures { OnOk result (out.new.items ≡ out.old.items ++ drop skip made.now) }
+{
+    out.extend_from_slice(&made[skip..])?;
+    Ok(())
+}
 
-/// The ranks of a tile; None if the lanes' levels lie so far from one another that the searches do not pay.
-fn rank_groups<P: Grey>(
-    alloc: Global,
-    window: &Window<P>,
+/// An element that is a rectangle, and the number of the rank that is wanted under it.
+#[derive(Clone, Copy)]
+struct Wanted<'a> {
+    offsets: &'a [Offset],
     rectangle: Rectangle,
     k: u32,
+}
+
+/// Adds the ranks of the rows of the tile from that one on, by one histogram for each.
+fn push_rest<P: Counted>(
+    alloc: Global,
+    out: &mut Vec<P>,
+    window: &Window<P>,
+    wanted: Wanted,
+    tile: Rect,
+    done: u32,
+) -> Result<(), NoMemory>
+    requires few { length wanted.offsets.now < 2 ^ 16 }
+    requires within { done ≤ tile.height }
+    requires inside { tile.y + tile.height < 2 ^ 32 }
+    requires rows { HasRows P.level (λ x y. ranked wanted.k (levels_under P.level (seen_at window.now) wanted.offsets.now (tile.x + x) (tile.y + y))) tile.width done out.old.items }
+    ensures { OnOk result (HasRows P.level (λ x y. ranked wanted.entry.k (levels_under P.level (seen_at window.now) wanted.entry.offsets.now (tile.x + x) (tile.y + y))) tile.width tile.height out.new.items) }
+{
+    if done == tile.height {
+        return Ok(());
+    }
+    let rest = Rect {
+        y: tile.y + done,
+        height: tile.height - done,
+        ..tile
+    };
+    let rows = mw_rank::rank_of_grey(alloc, window, wanted.offsets, wanted.k, rest)?;
+    push_from(out, rows.samples(), 0)?;
+    Ok(())
+}
+
+/// The ranks of a tile. The last eight rows begin early enough to end with it.
+fn rank_groups<P: Counted>(
+    alloc: Global,
+    window: &Window<P>,
+    wanted: Wanted,
     tile: Rect,
     levels: usize,
-) -> Result<Option<Vec<P>>, NoMemory>
+) -> Result<Vec<P>, NoMemory>
     requires tall { 8 ≤ tile.height }
-    requires some { 1 ≤ rectangle.columns }
-    requires low { rectangle.rows ≤ 2 ^ 15 }
-    requires few { length (offsets_in rectangle rectangle.rows) < 2 ^ 16 }
+    requires inside { tile.y + tile.height < 2 ^ 32 }
+    requires rectangle { IsRectangle wanted.rectangle wanted.offsets.now }
+    requires low { wanted.rectangle.rows ≤ 2 ^ 15 }
+    requires few { length wanted.offsets.now < 2 ^ 16 }
     requires level { 1 ≤ levels }
     requires short { levels < 65536 }
     requires fits { levels ≤ P.top_level + 1 }
     requires under { AllUnder P.level P.TOP window.now.cells levels }
-    ensures { IfOk result (λ o. IfSome o (λ v. HasRows P.level (λ x y. ranked k (levels_under P.level (seen_at window.now) (offsets_in rectangle rectangle.rows) (tile.x + x) (tile.y + y))) tile.width tile.height v.items)) }
+    ensures { IfOk result (λ v. HasRows P.level (λ x y. ranked wanted.entry.k (levels_under P.level (seen_at window.now) wanted.entry.offsets.now (tile.x + x) (tile.y + y))) tile.width tile.height v.items) }
 {
     let width = tile.width as usize;
-    let marks = marks_of(alloc, rectangle.rows as usize)?;
+    let marks = marks_of(alloc, wanted.rectangle.rows as usize)?;
     let mut table = vec![in alloc; 0u16; levels * 8]?;
     let mut eight = copies(alloc, 8 * width, P::TOP)?;
     let mut out = Vec::with_capacity(alloc, tile.height as usize * width)?;
     let counts = table.as_mut_slice();
     let made = eight.as_mut_slice();
     let mut lanes = no_samples();
-    let mut steps = 0usize;
+    let mut patience = 2u32;
     let mut done = 0u32;
-    while done < tile.height {
+    while done < tile.height && patience > 0 {
         let from = done.min(tile.height - 8);
+        let y = tile.y + from;
         let group = Group {
-            x: u64::from(tile.x),
-            y: u64::from(tile.y) + u64::from(from),
-            width: tile.width,
-            rectangle,
-            k,
+            place: Rect {
+                y,
+                height: 8,
+                ..tile
+            },
+            rectangle: wanted.rectangle,
+            offsets: wanted.offsets,
+            marks: &marks,
+            k: wanted.k,
         };
-        let more = rank_group(made, counts, &mut lanes, window, &marks, group);
-        steps = steps.saturating_add(more);
-        // as if two groups more had gone well
-        if steps / width.max(1) > FAR * (from as usize / 8 + 3) {
-            return Ok(None);
-        }
-        out.extend_from_slice(&made[(done - from) as usize * width..])?;
+        let together = rank_group(alloc, made, counts, &mut lanes, window, group)?;
+        push_from(&mut out, made, (done - from) as usize * width)?;
+        patience = patience_after(patience, together);
         done = from + 8;
     }
-    Ok(Some(out))
+    push_rest(alloc, &mut out, window, wanted, tile, done)?;
+    Ok(out)
 }
 
-/// Whether eight rows at a time pay, for levels of so many bits.
-fn pays(offsets: usize, rectangle: Rectangle, bits: u32) -> bool
+/// How many groups more may be tried that then go apart: one less after one that did, else one more, up to four.
+fn patience_after(patience: u32, together: bool) -> u32 {
+    if together {
+        patience.saturating_add(1).min(4)
+    } else {
+        patience.saturating_sub(1)
+    }
+}
+
+/// Whether eight rows at a time pay for levels of so many bits: the search takes longer where there are more.
+fn pays<P: Counted>(offsets: usize, rectangle: Rectangle, bits: u32) -> bool
     ensures { IsTrue result → (rectangle.rows ≤ 2 ^ 15) × (bits ≤ 12) }
 {
-    rectangle.rows >= 5
+    rectangle.rows >= 2
         && rectangle.rows <= 1 << 15
         && bits <= 12
-        && offsets.saturating_mul(bits as usize) > 240
+        && offsets.saturating_mul(bits as usize) > P::WORK / 4 * 3 + (1usize << bits) / 24
 }
 
 /// The ranks of a tile, where eight rows at a time pay.
@@ -93,7 +146,7 @@ fn side_by_side<P: Counted>(
     requires { length offsets.now < 2 ^ 16 }
     ensures { IfOk result (λ o. IfSome o (λ v. HasRows P.level (λ x y. ranked k (levels_under P.level (seen_at window.now) offsets.now (tile.x + x) (tile.y + y))) tile.width tile.height v.items)) }
 {
-    if tile.height < 8 || tile.width < 32 {
+    if tile.height < 8 || tile.width < 32 || tile.y.checked_add(tile.height).is_none() {
         return Ok(None);
     }
     let runs = runs_of(alloc, offsets)?;
@@ -101,10 +154,16 @@ fn side_by_side<P: Counted>(
         return Ok(None);
     };
     let bits = bits_in(window.samples());
-    if !pays(offsets.len(), rectangle, bits) {
+    if !pays::<P>(offsets.len(), rectangle, bits) {
         return Ok(None);
     }
-    rank_groups(alloc, window, rectangle, k, tile, 1usize << bits)
+    let wanted = Wanted {
+        offsets,
+        rectangle,
+        k,
+    };
+    let samples = rank_groups(alloc, window, wanted, tile, 1usize << bits)?;
+    Ok(Some(samples))
 }
 
 /// What `mw_rank::rank` gives, eight rows at a time where that is quicker. It may want memory (`NoMemory`).

@@ -1,5 +1,5 @@
 //! Eight rows of results: the element slides along them, and each step takes back one column of samples and counts another.
-ghost use Rattle.std.specs.Prelude.{◌≡◌, ℕ, ◌+◌, ◌-◌, ◌*◌, ◌<◌, ◌≤◌, ◌^◌, pos, ◌+ℤ◌, ◌-ℤ◌, length, slice_index_or, MatchOption};
+ghost use Rattle.std.specs.Prelude.{◌≡◌, ℕ, ◌+◌, ◌-◌, ◌*◌, ◌<◌, ◌≤◌, ◌^◌, pos, ◌+ℤ◌, ◌-ℤ◌, length, slice_index_or, IsTrue, MatchOption};
 ghost use Rattle.mw_rank_rows.specs.Lanes.{Rises};
 ghost use Rattle.mw_rank_rows.specs.Tables.{Holds, ShowsColumns, Slides, HasFound};
 
@@ -126,6 +126,9 @@ fn put_column<P: Pixel>(made: &mut [P], width: usize, at: usize, levels: Simd<u1
     }
 }
 
+/// How far a search may go for each column on average. Beyond, one histogram for each row is quicker.
+const FAR: usize = 256;
+
 /// A stretch of columns of the frame, the columns of the element, and the number of the rank that is wanted.
 #[derive(Clone, Copy)]
 pub(crate) struct Span {
@@ -135,7 +138,8 @@ pub(crate) struct Span {
     pub k: u16,
 }
 
-/// The ranks of eight rows, where the lanes hold what the element sees at the first column; how far the searches went.
+/// The ranks of eight rows, where the lanes hold what the element sees at the first column. It stops early if the searches
+/// go too far, as the levels of the rows lie far from one another; gives how many columns are done.
 fn slide<P: Pixel>(
     made: &mut [P],
     counts: &mut [u16],
@@ -143,29 +147,32 @@ fn slide<P: Pixel>(
     strip: Strip<P>,
     all: Simd<u16, 8>,
     span: Span,
-) -> usize
+) -> u32
     requires whole { length made.old ≡ 8 * span.width }
     requires some { 1 ≤ span.columns }
     requires near { span.x + span.width + span.columns ≤ 2 ^ 40 }
     requires known { (levels : ℕ) × (column : ℕ → ℕ → ℕ → ℕ) × (seen : ℕ → ℕ → ℕ → ℕ → ℕ) × ShowsColumns P.level P.TOP levels column strip.sheet.samples.now strip.sheet.width strip.sheet.rows strip.sheet.marks.now strip.first strip.dx all × Slides span.columns column seen × Holds levels (λ v j. seen v span.x span.columns j) counts.old lanes.old × (levels ≤ P.top_level + 1) }
-    ensures moved { (levels : ℕ) (column : ℕ → ℕ → ℕ → ℕ) (seen : ℕ → ℕ → ℕ → ℕ → ℕ) → ShowsColumns P.level P.TOP levels column strip.entry.sheet.samples.now strip.entry.sheet.width strip.entry.sheet.rows strip.entry.sheet.marks.now strip.entry.first strip.entry.dx all → Slides span.columns column seen → Holds levels (λ v j. seen v span.x span.columns j) counts.old lanes.old → Holds levels (λ v j. seen v (span.x + span.width) span.columns j) counts.new lanes.new }
-    ensures found { (levels : ℕ) (column : ℕ → ℕ → ℕ → ℕ) (seen : ℕ → ℕ → ℕ → ℕ → ℕ) → ShowsColumns P.level P.TOP levels column strip.entry.sheet.samples.now strip.entry.sheet.width strip.entry.sheet.rows strip.entry.sheet.marks.now strip.entry.first strip.entry.dx all → Slides span.columns column seen → Holds levels (λ v j. seen v span.x span.columns j) counts.old lanes.old → HasFound P.level levels seen span.columns span.k span.x span.width span.width made.new }
+    ensures within { result ≤ span.width }
+    ensures moved { (levels : ℕ) (column : ℕ → ℕ → ℕ → ℕ) (seen : ℕ → ℕ → ℕ → ℕ → ℕ) → ShowsColumns P.level P.TOP levels column strip.entry.sheet.samples.now strip.entry.sheet.width strip.entry.sheet.rows strip.entry.sheet.marks.now strip.entry.first strip.entry.dx all → Slides span.columns column seen → Holds levels (λ v j. seen v span.x span.columns j) counts.old lanes.old → Holds levels (λ v j. seen v (span.x + result) span.columns j) counts.new lanes.new }
+    ensures found { (levels : ℕ) (column : ℕ → ℕ → ℕ → ℕ) (seen : ℕ → ℕ → ℕ → ℕ → ℕ) → ShowsColumns P.level P.TOP levels column strip.entry.sheet.samples.now strip.entry.sheet.width strip.entry.sheet.rows strip.entry.sheet.marks.now strip.entry.first strip.entry.dx all → Slides span.columns column seen → Holds levels (λ v j. seen v span.x span.columns j) counts.old lanes.old → HasFound P.level levels seen span.columns span.k span.x span.width result made.new }
     ensures size { length made.new ≡ length made.old }
 {
     let mut steps = 0usize;
-    for i in 0..span.width {
-        let x = span.x + u64::from(i);
+    let mut done = 0u32;
+    'by_column: while done < span.width && steps <= FAR * (done as usize + 16) {
+        let x = span.x + u64::from(done);
         let n = at_most(lanes.held, span.k);
         let found = select(counts, &mut lanes.front, n);
-        put_column(made, span.width as usize, i as usize, found.levels);
+        put_column(made, span.width as usize, done as usize, found.levels);
         steps = steps.saturating_add(found.steps);
         leave(counts, lanes, strip, all, x);
         enter(counts, lanes, strip, all, x + u64::from(span.columns));
+        done += 1;
     }
-    steps
+    done
 }
 
-/// The ranks of eight rows, by lanes that are empty before and after; how far the searches went.
+/// The ranks of eight rows, by lanes that are empty before and after; says whether it has all of them.
 pub(crate) fn rank_rows<P: Pixel>(
     made: &mut [P],
     counts: &mut [u16],
@@ -173,24 +180,24 @@ pub(crate) fn rank_rows<P: Pixel>(
     strip: Strip<P>,
     all: Simd<u16, 8>,
     span: Span,
-) -> usize
+) -> bool
     requires whole { length made.old ≡ 8 * span.width }
     requires some { 1 ≤ span.columns }
     requires near { span.x + span.width + span.columns ≤ 2 ^ 40 }
     requires known { (levels : ℕ) × (column : ℕ → ℕ → ℕ → ℕ) × (seen : ℕ → ℕ → ℕ → ℕ → ℕ) × ShowsColumns P.level P.TOP levels column strip.sheet.samples.now strip.sheet.width strip.sheet.rows strip.sheet.marks.now strip.first strip.dx all × Slides span.columns column seen × Holds levels (λ v j. 0) counts.old lanes.old × (levels ≤ P.top_level + 1) }
     ensures empty { (levels : ℕ) (column : ℕ → ℕ → ℕ → ℕ) (seen : ℕ → ℕ → ℕ → ℕ → ℕ) → ShowsColumns P.level P.TOP levels column strip.entry.sheet.samples.now strip.entry.sheet.width strip.entry.sheet.rows strip.entry.sheet.marks.now strip.entry.first strip.entry.dx all → Slides span.columns column seen → Holds levels (λ v j. 0) counts.old lanes.old → Holds levels (λ v j. 0) counts.new lanes.new }
-    ensures found { (levels : ℕ) (column : ℕ → ℕ → ℕ → ℕ) (seen : ℕ → ℕ → ℕ → ℕ → ℕ) → ShowsColumns P.level P.TOP levels column strip.entry.sheet.samples.now strip.entry.sheet.width strip.entry.sheet.rows strip.entry.sheet.marks.now strip.entry.first strip.entry.dx all → Slides span.columns column seen → Holds levels (λ v j. 0) counts.old lanes.old → HasFound P.level levels seen span.columns span.k span.x span.width span.width made.new }
+    ensures found { IsTrue result → (levels : ℕ) (column : ℕ → ℕ → ℕ → ℕ) (seen : ℕ → ℕ → ℕ → ℕ → ℕ) → ShowsColumns P.level P.TOP levels column strip.entry.sheet.samples.now strip.entry.sheet.width strip.entry.sheet.rows strip.entry.sheet.marks.now strip.entry.first strip.entry.dx all → Slides span.columns column seen → Holds levels (λ v j. 0) counts.old lanes.old → HasFound P.level levels seen span.columns span.k span.x span.width span.width made.new }
     ensures size { length made.new ≡ length made.old }
 {
     enter_all(counts, lanes, strip, all, span.x, span.columns);
-    let steps = slide(made, counts, lanes, strip, all, span);
+    let done = slide(made, counts, lanes, strip, all, span);
     leave_all(
         counts,
         lanes,
         strip,
         all,
-        span.x + u64::from(span.width),
+        span.x + u64::from(done),
         span.columns,
     );
-    steps
+    done == span.width
 }

@@ -3,7 +3,6 @@ use Rattle.std.proofs.lemmas.List.{take_rest, length-replicate}
 use Rattle.mw_model.specs.PlanSteps.{ranked}
 use Rattle.mw_model.specs.Windows.{seen_at}
 use Rattle.mw_rank.specs.Ranks.{levels_under, HasRows}
-use Rattle.mw_rank_rows.specs.Rectangles.{offsets_in}
 use Rattle.mw_rank_rows.specs.Tables.{Holds}
 use Rattle.mw_rank_rows.proofs.Found.{rows_more, no_rows}
 use Rattle.mw_rank_rows.proofs.rows.rank_groups.Goals as goal
@@ -24,19 +23,13 @@ loop-done-preserved g c =
     let tile = c.args.tile in
     let from = c.min-from.result in
     let done = c.loop-done.done in
-    let made = c.rank_group-more.new.made in
-    let value = λ (x y : ℕ). ranked c.args.k (levels_under g.P.Pixel.level (seen_at c.args.window.now) (offsets_in c.args.rectangle c.args.rectangle.rows) x y) in
-    let y-is : (r : ℕ) → c.from-in-loop-done.result + c.from-in-loop-done-2.result + r ≡ tile.y + (from + r) = λ r. omega (arith, c.from-in-loop-done.ensures, c.from-in-loop-done-2.ensures) in
+    let made = c.rank_group.new.made in
+    let value = λ (x y : ℕ). ranked c.args.wanted.k (levels_under g.P.Pixel.level (seen_at c.args.window.now) c.args.wanted.offsets.now x y) in
     record {
       within = omega arith;
-      whole = c.rank_group-more.ensures.size ∙ c.loop-done.invariant.whole;
-      empty = c.rank_group-more.ensures.empty c.args.levels c.requires.under c.loop-done.invariant.empty;
-      rows = rows_more g.P.Pixel.level (λ x y. value (tile.x + x) (tile.y + y)) tile.width done from c.loop-done.out.items made c.extend_from_slice.new.self.items (omega arith) (omega arith) (c.rank_group-more.ensures.size ∙ c.loop-done.invariant.whole)
-          (c.in_ok-extend_from_slice.ensures.items ∙ ap (λ (l : List _). c.loop-done.out.items ++ l) (take_rest made ((done - from) * tile.width)))
-          (λ r q e down lt. c.rank_group-more.ensures.found r q e down lt ∙ ap (λ (x : ℕ). value (x + q) (c.from-in-loop-done.result + c.from-in-loop-done-2.result + r)) c.from.ensures ∙ ap (value (tile.x + q)) (y-is r)) c.loop-done.invariant.rows;
+      whole = c.in_ok-together.ensures.size ∙ c.loop-done.invariant.whole;
+      empty = c.in_ok-together.ensures.empty c.args.levels c.requires.under c.loop-done.invariant.empty;
+      rows = rows_more g.P.Pixel.level (λ x y. value (tile.x + x) (tile.y + y)) tile.width done from 8 c.loop-done.out.items made c.push_from.new.out.items (omega arith) (omega arith) (c.in_ok-together.ensures.size ∙ c.loop-done.invariant.whole)
+          c.in_ok-push_from.ensures
+          (λ r q e down lt. c.in_ok-together.ensures.found r q e down lt ∙ ap (value (tile.x + q)) (let y : tile.y + from + r ≡ tile.y + (from + r) = omega arith in y)) c.loop-done.invariant.rows;
     }
-
-pub returns : goal.returns
-returns g c =
-    let all : c.loop-done.done ≡ c.args.tile.height = omega arith in
-    subst (λ (n : ℕ). HasRows g.P.Pixel.level (λ x y. ranked c.args.k (levels_under g.P.Pixel.level (seen_at c.args.window.now) (offsets_in c.args.rectangle c.args.rectangle.rows) (c.args.tile.x + x) (c.args.tile.y + y))) c.args.tile.width n c.loop-done.out.items) all c.loop-done.invariant.rows

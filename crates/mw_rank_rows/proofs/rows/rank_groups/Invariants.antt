@@ -2,7 +2,6 @@ use Rattle.std.proofs.Common.{ℕ, ◌≡◌, ◌+◌, ◌-◌, ◌*◌, ◌≤�
 use Rattle.mw_model.specs.PlanSteps.{ranked}
 use Rattle.mw_model.specs.Windows.{seen_at}
 use Rattle.mw_rank.specs.Ranks.{levels_under, HasRows}
-use Rattle.mw_rank_rows.specs.Rectangles.{offsets_in}
 use Rattle.mw_rank_rows.specs.Tables.{Holds}
 use Rattle.mw_rank_rows.proofs.rows.rank_groups.Given as goal
 
@@ -11,7 +10,7 @@ invariant-loop-done g l = record {
   within : l.done ≤ l.tile.height;
   whole : length l.made ≡ 8 * l.tile.width;
   empty : Holds l.levels (λ v j. 0) l.counts l.lanes;
-  rows : HasRows g.P.Pixel.level (λ x y. ranked l.k (levels_under g.P.Pixel.level (seen_at l.window) (offsets_in l.rectangle l.rectangle.rows) (l.tile.x + x) (l.tile.y + y))) l.tile.width l.done l.out.items;
+  rows : HasRows g.P.Pixel.level (λ x y. ranked l.wanted.k (levels_under g.P.Pixel.level (seen_at l.window) l.wanted.offsets.now (l.tile.x + x) (l.tile.y + y))) l.tile.width l.done l.out.items;
 }
 
 abbrev pub decreases-loop-done : goal.decreases-loop-done

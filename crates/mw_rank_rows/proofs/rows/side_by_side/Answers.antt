@@ -15,11 +15,6 @@ rectangle_of-requires-clause-few g c =
     let same = ap element_of c.deref.ensures.value ∙ element_of-runs c.in_ok-runs.runs.items c.in_ok-runs.ensures.runs ∙ c.in_ok-runs.ensures.offsets in
     omega (arith, runs_few c.deref.result.now, ap length same, c.requires)
 
-pub rank_groups-requires-clause-few : goal.rank_groups-requires-clause-few
-rank_groups-requires-clause-few g c =
-    let same = c.in-Some.ensures.is ∙ ap element_of c.deref.ensures.value ∙ element_of-runs c.in_ok-runs.runs.items c.in_ok-runs.ensures.runs ∙ c.in_ok-runs.ensures.offsets in
-    omega (arith, ap length same, c.requires)
-
 pub rank_groups-requires-clause-fits : goal.rank_groups-requires-clause-fits
 rank_groups-requires-clause-fits g c =
     let bits = c.bits_in-bits.result in
@@ -28,8 +23,8 @@ rank_groups-requires-clause-fits g c =
     let within : 2 ^ bits ≤ 2 ^ g.P.Counted.BITS = pow-le-pow_right (omega arith) c.bits_in-bits.ensures.within in
     omega (arith, small, within, g.met.P.Counted.has_bits)
 
-pub returns : goal.returns
-returns g c =
-    let same = c.in-Some.ensures.is ∙ ap element_of c.deref.ensures.value ∙ element_of-runs c.in_ok-runs.runs.items c.in_ok-runs.ensures.runs ∙ c.in_ok-runs.ensures.offsets in
-    subst (λ (l : List Offset). IfOk c.rank_groups.result (λ o. IfSome o (λ v. HasRows g.P.Pixel.level (λ x y. ranked c.args.k (levels_under g.P.Pixel.level (seen_at c.args.window.now) l (c.args.tile.x + x) (c.args.tile.y + y))) c.args.tile.width c.args.tile.height v.items))) same
-    c.rank_groups.ensures
+pub rank_groups-requires-clause-rectangle : goal.rank_groups-requires-clause-rectangle
+rank_groups-requires-clause-rectangle g c = record {
+  some = c.in-Some.ensures.some;
+  is = c.in-Some.ensures.is ∙ ap element_of c.deref.ensures.value ∙ element_of-runs c.in_ok-runs.runs.items c.in_ok-runs.ensures.runs ∙ c.in_ok-runs.ensures.offsets;
+}
