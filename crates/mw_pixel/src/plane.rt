@@ -39,7 +39,9 @@ impl<P: Planar> Plane<P> {
         ensures height { IfOk result (λ p. p.height ≡ height) }
         ensures size { IfOk result (λ p. length p.cells ≡ height * width) }
     {
-        let plane = Plane::filled(alloc, width, height, P::TOP)?;
+        // for a set these are words of 0, whose rows need not be cut to the width
+        let lowest = P::of(0).unwrap_or(P::TOP);
+        let plane = Plane::filled(alloc, width, height, lowest)?;
         Ok(plane)
     }
 

@@ -26,13 +26,13 @@ none_samples w h words words-is =
     get_or-replicate_same (h * w) (y * w + x) 0
     ∙ sym (ap (λ (t : List ℕ). bit_of t (y * (64 * stride_of w) + x)) words-is ∙ no_bit (h * stride_of w) (y * (64 * stride_of w) + x))))
 
-pub all_samples : (w h s : ℕ) (ones words : List ℕ) → s ≡ stride_of w → ones ≡ replicate (h * s) (2 ^ 64 - 1) → ((x y : ℕ) → x < w → y < h → bit_of words (y * (64 * stride_of w) + x) ≡ bit_of ones (y * (64 * s) + x))
+pub all_samples : (w h : ℕ) (ones words : List ℕ) → ones ≡ replicate (h * stride_of w) (2 ^ 64 - 1) → ((x y : ℕ) → x < w → y < h → bit_of words (y * (64 * stride_of w) + x) ≡ bit_of ones (y * (64 * stride_of w) + x))
     → samples_of w h words ≡ replicate (h * w) 1
-all_samples w h s ones words s-is ones-is bits =
+all_samples w h ones words ones-is bits =
     sym (samples_are_bits w h words (replicate (h * w) 1) (length-replicate (h * w) 1)
     (λ x y lt row_less.
-    let at = y * (64 * s) + x in
-    let wide : x < 64 * s = omega arith in
-    let inside : at < 64 * (h * s) = omega (arith, rows_fit y h (64 * s) row_less) in
+    let at = y * (64 * stride_of w) + x in
+    let wide : x < 64 * stride_of w = omega arith in
+    let inside : at < 64 * (h * stride_of w) = omega (arith, rows_fit y h (64 * stride_of w) row_less) in
     get_or-replicate (h * w) (y * w + x) 1 0 (omega (arith, mul-add-lt y w x h row_less lt))
-    ∙ sym (bits x y lt row_less ∙ ap (λ (t : List ℕ). bit_of t at) ones-is ∙ blank_bit (h * s) (2 ^ 64 - 1) 1 at inside (λ i less. bit_at_ones 64 i less))))
+    ∙ sym (bits x y lt row_less ∙ ap (λ (t : List ℕ). bit_of t at) ones-is ∙ blank_bit (h * stride_of w) (2 ^ 64 - 1) 1 at inside (λ i less. bit_at_ones 64 i less))))

@@ -1,11 +1,11 @@
 -- Rows of words that are cut to a width.
-use Rattle.std.proofs.Common.{◌≡◌, ℕ, ◌+◌, ◌-◌, ◌*◌, ◌/◌, ◌%◌, ◌^◌, ◌<◌, ◌≤◌, min, bit_and, List, length, set, get_or, cond, nat_lt, refl, ap, sym, arith, ◌∙◌, inl, inr}
+use Rattle.std.proofs.Common.{◌≡◌, ℕ, zero, suc, ◌+◌, ◌-◌, ◌*◌, ◌/◌, ◌%◌, ◌^◌, ◌<◌, ◌≤◌, min, bit_and, List, length, take, set, get_or, cond, nat_lt, refl, ap, sym, arith, ◌∙◌, inl, inr}
 use Rattle.std.specs.Int.{bit_at}
 use Rattle.std.proofs.lemmas.Bool.{cases_lt, cases_eq, lt-ltb, le-ltb}
 use Rattle.std.proofs.lemmas.List.{get_or-set_same, get_or-set_other}
 use Rattle.std.proofs.lemmas.Nat.Bits.{bit_at_and, bit_at_ones, bit_at_ones_above, bit_at-lt}
 use Rattle.mw_words.specs.Packed.{bit_of, stride_of, IsPacked}
-use Rattle.mw_words.proofs.Bits.{bit_of_word, bit_of_its_word}
+use Rattle.mw_words.proofs.Bits.{bit_of_word, bit_of_its_word, bit_of_part, rows_fit}
 
 -- the bits before a width, and 0 from there on
 abbrev pub cut_at : ℕ → List ℕ → ℕ → ℕ
@@ -64,18 +64,41 @@ trim_last width rest last mask row x rest-is some last-is mask-is size lt =
           ∙ sym (cut_inside width row x before)
     ]
 
+-- each row was cut to the width
+abbrev pub HasTrimmed : ℕ → ℕ → List ℕ → List ℕ → Type 0
+HasTrimmed width height old new =
+    (x y : ℕ) → x < 64 * stride_of width → y < height → bit_of new (y * (64 * stride_of width) + x) ≡ cond (nat_lt x width) (bit_of old (y * (64 * stride_of width) + x)) 0
+
 -- rows that were cut are packed
-pub trimmed_rows : (width height wide : ℕ) (cells out : List ℕ) → length out ≡ height * stride_of width
-    → ((x y : ℕ) → x < 64 * stride_of width → y < height → bit_of out (y * (64 * stride_of width) + x) ≡ cond (nat_lt x width) (bit_of cells (y * (64 * wide) + x)) 0) → IsPacked width height out
-trimmed_rows width height wide cells out size done = record {
+pub trimmed_rows : (width height : ℕ) (old new : List ℕ) → length new ≡ height * stride_of width → HasTrimmed width height old new → IsPacked width height new
+trimmed_rows width height old new size done = record {
   size = size;
   clean = λ x y row_less past less. done x y less row_less ∙ rw (le-ltb x width past) refl;
 }
 
-pub trimmed_bit : (width height wide : ℕ) (cells out : List ℕ)
-    → ((x y : ℕ) → x < 64 * stride_of width → y < height → bit_of out (y * (64 * stride_of width) + x) ≡ cond (nat_lt x width) (bit_of cells (y * (64 * wide) + x)) 0)
-    → (x y : ℕ) → x < width → y < height → bit_of out (y * (64 * stride_of width) + x) ≡ bit_of cells (y * (64 * wide) + x)
-trimmed_bit width height wide cells out done x y lt row_less = done x y (wider width x lt) row_less ∙ rw (lt-ltb x width lt) refl
+-- and have the pixels that they had
+pub trimmed_bit : (width height : ℕ) (old new : List ℕ) → HasTrimmed width height old new → (x y : ℕ) → x < width → y < height → bit_of new (y * (64 * stride_of width) + x) ≡ bit_of old (y * (64 * stride_of width) + x)
+trimmed_bit width height old new done x y lt row_less = done x y (wider width x lt) row_less ∙ rw (lt-ltb x width lt) refl
   where
     wider : (width x : ℕ) → x < width → x < 64 * stride_of width
     wider width x less = omega arith
+
+-- the first words of rows, cut to the width
+pub first_trimmed : (width height s wide : ℕ) (cells old new : List ℕ) → s ≡ stride_of width
+    → ((x y : ℕ) → x < 64 * s → y < height → bit_of old (y * (64 * s) + x) ≡ bit_of cells (y * (64 * wide) + x)) → HasTrimmed width height old new
+    → (x y : ℕ) → x < width → y < height → bit_of new (y * (64 * stride_of width) + x) ≡ bit_of cells (y * (64 * wide) + x)
+first_trimmed width height s wide cells old new s-is first done x y lt row_less =
+    trimmed_bit width height old new done x y lt row_less
+    ∙ ap (λ (t : ℕ). bit_of old (y * (64 * t) + x)) (sym s-is)
+    ∙ first x y (omega arith) row_less
+
+-- rows that stand behind one another have as many words as the last one needs
+pub rows_there : (high wide s n : ℕ) → wide ≡ s → ((y : ℕ) → y < high → y * wide + s ≤ n) → high * s ≤ n
+rows_there zero wide s n same words = omega arith
+rows_there (suc high) wide s n same words = let last = words high (omega arith) in omega (arith, last, ap (λ (t : ℕ). high * t) same)
+
+-- rows of as many words as are wanted
+pub whole_rows : (high wide s : ℕ) (cells made : List ℕ) → wide ≡ s → made ≡ take (high * s) cells → (x y : ℕ) → x < 64 * s → y < high → bit_of made (y * (64 * s) + x) ≡ bit_of cells (y * (64 * wide) + x)
+whole_rows high wide s cells made same made-is x y lt row_less =
+    ap (λ (t : List ℕ). bit_of t (y * (64 * s) + x)) made-is
+    ∙ bit_of_part cells 0 (high * s) (y * (64 * s) + x) (y * (64 * wide) + x) (omega (arith, rows_fit y high (64 * s) row_less)) (omega (arith, ap (λ (t : ℕ). y * (64 * t)) same))

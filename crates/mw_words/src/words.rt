@@ -5,7 +5,7 @@ ghost use Rattle.mw_words.specs.Packed.{bit_of, stride_of, samples_of, IsPacked}
 ghost use Rattle.mw_words.specs.Runs.{put_at};
 
 use crate::copying::copy_bits;
-use crate::trimming::trimmed;
+use crate::trimming::trim_rows;
 use mw_model::NoMemory;
 use std::alloc::Global;
 use std::marker::Model;
@@ -76,9 +76,8 @@ impl Words {
     fn all(alloc: Global, width: u32, height: u32) -> Result<Words, NoMemory>
         ensures { IfOk result (λ p. p ≡ raster width height (replicate (height * width) 1)) }
     {
-        let stride = stride(width);
-        let ones = repeated(alloc, height as usize * stride, u64::MAX)?;
-        let words = trimmed(alloc, ones.as_slice(), stride, width, height)?;
+        let mut words = repeated(alloc, height as usize * stride(width), u64::MAX)?;
+        trim_rows(width, height as usize, words.as_mut_slice());
         Ok(Words::new(width, height, words))
     }
 
