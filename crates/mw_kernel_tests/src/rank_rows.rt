@@ -25,21 +25,23 @@ fn rectangle(alloc: Global, columns: i16, rows: i16) -> Result<Vec<Offset>, Fail
     Ok(offsets)
 }
 
-/// Stops where the two ways differ in a tile.
+/// Stops where the two ways differ in a tile, at a number of the rank.
 fn agree_in<P: Counted>(
     rt: &impl Abort,
     alloc: Global,
     window: &Window<P>,
     offsets: &[Offset],
     tile: Rect,
+    k: u32,
 ) -> Result<(), Fail> {
     assert!(rt; offsets.len() < 65536);
-    let size = offsets.len() as u32;
-    for k in [0, size / 2 + 1, size + 1] {
-        let made = rank_of_grey(alloc, window, offsets, k, tile)?;
-        let wanted = rank(alloc, window, offsets, k, tile)?;
-        assert!(rt; made.same(&wanted), "rank {k} of {size} in {tile:?}");
-    }
+    let made = rank_of_grey(alloc, window, offsets, k, tile)?;
+    let wanted = rank(alloc, window, offsets, k, tile)?;
+    assert!(rt;
+        made.same(&wanted),
+        "rank {k} of {} in {tile:?}",
+        offsets.len()
+    );
     Ok(())
 }
 
@@ -53,22 +55,25 @@ fn window_of<P: Counted>(alloc: Global, plane: &Plane<P>, place: Rect) -> Result
     Ok(Window::cut(alloc, plane, place)?)
 }
 
-/// Tiles at the corners of a frame of 70 by 50, on its sides, inside of it, and past what a window of it shows.
-fn tiles() -> [Rect; 9] {
+/// Tiles at the corners of a frame of 70 by 50, on its sides, inside of it, and past it; those of fewer than eight rows or
+/// columns go by one histogram.
+fn tiles() -> [Rect; 10] {
     [
         rect(0, 0, 70, 50),
         rect(0, 0, 32, 8),
-        rect(0, 0, 31, 8),
+        rect(0, 0, 7, 8),
         rect(0, 0, 32, 7),
         rect(35, 41, 35, 9),
         rect(20, 17, 33, 17),
         rect(12, 33, 40, 10),
         rect(3, 5, 60, 40),
-        rect(60, 40, 40, 20),
+        rect(66, 40, 40, 20),
+        rect(90, 0, 20, 9),
     ]
 }
 
-/// The same for each tile, in all of a plane without a pattern and in a part of it.
+/// The same for each tile, in all of a plane without a pattern and in a part of it, for the least, a middle and the greatest
+/// rank, and the numbers before and after all.
 fn agree_on<P: Counted>(
     rt: &impl Abort,
     alloc: Global,
@@ -77,22 +82,23 @@ fn agree_on<P: Counted>(
 ) -> Result<(), Fail> {
     let image = noise(alloc, Kind::Grey, 70, 50, maxval)?;
     let plane = plane_of::<P>(alloc, &image)?;
+    let size = offsets.len().min(65535) as u32;
+    let numbers = [size / 2 + 1, 0, 1, size, size + 1];
     for place in [rect(0, 0, 70, 50), rect(10, 12, 45, 21)] {
         let window = window_of(alloc, &plane, place)?;
-        for tile in tiles() {
-            agree_in(rt, alloc, &window, offsets, tile)?;
+        for (i, tile) in tiles().into_iter().enumerate() {
+            agree_in(rt, alloc, &window, offsets, tile, numbers[i % 5])?;
         }
     }
     Ok(())
 }
 
-/// The same for bytes and for samples of two bytes, of few bits and of many.
+/// The same for bytes and for samples of two bytes, up to and past the levels of 12 bits. Where levels without a pattern
+/// have many bits, rows lie so far from one another that they go apart.
 fn agree_by(rt: &impl Abort, alloc: Global, columns: i16, rows: i16) -> Result<(), Fail> {
     let offsets = rectangle(alloc, columns, rows)?;
-    for maxval in [255] {
-        agree_on::<u8>(rt, alloc, maxval, &offsets)?;
-    }
-    for maxval in [4095, 4096] {
+    agree_on::<u8>(rt, alloc, 255, &offsets)?;
+    for maxval in [3, 1000, 4095, 4096] {
         agree_on::<u16>(rt, alloc, maxval, &offsets)?;
     }
     Ok(())
@@ -100,15 +106,33 @@ fn agree_by(rt: &impl Abort, alloc: Global, columns: i16, rows: i16) -> Result<(
 
 #[test]
 fn ranks_by_lines(rt: HostRuntime) -> Result<(), Fail> {
-    agree_by(&rt, rt.alloc(), 1, 41)
+    agree_by(&rt, rt.alloc(), 1, 31)?;
+    agree_by(&rt, rt.alloc(), 1, 70)?;
+    agree_by(&rt, rt.alloc(), 70, 1)
 }
 
 #[test]
-fn ranks_by_narrow_rectangles(rt: HostRuntime) -> Result<(), Fail> {
-    agree_by(&rt, rt.alloc(), 3, 20)
+fn ranks_by_few_rows(rt: HostRuntime) -> Result<(), Fail> {
+    agree_by(&rt, rt.alloc(), 31, 2)?;
+    agree_by(&rt, rt.alloc(), 15, 5)?;
+    agree_by(&rt, rt.alloc(), 7, 6)
 }
 
 #[test]
-fn ranks_by_rectangles(rt: HostRuntime) -> Result<(), Fail> {
-    agree_by(&rt, rt.alloc(), 15, 5)
+fn ranks_by_few_columns(rt: HostRuntime) -> Result<(), Fail> {
+    agree_by(&rt, rt.alloc(), 3, 15)?;
+    agree_by(&rt, rt.alloc(), 3, 21)
+}
+
+#[test]
+fn ranks_by_squares(rt: HostRuntime) -> Result<(), Fail> {
+    agree_by(&rt, rt.alloc(), 7, 7)?;
+    agree_by(&rt, rt.alloc(), 8, 8)?;
+    agree_by(&rt, rt.alloc(), 9, 9)
+}
+
+#[test]
+fn ranks_by_large_rectangles(rt: HostRuntime) -> Result<(), Fail> {
+    agree_by(&rt, rt.alloc(), 15, 16)?;
+    agree_by(&rt, rt.alloc(), 31, 31)
 }

@@ -1,14 +1,13 @@
 -- Vectors of eight lanes.
-use Rattle.std.proofs.Common.{◌≡◌, ℕ, zero, suc, ◌+◌, ◌-◌, ◌*◌, ◌^◌, ◌<◌, ◌≤◌, ◌%◌, ◌↔◌, eq-eqb, Bool, true, false, cond, leb, ltb, List, [], ◌∷◌, ◌++◌, length, map, take, drop, replicate, get_or, refl, ap, arith, ◌∙◌, length-take, length-drop, min, subst, sym}
+use Rattle.std.proofs.Common.{◌≡◌, ℕ, zero, suc, ◌+◌, ◌-◌, ◌*◌, ◌^◌, ◌<◌, ◌≤◌, ◌%◌, ◌↔◌, eq-eqb, Bool, true, false, cond, List, [], ◌∷◌, ◌++◌, length, map, take, get_or, refl, ap, arith, ◌∙◌}
 use Rattle.std.specs.Int.{Width}
-use Rattle.std.specs.Prelude.{nat_lt, IsTrue, nat_eq}
-use Rattle.std.proofs.lemmas.Bool.Decides.{nat_tests}
+use Rattle.std.specs.Prelude.{IsTrue, nat_eq}
 use Rattle.std.proofs.lemmas.Bool.{eqb-true}
 use Rattle.std.proofs.lemmas.Grind.{pow_more}
-use Rattle.std.proofs.lemmas.List.{get_or-replicate, get_or-append_right, get_or_append_left, length-take-le}
-use Rattle.std.proofs.lemmas.Simd.{tops_compared, length-zip2, get_or-zip2, length-sel_l, get_or-sel_l, mask_l-mod}
+use Rattle.std.proofs.lemmas.List.{get_or-append_right, get_or_append_left, length-take-le}
+use Rattle.std.proofs.lemmas.Simd.{tops_compared, length-zip2, mask_l-mod}
 use mir.Val.{bits, hbits}
-use lib.Lanes.{zip2, sel_l, top, mask_l}
+use lib.Lanes.{zip2, top, mask_l}
 
 power : (n : ℕ) → 2 ^ suc n ≡ 2 * 2 ^ n
 power n = ap (λ (m : ℕ). 2 ^ m) (let e : suc n ≡ n + 1 = omega arith in e) ∙ pow_more 2 n ∙ (let e : 2 ^ n * 2 ≡ 2 * 2 ^ n = omega arith in e)

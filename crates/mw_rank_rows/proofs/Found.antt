@@ -1,5 +1,5 @@
 -- The levels that are found are the ranks.
-use Rattle.std.proofs.Common.{◌≡◌, ℕ, ℤ, pos, negsuc, ◌+ℤ◌, ◌-ℤ◌, zero, suc, ◌+◌, ◌-◌, ◌*◌, ◌<◌, ◌≤◌, ◌⊎◌, ◌&&◌, inl, inr, Bool, true, false, cond, List, [], ◌∷◌, ◌++◌, map, length, get_or, Option, Some, None, min, max, refl, ap, sym, arith, ◌∙◌, length-append, length-drop, drop, slice_get, subst}
+use Rattle.std.proofs.Common.{◌≡◌, ℕ, ℤ, pos, negsuc, ◌+ℤ◌, ◌-ℤ◌, ◌+◌, ◌-◌, ◌*◌, ◌<◌, ◌≤◌, ◌⊎◌, ◌&&◌, inl, inr, Bool, true, false, cond, List, [], ◌∷◌, ◌++◌, map, length, get_or, Option, Some, None, min, max, refl, ap, sym, arith, ◌∙◌, length-append, length-drop, drop, slice_get, subst}
 use Rattle.std.specs.Option.{option_to_list}
 use Rattle.std.specs.Prelude.{nat_lt}
 use Rattle.std.proofs.lemmas.Bool.{cases_lt}
@@ -9,7 +9,7 @@ use Rattle.std.proofs.Math.Nat.{mul-le-mul_right}
 use Rattle.std.proofs.lemmas.Option.{slice_get-get_or, slice_get_past}
 use Rattle.mw_model.specs.declared.places.Offset.{Offset}
 use Rattle.mw_model.specs.PlanSteps.{ranked}
-use Rattle.mw_model.specs.Rasters.{Sight, raster, cell_at}
+use Rattle.mw_model.specs.Rasters.{raster, cell_at}
 use Rattle.mw_model.specs.Windows.{View, seen_at}
 use Rattle.mw_model.proofs.PlainRanks.{nth_from}
 use Rattle.mw_rank.specs.Counting.{AllUnder}
@@ -18,7 +18,6 @@ use Rattle.mw_rank.specs.Tallies.{count_under}
 use Rattle.mw_rank.proofs.Counts.{count-append, count-cons, count-zero, one-lt}
 use Rattle.mw_rank.proofs.Sights.{levels-cons, length-levels}
 use Rattle.mw_rank_rows.specs.declared.rectangle.Rectangle.{Rectangle}
-use Rattle.mw_rank_rows.specs.Lanes.{IsFound}
 use Rattle.mw_rank_rows.specs.Rectangles.{offsets_in}
 use Rattle.mw_rank_rows.specs.Tables.{HasFound}
 use Rattle.mw_rank_rows.proofs.Rectangular.{seen_below, seen_whole}

@@ -1,11 +1,10 @@
 -- Samples enter and leave the lanes that are marked.
-use Rattle.std.proofs.Common.{◌≡◌, ℕ, zero, suc, ◌+◌, ◌-◌, ◌*◌, ◌<◌, ◌≤◌, ◌⊎◌, inl, inr, List, length, get_or, refl, ap, sym, arith, ◌∙◌, cond, Bool}
+use Rattle.std.proofs.Common.{◌≡◌, ℕ, ◌+◌, ◌-◌, ◌*◌, ◌<◌, ◌≤◌, ◌⊎◌, inl, inr, List, length, get_or, refl, ap, sym, arith, ◌∙◌, cond, Bool}
 use Rattle.std.specs.Prelude.{nat_lt}
 use Rattle.std.proofs.lemmas.Bool.{cases_lt, cases_order, lt-ltb, le-ltb}
 use Rattle.std.proofs.lemmas.List.{get_or_default}
 use Rattle.mw_facts.proofs.Numbers.{one_if}
-use Rattle.mw_rank.specs.Counting.{AllUnder}
-use Rattle.mw_rank_rows.specs.Columns.{total, column_count}
+use Rattle.mw_rank_rows.specs.Columns.{column_count}
 use Rattle.mw_rank_rows.specs.Lanes.{Counts, Rises}
 use Rattle.mw_rank_rows.proofs.Fronts.{rises, small}
 use Rattle.mw_rank_rows.proofs.Sums.{total-more}

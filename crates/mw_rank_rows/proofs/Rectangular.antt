@@ -1,7 +1,6 @@
 -- What eight rows of results see under a rectangle, row of samples by row.
-use Rattle.std.proofs.Common.{◌≡◌, ℕ, ℤ, pos, ◌+ℤ◌, zero, suc, ◌+◌, ◌-◌, ◌*◌, ◌<◌, ◌≤◌, List, [], ◌∷◌, ◌++◌, length, get_or, take, refl, ap, sym, arith, ◌∙◌, length-append, subst, append-nil}
+use Rattle.std.proofs.Common.{◌≡◌, ℕ, pos, ◌+ℤ◌, zero, suc, ◌+◌, ◌-◌, ◌*◌, ◌<◌, ◌≤◌, List, [], ◌∷◌, ◌++◌, length, get_or, take, refl, ap, arith, ◌∙◌, length-append, append-nil}
 use Rattle.std.specs.Prelude.{nat_lt}
-use Rattle.std.proofs.lemmas.Int.{ints}
 use Rattle.std.proofs.lemmas.List.{take_more}
 use Rattle.std.proofs.lemmas.List.Concat.{flat_map-cons}
 use Rattle.std.proofs.lemmas.List.Sums.{count_by-le-length}
@@ -12,7 +11,7 @@ use Rattle.mw_rank.specs.Runs.{offsets_from, offsets_of, element_of, next_offset
 use Rattle.mw_rank.specs.Tallies.{count_under}
 use Rattle.mw_rank.proofs.Counts.{count-append, count_rises}
 use Rattle.mw_rank.proofs.Moves.{element_snoc}
-use Rattle.mw_rank.proofs.Sights.{levels-cons, levels-append, levels-next, levels_at-on, offset_on, offsets-snoc, length-levels, length-offsets, at_dx}
+use Rattle.mw_rank.proofs.Sights.{levels-cons, levels-append, levels-next, levels_at-on, offset_on, offsets-snoc, length-levels, length-offsets}
 use Rattle.mw_run.specs.declared.runs.Run.{Run}
 use Rattle.mw_run.specs.Runs.{start_offset}
 use Rattle.mw_rank_rows.specs.declared.rectangle.Rectangle.{Rectangle}

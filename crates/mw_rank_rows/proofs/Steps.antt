@@ -1,24 +1,26 @@
 -- Columns that enter and leave, and the levels that are found between them.
-use Rattle.std.proofs.Common.{◌≡◌, ℕ, ℤ, pos, ◌+ℤ◌, ◌-ℤ◌, zero, suc, ◌+◌, ◌-◌, ◌*◌, ◌%◌, ◌/◌, ◌<◌, ◌≤◌, inl, inr, List, length, get_or, set, min, refl, ap, sym, arith, ◌∙◌, cond, Bool, subst, get_or-set_same, get_or-set_other}
+use Rattle.std.proofs.Common.{◌≡◌, ℕ, pos, ◌+ℤ◌, ◌-ℤ◌, ◌+◌, ◌-◌, ◌*◌, ◌%◌, ◌/◌, ◌<◌, ◌≤◌, inl, inr, List, length, get_or, set, min, ap, sym, arith, ◌∙◌, cond, Bool, subst, get_or-set_same, get_or-set_other}
 use Rattle.std.specs.Prelude.{nat_lt}
 use Rattle.std.proofs.lemmas.Bool.{cases_lt, lt-ltb}
-use Rattle.std.proofs.lemmas.List.{get_or_default}
 use Rattle.std.proofs.lemmas.Nat.{div-mul-add, mod-mul-add, mul-add-lt}
 use Rattle.mw_facts.proofs.Numbers.{one_if}
 use Rattle.mw_rank_rows.specs.declared.lanes.Lanes.{Lanes}
 use Rattle.mw_rank_rows.specs.declared.search.Front.{Front}
-use Rattle.mw_rank_rows.specs.Columns.{total, column_count}
+use Rattle.mw_rank_rows.specs.declared.slide.Strip.{Strip}
 use Rattle.mw_rank_rows.specs.Lanes.{Counts, IsFound}
 use Rattle.mw_rank_rows.specs.Tables.{Holds, ShowsColumns, Slides, HasFound}
 use Rattle.mw_rank_rows.proofs.Marked.{counts_same}
 use Rattle.mw_rank_rows.proofs.Sums.{total-same}
 
 -- all samples of a column are below the last level
-pub column_whole : {A : Type 0} (level : A → ℕ) (d : A) (levels : ℕ) (column : ℕ → ℕ → ℕ → ℕ) (samples : List A) (width rows : ℕ) (marks : List ℕ) (first : ℕ) (dx : ℤ) (all : List ℕ) (x at j : ℕ) → j < 8 → at < width → pos x +ℤ dx -ℤ pos first ≡ pos at
-    → ShowsColumns level d levels column samples width rows marks first dx all → column levels x j ≡ get_or all j 0
-column_whole level d levels column samples width rows marks first dx all x at j lt across is s =
+pub column_whole : {A : Type 0} (level : A → ℕ) (d : A) (levels : ℕ) (column : ℕ → ℕ → ℕ → ℕ) (strip : Strip A) (all : List ℕ) (x at j : ℕ) → j < 8 → at < strip.sheet.width → pos x +ℤ strip.dx -ℤ pos strip.first ≡ pos at → ShowsColumns level d levels column strip all
+    → column levels x j ≡ get_or all j 0
+column_whole level d levels column strip all x at j lt across is s =
+    let samples = strip.sheet.samples.now in
+    let marks = strip.sheet.marks.now in
+    let width = strip.sheet.width in
     s.seen x at levels j lt across is
-    ∙ total-same (λ i. get_or marks (i + j) 0 * cond (nat_lt (level (get_or samples (i * width + at) d)) levels) 1 0) (λ i. get_or marks (i + j) 0) rows
+    ∙ total-same (λ i. get_or marks (i + j) 0 * cond (nat_lt (level (get_or samples (i * width + at) d)) levels) 1 0) (λ i. get_or marks (i + j) 0) strip.sheet.rows
     (λ i less.
     ap (λ (b : Bool). get_or marks (i + j) 0 * one_if b) (lt-ltb (level (get_or samples (i * width + at) d)) levels (s.under (i * width + at) (s.inside i at less across)))
     ∙ (let e : get_or marks (i + j) 0 * 1 ≡ get_or marks (i + j) 0 = omega arith in e))

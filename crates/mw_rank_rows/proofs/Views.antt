@@ -1,5 +1,5 @@
 -- What a window shows of the columns under a rectangle.
-use Rattle.std.proofs.Common.{◌≡◌, ℕ, ℤ, pos, negsuc, ◌+ℤ◌, ◌-ℤ◌, zero, suc, ◌+◌, ◌-◌, ◌*◌, ◌<◌, ◌≤◌, ◌&&◌, inl, inr, Bool, cond, List, [], ◌∷◌, ◌++◌, map, length, get_or, take, drop, Option, Some, None, min, refl, ap, sym, arith, ◌∙◌, length-take, length-drop, subst}
+use Rattle.std.proofs.Common.{◌≡◌, ℕ, ℤ, pos, negsuc, ◌+ℤ◌, ◌-ℤ◌, ◌+◌, ◌-◌, ◌*◌, ◌<◌, ◌≤◌, ◌&&◌, inl, inr, cond, List, [], map, length, get_or, take, drop, Option, None, refl, ap, sym, arith, ◌∙◌, length-take, length-drop, subst}
 use Rattle.std.specs.Option.{option_to_list}
 use Rattle.std.specs.Prelude.{nat_lt, nat_le}
 use Rattle.std.proofs.lemmas.Bool.{cases_lt}
@@ -9,7 +9,6 @@ use Rattle.std.proofs.lemmas.List.{get_or-take, get_or-drop, get_or_default, get
 use Rattle.std.proofs.lemmas.Nat.{mul-add-lt}
 use Rattle.std.proofs.Math.Nat.{mul-le-mul_right}
 use Rattle.mw_facts.proofs.Numbers.{one_if, one_if-le}
-use Rattle.mw_model.specs.declared.places.Offset.{Offset}
 use Rattle.mw_model.specs.declared.places.Rect.{Rect}
 use Rattle.mw_model.specs.Rasters.{Sight, raster, cell_at}
 use Rattle.mw_model.specs.Windows.{View, seen_at}
@@ -21,6 +20,7 @@ use Rattle.mw_rank.proofs.Counts.{count-cons}
 use Rattle.mw_rank.proofs.Sights.{seen_inside}
 use Rattle.mw_rank_rows.specs.declared.group.Shown.{Shown}
 use Rattle.mw_rank_rows.specs.declared.rectangle.Rectangle.{Rectangle}
+use Rattle.mw_rank_rows.specs.declared.slide.Strip.{Strip}
 use Rattle.mw_rank_rows.specs.Columns.{total, column_count}
 use Rattle.mw_rank_rows.specs.Rectangles.{row_start, AreMarks, IsShown}
 use Rattle.mw_rank_rows.specs.Tables.{ShowsColumns}
@@ -172,9 +172,20 @@ column_seen level d w t s samples marks rest x y v at j size are marked rest-is 
     unseen : (q : ℕ) → ((r : ℕ) → r < w.place.height → pos y +ℤ (t.dy +ℤ pos q) -ℤ pos w.place.y ≡ pos r → ⊥) → seen_in level (seen_at w) t x y v q ≡ 0
     unseen q none = none_counted level v _ (unseen_row w.place.width w.place.height w.cells (pos x +ℤ t.dx -ℤ pos w.place.x) (pos y +ℤ (t.dy +ℤ pos q) -ℤ pos w.place.y) none)
 
+-- the rows of samples, which begin at a column of the frame, show each column that is dx from a place: below v, lane j
+-- counts `column v x j` samples of the one at x
+pub record ShowsSheet {A : Type 0} (level : A → ℕ) (d : A) (levels : ℕ) (column : ℕ → ℕ → ℕ → ℕ) (samples : List A) (width rows : ℕ) (marks : List ℕ) (first : ℕ) (dx : ℤ) (all : List ℕ) : Type 0 where
+  pub inside : (i at : ℕ) → i < rows → at < width → i * width + at < length samples
+  pub marked : rows + 7 ≤ length marks
+  pub under : AllUnder level d samples levels
+  pub lanes : length all ≡ 8
+  pub every : (j : ℕ) → j < 8 → get_or all j 0 ≡ total (λ i. get_or marks (i + j) 0) rows
+  pub seen : (x at v j : ℕ) → j < 8 → at < width → pos x +ℤ dx -ℤ pos first ≡ pos at → column v x j ≡ column_count level d samples width at marks v j rows
+  pub unseen : (x v j : ℕ) → j < 8 → ((at : ℕ) → at < width → pos x +ℤ dx -ℤ pos first ≡ pos at → ⊥) → column v x j ≡ 0
+
 pub shows_columns : {A : Type 0} (level : A → ℕ) (d : A) (w : View A) (t : Rectangle) (s : Shown) (y levels : ℕ) (samples : List A) (marks rest all : List ℕ) → length w.cells ≡ w.place.height * w.place.width → AllUnder level d w.cells levels → AreRows w s samples → AreMarks t.rows marks
     → rest ≡ drop s.skip marks → IsShown (pos y +ℤ t.dy -ℤ pos w.place.y) (t.rows + 7) w.place.height s → length all ≡ 8 → ((j : ℕ) → j < 8 → get_or all j 0 ≡ total (λ i. get_or rest (i + j) 0) s.rows)
-    → ShowsColumns level d levels (column_below level (seen_at w) t y) samples w.place.width s.rows rest w.place.x t.dx all
+    → ShowsSheet level d levels (column_below level (seen_at w) t y) samples w.place.width s.rows rest w.place.x t.dx all
 shows_columns level d w t s y levels samples marks rest all size under are marked rest-is shown all-long all-is = record {
   inside = λ i at lt across. omega (arith, are.size, mul-add-lt i w.place.width at s.rows lt across);
   marked = omega (arith, ap length rest-is, length-drop s.skip marks, marked.size, shown.within);
@@ -199,7 +210,7 @@ marks_small rows skip marks rest are rest-is p =
 -- the same of what the code has at hand
 pub group_shows : {A : Type 0} (level : A → ℕ) (d : A) (w : View A) (place : Rect) (t : Rectangle) (s : Shown) (top dx : ℤ) (y count levels : ℕ) (cells samples : List A) (marks rest all : List ℕ) → place ≡ w.place → length w.cells ≡ w.place.height * w.place.width → cells ≡ w.cells
     → top ≡ pos y +ℤ t.dy -ℤ pos w.place.y → dx ≡ t.dx → count ≡ t.rows + 7 → IsShown top count place.height s → samples ≡ take (s.first * place.width + s.rows * place.width - s.first * place.width) (drop (s.first * place.width) cells) → AreMarks t.rows marks → rest ≡ drop s.skip marks
-    → length all ≡ 8 → ((j : ℕ) → j < 8 → get_or all j 0 ≡ total (λ i. get_or rest (i + j) 0) s.rows) → AllUnder level d w.cells levels → ShowsColumns level d levels (column_below level (seen_at w) t y) samples place.width s.rows rest place.x dx all
+    → length all ≡ 8 → ((j : ℕ) → j < 8 → get_or all j 0 ≡ total (λ i. get_or rest (i + j) 0) s.rows) → AllUnder level d w.cells levels → ShowsSheet level d levels (column_below level (seen_at w) t y) samples place.width s.rows rest place.x dx all
 group_shows level d w place t s top dx y count levels cells samples marks rest all place-is size cells-is top-is dx-is count-is shown samples-is marked rest-is all-long all-is under =
     let height : place.height ≡ w.place.height = ap (λ (p : Rect). p.height) place-is in
     let width : place.width ≡ w.place.width = ap (λ (p : Rect). p.width) place-is in
@@ -208,8 +219,8 @@ group_shows level d w place t s top dx y count levels cells samples marks rest a
     (subst (λ (n : ℕ). IsShown (pos y +ℤ t.dy -ℤ pos w.place.y) n place.height s) count-is (subst (λ (z : ℤ). IsShown z count place.height s) top-is shown)) in
     let rows = are_rows w s place.width (s.first * place.width) samples size shown-here.inside width refl
     (samples-is ∙ ap (λ (l : List _). take (s.first * place.width + s.rows * place.width - s.first * place.width) (drop (s.first * place.width) l)) cells-is) in
-    subst (λ (z : ℤ). ShowsColumns level d levels (column_below level (seen_at w) t y) samples place.width s.rows rest place.x z all) (sym dx-is)
-    (subst (λ (p : Rect). ShowsColumns level d levels (column_below level (seen_at w) t y) samples p.width s.rows rest p.x t.dx all) (sym place-is)
+    subst (λ (z : ℤ). ShowsSheet level d levels (column_below level (seen_at w) t y) samples place.width s.rows rest place.x z all) (sym dx-is)
+    (subst (λ (p : Rect). ShowsSheet level d levels (column_below level (seen_at w) t y) samples p.width s.rows rest p.x t.dx all) (sym place-is)
     (shows_columns level d w t s y levels samples marks rest all size under rows marked rest-is shown-here all-long all-is))
 
 -- the rows that the window shows are in it
@@ -218,3 +229,7 @@ rows_fit first rows height width place cells inside width-is cells-is = go first
   where
     go : (a b h p w c : ℕ) → a + b ≤ h → w ≡ p → c ≡ h * p → a * w + b * w ≤ c
     go a b h p w c le same is = omega (arith, mul-le-mul_right w le, add-mul a b w, is, ap (λ (n : ℕ). h * n) same)
+
+-- a strip of what the code has at hand
+pub strip_shows : {A : Type 0} (level : A → ℕ) (d : A) (levels : ℕ) (column : ℕ → ℕ → ℕ → ℕ) (s : Strip A) (all : List ℕ) → ShowsSheet level d levels column s.sheet.samples.now s.sheet.width s.sheet.rows s.sheet.marks.now s.first s.dx all → ShowsColumns level d levels column s all
+strip_shows level d levels column s all t = record { inside = t.inside; marked = t.marked; under = t.under; lanes = t.lanes; every = t.every; seen = t.seen; unseen = t.unseen }

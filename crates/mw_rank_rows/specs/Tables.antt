@@ -1,7 +1,8 @@
 -- What eight lanes hold, and the columns that enter and leave.
-use Rattle.std.specs.Prelude.{◌≡◌, ℕ, ℤ, pos, ◌+ℤ◌, ◌-ℤ◌, ◌+◌, ◌-◌, ◌*◌, ◌<◌, ◌≤◌, List, length, min, slice_index_or}
+use Rattle.std.specs.Prelude.{◌≡◌, ℕ, pos, ◌+ℤ◌, ◌-ℤ◌, ◌+◌, ◌-◌, ◌*◌, ◌<◌, ◌≤◌, List, length, min, slice_index_or}
 use Rattle.mw_rank.specs.Counting.{AllUnder}
 use Rattle.mw_rank_rows.specs.declared.lanes.Lanes.{Lanes}
+use Rattle.mw_rank_rows.specs.declared.slide.Strip.{Strip}
 use Rattle.mw_rank_rows.specs.Columns.{total, column_count}
 use Rattle.mw_rank_rows.specs.Lanes.{Counts, IsFound}
 
@@ -11,16 +12,15 @@ pub record Holds (levels : ℕ) (u : ℕ → ℕ → ℕ) (counts : List ℕ) (l
   pub lanes : length l.held ≡ 8
   pub held : (j : ℕ) → j < 8 → slice_index_or l.held j 0 ≡ u levels j
 
--- the rows of samples, which begin at a column of the frame, show each column that is dx from a place: below v, lane j
--- counts `column v x j` samples of the one at x
-pub record ShowsColumns {A : Type 0} (level : A → ℕ) (d : A) (levels : ℕ) (column : ℕ → ℕ → ℕ → ℕ) (samples : List A) (width rows : ℕ) (marks : List ℕ) (first : ℕ) (dx : ℤ) (all : List ℕ) : Type 0 where
-  pub inside : (i at : ℕ) → i < rows → at < width → i * width + at < length samples
-  pub marked : rows + 7 ≤ length marks
-  pub under : AllUnder level d samples levels
+-- the strip shows each column that is dx from a place: below v, lane j counts `column v x j` samples of the one at x
+pub record ShowsColumns {A : Type 0} (level : A → ℕ) (d : A) (levels : ℕ) (column : ℕ → ℕ → ℕ → ℕ) (s : Strip A) (all : List ℕ) : Type 0 where
+  pub inside : (i at : ℕ) → i < s.sheet.rows → at < s.sheet.width → i * s.sheet.width + at < length s.sheet.samples.now
+  pub marked : s.sheet.rows + 7 ≤ length s.sheet.marks.now
+  pub under : AllUnder level d s.sheet.samples.now levels
   pub lanes : length all ≡ 8
-  pub every : (j : ℕ) → j < 8 → slice_index_or all j 0 ≡ total (λ i. slice_index_or marks (i + j) 0) rows
-  pub seen : (x at v j : ℕ) → j < 8 → at < width → pos x +ℤ dx -ℤ pos first ≡ pos at → column v x j ≡ column_count level d samples width at marks v j rows
-  pub unseen : (x v j : ℕ) → j < 8 → ((at : ℕ) → at < width → pos x +ℤ dx -ℤ pos first ≡ pos at → ⊥) → column v x j ≡ 0
+  pub every : (j : ℕ) → j < 8 → slice_index_or all j 0 ≡ total (λ i. slice_index_or s.sheet.marks.now (i + j) 0) s.sheet.rows
+  pub seen : (x at v j : ℕ) → j < 8 → at < s.sheet.width → pos x +ℤ s.dx -ℤ pos s.first ≡ pos at → column v x j ≡ column_count level d s.sheet.samples.now s.sheet.width at s.sheet.marks.now v j s.sheet.rows
+  pub unseen : (x v j : ℕ) → j < 8 → ((at : ℕ) → at < s.sheet.width → pos x +ℤ s.dx -ℤ pos s.first ≡ pos at → ⊥) → column v x j ≡ 0
 
 -- `seen v x c j` samples below v are seen in c columns from x on: it grows by the column that enters, and loses the one that leaves
 pub record Slides (columns : ℕ) (column : ℕ → ℕ → ℕ → ℕ) (seen : ℕ → ℕ → ℕ → ℕ → ℕ) : Type 0 where

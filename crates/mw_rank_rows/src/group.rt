@@ -102,6 +102,8 @@ fn rank_together<P: Grey>(
         width: group.place.width,
         columns: rectangle.columns,
         k: group.k.clamp(1, 65535) as u16,
+        // beyond, one histogram for each row is quicker
+        far: 64 + 24 * rectangle.rows as usize,
     };
     rank_rows(made, counts, lanes, strip, all, span)
 }

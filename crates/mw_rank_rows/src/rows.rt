@@ -36,7 +36,7 @@ struct Wanted<'a> {
     k: u32,
 }
 
-/// Adds the ranks of the rows of the tile from that one on, by one histogram for each.
+/// Adds the ranks of the rows of the tile from that one on, each row apart.
 fn push_rest<P: Counted>(
     alloc: Global,
     out: &mut Vec<P>,
@@ -146,7 +146,7 @@ fn side_by_side<P: Counted>(
     requires { length offsets.now < 2 ^ 16 }
     ensures { IfOk result (λ o. IfSome o (λ v. HasRows P.level (λ x y. ranked k (levels_under P.level (seen_at window.now) offsets.now (tile.x + x) (tile.y + y))) tile.width tile.height v.items)) }
 {
-    if tile.height < 8 || tile.width < 32 || tile.y.checked_add(tile.height).is_none() {
+    if tile.height < 8 || tile.width < 8 || tile.y.checked_add(tile.height).is_none() {
         return Ok(None);
     }
     let runs = runs_of(alloc, offsets)?;

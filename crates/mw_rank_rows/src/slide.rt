@@ -45,8 +45,8 @@ fn enter<P: Pixel>(
     x: u64,
 )
     requires near { x ≤ 2 ^ 40 }
-    requires known { (levels : ℕ) × (column : ℕ → ℕ → ℕ → ℕ) × (u : ℕ → ℕ → ℕ) × ShowsColumns P.level P.TOP levels column strip.sheet.samples.now strip.sheet.width strip.sheet.rows strip.sheet.marks.now strip.first strip.dx all × Holds levels u counts.old lanes.old }
-    ensures { (levels : ℕ) (column : ℕ → ℕ → ℕ → ℕ) (u w : ℕ → ℕ → ℕ) → ShowsColumns P.level P.TOP levels column strip.entry.sheet.samples.now strip.entry.sheet.width strip.entry.sheet.rows strip.entry.sheet.marks.now strip.entry.first strip.entry.dx all → Holds levels u counts.old lanes.old → ((v j : ℕ) → j < 8 → w v j ≡ u v j + column v x j) → ((j : ℕ) → j < 8 → w levels j < 65536) → Holds levels w counts.new lanes.new }
+    requires known { (levels : ℕ) × (column : ℕ → ℕ → ℕ → ℕ) × (u : ℕ → ℕ → ℕ) × ShowsColumns P.level P.TOP levels column strip all × Holds levels u counts.old lanes.old }
+    ensures { (levels : ℕ) (column : ℕ → ℕ → ℕ → ℕ) (u w : ℕ → ℕ → ℕ) → ShowsColumns P.level P.TOP levels column strip.entry all → Holds levels u counts.old lanes.old → ((v j : ℕ) → j < 8 → w v j ≡ u v j + column v x j) → ((j : ℕ) → j < 8 → w levels j < 65536) → Holds levels w counts.new lanes.new }
 {
     if let Some(at) = column_of(strip, x) {
         lanes.front.below = enter_column(counts, lanes.front, strip.sheet, at);
@@ -64,8 +64,8 @@ fn leave<P: Pixel>(
     x: u64,
 )
     requires near { x ≤ 2 ^ 40 }
-    requires known { (levels : ℕ) × (column : ℕ → ℕ → ℕ → ℕ) × (u : ℕ → ℕ → ℕ) × ShowsColumns P.level P.TOP levels column strip.sheet.samples.now strip.sheet.width strip.sheet.rows strip.sheet.marks.now strip.first strip.dx all × Holds levels u counts.old lanes.old }
-    ensures { (levels : ℕ) (column : ℕ → ℕ → ℕ → ℕ) (u w : ℕ → ℕ → ℕ) → ShowsColumns P.level P.TOP levels column strip.entry.sheet.samples.now strip.entry.sheet.width strip.entry.sheet.rows strip.entry.sheet.marks.now strip.entry.first strip.entry.dx all → Holds levels u counts.old lanes.old → ((v j : ℕ) → j < 8 → u v j ≡ w v j + column v x j) → Rises w → Holds levels w counts.new lanes.new }
+    requires known { (levels : ℕ) × (column : ℕ → ℕ → ℕ → ℕ) × (u : ℕ → ℕ → ℕ) × ShowsColumns P.level P.TOP levels column strip all × Holds levels u counts.old lanes.old }
+    ensures { (levels : ℕ) (column : ℕ → ℕ → ℕ → ℕ) (u w : ℕ → ℕ → ℕ) → ShowsColumns P.level P.TOP levels column strip.entry all → Holds levels u counts.old lanes.old → ((v j : ℕ) → j < 8 → u v j ≡ w v j + column v x j) → Rises w → Holds levels w counts.new lanes.new }
 {
     if let Some(at) = column_of(strip, x) {
         lanes.front.below = leave_column(counts, lanes.front, strip.sheet, at);
@@ -83,8 +83,8 @@ fn enter_all<P: Pixel>(
     columns: u32,
 )
     requires near { x + columns ≤ 2 ^ 40 }
-    requires known { (levels : ℕ) × (column : ℕ → ℕ → ℕ → ℕ) × (seen : ℕ → ℕ → ℕ → ℕ → ℕ) × ShowsColumns P.level P.TOP levels column strip.sheet.samples.now strip.sheet.width strip.sheet.rows strip.sheet.marks.now strip.first strip.dx all × Slides columns column seen × Holds levels (λ v j. seen v x 0 j) counts.old lanes.old }
-    ensures { (levels : ℕ) (column : ℕ → ℕ → ℕ → ℕ) (seen : ℕ → ℕ → ℕ → ℕ → ℕ) → ShowsColumns P.level P.TOP levels column strip.entry.sheet.samples.now strip.entry.sheet.width strip.entry.sheet.rows strip.entry.sheet.marks.now strip.entry.first strip.entry.dx all → Slides columns column seen → Holds levels (λ v j. seen v x 0 j) counts.old lanes.old → Holds levels (λ v j. seen v x columns j) counts.new lanes.new }
+    requires known { (levels : ℕ) × (column : ℕ → ℕ → ℕ → ℕ) × (seen : ℕ → ℕ → ℕ → ℕ → ℕ) × ShowsColumns P.level P.TOP levels column strip all × Slides columns column seen × Holds levels (λ v j. seen v x 0 j) counts.old lanes.old }
+    ensures { (levels : ℕ) (column : ℕ → ℕ → ℕ → ℕ) (seen : ℕ → ℕ → ℕ → ℕ → ℕ) → ShowsColumns P.level P.TOP levels column strip.entry all → Slides columns column seen → Holds levels (λ v j. seen v x 0 j) counts.old lanes.old → Holds levels (λ v j. seen v x columns j) counts.new lanes.new }
 {
     for c in 0..columns {
         enter(counts, lanes, strip, all, x + u64::from(c));
@@ -101,8 +101,8 @@ fn leave_all<P: Pixel>(
     columns: u32,
 )
     requires near { x + columns ≤ 2 ^ 40 }
-    requires known { (levels : ℕ) × (column : ℕ → ℕ → ℕ → ℕ) × (seen : ℕ → ℕ → ℕ → ℕ → ℕ) × ShowsColumns P.level P.TOP levels column strip.sheet.samples.now strip.sheet.width strip.sheet.rows strip.sheet.marks.now strip.first strip.dx all × Slides columns column seen × Holds levels (λ v j. seen v x columns j) counts.old lanes.old }
-    ensures { (levels : ℕ) (column : ℕ → ℕ → ℕ → ℕ) (seen : ℕ → ℕ → ℕ → ℕ → ℕ) → ShowsColumns P.level P.TOP levels column strip.entry.sheet.samples.now strip.entry.sheet.width strip.entry.sheet.rows strip.entry.sheet.marks.now strip.entry.first strip.entry.dx all → Slides columns column seen → Holds levels (λ v j. seen v x columns j) counts.old lanes.old → Holds levels (λ v j. seen v (x + columns) 0 j) counts.new lanes.new }
+    requires known { (levels : ℕ) × (column : ℕ → ℕ → ℕ → ℕ) × (seen : ℕ → ℕ → ℕ → ℕ → ℕ) × ShowsColumns P.level P.TOP levels column strip all × Slides columns column seen × Holds levels (λ v j. seen v x columns j) counts.old lanes.old }
+    ensures { (levels : ℕ) (column : ℕ → ℕ → ℕ → ℕ) (seen : ℕ → ℕ → ℕ → ℕ → ℕ) → ShowsColumns P.level P.TOP levels column strip.entry all → Slides columns column seen → Holds levels (λ v j. seen v x columns j) counts.old lanes.old → Holds levels (λ v j. seen v (x + columns) 0 j) counts.new lanes.new }
 {
     for c in 0..columns {
         leave(counts, lanes, strip, all, x + u64::from(c));
@@ -126,16 +126,15 @@ fn put_column<P: Pixel>(made: &mut [P], width: usize, at: usize, levels: Simd<u1
     }
 }
 
-/// How far a search may go for each column on average. Beyond, one histogram for each row is quicker.
-const FAR: usize = 256;
-
-/// A stretch of columns of the frame, the columns of the element, and the number of the rank that is wanted.
+/// A stretch of columns of the frame, the columns of the element, the number of the rank that is wanted, and how far the
+/// searches may go for each column on average.
 #[derive(Clone, Copy)]
 pub(crate) struct Span {
     pub x: u64,
     pub width: u32,
     pub columns: u32,
     pub k: u16,
+    pub far: usize,
 }
 
 /// The ranks of eight rows, where the lanes hold what the element sees at the first column. It stops early if the searches
@@ -151,15 +150,15 @@ fn slide<P: Pixel>(
     requires whole { length made.old ≡ 8 * span.width }
     requires some { 1 ≤ span.columns }
     requires near { span.x + span.width + span.columns ≤ 2 ^ 40 }
-    requires known { (levels : ℕ) × (column : ℕ → ℕ → ℕ → ℕ) × (seen : ℕ → ℕ → ℕ → ℕ → ℕ) × ShowsColumns P.level P.TOP levels column strip.sheet.samples.now strip.sheet.width strip.sheet.rows strip.sheet.marks.now strip.first strip.dx all × Slides span.columns column seen × Holds levels (λ v j. seen v span.x span.columns j) counts.old lanes.old × (levels ≤ P.top_level + 1) }
+    requires known { (levels : ℕ) × (column : ℕ → ℕ → ℕ → ℕ) × (seen : ℕ → ℕ → ℕ → ℕ → ℕ) × ShowsColumns P.level P.TOP levels column strip all × Slides span.columns column seen × Holds levels (λ v j. seen v span.x span.columns j) counts.old lanes.old × (levels ≤ P.top_level + 1) }
     ensures within { result ≤ span.width }
-    ensures moved { (levels : ℕ) (column : ℕ → ℕ → ℕ → ℕ) (seen : ℕ → ℕ → ℕ → ℕ → ℕ) → ShowsColumns P.level P.TOP levels column strip.entry.sheet.samples.now strip.entry.sheet.width strip.entry.sheet.rows strip.entry.sheet.marks.now strip.entry.first strip.entry.dx all → Slides span.columns column seen → Holds levels (λ v j. seen v span.x span.columns j) counts.old lanes.old → Holds levels (λ v j. seen v (span.x + result) span.columns j) counts.new lanes.new }
-    ensures found { (levels : ℕ) (column : ℕ → ℕ → ℕ → ℕ) (seen : ℕ → ℕ → ℕ → ℕ → ℕ) → ShowsColumns P.level P.TOP levels column strip.entry.sheet.samples.now strip.entry.sheet.width strip.entry.sheet.rows strip.entry.sheet.marks.now strip.entry.first strip.entry.dx all → Slides span.columns column seen → Holds levels (λ v j. seen v span.x span.columns j) counts.old lanes.old → HasFound P.level levels seen span.columns span.k span.x span.width result made.new }
+    ensures moved { (levels : ℕ) (column : ℕ → ℕ → ℕ → ℕ) (seen : ℕ → ℕ → ℕ → ℕ → ℕ) → ShowsColumns P.level P.TOP levels column strip.entry all → Slides span.columns column seen → Holds levels (λ v j. seen v span.x span.columns j) counts.old lanes.old → Holds levels (λ v j. seen v (span.x + result) span.columns j) counts.new lanes.new }
+    ensures found { (levels : ℕ) (column : ℕ → ℕ → ℕ → ℕ) (seen : ℕ → ℕ → ℕ → ℕ → ℕ) → ShowsColumns P.level P.TOP levels column strip.entry all → Slides span.columns column seen → Holds levels (λ v j. seen v span.x span.columns j) counts.old lanes.old → HasFound P.level levels seen span.columns span.k span.x span.width result made.new }
     ensures size { length made.new ≡ length made.old }
 {
     let mut steps = 0usize;
     let mut done = 0u32;
-    'by_column: while done < span.width && steps <= FAR * (done as usize + 16) {
+    'by_column: while done < span.width && steps <= span.far.saturating_mul(done as usize + 16) {
         let x = span.x + u64::from(done);
         let n = at_most(lanes.held, span.k);
         let found = select(counts, &mut lanes.front, n);
@@ -184,9 +183,9 @@ pub(crate) fn rank_rows<P: Pixel>(
     requires whole { length made.old ≡ 8 * span.width }
     requires some { 1 ≤ span.columns }
     requires near { span.x + span.width + span.columns ≤ 2 ^ 40 }
-    requires known { (levels : ℕ) × (column : ℕ → ℕ → ℕ → ℕ) × (seen : ℕ → ℕ → ℕ → ℕ → ℕ) × ShowsColumns P.level P.TOP levels column strip.sheet.samples.now strip.sheet.width strip.sheet.rows strip.sheet.marks.now strip.first strip.dx all × Slides span.columns column seen × Holds levels (λ v j. 0) counts.old lanes.old × (levels ≤ P.top_level + 1) }
-    ensures empty { (levels : ℕ) (column : ℕ → ℕ → ℕ → ℕ) (seen : ℕ → ℕ → ℕ → ℕ → ℕ) → ShowsColumns P.level P.TOP levels column strip.entry.sheet.samples.now strip.entry.sheet.width strip.entry.sheet.rows strip.entry.sheet.marks.now strip.entry.first strip.entry.dx all → Slides span.columns column seen → Holds levels (λ v j. 0) counts.old lanes.old → Holds levels (λ v j. 0) counts.new lanes.new }
-    ensures found { IsTrue result → (levels : ℕ) (column : ℕ → ℕ → ℕ → ℕ) (seen : ℕ → ℕ → ℕ → ℕ → ℕ) → ShowsColumns P.level P.TOP levels column strip.entry.sheet.samples.now strip.entry.sheet.width strip.entry.sheet.rows strip.entry.sheet.marks.now strip.entry.first strip.entry.dx all → Slides span.columns column seen → Holds levels (λ v j. 0) counts.old lanes.old → HasFound P.level levels seen span.columns span.k span.x span.width span.width made.new }
+    requires known { (levels : ℕ) × (column : ℕ → ℕ → ℕ → ℕ) × (seen : ℕ → ℕ → ℕ → ℕ → ℕ) × ShowsColumns P.level P.TOP levels column strip all × Slides span.columns column seen × Holds levels (λ v j. 0) counts.old lanes.old × (levels ≤ P.top_level + 1) }
+    ensures empty { (levels : ℕ) (column : ℕ → ℕ → ℕ → ℕ) (seen : ℕ → ℕ → ℕ → ℕ → ℕ) → ShowsColumns P.level P.TOP levels column strip.entry all → Slides span.columns column seen → Holds levels (λ v j. 0) counts.old lanes.old → Holds levels (λ v j. 0) counts.new lanes.new }
+    ensures found { IsTrue result → (levels : ℕ) (column : ℕ → ℕ → ℕ → ℕ) (seen : ℕ → ℕ → ℕ → ℕ → ℕ) → ShowsColumns P.level P.TOP levels column strip.entry all → Slides span.columns column seen → Holds levels (λ v j. 0) counts.old lanes.old → HasFound P.level levels seen span.columns span.k span.x span.width span.width made.new }
     ensures size { length made.new ≡ length made.old }
 {
     enter_all(counts, lanes, strip, all, span.x, span.columns);

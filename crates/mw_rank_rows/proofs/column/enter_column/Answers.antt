@@ -1,5 +1,4 @@
-use Rattle.std.proofs.Common.{ℕ, ◌≡◌, ◌+◌, ◌*◌, ◌<◌, ◌∙◌, refl, arith, length, subst, ap, sym}
-use Rattle.mw_rank.specs.Counting.{AllUnder}
+use Rattle.std.proofs.Common.{ℕ, ◌≡◌, ◌+◌, ◌*◌, ◌∙◌, refl, arith, ap, sym}
 use Rattle.mw_rank_rows.specs.Columns.{column_count}
 use Rattle.mw_rank_rows.proofs.Marked.{sample_is, enters_more}
 use Rattle.mw_rank_rows.proofs.column.enter_column.Goals as goal

@@ -1,6 +1,5 @@
-use Rattle.std.proofs.Common.{ℕ, ◌≡◌, ◌+◌, ◌*◌, ◌<◌, ◌∙◌, refl, arith, length, cond, get_or, ap, sym}
+use Rattle.std.proofs.Common.{ℕ, ◌≡◌, ◌+◌, ◌*◌, ◌∙◌, refl, arith, cond, get_or, ap, sym}
 use Rattle.std.specs.Prelude.{nat_lt}
-use Rattle.mw_rank.specs.Counting.{AllUnder}
 use Rattle.mw_rank_rows.specs.Columns.{column_count}
 use Rattle.mw_rank_rows.proofs.Marked.{sample_is, leaves_more, rises_more, counts_same}
 use Rattle.mw_rank_rows.proofs.column.leave_column.Goals as goal

@@ -1,4 +1,4 @@
-use Rattle.std.proofs.Common.{◌≡◌, ℕ, ℤ, List, pos, ◌+ℤ◌, ◌-ℤ◌, ◌+◌, ◌-◌, ◌*◌, ◌<◌, ◌∙◌, refl, ap, sym, arith, take, drop, length, min, max, subst, of_z, to_z, w16, w64}
+use Rattle.std.proofs.Common.{◌≡◌, ℕ, List, pos, ◌+ℤ◌, ◌-ℤ◌, ◌+◌, ◌-◌, ◌<◌, ◌∙◌, refl, ap, arith, take, drop, length, subst, of_z, to_z, w16, w64}
 use Rattle.std.proofs.lemmas.Int.{ints}
 use Rattle.std.proofs.lemmas.List.{take_rest}
 use Rattle.mw_model.specs.Windows.{seen_at}
@@ -10,7 +10,7 @@ use Rattle.mw_rank_rows.specs.Rectangles.{offsets_in}
 use Rattle.mw_rank_rows.specs.Tables.{HasFound}
 use Rattle.mw_rank_rows.proofs.Found.{found_ranked}
 use Rattle.mw_rank_rows.proofs.Rectangular.{column_below, seen_below, slides}
-use Rattle.mw_rank_rows.proofs.Views.{marks_small, group_shows, rows_fit}
+use Rattle.mw_rank_rows.proofs.Views.{marks_small, group_shows, rows_fit, strip_shows}
 use Rattle.mw_rank_rows.proofs.group.rank_together.Goals as goal
 
 pub slice_bounds-sheet-end : goal.slice_bounds-sheet-end
@@ -38,7 +38,7 @@ rank_rows-requires-clause-known g c =
     let top : to_z w64 (of_z w64 c.place_of-top.result) ≡ pos group.place.y +ℤ t.dy -ℤ pos w.place.y = omega (arith, ints, c.place_of-top.ensures.value, c.from-y.ensures, ap (λ (p : Rect). p.y) place.ensures.value) in
     let shows = group_shows g.P.Pixel.level g.P.Pixel.TOP w place.result t s (to_z w64 (of_z w64 c.place_of-top.result)) (to_z w16 (of_z w16 t.dx)) group.place.y (t.rows + 7) known.0 c.samples.result.now _ marks (take (length marks - s.skip) (drop s.skip marks)) c.sum_of_marks-all.result place.ensures.value
     c.samples.ensures.size c.samples.ensures.value top dx refl c.shown_rows-shown.ensures refl c.requires.marks (take_rest marks s.skip) c.sum_of_marks-all.ensures.size c.sum_of_marks-all.ensures.lanes known.1 in
-    (known.0, column_below g.P.Pixel.level (seen_at w) t group.place.y, seen_below g.P.Pixel.level (seen_at w) t group.place.y, shows, slides g.P.Pixel.level (seen_at w) t group.place.y few, known.2, known.3)
+    (known.0, column_below g.P.Pixel.level (seen_at w) t group.place.y, seen_below g.P.Pixel.level (seen_at w) t group.place.y, strip_shows g.P.Pixel.level g.P.Pixel.TOP known.0 (column_below g.P.Pixel.level (seen_at w) t group.place.y) _ c.sum_of_marks-all.result shows, slides g.P.Pixel.level (seen_at w) t group.place.y few, known.2, known.3)
 
 pub returns-clause-empty : goal.returns-clause-empty
 returns-clause-empty g c = λ levels under empty.
@@ -53,7 +53,8 @@ returns-clause-empty g c = λ levels under empty.
     let top : to_z w64 (of_z w64 c.place_of-top.result) ≡ pos group.place.y +ℤ t.dy -ℤ pos w.place.y = omega (arith, ints, c.place_of-top.ensures.value, c.from-y.ensures, ap (λ (p : Rect). p.y) place.ensures.value) in
     let shows = group_shows g.P.Pixel.level g.P.Pixel.TOP w place.result t s (to_z w64 (of_z w64 c.place_of-top.result)) (to_z w16 (of_z w16 t.dx)) group.place.y (t.rows + 7) levels c.samples.result.now _ marks (take (length marks - s.skip) (drop s.skip marks)) c.sum_of_marks-all.result place.ensures.value
     c.samples.ensures.size c.samples.ensures.value top dx refl c.shown_rows-shown.ensures refl c.requires.marks (take_rest marks s.skip) c.sum_of_marks-all.ensures.size c.sum_of_marks-all.ensures.lanes under in
-    c.rank_rows.ensures.empty levels (column_below g.P.Pixel.level (seen_at w) t group.place.y) (seen_below g.P.Pixel.level (seen_at w) t group.place.y) shows (slides g.P.Pixel.level (seen_at w) t group.place.y few) empty
+    c.rank_rows.ensures.empty levels (column_below g.P.Pixel.level (seen_at w) t group.place.y) (seen_below g.P.Pixel.level (seen_at w) t group.place.y)
+    (strip_shows g.P.Pixel.level g.P.Pixel.TOP levels (column_below g.P.Pixel.level (seen_at w) t group.place.y) _ c.sum_of_marks-all.result shows) (slides g.P.Pixel.level (seen_at w) t group.place.y few) empty
 
 pub returns-clause-found : goal.returns-clause-found
 returns-clause-found g c = λ whole r q e down lt.
@@ -72,6 +73,7 @@ returns-clause-found g c = λ whole r q e down lt.
     let seen = seen_below g.P.Pixel.level (seen_at w) t group.place.y in
     let found : HasFound g.P.Pixel.level known.0 seen t.columns c.clamp.result group.place.x group.place.width group.place.width c.rank_rows.new.made =
     subst (λ (x : ℕ). HasFound g.P.Pixel.level known.0 seen t.columns c.clamp.result x group.place.width group.place.width c.rank_rows.new.made) c.from-x.ensures
-    (c.rank_rows.ensures.found whole known.0 (column_below g.P.Pixel.level (seen_at w) t group.place.y) seen shows (slides g.P.Pixel.level (seen_at w) t group.place.y few) known.2) in
+    (c.rank_rows.ensures.found whole known.0 (column_below g.P.Pixel.level (seen_at w) t group.place.y) seen
+    (strip_shows g.P.Pixel.level g.P.Pixel.TOP known.0 (column_below g.P.Pixel.level (seen_at w) t group.place.y) _ c.sum_of_marks-all.result shows) (slides g.P.Pixel.level (seen_at w) t group.place.y few) known.2) in
     found_ranked g.P.Pixel.level g.P.Pixel.TOP w t known.0 group.k c.clamp.result group.place.x group.place.y group.place.width c.rank_rows.new.made known.1 few c.clamp.ensures found r q e down lt
     ∙ ap (λ (l : List Offset). ranked group.k (levels_under g.P.Pixel.level (seen_at w) l (group.place.x + q) (group.place.y + r))) c.requires.rectangle.is

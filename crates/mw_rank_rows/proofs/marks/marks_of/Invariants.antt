@@ -1,4 +1,4 @@
-use Rattle.std.proofs.Common.{ℕ, ◌≡◌, ◌+◌, ◌<◌, ◌≤◌, ◌&&◌, length, get_or, cond}
+use Rattle.std.proofs.Common.{ℕ, ◌≡◌, ◌+◌, ◌<◌, ◌&&◌, length, get_or, cond}
 use Rattle.std.specs.Prelude.{nat_le, nat_lt}
 use Rattle.mw_rank_rows.proofs.marks.marks_of.Given as goal
 

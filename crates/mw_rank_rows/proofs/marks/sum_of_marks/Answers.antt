@@ -1,4 +1,4 @@
-use Rattle.std.proofs.Common.{ℕ, ◌≡◌, ◌+◌, ◌*◌, ◌≤◌, ◌∙◌, arith, get_or}
+use Rattle.std.proofs.Common.{ℕ, ◌+◌, ◌*◌, ◌≤◌, arith, get_or}
 use Rattle.mw_rank_rows.specs.Columns.{total}
 use Rattle.mw_rank_rows.proofs.Sums.{total-more, total-within}
 use Rattle.mw_rank_rows.proofs.marks.sum_of_marks.Goals as goal

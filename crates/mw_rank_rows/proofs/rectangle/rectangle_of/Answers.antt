@@ -1,4 +1,4 @@
-use Rattle.std.proofs.Common.{◌≡◌, ◌<◌, ◌≤◌, ℕ, List, pos, arith, rules, sym, length, get_or}
+use Rattle.std.proofs.Common.{◌<◌, ◌≤◌, pos, arith, sym, length, get_or}
 use Rattle.std.proofs.lemmas.List.{get_or_default}
 use Rattle.mw_facts.proofs.Alls.{all-get_or}
 use Rattle.mw_run.specs.Runs.{IsRun}

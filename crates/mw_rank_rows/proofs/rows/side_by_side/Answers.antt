@@ -1,10 +1,5 @@
-use Rattle.std.proofs.Common.{◌≡◌, ℕ, ◌+◌, ◌*◌, ◌%◌, ◌^◌, ◌≤◌, ◌∙◌, List, ap, arith, length, subst}
-use Rattle.std.specs.Prelude.{IfOk, IfSome}
+use Rattle.std.proofs.Common.{◌^◌, ◌≤◌, ◌∙◌, ap, arith, length}
 use Rattle.std.proofs.Math.Nat.{pow-le-pow_right}
-use Rattle.mw_model.specs.PlanSteps.{ranked}
-use Rattle.mw_model.specs.Windows.{seen_at}
-use Rattle.mw_model.specs.declared.places.Offset.{Offset}
-use Rattle.mw_rank.specs.Ranks.{levels_under, HasRows}
 use Rattle.mw_rank.specs.Runs.{element_of}
 use Rattle.mw_rank.proofs.Elements.{element_of-runs}
 use Rattle.mw_rank_rows.proofs.Rectangular.{runs_few}

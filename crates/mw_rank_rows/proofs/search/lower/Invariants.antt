@@ -1,4 +1,4 @@
-use Rattle.std.proofs.Common.{ℕ, length, ◌≡◌}
+use Rattle.std.proofs.Common.{ℕ}
 use Rattle.mw_rank_rows.specs.Lanes.{Counts}
 use Rattle.mw_rank_rows.proofs.search.lower.Given as goal
 

@@ -1,5 +1,4 @@
-use Rattle.std.proofs.Common.{ℕ, ◌≡◌, ◌+◌, ◌*◌, ◌-◌, ◌<◌, ◌≤◌, ◌⊎◌, inl, inr, arith, ap}
-use Rattle.std.proofs.lemmas.Bool.{cases_lt}
+use Rattle.std.proofs.Common.{ℕ, ◌+◌, ◌<◌, inl, arith}
 use Rattle.mw_rank_rows.specs.Lanes.{Counts}
 use Rattle.mw_rank_rows.proofs.Fronts.{summed, counts_at, has_room}
 use Rattle.mw_rank_rows.proofs.search.raise.Goals as goal

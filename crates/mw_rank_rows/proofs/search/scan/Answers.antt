@@ -1,5 +1,4 @@
-use Rattle.std.proofs.Common.{ℕ, ◌≡◌, ◌+◌, ◌*◌, ◌-◌, ◌<◌, ◌≤◌, ◌⊎◌, ◌∙◌, inl, inr, arith, ap, get_or, refl}
-use Rattle.std.proofs.lemmas.Bool.{cases_lt}
+use Rattle.std.proofs.Common.{ℕ, ◌+◌, ◌<◌, arith, get_or, refl}
 use Rattle.std.proofs.lemmas.List.{get_or-replicate}
 use Rattle.mw_rank_rows.specs.Lanes.{Counts}
 use Rattle.mw_rank_rows.proofs.Fronts.{summed, reached_more, reached_last, goes_on, reached_first}

@@ -1,4 +1,4 @@
-use Rattle.std.proofs.Common.{ℕ, ◌≡◌, ◌+◌, ◌-◌, ◌<◌, ◌≤◌, ◌⊎◌, length, get_or}
+use Rattle.std.proofs.Common.{ℕ, ◌≡◌, ◌+◌, ◌-◌, ◌<◌, ◌≤◌, length, get_or}
 use Rattle.mw_rank_rows.specs.Lanes.{Counts}
 use Rattle.mw_rank_rows.proofs.Fronts.{IsReached}
 use Rattle.mw_rank_rows.proofs.search.scan.Given as goal

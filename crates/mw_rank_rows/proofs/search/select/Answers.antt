@@ -1,4 +1,3 @@
-use Rattle.std.proofs.Common.{arith}
 use Rattle.mw_rank_rows.proofs.search.select.Goals as goal
 
 pub raise-raised-requires-clause-held : goal.raise-raised-requires-clause-held

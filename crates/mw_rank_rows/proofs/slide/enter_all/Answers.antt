@@ -1,4 +1,4 @@
-use Rattle.std.proofs.Common.{ℕ, ◌≡◌, ◌+◌, ◌∙◌, refl, ap, sym, arith}
+use Rattle.std.proofs.Common.{ℕ, ◌+◌, ◌∙◌, refl, ap, sym, arith}
 use Rattle.mw_rank_rows.proofs.Steps.{seen_from}
 use Rattle.mw_rank_rows.proofs.slide.enter_all.Goals as goal
 

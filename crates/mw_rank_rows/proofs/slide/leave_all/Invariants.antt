@@ -3,5 +3,5 @@ use Rattle.mw_rank_rows.specs.Tables.{Holds, ShowsColumns, Slides}
 use Rattle.mw_rank_rows.proofs.slide.leave_all.Given as goal
 
 abbrev pub invariant-loop-c : goal.invariant-loop-c
-invariant-loop-c g l = (levels : ℕ) (column : ℕ → ℕ → ℕ → ℕ) (seen : ℕ → ℕ → ℕ → ℕ → ℕ) → ShowsColumns g.P.Pixel.level g.P.Pixel.TOP levels column l.strip.sheet.samples.now l.strip.sheet.width l.strip.sheet.rows l.strip.sheet.marks.now l.strip.first l.strip.dx l.all
+invariant-loop-c g l = (levels : ℕ) (column : ℕ → ℕ → ℕ → ℕ) (seen : ℕ → ℕ → ℕ → ℕ → ℕ) → ShowsColumns g.P.Pixel.level g.P.Pixel.TOP levels column l.strip l.all
     → Slides l.columns column seen → Holds levels (λ v j. seen v l.x l.columns j) l.initial.counts l.initial.lanes → Holds levels (λ v j. seen v (l.x + l.c) (l.columns - l.c) j) l.counts l.lanes

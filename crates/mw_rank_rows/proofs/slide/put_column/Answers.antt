@@ -1,4 +1,4 @@
-use Rattle.std.proofs.Common.{ℕ, ◌≡◌, ◌+◌, ◌*◌, ◌∙◌, arith, length-set}
+use Rattle.std.proofs.Common.{◌+◌, ◌*◌, ◌∙◌, arith, length-set}
 use Rattle.mw_rank_rows.proofs.Steps.{put_more, put_others}
 use Rattle.mw_rank_rows.proofs.slide.put_column.Goals as goal
 

@@ -1,4 +1,4 @@
-use Rattle.std.proofs.Common.{ℕ, ◌≡◌, ◌+◌, ap, sym, refl, arith, subst}
+use Rattle.std.proofs.Common.{ℕ, ◌≡◌, ◌+◌, ap, sym, refl, subst}
 use Rattle.std.proofs.lemmas.Bool.{eqb-true}
 use Rattle.mw_rank_rows.specs.Tables.{HasFound}
 use Rattle.mw_rank_rows.proofs.Steps.{holds_same, seen_from}

@@ -1,5 +1,4 @@
-use Rattle.std.proofs.Common.{ℕ, ◌≡◌, ◌+◌, ◌-◌, ◌<◌, ◌≤◌, ◌∙◌, refl, ap, arith, length, get_or, min}
-use Rattle.mw_rank_rows.specs.Tables.{Holds, ShowsColumns, Slides, HasFound}
+use Rattle.std.proofs.Common.{ℕ, ◌+◌, ◌-◌, ◌∙◌, refl, ap, arith, min}
 use Rattle.mw_rank_rows.proofs.Steps.{held_front, step_left, step_entered, seen_from, found_more}
 use Rattle.mw_rank_rows.proofs.slide.slide.Goals as goal
 

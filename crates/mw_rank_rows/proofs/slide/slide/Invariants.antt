@@ -6,9 +6,9 @@ abbrev pub invariant-by_column : goal.invariant-by_column
 invariant-by_column g l = record {
   within : l.done ≤ l.span.width;
   size : length l.made ≡ length l.initial.made;
-  moved : (levels : ℕ) (column : ℕ → ℕ → ℕ → ℕ) (seen : ℕ → ℕ → ℕ → ℕ → ℕ) → ShowsColumns g.P.Pixel.level g.P.Pixel.TOP levels column l.strip.sheet.samples.now l.strip.sheet.width l.strip.sheet.rows l.strip.sheet.marks.now l.strip.first l.strip.dx l.all
+  moved : (levels : ℕ) (column : ℕ → ℕ → ℕ → ℕ) (seen : ℕ → ℕ → ℕ → ℕ → ℕ) → ShowsColumns g.P.Pixel.level g.P.Pixel.TOP levels column l.strip l.all
       → Slides l.span.columns column seen → Holds levels (λ v j. seen v l.span.x l.span.columns j) l.initial.counts l.initial.lanes → Holds levels (λ v j. seen v (l.span.x + l.done) l.span.columns j) l.counts l.lanes;
-  found : (levels : ℕ) (column : ℕ → ℕ → ℕ → ℕ) (seen : ℕ → ℕ → ℕ → ℕ → ℕ) → ShowsColumns g.P.Pixel.level g.P.Pixel.TOP levels column l.strip.sheet.samples.now l.strip.sheet.width l.strip.sheet.rows l.strip.sheet.marks.now l.strip.first l.strip.dx l.all
+  found : (levels : ℕ) (column : ℕ → ℕ → ℕ → ℕ) (seen : ℕ → ℕ → ℕ → ℕ → ℕ) → ShowsColumns g.P.Pixel.level g.P.Pixel.TOP levels column l.strip l.all
       → Slides l.span.columns column seen → Holds levels (λ v j. seen v l.span.x l.span.columns j) l.initial.counts l.initial.lanes → HasFound g.P.Pixel.level levels seen l.span.columns l.span.k l.span.x l.span.width l.done l.made;
 }
 

@@ -1,4 +1,4 @@
-use Rattle.std.proofs.Common.{ltb, arith}
+use Rattle.std.proofs.Common.{ltb}
 use borrow.Author.Tests.{ltb-true}
 use Rattle.std.proofs.lemmas.Bool.{lt-ltb}
 use Rattle.std.specs.Int.{w16}

@@ -1,4 +1,4 @@
-use Rattle.std.proofs.Common.{leb, arith}
+use Rattle.std.proofs.Common.{leb}
 use borrow.Author.Tests.{leb-true}
 use Rattle.std.proofs.lemmas.Bool.{le-leb}
 use Rattle.std.specs.Int.{w16}

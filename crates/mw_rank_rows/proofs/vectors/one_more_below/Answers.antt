@@ -1,4 +1,4 @@
-use Rattle.std.proofs.Common.{ℕ, List, ◌≡◌, ◌+◌, ◌<◌, ◌∙◌, refl, arith, ltb, cond, replicate, ap, get_or, Bool, true, false, ◌≤◌}
+use Rattle.std.proofs.Common.{ℕ, List, ◌+◌, ◌∙◌, refl, arith, ltb, cond, replicate, ap, get_or}
 use Rattle.std.specs.Int.{w16}
 use Rattle.mw_rank_rows.proofs.Eights.{one_if-le}
 use Rattle.std.proofs.lemmas.List.{get_or-replicate}
