@@ -59,8 +59,8 @@ impl<P: Planar> Piece<P> {
         &self.plane
     }
 
-    /// One more owner of the samples.
-    pub(crate) fn owner(&self) -> Result<Arc<Plane<P>>, NoMemory>
+    /// One more owner of the samples. It may want memory (`NoMemory`).
+    pub fn owner(&self) -> Result<Arc<Plane<P>>, NoMemory>
         ensures { IfOk result (λ p. arc_value p ≡ raster self.now.place.width self.now.place.height self.now.cells) }
     {
         Ok(Arc::try_clone(&self.plane)?)

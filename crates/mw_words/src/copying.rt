@@ -4,9 +4,9 @@ ghost use Rattle.mw_words.specs.Runs.{HasCopied, IsBlended};
 
 use crate::shifting::bits_from;
 
-/// The word with so many bits of another, its lowest ones, from a bit on.
+/// The word with so many bits of another, its lowest ones, from a bit on. There is at least one, and all lie in the word.
 #[inline(always)]
-fn blended(word: u64, other: u64, lead: u32, count: u32) -> u64
+pub fn blended(word: u64, other: u64, lead: u32, count: u32) -> u64
     requires some { 0 < count }
     requires room { lead + count ≤ 64 }
     ensures { IsBlended lead count word other result }

@@ -13,6 +13,7 @@ mod shifting;
 mod trimming;
 mod words;
 
+pub use copying::blended;
 pub use mw_model::NoMemory;
 pub use shifting::funnel;
 pub use trimming::trimmed;
