@@ -102,7 +102,7 @@ impl PlanProgress {
     ///
     /// # Errors
     ///
-    /// `NoMemory`, where about twelve bytes for each task are not to be had.
+    /// `NoMemory`, where about twelve bytes for each task, and sixteen more for each step, are not to be had.
     pub fn new(
         alloc: Global,
         plan: Plan,
