@@ -68,7 +68,7 @@ laid_samples r p old new size shown = record {
 }
 
 -- the sample of a place of a rectangle
-sample_at : (r : Rect) (words : List ℕ) (x y : ℕ) → Holds r x y → cell_of (patch r (samples_of r.width r.height words)) x y ≡ Some (bit_of words ((y - r.y) * (64 * stride_of r.width) + (x - r.x)))
+pub sample_at : (r : Rect) (words : List ℕ) (x y : ℕ) → Holds r x y → cell_of (patch r (samples_of r.width r.height words)) x y ≡ Some (bit_of words ((y - r.y) * (64 * stride_of r.width) + (x - r.x)))
 sample_at r words x y holds =
     let across = column_in r x y holds in
     let down = row_in r x y holds in
@@ -99,12 +99,8 @@ laid_packed r h own old new from size packed shown = record {
 
 -- ---- what the code has of a piece
 
-common_as : (r held h : Rect) (wide own w o : ℕ) (b : Block) → held ≡ h → wide ≡ w → own ≡ o → IsCommon r held wide own b → IsCommon r h w o b
-common_as r held h wide own w o b h-is w-is o-is common =
-    subst (λ (q : Rect). IsCommon r q w o b) h-is (subst (λ (t : ℕ). IsCommon r held t o b) w-is (subst (λ (t : ℕ). IsCommon r held wide t b) o-is common))
-
 common_samples : {A : Type 0} (r held : Rect) (p : Patch A) (b : Block) → held ≡ p.place → IsCommon r held r.width held.width b → IsCommon r p.place r.width p.place.width b
-common_samples r held p b held-is common = common_as r held p.place r.width held.width r.width p.place.width b held-is refl (ap (λ (q : Rect). q.width) held-is) common
+common_samples r held p b held-is common = subst (λ (q : Rect). IsCommon r q r.width q.width b) held-is common
 
 pub samples_fit : {A : Type 0} (r held : Rect) (p : Patch A) (b : Block) (n m : ℕ) → held ≡ p.place → IsCommon r held r.width held.width b → n ≡ r.height * r.width → m ≡ p.place.height * p.place.width → Fits b n m
 samples_fit r held p b n m held-is common n-is m-is =
@@ -133,23 +129,22 @@ words_of_plane p f g words f-is g-is packed cells-is =
       cells = sym (ap (λ (t : Raster ℕ). t.cells) whole) ∙ cells-is ∙ ap (λ (t : Raster ℕ). samples_of t.width t.height words) whole;
     }
 
-common_bits : (r held : Rect) (p : Patch ℕ) (s t : ℕ) (b : Block) → held ≡ p.place → s ≡ stride_of r.width → t ≡ stride_of held.width → IsCommon r held (64 * s) (64 * t) b → IsCommon r p.place (64 * stride_of r.width) (64 * stride_of p.place.width) b
-common_bits r held p s t b held-is s-is t-is common =
-    common_as r held p.place (64 * s) (64 * t) (64 * stride_of r.width) (64 * stride_of p.place.width) b held-is (ap (λ (n : ℕ). 64 * n) s-is) (ap (λ (n : ℕ). 64 * n) (t-is ∙ ap (λ (q : Rect). stride_of q.width) held-is)) common
+common_bits : (r held : Rect) (p : Patch ℕ) (b : Block) → held ≡ p.place → IsCommon r held (64 * stride_of r.width) (64 * stride_of held.width) b → IsCommon r p.place (64 * stride_of r.width) (64 * stride_of p.place.width) b
+common_bits r held p b held-is common = subst (λ (q : Rect). IsCommon r q (64 * stride_of r.width) (64 * stride_of q.width) b) held-is common
 
-pub bits_fit : (r held : Rect) (p : Patch ℕ) (s t : ℕ) (b : Block) (old from : List ℕ) → held ≡ p.place → s ≡ stride_of r.width → t ≡ stride_of held.width → IsCommon r held (64 * s) (64 * t) b → IsPacked r.width r.height old → IsWordsOf p from
-    → Fits b (64 * length old) (64 * length from)
-bits_fit r held p s t b old from held-is s-is t-is common packed words =
-    let old-size : r.height * (64 * stride_of r.width) ≡ 64 * length old = let size = packed.size in omega arith in
+-- the block in the words of the piece and in those of a window
+pub bits_fit_in : (r held : Rect) (p : Patch ℕ) (b : Block) (n : ℕ) (from : List ℕ) → held ≡ p.place → IsCommon r held (64 * stride_of r.width) (64 * stride_of held.width) b → r.height * (64 * stride_of r.width) ≡ n → IsWordsOf p from → Fits b n (64 * length from)
+bits_fit_in r held p b n from held-is common n-is words =
     let from-size : p.place.height * (64 * stride_of p.place.width) ≡ 64 * length from = let size = words.size in omega arith in
-    subst (λ (n : ℕ). Fits b n (64 * length from)) old-size
+    subst (λ (m : ℕ). Fits b m (64 * length from)) n-is
     (subst (Fits b (r.height * (64 * stride_of r.width))) from-size
-    (common_fits r p.place (64 * stride_of r.width) (64 * stride_of p.place.width) b (omega arith) (omega arith) (common_bits r held p s t b held-is s-is t-is common)))
+    (common_fits r p.place (64 * stride_of r.width) (64 * stride_of p.place.width) b (omega arith) (omega arith) (common_bits r held p b held-is common)))
 
-pub bits_shown : (r held : Rect) (p : Patch ℕ) (s t : ℕ) (b : Block) (old new from : List ℕ) → held ≡ p.place → s ≡ stride_of r.width → t ≡ stride_of held.width → IsCommon r held (64 * s) (64 * t) b → IsPasted b (bit_of old) (bit_of new) (bit_of from)
-    → IsShown r p.place (64 * stride_of r.width) (64 * stride_of p.place.width) (bit_of old) (bit_of new) (bit_of from)
-bits_shown r held p s t b old new from held-is s-is t-is common pasted =
-    common_shown r p.place (64 * stride_of r.width) (64 * stride_of p.place.width) b (bit_of old) (bit_of new) (bit_of from) (omega arith) (common_bits r held p s t b held-is s-is t-is common) pasted
+pub bits_fit : (r held : Rect) (p : Patch ℕ) (b : Block) (old from : List ℕ) → held ≡ p.place → IsCommon r held (64 * stride_of r.width) (64 * stride_of held.width) b → IsPacked r.width r.height old → IsWordsOf p from → Fits b (64 * length old) (64 * length from)
+bits_fit r held p b old from held-is common packed words = bits_fit_in r held p b (64 * length old) from held-is common (let size = packed.size in omega arith) words
+
+pub bits_shown : (r held : Rect) (p : Patch ℕ) (b : Block) (old new from : ℕ → ℕ) → held ≡ p.place → IsCommon r held (64 * stride_of r.width) (64 * stride_of held.width) b → IsPasted b old new from → IsShown r p.place (64 * stride_of r.width) (64 * stride_of p.place.width) old new from
+bits_shown r held p b old new from held-is common pasted = common_shown r p.place (64 * stride_of r.width) (64 * stride_of p.place.width) b old new from (omega arith) (common_bits r held p b held-is common) pasted
 
 -- ---- one piece after another
 

@@ -2,3 +2,4 @@
 mod Pasted
 mod WordRuns
 mod Laid
+mod Only

@@ -37,3 +37,7 @@ pub record IsRun {B : Type 0} (old new from : ℕ → B) (to at count : ℕ) : T
 pub record IsPasted {B : Type 0} (b : Block) (old new from : ℕ → B) : Type 0 where
   pub inside : (i j : ℕ) → i < b.width → j < b.high → new (b.start + (j * b.wide + i)) ≡ from (b.first + (j * b.own + i))
   pub outside : (p : ℕ) → ((i j : ℕ) → i < b.width → j < b.high → p ≢ b.start + (j * b.wide + i)) → new p ≡ old p
+
+-- all cells of the block that are read are v
+abbrev pub ReadsOnly : {B : Type 0} → Block → (ℕ → B) → B → Type 0
+ReadsOnly b from v = (i j : ℕ) → i < b.width → j < b.high → from (b.first + (j * b.own + i)) ≡ v

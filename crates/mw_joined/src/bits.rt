@@ -3,27 +3,15 @@
 
 ghost use Rattle.std.specs.Prelude.{◌≡◌, ◌+◌, ◌*◌, ◌/◌, ◌%◌, ◌<◌, ◌≤◌, ◌^◌, length};
 ghost use Rattle.mw_words.specs.Packed.{bit_of, samples_of, IsPacked};
-ghost use Rattle.mw_words.specs.Runs.{IsBlended};
 ghost use Rattle.mw_pieces.specs.Patches.{value_in, HasValues};
 ghost use Rattle.mw_joined.specs.Blocks.{Fits, IsPasted};
 ghost use Rattle.mw_joined.specs.Laid.{IsLaid};
 
-use crate::blocks::{Block, common};
+use crate::blocks::{Block, common_words};
 use mw_model::Rect;
 use mw_pieces::{Piece, Pieces};
 use mw_pixel::Bit;
-use mw_words::stride;
-
-/// The word with so many bits of another, its lowest ones, from a bit on.
-#[inline(always)]
-fn blended(word: u64, other: u64, lead: u32, count: u32) -> u64
-    requires some { 0 < count }
-    requires room { lead + count ≤ 64 }
-    ensures { IsBlended lead count word other result }
-{
-    let mask = (u64::MAX >> (64 - count)) << lead;
-    (word & !mask) | ((other << lead) & mask)
-}
+use mw_words::blended;
 
 /// Writes a block that lies in one column of words on both sides.
 fn copy_in_words(out: &mut [u64], from: &[u64], block: Block)
@@ -80,9 +68,7 @@ fn lay(out: &mut [u64], place: Rect, piece: &Piece<Bit>)
     ensures packed { IsPacked place.width place.height out.new }
     ensures laid { IsLaid place piece.now (samples_of place.width place.height out.old) (samples_of place.width place.height out.new) }
 {
-    let held = piece.place();
-    let (wide, own) = (64 * stride(place.width), 64 * stride(held.width));
-    if let Some(block) = common(place, held, wide, own) {
+    if let Some(block) = common_words(place, piece.place()) {
         copy_block(out, piece.plane().words().words(), block);
     }
 }

@@ -1,10 +1,12 @@
 //! Blocks: what a window and one of its pieces have in common.
 
-ghost use Rattle.std.specs.Prelude.{◌+◌, ◌<◌, ◌≤◌, ◌^◌, MatchOption};
+ghost use Rattle.std.specs.Prelude.{◌+◌, ◌*◌, ◌<◌, ◌≤◌, ◌^◌, MatchOption};
+ghost use Rattle.mw_words.specs.Packed.{stride_of};
 ghost use Rattle.mw_joined.specs.Blocks.{IsApart, IsCommon};
 
 use mw_model::Rect;
 use mw_pieces::overlap;
+use mw_words::stride;
 
 /// Columns and rows of cells that are copied from one list of cells into another.
 #[derive(Clone, Copy)]
@@ -43,4 +45,20 @@ pub(crate) fn common(place: Rect, held: Rect, wide: usize, own: usize) -> Option
         width: here.width as usize,
         high: here.height as usize,
     })
+}
+
+/// The same of rectangles of sets, in bits of their words.
+pub(crate) fn common_words(place: Rect, held: Rect) -> Option<Block>
+    requires across { place.x + place.width < 2 ^ 32 }
+    requires down { place.y + place.height < 2 ^ 32 }
+    requires across_other { held.x + held.width < 2 ^ 32 }
+    requires down_other { held.y + held.height < 2 ^ 32 }
+    ensures { MatchOption result (IsApart place held) (IsCommon place held (64 * stride_of place.width) (64 * stride_of held.width)) }
+{
+    common(
+        place,
+        held,
+        64 * stride(place.width),
+        64 * stride(held.width),
+    )
 }

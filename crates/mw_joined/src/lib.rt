@@ -9,6 +9,7 @@
 mod bits;
 mod blocks;
 mod levels;
+mod uniform;
 mod windows;
 
 pub use mw_model::NoMemory;

@@ -1,8 +1,9 @@
 //! Windows that are put together.
 
 ghost use Rattle.std.specs.Prelude.{◌≡◌, IfOk};
-ghost use Rattle.mw_pieces.specs.Patches.{IsJoined};
+ghost use Rattle.mw_pieces.specs.Patches.{IsJoined, IsWholeOf};
 
+use crate::uniform::only_pixel;
 use crate::{bits, levels};
 use mw_model::NoMemory;
 use mw_pieces::{Pieces, PiecesView, SharedWindow};
@@ -41,6 +42,31 @@ fn of_levels<P: Grey>(alloc: Global, pieces: &Pieces<P>) -> Result<Window<P>, No
     Ok(Window::new(width, height, place, plane))
 }
 
+/// The pixels of a window, laid piece by piece.
+fn laid(alloc: Global, pieces: &Pieces<Bit>) -> Result<Words, NoMemory>
+    ensures { IfOk result (IsWholeOf pieces.now) }
+{
+    let place = pieces.place();
+    // for what holds of all pieces
+    let _pieces = pieces.pieces();
+    let mut words = repeated(alloc, place.height as usize * stride(place.width), 0)?;
+    bits::lay_all(&mut words, pieces);
+    Ok(Words::new(place.width, place.height, words))
+}
+
+/// The pixels of a window.
+fn pixels_of(alloc: Global, pieces: &Pieces<Bit>) -> Result<Words, NoMemory>
+    ensures { IfOk result (IsWholeOf pieces.now) }
+{
+    match only_pixel(pieces) {
+        Some(is_set) => {
+            let place = pieces.place();
+            Words::filled(alloc, place.width, place.height, is_set)
+        }
+        None => laid(alloc, pieces),
+    }
+}
+
 /// The window of a set.
 fn of_set(alloc: Global, pieces: &Pieces<Bit>) -> Result<Window<Bit>, NoMemory>
     ensures { IfOk result (IsJoined pieces.now) }
@@ -48,10 +74,8 @@ fn of_set(alloc: Global, pieces: &Pieces<Bit>) -> Result<Window<Bit>, NoMemory>
     let (width, height, place) = (pieces.frame_width(), pieces.frame_height(), pieces.place());
     // for what holds of all pieces
     let _pieces = pieces.pieces();
-    let mut words = repeated(alloc, place.height as usize * stride(place.width), 0)?;
-    bits::lay_all(&mut words, pieces);
-    let plane = Plane::of_words(Words::new(place.width, place.height, words));
-    Ok(Window::new(width, height, place, plane))
+    let words = pixels_of(alloc, pieces)?;
+    Ok(Window::new(width, height, place, Plane::of_words(words)))
 }
 
 /// The window, put together. Where one piece is the window, it is one more owner of that piece's samples; else it has

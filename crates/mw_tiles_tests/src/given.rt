@@ -97,7 +97,7 @@ fn tile_of(
 }
 
 /// Places a tile over what stands in its place.
-fn place_over(plane: &mut TiledPlane, i: u32, tile: Tile)
+pub(crate) fn place_over(plane: &mut TiledPlane, i: u32, tile: Tile)
     requires within { i < tile_count plane.old.tiling }
     requires count { length plane.old.tiles ≡ tile_count plane.old.tiling }
     requires stands { MayStand plane.old.kind plane.old.maxval (tile_at plane.old.tiling i) tile }
@@ -149,23 +149,26 @@ fn is_kind(kind: Kind, maxval: u16) -> bool
     }
 }
 
-/// The tiles of a frame, of 64 pixels a side.
-pub(crate) fn grid_of(width: u32, height: u32) -> Result<Grid, Fail> {
+/// The tiles of a frame, of so many pixels a side.
+pub(crate) fn grid_of(width: u32, height: u32, side: u32) -> Result<Grid, Fail> {
     if !(1 <= width && width <= 8192 && 1 <= height && height <= 8192) {
         return Err("sides of a grid".into());
     }
-    Ok(Grid::new(width, height, 64))
+    if !(64 <= side && side <= 1024 && side % 64 == 0) {
+        return Err("a side of tiles".into());
+    }
+    Ok(Grid::new(width, height, side))
 }
 
-/// The plane of an image, with all tiles placed.
-pub(crate) fn tiled(alloc: Global, image: &PlainImage) -> Result<TiledPlane, Fail>
+/// The plane of an image, with all its tiles of so many pixels a side placed.
+pub(crate) fn tiled(alloc: Global, image: &PlainImage, side: u32) -> Result<TiledPlane, Fail>
     ensures { IfOk result AllPlaced }
 {
     let (kind, maxval) = (image.kind(), image.maxval());
     if !is_kind(kind, maxval) {
         return Err("a maxval of the kind".into());
     }
-    let grid = grid_of(image.width(), image.height())?;
+    let grid = grid_of(image.width(), image.height(), side)?;
     let mut plane = TiledPlane::new(alloc, kind, maxval, grid)?;
     place_all(alloc, &mut plane, image, grid.len())?;
     Ok(plane)
@@ -175,7 +178,7 @@ pub(crate) fn tiled(alloc: Global, image: &PlainImage) -> Result<TiledPlane, Fai
 pub(crate) fn one_tile(alloc: Global, tile: Arc<Plane<u8>>) -> Result<TiledPlane, Fail>
     ensures { IfOk result AllPlaced }
 {
-    let grid = grid_of(tile.width(), tile.height())?;
+    let grid = grid_of(tile.width(), tile.height(), 64)?;
     let rect = grid.rect(0);
     if grid.len() != 1 || rect.width != tile.width() || rect.height != tile.height() {
         return Err("the sides of one tile".into());

@@ -2,6 +2,8 @@
 #![tactic(auto)]
 
 #[cfg(test)]
+mod dotted;
+#[cfg(test)]
 mod given;
 #[cfg(test)]
 mod numbers;

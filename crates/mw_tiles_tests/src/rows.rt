@@ -31,7 +31,7 @@ fn has_rows<P: Planar>(alloc: Global, tiles: &TiledRows<P>, levels: &[u16]) -> R
 fn rows_over_seams(rt: HostRuntime) -> Result<(), Fail> {
     for (kind, maxval) in [(Kind::Bit, 1), (Kind::Grey, 255), (Kind::Grey, 999)] {
         let image = noise(rt.alloc(), kind, 150, 140, maxval)?;
-        let plane = WholePlane::of(tiled(rt.alloc(), &image)?);
+        let plane = WholePlane::of(tiled(rt.alloc(), &image, 64)?);
         let same = match plane.view() {
             TilesView::Bits(tiles) => has_rows(rt.alloc(), &tiles, image.samples())?,
             TilesView::Grey8(tiles, _) => has_rows(rt.alloc(), &tiles, image.samples())?,

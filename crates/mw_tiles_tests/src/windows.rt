@@ -2,6 +2,7 @@
 
 use crate::given::{matches_in, same, tiled, wanted, window_in};
 use mw_images_for_tests::{has_levels, image, noise, rect};
+use mw_joined::joined;
 use mw_model::plain::PlainImage;
 use mw_model::{Kind, Rect};
 use mw_pixel::{Image, View};
@@ -29,7 +30,7 @@ fn rectangles() -> [Rect; 9] {
 }
 
 fn same_windows(rt: &impl Abort, alloc: Global, image: &PlainImage) -> Result<(), Fail> {
-    let plane = tiled(alloc, image)?;
+    let plane = tiled(alloc, image, 64)?;
     for place in rectangles() {
         let expected = wanted(alloc, image, place)?;
         let window = window_in(alloc, &plane, place)?;
@@ -48,11 +49,37 @@ fn windows_over_seams(rt: HostRuntime) -> Result<(), Fail> {
     Ok(())
 }
 
+/// Whether windows of tiles of so many pixels a side are the same put together in blocks and row by row.
+fn same_in_blocks(alloc: Global, image: &PlainImage, side: u32) -> Result<bool, Fail> {
+    let plane = tiled(alloc, image, side)?;
+    for place in [
+        rect(63, 63, 66, 66),
+        rect(62, 62, 68, 68),
+        rect(0, 0, 130, 129),
+        rect(126, 127, 24, 13),
+    ] {
+        let window = window_in(alloc, &plane, place)?;
+        if !joined(alloc, &window)?.same(&window.joined(alloc)?) {
+            return Ok(false);
+        }
+    }
+    Ok(true)
+}
+
+#[test]
+fn windows_around_tiles(rt: HostRuntime) -> Result<(), Fail> {
+    let image = noise(rt.alloc(), Kind::Bit, 150, 140, 1)?;
+    for side in [64, 128] {
+        assert!(rt; same_in_blocks(rt.alloc(), &image, side)?);
+    }
+    Ok(())
+}
+
 #[test]
 fn frames_of_one_pixel(rt: HostRuntime) -> Result<(), Fail> {
     for (kind, maxval) in KINDS {
         let image = noise(rt.alloc(), kind, 1, 1, maxval)?;
-        let plane = tiled(rt.alloc(), &image)?;
+        let plane = tiled(rt.alloc(), &image, 64)?;
         plane_is_of_an_image(&plane);
         let expected = wanted(rt.alloc(), &image, rect(0, 0, 1, 1))?;
         let window = window_in(rt.alloc(), &plane, rect(0, 0, 1, 1))?;
@@ -82,7 +109,7 @@ fn other_windows_do_not_match(rt: HostRuntime) -> Result<(), Fail> {
     let whole = rect(0, 0, 150, 140);
     for (kind, maxval) in KINDS {
         let image = noise(rt.alloc(), kind, 150, 140, maxval)?;
-        let plane = tiled(rt.alloc(), &image)?;
+        let plane = tiled(rt.alloc(), &image, 64)?;
         let other = with_other_last(rt.alloc(), &image)?;
         let last = wanted(rt.alloc(), &other, whole)?;
         assert!(rt; !matches_in(&plane, whole, &last));
@@ -99,8 +126,8 @@ fn windows_of_another_kind_do_not_match(rt: HostRuntime) -> Result<(), Fail> {
     let grey = noise(rt.alloc(), Kind::Grey, 150, 140, 1)?;
     let place = rect(60, 60, 10, 10);
     let window = wanted(rt.alloc(), &grey, place)?;
-    assert!(rt; !matches_in(&tiled(rt.alloc(), &set)?, place, &window));
-    assert!(rt; matches_in(&tiled(rt.alloc(), &grey)?, place, &window));
+    assert!(rt; !matches_in(&tiled(rt.alloc(), &set, 64)?, place, &window));
+    assert!(rt; matches_in(&tiled(rt.alloc(), &grey, 64)?, place, &window));
     Ok(())
 }
 
@@ -116,7 +143,7 @@ fn shows_levels(image: &Image, levels: &[u16]) -> bool {
 fn images_in_one_piece(rt: HostRuntime) -> Result<(), Fail> {
     for (kind, maxval) in KINDS {
         let image = noise(rt.alloc(), kind, 150, 140, maxval)?;
-        let whole = tiled(rt.alloc(), &image)?.image(rt.alloc())?;
+        let whole = tiled(rt.alloc(), &image, 64)?.image(rt.alloc())?;
         assert!(rt; whole.kind() == kind && whole.maxval() == maxval);
         assert!(rt; whole.width() == 150 && whole.height() == 140);
         assert!(rt; shows_levels(&whole, image.samples()));
