@@ -19,11 +19,13 @@ ghost use Rattle.mw_bits.specs.Waiting.{with_waiting};
 ghost use Rattle.mw_bits.specs.Layouts.{AreNear, IsNear};
 
 use crate::WordExtremum;
-use crate::sizes::{Sizes, counts_of, next_size};
+use crate::sizes::next_size;
 use crate::spread::spread;
 use mw_model::{NoMemory, Rect};
 use mw_pixel::Bit;
-use mw_run::{Extent, Run, columns_after, first_column, first_row, rows_after, start_of_run};
+use mw_run::{
+    Extent, Run, Sizes, columns_after, counts_of, first_column, first_row, rows_after, start_of_run,
+};
 use mw_tile::Window;
 use mw_word_rows::{combine_ahead, combine_both, combine_from};
 use mw_words::{repeated, stride, trimmed};

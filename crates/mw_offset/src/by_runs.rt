@@ -14,12 +14,14 @@ ghost use Rattle.mw_offset.specs.Places.{places_of, sized_below};
 ghost use Rattle.mw_run.specs.Runs.{run_offsets, start_of, IsInside, HasRoom, two_parts, gather};
 
 use crate::places::combine_rows_at;
-use crate::sizes::{Sizes, counts_of, longest_of, next_size};
+use crate::sizes::{longest_of, next_size};
 use crate::spread::{Rows, spread};
 use mw_lane::combine_ahead;
 use mw_model::{NoMemory, Rect};
 use mw_pixel::{Extremum, Grey, Pixel};
-use mw_run::{Extent, Run, columns_after, first_column, first_row, rows_after, start_of_run};
+use mw_run::{
+    Extent, Run, Sizes, columns_after, counts_of, first_column, first_row, rows_after, start_of_run,
+};
 use mw_tile::Window;
 use std::alloc::Global;
 

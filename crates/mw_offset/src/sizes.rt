@@ -1,18 +1,9 @@
 //! How many samples the cells stand for while they grow, and which runs are merged then.
-ghost use Rattle.std.specs.Prelude.{◌≡◌, ◌+◌, ◌*◌, ◌<◌, ◌≤◌, ◌^◌, vec_len, IfOk};
+ghost use Rattle.std.specs.Prelude.{◌≡◌, ◌*◌, ◌<◌, ◌≤◌, ◌^◌};
 ghost use Rattle.std.specs.List.{AllByRecursion};
 ghost use Rattle.mw_run.specs.declared.runs.Run.{Run};
 
-use mw_model::NoMemory;
-use mw_run::Run;
-use std::alloc::Global;
-
-/// The size of the cells' parts, and that which comes next: runs from the one on, and below the other, are two parts each.
-#[derive(Clone, Copy)]
-pub(crate) struct Sizes {
-    pub(crate) least: usize,
-    pub(crate) next: usize,
-}
+use mw_run::{Run, Sizes};
 
 /// The longest run's length.
 pub(crate) fn longest_of(runs: &[Run]) -> usize
@@ -24,20 +15,6 @@ pub(crate) fn longest_of(runs: &[Run]) -> usize
         longest = longest.max(runs[i].count);
     }
     longest as usize
-}
-
-/// How many runs have each length.
-pub(crate) fn counts_of(alloc: Global, runs: &[Run], longest: usize) -> Result<Vec<usize>, NoMemory>
-    requires all { AllByRecursion (λ (r : Run). r.count ≤ longest) runs.now }
-    requires small { longest < 2 ^ 32 }
-    ensures { IfOk result (λ v. vec_len v ≡ longest + 1) }
-{
-    let mut counts = vec![in alloc; 0usize; longest + 1]?;
-    for i in 0..runs.len() {
-        let count = runs[i].count as usize;
-        counts[count] = counts[count].saturating_add(1);
-    }
-    Ok(counts)
 }
 
 /// The size that comes after that one: twice as much, or a length between that has so many runs that one merge less for

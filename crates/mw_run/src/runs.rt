@@ -94,15 +94,28 @@ fn opposite(alloc: Global, offsets: &[Offset]) -> Result<Vec<Offset>, NoMemory>
     Ok(turned)
 }
 
-/// The list's runs, or, where none of them has two offsets, those of the list in the opposite order: so a reflected element
-/// has as few runs as the element. For an extremum, which takes no notice of the order.
+/// Whether the list in the opposite order has fewer runs: each offset that continues the one before it saves one.
+fn is_shorter_turned(offsets: &[Offset]) -> bool {
+    let (mut onward, mut back) = (0usize, 0usize);
+    for i in 1..offsets.len() {
+        let (before, here) = (offsets[i - 1], offsets[i]);
+        if continues(before, 1, here) {
+            onward += 1;
+        } else if continues(here, 1, before) {
+            back += 1;
+        }
+    }
+    onward < back
+}
+
+/// The list's runs, or, where these are fewer, those of the list in the opposite order: so a reflected element has as few
+/// runs as the element. For an extremum, which takes no notice of the order.
 pub fn runs_either_way(alloc: Global, offsets: &[Offset]) -> Result<Vec<Run>, NoMemory>
     ensures offsets { IfOk result (λ v. AreEitherWay offsets.now v.items) }
     ensures runs { IfOk result (λ v. AllByRecursion IsRun v.items) }
 {
-    let runs = runs_of(alloc, offsets)?;
-    if runs.len() < offsets.len() {
-        return Ok(runs);
+    if !is_shorter_turned(offsets) {
+        return runs_of(alloc, offsets);
     }
     let turned = opposite(alloc, offsets)?;
     runs_of(alloc, turned.as_slice())

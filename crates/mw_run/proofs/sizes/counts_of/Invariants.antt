@@ -1,5 +1,5 @@
 use Rattle.std.proofs.Common.{◌≡◌, ◌+◌, vec_len}
-use Rattle.mw_offset.proofs.sizes.counts_of.Given as goal
+use Rattle.mw_run.proofs.sizes.counts_of.Given as goal
 
 abbrev pub invariant-loop-i : goal.invariant-loop-i
 invariant-loop-i l = vec_len l.counts ≡ l.longest + 1

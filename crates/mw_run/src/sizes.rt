@@ -1,0 +1,30 @@
+//! How many samples a cell stands for while cells grow, so that a run of any length is two of them, and how many runs have each
+//! length.
+ghost use Rattle.std.specs.Prelude.{◌≡◌, ◌+◌, ◌<◌, ◌≤◌, ◌^◌, vec_len, IfOk};
+ghost use Rattle.std.specs.List.{AllByRecursion};
+ghost use Rattle.mw_run.specs.declared.runs.Run.{Run};
+
+use crate::runs::Run;
+use mw_model::NoMemory;
+use std::alloc::Global;
+
+/// The samples of a cell, and those of a cell that comes next: runs from the one on, and below the other, are two cells each.
+#[derive(Clone, Copy)]
+pub struct Sizes {
+    pub least: usize,
+    pub next: usize,
+}
+
+/// How many runs have each length, up to the longest.
+pub fn counts_of(alloc: Global, runs: &[Run], longest: usize) -> Result<Vec<usize>, NoMemory>
+    requires all { AllByRecursion (λ (r : Run). r.count ≤ longest) runs.now }
+    requires small { longest < 2 ^ 32 }
+    ensures { IfOk result (λ v. vec_len v ≡ longest + 1) }
+{
+    let mut counts = vec![in alloc; 0usize; longest + 1]?;
+    for i in 0..runs.len() {
+        let count = runs[i].count as usize;
+        counts[count] = counts[count].saturating_add(1);
+    }
+    Ok(counts)
+}
