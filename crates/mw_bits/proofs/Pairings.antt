@@ -1,12 +1,16 @@
 -- Sets that are put together place by place.
-use Rattle.std.proofs.Common.{◌≡◌, ℕ, ◌+◌, ◌*◌, ◌<◌, List, length, get_or, map, ap, sym, arith, ◌∙◌}
+use Rattle.std.proofs.Common.{◌≡◌, ℕ, ◌+◌, ◌-◌, ◌*◌, ◌/◌, ◌%◌, ◌<◌, List, [], length, get_or, map, ap, sym, arith, ◌∙◌, inl, inr}
+use Rattle.std.specs.Int.{bit_at}
+use Rattle.std.proofs.lemmas.Bool.{cases_lt}
 use Rattle.std.proofs.lemmas.List.{get_or-map, length-map}
 use Rattle.std.proofs.lemmas.Nat.{mul-add-lt}
 use Rattle.std.proofs.lemmas.Simd.{get_or-zip2, length-zip2}
 use Rattle.mw_line.proofs.Rows.{rows_fit}
 use Rattle.mw_words.specs.Packed.{bit_of, stride_of, samples_of, IsPacked}
-use Rattle.mw_words.proofs.Bits.{length-samples_of, sample_is_bit, samples_are_bits}
+use Rattle.mw_words.proofs.Bits.{bit_of_its_word, bit_of_past, length-samples_of, sample_is_bit, samples_are_bits}
 use Rattle.mw_word_rows.proofs.Packs.{stride_wide}
+use Rattle.mw_bits.specs.Uniform.{HasOnly}
+use Rattle.mw_bits.proofs.UniformSeen.{only_of_bits}
 use lib.Lanes.{zip2}
 
 -- a place of a row lies in the words
@@ -52,3 +56,22 @@ mapped_samples f w h a made made-is =
 
 pub flipped_place : (w h x y n : ℕ) → n ≡ h * stride_of w → x < w → y < h → y * (64 * stride_of w) + x < 64 * n
 flipped_place w h x y n n-is less row_less = let lies = place_lies w h x y (stride_wide w x less) row_less in omega (arith, lies, n-is)
+
+-- words of which no bit is outside others
+pub none_outside : (words others : List ℕ) → ((k : ℕ) → k < length words → (i : ℕ) → i < 64 → bit_at (get_or words k 0) i - bit_at (get_or others k 0) i ≡ 0) → (q : ℕ) → bit_of words q - bit_of others q ≡ 0
+none_outside words others none q =
+    elim (cases_lt (q / 64) (length words)) [
+      | inl inside ↦
+          ap (λ (t : ℕ). t - bit_of others q) (bit_of_its_word words q)
+          ∙ ap (λ (t : ℕ). bit_at (get_or words (q / 64) 0) (q % 64) - t) (bit_of_its_word others q)
+          ∙ none (q / 64) inside (q % 64) (omega arith)
+      | inr past ↦ let blank = bit_of_past words q (omega arith) in omega (arith, blank)
+    ]
+
+-- and their samples
+pub paired_none : (w h : ℕ) (words others a b : List ℕ) → a ≡ samples_of w h words → b ≡ samples_of w h others → ((q : ℕ) → bit_of words q - bit_of others q ≡ 0) → HasOnly 0 (zip2 (λ (m n : ℕ). m - n) a b)
+paired_none w h words others a b a-is b-is none =
+    let less : ℕ → ℕ → ℕ = λ m n. m - n in
+    only_of_bits 0 w h [] (zip2 less a b)
+    (ap (λ (t : List ℕ). zip2 less t b) a-is ∙ ap (zip2 less (samples_of w h words)) b-is ∙ sym (paired_samples less w h words others [] (λ q lt. bit_of_past [] q (omega arith) ∙ sym (none q))))
+    (λ x y lt row_lt. bit_of_past [] _ (omega arith))

@@ -31,5 +31,6 @@ pub use kernel::extremum;
 pub use levels::{at_least, equal};
 pub use mw_model::NoMemory;
 pub use mw_word_rows::WordExtremum;
-pub use pairs::{invert, join, meet, minus};
+pub use pairs::{invert, is_within, join, meet, minus};
+pub use uniform::is_blank;
 pub use unpacked::as_levels;

@@ -27,6 +27,14 @@ fn are_clear(words: &[u64]) -> bool
     true
 }
 
+/// Whether the set has no pixel. The first word that has one ends the look.
+pub fn is_blank(set: &Window<Bit>) -> bool
+    ensures only { IsTrue result → HasOnly 0 set.now.cells }
+    ensures size { length set.now.cells ≡ set.now.place.height * set.now.place.width }
+{
+    are_clear(words_of(set))
+}
+
 /// Whether all words have all bits.
 fn are_full(words: &[u64]) -> bool
     ensures { IsTrue result → (q : ℕ) → q < 64 * length words.now → bit_of words.now q ≡ 1 }
@@ -79,7 +87,7 @@ fn is_full(set: &Window<Bit>) -> bool
 fn only_pixel(set: &Window<Bit>) -> Option<bool>
     ensures { IfSome result (λ b. HasOnly (cond b 1 0) set.now.cells) }
 {
-    if are_clear(words_of(set)) {
+    if is_blank(set) {
         return Some(false);
     }
     if is_full(set) {

@@ -6,4 +6,5 @@ mod PlaceByPlace
 mod OfTasks
 mod SameMembers
 mod SetRanks
+mod Shared
 mod Slid

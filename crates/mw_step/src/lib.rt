@@ -16,6 +16,7 @@ mod painting;
 mod pairs;
 mod pointwise;
 mod ranks;
+mod sharing;
 mod singles;
 mod sliding;
 mod thresholds;

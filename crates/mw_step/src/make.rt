@@ -9,6 +9,7 @@ use crate::marks::{mark, mark_last};
 use crate::pairs::{merge, minus};
 use crate::singles::{at_least, blank, equal, invert, sum_up};
 use mw_model::NoMemory;
+use mw_pieces::SharedWindow;
 use mw_pixel::{Max, Min};
 use mw_task::{Step, TaskRefused, TileDone, TileResult, Work};
 use mw_tile::AnyWindow;
@@ -25,6 +26,14 @@ fn source<'a>(work: &Work, windows: &'a [AnyWindow], k: usize) -> &'a AnyWindow
     // for the windows that fit the step
     let _fits = work.windows();
     &windows[k]
+}
+
+/// The same window as the pieces that it was put together from.
+fn in_pieces(work: &Work, k: usize) -> &SharedWindow
+    requires { k < source_count work.now.step }
+    ensures { result.now ≡ window_at work.now.windows k }
+{
+    &work.windows()[k]
 }
 
 /// Makes what the step makes of the windows in the tile. Refused where memory is.
@@ -83,6 +92,7 @@ fn made_of(alloc: Global, work: &Work, windows: &[AnyWindow]) -> Result<TileResu
         Step::Mark(v) => mark(
             alloc,
             *v,
+            in_pieces(work, 0),
             source(work, windows, 0),
             source(work, windows, 1),
             source(work, windows, 2),
@@ -90,6 +100,7 @@ fn made_of(alloc: Global, work: &Work, windows: &[AnyWindow]) -> Result<TileResu
         Step::MarkLast(v) => mark_last(
             alloc,
             *v,
+            in_pieces(work, 0),
             source(work, windows, 0),
             source(work, windows, 1),
         ),

@@ -1,4 +1,4 @@
-//! Steps that mark the places of sets with a level.
+//! Steps that mark the places of sets with a level. Where no place is to be marked, the first source is made again.
 
 ghost use Rattle.std.specs.Prelude.{◌≡◌, ◌*◌, ◌≤◌, ◌==◌, ◌&&◌, if◌then◌else◌, length, IfOk};
 ghost use lib.Lanes.{zip2};
@@ -7,8 +7,10 @@ ghost use Rattle.mw_task.specs.Products.{HoldsImage, both_drawn, three_drawn, pl
 
 use crate::kinds::{bits_of, of_samples, sample_of};
 use crate::painting::{marked, marked_set, without};
-use crate::thresholds::is_sound;
+use crate::sharing::shared;
+use mw_bits::{is_blank, is_within};
 use mw_model::NoMemory;
+use mw_pieces::SharedWindow;
 use mw_pixel::Bit;
 use mw_task::TileResult;
 use mw_tile::{AnyWindow, Window};
@@ -38,16 +40,22 @@ fn mark_places(
 pub(crate) fn mark_last(
     alloc: Global,
     v: u16,
+    held: &SharedWindow,
     a: &AnyWindow,
     set: &AnyWindow,
 ) -> Result<TileResult, NoMemory>
+    requires held { held.now ≡ a.now }
     requires place { a.now.view.place ≡ set.now.view.place }
     requires level { v ≤ a.now.maxval }
     requires set { set.now.kind ≡ kind.Bit }
     ensures { IfOk result (HoldsImage (both_drawn a.now.kind a.now.maxval (λ s m. if m == 1 then v else s) a.now.view set.now.view)) }
 {
     let places = bits_of(set);
-    is_sound(places);
+    if is_blank(places) {
+        if let Some(made) = shared(held)? {
+            return Ok(made);
+        }
+    }
     mark_places(alloc, v, a, places)
 }
 
@@ -55,10 +63,12 @@ pub(crate) fn mark_last(
 pub(crate) fn mark(
     alloc: Global,
     v: u16,
+    held: &SharedWindow,
     a: &AnyWindow,
     set: &AnyWindow,
     other: &AnyWindow,
 ) -> Result<TileResult, NoMemory>
+    requires held { held.now ≡ a.now }
     requires place { a.now.view.place ≡ set.now.view.place }
     requires other_place { set.now.view.place ≡ other.now.view.place }
     requires level { v ≤ a.now.maxval }
@@ -66,6 +76,12 @@ pub(crate) fn mark(
     requires other { other.now.kind ≡ kind.Bit }
     ensures { IfOk result (HoldsImage (three_drawn a.now.kind a.now.maxval (λ s m n. if m == 1 && n == 0 then v else s) a.now.view set.now.view other.now.view)) }
 {
-    let places = without(alloc, bits_of(set), bits_of(other))?;
-    mark_places(alloc, v, a, &places)
+    let (places, others) = (bits_of(set), bits_of(other));
+    if is_within(places, others) {
+        if let Some(made) = shared(held)? {
+            return Ok(made);
+        }
+    }
+    let rest = without(alloc, places, others)?;
+    mark_places(alloc, v, a, &rest)
 }

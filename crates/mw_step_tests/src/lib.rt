@@ -8,6 +8,8 @@
 #[cfg(test)]
 mod given;
 #[cfg(test)]
+mod marks;
+#[cfg(test)]
 mod sources;
 #[cfg(test)]
 mod tasks;
