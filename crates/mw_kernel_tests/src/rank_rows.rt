@@ -3,7 +3,8 @@
 use mw_images_for_tests::{noise, plane_of, rect};
 use mw_model::{Kind, Offset, Rect};
 use mw_pixel::Plane;
-use mw_rank::{Counted, rank};
+use mw_rank::rank;
+use mw_rank_counts::Counted;
 use mw_rank_rows::rank_of_grey;
 use mw_tile::Window;
 use std::alloc::Global;

@@ -7,7 +7,8 @@ use mw_images_for_tests::{
 use mw_model::plain::PlainImage;
 use mw_model::{Kind, Rect, plain};
 use mw_pixel::Plane;
-use mw_rank::{Counted, rank, rank_of_grey};
+use mw_rank::rank;
+use mw_rank_counts::{Counted, rank_of_grey};
 use mw_tile::Window;
 use std::alloc::Global;
 use std::process::Abort;

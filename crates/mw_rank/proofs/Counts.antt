@@ -7,7 +7,6 @@ use Rattle.mw_facts.proofs.Numbers.{one_if}
 use Rattle.mw_model.specs.PlanSteps.{ranked}
 use Rattle.mw_model.proofs.PlainRanks.{nth_from}
 use Rattle.mw_rank.specs.declared.histogram.Histogram.{Histogram}
-use Rattle.mw_rank.specs.Counting.{levels_on}
 use Rattle.mw_rank.specs.Tallies.{count_under, Tallies}
 
 pub count-cons : (limit n : ℕ) (ns : List ℕ) → count_under limit (n ∷ ns) ≡ cond (nat_lt n limit) 1 0 + count_under limit ns
@@ -25,29 +24,6 @@ one-le s v le = rw (le-ltb s v le) refl
 pub count-zero : (ns : List ℕ) → count_under 0 ns ≡ 0
 count-zero [] = refl
 count-zero (n ∷ ns) = omega (arith, count-cons 0 n ns, one-le n 0 (omega arith), count-zero ns)
-
--- the levels at the places, so many columns on, where all are below the limit, or none
-pub count_all : {A : Type 0} (level : A → ℕ) (d : A) (samples : List A) (limit i : ℕ) (places : List ℕ) → ((q : ℕ) → q < length places → level (get_or samples (get_or places q 0 + i) d) < limit)
-    → count_under limit (levels_on level d samples places i) ≡ length places
-count_all level d samples limit i [] low = refl
-count_all level d samples limit i (p ∷ ps) low =
-    omega (
-      arith,
-      count-cons limit (level (get_or samples (p + i) d)) (levels_on level d samples ps i),
-      one-lt (level (get_or samples (p + i) d)) limit (low 0 (omega arith)),
-      count_all level d samples limit i ps (λ q lt. low (suc q) (omega arith)),
-    )
-
-pub count_none : {A : Type 0} (level : A → ℕ) (d : A) (samples : List A) (limit i : ℕ) (places : List ℕ) → ((q : ℕ) → q < length places → limit ≤ level (get_or samples (get_or places q 0 + i) d))
-    → count_under limit (levels_on level d samples places i) ≡ 0
-count_none level d samples limit i [] high = refl
-count_none level d samples limit i (p ∷ ps) high =
-    omega (
-      arith,
-      count-cons limit (level (get_or samples (p + i) d)) (levels_on level d samples ps i),
-      one-le (level (get_or samples (p + i) d)) limit (high 0 (omega arith)),
-      count_none level d samples limit i ps (λ q lt. high (suc q) (omega arith)),
-    )
 
 -- two lists count alike
 pub record Same (ns ms : List ℕ) : Type 0 where

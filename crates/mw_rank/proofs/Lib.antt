@@ -4,9 +4,6 @@ pub mod Sights
 pub mod Moves
 pub mod Elements
 pub mod Rows
-pub mod Lanes
+pub mod Edges
 -- the crate's own
-mod Edges
 mod Parts
-mod Standing
-mod Seeking

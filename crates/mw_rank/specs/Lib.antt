@@ -2,4 +2,3 @@ pub mod Ranks
 pub mod Runs
 pub mod Tallies
 pub mod Ends
-pub mod Counting

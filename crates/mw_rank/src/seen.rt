@@ -12,7 +12,7 @@ use mw_run::{Run, place_of};
 use mw_tile::Window;
 
 /// The row of the window in which a run lies, where the window has it.
-pub(crate) fn row_in<P: Grey>(window: &Window<P>, run: Run, y: u64) -> Option<usize>
+pub fn row_in<P: Grey>(window: &Window<P>, run: Run, y: u64) -> Option<usize>
     requires { y ≤ 2 ^ 40 }
     ensures { MatchOption result ((column : ℤ) → cell_at (raster window.now.place.width window.now.place.height window.now.cells) column (pos y +ℤ run.dy -ℤ pos window.now.place.y) ≡ None) (λ row. (row < window.now.place.height) × (pos y +ℤ run.dy -ℤ pos window.now.place.y ≡ pos row)) }
 {

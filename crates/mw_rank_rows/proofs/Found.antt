@@ -12,7 +12,7 @@ use Rattle.mw_model.specs.PlanSteps.{ranked}
 use Rattle.mw_model.specs.Rasters.{raster, cell_at}
 use Rattle.mw_model.specs.Windows.{View, seen_at}
 use Rattle.mw_model.proofs.PlainRanks.{nth_from}
-use Rattle.mw_rank.specs.Counting.{AllUnder}
+use Rattle.mw_rank_counts.specs.Counting.{AllUnder}
 use Rattle.mw_rank.specs.Ranks.{levels_under, levels_at, HasRows}
 use Rattle.mw_rank.specs.Tallies.{count_under}
 use Rattle.mw_rank.proofs.Counts.{count-append, count-cons, count-zero, one-lt}

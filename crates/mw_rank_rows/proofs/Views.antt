@@ -13,7 +13,7 @@ use Rattle.mw_model.specs.declared.places.Rect.{Rect}
 use Rattle.mw_model.specs.Rasters.{Sight, raster, cell_at}
 use Rattle.mw_model.specs.Windows.{View, seen_at}
 use Rattle.mw_pixel.proofs.Cells.{cell_at-right, cell_at-below}
-use Rattle.mw_rank.specs.Counting.{AllUnder}
+use Rattle.mw_rank_counts.specs.Counting.{AllUnder}
 use Rattle.mw_rank.specs.Ranks.{levels_at}
 use Rattle.mw_rank.specs.Tallies.{count_under}
 use Rattle.mw_rank.proofs.Counts.{count-cons}

@@ -1,6 +1,6 @@
 -- What eight lanes hold, and the columns that enter and leave.
 use Rattle.std.specs.Prelude.{◌≡◌, ℕ, pos, ◌+ℤ◌, ◌-ℤ◌, ◌+◌, ◌-◌, ◌*◌, ◌<◌, ◌≤◌, List, length, min, slice_index_or}
-use Rattle.mw_rank.specs.Counting.{AllUnder}
+use Rattle.mw_rank_counts.specs.Counting.{AllUnder}
 use Rattle.mw_rank_rows.specs.declared.lanes.Lanes.{Lanes}
 use Rattle.mw_rank_rows.specs.declared.slide.Strip.{Strip}
 use Rattle.mw_rank_rows.specs.Columns.{total, column_count}

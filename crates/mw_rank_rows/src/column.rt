@@ -1,6 +1,6 @@
 //! Samples of a column enter eight lanes, or leave them.
 ghost use Rattle.std.specs.Prelude.{◌≡◌, ℕ, ◌+◌, ◌*◌, ◌<◌, ◌≤◌, length, nat_lt, cond, slice_index_or};
-ghost use Rattle.mw_rank.specs.Counting.{AllUnder};
+ghost use Rattle.mw_rank_counts.specs.Counting.{AllUnder};
 ghost use Rattle.mw_rank_rows.specs.Columns.{column_count};
 ghost use Rattle.mw_rank_rows.specs.Lanes.{Counts, Rises};
 

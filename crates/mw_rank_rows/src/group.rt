@@ -1,7 +1,7 @@
 //! Eight rows of results, of a window that may show a part of what they look at.
 ghost use Rattle.std.specs.Prelude.{◌≡◌, ℕ, ℤ, ◌+◌, ◌*◌, ◌<◌, ◌≤◌, ◌^◌, pos, negsuc, ◌≤ℤ◌, length, IsTrue, OnOk};
 ghost use Rattle.mw_model.specs.Windows.{seen_at};
-ghost use Rattle.mw_rank.specs.Counting.{AllUnder};
+ghost use Rattle.mw_rank_counts.specs.Counting.{AllUnder};
 ghost use Rattle.mw_rank_rows.specs.Rectangles.{AreRanks, AreMarks, IsRectangle, IsShown};
 ghost use Rattle.mw_rank_rows.specs.Tables.{Holds};
 

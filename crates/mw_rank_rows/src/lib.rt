@@ -1,6 +1,6 @@
 //! The rank filter under rectangles, eight rows at a time: as a moving histogram (Huang, Yang and Tang 1979), but each
 //! level has eight counters, one for each of eight rows of results, as a sample that enters or leaves one of them mostly
-//! does so of the rows beside it in the same step. Where that does not pay, the rank filter of `mw_rank`.
+//! does so of the rows beside it in the same step. Where that does not pay, the rank filter of `mw_rank_counts`.
 //!
 //! ```text
 //! let median = rank_of_grey(alloc, &window, offsets, (offsets.len() as u32 + 1) / 2, tile)?;

@@ -3,7 +3,7 @@ ghost use Rattle.std.specs.Prelude.{◌≡◌, ℕ, ◌+◌, ◌*◌, ◌<◌, �
 ghost use Rattle.mw_model.specs.PlanSteps.{ranked};
 ghost use Rattle.mw_model.specs.Rasters.{Raster, cell_at};
 ghost use Rattle.mw_model.specs.Windows.{seen_at};
-ghost use Rattle.mw_rank.specs.Counting.{AllUnder};
+ghost use Rattle.mw_rank_counts.specs.Counting.{AllUnder};
 ghost use Rattle.mw_rank.specs.Ranks.{levels_under, IsRank, HasRows};
 ghost use Rattle.mw_rank_rows.specs.Rectangles.{IsRectangle};
 ghost use Rattle.mw_tile.specs.Windows.{IsWindow};
@@ -14,7 +14,7 @@ use crate::marks::marks_of;
 use crate::rectangle::{Rectangle, rectangle_of};
 use mw_model::{NoMemory, Offset, Rect};
 use mw_pixel::{Grey, Plane, copies};
-use mw_rank::{Counted, bits_in};
+use mw_rank_counts::{Counted, bits_in};
 use mw_run::runs_of;
 use mw_tile::Window;
 use std::alloc::Global;
@@ -59,7 +59,7 @@ fn push_rest<P: Counted>(
         height: tile.height - done,
         ..tile
     };
-    let rows = mw_rank::rank_of_grey(alloc, window, wanted.offsets, wanted.k, rest)?;
+    let rows = mw_rank_counts::rank_of_grey(alloc, window, wanted.offsets, wanted.k, rest)?;
     push_from(out, rows.samples(), 0)?;
     Ok(())
 }
@@ -180,6 +180,6 @@ pub fn rank_of_grey<P: Counted>(
 {
     match side_by_side(alloc, window, offsets, k, tile)? {
         Some(samples) => Ok(Plane::new(tile.width, tile.height, samples)),
-        None => mw_rank::rank_of_grey(alloc, window, offsets, k, tile),
+        None => mw_rank_counts::rank_of_grey(alloc, window, offsets, k, tile),
     }
 }

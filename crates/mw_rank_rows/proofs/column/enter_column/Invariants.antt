@@ -1,5 +1,5 @@
 use Rattle.std.proofs.Common.{ℕ, ◌≡◌, ◌+◌, ◌<◌, length}
-use Rattle.mw_rank.specs.Counting.{AllUnder}
+use Rattle.mw_rank_counts.specs.Counting.{AllUnder}
 use Rattle.mw_rank_rows.specs.Columns.{column_count}
 use Rattle.mw_rank_rows.specs.Lanes.{Counts}
 use Rattle.mw_rank_rows.proofs.column.enter_column.Given as goal

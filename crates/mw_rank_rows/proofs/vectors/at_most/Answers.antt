@@ -2,7 +2,7 @@ use Rattle.std.proofs.Common.{ℕ, ◌≡◌, ◌∙◌, refl, arith, ltb, cond,
 use Rattle.std.specs.Int.{w16}
 use Rattle.std.proofs.lemmas.Bool.Decides.{nat_tests}
 use Rattle.std.proofs.lemmas.List.{get_or-replicate}
-use Rattle.mw_rank.proofs.Lanes.{chosen}
+use Rattle.mw_rank_counts.proofs.Lanes.{chosen}
 use Rattle.mw_rank_rows.proofs.vectors.at_most.Goals as goal
 
 pub returns-clause-size : goal.returns-clause-size

@@ -2,7 +2,7 @@ use Rattle.std.proofs.Common.{ℕ, List, ◌+◌, ◌∙◌, refl, arith, ltb, c
 use Rattle.std.specs.Int.{w16}
 use Rattle.mw_rank_rows.proofs.Eights.{one_if-le}
 use Rattle.std.proofs.lemmas.List.{get_or-replicate}
-use Rattle.mw_rank.proofs.Lanes.{chosen}
+use Rattle.mw_rank_counts.proofs.Lanes.{chosen}
 use Rattle.mw_rank_rows.proofs.vectors.one_more_below.Goals as goal
 
 pub plus-requires-clause-second : goal.plus-requires-clause-second

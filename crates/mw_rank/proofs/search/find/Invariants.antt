@@ -1,5 +1,0 @@
-use Rattle.mw_rank.proofs.Seeking.{AreBetween}
-use Rattle.mw_rank.proofs.search.find.Given as goal
-
-abbrev pub invariant-loop-bit : goal.invariant-loop-bit
-invariant-loop-bit g l = AreBetween g.P.Pixel.level g.P.Pixel.TOP l.samples l.places l.n l.bit l.found

@@ -1,0 +1,6 @@
+use Rattle.std.proofs.Common.{take}
+use Rattle.mw_rank_counts.proofs.Lanes.{HasCounted}
+use Rattle.mw_rank_counts.proofs.counted_16.counts_up_to.Given as goal
+
+abbrev pub invariant-loop-place : goal.invariant-loop-place
+invariant-loop-place l = HasCounted 65535 l.samples (take l.place-index l.places) l.last l.counts

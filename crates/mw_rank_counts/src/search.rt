@@ -1,0 +1,173 @@
+//! The search for a rank by counting, for blocks of columns, after Ataman, Aatre and Wong (1980): the level is found bit by
+//! bit from the highest, as it is the one of rank n if fewer than n levels are below it, and n or more below the next.
+//! Where levels of samples near one another are close, the search begins at the lowest in each column, with the bits by
+//! which the others are above it.
+ghost use Rattle.std.specs.Prelude.{◌≡◌, ℕ, ◌+◌, ◌-◌, ◌<◌, ◌≤◌, ◌^◌, length, slice_index_or, OnOk};
+ghost use Rattle.mw_model.specs.PlanSteps.{ranked};
+ghost use Rattle.mw_rank_counts.specs.Counting.{levels_on, HasPlaces, AllUnder, AreFrom};
+ghost use Rattle.mw_rank.specs.Ranks.{GainsRow};
+
+use crate::Counted;
+use mw_model::NoMemory;
+use mw_pixel::Pixel;
+use mw_rank::sample_of;
+
+/// The levels that samples have between them.
+#[derive(Clone, Copy)]
+struct Extent {
+    least: u16,
+    most: u16,
+}
+
+/// The least and the greatest level of the samples; where there are none, the greatest is 0.
+fn extent_of<P: Pixel>(samples: &[P]) -> Extent
+    ensures most { AllUnder P.level P.TOP samples.now (result.most + 1) }
+    ensures small { result.most ≤ P.top_level }
+{
+    let mut least = u16::MAX;
+    let mut most = 0;
+    for sample in samples {
+        least = least.min(sample.value());
+        most = most.max(sample.value());
+    }
+    Extent { least, most }
+}
+
+/// How many bits a level has.
+fn bits_of<P: Counted>(level: u16) -> u32
+    requires { level ≤ P.top_level }
+    ensures within { result ≤ P.BITS }
+    ensures small { level < 2 ^ result }
+{
+    let mut bits = 0;
+    while bits < P::BITS && level >> bits > 0 {
+        bits += 1;
+    }
+    bits
+}
+
+/// How many bits the levels of the samples have.
+pub fn bits_in<P: Counted>(samples: &[P]) -> u32
+    ensures within { result ≤ P.BITS }
+    ensures small { AllUnder P.level P.TOP samples.now (2 ^ result) }
+{
+    bits_of::<P>(extent_of(samples).most)
+}
+
+/// Whether levels of samples near one another are mostly so close that a look at how close they are saves more than it
+/// takes, which is the time of a bit. It looks at 32 of each 1000.
+pub(crate) fn are_close<P: Counted>(samples: &[P], bits: u32) -> bool {
+    let mut saved = 0u64;
+    let mut taken = 0u64;
+    for part in samples.chunks(1000) {
+        let extent = extent_of(&part[..part.len().min(32)]);
+        let apart = bits_of::<P>(extent.most.saturating_sub(extent.least));
+        saved = saved.saturating_add(u64::from(bits.saturating_sub(apart)));
+        taken = taken.saturating_add(1);
+    }
+    saved / 3 > taken / 2
+}
+
+/// A rank that is wanted of levels of so many bits, which may be close to one another where they are near.
+#[derive(Clone, Copy)]
+pub(crate) struct Search {
+    pub k: u32,
+    pub bits: u32,
+    pub are_close: bool,
+}
+
+/// Makes all of them the lowest level.
+fn clear<P: Pixel>(found: &mut [P])
+    ensures { AllUnder P.level P.TOP found.new 1 }
+{
+    let lowest = sample_of::<P>(0);
+    for i in 0..found.len() {
+        found[i] = lowest;
+    }
+}
+
+/// Makes the levels those from which the search begins, for each of 32 columns; says how many bits it has.
+fn begin<P: Counted>(found: &mut [P], samples: &[P], places: &[usize], search: Search) -> u32
+    requires whole { length found.old ≡ 32 }
+    requires inside { HasPlaces samples.now 32 places.now }
+    requires within { search.bits ≤ P.BITS }
+    requires small { AllUnder P.level P.TOP samples.now (2 ^ search.bits) }
+    ensures within { result ≤ P.BITS }
+    ensures from { AreFrom P.level P.TOP samples.now places.now (2 ^ result) found.new }
+{
+    if search.are_close {
+        let apart = P::lowest(found, samples, places);
+        return bits_of::<P>(apart.value());
+    }
+    clear(found);
+    search.bits
+}
+
+/// Of the samples at the places, and as many columns on, number k in rising order, for each of 32 columns.
+fn find<P: Counted>(found: &mut [P], samples: &[P], places: &[usize], search: Search)
+    requires whole { length found.old ≡ 32 }
+    requires inside { HasPlaces samples.now 32 places.now }
+    requires some { 1 ≤ length places.now }
+    requires few { length places.now < 256 }
+    requires within { search.bits ≤ P.BITS }
+    requires small { AllUnder P.level P.TOP samples.now (2 ^ search.bits) }
+    ensures { (i : ℕ) → i < 32 → P.level (slice_index_or found.new i P.TOP) ≡ ranked search.k (levels_on P.level P.TOP samples.now places.now i) }
+{
+    let bits = begin(found, samples, places, search);
+    let n = (places.len() as u32).min(search.k).max(1) as u16;
+    for bit in (0..bits).rev() {
+        P::raise(found, samples, places, 1u16 << bit, n);
+    }
+}
+
+/// Adds the ranks of a block of columns, save some of the first.
+fn push_block<P: Counted>(
+    out: &mut Vec<P>,
+    found: &mut [P],
+    samples: &[P],
+    places: &[usize],
+    search: Search,
+    skip: usize,
+) -> Result<(), NoMemory>
+    requires whole { length found.old ≡ 32 }
+    requires inside { HasPlaces samples.now 32 places.now }
+    requires some { 1 ≤ length places.now }
+    requires few { length places.now < 256 }
+    requires within { search.bits ≤ P.BITS }
+    requires small { AllUnder P.level P.TOP samples.now (2 ^ search.bits) }
+    requires part { skip ≤ 32 }
+    ensures { OnOk result (GainsRow P.level (λ i. ranked search.k (levels_on P.level P.TOP samples.now places.now (skip + i))) (32 - skip) out.old.items out.new.items) }
+{
+    find(found, samples, places, search);
+    out.extend_from_slice(&found[skip..])?;
+    Ok(())
+}
+
+/// Adds the ranks of so many columns. The last block begins early enough to end with them.
+pub(crate) fn push_blocks<P: Counted>(
+    out: &mut Vec<P>,
+    found: &mut [P],
+    samples: &[P],
+    places: &[usize],
+    search: Search,
+    count: u32,
+) -> Result<(), NoMemory>
+    requires whole { length found.old ≡ 32 }
+    requires wide { 32 ≤ count }
+    requires inside { HasPlaces samples.now count places.now }
+    requires some { 1 ≤ length places.now }
+    requires few { length places.now < 256 }
+    requires within { search.bits ≤ P.BITS }
+    requires small { AllUnder P.level P.TOP samples.now (2 ^ search.bits) }
+    ensures { OnOk result (GainsRow P.level (λ i. ranked search.k (levels_on P.level P.TOP samples.now places.now i)) count out.old.items out.new.items) }
+{
+    let count = count as usize;
+    let mut done = 0;
+    while done < count {
+        let from = done.min(count - 32);
+        let rest = &samples[from..];
+        push_block(out, found, rest, places, search, done - from)?;
+        done = from + 32;
+    }
+    Ok(())
+}
