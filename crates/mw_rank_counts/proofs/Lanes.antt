@@ -1,11 +1,11 @@
 -- Counting in 32 lanes.
-use Rattle.std.proofs.Common.{◌≡◌, ℕ, zero, suc, ◌+◌, ◌-◌, ◌%◌, ◌^◌, ◌<◌, ◌≤◌, Bool, false, cond, leb, ltb, List, [], ◌∷◌, length, map, take, drop, replicate, get_or, refl, ap, sym, arith, ◌∙◌, inl, inr, length-take, length-drop}
+use Rattle.std.proofs.Common.{◌≡◌, ℕ, zero, suc, ◌+◌, ◌-◌, ◌%◌, ◌^◌, ◌<◌, ◌≤◌, Bool, false, cond, leb, ltb, List, [], ◌∷◌, ◌++◌, length, map, take, drop, replicate, get_or, refl, ap, sym, arith, ◌∙◌, inl, inr, length-take, length-drop}
 use Rattle.std.specs.Int.{Width, w8, w16}
 use Rattle.std.specs.Int.Bits.{bit_or}
 use Rattle.std.specs.Prelude.{nat_lt, min}
 use Rattle.std.proofs.lemmas.Bool.{cases_lt, lt-ltb, le-ltb}
 use Rattle.std.proofs.lemmas.Bool.Decides.{nat_tests}
-use Rattle.std.proofs.lemmas.List.{take_all, get_or-take, get_or-drop, get_or-replicate, map_more, get_or_default}
+use Rattle.std.proofs.lemmas.List.{take_all, get_or-take, get_or-drop, get_or-replicate, map_more, get_or_default, get_or-append_right, get_or_append_left, length-take-le}
 use Rattle.std.proofs.lemmas.List.Sums.{count_by-le-length}
 use Rattle.std.proofs.lemmas.Nat.{le_or_l, le_or_r}
 use Rattle.std.proofs.lemmas.Simd.{tops_compared, length-zip2, get_or-zip2, length-sel_l, get_or-sel_l, length-chunk, get_or-chunk, put_chunk_whole, Each1-get_or}
@@ -66,7 +66,7 @@ pub record HasCounted (d : ℕ) (samples places last counts : List ℕ) : Type 0
   pub size : length counts ≡ 32
   pub lanes : (i : ℕ) → i < 32 → get_or counts i 0 ≡ count_under (get_or last i 0 + 1) (levels_on (λ (s : ℕ). s) d samples places i)
 
-count_one_more : (d : ℕ) (samples places : List ℕ) (v i j : ℕ) → j < length places
+pub count_one_more : (d : ℕ) (samples places : List ℕ) (v i j : ℕ) → j < length places
     → count_under v (levels_on (λ (s : ℕ). s) d samples (take (j + 1) places) i) ≡ count_under v (levels_on (λ (s : ℕ). s) d samples (take j places) i) + cond (nat_lt (get_or samples (get_or places j 0 + i) d) v) 1 0
 count_one_more d samples places v i j lt =
     ap (count_under v) (map_more (λ (p : ℕ). get_or samples (p + i) d) places j 0 lt)
@@ -263,3 +263,10 @@ seen_all w plus minus d j apart samples places found low high of all whole fit a
           ∙ of.minus_is (get_or high i 0) (get_or low i 0) (omega (arith, seen.lows q i (omega arith) col, seen.highs q i (omega arith) col)) (of.fits (get_or high i 0) (Each1-get_or (Fits w) high i 0 (omega (arith, seen.high_size)) fit)) in
           omega (arith, apart-is, found-is i col, seen.highs q i (omega arith) col, lane, fold_or-lane 0 (zip2 minus high low) i (omega (arith, long)));
     }
+
+-- a part that was overwritten
+pub put_at : (counts lanes rest : List ℕ) (at j : ℕ) → at ≤ length counts → j < length lanes → get_or (take at counts ++ (lanes ++ rest)) (at + j) 0 ≡ get_or lanes j 0
+put_at counts lanes rest at j fits lt =
+    get_or-append_right (take at counts) (lanes ++ rest) at (at + j) 0 (length-take-le at counts fits) (omega arith)
+    ∙ ap (λ (t : ℕ). get_or (lanes ++ rest) t 0) (let same : at + j - at ≡ j = omega arith in same)
+    ∙ get_or_append_left lanes rest 0 j lt

@@ -1,7 +1,9 @@
 -- what other crates may cite
 pub mod Lanes
 -- the crate's own
+mod Squeezing
 mod Counts
-mod Standing
-mod Seeking
 mod Joined
+mod Narrow
+mod Seeking
+mod Standing

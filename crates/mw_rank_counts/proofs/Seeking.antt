@@ -8,7 +8,7 @@ use Rattle.std.proofs.lemmas.List.{get_or-drop, get_or_append_left, get_or-appen
 use Rattle.std.proofs.Math.ListN.{length-map}
 use Rattle.mw_model.specs.PlanSteps.{ranked}
 use Rattle.mw_model.proofs.PlainRanks.{nth_from}
-use Rattle.mw_rank_counts.specs.Counting.{levels_on, HasPlaces, AllUnder, AreFrom, IsBetween, raised}
+use Rattle.mw_rank_counts.specs.Counting.{levels_on, HasPlaces, AllUnder, AreFrom, IsBetween, AreBetween, raised}
 use Rattle.mw_rank.specs.Ranks.{GainsRow}
 use Rattle.mw_rank.specs.Tallies.{count_under}
 use Rattle.mw_rank.proofs.Edges.{gains_joined}
@@ -34,10 +34,6 @@ narrowed n v b ns t = elim (cases_lt (count_under (v + 2 ^ b) ns) n) [
       let half : IsBetween n v (2 ^ b) ns = record { few = t.few; enough = enough } in
       subst (λ (u : ℕ). IsBetween n u (2 ^ b) ns) (sym (raised_not (2 ^ b) n v ns enough)) half
 ]
-
--- 32 searches with so many bits left
-abbrev pub AreBetween : {A : Type 0} → (A → ℕ) → A → List A → List ℕ → ℕ → ℕ → List A → Type 0
-AreBetween level d samples places n bits found = (i : ℕ) → i < 32 → IsBetween n (level (get_or found i d)) (2 ^ bits) (levels_on level d samples places i)
 
 pub from_lowest : {A : Type 0} (level : A → ℕ) (d : A) (samples : List A) (places : List ℕ) (limit : ℕ) (found : List A) → HasPlaces samples 32 places → AllUnder level d samples limit → ((i : ℕ) → i < 32 → level (get_or found i d) ≡ 0)
     → AreFrom level d samples places limit found
@@ -99,21 +95,19 @@ levels_on-drop level d samples from i (p ∷ ps) =
     ∙ ap (λ (t : ℕ). level (get_or samples t d) ∷ levels_on level d (drop from samples) ps i) (let e : from + (p + i) ≡ p + (from + i) = omega arith in e)
     ∙ ap (λ (t : List ℕ). level (get_or samples (p + (from + i)) d) ∷ t) (levels_on-drop level d samples from i ps)
 
+-- samples of known levels are added
+pub slice_gained : {A : Type 0} (level : A → ℕ) (d : A) (value : ℕ → ℕ) (n : ℕ) (cells out new : List A) → length cells ≡ n → ((i : ℕ) → i < n → level (get_or cells i d) ≡ value i) → new ≡ out ++ cells → GainsRow level value n out new
+slice_gained level d value n cells out new long known new-is = record {
+  size = omega (arith, ap length new-is, length-append out cells);
+  kept = λ p e lt. ap (λ (l : List _). get_or l p e) new-is ∙ get_or_append_left out cells e p lt;
+  made = λ x e lt. ap (λ (l : List _). level (get_or l (length out + x) e)) new-is ∙ ap level (get_or-append-add out cells x e) ∙ ap level (get_or_default cells x e d (omega arith)) ∙ known x lt;
+}
+
 -- what was found of a block is added, save some of the first
 pub block_gained : {A : Type 0} (level : A → ℕ) (d : A) (value : ℕ → ℕ) (skip : ℕ) (found out new : List A) → length found ≡ 32 → skip ≤ 32 → ((i : ℕ) → i < 32 → level (get_or found i d) ≡ value i) → new ≡ out ++ take (length found - skip) (drop skip found)
     → GainsRow level (λ i. value (skip + i)) (32 - skip) out new
 block_gained level d value skip found out new whole part known new-is =
-    let rest : new ≡ out ++ drop skip found = new-is ∙ ap (λ (l : List _). out ++ l) (take_rest found skip) in
-    record {
-      size = omega (arith, ap length rest, length-append out (drop skip found), length-drop skip found);
-      kept = λ p e lt. ap (λ (l : List _). get_or l p e) rest ∙ get_or_append_left out (drop skip found) e p lt;
-      made = λ x e lt.
-          ap (λ (l : List _). level (get_or l (length out + x) e)) rest
-          ∙ ap level (get_or-append-add out (drop skip found) x e)
-          ∙ ap level (get_or-drop skip found x e)
-          ∙ ap level (get_or_default found (skip + x) e d (omega arith))
-          ∙ known (skip + x) (omega arith);
-    }
+    slice_gained level d (λ i. value (skip + i)) (32 - skip) (drop skip found) out new (omega (arith, length-drop skip found)) (λ i lt. ap level (get_or-drop skip found i d) ∙ known (skip + i) (omega arith)) (new-is ∙ ap (λ (l : List _). out ++ l) (take_rest found skip))
 
 -- the blocks up to one more
 pub blocks_more : {A : Type 0} (level : A → ℕ) (d : A) (samples : List A) (places : List ℕ) (k done from : ℕ) (old mid new : List A) → from ≤ done → done ≤ from + 32

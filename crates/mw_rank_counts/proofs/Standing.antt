@@ -57,6 +57,10 @@ no_place level d w b x y n old none = record {
   };
 }
 
+-- a row stands among the samples of all rows
+pub rows_fit : (row height width cells : ℕ) → row < height → cells ≡ height * width → row * width + width ≤ cells
+rows_fit row height width cells lt is = grind arith
+
 -- an offset in columns and a row that the window has
 pub one_place : {A : Type 0} (level : A → ℕ) (d : A) (w : View A) (b : Offset) (x y n column row p : ℕ) (old new : List ℕ) → length w.cells ≡ w.place.height * w.place.width → row < w.place.height → column + n ≤ w.place.width → pos x +ℤ b.dx -ℤ pos w.place.x ≡ pos column
     → pos y +ℤ b.dy -ℤ pos w.place.y ≡ pos row → p ≡ row * w.place.width + column → new ≡ old ++ p ∷ [] → AddsPlace level d (seen_at w) w.cells b x y n old new
@@ -79,6 +83,3 @@ one_place level d w b x y n column row p old new size down across column-is row-
     only : (q p : ℕ) → q < length (p ∷ []) → get_or (p ∷ []) q 0 ≡ p
     only zero p lt = refl
     only (suc q) p lt = absurd (omega arith)
-
-    rows_fit : (row height width cells : ℕ) → row < height → cells ≡ height * width → row * width + width ≤ cells
-    rows_fit row height width cells lt is = grind arith

@@ -1,5 +1,5 @@
 -- Levels at places of a window, and the steps of a search for one of them by counting.
-use Rattle.std.specs.Prelude.{◌≡◌, ℕ, ◌+◌, ◌<◌, ◌≤◌, List, ◌∷◌, [], ◌++◌, map, length, nat_lt, cond, slice_index_or}
+use Rattle.std.specs.Prelude.{◌≡◌, ℕ, ◌+◌, ◌<◌, ◌≤◌, ◌^◌, List, ◌∷◌, [], ◌++◌, map, length, nat_lt, cond, slice_index_or}
 use Rattle.mw_model.specs.declared.places.Offset.{Offset}
 use Rattle.mw_model.specs.Rasters.{Sight}
 use Rattle.mw_rank.specs.Ranks.{levels_under}
@@ -38,6 +38,10 @@ pub record AreFrom {A : Type 0} (level : A → ℕ) (d : A) (samples : List A) (
 pub record IsBetween (n v range : ℕ) (ns : List ℕ) : Type 0 where
   pub few : count_under v ns < n
   pub enough : n ≤ count_under (v + range) ns
+
+-- 32 searches with so many bits left
+abbrev pub AreBetween : {A : Type 0} → (A → ℕ) → A → List A → List ℕ → ℕ → ℕ → List A → Type 0
+AreBetween level d samples places n bits found = (i : ℕ) → i < 32 → IsBetween n (level (slice_index_or found i d)) (2 ^ bits) (levels_on level d samples places i)
 
 -- a level, raised where fewer than n of the levels are below it then
 abbrev pub raised : ℕ → ℕ → List ℕ → ℕ → ℕ

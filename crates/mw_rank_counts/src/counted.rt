@@ -1,7 +1,9 @@
 //! What counting needs of a type of samples: one step of the search for a rank, for 32 columns at once.
 ghost use Rattle.std.specs.Prelude.{◌≡◌, ℕ, ◌+◌, ◌<◌, ◌≤◌, ◌^◌, length, slice_index_or};
-ghost use Rattle.mw_rank_counts.specs.Counting.{levels_on, HasPlaces, AreFrom, raised};
+ghost use Rattle.mw_rank_counts.specs.Counting.{levels_on, HasPlaces, AreBetween, AreFrom, raised};
+ghost use Rattle.mw_rank_counts.specs.Squeezed.{HasRoom};
 
+use crate::squeezed::Bytes;
 use mw_pixel::Grey;
 
 /// Samples of which a rank can be found by counting. A level is found bit by bit from the highest: a bit is set where
@@ -34,6 +36,27 @@ pub trait Counted: Grey {
         requires some { 1 ≤ step }
         requires small { step ≤ Self.top_level }
         ensures { (i : ℕ) → i < 32 → Self.level (slice_index_or found.new i Self.TOP) ≡ raised step n (levels_on Self.level Self.TOP samples.now places.now i) (Self.level (slice_index_or found.old i Self.TOP)) };
+
+    /// Takes some bits of 32 searches for number n at once, where there is a quicker way than bit by bit and room for it.
+    /// Says how many bits are left.
+    fn narrow(
+        found: &mut [Self],
+        bytes: &mut Bytes,
+        samples: &[Self],
+        places: &[usize],
+        n: u16,
+        bits: u32,
+    ) -> u32
+        requires whole { length found.old ≡ 32 }
+        requires room { HasRoom bytes.old }
+        requires inside { HasPlaces samples.now 32 places.now }
+        requires few { length places.now < 256 }
+        requires rank { n ≤ length places.now }
+        requires within { bits ≤ BITS }
+        requires between { AreBetween Self.level Self.TOP samples.now places.now n bits found.old }
+        ensures room { HasRoom bytes.new }
+        ensures fewer { result ≤ bits }
+        ensures between { AreBetween Self.level Self.TOP samples.now places.now n result found.new };
 
     ghost few_bits: { BITS ≤ 16 };
 

@@ -4,6 +4,7 @@ ghost use Rattle.mw_rank_counts.specs.Counting.{levels_on, HasPlaces};
 ghost use Rattle.mw_rank.specs.Tallies.{count_under};
 
 use super::Counted;
+use crate::squeezed::{Bytes, narrow_by_bytes};
 use std::simd::Simd;
 use std::simd::prelude::*;
 
@@ -72,5 +73,27 @@ impl Counted for u16 {
             .simd_lt(Simd::<u16, 32>::splat(n))
             .select(next, old)
             .copy_to_slice(found);
+    }
+
+    #[inline(always)]
+    fn narrow(
+        found: &mut [u16],
+        bytes: &mut Bytes,
+        samples: &[u16],
+        places: &[usize],
+        n: u16,
+        bits: u32,
+    ) -> u32 {
+        if places.len() > bytes.places.len() {
+            return bits;
+        }
+        let mut left = bits;
+        // to make bytes takes the time of three or four bits
+        while left > 3 {
+            let rest = left.saturating_sub(8);
+            narrow_by_bytes(found, bytes, samples, places, n, left - rest, rest);
+            left = rest;
+        }
+        left
     }
 }

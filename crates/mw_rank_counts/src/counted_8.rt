@@ -4,6 +4,7 @@ ghost use Rattle.mw_rank_counts.specs.Counting.{levels_on, HasPlaces};
 ghost use Rattle.mw_rank.specs.Tallies.{count_under};
 
 use super::Counted;
+use crate::squeezed::Bytes;
 use std::simd::Simd;
 use std::simd::prelude::*;
 
@@ -67,5 +68,17 @@ impl Counted for u8 {
             .simd_lt(Simd::<u8, 32>::splat(n as u8))
             .select(next, old)
             .copy_to_slice(found);
+    }
+
+    #[inline(always)]
+    fn narrow(
+        _found: &mut [u8],
+        _bytes: &mut Bytes,
+        _samples: &[u8],
+        _places: &[usize],
+        _n: u16,
+        bits: u32,
+    ) -> u32 {
+        bits
     }
 }

@@ -7,10 +7,12 @@ ghost use Rattle.mw_model.specs.Windows.{seen_at};
 ghost use Rattle.mw_tile.specs.Windows.{IsWindow};
 ghost use Rattle.mw_rank.specs.Ranks.{levels_under, IsRank, GainsRow, HasRows};
 ghost use Rattle.mw_rank_counts.specs.Counting.{AllUnder};
+ghost use Rattle.mw_rank_counts.specs.Squeezed.{HasRoom};
 
 use crate::Counted;
 use crate::places::{Inner, inner_places, row_places};
 use crate::search::{Search, are_close, bits_in, push_blocks};
+use crate::squeezed::{Bytes, room_for};
 use mw_model::{NoMemory, Offset, Rect};
 use mw_pixel::{Grey, Pixel, Plane, copies};
 use mw_rank::{rank, sample_of};
@@ -33,11 +35,12 @@ struct Edges<'a, P: Grey> {
     right: &'a [P],
 }
 
-/// What is used again for each row: room for places, and the levels of a block.
+/// What is used again for each row: room for places, the levels of a block, and its samples as bytes.
 #[derive(Drop)]
 struct Scratch<P: Grey> {
     places: Vec<usize>,
     found: Vec<P>,
+    bytes: Bytes,
 }
 
 /// The ranks of a tile by the moving histogram; of a tile without columns nothing is asked.
@@ -78,7 +81,7 @@ fn push_lowest<P: Pixel>(out: &mut Vec<P>, count: u32) -> Result<(), NoMemory>
     ensures { OnOk result (GainsRow P.level (λ i. 0) count out.old.items out.new.items) }
 {
     let lowest = sample_of::<P>(0);
-    for _ in 0..count {
+    for _i in 0..count {
         out.push(lowest)?;
     }
     Ok(())
@@ -97,8 +100,10 @@ fn push_inner<P: Counted>(
     requires within { wanted.search.bits ≤ P.BITS }
     requires small { AllUnder P.level P.TOP window.now.cells (2 ^ wanted.search.bits) }
     requires whole { length scratch.old.found.items ≡ 32 }
-    ensures row { IfOk result (λ known. IsTrue known → GainsRow P.level (λ i. ranked wanted.search.k (levels_under P.level (seen_at window.now) wanted.entry.offsets.now (wanted.tile.x + wanted.inner.first + i) (wanted.tile.y + row))) wanted.inner.count out.old.items out.new.items) }
+    requires room { HasRoom scratch.old.bytes }
+    ensures row { IfOk result (λ known. IsTrue known → GainsRow P.level (λ i. ranked wanted.entry.search.k (levels_under P.level (seen_at window.now) wanted.entry.offsets.now (wanted.entry.tile.x + wanted.entry.inner.first + i) (wanted.entry.tile.y + row))) wanted.entry.inner.count out.old.items out.new.items) }
     ensures whole { OnOk result (length scratch.new.found.items ≡ 32) }
+    ensures room { OnOk result (HasRoom scratch.new.bytes) }
 {
     let count = wanted.inner.count;
     let x = u64::from(wanted.tile.x) + u64::from(wanted.inner.first);
@@ -110,9 +115,15 @@ fn push_inner<P: Counted>(
         push_lowest(out, count)?;
         return Ok(true);
     }
-    let found = scratch.found.as_mut_slice();
-    let samples = window.samples();
-    push_blocks(out, found, samples, &scratch.places, wanted.search, count)?;
+    push_blocks(
+        out,
+        scratch.found.as_mut_slice(),
+        &mut scratch.bytes,
+        window.samples(),
+        &scratch.places,
+        wanted.search,
+        count,
+    )?;
     Ok(true)
 }
 
@@ -134,8 +145,10 @@ fn push_row<P: Counted>(
     requires left { HasRows P.level (λ x y. ranked wanted.search.k (levels_under P.level (seen_at window.now) wanted.offsets.now (wanted.tile.x + x) (wanted.tile.y + y))) wanted.inner.first wanted.tile.height edges.left.now }
     requires right { HasRows P.level (λ x y. ranked wanted.search.k (levels_under P.level (seen_at window.now) wanted.offsets.now (wanted.tile.x + (wanted.inner.first + wanted.inner.count) + x) (wanted.tile.y + y))) (wanted.tile.width - (wanted.inner.first + wanted.inner.count)) wanted.tile.height edges.right.now }
     requires whole { length scratch.old.found.items ≡ 32 }
-    ensures row { IfOk result (λ known. IsTrue known → GainsRow P.level (λ i. ranked wanted.search.k (levels_under P.level (seen_at window.now) wanted.entry.offsets.now (wanted.tile.x + i) (wanted.tile.y + row))) wanted.tile.width out.old.items out.new.items) }
+    requires room { HasRoom scratch.old.bytes }
+    ensures row { IfOk result (λ known. IsTrue known → GainsRow P.level (λ i. ranked wanted.entry.search.k (levels_under P.level (seen_at window.now) wanted.entry.offsets.now (wanted.entry.tile.x + i) (wanted.entry.tile.y + row))) wanted.entry.tile.width out.old.items out.new.items) }
     ensures whole { OnOk result (length scratch.new.found.items ≡ 32) }
+    ensures room { OnOk result (HasRoom scratch.new.bytes) }
 {
     let first = wanted.inner.first;
     let rest = wanted.tile.width - (first + wanted.inner.count);
@@ -157,14 +170,17 @@ fn count_samples<P: Counted>(
     requires inner { wanted.inner.first + wanted.inner.count ≤ wanted.tile.width }
     requires within { wanted.search.bits ≤ P.BITS }
     requires small { AllUnder P.level P.TOP window.now.cells (2 ^ wanted.search.bits) }
-    ensures { IfOk result (λ o. IfSome o (λ v. HasRows P.level (λ x y. ranked wanted.search.k (levels_under P.level (seen_at window.now) wanted.entry.offsets.now (wanted.tile.x + x) (wanted.tile.y + y))) wanted.tile.width wanted.tile.height v.items)) }
+    ensures { IfOk result (λ o. IfSome o (λ v. HasRows P.level (λ x y. ranked wanted.entry.search.k (levels_under P.level (seen_at window.now) wanted.entry.offsets.now (wanted.entry.tile.x + x) (wanted.entry.tile.y + y))) wanted.entry.tile.width wanted.entry.tile.height v.items)) }
 {
     let tile = wanted.tile;
     let offsets = wanted.offsets;
     let k = wanted.search.k;
     let first = wanted.inner.first;
     let last = first + wanted.inner.count;
-    let front = Rect { width: first, ..tile };
+    let front = Rect {
+        width: first,
+        ..tile
+    };
     let back = Rect {
         x: tile.x + last,
         width: tile.width - last,
@@ -176,9 +192,12 @@ fn count_samples<P: Counted>(
         left: &left,
         right: &right,
     };
+    // no room where none is used
+    let bytes = if P::BITS > 8 { offsets.len() } else { 0 };
     let mut scratch = Scratch {
         places: Vec::with_capacity(alloc, offsets.len())?,
         found: copies(alloc, 32, P::TOP)?,
+        bytes: room_for(alloc, bytes)?,
     };
     let mut out = Vec::with_capacity(alloc, tile.height as usize * tile.width as usize)?;
     for row in 0..tile.height {

@@ -12,8 +12,10 @@ mod counted_8;
 mod counting;
 mod places;
 mod search;
+mod squeezed;
 
 pub use counted::Counted;
 pub use counting::rank_of_grey;
 pub use mw_model::NoMemory;
 pub use search::bits_in;
+pub use squeezed::Bytes;

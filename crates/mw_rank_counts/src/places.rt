@@ -98,18 +98,21 @@ pub(crate) fn row_places<P: Grey>(
 pub(crate) fn inner_places(offsets: &[Offset], tile: Rect, place: Rect) -> Inner
     ensures { result.first + result.count ≤ tile.width }
 {
-    let width = i64::from(tile.width);
-    let mut first = 0i64;
-    let mut end = width;
+    let mut left = 0u16;
+    let mut right = 0u16;
     for offset in offsets {
-        let column = place_of(u64::from(tile.x), offset.dx, place.x);
-        first = first.max(-column);
-        end = end.min(i64::from(place.width) - column);
+        left = left.max(offset.dx.min(0).unsigned_abs());
+        right = right.max(offset.dx.max(0).unsigned_abs());
     }
-    let first = first.min(width);
-    let end = end.max(first);
+    let width = u64::from(tile.width);
+    let begin = u64::from(place.x) + u64::from(left);
+    let first = begin.saturating_sub(u64::from(tile.x)).min(width);
+    let end = u64::from(place.x) + u64::from(place.width);
+    let stop = end
+        .saturating_sub(u64::from(tile.x) + u64::from(right))
+        .min(width);
     Inner {
         first: first as u32,
-        count: (end - first) as u32,
+        count: stop.saturating_sub(first) as u32,
     }
 }

@@ -4,10 +4,12 @@
 //! which the others are above it.
 ghost use Rattle.std.specs.Prelude.{◌≡◌, ℕ, ◌+◌, ◌-◌, ◌<◌, ◌≤◌, ◌^◌, length, slice_index_or, OnOk};
 ghost use Rattle.mw_model.specs.PlanSteps.{ranked};
-ghost use Rattle.mw_rank_counts.specs.Counting.{levels_on, HasPlaces, AllUnder, AreFrom};
+ghost use Rattle.mw_rank_counts.specs.Counting.{levels_on, HasPlaces, AllUnder, AreBetween, AreFrom};
+ghost use Rattle.mw_rank_counts.specs.Squeezed.{HasRoom};
 ghost use Rattle.mw_rank.specs.Ranks.{GainsRow};
 
 use crate::Counted;
+use crate::squeezed::Bytes;
 use mw_model::NoMemory;
 use mw_pixel::Pixel;
 use mw_rank::sample_of;
@@ -77,7 +79,7 @@ pub(crate) struct Search {
 }
 
 /// Makes all of them the lowest level.
-fn clear<P: Pixel>(found: &mut [P])
+pub(crate) fn clear<P: Pixel>(found: &mut [P])
     ensures { AllUnder P.level P.TOP found.new 1 }
 {
     let lowest = sample_of::<P>(0);
@@ -103,42 +105,67 @@ fn begin<P: Counted>(found: &mut [P], samples: &[P], places: &[usize], search: S
     search.bits
 }
 
-/// Of the samples at the places, and as many columns on, number k in rising order, for each of 32 columns.
-fn find<P: Counted>(found: &mut [P], samples: &[P], places: &[usize], search: Search)
+/// Ends 32 searches for number n, bit by bit.
+pub(crate) fn seek<P: Counted>(found: &mut [P], samples: &[P], places: &[usize], n: u16, bits: u32)
     requires whole { length found.old ≡ 32 }
+    requires inside { HasPlaces samples.now 32 places.now }
+    requires few { length places.now < 256 }
+    requires rank { n ≤ length places.now }
+    requires within { bits ≤ P.BITS }
+    requires between { AreBetween P.level P.TOP samples.now places.now n bits found.old }
+    ensures { AreBetween P.level P.TOP samples.now places.now n 0 found.new }
+{
+    for bit in (0..bits).rev() {
+        P::raise(found, samples, places, 1u16 << bit, n);
+    }
+}
+
+/// Of the samples at the places, and as many columns on, number k in rising order, for each of 32 columns.
+fn find<P: Counted>(
+    found: &mut [P],
+    bytes: &mut Bytes,
+    samples: &[P],
+    places: &[usize],
+    search: Search,
+)
+    requires whole { length found.old ≡ 32 }
+    requires room { HasRoom bytes.old }
     requires inside { HasPlaces samples.now 32 places.now }
     requires some { 1 ≤ length places.now }
     requires few { length places.now < 256 }
     requires within { search.bits ≤ P.BITS }
     requires small { AllUnder P.level P.TOP samples.now (2 ^ search.bits) }
-    ensures { (i : ℕ) → i < 32 → P.level (slice_index_or found.new i P.TOP) ≡ ranked search.k (levels_on P.level P.TOP samples.now places.now i) }
+    ensures found { (i : ℕ) → i < 32 → P.level (slice_index_or found.new i P.TOP) ≡ ranked search.k (levels_on P.level P.TOP samples.now places.now i) }
+    ensures room { HasRoom bytes.new }
 {
     let bits = begin(found, samples, places, search);
     let n = (places.len() as u32).min(search.k).max(1) as u16;
-    for bit in (0..bits).rev() {
-        P::raise(found, samples, places, 1u16 << bit, n);
-    }
+    let left = P::narrow(found, bytes, samples, places, n, bits);
+    seek(found, samples, places, n, left);
 }
 
 /// Adds the ranks of a block of columns, save some of the first.
 fn push_block<P: Counted>(
     out: &mut Vec<P>,
     found: &mut [P],
+    bytes: &mut Bytes,
     samples: &[P],
     places: &[usize],
     search: Search,
     skip: usize,
 ) -> Result<(), NoMemory>
     requires whole { length found.old ≡ 32 }
+    requires room { HasRoom bytes.old }
     requires inside { HasPlaces samples.now 32 places.now }
     requires some { 1 ≤ length places.now }
     requires few { length places.now < 256 }
     requires within { search.bits ≤ P.BITS }
     requires small { AllUnder P.level P.TOP samples.now (2 ^ search.bits) }
     requires part { skip ≤ 32 }
-    ensures { OnOk result (GainsRow P.level (λ i. ranked search.k (levels_on P.level P.TOP samples.now places.now (skip + i))) (32 - skip) out.old.items out.new.items) }
+    ensures row { OnOk result (GainsRow P.level (λ i. ranked search.k (levels_on P.level P.TOP samples.now places.now (skip + i))) (32 - skip) out.old.items out.new.items) }
+    ensures room { OnOk result (HasRoom bytes.new) }
 {
-    find(found, samples, places, search);
+    find(found, bytes, samples, places, search);
     out.extend_from_slice(&found[skip..])?;
     Ok(())
 }
@@ -147,26 +174,29 @@ fn push_block<P: Counted>(
 pub(crate) fn push_blocks<P: Counted>(
     out: &mut Vec<P>,
     found: &mut [P],
+    bytes: &mut Bytes,
     samples: &[P],
     places: &[usize],
     search: Search,
     count: u32,
 ) -> Result<(), NoMemory>
     requires whole { length found.old ≡ 32 }
+    requires room { HasRoom bytes.old }
     requires wide { 32 ≤ count }
     requires inside { HasPlaces samples.now count places.now }
     requires some { 1 ≤ length places.now }
     requires few { length places.now < 256 }
     requires within { search.bits ≤ P.BITS }
     requires small { AllUnder P.level P.TOP samples.now (2 ^ search.bits) }
-    ensures { OnOk result (GainsRow P.level (λ i. ranked search.k (levels_on P.level P.TOP samples.now places.now i)) count out.old.items out.new.items) }
+    ensures row { OnOk result (GainsRow P.level (λ i. ranked search.k (levels_on P.level P.TOP samples.now places.now i)) count out.old.items out.new.items) }
+    ensures room { OnOk result (HasRoom bytes.new) }
 {
     let count = count as usize;
     let mut done = 0;
     while done < count {
         let from = done.min(count - 32);
         let rest = &samples[from..];
-        push_block(out, found, rest, places, search, done - from)?;
+        push_block(out, found, bytes, rest, places, search, done - from)?;
         done = from + 32;
     }
     Ok(())

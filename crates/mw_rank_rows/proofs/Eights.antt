@@ -4,7 +4,6 @@ use Rattle.std.specs.Int.{Width}
 use Rattle.std.specs.Prelude.{IsTrue, nat_eq}
 use Rattle.std.proofs.lemmas.Bool.{eqb-true}
 use Rattle.std.proofs.lemmas.Grind.{pow_more}
-use Rattle.std.proofs.lemmas.List.{get_or-append_right, get_or_append_left, length-take-le}
 use Rattle.std.proofs.lemmas.Simd.{tops_compared, length-zip2, mask_l-mod}
 use mir.Val.{bits, hbits}
 use lib.Lanes.{zip2, top, mask_l}
@@ -53,10 +52,3 @@ all_tests w t us vs us-long vs-long =
 pub one_if-le : (b : Bool) → cond b 1 0 ≤ 1
 one_if-le true = omega arith
 one_if-le false = omega arith
-
--- a part that was overwritten
-pub put_at : (counts lanes rest : List ℕ) (at j : ℕ) → at ≤ length counts → j < length lanes → get_or (take at counts ++ (lanes ++ rest)) (at + j) 0 ≡ get_or lanes j 0
-put_at counts lanes rest at j fits lt =
-    get_or-append_right (take at counts) (lanes ++ rest) at (at + j) 0 (length-take-le at counts fits) (omega arith)
-    ∙ ap (λ (t : ℕ). get_or (lanes ++ rest) t 0) (let same : at + j - at ≡ j = omega arith in same)
-    ∙ get_or_append_left lanes rest 0 j lt

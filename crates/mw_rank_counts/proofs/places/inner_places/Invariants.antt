@@ -1,5 +1,5 @@
-use Rattle.std.proofs.Common.{◌≤◌, ◌^◌}
+use Rattle.std.proofs.Common.{◌<◌}
 use Rattle.mw_rank_counts.proofs.places.inner_places.Given as goal
 
 abbrev pub invariant-loop-offset : goal.invariant-loop-offset
-invariant-loop-offset l = record { left : l.left ≤ 2 ^ 34; right : l.right ≤ 2 ^ 34 }
+invariant-loop-offset l = record { left : l.left < 65536; right : l.right < 65536 }

@@ -16,9 +16,7 @@ returns-in_ok-push-in-Some-column_in g c = λ _.
     let w = c.args.window.now in
     let width = ap (λ (t : Rect). t.width) c.place-place.ensures.value in
     let x-is = ap (λ (t : Rect). t.x) c.place-place.ensures.value in
-    let count = ap (λ (r : Run). r.count) c.lone-run.ensures in
     let column = c.in-Some-column_in.ensures in
     let row = c.in-Some.ensures in
-    one_place g.P.Pixel.level g.P.Pixel.TOP w c.args.offset c.args.x c.args.y c.args.count c.in-Some-column_in.column c.in-Some.row _ c.args.places.now.items c.push.new.self.items c.samples-samples.ensures.size row.0
-    (omega (arith, width, count, column.1, c.requires.some)) (subst (λ (r : Run). pos c.args.x +ℤ r.dx -ℤ pos w.place.x ≡ pos c.in-Some-column_in.column) c.lone-run.ensures (rw (← x-is) column.0))
+    one_place g.P.Pixel.level g.P.Pixel.TOP w c.args.offset c.args.x c.args.y c.args.count c.in-Some-column_in.column c.in-Some.row _ c.args.places.now.items c.push.new.self.items c.samples-samples.ensures.size row.0 (omega (arith, width, column.1)) (rw (← x-is) column.0)
     (subst (λ (r : Run). pos c.args.y +ℤ r.dy -ℤ pos w.place.y ≡ pos c.in-Some.row) c.lone-run.ensures row.1) (ap (λ (t : _). c.in-Some.row * t + c.in-Some-column_in.column) width) c.in_ok-push-in-Some-column_in.ensures.items

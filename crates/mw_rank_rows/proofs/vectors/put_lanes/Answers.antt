@@ -1,7 +1,7 @@
 use Rattle.std.proofs.Common.{ℕ, List, ◌≡◌, ◌+◌, ◌-◌, ◌∙◌, ap, arith, take, drop, get_or, length-take, length-drop, length}
 use Rattle.std.proofs.lemmas.Simd.{put_chunk_whole}
 use borrow.Rule.Slice.PartMut.{put_mid}
-use Rattle.mw_rank_rows.proofs.Eights.{put_at}
+use Rattle.mw_rank_counts.proofs.Lanes.{put_at}
 use Rattle.mw_rank_rows.proofs.vectors.put_lanes.Goals as goal
 
 pub returns-clause-put : goal.returns-clause-put
