@@ -9,6 +9,8 @@
 #[cfg(test)]
 mod extrema;
 #[cfg(test)]
+mod moving_ranks;
+#[cfg(test)]
 mod rank_counts;
 #[cfg(test)]
 mod rank_rows;

@@ -95,7 +95,8 @@ fn ranked(
     Ok(plain::rank(alloc, image, element.offsets(), k)?)
 }
 
-fn agree<P: Counted>(
+/// Stops where a rank of an image is not what the plain program says.
+pub(crate) fn agree<P: Counted>(
     rt: &impl Abort,
     alloc: Global,
     image: &PlainImage,

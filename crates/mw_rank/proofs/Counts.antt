@@ -1,5 +1,5 @@
 -- Counting levels.
-use Rattle.std.proofs.Common.{◌≡◌, ℕ, suc, ◌+◌, ◌-◌, ◌<◌, ◌≤◌, List, [], ◌∷◌, ◌++◌, length, get_or, set, refl, ap, sym, arith, ◌∙◌, inl, inr, cond, length-set, subst, get_or-set_same, get_or-set_other}
+use Rattle.std.proofs.Common.{◌≡◌, ℕ, ◌+◌, ◌-◌, ◌<◌, ◌≤◌, List, [], ◌∷◌, ◌++◌, length, get_or, set, refl, ap, sym, arith, ◌∙◌, inl, inr, cond, length-set, subst, get_or-set_same, get_or-set_other}
 use Rattle.std.specs.Prelude.{nat_lt, min, max}
 use Rattle.std.proofs.lemmas.Bool.{cases_lt, cases_order, lt-ltb, le-ltb}
 use Rattle.std.proofs.lemmas.List.Sums.{sum_by-cons, sum_by-append, count_by-le-length}
@@ -24,6 +24,9 @@ one-le s v le = rw (le-ltb s v le) refl
 pub count-zero : (ns : List ℕ) → count_under 0 ns ≡ 0
 count-zero [] = refl
 count-zero (n ∷ ns) = omega (arith, count-cons 0 n ns, one-le n 0 (omega arith), count-zero ns)
+
+pub count_within : (limit : ℕ) (ns : List ℕ) → count_under limit ns ≤ length ns
+count_within limit ns = count_by-le-length (λ r. nat_lt r limit) ns
 
 -- two lists count alike
 pub record Same (ns ms : List ℕ) : Type 0 where
@@ -117,6 +120,58 @@ tallies_removed top s h g ns counts-is level-is held-is below-is t =
       held = omega (arith, held-is, t.held);
       level = omega (arith, level-is, t.level);
     }
+
+-- the levels below with one that was counted
+pub some_below : (top s : ℕ) (h : Histogram) (ns : List ℕ) → Tallies top h (s ∷ ns) → cond (nat_lt s h.level) 1 0 ≤ h.below
+some_below top s h ns t = omega (arith, t.below, count-cons h.level s ns)
+
+-- a counter where one level was taken back counts no more than the others
+pub counter_between : (top a b : ℕ) (h : Histogram) (mid ns : List ℕ) → mid ≡ set h.counts.items a (get_or h.counts.items a 0 - 1) → Tallies top h (a ∷ ns) → get_or mid b 0 ≤ length ns
+counter_between top a b h mid ns mid-is t =
+    let between = ap (λ (items : List ℕ). get_or items b 0) mid-is in
+    omega (
+      arith,
+      between,
+      t.each b,
+      count-cons (b + 1) a ns,
+      count-cons b a ns,
+      put_less h.counts.items a b (omega (arith, t.size, Tallies-known top a h ns t)) (Tallies-counted top a h ns t),
+      count_by-le-length (λ r. nat_lt r (b + 1)) ns,
+    )
+
+-- the histogram with one level in place of another
+pub tallies_exchanged : (top a b : ℕ) (h g : Histogram) (mid ns : List ℕ) → b ≤ top → mid ≡ set h.counts.items a (get_or h.counts.items a 0 - 1) → g.counts.items ≡ set mid b (get_or mid b 0 + 1) → g.level ≡ h.level → g.held ≡ h.held
+    → g.below + cond (nat_lt a h.level) 1 0 ≡ h.below + cond (nat_lt b h.level) 1 0 → Tallies top h (a ∷ ns) → Tallies top g (b ∷ ns)
+tallies_exchanged top a b h g mid ns le mid-is counts-is level-is held-is below-is t =
+    let low = Tallies-known top a h ns t in
+    let long : length mid ≡ top + 1 = ap length mid-is ∙ length-set h.counts.items a (get_or h.counts.items a 0 - 1) ∙ t.size in
+    record {
+      short = t.short;
+      size = ap length counts-is ∙ length-set mid b (get_or mid b 0 + 1) ∙ long;
+      each = λ v.
+          let counter = ap (λ (items : List ℕ). get_or items v 0) counts-is in
+          let between = ap (λ (items : List ℕ). get_or items v 0) mid-is in
+          omega (
+            arith,
+            count-cons (v + 1) a ns,
+            count-cons v a ns,
+            count-cons (v + 1) b ns,
+            count-cons v b ns,
+            counter,
+            between,
+            t.each v,
+            put_less h.counts.items a v (omega (arith, t.size)) (Tallies-counted top a h ns t),
+            put_more mid b v (omega (arith, long)),
+          );
+      all = omega (arith, count-cons (top + 1) a ns, count-cons (top + 1) b ns, one-lt a (top + 1) (omega arith), one-lt b (top + 1) (omega arith), t.all);
+      below = let same = ap (λ (v : ℕ). count_under v (b ∷ ns)) level-is in omega (arith, same, count-cons h.level a ns, count-cons h.level b ns, below-is, t.below);
+      held = omega (arith, held-is, t.held);
+      level = omega (arith, level-is, t.level);
+    }
+
+-- no more are below than were counted
+pub below_within : (top : ℕ) (h : Histogram) (ns : List ℕ) → Tallies top h ns → h.below ≤ length ns
+below_within top h ns t = omega (arith, t.below, count_within h.level ns)
 
 -- where some levels are below, the present level is not the lowest
 pub not_lowest : (top : ℕ) (h : Histogram) (ns : List ℕ) → Tallies top h ns → 1 ≤ h.below → 1 ≤ h.level

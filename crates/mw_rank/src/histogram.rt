@@ -1,5 +1,7 @@
-//! A histogram of levels with a level that moves to the wanted rank.
-ghost use Rattle.std.specs.Prelude.{◌≡◌, ℕ, ◌+◌, ◌<◌, ◌≤◌, List, [], ◌∷◌, IfOk};
+//! A histogram of levels with a level that moves to the wanted rank (Huang, Yang and Tang 1979). Where the level has
+//! moved far of late, as among many levels, it first leaps over spans of counters at once: their sum is one pass of
+//! vector code, where a walk has a test for each counter.
+ghost use Rattle.std.specs.Prelude.{◌≡◌, ℕ, ◌+◌, ◌<◌, ◌≤◌, List, [], ◌∷◌, length, cond, nat_lt, IfOk};
 ghost use Rattle.mw_model.specs.PlanSteps.{ranked};
 ghost use Rattle.mw_rank.specs.Tallies.{count_under, Tallies, HasRoom, Holds};
 
@@ -7,13 +9,17 @@ use mw_model::NoMemory;
 use mw_pixel::Pixel;
 use std::alloc::Global;
 
-/// How often each level was counted, and how many levels below the present one.
+/// How many counters a leap goes over.
+const SPAN: u32 = 16;
+
+/// How often each level was counted, how many levels below the present one, and how far it moved of late.
 #[derive(Drop)]
 pub(crate) struct Histogram {
     pub counts: Vec<u16>,
     pub level: u32,
     pub below: u32,
     pub held: u32,
+    pub stride: u32,
 }
 
 impl Histogram {
@@ -27,6 +33,7 @@ impl Histogram {
             level: 0,
             below: 0,
             held: 0,
+            stride: 0,
         })
     }
 
@@ -58,14 +65,94 @@ impl Histogram {
         }
     }
 
+    /// One for a level below the present one, else none.
+    #[inline(always)]
+    fn one_below(&self, s: u16) -> u32
+        ensures { result ≡ cond (nat_lt s self.now.level) 1 0 }
+    {
+        u32::from(u32::from(s) < self.level)
+    }
+
     /// Takes back one level and counts another.
     #[inline(always)]
     pub(crate) fn exchange(&mut self, left: u16, entered: u16)
         requires { (top : ℕ) × Holds top self.old (left ∷ []) × (entered ≤ top) }
         ensures { (top : ℕ) (ns : List ℕ) → entered ≤ top → Tallies top self.old (left ∷ ns) → Tallies top self.new (entered ∷ ns) }
     {
-        self.remove(left);
-        self.add(entered);
+        let less = self.one_below(left);
+        let more = self.one_below(entered);
+        self.counts[left as usize] -= 1;
+        self.counts[entered as usize] += 1;
+        self.below = self.below - less + more;
+    }
+
+    /// Forgets all levels.
+    pub(crate) fn clear(&mut self)
+        ensures { (top : ℕ) (ns : List ℕ) → Tallies top self.old ns → Tallies top self.new [] }
+    {
+        self.counts.fill(0);
+        self.below = 0;
+        self.held = 0;
+    }
+
+    /// How many levels were counted from that one on and below the other.
+    fn counted(&self, from: u32, to: u32) -> u32
+        requires held { (top : ℕ) × Holds top self.now [] }
+        requires order { from ≤ to }
+        requires within { to ≤ length self.now.counts.items }
+        ensures { (top : ℕ) (ns : List ℕ) → Tallies top self.now ns → result + count_under from ns ≡ count_under to ns }
+    {
+        let mut sum = 0u32;
+        for count in &self.counts[from as usize..to as usize] {
+            sum += u32::from(*count);
+        }
+        sum
+    }
+
+    /// Leaps down while n levels or more are below.
+    fn leap_down(&mut self, n: u32)
+        requires { (top : ℕ) × Holds top self.old [] }
+        ensures tallies { (top : ℕ) (ns : List ℕ) → Tallies top self.old ns → Tallies top self.new ns }
+        ensures held { self.new.held ≡ self.old.held }
+    {
+        while self.below >= n && self.level >= SPAN {
+            let less = self.counted(self.level - SPAN, self.level);
+            let below = self.below - less;
+            if below < n {
+                return;
+            }
+            self.below = below;
+            self.level -= SPAN;
+        }
+    }
+
+    /// Leaps up while fewer than n levels are not above.
+    fn leap_up(&mut self, n: u32)
+        requires { (top : ℕ) × Holds top self.old [] }
+        ensures tallies { (top : ℕ) (ns : List ℕ) → Tallies top self.old ns → Tallies top self.new ns }
+        ensures held { self.new.held ≡ self.old.held }
+    {
+        while ((self.level + SPAN) as usize) < self.counts.len() {
+            let more = self.counted(self.level, self.level + SPAN);
+            let below = self.below + more;
+            if below >= n {
+                return;
+            }
+            self.below = below;
+            self.level += SPAN;
+        }
+    }
+
+    /// Leaps towards the level of which fewer than n are below, where leaps pay.
+    fn leap(&mut self, n: u32)
+        requires { (top : ℕ) × Holds top self.old [] }
+        ensures tallies { (top : ℕ) (ns : List ℕ) → Tallies top self.old ns → Tallies top self.new ns }
+        ensures held { self.new.held ≡ self.old.held }
+    {
+        if self.stride >= 2 * SPAN {
+            self.leap_down(n);
+            self.leap_up(n);
+        }
     }
 
     /// Moves down until fewer than n levels are below.
@@ -108,8 +195,11 @@ impl Histogram {
             return 0;
         }
         let n = self.held.min(k).max(1);
+        let from = self.level;
+        self.leap(n);
         self.lower(n);
         self.raise(n);
+        self.stride = self.stride - self.stride / 16 + self.level.abs_diff(from) / 16;
         self.level as u16
     }
 }

@@ -129,6 +129,11 @@ pub(crate) fn leave_all<P: Grey>(
     requires held { Tallies P.top_level histogram.old (levels_under P.level (seen_at window.now) (element_of runs.now) x y) }
     ensures { Tallies P.top_level histogram.new [] }
 {
+    // few counters are cleared at once
+    if histogram.counts.len() / 4 <= histogram.held as usize {
+        histogram.clear();
+        return;
+    }
     for run in runs {
         leave_part(histogram, seen_part(window, *run, x, y));
     }

@@ -36,3 +36,6 @@ loop-run-preserved g c =
 pub returns : goal.returns
 returns g c =
     subst (λ (l : List Run). Tallies g.P.Pixel.top_level c.loop-run.histogram (levels_under g.P.Pixel.level (seen_at c.args.window.now) (element_of l) c.args.x c.args.y)) (drop_all c.loop-run.run-index c.args.runs.now (omega arith)) c.loop-run.invariant
+
+pub returns-then-len-histogram : goal.returns-then-len-histogram
+returns-then-len-histogram g c = c.clear.ensures g.P.Pixel.top_level _ c.requires.held
