@@ -1,5 +1,5 @@
 //! Sets that are put together place by place, 64 pixels at a time, and the complement of a set.
-ghost use Rattle.std.specs.Prelude.{◌≡◌, ℕ, ◌-◌, ◌*◌, min, max, length, map, IfOk, IsTrue};
+ghost use Rattle.std.specs.Prelude.{◌≡◌, ◌↔◌, ℕ, ◌-◌, ◌*◌, min, max, length, map, IfOk, IsTrue};
 ghost use lib.Lanes.{zip2};
 ghost use Rattle.mw_words.specs.Packed.{bit_of};
 ghost use Rattle.mw_bits.specs.Uniform.{HasOnly};
@@ -48,7 +48,7 @@ pub fn minus(alloc: Global, a: &Window<Bit>, b: &Window<Bit>) -> Result<Plane<Bi
 /// Whether each bit of the words is one of the others, which are as many.
 fn are_within(words: &[u64], others: &[u64]) -> bool
     requires { length words.now ≡ length others.now }
-    ensures { IsTrue result → (q : ℕ) → bit_of words.now q - bit_of others.now q ≡ 0 }
+    ensures { IsTrue result ↔ ((q : ℕ) → bit_of words.now q - bit_of others.now q ≡ 0) }
 {
     for k in 0..words.len() {
         if Less::of_words(words[k], others[k]) != 0 {
@@ -62,7 +62,7 @@ fn are_within(words: &[u64], others: &[u64]) -> bool
 /// word that tells otherwise ends the look.
 pub fn is_within(a: &Window<Bit>, b: &Window<Bit>) -> bool
     requires { a.now.place ≡ b.now.place }
-    ensures within { IsTrue result → HasOnly 0 (zip2 (λ m n. m - n) a.now.cells b.now.cells) }
+    ensures within { IsTrue result ↔ HasOnly 0 (zip2 (λ m n. m - n) a.now.cells b.now.cells) }
     ensures first { length a.now.cells ≡ a.now.place.height * a.now.place.width }
     ensures second { length b.now.cells ≡ a.now.place.height * a.now.place.width }
 {

@@ -1,6 +1,6 @@
 //! Windows of one pixel throughout, as most are in masks of few or of compact grains. What is seen of such a window is that pixel
 //! or nothing: so its extremum is that pixel wherever anything is seen, and everywhere where the pixel is the neutral one.
-ghost use Rattle.std.specs.Prelude.{◌≡◌, ℕ, ◌+◌, ◌*◌, ◌<◌, ◌≤◌, ◌^◌, ℤ, pos, ◌+ℤ◌, ◌-ℤ◌, ◌≤ℤ◌, length, fold, cond, IfSome, IsTrue};
+ghost use Rattle.std.specs.Prelude.{◌≡◌, ◌↔◌, ℕ, ◌+◌, ◌*◌, ◌<◌, ◌≤◌, ◌^◌, ℤ, pos, ◌+ℤ◌, ◌-ℤ◌, ◌≤ℤ◌, length, fold, cond, IfSome, IsTrue};
 ghost use Rattle.std.specs.Int.{bit_at};
 ghost use Rattle.mw_model.specs.Places.{box_offsets};
 ghost use Rattle.mw_model.specs.Rasters.{seen_under};
@@ -17,7 +17,7 @@ use mw_tile::Window;
 
 /// Whether no bit of the words is set.
 fn are_clear(words: &[u64]) -> bool
-    ensures { IsTrue result → (q : ℕ) → bit_of words.now q ≡ 0 }
+    ensures { IsTrue result ↔ ((q : ℕ) → bit_of words.now q ≡ 0) }
 {
     for word in words {
         if *word != 0 {
@@ -29,7 +29,7 @@ fn are_clear(words: &[u64]) -> bool
 
 /// Whether the set has no pixel. The first word that has one ends the look.
 pub fn is_blank(set: &Window<Bit>) -> bool
-    ensures only { IsTrue result → HasOnly 0 set.now.cells }
+    ensures only { IsTrue result ↔ HasOnly 0 set.now.cells }
     ensures size { length set.now.cells ≡ set.now.place.height * set.now.place.width }
 {
     are_clear(words_of(set))

@@ -1,5 +1,5 @@
 -- An element as horizontal runs of offsets.
-use Rattle.std.specs.Prelude.{◌≡◌, ◌⊎◌, ℕ, ◌+◌, ◌-◌, ◌*◌, ◌<◌, ◌≤◌, ◌&&◌, nat_le, nat_lt, if◌then◌else◌, slice_index_or, List, [], ◌∷◌, length, map, flat_map, reverse, pos, ◌+ℤ◌, ◌-ℤ◌, ◌≤ℤ◌}
+use Rattle.std.specs.Prelude.{◌≡◌, ◌⊎◌, ℕ, ◌+◌, ◌-◌, ◌*◌, ◌<◌, ◌≤◌, ◌&&◌, nat_le, nat_lt, if◌then◌else◌, slice_index_or, List, [], ◌∷◌, length, map, flat_map, reverse, count_by, nat_eq, pos, ◌+ℤ◌, ◌-ℤ◌, ◌≤ℤ◌}
 use Rattle.std.specs.List.{range_with_len}
 use Rattle.mw_model.specs.declared.places.Offset.{Offset}
 use Rattle.mw_model.specs.Places.{nonnegative}
@@ -35,6 +35,10 @@ AreLongest runs = (k : ℕ) (r : Run) → k + 1 < length runs → Continues (sli
 -- the runs have the list's offsets in its order, or all of them in the opposite order
 abbrev pub AreEitherWay : List Offset → List Run → Type 0
 AreEitherWay offsets runs = (flat_map run_offsets runs ≡ offsets) ⊎ (flat_map run_offsets runs ≡ reverse offsets)
+
+-- how many of the runs have so many offsets
+abbrev pub runs_as_long : ℕ → List Run → ℕ
+runs_as_long n runs = count_by (λ (r : Run). nat_eq r.count n) runs
 
 -- the first extent has the columns and rows of the second
 pub record IsWider (e o : Extent) : Type 0 where

@@ -1,8 +1,9 @@
 //! How many samples a cell stands for while cells grow, so that a run of any length is two of them, and how many runs have each
 //! length.
-ghost use Rattle.std.specs.Prelude.{◌≡◌, ◌+◌, ◌<◌, ◌≤◌, ◌^◌, vec_len, IfOk};
+ghost use Rattle.std.specs.Prelude.{◌≡◌, ℕ, ◌+◌, ◌<◌, ◌≤◌, ◌^◌, vec_len, slice_index, IfOk};
 ghost use Rattle.std.specs.List.{AllByRecursion};
 ghost use Rattle.mw_run.specs.declared.runs.Run.{Run};
+ghost use Rattle.mw_run.specs.Runs.{runs_as_long};
 
 use crate::runs::Run;
 use mw_model::NoMemory;
@@ -19,12 +20,13 @@ pub struct Sizes {
 pub fn counts_of(alloc: Global, runs: &[Run], longest: usize) -> Result<Vec<usize>, NoMemory>
     requires all { AllByRecursion (λ (r : Run). r.count ≤ longest) runs.now }
     requires small { longest < 2 ^ 32 }
-    ensures { IfOk result (λ v. vec_len v ≡ longest + 1) }
+    ensures size { IfOk result (λ v. vec_len v ≡ longest + 1) }
+    ensures counts { IfOk result (λ v. (n : ℕ) → n ≤ longest → slice_index v.items n ≡ runs_as_long n runs.now) }
 {
     let mut counts = vec![in alloc; 0usize; longest + 1]?;
     for i in 0..runs.len() {
         let count = runs[i].count as usize;
-        counts[count] = counts[count].saturating_add(1);
+        counts[count] += 1;
     }
     Ok(counts)
 }

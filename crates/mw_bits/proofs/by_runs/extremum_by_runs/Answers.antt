@@ -41,7 +41,7 @@ counts_of-requires-clause-all g c = counts_of_inside c.args.extent c.columns_aft
 pub combine_runs-requires-clause-longest : goal.combine_runs-requires-clause-longest
 combine_runs-requires-clause-longest g c =
     let columns = c.columns_after-columns.result in
-    let size : length c.as_slice.result.now ≡ columns + 2 = omega (arith, c.as_slice.ensures.len, c.in_ok-counts.ensures) in
+    let size : length c.as_slice.result.now ≡ columns + 2 = omega (arith, c.as_slice.ensures.len, c.in_ok-counts.ensures.size) in
     all-weaker (λ (r : Run). r.count ≤ columns + 1) (λ (r : Run). r.count < length c.as_slice.result.now) c.args.runs.now (λ r le. omega arith)
     (counts_of_inside c.args.extent columns c.args.runs.now c.columns_after-columns.ensures.value c.requires.inside)
 
@@ -53,7 +53,7 @@ combine_runs-requires-clause-within g c =
     let high = tile.height + c.rows_after.result in
     let some : 1 ≤ high = omega (arith, c.requires.some) in
     let size = ap length c.as_mut_slice.ensures.value in
-    omega (arith, c.in_ok-cells.ensures.size, mul-le-mul_left wide some, c.stride-stride.ensures.value, c.as_slice.ensures.len, c.in_ok-counts.ensures)
+    omega (arith, c.in_ok-cells.ensures.size, mul-le-mul_left wide some, c.stride-stride.ensures.value, c.as_slice.ensures.len, c.in_ok-counts.ensures.size)
 
 pub combine_runs-requires-clause-few : goal.combine_runs-requires-clause-few
 combine_runs-requires-clause-few g c =

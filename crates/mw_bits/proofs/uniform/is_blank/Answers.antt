@@ -1,7 +1,15 @@
+use Rattle.std.proofs.Common.{◌≡◌, ℕ, ◌+◌, ◌*◌, get_or, ap, sym, ◌∙◌}
+use Rattle.std.proofs.lemmas.Nat.{mul-add-lt}
+use Rattle.mw_words.specs.Packed.{bit_of}
+use Rattle.mw_words.proofs.Bits.{sample_is_bit, length-samples_of}
 use Rattle.mw_bits.proofs.UniformSeen.{only_of_bits}
+use Rattle.mw_bits.proofs.UniformWords.{blank_bits}
 use Rattle.mw_bits.proofs.uniform.is_blank.Goals as goal
 
 pub returns-clause-only : goal.returns-clause-only
-returns-clause-only c = λ yes.
+returns-clause-only c =
     let set = c.args.set.now in
-    only_of_bits 0 set.place.width set.place.height c.words_of.result.now set.cells c.words_of.ensures.samples (λ x y less row_less. c.are_clear.ensures yes _)
+    let words = c.words_of.result.now in (
+      λ yes. only_of_bits 0 set.place.width set.place.height words set.cells c.words_of.ensures.samples (λ x y less row_less. c.are_clear.ensures.0 yes _),
+      λ only. c.are_clear.ensures.1 (blank_bits set.place.width set.place.height words set.cells c.words_of.ensures.samples c.words_of.ensures.packed only),
+    )

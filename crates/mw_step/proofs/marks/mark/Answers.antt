@@ -13,7 +13,7 @@ returns-in-Some c =
     let within = c.is_within.ensures in
     subst (λ (f : Picture). HoldsImage f c.in-Some.made)
     (kept_marked c.args.held.now c.args.a.now c.args.v c.args.set.now.view c.args.other.now.view c.bits_of-places.result.now c.bits_of-others.result.now c.requires.held c.bits_of-places.ensures c.bits_of-others.ensures
-    c.requires.place c.requires.other_place c.shared.ensures.size within.first within.second (within.within c.if-is_within.true))
+    c.requires.place c.requires.other_place c.shared.ensures.size within.first within.second (within.within.0 c.if-is_within.true))
     (rw c.in-Some.is at c.in_ok-made.ensures.held)
 
 pub returns : goal.returns

@@ -11,7 +11,7 @@ use Rattle.mw_step.proofs.marks.mark_last.Goals as goal
 pub returns-in-Some : goal.returns-in-Some
 returns-in-Some c =
     subst (λ (f : Picture). HoldsImage f c.in-Some.made)
-    (kept_last c.args.held.now c.args.a.now c.args.v c.args.set.now.view c.bits_of-places.result.now c.requires.held c.bits_of-places.ensures c.requires.place c.shared.ensures.size c.is_blank.ensures.size (c.is_blank.ensures.only c.if-is_blank.true))
+    (kept_last c.args.held.now c.args.a.now c.args.v c.args.set.now.view c.bits_of-places.result.now c.requires.held c.bits_of-places.ensures c.requires.place c.shared.ensures.size c.is_blank.ensures.size (c.is_blank.ensures.only.0 c.if-is_blank.true))
     (rw c.in-Some.is at c.in_ok-made.ensures.held)
 
 pub returns : goal.returns
