@@ -3,7 +3,7 @@
 //! length is at most twice the one before (Urbach and Wilkinson, 2008). A run is then one merge, or two, of its first and its
 //! last pixels; and since all rows have as many words, each merge takes all rows of the tile at once, and two merges one pass.
 //!
-//! Measured on a set of 4096 by 4096 pixels, words to words in one thread: 7 ms by a disc of 15, 13 ms by one of 31.
+//! Measured on a set of 4096 by 4096 pixels, words to words in one thread: 4.4 ms by a disc of 15, 6.9 by one of 31.
 ghost use Rattle.std.specs.Prelude.{◌≡◌, ℕ, ◌+◌, ◌-◌, ◌*◌, ◌/◌, ◌<◌, ◌≤◌, ◌^◌, ℤ, pos, negsuc, ◌+ℤ◌, ◌-ℤ◌, ◌≤ℤ◌, length, fold, flat_map, slice_index_or, vec_len, IfOk, IfSome, IsTrue};
 ghost use Rattle.std.specs.List.{AllByRecursion};
 ghost use Rattle.mw_model.specs.Places.{nonnegative};
