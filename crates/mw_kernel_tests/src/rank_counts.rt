@@ -3,7 +3,7 @@
 use mw_images_for_tests::{image, plane_of, rect, shows_tile};
 use mw_model::plain::PlainImage;
 use mw_model::{Kind, Offset, Rect, plain};
-use mw_rank_counts::rank_of_grey;
+use mw_rank_counts::{bits_in, rank_of_grey};
 use mw_tile::Window;
 use std::alloc::Global;
 use std::process::Abort;
@@ -102,6 +102,45 @@ fn back(columns: i16, rows: i16) -> Offset {
         dx: columns.wrapping_neg(),
         dy: rows.wrapping_neg(),
     }
+}
+
+/// So many samples of level 0, and one of that level at a place.
+fn one_level(alloc: Global, count: u32, at: u32, level: u16) -> Result<Vec<u16>, Fail> {
+    let mut samples = Vec::new(alloc);
+    for i in 0..count {
+        samples.push(if i == at { level } else { 0 })?;
+    }
+    Ok(samples)
+}
+
+#[test]
+fn bits_of_the_greatest_level(rt: HostRuntime) -> Result<(), Fail> {
+    for (level, bits) in [
+        (0, 0),
+        (1, 1),
+        (2, 2),
+        (3, 2),
+        (127, 7),
+        (128, 8),
+        (255, 8),
+        (256, 9),
+        (4095, 12),
+        (4096, 13),
+        (32768, 16),
+        (65535, 16),
+    ] {
+        for at in [0, 1, 31, 32, 69] {
+            let samples = one_level(rt.alloc(), 70, at, level)?;
+            assert!(&rt; bits_in(samples.as_slice()) == bits, "{level} at {at}");
+        }
+    }
+    let none: [u16; 0] = [];
+    assert!(&rt; bits_in(&none) == 0);
+    let bytes = [0u8, 127];
+    assert!(&rt; bits_in(&bytes) == 7);
+    let full = [255u8, 0];
+    assert!(&rt; bits_in(&full) == 8);
+    Ok(())
 }
 
 #[test]
