@@ -1,3 +1,5 @@
 -- what other crates may cite
 pub mod Orders
 pub mod RunLists
+-- the crate's own
+mod Fewest

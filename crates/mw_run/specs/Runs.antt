@@ -1,6 +1,7 @@
 -- An element as horizontal runs of offsets.
-use Rattle.std.specs.Prelude.{◌≡◌, ◌⊎◌, ℕ, ◌+◌, ◌-◌, ◌*◌, ◌<◌, ◌≤◌, ◌&&◌, nat_le, nat_lt, if◌then◌else◌, slice_index_or, List, [], ◌∷◌, length, map, flat_map, reverse, count_by, nat_eq, pos, ◌+ℤ◌, ◌-ℤ◌, ◌≤ℤ◌}
-use Rattle.std.specs.List.{range_with_len}
+use Rattle.std.specs.Prelude.{◌≡◌, ◌⊎◌, ℕ, Bool, cond, ◌+◌, ◌-◌, ◌*◌, ◌<◌, ◌≤◌, ◌&&◌, nat_le, nat_lt, if◌then◌else◌, slice_index_or, List, [], ◌∷◌, length, map, flat_map, reverse, count_by, nat_eq, pos, ◌+ℤ◌, ◌-ℤ◌, ◌≤ℤ◌}
+use Rattle.std.specs.Ordering.{int_eq}
+use Rattle.std.specs.List.{range_with_len, AllByRecursion}
 use Rattle.mw_model.specs.declared.places.Offset.{Offset}
 use Rattle.mw_model.specs.Places.{nonnegative}
 use Rattle.mw_run.specs.declared.runs.Run.{Run}
@@ -35,6 +36,26 @@ AreLongest runs = (k : ℕ) (r : Run) → k + 1 < length runs → Continues (sli
 -- the runs have the list's offsets in its order, or all of them in the opposite order
 abbrev pub AreEitherWay : List Offset → List Run → Type 0
 AreEitherWay offsets runs = (flat_map run_offsets runs ≡ offsets) ⊎ (flat_map run_offsets runs ≡ reverse offsets)
+
+-- no runs that have the list's offsets, in its order or in the opposite one, are fewer
+abbrev pub AreFewest : List Offset → List Run → Type 0
+AreFewest offsets runs = (others : List Run) → AllByRecursion IsRun others → AreEitherWay offsets others → length runs ≤ length others
+
+-- whether the second offset stands right behind the first
+abbrev pub follows : Offset → Offset → Bool
+follows a b = int_eq b.dx (a.dx +ℤ pos 1) && int_eq b.dy a.dy
+
+abbrev pub follows_back : Offset → Offset → Bool
+follows_back a b = follows b a
+
+-- how many neighbours pass a test, from the neighbour of an offset on
+abbrev pub pairs_from : (Offset → Offset → Bool) → Offset → List Offset → ℕ
+pairs_from p a [] = 0
+pairs_from p a (b ∷ os) = cond (p a b) 1 0 + pairs_from p b os
+
+abbrev pub pairs : (Offset → Offset → Bool) → List Offset → ℕ
+pairs p [] = 0
+pairs p (a ∷ os) = pairs_from p a os
 
 -- how many of the runs have so many offsets
 abbrev pub runs_as_long : ℕ → List Run → ℕ

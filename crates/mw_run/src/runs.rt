@@ -3,7 +3,7 @@ ghost use Rattle.std.specs.Prelude.{◌≡◌, ℕ, ◌+◌, ◌*◌, ◌<◌, �
 ghost use Rattle.std.specs.List.{AllByRecursion};
 ghost use Rattle.mw_model.specs.Places.{nonnegative};
 ghost use Rattle.mw_run.specs.declared.runs.Extent.{Extent};
-ghost use Rattle.mw_run.specs.Runs.{run_offsets, offset_at, start_offset, Continues, AreEitherWay, AreLongest, IsRun, IsInside, IsWider};
+ghost use Rattle.mw_run.specs.Runs.{run_offsets, offset_at, start_offset, Continues, AreEitherWay, AreLongest, AreFewest, follows, follows_back, pairs, IsRun, IsInside, IsWider};
 
 use mw_model::{NoMemory, Offset};
 use std::alloc::Global;
@@ -94,8 +94,19 @@ fn opposite(alloc: Global, offsets: &[Offset]) -> Result<Vec<Offset>, NoMemory>
     Ok(turned)
 }
 
+/// Whether the list begins in the opposite of raster order, as that of a reflected element does.
+fn begins_turned(offsets: &[Offset]) -> bool {
+    if offsets.len() < 2 {
+        return false;
+    }
+    let (first, second) = (offsets[0], offsets[1]);
+    second.dy < first.dy || (second.dy == first.dy && second.dx < first.dx)
+}
+
 /// Whether the list in the opposite order has fewer runs: each offset that continues the one before it saves one.
-fn is_shorter_turned(offsets: &[Offset]) -> bool {
+fn is_shorter_turned(offsets: &[Offset]) -> bool
+    ensures { IsTrue result ↔ (pairs follows offsets.now < pairs follows_back offsets.now) }
+{
     let (mut onward, mut back) = (0usize, 0usize);
     for i in 1..offsets.len() {
         let (before, here) = (offsets[i - 1], offsets[i]);
@@ -108,17 +119,35 @@ fn is_shorter_turned(offsets: &[Offset]) -> bool {
     onward < back
 }
 
-/// The list's runs, or, where these are fewer, those of the list in the opposite order: so a reflected element has as few
-/// runs as the element. For an extremum, which takes no notice of the order.
-pub fn runs_either_way(alloc: Global, offsets: &[Offset]) -> Result<Vec<Run>, NoMemory>
+/// The list's runs, or, where these are fewer, those of the list in the opposite order. Runs of two offsets or more, taken
+/// together, cannot be fewer the other way round, so that the offsets need not be looked at again.
+fn runs_of_fewer(alloc: Global, offsets: &[Offset]) -> Result<Vec<Run>, NoMemory>
     ensures offsets { IfOk result (λ v. AreEitherWay offsets.now v.items) }
     ensures runs { IfOk result (λ v. AllByRecursion IsRun v.items) }
+    ensures longest { IfOk result (λ v. AreLongest v.items) }
+    ensures fewest { IfOk result (λ v. AreFewest offsets.now v.items) }
 {
-    if !is_shorter_turned(offsets) {
-        return runs_of(alloc, offsets);
+    let runs = runs_of(alloc, offsets)?;
+    if runs.len() <= offsets.len() / 2 || !is_shorter_turned(offsets) {
+        return Ok(runs);
     }
     let turned = opposite(alloc, offsets)?;
     runs_of(alloc, turned.as_slice())
+}
+
+/// The fewest runs that the list can be cut into in its order or in the opposite one, each as long as it can be in that order:
+/// so a reflected element has as few runs as the element. For an extremum, which takes no notice of the order.
+pub fn runs_either_way(alloc: Global, offsets: &[Offset]) -> Result<Vec<Run>, NoMemory>
+    ensures offsets { IfOk result (λ v. AreEitherWay offsets.now v.items) }
+    ensures runs { IfOk result (λ v. AllByRecursion IsRun v.items) }
+    ensures longest { IfOk result (λ v. AreLongest v.items) }
+    ensures fewest { IfOk result (λ v. AreFewest offsets.now v.items) }
+{
+    if !begins_turned(offsets) {
+        return runs_of_fewer(alloc, offsets);
+    }
+    let turned = opposite(alloc, offsets)?;
+    runs_of_fewer(alloc, turned.as_slice())
 }
 
 /// The extent of one run.

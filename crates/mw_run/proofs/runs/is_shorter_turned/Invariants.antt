@@ -1,5 +1,11 @@
-use Rattle.std.proofs.Common.{◌≤◌}
+use Rattle.std.proofs.Common.{◌≡◌, ◌≤◌, take}
+use Rattle.mw_run.specs.Runs.{follows, follows_back, pairs}
 use Rattle.mw_run.proofs.runs.is_shorter_turned.Given as goal
 
 abbrev pub invariant-loop-i : goal.invariant-loop-i
-invariant-loop-i l = record { onward : l.onward ≤ l.i; back : l.back ≤ l.i }
+invariant-loop-i l = record {
+  onward_few : l.onward ≤ l.i;
+  back_few : l.back ≤ l.i;
+  onward : l.onward ≡ pairs follows (take l.i l.offsets);
+  back : l.back ≡ pairs follows_back (take l.i l.offsets);
+}
