@@ -26,3 +26,20 @@ merged_ahead f row ahead made at shift m k p d room m-is k-is ahead-is made-is f
     ∙ get_or-zip2 f here there (p - at) d d d (omega arith) (omega arith)
     ∙ ap (λ (t : _). f t (get_or there (p - at) d)) (part_at at m (p - at) row d (omega arith) ∙ ap (λ (t : ℕ). get_or row t d) near)
     ∙ ap (λ (t : _). f (get_or row p d) t) (part_at (at + shift) k (p - at) row d (omega arith) ∙ ap (λ (t : ℕ). get_or row t d) far)
+
+-- a block that was read, merged with the samples further on
+pub block_merged : {A : Type 0} (f : A → A → A) (row block made : List A) (at shift m k p : ℕ) (d : A) → at + shift + 64 ≤ length row → m ≡ 64 → k ≡ 64
+    → block ≡ take m (drop at row) → made ≡ zip2 f block (take k (drop (at + shift) row)) → p < 64
+    → get_or made p d ≡ f (get_or row (at + p) d) (get_or row (at + p + shift) d)
+block_merged f row block made at shift m k p d room m-is k-is block-is made-is lt =
+    let here = take m (drop at row) in
+    let there = take k (drop (at + shift) row) in
+    let here_len : length here ≡ 64 = omega (arith, length-take m (drop at row), length-drop at row) in
+    let there_len : length there ≡ 64 = omega (arith, length-take k (drop (at + shift) row), length-drop (at + shift) row) in
+    ap (λ (t : List _). get_or t p d) (made-is ∙ ap (λ (t : List _). zip2 f t there) block-is)
+    ∙ get_or-zip2 f here there p d d d (omega arith) (omega arith)
+    ∙ ap (λ (t : _). f t (get_or there p d)) (part_at at m p row d (omega arith))
+    ∙ ap (λ (t : _). f (get_or row (at + p) d) t) (part_at (at + shift) k p row d (omega arith) ∙ ap (λ (t : ℕ). get_or row t d) (far at shift p))
+  where
+    far : (at shift p : ℕ) → at + shift + p ≡ at + p + shift
+    far at shift p = omega arith
