@@ -7,3 +7,4 @@ pub mod Seens
 mod HeldRows
 mod Parts
 mod StripRows
+mod Lists

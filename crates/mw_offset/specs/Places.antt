@@ -1,7 +1,8 @@
 -- Places of a row of samples, laid out around a tile, at which runs are looked up.
-use Rattle.std.specs.Prelude.{ℕ, ◌+◌, ◌-◌, ◌&&◌, nat_le, nat_lt, if◌then◌else◌, slice_index_or, List, [], ◌∷◌}
+use Rattle.std.specs.Prelude.{◌⊎◌, ℕ, ◌+◌, ◌-◌, ◌*◌, ◌≤◌, ◌-ℤ◌, ◌&&◌, nat_le, nat_lt, if◌then◌else◌, slice_index_or, List, [], ◌∷◌}
 use Rattle.mw_run.specs.declared.runs.Run.{Run}
 use Rattle.mw_run.specs.declared.runs.Extent.{Extent}
+use Rattle.mw_model.specs.Places.{nonnegative}
 use Rattle.mw_run.specs.Runs.{start_of}
 
 -- a sample merged with the one that stands q places after p
@@ -16,3 +17,8 @@ places_of e wide size next r =
 -- a step that is taken at the runs of `size` offsets and more, and less than `next`
 abbrev pub sized_below : {A : Type 0} → ℕ → ℕ → (A → Run → A) → A → Run → A
 sized_below size next step best r = if nat_le size r.count && nat_lt r.count next then step best r else best
+
+-- few enough rows of a tile to be merged at one time: they have at most 131,072 samples, or there are at most 32 of them, or at
+-- most as many as the element has after its first
+abbrev pub IsStrip : Extent → ℕ → ℕ → Type 0
+IsStrip e width height = (height * width ≤ 131072) ⊎ ((height ≤ 32) ⊎ (height ≤ nonnegative (e.bottom -ℤ e.top)))

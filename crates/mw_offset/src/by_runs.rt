@@ -3,22 +3,25 @@
 //! last of so many samples, so that it takes two merges; the parts of all runs of one size are merged into one block of
 //! samples after another. Where many runs have one length, the cells are grown to that length, and each of them takes one
 //! merge (Urbach and Wilkinson 2008 grow them to each length).
-ghost use Rattle.std.specs.Prelude.{◌≡◌, ℕ, ◌+◌, ◌-◌, ◌*◌, ◌/◌, ◌<◌, ◌≤◌, ◌^◌, ℤ, pos, negsuc, ◌+ℤ◌, ◌-ℤ◌, ◌≤ℤ◌, length, fold, flat_map, slice_index_or, vec_len, ◌++◌, IfOk, OnOk};
+ghost use Rattle.std.specs.Prelude.{◌≡◌, ℕ, ◌+◌, ◌-◌, ◌*◌, ◌/◌, ◌<◌, ◌≤◌, ◌^◌, ℤ, pos, negsuc, ◌+ℤ◌, ◌-ℤ◌, ◌≤ℤ◌, length, fold, flat_map, slice_index_or, vec_len, [], ◌++◌, IfOk, OnOk};
+ghost use Rattle.std.specs.Vec.{vec_capacity};
+ghost use Rattle.mw_run.specs.declared.runs.Extent.{Extent};
 ghost use Rattle.std.specs.List.{AllByRecursion};
 ghost use Rattle.mw_model.specs.Places.{nonnegative};
 ghost use Rattle.mw_model.specs.Rasters.{seen_under};
 ghost use Rattle.mw_model.specs.Windows.{seen_at};
 ghost use Rattle.mw_line.specs.Extrema.{strided};
 ghost use Rattle.mw_run.specs.declared.runs.Run.{Run};
-ghost use Rattle.mw_offset.specs.Places.{places_of, sized_below};
+ghost use Rattle.mw_offset.specs.Places.{places_of, sized_below, IsStrip};
 ghost use Rattle.mw_run.specs.Runs.{run_offsets, start_of, IsInside, HasRoom, two_parts, gather};
 
+use crate::narrow::{is_cheaper_as_list, pick_columns};
 use crate::places::combine_rows_at;
 use crate::sizes::{longest_of, next_size};
 use crate::spread::{Rows, spread};
 use mw_lane::combine_ahead;
 use mw_model::{NoMemory, Rect};
-use mw_pixel::{Extremum, Grey, Pixel};
+use mw_pixel::{Extremum, Grey, Pixel, copies};
 use mw_run::{
     Extent, Run, Sizes, columns_after, counts_of, first_column, first_row, rows_after, start_of_run,
 };
@@ -65,6 +68,29 @@ fn push_places(
     Ok(())
 }
 
+/// How many parts the runs of these sizes are made up of.
+fn parts_of_sizes(runs: &[Run], sizes: Sizes) -> usize
+    ensures { (extent : Extent) (wide : ℕ) → result ≡ length (flat_map (places_of extent wide sizes.least sizes.next) runs.now) }
+{
+    let mut parts = 0usize;
+    for i in 0..runs.len() {
+        let count = runs[i].count as usize;
+        if count >= sizes.least && count < sizes.next {
+            parts += if count > sizes.least { 2 } else { 1 };
+        }
+    }
+    parts
+}
+
+/// Room for a place of each part of the runs of these sizes, and no more.
+fn room_for_parts(alloc: Global, runs: &[Run], sizes: Sizes) -> Result<Vec<usize>, NoMemory>
+    ensures empty { IfOk result (λ v. v.items ≡ []) }
+    ensures exact { IfOk result (λ v. (extent : Extent) (wide : ℕ) → vec_capacity v ≡ length (flat_map (places_of extent wide sizes.least sizes.next) runs.now)) }
+{
+    let room = Vec::with_capacity(alloc, parts_of_sizes(runs, sizes))?;
+    Ok(room)
+}
+
 /// The places of the parts of the runs of these sizes.
 fn places_of_sizes(
     alloc: Global,
@@ -76,7 +102,7 @@ fn places_of_sizes(
     requires room { (count : ℕ) × (cells : ℕ) × (0 < count) × (cells < 2 ^ 64) × AllByRecursion (HasRoom extent wide count cells) runs.now }
     ensures { IfOk result (λ v. v.items ≡ flat_map (places_of extent wide sizes.least sizes.next) runs.now) }
 {
-    let mut places = Vec::with_capacity(alloc, runs.len())?;
+    let mut places = room_for_parts(alloc, runs, sizes)?;
     for i in 0..runs.len() {
         push_places(&mut places, runs[i], extent, wide, sizes)?;
     }
@@ -142,6 +168,47 @@ fn combine_runs<P: Pixel, E: Extremum<P>>(
     Ok(())
 }
 
+/// Merges each run into neutral rows, or into one list of all rows, whichever costs less. Rows that are as long as those of the
+/// cells are such a list.
+fn merge_laid<P: Pixel, E: Extremum<P>>(
+    alloc: Global,
+    runs: &[Run],
+    laid: Laid,
+    neutral: P,
+    cells: &mut [P],
+    out: &mut [P],
+) -> Result<(), NoMemory>
+    requires room { AllByRecursion (HasRoom laid.extent laid.wide ((laid.height - 1) * laid.wide + laid.width + 63) (length cells.old)) runs.now }
+    requires size { length out.old ≡ laid.height * laid.width }
+    requires wanted { 0 < length out.old }
+    requires cells { (laid.height - 1) * laid.wide + laid.width + 63 ≤ length cells.old }
+    requires blank { (q : ℕ) → slice_index_or out.old q neutral ≡ neutral }
+    ensures { OnOk result ((x y : ℕ) → x < laid.width → y < laid.height → slice_index_or out.new (y * laid.width + x) neutral ≡ gather E.merge neutral (λ r. strided E.merge cells.old neutral 1 (r.count - 1) (start_of laid.extent laid.wide r + (y * laid.wide + x))) runs.now) }
+{
+    let Laid {
+        wide,
+        width,
+        height,
+        ..
+    } = laid;
+    let count = (height - 1) * wide + width;
+    let list = Laid {
+        width: count,
+        height: 1,
+        ..laid
+    };
+    if wide == width {
+        return combine_runs::<P, E>(alloc, runs, list, cells, out);
+    }
+    if !is_cheaper_as_list(runs.len(), wide, width, height) {
+        return combine_runs::<P, E>(alloc, runs, laid, cells, out);
+    }
+    let mut listed = copies(alloc, count, neutral)?;
+    combine_runs::<P, E>(alloc, runs, list, cells, listed.as_mut_slice())?;
+    pick_columns(listed.as_slice(), wide, width, height, out);
+    Ok(())
+}
+
 /// Merges into neutral samples, at each place of the tile, what the window has under the runs.
 pub(crate) fn merge_runs<P: Grey, E: Extremum<P>>(
     alloc: Global,
@@ -156,6 +223,7 @@ pub(crate) fn merge_runs<P: Grey, E: Extremum<P>>(
     requires wide { looked.extent.left ≤ℤ looked.extent.right }
     requires high { looked.extent.top ≤ℤ looked.extent.bottom }
     requires low { looked.tile.height ≤ 2 ^ 17 }
+    requires strip { IsStrip looked.extent looked.tile.width looked.tile.height }
     requires few_rows { nonnegative (looked.extent.bottom -ℤ looked.extent.top) ≤ 1023 }
     requires size { length out.old ≡ looked.tile.height * looked.tile.width }
     requires blank { (q : ℕ) → slice_index_or out.old q neutral ≡ neutral }
@@ -182,5 +250,5 @@ pub(crate) fn merge_runs<P: Grey, E: Extremum<P>>(
         height,
     };
     let mut cells = spread(alloc, window, rows, neutral)?;
-    combine_runs::<P, E>(alloc, runs, laid, cells.as_mut_slice(), out)
+    merge_laid::<P, E>(alloc, runs, laid, neutral, cells.as_mut_slice(), out)
 }

@@ -7,6 +7,7 @@
 #![tactic(auto)]
 
 mod by_runs;
+mod narrow;
 mod offsets;
 mod places;
 mod sizes;

@@ -1,5 +1,5 @@
 //! Samples of a window in rows of one length, with neutral samples around them.
-ghost use Rattle.std.specs.Prelude.{◌≡◌, ℕ, ◌+◌, ◌-◌, ◌*◌, ◌<◌, ◌≤◌, ◌^◌, pos, ◌+ℤ◌, ◌≤ℤ◌, nat_lt, if◌then◌else◌, length, slice_get, slice_index_or, vec_len, IfOk, IfSome};
+ghost use Rattle.std.specs.Prelude.{◌≡◌, ℕ, ◌+◌, ◌-◌, ◌*◌, ◌<◌, ◌≤◌, ◌^◌, pos, ◌+ℤ◌, ◌≤ℤ◌, nat_lt, if◌then◌else◌, length, slice_get, slice_index_or, vec_len, IfOk, IfSome, IsSome};
 ghost use Rattle.std.specs.Option.{unwrap_or};
 ghost use Rattle.mw_model.specs.Rasters.{raster, cell_at};
 ghost use Rattle.mw_lane.specs.Shifted.{at_place};
@@ -79,7 +79,8 @@ fn copy_rows<P: Grey>(window: &Window<P>, rows: Rows, out: &mut [P])
 fn held_row<P: Grey>(window: &Window<P>, rows: Rows) -> Option<usize>
     requires few { rows.high ≤ 2 ^ 20 }
     requires near { rows.row ≤ℤ pos (2 ^ 40) }
-    ensures { IfSome result (λ row. (rows.column ≡ pos 0) × (rows.wide ≡ window.now.place.width) × (rows.row ≡ pos row) × (row + rows.high ≤ window.now.place.height)) }
+    ensures held { IfSome result (λ row. (rows.column ≡ pos 0) × (rows.wide ≡ window.now.place.width) × (rows.row ≡ pos row) × (row + rows.high ≤ window.now.place.height)) }
+    ensures always { rows.column ≡ pos 0 → rows.wide ≡ window.now.place.width → pos 0 ≤ℤ rows.row → (rows.row +ℤ pos rows.high) ≤ℤ pos window.now.place.height → IsSome result }
 {
     let place = window.place();
     if rows.column != 0 || rows.row < 0 || rows.wide != place.width as usize {

@@ -7,6 +7,7 @@ ghost use Rattle.mw_model.specs.Places.{nonnegative};
 ghost use Rattle.mw_model.specs.Rasters.{seen_under};
 ghost use Rattle.mw_model.specs.Windows.{seen_at};
 ghost use Rattle.mw_run.specs.Runs.{run_offsets, IsInside};
+ghost use Rattle.mw_offset.specs.Places.{IsStrip};
 
 use crate::by_runs::{Looked, merge_runs};
 use mw_model::{NoMemory, Rect};
@@ -18,7 +19,7 @@ use std::alloc::Global;
 /// How many samples of a strip, with what is made of them, stay in the cache.
 const SAMPLES: u32 = 131072;
 
-/// How many rows a strip has: any number is right. Since as many rows as the element has after its first are spread once
+/// How many rows a strip has: as many as stay in the cache. Since as many rows as the element has after its first are spread once
 /// more for each strip, it is no less than these.
 fn rows_of_strip(width: u32, extent: Extent) -> usize
     requires some { 0 < width }
@@ -26,6 +27,7 @@ fn rows_of_strip(width: u32, extent: Extent) -> usize
     requires few_rows { nonnegative (extent.bottom -ℤ extent.top) ≤ 1023 }
     ensures some { 0 < result }
     ensures few { result ≤ 2 ^ 17 }
+    ensures strip { IsStrip extent width result }
 {
     let in_cache = (SAMPLES / width) as usize;
     in_cache.max(32).max(rows_after(extent))

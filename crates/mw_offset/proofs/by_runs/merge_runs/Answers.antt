@@ -9,8 +9,8 @@ use Rattle.mw_run.specs.Runs.{HasRoom}
 use Rattle.mw_offset.proofs.Seens.{IsLaidBy, all_room, more_room, gather_spread}
 use Rattle.mw_offset.proofs.by_runs.merge_runs.Goals as goal
 
-pub combine_runs-requires-clause-room : goal.combine_runs-requires-clause-room
-combine_runs-requires-clause-room g c =
+pub merge_laid-requires-clause-room : goal.merge_laid-requires-clause-room
+merge_laid-requires-clause-room g c =
     let e = c.args.looked.extent in
     let tile = c.args.looked.tile in
     let across = c.columns_after.ensures.value in
@@ -51,6 +51,6 @@ returns g c =
       size = omega (arith, c.in_ok-cells.ensures.size);
       cells_are = λ x y less row_less. ap (λ (t : List g.row.P.Denot). get_or t (y * wide + x) n) c.as_mut_slice.ensures.value ∙ c.in_ok-cells.ensures.cells x y less row_less;
     } in
-    on_ok_weaker c.combine_runs.result
-    (λ known. λ x y less row_less. known n c.requires.blank x y less row_less ∙ gather_spread f laws n w tile e wide high column row cells laid c.args.runs.now c.requires.inside x y less row_less)
-    c.combine_runs.ensures
+    on_ok_weaker c.merge_laid.result
+    (λ known. λ x y less row_less. known x y less row_less ∙ gather_spread f laws n w tile e wide high column row cells laid c.args.runs.now c.requires.inside x y less row_less)
+    c.merge_laid.ensures
