@@ -200,7 +200,7 @@ fn merge_laid<P: Pixel, E: Extremum<P>>(
     if wide == width {
         return combine_runs::<P, E>(alloc, runs, list, cells, out);
     }
-    if !is_cheaper_as_list(runs.len(), wide, width, height) {
+    if !is_cheaper_as_list(runs.len(), count, width, height) {
         return combine_runs::<P, E>(alloc, runs, laid, cells, out);
     }
     let mut listed = copies(alloc, count, neutral)?;

@@ -7,26 +7,34 @@ use mw_pixel::Pixel;
 /// What a block of 64 samples costs besides its runs, as a multiple of what one run costs it.
 const BLOCK: usize = 6;
 
+/// What a block of a list costs besides its runs: it is made too, and the tile's part of it is copied.
+const LISTED_BLOCK: usize = 9;
+
 /// What a row that is shorter than a block costs more: it is copied into a block and back.
 const SHORT_ROW: usize = 8;
-
-/// What a block of a list costs more: it is made, and the tile's part of it is copied.
-const LISTED_BLOCK: usize = 3;
 
 /// What a row of a list costs, of which the tile's columns are picked out.
 const LISTED_ROW: usize = 2;
 
-/// Whether one list of all rows costs less than row after row: any answer is right. The costs were fitted to measured times.
-pub(crate) fn is_cheaper_as_list(runs: usize, wide: usize, width: usize, height: usize) -> bool {
-    let whole = height.saturating_mul(wide) / 64;
-    let listed = whole
-        .saturating_mul(runs.saturating_add(BLOCK + LISTED_BLOCK))
-        .saturating_add(height.saturating_mul(LISTED_ROW));
-    let blocks = height.saturating_mul(width / 64 + if width % 64 > 0 { 1 } else { 0 });
-    let short = if width < 64 { SHORT_ROW } else { 0 };
-    let by_rows = blocks
-        .saturating_mul(runs.saturating_add(BLOCK))
-        .saturating_add(height.saturating_mul(short));
+/// What it costs to ask for a list and to free it.
+const LIST: usize = 16;
+
+/// What a row costs, at so much a block.
+fn row_cost(width: usize, block: usize) -> usize {
+    if width < 64 {
+        return block.saturating_add(SHORT_ROW);
+    }
+    let blocks = width / 64 + if width % 64 > 0 { 1 } else { 0 };
+    blocks.saturating_mul(block)
+}
+
+/// Whether one list of so many samples costs less than row after row: any answer is right. The costs were fitted to measured
+/// times.
+pub(crate) fn is_cheaper_as_list(runs: usize, count: usize, width: usize, height: usize) -> bool {
+    let by_rows = height.saturating_mul(row_cost(width, runs.saturating_add(BLOCK)));
+    let listed = row_cost(count, runs.saturating_add(LISTED_BLOCK))
+        .saturating_add(height.saturating_mul(LISTED_ROW))
+        .saturating_add(LIST);
     listed < by_rows
 }
 
