@@ -1,7 +1,7 @@
-//! A histogram of levels with a level that moves to the wanted rank (Huang, Yang and Tang 1979). Where the level has
-//! moved far of late, as among many levels, it first leaps over spans of counters at once: their sum is one pass of
-//! vector code, where a walk has a test for each counter.
-ghost use Rattle.std.specs.Prelude.{◌≡◌, ℕ, ◌+◌, ◌<◌, ◌≤◌, List, [], ◌∷◌, length, cond, nat_lt, IfOk};
+//! A histogram of levels with a level that moves to the wanted rank (Huang, Yang and Tang 1979). Where that is far, as
+//! among many levels, it goes on by leaps over spans of counters at once: their sum is one pass of vector code, where a
+//! walk has a test for each counter.
+ghost use Rattle.std.specs.Prelude.{◌≡◌, ℕ, ◌+◌, ◌<◌, ◌≤◌, ◌⊎◌, List, [], ◌∷◌, length, cond, nat_lt, IfOk};
 ghost use Rattle.mw_model.specs.PlanSteps.{ranked};
 ghost use Rattle.mw_rank.specs.Tallies.{count_under, Tallies, HasRoom, Holds};
 
@@ -12,14 +12,16 @@ use std::alloc::Global;
 /// How many counters a leap goes over.
 const SPAN: u32 = 16;
 
-/// How often each level was counted, how many levels below the present one, and how far it moved of late.
+/// How many levels the level moves step by step before it leaps: it is mostly near.
+const NEAR: u32 = 64;
+
+/// How often each level was counted, and how many levels below the present one.
 #[derive(Drop)]
 pub(crate) struct Histogram {
     pub counts: Vec<u16>,
     pub level: u32,
     pub below: u32,
     pub held: u32,
-    pub stride: u32,
 }
 
 impl Histogram {
@@ -33,7 +35,6 @@ impl Histogram {
             level: 0,
             below: 0,
             held: 0,
-            stride: 0,
         })
     }
 
@@ -96,6 +97,7 @@ impl Histogram {
     }
 
     /// How many levels were counted from that one on and below the other.
+    #[inline(always)]
     fn counted(&self, from: u32, to: u32) -> u32
         requires held { (top : ℕ) × Holds top self.now [] }
         requires order { from ≤ to }
@@ -110,6 +112,7 @@ impl Histogram {
     }
 
     /// Leaps down while n levels or more are below.
+    #[inline(always)]
     fn leap_down(&mut self, n: u32)
         requires { (top : ℕ) × Holds top self.old [] }
         ensures tallies { (top : ℕ) (ns : List ℕ) → Tallies top self.old ns → Tallies top self.new ns }
@@ -127,10 +130,13 @@ impl Histogram {
     }
 
     /// Leaps up while fewer than n levels are not above.
+    #[inline(always)]
     fn leap_up(&mut self, n: u32)
-        requires { (top : ℕ) × Holds top self.old [] }
+        requires few { self.old.below < n }
+        requires held { (top : ℕ) × Holds top self.old [] }
         ensures tallies { (top : ℕ) (ns : List ℕ) → Tallies top self.old ns → Tallies top self.new ns }
         ensures held { self.new.held ≡ self.old.held }
+        ensures few { self.new.below < n }
     {
         while ((self.level + SPAN) as usize) < self.counts.len() {
             let more = self.counted(self.level, self.level + SPAN);
@@ -143,34 +149,56 @@ impl Histogram {
         }
     }
 
-    /// Leaps towards the level of which fewer than n are below, where leaps pay.
-    fn leap(&mut self, n: u32)
-        requires { (top : ℕ) × Holds top self.old [] }
+    /// Moves down until fewer than n levels are below, but not below `end`.
+    #[inline(always)]
+    fn lower(&mut self, n: u32, end: u32)
+        requires held { (top : ℕ) × Holds top self.old [] }
         ensures tallies { (top : ℕ) (ns : List ℕ) → Tallies top self.old ns → Tallies top self.new ns }
         ensures held { self.new.held ≡ self.old.held }
+        ensures few { (self.new.below < n) ⊎ (self.new.level ≤ end) }
     {
-        if self.stride >= 2 * SPAN {
-            self.leap_down(n);
-            self.leap_up(n);
+        while self.below >= n && self.level > end {
+            self.level -= 1;
+            self.below -= u32::from(self.counts[self.level as usize]);
         }
     }
 
-    /// Moves down until fewer than n levels are below.
-    fn lower(&mut self, n: u32)
+    /// Moves up until n levels or more are not above, but not above `end`.
+    #[inline(always)]
+    fn raise(&mut self, n: u32, end: u32)
+        requires within { n ≤ self.old.held }
+        requires few { self.old.below < n }
+        requires held { (top : ℕ) × Holds top self.old [] }
+        ensures tallies { (top : ℕ) (ns : List ℕ) → Tallies top self.old ns → Tallies top self.new ns }
+        ensures held { self.new.held ≡ self.old.held }
+        ensures few { self.new.below < n }
+        ensures enough { (top : ℕ) (ns : List ℕ) → Tallies top self.old ns → self.new.level < end → n ≤ count_under (self.new.level + 1) ns }
+    {
+        while self.level < end && self.below + u32::from(self.counts[self.level as usize]) < n {
+            self.below += u32::from(self.counts[self.level as usize]);
+            self.level += 1;
+        }
+    }
+
+    /// Moves down until fewer than n levels are below: step by step, and by leaps where it is not near.
+    #[inline(always)]
+    fn go_down(&mut self, n: u32)
         requires some { 1 ≤ n }
         requires held { (top : ℕ) × Holds top self.old [] }
         ensures tallies { (top : ℕ) (ns : List ℕ) → Tallies top self.old ns → Tallies top self.new ns }
         ensures held { self.new.held ≡ self.old.held }
         ensures few { self.new.below < n }
     {
-        while self.below >= n {
-            self.level -= 1;
-            self.below -= u32::from(self.counts[self.level as usize]);
+        self.lower(n, self.level.saturating_sub(NEAR));
+        if self.below >= n {
+            self.leap_down(n);
+            self.lower(n, 0);
         }
     }
 
-    /// Moves up until n levels or more are not above.
-    fn raise(&mut self, n: u32)
+    /// Moves up until n levels or more are not above: step by step, and by leaps where it is not near.
+    #[inline(always)]
+    fn go_up(&mut self, n: u32)
         requires within { n ≤ self.old.held }
         requires few { self.old.below < n }
         requires held { (top : ℕ) × Holds top self.old [] }
@@ -178,13 +206,16 @@ impl Histogram {
         ensures few { self.new.below < n }
         ensures enough { (top : ℕ) (ns : List ℕ) → Tallies top self.old ns → n ≤ count_under (self.new.level + 1) ns }
     {
-        while self.below + u32::from(self.counts[self.level as usize]) < n {
-            self.below += u32::from(self.counts[self.level as usize]);
-            self.level += 1;
+        let near = self.level.saturating_add(NEAR);
+        self.raise(n, near);
+        if self.level >= near {
+            self.leap_up(n);
+            self.raise(n, u32::MAX);
         }
     }
 
     /// Of the levels in rising order number k, or the last where there are fewer; 0 where there is none.
+    #[inline(always)]
     pub(crate) fn select(&mut self, k: u32) -> u16
         requires { (top : ℕ) × Holds top self.old [] }
         ensures tallies { (top : ℕ) (ns : List ℕ) → Tallies top self.old ns → Tallies top self.new ns }
@@ -195,11 +226,8 @@ impl Histogram {
             return 0;
         }
         let n = self.held.min(k).max(1);
-        let from = self.level;
-        self.leap(n);
-        self.lower(n);
-        self.raise(n);
-        self.stride = self.stride - self.stride / 16 + self.level.abs_diff(from) / 16;
+        self.go_down(n);
+        self.go_up(n);
         self.level as u16
     }
 }
