@@ -11,13 +11,8 @@ use mw_pixel::Grey;
 pub trait Counted: Grey {
     ghost BITS: { ℕ };
 
-    ghost WORK: { ℕ };
-
     /// The bits of a level.
     const BITS: u32;
-
-    /// The most offsets, times the bits of the levels, at which counting is worth while where levels are few.
-    const WORK: usize;
 
     /// Makes each of 32 levels the lowest of those at the places, and as many columns on. No level of a column is farther
     /// above its lowest than the result, which has no more bits than the farthest one needs.

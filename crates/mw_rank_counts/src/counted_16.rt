@@ -40,11 +40,7 @@ impl Counted for u16 {
 
     ghost BITS = { 16 };
 
-    ghost WORK = { 500 };
-
     const BITS: u32 = 16;
-
-    const WORK: usize = 500;
 
     ghost few_bits = { Prim.omega arith };
 

@@ -35,11 +35,7 @@ impl Counted for u8 {
 
     ghost BITS = { 8 };
 
-    ghost WORK = { 640 };
-
     const BITS: u32 = 8;
-
-    const WORK: usize = 640;
 
     ghost few_bits = { Prim.omega arith };
 

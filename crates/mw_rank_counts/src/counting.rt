@@ -10,8 +10,9 @@ ghost use Rattle.mw_rank_counts.specs.Counting.{AllUnder};
 ghost use Rattle.mw_rank_counts.specs.Squeezed.{HasRoom};
 
 use crate::Counted;
+use crate::costs::{Way, are_close, load_of, quickest};
 use crate::places::{Inner, inner_places, row_places};
-use crate::search::{Search, are_close, bits_in, push_blocks};
+use crate::search::{Search, push_blocks};
 use crate::squeezed::{Bytes, room_for};
 use mw_model::{NoMemory, Offset, Rect};
 use mw_pixel::{Grey, Pixel, Plane, copies};
@@ -208,7 +209,7 @@ fn count_samples<P: Counted>(
     Ok(Some(out))
 }
 
-/// The ranks of a tile by counting, where that is quicker: where the offsets and the bits of the levels are few.
+/// The ranks of a tile by counting, where that is quicker.
 fn counted_samples<P: Counted>(
     alloc: Global,
     window: &Window<P>,
@@ -225,18 +226,21 @@ fn counted_samples<P: Counted>(
     if inner.count < 32 {
         return Ok(None);
     }
-    let bits = bits_in(window.samples());
-    // the histogram walks over levels, more of them where there are more bits
-    let walk = (1usize << bits) / 64;
-    if (offsets.len() * bits as usize).saturating_sub(walk) > P::WORK {
-        return Ok(None);
+    let load = load_of(window, offsets);
+    match quickest::<P>(load, None) {
+        Way::Counting => {}
+        _ => return Ok(None),
     }
-    let are_close = are_close(window.samples(), bits);
+    let search = Search {
+        k,
+        bits: load.bits,
+        are_close: are_close(load),
+    };
     let wanted = Wanted {
         offsets,
         tile,
         inner,
-        search: Search { k, bits, are_close },
+        search,
     };
     count_samples(alloc, window, wanted)
 }

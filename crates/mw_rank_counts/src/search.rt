@@ -16,13 +16,13 @@ use mw_rank::sample_of;
 
 /// The levels that samples have between them.
 #[derive(Clone, Copy)]
-struct Extent {
-    least: u16,
-    most: u16,
+pub(crate) struct Extent {
+    pub least: u16,
+    pub most: u16,
 }
 
 /// The least and the greatest level of the samples; where there are none, the greatest is 0.
-fn extent_of<P: Pixel>(samples: &[P]) -> Extent
+pub(crate) fn extent_of<P: Pixel>(samples: &[P]) -> Extent
     ensures most { AllUnder P.level P.TOP samples.now (result.most + 1) }
     ensures small { result.most ≤ P.top_level }
 {
@@ -36,7 +36,7 @@ fn extent_of<P: Pixel>(samples: &[P]) -> Extent
 }
 
 /// How many bits a level has.
-fn bits_of<P: Counted>(level: u16) -> u32
+pub(crate) fn bits_of<P: Counted>(level: u16) -> u32
     requires { level ≤ P.top_level }
     ensures within { result ≤ P.BITS }
     ensures small { level < 2 ^ result }
@@ -54,20 +54,6 @@ pub fn bits_in<P: Counted>(samples: &[P]) -> u32
     ensures small { AllUnder P.level P.TOP samples.now (2 ^ result) }
 {
     bits_of::<P>(extent_of(samples).most)
-}
-
-/// Whether levels of samples near one another are mostly so close that a look at how close they are saves more than it
-/// takes, which is the time of a bit. It looks at 32 of each 1000.
-pub(crate) fn are_close<P: Counted>(samples: &[P], bits: u32) -> bool {
-    let mut saved = 0u64;
-    let mut taken = 0u64;
-    for part in samples.chunks(1000) {
-        let extent = extent_of(&part[..part.len().min(32)]);
-        let apart = bits_of::<P>(extent.most.saturating_sub(extent.least));
-        saved = saved.saturating_add(u64::from(bits.saturating_sub(apart)));
-        taken = taken.saturating_add(1);
-    }
-    saved / 3 > taken / 2
 }
 
 /// A rank that is wanted of levels of so many bits, which may be close to one another where they are near.

@@ -17,6 +17,12 @@ use mw_run::place_of;
 use mw_tile::Window;
 use std::alloc::Global;
 
+/// How far a search may go for each column on average, and how much farther for each row of the element: beyond, one
+/// histogram for each row is quicker.
+const FAR: usize = 16;
+
+const FAR_A_ROW: usize = 12;
+
 /// Rows that a window shows of some: how many come before them, its first of them, and how many they are.
 #[derive(Clone, Copy)]
 pub(crate) struct Shown {
@@ -102,8 +108,7 @@ fn rank_together<P: Grey>(
         width: group.place.width,
         columns: rectangle.columns,
         k: group.k.clamp(1, 65535) as u16,
-        // beyond, one histogram for each row is quicker
-        far: 64 + 24 * rectangle.rows as usize,
+        far: FAR + FAR_A_ROW * rectangle.rows as usize,
     };
     rank_rows(made, counts, lanes, strip, all, span)
 }

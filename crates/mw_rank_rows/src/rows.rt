@@ -14,10 +14,15 @@ use crate::marks::marks_of;
 use crate::rectangle::{Rectangle, rectangle_of};
 use mw_model::{NoMemory, Offset, Rect};
 use mw_pixel::{Grey, Plane, copies};
-use mw_rank_counts::{Counted, bits_in};
+use mw_rank_counts::{Counted, Load, Way, load_of, quickest};
 use mw_run::runs_of;
 use mw_tile::Window;
 use std::alloc::Global;
+
+/// How many groups may go apart at first, as they do at an edge of the frame, and at most.
+const PATIENCE: u32 = 3;
+
+const MOST_PATIENCE: u32 = 5;
 
 /// Adds the samples from that place on.
 fn push_from<P: Grey>(out: &mut Vec<P>, made: &[P], skip: usize) -> Result<(), NoMemory>
@@ -91,7 +96,7 @@ fn rank_groups<P: Counted>(
     let counts = table.as_mut_slice();
     let made = eight.as_mut_slice();
     let mut lanes = no_samples();
-    let mut patience = 2u32;
+    let mut patience = PATIENCE;
     let mut done = 0u32;
     while done < tile.height && patience > 0 {
         let from = done.min(tile.height - 8);
@@ -116,23 +121,26 @@ fn rank_groups<P: Counted>(
     Ok(out)
 }
 
-/// How many groups more may be tried that then go apart: one less after one that did, else one more, up to four.
+/// How many groups more may be tried that then go apart: one less after one that did, else one more, up to a limit.
 fn patience_after(patience: u32, together: bool) -> u32 {
     if together {
-        patience.saturating_add(1).min(4)
+        patience.saturating_add(1).min(MOST_PATIENCE)
     } else {
         patience.saturating_sub(1)
     }
 }
 
-/// Whether eight rows at a time pay for levels of so many bits: the search takes longer where there are more.
-fn pays<P: Counted>(offsets: usize, rectangle: Rectangle, bits: u32) -> bool
-    ensures { IsTrue result → (rectangle.rows ≤ 2 ^ 15) × (bits ≤ 12) }
+/// Whether eight rows at a time are the quickest way. Their counters are for levels of 12 bits at most.
+fn pays<P: Counted>(load: Load, rectangle: Rectangle) -> bool
+    ensures { IsTrue result → (rectangle.rows ≤ 2 ^ 15) × (load.bits ≤ 12) }
 {
-    rectangle.rows >= 2
-        && rectangle.rows <= 1 << 15
-        && bits <= 12
-        && offsets.saturating_mul(bits as usize) > P::WORK / 4 * 3 + (1usize << bits) / 24
+    if rectangle.rows < 2 || rectangle.rows > 1 << 15 || load.bits > 12 {
+        return false;
+    }
+    match quickest::<P>(load, Some(rectangle.rows)) {
+        Way::EightRows => true,
+        _ => false,
+    }
 }
 
 /// The ranks of a tile, where eight rows at a time pay.
@@ -153,8 +161,8 @@ fn side_by_side<P: Counted>(
     let Some(rectangle) = rectangle_of(&runs) else {
         return Ok(None);
     };
-    let bits = bits_in(window.samples());
-    if !pays::<P>(offsets.len(), rectangle, bits) {
+    let load = load_of(window, offsets);
+    if !pays::<P>(load, rectangle) {
         return Ok(None);
     }
     let wanted = Wanted {
@@ -162,7 +170,7 @@ fn side_by_side<P: Counted>(
         rectangle,
         k,
     };
-    let samples = rank_groups(alloc, window, wanted, tile, 1usize << bits)?;
+    let samples = rank_groups(alloc, window, wanted, tile, 1usize << load.bits)?;
     Ok(Some(samples))
 }
 

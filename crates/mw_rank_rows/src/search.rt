@@ -15,11 +15,12 @@ pub(crate) struct Front {
     pub below: Simd<u16, 8>,
 }
 
-/// The level of each lane, and how far the search went for them.
+/// The level of each lane, how far the search went from the front to the last of them, and how far the front had moved.
 #[derive(Clone, Copy)]
 pub(crate) struct Found {
     pub levels: Simd<u16, 8>,
     pub steps: usize,
+    pub moves: usize,
 }
 
 /// Moves down until in each lane fewer than n samples are below, or to the lowest level.
@@ -75,6 +76,7 @@ fn scan(counts: &[u16], front: Front, n: Simd<u16, 8>) -> Found
     Found {
         levels,
         steps: at - front.level,
+        moves: 0,
     }
 }
 
@@ -88,6 +90,8 @@ pub(crate) fn select(counts: &[u16], front: &mut Front, n: Simd<u16, 8>) -> Foun
 {
     let lowered = lower(counts, *front, n);
     let raised = raise(counts, lowered, n);
+    let moves = raised.level.abs_diff(front.level);
     *front = raised;
-    scan(counts, raised, n)
+    let found = scan(counts, raised, n);
+    Found { moves, ..found }
 }

@@ -12,6 +12,12 @@ use mw_rank::sample_of;
 use mw_run::place_of;
 use std::simd::Simd;
 
+/// How many columns' steps may be taken ahead, so that one far search stops nothing.
+const COLUMNS_AHEAD: usize = 8;
+
+/// How many steps of eight lanes take as long as one histogram for each row to move a level.
+const STEPS_A_MOVE: usize = 16;
+
 /// A sheet of samples, and where an element sees its columns.
 #[derive(Clone, Copy)]
 pub(crate) struct Strip<'a, P: Pixel> {
@@ -137,6 +143,22 @@ pub(crate) struct Span {
     pub far: usize,
 }
 
+/// How many steps may have been taken for so many columns, where the front has moved so far: a histogram for each row would
+/// have to go there too.
+#[inline(always)]
+fn most_steps(span: Span, done: u32, moves: usize) -> usize {
+    let columns = done as usize + COLUMNS_AHEAD;
+    span.far
+        .saturating_mul(columns)
+        .saturating_add(moves.saturating_mul(STEPS_A_MOVE))
+}
+
+/// How far the front moved from one column to the next: to the first it comes from other rows.
+#[inline(always)]
+fn moves_within(done: u32, moves: usize) -> usize {
+    if done == 0 { 0 } else { moves }
+}
+
 /// The ranks of eight rows, where the lanes hold what the element sees at the first column. It stops early if the searches
 /// go too far, as the levels of the rows lie far from one another; gives how many columns are done.
 fn slide<P: Pixel>(
@@ -157,13 +179,15 @@ fn slide<P: Pixel>(
     ensures size { length made.new ≡ length made.old }
 {
     let mut steps = 0usize;
+    let mut moves = 0usize;
     let mut done = 0u32;
-    'by_column: while done < span.width && steps <= span.far.saturating_mul(done as usize + 16) {
+    'by_column: while done < span.width && steps <= most_steps(span, done, moves) {
         let x = span.x + u64::from(done);
         let n = at_most(lanes.held, span.k);
         let found = select(counts, &mut lanes.front, n);
         put_column(made, span.width as usize, done as usize, found.levels);
         steps = steps.saturating_add(found.steps);
+        moves = moves.saturating_add(moves_within(done, found.moves));
         leave(counts, lanes, strip, all, x);
         enter(counts, lanes, strip, all, x + u64::from(span.columns));
         done += 1;

@@ -12,10 +12,10 @@ rectangle_of-requires-clause-few g c =
 
 pub rank_groups-requires-clause-fits : goal.rank_groups-requires-clause-fits
 rank_groups-requires-clause-fits g c =
-    let bits = c.bits_in-bits.result in
+    let bits = c.load_of-load.result.bits in
     let few : bits ≤ 12 = (c.pays.ensures c.if-not-pays.false).1 in
     let small : 2 ^ bits ≤ 2 ^ 12 = pow-le-pow_right (omega arith) few in
-    let within : 2 ^ bits ≤ 2 ^ g.P.Counted.BITS = pow-le-pow_right (omega arith) c.bits_in-bits.ensures.within in
+    let within : 2 ^ bits ≤ 2 ^ g.P.Counted.BITS = pow-le-pow_right (omega arith) c.load_of-load.ensures.within in
     omega (arith, small, within, g.met.P.Counted.has_bits)
 
 pub rank_groups-requires-clause-rectangle : goal.rank_groups-requires-clause-rectangle

@@ -1,0 +1,252 @@
+//! The quickest of three ways to a rank: counting, the moving histogram of `mw_rank`, and eight rows at a time as
+//! `mw_rank_rows` does. What each takes is estimated from the element and a look at the samples. A wrong estimate costs
+//! time and no sample, as all ways give the same ranks.
+ghost use Rattle.std.specs.Prelude.{ℕ, ◌≤◌, ◌^◌};
+ghost use Rattle.mw_rank_counts.specs.Counting.{AllUnder};
+
+use crate::Counted;
+use crate::search::{Extent, bits_in, bits_of, extent_of};
+use mw_model::Offset;
+use mw_pixel::Pixel;
+use mw_tile::Window;
+
+// The times of a sample, in picoseconds. Only how they compare matters.
+
+/// Counting: to find an offset's place for a row of a tile.
+const COUNTED_PLACE: u64 = 30;
+
+/// Counting: a byte at an offset, for each bit.
+const COUNTED_BYTE: u64 = 34;
+
+/// Counting: a sample of 16 bits at an offset, for each bit.
+const COUNTED_WORD: u64 = 45;
+
+/// Counting: how many bits more it takes to make two bytes of 16 bits.
+const BITS_TO_SPLIT: u64 = 3;
+
+/// The moving histogram: whatever the element.
+const MOVED: u64 = 7_000;
+
+/// The moving histogram: what enters and leaves at the ends of a run.
+const MOVED_RUN: u64 = 2_100;
+
+/// The moving histogram: a level that its own level moves over.
+const MOVED_LEVEL: u64 = 200;
+
+/// The moving histogram: how much more each of the first such levels takes, and how many these are.
+const FIRST_LEVEL: u64 = 1_000;
+
+const FIRST_LEVELS: u64 = 24;
+
+/// Eight rows at a time: whatever the element.
+const EIGHTH: u64 = 3_500;
+
+/// Eight rows at a time: a sample of a row that any of them sees enters and leaves.
+const EIGHTH_ROW: u64 = 370;
+
+/// Eight rows at a time: a level between those of the rows.
+const EIGHTH_LEVEL: u64 = 130;
+
+/// How many rows eight rows see beside those that one sees.
+const ROWS_BESIDE: u64 = 7;
+
+/// A look at how far levels lie apart goes over so many samples of a row.
+const LOOKED_AT: usize = 32;
+
+/// And over so many of the last row that the element reaches from there, as a block of columns sees more than one row.
+const LOOKED_AT_BELOW: usize = 96;
+
+/// From so many samples one look is taken.
+const SAMPLES_A_LOOK: usize = 1000;
+
+/// The ways to a rank.
+#[derive(Clone, Copy)]
+pub enum Way {
+    Counting,
+    Histogram,
+    EightRows,
+}
+
+/// What the time for ranks depends on.
+#[derive(Clone, Copy)]
+pub struct Load {
+    /// The offsets of the element.
+    pub offsets: u64,
+    /// Its runs: offsets that stand beside one another in a row.
+    pub runs: u64,
+    /// The bits of the levels.
+    pub bits: u32,
+    /// By how many bits levels that are near one another in a row lie apart, on average; single ones that stand out are left
+    /// out.
+    pub beside: u32,
+    /// By how many bits levels of all rows that the element sees lie apart, on average.
+    pub apart: u32,
+}
+
+/// By how many bits levels lie apart: beside one another, and in more rows than one.
+#[derive(Clone, Copy)]
+struct Apart {
+    beside: u32,
+    apart: u32,
+}
+
+/// How many runs the offsets are: each that does not continue the one before it begins one.
+fn count_of_runs(offsets: &[Offset]) -> u64 {
+    let mut runs = 0u64;
+    let mut row = 0i32;
+    let mut next = i32::MIN;
+    for offset in offsets {
+        let column = i32::from(offset.dx);
+        if i32::from(offset.dy) != row || column != next {
+            runs = runs.saturating_add(1);
+        }
+        row = i32::from(offset.dy);
+        next = column + 1;
+    }
+    runs
+}
+
+/// From the first row of the offsets to the last.
+fn reach_of(offsets: &[Offset]) -> usize {
+    let mut top = i16::MAX;
+    let mut bottom = i16::MIN;
+    for offset in offsets {
+        top = top.min(offset.dy);
+        bottom = bottom.max(offset.dy);
+    }
+    (i32::from(bottom) - i32::from(top)).max(0) as usize
+}
+
+/// The extent of so many samples from that place on, or of those that are left.
+fn extent_at<P: Pixel>(samples: &[P], place: usize, count: usize) -> Extent {
+    let from = place.min(samples.len());
+    let rest = &samples[from..];
+    extent_of(&rest[..rest.len().min(count)])
+}
+
+/// The bits of the distance from one level to another that is not below it.
+fn bits_between<P: Counted>(least: u16, most: u16) -> u32 {
+    bits_of::<P>(most.saturating_sub(least).min(P::TOP.value()))
+}
+
+/// The average, to the nearest whole number.
+fn average(sum: u32, count: u32) -> u32 {
+    sum.saturating_add(count / 2) / count.max(1)
+}
+
+/// By how many bits levels lie apart in one row, and in rows so many places from one another. For one row it is the lesser of
+/// two looks, which leaves out single samples that stand out.
+fn apart_at<P: Counted>(samples: &[P], place: usize, reach: usize) -> Apart {
+    let here = extent_at(samples, place, LOOKED_AT);
+    let there = extent_at(samples, place.saturating_add(reach), LOOKED_AT_BELOW);
+    let one = bits_between::<P>(here.least, here.most);
+    let other = bits_between::<P>(there.least, there.most);
+    let least = here.least.min(there.least);
+    let most = here.most.max(there.most);
+    Apart {
+        beside: one.min(other),
+        apart: bits_between::<P>(least, most),
+    }
+}
+
+/// By how many bits levels lie apart, on average.
+fn bits_apart<P: Counted>(samples: &[P], reach: usize) -> Apart {
+    let mut beside = 0u32;
+    let mut apart = 0u32;
+    let mut count = 0u32;
+    let mut place = 0usize;
+    'looks: while place.saturating_add(reach) < samples.len() {
+        let here = apart_at(samples, place, reach);
+        beside = beside.saturating_add(here.beside);
+        apart = apart.saturating_add(here.apart);
+        count = count.saturating_add(1);
+        place = place.saturating_add(SAMPLES_A_LOOK);
+    }
+    Apart {
+        beside: average(beside, count),
+        apart: average(apart, count),
+    }
+}
+
+/// What the time for ranks of a window under the offsets depends on.
+pub fn load_of<P: Counted>(window: &Window<P>, offsets: &[Offset]) -> Load
+    ensures within { result.bits ≤ P.BITS }
+    ensures small { AllUnder P.level P.TOP window.now.cells (2 ^ result.bits) }
+{
+    let samples = window.samples();
+    let down = reach_of(offsets).saturating_mul(window.place().width as usize);
+    let lie = bits_apart(samples, down.min(samples.len() / 2));
+    Load {
+        offsets: offsets.len() as u64,
+        runs: count_of_runs(offsets),
+        bits: bits_in(samples),
+        beside: lie.beside,
+        apart: lie.apart,
+    }
+}
+
+/// Whether levels near one another are so close that a look at how close they are saves more than it takes, which is the
+/// time of a bit.
+pub(crate) fn are_close(load: Load) -> bool {
+    load.bits > load.beside.saturating_add(1)
+}
+
+/// The time of a sample by counting, which takes fewer than 256 offsets.
+fn counting_time<P: Counted>(load: Load) -> u64 {
+    if load.offsets >= 256 {
+        return u64::MAX;
+    }
+    let apart = u64::from(load.apart.min(load.bits));
+    let one = if P::BITS > 8 {
+        COUNTED_WORD * (apart + BITS_TO_SPLIT)
+    } else {
+        COUNTED_BYTE * u64::from(load.bits).min(apart + 1)
+    };
+    load.offsets.saturating_mul(COUNTED_PLACE + one)
+}
+
+/// How many levels a rank moves by where so many of the samples under the element are exchanged: as chance moves it, by
+/// the square root of their number, where the levels are spread over all samples. The root is that of 256 times the number, for
+/// its fraction.
+fn levels_moved(load: Load, exchanged: u64) -> u64 {
+    // between the least and the greatest number of so many bits
+    let levels = 3u64 << load.beside.min(16);
+    let root = exchanged.saturating_mul(256).isqrt();
+    levels.saturating_mul(root) / load.offsets.saturating_mul(64).max(1)
+}
+
+/// The time of a sample by the moving histogram.
+fn histogram_time(load: Load) -> u64 {
+    let runs = load.runs.saturating_mul(MOVED_RUN);
+    let levels = levels_moved(load, load.runs);
+    let first = levels.min(FIRST_LEVELS) * FIRST_LEVEL;
+    let walk = levels.saturating_mul(MOVED_LEVEL).saturating_add(first);
+    runs.saturating_add(walk).saturating_add(MOVED)
+}
+
+/// The time of a sample, eight rows at a time, under a rectangle of so many rows.
+fn eight_rows_time(load: Load, rows: u32) -> u64 {
+    let columns = load.offsets / u64::from(rows.max(1));
+    let levels = levels_moved(load, columns.saturating_mul(ROWS_BESIDE));
+    let seen = (u64::from(rows) + ROWS_BESIDE) * EIGHTH_ROW;
+    levels
+        .saturating_mul(EIGHTH_LEVEL)
+        .saturating_add(seen + EIGHTH)
+}
+
+/// The quickest way. Eight rows at a time are one where the element is a rectangle, of which the rows are given.
+pub fn quickest<P: Counted>(load: Load, rows: Option<u32>) -> Way {
+    let counting = counting_time::<P>(load);
+    let histogram = histogram_time(load);
+    let eight_rows = match rows {
+        None => u64::MAX,
+        Some(rows) => eight_rows_time(load, rows),
+    };
+    if eight_rows < counting.min(histogram) {
+        Way::EightRows
+    } else if counting < histogram {
+        Way::Counting
+    } else {
+        Way::Histogram
+    }
+}
