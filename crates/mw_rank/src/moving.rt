@@ -1,7 +1,7 @@
 //! The rank filter by a moving histogram (Huang, Yang and Tang 1979): from one place to the next only the samples at
 //! the ends of the element's horizontal runs leave and enter, and the rank is looked for from its last level. Measured on
 //! a 4096 by 4096 plane of random bytes under 15 by 15 offsets: 0.7 to 0.9 s, where OpenCV's median takes 0.7 s.
-ghost use Rattle.std.specs.Prelude.{◌≡◌, ℕ, ◌+◌, ◌*◌, ◌<◌, ◌≤◌, ◌^◌, pos, ◌+ℤ◌, ◌-ℤ◌, List, [], ◌++◌, map, length, IfOk, IfSome, OnOk};
+ghost use Rattle.std.specs.Prelude.{◌≡◌, ℕ, ◌+◌, ◌*◌, ◌<◌, ◌≤◌, ◌^◌, pos, ◌+ℤ◌, ◌-ℤ◌, List, [], ◌++◌, map, length, vec_capacity, IfOk, IfSome, OnOk};
 ghost use Rattle.std.specs.Option.{option_to_list};
 ghost use Rattle.mw_model.specs.PlanSteps.{ranked};
 ghost use Rattle.mw_model.specs.Rasters.{Raster, raster, cell_at};
@@ -325,6 +325,15 @@ fn push_whole_row<P: Grey>(
     Ok(())
 }
 
+/// Room for the samples of a tile, and no more.
+fn room_for<P: Pixel>(alloc: Global, tile: Rect) -> Result<Vec<P>, NoMemory>
+    ensures empty { IfOk result (λ v. v.items ≡ []) }
+    ensures room { IfOk result (λ v. vec_capacity v ≡ tile.height * tile.width) }
+{
+    let room = Vec::with_capacity(alloc, tile.height as usize * tile.width as usize)?;
+    Ok(room)
+}
+
 /// The ranks of a tile, by rows.
 pub(crate) fn rank_samples<P: Grey>(
     alloc: Global,
@@ -340,7 +349,7 @@ pub(crate) fn rank_samples<P: Grey>(
     let inner = inner_columns(&runs, tile, window.place());
     let mut ends = Vec::with_capacity(alloc, runs.len())?;
     let mut histogram = Histogram::empty::<P>(alloc)?;
-    let mut out = Vec::with_capacity(alloc, tile.height as usize * tile.width as usize)?;
+    let mut out = room_for(alloc, tile)?;
     let x = u64::from(tile.x);
     for j in 0..tile.height {
         let y = u64::from(tile.y) + u64::from(j);

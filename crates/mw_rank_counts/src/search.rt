@@ -21,6 +21,18 @@ pub(crate) struct Extent {
     pub most: u16,
 }
 
+/// The greatest level of the samples; where there are none, 0.
+fn most_of<P: Pixel>(samples: &[P]) -> u16
+    ensures most { AllUnder P.level P.TOP samples.now (result + 1) }
+    ensures small { result ≤ P.top_level }
+{
+    let mut most = 0;
+    for sample in samples {
+        most = most.max(sample.value());
+    }
+    most
+}
+
 /// The least and the greatest level of the samples; where there are none, the greatest is 0.
 pub(crate) fn extent_of<P: Pixel>(samples: &[P]) -> Extent
     ensures most { AllUnder P.level P.TOP samples.now (result.most + 1) }
@@ -53,7 +65,7 @@ pub fn bits_in<P: Counted>(samples: &[P]) -> u32
     ensures within { result ≤ P.BITS }
     ensures small { AllUnder P.level P.TOP samples.now (2 ^ result) }
 {
-    bits_of::<P>(extent_of(samples).most)
+    bits_of::<P>(most_of(samples))
 }
 
 /// A rank that is wanted of levels of so many bits, which may be close to one another where they are near.
