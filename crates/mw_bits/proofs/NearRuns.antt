@@ -1,8 +1,9 @@
 -- Runs of elements whose rows are laid out around a tile as words.
-use Rattle.std.proofs.Common.{◌≡◌, ℕ, ◌+◌, ◌≤◌, ◌-ℤ◌, List, arith}
+use Rattle.std.proofs.Common.{◌≡◌, ℕ, ◌+◌, ◌<◌, ◌≤◌, ◌-ℤ◌, List, length, take, get_or, arith}
 use Rattle.std.specs.List.{AllByRecursion}
 use Rattle.std.proofs.lemmas.Int.{ints}
-use Rattle.mw_facts.proofs.Alls.{all-weaker}
+use Rattle.std.proofs.lemmas.List.{take_more}
+use Rattle.mw_facts.proofs.Alls.{all-weaker, all-push}
 use Rattle.mw_model.specs.Places.{nonnegative}
 use Rattle.mw_model.proofs.Nonnegative.{nonnegative_is}
 use Rattle.mw_run.specs.declared.runs.Run.{Run}
@@ -32,3 +33,10 @@ columns_few e columns columns-is near =
     let few = near.columns.few in
     let ordered = near.columns.ordered in
     omega (arith, ints)
+
+-- one run more is no longer than the longest
+pub counts_more : (runs : List Run) (i most more : ℕ) (d : Run) → i < length runs → most ≤ more → (get_or runs i d).count ≤ more → AllByRecursion (λ (r : Run). r.count ≤ most) (take i runs)
+    → AllByRecursion (λ (r : Run). r.count ≤ more) (take (i + 1) runs)
+counts_more runs i most more d lt grown here so_far =
+    rw (take_more runs i d lt)
+    (all-push (λ (r : Run). r.count ≤ more) (take i runs) (get_or runs i d) (all-weaker (λ (r : Run). r.count ≤ most) (λ (r : Run). r.count ≤ more) (take i runs) (λ r le. omega arith) so_far) here)

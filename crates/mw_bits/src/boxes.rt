@@ -1,9 +1,6 @@
 //! Extrema under a box. The set is spread over rows of so many words, with neutral pixels around it; each bit becomes the
 //! extremum of the box's columns from it on, and then that of the box's rows, both by doubling. So a side of k pixels
 //! takes about log2(k) passes of shifted words over all rows at once.
-//!
-//! Measured on a set of 4096 by 4096 pixels, words to words in one thread: 1.7 ms under 3 by 3 pixels, 2.2 under 15 by 15,
-//! 2.8 under 63 by 63, 3.1 under 127 by 127.
 ghost use Rattle.std.specs.Prelude.{◌≡◌, ℕ, ◌+◌, ◌-◌, ◌*◌, ◌/◌, ◌<◌, ◌≤◌, ◌^◌, pos, negsuc, ◌+ℤ◌, ◌≤ℤ◌, length, fold, slice_index_or, vec_len, IfOk, OnOk};
 ghost use Rattle.mw_model.specs.Places.{box_offsets};
 ghost use Rattle.mw_model.specs.Rasters.{Raster, raster, cell_at, seen_under};

@@ -1,7 +1,22 @@
 //! How many pixels the cells stand for while they grow, and which runs are merged then.
-ghost use Rattle.std.specs.Prelude.{◌≡◌, ◌*◌, ◌<◌, ◌≤◌, ◌^◌};
+ghost use Rattle.std.specs.Prelude.{◌≡◌, ℕ, ◌*◌, ◌<◌, ◌≤◌, ◌^◌};
+ghost use Rattle.std.specs.List.{AllByRecursion};
+ghost use Rattle.mw_run.specs.declared.runs.Run.{Run};
 
-use mw_run::Sizes;
+use mw_run::{Run, Sizes};
+
+/// The longest run's length.
+pub(crate) fn longest_of(runs: &[Run]) -> usize
+    ensures all { AllByRecursion (λ (r : Run). r.count ≤ result) runs.now }
+    ensures least { (n : ℕ) → AllByRecursion (λ (r : Run). r.count ≤ n) runs.now → result ≤ n }
+    ensures small { result < 2 ^ 32 }
+{
+    let mut longest = 0u32;
+    for i in 0..runs.len() {
+        longest = longest.max(runs[i].count);
+    }
+    longest as usize
+}
 
 /// The size that comes after that one: twice as much, or the first between that so many runs have that a merge less for each,
 /// of `merged` words, is worth a pass over the cells.

@@ -35,15 +35,11 @@ combine_runs-requires-clause-room g c =
     (omega (arith, c.widened-laid.ensures.columns)) (ap (λ (t : ℕ). tile.height + t) c.rows_after.ensures.value) (omega (arith, out_size)) (omega (arith, c.in_ok-cells.ensures.size))
     (all_inside_wider e c.args.extent c.args.runs.now c.widened-laid.ensures.wider c.requires.inside)
 
-pub counts_of-requires-clause-all : goal.counts_of-requires-clause-all
-counts_of-requires-clause-all g c = counts_of_inside c.args.extent c.columns_after-columns.result c.args.runs.now c.columns_after-columns.ensures.value c.requires.inside
-
 pub combine_runs-requires-clause-longest : goal.combine_runs-requires-clause-longest
 combine_runs-requires-clause-longest g c =
-    let columns = c.columns_after-columns.result in
-    let size : length c.as_slice.result.now ≡ columns + 2 = omega (arith, c.as_slice.ensures.len, c.in_ok-counts.ensures.size) in
-    all-weaker (λ (r : Run). r.count ≤ columns + 1) (λ (r : Run). r.count < length c.as_slice.result.now) c.args.runs.now (λ r le. omega arith)
-    (counts_of_inside c.args.extent columns c.args.runs.now c.columns_after-columns.ensures.value c.requires.inside)
+    let longest = c.longest_of-longest.result in
+    let size : length c.as_slice.result.now ≡ longest + 1 = omega (arith, c.as_slice.ensures.len, c.in_ok-counts.ensures.size) in
+    all-weaker (λ (r : Run). r.count ≤ longest) (λ (r : Run). r.count < length c.as_slice.result.now) c.args.runs.now (λ r le. omega arith) c.longest_of-longest.ensures.all
 
 pub combine_runs-requires-clause-within : goal.combine_runs-requires-clause-within
 combine_runs-requires-clause-within g c =
@@ -53,7 +49,8 @@ combine_runs-requires-clause-within g c =
     let high = tile.height + c.rows_after.result in
     let some : 1 ≤ high = omega (arith, c.requires.some) in
     let size = ap length c.as_mut_slice.ensures.value in
-    omega (arith, c.in_ok-cells.ensures.size, mul-le-mul_left wide some, c.stride-stride.ensures.value, c.as_slice.ensures.len, c.in_ok-counts.ensures.size)
+    let longest = c.longest_of-longest.ensures.least (columns + 1) (counts_of_inside c.args.extent columns c.args.runs.now c.columns_after-columns.ensures.value c.requires.inside) in
+    omega (arith, c.in_ok-cells.ensures.size, mul-le-mul_left wide some, c.stride-stride.ensures.value, c.as_slice.ensures.len, c.in_ok-counts.ensures.size, longest)
 
 pub combine_runs-requires-clause-few : goal.combine_runs-requires-clause-few
 combine_runs-requires-clause-few g c =
