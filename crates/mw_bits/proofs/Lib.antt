@@ -2,6 +2,7 @@
 mod NearRuns
 mod SlidBoxes
 mod LevelRows
+mod NarrowRows
 mod Pairings
 mod HeldRows
 mod UniformSeen

@@ -1,7 +1,3 @@
-use Rattle.std.proofs.Common.{◌≡◌, ℕ, ◌+◌, ◌*◌, get_or, ap, sym, ◌∙◌}
-use Rattle.std.proofs.lemmas.Nat.{mul-add-lt}
-use Rattle.mw_words.specs.Packed.{bit_of}
-use Rattle.mw_words.proofs.Bits.{sample_is_bit, length-samples_of}
 use Rattle.mw_bits.proofs.UniformSeen.{only_of_bits}
 use Rattle.mw_bits.proofs.UniformWords.{blank_bits}
 use Rattle.mw_bits.proofs.uniform.is_blank.Goals as goal

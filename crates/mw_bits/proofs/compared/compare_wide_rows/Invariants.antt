@@ -2,7 +2,7 @@ use Rattle.std.proofs.Common.{map}
 use Rattle.mw_words.specs.Packed.{stride_of}
 use Rattle.mw_words.proofs.Done.{BitRowsDone}
 use Rattle.mw_word_rows.proofs.Packs.{packed_row}
-use Rattle.mw_bits.proofs.compared.compare_rows.Given as goal
+use Rattle.mw_bits.proofs.compared.compare_wide_rows.Given as goal
 
 abbrev pub invariant-loop-y : goal.invariant-loop-y
 invariant-loop-y g l =

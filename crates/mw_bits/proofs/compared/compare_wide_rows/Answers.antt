@@ -6,7 +6,7 @@ use Rattle.mw_words.specs.Packed.{stride_of}
 use Rattle.mw_words.proofs.Done.{bit_rows_more_by}
 use Rattle.mw_word_rows.proofs.Packs.{packed_row, all_packed, samples_packed}
 use Rattle.mw_bits.proofs.LevelRows.{part_mapped}
-use Rattle.mw_bits.proofs.compared.compare_rows.Goals as goal
+use Rattle.mw_bits.proofs.compared.compare_wide_rows.Goals as goal
 
 pub loop-y-preserved : goal.loop-y-preserved
 loop-y-preserved g c =
