@@ -7,6 +7,10 @@
 #![tactic(auto)]
 
 #[cfg(test)]
+mod boards;
+#[cfg(test)]
+mod discs;
+#[cfg(test)]
 mod elements;
 #[cfg(test)]
 mod extrema;
@@ -14,6 +18,10 @@ mod extrema;
 mod files;
 #[cfg(test)]
 mod planes;
+#[cfg(test)]
+mod ramps;
+#[cfg(test)]
+mod ranks;
 #[cfg(test)]
 mod sets;
 #[cfg(test)]

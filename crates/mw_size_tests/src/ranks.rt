@@ -1,0 +1,71 @@
+//! Ranks as sessions ask for them: under few offsets by counting, under rectangles eight rows at a time, under other elements
+//! by the moving histogram.
+
+use crate::ramps::{Form, Sight, half, ramp, shows_sight};
+use crate::slopes::{SQUARE, Sides, WIDE};
+use mw_bits::{as_levels, threshold};
+use mw_pixel::Plane;
+use mw_rank_counts::Counted;
+use mw_rank_rows::rank_of_grey;
+use mw_tile::Window;
+use std::alloc::Global;
+use std::process::Abort;
+
+/// Elements, each with the number of the middle one of the samples under it.
+const MEDIANS: [(Form, u32); 3] = [
+    (Form::Square(1), 5),
+    (Form::Square(7), 113),
+    (Form::Disc(15), 355),
+];
+
+/// The rank filter of a window in levels of grey.
+fn ranked<P: Counted>(
+    rt: &impl Abort,
+    alloc: Global,
+    window: &Window<P>,
+    sight: Sight,
+) -> Plane<P> {
+    let offsets = sight.form.offsets(rt, alloc);
+    assert!(rt; offsets.len() < 65536);
+    rank_of_grey(alloc, window, &offsets, sight.k, sight.sides.frame()).expect(rt, "memory")
+}
+
+/// The medians of levels of grey.
+fn of_levels<P: Counted>(rt: &impl Abort, alloc: Global, sides: Sides) {
+    let window = Window::whole(ramp::<P>(rt, alloc, sides));
+    for (form, k) in MEDIANS {
+        let sight = Sight { sides, form, k };
+        let made = ranked(rt, alloc, &window, sight);
+        assert!(rt; shows_sight(rt, alloc, &made, sight), "{k}");
+    }
+}
+
+#[test]
+fn ranks_of_bytes(rt: HostRuntime) {
+    of_levels::<u8>(&rt, rt.alloc(), SQUARE);
+    of_levels::<u8>(&rt, rt.alloc(), WIDE);
+}
+
+#[test]
+fn ranks_of_words(rt: HostRuntime) {
+    of_levels::<u16>(&rt, rt.alloc(), SQUARE);
+    of_levels::<u16>(&rt, rt.alloc(), WIDE);
+}
+
+/// The medians of a set, which are those of its pixels as levels.
+fn of_sets(rt: &impl Abort, alloc: Global, sides: Sides) {
+    let set = half(rt, alloc, sides);
+    let window = as_levels(alloc, &set).expect(rt, "memory");
+    for (form, k) in MEDIANS {
+        let sight = Sight { sides, form, k };
+        let levels = Window::whole(ranked(rt, alloc, &window, sight));
+        let made = threshold(alloc, &levels, 1).expect(rt, "memory");
+        assert!(rt; shows_sight(rt, alloc, &made, sight), "{k}");
+    }
+}
+
+#[test]
+fn ranks_of_sets(rt: HostRuntime) {
+    of_sets(&rt, rt.alloc(), SQUARE);
+    of_sets(&rt, rt.alloc(), WIDE);
+}
