@@ -1,7 +1,7 @@
 #!/usr/bin/env python3
-"""Runs a built morphd over sessions with each of its allocations refused in turn, and holds what it writes against a
-machine of one thread: every reply has to be the machine's, but for one mark of the refused allocation. A mark is a
-request that is answered 50, a pending entry that is killed before work is done, or the end of the session by 50.
+"""Runs a built morphd over sessions with each of its allocations refused in turn, and holds what it writes against the
+machine of checks/plain_model.py: every reply has to be the machine's, but for one mark of the refused allocation. A mark is
+a request that is answered 50, a pending entry that is killed before work is done, or the end of the session by 50.
 
 By four workers each start of a thread is refused in turn, too, alone and with all behind it: output and status have to
 stay the same. Then each allocation is refused where threads can be started and where none can. `morphd listen` with a
@@ -13,8 +13,7 @@ Without sessions it takes those below and two of examples/, else the given ones 
 refuse.so is built from refuse.c.
 """
 import collections
-import functools
-import itertools
+import copy
 import os
 import pathlib
 import socket
@@ -22,6 +21,8 @@ import subprocess
 import sys
 import tempfile
 import time
+
+import plain_model
 
 HERE = pathlib.Path(__file__).resolve().parent
 FIVE = b"LOAD f 19\nP2\n5 1\n9\n3 1 4 1 5\n"
@@ -50,6 +51,58 @@ FOUR_WORKERS = {
     "set": b"LOAD x %d\n%s" % (len(SET), SET) + CROSS + b"RUN o OPEN x b\nRUN c CLOSE x b\nFETCH o\nRUN e ERODE c b\n"
            b"RELEASE o\nRELEASE x\nFETCH e\nSTATUS c\nQUIT\n",
 }
+
+
+def loaded(name, picture):
+    return b"LOAD %s %d\n%s" % (name, len(picture), picture)
+
+
+def element(name, side, holds):
+    """A square bitmap with its origin in the middle, and the pixels whose column and row from there hold."""
+    half = side // 2
+    rows = b"".join(b"%d" % holds(x - half, y - half) for y in range(side) for x in range(side))
+    bitmap = b"P1\n%d %d\n%s\n" % (side, side, rows)
+    return b"ELEMENT %s %d %d %d\n%s" % (name, half, half, len(bitmap), bitmap)
+
+
+def square(name, side):
+    return element(name, side, lambda x, y: True)
+
+
+def disc(name, side):
+    """A disc without the pixel to the right of its origin."""
+    return element(name, side, lambda x, y: x * x + y * y <= (side // 2) ** 2 and (x, y) != (1, 0))
+
+
+# Levels without a pattern, which have all 8 or 12 bits, and a set. Ranks of them under a few offsets are counted, under
+# a large square made eight rows at a time, and under a large disc by a moving histogram.
+MIXED = [(x * x * 31 + y * y * 57 + x * y * 13 + 5 * x) % 4096 for y in range(12) for x in range(40)]
+BYTES = loaded(b"f", b"P5\n40 12\n255\n" + bytes(level % 256 for level in MIXED))
+WORDS = loaded(b"f", b"P5\n40 12\n4095\n" + b"".join(level.to_bytes(2, "big") for level in MIXED))
+DOTS = loaded(b"f", b"P1\n40 12\n" + b"".join(b"%d" % (level % 7 < 3) for level in MIXED) + b"\n")
+RANKS = (b"RUN s RANK f b 3\nRUN m RANK f c 25\nRUN l RANK f d 40\nFETCH s\nFETCH m\nFETCH l\nRUN e RANK m b 9\n"
+         b"FETCH e\n")
+# An element without its origin, beside a square of three.
+BESIDE = b"ELEMENT c 0 0 11\nP1\n3 1\n001\n"
+SESSIONS.update({
+    "ranks of bytes": BYTES + square(b"b", 3) + square(b"c", 8) + disc(b"d", 13) + RANKS,
+    "ranks of two bytes": WORDS + square(b"b", 3) + square(b"c", 8) + disc(b"d", 13) + RANKS,
+    "ranks of a set": DOTS + square(b"b", 3) + square(b"c", 23) + disc(b"d", 23) + RANKS,
+    "sets of bytes": BYTES + square(b"b", 3) + BESIDE + b"RUN t THRESHOLD f 128\nRUN h HITMISS f b c\n"
+                     b"RUN s SKELETON t b 2\nRUN r RESTORE s b 2\nRUN q SPECTRUM t b 2\nFETCH t\nFETCH h\nFETCH s\n"
+                     b"FETCH r\nFETCH q\n",
+    "sets of two bytes": WORDS + square(b"b", 3) + BESIDE + b"RUN h HITMISS f b c\nRUN q SPECTRUM f b 2\n"
+                         b"RUN t THRESHOLD h 9\nRUN g HITMISS t b c\nFETCH h\nFETCH q\nSTATUS q\nFETCH t\nRELEASE t\n"
+                         b"FETCH g\n",
+})
+FOUR_WORKERS.update({
+    "ranks": loaded(b"f", WIDE) + loaded(b"x", SET) + square(b"b", 3) + b"RUN m RANK f b 5\nRUN n RANK x b 5\n"
+             b"RUN l RANK n b 2\nFETCH l\nFETCH m\n",
+    "skeleton": loaded(b"x", SET) + CROSS + b"RUN s SKELETON x b 2\nRUN r RESTORE s b 2\nRUN q SPECTRUM x b 1\nFETCH s\n"
+                b"FETCH r\nFETCH q\n",
+    "sets of levels": loaded(b"f", WIDE) + CROSS + BESIDE + b"RUN h HITMISS f b c\nRUN t THRESHOLD f 5\n"
+                      b"RUN g HITMISS t b c\nFETCH h\nFETCH g\nSTATUS t\n",
+})
 LISTENED = FIVE + BAR + b"RUN e ERODE f b\nWAIT e\nFETCH e\nQUIT\n"
 SECONDS = 60
 ALL_BEHIND = 1 << 30
@@ -57,216 +110,130 @@ ALL_BEHIND = 1 << 30
 # What a run of the program came to: no status where it hung, and no counts where it did not end by itself.
 Run = collections.namedtuple("Run", "status written told calls starts")
 
-# An entry of the machine: its outcome is PENDING, DONE, CANCELLED, RELEASED, MEMORY or (INPUT, s).
-Entry = collections.namedtuple("Entry", "name shape value inputs operation outcome")
-PENDING, DONE, CANCELLED, RELEASED, MEMORY = "PENDING", "DONE", "CANCELLED", "RELEASED", "MEMORY"
+MEMORY = "MEMORY"
+LACK = b"ERR 50 MEMORY\n"
+
+
+class Entry(plain_model.Entry):
+    """An entry of the plain machine that can be killed for want of memory, too."""
+
+    def is_dead(self):
+        return self.outcome == MEMORY or super().is_dead()
+
+
+class Session(plain_model.Session):
+    """The plain machine, with entries that are killed."""
+
+    def copied(self):
+        """The same, to be gone on with in another way. Entries have the same values there."""
+        other = Session()
+        other.entries = [copy.copy(entry) for entry in self.entries]
+        return other
+
+    def accept(self, entry):
+        return super().accept(Entry(entry.name, entry.shape, entry.inputs, entry.outcome, entry.make))
+
+    def pending(self):
+        return [t for t, entry in enumerate(self.entries) if entry.outcome == "PENDING"]
+
+    def killed(self, t):
+        """The same where that entry finds no memory: what is to come of it dies as if it were cancelled."""
+        other = self.copied()
+        other.cancel(other.entries[t].name)
+        other.entries[t].outcome = MEMORY
+        return other
+
+    def status(self, name):
+        told = super().status(name)
+        t, entry = self.known(name)
+        return b"FAILED %d MEMORY\n" % t if entry.outcome == MEMORY else told
+
+
+def remembered(operator):
+    """The operator, which makes the same of the same once: sessions are gone through again for each allocation."""
+    made = {}
+
+    def applied(f, *rest):
+        key = repr((f, rest))
+        if key not in made:
+            made[key] = operator(f, *rest)
+        return made[key]
+    return applied
+
+
+def remember_all():
+    """Lets the plain machine remember what its operators made."""
+    plain_model.OPERATIONS.update((word, (elements, numbers, remembered(operator)))
+                                  for word, (elements, numbers, operator) in list(plain_model.OPERATIONS.items()))
 
 
 def requests(data):
-    """The requests of a session as words, with the payload last where there is one. Sessions here have no faults."""
+    """The requests of a session, each as its word, its words and its payload. Sessions here have no faults."""
     at, found = 0, []
     while at < len(data):
-        end = data.index(b"\n", at)
-        words, at = data[at:end].decode().split(" "), end + 1
-        if words[0] in ("LOAD", "ELEMENT"):
-            size = int(words[-1])
-            words, at = words + [data[at:at + size]], at + size
-        found.append(words)
-        if words[0] == "QUIT":
-            break
+        word, words, payload, at = plain_model.request(data, at)
+        found.append((word, words, payload))
+        if word == "QUIT":
+            return found
+    return found + [("QUIT", (), b"")]
+
+
+def replied(session, asked):
+    """The machine behind the request, and what it answers."""
+    after = session.copied()
+    try:
+        return after, plain_model.answer(after, *asked)
+    except plain_model.Refused as refused:
+        return after, plain_model.refusal(refused.code)
+
+
+def before(session, word):
+    """The states in which the request may be met, each with its mark."""
+    if word not in ("STATUS", "FETCH", "WAIT"):
+        return [(session, None)]
+    met = [(session.copied(), None)] + [(session.killed(t), "an entry was killed") for t in session.pending()]
+    for state, _ in met:
+        state.work()
+    return met
+
+
+def is_taken(session, asked):
+    """Whether the request is refused before its payload is looked at: that this finds no memory is then not told. The log
+    has places for its first 16 items from the start, and no session here asks for this behind them."""
+    word, words, _ = asked
+    return word in ("LOAD", "ELEMENT") and session.ticket(words[0]) is not None
+
+
+def following(state, asked, written):
+    """How it may go on behind this request: the machine, up to where it has written, and the mark."""
+    session, at, mark = state
+    free, found = mark == "nothing", []
+    for met, kill in before(session, asked[0]):
+        if kill and not free:
+            continue
+        after, text = replied(met, asked)
+        if written.startswith(text, at):
+            found.append((after, at + len(text), kill or mark))
+        if free and not kill and not is_taken(session, asked) and written.startswith(LACK, at):
+            found.append((met, at + len(LACK), "a request was answered 50"))
     return found
 
 
-def image(payload):
-    """Kind, width, height, maxval and samples of a P1, P2 or P5 payload; those of P5 have one byte a sample."""
-    words = payload.split()
-    if payload[:2] == b"P1":
-        return b"BIT", int(words[1]), int(words[2]), 1, tuple(int(bit) for bit in b"".join(words[3:]).decode())
-    if payload[:2] == b"P2":
-        numbers = tuple(int(word) for word in words[1:])
-        return b"GREY", numbers[0], numbers[1], numbers[2], numbers[3:]
-    head = payload.split(b"\n", 3)
-    width, height = (int(word) for word in head[1].split())
-    return b"GREY", width, height, int(head[2]), tuple(head[3])
-
-
-def image_text(kind, width, height, maxval, samples):
-    """The text of an image."""
-    if kind == b"GREY":
-        return b"P5\n%d %d\n%d\n" % (width, height, maxval) + b"".join(
-            s.to_bytes(1 if maxval < 256 else 2, "big") for s in samples)
-    rows = (samples[y * width:(y + 1) * width] + (0,) * (-width % 8) for y in range(height))
-    return b"P4\n%d %d\n" % (width, height) + b"".join(
-        int("".join(map(str, row[x:x + 8])), 2).to_bytes(1, "big") for row in rows for x in range(0, len(row), 8))
-
-
-def offsets(payload, ox, oy):
-    words = payload.split()
-    width, height, bits = int(words[1]), int(words[2]), b"".join(words[3:])
-    return width, height, tuple((i % width - ox, i // width - oy) for i in range(width * height) if bits[i:i + 1] == b"1")
-
-
-@functools.lru_cache(None)
-def applied(operation, f, b):
-    """An operation of two inputs by its definition."""
-    reflected = b[:2] + (tuple((-dx, -dy) for dx, dy in b[2]),)
-    if operation == "OPEN":
-        return extremum(False, extremum(True, f, b), reflected)
-    if operation == "CLOSE":
-        return extremum(True, extremum(False, f, b), reflected)
-    if operation == "GRADIENT":
-        most, least = extremum(False, f, b), extremum(True, f, b)
-        return f[:4] + (tuple(max(m - n, 0) for m, n in zip(most[4], least[4])),)
-    return extremum(operation == "ERODE", f, b)
-
-
-def extremum(least, f, b):
-    """Erosion or dilation, place by place."""
-    kind, width, height, maxval, samples = f
-    made = []
-    for y in range(height):
-        for x in range(width):
-            seen = [samples[(y + dy) * width + x + dx] for dx, dy in b[2] if 0 <= x + dx < width and 0 <= y + dy < height]
-            made.append((min(seen) if least else max(seen)) if seen else (maxval if least else 0))
-    return kind, width, height, maxval, tuple(made)
-
-
-def dead(outcome):
-    return outcome in (CANCELLED, MEMORY) or isinstance(outcome, tuple)
-
-
-def ticket(entries, name):
-    return next((t for t, entry in enumerate(entries) if entry.name == name), None)
-
-
-def killed(entries, t, cause):
-    """The entry dies, and then in ticket order each pending one that has a dead input."""
-    made = list(entries)
-    made[t] = made[t]._replace(outcome=cause)
-    for u, entry in enumerate(made):
-        first = next((s for s in entry.inputs if dead(made[s].outcome)), None)
-        if entry.outcome == PENDING and first is not None:
-            made[u] = entry._replace(outcome=("INPUT", first))
-    return tuple(made)
-
-
-def worked(entries):
-    """All pending entries are done, in ticket order."""
-    made = list(entries)
-    for t, entry in enumerate(made):
-        if entry.outcome == PENDING:
-            f, b = (made[s].value for s in entry.inputs)
-            made[t] = entry._replace(outcome=DONE, value=applied(entry.operation, f, b))
-    return tuple(made)
-
-
-def refused(code):
-    return b"ERR %s\n" % code
-
-
-def told(t, entry):
-    """How an entry stands."""
-    if entry.outcome == DONE:
-        return b"DONE %d %s\n" % (t, entry.shape)
-    if entry.outcome == MEMORY:
-        return b"FAILED %d MEMORY\n" % t
-    if isinstance(entry.outcome, tuple):
-        return b"FAILED %d INPUT %d\n" % (t, entry.outcome[1])
-    return b"%s %d\n" % (entry.outcome.encode(), t)
-
-
-def submitted(entries, words):
-    if ticket(entries, words[1]) is not None:
-        return entries, refused(b"40 NAME_TAKEN")
-    if words[0] == "LOAD":
-        f = image(words[-1])
-        entry = Entry(words[1], b"%s %d %d %d" % f[:4], f, (), None, DONE)
-    elif words[0] == "ELEMENT":
-        b = offsets(words[-1], int(words[2]), int(words[3]))
-        entry = Entry(words[1], b"ELEMENT %d %d" % b[:2], b, (), None, DONE)
-    else:
-        inputs = []
-        for name, is_element in zip(words[3:], (False, True)):
-            t = ticket(entries, name)
-            if t is None:
-                return entries, refused(b"41 UNKNOWN")
-            if entries[t].shape.startswith(b"ELEMENT") != is_element:
-                return entries, refused(b"42 KIND")
-            if dead(entries[t].outcome):
-                return entries, refused(b"43 DEAD")
-            if entries[t].outcome == RELEASED:
-                return entries, refused(b"51 RELEASED")
-            inputs.append(t)
-        entry = Entry(words[1], entries[inputs[0]].shape, None, tuple(inputs), words[2], PENDING)
-    return entries + (entry,), b"OK %d\n" % len(entries)
-
-
-def named(entries, words):
-    """A request that names one entry."""
-    t = ticket(entries, words[1])
-    if t is None:
-        return entries, refused(b"41 UNKNOWN")
-    entry = entries[t]
-    if words[0] == "CANCEL":
-        if entry.outcome != PENDING:
-            return entries, refused(b"49 SETTLED")
-        return killed(entries, t, CANCELLED), b"OK %d\n" % t
-    if words[0] == "RELEASE":
-        for holds, code in ((entry.outcome == PENDING, b"52 PENDING"), (dead(entry.outcome), b"43 DEAD"),
-                            (entry.outcome == RELEASED, b"51 RELEASED")):
-            if holds:
-                return entries, refused(code)
-        return entries[:t] + (entry._replace(outcome=RELEASED),) + entries[t + 1:], b"OK %d\n" % t
-    if words[0] == "FETCH" and entry.shape.startswith(b"ELEMENT"):
-        return entries, refused(b"42 KIND")
-    if words[0] == "FETCH" and entry.outcome == DONE:
-        text = image_text(*entry.value)
-        return entries, b"IMAGE %d %d\n" % (t, len(text)) + text
-    return entries, told(t, entry)
-
-
-def replied(entries, words):
-    return submitted(entries, words) if words[0] in ("LOAD", "ELEMENT", "RUN") else named(entries, words)
-
-
-def before(entries, words):
-    """The states in which the request may be met, each with its mark."""
-    if words[0] not in ("STATUS", "FETCH", "WAIT"):
-        return [(entries, None)]
-    pending = [t for t, entry in enumerate(entries) if entry.outcome == PENDING]
-    return [(worked(entries), None)] + [(worked(killed(entries, t, MEMORY)), "an entry was killed") for t in pending]
-
-
-def is_taken(entries, words):
-    """Whether the request is refused before its payload is looked at: that this finds no memory is then not told. The log
-    has places for its first 16 items from the start, and no session here asks for this behind them."""
-    return words[0] in ("LOAD", "ELEMENT") and ticket(entries, words[1]) is not None
+def is_end(state, word, written, status):
+    """The mark with which the session may have ended here, where it did."""
+    _, at, mark = state
+    if mark == "nothing" and status == 1 and written[at:] == LACK:
+        return "the session was ended"
+    return mark if word == "QUIT" and status == 0 and at == len(written) else None
 
 
 def explained(asked, written, status):
     """The one mark with which the machine writes this and ends so, 'nothing' without one, or None."""
-    states = [((), 0, "nothing")]
-    ended = []
-    for words in asked + [["QUIT"]]:
-        following = []
-        for entries, at, mark in states:
-            free = mark == "nothing"
-            if free and status == 1 and written[at:] == refused(b"50 MEMORY"):
-                ended.append("the session was ended")
-            if words[0] == "QUIT":
-                if status == 0 and at == len(written):
-                    ended.append(mark)
-                continue
-            for state, kill in before(entries, words):
-                if kill and not free:
-                    continue
-                after, text = replied(state, words)
-                if written.startswith(text, at):
-                    following.append((after, at + len(text), kill or mark))
-                lack = refused(b"50 MEMORY")
-                if free and not kill and not is_taken(entries, words) and written.startswith(lack, at):
-                    following.append((state, at + len(lack), "a request was answered 50"))
-        states = following
+    states, ended = [(Session(), 0, "nothing")], []
+    for request in asked:
+        ended += [end for state in states for end in [is_end(state, request[0], written, status)] if end]
+        if request[0] != "QUIT":
+            states = [after for state in states for after in following(state, request, written)]
     return next(iter(ended), None)
 
 
@@ -410,6 +377,7 @@ def main():
     given = {name: pathlib.Path(name).read_bytes() for name in sys.argv[2:]}
     examples = {name: (HERE.parent / "examples" / (name + ".session")).read_bytes() for name in ("grains", "defects")}
     built_refuser()
+    remember_all()
     bad = 0
     with tempfile.TemporaryDirectory() as folder:
         count = os.path.join(folder, "count")
