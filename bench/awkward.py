@@ -170,8 +170,8 @@ def diagonal(across):
 
 
 def column_with_gaps():
-    """A column of 255 rows without every second pixel."""
-    return element(1, 255, lambda x, y: y % 2 == 0)
+    """A column of 255 rows that has every second pixel, and so its origin."""
+    return element(1, 255, lambda x, y: y % 2 == 1)
 
 
 def square_without(column, row):
