@@ -1,7 +1,6 @@
 //! The extremum over a rectangle, by rows and by columns. Each doubles: a row is merged with itself, shifted by as many
 //! places as each sample stands for, so a side of k places takes about log2(k) merges of vector code. The two passes of
-//! van Herk (1992) and Gil and Werman (1993), which `line` has, take one sample after another. Measured on 4096 x 4096
-//! bytes: 7 ms under 3 x 3 places, 10 under 15 x 15, 14 under 127 x 127.
+//! van Herk (1992) and Gil and Werman (1993), which `line` has, take one sample after another.
 ghost use Rattle.std.specs.Prelude.{◌≡◌, ℕ, ◌+◌, ◌-◌, ◌*◌, ◌<◌, ◌≤◌, ◌^◌, pos, negsuc, ◌+ℤ◌, ◌≤ℤ◌, length, slice_index_or, replicate, vec_len, All, IfOk};
 ghost use Rattle.mw_model.specs.Places.{box_offsets};
 ghost use Rattle.mw_model.specs.Rasters.{Raster, raster, cell_at};

@@ -1,7 +1,7 @@
 //! The counted sliding extremum of a line, after van Herk (1992) and Gil and Werman (1993): blocks of the window's length,
 //! with the extremum of each block from each place to its end, and of the samples after it from its end to each place. A
 //! window is the end of one block and the beginning of the next, so each place costs three combines, whatever the
-//! window's length. Measured on 4096 rows of 4096 bytes: 87 ms under 15 places, 42 under 127.
+//! window's length.
 ghost use Rattle.std.specs.Prelude.{◌≡◌, ℕ, ◌+◌, ◌*◌, ◌<◌, ◌≤◌, ◌^◌, ◌≤ℤ◌, length, slice_index_or, OnOk, OnErr};
 ghost use Rattle.mw_line.specs.Line.{combines, line_at, places_within};
 ghost use Rattle.mw_model.specs.Places.{span};

@@ -1,6 +1,5 @@
 //! The extremum by runs, one strip of the tile's rows after another, so that the rows of a strip stay in the processor's
-//! cache from their spreading to their last merge. With passes over the whole tile, discs of 5 to 31 places took 1.3 to 2.3
-//! times as long on one tile of 4096 x 4096 samples.
+//! cache from their spreading to their last merge.
 ghost use Rattle.std.specs.Prelude.{◌≡◌, ℕ, ◌+◌, ◌*◌, ◌<◌, ◌≤◌, ◌^◌, ◌-ℤ◌, ◌≤ℤ◌, length, slice_index_or, fold, flat_map, vec_len, IfOk, OnOk};
 ghost use Rattle.std.specs.List.{AllByRecursion};
 ghost use Rattle.mw_model.specs.Places.{nonnegative};

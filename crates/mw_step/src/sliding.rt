@@ -14,7 +14,7 @@ use mw_tile::Window;
 use std::alloc::Global;
 
 /// The extremum of the samples under the element, at each place of the tile, of an image with this maxval. A full
-/// rectangle is slid by doubling, any other element offset by offset.
+/// rectangle is slid by doubling, any other element goes by its runs.
 pub(crate) fn under_element<P: Grey, E: Extremum<P>>(
     alloc: Global,
     window: &Window<P>,

@@ -1,4 +1,4 @@
-//! Pixels packed into words: 64 at a time, by comparing 64 bytes with 0 at once. Measured: 3 ms for 4096 by 4096 pixels.
+//! Pixels packed into words: 64 at a time, by comparing 64 bytes with 0 at once.
 ghost use Rattle.std.specs.Prelude.{◌≡◌, ℕ, ◌*◌, ◌+◌, ◌<◌, ◌≤◌, ◌^◌, length, slice_index, slice_range};
 ghost use Rattle.std.specs.Int.{bit_at};
 ghost use Rattle.mw_words.specs.Packed.{bit_of, stride_of};

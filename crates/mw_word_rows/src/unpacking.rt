@@ -1,4 +1,4 @@
-//! Words unpacked into pixels, eight at a time. Measured: 5 ms for 4096 by 4096 pixels.
+//! Words unpacked into pixels, eight at a time.
 ghost use Rattle.std.specs.Prelude.{◌≡◌, ℕ, ◌*◌, ◌+◌, ◌<◌, ◌≤◌, ◌^◌, length, slice_index};
 ghost use Rattle.std.specs.Int.{bit_at};
 ghost use Rattle.mw_words.specs.Packed.{bit_of};
