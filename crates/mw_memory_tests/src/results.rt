@@ -2,13 +2,20 @@
 //! as it was.
 
 use crate::makers::has;
-use mw_bits::{WordExtremum, as_levels, at_least};
+use mw_bits::{WordExtremum, as_levels, at_least, equal, level_set, threshold};
+use mw_grid::is_within;
+use mw_joined::joined;
+use mw_lane::LevelBlocks;
 use mw_line::{Steps, line, rectangle};
 use mw_model::{NoMemory, Offset, OffsetBox, Rect};
+use mw_netpbm::{ReadFault, read};
 use mw_offset::extremum;
-use mw_pixel::{Bit, Extremum, Grey, Max, Min, Plane};
+use mw_pieces::SharedWindow;
+use mw_pixel::{Bit, Extremum, Grey, Image, Max, Min, Pixel, Planar, Plane};
 use mw_rank::rank;
-use mw_tile::Window;
+use mw_rank_counts::Counted;
+use mw_rank_rows::rank_of_grey;
+use mw_tile::{AnyWindow, Window, WindowView};
 use std::alloc::Global;
 use std::process::Abort;
 use std::test::Fail;
@@ -265,4 +272,343 @@ fn sets_as_words_by_offsets_far_apart(rt: HostRuntime) -> Result<(), Fail> {
     let tile = far_in_a_row(7);
     is_extremum::<Min>(&rt, rt.alloc(), &FAR_APART, tile, &[0, 1, 1, 0, 0, 0, 0])?;
     is_extremum::<Max>(&rt, rt.alloc(), &FAR_APART, tile, &[1, 1, 1, 1, 1, 1, 0])
+}
+
+fn words_in_box<E: WordExtremum>(
+    alloc: Global,
+    set: &Window<Bit>,
+    tile: Rect,
+) -> Result<Plane<Bit>, NoMemory> {
+    mw_bits::rectangle::<E>(alloc, set, BAR, tile)
+}
+
+/// One extremum of the set over the bar.
+fn is_in_box<E: WordExtremum>(rt: &impl Abort, alloc: Global, wanted: &[u16]) -> Result<(), Fail> {
+    let set = set_of_levels(rt, alloc)?;
+    let made = once_more!(NoMemory, words_in_box::<E>(alloc, &set, all_of_a_row(7)));
+    assert!(rt; are_pixels(alloc, &Window::whole(made), wanted)?);
+    assert!(rt; are_pixels(alloc, &set, &SET)?);
+    Ok(())
+}
+
+#[test]
+fn sets_as_words_by_a_bar(rt: HostRuntime) -> Result<(), Fail> {
+    is_in_box::<Min>(&rt, rt.alloc(), &[0, 0, 1, 0, 0, 0, 0])?;
+    is_in_box::<Max>(&rt, rt.alloc(), &[1, 1, 1, 1, 1, 1, 1])
+}
+
+/// Both ways to find the places of seven samples with level 4 or more, and with just this level.
+fn are_sets<P: LevelBlocks + Grey>(
+    rt: &impl Abort,
+    levels: &Window<P>,
+    alloc: Global,
+) -> Result<(), Fail> {
+    let high = once_more!(NoMemory, at_least(alloc, levels, 4));
+    assert!(rt; has(&high, 7, 1, &SET));
+    let high = once_more!(NoMemory, threshold(alloc, levels, 4));
+    assert!(rt; has(&high, 7, 1, &SET));
+    let fours = once_more!(NoMemory, equal(alloc, levels, 4));
+    assert!(rt; has(&fours, 7, 1, &[0, 1, 0, 0, 0, 1, 0]));
+    let fours = once_more!(NoMemory, level_set(alloc, levels, 4));
+    assert!(rt; has(&fours, 7, 1, &[0, 1, 0, 0, 0, 1, 0]));
+    Ok(())
+}
+
+#[test]
+fn sets_of_levels(rt: HostRuntime) -> Result<(), Fail> {
+    let bytes = row_of(&rt, 7, copied(rt.alloc(), &SEVEN)?);
+    are_sets(&rt, &bytes, rt.alloc())?;
+    are(&rt, bytes.samples(), &SEVEN);
+    let words = [0u16, 4, 9, 5, 3, 4, 1];
+    let words = row_of(&rt, 7, copied(rt.alloc(), &words)?);
+    are_sets(&rt, &words, rt.alloc())
+}
+
+/// An image, a part of it, and the levels that this has.
+type Part = (&'static [u8], Rect, &'static [u16]);
+
+fn part(x: u32, y: u32, width: u32, height: u32) -> Rect {
+    Rect {
+        x,
+        y,
+        width,
+        height,
+    }
+}
+
+/// Sets of two pixels and of one, levels of one byte and of two; parts, and the whole.
+fn parts() -> [Part; 6] {
+    [
+        (
+            b"P1\n5 2\n11010\n01101\n",
+            part(1, 0, 3, 2),
+            &[1, 0, 1, 1, 1, 0],
+        ),
+        (b"P1\n5 2\n11010\n01101\n", part(0, 0, 2, 1), &[1, 1]),
+        (b"P1\n5 2\n11010\n01101\n", part(4, 0, 1, 1), &[0]),
+        (
+            b"P2\n3 2\n9\n3 1 4 1 5 9\n",
+            part(1, 0, 2, 2),
+            &[1, 4, 5, 9],
+        ),
+        (
+            b"P2\n3 2\n900\n3 1 400 1 5 9\n",
+            part(2, 0, 1, 2),
+            &[400, 9],
+        ),
+        (
+            b"P2\n3 2\n900\n3 1 400 1 5 9\n",
+            part(0, 0, 3, 2),
+            &[3, 1, 400, 1, 5, 9],
+        ),
+    ]
+}
+
+fn window_of(alloc: Global, image: &Image, place: Rect) -> Result<SharedWindow, Fail> {
+    if !is_within(place, image.width(), image.height()) {
+        return Err("a part of the image".into());
+    }
+    Ok(once_more!(NoMemory, SharedWindow::of_image(alloc, image, place)))
+}
+
+/// Whether the window has these levels.
+fn is_window(window: &AnyWindow, place: Rect, levels: &[u16]) -> bool {
+    let Rect { width, height, .. } = place;
+    window.place() == place
+        && match window.view() {
+            WindowView::Bits(set) => has(set.plane(), width, height, levels),
+            WindowView::Grey8(window, _) => has(window.plane(), width, height, levels),
+            WindowView::Grey16(window, _) => has(window.plane(), width, height, levels),
+        }
+}
+
+#[test]
+fn windows_are_put_together(rt: HostRuntime) -> Result<(), Fail> {
+    for (bytes, place, levels) in parts() {
+        let image = once_more!(ReadFault::NoMemory, read(rt.alloc(), bytes));
+        let window = window_of(rt.alloc(), &image, place)?;
+        let whole = once_more!(NoMemory, joined(rt.alloc(), &window));
+        assert!(rt; is_window(&whole, place, levels));
+    }
+    Ok(())
+}
+
+/// Places in a row, and how far an element sees of them to both sides.
+#[derive(Clone, Copy)]
+struct Axis {
+    places: u32,
+    reach: u32,
+}
+
+impl Axis {
+    fn first(self, at: u32) -> u32 {
+        at.saturating_sub(self.reach)
+    }
+
+    fn last(self, at: u32) -> u32 {
+        at.saturating_add(self.reach)
+            .min(self.places.saturating_sub(1))
+    }
+
+    fn seen(self, at: u32) -> u32 {
+        self.last(at)
+            .saturating_sub(self.first(at))
+            .saturating_add(1)
+    }
+
+    /// Where number `k`, from 1 on, of what is seen stands, or the last of less, if each place is seen so many times.
+    fn ranked(self, at: u32, k: u32, times: u32) -> u32 {
+        let passed = k.saturating_sub(1) / times.max(1);
+        self.first(at).saturating_add(passed).min(self.last(at))
+    }
+}
+
+/// A frame whose levels rise by one step with each column alone, or with each row alone, and a rank under the square that
+/// reaches so far to each side.
+#[derive(Clone, Copy)]
+struct Rising {
+    width: u32,
+    height: u32,
+    by_rows: bool,
+    step: u16,
+    reach: u32,
+    k: u32,
+}
+
+impl Rising {
+    fn level(self, place: u32) -> u16 {
+        u16::try_from(place)
+            .unwrap_or(u16::MAX)
+            .saturating_mul(self.step)
+    }
+
+    fn level_at(self, x: u32, y: u32) -> u16 {
+        self.level(if self.by_rows { y } else { x })
+    }
+
+    /// The level that the rank has at a place.
+    fn ranked_at(self, x: u32, y: u32) -> u16 {
+        let across = Axis {
+            places: self.width,
+            reach: self.reach,
+        };
+        let down = Axis {
+            places: self.height,
+            reach: self.reach,
+        };
+        if self.by_rows {
+            self.level(down.ranked(y, self.k, across.seen(x)))
+        } else {
+            self.level(across.ranked(x, self.k, down.seen(y)))
+        }
+    }
+}
+
+/// Few offsets are counted; under larger squares eight rows go together, or apart where they differ; and in narrow frames a
+/// histogram moves.
+const RISING: [Rising; 4] = [
+    Rising {
+        width: 40,
+        height: 9,
+        by_rows: false,
+        step: 6,
+        reach: 1,
+        k: 5,
+    },
+    Rising {
+        width: 40,
+        height: 20,
+        by_rows: false,
+        step: 6,
+        reach: 4,
+        k: 41,
+    },
+    Rising {
+        width: 40,
+        height: 20,
+        by_rows: true,
+        step: 12,
+        reach: 4,
+        k: 41,
+    },
+    Rising {
+        width: 20,
+        height: 9,
+        by_rows: false,
+        step: 12,
+        reach: 1,
+        k: 2,
+    },
+];
+
+/// The samples of the frame.
+fn samples_of<P: Grey>(alloc: Global, case: Rising) -> Result<Vec<P>, NoMemory> {
+    let mut samples = Vec::new(alloc);
+    for y in 0..case.height {
+        for x in 0..case.width {
+            samples.push(P::of(case.level_at(x, y)).unwrap_or(P::TOP))?;
+        }
+    }
+    Ok(samples)
+}
+
+fn window_rising<P: Grey>(rt: &impl Abort, alloc: Global, case: Rising) -> Result<Window<P>, Fail> {
+    let samples = once_more!(NoMemory, samples_of::<P>(alloc, case));
+    assert!(rt; samples.len() == case.height as usize * case.width as usize);
+    Ok(Window::whole(Plane::new(case.width, case.height, samples)))
+}
+
+/// The offsets of the square.
+fn square(alloc: Global, reach: u32) -> Result<Vec<Offset>, NoMemory> {
+    let reach = reach.min(9) as i16;
+    let mut offsets = Vec::new(alloc);
+    for dy in -reach..reach + 1 {
+        for dx in -reach..reach + 1 {
+            offsets.push(Offset { dx, dy })?;
+        }
+    }
+    Ok(offsets)
+}
+
+/// The ranks of the whole frame.
+fn ranks_of<P: Counted>(
+    rt: &impl Abort,
+    alloc: Global,
+    window: &Window<P>,
+    case: Rising,
+) -> Result<Plane<P>, Fail> {
+    let tile = part(0, 0, case.width, case.height);
+    let offsets = once_more!(NoMemory, square(alloc, case.reach));
+    assert!(rt; offsets.len() < 65536);
+    Ok(once_more!(
+        NoMemory,
+        rank_of_grey(alloc, window, &offsets, case.k, tile)
+    ))
+}
+
+/// Whether the plane has the ranks, or, for a set, their places with a level or more.
+fn are_ranks<P: Planar>(made: &Plane<P>, case: Rising, least: Option<u16>) -> bool {
+    if made.width() != case.width || made.height() != case.height {
+        return false;
+    }
+    for y in 0..case.height {
+        for x in 0..case.width {
+            let rank = case.ranked_at(x, y);
+            let wanted = least.map_or(rank, |least| u16::from(rank >= least));
+            if made.at(x, y).value() != wanted {
+                return false;
+            }
+        }
+    }
+    true
+}
+
+fn are_ranked<P: Counted>(rt: &impl Abort, alloc: Global, case: Rising) -> Result<(), Fail> {
+    let window = window_rising::<P>(rt, alloc, case)?;
+    let made = ranks_of(rt, alloc, &window, case)?;
+    assert!(rt; are_ranks(&made, case, None));
+    let itself = Rising {
+        reach: 0,
+        k: 1,
+        ..case
+    };
+    assert!(rt; are_ranks(window.plane(), itself, None));
+    Ok(())
+}
+
+#[test]
+fn ranks_of_bytes(rt: HostRuntime) -> Result<(), Fail> {
+    for case in RISING {
+        are_ranked::<u8>(&rt, rt.alloc(), case)?;
+    }
+    Ok(())
+}
+
+/// The same with levels of 12 bits.
+#[test]
+fn ranks_of_words(rt: HostRuntime) -> Result<(), Fail> {
+    for case in RISING {
+        let step = case.step.saturating_mul(16);
+        are_ranked::<u16>(&rt, rt.alloc(), Rising { step, ..case })?;
+    }
+    Ok(())
+}
+
+/// The set of the places with level 120 or more.
+fn high(rt: &impl Abort, alloc: Global, case: Rising) -> Result<Window<Bit>, Fail> {
+    let levels = window_rising::<u8>(rt, alloc, case)?;
+    let set = once_more!(NoMemory, threshold(alloc, &levels, 120));
+    Ok(Window::whole(set))
+}
+
+#[test]
+fn ranks_of_sets(rt: HostRuntime) -> Result<(), Fail> {
+    for case in RISING {
+        let set = high(&rt, rt.alloc(), case)?;
+        let levels = once_more!(NoMemory, as_levels(rt.alloc(), &set));
+        let ranks = Window::whole(ranks_of(&rt, rt.alloc(), &levels, case)?);
+        let made = once_more!(NoMemory, threshold(rt.alloc(), &ranks, 1));
+        assert!(rt; are_ranks(&made, case, Some(120)));
+    }
+    Ok(())
 }

@@ -1,4 +1,5 @@
-//! What kernels make of a set is a set: an image can be made of it, since no sample is over 1.
+//! What kernels make of a set is a set: an image can be made of it, since no sample is over 1. The set has pixels and places
+//! without, since what is made of others is told before a kernel runs.
 
 use crate::files::shows;
 use mw_bits::{WordExtremum, as_levels, at_least, extremum, rectangle};
@@ -29,9 +30,14 @@ const BAR: OffsetBox = OffsetBox {
 
 const SET: Shape = Shape::Image(Kind::Bit, 3, 2, 1);
 
-/// Pixels, all of the set.
-fn full(alloc: Global) -> Result<Plane<Bit>, NoMemory> {
-    Plane::filled(alloc, 3, 2, Bit::SET)
+/// Pixels at all places but the upper right one.
+fn pixels(alloc: Global) -> Result<Plane<Bit>, NoMemory> {
+    let mut set = Plane::filled(alloc, 3, 2, Bit::SET)?;
+    let none = Plane::filled(alloc, 1, 1, Bit::new(false))?;
+    if set.width() == 3 && set.height() == 2 && none.width() == 1 && none.height() == 1 {
+        set.copy_run(2, 0, &none, 0, 0, 1);
+    }
+    Ok(set)
 }
 
 /// The image of a plane of pixels.
@@ -46,7 +52,7 @@ fn image_of(alloc: Global, plane: Plane<Bit>) -> Result<Image, NoMemory> {
 
 /// All pixels, taken as levels and made of them again, as an image.
 fn of_levels(alloc: Global) -> Result<Image, NoMemory> {
-    let window = Window::whole(full(alloc)?);
+    let window = Window::whole(pixels(alloc)?);
     let levels = as_levels(alloc, &window)?;
     let made = at_least(alloc, &levels, 1)?;
     image_of(alloc, made)
@@ -54,14 +60,14 @@ fn of_levels(alloc: Global) -> Result<Image, NoMemory> {
 
 /// The extremum by the pixel to the right, as an image.
 fn by_offsets<E: WordExtremum>(alloc: Global) -> Result<Image, NoMemory> {
-    let window = Window::whole(full(alloc)?);
+    let window = Window::whole(pixels(alloc)?);
     let made = extremum::<E>(alloc, &window, &RIGHT, FRAME)?;
     image_of(alloc, made)
 }
 
 /// The extremum by a pixel and the one to the right, as an image.
 fn by_box<E: WordExtremum>(alloc: Global) -> Result<Image, NoMemory> {
-    let window = Window::whole(full(alloc)?);
+    let window = Window::whole(pixels(alloc)?);
     let made = rectangle::<E>(alloc, &window, BAR, FRAME)?;
     image_of(alloc, made)
 }
@@ -69,24 +75,24 @@ fn by_box<E: WordExtremum>(alloc: Global) -> Result<Image, NoMemory> {
 #[test]
 fn words_are_images(rt: HostRuntime) -> Result<(), Fail> {
     let image = once_more!(NoMemory, of_levels(rt.alloc()));
-    assert!(rt; shows(&image, SET, &[1; 6]));
+    assert!(rt; shows(&image, SET, &[1, 1, 0, 1, 1, 1]));
     Ok(())
 }
 
 #[test]
 fn extrema_by_offsets_are_images(rt: HostRuntime) -> Result<(), Fail> {
     let eroded = once_more!(NoMemory, by_offsets::<Min>(rt.alloc()));
-    assert!(rt; shows(&eroded, SET, &[1; 6]));
+    assert!(rt; shows(&eroded, SET, &[1, 0, 1, 1, 1, 1]));
     let dilated = once_more!(NoMemory, by_offsets::<Max>(rt.alloc()));
-    assert!(rt; shows(&dilated, SET, &[1, 1, 0, 1, 1, 0]));
+    assert!(rt; shows(&dilated, SET, &[1, 0, 0, 1, 1, 0]));
     Ok(())
 }
 
 #[test]
 fn extrema_by_a_box_are_images(rt: HostRuntime) -> Result<(), Fail> {
     let eroded = once_more!(NoMemory, by_box::<Min>(rt.alloc()));
-    assert!(rt; shows(&eroded, SET, &[1; 6]));
+    assert!(rt; shows(&eroded, SET, &[1, 0, 0, 1, 1, 1]));
     let dilated = once_more!(NoMemory, by_box::<Max>(rt.alloc()));
-    assert!(rt; shows(&dilated, SET, &[1; 6]));
+    assert!(rt; shows(&dilated, SET, &[1, 1, 0, 1, 1, 1]));
     Ok(())
 }
