@@ -1,7 +1,8 @@
 # `make demo` builds morphd and shows it at work; `make test` is the gate; `make memory` refuses each allocation and each
 # start of a thread in turn, and measures what a FETCH takes; `make soak` runs random sessions beside a plain model, and a
-# server with good and bad clients; `make bench` takes times.
-.PHONY: demo morphd test memory soak bench toolchain python compiler
+# server with good and bad clients; `make bench` takes times; `make costs` counts instructions, and compares them with those
+# that are kept.
+.PHONY: demo morphd test memory soak bench costs toolchain python compiler valgrind
 
 MORPHD = crates/morphd/out/morphd
 
@@ -16,6 +17,10 @@ python:
 compiler:
 	@command -v cc >/dev/null || { \
 	  echo "cc is missing: install Debian's package gcc" >&2; exit 1; }
+
+valgrind:
+	@command -v valgrind >/dev/null || { \
+	  echo "valgrind is missing: install Debian's package valgrind" >&2; exit 1; }
 
 test: toolchain python
 	@python3 -B checks/no_leaks.py
@@ -66,3 +71,9 @@ bench: toolchain python
 	python3 bench/workers.py $(MORPHD)
 	python3 -B bench/listen.py $(MORPHD)
 	@/usr/bin/python3 bench/peers.py || echo "the peers were not measured" >&2
+
+# A busy machine counts as a quiet one does.
+costs: toolchain python valgrind
+	@python3 -B checks/costs.py --test
+	@python3 -B checks/prove.py bench_sessions
+	@python3 -B checks/costs.py
