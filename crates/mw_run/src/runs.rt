@@ -94,13 +94,22 @@ fn opposite(alloc: Global, offsets: &[Offset]) -> Result<Vec<Offset>, NoMemory>
     Ok(turned)
 }
 
-/// Whether the list begins in the opposite of raster order, as that of a reflected element does.
+/// How many offsets are looked at for the first run.
+const LOOKED_AT: usize = 64;
+
+/// Whether the list begins in the opposite of raster order, as that of a reflected element does: by the first two neighbours
+/// that stand side by side. Any answer is right.
 fn begins_turned(offsets: &[Offset]) -> bool {
-    if offsets.len() < 2 {
-        return false;
+    for i in 1..offsets.len().min(LOOKED_AT) {
+        let (before, here) = (offsets[i - 1], offsets[i]);
+        if continues(before, 1, here) {
+            return false;
+        }
+        if continues(here, 1, before) {
+            return true;
+        }
     }
-    let (first, second) = (offsets[0], offsets[1]);
-    second.dy < first.dy || (second.dy == first.dy && second.dx < first.dx)
+    false
 }
 
 /// Whether the list in the opposite order has fewer runs: each offset that continues the one before it saves one.
