@@ -12,7 +12,7 @@ use std::process::Abort;
 use std::test::Fail;
 
 /// A kind with a maxval, one for each size of samples.
-const KINDS: [(Kind, u16); 3] = [(Kind::Bit, 1), (Kind::Grey, 255), (Kind::Grey, 999)];
+pub(crate) const KINDS: [(Kind, u16); 3] = [(Kind::Bit, 1), (Kind::Grey, 255), (Kind::Grey, 999)];
 
 /// Rectangles of a frame of 150 by 140 pixels, which has three rows of three tiles; those of the last end with the frame.
 fn rectangles() -> [Rect; 9] {
