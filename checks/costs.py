@@ -27,7 +27,7 @@ from concurrent.futures import ThreadPoolExecutor
 ROOT = os.path.dirname(os.path.dirname(os.path.realpath(__file__)))
 KEPT = f"{ROOT}/bench/costs.txt"
 # Cachegrind without its model of caches counts as callgrind does, and takes a third of the time.
-VALGRIND = ("valgrind", "--tool=cachegrind", "--cache-sim=no", "--cachegrind-out-file=/dev/null")
+VALGRIND = ("valgrind", "--tool=cachegrind", "--cache-sim=no")
 # Of the C library: no vectors of 32 bytes, no copies or fills by one instruction, and one size from which on these pass by
 # the caches. A program is given no other words of the environment, which it would look through.
 ENVIRONMENT = {
@@ -53,13 +53,14 @@ def counted(crate, words):
     if not os.path.isfile(program):
         sys.exit(f"{program} is missing: python3 checks/prove.py {crate}")
     given = words.pop()[1:] if words and words[-1].startswith("<") else os.devnull
-    with open(os.path.join(ROOT, "bench", given), "rb") as stdin:
-        ran = subprocess.run([*VALGRIND, program, *words], cwd=f"{ROOT}/bench", env=ENVIRONMENT, stdin=stdin,
-                             stdout=subprocess.DEVNULL, stderr=subprocess.PIPE, text=True, check=False)
-    found = re.search(r"I +refs: +([0-9,]+)", ran.stderr)
+    with open(os.path.join(ROOT, "bench", given), "rb") as stdin, tempfile.NamedTemporaryFile("r", encoding="utf-8") as told:
+        ran = subprocess.run([*VALGRIND, f"--cachegrind-out-file={told.name}", program, *words], cwd=f"{ROOT}/bench",
+                             env=ENVIRONMENT, stdin=stdin, stdout=subprocess.DEVNULL, stderr=subprocess.PIPE, check=False)
+        found = re.search(r"^summary: (\d+)", told.read(), re.MULTILINE)
     if ran.returncode or not found:
-        sys.exit(f"{program} {' '.join(words)} ended with status {ran.returncode}: {ran.stderr}")
-    return int(found[1].replace(",", ""))
+        said = ran.stderr.decode(errors="replace")
+        sys.exit(f"{program} {' '.join(words)} ended with status {ran.returncode}: {said}")
+    return int(found[1])
 
 
 def read(path):
