@@ -29,7 +29,8 @@ KEPT = f"{ROOT}/bench/costs.txt"
 # Cachegrind without its model of caches counts as callgrind does, and takes a third of the time.
 VALGRIND = ("valgrind", "--tool=cachegrind", "--cache-sim=no")
 # Of the C library: no vectors of 32 bytes, no copies or fills by one instruction, of the others those for any place in memory,
-# and one size from which on these pass by the caches. What x86-64-v2 has must stay, or the programs refuse to run. A program is given no other words of the environment, which it would look through.
+# and one size from which on these pass by the caches. What x86-64-v2 has must stay, or the programs refuse to run. A program
+# is given no other words of the environment, which it would look through.
 ENVIRONMENT = {
     "PATH": os.environ.get("PATH", os.defpath),
     "GLIBC_TUNABLES": "glibc.cpu.hwcaps=-AVX2,-AVX_Fast_Unaligned_Load,-ERMS,Fast_Unaligned_Copy"
