@@ -1,9 +1,11 @@
 //! Ranks by the moving histogram, where its level moves far, and where its counters are cleared row by row.
 
 use crate::ranks::agree;
-use mw_images_for_tests::{element, grey_row, noise};
+use mw_images_for_tests::{BAR, element, grey_row, noise, plane_of, rect};
 use mw_model::Kind;
+use mw_rank::rank;
 use mw_rank_counts::Counted;
+use mw_tile::Window;
 use std::alloc::Global;
 use std::process::Abort;
 use std::test::Fail;
@@ -78,4 +80,14 @@ fn agree_by_a_disc<P: Counted>(rt: &impl Abort, alloc: Global, maxval: u16) -> R
 fn ranks_by_a_disc_with_a_gap(rt: HostRuntime) -> Result<(), Fail> {
     agree_by_a_disc::<u8>(&rt, rt.alloc(), 255)?;
     agree_by_a_disc::<u16>(&rt, rt.alloc(), 4095)
+}
+
+/// Ranks of a tile keep room for its samples alone, however large the window is.
+#[test]
+fn ranks_keep_the_room_of_their_tile(rt: HostRuntime) -> Result<(), Fail> {
+    let image = noise(rt.alloc(), Kind::Grey, 40, 30, 255)?;
+    let window = Window::whole(plane_of::<u8>(rt.alloc(), &image)?);
+    let made = rank(rt.alloc(), &window, &BAR, 2, rect(7, 5, 9, 8))?;
+    assert!(rt; made.into_samples().capacity() == 9 * 8);
+    Ok(())
 }
