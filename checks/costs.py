@@ -26,8 +26,7 @@ from concurrent.futures import ThreadPoolExecutor
 
 ROOT = os.path.dirname(os.path.dirname(os.path.realpath(__file__)))
 KEPT = f"{ROOT}/bench/costs.txt"
-# Cachegrind without its model of caches counts as callgrind does, and takes a third of the time.
-VALGRIND = ("valgrind", "--tool=cachegrind", "--cache-sim=no")
+VALGRIND = ("valgrind", "--tool=callgrind")
 # Of the C library: no vectors of 32 bytes, no copies or fills by one instruction, of the others those for any place in memory,
 # and one size from which on these pass by the caches. What x86-64-v2 has must stay, or the programs refuse to run. A program
 # is given no other words of the environment, which it would look through.
@@ -55,7 +54,7 @@ def counted(crate, words):
         sys.exit(f"{program} is missing: python3 checks/prove.py {crate}")
     given = words.pop()[1:] if words and words[-1].startswith("<") else os.devnull
     with open(os.path.join(ROOT, "bench", given), "rb") as stdin, tempfile.NamedTemporaryFile("r", encoding="utf-8") as told:
-        ran = subprocess.run([*VALGRIND, f"--cachegrind-out-file={told.name}", program, *words], cwd=f"{ROOT}/bench",
+        ran = subprocess.run([*VALGRIND, f"--callgrind-out-file={told.name}", program, *words], cwd=f"{ROOT}/bench",
                              env=ENVIRONMENT, stdin=stdin, stdout=subprocess.DEVNULL, stderr=subprocess.PIPE, check=False)
         found = re.search(r"^summary: (\d+)", told.read(), re.MULTILINE)
     if ran.returncode or not found:
