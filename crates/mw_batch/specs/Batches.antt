@@ -10,7 +10,7 @@ use Rattle.mw_wire.specs.Faults.{fault_line}
 use Rattle.mw_wire.specs.Writes.{CutsShort}
 use Rattle.mw_wire.specs.declared.fault.SessionFault.{SessionFault}
 use Rattle.mw_wire.specs.declared.fault.SessionFault.TheVariants as fault
-use Rattle.mw_desk.specs.Rooms.{LacksRoom}
+use Rattle.mw_wire.specs.Rooms.{LacksRoom}
 use Rattle.mw_session.specs.Runs.{Ran}
 
 -- What is seen of the ends of a session: what is known of what the reader has left, how often it was read and whether it failed; what is known of what the writer holds, and whether it failed; what is known of what the writer of faults holds, and whether it failed.

@@ -20,7 +20,7 @@ impl Core {
     ghost use Rattle.mw_ledger.specs.mw_underway.Planning.{IsSide};
     ghost use Rattle.mw_ledger.specs.mw_stands.Payloads.{given_image, image_payload, given_element, element_payload};
     ghost use Rattle.mw_checks.specs.Faults.{IsFault};
-    ghost use Rattle.mw_log.specs.Short.{is_long};
+    ghost use Rattle.mw_ledger.specs.Short.{is_long};
     ghost use Rattle.mw_ledger.specs.mw_stands.Events.{FollowsMachine, IsFresh};
     ghost use Rattle.mw_ledger.specs.mw_stands.Rows.{IsLogFull};
 

@@ -2,8 +2,7 @@
 
 ghost use Rattle.std.specs.Prelude.{◌≡◌, ◌⊎◌, ◌<◌, ◌≤◌, [], ◌∷◌, ◌++◌, length, OnOk, OnErr, IfOk, IfSome, option_map, true, false};
 
-use mw_ledger::{Counts, Entry, Ledger, PlanProgress};
-use mw_log::Compact;
+use mw_ledger::{Compact, Counts, Entry, Ledger, PlanProgress};
 use mw_model::{Call, LogItem, Name, NoMemory, Outcome, Reply};
 use std::alloc::Global;
 use std::marker::Model;
@@ -52,7 +51,7 @@ impl Core {
     ghost use Rattle.mw_ledger.specs.mw_stands.Limits.{FitsLimits, ShapesFit};
     ghost use Rattle.mw_ledger.specs.mw_stands.Rows.{IsLogFull};
     ghost use Rattle.mw_ledger.specs.mw_underway.Planning.{IsPlannedOn, IsSide};
-    ghost use Rattle.mw_log.specs.Short.{is_long};
+    ghost use Rattle.mw_ledger.specs.Short.{is_long};
     ghost use Rattle.mw_ledger.specs.Books.{progress_of};
 
     /// What holds of every core.

@@ -1,6 +1,7 @@
 pub mod Books
 pub mod Changes
 pub mod Counts
+pub mod Short
 pub mod Tasks
 -- what lower crates offer
 pub use Rattle.mw_underway.specs as mw_underway

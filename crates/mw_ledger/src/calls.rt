@@ -5,7 +5,7 @@ ghost use Rattle.std.specs.Prelude.{◌≡◌, ◌<◌, ◌≤◌, ◌++◌, ◌
 use crate::ledger::Ledger;
 use crate::places::make_places;
 use crate::sweep::drop_settled;
-use mw_log::Compact;
+use crate::compact::Compact;
 use mw_model::{Call, LogItem, Name, NoMemory, Outcome, Reply};
 use mw_underway::{Entry, PlanProgress, reserve_row};
 
@@ -20,7 +20,7 @@ impl Ledger {
     ghost use Rattle.mw_underway.specs.mw_store.Stored.{DropsSpent};
     ghost use Rattle.mw_underway.specs.mw_stands.Limits.{FitsLimits};
     ghost use Rattle.mw_underway.specs.Planning.{IsPlannedOn};
-    ghost use Rattle.mw_log.specs.Short.{is_long};
+    ghost use Rattle.mw_ledger.specs.Short.{is_long};
     ghost use Rattle.mw_ledger.specs.Books.{seen_of};
     ghost use Rattle.mw_ledger.specs.Changes.{KeepsWorks, noted, with_accepted};
     ghost use Rattle.mw_underway.specs.mw_stands.Rows.{IsLogFull};

@@ -2,7 +2,7 @@
 
 ghost use Rattle.std.specs.Prelude.{◌≡◌, ◌+◌, ◌<◌, ◌≤◌, length, IfOk, Some};
 
-use mw_log::Compact;
+use crate::compact::Compact;
 use mw_model::{LogItem, NoMemory};
 use mw_underway::{PlanProgress, Store};
 use std::alloc::Global;

@@ -2,7 +2,7 @@
 
 ghost use Rattle.std.specs.Prelude.{◌≡◌, ◌≤◌, ◌<◌, ◌+◌, ◌%◌, vec_len, vec_capacity, OnOk, OnErr};
 
-use mw_log::Compact;
+use crate::compact::Compact;
 use mw_model::NoMemory;
 
 const ROW: usize = 16;

@@ -9,7 +9,7 @@ ghost use Rattle.mw_ledger.specs.Tasks.{value_made};
 
 use crate::ledger::Ledger;
 use mw_gran::Curve;
-use mw_log::Compact;
+use crate::compact::Compact;
 use mw_model::{LogItem, Outcome, Shape};
 use mw_task::TileDone;
 use mw_underway::{Kept, PlanProgress, Waiters, WholePlane};

@@ -5,8 +5,7 @@ mod Rows
 mod Sources
 mod Totals
 -- what lower crates offer
-pub use Rattle.mw_tile_sums.proofs.mw_pieces as mw_pieces
+pub use Rattle.mw_tiles.proofs.mw_pieces as mw_pieces
 pub use Rattle.mw_plan.proofs as mw_plan
 pub use Rattle.mw_task.proofs as mw_task
-pub use Rattle.mw_tile_sums.proofs as mw_tile_sums
 pub use Rattle.mw_tiles.proofs as mw_tiles

@@ -2,7 +2,7 @@
 use Rattle.std.proofs.Common.{◌≡◌, ℕ, zero, suc, ◌+◌, List, map, replicate, Option, None, sum, refl, ap, ◌∙◌, arith}
 use Rattle.std.proofs.lemmas.List.Sums.{sum_by-cons}
 use Rattle.mw_grid.specs.Grids.{Tiling, tile_count}
-use Rattle.mw_tile_sums.specs.Sums.{number_in, first_cell}
+use Rattle.mw_tiles.specs.Sums.{number_in, first_cell}
 use Rattle.mw_places.specs.Levels.{Level, closed_plane}
 
 no_sum : (n : ℕ) (o : Option (List ℕ)) → o ≡ None → sum (map first_cell (replicate n o)) ≡ 0

@@ -5,5 +5,4 @@ pub mod Places
 pub use Rattle.mw_plan.specs as mw_plan
 pub use Rattle.mw_ready.specs as mw_ready
 pub use Rattle.mw_task.specs as mw_task
-pub use Rattle.mw_tile_sums.specs as mw_tile_sums
 pub use Rattle.mw_tiles.specs as mw_tiles

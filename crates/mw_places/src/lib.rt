@@ -24,7 +24,6 @@ pub use mw_model::{Kind, NoMemory};
 pub use mw_plan::{Plan, PlannedStep};
 pub use mw_ready::{Need, Ready, tasks_are_those_of_work};
 pub use mw_task::{SharedWindow, Step, TileResult};
-pub use mw_tile_sums::TileSums;
-pub use mw_tiles::{TiledPlane, WholePlane};
+pub use mw_tiles::{TileSums, TiledPlane, WholePlane};
 pub use needs::needs_of;
 pub use places::{Place, closed};

@@ -4,7 +4,7 @@ ghost use Rattle.std.specs.Prelude.{◌≡◌, ◌≢◌, ℕ, ◌<◌, ◌≤�
 ghost use Rattle.mw_model.specs.Pictures.{FitsKind};
 ghost use Rattle.mw_grid.specs.Grids.{tile_count};
 ghost use Rattle.mw_tiles.specs.Tiles.{tile_cells};
-ghost use Rattle.mw_tile_sums.specs.Sums.{number_in};
+ghost use Rattle.mw_tiles.specs.Sums.{number_in};
 ghost use Rattle.mw_places.specs.Levels.{IsLevel, level_of_plane};
 ghost use Rattle.mw_places.specs.MadeTiles.{cells_of_made};
 ghost use Rattle.mw_places.specs.Places.{shown, form, IsFormOf, placed_in, Suits};
@@ -13,8 +13,7 @@ use crate::levels::PlaneLevel;
 use mw_grid::Grid;
 use mw_model::NoMemory;
 use mw_task::TileResult;
-use mw_tile_sums::TileSums;
-use mw_tiles::{Tile, TiledPlane};
+use mw_tiles::{Tile, TileSums, TiledPlane};
 use std::alloc::Global;
 
 /// What is kept of a step's plane. Until a task of the step is started there is nothing but its level.

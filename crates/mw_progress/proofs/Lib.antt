@@ -17,5 +17,4 @@ mod Finish
 pub use Rattle.mw_places.proofs.mw_pieces as mw_pieces
 pub use Rattle.mw_places.proofs.mw_plan as mw_plan
 pub use Rattle.mw_places.proofs.mw_task as mw_task
-pub use Rattle.mw_places.proofs.mw_tile_sums as mw_tile_sums
 pub use Rattle.mw_places.proofs.mw_tiles as mw_tiles

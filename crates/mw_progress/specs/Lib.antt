@@ -4,5 +4,4 @@ pub mod Parts
 pub use Rattle.mw_places.specs as mw_places
 pub use Rattle.mw_places.specs.mw_plan as mw_plan
 pub use Rattle.mw_places.specs.mw_task as mw_task
-pub use Rattle.mw_places.specs.mw_tile_sums as mw_tile_sums
 pub use Rattle.mw_places.specs.mw_tiles as mw_tiles

@@ -7,7 +7,7 @@ use Rattle.mw_model.specs.Tasks.{Progress, flag, task_count, tasks_below, nothin
 use Rattle.mw_grid.specs.Grids.{Tiling, tile_count, tiles_of}
 use Rattle.mw_places.specs.mw_task.declared.tile_result.TileResult.{TileResult}
 use Rattle.mw_places.specs.mw_tiles.Tiles.{Tiled, nothing_placed}
-use Rattle.mw_places.specs.mw_tile_sums.Sums.{number_in}
+use Rattle.mw_places.specs.mw_tiles.Sums.{number_in}
 use Rattle.mw_places.specs.Levels.{Level, IsLevel, level_of_plane, levels}
 use Rattle.mw_places.specs.MadeTiles.{IsTileFor, IsSmallNumber}
 

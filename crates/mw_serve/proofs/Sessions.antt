@@ -11,10 +11,10 @@ use Rattle.mw_model.specs.Receipts.{IsCallFor, AreServed}
 use Rattle.mw_model.specs.Scripts.{end_text}
 use Rattle.mw_wire.specs.declared.fault.SessionFault.{SessionFault}
 use Rattle.mw_wire.specs.declared.fault.SessionFault.TheVariants as fault
-use Rattle.mw_desk.specs.Rooms.{LacksRoom}
-use Rattle.mw_desk.specs.Chains.{AreAnswered, HasAnswered}
-use Rattle.mw_desk.specs.Runs.{AllAnswered, CameToEnd, Halted}
-use Rattle.mw_desk.proofs.Chains.{has-append, has-one}
+use Rattle.mw_wire.specs.Rooms.{LacksRoom}
+use Rattle.mw_wire.specs.Chains.{AreAnswered, HasAnswered}
+use Rattle.mw_wire.specs.Runs.{AllAnswered, CameToEnd, Halted}
+use Rattle.mw_wire.proofs.Chains.{has-append, has-one}
 use Rattle.mw_serve.specs.Serving.{Makes, Served, refused, received, Receives, WroteAll, WroteFront}
 
 makes-for : (q : Asked) (c : Call) → Makes q c → IsCallFor q c

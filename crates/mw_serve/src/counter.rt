@@ -6,11 +6,10 @@ ghost use Rattle.mw_model.specs.Lines.{AskAlone};
 ghost use Rattle.mw_intake.specs.Intake.{asked};
 ghost use Rattle.mw_wire.specs.Writes.{Wrote};
 
-use mw_desk::Desk;
+use mw_wire::{Desk, SessionFault, Sink, say_told};
 use mw_fetched::say_fetched;
 use mw_model::{Name, NoMemory, Request};
 use mw_pool::{Board, Naming, Pass};
-use mw_wire::{SessionFault, Sink, say_told};
 use std::alloc::Global;
 use std::io::Write;
 use std::sync::Wait;

@@ -4,8 +4,8 @@ ghost use Rattle.std.specs.Prelude.{◌≡◌, ℕ, List, Option};
 ghost use Rattle.std.specs.Io.KnownBytes.{IsAtEnd};
 ghost use Rattle.mw_model.specs.declared.receipts.Receipt.{Receipt};
 ghost use Rattle.mw_model.specs.declared.requests.End.{End};
-ghost use Rattle.mw_desk.specs.Rooms.{LacksRoom};
-ghost use Rattle.mw_desk.specs.Runs.{CameToEnd, Halted};
+ghost use Rattle.mw_wire.specs.Rooms.{LacksRoom};
+ghost use Rattle.mw_wire.specs.Runs.{CameToEnd, Halted};
 ghost use Rattle.mw_serve.specs.Serving.{Served, WroteAll, WroteFront};
 ghost use Rattle.mw_wire.specs.declared.fault.SessionFault.{SessionFault};
 

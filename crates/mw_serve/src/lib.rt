@@ -1,4 +1,4 @@
-//! Sessions served at a board, each with a pass of its own: by `mw_desk`, as scripts are.
+//! Sessions served at a board, each with a pass of its own: by `mw_wire::run_session`, as scripts are.
 //!
 //! ```text
 //! let mut pass = board.pass();

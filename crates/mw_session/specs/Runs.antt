@@ -10,7 +10,7 @@ use Rattle.mw_model.specs.Lines.{AskAlone, Found, Partial}
 use Rattle.mw_intake.specs.Reading.{front}
 use Rattle.mw_model.specs.Scripts.{Turn, end_text}
 use Rattle.mw_script_laws.specs.Marks.{kills_of, killed_in}
-use Rattle.mw_desk.specs.Rooms.{EndsAt, LacksRoom}
+use Rattle.mw_wire.specs.Rooms.{EndsAt, LacksRoom}
 use Rattle.mw_session.specs.Turns.{TurnMade, HasServed}
 use Rattle.mw_wire.specs.declared.fault.SessionFault.{SessionFault}
 use Rattle.mw_wire.specs.declared.fault.SessionFault.TheVariants as fault

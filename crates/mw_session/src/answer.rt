@@ -8,11 +8,10 @@ ghost use Rattle.mw_session.specs.Answering.{ScriptAnswer};
 ghost use Rattle.mw_wire.specs.Writes.{Wrote};
 
 use crate::payloads::{read_element, read_image};
-use mw_desk::Desk;
+use mw_wire::{Desk, SessionFault, Sink, say_told};
 use mw_fetched::say_fetched;
 use mw_model::{Name, NoMemory, Op, Request};
 use mw_wave::{Core, Crew, Pick, run_all_work};
-use mw_wire::{SessionFault, Sink, say_told};
 use std::alloc::Global;
 use std::io::Write;
 use std::thread::Threads;

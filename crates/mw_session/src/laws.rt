@@ -6,7 +6,7 @@ ghost use Rattle.mw_model.specs.declared.calls.LogItem.{LogItem};
 ghost use Rattle.mw_model.specs.declared.requests.End.{End};
 ghost use Rattle.mw_model.specs.Machine.{Machine};
 ghost use Rattle.mw_model.specs.Scripts.{Turn, IsScript, IsBroken};
-ghost use Rattle.mw_desk.specs.Rooms.{LacksRoom};
+ghost use Rattle.mw_wire.specs.Rooms.{LacksRoom};
 ghost use Rattle.mw_session.specs.Runs.{Finished, ShowsKills, Stopped};
 ghost use Rattle.mw_wire.specs.declared.fault.SessionFault.{SessionFault};
 

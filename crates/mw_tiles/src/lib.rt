@@ -8,11 +8,22 @@
 //! let unchanged = plane.matches(rect, &window);
 //! plane.drop_tile(0);
 //! ```
+//!
+//! And the numbers of a Sum step, made tile by tile, which add up to the number of the whole image:
+//!
+//! ```text
+//! let mut sums = TileSums::new(alloc, Kind::Grey, 255, grid)?;
+//! sums.place(0, sum_of_the_first_tile);
+//! // once each tile is placed:
+//! let sum = sums.total();
+//! ```
 #![tactic(auto)]
 
 mod laws;
 mod plane;
 mod shown;
+mod sum_laws;
+mod sums;
 mod tile;
 mod tiles_view;
 
@@ -22,5 +33,7 @@ pub use mw_grid::Grid;
 pub use mw_model::{Kind, NoMemory, Rect};
 pub use plane::TiledPlane;
 pub use shown::WholePlane;
+pub use sum_laws::tile_sums_are_sum_of_plane;
+pub use sums::TileSums;
 pub use tile::Tile;
 pub use tiles_view::TilesView;

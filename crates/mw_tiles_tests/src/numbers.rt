@@ -2,8 +2,7 @@
 
 use mw_grid::Grid;
 use mw_model::Kind;
-use mw_tile_sums::{TileSums, tile_sums_are_sum_of_plane};
-use mw_tiles::tiles_are_plane;
+use mw_tiles::{TileSums, tile_sums_are_sum_of_plane, tiles_are_plane};
 use std::test::Fail;
 
 #[test]

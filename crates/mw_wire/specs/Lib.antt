@@ -1,2 +1,5 @@
 pub mod Writes
 pub mod Faults
+pub mod Rooms
+pub mod Chains
+pub mod Runs

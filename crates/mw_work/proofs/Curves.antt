@@ -17,8 +17,8 @@ use Rattle.mw_progress.specs.mw_task.Sources.{HasFrame}
 use Rattle.mw_progress.specs.mw_task.WindowTasks.{source_count}
 use Rattle.mw_progress.proofs.mw_task.Cut.{plane_of_one}
 use Rattle.mw_progress.specs.mw_tiles.Tiles.{AreMade, Tiled}
-use Rattle.mw_progress.specs.mw_tile_sums.Sums.{number_in}
-use Rattle.mw_progress.proofs.mw_tile_sums.TileTotals.{tiles_add_up}
+use Rattle.mw_progress.specs.mw_tiles.Sums.{number_in}
+use Rattle.mw_progress.proofs.mw_tiles.TileTotals.{tiles_add_up}
 use Rattle.mw_progress.specs.ProgressView.{ProgressView, no_plane, numbers_of, plane_at}
 use Rattle.mw_work.specs.Works.{IsTrueWork, true_sources}
 use Rattle.mw_work.proofs.Fresh.{one-of-list}

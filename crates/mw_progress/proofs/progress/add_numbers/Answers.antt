@@ -3,7 +3,7 @@ use Rattle.std.specs.Prelude.{vec_capacity}
 use Rattle.std.specs.Global.{Vec}
 use Rattle.std.proofs.lemmas.List.{get_or_read}
 use Rattle.mw_model.specs.Plans.{Planned, is_sum}
-use Rattle.mw_places.specs.mw_tile_sums.Sums.{number_in}
+use Rattle.mw_places.specs.mw_tiles.Sums.{number_in}
 use Rattle.mw_places.specs.Places.{shown, no_place, planes_shown}
 use Rattle.mw_places.specs.declared.places.Place.{Place}
 use Rattle.mw_progress.specs.ProgressView.{numbers_of}

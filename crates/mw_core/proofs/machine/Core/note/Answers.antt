@@ -1,5 +1,5 @@
 use Rattle.std.proofs.Common.{◌≡◌, ◌⊎◌, true, ◌∷◌, ◌++◌, ◌∙◌, [], ap, subst}
-use Rattle.mw_log.specs.Short.{is_long}
+use Rattle.mw_ledger.specs.Short.{is_long}
 use Rattle.mw_ledger.specs.mw_stands.Rows.{IsLogFull}
 use Rattle.mw_model.specs.declared.calls.LogItem.TheVariants as item
 use Rattle.mw_model.specs.Stands.{CoreView}

@@ -1,5 +1,5 @@
 use Rattle.std.proofs.Common.{sym, ap, ◌∙◌}
-use Rattle.mw_tile_sums.specs.Sums.{number_in}
+use Rattle.mw_tiles.specs.Sums.{number_in}
 use Rattle.mw_places.specs.Places.{shown}
 use Rattle.mw_places.specs.declared.places.Place.{Place}
 use Rattle.mw_places.proofs.Totals.{number_closed}

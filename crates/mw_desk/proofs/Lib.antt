@@ -1,6 +1,0 @@
--- what other crates may cite
-pub mod Chains
--- the crate's own
-mod Rooms
-mod Ends
-mod Serving

@@ -1,0 +1,178 @@
+//! A whole session, from a reader to a writer.
+
+ghost use Rattle.std.specs.Prelude.{◌≡◌, ◌≢◌, ◌≤◌, ◌<◌, ◌⊎◌, ◌↔◌, [], ◌++◌, length, ℕ, List, Option, None, OnOk, OnErr, IfOk, Ok, Err, IsTrue, false, true};
+ghost use Rattle.std.specs.Io.KnownBytes.{Appends};
+ghost use Rattle.mw_model.specs.declared.requests.Ask.TheVariants as Ask;
+ghost use Rattle.mw_model.specs.Lines.{AskAlone, Partial};
+ghost use Rattle.mw_intake.specs.Intake.{IsOpen, IsTidy, asked};
+ghost use Rattle.mw_intake.specs.Reading.{front};
+ghost use Rattle.mw_wire.specs.Writes.{EndsBy};
+ghost use Rattle.mw_wire.specs.Runs.{Drains, DeskRan};
+
+use crate::desk::Desk;
+use crate::fault::SessionFault;
+use crate::saying::{end_by, end_within};
+use crate::sink::{Sink, pass_on};
+use crate::source::{READ_LIMIT, Source, receive};
+use mw_intake::Intake;
+use mw_model::{Code, End, Next, NoMemory, Request};
+use std::alloc::Global;
+use std::io::{Read, Write};
+
+/// How many bytes are read at a time.
+const PIECE: usize = 65536;
+
+fn is_quit(request: &Request) -> bool
+    ensures { IsTrue result ↔ (asked request.now ≡ AskAlone Ask.Quit) }
+{
+    matches!(request, Request::Quit)
+}
+
+/// Answers the requests that wait, and says how the session ends where it does. No byte of a payload came with its line, so
+/// no memory is asked for to cut them.
+fn drain<W: Write, D: Desk>(
+    intake: &mut Intake,
+    sink: &mut Sink<W>,
+    desk: &mut D,
+    kept: &mut D::Kept,
+) -> Result<Option<End>, SessionFault>
+    requires ready { D.ready }
+    requires tidy { IsTidy intake.old }
+    ensures ran { (left : Option (List ℕ)) → Drains D.Answer left intake.old.bytes intake.new kept.old kept.new (W.contents sink.old.inner) (W.contents sink.new.inner) result }
+    ensures waits { IfOk result (λ o. o ≡ None → front intake.new.bytes ≡ Partial) }
+    ensures is_open { IfOk result (λ o. o ≡ None → IsOpen intake.new) }
+    ensures same { OnOk result (sink.new.failed ≡ sink.old.failed) }
+    ensures flag { OnErr result ((result ≡ Err SessionFault.Write) × (sink.new.failed ≡ true)) }
+{
+    'requests: loop {
+        match intake.next() {
+            Err(NoMemory) => unreachable!(),
+            Ok(Next::More) => return Ok(None),
+            Ok(Next::Bad(code)) => return end_within(sink, code),
+            Ok(Next::Request(request)) => {
+                if is_quit(&request) {
+                    return Ok(Some(End::Quit));
+                }
+                desk.answer(sink, kept, request)?;
+            }
+        }
+    }
+}
+
+/// Serves a piece of the input: feeds it by portions, so that no byte of a payload is copied twice, and answers the
+/// requests that wait after each. Where the session ends, what stands behind is not fed. It ends by want of memory only where
+/// the next portion has more bytes than there are places for.
+fn serve_piece<W: Write, D: Desk>(
+    intake: &mut Intake,
+    sink: &mut Sink<W>,
+    desk: &mut D,
+    kept: &mut D::Kept,
+    piece: &[u8],
+) -> Result<Option<End>, SessionFault>
+    requires ready { D.ready }
+    requires some { 0 < length piece.now }
+    requires served { front intake.old.bytes ≡ Partial }
+    requires is_open { IsOpen intake.old }
+    ensures ran { (left : Option (List ℕ)) → Drains D.Answer left (intake.old.bytes ++ piece.now) intake.new kept.old kept.new (W.contents sink.old.inner) (W.contents sink.new.inner) result }
+    ensures waits { IfOk result (λ o. o ≡ None → front intake.new.bytes ≡ Partial) }
+    ensures is_open { IfOk result (λ o. o ≡ None → IsOpen intake.new) }
+    ensures same { OnOk result (sink.new.failed ≡ sink.old.failed) }
+    ensures flag { OnErr result ((result ≡ Err SessionFault.Write) × (sink.new.failed ≡ true)) }
+{
+    let mut at = 0;
+    'portions: while at < piece.len() {
+        let (_, rest) = piece.split_at(at);
+        let n = intake.portion(rest);
+        let (portion, _) = rest.split_at(n);
+        match intake.feed(portion) {
+            Err(NoMemory) => return end_within(sink, Code::Memory),
+            Ok(()) => {}
+        }
+        if let Some(end) = drain(intake, sink, desk, kept)? {
+            return Ok(Some(end));
+        }
+        at += n;
+    }
+    Ok(None)
+}
+
+/// Ends a session at the end of the input.
+fn end_of_input<W: Write>(sink: &mut Sink<W>, intake: &Intake) -> Result<End, SessionFault>
+    ensures quit { intake.now.bytes ≡ [] → (result ≡ Ok End.Quit) × Appends (W.contents sink.old.inner) (W.contents sink.new.inner) [] }
+    ensures cut { intake.now.bytes ≢ [] → EndsBy (W.contents sink.old.inner) (W.contents sink.new.inner) Code.Cut result }
+    ensures same { OnOk result (sink.new.failed ≡ sink.old.failed) }
+    ensures flag { OnErr result ((result ≡ Err SessionFault.Write) × (sink.new.failed ≡ true)) }
+{
+    if intake.at_boundary() {
+        return Ok(End::Quit);
+    }
+    end_by(sink, Code::Cut)
+}
+
+/// Serves what is read. Before each read the writer passes on what it holds, so that a client that waits for an answer has it.
+fn serve_reads<R: Read, W: Write, D: Desk>(
+    alloc: Global,
+    source: &mut Source<R>,
+    sink: &mut Sink<W>,
+    desk: &mut D,
+    kept: &mut D::Kept,
+) -> Result<End, SessionFault>
+    requires ready { D.ready }
+    requires source_clear { source.old.failed ≡ false }
+    requires sink_clear { sink.old.failed ≡ false }
+    requires unread { source.old.reads ≡ 0 }
+    // What was written is the answers to the requests in the bytes that were read, or what a fault left of it.
+    ensures ran { DeskRan D.Answer kept.old kept.new (R.remaining source.old.inner) (R.remaining source.new.inner) (W.contents sink.old.inner) (W.contents sink.new.inner) result }
+    ensures few_reads { source.new.reads ≤ 4294967295 }
+    ensures read_fault { result ≡ Err SessionFault.Read → (source.new.failed ≡ true) ⊎ (source.new.reads ≡ 4294967295) }
+    ensures write_fault { result ≡ Err SessionFault.Write → sink.new.failed ≡ true }
+    ensures reader_failed { source.new.failed ≡ true → result ≡ Err SessionFault.Read }
+    ensures writer_failed { sink.new.failed ≡ true → result ≡ Err SessionFault.Write }
+{
+    let mut intake = Intake::new(alloc);
+    let mut buffer = match Vec::from_elem(alloc, 0u8, PIECE) {
+        Ok(buffer) => buffer,
+        Err(_) => return end_by(sink, Code::Memory),
+    };
+    'reads: while source.reads() < READ_LIMIT {
+        pass_on(sink)?;
+        let n = receive(source, buffer.as_mut_slice())?;
+        if n == 0 {
+            return end_of_input(sink, &intake);
+        }
+        if let Some(end) = serve_piece(&mut intake, sink, desk, kept, &buffer[..n])? {
+            return Ok(end);
+        }
+    }
+    pass_on(sink)?;
+    Err(SessionFault::Read)
+}
+
+/// Serves a session: reads to the end, to QUIT or to a fault. The answers to what came with one read go to the writer one
+/// after another, and it passes them on before the next read and at the end: a writer that holds bytes back for a while
+/// makes few writes of them. Where a line or a payload is gathered, want of memory is `ERR 50 MEMORY` and ends the session.
+///
+/// A session makes at most 4,294,967,295 reads, and makes one again that was interrupted.
+pub fn run_session<R: Read, W: Write, D: Desk>(
+    alloc: Global,
+    source: &mut Source<R>,
+    sink: &mut Sink<W>,
+    desk: &mut D,
+    kept: &mut D::Kept,
+) -> Result<End, SessionFault>
+    requires ready { D.ready }
+    requires source_clear { source.old.failed ≡ false }
+    requires sink_clear { sink.old.failed ≡ false }
+    requires unread { source.old.reads ≡ 0 }
+    // What was written is the answers to the requests in the bytes that were read, or what a fault left of it.
+    ensures ran { DeskRan D.Answer kept.old kept.new (R.remaining source.old.inner) (R.remaining source.new.inner) (W.contents sink.old.inner) (W.contents sink.new.inner) result }
+    ensures few_reads { source.new.reads ≤ 4294967295 }
+    ensures read_fault { result ≡ Err SessionFault.Read → (source.new.failed ≡ true) ⊎ (source.new.reads ≡ 4294967295) }
+    ensures write_fault { result ≡ Err SessionFault.Write → sink.new.failed ≡ true }
+    ensures reader_failed { source.new.failed ≡ true → result ≡ Err SessionFault.Read }
+    ensures writer_failed { sink.new.failed ≡ true → result ≡ Err SessionFault.Write }
+{
+    let end = serve_reads(alloc, source, sink, desk, kept)?;
+    pass_on(sink)?;
+    Ok(end)
+}
