@@ -5,10 +5,10 @@ use Rattle.mw_model.specs.declared.calls.LogItem.{LogItem}
 use Rattle.mw_model.specs.declared.requests.End.{End}
 use Rattle.mw_model.specs.Machine.{start_state}
 use Rattle.mw_model.specs.Stands.{CoreView}
-use Rattle.mw_wire.specs.Writes.{Wrote}
-use Rattle.mw_wire.specs.declared.fault.SessionFault.{SessionFault}
-use Rattle.mw_wire.specs.declared.fault.SessionFault.TheVariants as fault
-use Rattle.mw_wire.specs.Rooms.{LacksRoom}
+use Rattle.mw_session.specs.mw_wire.Writes.{Wrote}
+use Rattle.mw_session.specs.mw_wire.declared.fault.SessionFault.{SessionFault}
+use Rattle.mw_session.specs.mw_wire.declared.fault.SessionFault.TheVariants as fault
+use Rattle.mw_session.specs.mw_wire.Rooms.{LacksRoom}
 use Rattle.mw_session.specs.Runs.{Ran, SessionRan}
 use Rattle.mw_session.proofs.Stops.{finished_script, stopped_broken}
 use Rattle.mw_batch.specs.Batches.{Ends, Served, HasFailed, TellsLine, TellsOutcome, end_status}

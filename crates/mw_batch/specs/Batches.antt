@@ -6,11 +6,11 @@ use Rattle.mw_model.specs.declared.requests.End.{End}
 use Rattle.mw_model.specs.declared.requests.End.TheVariants as end
 use Rattle.mw_model.specs.Machine.{Machine, start_state}
 use Rattle.mw_model.specs.Scripts.{Turn, IsScript, IsBroken}
-use Rattle.mw_wire.specs.Faults.{fault_line}
-use Rattle.mw_wire.specs.Writes.{CutsShort}
-use Rattle.mw_wire.specs.declared.fault.SessionFault.{SessionFault}
-use Rattle.mw_wire.specs.declared.fault.SessionFault.TheVariants as fault
-use Rattle.mw_wire.specs.Rooms.{LacksRoom}
+use Rattle.mw_session.specs.mw_wire.Faults.{fault_line}
+use Rattle.mw_session.specs.mw_wire.Writes.{CutsShort}
+use Rattle.mw_session.specs.mw_wire.declared.fault.SessionFault.{SessionFault}
+use Rattle.mw_session.specs.mw_wire.declared.fault.SessionFault.TheVariants as fault
+use Rattle.mw_session.specs.mw_wire.Rooms.{LacksRoom}
 use Rattle.mw_session.specs.Runs.{Ran}
 
 -- What is seen of the ends of a session: what is known of what the reader has left, how often it was read and whether it failed; what is known of what the writer holds, and whether it failed; what is known of what the writer of faults holds, and whether it failed.

@@ -6,9 +6,9 @@ use Rattle.std.proofs.lemmas.Int.{ints}
 use Rattle.std.proofs.lemmas.List.{get_or_append_left}
 use Rattle.std.proofs.Math.Nat.{mul-le-mul_left}
 use Rattle.mw_model.specs.Rasters.{raster, cell_at}
-use Rattle.mw_lane.specs.Shifted.{merge_at}
-use Rattle.mw_words.specs.Packed.{bit_of, stride_of, samples_of, IsPacked}
-use Rattle.mw_words.proofs.Bits.{bit_of_its_word, bit_of_part, row_sample, length-samples_of, rows_fit}
+use Rattle.mw_offset.specs.mw_lane.Shifted.{merge_at}
+use Rattle.mw_offset.specs.mw_words.Packed.{bit_of, stride_of, samples_of, IsPacked}
+use Rattle.mw_offset.proofs.mw_words.Bits.{bit_of_its_word, bit_of_part, row_sample, length-samples_of, rows_fit}
 use Rattle.mw_word_rows.proofs.Paddings.{IsNeutral, padded_inside, padded_outside, row_shows}
 
 -- a place of a row of the set, or beside it

@@ -7,3 +7,5 @@ mod Pairings
 mod HeldRows
 mod UniformSeen
 mod UniformWords
+-- what lower crates offer
+pub use Rattle.mw_offset.proofs.mw_line as mw_line

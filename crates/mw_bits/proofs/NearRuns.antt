@@ -3,13 +3,13 @@ use Rattle.std.proofs.Common.{◌≡◌, ℕ, ◌+◌, ◌<◌, ◌≤◌, ◌-�
 use Rattle.std.specs.List.{AllByRecursion}
 use Rattle.std.proofs.lemmas.Int.{ints}
 use Rattle.std.proofs.lemmas.List.{take_more}
-use Rattle.mw_facts.proofs.Alls.{all-weaker, all-push}
+use Rattle.mw_model.proofs.mw_facts.Alls.{all-weaker, all-push}
 use Rattle.mw_model.specs.Places.{nonnegative}
 use Rattle.mw_model.proofs.Nonnegative.{nonnegative_is}
-use Rattle.mw_run.specs.declared.runs.Run.{Run}
-use Rattle.mw_run.specs.declared.runs.Extent.{Extent}
-use Rattle.mw_run.specs.Runs.{IsInside, IsWider}
-use Rattle.mw_run.proofs.RunLists.{inside_wider}
+use Rattle.mw_offset.specs.mw_run.declared.runs.Run.{Run}
+use Rattle.mw_offset.specs.mw_run.declared.runs.Extent.{Extent}
+use Rattle.mw_offset.specs.mw_run.Runs.{IsInside, IsWider}
+use Rattle.mw_offset.proofs.mw_run.RunLists.{inside_wider}
 use Rattle.mw_bits.specs.Layouts.{IsNear}
 
 -- no run in an extent is longer than its columns

@@ -6,11 +6,11 @@ use Rattle.mw_model.specs.declared.places.Rect.{Rect}
 use Rattle.mw_model.specs.Places.{box_offsets}
 use Rattle.mw_model.specs.Rasters.{seen_under}
 use Rattle.mw_model.specs.Windows.{View, seen_at}
-use Rattle.mw_line.specs.Extrema.{strided, over}
-use Rattle.mw_line.proofs.Over.{over_same, over_strided}
-use Rattle.mw_line.proofs.Rows.{rows_fit}
-use Rattle.mw_line.proofs.Tiles.{IsLooked, tile_sees_nothing}
-use Rattle.mw_words.specs.Packed.{bit_of}
+use Rattle.mw_offset.specs.mw_line.Extrema.{strided, over}
+use Rattle.mw_offset.proofs.mw_line.Over.{over_same, over_strided}
+use Rattle.mw_offset.proofs.mw_line.Rows.{rows_fit}
+use Rattle.mw_offset.proofs.mw_line.Tiles.{IsLooked, tile_sees_nothing}
+use Rattle.mw_offset.specs.mw_words.Packed.{bit_of}
 use Rattle.mw_word_rows.specs.Rows.{laid_bits}
 use Rattle.mw_word_rows.proofs.Laid.{laid_bit}
 

@@ -8,7 +8,7 @@ use Rattle.std.proofs.lemmas.List.{length-replicate}
 use Rattle.std.proofs.lemmas.Simd.{get_or-replicate}
 use Rattle.std.proofs.lemmas.Nat.{mul-add-lt, div_below, div-add-mod', mod_below}
 use Rattle.std.proofs.lemmas.Option.{slice_get-get_or}
-use Rattle.mw_facts.proofs.Numbers.{factor-positive}
+use Rattle.mw_model.proofs.mw_facts.Numbers.{factor-positive}
 use Rattle.mw_model.specs.declared.places.Offset.{Offset}
 use Rattle.mw_model.specs.declared.places.OffsetBox.{OffsetBox}
 use Rattle.mw_model.specs.declared.places.Rect.{Rect}
@@ -16,11 +16,11 @@ use Rattle.mw_model.specs.Places.{span, box_offsets}
 use Rattle.mw_model.proofs.Nonnegative.{nonnegative_is}
 use Rattle.mw_model.specs.Rasters.{Raster, raster, cell_at, Sight, seen_under}
 use Rattle.mw_model.specs.Windows.{View, seen_at}
-use Rattle.mw_line.specs.Extrema.{IsSlidingExtremum}
-use Rattle.mw_line.proofs.Tiles.{tile_made}
-use Rattle.mw_run.specs.Runs.{offset_at}
-use Rattle.mw_words.specs.Packed.{bit_of, stride_of, samples_of}
-use Rattle.mw_words.proofs.Bits.{sample_is_bit, length-samples_of}
+use Rattle.mw_offset.specs.mw_line.Extrema.{IsSlidingExtremum}
+use Rattle.mw_offset.proofs.mw_line.Tiles.{tile_made}
+use Rattle.mw_offset.specs.mw_run.Runs.{offset_at}
+use Rattle.mw_offset.specs.mw_words.Packed.{bit_of, stride_of, samples_of}
+use Rattle.mw_offset.proofs.mw_words.Bits.{sample_is_bit, length-samples_of}
 use Rattle.mw_bits.specs.Uniform.{HasOnly, Stays}
 
 -- samples that are one, place by place

@@ -5,21 +5,21 @@ ghost use Rattle.std.specs.Prelude.{◌≡◌, ℕ, ◌+◌, ◌-◌, ◌*◌, �
 ghost use Rattle.mw_model.specs.Places.{box_offsets};
 ghost use Rattle.mw_model.specs.Rasters.{Raster, raster, cell_at, seen_under};
 ghost use Rattle.mw_model.specs.Windows.{seen_at};
-ghost use Rattle.mw_tile.specs.Windows.{IsWindow};
-ghost use Rattle.mw_lane.specs.Shifted.{merge_at};
-ghost use Rattle.mw_line.specs.Extrema.{over, IsSlidingExtremum};
-ghost use Rattle.mw_words.specs.Packed.{bit_of, stride_of, IsPacked};
+ghost use Rattle.mw_offset.specs.mw_tile.Windows.{IsWindow};
+ghost use Rattle.mw_offset.specs.mw_lane.Shifted.{merge_at};
+ghost use Rattle.mw_offset.specs.mw_line.Extrema.{over, IsSlidingExtremum};
+ghost use Rattle.mw_offset.specs.mw_words.Packed.{bit_of, stride_of, IsPacked};
 
 use crate::WordExtremum;
 use crate::held::plane_of;
 use crate::spread::spread;
 use crate::uniform::settled_box;
-use mw_line::{first_seen, seen_across, seen_down};
 use mw_model::{NoMemory, OffsetBox, Rect};
-use mw_pixel::{Bit, Plane};
-use mw_tile::Window;
+use mw_offset::mw_line::{first_seen, seen_across, seen_down};
+use mw_offset::mw_pixel::{Bit, Plane};
+use mw_offset::mw_tile::Window;
+use mw_offset::mw_words::{Words, repeated, stride, trimmed};
 use mw_word_rows::slide_words;
-use mw_words::{Words, repeated, stride, trimmed};
 use std::alloc::Global;
 
 /// How many pixels of a set are looked at, and from which column and row of it on by the tile's first pixel.

@@ -7,11 +7,11 @@ ghost use Rattle.std.specs.List.{AllByRecursion};
 ghost use Rattle.mw_model.specs.Places.{nonnegative};
 ghost use Rattle.mw_model.specs.Rasters.{seen_under};
 ghost use Rattle.mw_model.specs.Windows.{seen_at};
-ghost use Rattle.mw_line.specs.Extrema.{strided};
-ghost use Rattle.mw_run.specs.declared.runs.Run.{Run};
-ghost use Rattle.mw_run.specs.Runs.{run_offsets, start_of, IsInside, IsWider, HasRoom, two_parts, gather};
+ghost use Rattle.mw_offset.specs.mw_line.Extrema.{strided};
+ghost use Rattle.mw_offset.specs.mw_run.declared.runs.Run.{Run};
+ghost use Rattle.mw_offset.specs.mw_run.Runs.{run_offsets, start_of, IsInside, IsWider, HasRoom, two_parts, gather};
 ghost use Rattle.mw_offset.specs.Places.{sized_below};
-ghost use Rattle.mw_words.specs.Packed.{bit_of, stride_of, IsPacked};
+ghost use Rattle.mw_offset.specs.mw_words.Packed.{bit_of, stride_of, IsPacked};
 ghost use Rattle.mw_word_rows.specs.Rows.{laid_bits};
 ghost use Rattle.mw_bits.specs.Waiting.{with_waiting};
 ghost use Rattle.mw_bits.specs.Layouts.{AreNear, IsNear};
@@ -20,13 +20,13 @@ use crate::WordExtremum;
 use crate::sizes::{longest_of, next_size};
 use crate::spread::spread;
 use mw_model::{NoMemory, Rect};
-use mw_pixel::Bit;
-use mw_run::{
+use mw_offset::mw_pixel::Bit;
+use mw_offset::mw_run::{
     Extent, Run, Sizes, columns_after, counts_of, first_column, first_row, rows_after, start_of_run,
 };
-use mw_tile::Window;
+use mw_offset::mw_tile::Window;
+use mw_offset::mw_words::{repeated, stride, trimmed};
 use mw_word_rows::{combine_ahead, combine_both, combine_from};
-use mw_words::{repeated, stride, trimmed};
 use std::alloc::Global;
 
 /// How runs lie in rows of one length: the columns and rows that they take, and that length in bits.

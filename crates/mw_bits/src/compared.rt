@@ -3,15 +3,15 @@
 //! behind are cut off.
 ghost use Rattle.std.specs.Prelude.{◌≡◌, ℕ, ◌+◌, ◌-◌, ◌*◌, ◌/◌, ◌%◌, ◌<◌, ◌≤◌, ◌^◌, ◌==◌, length, map, nat_le, slice_index, slice_range, if◌then◌else◌, IfOk};
 ghost use Rattle.std.specs.Int.{bit_at};
-ghost use Rattle.mw_words.specs.Packed.{bit_of, stride_of, IsPacked, samples_of};
+ghost use Rattle.mw_offset.specs.mw_words.Packed.{bit_of, stride_of, IsPacked, samples_of};
 
 use crate::held::plane_of;
 use crate::levels::{FromLevel, LevelTest, OfLevel};
-use mw_lane::LevelBlocks;
 use mw_model::NoMemory;
-use mw_pixel::{Bit, Grey, Pixel, Plane};
-use mw_tile::Window;
-use mw_words::{repeated, stride};
+use mw_offset::mw_lane::LevelBlocks;
+use mw_offset::mw_pixel::{Bit, Grey, Pixel, Plane};
+use mw_offset::mw_tile::Window;
+use mw_offset::mw_words::{repeated, stride};
 use std::alloc::Global;
 
 /// The word of the last samples, which are so many; its other bits are 0. The last 64 samples are compared.

@@ -1,11 +1,11 @@
 //! The words of a window of a set, and the plane of a set in words.
 ghost use Rattle.std.specs.Prelude.{◌≡◌, ℕ, ◌+◌, ◌*◌, ◌<◌, ◌≤◌, ◌^◌, length, slice_index};
 ghost use Rattle.mw_model.specs.Rasters.{raster};
-ghost use Rattle.mw_words.specs.Packed.{bit_of, stride_of, samples_of, IsPacked};
+ghost use Rattle.mw_offset.specs.mw_words.Packed.{bit_of, stride_of, samples_of, IsPacked};
 
-use mw_pixel::{Bit, Plane};
-use mw_tile::Window;
-use mw_words::Words;
+use mw_offset::mw_pixel::{Bit, Plane};
+use mw_offset::mw_tile::Window;
+use mw_offset::mw_words::Words;
 
 /// All words, by rows.
 pub(crate) fn words_of(set: &Window<Bit>) -> &[u64]

@@ -4,9 +4,9 @@
 ghost use Rattle.std.specs.Prelude.{◌≡◌, ℕ, ◌+◌, ◌*◌, ◌<◌, ◌≤◌, ◌^◌, pos, negsuc, ◌+ℤ◌, ◌-ℤ◌, ◌≤ℤ◌, length, fold, IfOk, IsTrue};
 ghost use Rattle.mw_model.specs.Rasters.{Raster, cell_at, seen_under};
 ghost use Rattle.mw_model.specs.Windows.{seen_at};
-ghost use Rattle.mw_tile.specs.Windows.{IsWindow};
-ghost use Rattle.mw_line.specs.Extrema.{IsSlidingExtremum};
-ghost use Rattle.mw_words.specs.Packed.{bit_of, stride_of, IsPacked};
+ghost use Rattle.mw_offset.specs.mw_tile.Windows.{IsWindow};
+ghost use Rattle.mw_offset.specs.mw_line.Extrema.{IsSlidingExtremum};
+ghost use Rattle.mw_offset.specs.mw_words.Packed.{bit_of, stride_of, IsPacked};
 
 use crate::WordExtremum;
 use crate::by_runs::{extremum_by_runs, is_near};
@@ -14,10 +14,10 @@ use crate::held::plane_of;
 use crate::spread::spread_rows;
 use crate::uniform::settled;
 use mw_model::{NoMemory, Offset, Rect};
-use mw_pixel::{Bit, Plane};
-use mw_run::{extent_of, place_of, runs_either_way};
-use mw_tile::Window;
-use mw_words::{Words, repeated, stride, trimmed};
+use mw_offset::mw_pixel::{Bit, Plane};
+use mw_offset::mw_run::{extent_of, place_of, runs_either_way};
+use mw_offset::mw_tile::Window;
+use mw_offset::mw_words::{Words, repeated, stride, trimmed};
 use std::alloc::Global;
 
 /// Merges into each bit of the tile's rows what is seen under the element there.

@@ -30,6 +30,8 @@ pub use held::row_of;
 pub use kernel::extremum;
 pub use levels::{at_least, equal};
 pub use mw_model::NoMemory;
+pub use mw_offset;
+pub use mw_offset::{mw_lane, mw_line};
 pub use mw_word_rows::WordExtremum;
 pub use pairs::{invert, is_within, join, meet, minus};
 pub use uniform::is_blank;

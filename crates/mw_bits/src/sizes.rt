@@ -1,9 +1,9 @@
 //! How many pixels the cells stand for while they grow, and which runs are merged then.
 ghost use Rattle.std.specs.Prelude.{◌≡◌, ℕ, ◌*◌, ◌<◌, ◌≤◌, ◌^◌};
 ghost use Rattle.std.specs.List.{AllByRecursion};
-ghost use Rattle.mw_run.specs.declared.runs.Run.{Run};
+ghost use Rattle.mw_offset.specs.mw_run.declared.runs.Run.{Run};
 
-use mw_run::{Run, Sizes};
+use mw_offset::mw_run::{Run, Sizes};
 
 /// The longest run's length.
 pub(crate) fn longest_of(runs: &[Run]) -> usize

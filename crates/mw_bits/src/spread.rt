@@ -1,17 +1,17 @@
 //! A set in rows of so many words, with neutral pixels around it.
 ghost use Rattle.std.specs.Prelude.{◌≡◌, ℕ, ◌+◌, ◌*◌, ◌<◌, ◌≤◌, ◌^◌, negsuc, pos, ◌+ℤ◌, ◌≤ℤ◌, length, vec_len, IfOk, IsTrue};
 ghost use Rattle.mw_model.specs.Rasters.{raster, cell_at};
-ghost use Rattle.mw_lane.specs.Shifted.{merge_at};
-ghost use Rattle.mw_words.specs.Packed.{bit_of, stride_of};
+ghost use Rattle.mw_offset.specs.mw_lane.Shifted.{merge_at};
+ghost use Rattle.mw_offset.specs.mw_words.Packed.{bit_of, stride_of};
 
 use crate::WordExtremum;
 use crate::held::words_of;
 use crate::window_rows::combine_window_row;
 use mw_model::NoMemory;
-use mw_pixel::Bit;
-use mw_tile::Window;
+use mw_offset::mw_pixel::Bit;
+use mw_offset::mw_tile::Window;
+use mw_offset::mw_words::{repeated, stride};
 use mw_word_rows::copy_rows;
-use mw_words::{repeated, stride};
 use std::alloc::Global;
 
 /// Merges into each of `high` rows of `wide` words what the set has there, from that column and row of it on.

@@ -5,15 +5,15 @@ ghost use Rattle.std.specs.Int.{bit_at};
 ghost use Rattle.mw_model.specs.Places.{box_offsets};
 ghost use Rattle.mw_model.specs.Rasters.{seen_under};
 ghost use Rattle.mw_model.specs.Windows.{seen_at};
-ghost use Rattle.mw_run.specs.Runs.{offset_at};
-ghost use Rattle.mw_words.specs.Packed.{bit_of, stride_of};
+ghost use Rattle.mw_offset.specs.mw_run.Runs.{offset_at};
+ghost use Rattle.mw_offset.specs.mw_words.Packed.{bit_of, stride_of};
 ghost use Rattle.mw_bits.specs.Uniform.{HasOnly, SideStays, Stays};
 
 use crate::WordExtremum;
 use crate::held::{row_of, words_of};
 use mw_model::{Offset, OffsetBox, Rect};
-use mw_pixel::Bit;
-use mw_tile::Window;
+use mw_offset::mw_pixel::Bit;
+use mw_offset::mw_tile::Window;
 
 /// Whether no bit of the words is set.
 fn are_clear(words: &[u64]) -> bool

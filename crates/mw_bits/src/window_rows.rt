@@ -1,13 +1,13 @@
 //! A row of a set merged into a row of words, shifted; where the set has no place, nothing changes.
 ghost use Rattle.std.specs.Prelude.{◌≡◌, ℕ, ◌+◌, ◌*◌, ◌<◌, ◌≤◌, ◌^◌, negsuc, pos, ◌+ℤ◌, ◌≤ℤ◌, length};
 ghost use Rattle.mw_model.specs.Rasters.{raster, cell_at};
-ghost use Rattle.mw_lane.specs.Shifted.{merge_at};
-ghost use Rattle.mw_words.specs.Packed.{bit_of};
+ghost use Rattle.mw_offset.specs.mw_lane.Shifted.{merge_at};
+ghost use Rattle.mw_offset.specs.mw_words.Packed.{bit_of};
 
 use crate::WordExtremum;
 use crate::held::row_of;
-use mw_pixel::Bit;
-use mw_tile::Window;
+use mw_offset::mw_pixel::Bit;
+use mw_offset::mw_tile::Window;
 use mw_word_rows::combine_row;
 
 /// Merges into each bit what the set has in that row, so many columns further on, both counted from its first place.

@@ -14,11 +14,11 @@ use Rattle.mw_model.specs.Values.{Value, ImageValue, ElementValue, CurveValue, v
 use Rattle.mw_model.specs.Refusals.{Table, ticket, ticket_of, outcome_at, shape_at, is_element, when, refusal}
 use Rattle.mw_model.specs.Machine.{Machine, values, answer, fetch_reply, refused_or, reply_to, reply_from}
 use Rattle.mw_model.specs.Stands.{CoreView, StandsFor}
-use Rattle.mw_laws.specs.MachineLaws.{shape_of_value}
-use Rattle.mw_laws.proofs.RunTables.{is_known, ticket_is, ticket_within, when_so}
+use Rattle.mw_checks.specs.mw_laws.MachineLaws.{shape_of_value}
+use Rattle.mw_checks.proofs.mw_laws.RunTables.{is_known, ticket_is, ticket_within, when_so}
 use Rattle.mw_ledger.specs.mw_stands.Events.{handed_out}
-use Rattle.mw_ledger.specs.mw_store.Fetches.{IsShown, ShowsSome, fetchable, shown_value}
-use Rattle.mw_ledger.specs.mw_store.declared.fetched.Shown.{Shown}
+use Rattle.mw_checks.specs.mw_store.Fetches.{IsShown, ShowsSome, fetchable, shown_value}
+use Rattle.mw_checks.specs.mw_store.declared.fetched.Shown.{Shown}
 use Rattle.mw_ledger.proofs.mw_stands.RefusalLemmas.{some-same}
 use Rattle.mw_ledger.proofs.mw_stands.StandsLemmas.{stands-sound, stands-reply}
 

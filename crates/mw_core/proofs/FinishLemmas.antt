@@ -13,9 +13,9 @@ use Rattle.mw_model.specs.Refusals.{Table, is_element, is_pending, outcome_at, s
 use Rattle.mw_model.specs.Machine.{Machine, values}
 use Rattle.mw_model.specs.Tasks.{Progress, flag, remaining_tasks}
 use Rattle.mw_model.specs.Stands.{CoreView, StandsFor, inputs_there}
-use Rattle.mw_grid.proofs.Tiles.{HasTiles}
-use Rattle.mw_task.specs.Products.{IsMade}
-use Rattle.mw_task.specs.WindowTasks.{WindowTask}
+use Rattle.mw_checks.proofs.mw_grid.Tiles.{HasTiles}
+use Rattle.mw_checks.specs.mw_task.Products.{IsMade}
+use Rattle.mw_checks.specs.mw_task.WindowTasks.{WindowTask}
 use Rattle.mw_ledger.specs.mw_places.MadeTiles.{cells_of_made}
 use Rattle.mw_ledger.specs.mw_progress.ProgressView.{ProgressView, plane_at}
 use Rattle.mw_ledger.specs.mw_work.Works as works

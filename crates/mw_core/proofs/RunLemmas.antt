@@ -1,7 +1,7 @@
 -- A RUN that is not refused: no fault, and work that is fresh and means the command.
 use Rattle.std.proofs.Common.{◌≡◌, ℕ, ◌<◌, ◌≤◌, ◌++◌, ◌∷◌, [], List, length, Option, Some, None, Result, Ok, Err, IfOk, OnOk, sym, ap, ◌∙◌, subst}
 use Rattle.std.specs.List.{AllByRecursion}
-use Rattle.mw_facts.proofs.Elements.{get_or-push_last}
+use Rattle.mw_model.proofs.mw_facts.Elements.{get_or-push_last}
 use Rattle.mw_model.specs.declared.names.Name.{Name}
 use Rattle.mw_model.specs.declared.operations.Op.{Op}
 use Rattle.mw_model.specs.declared.submissions.Submission.{Submission}
@@ -16,10 +16,10 @@ use Rattle.mw_model.specs.Refusals.{Table, refusal}
 use Rattle.mw_model.specs.Machine.{Machine, values, with_entry, run_submission}
 use Rattle.mw_model.specs.Tasks.{Progress, remaining_tasks, running_tasks, task_count}
 use Rattle.mw_model.specs.Stands.{CoreView, StandsFor, progress_at}
-use Rattle.mw_plan.specs.Tables.{AreValuesAt}
-use Rattle.mw_plan.proofs.Accepted.{machine_values}
+use Rattle.mw_checks.specs.mw_plan.Tables.{AreValuesAt}
+use Rattle.mw_checks.proofs.mw_plan.Accepted.{machine_values}
 use Rattle.mw_ledger.specs.mw_progress.ProgressView.{ProgressView}
-use Rattle.mw_ledger.specs.mw_store.Stored.{Stored}
+use Rattle.mw_checks.specs.mw_store.Stored.{Stored}
 use Rattle.mw_ledger.specs.mw_stands.Facts.{IsComplete, stored_of}
 use Rattle.mw_ledger.specs.mw_stands.Limits.{ShapesFit}
 use Rattle.mw_ledger.specs.mw_stands.Events.{FollowsMachine, IsFresh}

@@ -9,7 +9,7 @@ use Rattle.mw_model.specs.Machine.{Machine}
 use Rattle.mw_model.specs.Plans.{images_of}
 use Rattle.mw_model.specs.Tasks.{Progress, planned_of, sources_of, task_count}
 use Rattle.mw_model.specs.Stands.{CoreView, StandsFor, inputs_there, input_values, ready_under, true_planes}
-use Rattle.mw_task.specs.WindowTasks.{WindowTask}
+use Rattle.mw_checks.specs.mw_task.WindowTasks.{WindowTask}
 use Rattle.mw_ledger.specs.mw_progress.ProgressView.{ProgressView}
 use Rattle.mw_ledger.specs.mw_work.Works.{IsTrueWork, IsUnder}
 use Rattle.mw_ledger.proofs.mw_work.Going.{true-under, under-started}

@@ -4,7 +4,7 @@ use Rattle.std.specs.List.{AllByRecursion}
 use Rattle.mw_model.specs.declared.tasks.TaskId.{TaskId}
 use Rattle.mw_model.specs.Machine.{Machine}
 use Rattle.mw_model.specs.Stands.{CoreView, ready_under, ready_count}
-use Rattle.mw_task.specs.WindowTasks.{IsBounded, WindowTask}
+use Rattle.mw_checks.specs.mw_task.WindowTasks.{IsBounded, WindowTask}
 use Rattle.mw_ledger.specs.mw_stands.TaskEvents.{BeginsTask, Kills, Places, Settles, IsResult, IsOpen, IsSettled, IsUnderway}
 use Rattle.mw_ledger.specs.mw_stands.Turns.{IsAt}
 use Rattle.mw_ledger.specs.Books.{Book}

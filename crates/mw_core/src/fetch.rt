@@ -12,7 +12,7 @@ impl Core {
     ghost use Rattle.mw_model.specs.Stands.{StandsFor};
     ghost use Rattle.mw_ledger.specs.mw_stands.Events.{FollowsMachine, handed_out};
     ghost use Rattle.mw_ledger.specs.mw_stands.Rows.{IsLogFull};
-    ghost use Rattle.mw_ledger.specs.mw_store.Fetches.{IsShown, ShowsSome, fetchable, shown_value};
+    ghost use Rattle.mw_checks.specs.mw_store.Fetches.{IsShown, ShowsSome, fetchable, shown_value};
 
     /// The value that is kept of a ticket, unless it is an element.
     fn value(&self, t: u32) -> Result<Shown, NoMemory>

@@ -44,8 +44,8 @@ impl Core {
     ghost use Rattle.mw_model.specs.Refusals.{ticket_of, outcome_at, is_pending};
     ghost use Rattle.mw_model.specs.Machine.{with_entry, killed, settled};
     ghost use Rattle.mw_model.specs.Tasks.{remaining_tasks, task_count};
-    ghost use Rattle.mw_ledger.specs.mw_store.Entries.{submission_of, outcome_of, payload_in};
-    ghost use Rattle.mw_ledger.specs.mw_store.Stored.{DropsSpent};
+    ghost use Rattle.mw_checks.specs.mw_store.Entries.{submission_of, outcome_of, payload_in};
+    ghost use Rattle.mw_checks.specs.mw_store.Stored.{DropsSpent};
     ghost use Rattle.mw_ledger.specs.mw_stands.Changes.{KeepsWork};
     ghost use Rattle.mw_ledger.specs.mw_stands.Facts.{IsComplete};
     ghost use Rattle.mw_ledger.specs.mw_stands.Limits.{FitsLimits, ShapesFit};

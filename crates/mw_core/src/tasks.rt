@@ -8,9 +8,9 @@ ghost use Rattle.mw_core.specs.TaskAnswers.{TakenAt};
 
 use crate::answers::{Finish, Refusal, Started};
 use crate::machine::Core;
+use mw_checks::mw_task::{TaskRefused, TileDone};
 use mw_ledger::{Counts, Ledger, Unfit};
 use mw_model::{LogItem, NoMemory, Outcome};
-use mw_task::{TaskRefused, TileDone};
 
 /// Takes a result that fits a running task, whose ticket it settles where it is the last.
 fn take_result(ledger: &mut Ledger, counts: &mut Counts, done: TileDone) -> Finish
@@ -39,7 +39,7 @@ impl Core {
     ghost use Rattle.std.specs.List.{AllByRecursion};
     ghost use Rattle.mw_model.specs.Machine.{Machine};
     ghost use Rattle.mw_model.specs.Stands.{StandsFor, ready_count};
-    ghost use Rattle.mw_task.specs.WindowTasks.{IsBounded};
+    ghost use Rattle.mw_checks.specs.mw_task.WindowTasks.{IsBounded};
     ghost use Rattle.mw_core.specs.TaskAnswers.{Starts, StartsBounded, Finishes, IsOwn, Refuses, Picks};
 
     /// A worker takes the ready task of this place. Places are counted from 0 in ticket order, and round again where

@@ -8,3 +8,6 @@ mod Few
 mod Found
 mod Rows
 mod Room
+-- what lower crates offer
+pub use Rattle.mw_netpbm.proofs as mw_netpbm
+pub use Rattle.mw_netpbm.proofs.mw_pixel as mw_pixel

@@ -9,7 +9,7 @@ use Rattle.std.specs.Ordering.{int_eq}
 use Rattle.std.specs.List.{AllByRecursion, IsDistinct}
 use Rattle.std.proofs.lemmas.Bool.Decides.{Decides-and, Decides-int_eq, Decides-like}
 use Rattle.std.proofs.lemmas.Int.{ints}
-use Rattle.mw_facts.proofs.Alls.{all-weaker, all-push}
+use Rattle.mw_model.proofs.mw_facts.Alls.{all-weaker, all-push}
 use Rattle.mw_model.specs.declared.places.Offset.{Offset}
 use Rattle.mw_model.specs.declared.places.OffsetBox.{OffsetBox}
 use Rattle.mw_model.specs.declared.places.Reach.{Reach}

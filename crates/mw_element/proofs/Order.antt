@@ -5,7 +5,7 @@ use Rattle.std.specs.List.{AllByRecursion, list_any, cons_option}
 use Rattle.std.proofs.lemmas.Int.{ints}
 use Rattle.std.proofs.lemmas.List.{reverse-reverse, reverse-append}
 use Rattle.std.proofs.lemmas.List.Sorted.{IsPermutation-reverse, list_any-IsPermutation}
-use Rattle.mw_facts.proofs.Alls.{all-weaker, all-append, all-push}
+use Rattle.mw_model.proofs.mw_facts.Alls.{all-weaker, all-append, all-push}
 use Rattle.mw_model.specs.declared.places.Offset.{Offset}
 use Rattle.mw_model.specs.Rasters.{Raster}
 use Rattle.mw_model.specs.Elements.{offset_from, offsets_in_row, offsets_of, overlaps, same_offset}

@@ -13,9 +13,9 @@ use Rattle.std.proofs.lemmas.List.{append-nil}
 use Rattle.std.proofs.lemmas.List.Elements.{filter_map-append}
 use Rattle.std.proofs.lemmas.Map.Keys.{IsDistinct-cons}
 use Rattle.std.proofs.Math.Arith.{digits_lt}
-use Rattle.mw_facts.proofs.Alls.{all-append}
-use Rattle.mw_facts.proofs.Ranges.{range_with_len-more}
-use Rattle.mw_facts.proofs.Elements.{append-empty}
+use Rattle.mw_model.proofs.mw_facts.Alls.{all-append}
+use Rattle.mw_model.proofs.mw_facts.Ranges.{range_with_len-more}
+use Rattle.mw_model.proofs.mw_facts.Elements.{append-empty}
 use Rattle.mw_model.specs.declared.places.Offset.{Offset}
 use Rattle.mw_model.specs.Rasters.{Raster}
 use Rattle.mw_model.specs.Elements.{IsNear, offset_from, offsets_in_row, offsets_of, same_offset}

@@ -1,2 +1,5 @@
 pub mod Figures
 pub mod Faults
+-- what lower crates offer
+pub use Rattle.mw_netpbm.specs as mw_netpbm
+pub use Rattle.mw_netpbm.specs.mw_pixel as mw_pixel

@@ -6,8 +6,8 @@ ghost use Rattle.mw_element.specs.Faults.{element_code_of};
 
 use crate::{Element, ElementFault};
 use mw_model::{NoMemory, Offset};
+use mw_netpbm::mw_pixel::{Bit, Plane};
 use mw_netpbm::{read_plain_bitmap, scan_plain_bitmap};
-use mw_pixel::{Bit, Plane};
 use std::alloc::{AllocError, Global};
 
 /// The greatest side of an element's bitmap, in pixels.

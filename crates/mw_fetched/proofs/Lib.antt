@@ -1,2 +1,4 @@
 -- the crate's own
 mod Written
+-- what lower crates offer
+pub use Rattle.mw_wire.proofs as mw_wire

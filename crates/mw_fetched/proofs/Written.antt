@@ -10,10 +10,10 @@ use Rattle.mw_model.specs.NetpbmWriting.{text_of}
 use Rattle.mw_model.specs.Pictures.{Picture}
 use Rattle.mw_model.specs.Rasters.{Raster}
 use Rattle.mw_model.specs.Replies.{and_number, handed_text, ticket_line, ImageBytes}
-use Rattle.mw_netpbm.specs.Rows.{header_as, rows_bytes}
-use Rattle.mw_netpbm.proofs.RowTexts.{rows_length}
+use Rattle.mw_store.specs.mw_netpbm.Rows.{header_as, rows_bytes}
+use Rattle.mw_store.proofs.mw_netpbm.RowTexts.{rows_length}
 use Rattle.mw_store.specs.declared.fetched.Shown.TheVariants as shown
-use Rattle.mw_tiles.specs.Rows.{AreCutFrom, TileCells}
+use Rattle.mw_store.specs.mw_tiles.Rows.{AreCutFrom, TileCells}
 use Rattle.mw_wire.specs.Writes.{CutsShort}
 use Rattle.mw_wire.proofs.Writing.{front_of_both, wrote_then}
 use Rattle.mw_fetched.specs.Texts.{SaysBytes, SaysFetched}

@@ -2,16 +2,16 @@
 
 ghost use Rattle.std.specs.Prelude.{◌≡◌, ◌≤◌, ◌++◌, ℕ, List, length, OnOk, OnErr, Err, true, vec_capacity};
 ghost use Rattle.mw_model.specs.Rasters.{Raster};
-ghost use Rattle.mw_netpbm.specs.Rows.{rows_bytes};
-ghost use Rattle.mw_tiles.specs.Rows.{AreCutFrom};
+ghost use Rattle.mw_store.specs.mw_netpbm.Rows.{rows_bytes};
+ghost use Rattle.mw_store.specs.mw_tiles.Rows.{AreCutFrom};
 ghost use Rattle.mw_fetched.specs.Texts.{SaysBytes, SaysFetched};
 ghost use Rattle.mw_wire.specs.Writes.{Wrote};
 
 use mw_model::{NoMemory, Reply};
-use mw_netpbm::{RowBytes, header};
-use mw_pixel::Plane;
 use mw_store::Shown;
-use mw_tiles::{TiledRows, TilesView, WholePlane};
+use mw_store::mw_netpbm::{RowBytes, header};
+use mw_store::mw_pixel::Plane;
+use mw_store::mw_tiles::{TiledRows, TilesView, WholePlane};
 use mw_wire::{ReplyLine, SessionFault, Sink, image_line, say_told, send, send_both};
 use std::alloc::Global;
 use std::io::Write;

@@ -1,12 +1,12 @@
 -- Rows of a piece that are compared with tiles part by part.
 use Rattle.std.proofs.Common.{◌≡◌, ℕ, ◌+◌, ◌-◌, ◌*◌, ◌<◌, ◌≤◌, List, length, slice_get, sym, ap, arith, ◌∙◌, inl, inr, refl}
 use Rattle.std.proofs.lemmas.Bool.{cases_lt}
-use Rattle.mw_facts.proofs.Elements.{same_elements}
+use Rattle.mw_model.proofs.mw_facts.Elements.{same_elements}
 use Rattle.mw_model.specs.declared.places.Rect.{Rect}
 use Rattle.mw_model.specs.Places.{Holds}
 use Rattle.mw_model.specs.Rasters.{Raster, raster}
-use Rattle.mw_tile.specs.Windows.{IsCut}
-use Rattle.mw_tile.specs.Cuts.{view_of}
+use Rattle.mw_pieces.specs.mw_tile.Windows.{IsCut}
+use Rattle.mw_pieces.specs.mw_tile.Cuts.{view_of}
 use Rattle.mw_pieces.specs.Patches.{Patch, patch, cell_of, frame_value, IsFull}
 use Rattle.mw_pieces.proofs.Patches.{row_of_plane, run_in, run_of_own, run_size, size_of_own, RowIs}
 use Rattle.mw_frame_tiles.specs.Tiles.{ShowsRun, StandsIn}

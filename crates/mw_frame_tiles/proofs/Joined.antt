@@ -1,16 +1,16 @@
 -- Frames that are put together from their tiles.
 use Rattle.std.proofs.Common.{◌≡◌, ℕ, ◌+◌, ◌-◌, ◌*◌, ◌/◌, ◌%◌, ◌<◌, ◌≤◌, List, length, Option, IsSome, slice_get, refl, sym, ap, subst, arith, ◌∙◌, inl, inr}
-use Rattle.mw_facts.proofs.Elements.{same_elements}
-use Rattle.mw_facts.proofs.Numbers.{below_or_last}
+use Rattle.mw_model.proofs.mw_facts.Elements.{same_elements}
+use Rattle.mw_model.proofs.mw_facts.Numbers.{below_or_last}
 use Rattle.mw_model.specs.declared.places.Rect.{Rect}
 use Rattle.mw_model.specs.Places.{Holds}
 use Rattle.mw_model.specs.Rasters.{Raster, raster}
 use Rattle.mw_model.proofs.ImagePlaces.{by_places}
-use Rattle.mw_grid.specs.Grids.{Tiling, columns_of, tile_count, tile_at}
-use Rattle.mw_grid.specs.Rectangles.{whole_frame}
-use Rattle.mw_grid.proofs.Tiles.{HasTiles, tile_begins}
-use Rattle.mw_tile.specs.Windows.{IsCut}
-use Rattle.mw_tile.specs.Cuts.{view_of, Pastes}
+use Rattle.mw_pieces.specs.mw_grid.Grids.{Tiling, columns_of, tile_count, tile_at}
+use Rattle.mw_pieces.specs.mw_grid.Rectangles.{whole_frame}
+use Rattle.mw_pieces.proofs.mw_grid.Tiles.{HasTiles, tile_begins}
+use Rattle.mw_pieces.specs.mw_tile.Windows.{IsCut}
+use Rattle.mw_pieces.specs.mw_tile.Cuts.{view_of, Pastes}
 use Rattle.mw_pieces.specs.Patches.{patch, cell_of, frame_value}
 use Rattle.mw_frame_tiles.specs.Tiles.{number_at, tile_cells, HasAll, ShowsTiles}
 use Rattle.mw_frame_tiles.proofs.Numbers.{number_holds, number_only, number_within}

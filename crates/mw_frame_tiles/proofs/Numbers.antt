@@ -7,11 +7,11 @@ use Rattle.mw_model.specs.declared.places.Rect.{Rect}
 use Rattle.mw_model.specs.Places.{Holds}
 use Rattle.mw_model.specs.Rasters.{Raster}
 use Rattle.mw_model.specs.Windows.{View}
-use Rattle.mw_grid.specs.Grids.{Tiling, columns_of, rows_of, tile_count, tile_at}
-use Rattle.mw_grid.proofs.Lines.{piece_begins, piece_has, piece_counts, piece_only, number_of}
-use Rattle.mw_grid.proofs.Tiles.{HasTiles}
-use Rattle.mw_tile.specs.Windows.{IsCut}
-use Rattle.mw_tile.specs.Cuts.{view_of}
+use Rattle.mw_pieces.specs.mw_grid.Grids.{Tiling, columns_of, rows_of, tile_count, tile_at}
+use Rattle.mw_pieces.proofs.mw_grid.Lines.{piece_begins, piece_has, piece_counts, piece_only, number_of}
+use Rattle.mw_pieces.proofs.mw_grid.Tiles.{HasTiles}
+use Rattle.mw_pieces.specs.mw_tile.Windows.{IsCut}
+use Rattle.mw_pieces.specs.mw_tile.Cuts.{view_of}
 use Rattle.mw_frame_tiles.specs.Tiles.{HasSides, ShowsTiles, StandsIn, cells_of, number_at}
 use Rattle.mw_frame_tiles.proofs.Sides.{cells_at}
 

@@ -1,22 +1,22 @@
 -- A row that was read from tiles is that of each whole frame with these tiles.
 use Rattle.std.proofs.Common.{◌≡◌, ℕ, ◌+◌, ◌-◌, ◌*◌, ◌<◌, ◌≤◌, List, length, Option, take, drop, slice_get, slice_range, refl, sym, ap, arith, ◌∙◌, length-drop}
 use Rattle.std.proofs.lemmas.List.{length-take-le}
-use Rattle.mw_facts.proofs.Elements.{same_elements, slice_get-drop, slice_get-take}
-use Rattle.mw_facts.proofs.Parts.{length-put_mid}
-use Rattle.mw_grid.specs.Grids.{Tiling}
+use Rattle.mw_model.proofs.mw_facts.Elements.{same_elements, slice_get-drop, slice_get-take}
+use Rattle.mw_model.proofs.mw_facts.Parts.{length-put_mid}
+use Rattle.mw_pieces.specs.mw_grid.Grids.{Tiling}
 use Rattle.mw_model.specs.declared.places.Rect.{Rect}
 use Rattle.mw_model.specs.Places.{Holds}
 use Rattle.mw_model.specs.Rasters.{Raster, raster}
 use Rattle.mw_pieces.specs.Patches.{patch, cell_of, frame_value}
 use Rattle.mw_pieces.proofs.Patches.{row_of_plane, run_in, run_size, RowIs}
-use Rattle.mw_tile.specs.Windows.{IsCut}
-use Rattle.mw_tile.specs.Cuts.{view_of}
+use Rattle.mw_pieces.specs.mw_tile.Windows.{IsCut}
+use Rattle.mw_pieces.specs.mw_tile.Cuts.{view_of}
 use Rattle.mw_frame_tiles.specs.Rows.{AreCutFrom, HasFirstOfRow, TileCells}
 use Rattle.mw_frame_tiles.specs.Tiles.{ShowsTiles, StandsIn}
 use Rattle.mw_frame_tiles.proofs.Sharing.{cut_cell}
-use Rattle.mw_words.specs.Runs.{put_at}
-use Rattle.mw_words.proofs.Bits.{rows_fit}
-use Rattle.mw_words.proofs.Fronts.{front_more}
+use Rattle.mw_pieces.specs.mw_words.Runs.{put_at}
+use Rattle.mw_pieces.proofs.mw_words.Bits.{rows_fit}
+use Rattle.mw_pieces.proofs.mw_words.Fronts.{front_more}
 
 pub no_cells_yet : {A : Type 0} (g : Tiling) (tiles : List (Option (List A))) (y : ℕ) (p : Raster A) → p.width ≡ g.width → p.height ≡ 1 → length p.cells ≡ p.height * p.width → HasFirstOfRow g tiles y 0 p
 no_cells_yet g tiles y p width height size =

@@ -6,15 +6,15 @@ use Rattle.std.proofs.lemmas.List.{get_or_default}
 use Rattle.std.proofs.lemmas.List.Folds.{list_any-append}
 use Rattle.std.proofs.lemmas.Nat.{le-div}
 use Rattle.std.proofs.Math.Nat.{div-mul-le_self}
-use Rattle.mw_facts.proofs.Alls.{all-push, all-weaker}
+use Rattle.mw_model.proofs.mw_facts.Alls.{all-push, all-weaker}
 use Rattle.mw_model.specs.declared.places.Rect.{Rect}
 use Rattle.mw_model.specs.Places.{Holds, IsWithin}
 use Rattle.mw_model.specs.Rasters.{Raster}
-use Rattle.mw_grid.specs.Grids.{Tiling, columns_of, rows_of, tile_at, tile_count}
-use Rattle.mw_grid.proofs.Lines.{number_of}
-use Rattle.mw_grid.proofs.Tiles.{HasTiles, tile_within}
-use Rattle.mw_tile.specs.Windows.{IsCut}
-use Rattle.mw_tile.specs.Cuts.{view_of}
+use Rattle.mw_pieces.specs.mw_grid.Grids.{Tiling, columns_of, rows_of, tile_at, tile_count}
+use Rattle.mw_pieces.proofs.mw_grid.Lines.{number_of}
+use Rattle.mw_pieces.proofs.mw_grid.Tiles.{HasTiles, tile_within}
+use Rattle.mw_pieces.specs.mw_tile.Windows.{IsCut}
+use Rattle.mw_pieces.specs.mw_tile.Cuts.{view_of}
 use Rattle.mw_pieces.specs.Patches.{Patch, Joint, IsJoint, IsInside, IsPatchOf, ShowsFrame, ShowsIn, Covers, cell_of, frame_value, has_place, held_in, joint, overlap_of, patch}
 use Rattle.mw_pieces.proofs.Patches.{agree, has_yes, values_of_shows}
 use Rattle.mw_frame_tiles.specs.Shares.{AddsTiles, AreTilesMet, IsTileOf}

@@ -5,9 +5,9 @@ use Rattle.std.specs.Prelude.{IsSome, IfSome}
 use Rattle.std.proofs.Math.ListN.{get_or-map}
 use Rattle.std.proofs.lemmas.List.{length-replicate, length-set}
 use Rattle.std.proofs.lemmas.Option.{same_Some}
-use Rattle.mw_facts.proofs.Elements.{get_or-replicate_same}
+use Rattle.mw_model.proofs.mw_facts.Elements.{get_or-replicate_same}
 use Rattle.mw_model.specs.Rasters.{Raster}
-use Rattle.mw_grid.specs.Grids.{Tiling, tile_count, tile_at}
+use Rattle.mw_pieces.specs.mw_grid.Grids.{Tiling, tile_count, tile_at}
 use Rattle.mw_frame_tiles.specs.Tiles.{cells_of, tile_cells, cells_in_raster, StandsIn, HasSides, HasSizes}
 
 -- the cells of a tile that is placed

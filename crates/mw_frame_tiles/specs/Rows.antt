@@ -1,10 +1,10 @@
 -- Whole planes that are read row by row (own).
 use Rattle.std.specs.Prelude.{◌≡◌, ℕ, ◌*◌, ◌<◌, List, length, Option, IsSome}
 use Rattle.mw_model.specs.Rasters.{Raster}
-use Rattle.mw_grid.specs.Grids.{Tiling, tile_count}
+use Rattle.mw_pieces.specs.mw_grid.Grids.{Tiling, tile_count}
 use Rattle.mw_pieces.specs.Patches.{frame_value}
 use Rattle.mw_frame_tiles.specs.Tiles.{ShowsTiles, tile_cells}
-use Rattle.mw_words.specs.Runs.{HasFront}
+use Rattle.mw_pieces.specs.mw_words.Runs.{HasFront}
 
 -- A frame that is cut into tiles, with the cells of each that is placed.
 pub record TileCells (A : Type 0) : Type 0 where

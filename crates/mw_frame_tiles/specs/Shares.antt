@@ -3,7 +3,7 @@ use Rattle.std.specs.Prelude.{◌≡◌, ℕ, ◌<◌, ◌≤◌, true, List, Op
 use Rattle.std.specs.List.{AllByRecursion}
 use Rattle.mw_model.specs.declared.places.Rect.{Rect}
 use Rattle.mw_model.specs.Places.{Holds}
-use Rattle.mw_grid.specs.Grids.{Tiling, tile_at, tile_count}
+use Rattle.mw_pieces.specs.mw_grid.Grids.{Tiling, tile_at, tile_count}
 use Rattle.mw_pieces.specs.Patches.{Patch, held_in}
 use Rattle.mw_frame_tiles.specs.Tiles.{tile_cells}
 

@@ -9,10 +9,10 @@ ghost use Rattle.mw_frame_tiles.specs.Tiles.{cells_of, HasAll, HasAlong, HasSide
 
 use crate::parts::{tile_number, tile_of, whole_tile};
 use crate::placed::Placed;
-use mw_grid::Grid;
 use mw_model::Rect;
+use mw_pieces::mw_grid::Grid;
+use mw_pieces::mw_pixel::Planar;
 use mw_pieces::{Piece, Pieces, overlap};
-use mw_pixel::Planar;
 
 /// Whether the window is one of the tiles' frame, and shows what the tiles have there.
 pub fn are_tiles<P: Planar>(grid: Grid, tiles: &[Option<Placed<P>>], window: &Pieces<P>) -> bool

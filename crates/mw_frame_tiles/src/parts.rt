@@ -3,15 +3,15 @@
 ghost use Rattle.std.specs.Prelude.{◌+◌, ◌*◌, ◌<◌, IfSome, IsSome};
 ghost use Rattle.mw_model.specs.Rasters.{Raster};
 ghost use Rattle.mw_model.specs.Places.{Holds};
-ghost use Rattle.mw_grid.specs.Grids.{tile_at, tile_count};
-ghost use Rattle.mw_tile.specs.Windows.{IsCut};
-ghost use Rattle.mw_tile.specs.Cuts.{view_of};
+ghost use Rattle.mw_pieces.specs.mw_grid.Grids.{tile_at, tile_count};
+ghost use Rattle.mw_pieces.specs.mw_tile.Windows.{IsCut};
+ghost use Rattle.mw_pieces.specs.mw_tile.Cuts.{view_of};
 ghost use Rattle.mw_frame_tiles.specs.Tiles.{cells_of, tile_cells, HasSides, ShowsTiles, StandsIn};
 
 use crate::placed::Placed;
-use mw_grid::Grid;
 use mw_model::Rect;
-use mw_pixel::Planar;
+use mw_pieces::mw_grid::Grid;
+use mw_pieces::mw_pixel::Planar;
 
 /// The number of the tile that has column x of row y.
 pub(crate) fn tile_number(grid: Grid, x: u32, y: u32) -> u32

@@ -3,16 +3,16 @@
 ghost use Rattle.std.specs.Prelude.{◌≡◌, ◌*◌, ◌<◌, IfOk, length};
 ghost use Rattle.std.specs.Arc.{arc_value};
 ghost use Rattle.mw_model.specs.Rasters.{Raster};
-ghost use Rattle.mw_grid.specs.Rectangles.{whole_frame};
+ghost use Rattle.mw_pieces.specs.mw_grid.Rectangles.{whole_frame};
 ghost use Rattle.mw_frame_tiles.specs.Rows.{HasFirstOfRow};
 ghost use Rattle.mw_frame_tiles.specs.Tiles.{cells_of, HasAll, HasAlong, HasSides, ShowsTiles};
 
 use crate::parts::tile_of;
 use crate::placed::Placed;
-use mw_grid::Grid;
 use mw_model::NoMemory;
-use mw_pixel::{Planar, Plane};
-use mw_tile::paste;
+use mw_pieces::mw_grid::Grid;
+use mw_pieces::mw_pixel::{Planar, Plane};
+use mw_pieces::mw_tile::paste;
 use std::alloc::Global;
 use std::sync::Arc;
 

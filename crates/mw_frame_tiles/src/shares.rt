@@ -3,16 +3,16 @@
 ghost use Rattle.std.specs.Prelude.{◌≡◌, ◌+◌, ◌-◌, ◌/◌, ◌<◌, ◌≤◌, IfOk};
 ghost use Rattle.mw_model.specs.Places.{IsWithin};
 ghost use Rattle.mw_model.specs.Rasters.{Raster};
-ghost use Rattle.mw_grid.specs.Grids.{tile_count};
+ghost use Rattle.mw_pieces.specs.mw_grid.Grids.{tile_count};
 ghost use Rattle.mw_pieces.specs.Patches.{ShowsFrame};
 ghost use Rattle.mw_frame_tiles.specs.Tiles.{cells_of, HasAll, HasSides, ShowsTiles};
 ghost use Rattle.mw_frame_tiles.specs.Shares.{AddsTiles, AreTilesMet};
 
 use crate::placed::Placed;
-use mw_grid::Grid;
 use mw_model::{NoMemory, Rect};
+use mw_pieces::mw_grid::Grid;
+use mw_pieces::mw_pixel::Planar;
 use mw_pieces::{Piece, Pieces};
-use mw_pixel::Planar;
 use std::alloc::Global;
 
 /// Adds a tile, if it is placed.

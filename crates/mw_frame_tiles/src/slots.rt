@@ -1,13 +1,13 @@
 //! The places of a grid, each with its tile once that is placed.
 
 ghost use Rattle.std.specs.Prelude.{◌≡◌, ◌<◌, None, IfOk, IfSome, option_map, replicate, slice_set};
-ghost use Rattle.mw_grid.specs.Grids.{tile_at, tile_count};
+ghost use Rattle.mw_pieces.specs.mw_grid.Grids.{tile_at, tile_count};
 ghost use Rattle.mw_frame_tiles.specs.Tiles.{cells_in_raster, cells_of, HasSides, StandsIn};
 
 use crate::placed::Placed;
-use mw_grid::Grid;
 use mw_model::NoMemory;
-use mw_pixel::Planar;
+use mw_pieces::mw_grid::Grid;
+use mw_pieces::mw_pixel::Planar;
 use std::alloc::Global;
 
 /// So many places without a tile.

@@ -9,3 +9,6 @@ mod Origins
 mod Planes
 mod StepPlanes
 mod Turns
+-- what lower crates offer
+pub use Rattle.mw_plan.proofs.mw_laws as mw_laws
+pub use Rattle.mw_plan.proofs as mw_plan

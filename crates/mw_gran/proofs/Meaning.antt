@@ -13,7 +13,7 @@ use Rattle.mw_model.specs.declared.names.Name.{Name}
 use Rattle.mw_model.specs.declared.places.Offset.{Offset}
 use Rattle.mw_model.specs.declared.places.OffsetBox.{OffsetBox}
 use Rattle.mw_model.specs.Laws.{HoldsOrigin}
-use Rattle.mw_element.specs.Figures.{FillsBox}
+use Rattle.mw_plan.specs.mw_element.Figures.{FillsBox}
 use Rattle.std.proofs.Math.Nat.{mul-le-mul_left, mul-le-mul_right}
 use Rattle.mw_model.specs.Elements.{holds_origin}
 use Rattle.mw_model.specs.Iterates.{skeleton, restoration, spectrum}

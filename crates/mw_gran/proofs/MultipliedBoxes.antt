@@ -4,7 +4,7 @@ use Rattle.std.specs.Prelude.{◌*ℤ◌}
 use Rattle.std.specs.List.{range_with_len, flat_map}
 use Rattle.std.proofs.lemmas.Int.{ints}
 use Rattle.std.proofs.Math.IntN.{pos-*ℤ-pos, pos-*ℤ-negsuc}
-use Rattle.mw_facts.proofs.Alls.{flat_map-same}
+use Rattle.mw_model.proofs.mw_facts.Alls.{flat_map-same}
 use Rattle.mw_model.specs.declared.places.Offset.{Offset}
 use Rattle.mw_model.specs.declared.places.OffsetBox.{OffsetBox}
 use Rattle.mw_model.specs.Places.{nonnegative, span, box_offsets}
@@ -16,9 +16,9 @@ use Rattle.mw_model.proofs.Covers.{reflected-IsTurned, turned_back}
 use Rattle.mw_gran.specs.Boxes.{multiplied}
 use Rattle.mw_plan.specs.Steps.{turned_box}
 use Rattle.mw_plan.proofs.Boxes.{element_covers, element-way}
-use Rattle.mw_element.specs.Figures.{FillsBox}
-use Rattle.mw_laws.proofs.BoxLaws.{within, covers_within, times-erosion_box, times-dilation_box, reflected_rectangle}
-use Rattle.mw_laws.proofs.Composed.{CoverSame, erosion_same, dilation_same}
+use Rattle.mw_plan.specs.mw_element.Figures.{FillsBox}
+use Rattle.mw_plan.proofs.mw_laws.BoxLaws.{within, covers_within, times-erosion_box, times-dilation_box, reflected_rectangle}
+use Rattle.mw_plan.proofs.mw_laws.Composed.{CoverSame, erosion_same, dilation_same}
 
 -- ---- boxes that hold their origin
 

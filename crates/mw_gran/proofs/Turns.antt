@@ -10,7 +10,7 @@ use Rattle.mw_model.specs.Laws.{HoldsOrigin}
 use Rattle.mw_model.specs.PlanSteps.{PlanStep, ErodeBox, DilateBox, Join, Blank, Mark, MarkLast, Equal, Sum}
 use Rattle.mw_model.specs.Plans.{Plan, Source, FromInput, FromStep, is_sum}
 use Rattle.mw_model.proofs.ImageLaws.{erosion_picture}
-use Rattle.mw_element.specs.Figures.{FillsBox}
+use Rattle.mw_plan.specs.mw_element.Figures.{FillsBox}
 use Rattle.mw_plan.specs.declared.plans.Source.{Source as Read}
 use Rattle.mw_plan.specs.PlansOf.{IsReadBy}
 use Rattle.mw_plan.specs.Seen.{source}

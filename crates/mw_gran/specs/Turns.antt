@@ -4,7 +4,7 @@ use Rattle.mw_model.specs.declared.shapes.Kind.TheVariants.{Grey}
 use Rattle.mw_model.specs.declared.places.Offset.{Offset}
 use Rattle.mw_model.specs.declared.places.OffsetBox.{OffsetBox}
 use Rattle.mw_model.specs.Laws.{HoldsOrigin}
-use Rattle.mw_element.specs.Figures.{FillsBox}
+use Rattle.mw_plan.specs.mw_element.Figures.{FillsBox}
 use Rattle.mw_model.specs.Pictures.{Picture, drawn, IsPicture, IsSet}
 use Rattle.mw_model.specs.Flat.{erosion, dilation, reflected}
 use Rattle.mw_model.specs.Iterates.{times, residue_mark, level_set, union, spectrum}

@@ -2,7 +2,7 @@
 
 ghost use Rattle.std.specs.Prelude.{◌≡◌, ◌+◌, ◌*◌, ◌≤◌, true, length, IfOk};
 ghost use Rattle.std.specs.Arc.{arc_value};
-ghost use Rattle.mw_element.specs.Figures.{FillsBox};
+ghost use Rattle.mw_plan.specs.mw_element.Figures.{FillsBox};
 ghost use Rattle.mw_model.specs.declared.places.OffsetBox.{OffsetBox};
 ghost use Rattle.mw_model.specs.Iterates.{skeleton, restoration};
 ghost use Rattle.mw_model.specs.Laws.{HoldsOrigin};
@@ -16,8 +16,8 @@ use crate::restorations::restoration;
 use crate::skeletons::skeleton;
 use crate::sliding::sliding_steps;
 use crate::spectra::spectrum;
-use mw_element::Element;
 use mw_model::{GranOp, NoMemory, Op};
+use mw_plan::mw_element::Element;
 use mw_plan::{Input, Plan, PlanFault, shape_of};
 use std::alloc::Global;
 use std::sync::Arc;

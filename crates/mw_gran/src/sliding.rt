@@ -2,15 +2,15 @@
 
 ghost use Rattle.std.specs.Prelude.{◌≡◌, IfOk, IfSome, IfNone};
 ghost use Rattle.std.specs.Arc.{arc_value};
-ghost use Rattle.mw_element.specs.Figures.{FillsBox};
+ghost use Rattle.mw_plan.specs.mw_element.Figures.{FillsBox};
 ghost use Rattle.mw_model.specs.declared.places.OffsetBox.{OffsetBox};
 ghost use Rattle.mw_model.specs.Laws.{HoldsOrigin};
-ghost use Rattle.mw_task.specs.Meanings.{meaning};
+ghost use Rattle.mw_plan.specs.mw_task.Meanings.{meaning};
 ghost use Rattle.mw_plan.specs.Steps.{IsNearBox};
 ghost use Rattle.mw_gran.specs.Turns.{Slides};
 
-use mw_element::Element;
 use mw_model::{NoMemory, OffsetBox};
+use mw_plan::mw_element::Element;
 use mw_plan::{Extremum, Input, Step, slide, slide_turned};
 use std::alloc::Global;
 use std::sync::Arc;

@@ -5,14 +5,14 @@
 
 ghost use Rattle.std.specs.Prelude.{◌≡◌, ◌+◌, ◌*◌, ◌/◌, ◌<◌, ◌≤◌, ℕ, List, length, IfOk};
 ghost use Rattle.std.specs.Arc.{arc_value};
-ghost use Rattle.mw_element.specs.Figures.{FillsBox};
+ghost use Rattle.mw_plan.specs.mw_element.Figures.{FillsBox};
 ghost use Rattle.mw_model.specs.declared.places.Offset.{Offset};
 ghost use Rattle.mw_model.specs.declared.places.OffsetBox.{OffsetBox};
 ghost use Rattle.mw_model.specs.Flat.{dilation, reflected};
 ghost use Rattle.mw_model.specs.Iterates.{times, spectrum};
 ghost use Rattle.mw_model.specs.Laws.{HoldsOrigin};
 ghost use Rattle.mw_model.specs.Pictures.{Picture, IsPicture};
-ghost use Rattle.mw_task.specs.Meanings.{meaning};
+ghost use Rattle.mw_plan.specs.mw_task.Meanings.{meaning};
 ghost use Rattle.mw_plan.specs.Seen.{source};
 ghost use Rattle.mw_plan.specs.Steps.{IsNearBox};
 ghost use Rattle.mw_gran.specs.Growing.{Shows};
@@ -22,8 +22,8 @@ use crate::boxes::multiplied;
 use crate::eroding::{eroded, erosions};
 use crate::growing::add;
 use crate::sliding::{SlidingSteps, rectangle_with_origin, sliding_steps};
-use mw_element::Element;
 use mw_model::{NoMemory, OffsetBox};
+use mw_plan::mw_element::Element;
 use mw_plan::{Plan, Source, Sources, Step, turned};
 use std::alloc::Global;
 use std::sync::Arc;

@@ -5,8 +5,8 @@ use Rattle.std.proofs.Math.Bool.{and-false}
 use Rattle.std.proofs.lemmas.Bool.{cases_lt, eq-eqb, ne_eqb, lt-ltb, le-ltb, le-leb, lt-leb}
 use Rattle.std.proofs.lemmas.Nat.{div-mul-add, mod-mul-add}
 use Rattle.std.proofs.lemmas.List.Sums.{sum_by-cons}
-use Rattle.mw_facts.proofs.Counts.{count_by-same}
-use Rattle.mw_facts.proofs.Numbers.{one_if-le}
+use Rattle.mw_model.proofs.mw_facts.Counts.{count_by-same}
+use Rattle.mw_model.proofs.mw_facts.Numbers.{one_if-le}
 use Rattle.mw_grid.specs.Counts.{bit, count_below, in_range}
 
 abbrev pub total : (ℕ → ℕ) → ℕ → ℕ → ℕ

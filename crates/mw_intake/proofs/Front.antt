@@ -5,7 +5,7 @@ use Rattle.std.proofs.Math.Nat.{le_of_lt}
 use Rattle.std.proofs.lemmas.List.{take-append-le, drop-append-le, take_at, drop_at, append-nil, drop_all, drop_more}
 use Rattle.std.proofs.Math.Seq.{take-length}
 use Rattle.std.specs.List.{position_or_len}
-use Rattle.mw_facts.proofs.Positions.{position_length, position_more, position_kept, position_grows, position_take}
+use Rattle.mw_model.proofs.mw_facts.Positions.{position_length, position_more, position_kept, position_grows, position_take}
 use Rattle.mw_intake.specs.Intake.{IsPayloadLine, line_for}
 use Rattle.mw_intake.proofs.LineLaws.{read_is_said}
 use Rattle.mw_intake.proofs.SaidLines.{said_is_read}

@@ -2,7 +2,7 @@
 use Rattle.std.proofs.Common.{◌≡◌, ℕ, ◌+◌, ◌<◌, ◌≤◌, List, ◌++◌, length, take, refl, sym, ◌∙◌, arith, Some, length-append}
 use Rattle.std.proofs.lemmas.List.{take_at}
 use Rattle.std.specs.List.{position_or_len}
-use Rattle.mw_facts.proofs.Positions.{position_kept}
+use Rattle.mw_model.proofs.mw_facts.Positions.{position_kept}
 use Rattle.mw_model.specs.Lines.{Partial}
 use Rattle.mw_model.specs.declared.requests.Awaited.{Awaited}
 use Rattle.mw_model.specs.declared.requests.Head.TheVariants.{Payload}

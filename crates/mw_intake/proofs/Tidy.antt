@@ -2,7 +2,7 @@
 use Rattle.std.proofs.Common.{◌≡◌, ℕ, zero, suc, ◌+◌, ◌-◌, ◌<◌, ◌≤◌, Bool, true, false, not, cond, List, [], ◌∷◌, ◌++◌, length, take, drop, min, inl, inr, sym, ap, ◌∙◌, arith, append_assoc, length-append, length-take, take-append-drop}
 use Rattle.std.specs.List.{position_or_len}
 use Rattle.std.proofs.lemmas.Bool.{cases_lt}
-use Rattle.mw_facts.proofs.Positions.{position_length, position_kept, position_take}
+use Rattle.mw_model.proofs.mw_facts.Positions.{position_length, position_kept, position_take}
 use Rattle.mw_model.specs.Lines.{Partial}
 use Rattle.mw_model.specs.declared.requests.Awaited.{Awaited}
 use Rattle.mw_intake.specs.Intake.{Held, CameWithLine, IsOpen, IsPayloadLine, IsPortion, IsTidy, Misses}

@@ -7,13 +7,13 @@ use Rattle.std.proofs.lemmas.List.{length-replicate, get_or_default, get_or-set_
 use Rattle.std.proofs.lemmas.Nat.{mul-add-lt}
 use Rattle.std.proofs.lemmas.Nat.Bits.{bit_at-zero}
 use Rattle.std.proofs.lemmas.Option.{slice_get-get_or, slice_get_past}
-use Rattle.mw_facts.proofs.Alls.{all-both, all-get_or, all-take, all-take_whole}
+use Rattle.mw_model.proofs.mw_facts.Alls.{all-both, all-get_or, all-take, all-take_whole}
 use Rattle.mw_model.specs.declared.places.Rect.{Rect}
 use Rattle.mw_model.specs.Places.{Holds}
 use Rattle.mw_model.specs.Rasters.{Raster, raster}
-use Rattle.mw_words.specs.Packed.{bit_of, samples_of, stride_of, IsPacked}
-use Rattle.mw_words.proofs.Bits.{length-samples_of, sample_is_bit}
-use Rattle.mw_words.proofs.Done.{blank_bit}
+use Rattle.mw_pieces.specs.mw_words.Packed.{bit_of, samples_of, stride_of, IsPacked}
+use Rattle.mw_pieces.proofs.mw_words.Bits.{length-samples_of, sample_is_bit}
+use Rattle.mw_pieces.proofs.mw_words.Done.{blank_bit}
 use Rattle.mw_pieces.specs.Patches.{Joint, Patch, cell_of, has_place, no_patch, patch, patch_at, value_in, HasValues, IsJoint, ShowsIn}
 use Rattle.mw_pieces.proofs.Patches.{all_next, has_holds, has_yes, read_at, values_of_shows}
 use Rattle.mw_joined.specs.declared.blocks.Block.{Block}

@@ -7,11 +7,11 @@ use Rattle.std.proofs.lemmas.List.{length-replicate}
 use Rattle.std.proofs.lemmas.Nat.{mul-add-lt, shr-shr}
 use Rattle.std.proofs.lemmas.Nat.Bits.{bit_at_or, bit_at_xor, bit_at-lt, bit_at-zero}
 use Rattle.std.proofs.lemmas.Option.{slice_get-get_or}
-use Rattle.mw_facts.proofs.Elements.{get_or-replicate_same}
+use Rattle.mw_model.proofs.mw_facts.Elements.{get_or-replicate_same}
 use Rattle.mw_model.specs.declared.places.Rect.{Rect}
-use Rattle.mw_words.specs.Packed.{bit_of, stride_of}
-use Rattle.mw_words.proofs.Bits.{bit_of_word}
-use Rattle.mw_words.proofs.Funnels.{shl_high}
+use Rattle.mw_pieces.specs.mw_words.Packed.{bit_of, stride_of}
+use Rattle.mw_pieces.proofs.mw_words.Bits.{bit_of_word}
+use Rattle.mw_pieces.proofs.mw_words.Funnels.{shl_high}
 use Rattle.mw_pieces.specs.Patches.{Patch, cell_of, patch}
 use Rattle.mw_joined.specs.declared.blocks.Block.{Block}
 use Rattle.mw_joined.specs.Blocks.{IsCommon, ReadsOnly}

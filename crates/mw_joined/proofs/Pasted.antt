@@ -4,7 +4,7 @@ use Rattle.std.proofs.lemmas.Bool.{cases_lt}
 use Rattle.std.proofs.lemmas.Nat.{mul-add-lt, div-mul-add, mod-mul-add}
 use Rattle.mw_model.specs.declared.places.Rect.{Rect}
 use Rattle.mw_model.specs.Places.{Holds}
-use Rattle.mw_tile.proofs.Rows.{run_fits}
+use Rattle.mw_pieces.proofs.mw_tile.Rows.{run_fits}
 use Rattle.mw_pieces.specs.Patches.{overlap_of}
 use Rattle.mw_joined.specs.declared.blocks.Block.{Block}
 use Rattle.mw_joined.specs.Blocks.{block, block_at, Fits, IsCommon, IsPasted, IsRun}

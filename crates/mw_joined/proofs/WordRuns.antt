@@ -4,9 +4,9 @@ use Rattle.std.specs.Int.{bit_at}
 use Rattle.std.proofs.lemmas.Bool.{cases_eq}
 use Rattle.std.proofs.lemmas.List.{get_or-set_same, get_or-set_other}
 use Rattle.std.proofs.lemmas.Nat.{shr-shr}
-use Rattle.mw_words.specs.Packed.{bit_of}
-use Rattle.mw_words.specs.Runs.{IsBlended}
-use Rattle.mw_words.proofs.Bits.{bit_of_word, bit_of_its_word}
+use Rattle.mw_pieces.specs.mw_words.Packed.{bit_of}
+use Rattle.mw_pieces.specs.mw_words.Runs.{IsBlended}
+use Rattle.mw_pieces.proofs.mw_words.Bits.{bit_of_word, bit_of_its_word}
 use Rattle.mw_joined.specs.declared.blocks.Block.{Block}
 use Rattle.mw_joined.specs.Blocks.{IsPasted, IsRun}
 use Rattle.mw_joined.proofs.Pasted.{upper, pasted_down}

@@ -2,16 +2,16 @@
 //! ends, so that each part lies in one column of words on both sides, and its shifts and mask are the same in all rows.
 
 ghost use Rattle.std.specs.Prelude.{◌≡◌, ◌+◌, ◌*◌, ◌/◌, ◌%◌, ◌<◌, ◌≤◌, ◌^◌, length};
-ghost use Rattle.mw_words.specs.Packed.{bit_of, samples_of, IsPacked};
+ghost use Rattle.mw_pieces.specs.mw_words.Packed.{bit_of, samples_of, IsPacked};
 ghost use Rattle.mw_pieces.specs.Patches.{value_in, HasValues};
 ghost use Rattle.mw_joined.specs.Blocks.{Fits, IsPasted};
 ghost use Rattle.mw_joined.specs.Laid.{IsLaid};
 
 use crate::blocks::{Block, common_words};
 use mw_model::Rect;
+use mw_pieces::mw_pixel::Bit;
+use mw_pieces::mw_words::blended;
 use mw_pieces::{Piece, Pieces};
-use mw_pixel::Bit;
-use mw_words::blended;
 
 /// Writes a block that lies in one column of words on both sides.
 fn copy_in_words(out: &mut [u64], from: &[u64], block: Block)

@@ -1,12 +1,12 @@
 //! Blocks: what a window and one of its pieces have in common.
 
 ghost use Rattle.std.specs.Prelude.{◌+◌, ◌*◌, ◌<◌, ◌≤◌, ◌^◌, MatchOption};
-ghost use Rattle.mw_words.specs.Packed.{stride_of};
+ghost use Rattle.mw_pieces.specs.mw_words.Packed.{stride_of};
 ghost use Rattle.mw_joined.specs.Blocks.{IsApart, IsCommon};
 
 use mw_model::Rect;
+use mw_pieces::mw_words::stride;
 use mw_pieces::overlap;
-use mw_words::stride;
 
 /// Columns and rows of cells that are copied from one list of cells into another.
 #[derive(Clone, Copy)]

@@ -7,8 +7,8 @@ ghost use Rattle.mw_joined.specs.Laid.{IsLaid};
 
 use crate::blocks::{Block, common};
 use mw_model::Rect;
+use mw_pieces::mw_pixel::{Grey, Pixel};
 use mw_pieces::{Piece, Pieces};
-use mw_pixel::{Grey, Pixel};
 
 /// Blocks of so few columns are copied column by column: a call for each row would take longer.
 const NARROW: usize = 4;

@@ -13,4 +13,6 @@ mod uniform;
 mod windows;
 
 pub use mw_model::NoMemory;
+pub use mw_pieces;
+pub use mw_pieces::{mw_pixel, mw_tile};
 pub use windows::joined;

@@ -5,15 +5,15 @@
 
 ghost use Rattle.std.specs.Prelude.{◌≡◌, ℕ, ◌+◌, ◌*◌, ◌%◌, ◌<◌, ◌≤◌, ◌^◌, cond, length, replicate, IfSome, IsTrue};
 ghost use Rattle.std.specs.Int.{bit_at};
-ghost use Rattle.mw_words.specs.Packed.{bit_of};
+ghost use Rattle.mw_pieces.specs.mw_words.Packed.{bit_of};
 ghost use Rattle.mw_pieces.specs.Patches.{value_in, HasValues};
 ghost use Rattle.mw_joined.specs.Blocks.{Fits, ReadsOnly};
 ghost use Rattle.mw_joined.specs.Laid.{IsLaid};
 
 use crate::blocks::{Block, common_words};
 use mw_model::Rect;
+use mw_pieces::mw_pixel::Bit;
 use mw_pieces::{Piece, Pieces};
-use mw_pixel::Bit;
 
 /// The word of 64 such pixels.
 fn word_of(is_set: bool) -> u64

@@ -2,7 +2,7 @@
 use Rattle.std.proofs.Common.{◌≡◌, ℕ, ◌+◌, ◌-◌, ◌<◌, ◌≤◌, List, length, take, drop, get_or, ap, arith, ◌∙◌, length-take, length-drop}
 use Rattle.std.proofs.lemmas.List.{get_or-take, get_or-drop}
 use Rattle.std.proofs.lemmas.Simd.{get_or-zip2, length-zip2}
-use Rattle.mw_facts.proofs.Parts.{get_or-put_mid_within}
+use Rattle.mw_model.proofs.mw_facts.Parts.{get_or-put_mid_within}
 use borrow.Rule.Slice.PartMut.{put_mid}
 use lib.Lanes.{zip2}
 

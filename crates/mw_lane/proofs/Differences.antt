@@ -4,7 +4,7 @@ use Rattle.std.proofs.lemmas.List.{take_all}
 use Rattle.std.proofs.lemmas.Simd.{tops_compared, put_chunk_whole, length-zip2}
 use Rattle.std.specs.Int.{Width}
 use mir.Val.{bits, hbits, Fits}
-use Rattle.mw_facts.proofs.Numbers.{cond-max}
+use Rattle.mw_model.proofs.mw_facts.Numbers.{cond-max}
 use lib.Lanes.{zip2, sel_l, top, put_chunk}
 
 pub wrapped_8 : (x y : ℕ) → x < 256 → y < 256 → (max x y + (256 - y)) % 256 ≡ x - y

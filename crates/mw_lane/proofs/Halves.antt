@@ -4,7 +4,7 @@ use Rattle.std.proofs.Math.Nat.{add-sub_of_le}
 use Rattle.std.proofs.lemmas.Bool.{cases_lt}
 use Rattle.std.proofs.lemmas.List.{get_or_append_left, get_or-append_right, get_or-take, get_or-drop}
 use Rattle.std.proofs.lemmas.Simd.{get_or-zip2, length-zip2}
-use Rattle.mw_facts.proofs.Parts.{get_or-put_mid_below, get_or-put_mid_within, get_or-put_mid_above}
+use Rattle.mw_model.proofs.mw_facts.Parts.{get_or-put_mid_below, get_or-put_mid_within, get_or-put_mid_above}
 use borrow.Rule.Slice.PartMut.{put_mid, post_of}
 use lib.Lanes.{zip2}
 

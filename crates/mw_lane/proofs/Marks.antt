@@ -4,7 +4,7 @@ use Rattle.std.proofs.lemmas.Bool.Decides.{nat_tests}
 use Rattle.std.proofs.lemmas.List.{take_all, get_or-map, get_or_default}
 use Rattle.std.proofs.lemmas.Simd.{tops_compared}
 use Rattle.std.specs.Int.{Width}
-use Rattle.mw_facts.proofs.Merged.{merged, mapped_step, mapped_all, merged_all}
+use Rattle.mw_model.proofs.mw_facts.Merged.{merged, mapped_step, mapped_all, merged_all}
 use mir.Val.{bits, hbits, Fits}
 use lib.Lanes.{zip2, sel_l, top}
 

@@ -5,7 +5,7 @@ use Rattle.std.proofs.lemmas.Bool.{cases_lt}
 use Rattle.std.proofs.lemmas.Option.{slice_get-get_or, slice_get_past}
 use Rattle.std.proofs.lemmas.List.{get_or-take, get_or-drop}
 use Rattle.std.proofs.lemmas.Simd.{get_or-zip2, length-zip2}
-use Rattle.mw_facts.proofs.Parts.{get_or-put_mid_within, get_or-put_mid_above}
+use Rattle.mw_model.proofs.mw_facts.Parts.{get_or-put_mid_within, get_or-put_mid_above}
 use Rattle.mw_lane.specs.Shifted.{merge_at}
 use borrow.Rule.Slice.PartMut.{put_mid}
 use lib.Lanes.{zip2}

@@ -5,9 +5,9 @@ use Rattle.std.specs.Option.{option_map_or}
 use Rattle.std.proofs.lemmas.List.{get_or_append_left, get_or-set_same, get_or-set_other, length-set, get_or_past, ext_get_or}
 use Rattle.std.proofs.Math.Seq.{get_or-append_seam}
 use Rattle.std.proofs.lemmas.Bool.{cases_lt, cases_eq, cases_Bool, both_ways}
-use Rattle.mw_facts.proofs.Alls.{all-weaker}
-use Rattle.mw_facts.proofs.Finds.{find-same, option_cases}
-use Rattle.mw_facts.proofs.Numbers.{strong_induction}
+use Rattle.mw_model.proofs.mw_facts.Alls.{all-weaker}
+use Rattle.mw_model.proofs.mw_facts.Finds.{find-same, option_cases}
+use Rattle.mw_model.proofs.mw_facts.Numbers.{strong_induction}
 use Rattle.mw_model.specs.declared.submissions.Inputs.{Inputs}
 use Rattle.mw_model.specs.declared.submissions.Submission.{Submission}
 use Rattle.mw_model.specs.declared.calls.Outcome.{Outcome}

@@ -13,7 +13,7 @@ use Rattle.mw_model.specs.Machine.{Machine, values, with_table, killed, settled,
 use Rattle.mw_laws.specs.MachineLaws.{GoesOn, MayBecome, GrowsTo, IsSound, IsKilled}
 use Rattle.mw_laws.proofs.RunCascade.{is_killed, pending_is, dead_not_pending}
 use Rattle.mw_laws.proofs.RunValues.{values_push, length_values}
-use Rattle.mw_facts.proofs.Elements.{get_or-push_below}
+use Rattle.mw_model.proofs.mw_facts.Elements.{get_or-push_below}
 use Rattle.mw_laws.proofs.RunSteps.{pushed, holds_after}
 use Rattle.mw_laws.proofs.RunStates.{step_sound}
 

@@ -2,9 +2,9 @@
 use Rattle.std.proofs.Common.{◌≡◌, ◌≢◌, ℕ, ◌<◌, true, false, inl, inr, List, length, find, Some, refl, sym, ap, ◌∙◌, subst, arith, Contains}
 use Rattle.std.specs.List.{AllByRecursion}
 use Rattle.std.proofs.lemmas.Bool.{cases_eq, cases_Bool, both_ways}
-use Rattle.mw_facts.proofs.Alls.{all-contains}
-use Rattle.mw_facts.proofs.Finds.{find-contains, find-some, option_cases}
-use Rattle.mw_facts.proofs.Numbers.{strong_induction}
+use Rattle.mw_model.proofs.mw_facts.Alls.{all-contains}
+use Rattle.mw_model.proofs.mw_facts.Finds.{find-contains, find-some, option_cases}
+use Rattle.mw_model.proofs.mw_facts.Numbers.{strong_induction}
 use Rattle.mw_model.specs.declared.calls.Outcome.{Outcome}
 use Rattle.mw_model.specs.declared.calls.Outcome.TheVariants as outcome
 use Rattle.mw_model.specs.Refusals.{Table, outcome_at, is_pending, is_dead}

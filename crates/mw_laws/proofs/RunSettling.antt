@@ -17,9 +17,9 @@ use Rattle.mw_model.specs.Refusals.{Table, no_submission, outcome_at, submission
 use Rattle.mw_model.specs.Machine.{Machine, start_state, with_table, killed, settled, CanDie, Step, Run}
 use Rattle.mw_laws.specs.MachineLaws.{IsSound, IsKilled, SettlesNot, first_dead}
 use Rattle.mw_laws.proofs.RunCascade.{is_killed, failed_or_waits, dead_not_pending, pending_is}
-use Rattle.mw_facts.proofs.Elements.{get_or-push_below, get_or-push_last}
-use Rattle.mw_facts.proofs.Finds.{contains-cons}
-use Rattle.mw_facts.proofs.Numbers.{below_or_last}
+use Rattle.mw_model.proofs.mw_facts.Elements.{get_or-push_below, get_or-push_last}
+use Rattle.mw_model.proofs.mw_facts.Finds.{contains-cons}
+use Rattle.mw_model.proofs.mw_facts.Numbers.{below_or_last}
 use Rattle.mw_laws.proofs.RunSteps.{pushed, IsNew, holds_after}
 use Rattle.mw_laws.proofs.RunStates.{start_sound, step_sound, there_not_dead}
 use Rattle.mw_laws.proofs.RunGrowth.{step_grows, done_stays, length_goes_on}

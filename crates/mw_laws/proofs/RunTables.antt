@@ -6,9 +6,9 @@ use Rattle.std.specs.Option.{option_map_or}
 use Rattle.std.proofs.lemmas.List.Quantifiers.{position-Some}
 use Rattle.std.proofs.lemmas.Cmp.{nat_list_eq_equiv}
 use Rattle.std.proofs.lemmas.Bool.{ltb-true, lt-ltb, le-ltb, cases_lt, both_ways}
-use Rattle.mw_facts.proofs.Elements.{get_or-push_below, get_or-push_last}
-use Rattle.mw_facts.proofs.Finds.{position-none, position-is}
-use Rattle.mw_facts.proofs.Numbers.{below_or_last}
+use Rattle.mw_model.proofs.mw_facts.Elements.{get_or-push_below, get_or-push_last}
+use Rattle.mw_model.proofs.mw_facts.Finds.{position-none, position-is}
+use Rattle.mw_model.proofs.mw_facts.Numbers.{below_or_last}
 use Rattle.mw_model.specs.declared.names.Name.{Name}
 use Rattle.mw_model.specs.declared.shapes.Shape.{Shape}
 use Rattle.mw_model.specs.declared.codes.Code.{Code}

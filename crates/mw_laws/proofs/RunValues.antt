@@ -11,7 +11,7 @@ use Rattle.mw_model.specs.Values.{Value, tickets, value_at, value_of, values_aft
 use Rattle.mw_model.specs.Refusals.{submission_at}
 use Rattle.mw_model.specs.Machine.{Machine, values}
 use Rattle.mw_laws.specs.MachineLaws.{inputs_at, IsSound}
-use Rattle.mw_facts.proofs.Alls.{all-weaker, map-same}
+use Rattle.mw_model.proofs.mw_facts.Alls.{all-weaker, map-same}
 
 -- one entry more has its value at the end
 pub values_push : (b : List (Option Value)) (es : List Submission) (ps : List (Option Value)) (e : Submission) (p : Option Value) → length ps ≡ length es

@@ -6,7 +6,7 @@ use Rattle.mw_model.specs.declared.calls.Outcome.TheVariants as outcome
 use Rattle.mw_model.specs.Refusals.{outcome_at, is_dead, is_there}
 use Rattle.mw_model.specs.Machine.{Machine, CanFinish}
 use Rattle.mw_laws.specs.MachineLaws.{inputs_at, IsSound}
-use Rattle.mw_facts.proofs.Numbers.{strong_induction}
+use Rattle.mw_model.proofs.mw_facts.Numbers.{strong_induction}
 
 there_or_pending : (o : Outcome) → is_dead o ≡ false → (is_there o ≡ true) ⊎ (o ≡ outcome.Pending)
 there_or_pending outcome.Pending h = inr refl

@@ -7,8 +7,8 @@ use Rattle.std.proofs.lemmas.Bool.{cases_Bool, cases_eq}
 use Rattle.std.proofs.lemmas.List.{get_or-set_same, get_or-set_other}
 use Rattle.std.proofs.lemmas.List.FromFn.{length-map-range_with_len, length-range_with_len}
 use Rattle.std.proofs.lemmas.List.Sums.{count_by-le-length}
-use Rattle.mw_facts.proofs.Elements.{get_or-push_below}
-use Rattle.mw_facts.proofs.Finds.{option_cases}
+use Rattle.mw_model.proofs.mw_facts.Elements.{get_or-push_below}
+use Rattle.mw_model.proofs.mw_facts.Finds.{option_cases}
 use Rattle.mw_model.specs.declared.calls.Call.{Call}
 use Rattle.mw_model.specs.declared.calls.Outcome.TheVariants as outcome
 use Rattle.mw_model.specs.declared.names.Name.{Name}

@@ -10,6 +10,6 @@ mod SettleLemmas
 mod SweepLemmas
 mod WorkLemmas
 -- what lower crates offer
-pub use Rattle.mw_underway.proofs as mw_underway
 pub use Rattle.mw_underway.proofs.mw_stands as mw_stands
+pub use Rattle.mw_underway.proofs as mw_underway
 pub use Rattle.mw_underway.proofs.mw_work as mw_work

@@ -4,9 +4,9 @@ use Rattle.std.specs.Option.{IfSome}
 use Rattle.std.specs.List.{AllByRecursion}
 use Rattle.std.proofs.lemmas.Bool.{cases_eq, cases_lt}
 use Rattle.std.proofs.lemmas.List.{get_or-set_same, get_or-set_other, get_or_past, length-set}
-use Rattle.mw_facts.proofs.Alls.{all-both, all-weaker, all-append_left, all-append_right}
-use Rattle.mw_facts.proofs.Elements.{get_or-push_below, get_or-push_last}
-use Rattle.mw_facts.proofs.Numbers.{below_or_last}
+use Rattle.mw_model.proofs.mw_facts.Alls.{all-both, all-weaker, all-append_left, all-append_right}
+use Rattle.mw_model.proofs.mw_facts.Elements.{get_or-push_below, get_or-push_last}
+use Rattle.mw_model.proofs.mw_facts.Numbers.{below_or_last}
 use Rattle.mw_model.specs.declared.names.Name.{Name}
 use Rattle.mw_model.specs.declared.submissions.Submission.{Submission}
 use Rattle.mw_model.specs.declared.submissions.Inputs.{Inputs}

@@ -6,8 +6,8 @@ use Rattle.std.specs.List.{AllByRecursion, list_all, list_any}
 use Rattle.std.proofs.Math.ListN.{get_or-map}
 use Rattle.std.proofs.lemmas.Bool.{cases_Bool, cases_eq, eqb-false}
 use Rattle.std.proofs.lemmas.List.{get_or-set_same, get_or-set_other}
-use Rattle.mw_facts.proofs.Alls.{all-weaker}
-use Rattle.mw_facts.proofs.Elements.{get_or-push_below}
+use Rattle.mw_model.proofs.mw_facts.Alls.{all-weaker}
+use Rattle.mw_model.proofs.mw_facts.Elements.{get_or-push_below}
 use Rattle.mw_model.specs.declared.calls.Call.{Call}
 use Rattle.mw_model.specs.declared.calls.Outcome.{Outcome}
 use Rattle.mw_model.specs.declared.calls.Outcome.TheVariants as outcome

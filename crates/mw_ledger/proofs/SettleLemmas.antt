@@ -10,9 +10,9 @@ use Rattle.mw_model.specs.Refusals.{is_image, shape_at}
 use Rattle.mw_model.specs.Machine.{settled}
 use Rattle.mw_model.specs.Plans.{is_sum}
 use Rattle.mw_model.specs.Tasks.{nothing_planned, remaining_tasks}
-use Rattle.mw_task.specs.declared.tile_result.TileResult.{TileResult}
-use Rattle.mw_task.specs.Products.{IsMade}
-use Rattle.mw_task.specs.WindowTasks.{FitsStep, WindowTask}
+use Rattle.mw_underway.specs.mw_task.declared.tile_result.TileResult.{TileResult}
+use Rattle.mw_underway.specs.mw_task.Products.{IsMade}
+use Rattle.mw_underway.specs.mw_task.WindowTasks.{FitsStep, WindowTask}
 use Rattle.mw_underway.specs.mw_places.MadeTiles.{cells_of_made}
 use Rattle.mw_underway.specs.mw_progress.ProgressView.{ProgressView, Fits, IsFinished, IsWhole, number_of}
 use Rattle.mw_underway.specs.mw_store.Stored.{DropsSpent}

@@ -11,8 +11,8 @@ use Rattle.mw_model.specs.Values.{image_of, value_at}
 use Rattle.mw_model.specs.Refusals.{outcome_at, submission_at}
 use Rattle.mw_model.specs.Stands.{may_run, progress_at, ready_under}
 use Rattle.mw_model.specs.Tasks.{Progress, is_running, ready_tasks, remaining_tasks}
-use Rattle.mw_grid.specs.Grids.{tile_count}
-use Rattle.mw_task.specs.WindowTasks.{WindowTask}
+use Rattle.mw_underway.specs.mw_grid.Grids.{tile_count}
+use Rattle.mw_underway.specs.mw_task.WindowTasks.{WindowTask}
 use Rattle.mw_underway.specs.mw_progress.ProgressView.{ProgressView, IsWhole, number_of}
 use Rattle.mw_underway.proofs.mw_work.Numbers.{length-tiles, number_of-numbers, number_of-within, some-whole, step_number-number_of, step_number-within, tile_number-number_of, tile_number-within}
 use Rattle.mw_underway.specs.mw_stands.TaskEvents.{IsUnderway}

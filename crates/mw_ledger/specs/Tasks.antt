@@ -8,9 +8,9 @@ use Rattle.mw_model.specs.Values.{Value, ImageValue, CurveValue, image_of, value
 use Rattle.mw_model.specs.Refusals.{outcome_at, submission_at, shape_at}
 use Rattle.mw_model.specs.Machine.{settled}
 use Rattle.mw_model.specs.Tasks.{remaining_tasks}
-use Rattle.mw_task.specs.declared.tile_result.TileResult.{TileResult}
-use Rattle.mw_task.specs.Products.{IsMade}
-use Rattle.mw_task.specs.WindowTasks.{WindowTask}
+use Rattle.mw_underway.specs.mw_task.declared.tile_result.TileResult.{TileResult}
+use Rattle.mw_underway.specs.mw_task.Products.{IsMade}
+use Rattle.mw_underway.specs.mw_task.WindowTasks.{WindowTask}
 use Rattle.mw_underway.specs.mw_tiles.Filled.{filled}
 use Rattle.mw_underway.specs.mw_places.MadeTiles.{cells_of_made}
 use Rattle.mw_underway.specs.mw_progress.ProgressView.{ProgressView, IsFinished, IsWhole, numbers_of, plane_at}

@@ -2,10 +2,10 @@
 
 ghost use Rattle.std.specs.Prelude.{◌≡◌, ◌<◌, ◌≤◌, ◌++◌, ◌∷◌, ◌⊎◌, [], length, OnOk, OnErr, IfOk, IfSome, None, true, false};
 
+use crate::compact::Compact;
 use crate::ledger::Ledger;
 use crate::places::make_places;
 use crate::sweep::drop_settled;
-use crate::compact::Compact;
 use mw_model::{Call, LogItem, Name, NoMemory, Outcome, Reply};
 use mw_underway::{Entry, PlanProgress, reserve_row};
 

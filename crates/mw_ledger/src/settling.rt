@@ -7,11 +7,11 @@ ghost use Rattle.mw_model.specs.Tasks.{nothing_planned, remaining_tasks};
 ghost use Rattle.mw_underway.specs.mw_store.Kept.{kept_value};
 ghost use Rattle.mw_ledger.specs.Tasks.{value_made};
 
-use crate::ledger::Ledger;
-use mw_gran::Curve;
 use crate::compact::Compact;
+use crate::ledger::Ledger;
 use mw_model::{LogItem, Outcome, Shape};
-use mw_task::TileDone;
+use mw_underway::mw_gran::Curve;
+use mw_underway::mw_task::TileDone;
 use mw_underway::{Kept, PlanProgress, Waiters, WholePlane};
 
 /// The value that finished work has made, where the result has this shape. No memory is asked for.

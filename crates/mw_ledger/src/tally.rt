@@ -32,7 +32,7 @@ impl Counts {
     ghost use Rattle.mw_underway.specs.mw_stands.Counts.{running_under};
     ghost use Rattle.mw_underway.specs.mw_stands.Turns.{IsAt};
     ghost use Rattle.mw_underway.specs.mw_store.declared.kept.Entry.{Entry};
-    ghost use Rattle.mw_task.specs.WindowTasks.{WindowTask};
+    ghost use Rattle.mw_underway.specs.mw_task.WindowTasks.{WindowTask};
     ghost use Rattle.mw_ledger.specs.Books.{Book, IsOrderly, seen_of};
     ghost use Rattle.mw_ledger.specs.Changes.{with_accepted};
     ghost use Rattle.mw_ledger.specs.Tasks.{SettlesAt};

@@ -4,7 +4,7 @@ ghost use Rattle.std.specs.Prelude.{◌≡◌, ◌<◌, ◌≤◌, ◌↔◌, le
 
 use crate::ledger::Ledger;
 use mw_model::{NoMemory, Outcome, TaskId};
-use mw_task::{TileDone, Work};
+use mw_underway::mw_task::{TileDone, Work};
 use mw_underway::{begin, is_fit, is_pending, is_result};
 
 /// Why a task is not taken.
@@ -20,7 +20,7 @@ impl Ledger {
     ghost use Rattle.std.specs.List.{AllByRecursion};
     ghost use Rattle.mw_model.specs.Refusals.{outcome_at};
     ghost use Rattle.mw_model.specs.Stands.{progress_at, ready_under};
-    ghost use Rattle.mw_task.specs.WindowTasks.{IsBounded};
+    ghost use Rattle.mw_underway.specs.mw_task.WindowTasks.{IsBounded};
     ghost use Rattle.mw_underway.specs.mw_stands.TaskEvents.{IsOpen, IsSettled, IsUnderway};
     ghost use Rattle.mw_ledger.specs.Books.{seen_of};
     ghost use Rattle.mw_ledger.specs.Tasks.{IsFitAt, IsFoundAt, IsResultAt, TakesAt};

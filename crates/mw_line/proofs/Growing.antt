@@ -5,7 +5,7 @@ use Rattle.std.proofs.lemmas.Nat.{mul-add-lt}
 use Rattle.std.proofs.lemmas.Grind.{pow_more}
 use Rattle.std.proofs.Math.Nat.{add-zero, zero-add, suc-add, add-sub_cancel_left, add-sub_of_le, mul-le-mul_left, pow-le-pow_right}
 use Rattle.std.proofs.lemmas.List.{get_or-take, get_or-drop, get_or_append_left, get_or-append_right}
-use Rattle.mw_facts.proofs.Parts.{get_or-put_mid_below, get_or-put_mid_within, get_or-put_mid_above}
+use Rattle.mw_model.proofs.mw_facts.Parts.{get_or-put_mid_below, get_or-put_mid_within, get_or-put_mid_above}
 use Rattle.mw_line.specs.Columns.{IsGrown}
 use Rattle.mw_line.specs.Extrema.{over}
 use Rattle.mw_line.proofs.Folds.{IsExtremum}

@@ -7,8 +7,8 @@ use Rattle.mw_model.specs.Pictures.{Picture, IsPicture, sample}
 use Rattle.mw_model.specs.Places.{IsWithin}
 use Rattle.mw_model.specs.Rasters.{Raster, cell_at}
 use Rattle.mw_model.proofs.ImagePlaces.{sample-redrawn}
-use Rattle.mw_pixel.specs.Images.{raster_of}
-use Rattle.mw_pixel.proofs.Cells.{seen_under-raster_of}
+use Rattle.mw_tile.specs.mw_pixel.Images.{raster_of}
+use Rattle.mw_tile.proofs.mw_pixel.Cells.{seen_under-raster_of}
 use Rattle.mw_line.specs.Extrema.{IsSlidingExtremum}
 use Rattle.mw_line.proofs.Folds.{IsExtremum, fold_first}
 

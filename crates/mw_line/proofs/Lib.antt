@@ -14,3 +14,5 @@ mod Levels
 mod Growing
 mod Segments
 mod Padded
+-- what lower crates offer
+pub use Rattle.mw_tile.proofs.mw_words as mw_words

@@ -4,8 +4,8 @@ use Rattle.std.proofs.lemmas.Bool.{cases_lt}
 use Rattle.std.proofs.lemmas.Nat.{mul-add-lt}
 use Rattle.std.proofs.Math.Nat.{add-sub_cancel_left}
 use Rattle.std.proofs.lemmas.List.{get_or-take, get_or-drop, get_or_append_left, get_or-append_right}
-pub use Rattle.mw_words.proofs.Bits.{rows_fit}
-use Rattle.mw_facts.proofs.Parts.{length-put_mid, get_or-put_mid_below, get_or-put_mid_within, get_or-put_mid_above}
+pub use Rattle.mw_tile.proofs.mw_words.Bits.{rows_fit}
+use Rattle.mw_model.proofs.mw_facts.Parts.{length-put_mid, get_or-put_mid_below, get_or-put_mid_within, get_or-put_mid_above}
 use borrow.Rule.Slice.PartMut.{put_mid}
 
 -- the rows above y have their values, made from what stood there, and the others are as they were

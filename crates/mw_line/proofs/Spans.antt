@@ -3,7 +3,7 @@ use Rattle.std.proofs.Common.{◌≡◌, ◌⊎◌, ℕ, suc, ◌+◌, ◌-◌, 
 use Rattle.std.specs.List.{range_with_len, flat_map}
 use Rattle.std.proofs.lemmas.Grind.{flat_map-append}
 use Rattle.std.proofs.lemmas.List.Folds.{flat_map-map}
-use Rattle.mw_facts.proofs.Alls.{flat_map-same}
+use Rattle.mw_model.proofs.mw_facts.Alls.{flat_map-same}
 use Rattle.mw_model.specs.declared.places.Offset.{Offset}
 use Rattle.mw_model.specs.declared.places.OffsetBox.{OffsetBox}
 use Rattle.mw_model.specs.Places.{span, box_offsets}

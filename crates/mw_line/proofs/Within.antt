@@ -4,7 +4,7 @@ use Rattle.std.specs.Prelude.{All, nat_lt, ◌&&◌}
 use Rattle.std.specs.List.{AllByRecursion, cons_option}
 use Rattle.std.proofs.lemmas.Nat.{div_below, mod_below, div-add-mod'}
 use Rattle.std.proofs.lemmas.Option.{get_or_from_slice_get, slice_get_within}
-use Rattle.mw_facts.proofs.Numbers.{factor-positive}
+use Rattle.mw_model.proofs.mw_facts.Numbers.{factor-positive}
 use Rattle.mw_model.specs.declared.places.Offset.{Offset}
 use Rattle.mw_model.specs.declared.places.Rect.{Rect}
 use Rattle.mw_model.specs.Rasters.{Raster, raster, cell_at, Sight, seen_under}

@@ -5,7 +5,7 @@ use Rattle.mw_model.specs.declared.receipts.Receipt.{Receipt}
 use Rattle.mw_model.specs.Machine.{Machine}
 use Rattle.mw_model.specs.Receipts.{Covers}
 use Rattle.mw_model.specs.Stands.{CoreView, StandsFor}
-use Rattle.mw_wire.specs.Writes.{CutsShort}
+use Rattle.mw_serve.specs.mw_wire.Writes.{CutsShort}
 use Rattle.mw_listen.specs.declared.fault.ListenFault.{ListenFault}
 use Rattle.mw_listen.specs.declared.fault.ListenFault.TheVariants as fault
 

@@ -2,8 +2,8 @@
 
 use crate::fault::ListenFault;
 use mw_model::Code;
+use mw_serve::mw_wire::{Sink, Source, end_by};
 use mw_serve::{Board, Gate, Naming, Pass, serve, work};
-use mw_wire::{Sink, Source, end_by};
 use std::alloc::{AllocError, Global};
 use std::io::BufWriter;
 use std::net::{TcpListener, TcpStream};

@@ -15,3 +15,5 @@ pub mod Spellings
 mod PlainCurves
 mod PlainIterates
 mod PlainLoops
+-- what lower crates offer
+pub use Rattle.mw_facts.proofs as mw_facts

@@ -4,7 +4,7 @@ use Rattle.std.specs.List.{AllByRecursion}
 use Rattle.std.proofs.lemmas.Bool.{eqb-true, cases_Bool}
 use Rattle.std.proofs.lemmas.Bool.Decides.{nat_tests}
 use Rattle.std.proofs.lemmas.List.{append-nil}
-use Rattle.mw_facts.proofs.Alls.{all-push}
+use Rattle.mw_model.proofs.mw_facts.Alls.{all-push}
 use Rattle.mw_netpbm.specs.declared.fault.ReadFault.TheVariants.{Header}
 use Rattle.mw_netpbm.specs.Reading.{skip_from, digits_from, number_at}
 use Rattle.mw_model.specs.NetpbmGrammar.{is_white, is_eol, is_digit, NoDigit}

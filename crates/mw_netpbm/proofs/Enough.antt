@@ -3,7 +3,7 @@ use Rattle.std.proofs.Common.{Some, None, ◌≡◌, ℕ, zero, suc, ◌+◌, �
 use Rattle.std.specs.Prelude.{nat_lt}
 use Rattle.std.proofs.lemmas.List.Sums.{sum_by-cons}
 use Rattle.std.proofs.lemmas.Bool.{cases_Bool}
-use Rattle.mw_facts.proofs.Numbers.{one_if-le}
+use Rattle.mw_model.proofs.mw_facts.Numbers.{one_if-le}
 use Rattle.mw_model.specs.NetpbmGrammar.{is_white, is_digit}
 use Rattle.mw_netpbm.specs.declared.fault.ReadFault.{ReadFault}
 use Rattle.mw_netpbm.specs.declared.fault.ReadFault.TheVariants.{Short, Sample, Trailing}

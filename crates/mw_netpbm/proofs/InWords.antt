@@ -6,10 +6,10 @@ use Rattle.std.proofs.Math.ListN.{get_or-append}
 use Rattle.std.proofs.lemmas.Bool.{cases_lt}
 use Rattle.std.proofs.lemmas.List.{get_or-take, get_or-drop, get_or_past, get_or-append_right, drop-drop, drop_at, take-append-le, drop-append-le}
 use Rattle.std.proofs.lemmas.Nat.Bits.{bit_at-zero}
-use Rattle.mw_facts.proofs.Alls.{all-append, all-take, all-drop}
-use Rattle.mw_facts.proofs.Elements.{get_or-replicate_same}
-use Rattle.mw_words.specs.Packed.{bit_of, stride_of, samples_of, IsPacked}
-use Rattle.mw_words.proofs.Bits.{bit_of_word, bit_of_its_word, samples_are_bits}
+use Rattle.mw_model.proofs.mw_facts.Alls.{all-append, all-take, all-drop}
+use Rattle.mw_model.proofs.mw_facts.Elements.{get_or-replicate_same}
+use Rattle.mw_pixel.specs.mw_words.Packed.{bit_of, stride_of, samples_of, IsPacked}
+use Rattle.mw_pixel.proofs.mw_words.Bits.{bit_of_word, bit_of_its_word, samples_are_bits}
 use Rattle.mw_netpbm.specs.SetWords.{in_words, in_rows}
 use Rattle.mw_netpbm.proofs.Sides.{Within}
 use Rattle.mw_netpbm.proofs.Numbered.{number_bit, number_parts, number_small, number_zeros}

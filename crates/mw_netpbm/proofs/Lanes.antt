@@ -5,7 +5,7 @@ use Rattle.std.proofs.lemmas.Simd.{Each1-from_get_or, tops_compared}
 use Rattle.std.specs.List.{flat_map}
 use lib.Lanes.{zip2, sel_l, Each1, chunk, number_l, digits_l, top}
 use mir.Val.{bits, hbits}
-use Rattle.mw_facts.proofs.Numbers.{cond-max}
+use Rattle.mw_model.proofs.mw_facts.Numbers.{cond-max}
 use Rattle.mw_model.specs.NetpbmWriting.{two_bytes}
 use Rattle.mw_netpbm.specs.Rasters.{words_of}
 use Rattle.mw_netpbm.specs.Swapping.{swap}

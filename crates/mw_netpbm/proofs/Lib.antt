@@ -29,3 +29,5 @@ mod Tallies
 mod Turning
 mod Whole
 mod Written
+-- what lower crates offer
+pub use Rattle.mw_pixel.proofs as mw_pixel

@@ -7,7 +7,7 @@ use Rattle.std.proofs.lemmas.List.{take_all}
 use Rattle.std.proofs.lemmas.Nat.{ones_cat, mod-mul-add, div-add-mod', mod_below, pow_pos}
 use Rattle.std.proofs.lemmas.Simd.{bitmask_splat, bit_mask_l, ones-mask_l}
 use Rattle.std.specs.Simd.Lanes.{mask_l}
-use Rattle.mw_facts.proofs.Numbers.{ones-bit}
+use Rattle.mw_model.proofs.mw_facts.Numbers.{ones-bit}
 use Rattle.mw_model.specs.NetpbmGrammar.{is_white}
 use Rattle.mw_netpbm.specs.Tallies.{signs_in, words_in, ends_white, has_hash}
 use lib.Bits.{and_step, or_step, or_zero_r}

@@ -7,7 +7,7 @@ use Rattle.std.proofs.lemmas.Nat.{one_shl, pow_below}
 use Rattle.std.proofs.lemmas.List.{append-nil, nil_from_length, take_all, take_at, drop_at}
 use Rattle.std.proofs.lemmas.List.Elements.{recursion_from_All}
 use Rattle.mw_model.specs.Rasters.{raster}
-use Rattle.mw_words.specs.Packed.{samples_of, IsPacked}
+use Rattle.mw_pixel.specs.mw_words.Packed.{samples_of, IsPacked}
 use Rattle.mw_netpbm.specs.declared.fault.ReadFault.{ReadFault}
 use Rattle.mw_netpbm.specs.declared.fault.ReadFault.TheVariants.{NoMemory}
 use Rattle.mw_netpbm.specs.Reading.{◌>>=◌, Fails, fault_of}

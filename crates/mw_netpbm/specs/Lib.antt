@@ -10,3 +10,5 @@ pub mod Tallies
 pub mod Whole
 pub mod Faults
 pub mod SetWords
+-- what lower crates offer
+pub use Rattle.mw_pixel.specs as mw_pixel

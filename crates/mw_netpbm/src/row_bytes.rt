@@ -6,8 +6,8 @@ ghost use Rattle.mw_netpbm.specs.Rows.{header_as};
 
 use crate::writer::{append, grey_head, push_packed, push_words, set_head};
 use mw_model::{Kind, NoMemory};
+use mw_pixel::mw_words::Words;
 use mw_pixel::{Bit, Listed, Planar};
-use mw_words::Words;
 use std::alloc::{AllocError, Global};
 
 /// Samples of which rows are written.

@@ -8,3 +8,7 @@ mod HeldRows
 mod Parts
 mod StripRows
 mod Lists
+-- what lower crates offer
+pub use Rattle.mw_line.proofs as mw_line
+pub use Rattle.mw_run.proofs as mw_run
+pub use Rattle.mw_line.proofs.mw_words as mw_words

@@ -4,7 +4,7 @@ use Rattle.std.specs.List.{filter_map}
 use Rattle.std.proofs.lemmas.List.{take_more}
 use Rattle.std.proofs.lemmas.List.Elements.{filter_map-append}
 use Rattle.std.proofs.lemmas.List.Sums.{fold-append}
-use Rattle.mw_lane.specs.Shifted.{merge_at}
+use Rattle.mw_line.specs.mw_lane.Shifted.{merge_at}
 
 fold_one : {A B : Type 0} (f : A → A → A) (g : B → Option A) (n : A) (b : B) → fold f n (filter_map g (b ∷ [])) ≡ merge_at f n (g b)
 fold_one f g n b = go f n (g b)

@@ -6,8 +6,8 @@ use Rattle.std.proofs.lemmas.Bool.{cases_lt, ltb-false}
 use Rattle.std.proofs.lemmas.List.{take_more, get_or_default, get_or_append_left, get_or-take, get_or-drop}
 use Rattle.std.proofs.lemmas.List.Concat.{flat_map-append, flat_map-cons}
 use Rattle.std.proofs.lemmas.List.Sums.{fold-append}
-use Rattle.mw_facts.proofs.Alls.{all-append}
-use Rattle.mw_facts.proofs.Parts.{get_or-put_mid_below, get_or-put_mid_within}
+use Rattle.mw_model.proofs.mw_facts.Alls.{all-append}
+use Rattle.mw_model.proofs.mw_facts.Parts.{get_or-put_mid_below, get_or-put_mid_within}
 use Rattle.mw_line.proofs.Folds.{IsExtremum}
 use Rattle.mw_run.specs.declared.runs.Run.{Run}
 use Rattle.mw_run.specs.declared.runs.Extent.{Extent}

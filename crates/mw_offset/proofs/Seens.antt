@@ -6,14 +6,14 @@ use Rattle.std.proofs.Math.Nat.{mul-le-mul_left}
 use Rattle.std.proofs.lemmas.Int.{ints}
 use Rattle.std.proofs.lemmas.List.Elements.{filter_map-append}
 use Rattle.std.proofs.lemmas.List.Folds.{flat_map-map}
-use Rattle.mw_facts.proofs.Alls.{all-weaker}
+use Rattle.mw_model.proofs.mw_facts.Alls.{all-weaker}
 use Rattle.mw_model.specs.declared.places.Offset.{Offset}
 use Rattle.mw_model.specs.declared.places.Rect.{Rect}
 use Rattle.mw_model.specs.Places.{nonnegative}
 use Rattle.mw_model.specs.Rasters.{raster, cell_at, Sight, seen_under}
 use Rattle.mw_model.specs.Windows.{View, seen_at}
 use Rattle.mw_model.proofs.Nonnegative.{nonnegative_is}
-use Rattle.mw_lane.specs.Shifted.{merge_at}
+use Rattle.mw_line.specs.mw_lane.Shifted.{merge_at}
 use Rattle.mw_line.specs.Extrema.{strided, over}
 use Rattle.mw_line.proofs.Folds.{IsExtremum, fold_both}
 use Rattle.mw_line.proofs.Joined.{spread_in}

@@ -5,16 +5,16 @@ ghost use Rattle.std.specs.Prelude.{◌≡◌, ℕ, ◌+◌, ◌*◌, ◌<◌, �
 ghost use Rattle.mw_model.specs.Places.{nonnegative};
 ghost use Rattle.mw_model.specs.Rasters.{Raster, cell_at, seen_under};
 ghost use Rattle.mw_model.specs.Windows.{seen_at};
-ghost use Rattle.mw_tile.specs.Windows.{IsWindow};
-ghost use Rattle.mw_lane.specs.Shifted.{merge_at};
+ghost use Rattle.mw_line.specs.mw_tile.Windows.{IsWindow};
+ghost use Rattle.mw_line.specs.mw_lane.Shifted.{merge_at};
 ghost use Rattle.mw_line.specs.Extrema.{IsSlidingExtremum};
 
 use crate::strips::extremum_by_strips;
 use mw_line::combine_window_row;
+use mw_line::mw_pixel::{Extremum, Grey, Plane, copies};
+use mw_line::mw_tile::Window;
 use mw_model::{NoMemory, Offset, Rect};
-use mw_pixel::{Extremum, Grey, Plane, copies};
 use mw_run::{Extent, columns_after, extent_of, place_of, rows_after, runs_either_way};
-use mw_tile::Window;
 use std::alloc::Global;
 
 /// Merges into each sample of a row of the frame, from `column` on, the sample at an offset from there.

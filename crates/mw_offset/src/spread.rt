@@ -2,11 +2,11 @@
 ghost use Rattle.std.specs.Prelude.{◌≡◌, ℕ, ◌+◌, ◌-◌, ◌*◌, ◌<◌, ◌≤◌, ◌^◌, pos, ◌+ℤ◌, ◌≤ℤ◌, nat_lt, if◌then◌else◌, length, slice_get, slice_index_or, vec_len, IfOk, IfSome, IsSome};
 ghost use Rattle.std.specs.Option.{unwrap_or};
 ghost use Rattle.mw_model.specs.Rasters.{raster, cell_at};
-ghost use Rattle.mw_lane.specs.Shifted.{at_place};
+ghost use Rattle.mw_line.specs.mw_lane.Shifted.{at_place};
 
+use mw_line::mw_pixel::{Grey, Pixel, copies};
+use mw_line::mw_tile::Window;
 use mw_model::NoMemory;
-use mw_pixel::{Grey, Pixel, copies};
-use mw_tile::Window;
 use std::alloc::Global;
 
 /// Rows of a window: the column and the row of their first place there, how long they are, and how many.

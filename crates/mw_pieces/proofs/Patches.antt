@@ -6,14 +6,14 @@ use Rattle.std.proofs.lemmas.Nat.{mul-add-lt, div-mul-add, mod-mul-add}
 use Rattle.std.proofs.lemmas.Option.{slice_get-get_or}
 use Rattle.std.proofs.lemmas.List.{get_or_default, take_more}
 use Rattle.std.proofs.Math.Nat.{sub-zero}
-use Rattle.mw_facts.proofs.Alls.{all-get_or, all-push, all-weaker}
-use Rattle.mw_facts.proofs.Elements.{same_elements}
+use Rattle.mw_model.proofs.mw_facts.Alls.{all-get_or, all-push, all-weaker}
+use Rattle.mw_model.proofs.mw_facts.Elements.{same_elements}
 use Rattle.mw_model.specs.declared.places.Rect.{Rect}
 use Rattle.mw_model.specs.Places.{Holds, IsWithin}
 use Rattle.mw_model.specs.Rasters.{Raster, raster}
-use Rattle.mw_grid.specs.Rectangles.{whole_frame}
-use Rattle.mw_words.specs.Runs.{put_at}
-use Rattle.mw_words.proofs.Fronts.{front_more}
+use Rattle.mw_tile.specs.mw_grid.Rectangles.{whole_frame}
+use Rattle.mw_tile.specs.mw_words.Runs.{put_at}
+use Rattle.mw_tile.proofs.mw_words.Fronts.{front_more}
 use Rattle.mw_tile.proofs.Rows.{get_from_column, length-run, run_fits}
 use Rattle.mw_pieces.specs.Patches.{Patch, patch_at, no_patch, cell_of, has_place, held_in, value_in, overlap_of, patch, IsFull, IsInside, IsPatchOf, ShowsIn, Covers, Joint, IsJoint, HasFirst, HasValues, window_value, ShowsFrame, frame_value}
 

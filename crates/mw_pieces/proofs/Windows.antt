@@ -6,8 +6,8 @@ use Rattle.mw_model.specs.Places.{Holds, IsWithin}
 use Rattle.mw_model.specs.Pictures.{Picture, sample}
 use Rattle.mw_model.specs.Tasks.{cells_in}
 use Rattle.mw_model.specs.Windows.{View}
-use Rattle.mw_pixel.specs.Images.{raster_of}
-use Rattle.mw_pixel.proofs.Cells.{slice_get-samples}
+use Rattle.mw_tile.specs.mw_pixel.Images.{raster_of}
+use Rattle.mw_tile.proofs.mw_pixel.Cells.{slice_get-samples}
 use Rattle.mw_tile.specs.Windows.{SourceWindow, window_of}
 use Rattle.mw_tile.specs.Cuts.{view_of}
 use Rattle.mw_pieces.specs.Patches.{Joint, IsJoint, IsJoined, ShowsFrame, value_in}

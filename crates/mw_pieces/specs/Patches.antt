@@ -5,7 +5,7 @@ use Rattle.mw_model.specs.declared.places.Rect.{Rect}
 use Rattle.mw_model.specs.Places.{rect, Holds, IsWithin}
 use Rattle.mw_model.specs.Rasters.{Raster}
 use Rattle.mw_model.specs.Windows.{View}
-use Rattle.mw_words.specs.Runs.{HasFront}
+use Rattle.mw_tile.specs.mw_words.Runs.{HasFront}
 
 -- Cells of a rectangle of a frame, by rows.
 pub record Patch (A : Type 0) : Type 0 where

@@ -1,9 +1,9 @@
 //! Whether a window in pieces is one of a plane, told row by row.
 
 use crate::{Piece, Pieces, overlap};
-use mw_grid::whole_frame;
 use mw_model::Rect;
-use mw_pixel::{Planar, Plane};
+use mw_tile::mw_grid::whole_frame;
+use mw_tile::mw_pixel::{Planar, Plane};
 
 impl<P: Planar> Piece<P> {
     ghost use Rattle.std.specs.Prelude.{◌≡◌, ◌↔◌, ◌+◌, ◌<◌, ◌^◌, IsTrue};

@@ -3,8 +3,8 @@
 use crate::Pieces;
 use crate::places::has;
 use mw_model::NoMemory;
-use mw_pixel::{Planar, Plane};
 use mw_tile::Window;
+use mw_tile::mw_pixel::{Planar, Plane};
 use std::alloc::Global;
 use std::sync::Arc;
 

@@ -3,8 +3,8 @@
 
 use crate::Pieces;
 use mw_model::{Kind, NoMemory, Rect};
-use mw_pixel::Bit;
 use mw_tile::AnyWindow;
+use mw_tile::mw_pixel::Bit;
 use std::alloc::Global;
 use std::marker::Model;
 

@@ -4,3 +4,5 @@ pub mod Cells
 mod Lanes
 mod Held
 mod Same
+-- what lower crates offer
+pub use Rattle.mw_words.proofs as mw_words

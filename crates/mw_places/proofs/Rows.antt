@@ -2,11 +2,11 @@
 use Rattle.std.proofs.Common.{◌≡◌, ◌≢◌, ℕ, ◌+◌, ◌*◌, ◌/◌, ◌%◌, ◌<◌, ◌≤◌, Bool, true, false, ◌&&◌, ◌||◌, nat_eq, refl, sym, ap, ◌∙◌, arith, inl, inr}
 use Rattle.std.proofs.lemmas.Bool.{cases_eq, cases_lt, eq-eqb, ne_eqb, and_right, or_right}
 use Rattle.std.proofs.Math.Nat.{mul-le-mul_left}
-use Rattle.mw_facts.proofs.Tests.{or-false_right}
-use Rattle.mw_grid.specs.Counts.{in_range}
-use Rattle.mw_grid.specs.Grids.{Tiling, columns_of, rows_of, tile_count}
-use Rattle.mw_grid.proofs.Counts.{in-yes, in-low, in-high}
-use Rattle.mw_grid.proofs.Meeting.{row_is}
+use Rattle.mw_model.proofs.mw_facts.Tests.{or-false_right}
+use Rattle.mw_ready.specs.mw_grid.Counts.{in_range}
+use Rattle.mw_ready.specs.mw_grid.Grids.{Tiling, columns_of, rows_of, tile_count}
+use Rattle.mw_ready.proofs.mw_grid.Counts.{in-yes, in-low, in-high}
+use Rattle.mw_ready.proofs.mw_grid.Meeting.{row_is}
 
 range_same : (a t x : ℕ) → x ≢ t → in_range a (t + 1) x ≡ in_range a t x
 range_same a t x other = elim (cases_lt x a) [

@@ -4,7 +4,7 @@ use Rattle.std.specs.List.{list_any}
 use Rattle.std.proofs.lemmas.Bool.{cases_lt}
 use Rattle.std.proofs.lemmas.List.{get_or_past, take_all}
 use Rattle.std.proofs.lemmas.List.Folds.{list_any_more, list_any_at}
-use Rattle.mw_facts.proofs.Tests.{or-false_right}
+use Rattle.mw_model.proofs.mw_facts.Tests.{or-false_right}
 use Rattle.mw_ready.specs.Boards.{is_source}
 
 no_source : (k : ℕ) (o : Option ℕ) → o ≡ None → is_source k o ≡ true → ⊥

@@ -3,7 +3,7 @@ use Rattle.std.proofs.Common.{◌≡◌, ℕ, ◌<◌, Bool, true, false, ◌||�
 use Rattle.std.proofs.lemmas.Bool.{cases_eq, eq-eqb, ne_eqb}
 use Rattle.std.proofs.lemmas.List.{length-set, get_or-set_same, get_or-set_other}
 use Rattle.mw_tiles.specs.Tiles.{Tiled, tile_cells}
-use Rattle.mw_grid.specs.Grids.{Tiling}
+use Rattle.mw_ready.specs.mw_grid.Grids.{Tiling}
 use Rattle.mw_places.specs.Places.{shown, place_at, Swept, SweptAll}
 use Rattle.mw_places.specs.declared.places.Place.{Place}
 

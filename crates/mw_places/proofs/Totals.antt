@@ -1,7 +1,7 @@
 -- The number of a plane of which no tile is placed.
 use Rattle.std.proofs.Common.{◌≡◌, ℕ, zero, suc, ◌+◌, List, map, replicate, Option, None, sum, refl, ap, ◌∙◌, arith}
 use Rattle.std.proofs.lemmas.List.Sums.{sum_by-cons}
-use Rattle.mw_grid.specs.Grids.{Tiling, tile_count}
+use Rattle.mw_ready.specs.mw_grid.Grids.{Tiling, tile_count}
 use Rattle.mw_tiles.specs.Sums.{number_in, first_cell}
 use Rattle.mw_places.specs.Levels.{Level, closed_plane}
 

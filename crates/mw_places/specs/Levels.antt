@@ -5,7 +5,7 @@ use Rattle.mw_model.specs.declared.shapes.Kind.TheVariants as kind
 use Rattle.mw_model.specs.Pictures.{Picture, FitsKind}
 use Rattle.mw_model.specs.PlanSteps.{PlanStep, kind_of_step, maxval_of_step}
 use Rattle.mw_model.specs.Plans.{Plan, Source, FromInput, FromStep}
-use Rattle.mw_grid.specs.Grids.{Tiling}
+use Rattle.mw_ready.specs.mw_grid.Grids.{Tiling}
 use Rattle.mw_tiles.specs.Tiles.{Tiled, nothing_placed}
 
 -- what is known of an image before its samples are

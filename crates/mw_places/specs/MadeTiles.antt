@@ -3,11 +3,11 @@ use Rattle.std.specs.Prelude.{ℕ, ◌≡◌, ◌<◌, ◌≤◌, ◌^◌, All, 
 use Rattle.std.specs.Arc.{arc_value}
 use Rattle.mw_model.specs.Pictures.{Picture}
 use Rattle.mw_model.specs.Plans.{no_picture}
-use Rattle.mw_grid.specs.Grids.{tile_at}
-use Rattle.mw_pixel.specs.Images.{set_of, grey_of}
-use Rattle.mw_task.specs.Products.{HoldsImage}
-use Rattle.mw_task.specs.declared.tile_result.TileResult.{TileResult}
-use Rattle.mw_task.specs.declared.tile_result.TileResult.TheVariants as made
+use Rattle.mw_ready.specs.mw_grid.Grids.{tile_at}
+use Rattle.mw_plan.specs.mw_pixel.Images.{set_of, grey_of}
+use Rattle.mw_plan.specs.mw_task.Products.{HoldsImage}
+use Rattle.mw_plan.specs.mw_task.declared.tile_result.TileResult.{TileResult}
+use Rattle.mw_plan.specs.mw_task.declared.tile_result.TileResult.TheVariants as made
 use Rattle.mw_tiles.specs.Tiles.{Tiled}
 
 -- the image that was made of a tile

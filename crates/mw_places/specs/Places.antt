@@ -2,10 +2,10 @@
 use Rattle.std.specs.Prelude.{ℕ, ◌≡◌, ◌≢◌, ◌<◌, Bool, true, false, not, ◌&&◌, cond, List, length, map, Some, None, slice_index_or, slice_set}
 use Rattle.std.specs.List.{list_any}
 use Rattle.mw_model.specs.Tasks.{flag}
-use Rattle.mw_grid.specs.Grids.{Tiling}
+use Rattle.mw_ready.specs.mw_grid.Grids.{Tiling}
 use Rattle.mw_ready.specs.Boards.{Board}
 use Rattle.mw_ready.specs.Boards as boards
-use Rattle.mw_task.specs.declared.tile_result.TileResult.{TileResult}
+use Rattle.mw_plan.specs.mw_task.declared.tile_result.TileResult.{TileResult}
 use Rattle.mw_tiles.specs.Tiles.{Tiled, tile_cells}
 use Rattle.mw_places.specs.Levels.{no_level, closed_plane}
 use Rattle.mw_places.specs.MadeTiles.{IsTileFor, IsSmallNumber}

@@ -2,14 +2,14 @@
 
 ghost use Rattle.std.specs.Prelude.{◌≡◌, ◌≢◌, ℕ, ◌+◌, ◌*◌, ◌/◌, ◌%◌, ◌<◌, ◌≤◌, ◌&&◌, not, true, nat_eq, length};
 ghost use Rattle.std.specs.List.{list_any};
-ghost use Rattle.mw_grid.specs.Blocks.{IsBlock, in_block, sees};
-ghost use Rattle.mw_grid.specs.Counts.{in_range};
-ghost use Rattle.mw_grid.specs.Grids.{tile_count};
+ghost use Rattle.mw_ready.specs.mw_grid.Blocks.{IsBlock, in_block, sees};
+ghost use Rattle.mw_ready.specs.mw_grid.Counts.{in_range};
+ghost use Rattle.mw_ready.specs.mw_grid.Grids.{tile_count};
 ghost use Rattle.mw_ready.specs.Boards.{is_source, step_reads};
 ghost use Rattle.mw_places.specs.Places.{shown, form, place_at, is_read, Swept, SweptAll};
 
 use crate::places::Place;
-use mw_grid::{Block, Grid};
+use mw_ready::mw_grid::{Block, Grid};
 use mw_ready::{Need, Ready};
 use mw_tiles::TiledPlane;
 

@@ -2,13 +2,13 @@
 
 ghost use Rattle.std.specs.Prelude.{◌≡◌, ◌<◌, length, map, slice_index_or, IfOk, vec_len};
 ghost use Rattle.mw_model.specs.PlanSteps.{kind_of_step, maxval_of_step};
-ghost use Rattle.mw_task.specs.Meanings.{meaning};
+ghost use Rattle.mw_plan.specs.mw_task.Meanings.{meaning};
 ghost use Rattle.mw_plan.specs.Seen.{source, sources, planned};
 ghost use Rattle.mw_places.specs.Levels.{Level, no_level, level_of_source, level_of_step, levels};
 
 use mw_model::{Kind, NoMemory};
+use mw_plan::mw_task::Step;
 use mw_plan::{Plan, PlannedStep, Source, Sources};
-use mw_task::Step;
 use std::alloc::Global;
 use std::marker::Model;
 

@@ -19,11 +19,11 @@ mod places;
 
 pub use dropping::drop_read;
 pub use levels::{PlaneLevel, levels_of};
-pub use mw_grid::Grid;
 pub use mw_model::{Kind, NoMemory};
+pub use mw_plan::mw_task::{SharedWindow, Step, TileResult};
 pub use mw_plan::{Plan, PlannedStep};
-pub use mw_ready::{Need, Ready, tasks_are_those_of_work};
-pub use mw_task::{SharedWindow, Step, TileResult};
+pub use mw_ready::mw_grid::Grid;
+pub use mw_ready::{Need, Ready, mw_grid, tasks_are_those_of_work};
 pub use mw_tiles::{TileSums, TiledPlane, WholePlane};
 pub use needs::needs_of;
 pub use places::{Place, closed};

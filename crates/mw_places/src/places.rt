@@ -2,7 +2,7 @@
 
 ghost use Rattle.std.specs.Prelude.{◌≡◌, ◌≢◌, ℕ, ◌<◌, ◌≤◌, true, false, Bool, None, length, map, slice_set, IfOk, OnOk};
 ghost use Rattle.mw_model.specs.Pictures.{FitsKind};
-ghost use Rattle.mw_grid.specs.Grids.{tile_count};
+ghost use Rattle.mw_ready.specs.mw_grid.Grids.{tile_count};
 ghost use Rattle.mw_tiles.specs.Tiles.{tile_cells};
 ghost use Rattle.mw_tiles.specs.Sums.{number_in};
 ghost use Rattle.mw_places.specs.Levels.{IsLevel, level_of_plane};
@@ -10,9 +10,9 @@ ghost use Rattle.mw_places.specs.MadeTiles.{cells_of_made};
 ghost use Rattle.mw_places.specs.Places.{shown, form, IsFormOf, placed_in, Suits};
 
 use crate::levels::PlaneLevel;
-use mw_grid::Grid;
 use mw_model::NoMemory;
-use mw_task::TileResult;
+use mw_plan::mw_task::TileResult;
+use mw_ready::mw_grid::Grid;
 use mw_tiles::{Tile, TileSums, TiledPlane};
 use std::alloc::Global;
 

@@ -7,7 +7,7 @@ use Rattle.mw_model.specs.Places.{box_offsets}
 use Rattle.mw_model.specs.PlanSteps as step
 use Rattle.mw_model.specs.PlanSteps.{PlanStep}
 use Rattle.mw_model.specs.Flat.{reflected, rank, threshold}
-use Rattle.mw_element.specs.Figures.{FillsBox}
+use Rattle.mw_task.specs.mw_element.Figures.{FillsBox}
 use Rattle.mw_laws.proofs.Composed.{CoverSame, erosion_same, dilation_same}
 use Rattle.mw_task.proofs.Cut.{plane_of_one}
 use Rattle.mw_plan.specs.declared.extremum.Extremum.{Extremum}

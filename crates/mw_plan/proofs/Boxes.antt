@@ -2,7 +2,7 @@
 use Rattle.std.proofs.Common.{◌≡◌, ℕ, List, [], ◌∷◌, ℤ, pos, ◌+ℤ◌, ◌≤ℤ◌, neg_ℤ, refl, sym, subst, arith, inl, inr}
 use Rattle.std.specs.List.{AllByRecursion, Contains}
 use Rattle.std.proofs.lemmas.Int.{ints}
-use Rattle.mw_facts.proofs.Alls.{all-each_contained, all-contains}
+use Rattle.mw_model.proofs.mw_facts.Alls.{all-each_contained, all-contains}
 use Rattle.mw_model.specs.declared.places.Offset.{Offset}
 use Rattle.mw_model.specs.declared.places.OffsetBox.{OffsetBox}
 use Rattle.mw_model.specs.Places.{box_offsets}
@@ -10,7 +10,7 @@ use Rattle.mw_model.specs.Flat.{reflected}
 use Rattle.mw_model.specs.Elements.{IsNear, IsFigure, Figure}
 use Rattle.mw_model.proofs.Covers as cover
 use Rattle.mw_model.proofs.Covers.{Covers, offset}
-use Rattle.mw_element.specs.Figures.{FillsBox, InBox, turned}
+use Rattle.mw_task.specs.mw_element.Figures.{FillsBox, InBox, turned}
 use Rattle.mw_laws.proofs.Composed.{CoverSame}
 use Rattle.mw_task.proofs.Boxes.{box_all, box_at}
 use Rattle.mw_plan.specs.Steps.{IsNearBox, turned_box}

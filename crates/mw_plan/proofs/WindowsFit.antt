@@ -4,7 +4,7 @@ use Rattle.mw_model.specs.declared.places.Rect.{Rect}
 use Rattle.mw_model.specs.Pictures.{Picture}
 use Rattle.mw_model.specs.PlanSteps.{PlanStep, Erode, Dilate, ErodeBox, DilateBox, Rank, Minus, AtLeast, Invert, Meet, Join, Blank, Mark, MarkLast, Equal, Sum}
 use Rattle.mw_model.specs.Tasks.{place_read}
-use Rattle.mw_tile.specs.Windows.{SourceWindow, window_of}
+use Rattle.mw_task.specs.mw_tile.Windows.{SourceWindow, window_of}
 use Rattle.mw_task.specs.WindowTasks.{FitsStep, KindsFit, SameKind, window_at}
 use Rattle.mw_task.specs.Sources.{AreCut}
 use Rattle.mw_task.proofs.Cut.{fits_cut, top_agrees}

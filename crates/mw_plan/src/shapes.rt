@@ -10,8 +10,8 @@ ghost use Rattle.mw_plan.specs.declared.inputs.Input.{Input};
 ghost use Rattle.mw_plan.specs.Asked.{binary_fault, fault_in, first_fault, image_shape, is_element_input, is_image_input, number_fault, offsets_of_input, origin_fault, shape_made, unless};
 
 use crate::{Input, PlanFault};
-use mw_element::Element;
 use mw_model::{FlatOp, GranOp, Kind, Op, Shape};
+use mw_task::mw_element::Element;
 use std::sync::Arc;
 
 fn image(place: u8, input: Input<'_>) -> Result<Shape, PlanFault>

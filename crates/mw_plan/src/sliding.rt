@@ -2,7 +2,7 @@
 
 ghost use Rattle.std.specs.Prelude.{◌≡◌, ◌≤ℤ◌, pos, negsuc, neg_ℤ, true, IfOk, IfSome};
 ghost use Rattle.std.specs.Arc.{arc_value};
-ghost use Rattle.mw_element.specs.Figures.{FillsBox};
+ghost use Rattle.mw_task.specs.mw_element.Figures.{FillsBox};
 ghost use Rattle.mw_model.specs.declared.places.OffsetBox.{OffsetBox};
 ghost use Rattle.mw_model.specs.Flat.{reflected, rank};
 ghost use Rattle.mw_task.specs.Meanings.{meaning};
@@ -11,9 +11,9 @@ ghost use Rattle.mw_plan.specs.Steps.{ActsAs, IsNearBox, sliding, turned_box};
 
 use crate::Input;
 use crate::extremum::Extremum;
-use mw_element::Element;
 use mw_model::{NoMemory, OffsetBox};
 use mw_task::Step;
+use mw_task::mw_element::Element;
 use std::alloc::Global;
 use std::sync::Arc;
 

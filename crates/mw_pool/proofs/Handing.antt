@@ -4,7 +4,7 @@ use Rattle.std.specs.List.{AllByRecursion}
 use Rattle.std.specs.Coded.{Coded-set, codes}
 use Rattle.std.proofs.Math.Logic.{∥∥₁_map, ∥∥₁_elim}
 use Rattle.std.proofs.lemmas.Bool.{cases_eq, and_parts}
-use Rattle.mw_facts.proofs.Alls.{all-weaker, all-append_right, all-push}
+use Rattle.mw_model.proofs.mw_facts.Alls.{all-weaker, all-append_right, all-push}
 use Rattle.mw_model.specs.declared.names.Name.{Name}
 use Rattle.mw_model.specs.declared.codes.Code.{Code}
 use Rattle.mw_model.specs.declared.submissions.Submission.{Submission}
@@ -19,10 +19,10 @@ use Rattle.mw_model.specs.Refusals.{Table, is_pending, outcome_at, refusal, subm
 use Rattle.mw_model.specs.Machine.{Machine, after, changed, given_submission, killed, payload_of, run_submission, settled, unless_refused, values, with_table}
 use Rattle.mw_model.specs.Tasks.{Progress, flag, is_running}
 use Rattle.mw_model.specs.Stands.{CoreView, StandsFor, input_values, inputs_there, progress_at}
-use Rattle.mw_laws.specs.MachineLaws.{IsSound}
-use Rattle.mw_laws.proofs.RunGrowth.{grows_added}
-use Rattle.mw_laws.proofs.RunSteps.{pushed}
-use Rattle.mw_task.specs.WindowTasks.{WindowTask}
+use Rattle.mw_core.specs.mw_laws.MachineLaws.{IsSound}
+use Rattle.mw_core.proofs.mw_laws.RunGrowth.{grows_added}
+use Rattle.mw_core.proofs.mw_laws.RunSteps.{pushed}
+use Rattle.mw_core.specs.mw_task.WindowTasks.{WindowTask}
 use Rattle.mw_core.specs.declared.answers.Started.{Started}
 use Rattle.mw_core.specs.declared.answers.Started.TheVariants as started
 use Rattle.mw_core.specs.declared.answers.Finish.{Finish}

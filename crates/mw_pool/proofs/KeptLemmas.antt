@@ -17,7 +17,7 @@ use Rattle.mw_model.specs.Values.{Value}
 use Rattle.mw_model.specs.Refusals.{ticket_of, outcome_at, refusal}
 use Rattle.mw_model.specs.Machine.{Machine, after, answer, reply_to, status_reply}
 use Rattle.mw_model.specs.Stands.{CoreView, StandsFor}
-use Rattle.mw_task.specs.WindowTasks.{WindowTask}
+use Rattle.mw_core.specs.mw_task.WindowTasks.{WindowTask}
 use Rattle.mw_core.specs.declared.answers.Started.{Started}
 use Rattle.mw_core.specs.declared.answers.Started.TheVariants as started
 use Rattle.mw_core.specs.declared.answers.Finish.{Finish}

@@ -7,8 +7,8 @@ use Rattle.std.proofs.lemmas.List.Sums.{position_or_len_is}
 use Rattle.std.specs.Prelude.{IsSome, IsTrue, ◌↔◌, is_some}
 use Rattle.std.proofs.lemmas.Option.{none-some, same_Some}
 use Rattle.std.specs.Cmp.Lexicographic.{same_text}
-use Rattle.mw_facts.proofs.Elements.{get_or-push_below, get_or-push_last}
-use Rattle.mw_facts.proofs.Finds.{position-none, position-is}
+use Rattle.mw_model.proofs.mw_facts.Elements.{get_or-push_below, get_or-push_last}
+use Rattle.mw_model.proofs.mw_facts.Finds.{position-none, position-is}
 use Rattle.mw_model.specs.declared.names.Name.{Name}
 use Rattle.mw_model.specs.declared.codes.Code.{Code}
 use Rattle.mw_model.specs.declared.calls.Call.{Call}
@@ -21,9 +21,9 @@ use Rattle.mw_model.specs.Names.{same_name}
 use Rattle.mw_model.specs.Values.{Value}
 use Rattle.mw_model.specs.Refusals.{ticket_of, name_taken, refusal, outcome_at, is_pending}
 use Rattle.mw_model.specs.Machine.{Machine, Run, Step, start_state, after, answer, changed, killed, payload_of, refused_or, unless_refused}
-use Rattle.mw_laws.specs.MachineLaws.{new_name}
-use Rattle.mw_laws.proofs.RunCascade.{pending_is}
-use Rattle.mw_laws.proofs.RunTables.{first_none, not_taken, ticket_within}
+use Rattle.mw_core.specs.mw_laws.MachineLaws.{new_name}
+use Rattle.mw_core.proofs.mw_laws.RunCascade.{pending_is}
+use Rattle.mw_core.proofs.mw_laws.RunTables.{first_none, not_taken, ticket_within}
 use Rattle.mw_pool.specs.Tickets.{if_borne, ticket_told, told_at, IsAwaited}
 
 -- ---- the first that passes, in a list with one element more

@@ -4,7 +4,7 @@ use Rattle.std.specs.List.{AllByRecursion}
 use Rattle.mw_model.specs.Machine.{Machine}
 use Rattle.mw_model.specs.Tasks.{Progress}
 use Rattle.mw_model.specs.Stands.{CoreView, StandsFor, progress_at}
-use Rattle.mw_task.specs.WindowTasks.{WindowTask}
+use Rattle.mw_core.specs.mw_task.WindowTasks.{WindowTask}
 use Rattle.mw_core.specs.mw_work.Works.{true_task}
 
 -- Its ticket is there, and where there is work under it still, the task of these numbers is this one: so of each task that was handed out, from then on.

@@ -7,7 +7,7 @@ use Rattle.mw_model.specs.declared.calls.LogItem.TheVariants as item
 use Rattle.mw_model.specs.declared.calls.Outcome.TheVariants as outcome
 use Rattle.mw_model.specs.Names.{same_name}
 use Rattle.mw_model.specs.Refusals.{Table, ticket_of, outcome_at}
-use Rattle.mw_laws.specs.MachineLaws.{new_name}
+use Rattle.mw_core.specs.mw_laws.MachineLaws.{new_name}
 
 -- the ticket, where a submission bears the name
 abbrev pub if_borne : Name → Option Name → ℕ → Option ℕ

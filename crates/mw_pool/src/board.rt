@@ -6,9 +6,9 @@ use crate::kept::Kept;
 use crate::pass::Pass;
 use crate::payloads::{read_element, read_image};
 use crate::roll::{Front, Naming, NewRoll};
+use mw_core::mw_task::{TaskRefused, TileDone, Work};
 use mw_core::{Core, Fetched, Finish, Refusal, Started};
 use mw_model::{Name, NoMemory, Op, Reply};
-use mw_task::{TaskRefused, TileDone, Work};
 use std::alloc::Global;
 use std::sync::{Condvar, Mutex, MutexGuard, Wait};
 
@@ -34,7 +34,7 @@ impl<J: Naming> Board<J> {
     ghost use Rattle.mw_model.specs.Receipts.{Covers};
     ghost use Rattle.mw_core.specs.mw_store.Fetches.{ShowsSome, shown_value};
     ghost use Rattle.mw_pool.specs.Passes.{AddsReceipt};
-    ghost use Rattle.mw_task.specs.WindowTasks.{IsBounded};
+    ghost use Rattle.mw_core.specs.mw_task.WindowTasks.{IsBounded};
     ghost use Rattle.mw_pool.specs.Payloads.{TellsImage, TellsElement};
     ghost use Rattle.mw_pool.specs.Rolls.{EndsWith};
 

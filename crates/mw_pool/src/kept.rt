@@ -9,11 +9,11 @@ use crate::auditing::audit;
 use crate::pass::Pass;
 use crate::roll::{Front, Naming, NewRoll, Roll};
 use crate::tickets::{is_awaited, place_of};
+use mw_core::mw_element::Element;
+use mw_core::mw_pixel::Image;
+use mw_core::mw_task::{TaskRefused, TileDone};
 use mw_core::{Core, Fetched, Finish, Refusal, Started};
-use mw_element::Element;
 use mw_model::{Code, Name, NoMemory, Op, Reply};
-use mw_pixel::Image;
-use mw_task::{TaskRefused, TileDone};
 
 /// A core that stands for some state of the machine: so its log is a run of the machine of one thread that ends in that
 /// state, and each logged reply is that machine's. And each task of the roll is the core's own, as long as it is running. It
@@ -40,7 +40,7 @@ impl<J: Naming> Kept<J> {
     ghost use Rattle.mw_model.specs.Receipts.{Covers};
     ghost use Rattle.mw_core.specs.mw_stands.Payloads.{given_image, image_payload, given_element, element_payload};
     ghost use Rattle.mw_core.specs.mw_stands.Events.{FollowsMachine};
-    ghost use Rattle.mw_task.specs.WindowTasks.{IsBounded};
+    ghost use Rattle.mw_core.specs.mw_task.WindowTasks.{IsBounded};
     ghost use Rattle.mw_core.specs.TaskAnswers.{Starts, StartsBounded, Finishes, Refuses};
     ghost use Rattle.mw_core.specs.mw_store.Fetches.{ShowsSome, shown_value};
     ghost use Rattle.mw_pool.specs.Passes.{with_receipt};

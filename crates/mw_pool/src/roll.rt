@@ -8,7 +8,7 @@ ghost use Rattle.mw_pool.specs.Rolls.{EndsWith, StandsIn, Writes, head_of};
 
 use logbook::{Gain, Offer, Plain, Play, Rule, Seen, Start, Word};
 use mw_core::Started;
-use mw_task::{TileDone, Work};
+use mw_core::mw_task::{TileDone, Work};
 use std::marker::{Brand, Model, PhantomData};
 
 /// The rule of the book: its first word is the length of the roll.
@@ -115,7 +115,7 @@ pub struct Front<J: Naming> {
 
 impl<J: Naming> Model for Front<J> {
     ghost use Rattle.std.specs.Prelude.{◌≡◌, List, length};
-    ghost use Rattle.mw_task.specs.WindowTasks.{WindowTask};
+    ghost use Rattle.mw_core.specs.mw_task.WindowTasks.{WindowTask};
 
     ghost Value = { List WindowTask };
 
@@ -187,7 +187,7 @@ pub(crate) struct Roll<J: Naming> {
 
 impl<J: Naming> Model for Roll<J> {
     ghost use Rattle.std.specs.Prelude.{◌≡◌, List};
-    ghost use Rattle.mw_task.specs.WindowTasks.{WindowTask};
+    ghost use Rattle.mw_core.specs.mw_task.WindowTasks.{WindowTask};
     ghost use Rattle.mw_pool.specs.Rolls.{head_of};
 
     ghost Value = { List WindowTask };

@@ -4,7 +4,7 @@ ghost use Rattle.std.specs.Prelude.{◌≡◌, ◌↔◌, ℕ, IsTrue, None};
 ghost use Rattle.mw_model.specs.Machine.{Machine};
 ghost use Rattle.mw_model.specs.Refusals.{ticket_of};
 ghost use Rattle.mw_model.specs.Stands.{StandsFor};
-ghost use Rattle.mw_laws.specs.MachineLaws.{new_name};
+ghost use Rattle.mw_core.specs.mw_laws.MachineLaws.{new_name};
 ghost use Rattle.mw_pool.specs.Tickets.{ticket_told, told_at, IsAwaited};
 
 use mw_core::Core;

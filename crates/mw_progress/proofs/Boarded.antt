@@ -3,9 +3,9 @@ use Rattle.std.proofs.Common.{◌≡◌, ℕ, ◌+◌, ◌*◌, ◌<◌, true, L
 use Rattle.mw_model.specs.Plans.{Plan}
 use Rattle.mw_model.specs.Tasks as tasks
 use Rattle.mw_model.specs.Tasks.{Progress}
-use Rattle.mw_grid.specs.Grids.{Tiling, tile_count, tiles_of}
-use Rattle.mw_grid.proofs.Lines.{number_of as number_of_cell}
-use Rattle.mw_grid.proofs.Tiles.{length-tiles_of}
+use Rattle.mw_places.specs.mw_grid.Grids.{Tiling, tile_count, tiles_of}
+use Rattle.mw_places.proofs.mw_grid.Lines.{number_of as number_of_cell}
+use Rattle.mw_places.proofs.mw_grid.Tiles.{length-tiles_of}
 use Rattle.mw_places.specs.mw_ready.Boards.{Board, Runs, task_number, task_count, is_ready, ready_tasks}
 use Rattle.mw_places.specs.mw_ready.Work.{IsBoardOf, SameTasks}
 use Rattle.mw_places.specs.mw_tiles.Tiles.{Tiled}

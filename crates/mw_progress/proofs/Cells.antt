@@ -3,7 +3,7 @@ use Rattle.std.proofs.Common.{◌≡◌, ℕ, zero, suc, ◌+◌, ◌*◌, ◌/�
 use Rattle.std.specs.List.{AllByRecursion}
 use Rattle.std.proofs.lemmas.List.{length-append, get_or_append_left, get_or-append-add}
 use Rattle.std.proofs.lemmas.Nat.{div-add-mod', mod_below}
-use Rattle.mw_grid.proofs.Lines.{row_less}
+use Rattle.mw_places.proofs.mw_grid.Lines.{row_less}
 use Rattle.mw_places.specs.mw_tiles.Tiles.{Tiled}
 use Rattle.mw_progress.specs.ProgressView.{cells_of_planes}
 

@@ -2,12 +2,12 @@
 use Rattle.std.proofs.Common.{◌≡◌, ℕ, ◌+◌, ◌-◌, ◌*◌, ◌<◌, true, false, not, List, length, get_or, Option, Some, sym, ap, subst, ◌∙◌, arith}
 use Rattle.std.proofs.lemmas.List.{length-map}
 use Rattle.std.proofs.lemmas.Bool.{true_from_ne_false}
-use Rattle.mw_facts.proofs.Counts.{count_by-some}
+use Rattle.mw_model.proofs.mw_facts.Counts.{count_by-some}
 use Rattle.mw_model.specs.Plans.{Plan, is_sum}
 use Rattle.mw_model.specs.Tasks.{flag, nothing_planned, remaining_tasks}
-use Rattle.mw_grid.specs.Grids.{Tiling, tile_count, tiles_of}
-use Rattle.mw_grid.proofs.Lines.{number_of as number_of_cell}
-use Rattle.mw_grid.proofs.Tiles.{length-tiles_of, some_tiles}
+use Rattle.mw_places.specs.mw_grid.Grids.{Tiling, tile_count, tiles_of}
+use Rattle.mw_places.proofs.mw_grid.Lines.{number_of as number_of_cell}
+use Rattle.mw_places.proofs.mw_grid.Tiles.{length-tiles_of, some_tiles}
 use Rattle.mw_places.specs.mw_ready.Boards.{Turns}
 use Rattle.mw_places.specs.mw_tiles.Tiles.{Tiled}
 use Rattle.mw_places.specs.Levels.{Level}

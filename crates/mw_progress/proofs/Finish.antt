@@ -4,13 +4,13 @@ use Rattle.std.specs.List.{AllByRecursion, range_with_len}
 use Rattle.std.proofs.lemmas.Bool.{cases_eq, cases_lt}
 use Rattle.std.proofs.lemmas.List.{length-map, append-nil, take_all, drop_all, get_or-set_same, get_or-set_other, get_or_past}
 use Rattle.std.proofs.lemmas.Nat.{div-mul-add, mod-mul-add}
-use Rattle.mw_facts.proofs.Tests.{cond_none-some}
+use Rattle.mw_model.proofs.mw_facts.Tests.{cond_none-some}
 use Rattle.mw_model.specs.Plans.{Plan, is_sum}
 use Rattle.mw_model.specs.Tasks.{Progress, flag, is_needed, is_running, task_count, nothing_planned, reads}
-use Rattle.mw_grid.specs.Counts.{bit}
-use Rattle.mw_grid.specs.Grids.{Tiling, tile_count, tiles_of}
-use Rattle.mw_grid.proofs.Counts.{count-more, bit-at, bit-other}
-use Rattle.mw_grid.proofs.Tiles.{length-tiles_of}
+use Rattle.mw_places.specs.mw_grid.Counts.{bit}
+use Rattle.mw_places.specs.mw_grid.Grids.{Tiling, tile_count, tiles_of}
+use Rattle.mw_places.proofs.mw_grid.Counts.{count-more, bit-at, bit-other}
+use Rattle.mw_places.proofs.mw_grid.Tiles.{length-tiles_of}
 use Rattle.mw_places.specs.mw_ready.Boards.{Board, Turns, task_number}
 use Rattle.mw_places.specs.mw_ready.Boards as boards
 use Rattle.mw_places.specs.Levels.{Level}

@@ -4,11 +4,11 @@ use Rattle.std.specs.Prelude.{IsSome}
 use Rattle.std.specs.List.{AllByRecursion, range_with_len, list_any}
 use Rattle.std.proofs.lemmas.Bool.{cases_eq, and_parts, and_right, or_cases, or_left, or_right, eqb-true, ne_eqb, not-true}
 use Rattle.std.proofs.lemmas.List.{length-set, get_or-set_same, get_or-set_other}
-use Rattle.mw_facts.proofs.Tests.{list_any-range, list_all-weaker, none-not_some}
+use Rattle.mw_model.proofs.mw_facts.Tests.{list_any-range, list_all-weaker, none-not_some}
 use Rattle.mw_model.specs.Plans.{Plan, Source, FromInput, FromStep, IsSourceAt, is_sum}
 use Rattle.mw_model.specs.Tasks.{Progress, flag, task_count, tasks_below, nothing_planned, planned_of, step_number, reads, meets, is_step, is_running, is_needed, place_of_task, tile_of_task}
-use Rattle.mw_grid.specs.Grids.{Tiling}
-use Rattle.mw_grid.proofs.Lines.{row_less}
+use Rattle.mw_places.specs.mw_grid.Grids.{Tiling}
+use Rattle.mw_places.proofs.mw_grid.Lines.{row_less}
 use Rattle.mw_places.specs.mw_tiles.Tiles.{Tiled}
 use Rattle.mw_places.specs.Levels.{Level, level_of_plane}
 use Rattle.mw_progress.specs.ProgressView.{IsWorkable, IsPlaneSource, IsWhole, KeepsNeeded, no_plane, cells_of_planes}

@@ -2,12 +2,12 @@
 use Rattle.std.proofs.Common.{◌≡◌, ℕ, zero, suc, ◌+◌, ◌*◌, ◌<◌, Bool, true, false, List, [], ◌∷◌, ◌++◌, length, map, get_or, replicate, Option, None, refl, sym, ap, subst, ◌∙◌, arith}
 use Rattle.std.proofs.Math.ListN.{get_or-map}
 use Rattle.std.proofs.lemmas.List.{length-map, length-replicate, length_push, replicate-append-replicate}
-use Rattle.mw_facts.proofs.Elements.{get_or-replicate_same}
-use Rattle.mw_facts.proofs.Tests.{none-not_some}
+use Rattle.mw_model.proofs.mw_facts.Elements.{get_or-replicate_same}
+use Rattle.mw_model.proofs.mw_facts.Tests.{none-not_some}
 use Rattle.mw_model.specs.Plans.{Plan, is_sum}
 use Rattle.mw_model.specs.Tasks.{Progress, flag, nothing_planned}
-use Rattle.mw_grid.specs.Grids.{Tiling, tile_count, tiles_of}
-use Rattle.mw_grid.proofs.Tiles.{length-tiles_of}
+use Rattle.mw_places.specs.mw_grid.Grids.{Tiling, tile_count, tiles_of}
+use Rattle.mw_places.proofs.mw_grid.Tiles.{length-tiles_of}
 use Rattle.mw_places.specs.mw_tiles.Tiles.{Tiled}
 use Rattle.mw_places.specs.Levels.{Level, no_level, level_of_source, level_of_step, levels, levels_from, closed_plane, level_of_plane}
 use Rattle.mw_places.specs.Places.{form, IsFormOf, place_at, planes_shown}

@@ -14,6 +14,8 @@ mod Placing
 mod Settled
 mod Finish
 -- what lower crates offer
+pub use Rattle.mw_places.proofs.mw_grid as mw_grid
+pub use Rattle.mw_places.proofs.mw_laws as mw_laws
 pub use Rattle.mw_places.proofs.mw_pieces as mw_pieces
 pub use Rattle.mw_places.proofs.mw_plan as mw_plan
 pub use Rattle.mw_places.proofs.mw_task as mw_task

@@ -5,11 +5,11 @@ use Rattle.std.proofs.Math.ListN.{get_or-map}
 use Rattle.std.proofs.lemmas.Bool.{cases_eq}
 use Rattle.std.proofs.lemmas.List.{length-map, map-set, set-get_or, get_or-set_same, get_or-set_other, get_or_read}
 use Rattle.std.proofs.lemmas.Nat.{div-mul-add}
-use Rattle.mw_facts.proofs.Alls.{all-get_or}
+use Rattle.mw_model.proofs.mw_facts.Alls.{all-get_or}
 use Rattle.mw_model.specs.Plans.{Plan, is_sum}
 use Rattle.mw_model.specs.Tasks.{nothing_planned}
 use Rattle.mw_model.specs.Tasks as tasks
-use Rattle.mw_grid.specs.Grids.{Tiling, tile_count}
+use Rattle.mw_places.specs.mw_grid.Grids.{Tiling, tile_count}
 use Rattle.mw_places.specs.mw_ready.Boards.{Board, Turns, task_number, task_count}
 use Rattle.mw_places.specs.mw_ready.Boards as boards
 use Rattle.mw_places.specs.mw_tiles.Tiles.{Tiled}

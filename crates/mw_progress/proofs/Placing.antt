@@ -6,9 +6,9 @@ use Rattle.std.proofs.lemmas.Bool.{and_parts, not-true, both_ways}
 use Rattle.std.proofs.lemmas.List.{length-map}
 use Rattle.mw_model.specs.Plans.{Plan, is_sum}
 use Rattle.mw_model.specs.Tasks.{flag, is_running, nothing_planned}
-use Rattle.mw_grid.specs.Grids.{Tiling, tile_count, tile_at, tiles_of}
-use Rattle.mw_grid.proofs.Lines.{number_of as number_of_cell}
-use Rattle.mw_grid.proofs.Tiles.{length-tiles_of}
+use Rattle.mw_places.specs.mw_grid.Grids.{Tiling, tile_count, tile_at, tiles_of}
+use Rattle.mw_places.proofs.mw_grid.Lines.{number_of as number_of_cell}
+use Rattle.mw_places.proofs.mw_grid.Tiles.{length-tiles_of}
 use Rattle.mw_places.specs.mw_ready.Boards.{Turns}
 use Rattle.mw_places.specs.mw_task.declared.tile_result.TileResult.{TileResult}
 use Rattle.mw_places.specs.mw_tiles.Tiles.{Tiled, tile_cells}

@@ -10,10 +10,10 @@ use Rattle.mw_model.specs.Places.{grown}
 use Rattle.mw_model.specs.Plans.{Plan, is_sum}
 use Rattle.mw_model.specs.Tasks.{Progress, flag, meets, is_needed, is_step, nothing_planned}
 use Rattle.mw_model.specs.Tasks as tasks
-use Rattle.mw_grid.specs.Grids.{Tiling, tile_count, tile_at, tiles_of}
-use Rattle.mw_grid.specs.Blocks.{sees}
-use Rattle.mw_grid.proofs.Lines.{row_less, number_of as number_of_cell}
-use Rattle.mw_grid.proofs.Tiles.{length-tiles_of}
+use Rattle.mw_places.specs.mw_grid.Grids.{Tiling, tile_count, tile_at, tiles_of}
+use Rattle.mw_places.specs.mw_grid.Blocks.{sees}
+use Rattle.mw_places.proofs.mw_grid.Lines.{row_less, number_of as number_of_cell}
+use Rattle.mw_places.proofs.mw_grid.Tiles.{length-tiles_of}
 use Rattle.mw_places.specs.mw_ready.declared.need.Need.{Need}
 use Rattle.mw_places.specs.mw_ready.Boards.{Board, Turns, step_reads, no_need, task_number}
 use Rattle.mw_places.specs.mw_ready.Boards as boards

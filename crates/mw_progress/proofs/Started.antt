@@ -4,7 +4,7 @@ use Rattle.std.proofs.lemmas.Bool.{cases_eq, and_parts}
 use Rattle.std.proofs.lemmas.List.{length-set, get_or-set_other}
 use Rattle.mw_model.specs.Plans.{Plan}
 use Rattle.mw_model.specs.Tasks.{flag, is_ready}
-use Rattle.mw_grid.specs.Grids.{Tiling}
+use Rattle.mw_places.specs.mw_grid.Grids.{Tiling}
 use Rattle.mw_places.specs.mw_tiles.Tiles.{Tiled}
 use Rattle.mw_places.specs.Levels.{Level}
 use Rattle.mw_progress.specs.ProgressView.{IsWhole, has_all_read}

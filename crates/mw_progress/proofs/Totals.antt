@@ -3,7 +3,7 @@ use Rattle.std.proofs.Common.{◌≡◌, ℕ, ◌+◌, ◌<◌, Bool, true, fals
 use Rattle.std.proofs.lemmas.List.{drop_more, append_assoc}
 use Rattle.mw_model.specs.Plans.{Plan, is_sum, with_number}
 use Rattle.mw_model.specs.Tasks.{nothing_planned}
-use Rattle.mw_grid.specs.Grids.{Tiling}
+use Rattle.mw_places.specs.mw_grid.Grids.{Tiling}
 use Rattle.mw_places.specs.mw_tiles.Sums.{number_in}
 use Rattle.mw_places.specs.Places.{shown, no_place, place_at, planes_shown}
 use Rattle.mw_places.specs.declared.places.Place.{Place}

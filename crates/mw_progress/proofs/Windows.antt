@@ -1,14 +1,14 @@
 -- Windows of planes that are open.
 use Rattle.std.proofs.Common.{◌≡◌, ◌≢◌, ℕ, ◌<◌, ◌≤◌, Bool, false, List, length, get_or, Option, None, refl, sym, ap, subst, ◌∙◌, arith}
 use Rattle.std.proofs.lemmas.List.{length-map, get_or_read}
-use Rattle.mw_facts.proofs.Tests.{none-not_some}
-use Rattle.mw_facts.proofs.Elements.{get_or-replicate_same}
+use Rattle.mw_model.proofs.mw_facts.Tests.{none-not_some}
+use Rattle.mw_model.proofs.mw_facts.Elements.{get_or-replicate_same}
 use Rattle.mw_model.specs.declared.places.Rect.{Rect}
 use Rattle.mw_model.specs.Places.{Holds, IsWithin}
 use Rattle.mw_model.specs.Plans.{Plan, is_sum}
 use Rattle.mw_model.specs.Tasks.{nothing_planned}
-use Rattle.mw_grid.specs.Grids.{Tiling, tile_count, tile_at}
-use Rattle.mw_grid.proofs.Tiles.{HasTiles, cover_once, length-tiles_of, tile_of-tiles_of}
+use Rattle.mw_places.specs.mw_grid.Grids.{Tiling, tile_count, tile_at}
+use Rattle.mw_places.proofs.mw_grid.Tiles.{HasTiles, cover_once, length-tiles_of, tile_of-tiles_of}
 use Rattle.mw_places.specs.mw_ready.Boards.{Turns}
 use Rattle.mw_places.specs.mw_tiles.Tiles.{Tiled, HasAll, tile_cells}
 use Rattle.mw_places.specs.Levels.{Level, closed_plane}

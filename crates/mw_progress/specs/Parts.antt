@@ -2,7 +2,7 @@
 use Rattle.std.specs.Prelude.{ℕ, ◌≡◌, ◌+◌, ◌*◌, ◌<◌, ◌≤◌, Bool, true, List, length, slice_index_or}
 use Rattle.mw_model.specs.Plans.{Plan, is_sum}
 use Rattle.mw_model.specs.Tasks.{flag, nothing_planned}
-use Rattle.mw_grid.specs.Grids.{Tiling, tile_count, tiles_of}
+use Rattle.mw_places.specs.mw_grid.Grids.{Tiling, tile_count, tiles_of}
 use Rattle.mw_places.specs.mw_ready.Boards.{Board, Turns, no_need}
 use Rattle.mw_places.specs.mw_ready.Work.{IsNeedOf}
 use Rattle.mw_places.specs.mw_tiles.Tiles.{Tiled}

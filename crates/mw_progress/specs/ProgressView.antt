@@ -4,7 +4,7 @@ use Rattle.std.specs.List.{AllByRecursion, list_all}
 use Rattle.mw_model.specs.declared.shapes.Kind.TheVariants as kind
 use Rattle.mw_model.specs.Plans.{Plan, Source, FromStep, IsSourceAt, is_sum, with_number}
 use Rattle.mw_model.specs.Tasks.{Progress, flag, task_count, tasks_below, nothing_planned, reads, is_needed, remaining_tasks}
-use Rattle.mw_grid.specs.Grids.{Tiling, tile_count, tiles_of}
+use Rattle.mw_places.specs.mw_grid.Grids.{Tiling, tile_count, tiles_of}
 use Rattle.mw_places.specs.mw_task.declared.tile_result.TileResult.{TileResult}
 use Rattle.mw_places.specs.mw_tiles.Tiles.{Tiled, nothing_placed}
 use Rattle.mw_places.specs.mw_tiles.Sums.{number_in}

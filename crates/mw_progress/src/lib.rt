@@ -18,7 +18,7 @@
 
 mod progress;
 
-pub use mw_grid::Grid;
 pub use mw_model::{Kind, NoMemory, Rect};
-pub use mw_places::{Plan, PlannedStep, SharedWindow, TileResult, TiledPlane, WholePlane};
+pub use mw_places::mw_grid::Grid;
+pub use mw_places::{Plan, PlannedStep, SharedWindow, TileResult, TiledPlane, WholePlane, mw_grid};
 pub use progress::PlanProgress;

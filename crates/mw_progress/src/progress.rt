@@ -3,13 +3,13 @@
 ghost use Rattle.std.specs.Prelude.{◌≡◌, ℕ, ◌+◌, ◌<◌, ◌≤◌, ◌||◌, [], nat_eq, length, slice_index_or, vec_capacity};
 ghost use Rattle.mw_model.specs.Plans.{is_sum};
 ghost use Rattle.mw_model.specs.Tasks.{nothing_planned};
-ghost use Rattle.mw_grid.specs.Grids.{tile_count};
+ghost use Rattle.mw_places.specs.mw_grid.Grids.{tile_count};
 ghost use Rattle.mw_places.specs.mw_task.Meanings.{meaning};
 ghost use Rattle.mw_places.specs.Places.{is_read, form, IsFormOf, place_at, planes_shown};
 ghost use Rattle.mw_progress.specs.ProgressView.{numbers_of};
 
-use mw_grid::Grid;
 use mw_model::{Kind, NoMemory, Rect};
+use mw_places::mw_grid::Grid;
 use mw_places::{
     Place, Plan, PlaneLevel, PlannedStep, Ready, SharedWindow, Step, TileResult, TiledPlane,
     closed, drop_read, levels_of, needs_of, tasks_are_those_of_work,
@@ -90,7 +90,7 @@ impl PlanProgress {
     ghost use Rattle.mw_model.specs.Pictures.{Picture};
     ghost use Rattle.mw_model.specs.Places.{IsWithin};
     ghost use Rattle.mw_model.specs.Tasks.{nothing_planned, is_ready, is_running, ready_tasks, running_tasks, remaining_tasks};
-    ghost use Rattle.mw_tile.specs.Windows.{window_of};
+    ghost use Rattle.mw_places.specs.mw_tile.Windows.{window_of};
     ghost use Rattle.mw_places.specs.mw_task.WindowTasks.{IsBounded};
     ghost use Rattle.mw_places.specs.mw_tiles.Tiles.{HasAll, IsPlaneOf, nothing_placed};
     ghost use Rattle.mw_places.specs.mw_plan.Seen.{planned};

@@ -4,3 +4,5 @@ mod Lists
 mod Opens
 mod Orders
 mod Tops
+-- what lower crates offer
+pub use Rattle.mw_grid.proofs as mw_grid

@@ -4,7 +4,7 @@ use Rattle.std.specs.List.{AllByRecursion, swap_remove}
 use Rattle.std.proofs.lemmas.Bool.{cases_eq, cases_lt}
 use Rattle.std.proofs.lemmas.List.{get_or_default}
 use Rattle.std.proofs.lemmas.List.Sums.{sum_by-swap_remove}
-use Rattle.mw_facts.proofs.Alls.{all-push, all-take, all-weaker, all-get_or}
+use Rattle.mw_model.proofs.mw_facts.Alls.{all-push, all-take, all-weaker, all-get_or}
 use Rattle.mw_grid.specs.Counts.{bit, count_below}
 use Rattle.mw_queue.specs.Queues.{count_of, Listed}
 use Rattle.mw_grid.proofs.Counts.{bit_true, count-bit, bit-at, bit-other}

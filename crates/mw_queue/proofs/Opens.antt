@@ -7,7 +7,7 @@ use Rattle.std.proofs.Math.Seq.{get_or-append_seam}
 use Rattle.std.proofs.lemmas.Bool.{cases_eq, cases_lt, ne_eqb}
 use Rattle.std.proofs.lemmas.List.{get_or-set_same, get_or-set_other, get_or_default, get_or_append_left, length-map, map-set, map-append}
 use Rattle.std.proofs.lemmas.Nat.{div-mul-add, div-add-mod', mod_below}
-use Rattle.mw_facts.proofs.Counts.{count_by-same, count_by-most, count_by-some}
+use Rattle.mw_model.proofs.mw_facts.Counts.{count_by-same, count_by-most, count_by-some}
 use Rattle.mw_model.specs.Tasks.{flag}
 use Rattle.mw_grid.proofs.Lines.{row_less, number_of}
 use Rattle.mw_grid.specs.Counts.{bit, count_below}

@@ -12,7 +12,7 @@ use Rattle.mw_model.specs.Places.{nonnegative}
 use Rattle.mw_model.specs.Rasters.{Sight, raster, cell_at}
 use Rattle.mw_model.specs.Windows.{View, seen_at}
 use Rattle.mw_model.specs.declared.places.Offset.{Offset}
-use Rattle.mw_pixel.proofs.Cells.{cell_at-inside, cell_at-right}
+use Rattle.mw_tile.proofs.mw_pixel.Cells.{cell_at-inside, cell_at-right}
 use Rattle.mw_rank.specs.declared.histogram.Histogram.{Histogram}
 use Rattle.mw_run.specs.declared.runs.Run.{Run}
 use Rattle.mw_run.specs.Runs.{start_offset}

@@ -13,8 +13,8 @@ use Rattle.mw_model.specs.Flat.{under, rank}
 use Rattle.mw_model.specs.Pictures.{Picture, IsPicture, sample}
 use Rattle.mw_model.specs.Places.{IsWithin}
 use Rattle.mw_model.proofs.ImagePlaces.{sample-redrawn}
-use Rattle.mw_pixel.specs.Images.{raster_of}
-use Rattle.mw_pixel.proofs.Cells.{seen_under-raster_of}
+use Rattle.mw_tile.specs.mw_pixel.Images.{raster_of}
+use Rattle.mw_tile.proofs.mw_pixel.Cells.{seen_under-raster_of}
 use Rattle.mw_model.specs.Windows.{View, seen_at}
 use Rattle.mw_tile.specs.Windows.{IsWindow}
 use Rattle.mw_tile.proofs.Shown.{seen_under-window}

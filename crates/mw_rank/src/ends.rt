@@ -9,9 +9,9 @@ use crate::histogram::Histogram;
 use crate::runs::more_of;
 use crate::seen::row_in;
 use mw_model::{NoMemory, Rect};
-use mw_pixel::{Grey, Pixel};
 use mw_run::{Run, place_of};
 use mw_tile::Window;
+use mw_tile::mw_pixel::{Grey, Pixel};
 
 /// Where a run's first sample stands in a window, and the one after its last.
 #[derive(Clone, Copy)]

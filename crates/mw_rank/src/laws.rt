@@ -6,7 +6,7 @@ ghost use Rattle.mw_model.specs.Flat.{rank};
 ghost use Rattle.mw_model.specs.Pictures.{Picture, IsPicture, sample};
 ghost use Rattle.mw_model.specs.Places.{IsWithin};
 ghost use Rattle.mw_model.specs.Rasters.{Raster, cell_at};
-ghost use Rattle.mw_pixel.specs.Images.{raster_of};
+ghost use Rattle.mw_tile.specs.mw_pixel.Images.{raster_of};
 ghost use Rattle.mw_rank.specs.Ranks.{IsRank};
 
 /// The ranks of the levels of an image are those of the rank filter.

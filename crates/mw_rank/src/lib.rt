@@ -15,4 +15,7 @@ mod seen;
 pub use laws::ranks_are_rank_filter;
 pub use moving::{rank, sample_of};
 pub use mw_model::NoMemory;
+pub use mw_run;
+pub use mw_tile;
+pub use mw_tile::mw_pixel;
 pub use seen::row_in;

@@ -12,7 +12,7 @@ use Rattle.std.proofs.lemmas.Simd.{tops_compared, length-zip2, get_or-zip2, leng
 use Rattle.std.proofs.Math.ListN.{length-map}
 use mir.Val.{bits, hbits, Fits}
 use lib.Lanes.{zip2, sel_l, top, chunk, put_chunk, fold_l, Each1}
-use Rattle.mw_facts.proofs.Numbers.{cond-min, cond-max}
+use Rattle.mw_model.proofs.mw_facts.Numbers.{cond-min, cond-max}
 use Rattle.mw_rank_counts.specs.Counting.{levels_on, HasPlaces, AreFrom, raised}
 use Rattle.mw_rank.specs.Tallies.{count_under}
 use Rattle.mw_rank.proofs.Counts.{count-append, count-cons}

@@ -7,3 +7,6 @@ mod Joined
 mod Narrow
 mod Seeking
 mod Standing
+-- what lower crates offer
+pub use Rattle.mw_rank.proofs.mw_pixel as mw_pixel
+pub use Rattle.mw_rank.proofs as mw_rank

@@ -7,7 +7,7 @@ use Rattle.std.proofs.lemmas.Bool.{cases_lt}
 use Rattle.std.proofs.lemmas.Simd.{length-zip2, get_or-zip2, put_chunk_whole, Each1-get_or, Each1-from_get_or}
 use mir.Val.{bits, hbits, Fits}
 use lib.Lanes.{zip2, sel_l, top, put_chunk, Each1}
-use Rattle.mw_facts.proofs.Numbers.{cond-min, cond-max}
+use Rattle.mw_model.proofs.mw_facts.Numbers.{cond-min, cond-max}
 use Rattle.mw_rank_counts.specs.Squeezed.{squeezed}
 use Rattle.mw_rank_counts.proofs.Lanes.{IsChosen, chosen}
 

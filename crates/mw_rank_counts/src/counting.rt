@@ -4,7 +4,7 @@ ghost use Rattle.std.specs.Prelude.{◌≡◌, ℕ, ◌+◌, ◌-◌, ◌*◌, �
 ghost use Rattle.mw_model.specs.PlanSteps.{ranked};
 ghost use Rattle.mw_model.specs.Rasters.{Raster, cell_at};
 ghost use Rattle.mw_model.specs.Windows.{seen_at};
-ghost use Rattle.mw_tile.specs.Windows.{IsWindow};
+ghost use Rattle.mw_rank.specs.mw_tile.Windows.{IsWindow};
 ghost use Rattle.mw_rank.specs.Ranks.{levels_under, IsRank, GainsRow, HasRows};
 ghost use Rattle.mw_rank_counts.specs.Counting.{AllUnder};
 ghost use Rattle.mw_rank_counts.specs.Squeezed.{HasRoom};
@@ -15,9 +15,9 @@ use crate::places::{Inner, inner_places, row_places};
 use crate::search::{Search, push_blocks};
 use crate::squeezed::{Bytes, room_for};
 use mw_model::{NoMemory, Offset, Rect};
-use mw_pixel::{Grey, Pixel, Plane, copies};
+use mw_rank::mw_pixel::{Grey, Pixel, Plane, copies};
+use mw_rank::mw_tile::Window;
 use mw_rank::{rank, sample_of};
-use mw_tile::Window;
 use std::alloc::Global;
 
 /// The ranks that are wanted in a tile, and how they are looked for at its inner places.

@@ -19,5 +19,7 @@ pub use costs::{Load, Way, load_of, quickest};
 pub use counted::Counted;
 pub use counting::rank_of_grey;
 pub use mw_model::NoMemory;
+pub use mw_rank;
+pub use mw_rank::{mw_pixel, mw_run, mw_tile};
 pub use search::bits_in;
 pub use squeezed::Bytes;

@@ -13,10 +13,10 @@ use Rattle.mw_model.specs.Rasters.{raster, cell_at}
 use Rattle.mw_model.specs.Windows.{View, seen_at}
 use Rattle.mw_model.proofs.PlainRanks.{nth_from}
 use Rattle.mw_rank_counts.specs.Counting.{AllUnder}
-use Rattle.mw_rank.specs.Ranks.{levels_under, levels_at, HasRows}
-use Rattle.mw_rank.specs.Tallies.{count_under}
-use Rattle.mw_rank.proofs.Counts.{count-append, count-cons, count-zero, one-lt}
-use Rattle.mw_rank.proofs.Sights.{levels-cons, length-levels}
+use Rattle.mw_rank_counts.specs.mw_rank.Ranks.{levels_under, levels_at, HasRows}
+use Rattle.mw_rank_counts.specs.mw_rank.Tallies.{count_under}
+use Rattle.mw_rank_counts.proofs.mw_rank.Counts.{count-append, count-cons, count-zero, one-lt}
+use Rattle.mw_rank_counts.proofs.mw_rank.Sights.{levels-cons, length-levels}
 use Rattle.mw_rank_rows.specs.declared.rectangle.Rectangle.{Rectangle}
 use Rattle.mw_rank_rows.specs.Rectangles.{offsets_in}
 use Rattle.mw_rank_rows.specs.Tables.{HasFound}

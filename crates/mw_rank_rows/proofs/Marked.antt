@@ -3,7 +3,7 @@ use Rattle.std.proofs.Common.{◌≡◌, ℕ, ◌+◌, ◌-◌, ◌*◌, ◌<◌
 use Rattle.std.specs.Prelude.{nat_lt}
 use Rattle.std.proofs.lemmas.Bool.{cases_lt, cases_order, lt-ltb, le-ltb}
 use Rattle.std.proofs.lemmas.List.{get_or_default}
-use Rattle.mw_facts.proofs.Numbers.{one_if}
+use Rattle.mw_model.proofs.mw_facts.Numbers.{one_if}
 use Rattle.mw_rank_rows.specs.Columns.{column_count}
 use Rattle.mw_rank_rows.specs.Lanes.{Counts, Rises}
 use Rattle.mw_rank_rows.proofs.Fronts.{rises, small}

@@ -6,14 +6,14 @@ use Rattle.std.proofs.lemmas.List.Concat.{flat_map-cons}
 use Rattle.std.proofs.lemmas.List.Sums.{count_by-le-length}
 use Rattle.mw_model.specs.declared.places.Offset.{Offset}
 use Rattle.mw_model.specs.Rasters.{Sight}
-use Rattle.mw_rank.specs.Ranks.{levels_under, levels_at}
-use Rattle.mw_rank.specs.Runs.{offsets_from, offsets_of, element_of, next_offset}
-use Rattle.mw_rank.specs.Tallies.{count_under}
-use Rattle.mw_rank.proofs.Counts.{count-append, count_rises}
-use Rattle.mw_rank.proofs.Moves.{element_snoc}
-use Rattle.mw_rank.proofs.Sights.{levels-cons, levels-append, levels-next, levels_at-on, offset_on, offsets-snoc, length-levels, length-offsets}
-use Rattle.mw_run.specs.declared.runs.Run.{Run}
-use Rattle.mw_run.specs.Runs.{start_offset}
+use Rattle.mw_rank_counts.specs.mw_rank.Ranks.{levels_under, levels_at}
+use Rattle.mw_rank_counts.specs.mw_rank.Runs.{offsets_from, offsets_of, element_of, next_offset}
+use Rattle.mw_rank_counts.specs.mw_rank.Tallies.{count_under}
+use Rattle.mw_rank_counts.proofs.mw_rank.Counts.{count-append, count_rises}
+use Rattle.mw_rank_counts.proofs.mw_rank.Moves.{element_snoc}
+use Rattle.mw_rank_counts.proofs.mw_rank.Sights.{levels-cons, levels-append, levels-next, levels_at-on, offset_on, offsets-snoc, length-levels, length-offsets}
+use Rattle.mw_rank_counts.specs.mw_run.declared.runs.Run.{Run}
+use Rattle.mw_rank_counts.specs.mw_run.Runs.{start_offset}
 use Rattle.mw_rank_rows.specs.declared.rectangle.Rectangle.{Rectangle}
 use Rattle.mw_rank_rows.specs.Columns.{total}
 use Rattle.mw_rank_rows.specs.Rectangles.{row_start, offsets_in}

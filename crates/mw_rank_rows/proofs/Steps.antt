@@ -3,7 +3,7 @@ use Rattle.std.proofs.Common.{◌≡◌, ℕ, pos, ◌+ℤ◌, ◌-ℤ◌, ◌+�
 use Rattle.std.specs.Prelude.{nat_lt}
 use Rattle.std.proofs.lemmas.Bool.{cases_lt, lt-ltb}
 use Rattle.std.proofs.lemmas.Nat.{div-mul-add, mod-mul-add, mul-add-lt}
-use Rattle.mw_facts.proofs.Numbers.{one_if}
+use Rattle.mw_model.proofs.mw_facts.Numbers.{one_if}
 use Rattle.mw_rank_rows.specs.declared.lanes.Lanes.{Lanes}
 use Rattle.mw_rank_rows.specs.declared.search.Front.{Front}
 use Rattle.mw_rank_rows.specs.declared.slide.Strip.{Strip}

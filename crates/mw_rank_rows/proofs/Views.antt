@@ -8,16 +8,16 @@ use Rattle.std.proofs.lemmas.Int.{ints}
 use Rattle.std.proofs.lemmas.List.{get_or-take, get_or-drop, get_or_default, get_or_past}
 use Rattle.std.proofs.lemmas.Nat.{mul-add-lt}
 use Rattle.std.proofs.Math.Nat.{mul-le-mul_right}
-use Rattle.mw_facts.proofs.Numbers.{one_if, one_if-le}
+use Rattle.mw_model.proofs.mw_facts.Numbers.{one_if, one_if-le}
 use Rattle.mw_model.specs.declared.places.Rect.{Rect}
 use Rattle.mw_model.specs.Rasters.{Sight, raster, cell_at}
 use Rattle.mw_model.specs.Windows.{View, seen_at}
-use Rattle.mw_pixel.proofs.Cells.{cell_at-right, cell_at-below}
+use Rattle.mw_rank_counts.proofs.mw_pixel.Cells.{cell_at-right, cell_at-below}
 use Rattle.mw_rank_counts.specs.Counting.{AllUnder}
-use Rattle.mw_rank.specs.Ranks.{levels_at}
-use Rattle.mw_rank.specs.Tallies.{count_under}
-use Rattle.mw_rank.proofs.Counts.{count-cons}
-use Rattle.mw_rank.proofs.Sights.{seen_inside}
+use Rattle.mw_rank_counts.specs.mw_rank.Ranks.{levels_at}
+use Rattle.mw_rank_counts.specs.mw_rank.Tallies.{count_under}
+use Rattle.mw_rank_counts.proofs.mw_rank.Counts.{count-cons}
+use Rattle.mw_rank_counts.proofs.mw_rank.Sights.{seen_inside}
 use Rattle.mw_rank_rows.specs.declared.group.Shown.{Shown}
 use Rattle.mw_rank_rows.specs.declared.rectangle.Rectangle.{Rectangle}
 use Rattle.mw_rank_rows.specs.declared.slide.Strip.{Strip}

@@ -4,8 +4,8 @@ use Rattle.mw_model.specs.PlanSteps.{ranked}
 use Rattle.mw_model.specs.Rasters.{Sight}
 use Rattle.mw_model.specs.declared.places.Offset.{Offset}
 use Rattle.mw_model.specs.declared.places.Rect.{Rect}
-use Rattle.mw_rank.specs.Ranks.{levels_under}
-use Rattle.mw_rank.specs.Runs.{offsets_from}
+use Rattle.mw_rank_counts.specs.mw_rank.Ranks.{levels_under}
+use Rattle.mw_rank_counts.specs.mw_rank.Runs.{offsets_from}
 use Rattle.mw_rank_rows.specs.declared.rectangle.Rectangle.{Rectangle}
 use Rattle.mw_rank_rows.specs.declared.group.Shown.{Shown}
 

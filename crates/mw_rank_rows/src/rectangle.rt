@@ -1,11 +1,11 @@
 //! Elements that are one full rectangle of offsets, row after row.
 ghost use Rattle.std.specs.Prelude.{◌≡◌, ◌<◌, ◌^◌, pos, ◌+ℤ◌, length, IfSome, IsTrue};
 ghost use Rattle.std.specs.List.{AllByRecursion};
-ghost use Rattle.mw_rank.specs.Runs.{element_of};
+ghost use Rattle.mw_rank_counts.specs.mw_rank.Runs.{element_of};
 ghost use Rattle.mw_rank_rows.specs.Rectangles.{IsRectangle};
-ghost use Rattle.mw_run.specs.Runs.{IsRun};
+ghost use Rattle.mw_rank_counts.specs.mw_run.Runs.{IsRun};
 
-use mw_run::Run;
+use mw_rank_counts::mw_run::Run;
 
 /// The first column and row of a rectangle of offsets, and how many it has.
 #[derive(Clone, Copy)]

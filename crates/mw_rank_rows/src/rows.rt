@@ -4,19 +4,19 @@ ghost use Rattle.mw_model.specs.PlanSteps.{ranked};
 ghost use Rattle.mw_model.specs.Rasters.{Raster, cell_at};
 ghost use Rattle.mw_model.specs.Windows.{seen_at};
 ghost use Rattle.mw_rank_counts.specs.Counting.{AllUnder};
-ghost use Rattle.mw_rank.specs.Ranks.{levels_under, IsRank, HasRows};
+ghost use Rattle.mw_rank_counts.specs.mw_rank.Ranks.{levels_under, IsRank, HasRows};
 ghost use Rattle.mw_rank_rows.specs.Rectangles.{IsRectangle};
-ghost use Rattle.mw_tile.specs.Windows.{IsWindow};
+ghost use Rattle.mw_rank_counts.specs.mw_tile.Windows.{IsWindow};
 
 use crate::group::{Group, rank_group};
 use crate::lanes::no_samples;
 use crate::marks::marks_of;
 use crate::rectangle::{Rectangle, rectangle_of};
 use mw_model::{NoMemory, Offset, Rect};
-use mw_pixel::{Grey, Plane, copies};
+use mw_rank_counts::mw_pixel::{Grey, Plane, copies};
+use mw_rank_counts::mw_run::runs_of;
+use mw_rank_counts::mw_tile::Window;
 use mw_rank_counts::{Counted, Load, Way, load_of, quickest};
-use mw_run::runs_of;
-use mw_tile::Window;
 use std::alloc::Global;
 
 /// How many groups may go apart at first, as they do at an edge of the frame, and at most.

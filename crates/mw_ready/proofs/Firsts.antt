@@ -4,10 +4,10 @@ use Rattle.std.proofs.Math.Seq.{get_or-append_seam}
 use Rattle.std.proofs.lemmas.Bool.{cases_lt, cases_eq, lt-ltb, le-ltb}
 use Rattle.std.proofs.lemmas.List.{get_or_append_left}
 use Rattle.std.proofs.lemmas.Nat.{div-mul-add, mod-mul-add}
-use Rattle.mw_grid.specs.Counts.{bit, count_below}
-use Rattle.mw_grid.specs.Grids.{Tiling, tile_count}
-use Rattle.mw_grid.specs.Blocks.{sees}
-use Rattle.mw_grid.proofs.Counts.{count-product, count-next, count-none, bit-at, bit-other}
+use Rattle.mw_queue.specs.mw_grid.Counts.{bit, count_below}
+use Rattle.mw_queue.specs.mw_grid.Grids.{Tiling, tile_count}
+use Rattle.mw_queue.specs.mw_grid.Blocks.{sees}
+use Rattle.mw_queue.proofs.mw_grid.Counts.{count-product, count-next, count-none, bit-at, bit-other}
 use Rattle.mw_ready.specs.declared.need.Need.{Need}
 use Rattle.mw_ready.specs.Boards.{is_source, step_of, step_reads, need_of, no_need}
 use Rattle.mw_ready.specs.Kept.{read_count}

@@ -6,20 +6,20 @@ use Rattle.std.proofs.lemmas.List.{get_or-set_same, get_or-set_other, get_or-rep
 use Rattle.std.proofs.Math.Nat.{mul-le-mul_left}
 use Rattle.std.proofs.lemmas.Nat.{div-mul-add, mod-mul-add}
 use Rattle.mw_model.specs.Tasks.{flag}
-use Rattle.mw_grid.specs.Grids.{Tiling, tile_count}
+use Rattle.mw_queue.specs.mw_grid.Grids.{Tiling, tile_count}
 use Rattle.mw_ready.specs.declared.need.Need.{Need}
 use Rattle.mw_ready.specs.Boards.{Board, task_count, task_number, tasks_below, is_running, is_ready, ready_tasks, step_of, reads, reads_tile, Runs}
-use Rattle.mw_grid.specs.Counts.{bit, count_below}
+use Rattle.mw_queue.specs.mw_grid.Counts.{bit, count_below}
 use Rattle.mw_queue.specs.Queues.{Queued, is_open}
 use Rattle.mw_ready.specs.Counters.{Lowers, Waiting}
 use Rattle.mw_ready.specs.Kept.{Keeps, read_count, board_of}
-use Rattle.mw_grid.proofs.Counts.{count-none, count-all, count-more, bit-at, bit-other}
+use Rattle.mw_queue.proofs.mw_grid.Counts.{count-none, count-all, count-more, bit-at, bit-other}
 use Rattle.mw_ready.proofs.Counts.{list_all-count}
 use Rattle.std.proofs.Math.Bool.{and-true}
 use Rattle.mw_ready.proofs.Lowering.{lowers_same}
 use Rattle.std.proofs.lemmas.Bool.{and_parts}
-use Rattle.mw_facts.proofs.Counts.{count_by-same, count_by-some}
-use Rattle.mw_grid.proofs.Lines.{number_of}
+use Rattle.mw_model.proofs.mw_facts.Counts.{count_by-same, count_by-some}
+use Rattle.mw_queue.proofs.mw_grid.Lines.{number_of}
 
 -- one task more is finished, of those that a test tells
 pub finished_one : (p : ℕ → Bool) (fin : List Bool) (n task : ℕ) → task < n → length fin ≡ n → flag fin task ≡ false

@@ -9,3 +9,5 @@ mod Raising
 mod ReaderCounts
 mod Joining
 mod Tied
+-- what lower crates offer
+pub use Rattle.mw_queue.proofs.mw_grid as mw_grid

@@ -5,21 +5,21 @@ use Rattle.std.proofs.Math.Nat.{mul-le-mul_left}
 use Rattle.std.proofs.lemmas.Bool.{cases_eq, ne_eqb}
 use Rattle.std.proofs.lemmas.List.{get_or-set_same, get_or-set_other}
 use Rattle.std.proofs.lemmas.Nat.{div-mul-add, mod-mul-add, mod_below}
-use Rattle.mw_facts.proofs.Counts.{count_by-same, count_by-most}
-use Rattle.mw_facts.proofs.Numbers.{one_if-le}
-use Rattle.mw_grid.specs.declared.blocks.Block.{Block}
-use Rattle.mw_grid.specs.Blocks.{sees, in_block}
-use Rattle.mw_grid.specs.Counts.{bit, in_range}
-use Rattle.mw_grid.specs.Grids.{Tiling, tile_count}
-use Rattle.mw_grid.proofs.Meeting.{row_is}
-use Rattle.mw_grid.proofs.Counts.{bit-other, in-yes, in-high, count-add, count-if}
-use Rattle.mw_grid.proofs.Lines.{row_less}
+use Rattle.mw_model.proofs.mw_facts.Counts.{count_by-same, count_by-most}
+use Rattle.mw_model.proofs.mw_facts.Numbers.{one_if-le}
+use Rattle.mw_queue.specs.mw_grid.declared.blocks.Block.{Block}
+use Rattle.mw_queue.specs.mw_grid.Blocks.{sees, in_block}
+use Rattle.mw_queue.specs.mw_grid.Counts.{bit, in_range}
+use Rattle.mw_queue.specs.mw_grid.Grids.{Tiling, tile_count}
+use Rattle.mw_queue.proofs.mw_grid.Meeting.{row_is}
+use Rattle.mw_queue.proofs.mw_grid.Counts.{bit-other, in-yes, in-high, count-add, count-if}
+use Rattle.mw_queue.proofs.mw_grid.Lines.{row_less}
 use Rattle.mw_model.specs.declared.places.Reach.{Reach}
 use Rattle.mw_ready.specs.declared.need.Need.{Need}
 use Rattle.mw_ready.specs.Boards.{is_source, step_of, step_reads, reads, no_need}
 use Rattle.mw_ready.specs.Kept.{reader_count, seen_by, takes}
 use Rattle.mw_ready.specs.Counters.{Lowers, Raises, Counted}
-use Rattle.mw_grid.proofs.Counts.{bit_true}
+use Rattle.mw_queue.proofs.mw_grid.Counts.{bit_true}
 use Rattle.mw_ready.proofs.Boxes.{boxes_fit}
 use Rattle.mw_ready.proofs.Lowering.{range_more, lowers_same, counted_same}
 use Rattle.mw_ready.proofs.Numbers.{eq_swap}

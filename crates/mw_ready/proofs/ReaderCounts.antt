@@ -2,8 +2,8 @@
 use Rattle.std.proofs.Common.{◌≡◌, ℕ, ◌+◌, ◌*◌, ◌<◌, Bool, true, false, not, ◌&&◌, nat_lt, List, length, ap, sym, ◌∙◌, arith, set, get_or, replicate}
 use Rattle.std.specs.List.{list_any}
 use Rattle.mw_model.specs.Tasks.{flag}
-use Rattle.mw_grid.specs.Counts.{bit, count_below}
-use Rattle.mw_grid.specs.Grids.{Tiling, tile_count}
+use Rattle.mw_queue.specs.mw_grid.Counts.{bit, count_below}
+use Rattle.mw_queue.specs.mw_grid.Grids.{Tiling, tile_count}
 use Rattle.mw_ready.specs.declared.need.Need.{Need}
 use Rattle.mw_ready.specs.Boards.{Board, task_count, task_number, tasks_below, is_running, reads, Runs, no_need}
 use Rattle.mw_ready.specs.Kept.{CountsReaders, Keeps, reader_count, board_of, takes}

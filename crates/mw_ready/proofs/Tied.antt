@@ -2,7 +2,7 @@
 use Rattle.std.proofs.Common.{◌≡◌, ℕ, ◌*◌, ◌/◌, ◌%◌, ◌<◌, Bool, not, ◌&&◌, ◌||◌, List, length, ap, sym, ◌∙◌, get_or}
 use Rattle.std.specs.List.{range_with_len, list_all, list_any}
 use Rattle.std.proofs.lemmas.Nat.{mod_below}
-use Rattle.mw_facts.proofs.Counts.{count_by-same}
+use Rattle.mw_model.proofs.mw_facts.Counts.{count_by-same}
 use Rattle.mw_model.specs.declared.places.Reach.{Reach}
 use Rattle.mw_model.specs.declared.places.Rect.{Rect}
 use Rattle.mw_model.specs.Places.{grown}
@@ -12,11 +12,11 @@ use Rattle.mw_model.specs.PlanSteps.{looks_at}
 use Rattle.mw_model.specs.Plans.{Planned}
 use Rattle.mw_model.specs.Tasks as tasks
 use Rattle.mw_model.specs.Tasks.{Progress, nothing_planned, is_step, flag, meets}
-use Rattle.mw_grid.specs.Grids.{tile_count}
-use Rattle.mw_grid.proofs.Tiles.{length-tiles_of, tile_of-tiles_of, some_tiles}
+use Rattle.mw_queue.specs.mw_grid.Grids.{tile_count}
+use Rattle.mw_queue.proofs.mw_grid.Tiles.{length-tiles_of, tile_of-tiles_of, some_tiles}
 use Rattle.mw_ready.specs.Boards.{Board, step_reads, need_of, step_of, tile_of_task, place_of_task, reads, task_count, is_ready, is_running}
 use Rattle.mw_ready.specs.Work.{IsBoardOf, SameTasks}
-use Rattle.mw_grid.specs.Counts.{count_below}
+use Rattle.mw_queue.specs.mw_grid.Counts.{count_below}
 use Rattle.mw_ready.proofs.Counts.{all-same}
 use Rattle.mw_ready.proofs.Raising.{step_below}
 

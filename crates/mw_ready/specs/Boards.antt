@@ -4,7 +4,7 @@ use Rattle.std.specs.List.{range_with_len, list_all, list_any}
 use Rattle.mw_model.specs.declared.places.Rect.{Rect}
 use Rattle.mw_model.specs.Places.{grown}
 use Rattle.mw_model.specs.Tasks.{flag, meets}
-use Rattle.mw_grid.specs.Grids.{Tiling, tile_count, tile_at}
+use Rattle.mw_queue.specs.mw_grid.Grids.{Tiling, tile_count, tile_at}
 use Rattle.mw_ready.specs.declared.need.Need.{Need}
 
 -- the step that is read, if any, is s

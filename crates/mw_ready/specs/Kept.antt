@@ -2,9 +2,9 @@
 use Rattle.std.specs.Prelude.{◌≡◌, ℕ, ◌<◌, ◌%◌, ◌^◌, Bool, true, not, ◌&&◌, nat_eq, List, length, slice_index}
 use Rattle.mw_model.specs.declared.places.Reach.{Reach}
 use Rattle.mw_model.specs.Tasks.{flag}
-use Rattle.mw_grid.specs.Counts.{count_below}
-use Rattle.mw_grid.specs.Grids.{Tiling, tile_count}
-use Rattle.mw_grid.specs.Blocks.{sees}
+use Rattle.mw_queue.specs.mw_grid.Counts.{count_below}
+use Rattle.mw_queue.specs.mw_grid.Grids.{Tiling, tile_count}
+use Rattle.mw_queue.specs.mw_grid.Blocks.{sees}
 use Rattle.mw_ready.specs.declared.need.Need.{Need}
 use Rattle.mw_queue.specs.Queues.{Queued}
 use Rattle.mw_ready.specs.Boards.{Board, task_count, step_of, step_reads, reads, running_tasks, remaining_tasks}

@@ -6,7 +6,7 @@ use Rattle.mw_model.specs.PlanSteps.{looks_at}
 use Rattle.mw_model.specs.Plans.{Planned}
 use Rattle.mw_model.specs.Tasks as tasks
 use Rattle.mw_model.specs.Tasks.{Progress, nothing_planned, is_step}
-use Rattle.mw_grid.specs.Grids.{tiles_of}
+use Rattle.mw_queue.specs.mw_grid.Grids.{tiles_of}
 use Rattle.mw_ready.specs.declared.need.Need.{Need}
 use Rattle.mw_ready.specs.Boards.{Board, step_reads, no_need, task_count, reads, is_ready, is_running, ready_tasks, running_tasks, remaining_tasks}
 

@@ -1,16 +1,16 @@
 //! How many unfinished tasks read what each task makes.
 
 ghost use Rattle.std.specs.Prelude.{◌≡◌, ℕ, ◌+◌, ◌*◌, ◌%◌, ◌<◌, ◌≤◌, ◌^◌, ◌&&◌, nat_eq, length, slice_index, vec_len, IfOk};
-ghost use Rattle.mw_grid.specs.Counts.{bit, in_range};
-ghost use Rattle.mw_grid.specs.Grids.{columns_of, tile_count};
-ghost use Rattle.mw_grid.specs.Blocks.{IsBlock, in_block};
+ghost use Rattle.mw_queue.specs.mw_grid.Counts.{bit, in_range};
+ghost use Rattle.mw_queue.specs.mw_grid.Grids.{columns_of, tile_count};
+ghost use Rattle.mw_queue.specs.mw_grid.Blocks.{IsBlock, in_block};
 ghost use Rattle.mw_ready.specs.Boards.{is_source, step_of, step_reads};
 ghost use Rattle.mw_ready.specs.Counters.{Lowers, Raises, Counted};
 ghost use Rattle.mw_ready.specs.Kept.{reader_count, seen_by, takes};
 
 use crate::need::{Need, sources};
-use mw_grid::{Block, Grid};
 use mw_model::{NoMemory, Reach};
+use mw_queue::mw_grid::{Block, Grid};
 use std::alloc::Global;
 
 /// For each task of a step, as many readers more as there are windows with this reach that meet its tile.

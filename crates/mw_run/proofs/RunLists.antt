@@ -6,8 +6,8 @@ use Rattle.std.proofs.lemmas.Bool.{cases_lt}
 use Rattle.std.proofs.lemmas.List.{take_more, get_or_append_left, get_or-drop, append-nil}
 use Rattle.std.proofs.lemmas.Grind.{flat_map-append}
 use Rattle.std.proofs.Math.Seq.{take-add, get_or-append_seam}
-use Rattle.mw_facts.proofs.Alls.{all-push, all-weaker}
-use Rattle.mw_facts.proofs.Numbers.{add_one-add}
+use Rattle.mw_model.proofs.mw_facts.Alls.{all-push, all-weaker}
+use Rattle.mw_model.proofs.mw_facts.Numbers.{add_one-add}
 use Rattle.mw_model.specs.declared.places.Offset.{Offset}
 use Rattle.mw_run.specs.declared.runs.Run.{Run}
 use Rattle.mw_run.specs.declared.runs.Extent.{Extent}

@@ -4,3 +4,6 @@ pub mod Finishing
 -- the crate's own
 mod Readings
 mod Fronts
+-- what lower crates offer
+pub use Rattle.mw_intake.proofs as mw_intake
+pub use Rattle.mw_laws.proofs as mw_laws

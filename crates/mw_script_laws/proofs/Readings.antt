@@ -1,6 +1,6 @@
 -- Scripts have one reading: without marks of memory, the bytes and the state tell the output.
 use Rattle.std.proofs.Common.{◌≡◌, ◌≢◌, ℕ, Bool, true, false, List, [], ◌∷◌, ◌++◌, Option, Some, None, refl, sym, ap, ◌∙◌, subst, arith, inl, inr, append_assoc}
-use Rattle.mw_facts.proofs.Elements.{append-empty}
+use Rattle.mw_model.proofs.mw_facts.Elements.{append-empty}
 use Rattle.mw_model.specs.declared.codes.Code.{Code}
 use Rattle.mw_model.specs.declared.codes.Code.TheVariants as code
 use Rattle.mw_model.specs.declared.calls.Given.{Given}
@@ -25,10 +25,10 @@ use Rattle.mw_intake.specs.Reading.{front}
 use Rattle.mw_model.specs.Replies.{refusal_text}
 use Rattle.mw_model.specs.Scripts.{ImageGiven, ElementGiven, Calls, IsCallOf, refused_unread, answer_text, Answers, unread, called, runs_work, Works, Replies, Turn, IsTurn, AreTurns, requests, NoQuit, Ends, IsScript, end_text}
 use Rattle.mw_script_laws.specs.Marks.{NoMarks, kills_of, NoneSaysMemory}
-use Rattle.mw_netpbm.proofs.Sides.{ok_is}
-use Rattle.mw_netpbm.proofs.Files.{file_read}
-use Rattle.mw_netpbm.proofs.Exclusive.{one_refusal, refusal_or_image}
-use Rattle.mw_netpbm.proofs.Bitmaps.{one_bitmap, one_bitmap_refusal, refusal_or_bitmap}
+use Rattle.mw_element.proofs.mw_netpbm.Sides.{ok_is}
+use Rattle.mw_element.proofs.mw_netpbm.Files.{file_read}
+use Rattle.mw_element.proofs.mw_netpbm.Exclusive.{one_refusal, refusal_or_image}
+use Rattle.mw_element.proofs.mw_netpbm.Bitmaps.{one_bitmap, one_bitmap_refusal, refusal_or_bitmap}
 use Rattle.mw_element.proofs.Exclusive.{one_element}
 
 -- ---- payloads

@@ -9,12 +9,12 @@ use Rattle.mw_model.specs.declared.requests.End.{End}
 use Rattle.mw_model.specs.Lines.{Asked, AskLoad, AskElement, AskAlone}
 use Rattle.mw_model.specs.Receipts.{IsCallFor, AreServed}
 use Rattle.mw_model.specs.Scripts.{end_text}
-use Rattle.mw_wire.specs.declared.fault.SessionFault.{SessionFault}
-use Rattle.mw_wire.specs.declared.fault.SessionFault.TheVariants as fault
-use Rattle.mw_wire.specs.Rooms.{LacksRoom}
-use Rattle.mw_wire.specs.Chains.{AreAnswered, HasAnswered}
-use Rattle.mw_wire.specs.Runs.{AllAnswered, CameToEnd, Halted}
-use Rattle.mw_wire.proofs.Chains.{has-append, has-one}
+use Rattle.mw_fetched.specs.mw_wire.declared.fault.SessionFault.{SessionFault}
+use Rattle.mw_fetched.specs.mw_wire.declared.fault.SessionFault.TheVariants as fault
+use Rattle.mw_fetched.specs.mw_wire.Rooms.{LacksRoom}
+use Rattle.mw_fetched.specs.mw_wire.Chains.{AreAnswered, HasAnswered}
+use Rattle.mw_fetched.specs.mw_wire.Runs.{AllAnswered, CameToEnd, Halted}
+use Rattle.mw_fetched.proofs.mw_wire.Chains.{has-append, has-one}
 use Rattle.mw_serve.specs.Serving.{Makes, Served, refused, received, Receives, WroteAll, WroteFront}
 
 makes-for : (q : Asked) (c : Call) → Makes q c → IsCallFor q c

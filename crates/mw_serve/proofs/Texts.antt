@@ -20,7 +20,7 @@ use Rattle.mw_fetched.specs.mw_store.Fetches.{ShowsSome, shown_value}
 use Rattle.mw_fetched.specs.Texts.{SaysFetched}
 use Rattle.mw_pool.specs.Passes.{AddsReceipt}
 use Rattle.mw_pool.specs.Payloads.{TellsImage, TellsElement}
-use Rattle.mw_wire.specs.Writes.{told_text}
+use Rattle.mw_fetched.specs.mw_wire.Writes.{told_text}
 use Rattle.mw_serve.specs.Serving.{Served, refused, received}
 
 -- no value goes with a reply that shows none

@@ -14,8 +14,8 @@ use Rattle.mw_model.specs.Receipts.{IsTextOf, AreServed}
 use Rattle.mw_model.specs.Scripts.{Calls, MayFollow, end_text}
 use Rattle.mw_pool.specs.Passes.{AddsReceipt}
 use Rattle.mw_pool.specs.Payloads.{TellsImage, TellsElement}
-use Rattle.mw_wire.specs.Chains.{NoneQuits}
-use Rattle.mw_wire.specs.Rooms.{EndsAt, LacksRoom}
+use Rattle.mw_fetched.specs.mw_wire.Chains.{NoneQuits}
+use Rattle.mw_fetched.specs.mw_wire.Rooms.{EndsAt, LacksRoom}
 
 -- the call that is made of a request, with what its payload was found to be
 abbrev pub Makes : Asked → Call → Type 0

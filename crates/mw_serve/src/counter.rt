@@ -3,10 +3,10 @@
 ghost use Rattle.std.specs.Prelude.{◌≡◌, ◌≢◌, ℕ, List, OnOk, OnErr, Err, true};
 ghost use Rattle.mw_model.specs.declared.requests.Ask.TheVariants as Ask;
 ghost use Rattle.mw_model.specs.Lines.{AskAlone};
-ghost use Rattle.mw_intake.specs.Intake.{asked};
-ghost use Rattle.mw_wire.specs.Writes.{Wrote};
+ghost use Rattle.mw_fetched.specs.mw_intake.Intake.{asked};
+ghost use Rattle.mw_fetched.specs.mw_wire.Writes.{Wrote};
 
-use mw_wire::{Desk, SessionFault, Sink, say_told};
+use mw_fetched::mw_wire::{Desk, SessionFault, Sink, say_told};
 use mw_fetched::say_fetched;
 use mw_model::{Name, NoMemory, Request};
 use mw_pool::{Board, Naming, Pass};

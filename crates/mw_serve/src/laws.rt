@@ -4,10 +4,10 @@ ghost use Rattle.std.specs.Prelude.{◌≡◌, ℕ, List, Option};
 ghost use Rattle.std.specs.Io.KnownBytes.{IsAtEnd};
 ghost use Rattle.mw_model.specs.declared.receipts.Receipt.{Receipt};
 ghost use Rattle.mw_model.specs.declared.requests.End.{End};
-ghost use Rattle.mw_wire.specs.Rooms.{LacksRoom};
-ghost use Rattle.mw_wire.specs.Runs.{CameToEnd, Halted};
+ghost use Rattle.mw_fetched.specs.mw_wire.Rooms.{LacksRoom};
+ghost use Rattle.mw_fetched.specs.mw_wire.Runs.{CameToEnd, Halted};
 ghost use Rattle.mw_serve.specs.Serving.{Served, WroteAll, WroteFront};
-ghost use Rattle.mw_wire.specs.declared.fault.SessionFault.{SessionFault};
+ghost use Rattle.mw_fetched.specs.mw_wire.declared.fault.SessionFault.{SessionFault};
 
 /// A session that came to its end wrote the replies of the receipts that it added, and the text of the end.
 pub fn ended_is_served()

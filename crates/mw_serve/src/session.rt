@@ -1,11 +1,11 @@
 //! A whole session at a board, from a reader to a writer.
 
 ghost use Rattle.std.specs.Prelude.{◌≡◌, ◌≤◌, ◌⊎◌, Err, false, true};
-ghost use Rattle.mw_wire.specs.Runs.{DeskRan};
+ghost use Rattle.mw_fetched.specs.mw_wire.Runs.{DeskRan};
 ghost use Rattle.mw_serve.specs.Serving.{Served};
 
 use crate::counter::Counter;
-use mw_wire::{SessionFault, Sink, Source, run_session};
+use mw_fetched::mw_wire::{SessionFault, Sink, Source, run_session};
 use mw_model::End;
 use mw_pool::{Board, Naming, Pass};
 use std::alloc::Global;

@@ -2,7 +2,7 @@
 use Rattle.std.proofs.Common.{◌≡◌, ◌≢◌, ℕ, Bool, true, false, ◌⊎◌, inl, inr, List, [], ◌∷◌, ◌++◌, length, Option, Some, None, Result, Ok, Err, refl, sym, ap, ◌∙◌, subst, arith, append_assoc, length-append}
 use Rattle.std.specs.Prelude.{IfOk, IsOk, OnErr}
 use Rattle.std.proofs.lemmas.List.{append-nil}
-use Rattle.mw_facts.proofs.Elements.{get_or-push_last}
+use Rattle.mw_model.proofs.mw_facts.Elements.{get_or-push_last}
 use Rattle.mw_model.specs.declared.names.Name.{Name}
 use Rattle.mw_model.specs.declared.operations.Op.{Op}
 use Rattle.mw_model.specs.declared.submissions.Submission.{Submission}
@@ -29,16 +29,16 @@ use Rattle.mw_model.specs.Lines.{Asked, AskLoad, AskElement, AskAlone}
 use Rattle.mw_model.specs.Replies.{Handed, reply_text, refusal_text, NoValue}
 use Rattle.mw_model.specs.Scripts.{Answers, unread, called, Works, Replies, IsCallOf, runs_work, refused_unread, handed, handed_value, answer_text}
 use Rattle.mw_model.specs.Receipts.{IsCallFor}
-use Rattle.mw_script_laws.specs.Marks.{killed_in}
+use Rattle.mw_wave.specs.mw_script_laws.Marks.{killed_in}
 use Rattle.mw_session.specs.Turns.{TellsWork, TellsCall, logged, unlogged, MayLack}
-use Rattle.mw_laws.proofs.RunStates.{reached}
-use Rattle.mw_laws.proofs.RunReplay.{refused_leaves, fetch_leaves}
+use Rattle.mw_wave.proofs.mw_laws.RunStates.{reached}
+use Rattle.mw_wave.proofs.mw_laws.RunReplay.{refused_leaves, fetch_leaves}
 use Rattle.mw_wave.specs.mw_stands.Payloads.{given_image, image_payload, given_element, element_payload}
 use Rattle.mw_wave.specs.mw_stands.Events.{FollowsMachine, IsFresh, handed_out}
 use Rattle.mw_wave.proofs.mw_stands.ShownLemmas.{IsPlain, answer-not_shown, refused_or-not_shown}
 use Rattle.mw_fetched.specs.mw_store.Fetches.{shown_value}
 use Rattle.mw_fetched.specs.mw_store.declared.fetched.Shown.{Shown}
-use Rattle.mw_wire.specs.Writes.{told_text}
+use Rattle.mw_fetched.specs.mw_wire.Writes.{told_text}
 use Rattle.mw_wave.specs.Work.{AllWorked}
 use Rattle.mw_fetched.specs.Texts.{fetch_text, SaysFetched}
 use Rattle.mw_wave.specs.mw_stands.Rows.{IsLogFull}

@@ -4,8 +4,8 @@ use Rattle.std.specs.Prelude.{◌&&◌}
 use Rattle.std.specs.List.{AllByRecursion, list_any}
 use Rattle.std.proofs.lemmas.List.{get_or-set_same, get_or-set_other, get_or_past}
 use Rattle.std.proofs.lemmas.Bool.{cases_lt, cases_eq, cases_Bool, eqb-true}
-use Rattle.mw_facts.proofs.Elements.{get_or-push_below, get_or-push_last}
-use Rattle.mw_facts.proofs.Tests.{cond_none-some}
+use Rattle.mw_model.proofs.mw_facts.Elements.{get_or-push_below, get_or-push_last}
+use Rattle.mw_model.proofs.mw_facts.Tests.{cond_none-some}
 use Rattle.mw_model.specs.declared.names.Name.{Name}
 use Rattle.mw_model.specs.declared.submissions.Submission.{Submission}
 use Rattle.mw_model.specs.declared.calls.Outcome.{Outcome}
@@ -14,9 +14,9 @@ use Rattle.mw_model.specs.Values.{Value, tickets, value_at, value_of}
 use Rattle.mw_model.specs.Refusals.{Table, no_submission, outcome_at, is_pending, is_dead, is_released, is_there}
 use Rattle.mw_model.specs.Machine.{Machine, values, with_entry, with_table, killed, settled}
 use Rattle.mw_model.specs.Stands.{Agrees, is_wanted}
-use Rattle.mw_laws.specs.MachineLaws.{IsSound}
-use Rattle.mw_laws.proofs.RunValues.{values_push}
-use Rattle.mw_laws.proofs.RunSteps.{pushed}
+use Rattle.mw_store.specs.mw_laws.MachineLaws.{IsSound}
+use Rattle.mw_store.proofs.mw_laws.RunValues.{values_push}
+use Rattle.mw_store.proofs.mw_laws.RunSteps.{pushed}
 use Rattle.mw_work.proofs.Later.{length-values}
 use Rattle.mw_store.proofs.CascadeLemmas.{Fate, fate-pending}
 use Rattle.mw_store.specs.Stored.{is_spent, DropsSpent}

@@ -1,6 +1,6 @@
 -- What follows for a session call from the parts of its event.
 use Rattle.std.proofs.Common.{◌≡◌, ℕ, ◌+◌, ◌<◌, Bool, false, cond, not, [], ◌∷◌, ◌++◌, length, map, Option, Some, None, Result, Ok, Err, IfOk, OnOk, refl, sym, ap, ◌∙◌, subst, arith, append-nil}
-use Rattle.mw_facts.proofs.Elements.{get_or-push_below}
+use Rattle.mw_model.proofs.mw_facts.Elements.{get_or-push_below}
 use Rattle.mw_model.specs.declared.names.Name.{Name}
 use Rattle.mw_model.specs.declared.shapes.Shape.{Shape}
 use Rattle.mw_model.specs.declared.operations.Op.{Op}
@@ -21,9 +21,9 @@ use Rattle.mw_model.specs.Refusals.{Table, Wanted, AnImage, AnElement, ticket, t
 use Rattle.mw_model.specs.Machine.{Machine, IsWith, reply_to, reply_from, after, with_entry, with_table, killed, settled, given_submission, run_submission, ticket_wanted}
 use Rattle.mw_model.specs.Tasks.{Progress}
 use Rattle.mw_model.specs.Stands.{CoreView, StandsFor, progress_at, IsWork}
-use Rattle.mw_laws.proofs.RunTables.{first_none, inputs_all, is_known, when_so}
-use Rattle.mw_laws.proofs.RunSteps.{pushed}
-use Rattle.mw_laws.proofs.RunReplay.{quiet}
+use Rattle.mw_store.proofs.mw_laws.RunTables.{first_none, inputs_all, is_known, when_so}
+use Rattle.mw_store.proofs.mw_laws.RunSteps.{pushed}
+use Rattle.mw_store.proofs.mw_laws.RunReplay.{quiet}
 use Rattle.mw_store.specs.Stored.{DropsSpent}
 use Rattle.mw_stands.specs.Facts.{IsComplete}
 use Rattle.mw_stands.specs.Changes.{KeepsWork}

@@ -4,13 +4,13 @@ use Rattle.std.specs.Prelude.{◌&&◌}
 use Rattle.std.specs.List.{list_any, range_with_len}
 use Rattle.std.proofs.lemmas.List.{get_or-set_same, get_or-set_other, get_or_past, length-set}
 use Rattle.std.proofs.lemmas.Bool.{cases_lt, cases_eq, and_parts}
-use Rattle.mw_facts.proofs.Tests.{list_any-range}
+use Rattle.mw_model.proofs.mw_facts.Tests.{list_any-range}
 use Rattle.mw_model.specs.declared.calls.Outcome.{Outcome}
 use Rattle.mw_model.specs.declared.calls.Outcome.TheVariants as outcome
 use Rattle.mw_model.specs.Refusals.{Table, outcome_at, is_pending, is_dead, is_there}
 use Rattle.mw_model.specs.Machine.{killed, cascaded}
 use Rattle.mw_model.specs.Stands.{is_wanted, inputs_of}
-use Rattle.mw_laws.proofs.RunCascade.{length_killed}
+use Rattle.mw_store.proofs.mw_laws.RunCascade.{length_killed}
 use Rattle.mw_store.proofs.CascadeLemmas.{Fate, cascaded-fate}
 
 -- a kill leaves an entry as it is, or it was pending and dies

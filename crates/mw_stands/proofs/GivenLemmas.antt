@@ -2,8 +2,8 @@
 use Rattle.std.proofs.Common.{◌≡◌, ◌≢◌, ℕ, ◌<◌, true, false, inl, inr, List, [], ◌∷◌, length, map, set, Option, Some, None, refl, sym, ap, ◌∙◌, subst, arith, length-append}
 use Rattle.std.proofs.lemmas.List.{get_or-set_same, get_or-set_other, set_past}
 use Rattle.std.proofs.lemmas.Bool.{cases_lt, cases_eq}
-use Rattle.mw_facts.proofs.Elements.{get_or-push_below, get_or-push_last}
-use Rattle.mw_facts.proofs.Numbers.{below_or_last}
+use Rattle.mw_model.proofs.mw_facts.Elements.{get_or-push_below, get_or-push_last}
+use Rattle.mw_model.proofs.mw_facts.Numbers.{below_or_last}
 use Rattle.mw_model.specs.declared.names.Name.{Name}
 use Rattle.mw_model.specs.declared.submissions.Submission.{Submission}
 use Rattle.mw_model.specs.declared.submissions.Command.TheVariants as command
@@ -16,11 +16,11 @@ use Rattle.mw_model.specs.declared.calls.LogItem.{LogItem}
 use Rattle.mw_model.specs.declared.calls.LogItem.TheVariants as item
 use Rattle.mw_model.specs.Refusals.{Table, ticket, ticket_of, no_submission, outcome_at, submission_at, shape_at, is_pending, is_element, first_of, name_taken, no_room, wanted_case, cancel_case, inputs_wanted, refusal}
 use Rattle.mw_model.specs.Machine.{Machine, Step, Run, start_state, with_entry, killed, given_submission, run_submission, changed, unless_refused}
-use Rattle.mw_laws.specs.MachineLaws.{IsSound}
-use Rattle.mw_laws.proofs.RunCascade.{is_killed}
-use Rattle.mw_laws.proofs.RunTables.{first_none, is_known, ticket_is, ticket_within}
-use Rattle.mw_laws.proofs.RunStates.{step_sound, start_sound}
-use Rattle.mw_laws.proofs.RunShapes.{result_no_element}
+use Rattle.mw_store.specs.mw_laws.MachineLaws.{IsSound}
+use Rattle.mw_store.proofs.mw_laws.RunCascade.{is_killed}
+use Rattle.mw_store.proofs.mw_laws.RunTables.{first_none, is_known, ticket_is, ticket_within}
+use Rattle.mw_store.proofs.mw_laws.RunStates.{step_sound, start_sound}
+use Rattle.mw_store.proofs.mw_laws.RunShapes.{result_no_element}
 
 -- each element comes from a payload, and is not pending
 abbrev pub ElementsGiven : Table → Type 0

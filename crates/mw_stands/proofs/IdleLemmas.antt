@@ -6,14 +6,14 @@ use Rattle.std.proofs.lemmas.Bool.{cases_lt, cases_Bool, eqb-true, not-false}
 use Rattle.std.proofs.lemmas.Nat.{le-div}
 use Rattle.std.proofs.Math.Nat.{div-mul-le_self}
 use Rattle.std.proofs.Math.Bool.{or-true}
-use Rattle.mw_facts.proofs.Counts.{count_by-none, count_by-some}
+use Rattle.mw_model.proofs.mw_facts.Counts.{count_by-none, count_by-some}
 use Rattle.mw_model.specs.Refusals.{Table, outcome_at, is_pending, is_there}
 use Rattle.mw_model.specs.Machine.{Machine}
 use Rattle.mw_model.specs.Plans.{Source, FromInput, FromStep, IsSourceAt, images_of}
 use Rattle.mw_model.specs.Tasks.{Progress, flag, task_count, step_number, planned_of, is_step, meets, reads, place_of_task, tile_of_task, is_ready, is_running, ready_tasks, running_tasks}
 use Rattle.mw_model.specs.Stands.{CoreView, StandsFor, IsWork, inputs_of, inputs_there, input_values, may_run, ready_under, ready_count, running_count}
 use Rattle.mw_stands.specs.Counts.{NonePending}
-use Rattle.mw_laws.proofs.RunWaiting.{one_can_finish}
+use Rattle.mw_store.proofs.mw_laws.RunWaiting.{one_can_finish}
 use Rattle.mw_stands.specs.Counts.{running_under}
 use Rattle.mw_stands.proofs.StandsLemmas.{stands-sound}
 use Rattle.mw_stands.proofs.CountLemmas.{sum-at}

@@ -15,5 +15,9 @@ pub mod ShownLemmas
 mod FateLemmas
 mod RunLemmas
 -- what lower crates offer
+pub use Rattle.mw_work.proofs.mw_grid as mw_grid
+pub use Rattle.mw_store.proofs.mw_laws as mw_laws
+pub use Rattle.mw_store.proofs.mw_plan as mw_plan
 pub use Rattle.mw_store.proofs as mw_store
+pub use Rattle.mw_store.proofs.mw_task as mw_task
 pub use Rattle.mw_work.proofs as mw_work

@@ -2,8 +2,8 @@
 use Rattle.std.specs.Prelude.{nat_le}
 use Rattle.std.proofs.lemmas.Bool.{cases_Bool, leb-true}
 use Rattle.std.proofs.Common.{◌≡◌, ℕ, ◌+◌, ◌<◌, ◌≤◌, inl, inr, List, [], ◌∷◌, ◌++◌, length, map, Option, Some, None, refl, sym, subst, arith, length-append}
-use Rattle.mw_facts.proofs.Elements.{get_or-push_below, get_or-push_last}
-use Rattle.mw_facts.proofs.Numbers.{below_or_last}
+use Rattle.mw_model.proofs.mw_facts.Elements.{get_or-push_below, get_or-push_last}
+use Rattle.mw_model.proofs.mw_facts.Numbers.{below_or_last}
 use Rattle.mw_model.specs.declared.names.Name.{Name}
 use Rattle.mw_model.specs.declared.shapes.Shape.{Shape}
 use Rattle.mw_model.specs.declared.shapes.Shape.TheVariants as shape
@@ -24,8 +24,8 @@ use Rattle.mw_model.specs.declared.calls.LogItem.TheVariants as item
 use Rattle.mw_model.specs.Values.{Value}
 use Rattle.mw_model.specs.Refusals.{Table, Wanted, AnImage, AnElement, no_submission, shape_at, is_image, first_of, name_taken, no_room, fault_of, wanted_case, inputs_wanted, op_cases, binary_case, origin_case, param_case, refusal}
 use Rattle.mw_model.specs.Machine.{Machine, Step, IsWith, killed, given_submission, run_submission, changed, unless_refused, shape_named, shape_of_result, as_bits, as_grey}
-use Rattle.mw_laws.specs.MachineLaws.{IsSound}
-use Rattle.mw_laws.proofs.RunTables.{first_none, input_found, ticket_is}
+use Rattle.mw_store.specs.mw_laws.MachineLaws.{IsSound}
+use Rattle.mw_store.proofs.mw_laws.RunTables.{first_none, input_found, ticket_is}
 use Rattle.mw_stands.specs.Limits.{FitsLimits, ShapesFit}
 
 bits-fit : (s : Shape) → FitsLimits s → FitsLimits (as_bits s)

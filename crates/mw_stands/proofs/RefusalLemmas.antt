@@ -20,9 +20,9 @@ use Rattle.mw_model.specs.Values.{Value, value_at, value_of, offsets_in}
 use Rattle.mw_model.specs.Refusals.{Table, AnImage, AnElement, ticket, ticket_of, outcome_at, shape_at, is_pending, is_dead, is_released, is_element, first_of, when, name_taken, no_room, wanted_case, inputs_wanted, offsets_at, binary_case, param_case, op_cases, refusal, submission_at}
 use Rattle.mw_model.specs.Machine.{Machine, values}
 use Rattle.mw_model.specs.Stands.{Agrees, inputs_of}
-use Rattle.mw_laws.specs.MachineLaws.{IsSound}
-use Rattle.mw_laws.proofs.RunTables.{first_none, is_known, ticket_is, ticket_within, when_not, when_so}
-use Rattle.mw_laws.proofs.RunValues.{value_is}
+use Rattle.mw_store.specs.mw_laws.MachineLaws.{IsSound}
+use Rattle.mw_store.proofs.mw_laws.RunTables.{first_none, is_known, ticket_is, ticket_within, when_not, when_so}
+use Rattle.mw_store.proofs.mw_laws.RunValues.{value_is}
 use Rattle.mw_stands.proofs.GivenLemmas.{ElementsGiven}
 
 pub some-same : {X : Type 0} → (a b : Option X) → IsSome a → ((v : X) → a ≡ Some v → b ≡ Some v) → b ≡ a

@@ -2,8 +2,8 @@
 use Rattle.std.proofs.Common.{◌≡◌, ◌≢◌, ℕ, ◌+◌, ◌<◌, Bool, true, false, cond, inl, inr, List, [], ◌∷◌, ◌++◌, length, set, Option, Some, None, refl, sym, ap, ◌∙◌, subst, arith, length-append}
 use Rattle.std.proofs.lemmas.List.{get_or-set_same, get_or-set_other, get_or_past}
 use Rattle.std.proofs.lemmas.Bool.{cases_lt, cases_eq}
-use Rattle.mw_facts.proofs.Elements.{get_or-push_below, get_or-push_last}
-use Rattle.mw_facts.proofs.Numbers.{below_or_last}
+use Rattle.mw_model.proofs.mw_facts.Elements.{get_or-push_below, get_or-push_last}
+use Rattle.mw_model.proofs.mw_facts.Numbers.{below_or_last}
 use Rattle.mw_model.specs.declared.names.Name.{Name}
 use Rattle.mw_model.specs.declared.submissions.Submission.{Submission}
 use Rattle.mw_model.specs.declared.calls.Outcome.{Outcome}
@@ -17,10 +17,10 @@ use Rattle.mw_model.specs.Refusals.{Table, outcome_at, is_pending, is_dead, is_t
 use Rattle.mw_model.specs.Machine.{Machine, Run, Step, IsWith, start_state, answer, refused_or, reply_from, reply_to, after, with_entry, with_table, killed, settled}
 use Rattle.mw_model.specs.Tasks.{Progress}
 use Rattle.mw_model.specs.Stands.{CoreView, StandsFor, Agrees, IsWork, progress_at}
-use Rattle.mw_laws.specs.MachineLaws.{IsSound}
-use Rattle.mw_laws.proofs.RunStates.{reached}
-use Rattle.mw_laws.proofs.RunSteps.{pushed}
-use Rattle.mw_laws.proofs.RunCascade.{pending_is}
+use Rattle.mw_store.specs.mw_laws.MachineLaws.{IsSound}
+use Rattle.mw_store.proofs.mw_laws.RunStates.{reached}
+use Rattle.mw_store.proofs.mw_laws.RunSteps.{pushed}
+use Rattle.mw_store.proofs.mw_laws.RunCascade.{pending_is}
 use Rattle.mw_store.specs.Stored.{DropsSpent}
 use Rattle.mw_store.proofs.CascadeLemmas.{fate-pending}
 use Rattle.mw_stands.specs.Facts.{IsComplete}

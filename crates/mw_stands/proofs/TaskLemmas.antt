@@ -11,7 +11,7 @@ use Rattle.mw_model.specs.Refusals.{Table, outcome_at, is_pending}
 use Rattle.mw_model.specs.Machine.{Machine, CanDie, killed}
 use Rattle.mw_model.specs.Tasks.{Progress, ready_tasks, remaining_tasks}
 use Rattle.mw_model.specs.Stands.{CoreView, StandsFor, IsWork, may_run, progress_at, inputs_there, input_values, ready_under, remaining_of}
-use Rattle.mw_laws.proofs.RunCascade.{pending_is}
+use Rattle.mw_store.proofs.mw_laws.RunCascade.{pending_is}
 use Rattle.mw_work.specs.Works.{true_task}
 use Rattle.mw_store.specs.Stored.{DropsSpent}
 use Rattle.mw_stands.specs.Facts.{IsComplete}

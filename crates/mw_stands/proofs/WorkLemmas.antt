@@ -3,8 +3,8 @@ use Rattle.std.proofs.Common.{◌≡◌, ℕ, ◌<◌, true, inl, inr, List, [],
 use Rattle.std.specs.List.{AllByRecursion, list_all}
 use Rattle.std.proofs.lemmas.List.{get_or-set_same, get_or-set_other}
 use Rattle.std.proofs.lemmas.Bool.{cases_eq}
-use Rattle.mw_facts.proofs.Elements.{get_or-push_below}
-use Rattle.mw_facts.proofs.Tests.{list_all-weaker}
+use Rattle.mw_model.proofs.mw_facts.Elements.{get_or-push_below}
+use Rattle.mw_model.proofs.mw_facts.Tests.{list_all-weaker}
 use Rattle.mw_model.specs.declared.names.Name.{Name}
 use Rattle.mw_model.specs.declared.submissions.Submission.{Submission}
 use Rattle.mw_model.specs.declared.calls.Outcome.{Outcome}
@@ -16,8 +16,8 @@ use Rattle.mw_model.specs.Machine.{Machine, values, with_table, killed, settled}
 use Rattle.mw_model.specs.Plans.{IsSourceAt, images_of, planes, value_of_planes}
 use Rattle.mw_model.specs.Tasks.{Progress, nothing_planned, planned_of, tile_of_task, sources_of, made_of_planes}
 use Rattle.mw_model.specs.Stands.{IsWork, inputs_of, inputs_there, input_values}
-use Rattle.mw_laws.specs.MachineLaws.{IsSound}
-use Rattle.mw_laws.proofs.RunSteps.{pushed}
+use Rattle.mw_store.specs.mw_laws.MachineLaws.{IsSound}
+use Rattle.mw_store.proofs.mw_laws.RunSteps.{pushed}
 use Rattle.mw_work.proofs.Later.{there-within, length-values}
 use Rattle.mw_stands.proofs.FateLemmas.{killed-fate, there-stays}
 use Rattle.mw_stands.proofs.AgreeLemmas.{values-pushed}

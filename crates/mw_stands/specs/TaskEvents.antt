@@ -7,7 +7,7 @@ use Rattle.mw_model.specs.Refusals.{outcome_at, is_pending}
 use Rattle.mw_model.specs.Machine.{Machine, CanFinish, CanDie, with_table, killed, settled}
 use Rattle.mw_model.specs.Tasks.{Progress, task_count, is_running, step_number, tile_number, remaining_tasks}
 use Rattle.mw_model.specs.Stands.{CoreView, StandsFor, progress_at, is_ready_at}
-use Rattle.mw_work.specs.mw_task.WindowTasks.{WindowTask}
+use Rattle.mw_store.specs.mw_task.WindowTasks.{WindowTask}
 use Rattle.mw_work.specs.Works.{true_task}
 use Rattle.mw_stands.specs.Events.{WorkStays}
 

@@ -3,5 +3,7 @@
 //! ticket is passed on. What the core does, beside any machine, is said in `mw_ledger`.
 #![tactic(auto)]
 
-pub use mw_store::{Entry, Fetched, Kept, Shown, Store, Waiters, is_pending, reserve_row};
-pub use mw_work::{PlanProgress, WholePlane, true_tasks};
+pub use mw_store::{
+    Entry, Fetched, Kept, Shown, Store, Waiters, is_pending, mw_gran, mw_plan, mw_task, reserve_row,
+};
+pub use mw_work::{PlanProgress, WholePlane, mw_grid, true_tasks};

@@ -11,7 +11,7 @@ use Rattle.mw_model.specs.Plans.{is_sum}
 use Rattle.mw_model.specs.PlanSteps.{PlanStep, Sum, origin, looks_at, here}
 use Rattle.mw_model.specs.Tasks.{cells_in, place_read}
 use Rattle.mw_task.specs.WindowTasks.{made_of_windows, WindowTask, window_at, IsRead}
-use Rattle.mw_tile.specs.Windows.{SourceWindow}
+use Rattle.mw_joined.specs.mw_tile.Windows.{SourceWindow}
 use Rattle.mw_task.specs.Products.{HoldsImage, IsMade}
 use Rattle.mw_task.specs.declared.tile_result.TileResult.{TileResult}
 use Rattle.mw_task.specs.declared.tile_result.TileResult.TheVariants.{Number}

@@ -1,15 +1,15 @@
 -- Extrema of lists with the same members, and what is seen under elements with the same offsets.
 use Rattle.std.proofs.Common.{◌≡◌, ℕ, ◌+◌, pos, ◌+ℤ◌, List, [], ◌∷◌, Option, Some, None, IfSome, fold, refl, ap, sym, ◌∙◌}
 use Rattle.std.specs.List.{AllByRecursion, filter_map, cons_option}
-use Rattle.mw_facts.proofs.Alls.{all-each_contained, all-contains}
+use Rattle.mw_model.proofs.mw_facts.Alls.{all-each_contained, all-contains}
 use Rattle.mw_model.specs.declared.places.Offset.{Offset}
 use Rattle.mw_model.specs.declared.places.OffsetBox.{OffsetBox}
 use Rattle.mw_model.specs.declared.places.Rect.{Rect}
 use Rattle.mw_model.specs.Places.{box_offsets}
-use Rattle.mw_element.specs.Figures.{FillsBox}
+use Rattle.mw_task.specs.mw_element.Figures.{FillsBox}
 use Rattle.mw_model.specs.Rasters.{Raster, Sight, seen_under}
-use Rattle.mw_line.specs.Extrema.{IsSlidingExtremum}
-use Rattle.mw_line.proofs.Folds.{IsExtremum}
+use Rattle.mw_bits.specs.mw_line.Extrema.{IsSlidingExtremum}
+use Rattle.mw_bits.proofs.mw_line.Folds.{IsExtremum}
 use Rattle.mw_task.proofs.Boxes.{box_all, box_at}
 
 -- a value that is merged before the list may be merged after it

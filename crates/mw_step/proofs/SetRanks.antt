@@ -6,7 +6,7 @@ use Rattle.std.proofs.lemmas.Bool.{cases_lt}
 use Rattle.std.proofs.lemmas.List.{get_or-map, length-map, map-id}
 use Rattle.std.proofs.lemmas.Nat.{mul-add-lt}
 use Rattle.std.proofs.lemmas.Option.{slice_get-get_or, slice_get_past}
-use Rattle.mw_facts.proofs.Alls.{all-each_contained}
+use Rattle.mw_model.proofs.mw_facts.Alls.{all-each_contained}
 use Rattle.mw_model.specs.declared.places.Offset.{Offset}
 use Rattle.mw_model.specs.declared.places.Rect.{Rect}
 use Rattle.mw_model.specs.Flat.{in_rising_order}
@@ -14,7 +14,7 @@ use Rattle.mw_model.specs.PlanSteps.{ranked}
 use Rattle.mw_model.specs.Rasters.{Raster, raster, cell_at, seen_under}
 use Rattle.mw_model.specs.Windows.{View, seen_at}
 use Rattle.mw_model.proofs.ImageLaws.{sorted_below, index_below}
-use Rattle.mw_rank.specs.Ranks.{IsRank}
+use Rattle.mw_rank_rows.specs.mw_rank.Ranks.{IsRank}
 use Rattle.mw_step.proofs.Levels.{two_levels}
 use Rattle.mw_step.proofs.SameMembers.{of_seen}
 

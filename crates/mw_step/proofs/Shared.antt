@@ -9,13 +9,13 @@ use Rattle.mw_model.specs.declared.shapes.Kind.{Kind}
 use Rattle.mw_model.specs.Rasters.{Raster, raster}
 use Rattle.mw_model.specs.Windows.{View}
 use Rattle.mw_model.specs.Pictures.{picture}
-use Rattle.mw_tile.specs.Windows.{SourceWindow}
-use Rattle.mw_tile.specs.Cuts.{view_of}
+use Rattle.mw_joined.specs.mw_tile.Windows.{SourceWindow}
+use Rattle.mw_joined.specs.mw_tile.Cuts.{view_of}
 use Rattle.mw_bits.specs.Uniform.{HasOnly}
-use Rattle.mw_pieces.specs.Patches.{Joint, IsJoint, IsJoined, IsWholeOf}
-use Rattle.mw_pieces.specs.Shared.{level_in, source_joint}
-use Rattle.mw_pieces.proofs.TileCells.{length-cells_in}
-use Rattle.mw_pieces.proofs.Windows.{joined_is, source_window}
+use Rattle.mw_joined.specs.mw_pieces.Patches.{Joint, IsJoint, IsJoined, IsWholeOf}
+use Rattle.mw_joined.specs.mw_pieces.Shared.{level_in, source_joint}
+use Rattle.mw_joined.proofs.mw_pieces.TileCells.{length-cells_in}
+use Rattle.mw_joined.proofs.mw_pieces.Windows.{joined_is, source_window}
 use Rattle.mw_task.specs.Products.{both_drawn, three_drawn, plane_drawn}
 use Rattle.mw_step.proofs.PlaceByPlace.{Fills, three_held}
 

@@ -22,3 +22,4 @@ mod sliding;
 mod thresholds;
 
 pub use make::{compute, run};
+pub use mw_task;

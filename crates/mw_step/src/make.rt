@@ -8,11 +8,11 @@ use crate::flat::{rank_filter, slide, slide_box};
 use crate::marks::{mark, mark_last};
 use crate::pairs::{merge, minus};
 use crate::singles::{at_least, blank, equal, invert, sum_up};
+use mw_joined::mw_pieces::SharedWindow;
+use mw_joined::mw_pixel::{Max, Min};
+use mw_joined::mw_tile::AnyWindow;
 use mw_model::NoMemory;
-use mw_pieces::SharedWindow;
-use mw_pixel::{Max, Min};
 use mw_task::{Step, TaskRefused, TileDone, TileResult, Work};
-use mw_tile::AnyWindow;
 use std::alloc::Global;
 
 /// The window of a source of the task, among its windows.

@@ -9,11 +9,11 @@ use crate::kinds::{bits_of, of_samples, sample_of};
 use crate::painting::{marked, marked_set, without};
 use crate::sharing::shared;
 use mw_bits::{is_blank, is_within};
+use mw_joined::mw_pieces::SharedWindow;
+use mw_joined::mw_pixel::Bit;
+use mw_joined::mw_tile::{AnyWindow, Window};
 use mw_model::NoMemory;
-use mw_pieces::SharedWindow;
-use mw_pixel::Bit;
 use mw_task::TileResult;
-use mw_tile::{AnyWindow, Window};
 use std::alloc::Global;
 
 /// The samples, with level `v` in each place of the set.

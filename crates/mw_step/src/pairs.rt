@@ -7,9 +7,9 @@ ghost use Rattle.mw_task.specs.Products.{HoldsImage, both_drawn};
 use crate::extrema::LevelExtremum;
 use crate::kinds::of_both;
 use crate::pointwise::{differences, merged};
+use mw_joined::mw_tile::AnyWindow;
 use mw_model::NoMemory;
 use mw_task::TileResult;
-use mw_tile::AnyWindow;
 use std::alloc::Global;
 
 /// Each sample of the first source less that of the second, stopping at 0.

@@ -3,10 +3,10 @@
 ghost use Rattle.std.specs.Prelude.{◌≡◌, ◌*◌, length, replicate, IfOk};
 ghost use lib.Lanes.{zip2};
 
-use mw_lane::{Lanes, combine_rows, subtract_rows};
+use mw_bits::mw_lane::{Lanes, combine_rows, subtract_rows};
+use mw_joined::mw_pixel::{Extremum, Grey, Plane};
+use mw_joined::mw_tile::Window;
 use mw_model::NoMemory;
-use mw_pixel::{Extremum, Grey, Plane};
-use mw_tile::Window;
 use std::alloc::Global;
 
 /// Each sample of the first window less that of the second, stopping at 0.

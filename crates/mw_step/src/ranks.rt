@@ -3,14 +3,14 @@
 
 ghost use Rattle.std.specs.Prelude.{◌≡◌, ℕ, ◌<◌, ◌^◌, length, IfOk};
 ghost use Rattle.mw_model.specs.Windows.{seen_at};
-ghost use Rattle.mw_rank.specs.Ranks.{IsRank};
+ghost use Rattle.mw_rank_rows.specs.mw_rank.Ranks.{IsRank};
 
 use crate::thresholds::is_sound;
 use mw_bits::{as_levels, at_least};
+use mw_joined::mw_pixel::{Bit, Plane};
+use mw_joined::mw_tile::Window;
 use mw_model::{NoMemory, Offset, Rect};
-use mw_pixel::{Bit, Plane};
 use mw_rank_rows::rank_of_grey;
-use mw_tile::Window;
 use std::alloc::Global;
 
 /// At each place of the tile, of the pixels that a set has under the element in rising order, number k, counted from 1, or

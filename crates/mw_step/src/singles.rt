@@ -7,11 +7,11 @@ ghost use Rattle.mw_task.specs.Products.{HoldsImage, each_drawn, tile_drawn};
 use crate::kinds::{made_bits, made_bytes, made_words, of_samples};
 use crate::pointwise::inverted;
 use crate::thresholds::{level_of_set, level_set, upper_of_set, upper_set};
-use mw_lane::LevelBlocks;
+use mw_bits::mw_lane::LevelBlocks;
+use mw_joined::mw_pixel::Plane;
+use mw_joined::mw_tile::{AnyWindow, WindowView};
 use mw_model::{NoMemory, Rect};
-use mw_pixel::Plane;
 use mw_task::TileResult;
-use mw_tile::{AnyWindow, WindowView};
 use std::alloc::Global;
 
 /// The maxval less each sample.

@@ -3,14 +3,14 @@
 ghost use Rattle.std.specs.Prelude.{IfOk};
 ghost use Rattle.mw_model.specs.Places.{box_offsets};
 ghost use Rattle.mw_model.specs.Windows.{seen_at};
-ghost use Rattle.mw_line.specs.Extrema.{IsSlidingExtremum};
+ghost use Rattle.mw_bits.specs.mw_line.Extrema.{IsSlidingExtremum};
 
 use mw_bits::WordExtremum;
-use mw_element::Element;
-use mw_line::rectangle;
+use mw_bits::mw_line::rectangle;
+use mw_joined::mw_pixel::{Bit, Extremum, Grey, Plane};
+use mw_joined::mw_tile::Window;
 use mw_model::{NoMemory, OffsetBox, Rect};
-use mw_pixel::{Bit, Extremum, Grey, Plane};
-use mw_tile::Window;
+use mw_task::mw_element::Element;
 use std::alloc::Global;
 
 /// The extremum of the samples under the element, at each place of the tile, of an image with this maxval. A full
@@ -28,7 +28,7 @@ pub(crate) fn under_element<P: Grey, E: Extremum<P>>(
         Some(offsets) => under_box::<P, E>(alloc, window, offsets, maxval, tile),
         None => {
             let neutral = E::neutral(maxval);
-            mw_offset::extremum::<P, E>(alloc, window, element.offsets(), neutral, tile)
+            mw_bits::mw_offset::extremum::<P, E>(alloc, window, element.offsets(), neutral, tile)
         }
     }
 }

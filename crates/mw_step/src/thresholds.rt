@@ -2,11 +2,11 @@
 
 ghost use Rattle.std.specs.Prelude.{◌≡◌, ℕ, ◌*◌, ◌≤◌, ◌==◌, All, length, map, IfOk, nat_le, if◌then◌else◌};
 
+use mw_bits::mw_lane::LevelBlocks;
 use mw_bits::{invert, join};
-use mw_lane::LevelBlocks;
+use mw_joined::mw_pixel::{Bit, Grey, Plane};
+use mw_joined::mw_tile::Window;
 use mw_model::NoMemory;
-use mw_pixel::{Bit, Grey, Plane};
-use mw_tile::Window;
 use std::alloc::Global;
 
 /// What is so of each set: a call that is made only for these facts.

@@ -5,8 +5,8 @@ use Rattle.std.specs.Option.{option_map_or}
 use Rattle.std.proofs.lemmas.List.Sums.{sum_by-cons, sum_by-append}
 use Rattle.std.proofs.Math.Seq.{get_or-append_seam}
 use Rattle.std.proofs.lemmas.List.{drop_more, get_or-take}
-use Rattle.mw_facts.proofs.Finds.{find-same}
-use Rattle.mw_facts.proofs.Alls.{all-weaker}
+use Rattle.mw_model.proofs.mw_facts.Finds.{find-same}
+use Rattle.mw_model.proofs.mw_facts.Alls.{all-weaker}
 use Rattle.mw_model.specs.declared.submissions.Submission.{Submission}
 use Rattle.mw_model.specs.declared.submissions.Inputs.{Inputs}
 use Rattle.mw_model.specs.declared.calls.Outcome.{Outcome}
@@ -14,7 +14,7 @@ use Rattle.mw_model.specs.declared.calls.Outcome.TheVariants as outcome
 use Rattle.mw_model.specs.Values.{tickets}
 use Rattle.mw_model.specs.Refusals.{is_dead, is_pending, outcome_at, submission_at, no_submission}
 use Rattle.mw_model.specs.Machine.{cascaded, beside}
-use Rattle.mw_laws.proofs.RunCascade.{cascaded_front}
+use Rattle.mw_gran.proofs.mw_laws.RunCascade.{cascaded_front}
 
 -- what stands beside an entry of ticket t is told by the outcomes below t
 pub beside-take : (os : List Outcome) (t : ℕ) (inputs : Inputs) (o : Outcome) → AllByRecursion (λ i. i < t) (tickets inputs) → beside (take t os) inputs o ≡ beside os inputs o

@@ -4,8 +4,8 @@ use Rattle.std.specs.Prelude.{◌||◌}
 use Rattle.std.specs.List.{range_with_len, list_any}
 use Rattle.std.proofs.lemmas.Bool.{cases_lt, lt-ltb, ne_eqb}
 use Rattle.std.proofs.lemmas.List.Sums.{sum_by-cons, sum_by_push}
-use Rattle.mw_facts.proofs.Ranges.{range_with_len-more}
-use Rattle.mw_facts.proofs.Counts.{count_by-same}
+use Rattle.mw_model.proofs.mw_facts.Ranges.{range_with_len-more}
+use Rattle.mw_model.proofs.mw_facts.Counts.{count_by-same}
 use Rattle.mw_store.specs.Wanted.{one_if}
 
 -- one number more

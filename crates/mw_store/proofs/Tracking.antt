@@ -23,8 +23,8 @@ use Rattle.mw_store.specs.Kept.{kept_value}
 use Rattle.mw_store.specs.Stored.{Stored, IsWhole, IsTracked, InputsBelow, DropsSpent, is_spent}
 use Rattle.mw_store.specs.Wanted.{one_if, is_among, is_at, waits_for, wanted_by, spent_by}
 use Rattle.mw_store.specs.Waiting.{Waiting, KnowsWaiting, no_waiting, waiting_at, entry_if, entry_for}
-use Rattle.mw_facts.proofs.Alls.{all-append, all-weaker, all-append_left, all-append_right}
-use Rattle.mw_facts.proofs.Counts.{count_by-most, count_by-same}
+use Rattle.mw_model.proofs.mw_facts.Alls.{all-append, all-weaker, all-append_left, all-append_right}
+use Rattle.mw_model.proofs.mw_facts.Counts.{count_by-most, count_by-same}
 use Rattle.mw_store.proofs.AddLemmas.{whole-push}
 use Rattle.mw_store.proofs.CascadeLemmas.{Fate, cascaded-fate, count-push, fate-pending}
 use Rattle.mw_store.proofs.Counting.{count-more, count-change, count-any, zero-or-more}

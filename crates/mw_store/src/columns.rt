@@ -14,10 +14,10 @@ use crate::waiting::{
 };
 use crate::wanted::{count_wanted, lower_inputs, raise_inputs};
 use indexmap::IndexSet;
-use mw_element::Element;
 use mw_gran::Curve;
 use mw_model::{Command, Given, Inputs, Name, NoMemory, Op, Outcome, Rect, Shape, Submission};
-use mw_pieces::SharedWindow;
+use mw_tiles::mw_element::Element;
+use mw_tiles::mw_pieces::SharedWindow;
 use std::alloc::Global;
 use std::marker::Model;
 use std::mem::replace;
@@ -88,7 +88,7 @@ impl Store {
     ghost use Rattle.mw_model.specs.Machine.{killed, settled, with_entry};
     ghost use Rattle.mw_model.specs.Stands as stands;
     ghost use Rattle.mw_model.specs.Places.{IsWithin};
-    ghost use Rattle.mw_tile.specs.Windows.{window_of};
+    ghost use Rattle.mw_tiles.specs.mw_tile.Windows.{window_of};
     ghost use Rattle.mw_store.specs.Entries.{op_of, submission_of, outcome_of, payload_in};
     ghost use Rattle.mw_store.specs.ImageShapes.{image_shape_of};
     ghost use Rattle.mw_store.specs.Kept.{kept_value, curve_of, figure_in};

@@ -13,7 +13,7 @@ use Rattle.mw_model.specs.PlanSteps.{PlanStep, Erode, Dilate, ErodeBox, DilateBo
 use Rattle.mw_model.specs.Tasks.{cells_in}
 use Rattle.mw_model.proofs.Covers.{least_at_most}
 use Rattle.mw_model.proofs.ImageLaws.{index_below, sorted_below}
-use Rattle.mw_tile.specs.Windows.{SourceWindow}
+use Rattle.mw_pieces.specs.mw_tile.Windows.{SourceWindow}
 use Rattle.mw_task.specs.WindowTasks.{WindowTask, window_at, KindsFit, IsBounded, tile_made}
 use Rattle.mw_pieces.proofs.TileCells.{length-cells_in, cells_in_all}
 

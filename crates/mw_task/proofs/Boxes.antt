@@ -2,8 +2,8 @@
 use Rattle.std.proofs.Common.{◌≡◌, ℕ, zero, suc, ◌+◌, ◌<◌, ◌≤◌, ℤ, pos, negsuc, ◌+ℤ◌, ◌-ℤ◌, ◌≤ℤ◌, neg_ℤ, List, [], ◌∷◌, map, refl, ap, subst, arith, ◌∙◌, zero-add}
 use Rattle.std.specs.List.{range_with_len, flat_map, AllByRecursion}
 use Rattle.std.proofs.lemmas.Int.{ints}
-use Rattle.mw_facts.proofs.Alls.{all-append, all-append_left, all-append_right, all-weaker}
-use Rattle.mw_facts.proofs.Numbers.{add_one-add}
+use Rattle.mw_model.proofs.mw_facts.Alls.{all-append, all-append_left, all-append_right, all-weaker}
+use Rattle.mw_model.proofs.mw_facts.Numbers.{add_one-add}
 use Rattle.mw_model.specs.declared.places.Offset.{Offset}
 use Rattle.mw_model.specs.declared.places.OffsetBox.{OffsetBox}
 use Rattle.mw_model.specs.Places.{span, nonnegative, box_offsets}

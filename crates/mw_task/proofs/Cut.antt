@@ -11,8 +11,8 @@ use Rattle.mw_model.specs.declared.places.Rect.{Rect}
 use Rattle.mw_model.specs.declared.shapes.Kind.{Kind}
 use Rattle.mw_model.specs.Flat.{least, greatest}
 use Rattle.mw_model.specs.Places.{rect, IsWithin, box_offsets}
-use Rattle.mw_grid.specs.Rectangles.{Reaches}
-use Rattle.mw_tile.specs.Windows.{IsCut, SourceWindow, no_window, window_of}
+use Rattle.mw_pieces.specs.mw_grid.Rectangles.{Reaches}
+use Rattle.mw_pieces.specs.mw_tile.Windows.{IsCut, SourceWindow, no_window, window_of}
 use Rattle.mw_model.specs.Elements.{reach_of}
 use Rattle.mw_model.specs.Rasters.{Raster, raster, cell_at, Sight, seen_under}
 use Rattle.mw_model.specs.Windows.{seen_at}
@@ -23,8 +23,8 @@ use Rattle.mw_model.specs.Tasks.{place_read, made_in, made_of_planes, cells_in}
 use Rattle.mw_task.specs.WindowTasks.{sight_of_window, made_of_windows, FitsStep, IsRead, KindsFit, IsBounded, source_count, window_at}
 use Rattle.mw_model.proofs.ImagePlaces.{drawn_same, sample_bounded}
 use Rattle.mw_element.proofs.Lists.{reach_within}
-use Rattle.mw_grid.proofs.Reaching.{reaches_all, stays_within}
-use Rattle.mw_tile.proofs.Shown.{seen_at-agrees}
+use Rattle.mw_pieces.proofs.mw_grid.Reaching.{reaches_all, stays_within}
+use Rattle.mw_pieces.proofs.mw_tile.Shown.{seen_at-agrees}
 use Rattle.mw_task.specs.Sources.{HasFrame, AreCut}
 use Rattle.std.proofs.lemmas.Grind.{get_or_default_zero}
 use Rattle.std.proofs.lemmas.List.{length-map}

@@ -9,7 +9,7 @@ use Rattle.mw_model.specs.PlanSteps.{here}
 use Rattle.mw_model.specs.Plans.{is_sum}
 use Rattle.mw_model.specs.Tasks.{cells_in}
 use Rattle.mw_task.specs.WindowTasks.{made_of_windows, WindowTask, tile_made}
-use Rattle.mw_pixel.specs.Images.{set_of, grey_of}
+use Rattle.mw_element.specs.mw_pixel.Images.{set_of, grey_of}
 use Rattle.mw_task.specs.declared.tile_result.TileResult.{TileResult}
 use Rattle.mw_task.specs.declared.tile_result.TileResult.TheVariants.{Bits, Grey8, Grey16, Number}
 

@@ -5,7 +5,7 @@ use Rattle.mw_model.specs.Places.{IsWithin}
 use Rattle.mw_model.specs.Pictures.{Picture}
 use Rattle.mw_model.specs.PlanSteps.{PlanStep}
 use Rattle.mw_model.specs.Tasks.{place_read}
-use Rattle.mw_tile.specs.Windows.{SourceWindow, window_of}
+use Rattle.mw_pieces.specs.mw_tile.Windows.{SourceWindow, window_of}
 use Rattle.std.specs.List.{AllByRecursion}
 
 -- the image is of this width and height

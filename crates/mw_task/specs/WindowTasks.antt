@@ -10,7 +10,7 @@ use Rattle.mw_model.specs.Rasters.{Sight}
 use Rattle.mw_model.specs.Windows.{seen_at}
 use Rattle.mw_model.specs.PlanSteps.{PlanStep, Minus, Meet, Join, Blank, Mark, MarkLast, step_at, kind_of_step, maxval_of_step}
 use Rattle.mw_model.specs.Tasks.{place_read, made_in}
-use Rattle.mw_tile.specs.Windows.{SourceWindow, no_window}
+use Rattle.mw_pieces.specs.mw_tile.Windows.{SourceWindow, no_window}
 
 -- what is seen of a window in this place of the argument list
 abbrev pub sight_of_window : List SourceWindow → ℕ → Sight ℕ

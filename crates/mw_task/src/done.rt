@@ -1,9 +1,9 @@
 //! Tasks that were run.
 
 use crate::{Step, TileResult, Work};
+use mw_element::mw_pixel::Image;
 use mw_model::{Rect, TaskId};
 use mw_pieces::SharedWindow;
-use mw_pixel::Image;
 use std::marker::Model;
 
 /// A task that is done, with what it made: what its step makes of its windows, and nothing else.

@@ -12,7 +12,7 @@ ghost use Rattle.mw_model.specs.PlanSteps.{PlanStep};
 ghost use Rattle.mw_model.specs.PlanSteps as plan;
 ghost use Rattle.mw_model.specs.Tasks.{made_of_planes};
 ghost use Rattle.mw_task.specs.WindowTasks.{made_of_windows, WindowTask, FitsStep, KindsFit, IsBounded, source_count, tile_made};
-ghost use Rattle.mw_tile.specs.Windows.{SourceWindow};
+ghost use Rattle.mw_pieces.specs.mw_tile.Windows.{SourceWindow};
 ghost use Rattle.mw_task.specs.Sources.{AreCut};
 
 /// What a task makes of windows of whole planes is what its step makes there of the planes.

@@ -1,3 +1,7 @@
 -- what other crates may cite
 pub mod Rows
 pub mod Shown
+-- what lower crates offer
+pub use Rattle.mw_grid.proofs as mw_grid
+pub use Rattle.mw_pixel.proofs as mw_pixel
+pub use Rattle.mw_pixel.proofs.mw_words as mw_words

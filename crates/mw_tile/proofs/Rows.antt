@@ -3,12 +3,12 @@ use Rattle.std.proofs.Common.{◌≡◌, ℕ, ◌+◌, ◌-◌, ◌*◌, ◌/◌
 use Rattle.std.proofs.lemmas.Bool.{cases_lt}
 use Rattle.std.proofs.Math.Nat.{mul-le-mul_left}
 use Rattle.std.proofs.lemmas.Nat.{mul-add-lt, div-mul-add, mod-mul-add}
-use Rattle.mw_facts.proofs.Elements.{slice_get-drop, slice_get-take, slice_get-put_below, slice_get-put_within, slice_get-put_above}
+use Rattle.mw_model.proofs.mw_facts.Elements.{slice_get-drop, slice_get-take, slice_get-put_below, slice_get-put_within, slice_get-put_above}
 use Rattle.mw_model.specs.declared.places.Rect.{Rect}
 use Rattle.mw_model.specs.Places.{Holds, IsWithin}
 use Rattle.mw_model.specs.Rasters.{Raster, raster}
-use Rattle.mw_words.specs.Runs.{put_at, HasFront}
-use Rattle.mw_words.proofs.Fronts.{front_more}
+use Rattle.mw_pixel.specs.mw_words.Runs.{put_at, HasFront}
+use Rattle.mw_pixel.proofs.mw_words.Fronts.{front_more}
 use Rattle.mw_tile.specs.Windows.{IsCut}
 use Rattle.mw_tile.specs.Cuts.{stood_at, Pastes}
 

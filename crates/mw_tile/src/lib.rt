@@ -19,5 +19,8 @@ mod window;
 pub use any::{AnyWindow, WindowView};
 pub use cuts::{cut, paste};
 pub use laws::{cut_is_window, window_shows_frame, window_shows_picture};
+pub use mw_grid;
 pub use mw_model::{NoMemory, Offset, Reach, Rect};
+pub use mw_pixel;
+pub use mw_pixel::mw_words;
 pub use window::Window;

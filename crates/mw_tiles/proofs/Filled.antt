@@ -8,11 +8,11 @@ use Rattle.mw_model.specs.Places.{Holds, IsWithin}
 use Rattle.mw_model.specs.Pictures.{Picture, sample, IsPicture}
 use Rattle.mw_model.specs.Tasks.{cells_in}
 use Rattle.mw_model.proofs.ImagePlaces.{length-rows, sample-drawn, by_places, sample_bounded}
-use Rattle.mw_grid.specs.Grids.{Tiling, tile_count, tile_at}
-use Rattle.mw_grid.proofs.Tiles.{HasTiles}
-use Rattle.mw_tile.specs.Windows.{SourceWindow, window_of}
+use Rattle.mw_task.specs.mw_grid.Grids.{Tiling, tile_count, tile_at}
+use Rattle.mw_task.proofs.mw_grid.Tiles.{HasTiles}
+use Rattle.mw_task.specs.mw_tile.Windows.{SourceWindow, window_of}
 use Rattle.mw_task.specs.WindowTasks.{IsBounded}
-use Rattle.mw_pieces.proofs.TileCells.{length-cells_in, cells_in_is, cells_in_all}
+use Rattle.mw_task.proofs.mw_pieces.TileCells.{length-cells_in, cells_in_is, cells_in_all}
 use Rattle.mw_frame_tiles.specs.Tiles.{HasSizes, number_at, tile_cells}
 use Rattle.mw_frame_tiles.proofs.Numbers.{number_only}
 use Rattle.mw_tiles.specs.Tiles.{Tiled, AreBounded, IsSound, IsPlaneOf}

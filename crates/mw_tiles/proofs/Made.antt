@@ -11,13 +11,13 @@ use Rattle.mw_model.specs.PlanSteps.{PlanStep, step_at}
 use Rattle.mw_model.specs.Tasks.{cells_in, made_of_planes}
 use Rattle.std.specs.Prelude.{slice_index_or, Option}
 use Rattle.mw_model.proofs.ImagePlaces.{length-rows, sample-drawn}
-use Rattle.mw_grid.specs.Grids.{Tiling, tile_at, tile_count}
-use Rattle.mw_grid.proofs.Tiles.{HasTiles, tile_within}
-use Rattle.mw_pixel.specs.Images.{raster_of}
-use Rattle.mw_pixel.proofs.Cells.{slice_get-samples}
-use Rattle.mw_tile.specs.Windows.{IsCut}
-use Rattle.mw_tile.specs.Cuts.{view_of}
-use Rattle.mw_pieces.proofs.TileCells.{length-cells_in, cells_in_at}
+use Rattle.mw_task.specs.mw_grid.Grids.{Tiling, tile_at, tile_count}
+use Rattle.mw_task.proofs.mw_grid.Tiles.{HasTiles, tile_within}
+use Rattle.mw_task.specs.mw_pixel.Images.{raster_of}
+use Rattle.mw_task.proofs.mw_pixel.Cells.{slice_get-samples}
+use Rattle.mw_task.specs.mw_tile.Windows.{IsCut}
+use Rattle.mw_task.specs.mw_tile.Cuts.{view_of}
+use Rattle.mw_task.proofs.mw_pieces.TileCells.{length-cells_in, cells_in_at}
 use Rattle.mw_tiles.specs.Tiles.{Tiled, tile_cells, ShowsTiles, IsPlaneOf, AreMade}
 
 -- the values of a rectangle are a cut of the whole drawing

@@ -4,13 +4,13 @@ use Rattle.std.specs.Option.{option_map}
 use Rattle.std.specs.Prelude.{IfSome}
 use Rattle.std.proofs.Math.ListN.{get_or-map}
 use Rattle.std.proofs.lemmas.List.{take_at}
-use Rattle.mw_facts.proofs.Elements.{get_or-replicate_same}
+use Rattle.mw_model.proofs.mw_facts.Elements.{get_or-replicate_same}
 use Rattle.mw_model.specs.declared.shapes.Kind.{Kind}
 use Rattle.mw_model.specs.declared.shapes.Kind.TheVariants as kind
 use Rattle.mw_model.specs.Pictures.{FitsKind}
 use Rattle.mw_model.specs.Rasters.{Raster}
-use Rattle.mw_grid.specs.Grids.{Tiling, tile_count}
-use Rattle.mw_grid.proofs.Tiles.{HasTiles}
+use Rattle.mw_task.specs.mw_grid.Grids.{Tiling, tile_count}
+use Rattle.mw_task.proofs.mw_grid.Tiles.{HasTiles}
 use Rattle.mw_frame_tiles.specs.Tiles.{cells_of, tile_cells, cells_in_raster, HasSides}
 use Rattle.mw_frame_tiles.proofs.Sides.{one_of, sides_none, sizes_of_sides}
 use Rattle.mw_tiles.specs.Tiles.{Tiled, nothing_placed, AreBounded, IsSound}

@@ -3,7 +3,7 @@ use Rattle.std.proofs.Common.{◌≡◌, ℕ, List, [], ◌∷◌, map, set, rep
 use Rattle.std.specs.Option.{option_map}
 use Rattle.std.proofs.lemmas.List.{map-set}
 use Rattle.mw_model.specs.declared.shapes.Kind.{Kind}
-use Rattle.mw_grid.specs.Grids.{Tiling, tile_count}
+use Rattle.mw_task.specs.mw_grid.Grids.{Tiling, tile_count}
 use Rattle.mw_tiles.specs.Tiles.{Tiled, nothing_placed}
 use Rattle.mw_tiles.proofs.Sides.{map_replicate, with_cells}
 use Rattle.mw_tiles.specs.Sums.{alone, summed}

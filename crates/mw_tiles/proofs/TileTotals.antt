@@ -8,17 +8,17 @@ use Rattle.std.proofs.lemmas.List.{ext_get_or, length-map}
 use Rattle.std.proofs.lemmas.List.FromFn.{length-map-range_with_len, get_or-map-range_with_len}
 use Rattle.std.proofs.lemmas.List.Sums.{sum_by-cons, sum_by-append}
 use Rattle.std.proofs.Math.ListN.{get_or-map}
-use Rattle.mw_facts.proofs.Finds.{option_cases}
+use Rattle.mw_model.proofs.mw_facts.Finds.{option_cases}
 use Rattle.mw_model.specs.declared.places.Rect.{Rect}
 use Rattle.mw_model.specs.Places.{rect}
 use Rattle.mw_model.specs.Pictures.{Picture, sample, sample_at, IsPicture}
 use Rattle.mw_model.specs.PlanSteps.{Sum, here}
 use Rattle.mw_model.specs.Tasks.{cells_in}
 use Rattle.mw_model.proofs.Covers.{sample_at_in}
-use Rattle.mw_grid.specs.Grids.{Tiling, columns_of, rows_of, tile_count, tile_at}
-use Rattle.mw_grid.proofs.Tiles.{HasTiles}
-use Rattle.mw_grid.proofs.Counts.{total, total-add, total-next}
-use Rattle.mw_pieces.proofs.TileCells.{cells_in_is}
+use Rattle.mw_task.specs.mw_grid.Grids.{Tiling, columns_of, rows_of, tile_count, tile_at}
+use Rattle.mw_task.proofs.mw_grid.Tiles.{HasTiles}
+use Rattle.mw_task.proofs.mw_grid.Counts.{total, total-add, total-next}
+use Rattle.mw_task.proofs.mw_pieces.TileCells.{cells_in_is}
 use Rattle.mw_tiles.specs.Tiles.{Tiled, tile_cells, AreMade, AllPlaced}
 use Rattle.mw_tiles.specs.Sums.{first_cell, number_in}
 

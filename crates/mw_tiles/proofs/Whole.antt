@@ -3,8 +3,8 @@ use Rattle.std.proofs.Common.{◌≡◌, ℕ, ◌*◌, ◌≤◌, All, List, len
 use Rattle.mw_model.specs.declared.shapes.Kind.{Kind}
 use Rattle.mw_model.specs.Pictures.{Picture, picture}
 use Rattle.mw_model.specs.Rasters.{Raster}
-use Rattle.mw_grid.specs.Grids.{Tiling}
-use Rattle.mw_pixel.specs.Images.{raster_of}
+use Rattle.mw_task.specs.mw_grid.Grids.{Tiling}
+use Rattle.mw_task.specs.mw_pixel.Images.{raster_of}
 use Rattle.mw_frame_tiles.specs.Tiles.{ShowsTiles, cells_of}
 use Rattle.mw_tiles.specs.Held.{tiled}
 use Rattle.mw_tiles.specs.Tiles.{Tiled, IsPlaneOf, IsSound}

@@ -5,12 +5,12 @@ use Rattle.mw_model.specs.declared.shapes.Kind.{Kind}
 use Rattle.mw_model.specs.Pictures.{Picture}
 use Rattle.mw_model.specs.Places.{IsWithin}
 use Rattle.mw_model.specs.Rasters.{Raster}
-use Rattle.mw_grid.specs.Grids.{Tiling}
-use Rattle.mw_pixel.specs.Images.{raster_of}
-use Rattle.mw_tile.specs.Windows.{SourceWindow, window_of}
-use Rattle.mw_pieces.specs.Patches.{IsJoint, Joint, ShowsFrame}
-use Rattle.mw_pieces.specs.Shared.{source_joint}
-use Rattle.mw_pieces.proofs.Windows.{window_is, window_matches}
+use Rattle.mw_task.specs.mw_grid.Grids.{Tiling}
+use Rattle.mw_task.specs.mw_pixel.Images.{raster_of}
+use Rattle.mw_task.specs.mw_tile.Windows.{SourceWindow, window_of}
+use Rattle.mw_task.specs.mw_pieces.Patches.{IsJoint, Joint, ShowsFrame}
+use Rattle.mw_task.specs.mw_pieces.Shared.{source_joint}
+use Rattle.mw_task.proofs.mw_pieces.Windows.{window_is, window_matches}
 use Rattle.mw_frame_tiles.specs.Tiles.{HasAll, ShowsTiles, cells_of}
 use Rattle.mw_tiles.specs.Held.{tiled}
 use Rattle.mw_tiles.specs.Tiles.{IsPlaneOf, Tiled}

@@ -1,7 +1,7 @@
 -- The image that a plane shows: it is 0 where no tile is placed.
 use Rattle.std.specs.Prelude.{ℕ, ◌+◌, ◌-◌, ◌*◌, List, Option, Some, None, slice_index_or}
 use Rattle.mw_model.specs.Pictures.{Picture, drawn}
-use Rattle.mw_grid.specs.Grids.{Tiling, tile_at}
+use Rattle.mw_task.specs.mw_grid.Grids.{Tiling, tile_at}
 pub use Rattle.mw_frame_tiles.specs.Tiles.{number_at}
 use Rattle.mw_tiles.specs.Tiles.{Tiled, tile_cells}
 

@@ -5,8 +5,8 @@ use Rattle.mw_model.specs.declared.shapes.Kind.{Kind}
 use Rattle.mw_model.specs.declared.shapes.Kind.TheVariants as kind
 use Rattle.mw_model.specs.Rasters.{Raster}
 use Rattle.mw_model.specs.Pictures.{Picture}
-use Rattle.mw_grid.specs.Grids.{Tiling}
-use Rattle.mw_pixel.specs.Images.{set_of, grey_of}
+use Rattle.mw_task.specs.mw_grid.Grids.{Tiling}
+use Rattle.mw_task.specs.mw_pixel.Images.{set_of, grey_of}
 use Rattle.mw_frame_tiles.specs.Tiles.{cells_of, HasSides}
 use Rattle.mw_tiles.specs.Tiles.{Tiled, AreBounded}
 use Rattle.mw_tiles.specs.declared.tile.Tile.{Tile}

@@ -1,7 +1,7 @@
 -- What is seen of the numbers of a Sum step, and what they add up to (own).
 use Rattle.std.specs.Prelude.{◌≡◌, ℕ, ◌<◌, ◌^◌, All, List, [], ◌∷◌, length, map, sum, Option, Some, None, option_map, slice_index, unwrap_or}
 use Rattle.mw_model.specs.declared.shapes.Kind.{Kind}
-use Rattle.mw_grid.specs.Grids.{Tiling, tile_count}
+use Rattle.mw_task.specs.mw_grid.Grids.{Tiling, tile_count}
 use Rattle.mw_tiles.specs.Tiles.{Tiled}
 
 -- the number as the only cell of its tile

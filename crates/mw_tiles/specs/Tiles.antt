@@ -4,8 +4,8 @@ use Rattle.mw_model.specs.declared.shapes.Kind.{Kind}
 use Rattle.mw_model.specs.Pictures.{Picture}
 use Rattle.mw_model.specs.PlanSteps.{PlanStep}
 use Rattle.mw_model.specs.Tasks.{made_of_planes}
-use Rattle.mw_grid.specs.Grids.{Tiling, tile_at, tile_count}
-use Rattle.mw_pixel.specs.Images.{raster_of}
+use Rattle.mw_task.specs.mw_grid.Grids.{Tiling, tile_at, tile_count}
+use Rattle.mw_task.specs.mw_pixel.Images.{raster_of}
 use Rattle.mw_frame_tiles.specs.Tiles.{HasSizes}
 pub use Rattle.mw_frame_tiles.specs.Tiles.{HasAll, ShowsTiles, tile_cells}
 

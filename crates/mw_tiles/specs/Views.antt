@@ -1,7 +1,7 @@
 -- What is seen of a whole plane (own).
 use Rattle.std.specs.Prelude.{◌≡◌, ◌≤◌}
 use Rattle.mw_model.specs.Pictures.{Picture}
-use Rattle.mw_pixel.specs.Images.{grey_of, raster_of, set_of}
+use Rattle.mw_task.specs.mw_pixel.Images.{grey_of, raster_of, set_of}
 use Rattle.mw_frame_tiles.specs.Rows.{AreCutFrom}
 use Rattle.mw_tiles.specs.declared.tiles_view.TilesView.{TilesView}
 use Rattle.mw_tiles.specs.declared.tiles_view.TilesView.TheVariants as view

@@ -29,8 +29,10 @@ mod tiles_view;
 
 pub use laws::{plane_is_of_an_image, tiles_are_plane};
 pub use mw_frame_tiles::TiledRows;
-pub use mw_grid::Grid;
 pub use mw_model::{Kind, NoMemory, Rect};
+pub use mw_task;
+pub use mw_task::mw_grid::Grid;
+pub use mw_task::{mw_element, mw_netpbm, mw_pieces, mw_pixel};
 pub use plane::TiledPlane;
 pub use shown::WholePlane;
 pub use sum_laws::tile_sums_are_sum_of_plane;

@@ -4,10 +4,10 @@ use crate::{Tile, TilesView};
 use mw_frame_tiles::{
     Placed, TiledRows, are_tiles, no_tiles, pieces_of, put, share_tiles, shared_plane,
 };
-use mw_grid::Grid;
 use mw_model::{Kind, NoMemory, Rect};
-use mw_pieces::{PiecesView, SharedWindow};
-use mw_pixel::{Bit, Image};
+use mw_task::mw_grid::Grid;
+use mw_task::mw_pieces::{PiecesView, SharedWindow};
+use mw_task::mw_pixel::{Bit, Image};
 use std::alloc::Global;
 use std::marker::Model;
 
@@ -42,8 +42,8 @@ impl TiledPlane {
     ghost use Rattle.std.specs.Prelude.{◌≡◌, ◌↔◌, ◌<◌, ◌≤◌, All, IfOk, IsTrue, None, Some, slice_set};
     ghost use Rattle.mw_model.specs.Pictures.{FitsKind, Picture};
     ghost use Rattle.mw_model.specs.Places.{IsWithin};
-    ghost use Rattle.mw_grid.specs.Grids.{tile_at, tile_count};
-    ghost use Rattle.mw_tile.specs.Windows.{window_of};
+    ghost use Rattle.mw_task.specs.mw_grid.Grids.{tile_at, tile_count};
+    ghost use Rattle.mw_task.specs.mw_tile.Windows.{window_of};
     ghost use Rattle.mw_task.specs.WindowTasks.{IsBounded};
     ghost use Rattle.mw_tiles.specs.Tiles.{AllPlaced, HasAll, IsPlaneOf, IsSound, nothing_placed, tile_cells};
     ghost use Rattle.mw_tiles.specs.Held.{image_of_tile, IsTile};

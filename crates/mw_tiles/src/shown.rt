@@ -3,15 +3,15 @@
 ghost use Rattle.std.specs.Prelude.{◌≡◌, ◌↔◌, ◌≤◌, IfOk, IsTrue};
 ghost use Rattle.mw_model.specs.Pictures.{IsPicture};
 ghost use Rattle.mw_model.specs.Places.{IsWithin};
-ghost use Rattle.mw_tile.specs.Windows.{window_of};
+ghost use Rattle.mw_task.specs.mw_tile.Windows.{window_of};
 ghost use Rattle.mw_tiles.specs.Tiles.{AllPlaced, IsPlaneOf};
 ghost use Rattle.mw_tiles.specs.Filled.{filled};
 ghost use Rattle.mw_tiles.specs.Views.{Shows};
 
 use crate::{TiledPlane, TilesView};
 use mw_model::{Kind, NoMemory, Rect};
-use mw_pieces::SharedWindow;
-use mw_pixel::Image;
+use mw_task::mw_pieces::SharedWindow;
+use mw_task::mw_pixel::Image;
 use std::alloc::Global;
 use std::marker::Model;
 

@@ -3,8 +3,8 @@
 ghost use Rattle.std.specs.Prelude.{◌≡◌, ◌<◌, ◌≤◌, ◌^◌, All, IfOk, None, length, replicate, sum_by};
 ghost use Rattle.mw_tiles.specs.Sums.{number_or_zero};
 
-use mw_grid::Grid;
 use mw_model::{Kind, NoMemory};
+use mw_task::mw_grid::Grid;
 use std::alloc::Global;
 use std::marker::Model;
 
@@ -32,7 +32,7 @@ impl Model for TileSums {
 
 impl TileSums {
     ghost use Rattle.std.specs.Prelude.{◌≡◌, ◌<◌, ◌^◌, [], ◌∷◌, IfOk, None, Some, slice_set};
-    ghost use Rattle.mw_grid.specs.Grids.{tile_count};
+    ghost use Rattle.mw_task.specs.mw_grid.Grids.{tile_count};
     ghost use Rattle.mw_tiles.specs.Tiles.{nothing_placed, tile_cells};
     ghost use Rattle.mw_tiles.specs.Sums.{number_in};
 

@@ -1,6 +1,6 @@
 -- The work of an accepted command, in the machine after the command.
 use Rattle.std.proofs.Common.{◌≡◌, ℕ, ◌+◌, ◌<◌, List, [], ◌∷◌, length, map, Option, None, sym, ap, ◌∙◌, subst, arith, length-append}
-use Rattle.mw_facts.proofs.Elements.{get_or-push_below, get_or-push_last}
+use Rattle.mw_model.proofs.mw_facts.Elements.{get_or-push_below, get_or-push_last}
 use Rattle.mw_model.specs.declared.names.Name.{Name}
 use Rattle.mw_model.specs.declared.operations.Op.{Op}
 use Rattle.mw_model.specs.declared.submissions.Submission.{Submission}
@@ -11,14 +11,14 @@ use Rattle.mw_model.specs.Refusals.{no_submission, submission_at, first_of, name
 use Rattle.mw_model.specs.Machine.{Machine, values, inputs_from, run_submission}
 use Rattle.mw_model.specs.Plans.{Plan, images_of}
 use Rattle.mw_model.specs.Stands.{Agrees, input_values}
-use Rattle.mw_laws.specs.MachineLaws.{IsSound}
-use Rattle.mw_laws.proofs.RunTables.{first_none, inputs_all, wanted_within}
-use Rattle.mw_laws.proofs.RunSteps.{pushed}
-use Rattle.mw_grid.specs.Grids.{Tiling}
-use Rattle.mw_plan.specs.PlansOf.{AreValuesOf, HaveFrame, inputs_taken}
-use Rattle.mw_plan.specs.declared.inputs.Input.{Input}
-use Rattle.mw_plan.proofs.Accepted.{accepted_entries, accepted_faultless, accepted_values, machine_values}
-use Rattle.mw_plan.proofs.Refused.{shape_same}
+use Rattle.mw_stands.specs.mw_laws.MachineLaws.{IsSound}
+use Rattle.mw_stands.proofs.mw_laws.RunTables.{first_none, inputs_all, wanted_within}
+use Rattle.mw_stands.proofs.mw_laws.RunSteps.{pushed}
+use Rattle.mw_stands.specs.mw_grid.Grids.{Tiling}
+use Rattle.mw_stands.specs.mw_plan.PlansOf.{AreValuesOf, HaveFrame, inputs_taken}
+use Rattle.mw_stands.specs.mw_plan.declared.inputs.Input.{Input}
+use Rattle.mw_stands.proofs.mw_plan.Accepted.{accepted_entries, accepted_faultless, accepted_values, machine_values}
+use Rattle.mw_stands.proofs.mw_plan.Refused.{shape_same}
 use Rattle.mw_stands.specs.mw_progress.ProgressView.{IsFramed}
 use Rattle.mw_stands.specs.mw_work.Works.{IsAccepted}
 use Rattle.mw_stands.proofs.mw_work.Later.{length-values}

@@ -6,7 +6,7 @@ use Rattle.mw_model.specs.Pictures.{Picture}
 use Rattle.mw_model.specs.PlanSteps.{PlanStep, Erode, Dilate, ErodeBox, DilateBox, Rank, Minus, AtLeast, Invert, Meet, Join, Blank, Mark, MarkLast, Equal, Sum}
 use Rattle.mw_model.specs.Plans.{Plan, Source, FromInput, FromStep, IsSourceAt, no_picture, plane_of_source, planes}
 use Rattle.mw_model.specs.Tasks.{nothing_planned}
-use Rattle.mw_plan.specs.PlansOf.{CanBeMade, KindsAllow, planes_read}
+use Rattle.mw_stands.specs.mw_plan.PlansOf.{CanBeMade, KindsAllow, planes_read}
 use Rattle.mw_stands.specs.mw_places.Levels.{Level, no_level, level_of, level_of_source, levels}
 use Rattle.mw_stands.proofs.mw_work.Leveled.{get_or-map-level_of, levels-planes}
 use Rattle.mw_underway.specs.Planning.{IsAllowed, LevelsAllow, level_at, levels_read}

@@ -3,9 +3,9 @@ use Rattle.std.proofs.Common.{◌≡◌, ℕ, zero, suc, ◌+◌, ◌*◌, ◌<�
 use Rattle.std.specs.Prelude.{◌&&◌}
 use Rattle.std.specs.List.{AllByRecursion}
 use Rattle.std.proofs.lemmas.Nat.{mul-le}
-use Rattle.mw_facts.proofs.Counts.{count_by-none}
-use Rattle.mw_facts.proofs.Elements.{get_or-replicate_same}
-use Rattle.mw_grid.proofs.Counts.{count-all}
+use Rattle.mw_model.proofs.mw_facts.Counts.{count_by-none}
+use Rattle.mw_model.proofs.mw_facts.Elements.{get_or-replicate_same}
+use Rattle.mw_stands.proofs.mw_grid.Counts.{count-all}
 use Rattle.mw_model.specs.declared.names.Name.{Name}
 use Rattle.mw_model.specs.declared.operations.Op.{Op}
 use Rattle.mw_model.specs.declared.calls.Call.TheVariants as call
@@ -20,14 +20,14 @@ use Rattle.mw_model.specs.Machine.{Machine, inputs_from, run_submission, values}
 use Rattle.mw_model.specs.Plans.{images_of}
 use Rattle.mw_model.specs.Stands.{Agrees, IsWork, CoreView, StandsFor}
 use Rattle.mw_model.specs.Tasks.{Progress, flag, is_running, remaining_tasks, running_tasks, task_count}
-use Rattle.mw_laws.specs.MachineLaws.{IsSound}
-use Rattle.mw_laws.proofs.RunSteps.{pushed}
-use Rattle.mw_grid.specs.Grids.{tile_count}
-use Rattle.mw_plan.specs.declared.inputs.Input.{Input}
-use Rattle.mw_plan.specs.declared.inputs.Input.TheVariants as input
-use Rattle.mw_plan.specs.PlansOf.{AreValuesOf, HaveFrame, inputs_taken}
-use Rattle.mw_plan.specs.Tables.{IsInputOf}
-use Rattle.mw_plan.proofs.Accepted.{accepted_faultless, accepted_values, machine_values}
+use Rattle.mw_stands.specs.mw_laws.MachineLaws.{IsSound}
+use Rattle.mw_stands.proofs.mw_laws.RunSteps.{pushed}
+use Rattle.mw_stands.specs.mw_grid.Grids.{tile_count}
+use Rattle.mw_stands.specs.mw_plan.declared.inputs.Input.{Input}
+use Rattle.mw_stands.specs.mw_plan.declared.inputs.Input.TheVariants as input
+use Rattle.mw_stands.specs.mw_plan.PlansOf.{AreValuesOf, HaveFrame, inputs_taken}
+use Rattle.mw_stands.specs.mw_plan.Tables.{IsInputOf}
+use Rattle.mw_stands.proofs.mw_plan.Accepted.{accepted_faultless, accepted_values, machine_values}
 use Rattle.mw_stands.specs.mw_progress.ProgressView.{ProgressView}
 use Rattle.mw_stands.proofs.mw_work.Fresh.{only-image, tile_count-most, work-fresh}
 use Rattle.mw_stands.proofs.mw_work.Numbers.{some-tiles, task_count-whole}

@@ -2,7 +2,7 @@
 use Rattle.std.proofs.Common.{◌≡◌, ℕ, ◌<◌, true, List, [], ◌∷◌, ◌++◌, map, length, Option, Some, None, refl, ap, ◌∙◌, subst, arith}
 use Rattle.std.specs.Prelude.{option_map, filter_map}
 use Rattle.std.specs.List.{AllByRecursion}
-use Rattle.mw_facts.proofs.Alls.{all-append}
+use Rattle.mw_model.proofs.mw_facts.Alls.{all-append}
 use Rattle.mw_model.specs.declared.shapes.Shape.{Shape}
 use Rattle.mw_model.specs.declared.shapes.Shape.TheVariants as shape
 use Rattle.mw_model.specs.declared.submissions.Inputs.{Inputs}
@@ -12,7 +12,7 @@ use Rattle.mw_model.specs.Refusals.{shape_at, submission_at, is_element, is_imag
 use Rattle.mw_model.specs.Machine.{Machine, values}
 use Rattle.mw_model.specs.Plans.{images_of}
 use Rattle.mw_model.specs.Stands.{input_values}
-use Rattle.mw_laws.specs.MachineLaws.{IsSound, shape_of_value}
+use Rattle.mw_stands.specs.mw_laws.MachineLaws.{IsSound, shape_of_value}
 use Rattle.mw_stands.specs.mw_progress.ProgressView.{ProgressView}
 use Rattle.mw_underway.specs.SourceWindows.{IsInputAt}
 

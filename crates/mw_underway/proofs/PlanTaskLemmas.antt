@@ -11,7 +11,7 @@ use Rattle.mw_model.specs.Machine.{Machine, values, CanFinish, settled}
 use Rattle.mw_model.specs.Tasks.{Progress, task_count, planned_of, sources_of, is_ready, is_running, remaining_tasks}
 use Rattle.mw_model.specs.Plans.{images_of}
 use Rattle.mw_model.specs.Stands.{CoreView, StandsFor, IsWork, progress_at, inputs_of, inputs_there, input_values, true_planes, ready_under, is_ready_at, may_run}
-use Rattle.mw_task.specs.WindowTasks.{WindowTask}
+use Rattle.mw_stands.specs.mw_task.WindowTasks.{WindowTask}
 use Rattle.mw_stands.specs.mw_progress.ProgressView.{ProgressView, IsStarted, IsFinished}
 use Rattle.mw_stands.specs.mw_store.Stored.{DropsSpent}
 use Rattle.mw_stands.specs.Facts.{IsComplete}

@@ -5,8 +5,8 @@ use Rattle.mw_model.specs.Pictures.{Picture}
 use Rattle.mw_model.specs.Values.{Value, shape_of_picture}
 use Rattle.mw_model.specs.Machine.{Machine}
 use Rattle.mw_model.specs.Tasks.{nothing_planned}
-use Rattle.mw_laws.specs.MachineLaws.{IsSound, WithinLimits}
-use Rattle.mw_plan.specs.PlansOf.{CanBeMade, planes_read}
+use Rattle.mw_stands.specs.mw_laws.MachineLaws.{IsSound, WithinLimits}
+use Rattle.mw_stands.specs.mw_plan.PlansOf.{CanBeMade, planes_read}
 use Rattle.mw_stands.specs.mw_places.Levels.{Level, level_of}
 use Rattle.mw_stands.specs.mw_progress.ProgressView.{ProgressView, IsWhole}
 use Rattle.mw_stands.specs.mw_work.Works.{IsPlanned}

@@ -13,15 +13,15 @@ use Rattle.mw_model.specs.Refusals.{Table, inputs_wanted, is_image, refusal, sha
 use Rattle.mw_model.specs.Machine.{inputs_from, run_submission}
 use Rattle.mw_model.specs.Plans.{Plan, is_sum}
 use Rattle.mw_model.specs.Tasks.{Progress, nothing_planned}
-use Rattle.mw_grid.specs.Grids.{Tiling, tiling}
-use Rattle.mw_plan.specs.declared.faults.PlanFault.{PlanFault}
-use Rattle.mw_plan.specs.declared.faults.PlanFault.TheVariants as fault
-use Rattle.mw_plan.specs.declared.inputs.Input.{Input}
-use Rattle.mw_plan.specs.declared.inputs.Input.TheVariants as input
-use Rattle.mw_plan.specs.Asked.{IsRefusedBy, fault_in, shape_made}
-use Rattle.mw_plan.specs.PlansOf.{IsPlanOf}
-use Rattle.mw_plan.specs.Tables.{AreInputsOf, AreValuesAt, IsInputOf}
-use Rattle.mw_plan.proofs.Accepted.{accepted_faultless}
+use Rattle.mw_stands.specs.mw_grid.Grids.{Tiling, tiling}
+use Rattle.mw_stands.specs.mw_plan.declared.faults.PlanFault.{PlanFault}
+use Rattle.mw_stands.specs.mw_plan.declared.faults.PlanFault.TheVariants as fault
+use Rattle.mw_stands.specs.mw_plan.declared.inputs.Input.{Input}
+use Rattle.mw_stands.specs.mw_plan.declared.inputs.Input.TheVariants as input
+use Rattle.mw_stands.specs.mw_plan.Asked.{IsRefusedBy, fault_in, shape_made}
+use Rattle.mw_stands.specs.mw_plan.PlansOf.{IsPlanOf}
+use Rattle.mw_stands.specs.mw_plan.Tables.{AreInputsOf, AreValuesAt, IsInputOf}
+use Rattle.mw_stands.proofs.mw_plan.Accepted.{accepted_faultless}
 use Rattle.mw_stands.specs.mw_places.Levels.{Level}
 use Rattle.mw_stands.specs.mw_progress.ProgressView.{IsWhole, IsWorkable, ProgressView, fresh}
 use Rattle.mw_stands.specs.Limits.{ShapesFit}

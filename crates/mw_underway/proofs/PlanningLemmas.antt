@@ -1,7 +1,7 @@
 -- What an accepted command is planned from: an image, elements, and the plan that is made of them.
 use Rattle.std.proofs.Common.{◌≡◌, ℕ, ◌+◌, ◌<◌, true, List, [], ◌∷◌, ◌++◌, length, map, Option, Some, None, refl, sym, ap, ◌∙◌, subst}
 use Rattle.std.specs.List.{AllByRecursion}
-use Rattle.mw_facts.proofs.Alls.{all-append_left, all-append_right}
+use Rattle.mw_model.proofs.mw_facts.Alls.{all-append_left, all-append_right}
 use Rattle.mw_model.specs.declared.names.Name.{Name}
 use Rattle.mw_model.specs.declared.shapes.Shape.{Shape}
 use Rattle.mw_model.specs.declared.operations.Op.{Op}
@@ -13,13 +13,13 @@ use Rattle.mw_model.specs.declared.calls.Call.TheVariants as call
 use Rattle.mw_model.specs.Values.{Value, tickets, option_list}
 use Rattle.mw_model.specs.Refusals.{Table, Wanted, AnImage, AnElement, first_of, name_taken, no_room, input_case, wanted_case, inputs_wanted, is_image, is_element, shape_at, ticket_of, refusal}
 use Rattle.mw_model.specs.Machine.{as_bits, as_grey, first_shape, inputs_from, shape_of_result}
-use Rattle.mw_laws.proofs.RunTables.{first_none, input_found, ticket_is}
-use Rattle.mw_plan.specs.declared.faults.PlanFault.TheVariants as fault
-use Rattle.mw_plan.specs.declared.inputs.Input.{Input}
-use Rattle.mw_plan.specs.declared.inputs.Input.TheVariants as input
-use Rattle.mw_plan.specs.Asked.{fault_in, image_shape, is_image_input, shape_made}
-use Rattle.mw_plan.specs.Tables.{IsInputAt}
-use Rattle.mw_plan.proofs.Fitting.{image_there, none_first}
+use Rattle.mw_stands.proofs.mw_laws.RunTables.{first_none, input_found, ticket_is}
+use Rattle.mw_stands.specs.mw_plan.declared.faults.PlanFault.TheVariants as fault
+use Rattle.mw_stands.specs.mw_plan.declared.inputs.Input.{Input}
+use Rattle.mw_stands.specs.mw_plan.declared.inputs.Input.TheVariants as input
+use Rattle.mw_stands.specs.mw_plan.Asked.{fault_in, image_shape, is_image_input, shape_made}
+use Rattle.mw_stands.specs.mw_plan.Tables.{IsInputAt}
+use Rattle.mw_stands.proofs.mw_plan.Fitting.{image_there, none_first}
 use Rattle.mw_stands.specs.Limits.{FitsLimits, ShapesFit}
 use Rattle.mw_underway.specs.Planning.{IsLookedUp}
 use Rattle.mw_underway.proofs.WorkableLemmas.{ImageFits}

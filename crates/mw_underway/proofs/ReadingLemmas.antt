@@ -2,7 +2,7 @@
 use Rattle.std.proofs.Common.{◌≡◌, ℕ, ◌<◌, ◌≤◌, List, [], ◌∷◌, map, get_or, Option, Some, None, refl, sym, ap, ◌∙◌, subst, arith}
 use Rattle.std.specs.Prelude.{IfOk, IfSome, IsSome, ◌↔◌, Result, Ok, Err, option_map}
 use Rattle.std.specs.List.{AllByRecursion, Contains}
-use Rattle.mw_facts.proofs.Finds.{contains-cons}
+use Rattle.mw_model.proofs.mw_facts.Finds.{contains-cons}
 use Rattle.mw_model.specs.declared.places.Reach.{Reach}
 use Rattle.mw_model.specs.declared.places.Rect.{Rect}
 use Rattle.mw_model.specs.Pictures.{IsPicture, Picture}
@@ -11,12 +11,12 @@ use Rattle.mw_model.specs.Elements.{reach_of}
 use Rattle.mw_model.specs.PlanSteps.{PlanStep, looks_at}
 use Rattle.mw_model.specs.Plans.{Planned, Source, FromInput, FromStep}
 use Rattle.mw_model.specs.Tasks.{nothing_planned, place_read, planned_of, place_of_task, task_count}
-use Rattle.mw_grid.specs.Grids.{Tiling, tile_at, tile_count}
-use Rattle.mw_grid.proofs.Tiles.{HasTiles, tile_begins, tile_within}
-use Rattle.mw_task.proofs.Cut.{window_bounded_cut}
-use Rattle.mw_task.specs.Sources.{HasFrame}
-use Rattle.mw_task.specs.WindowTasks.{FitsStep, IsBounded, WindowTask}
-use Rattle.mw_tile.specs.Windows.{SourceWindow, window_of}
+use Rattle.mw_stands.specs.mw_grid.Grids.{Tiling, tile_at, tile_count}
+use Rattle.mw_stands.proofs.mw_grid.Tiles.{HasTiles, tile_begins, tile_within}
+use Rattle.mw_stands.proofs.mw_task.Cut.{window_bounded_cut}
+use Rattle.mw_stands.specs.mw_task.Sources.{HasFrame}
+use Rattle.mw_stands.specs.mw_task.WindowTasks.{FitsStep, IsBounded, WindowTask}
+use Rattle.mw_stands.specs.mw_tile.Windows.{SourceWindow, window_of}
 use Rattle.mw_stands.specs.mw_progress.ProgressView.{ProgressView, IsWhole, number_of}
 use Rattle.mw_stands.specs.mw_work.Works.{IsReadyOrRuns}
 use Rattle.mw_stands.proofs.mw_work.Reading.{source-placed, source-plane, source-within}

@@ -18,16 +18,16 @@ use Rattle.mw_model.specs.Refusals.{Table, outcome_at, submission_at}
 use Rattle.mw_model.specs.Stands.{CoreView, StandsFor, inputs_there, input_values, progress_at, true_planes}
 use Rattle.mw_model.specs.Tasks.{Progress, flag, is_running, nothing_planned, place_of_task, planned_of, sources_of, task_count}
 use Rattle.mw_model.specs.Values.{image_of, value_at}
-use Rattle.mw_grid.specs.Grids.{Tiling, tile_at, tile_count}
-use Rattle.mw_tile.specs.Windows.{SourceWindow, window_of}
+use Rattle.mw_stands.specs.mw_grid.Grids.{Tiling, tile_at, tile_count}
+use Rattle.mw_stands.specs.mw_tile.Windows.{SourceWindow, window_of}
 use Rattle.mw_stands.specs.mw_tiles.Tiles.{IsPlaneOf}
-use Rattle.mw_task.specs.declared.tile_result.TileResult.{TileResult}
-use Rattle.mw_task.specs.Products.{IsMade}
-use Rattle.mw_task.specs.Sources.{HasFrame}
-use Rattle.mw_task.specs.WindowTasks.{FitsStep, IsBounded, WindowTask, tile_made, window_at}
-use Rattle.mw_task.proofs.Cut.{window_bounded_cut}
-use Rattle.mw_plan.specs.PlansOf.{planes_read}
-use Rattle.mw_plan.proofs.Planes.{plane_is}
+use Rattle.mw_stands.specs.mw_task.declared.tile_result.TileResult.{TileResult}
+use Rattle.mw_stands.specs.mw_task.Products.{IsMade}
+use Rattle.mw_stands.specs.mw_task.Sources.{HasFrame}
+use Rattle.mw_stands.specs.mw_task.WindowTasks.{FitsStep, IsBounded, WindowTask, tile_made, window_at}
+use Rattle.mw_stands.proofs.mw_task.Cut.{window_bounded_cut}
+use Rattle.mw_stands.specs.mw_plan.PlansOf.{planes_read}
+use Rattle.mw_stands.proofs.mw_plan.Planes.{plane_is}
 use Rattle.mw_stands.specs.mw_places.Levels.{Level, level_of, level_of_source, level_of_step, levels, no_level, level_of_plane}
 use Rattle.mw_stands.specs.mw_progress.ProgressView.{Fits, IsWhole, ProgressView, number_of, plane_at}
 use Rattle.mw_stands.specs.mw_work.Works.{true_task}

@@ -11,7 +11,7 @@ use Rattle.mw_model.specs.Machine.{Machine, values}
 use Rattle.mw_model.specs.Plans.{Source, FromInput, FromStep, IsSourceAt, images_of, is_sum, no_picture, plane_of_source}
 use Rattle.mw_model.specs.Tasks.{nothing_planned, planned_of, sources_of, step_number}
 use Rattle.mw_model.specs.Stands.{CoreView, StandsFor, inputs_of, inputs_there, input_values, true_planes}
-use Rattle.mw_task.specs.Sources.{HasFrame}
+use Rattle.mw_stands.specs.mw_task.Sources.{HasFrame}
 use Rattle.mw_stands.specs.mw_tiles.Tiles.{IsPlaneOf}
 use Rattle.mw_stands.specs.mw_progress.ProgressView.{ProgressView, IsWhole, IsPlaneSource, plane_at}
 use Rattle.mw_stands.proofs.KeptInputs.{kept_inputs}

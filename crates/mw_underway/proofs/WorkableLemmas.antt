@@ -2,7 +2,7 @@
 use Rattle.std.proofs.Common.{◌≡◌, ℕ, zero, suc, ◌<◌, true, List, [], ◌∷◌, length, map, take, get_or, Option, Some, None, refl, sym, ap, ◌∙◌, subst, arith}
 use Rattle.std.specs.Arc.{arc_value}
 use Rattle.std.specs.List.{AllByRecursion}
-use Rattle.mw_facts.proofs.Alls.{all-take}
+use Rattle.mw_model.proofs.mw_facts.Alls.{all-take}
 use Rattle.mw_model.specs.declared.operations.Op.{Op}
 use Rattle.mw_model.specs.declared.shapes.Shape.{Shape}
 use Rattle.mw_model.specs.declared.shapes.Shape.TheVariants as shape
@@ -12,9 +12,9 @@ use Rattle.mw_model.specs.Refusals.{inputs_wanted, is_image}
 use Rattle.mw_model.specs.Tasks.{nothing_planned}
 use Rattle.mw_model.specs.Values.{Value, ImageValue, ElementValue, CurveValue, shape_of_picture}
 use Rattle.mw_model.proofs.ImageLaws.{drawn_picture}
-use Rattle.mw_plan.specs.PlansOf.{AreValuesOf, CanBeMade, HaveFrame, IsPlanOf, IsValueOf, inputs_taken, planes_read}
-use Rattle.mw_plan.specs.declared.inputs.Input.{Input}
-use Rattle.mw_plan.specs.declared.inputs.Input.TheVariants as input
+use Rattle.mw_stands.specs.mw_plan.PlansOf.{AreValuesOf, CanBeMade, HaveFrame, IsPlanOf, IsValueOf, inputs_taken, planes_read}
+use Rattle.mw_stands.specs.mw_plan.declared.inputs.Input.{Input}
+use Rattle.mw_stands.specs.mw_plan.declared.inputs.Input.TheVariants as input
 use Rattle.mw_stands.specs.mw_places.Levels.{Level, level_of}
 use Rattle.mw_stands.specs.mw_progress.ProgressView.{IsWorkable}
 use Rattle.mw_stands.proofs.mw_work.Fresh.{only-image}

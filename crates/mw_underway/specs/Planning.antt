@@ -11,15 +11,15 @@ use Rattle.mw_model.specs.Values.{Value}
 use Rattle.mw_model.specs.Refusals.{Table, submission_at, is_image, inputs_wanted}
 use Rattle.mw_model.specs.Machine.{inputs_from}
 use Rattle.mw_model.specs.Tasks.{nothing_planned}
-use Rattle.mw_task.specs.WindowTasks.{source_count}
+use Rattle.mw_stands.specs.mw_task.WindowTasks.{source_count}
 use Rattle.mw_stands.specs.mw_places.Levels.{Level, no_level, level_of_source, levels}
 use Rattle.mw_stands.specs.mw_progress.ProgressView.{ProgressView, IsWhole, fresh}
-use Rattle.mw_plan.specs.PlansOf.{IsPlanOf}
-use Rattle.mw_plan.specs.Tables.{AreInputsOf, IsInputOf}
-use Rattle.mw_plan.specs.declared.inputs.Input.{Input}
-use Rattle.mw_plan.specs.declared.inputs.Input.TheVariants as input
-use Rattle.mw_plan.specs.declared.faults.PlanFault.{PlanFault}
-use Rattle.mw_plan.specs.declared.faults.PlanFault.TheVariants as fault
+use Rattle.mw_stands.specs.mw_plan.PlansOf.{IsPlanOf}
+use Rattle.mw_stands.specs.mw_plan.Tables.{AreInputsOf, IsInputOf}
+use Rattle.mw_stands.specs.mw_plan.declared.inputs.Input.{Input}
+use Rattle.mw_stands.specs.mw_plan.declared.inputs.Input.TheVariants as input
+use Rattle.mw_stands.specs.mw_plan.declared.faults.PlanFault.{PlanFault}
+use Rattle.mw_stands.specs.mw_plan.declared.faults.PlanFault.TheVariants as fault
 use Rattle.mw_underway.specs.declared.planning.Unplanned.{Unplanned}
 use Rattle.mw_underway.specs.declared.planning.Unplanned.TheVariants as unplanned
 use Rattle.mw_underway.specs.SourceWindows.{IsInput}

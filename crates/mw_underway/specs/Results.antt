@@ -5,9 +5,9 @@ use Rattle.mw_model.specs.declared.places.Rect.{Rect}
 use Rattle.mw_model.specs.Pictures.{Picture}
 use Rattle.mw_model.specs.Plans.{Source}
 use Rattle.mw_model.specs.Tasks.{is_running, planned_of, tile_of_task}
-use Rattle.mw_grid.specs.Grids.{tile_count}
-use Rattle.mw_tile.specs.Windows.{SourceWindow}
-use Rattle.mw_task.specs.WindowTasks.{WindowTask, IsBounded}
+use Rattle.mw_stands.specs.mw_grid.Grids.{tile_count}
+use Rattle.mw_stands.specs.mw_tile.Windows.{SourceWindow}
+use Rattle.mw_stands.specs.mw_task.WindowTasks.{WindowTask, IsBounded}
 use Rattle.mw_stands.specs.mw_places.Levels.{Level, level_of, level_of_source, levels, no_level}
 use Rattle.mw_stands.specs.mw_progress.ProgressView.{ProgressView, number_of}
 use Rattle.mw_underway.specs.SourceWindows.{AreSources, IsTaskOf, IsWindowOf, task_on}

@@ -9,9 +9,9 @@ use Rattle.mw_model.specs.Values.{option_list}
 use Rattle.mw_model.specs.Refusals.{Table, shape_at, submission_at, is_element}
 use Rattle.mw_model.specs.Plans.{Source, FromInput, FromStep, is_sum}
 use Rattle.mw_model.specs.Tasks.{is_ready, nothing_planned, planned_of, place_of_task, task_count, step_number, tile_number, tile_of_task}
-use Rattle.mw_task.specs.Sources.{HasFrame}
-use Rattle.mw_task.specs.WindowTasks.{WindowTask, FitsStep, IsBounded}
-use Rattle.mw_tile.specs.Windows.{SourceWindow, window_of}
+use Rattle.mw_stands.specs.mw_task.Sources.{HasFrame}
+use Rattle.mw_stands.specs.mw_task.WindowTasks.{WindowTask, FitsStep, IsBounded}
+use Rattle.mw_stands.specs.mw_tile.Windows.{SourceWindow, window_of}
 use Rattle.mw_stands.specs.mw_tiles.Tiles.{HasAll, IsPlaneOf}
 use Rattle.mw_stands.specs.mw_progress.ProgressView.{ProgressView, IsStarted, IsWhole, plane_at}
 

@@ -5,15 +5,15 @@ ghost use Rattle.std.specs.List.{AllByRecursion};
 ghost use Rattle.mw_model.specs.Values.{Value, tickets};
 ghost use Rattle.mw_model.specs.Refusals.{refusal};
 ghost use Rattle.mw_model.specs.Machine.{run_submission};
-ghost use Rattle.mw_plan.specs.Asked.{IsRefusedBy, fault_in};
-ghost use Rattle.mw_plan.specs.PlansOf.{IsPlanOf};
-ghost use Rattle.mw_plan.specs.Tables.{AreValuesAt};
+ghost use Rattle.mw_stands.specs.mw_plan.Asked.{IsRefusedBy, fault_in};
+ghost use Rattle.mw_stands.specs.mw_plan.PlansOf.{IsPlanOf};
+ghost use Rattle.mw_stands.specs.mw_plan.Tables.{AreValuesAt};
 ghost use Rattle.mw_stands.specs.Limits.{ShapesFit};
 ghost use Rattle.mw_underway.specs.Planning.{IsLookedUp, IsPlannedBy, IsSide};
 
-use mw_grid::Grid;
 use mw_model::{Call, Name, NoMemory, Op, Shape, Submission};
-use mw_plan::{Input, Plan, PlanFault};
+use mw_stands::mw_grid::Grid;
+use mw_stands::mw_plan::{Input, Plan, PlanFault};
 use mw_stands::{PlanProgress, Store};
 use std::alloc::Global;
 
@@ -73,8 +73,8 @@ fn plan_of(
     ensures plan { IfOk result (IsPlanOf op a.entry b.entry c.entry) }
 {
     match op {
-        Op::Flat(flat) => mw_plan::plan_of(alloc, &flat, a, b, c),
-        Op::Gran(gran) => mw_gran::plan_of(alloc, &gran, a, b, c),
+        Op::Flat(flat) => mw_stands::mw_plan::plan_of(alloc, &flat, a, b, c),
+        Op::Gran(gran) => mw_stands::mw_gran::plan_of(alloc, &gran, a, b, c),
     }
 }
 

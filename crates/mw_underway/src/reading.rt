@@ -6,16 +6,16 @@ ghost use Rattle.std.specs.List.{AllByRecursion};
 ghost use Rattle.mw_model.specs.Pictures.{Picture};
 ghost use Rattle.mw_model.specs.Places.{IsWithin};
 ghost use Rattle.mw_model.specs.Values.{image_of, value_at};
-ghost use Rattle.mw_plan.specs.Seen.{source, sources};
-ghost use Rattle.mw_task.specs.Sources.{HasFrame};
-ghost use Rattle.mw_task.specs.WindowTasks.{IsBounded};
-ghost use Rattle.mw_tile.specs.Windows.{window_of};
+ghost use Rattle.mw_stands.specs.mw_plan.Seen.{source, sources};
+ghost use Rattle.mw_stands.specs.mw_task.Sources.{HasFrame};
+ghost use Rattle.mw_stands.specs.mw_task.WindowTasks.{IsBounded};
+ghost use Rattle.mw_stands.specs.mw_tile.Windows.{window_of};
 ghost use Rattle.mw_underway.specs.SourceWindows.{AreWindowsOf, CanRead, CanReadAll, IsSource, IsWindowOf};
 
 use mw_model::{NoMemory, Rect};
-use mw_plan::{Source, Sources};
+use mw_stands::mw_plan::{Source, Sources};
+use mw_stands::mw_task::SharedWindow;
 use mw_stands::{PlanProgress, Store};
-use mw_task::SharedWindow;
 use std::alloc::Global;
 
 /// Where a task reads: the ticket of the image among the inputs of its command, and the rectangle of the frame.

@@ -5,18 +5,18 @@ ghost use Rattle.std.specs.List.{AllByRecursion};
 ghost use Rattle.mw_model.specs.Pictures.{Picture};
 ghost use Rattle.mw_model.specs.Places.{IsWithin};
 ghost use Rattle.mw_model.specs.Values.{image_of, value_at};
-ghost use Rattle.mw_plan.specs.Seen.{source, sources};
-ghost use Rattle.mw_task.specs.WindowTasks.{IsBounded};
-ghost use Rattle.mw_tile.specs.Windows.{window_of};
+ghost use Rattle.mw_stands.specs.mw_plan.Seen.{source, sources};
+ghost use Rattle.mw_stands.specs.mw_task.WindowTasks.{IsBounded};
+ghost use Rattle.mw_stands.specs.mw_tile.Windows.{window_of};
 ghost use Rattle.mw_stands.specs.mw_places.Levels.{level_of_source, levels, no_level};
 ghost use Rattle.mw_underway.specs.SourceWindows.{AreSources, CanRead, CanReadAll, IsOfWork, IsSource};
 ghost use Rattle.mw_underway.specs.Results.{AreShown, HasLevel, IsFitOf, IsFoundOf, IsOfRunning, IsResultOf, IsShown, level_of_window};
 
 use crate::reading::{Reading, has_frame};
 use mw_model::{Kind, Rect};
-use mw_plan::{Source, Sources};
+use mw_stands::mw_plan::{Source, Sources};
+use mw_stands::mw_task::{SharedWindow, TileDone};
 use mw_stands::{PlanProgress, Store};
-use mw_task::{SharedWindow, TileDone};
 
 /// Whether the image that is kept of the ticket, if one is, has the level that the work reads.
 fn has_level(store: &Store, work: &PlanProgress, image: u32) -> bool

@@ -3,15 +3,15 @@
 ghost use Rattle.std.specs.Prelude.{◌≡◌, ◌<◌, length, slice_index, IfOk, OnErr};
 ghost use Rattle.mw_model.specs.Values.{image_of, value_at};
 ghost use Rattle.mw_model.specs.Tasks.{ready_tasks};
-ghost use Rattle.mw_grid.specs.Grids.{tile_count};
+ghost use Rattle.mw_stands.specs.mw_grid.Grids.{tile_count};
 ghost use Rattle.mw_stands.specs.mw_progress.ProgressView.{number_of};
 ghost use Rattle.mw_stands.specs.mw_work.Works.{IsReadyOrRuns};
 ghost use Rattle.mw_underway.specs.SourceWindows.{IsTaskOrNone, Takes};
 
 use crate::reading::{Reading, windows};
 use mw_model::{NoMemory, TaskId};
+use mw_stands::mw_task::Work;
 use mw_stands::{PlanProgress, Store};
-use mw_task::Work;
 use std::alloc::Global;
 
 /// The task of these numbers; None where it has no windows that fit its step.

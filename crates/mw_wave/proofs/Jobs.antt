@@ -2,9 +2,9 @@
 use Rattle.std.proofs.Common.{◌≡◌, ℕ, zero, suc, ◌<◌, inl, inr, Ok, Err, List, [], ◌∷◌, ◌++◌, length, refl, sym, ap, ◌∙◌, subst, arith}
 use Rattle.std.specs.Prelude.{slice_index_or, slice_set, Result, IfOk, IfErr, Vec}
 use Rattle.std.specs.List.{AllByRecursion, AllZip}
-use Rattle.mw_task.specs.WindowTasks.{IsBounded, WindowTask}
-use Rattle.mw_task.specs.declared.done.TaskRefused.{TaskRefused}
-use Rattle.mw_task.specs.declared.tile_result.TileResult.{TileResult}
+use Rattle.mw_step.specs.mw_task.WindowTasks.{IsBounded, WindowTask}
+use Rattle.mw_step.specs.mw_task.declared.done.TaskRefused.{TaskRefused}
+use Rattle.mw_step.specs.mw_task.declared.tile_result.TileResult.{TileResult}
 use Rattle.mw_model.specs.declared.memory.NoMemory.{NoMemory}
 use Rattle.mw_wave.specs.declared.shared.Made.{Made}
 use Rattle.mw_wave.specs.declared.job.Job.{Job}

@@ -5,12 +5,12 @@ use Rattle.std.specs.Option.{option_map_or}
 use Rattle.std.proofs.lemmas.Bool.{cases_lt, cases_Bool}
 use Rattle.std.proofs.lemmas.List.Sums.{count_by-le-length}
 use Rattle.std.proofs.lemmas.List.FromFn.{length-range_with_len}
-use Rattle.mw_facts.proofs.Finds.{option_cases}
+use Rattle.mw_model.proofs.mw_facts.Finds.{option_cases}
 use Rattle.mw_model.specs.Refusals.{Table, outcome_at, is_pending}
 use Rattle.mw_model.specs.Machine.{Machine}
 use Rattle.mw_model.specs.Tasks.{Progress, task_count, flag, tasks_below, running_tasks, remaining_tasks}
 use Rattle.mw_model.specs.Stands.{CoreView, IsWork, StandsFor, progress_at, running_count}
-use Rattle.mw_laws.proofs.RunStates.{reached}
+use Rattle.mw_script_laws.proofs.mw_laws.RunStates.{reached}
 use Rattle.mw_core.specs.mw_stands.Events.{WorkStays}
 use Rattle.mw_core.proofs.mw_stands.CountLemmas.{sum-at, sum-most}
 use Rattle.mw_wave.specs.Work.{tasks_left}

@@ -3,8 +3,8 @@ use Rattle.std.proofs.Common.{◌≡◌, ℕ, ◌+◌, ◌≤◌, [], ◌++◌, 
 use Rattle.std.proofs.lemmas.List.{append-nil}
 use Rattle.mw_model.specs.Machine.{Machine}
 use Rattle.mw_model.specs.Stands.{CoreView, StandsFor, running_count}
-use Rattle.mw_laws.proofs.RunStates.{reached}
-use Rattle.mw_laws.proofs.RunReplay.{run_join}
+use Rattle.mw_script_laws.proofs.mw_laws.RunStates.{reached}
+use Rattle.mw_script_laws.proofs.mw_laws.RunReplay.{run_join}
 use Rattle.mw_core.specs.mw_stands.Counts.{NonePending}
 use Rattle.mw_script_laws.proofs.Working.{works_any_order}
 use Rattle.mw_script_laws.proofs.Finishing.{only_append}

@@ -5,8 +5,8 @@ use Rattle.std.specs.Option.{option_map_or}
 use Rattle.std.specs.List.{range_with_len, count_by, AllByRecursion, AllZip}
 use Rattle.std.proofs.lemmas.Bool.{cases_lt, cases_Bool, cases_eq, not-true, and_parts}
 use Rattle.std.proofs.lemmas.List.{append-nil, get_or-set_same, get_or-set_other}
-use Rattle.mw_facts.proofs.Finds.{option_cases}
-use Rattle.mw_facts.proofs.Counts.{count_by-some, count_by-none}
+use Rattle.mw_model.proofs.mw_facts.Finds.{option_cases}
+use Rattle.mw_model.proofs.mw_facts.Counts.{count_by-some, count_by-none}
 use Rattle.mw_model.specs.declared.calls.Outcome.TheVariants as outcome
 use Rattle.mw_model.specs.declared.calls.LogItem.{LogItem}
 use Rattle.mw_model.specs.declared.calls.LogItem.TheVariants as item
@@ -15,11 +15,11 @@ use Rattle.mw_model.specs.Refusals.{Table, outcome_at, is_pending}
 use Rattle.mw_model.specs.Machine.{Machine, Run, with_table, killed, settled}
 use Rattle.mw_model.specs.Tasks.{Progress, task_count, flag, is_ready, is_running, running_tasks, remaining_tasks}
 use Rattle.mw_model.specs.Stands.{CoreView, StandsFor, progress_at, may_run, running_count}
-use Rattle.mw_laws.proofs.RunCascade.{is_killed}
-use Rattle.mw_laws.proofs.RunStates.{reached}
-use Rattle.mw_laws.proofs.RunReplay.{run_join}
-use Rattle.mw_task.specs.WindowTasks.{WindowTask}
-use Rattle.mw_task.specs.declared.done.TaskRefused.{TaskRefused}
+use Rattle.mw_script_laws.proofs.mw_laws.RunCascade.{is_killed}
+use Rattle.mw_script_laws.proofs.mw_laws.RunStates.{reached}
+use Rattle.mw_script_laws.proofs.mw_laws.RunReplay.{run_join}
+use Rattle.mw_step.specs.mw_task.WindowTasks.{WindowTask}
+use Rattle.mw_step.specs.mw_task.declared.done.TaskRefused.{TaskRefused}
 use Rattle.mw_core.specs.mw_work.Works.{true_task}
 use Rattle.mw_core.specs.mw_stands.Events.{WorkStays}
 use Rattle.mw_core.specs.mw_stands.TaskEvents.{Kills, BeginsTask, IsResult, IsUnderway, Settles, Places, IsSettled}

@@ -1,10 +1,10 @@
 -- The places of a wave, and the answers to its tasks (own).
 use Rattle.std.specs.Prelude.{◌≡◌, IfOk, Result, Ok, Err, List, [], ◌∷◌, ◌⊎◌, Vec, slice_index_or}
 use Rattle.std.specs.List.{AllByRecursion}
-use Rattle.mw_task.specs.WindowTasks.{IsBounded, WindowTask}
-use Rattle.mw_task.specs.Products.{IsMade}
-use Rattle.mw_task.specs.declared.done.TaskRefused.{TaskRefused}
-use Rattle.mw_task.specs.declared.tile_result.TileResult.{TileResult}
+use Rattle.mw_step.specs.mw_task.WindowTasks.{IsBounded, WindowTask}
+use Rattle.mw_step.specs.mw_task.Products.{IsMade}
+use Rattle.mw_step.specs.mw_task.declared.done.TaskRefused.{TaskRefused}
+use Rattle.mw_step.specs.mw_task.declared.tile_result.TileResult.{TileResult}
 use Rattle.mw_model.specs.declared.memory.NoMemory.{NoMemory}
 use Rattle.mw_wave.specs.declared.shared.Made.{Made}
 use Rattle.mw_wave.specs.declared.job.Job.{Job}

@@ -5,8 +5,8 @@ use Rattle.mw_model.specs.declared.calls.LogItem.{LogItem}
 use Rattle.mw_model.specs.Machine.{Machine, Run}
 use Rattle.mw_model.specs.Tasks.{Progress, task_count, is_running}
 use Rattle.mw_model.specs.Stands.{CoreView, StandsFor, progress_at, ready_count, running_count}
-use Rattle.mw_task.specs.WindowTasks.{WindowTask}
-use Rattle.mw_task.specs.declared.done.TaskRefused.{TaskRefused}
+use Rattle.mw_step.specs.mw_task.WindowTasks.{WindowTask}
+use Rattle.mw_step.specs.mw_task.declared.done.TaskRefused.{TaskRefused}
 use Rattle.mw_core.specs.mw_work.Works.{true_task}
 use Rattle.mw_core.specs.declared.answers.Started.{Started}
 use Rattle.mw_core.specs.declared.answers.Started.TheVariants as started

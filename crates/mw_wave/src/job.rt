@@ -2,13 +2,13 @@
 
 ghost use Rattle.std.specs.Prelude.{IfOk};
 ghost use Rattle.std.specs.List.{AllByRecursion, AllZip};
-ghost use Rattle.mw_task.specs.Products.{IsMade};
+ghost use Rattle.mw_step.specs.mw_task.Products.{IsMade};
 ghost use Rattle.mw_wave.specs.Jobs.{AreMade, IsAnswered, IsAnswerTo};
 
 use crate::Crew;
 use crate::shared::{Made, put_all, put_hand};
 use mw_model::NoMemory;
-use mw_task::{TaskRefused, TileDone, TileResult, Work};
+use mw_step::mw_task::{TaskRefused, TileDone, TileResult, Work};
 use std::alloc::{AllocError, Global};
 use std::thread::Threads;
 use std::{mem, thread};

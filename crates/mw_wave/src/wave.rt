@@ -4,7 +4,7 @@ ghost use Rattle.std.specs.Prelude.{◌≡◌, ◌<◌, ◌≤◌, ◌+◌, ◌+
 ghost use Rattle.std.specs.List.{AllByRecursion};
 ghost use Rattle.mw_model.specs.Machine.{Machine};
 ghost use Rattle.mw_model.specs.Stands.{CoreView, StandsFor, ready_count, running_count};
-ghost use Rattle.mw_task.specs.WindowTasks.{IsBounded};
+ghost use Rattle.mw_step.specs.mw_task.WindowTasks.{IsBounded};
 ghost use Rattle.mw_core.specs.TaskAnswers.{Picks, StartsBounded};
 ghost use Rattle.mw_wave.specs.declared.job.Job.{Job};
 ghost use Rattle.mw_wave.specs.Jobs.{AreMade, IsBoundedJob};
@@ -15,7 +15,7 @@ use crate::job::{Job, answered};
 use crate::shared::{Made, make_by, make_some};
 use crate::{Crew, Pick};
 use mw_core::{Core, Started};
-use mw_task::{TaskRefused, TileDone, Work};
+use mw_step::mw_task::{TaskRefused, TileDone, Work};
 use std::alloc::{AllocError, Global};
 use std::sync::atomic::AtomicUsize;
 use std::thread::Threads;

@@ -2,7 +2,7 @@
 use Rattle.std.proofs.Common.{◌≡◌, ◌≢◌, ℕ, ◌+◌, ◌<◌, ◌≤◌, ◌⊎◌, inl, inr, Option, Some, None, List, [], ◌∷◌, ◌++◌, length, take, drop, length-drop, refl, sym, subst, ◌∙◌, ap, arith, append_assoc, take-append-drop}
 use Rattle.std.specs.List.{position_or_len}
 use Rattle.std.proofs.lemmas.Bool.{cases_lt}
-use Rattle.mw_facts.proofs.Positions.{position_length}
+use Rattle.mw_model.proofs.mw_facts.Positions.{position_length}
 use Rattle.mw_model.specs.declared.requests.Awaited.{Awaited}
 use Rattle.mw_model.specs.declared.requests.Head.{Head}
 use Rattle.mw_model.specs.declared.requests.Head.TheVariants.{Payload, Alone}

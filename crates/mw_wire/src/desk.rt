@@ -6,9 +6,9 @@ ghost use Rattle.mw_model.specs.Lines.{AskAlone};
 ghost use Rattle.mw_intake.specs.Intake.{asked};
 ghost use Rattle.mw_wire.specs.Writes.{Wrote};
 
-use mw_model::Request;
 use crate::fault::SessionFault;
 use crate::sink::Sink;
+use mw_model::Request;
 use std::io::Write;
 
 /// Answers requests one by one. What a request may read and change is kept beside it: a core, or the receipts of a pass.

@@ -7,11 +7,11 @@ use Rattle.std.proofs.lemmas.List.{take_all, take_more, get_or-drop}
 use Rattle.std.proofs.lemmas.List.Sums.{sum_by-append, sum_by-cons, sum_by_push}
 use Rattle.std.proofs.lemmas.Nat.{ones_cat, div-mul-add, mod-mul-add}
 use Rattle.std.proofs.lemmas.Nat.Bits.{bit_at_lowest, bit_at-suc}
-use Rattle.mw_facts.proofs.Numbers.{add_one-add}
+use Rattle.mw_model.proofs.mw_facts.Numbers.{add_one-add}
 use Rattle.mw_line.proofs.Rows.{rows_fit}
-use Rattle.mw_words.specs.Packed.{bit_of, stride_of, samples_of, IsPacked}
+use Rattle.mw_line.specs.mw_words.Packed.{bit_of, stride_of, samples_of, IsPacked}
 use Rattle.mw_word_rows.specs.Rows.{bits_in}
-use Rattle.mw_words.proofs.Bits.{bit_of_word}
+use Rattle.mw_line.proofs.mw_words.Bits.{bit_of_word}
 use lib.Count.{ones}
 
 -- the sum of f at the n places from a on

@@ -4,9 +4,9 @@ use Rattle.std.specs.Int.{bit_at}
 use Rattle.std.proofs.lemmas.Bool.{cases_lt, cases_eq, lt-ltb, le-ltb}
 use Rattle.std.proofs.lemmas.List.{get_or-set_same, get_or-set_other}
 use Rattle.std.proofs.lemmas.Nat.Bits.{bit_at_or}
-use Rattle.mw_words.specs.Packed.{bit_of, stride_of, IsPacked}
-use Rattle.mw_words.proofs.Bits.{bit_of_word, bit_of_its_word, bit_of_part}
-use Rattle.mw_words.proofs.Funnels.{shl_low, shl_high}
+use Rattle.mw_line.specs.mw_words.Packed.{bit_of, stride_of, IsPacked}
+use Rattle.mw_line.proofs.mw_words.Bits.{bit_of_word, bit_of_its_word, bit_of_part}
+use Rattle.mw_line.proofs.mw_words.Funnels.{shl_low, shl_high}
 
 -- the bits before a width, and n from there on
 abbrev pub with_margin : ℕ → ℕ → List ℕ → ℕ → ℕ

@@ -2,9 +2,9 @@
 use Rattle.std.proofs.Common.{◌≡◌, ℕ, ◌+◌, ◌-◌, ◌*◌, ◌/◌, ◌%◌, ◌<◌, List, get_or, ap, sym, arith, ◌∙◌, inl, inr}
 use Rattle.std.specs.Int.{bit_at}
 use Rattle.std.proofs.lemmas.Bool.{cases_lt}
-use Rattle.mw_words.specs.Packed.{bit_of}
-use Rattle.mw_words.proofs.Bits.{bit_of_word}
-use Rattle.mw_words.proofs.Funnels.{IsFunnel}
+use Rattle.mw_line.specs.mw_words.Packed.{bit_of}
+use Rattle.mw_line.proofs.mw_words.Bits.{bit_of_word}
+use Rattle.mw_line.proofs.mw_words.Funnels.{IsFunnel}
 
 -- the word's bits are the merged ones of two others
 pub record IsMerged (f : ℕ → ℕ → ℕ) (a b word : ℕ) : Type 0 where

@@ -5,7 +5,7 @@ use Rattle.std.proofs.lemmas.List.FromFn.{get_or-map-range_with_len, length-map-
 use Rattle.mw_line.specs.Extrema.{strided}
 use Rattle.mw_line.proofs.Folds.{IsExtremum}
 use Rattle.mw_line.proofs.Joined.{Taken, strided-joined, taken_within, taken_fits}
-use Rattle.mw_words.specs.Packed.{bit_of}
+use Rattle.mw_line.specs.mw_words.Packed.{bit_of}
 use Rattle.mw_word_rows.specs.Rows.{laid_bits}
 
 pub length-laid_bits : (words : List ℕ) → length (laid_bits words) ≡ 64 * (length words - 1)

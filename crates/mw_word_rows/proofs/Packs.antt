@@ -8,12 +8,12 @@ use Rattle.std.proofs.lemmas.List.{take_all, get_or-take, get_or-drop, get_or_pa
 use Rattle.std.proofs.lemmas.Nat.{shr-shr, one_shl, pow_pos, div-add-mod', div_below, mod_below}
 use Rattle.std.proofs.lemmas.Nat.Bits.{bit_at_and, bit_at_ones, bit_at-lt, and_pow}
 use Rattle.std.proofs.lemmas.Simd.{bitmask_splat, bit_mask_l, get_or-replicate}
-use Rattle.mw_facts.proofs.Parts.{get_or-put_mid_below as put_mid_below, get_or-put_mid_within as put_mid_at, get_or-put_mid_above as put_mid_above}
-use Rattle.mw_facts.proofs.Numbers.{one_if-not_zero, factor-positive}
+use Rattle.mw_model.proofs.mw_facts.Parts.{get_or-put_mid_below as put_mid_below, get_or-put_mid_within as put_mid_at, get_or-put_mid_above as put_mid_above}
+use Rattle.mw_model.proofs.mw_facts.Numbers.{one_if-not_zero, factor-positive}
 use Rattle.mw_line.proofs.Rows.{RowsMade}
-use Rattle.mw_words.specs.Packed.{stride_of, samples_of, IsPacked}
-use Rattle.mw_words.proofs.Bits.{samples_are_bits}
-use Rattle.mw_words.proofs.Done.{BitRowsDone}
+use Rattle.mw_line.specs.mw_words.Packed.{stride_of, samples_of, IsPacked}
+use Rattle.mw_line.proofs.mw_words.Bits.{samples_are_bits}
+use Rattle.mw_line.proofs.mw_words.Done.{BitRowsDone}
 use borrow.Rule.Slice.PartMut.{put_mid}
 use lib.Lanes.{zip2, mask_l, top}
 

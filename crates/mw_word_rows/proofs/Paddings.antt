@@ -6,12 +6,12 @@ use Rattle.std.proofs.lemmas.Int.{ints}
 use Rattle.std.proofs.lemmas.Nat.Bits.{bit_at_or}
 use Rattle.std.proofs.lemmas.Option.{slice_get-get_or}
 use Rattle.mw_model.specs.Rasters.{raster, cell_at}
-use Rattle.mw_lane.specs.Shifted.{merge_at}
+use Rattle.mw_line.specs.mw_lane.Shifted.{merge_at}
 use Rattle.mw_line.proofs.Rows.{rows_fit}
-use Rattle.mw_words.specs.Packed.{bit_of}
+use Rattle.mw_line.specs.mw_words.Packed.{bit_of}
 use Rattle.mw_word_rows.specs.Rows.{pixel_at, words_before}
-use Rattle.mw_words.proofs.Bits.{bit_of_word, bit_of-lt}
-use Rattle.mw_words.proofs.Funnels.{shl_low, shl_high, IsFunnel}
+use Rattle.mw_line.proofs.mw_words.Bits.{bit_of_word, bit_of-lt}
+use Rattle.mw_line.proofs.mw_words.Funnels.{shl_low, shl_high, IsFunnel}
 
 -- n changes no bit
 pub record IsNeutral (f : ℕ → ℕ → ℕ) (n : ℕ) : Type 0 where

@@ -2,7 +2,7 @@
 use Rattle.std.specs.Prelude.{ℕ, ◌-◌, ◌*◌, ◌^◌, List, length, map, cond, nat_lt, Option, Some, None, ℤ, pos, negsuc}
 use Rattle.std.specs.List.{range_with_len, sum_by}
 use Rattle.std.specs.Int.RustNames.{count_ones}
-use Rattle.mw_words.specs.Packed.{bit_of}
+use Rattle.mw_line.specs.mw_words.Packed.{bit_of}
 
 -- the pixel at a place of a row of so many, where the row has that place
 abbrev pub pixel_at : List ℕ → ℕ → ℤ → Option ℕ

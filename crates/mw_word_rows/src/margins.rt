@@ -1,9 +1,9 @@
 //! Rows of words copied as they stand, with neutral pixels past their width.
 ghost use Rattle.std.specs.Prelude.{◌≡◌, ℕ, ◌+◌, ◌*◌, ◌/◌, ◌<◌, ◌≤◌, length, if◌then◌else◌, nat_lt};
-ghost use Rattle.mw_words.specs.Packed.{bit_of, stride_of, IsPacked};
+ghost use Rattle.mw_line.specs.mw_words.Packed.{bit_of, stride_of, IsPacked};
 
 use crate::WordExtremum;
-use mw_words::stride;
+use mw_line::mw_words::stride;
 
 /// Makes the bits past the width neutral.
 #[inline(always)]

@@ -2,7 +2,7 @@
 ghost use Rattle.std.specs.Prelude.{◌≡◌, ℕ, ◌-◌, ◌*◌, ◌<◌, min, max, length};
 ghost use Rattle.std.proofs.Common.{refl};
 ghost use Rattle.std.specs.Int.{bit_at};
-ghost use Rattle.mw_words.specs.Packed.{bit_of};
+ghost use Rattle.mw_line.specs.mw_words.Packed.{bit_of};
 
 /// What becomes of two pixels, 64 pairs at a time.
 pub trait PairOfWords {

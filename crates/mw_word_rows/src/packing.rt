@@ -1,9 +1,9 @@
 //! Pixels packed into words: 64 at a time, by comparing 64 bytes with 0 at once.
 ghost use Rattle.std.specs.Prelude.{◌≡◌, ℕ, ◌*◌, ◌+◌, ◌<◌, ◌≤◌, ◌^◌, length, slice_index, slice_range};
 ghost use Rattle.std.specs.Int.{bit_at};
-ghost use Rattle.mw_words.specs.Packed.{bit_of, stride_of};
+ghost use Rattle.mw_line.specs.mw_words.Packed.{bit_of, stride_of};
 
-use mw_pixel::Bit;
+use mw_line::mw_pixel::Bit;
 use std::simd::Simd;
 use std::simd::prelude::*;
 

@@ -1,12 +1,12 @@
 //! A row of pixels merged into a row of words, shifted; where the row has no place, nothing changes.
 ghost use Rattle.std.specs.Prelude.{◌≡◌, ℕ, ◌+◌, ◌*◌, ◌<◌, ◌≤◌, ◌^◌, negsuc, pos, ◌+ℤ◌, ◌-ℤ◌, ◌≤ℤ◌, length};
 ghost use Rattle.std.specs.Int.{bit_at};
-ghost use Rattle.mw_lane.specs.Shifted.{merge_at};
-ghost use Rattle.mw_words.specs.Packed.{bit_of, stride_of};
+ghost use Rattle.mw_line.specs.mw_lane.Shifted.{merge_at};
+ghost use Rattle.mw_line.specs.mw_words.Packed.{bit_of, stride_of};
 ghost use Rattle.mw_word_rows.specs.Rows.{pixel_at, words_before};
 
 use crate::WordExtremum;
-use mw_words::funnel;
+use mw_line::mw_words::funnel;
 
 /// So many words are thought to stand before a row, so that no place of interest is negative.
 const BEFORE: u64 = 34359738368;

@@ -2,10 +2,10 @@
 //! bit p % 64 of word p / 64.
 ghost use Rattle.std.specs.Prelude.{◌≡◌, ℕ, ◌+◌, ◌-◌, ◌*◌, ◌/◌, ◌%◌, ◌<◌, ◌≤◌, length};
 ghost use Rattle.std.specs.Int.{bit_at};
-ghost use Rattle.mw_words.specs.Packed.{bit_of};
+ghost use Rattle.mw_line.specs.mw_words.Packed.{bit_of};
 
 use crate::WordExtremum;
-use mw_words::funnel;
+use mw_line::mw_words::funnel;
 
 /// Merges into each bit the one `start` places further on in the cells.
 pub fn combine_from<E: WordExtremum>(cells: &[u64], start: usize, out: &mut [u64])

@@ -1,9 +1,9 @@
 //! Words unpacked into pixels, eight at a time.
 ghost use Rattle.std.specs.Prelude.{◌≡◌, ℕ, ◌*◌, ◌+◌, ◌<◌, ◌≤◌, ◌^◌, length, slice_index};
 ghost use Rattle.std.specs.Int.{bit_at};
-ghost use Rattle.mw_words.specs.Packed.{bit_of};
+ghost use Rattle.mw_line.specs.mw_words.Packed.{bit_of};
 
-use mw_pixel::Bit;
+use mw_line::mw_pixel::Bit;
 
 /// Writes the pixels of a byte.
 #[inline(always)]

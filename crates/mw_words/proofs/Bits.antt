@@ -8,7 +8,7 @@ use Rattle.std.proofs.lemmas.List.{get_or-take, get_or-drop, get_or_past}
 use Rattle.std.proofs.lemmas.List.FromFn.{get_or-map-range_with_len, fill_by_all, length-map-range_with_len}
 use Rattle.std.proofs.lemmas.Nat.{mul-add-lt, div-mul-add, mod-mul-add, div_below, div-add-mod', mod_below}
 use Rattle.std.proofs.lemmas.Nat.Bits.{bit_at-zero, bit_at-lt}
-use Rattle.mw_facts.proofs.Numbers.{factor-positive}
+use Rattle.mw_model.proofs.mw_facts.Numbers.{factor-positive}
 use Rattle.mw_words.specs.Packed.{bit_of, stride_of, samples_of, IsPacked}
 
 pub rows_fit : (y h w : ℕ) → y < h → y * w + w ≤ h * w

@@ -5,7 +5,7 @@ use Rattle.std.proofs.lemmas.Bool.{cases_lt}
 use Rattle.std.proofs.lemmas.Grind.{same_number_lists}
 use Rattle.std.proofs.lemmas.Nat.{div_below, mod_below, div-add-mod'}
 use Rattle.std.proofs.lemmas.Nat.Bits.{bit_at_and, bit_at-lt, same_from_bits}
-use Rattle.mw_facts.proofs.Numbers.{factor-positive}
+use Rattle.mw_model.proofs.mw_facts.Numbers.{factor-positive}
 use Rattle.mw_words.specs.Packed.{bit_of, stride_of, samples_of, IsPacked}
 use Rattle.mw_words.specs.Runs.{HasSame}
 use Rattle.mw_words.proofs.Bits.{length-samples_of, sample_is_bit, samples_are_bits, rows_fit}

@@ -7,7 +7,7 @@ use Rattle.std.proofs.lemmas.Bool.{cases_lt, cases_eq}
 use Rattle.std.proofs.lemmas.List.{get_or-set_same, get_or-set_other, get_or-take, get_or-drop}
 use Rattle.std.proofs.lemmas.Nat.{shr-shr}
 use Rattle.std.proofs.lemmas.Nat.Bits.{bit_at_and, bit_at_xor, bit_at_ones, bit_at_ones_above, bit_at-lt}
-use Rattle.mw_facts.proofs.Parts.{length-put_mid, get_or-put_mid_below as put_mid_below, get_or-put_mid_within as put_mid_at, get_or-put_mid_above as put_mid_above}
+use Rattle.mw_model.proofs.mw_facts.Parts.{length-put_mid, get_or-put_mid_below as put_mid_below, get_or-put_mid_within as put_mid_at, get_or-put_mid_above as put_mid_above}
 use Rattle.mw_words.specs.Packed.{bit_of, stride_of, samples_of, IsPacked}
 use Rattle.mw_words.specs.Runs.{put_at, IsBlended, HasCopied}
 use Rattle.mw_words.proofs.Bits.{bit_of_word, bit_of_its_word, bit_of_part, sample_is_bit, length-samples_of, samples_are_bits, rows_fit}

@@ -6,7 +6,7 @@ use Rattle.std.proofs.Math.Nat.{mul-le-mul_left}
 use Rattle.std.proofs.lemmas.Bool.{cases_lt}
 use Rattle.std.proofs.lemmas.List.{get_or-set_same, get_or-set_other}
 use Rattle.std.proofs.lemmas.Simd.{get_or-replicate}
-use Rattle.mw_facts.proofs.Parts.{length-put_mid, get_or-put_mid_below as put_mid_below, get_or-put_mid_within as put_mid_at, get_or-put_mid_above as put_mid_above}
+use Rattle.mw_model.proofs.mw_facts.Parts.{length-put_mid, get_or-put_mid_below as put_mid_below, get_or-put_mid_within as put_mid_at, get_or-put_mid_above as put_mid_above}
 use Rattle.mw_words.specs.Packed.{bit_of}
 use Rattle.mw_words.proofs.Bits.{bit_of_word, bit_of_its_word, bit_of_part, rows_fit}
 use borrow.Rule.Slice.PartMut.{put_mid}

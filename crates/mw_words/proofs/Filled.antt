@@ -5,7 +5,7 @@ use Rattle.std.proofs.lemmas.List.{length-replicate}
 use Rattle.std.proofs.lemmas.Nat.{mul-add-lt}
 use Rattle.std.proofs.lemmas.Nat.Bits.{bit_at-zero, bit_at_ones}
 use Rattle.std.proofs.lemmas.Simd.{get_or-replicate}
-use Rattle.mw_facts.proofs.Elements.{get_or-replicate_same}
+use Rattle.mw_model.proofs.mw_facts.Elements.{get_or-replicate_same}
 use Rattle.mw_words.specs.Packed.{bit_of, stride_of, samples_of, IsPacked}
 use Rattle.mw_words.proofs.Bits.{bit_of_its_word, samples_are_bits, rows_fit}
 use Rattle.mw_words.proofs.Done.{blank_bit}

@@ -1,8 +1,8 @@
 -- Cells that are written one run after another.
 use Rattle.std.proofs.Common.{◌≡◌, ℕ, ◌+◌, ◌-◌, ◌<◌, ◌≤◌, List, length, drop, Option, slice_get, refl, ap, sym, arith, ◌∙◌, inl, inr}
 use Rattle.std.proofs.lemmas.Bool.{cases_lt}
-use Rattle.mw_facts.proofs.Elements.{slice_get-put_below, slice_get-put_within}
-use Rattle.mw_facts.proofs.Parts.{length-put_mid}
+use Rattle.mw_model.proofs.mw_facts.Elements.{slice_get-put_below, slice_get-put_within}
+use Rattle.mw_model.proofs.mw_facts.Parts.{length-put_mid}
 use Rattle.mw_words.specs.Runs.{put_at, HasFront}
 
 pub front_more : {A : Type 0} (value : ℕ → Option A) (n m total : ℕ) (cells out row : List A) → out ≡ put_at n row cells → length row ≡ m → n + m ≤ total → ((i : ℕ) → i < m → slice_get row i ≡ value (n + i))

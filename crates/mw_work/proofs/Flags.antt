@@ -4,7 +4,7 @@ use Rattle.std.specs.Prelude.{count_by, Contains}
 use Rattle.std.specs.List.{range_with_len, list_all, list_any}
 use Rattle.std.proofs.lemmas.Bool.{cases_lt, cases_Bool, and_parts, eq-eqb}
 use Rattle.std.proofs.lemmas.List.Folds.{list_any_at}
-use Rattle.mw_facts.proofs.Counts.{count_by-some}
+use Rattle.mw_model.proofs.mw_facts.Counts.{count_by-some}
 use Rattle.mw_model.specs.Plans.{Source, FromStep}
 use Rattle.mw_model.specs.Tasks.{is_step}
 

@@ -6,8 +6,8 @@ use Rattle.std.proofs.lemmas.Nat.{mul-le}
 use Rattle.std.proofs.lemmas.List.{length-replicate}
 use Rattle.std.proofs.lemmas.List.Sums.{sum_by-cons}
 use Rattle.std.proofs.Math.Nat.{div-mul-le_self, mul-le-mul_left}
-use Rattle.mw_facts.proofs.Counts.{count_by-some}
-use Rattle.mw_facts.proofs.Elements.{get_or-replicate_same}
+use Rattle.mw_model.proofs.mw_facts.Counts.{count_by-some}
+use Rattle.mw_model.proofs.mw_facts.Elements.{get_or-replicate_same}
 use Rattle.mw_model.specs.declared.shapes.Shape.{Shape}
 use Rattle.mw_model.specs.declared.operations.Op.{Op}
 use Rattle.mw_model.specs.Values.{Value}
@@ -17,8 +17,8 @@ use Rattle.mw_model.specs.Machine.{Machine}
 use Rattle.mw_model.specs.Plans.{Plan, IsSourceAt, images_of, planes, value_of_planes}
 use Rattle.mw_model.specs.Tasks.{flag, task_count, nothing_planned}
 use Rattle.mw_model.specs.Stands.{IsWork, input_values}
-use Rattle.mw_grid.specs.Grids.{Tiling, columns_of, rows_of, tile_count}
-use Rattle.mw_grid.proofs.Tiles.{cover_once, length-tiles_of}
+use Rattle.mw_progress.specs.mw_grid.Grids.{Tiling, columns_of, rows_of, tile_count}
+use Rattle.mw_progress.proofs.mw_grid.Tiles.{cover_once, length-tiles_of}
 use Rattle.mw_progress.specs.mw_plan.Asked.{is_image_input}
 use Rattle.mw_progress.specs.mw_plan.PlansOf.{AreValuesOf, HaveFrame, inputs_taken}
 use Rattle.mw_progress.specs.mw_plan.declared.inputs.Input.{Input}

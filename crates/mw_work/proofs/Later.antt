@@ -3,8 +3,8 @@ use Rattle.std.proofs.Common.{◌≡◌, ℕ, ◌<◌, true, inl, inr, List, [],
 use Rattle.std.specs.List.{list_all}
 use Rattle.std.proofs.lemmas.Bool.{cases_lt}
 use Rattle.std.proofs.lemmas.List.{get_or_append_left, get_or_past}
-use Rattle.mw_facts.proofs.Alls.{all-weaker, map-same}
-use Rattle.mw_facts.proofs.Tests.{list_all-weaker}
+use Rattle.mw_model.proofs.mw_facts.Alls.{all-weaker, map-same}
+use Rattle.mw_model.proofs.mw_facts.Tests.{list_all-weaker}
 use Rattle.mw_model.specs.declared.submissions.Submission.{Submission}
 use Rattle.mw_model.specs.declared.calls.Outcome.{Outcome}
 use Rattle.mw_model.specs.declared.calls.Outcome.TheVariants as outcome
@@ -12,8 +12,8 @@ use Rattle.mw_model.specs.Values.{tickets, value_at}
 use Rattle.mw_model.specs.Refusals.{no_submission, outcome_at, submission_at, is_there}
 use Rattle.mw_model.specs.Machine.{Machine, values}
 use Rattle.mw_model.specs.Stands.{inputs_of}
-use Rattle.mw_laws.specs.MachineLaws.{GoesOn, GrowsTo, IsSound, MayBecome}
-use Rattle.mw_laws.proofs.RunValues.{length_values}
+use Rattle.mw_progress.specs.mw_laws.MachineLaws.{GoesOn, GrowsTo, IsSound, MayBecome}
+use Rattle.mw_progress.proofs.mw_laws.RunValues.{length_values}
 use Rattle.mw_progress.specs.ProgressView.{ProgressView}
 use Rattle.mw_work.specs.Works.{GoesOnUnder, IsUnder}
 use Rattle.mw_work.proofs.Going.{under-same}

@@ -14,3 +14,5 @@ pub mod Workable
 -- the crate's own
 mod Pictured
 mod Flags
+-- what lower crates offer
+pub use Rattle.mw_progress.proofs.mw_grid as mw_grid

@@ -6,7 +6,7 @@ use Rattle.std.proofs.lemmas.Nat.{mul-le}
 use Rattle.std.proofs.lemmas.List.{length-map}
 use Rattle.std.proofs.lemmas.List.Sums.{sum_by-le}
 use Rattle.std.proofs.lemmas.Grind.{get_or_default_zero}
-use Rattle.mw_facts.proofs.Alls.{all-get_or}
+use Rattle.mw_model.proofs.mw_facts.Alls.{all-get_or}
 use Rattle.mw_model.specs.declared.places.Rect.{Rect}
 use Rattle.mw_model.specs.declared.shapes.Kind.{Kind}
 use Rattle.mw_model.specs.declared.shapes.Kind.TheVariants as kind
@@ -17,7 +17,7 @@ use Rattle.mw_model.specs.Plans.{images_of, is_sum, plane_of}
 use Rattle.mw_model.specs.Tasks.{is_running, cells_in, nothing_planned, task_count, planned_of, place_of_task, sources_of, step_number, tile_number}
 use Rattle.mw_model.specs.Machine.{Machine}
 use Rattle.mw_model.specs.Stands.{input_values, true_planes, true_cells}
-use Rattle.mw_grid.specs.Grids.{Tiling, tile_at, tile_count}
+use Rattle.mw_progress.specs.mw_grid.Grids.{Tiling, tile_at, tile_count}
 use Rattle.mw_progress.specs.mw_task.declared.tile_result.TileResult.{TileResult}
 use Rattle.mw_progress.specs.mw_task.declared.tile_result.TileResult.TheVariants as made
 use Rattle.mw_progress.specs.mw_task.Products.{HoldsImage, IsMade}

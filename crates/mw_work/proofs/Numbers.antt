@@ -5,8 +5,8 @@ use Rattle.std.proofs.lemmas.Nat.{div-mul-add, mod-mul-add, mul-add-lt, div-add-
 use Rattle.mw_model.specs.declared.places.Rect.{Rect}
 use Rattle.mw_model.specs.Places.{tile_of, IsWithin}
 use Rattle.mw_model.specs.Tasks.{Progress, task_count, step_number, tile_number, planned_of, tile_of_task, nothing_planned}
-use Rattle.mw_grid.specs.Grids.{Tiling, tile_at, tile_count}
-use Rattle.mw_grid.proofs.Tiles.{HasTiles, length-tiles_of, tile_of-tiles_of, tile_within}
+use Rattle.mw_progress.specs.mw_grid.Grids.{Tiling, tile_at, tile_count}
+use Rattle.mw_progress.proofs.mw_grid.Tiles.{HasTiles, length-tiles_of, tile_of-tiles_of, tile_within}
 use Rattle.mw_progress.specs.mw_tiles.Tiles.{Tiled, tile_cells}
 use Rattle.mw_progress.specs.ProgressView.{IsFramed, ProgressView, IsWhole, cells_of_planes, no_plane, number_of, plane_at}
 

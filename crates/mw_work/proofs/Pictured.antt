@@ -2,7 +2,7 @@
 use Rattle.std.proofs.Common.{◌≡◌, ℕ, ◌+◌, ◌<◌, ◌≤◌, false, List, [], ◌∷◌, length, map, get_or, refl, sym, ap, ◌∙◌, subst, arith, zero-add}
 use Rattle.std.specs.Prelude.{All}
 use Rattle.std.specs.List.{AllByRecursion}
-use Rattle.mw_facts.proofs.Numbers.{strong_induction}
+use Rattle.mw_model.proofs.mw_facts.Numbers.{strong_induction}
 use Rattle.mw_model.specs.Places.{rect}
 use Rattle.mw_model.specs.Pictures.{Picture, IsPicture}
 use Rattle.mw_model.specs.PlanSteps.{PlanStep, step_at, kind_of_step, maxval_of_step}
@@ -11,7 +11,7 @@ use Rattle.mw_model.specs.Tasks.{cells_in, made_of_planes, nothing_planned, plac
 use Rattle.mw_model.specs.Machine.{Machine}
 use Rattle.mw_model.specs.Stands.{true_planes}
 use Rattle.mw_model.proofs.ImagePlaces.{drawn_same, length-rows}
-use Rattle.mw_tile.specs.Windows.{window_of}
+use Rattle.mw_progress.specs.mw_tile.Windows.{window_of}
 use Rattle.mw_progress.specs.mw_task.Sources.{AreCut, HasFrame}
 use Rattle.mw_progress.specs.mw_task.WindowTasks.{IsBounded, WindowTask, tile_made}
 use Rattle.mw_progress.proofs.mw_task.Bounded.{made_below}

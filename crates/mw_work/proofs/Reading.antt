@@ -3,15 +3,15 @@ use Rattle.std.proofs.Common.{◌≡◌, ℕ, ◌+◌, ◌<◌, ◌≤◌, true,
 use Rattle.std.specs.Prelude.{Contains}
 use Rattle.std.specs.List.{list_any}
 use Rattle.std.proofs.lemmas.Bool.{cases_Bool, and_parts, and_from, or_cases, or_right, not-true, both_ways, lt-ltb}
-use Rattle.mw_facts.proofs.Alls.{all-contains}
-use Rattle.mw_facts.proofs.Tests.{list_any-range}
+use Rattle.mw_model.proofs.mw_facts.Alls.{all-contains}
+use Rattle.mw_model.proofs.mw_facts.Tests.{list_any-range}
 use Rattle.mw_model.specs.declared.places.Rect.{Rect}
 use Rattle.mw_model.specs.Places.{Holds, IsWithin}
 use Rattle.mw_model.specs.Elements.{reach_of}
 use Rattle.mw_model.specs.PlanSteps.{looks_at}
 use Rattle.mw_model.specs.Plans.{FromStep, IsSourceAt, is_sum}
 use Rattle.mw_model.specs.Tasks.{flag, task_count, nothing_planned, planned_of, step_number, place_of_task, tile_of_task, place_read, is_step, share, meets, reads, tasks_below, is_needed}
-use Rattle.mw_grid.proofs.Reaching.{stays_within}
+use Rattle.mw_progress.proofs.mw_grid.Reaching.{stays_within}
 use Rattle.mw_progress.specs.mw_tiles.Tiles.{HasAll}
 use Rattle.mw_progress.specs.ProgressView.{ProgressView, IsPlaneSource, IsWhole, has_all_read, number_of, plane_at}
 use Rattle.mw_work.specs.Works.{IsReadyOrRuns}

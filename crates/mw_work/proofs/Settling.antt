@@ -11,7 +11,7 @@ use Rattle.mw_model.specs.Machine.{Machine}
 use Rattle.mw_model.specs.Plans.{Planned, is_sum, no_picture, value_of_planes}
 use Rattle.mw_model.specs.Tasks.{Progress, flag, task_count, nothing_planned, planned_of, step_number, reads, tasks_below, is_needed, remaining_tasks}
 use Rattle.mw_model.specs.Stands.{true_planes}
-use Rattle.mw_grid.specs.Grids.{Tiling, tile_count}
+use Rattle.mw_progress.specs.mw_grid.Grids.{Tiling, tile_count}
 use Rattle.mw_progress.specs.mw_tiles.Tiles.{AllPlaced, tile_cells}
 use Rattle.mw_progress.specs.ProgressView.{ProgressView, IsWhole, number_of, plane_at}
 use Rattle.mw_work.specs.Works.{IsTrueWork, IsResultImage}

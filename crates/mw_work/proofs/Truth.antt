@@ -5,7 +5,7 @@ use Rattle.mw_model.specs.Plans.{Planned, images_of, is_sum, no_picture, plane_o
 use Rattle.mw_model.specs.Tasks.{Progress, nothing_planned, tile_of_task, made_of_planes}
 use Rattle.mw_model.specs.Machine.{Machine}
 use Rattle.mw_model.specs.Stands.{input_values, true_planes}
-use Rattle.mw_grid.specs.Grids.{Tiling, tile_at, tile_count}
+use Rattle.mw_progress.specs.mw_grid.Grids.{Tiling, tile_at, tile_count}
 use Rattle.mw_progress.specs.mw_tiles.Tiles.{AreMade, IsPlaneOf, Tiled}
 use Rattle.mw_progress.proofs.mw_tiles.Made.{plane_is_made}
 use Rattle.mw_progress.proofs.mw_plan.Planes.{length-planes, plane_is}

@@ -1,16 +1,16 @@
 -- The windows that a task reads are those of the true planes, and fit its step.
 use Rattle.std.proofs.Common.{◌≡◌, ℕ, zero, suc, ◌<◌, ◌≤◌, List, [], ◌∷◌, length, map, get_or, refl, sym, ap, ◌∙◌, subst, arith}
 use Rattle.std.specs.List.{AllByRecursion}
-use Rattle.mw_facts.proofs.Alls.{all-both}
+use Rattle.mw_model.proofs.mw_facts.Alls.{all-both}
 use Rattle.mw_model.specs.declared.places.Rect.{Rect}
 use Rattle.mw_model.specs.Pictures.{Picture}
 use Rattle.mw_model.specs.Plans.{Planned, Source, FromInput, FromStep, IsSourceAt, images_of, no_picture}
 use Rattle.mw_model.specs.Tasks.{place_read, nothing_planned, task_count, planned_of, place_of_task, sources_of, step_number, tile_number, tile_of_task}
 use Rattle.mw_model.specs.Machine.{Machine}
 use Rattle.mw_model.specs.Stands.{input_values, true_planes}
-use Rattle.mw_grid.specs.Grids.{tile_at, tile_count}
-use Rattle.mw_grid.proofs.Tiles.{tile_begins}
-use Rattle.mw_tile.specs.Windows.{SourceWindow, window_of}
+use Rattle.mw_progress.specs.mw_grid.Grids.{tile_at, tile_count}
+use Rattle.mw_progress.proofs.mw_grid.Tiles.{tile_begins}
+use Rattle.mw_progress.specs.mw_tile.Windows.{SourceWindow, window_of}
 use Rattle.mw_progress.specs.mw_task.Sources.{AreCut, HasFrame}
 use Rattle.mw_progress.specs.mw_task.WindowTasks.{FitsStep, window_at}
 use Rattle.mw_progress.proofs.mw_plan.WindowsFit.{made_fits}

@@ -1,7 +1,7 @@
 -- The plan of an accepted command can be worked off, and stands as planned.
 use Rattle.std.proofs.Common.{◌≡◌, ℕ, zero, suc, ◌-◌, ◌<◌, true, false, List, [], ◌∷◌, length, map, get_or, refl, sym, ap, ◌∙◌, subst, arith}
 use Rattle.std.specs.List.{AllByRecursion}
-use Rattle.mw_facts.proofs.Numbers.{strong_induction}
+use Rattle.mw_model.proofs.mw_facts.Numbers.{strong_induction}
 use Rattle.mw_model.specs.declared.operations.Op.{Op}
 use Rattle.mw_model.specs.Pictures.{Picture, IsImage}
 use Rattle.mw_model.specs.PlanSteps.{PlanStep, Erode, Dilate, ErodeBox, DilateBox, Rank, Minus, AtLeast, Invert, Meet, Join, Blank, Mark, MarkLast, Equal, Sum}
@@ -10,7 +10,7 @@ use Rattle.mw_model.specs.Refusals.{submission_at, is_image}
 use Rattle.mw_model.specs.Tasks.{Progress, nothing_planned}
 use Rattle.mw_model.specs.Machine.{Machine}
 use Rattle.mw_model.specs.Stands.{IsWork, input_values}
-use Rattle.mw_grid.specs.Grids.{Tiling}
+use Rattle.mw_progress.specs.mw_grid.Grids.{Tiling}
 use Rattle.mw_progress.specs.mw_plan.PlansOf.{CanBeMade, planes_read}
 use Rattle.mw_progress.specs.mw_plan.declared.inputs.Input.{Input}
 use Rattle.mw_progress.proofs.mw_plan.Planes.{length-planes, plane_is}

@@ -10,8 +10,8 @@ use Rattle.mw_model.specs.Values.{ImageValue, value_at, result_of}
 use Rattle.mw_model.specs.Refusals.{submission_at, is_image}
 use Rattle.mw_model.specs.Machine.{Machine, values}
 use Rattle.mw_model.specs.Stands.{IsWork, input_values, inputs_there, true_planes, true_cells}
-use Rattle.mw_grid.specs.Grids.{Tiling}
-use Rattle.mw_tile.specs.Windows.{SourceWindow, window_of}
+use Rattle.mw_progress.specs.mw_grid.Grids.{Tiling}
+use Rattle.mw_progress.specs.mw_tile.Windows.{SourceWindow, window_of}
 use Rattle.mw_progress.specs.mw_task.WindowTasks.{WindowTask}
 use Rattle.mw_progress.specs.mw_tiles.Tiles.{AllPlaced, IsPlaneOf}
 use Rattle.mw_progress.specs.mw_plan.PlansOf.{AreValuesOf, CanBeMade, HaveFrame, IsPlanOf, inputs_taken, planes_read}

@@ -13,8 +13,8 @@ ghost use Rattle.mw_model.specs.Refusals.{submission_at};
 ghost use Rattle.mw_model.specs.Stands.{IsWork, input_values, inputs_there, true_cells, true_planes};
 ghost use Rattle.mw_model.specs.Tasks.{is_running, nothing_planned, place_of_task, planned_of, remaining_tasks, step_number, task_count, tile_number};
 ghost use Rattle.mw_model.specs.Values.{CurveValue, value_at};
-ghost use Rattle.mw_laws.specs.MachineLaws.{GrowsTo, IsSound};
-ghost use Rattle.mw_grid.specs.Grids.{Tiling};
+ghost use Rattle.mw_progress.specs.mw_laws.MachineLaws.{GrowsTo, IsSound};
+ghost use Rattle.mw_progress.specs.mw_grid.Grids.{Tiling};
 ghost use Rattle.mw_progress.specs.mw_plan.declared.inputs.Input.{Input};
 ghost use Rattle.mw_progress.specs.mw_places.Levels.{Level, level_of};
 ghost use Rattle.mw_progress.specs.mw_places.MadeTiles.{cells_of_made};
@@ -22,7 +22,7 @@ ghost use Rattle.mw_progress.specs.ProgressView.{Fits, IsFinished, IsStarted, Is
 ghost use Rattle.mw_progress.specs.mw_task.declared.tile_result.TileResult.{TileResult};
 ghost use Rattle.mw_progress.specs.mw_task.Products.{IsMade};
 ghost use Rattle.mw_progress.specs.mw_task.WindowTasks.{FitsStep, IsBounded};
-ghost use Rattle.mw_tile.specs.Windows.{SourceWindow};
+ghost use Rattle.mw_progress.specs.mw_tile.Windows.{SourceWindow};
 ghost use Rattle.mw_progress.specs.mw_tiles.Tiles.{HasAll, IsPlaneOf};
 ghost use Rattle.mw_work.specs.Works.{AreWindowsOfSources, Finishes, IsAccepted, IsReadyOrRuns, IsResultImage, IsTrueWork, IsUnder, task_of, true_task};
 

@@ -1,6 +1,6 @@
 use Rattle.std.proofs.Common.{Ok, Err, refl, ap, sym, inl}
 use Rattle.mw_model.specs.Machine.{start_state}
-use Rattle.mw_wire.specs.Faults.{fault_line}
+use Rattle.mw_session.specs.mw_wire.Faults.{fault_line}
 use Rattle.mw_batch.specs.Batches.{end_status}
 use Rattle.mw_batch.proofs.Served.{ends-of, served-session, told-line}
 use Rattle.mw_batch.proofs.script.batch.Goals as goal

@@ -1,12 +1,12 @@
 use Rattle.std.proofs.Common.{◌≡◌, ◌<◌, ◌*◌, ◌+◌, ◌-◌, ◌/◌, ◌+ℤ◌, pos, ℕ, ℤ, List, length, ap, ◌∙◌, arith, to_z, of_z, w64}
 use Rattle.std.proofs.lemmas.Int.{ints}
-use Rattle.mw_facts.proofs.Elements.{take-written}
+use Rattle.mw_model.proofs.mw_facts.Elements.{take-written}
 use Rattle.mw_model.specs.Rasters.{raster, cell_at}
-use Rattle.mw_lane.specs.Shifted.{merge_at}
-use Rattle.mw_line.specs.Extrema.{over}
-use Rattle.mw_line.proofs.Over.{over_same}
-use Rattle.mw_line.proofs.Rows.{rows_fit}
-use Rattle.mw_words.specs.Packed.{bit_of}
+use Rattle.mw_offset.specs.mw_lane.Shifted.{merge_at}
+use Rattle.mw_offset.specs.mw_line.Extrema.{over}
+use Rattle.mw_offset.proofs.mw_line.Over.{over_same}
+use Rattle.mw_offset.proofs.mw_line.Rows.{rows_fit}
+use Rattle.mw_offset.specs.mw_words.Packed.{bit_of}
 use Rattle.mw_word_rows.proofs.Packs.{stride_wide}
 use Rattle.mw_bits.proofs.boxes.box_words.Goals as goal
 

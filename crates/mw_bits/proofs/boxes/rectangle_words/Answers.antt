@@ -1,7 +1,7 @@
 use Rattle.std.proofs.Common.{◌≡◌, ◌⊎◌, ◌+ℤ◌, ◌-ℤ◌, pos, ℤ, fold, ap, sym, ◌∙◌, arith, refl, to_z, of_z, w64}
 use Rattle.std.proofs.lemmas.Int.{ints}
-use Rattle.mw_line.proofs.Folds.{IsExtremum}
-use Rattle.mw_line.proofs.Tiles.{IsLooked-sides, tile_cell, one_is_none}
+use Rattle.mw_offset.proofs.mw_line.Folds.{IsExtremum}
+use Rattle.mw_offset.proofs.mw_line.Tiles.{IsLooked-sides, tile_cell, one_is_none}
 use Rattle.mw_bits.proofs.SlidBoxes.{seen_nowhere}
 use Rattle.mw_bits.proofs.boxes.rectangle_words.Goals as goal
 

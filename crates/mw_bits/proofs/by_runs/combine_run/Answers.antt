@@ -1,7 +1,7 @@
 use Rattle.std.proofs.Common.{◌≡◌, ℕ, ◌+◌, ◌∙◌, ap, sym, get_or, arith}
-use Rattle.mw_line.proofs.Folds.{IsExtremum}
+use Rattle.mw_offset.proofs.mw_line.Folds.{IsExtremum}
 use Rattle.mw_offset.proofs.Rooms.{merged_again}
-use Rattle.mw_words.specs.Packed.{bit_of}
+use Rattle.mw_offset.specs.mw_words.Packed.{bit_of}
 use Rattle.mw_word_rows.specs.Rows.{laid_bits}
 use Rattle.mw_word_rows.proofs.Laid.{laid_bit}
 use Rattle.mw_bits.specs.Waiting.{with_waiting}

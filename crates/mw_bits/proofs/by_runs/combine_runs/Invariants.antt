@@ -1,6 +1,6 @@
 use Rattle.std.proofs.Common.{◌≡◌, ℕ, ◌-◌, ◌*◌, ◌<◌, ◌≤◌, length}
 use Rattle.mw_offset.proofs.Gathers.{gather_below, run_value, IsDoubled}
-use Rattle.mw_words.specs.Packed.{bit_of}
+use Rattle.mw_offset.specs.mw_words.Packed.{bit_of}
 use Rattle.mw_word_rows.specs.Rows.{laid_bits}
 use Rattle.mw_bits.proofs.by_runs.combine_runs.Given as goal
 

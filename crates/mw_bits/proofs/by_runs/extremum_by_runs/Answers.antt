@@ -4,17 +4,17 @@ use Rattle.std.proofs.lemmas.List.{length-replicate}
 use Rattle.mw_model.specs.declared.places.Rect.{Rect}
 use Rattle.std.proofs.lemmas.Nat.{mul-le}
 use Rattle.std.proofs.Math.Nat.{mul-le-mul_left}
-use Rattle.mw_facts.proofs.Alls.{all-weaker}
-use Rattle.mw_facts.proofs.Elements.{take-written}
-use Rattle.mw_run.specs.declared.runs.Run.{Run}
+use Rattle.mw_model.proofs.mw_facts.Alls.{all-weaker}
+use Rattle.mw_model.proofs.mw_facts.Elements.{take-written}
+use Rattle.mw_offset.specs.mw_run.declared.runs.Run.{Run}
 use Rattle.mw_model.proofs.Nonnegative.{nonnegative_is}
-use Rattle.mw_line.proofs.Folds.{IsExtremum}
-use Rattle.mw_line.proofs.Rows.{rows_fit}
+use Rattle.mw_offset.proofs.mw_line.Folds.{IsExtremum}
+use Rattle.mw_offset.proofs.mw_line.Rows.{rows_fit}
 use Rattle.mw_offset.proofs.Rooms.{row_fits}
 use Rattle.mw_offset.proofs.Seens.{IsLaid, all_room, gather_seen}
-use Rattle.mw_words.specs.Packed.{bit_of}
+use Rattle.mw_offset.specs.mw_words.Packed.{bit_of}
 use Rattle.mw_word_rows.specs.Rows.{laid_bits}
-use Rattle.mw_words.proofs.Done.{blank_bit}
+use Rattle.mw_offset.proofs.mw_words.Done.{blank_bit}
 use Rattle.mw_word_rows.proofs.Laid.{laid_bit, length-laid_bits}
 use Rattle.mw_bits.proofs.NearRuns.{counts_of_inside, columns_few, all_inside_wider}
 use Rattle.mw_word_rows.proofs.Packs.{stride_wide}

@@ -1,6 +1,6 @@
 use Rattle.std.proofs.Common.{ℕ, ◌/◌, length, map, ap, arith, ◌∙◌}
 use Rattle.std.proofs.lemmas.List.{get_or-map}
-use Rattle.mw_line.proofs.Rows.{rows_fit}
+use Rattle.mw_offset.proofs.mw_line.Rows.{rows_fit}
 use Rattle.mw_bits.proofs.NarrowRows.{narrow_same, level_tested}
 use Rattle.mw_bits.proofs.compared.compare_few.Goals as goal
 

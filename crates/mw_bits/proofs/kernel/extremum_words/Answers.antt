@@ -2,9 +2,9 @@ use Rattle.std.proofs.Common.{◌+◌, ap, ◌∙◌}
 use Rattle.std.proofs.Common.{List, flat_map, fold}
 use Rattle.mw_model.specs.Rasters.{seen_under}
 use Rattle.mw_model.specs.Windows.{seen_at}
-use Rattle.mw_run.specs.declared.runs.Run.{Run}
-use Rattle.mw_run.specs.Runs.{run_offsets}
-use Rattle.mw_run.proofs.Orders.{fold_either_way}
+use Rattle.mw_offset.specs.mw_run.declared.runs.Run.{Run}
+use Rattle.mw_offset.specs.mw_run.Runs.{run_offsets}
+use Rattle.mw_offset.proofs.mw_run.Orders.{fold_either_way}
 use Rattle.mw_bits.proofs.kernel.extremum_words.Goals as goal
 
 pub returns-then-is_near-clause-cells : goal.returns-then-is_near-clause-cells

@@ -1,5 +1,5 @@
 use Rattle.std.proofs.Common.{arith, ap, ◌∙◌, ℕ}
-use Rattle.mw_facts.proofs.Merged.{mapped_step, mapped_all, merged_all}
+use Rattle.mw_model.proofs.mw_facts.Merged.{mapped_step, mapped_all, merged_all}
 use Rattle.mw_bits.proofs.levels.test_row.Goals as goal
 
 pub loop-i-preserved : goal.loop-i-preserved

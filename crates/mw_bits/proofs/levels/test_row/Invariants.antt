@@ -1,5 +1,5 @@
 use Rattle.std.proofs.Common.{◌≡◌, ℕ}
-use Rattle.mw_facts.proofs.Merged.{merged}
+use Rattle.mw_model.proofs.mw_facts.Merged.{merged}
 use Rattle.mw_bits.proofs.levels.test_row.Given as goal
 
 abbrev pub invariant-loop-i : goal.invariant-loop-i

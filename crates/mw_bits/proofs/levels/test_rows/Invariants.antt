@@ -1,6 +1,6 @@
 use Rattle.std.proofs.Common.{◌≡◌, length, map}
-use Rattle.mw_words.specs.Packed.{stride_of}
-use Rattle.mw_words.proofs.Done.{BitRowsDone}
+use Rattle.mw_offset.specs.mw_words.Packed.{stride_of}
+use Rattle.mw_offset.proofs.mw_words.Done.{BitRowsDone}
 use Rattle.mw_word_rows.proofs.Packs.{packed_row}
 use Rattle.mw_bits.proofs.levels.test_rows.Given as goal
 

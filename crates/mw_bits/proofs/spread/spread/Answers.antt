@@ -1,11 +1,11 @@
 use Rattle.std.proofs.Common.{◌≡◌, ℕ, ◌*◌, ◌+◌, ◌+ℤ◌, pos, ℤ, List, ap, ◌∙◌, arith, length, to_z, of_z, w64}
 use Rattle.std.proofs.lemmas.Int.{ints}
-use Rattle.mw_facts.proofs.Elements.{take-written}
+use Rattle.mw_model.proofs.mw_facts.Elements.{take-written}
 use Rattle.mw_model.specs.Rasters.{raster, cell_at}
-use Rattle.mw_lane.specs.Shifted.{merge_at}
-use Rattle.mw_line.proofs.Rows.{rows_fit}
-use Rattle.mw_words.specs.Packed.{bit_of}
-use Rattle.mw_words.proofs.Done.{blank_bit}
+use Rattle.mw_offset.specs.mw_lane.Shifted.{merge_at}
+use Rattle.mw_offset.proofs.mw_line.Rows.{rows_fit}
+use Rattle.mw_offset.specs.mw_words.Packed.{bit_of}
+use Rattle.mw_offset.proofs.mw_words.Done.{blank_bit}
 use Rattle.mw_bits.proofs.spread.spread.Goals as goal
 
 pub returns-clause-cells : goal.returns-clause-cells

@@ -1,10 +1,10 @@
 use Rattle.std.proofs.Common.{◌≡◌, ◌*◌, ◌+◌, ◌-◌, ◌+ℤ◌, ℤ, pos, ap, ◌∙◌, arith, to_z, of_z, w64, length, take, drop, length-take, length-drop}
 use Rattle.std.proofs.lemmas.Int.{ints}
 use Rattle.mw_model.specs.Rasters.{raster, cell_at}
-use Rattle.mw_lane.specs.Shifted.{merge_at}
-use Rattle.mw_line.proofs.Rows.{rows_fit}
-use Rattle.mw_words.specs.Packed.{bit_of}
-use Rattle.mw_words.proofs.Done.{bit_rows_more}
+use Rattle.mw_offset.specs.mw_lane.Shifted.{merge_at}
+use Rattle.mw_offset.proofs.mw_line.Rows.{rows_fit}
+use Rattle.mw_offset.specs.mw_words.Packed.{bit_of}
+use Rattle.mw_offset.proofs.mw_words.Done.{bit_rows_more}
 use Rattle.mw_bits.proofs.spread.spread_rows.Goals as goal
 
 pub loop-y-preserved : goal.loop-y-preserved

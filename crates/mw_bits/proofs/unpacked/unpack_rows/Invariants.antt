@@ -1,5 +1,5 @@
 use Rattle.std.proofs.Common.{◌*◌, ◌+◌, get_or}
-use Rattle.mw_line.proofs.Rows.{RowsMade}
+use Rattle.mw_offset.proofs.mw_line.Rows.{RowsMade}
 use Rattle.mw_bits.proofs.unpacked.unpack_rows.Given as goal
 
 abbrev pub invariant-loop-y : goal.invariant-loop-y

@@ -1,7 +1,7 @@
 use Rattle.std.proofs.Common.{sym, ap, ◌∙◌}
 use Rattle.mw_model.specs.Elements.{overlaps}
 use Rattle.mw_model.specs.Values.{value_at}
-use Rattle.mw_element.proofs.Order.{overlaps-none}
+use Rattle.mw_store.proofs.mw_element.Order.{overlaps-none}
 use Rattle.mw_checks.specs.Checks.{kept_offsets}
 use Rattle.mw_checks.proofs.ElementLemmas.{no-offsets}
 use Rattle.mw_checks.proofs.elements.overlap.Goals as goal

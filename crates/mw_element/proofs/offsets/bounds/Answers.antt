@@ -1,4 +1,4 @@
-use Rattle.mw_facts.proofs.Alls.{all-get_or}
+use Rattle.mw_model.proofs.mw_facts.Alls.{all-get_or}
 use Rattle.mw_element.proofs.Lists.{bounds_step}
 use Rattle.mw_element.proofs.offsets.bounds.Goals as goal
 use Rattle.mw_element.specs.Figures.{InBox}

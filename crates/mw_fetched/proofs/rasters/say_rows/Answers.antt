@@ -1,6 +1,6 @@
 use Rattle.std.proofs.Common.{◌++◌, ◌+◌, ◌*◌, ℕ, List, length, inl, refl, ap, sym, subst}
 use Rattle.mw_model.specs.Replies.{handed_text, ImageBytes}
-use Rattle.mw_netpbm.specs.Rows.{rows_bytes}
+use Rattle.mw_store.specs.mw_netpbm.Rows.{rows_bytes}
 use Rattle.mw_wire.specs.Writes.{Wrote}
 use Rattle.mw_fetched.proofs.Written.{image_said, raster_length}
 use Rattle.mw_fetched.proofs.rasters.say_rows.Goals as goal

@@ -1,7 +1,7 @@
 use Rattle.std.proofs.Common.{◌∙◌}
-use Rattle.mw_netpbm.specs.Rows.{byte_row, rows_bytes, set_row, word_row}
-use Rattle.mw_netpbm.proofs.RowTexts.{byte_text, set_text, word_text}
-use Rattle.mw_pixel.specs.Images.{raster_of}
+use Rattle.mw_store.specs.mw_netpbm.Rows.{byte_row, rows_bytes, set_row, word_row}
+use Rattle.mw_store.proofs.mw_netpbm.RowTexts.{byte_text, set_text, word_text}
+use Rattle.mw_store.specs.mw_pixel.Images.{raster_of}
 use Rattle.mw_fetched.proofs.Written.{header_is, image_fetched}
 use Rattle.mw_fetched.proofs.rasters.say_tiles.Goals as goal
 

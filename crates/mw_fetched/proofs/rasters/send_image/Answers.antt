@@ -1,5 +1,5 @@
 use Rattle.std.proofs.Common.{◌++◌, List, ℕ, append_assoc, subst}
-use Rattle.mw_netpbm.specs.Rows.{rows_bytes}
+use Rattle.mw_store.specs.mw_netpbm.Rows.{rows_bytes}
 use Rattle.mw_wire.specs.Writes.{Wrote}
 use Rattle.mw_wire.proofs.Writing.{wrote_then}
 use Rattle.mw_fetched.proofs.rasters.send_image.Goals as goal

@@ -1,6 +1,6 @@
 use Rattle.std.proofs.Common.{◌≡◌, ◌≤◌, vec_capacity}
 use Rattle.mw_model.specs.Rasters.{Raster}
-use Rattle.mw_tiles.specs.Rows.{AreCutFrom}
+use Rattle.mw_store.specs.mw_tiles.Rows.{AreCutFrom}
 use Rattle.mw_fetched.proofs.Written.{HasRows}
 use Rattle.mw_fetched.proofs.rasters.send_rows.Given as goal
 

@@ -1,6 +1,6 @@
 use Rattle.std.proofs.Common.{◌≡◌, ◌<◌, length, List, sym, subst, arith, rules, ◌∙◌}
 use Rattle.std.specs.List.{AllByRecursion}
-use Rattle.mw_facts.proofs.Alls.{all-take_whole}
+use Rattle.mw_model.proofs.mw_facts.Alls.{all-take_whole}
 use Rattle.mw_model.specs.declared.places.Rect.{Rect}
 use Rattle.mw_pieces.specs.Patches.{frame_value, Patch, ShowsIn}
 use Rattle.mw_pieces.proofs.Patches.{all_next, each_plain, read_at, shown_plain}

@@ -1,8 +1,8 @@
 use Rattle.std.proofs.Common.{◌≡◌, IsTrue, ap, sym, subst, arith, ◌∙◌}
 use Rattle.mw_model.specs.declared.places.Rect.{Rect}
 use Rattle.mw_model.specs.Rasters.{Raster}
-use Rattle.mw_tile.specs.Windows.{IsCut}
-use Rattle.mw_tile.specs.Cuts.{view_of}
+use Rattle.mw_pieces.specs.mw_tile.Windows.{IsCut}
+use Rattle.mw_pieces.specs.mw_tile.Cuts.{view_of}
 use Rattle.mw_frame_tiles.proofs.Sharing.{agrees_tile, inside_itself}
 use Rattle.mw_frame_tiles.proofs.equal.is_piece.Goals as goal
 

@@ -2,9 +2,9 @@ use Rattle.std.proofs.Common.{◌≡◌, ◌-◌, ap, sym, subst, arith, rules}
 use Rattle.mw_model.specs.declared.places.Rect.{Rect}
 use Rattle.mw_model.specs.Places.{Holds}
 use Rattle.mw_model.specs.Rasters.{Raster}
-use Rattle.mw_grid.specs.Grids.{tile_at}
-use Rattle.mw_tile.specs.Windows.{IsCut}
-use Rattle.mw_tile.specs.Cuts.{view_of}
+use Rattle.mw_pieces.specs.mw_grid.Grids.{tile_at}
+use Rattle.mw_pieces.specs.mw_tile.Windows.{IsCut}
+use Rattle.mw_pieces.specs.mw_tile.Cuts.{view_of}
 use Rattle.mw_pieces.proofs.Patches.{run_in}
 use Rattle.mw_frame_tiles.specs.Tiles.{cells_of, ShowsTiles, StandsIn}
 use Rattle.mw_frame_tiles.proofs.Compared.{part_of, parts_same, parts_shown, PartOf}

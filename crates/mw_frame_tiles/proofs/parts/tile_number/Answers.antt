@@ -1,5 +1,5 @@
 use Rattle.std.proofs.Common.{refl, arith}
-use Rattle.mw_grid.proofs.Tiles.{HasTiles}
+use Rattle.mw_pieces.proofs.mw_grid.Tiles.{HasTiles}
 use Rattle.mw_frame_tiles.proofs.Numbers.{number_within, number_holds}
 use Rattle.mw_frame_tiles.proofs.parts.tile_number.Goals as goal
 

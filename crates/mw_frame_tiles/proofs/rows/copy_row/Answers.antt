@@ -1,9 +1,9 @@
 use Rattle.std.proofs.Common.{◌≡◌, ℕ, ◌+◌, ◌-◌, ◌*◌, ◌/◌, ◌%◌, ◌≤◌, min, ap, refl, sym, subst, arith, ◌∙◌}
 use Rattle.mw_model.specs.Rasters.{Raster}
-use Rattle.mw_grid.specs.Grids.{tile_at}
-use Rattle.mw_grid.proofs.Tiles.{HasTiles}
-use Rattle.mw_tile.specs.Windows.{IsCut}
-use Rattle.mw_tile.specs.Cuts.{view_of}
+use Rattle.mw_pieces.specs.mw_grid.Grids.{tile_at}
+use Rattle.mw_pieces.proofs.mw_grid.Tiles.{HasTiles}
+use Rattle.mw_pieces.specs.mw_tile.Windows.{IsCut}
+use Rattle.mw_pieces.specs.mw_tile.Cuts.{view_of}
 use Rattle.mw_frame_tiles.specs.Rows.{HasFirstOfRow}
 use Rattle.mw_frame_tiles.specs.Tiles.{cells_of, StandsIn}
 use Rattle.mw_frame_tiles.proofs.Numbers.{along_row, columns_fill}

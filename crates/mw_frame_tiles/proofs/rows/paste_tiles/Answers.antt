@@ -1,9 +1,9 @@
 use Rattle.std.proofs.Common.{sym, subst, arith}
 use Rattle.mw_model.specs.Rasters.{Raster}
-use Rattle.mw_grid.specs.Grids.{tile_at}
-use Rattle.mw_grid.proofs.Tiles.{HasTiles}
-use Rattle.mw_tile.specs.Windows.{IsCut}
-use Rattle.mw_tile.specs.Cuts.{view_of}
+use Rattle.mw_pieces.specs.mw_grid.Grids.{tile_at}
+use Rattle.mw_pieces.proofs.mw_grid.Tiles.{HasTiles}
+use Rattle.mw_pieces.specs.mw_tile.Windows.{IsCut}
+use Rattle.mw_pieces.specs.mw_tile.Cuts.{view_of}
 use Rattle.mw_frame_tiles.specs.Tiles.{cells_of}
 use Rattle.mw_frame_tiles.proofs.Joined.{all_tiles, no_tiles_yet, tile_more, tile_placed}
 use Rattle.mw_frame_tiles.proofs.rows.paste_tiles.Goals as goal

@@ -1,5 +1,5 @@
 use Rattle.std.proofs.Common.{arith}
-use Rattle.mw_grid.proofs.Tiles.{HasTiles}
+use Rattle.mw_pieces.proofs.mw_grid.Tiles.{HasTiles}
 use Rattle.mw_frame_tiles.specs.Tiles.{cells_of}
 use Rattle.mw_frame_tiles.proofs.Sharing.{joint_of_tiles, shown_of_tiles}
 use Rattle.mw_frame_tiles.proofs.shares.pieces_of.Goals as goal

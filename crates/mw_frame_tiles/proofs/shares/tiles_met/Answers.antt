@@ -1,5 +1,5 @@
 use Rattle.std.proofs.Common.{◌≡◌, ◌/◌, List, [], refl, sym, subst, arith, rules}
-use Rattle.mw_grid.proofs.Tiles.{HasTiles}
+use Rattle.mw_pieces.proofs.mw_grid.Tiles.{HasTiles}
 use Rattle.mw_pieces.specs.Patches.{Patch}
 use Rattle.mw_frame_tiles.specs.Tiles.{cells_of}
 use Rattle.mw_frame_tiles.proofs.Sharing.{met_block, no_rows_met, row_met, row_numbers, rows_are_met, HasRowsMet, IsMetBlock}

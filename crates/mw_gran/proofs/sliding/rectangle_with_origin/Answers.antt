@@ -1,7 +1,7 @@
 use Rattle.std.proofs.Common.{Option, Some, None, IfSome}
 use Rattle.mw_model.specs.declared.places.OffsetBox.{OffsetBox}
 use Rattle.mw_model.specs.Laws.{HoldsOrigin}
-use Rattle.mw_element.specs.Figures.{FillsBox}
+use Rattle.mw_plan.specs.mw_element.Figures.{FillsBox}
 use Rattle.mw_plan.specs.Steps.{IsNearBox}
 use Rattle.mw_plan.proofs.Boxes.{near_box}
 use Rattle.mw_gran.proofs.Origins.{origin_held}

@@ -1,5 +1,5 @@
 use Rattle.std.proofs.Common.{◌≡◌, ◌+◌, ◌*◌, List, length}
-use Rattle.mw_element.specs.Figures.{FillsBox}
+use Rattle.mw_plan.specs.mw_element.Figures.{FillsBox}
 use Rattle.mw_model.specs.declared.places.Offset.{Offset}
 use Rattle.mw_model.specs.Iterates.{spectrum}
 use Rattle.mw_model.specs.Laws.{HoldsOrigin}

@@ -1,7 +1,7 @@
 use Rattle.std.proofs.Common.{◌≡◌, arith, rules}
 use Rattle.std.specs.List.{position_or_len}
 use Rattle.mw_intake.specs.Reading.{is_line_end}
-use Rattle.mw_facts.proofs.Positions.{position_more, position_here, position_length}
+use Rattle.mw_model.proofs.mw_facts.Positions.{position_more, position_here, position_length}
 use Rattle.mw_intake.proofs.line.line_end.Goals as goal
 
 pub returns-then-bytes-i-eq10 : goal.returns-then-bytes-i-eq10

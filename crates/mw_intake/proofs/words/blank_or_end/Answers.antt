@@ -1,6 +1,6 @@
 use Rattle.std.proofs.Common.{rules, arith}
 use Rattle.mw_intake.specs.Reading.{is_blank}
-use Rattle.mw_facts.proofs.Positions.{position_more, position_here, position_length}
+use Rattle.mw_model.proofs.mw_facts.Positions.{position_more, position_here, position_length}
 use Rattle.mw_intake.proofs.words.blank_or_end.Goals as goal
 
 pub returns-then-line-i-eq32-clause-place : goal.returns-then-line-i-eq32-clause-place

@@ -1,5 +1,5 @@
 use Rattle.std.proofs.Common.{arith}
-use Rattle.mw_words.specs.Packed.{bit_of}
+use Rattle.mw_pieces.specs.mw_words.Packed.{bit_of}
 use Rattle.mw_joined.proofs.Pasted.{pasted_all_columns, pasted_right}
 use Rattle.mw_joined.proofs.bits.copy_block.Goals as goal
 

@@ -1,5 +1,5 @@
 use Rattle.std.proofs.Common.{◌≤◌, ◌-◌}
-use Rattle.mw_words.specs.Packed.{bit_of}
+use Rattle.mw_pieces.specs.mw_words.Packed.{bit_of}
 use Rattle.mw_joined.specs.Blocks.{IsPasted}
 use Rattle.mw_joined.proofs.Pasted.{leftmost}
 use Rattle.mw_joined.proofs.bits.copy_block.Given as goal

@@ -1,4 +1,4 @@
-use Rattle.mw_words.specs.Packed.{bit_of}
+use Rattle.mw_pieces.specs.mw_words.Packed.{bit_of}
 use Rattle.mw_joined.specs.Blocks.{IsPasted}
 use Rattle.mw_joined.proofs.Pasted.{upper}
 use Rattle.mw_joined.proofs.bits.copy_in_words.Given as goal

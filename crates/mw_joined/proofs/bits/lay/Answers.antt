@@ -1,4 +1,4 @@
-use Rattle.mw_words.specs.Packed.{bit_of}
+use Rattle.mw_pieces.specs.mw_words.Packed.{bit_of}
 use Rattle.mw_joined.proofs.Laid.{apart_laid, bits_fit, bits_shown, laid_bits, laid_packed, words_of_plane}
 use Rattle.mw_joined.proofs.bits.lay.Goals as goal
 

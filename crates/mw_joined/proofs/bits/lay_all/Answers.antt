@@ -1,6 +1,6 @@
 use Rattle.std.proofs.Common.{arith, ap, length, List, ◌≤◌}
-use Rattle.mw_words.specs.Packed.{samples_of}
-use Rattle.mw_words.proofs.Bits.{length-samples_of}
+use Rattle.mw_pieces.specs.mw_words.Packed.{samples_of}
+use Rattle.mw_pieces.proofs.mw_words.Bits.{length-samples_of}
 use Rattle.mw_pieces.specs.Patches.{Patch}
 use Rattle.mw_joined.proofs.Laid.{bits_more, laid_done, packed_as}
 use Rattle.mw_joined.proofs.bits.lay_all.Goals as goal

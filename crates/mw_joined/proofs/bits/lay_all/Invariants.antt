@@ -1,5 +1,5 @@
 use Rattle.std.proofs.Common.{take}
-use Rattle.mw_words.specs.Packed.{samples_of, IsPacked}
+use Rattle.mw_pieces.specs.mw_words.Packed.{samples_of, IsPacked}
 use Rattle.mw_joined.proofs.Laid.{AreShown}
 use Rattle.mw_joined.proofs.bits.lay_all.Given as goal
 

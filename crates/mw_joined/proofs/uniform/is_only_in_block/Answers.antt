@@ -1,5 +1,5 @@
 use Rattle.std.proofs.Common.{cond, arith}
-use Rattle.mw_words.specs.Packed.{bit_of}
+use Rattle.mw_pieces.specs.mw_words.Packed.{bit_of}
 use Rattle.mw_joined.proofs.Only.{only_right}
 use Rattle.mw_joined.proofs.uniform.is_only_in_block.Goals as goal
 

@@ -1,5 +1,5 @@
 use Rattle.std.proofs.Common.{◌≤◌, ◌-◌, cond}
-use Rattle.mw_words.specs.Packed.{bit_of}
+use Rattle.mw_pieces.specs.mw_words.Packed.{bit_of}
 use Rattle.mw_joined.specs.Blocks.{ReadsOnly}
 use Rattle.mw_joined.proofs.Pasted.{leftmost}
 use Rattle.mw_joined.proofs.uniform.is_only_in_block.Given as goal

@@ -1,5 +1,5 @@
 use Rattle.std.proofs.Common.{cond, refl, ◌*◌}
-use Rattle.mw_words.specs.Packed.{stride_of}
+use Rattle.mw_pieces.specs.mw_words.Packed.{stride_of}
 use Rattle.mw_joined.proofs.Laid.{apart_laid, bits_fit_in, words_of_plane}
 use Rattle.mw_joined.proofs.Only.{only_laid}
 use Rattle.mw_joined.proofs.uniform.is_only_in_piece.Goals as goal

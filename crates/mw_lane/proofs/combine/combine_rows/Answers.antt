@@ -1,5 +1,5 @@
 use Rattle.std.proofs.Common.{arith, ◌∙◌, ◌+◌, length-set}
-use Rattle.mw_facts.proofs.Merged.{merged_step, merged_chunk, merged_all, length-merged}
+use Rattle.mw_model.proofs.mw_facts.Merged.{merged_step, merged_chunk, merged_all, length-merged}
 use Rattle.mw_lane.proofs.combine.combine_rows.Goals as goal
 
 pub by_block-preserved : goal.by_block-preserved

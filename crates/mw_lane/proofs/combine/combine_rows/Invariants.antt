@@ -1,5 +1,5 @@
 use Rattle.std.proofs.Common.{◌≡◌, ◌-◌, ◌≤◌, length}
-use Rattle.mw_facts.proofs.Merged.{merged}
+use Rattle.mw_model.proofs.mw_facts.Merged.{merged}
 use Rattle.mw_lane.proofs.combine.combine_rows.Given as goal
 
 abbrev pub invariant-by_block : goal.invariant-by_block

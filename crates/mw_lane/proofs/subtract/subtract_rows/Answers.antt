@@ -1,5 +1,5 @@
 use Rattle.std.proofs.Common.{arith, ◌∙◌, ◌+◌, length-set, ap, map}
-use Rattle.mw_facts.proofs.Merged.{merged_step, merged_chunk, merged_all, length-merged}
+use Rattle.mw_model.proofs.mw_facts.Merged.{merged_step, merged_chunk, merged_all, length-merged}
 use Rattle.mw_lane.proofs.Differences.{map-zip2}
 use Rattle.mw_lane.proofs.subtract.subtract_rows.Goals as goal
 

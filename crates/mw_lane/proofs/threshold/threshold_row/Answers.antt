@@ -1,6 +1,6 @@
 use Rattle.std.proofs.Common.{arith, ap, ◌∙◌, ℕ, cond}
 use Rattle.std.specs.Prelude.{nat_le, if◌then◌else◌}
-use Rattle.mw_facts.proofs.Merged.{mapped_chunk, merged_all, mapped_step, mapped_all}
+use Rattle.mw_model.proofs.mw_facts.Merged.{mapped_chunk, merged_all, mapped_step, mapped_all}
 use Rattle.mw_lane.proofs.threshold.threshold_row.Goals as goal
 
 pub by_block-preserved : goal.by_block-preserved

@@ -1,6 +1,6 @@
 use Rattle.std.proofs.Common.{◌≡◌, ℕ, ◌-◌, ◌≤◌, length}
 use Rattle.std.specs.Prelude.{nat_le, if◌then◌else◌}
-use Rattle.mw_facts.proofs.Merged.{merged}
+use Rattle.mw_model.proofs.mw_facts.Merged.{merged}
 use Rattle.mw_lane.proofs.threshold.threshold_row.Given as goal
 
 abbrev pub invariant-by_block : goal.invariant-by_block

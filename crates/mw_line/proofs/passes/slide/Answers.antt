@@ -1,7 +1,7 @@
 use Rattle.std.proofs.Common.{◌≡◌, ◌+◌, ◌-◌, ◌*◌, ◌≤◌, ◌<◌, length-take, length-drop, take, drop, length, arith, ◌∙◌, inl, inr}
 use Rattle.std.proofs.lemmas.Bool.{cases_lt}
 use Rattle.std.proofs.lemmas.List.{take_rest}
-use Rattle.mw_facts.proofs.Parts.{length-put_mid, get_or-put_mid_below, get_or-put_mid_within}
+use Rattle.mw_model.proofs.mw_facts.Parts.{length-put_mid, get_or-put_mid_below, get_or-put_mid_within}
 use Rattle.std.specs.Int.{div_ceil}
 use Rattle.mw_line.proofs.Cut.{div_ceil-block}
 use Rattle.mw_line.proofs.Folds.{IsExtremum, window_done}

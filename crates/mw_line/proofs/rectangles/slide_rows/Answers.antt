@@ -1,6 +1,6 @@
 use Rattle.std.proofs.Common.{rules, ◌≡◌, ◌+◌, ◌-◌, ◌*◌, ◌++◌, ◌+ℤ◌, pos, ℕ, ℤ, List, ap, ◌∙◌, arith, length, length-take, take, refl, get_or, to_z, of_z, w64}
 use Rattle.std.proofs.lemmas.Int.{ints}
-use Rattle.mw_facts.proofs.Elements.{take-written, get_or-replicate_same}
+use Rattle.mw_model.proofs.mw_facts.Elements.{take-written, get_or-replicate_same}
 use Rattle.mw_model.specs.Rasters.{raster, cell_at}
 use Rattle.mw_lane.specs.Shifted.{merge_at}
 use Rattle.mw_line.specs.Columns.{IsGrown}

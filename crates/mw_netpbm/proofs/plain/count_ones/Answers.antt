@@ -1,6 +1,6 @@
 use Rattle.std.proofs.Common.{◌≡◌, ◌-◌, Ok, sym, ◌∙◌, arith, eqb}
 use Rattle.std.proofs.lemmas.Result.{err_from_is_err_and}
-use Rattle.mw_facts.proofs.Numbers.{one_if-le}
+use Rattle.mw_model.proofs.mw_facts.Numbers.{one_if-le}
 use Rattle.mw_netpbm.specs.Plain.{plain_at}
 use Rattle.mw_netpbm.specs.Places.{ones_of, place_at}
 use Rattle.mw_netpbm.proofs.PlainLoop.{one_counted, fault_counted, tail_counted, all_counted}

@@ -1,6 +1,6 @@
 use Rattle.std.proofs.Common.{◌≡◌, ℕ, ◌+◌, ◌-◌, ◌*◌, List, length, get_or, refl, ap, sym, ◌∙◌, arith}
 use Rattle.std.proofs.lemmas.Result.{on_ok_weaker}
-use Rattle.mw_facts.proofs.Elements.{take-written, get_or-replicate_same}
+use Rattle.mw_model.proofs.mw_facts.Elements.{take-written, get_or-replicate_same}
 use Rattle.mw_offset.proofs.Lists.{listed}
 use Rattle.mw_offset.proofs.Rooms.{row_fits}
 use Rattle.mw_offset.proofs.by_runs.merge_laid.Goals as goal

@@ -1,6 +1,6 @@
 use Rattle.std.proofs.Common.{arith, get_or, pos}
 use Rattle.std.proofs.lemmas.List.{get_or_default}
-use Rattle.mw_facts.proofs.Alls.{all-get_or}
+use Rattle.mw_model.proofs.mw_facts.Alls.{all-get_or}
 use Rattle.mw_run.specs.declared.runs.Run.{Run}
 use Rattle.mw_run.specs.Runs.{HasRoom}
 use Rattle.mw_offset.proofs.Parts.{more_places}

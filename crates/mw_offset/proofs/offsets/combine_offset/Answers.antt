@@ -2,7 +2,7 @@ use Rattle.std.proofs.Common.{arith, ap, ◌∙◌, ℤ, pos, ◌≡◌, ◌+◌
 use Rattle.std.proofs.lemmas.Int.{ints}
 use Rattle.mw_model.specs.Rasters.{raster, cell_at}
 use Rattle.mw_model.specs.declared.places.Rect.{Rect}
-use Rattle.mw_lane.specs.Shifted.{merge_at}
+use Rattle.mw_line.specs.mw_lane.Shifted.{merge_at}
 use Rattle.mw_offset.proofs.offsets.combine_offset.Goals as goal
 
 pub returns : goal.returns

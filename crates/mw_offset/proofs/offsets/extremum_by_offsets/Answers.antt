@@ -1,5 +1,5 @@
 use Rattle.std.proofs.Common.{◌≡◌, ◌*◌, ◌+◌, ap, ◌∙◌, arith, List, length, get_or, fold}
-use Rattle.mw_facts.proofs.Elements.{take-written, get_or-replicate_same}
+use Rattle.mw_model.proofs.mw_facts.Elements.{take-written, get_or-replicate_same}
 use Rattle.mw_model.specs.Rasters.{seen_under}
 use Rattle.mw_model.specs.Windows.{seen_at}
 use Rattle.mw_offset.proofs.offsets.extremum_by_offsets.Goals as goal

@@ -1,5 +1,5 @@
 use Rattle.std.proofs.Common.{◌≡◌, ℕ, ◌+◌, ◌-◌, ◌*◌, ◌≤◌, fold, length, take, drop, refl, arith, length-take, length-drop}
-use Rattle.mw_facts.proofs.Alls.{all-weaker}
+use Rattle.mw_model.proofs.mw_facts.Alls.{all-weaker}
 use Rattle.mw_line.proofs.Rows.{rows_more, rows_fit}
 use Rattle.mw_offset.specs.Places.{merge_from}
 use Rattle.mw_offset.proofs.Parts.{any_default}

@@ -1,6 +1,6 @@
 use Rattle.std.proofs.Common.{◌≡◌, ℕ, ◌+◌, ◌-◌, ◌≤◌, ◌∙◌, List, ap, arith, fold, get_or, length, refl}
 use Rattle.std.proofs.lemmas.List.{take_all}
-use Rattle.mw_facts.proofs.Alls.{all-get_or}
+use Rattle.mw_model.proofs.mw_facts.Alls.{all-get_or}
 use Rattle.mw_offset.specs.Places.{merge_from}
 use Rattle.mw_offset.proofs.Parts.{merged_more}
 use Rattle.mw_offset.proofs.Rooms.{part_merged, part_size}

@@ -1,5 +1,5 @@
 use Rattle.std.proofs.Common.{◌≡◌, ◌+◌, ◌*◌, ◌∙◌, List, length, get_or, ap, arith}
-use Rattle.mw_facts.proofs.Elements.{take-written, get_or-replicate_same}
+use Rattle.mw_model.proofs.mw_facts.Elements.{take-written, get_or-replicate_same}
 use Rattle.mw_offset.proofs.strips.extremum_by_strips.Goals as goal
 
 pub merge_strips-requires-clause-blank : goal.merge_strips-requires-clause-blank

@@ -1,6 +1,6 @@
 use Rattle.std.proofs.Common.{ℕ, ◌+◌, ◌*◌, ◌/◌, ◌%◌, ◌≤◌, Bool, not, ◌&&◌, subst, arith}
-use Rattle.mw_grid.specs.Counts.{in_range}
-use Rattle.mw_grid.specs.Grids.{Tiling, tile_count}
+use Rattle.mw_ready.specs.mw_grid.Counts.{in_range}
+use Rattle.mw_ready.specs.mw_grid.Grids.{Tiling, tile_count}
 use Rattle.mw_places.specs.Places.{is_read}
 use Rattle.mw_places.proofs.Rows.{block_more, row_fits}
 use Rattle.mw_places.proofs.Swept.{swept-then}

@@ -1,7 +1,7 @@
 use Rattle.std.proofs.Common.{◌≢◌, ℕ, ◌+◌, Bool, not, ◌&&◌, take, get_or, None, sym, ap, subst, ◌∙◌, arith}
 use Rattle.std.specs.List.{list_any}
 use Rattle.std.proofs.lemmas.List.{take_all}
-use Rattle.mw_grid.specs.Blocks.{in_block}
+use Rattle.mw_ready.specs.mw_grid.Blocks.{in_block}
 use Rattle.mw_ready.specs.Boards.{is_source}
 use Rattle.mw_places.specs.Places.{is_read}
 use Rattle.mw_places.proofs.Sources.{source_at, any_more, or_and_one}

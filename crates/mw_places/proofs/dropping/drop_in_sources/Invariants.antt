@@ -1,6 +1,6 @@
 use Rattle.std.proofs.Common.{take, not, ◌&&◌}
 use Rattle.std.specs.List.{list_any}
-use Rattle.mw_grid.specs.Blocks.{in_block}
+use Rattle.mw_ready.specs.mw_grid.Blocks.{in_block}
 use Rattle.mw_ready.specs.Boards.{is_source}
 use Rattle.mw_places.specs.Places.{is_read, SweptAll}
 use Rattle.mw_places.proofs.dropping.drop_in_sources.Given as goal

@@ -1,5 +1,5 @@
 use Rattle.std.proofs.Common.{Bool, not, ◌&&◌, ap, ◌∙◌, arith}
-use Rattle.mw_grid.specs.Blocks.{in_block, sees}
+use Rattle.mw_ready.specs.mw_grid.Blocks.{in_block, sees}
 use Rattle.mw_ready.specs.Boards.{step_reads}
 use Rattle.mw_places.specs.Places.{is_read}
 use Rattle.mw_places.proofs.Sources.{and_three}

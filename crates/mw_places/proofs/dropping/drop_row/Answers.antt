@@ -1,5 +1,5 @@
 use Rattle.std.proofs.Common.{◌≡◌, ℕ, ◌+◌, Bool, true, false, not, ◌&&◌, nat_eq, sym, ap, subst, ◌∙◌}
-use Rattle.mw_grid.specs.Counts.{in_range}
+use Rattle.mw_ready.specs.mw_grid.Counts.{in_range}
 use Rattle.mw_tiles.specs.Tiles.{Tiled}
 use Rattle.mw_places.specs.Places.{is_read, Swept}
 use Rattle.mw_places.proofs.Rows.{row_skip, row_drop}

@@ -1,5 +1,5 @@
 use Rattle.std.proofs.Common.{not, ◌&&◌}
-use Rattle.mw_grid.specs.Counts.{in_range}
+use Rattle.mw_ready.specs.mw_grid.Counts.{in_range}
 use Rattle.mw_places.specs.Places.{is_read, Swept}
 use Rattle.mw_places.proofs.dropping.drop_row.Given as goal
 

@@ -5,7 +5,7 @@ use Rattle.mw_model.specs.Windows.{seen_at}
 use Rattle.mw_model.specs.PlanSteps.{ranked}
 use Rattle.mw_model.specs.declared.places.Offset.{Offset}
 use Rattle.mw_model.specs.declared.places.Rect.{Rect}
-use Rattle.mw_rank.specs.Ranks.{levels_under}
+use Rattle.mw_rank_counts.specs.mw_rank.Ranks.{levels_under}
 use Rattle.mw_rank_rows.specs.Rectangles.{offsets_in}
 use Rattle.mw_rank_rows.specs.Tables.{HasFound}
 use Rattle.mw_rank_rows.proofs.Found.{found_ranked}

@@ -1,5 +1,5 @@
 use Rattle.std.proofs.Common.{◌≡◌, length, take}
-use Rattle.mw_rank.specs.Runs.{element_of}
+use Rattle.mw_rank_counts.specs.mw_rank.Runs.{element_of}
 use Rattle.mw_rank_rows.specs.Rectangles.{offsets_in}
 use Rattle.mw_rank_rows.proofs.rectangle.rectangle_of.Given as goal
 

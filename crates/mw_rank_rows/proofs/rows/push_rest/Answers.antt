@@ -1,7 +1,7 @@
 use Rattle.std.proofs.Common.{◌≡◌, ℕ, ◌+◌, ◌-◌, ◌*◌, ◌++◌, ◌∙◌, List, drop, ap, arith, length, get_or, subst}
 use Rattle.mw_model.specs.PlanSteps.{ranked}
 use Rattle.mw_model.specs.Windows.{seen_at}
-use Rattle.mw_rank.specs.Ranks.{levels_under, HasRows}
+use Rattle.mw_rank_counts.specs.mw_rank.Ranks.{levels_under, HasRows}
 use Rattle.mw_rank_rows.proofs.Found.{rows_more}
 use Rattle.mw_rank_rows.proofs.rows.push_rest.Goals as goal
 

@@ -2,7 +2,7 @@ use Rattle.std.proofs.Common.{◌≡◌, ℕ, List, ◌+◌, ◌*◌, ◌∙◌,
 use Rattle.std.proofs.lemmas.List.{length-replicate}
 use Rattle.mw_model.specs.PlanSteps.{ranked}
 use Rattle.mw_model.specs.Windows.{seen_at}
-use Rattle.mw_rank.specs.Ranks.{levels_under}
+use Rattle.mw_rank_counts.specs.mw_rank.Ranks.{levels_under}
 use Rattle.mw_rank_rows.specs.Tables.{Holds}
 use Rattle.mw_rank_rows.proofs.Found.{rows_more, no_rows}
 use Rattle.mw_rank_rows.proofs.rows.rank_groups.Goals as goal

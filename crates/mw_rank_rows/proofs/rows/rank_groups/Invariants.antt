@@ -1,7 +1,7 @@
 use Rattle.std.proofs.Common.{◌≡◌, ◌+◌, ◌-◌, ◌*◌, ◌≤◌, length}
 use Rattle.mw_model.specs.PlanSteps.{ranked}
 use Rattle.mw_model.specs.Windows.{seen_at}
-use Rattle.mw_rank.specs.Ranks.{levels_under, HasRows}
+use Rattle.mw_rank_counts.specs.mw_rank.Ranks.{levels_under, HasRows}
 use Rattle.mw_rank_rows.specs.Tables.{Holds}
 use Rattle.mw_rank_rows.proofs.rows.rank_groups.Given as goal
 

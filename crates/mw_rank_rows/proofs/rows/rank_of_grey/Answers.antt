@@ -2,8 +2,8 @@ use Rattle.std.proofs.Common.{◌+◌, Option, subst}
 use Rattle.std.specs.Prelude.{IfSome}
 use Rattle.mw_model.specs.PlanSteps.{ranked}
 use Rattle.mw_model.specs.Windows.{seen_at}
-use Rattle.mw_rank.specs.Ranks.{levels_under, HasRows}
-use Rattle.mw_rank.proofs.Rows.{is_rank, on_frame}
+use Rattle.mw_rank_counts.specs.mw_rank.Ranks.{levels_under, HasRows}
+use Rattle.mw_rank_counts.proofs.mw_rank.Rows.{is_rank, on_frame}
 use Rattle.mw_rank_rows.proofs.rows.rank_of_grey.Goals as goal
 
 pub returns-in-Some-clause-over_frame : goal.returns-in-Some-clause-over_frame

@@ -1,7 +1,7 @@
 use Rattle.std.proofs.Common.{◌^◌, ◌≤◌, ◌∙◌, ap, arith, length}
 use Rattle.std.proofs.Math.Nat.{pow-le-pow_right}
-use Rattle.mw_rank.specs.Runs.{element_of}
-use Rattle.mw_rank.proofs.Elements.{element_of-runs}
+use Rattle.mw_rank_counts.specs.mw_rank.Runs.{element_of}
+use Rattle.mw_rank_counts.proofs.mw_rank.Elements.{element_of-runs}
 use Rattle.mw_rank_rows.proofs.Rectangular.{runs_few}
 use Rattle.mw_rank_rows.proofs.rows.side_by_side.Goals as goal
 

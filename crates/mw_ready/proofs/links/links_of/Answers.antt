@@ -1,5 +1,5 @@
 use Rattle.std.proofs.Common.{◌≡◌, ℕ, ◌+◌, ◌-◌, List, length, sym, subst, refl, get_or, arith}
-use Rattle.mw_facts.proofs.Elements.{take-written}
+use Rattle.mw_model.proofs.mw_facts.Elements.{take-written}
 use Rattle.mw_ready.specs.declared.links.Link.{Link}
 use Rattle.mw_ready.specs.Boards.{no_need}
 use Rattle.mw_ready.specs.Links.{Linked}

@@ -1,5 +1,5 @@
 use Rattle.std.proofs.Common.{◌%◌, arith}
-use Rattle.mw_grid.specs.Grids.{tile_count}
+use Rattle.mw_queue.specs.mw_grid.Grids.{tile_count}
 use Rattle.mw_ready.specs.Boards.{is_source, step_of, step_reads}
 use Rattle.mw_ready.specs.Kept.{seen_by}
 use Rattle.mw_ready.proofs.Raising.{raises_three, raised_most}

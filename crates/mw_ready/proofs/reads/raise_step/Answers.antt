@@ -1,7 +1,7 @@
 use Rattle.std.proofs.Common.{◌∙◌, refl, arith}
-use Rattle.mw_facts.proofs.Counts.{count_by-same}
-use Rattle.mw_grid.specs.Blocks.{in_block, sees}
-use Rattle.mw_grid.specs.Grids.{tile_count}
+use Rattle.mw_model.proofs.mw_facts.Counts.{count_by-same}
+use Rattle.mw_queue.specs.mw_grid.Blocks.{in_block, sees}
+use Rattle.mw_queue.specs.mw_grid.Grids.{tile_count}
 use Rattle.mw_ready.proofs.Raising.{raises_next, raises_step}
 use Rattle.mw_ready.proofs.reads.raise_step.Goals as goal
 

@@ -1,6 +1,6 @@
 use Rattle.std.proofs.Common.{◌*◌, ◌+◌, ◌%◌}
-use Rattle.mw_grid.specs.Counts.{bit, in_range}
-use Rattle.mw_grid.specs.Grids.{tile_count}
+use Rattle.mw_queue.specs.mw_grid.Counts.{bit, in_range}
+use Rattle.mw_queue.specs.mw_grid.Grids.{tile_count}
 use Rattle.mw_ready.specs.Kept.{seen_by}
 use Rattle.mw_ready.specs.Counters.{Raises}
 use Rattle.mw_ready.proofs.reads.raise_step.Given as goal

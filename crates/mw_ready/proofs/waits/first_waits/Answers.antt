@@ -1,8 +1,8 @@
 use Rattle.std.proofs.Common.{◌*◌, ◌<◌, length, refl, arith, get_or}
-use Rattle.mw_grid.specs.Grids.{tile_count}
+use Rattle.mw_queue.specs.mw_grid.Grids.{tile_count}
 use Rattle.mw_ready.specs.Boards.{no_need}
 use Rattle.mw_ready.specs.Kept.{read_count}
-use Rattle.mw_grid.proofs.Lines.{number_of}
+use Rattle.mw_queue.proofs.mw_grid.Lines.{number_of}
 use Rattle.mw_ready.proofs.Firsts.{read_count-is, each-next}
 use Rattle.mw_ready.proofs.waits.first_waits.Goals as goal
 

@@ -1,5 +1,5 @@
 use Rattle.std.proofs.Common.{◌≡◌, ℕ, ◌+◌, ◌*◌, ◌<◌, ◌≤◌, length, get_or, vec_len, vec_capacity}
-use Rattle.mw_grid.specs.Grids.{tile_count}
+use Rattle.mw_queue.specs.mw_grid.Grids.{tile_count}
 use Rattle.mw_ready.specs.Kept.{read_count}
 use Rattle.mw_ready.proofs.waits.first_waits.Given as goal
 

@@ -1,5 +1,5 @@
 use Rattle.std.proofs.Common.{arith}
-use Rattle.mw_facts.proofs.Counts.{count_by-most}
+use Rattle.mw_model.proofs.mw_facts.Counts.{count_by-most}
 use Rattle.mw_ready.specs.Boards.{is_source, step_reads}
 use Rattle.mw_ready.proofs.Firsts.{count-three}
 use Rattle.mw_ready.proofs.waits.steps_read.Goals as goal

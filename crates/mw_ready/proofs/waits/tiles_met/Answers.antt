@@ -1,7 +1,7 @@
 use Rattle.std.proofs.Common.{◌∙◌}
-use Rattle.mw_facts.proofs.Counts.{count_by-same}
-use Rattle.mw_grid.specs.Grids.{tile_count}
-use Rattle.mw_grid.specs.Blocks.{in_block, sees}
+use Rattle.mw_model.proofs.mw_facts.Counts.{count_by-same}
+use Rattle.mw_queue.specs.mw_grid.Grids.{tile_count}
+use Rattle.mw_queue.specs.mw_grid.Blocks.{in_block, sees}
 use Rattle.mw_ready.proofs.waits.tiles_met.Goals as goal
 
 pub returns-clause-value : goal.returns-clause-value

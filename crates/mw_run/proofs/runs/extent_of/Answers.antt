@@ -1,5 +1,5 @@
 use Rattle.std.proofs.Common.{pos, arith, get_or}
-use Rattle.mw_facts.proofs.Alls.{all-get_or}
+use Rattle.mw_model.proofs.mw_facts.Alls.{all-get_or}
 use Rattle.mw_run.specs.declared.runs.Run.{Run}
 use Rattle.mw_run.specs.Runs.{IsInside}
 use Rattle.mw_run.proofs.RunLists.{inside_more, inside_wider}

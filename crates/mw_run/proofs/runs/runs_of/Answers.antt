@@ -1,5 +1,5 @@
 use Rattle.std.proofs.Common.{◌+◌, arith, refl}
-use Rattle.mw_facts.proofs.Alls.{all-push}
+use Rattle.mw_model.proofs.mw_facts.Alls.{all-push}
 use Rattle.mw_run.specs.Runs.{IsRun}
 use Rattle.mw_run.proofs.RunLists.{runs_more, longest_more, last_more}
 use Rattle.mw_run.proofs.runs.runs_of.Goals as goal

@@ -2,7 +2,7 @@ use Rattle.std.proofs.Common.{◌≤◌, arith, take, length-take}
 use Rattle.std.specs.Prelude.{pos, nat_eq, slice_index_or}
 use Rattle.std.proofs.lemmas.Grind.{common_steps}
 use Rattle.std.proofs.lemmas.List.Sums.{count_by_more_yes, count_by_more_no, count_by-le-length}
-use Rattle.mw_facts.proofs.Alls.{all-get_or}
+use Rattle.mw_model.proofs.mw_facts.Alls.{all-get_or}
 use Rattle.mw_run.specs.declared.runs.Run.{Run}
 use Rattle.mw_run.proofs.sizes.counts_of.Goals as goal
 

@@ -1,6 +1,6 @@
 use Rattle.std.proofs.Common.{◌≡◌, arith, ap, get_or, List, sym, subst, ◌∙◌}
-use Rattle.mw_facts.proofs.Alls.{all-get_or}
-use Rattle.mw_tile.specs.Windows.{SourceWindow}
+use Rattle.mw_model.proofs.mw_facts.Alls.{all-get_or}
+use Rattle.mw_joined.specs.mw_tile.Windows.{SourceWindow}
 use Rattle.mw_task.specs.WindowTasks.{IsRead, window_at}
 use Rattle.mw_step.proofs.make.source.Goals as goal
 

@@ -1,6 +1,6 @@
 use Rattle.std.proofs.Common.{◌+◌, ◌&&◌, count_by, Bool, ℕ, ap, sym, ◌∙◌, arith}
 use Rattle.std.specs.List.{range_with_len}
-use Rattle.mw_facts.proofs.Counts.{count_by-most}
+use Rattle.mw_model.proofs.mw_facts.Counts.{count_by-most}
 use Rattle.mw_model.specs.Refusals.{submission_at}
 use Rattle.mw_store.specs.Wanted.{is_among, one_if, waits_for}
 use Rattle.mw_store.proofs.Counting.{count-more}

@@ -1,5 +1,5 @@
 use Rattle.std.proofs.Common.{arith, rules}
-use Rattle.mw_facts.proofs.Elements.{same_elements}
+use Rattle.mw_model.proofs.mw_facts.Elements.{same_elements}
 use Rattle.mw_task.proofs.offsets.same_offsets.Goals as goal
 
 pub returns : goal.returns

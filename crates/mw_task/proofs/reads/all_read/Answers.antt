@@ -1,5 +1,5 @@
 use Rattle.std.proofs.Common.{arith, rules}
-use Rattle.mw_tile.specs.Windows.{SourceWindow}
+use Rattle.mw_pieces.specs.mw_tile.Windows.{SourceWindow}
 use Rattle.mw_task.specs.Meanings.{meaning}
 use Rattle.mw_task.specs.WindowTasks.{IsRead}
 use Rattle.mw_task.proofs.AllOf.{all_end, all_fails}

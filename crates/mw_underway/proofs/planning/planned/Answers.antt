@@ -1,8 +1,8 @@
 use Rattle.std.proofs.Common.{◌≡◌, sym, ap, ◌∙◌, subst}
 use Rattle.std.proofs.lemmas.Result.{err_from_is_err_and}
 use Rattle.mw_model.specs.declared.shapes.Shape.TheVariants as shape
-use Rattle.mw_grid.specs.Grids.{Tiling}
-use Rattle.mw_plan.specs.Asked.{fault_in}
+use Rattle.mw_stands.specs.mw_grid.Grids.{Tiling}
+use Rattle.mw_stands.specs.mw_plan.Asked.{fault_in}
 use Rattle.mw_stands.specs.mw_progress.ProgressView.{fresh}
 use Rattle.mw_underway.specs.Planning.{unplanned_of}
 use Rattle.mw_underway.proofs.PlannedByLemmas.{LooksUp, faultless-plan, no-fault, only-memory, plan-works, planned-by}

@@ -2,8 +2,8 @@ use Rattle.std.proofs.Common.{◌≡◌, true, false, List, map, get_or, sym, ap
 use Rattle.std.proofs.lemmas.Bool.{false≢true}
 use Rattle.mw_model.specs.declared.tasks.TaskId.{TaskId}
 use Rattle.mw_model.specs.Tasks.{nothing_planned}
-use Rattle.mw_plan.specs.Seen.{planned}
-use Rattle.mw_tile.specs.Windows.{SourceWindow}
+use Rattle.mw_stands.specs.mw_plan.Seen.{planned}
+use Rattle.mw_stands.specs.mw_tile.Windows.{SourceWindow}
 use Rattle.mw_stands.specs.mw_places.Levels.{no_level}
 use Rattle.mw_underway.specs.Results.{level_of_window}
 use Rattle.mw_underway.proofs.ResultLemmas.{fit-of, found-levels, found-of-running, of-work, running-of}

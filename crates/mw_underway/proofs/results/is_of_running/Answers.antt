@@ -1,6 +1,6 @@
 use Rattle.std.proofs.Common.{◌≡◌, true, false, sym, ◌∙◌}
 use Rattle.std.proofs.lemmas.Bool.{false≢true}
-use Rattle.mw_plan.specs.Seen.{planned}
+use Rattle.mw_stands.specs.mw_plan.Seen.{planned}
 use Rattle.mw_underway.proofs.ResultLemmas.{of-running, rect-of, running-of, step-of}
 use Rattle.mw_underway.proofs.results.is_of_running.Goals as goal
 

@@ -1,9 +1,9 @@
 use Rattle.std.proofs.Common.{◌≡◌, ◌<◌, true, false, List, sym, ◌∙◌, subst}
 use Rattle.std.proofs.lemmas.Bool.{false≢true}
 use Rattle.mw_model.specs.Values.{image_of, value_at}
-use Rattle.mw_grid.specs.Grids.{Tiling, tile_count}
-use Rattle.mw_plan.specs.Seen.{planned}
-use Rattle.mw_tile.specs.Windows.{SourceWindow}
+use Rattle.mw_stands.specs.mw_grid.Grids.{Tiling, tile_count}
+use Rattle.mw_stands.specs.mw_plan.Seen.{planned}
+use Rattle.mw_stands.specs.mw_tile.Windows.{SourceWindow}
 use Rattle.mw_underway.specs.Results.{AreShown}
 use Rattle.mw_underway.proofs.ReadingLemmas.{place-some}
 use Rattle.mw_underway.proofs.ResultLemmas.{found-of-running, found-sources, found-windows, looked-up, looked-up-there, result-of, running-of}

@@ -1,7 +1,7 @@
 use Rattle.std.proofs.Common.{ℕ, sym, ap, subst, arith}
 use Rattle.mw_model.specs.Plans.{FromStep, Source}
 use Rattle.mw_model.specs.Values.{image_of, value_at}
-use Rattle.mw_plan.specs.Seen.{source}
+use Rattle.mw_stands.specs.mw_plan.Seen.{source}
 use Rattle.mw_stands.specs.mw_tiles.Tiles.{HasAll}
 use Rattle.mw_stands.specs.mw_progress.ProgressView.{plane_at}
 use Rattle.mw_underway.specs.Results.{IsShown}

@@ -2,7 +2,7 @@ use Rattle.std.proofs.Common.{◌≡◌, ℕ, ◌<◌, true, length, Option, ref
 use Rattle.std.specs.List.{AllByRecursion}
 use Rattle.mw_model.specs.Tasks.{is_ready, task_count}
 use Rattle.mw_model.specs.Values.{image_of, value_at}
-use Rattle.mw_task.specs.WindowTasks.{IsBounded, WindowTask}
+use Rattle.mw_stands.specs.mw_task.WindowTasks.{IsBounded, WindowTask}
 use Rattle.mw_stands.specs.mw_progress.ProgressView.{number_of}
 use Rattle.mw_stands.proofs.mw_work.Numbers.{length-tiles, number_of-within}
 use Rattle.mw_underway.specs.SourceWindows.{IsNoTask, IsTaskOf, IsTaskOrNone}

@@ -7,9 +7,9 @@ use Rattle.mw_stands.proofs.mw_work.Numbers.{length-tiles, number_of-within, pla
 use Rattle.mw_model.specs.Values.{image_of, value_at}
 use Rattle.std.specs.Prelude.{IfSome, List, Option, option_map}
 use Rattle.std.specs.List.{AllByRecursion}
-use Rattle.mw_task.specs.WindowTasks.{IsBounded}
+use Rattle.mw_stands.specs.mw_task.WindowTasks.{IsBounded}
 use Rattle.std.proofs.lemmas.Option.{none-some}
-use Rattle.mw_tile.specs.Windows.{SourceWindow, window_of}
+use Rattle.mw_stands.specs.mw_tile.Windows.{SourceWindow, window_of}
 use Rattle.mw_underway.specs.SourceWindows.{AreSources, CanReadAll}
 use Rattle.mw_underway.proofs.ReadingLemmas.{some-items, place-is, place-some, task-can-read, task-is, task-or-none}
 use Rattle.mw_underway.proofs.taking.task.Goals as goal

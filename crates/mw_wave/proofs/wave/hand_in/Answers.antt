@@ -1,7 +1,7 @@
 use Rattle.std.proofs.Common.{◌∷◌, subst}
 use Rattle.std.specs.Prelude.{Result}
-use Rattle.mw_task.specs.WindowTasks.{WindowTask}
-use Rattle.mw_task.specs.declared.done.TaskRefused.{TaskRefused}
+use Rattle.mw_step.specs.mw_task.WindowTasks.{WindowTask}
+use Rattle.mw_step.specs.mw_task.declared.done.TaskRefused.{TaskRefused}
 use Rattle.mw_wave.specs.declared.job.Job.TheVariants as job
 use Rattle.mw_wave.specs.Jobs.{IsBoundedJob}
 use Rattle.mw_wave.specs.Waves.{Underway}

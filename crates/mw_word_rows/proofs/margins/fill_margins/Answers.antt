@@ -1,7 +1,7 @@
 use Rattle.std.proofs.Common.{◌≡◌, ◌*◌, ◌+◌, ◌-◌, cond, nat_lt, ap, arith, length, take, drop, length-take, length-drop}
-use Rattle.mw_words.specs.Packed.{stride_of}
-use Rattle.mw_words.proofs.Bits.{rows_fit}
-use Rattle.mw_words.proofs.Done.{bit_rows_more_by}
+use Rattle.mw_line.specs.mw_words.Packed.{stride_of}
+use Rattle.mw_line.proofs.mw_words.Bits.{rows_fit}
+use Rattle.mw_line.proofs.mw_words.Done.{bit_rows_more_by}
 use Rattle.mw_word_rows.proofs.FilledMargins.{row_still_clean}
 use Rattle.mw_word_rows.proofs.margins.fill_margins.Goals as goal
 

@@ -1,6 +1,6 @@
 use Rattle.std.proofs.Common.{cond, nat_lt}
-use Rattle.mw_words.specs.Packed.{stride_of}
-use Rattle.mw_words.proofs.Done.{BitRowsDone}
+use Rattle.mw_line.specs.mw_words.Packed.{stride_of}
+use Rattle.mw_line.proofs.mw_words.Done.{BitRowsDone}
 use Rattle.mw_word_rows.proofs.margins.fill_margins.Given as goal
 
 abbrev pub invariant-loop-y : goal.invariant-loop-y

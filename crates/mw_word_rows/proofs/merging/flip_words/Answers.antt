@@ -1,7 +1,7 @@
 use Rattle.std.proofs.Common.{◌-◌, get_or, w64, arith}
 use Rattle.std.specs.Int.{bit_not}
 use Rattle.std.proofs.lemmas.Nat.Bits.{bit_at_not}
-use Rattle.mw_words.proofs.Done.{words_more}
+use Rattle.mw_line.proofs.mw_words.Done.{words_more}
 use Rattle.mw_word_rows.proofs.merging.flip_words.Goals as goal
 
 pub loop-i-preserved : goal.loop-i-preserved

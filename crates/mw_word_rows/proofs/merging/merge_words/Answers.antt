@@ -1,7 +1,7 @@
 use Rattle.std.proofs.Common.{◌+◌, ◌*◌, ap, sym, arith, refl, ◌∙◌}
-use Rattle.mw_words.specs.Packed.{bit_of}
-use Rattle.mw_words.proofs.Bits.{bit_of_word}
-use Rattle.mw_words.proofs.Done.{words_more}
+use Rattle.mw_line.specs.mw_words.Packed.{bit_of}
+use Rattle.mw_line.proofs.mw_words.Bits.{bit_of_word}
+use Rattle.mw_line.proofs.mw_words.Done.{words_more}
 use Rattle.mw_word_rows.proofs.merging.merge_words.Goals as goal
 
 pub loop-i-preserved : goal.loop-i-preserved

@@ -1,5 +1,5 @@
-use Rattle.mw_words.specs.Packed.{bit_of}
-use Rattle.mw_words.proofs.Done.{WordsDone}
+use Rattle.mw_line.specs.mw_words.Packed.{bit_of}
+use Rattle.mw_line.proofs.mw_words.Done.{WordsDone}
 use Rattle.mw_word_rows.proofs.merging.merge_words.Given as goal
 
 abbrev pub invariant-loop-i : goal.invariant-loop-i

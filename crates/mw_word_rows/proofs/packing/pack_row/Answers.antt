@@ -1,5 +1,5 @@
 use Rattle.std.proofs.Common.{get_or, arith}
-use Rattle.mw_words.proofs.Done.{words_more}
+use Rattle.mw_line.proofs.mw_words.Done.{words_more}
 use Rattle.mw_word_rows.proofs.packing.pack_row.Goals as goal
 
 pub loop-k-preserved : goal.loop-k-preserved

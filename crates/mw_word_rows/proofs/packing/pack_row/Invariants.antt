@@ -1,5 +1,5 @@
 use Rattle.std.proofs.Common.{get_or}
-use Rattle.mw_words.proofs.Done.{WordsDone}
+use Rattle.mw_line.proofs.mw_words.Done.{WordsDone}
 use Rattle.mw_word_rows.proofs.packing.pack_row.Given as goal
 
 abbrev pub invariant-loop-k : goal.invariant-loop-k

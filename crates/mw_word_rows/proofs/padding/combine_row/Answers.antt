@@ -2,10 +2,10 @@ use Rattle.std.proofs.Common.{◌≡◌, ℤ, ◌+◌, ◌*◌, ◌/◌, ◌%◌
 use Rattle.std.specs.Int.{bit_at}
 use Rattle.std.proofs.lemmas.Int.{ints}
 use Rattle.std.proofs.lemmas.Nat.Bits.{bit_at-lt}
-use Rattle.mw_lane.specs.Shifted.{merge_at}
+use Rattle.mw_line.specs.mw_lane.Shifted.{merge_at}
 use Rattle.mw_word_rows.specs.Rows.{pixel_at, words_before}
-use Rattle.mw_words.proofs.Done.{words_more}
-use Rattle.mw_words.proofs.Funnels.{IsFunnel}
+use Rattle.mw_line.proofs.mw_words.Done.{words_more}
+use Rattle.mw_line.proofs.mw_words.Funnels.{IsFunnel}
 use Rattle.mw_word_rows.proofs.Paddings.{IsNeutral, padded_at, merge_padded, funnel_padded}
 use Rattle.mw_word_rows.proofs.padding.combine_row.Goals as goal
 

@@ -1,8 +1,8 @@
 use Rattle.std.proofs.Common.{◌≡◌, ℕ, ◌+◌, ◌*◌, ◌<◌, pos, ◌+ℤ◌, ◌-ℤ◌}
 use Rattle.std.specs.Int.{bit_at}
-use Rattle.mw_lane.specs.Shifted.{merge_at}
+use Rattle.mw_line.specs.mw_lane.Shifted.{merge_at}
 use Rattle.mw_word_rows.specs.Rows.{pixel_at, words_before}
-use Rattle.mw_words.proofs.Done.{WordsDone}
+use Rattle.mw_line.proofs.mw_words.Done.{WordsDone}
 use Rattle.mw_word_rows.proofs.Paddings.{padded_at}
 use Rattle.mw_word_rows.proofs.padding.combine_row.Given as goal
 

@@ -1,8 +1,8 @@
 use Rattle.std.proofs.Common.{◌*◌, ◌+◌, ◌/◌, ◌%◌, get_or, ap, sym, arith, ◌∙◌}
 use Rattle.std.specs.Int.{bit_at}
-use Rattle.mw_words.specs.Packed.{bit_of}
-use Rattle.mw_words.proofs.Done.{words_more}
-use Rattle.mw_words.proofs.Funnels.{IsFunnel}
+use Rattle.mw_line.specs.mw_words.Packed.{bit_of}
+use Rattle.mw_line.proofs.mw_words.Done.{words_more}
+use Rattle.mw_line.proofs.mw_words.Funnels.{IsFunnel}
 use Rattle.mw_word_rows.proofs.FunnelPairs.{IsMerged, funnel_merged}
 use Rattle.mw_word_rows.proofs.shifting.combine_aligned.Goals as goal
 

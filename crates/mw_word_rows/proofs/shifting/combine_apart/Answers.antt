@@ -1,8 +1,8 @@
 use Rattle.std.proofs.Common.{ℕ, ◌+◌, ◌/◌, ◌%◌, get_or, ap, arith, refl, ◌∙◌}
 use Rattle.std.specs.Int.{bit_at}
-use Rattle.mw_words.specs.Packed.{bit_of}
-use Rattle.mw_words.proofs.Done.{words_more}
-use Rattle.mw_words.proofs.Funnels.{IsFunnel, funnel_at}
+use Rattle.mw_line.specs.mw_words.Packed.{bit_of}
+use Rattle.mw_line.proofs.mw_words.Done.{words_more}
+use Rattle.mw_line.proofs.mw_words.Funnels.{IsFunnel, funnel_at}
 use Rattle.mw_word_rows.proofs.shifting.combine_apart.Goals as goal
 
 pub loop-i-preserved : goal.loop-i-preserved

@@ -1,7 +1,7 @@
 use Rattle.std.proofs.Common.{◌+◌, ◌/◌, ◌%◌, get_or, ap, arith, refl, ◌∙◌}
-use Rattle.mw_words.specs.Packed.{bit_of}
-use Rattle.mw_words.proofs.Done.{words_more}
-use Rattle.mw_words.proofs.Funnels.{IsFunnel, funnel_at}
+use Rattle.mw_line.specs.mw_words.Packed.{bit_of}
+use Rattle.mw_line.proofs.mw_words.Done.{words_more}
+use Rattle.mw_line.proofs.mw_words.Funnels.{IsFunnel, funnel_at}
 use Rattle.mw_word_rows.proofs.shifting.combine_from.Goals as goal
 
 pub loop-i-preserved : goal.loop-i-preserved

@@ -1,6 +1,6 @@
 use Rattle.std.proofs.Common.{◌+◌, ◌-◌, ◌*◌, arith, sym, refl, ◌∙◌}
-use Rattle.mw_words.specs.Packed.{bit_of}
-use Rattle.mw_words.proofs.Bits.{bit_of_word}
+use Rattle.mw_line.specs.mw_words.Packed.{bit_of}
+use Rattle.mw_line.proofs.mw_words.Bits.{bit_of_word}
 use Rattle.mw_word_rows.proofs.Packs.{parts_more}
 use Rattle.mw_word_rows.proofs.unpacking.unpack_row.Goals as goal
 

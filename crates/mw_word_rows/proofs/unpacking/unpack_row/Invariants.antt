@@ -1,5 +1,5 @@
 use Rattle.std.proofs.Common.{◌≡◌, ℕ, ◌*◌, ◌<◌, get_or}
-use Rattle.mw_words.specs.Packed.{bit_of}
+use Rattle.mw_line.specs.mw_words.Packed.{bit_of}
 use Rattle.mw_word_rows.proofs.unpacking.unpack_row.Given as goal
 
 abbrev pub invariant-loop-k : goal.invariant-loop-k

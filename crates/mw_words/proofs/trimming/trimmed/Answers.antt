@@ -1,5 +1,5 @@
 use Rattle.std.proofs.Common.{◌≡◌, ℕ, ◌+◌, ◌*◌, List, length, ap, ◌∙◌, arith}
-use Rattle.mw_facts.proofs.Elements.{take-written}
+use Rattle.mw_model.proofs.mw_facts.Elements.{take-written}
 use Rattle.mw_words.specs.Packed.{bit_of}
 use Rattle.mw_words.proofs.Trims.{first_trimmed, trimmed_rows}
 use Rattle.mw_words.proofs.trimming.trimmed.Goals as goal

@@ -10,7 +10,7 @@ use Rattle.mw_model.specs.Refusals.{refusal}
 use Rattle.mw_model.specs.Machine.{with_entry, given_submission}
 use Rattle.mw_model.specs.Lines.{AskElement}
 use Rattle.mw_model.specs.Scripts.{refused_unread}
-use Rattle.mw_ledger.specs.mw_store.Stored.{Stored}
+use Rattle.mw_checks.specs.mw_store.Stored.{Stored}
 use Rattle.mw_ledger.specs.mw_stands.Facts.{stored_of}
 use Rattle.mw_ledger.specs.mw_stands.Events.{FollowsMachine}
 use Rattle.mw_ledger.proofs.mw_stands.CallLemmas.{IfOk-from-one, IfOk-from-four, serves-refused, serves-element}

@@ -7,8 +7,8 @@ use Rattle.mw_model.specs.declared.calls.LogItem.TheVariants as item
 use Rattle.mw_model.specs.Values.{Value}
 use Rattle.mw_model.specs.Refusals.{refusal}
 use Rattle.mw_model.specs.Machine.{with_entry, run_submission}
-use Rattle.mw_plan.specs.Tables.{AreValuesAt}
-use Rattle.mw_ledger.specs.mw_store.Stored.{Stored}
+use Rattle.mw_checks.specs.mw_plan.Tables.{AreValuesAt}
+use Rattle.mw_checks.specs.mw_store.Stored.{Stored}
 use Rattle.mw_ledger.specs.mw_stands.Facts.{stored_of}
 use Rattle.mw_ledger.specs.mw_stands.Limits.{FitsLimits}
 use Rattle.mw_ledger.specs.mw_stands.Events.{FollowsMachine}

@@ -1,7 +1,7 @@
 use Rattle.std.proofs.Common.{◌≡◌, ◌%◌, ◌<◌, ◌≤◌, ℕ, length, sum, Option, ap, sym, subst, ◌∙◌, arith}
 use Rattle.mw_model.specs.Machine.{Machine}
 use Rattle.mw_model.specs.Stands.{CoreView, StandsFor, ready_count, ready_under}
-use Rattle.mw_task.specs.WindowTasks.{WindowTask}
+use Rattle.mw_checks.specs.mw_task.WindowTasks.{WindowTask}
 use Rattle.mw_ledger.specs.mw_stands.Facts.{IsComplete}
 use Rattle.mw_ledger.specs.mw_stands.TaskEvents.{BeginsTask, Kills}
 use Rattle.mw_ledger.specs.mw_stands.Turns.{IsAt}

@@ -1,5 +1,5 @@
 use Rattle.std.proofs.Common.{arith}
-use Rattle.mw_facts.proofs.Counts.{count_by-most}
+use Rattle.mw_model.proofs.mw_facts.Counts.{count_by-most}
 use Rattle.mw_grid.specs.Grids.{tile_count}
 use Rattle.mw_grid.specs.Blocks.{in_block}
 use Rattle.mw_grid.proofs.Meeting.{count-block}

@@ -1,5 +1,5 @@
 use Rattle.std.proofs.Common.{arith, ◌∙◌}
-use Rattle.mw_facts.proofs.Merged.{merged_step, merged_all}
+use Rattle.mw_model.proofs.mw_facts.Merged.{merged_step, merged_all}
 use Rattle.mw_lane.proofs.lanes.Lanes.subtract_block.Goals as goal
 
 pub loop-i-preserved : goal.loop-i-preserved

@@ -1,6 +1,6 @@
 use Rattle.std.proofs.Common.{arith, ap, ◌∙◌, ℕ, cond}
 use Rattle.std.specs.Prelude.{nat_le, if◌then◌else◌}
-use Rattle.mw_facts.proofs.Merged.{mapped_step, mapped_all, merged_all}
+use Rattle.mw_model.proofs.mw_facts.Merged.{mapped_step, mapped_all, merged_all}
 use Rattle.mw_lane.proofs.lanes.Lanes.threshold_block.Goals as goal
 
 pub loop-i-preserved : goal.loop-i-preserved

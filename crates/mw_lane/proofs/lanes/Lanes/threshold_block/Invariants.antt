@@ -1,6 +1,6 @@
 use Rattle.std.proofs.Common.{◌≡◌, ℕ}
 use Rattle.std.specs.Prelude.{nat_le, if◌then◌else◌}
-use Rattle.mw_facts.proofs.Merged.{merged}
+use Rattle.mw_model.proofs.mw_facts.Merged.{merged}
 use Rattle.mw_lane.proofs.lanes.Lanes.threshold_block.Given as goal
 
 abbrev pub invariant-loop-i : goal.invariant-loop-i

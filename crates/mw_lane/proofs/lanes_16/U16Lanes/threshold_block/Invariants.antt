@@ -1,5 +1,5 @@
 use Rattle.std.proofs.Common.{◌≡◌, ℕ}
-use Rattle.mw_facts.proofs.Merged.{merged}
+use Rattle.mw_model.proofs.mw_facts.Merged.{merged}
 use Rattle.mw_lane.proofs.Marks.{mark}
 use Rattle.mw_lane.proofs.lanes_16.U16Lanes.threshold_block.Given as goal
 

@@ -1,5 +1,5 @@
 use Rattle.std.proofs.Common.{◌≡◌, ◌∷◌, [], ◌++◌, ◌+◌, ◌%◌, ◌≤◌, ◌∙◌, ℕ, Option, List, count_by, subst, sym, ap, arith}
-use Rattle.mw_facts.proofs.Numbers.{one_if-le}
+use Rattle.mw_model.proofs.mw_facts.Numbers.{one_if-le}
 use Rattle.mw_model.specs.Refusals.{Table, is_pending}
 use Rattle.mw_underway.specs.mw_progress.ProgressView.{ProgressView}
 use Rattle.mw_underway.specs.mw_store.Entries.{submission_of, outcome_of}

@@ -1,5 +1,5 @@
 use Rattle.std.proofs.Common.{not, arith}
-use Rattle.mw_facts.proofs.Counts.{count_by-most}
+use Rattle.mw_model.proofs.mw_facts.Counts.{count_by-most}
 use Rattle.mw_model.specs.Tasks.{flag, task_count}
 use Rattle.mw_ledger.proofs.WorkLemmas.{found}
 use Rattle.mw_ledger.proofs.ledger.Ledger.remaining.Goals as goal

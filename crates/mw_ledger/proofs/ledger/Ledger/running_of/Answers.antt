@@ -1,5 +1,5 @@
 use Rattle.std.proofs.Common.{length, ap, arith}
-use Rattle.mw_facts.proofs.Counts.{count_by-most}
+use Rattle.mw_model.proofs.mw_facts.Counts.{count_by-most}
 use Rattle.mw_model.specs.Tasks.{is_running, task_count}
 use Rattle.mw_ledger.specs.Books.{Book}
 use Rattle.mw_ledger.proofs.WorkLemmas.{found}

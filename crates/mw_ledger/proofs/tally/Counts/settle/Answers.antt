@@ -1,6 +1,6 @@
 use Rattle.std.proofs.Common.{◌≡◌, ℕ, ◌+◌, ◌<◌, ◌∙◌, List, length, set, take, get_or, refl, ap, sym, subst, arith, None, length-set}
 use Rattle.std.proofs.Math.Seq.{take-length}
-use Rattle.mw_facts.proofs.Alls.{all-get_or}
+use Rattle.mw_model.proofs.mw_facts.Alls.{all-get_or}
 use Rattle.mw_model.specs.declared.calls.Outcome.TheVariants as outcome
 use Rattle.mw_model.specs.Machine.{settled}
 use Rattle.mw_model.specs.Stands.{ready_under}

@@ -1,8 +1,8 @@
 use Rattle.std.proofs.Common.{◌≡◌, ◌<◌, length, List, ap, sym, subst, arith, rules, ◌∙◌}
 use Rattle.std.specs.List.{AllByRecursion}
-use Rattle.mw_facts.proofs.Alls.{all-take_whole}
+use Rattle.mw_model.proofs.mw_facts.Alls.{all-take_whole}
 use Rattle.mw_model.specs.declared.places.Rect.{Rect}
-use Rattle.mw_grid.specs.Rectangles.{whole_frame}
+use Rattle.mw_tile.specs.mw_grid.Rectangles.{whole_frame}
 use Rattle.mw_pieces.specs.Patches.{IsPatchOf, Patch, ShowsIn}
 use Rattle.mw_pieces.proofs.Patches.{all_next, at_frame, each_shows, frame_at, inside_frame, patch_of, read_at, shown_by, within_as}
 use Rattle.mw_pieces.proofs.pieces.Pieces.are_of.Goals as goal

@@ -1,6 +1,6 @@
 use Rattle.std.proofs.Common.{◌≡◌, ℕ, IsTrue, refl, ap, sym, ◌∙◌, rules}
 use Rattle.mw_model.specs.declared.shapes.Kind.TheVariants as kind
-use Rattle.mw_pixel.specs.Images.{grey_of, set_of}
+use Rattle.mw_tile.specs.mw_pixel.Images.{grey_of, set_of}
 use Rattle.mw_pieces.specs.Shared.{grey_joint}
 use Rattle.mw_pieces.proofs.Windows.{window_matches}
 use Rattle.mw_pieces.proofs.shared.SharedWindow.is_of_image.Goals as goal

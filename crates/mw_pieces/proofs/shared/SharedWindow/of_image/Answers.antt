@@ -1,7 +1,7 @@
 use Rattle.std.proofs.Common.{ap, sym, subst, ◌∙◌}
 use Rattle.mw_model.specs.declared.shapes.Kind.TheVariants as kind
 use Rattle.mw_model.specs.Pictures.{Picture}
-use Rattle.mw_pixel.specs.Images.{raster_of, SharesAs}
+use Rattle.mw_tile.specs.mw_pixel.Images.{raster_of, SharesAs}
 use Rattle.mw_pieces.specs.Patches.{ShowsFrame}
 use Rattle.mw_pieces.proofs.Windows.{window_is}
 use Rattle.mw_pieces.proofs.shared.SharedWindow.of_image.Goals as goal

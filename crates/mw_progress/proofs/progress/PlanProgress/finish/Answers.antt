@@ -2,8 +2,8 @@ use Rattle.std.proofs.Common.{◌≡◌, ◌≢◌, ◌<◌, true, List, not, �
 use Rattle.std.proofs.lemmas.List.{length-map, get_or_read}
 use Rattle.std.proofs.lemmas.Bool.{both_ways}
 use Rattle.mw_model.specs.Tasks.{is_running}
-use Rattle.mw_grid.specs.Blocks.{sees}
-use Rattle.mw_grid.specs.Grids.{tile_count}
+use Rattle.mw_places.specs.mw_grid.Blocks.{sees}
+use Rattle.mw_places.specs.mw_grid.Grids.{tile_count}
 use Rattle.mw_places.specs.mw_ready.Boards.{step_reads}
 use Rattle.mw_places.specs.mw_tiles.Tiles.{Tiled, tile_cells}
 use Rattle.mw_places.specs.MadeTiles.{cells_of_made}

@@ -1,6 +1,6 @@
 use Rattle.std.proofs.Common.{◌≡◌, ◌<◌, ◌↔◌, IsTrue, true, length, subst}
 use Rattle.mw_model.specs.Tasks.{is_running}
-use Rattle.mw_grid.specs.Grids.{tile_count}
+use Rattle.mw_places.specs.mw_grid.Grids.{tile_count}
 use Rattle.mw_places.specs.Places.{planes_shown}
 use Rattle.mw_progress.specs.ProgressView.{ProgressView, number_of}
 use Rattle.mw_progress.proofs.Boarded.{runs_is, is_run}

@@ -1,6 +1,6 @@
 use Rattle.std.proofs.Common.{◌≡◌, ℕ, ◌+◌, ◌-◌, ◌*◌, ◌∙◌, ◌++◌, List, length, take, drop, ap, subst, sym, true, set, arith}
 use Rattle.std.proofs.lemmas.List.{get_or_default}
-use Rattle.mw_facts.proofs.Elements.{take-written}
+use Rattle.mw_model.proofs.mw_facts.Elements.{take-written}
 use Rattle.mw_ready.specs.Boards.{Turns, task_number, Runs, no_need}
 use Rattle.mw_ready.specs.Kept.{board_of, Keeps, CountsReaders, takes}
 use Rattle.mw_ready.specs.Counters.{Lowers, Counted}

@@ -1,5 +1,5 @@
 use Rattle.std.proofs.Common.{◌≡◌, ◌<◌, ◌+◌, ◌*◌, ◌∙◌, subst, sym, refl, arith, length, true}
-use Rattle.mw_facts.proofs.Counts.{count_by-most}
+use Rattle.mw_model.proofs.mw_facts.Counts.{count_by-most}
 use Rattle.mw_ready.specs.Boards.{Turns, ready_tasks, is_ready, is_running, task_number, task_count}
 use Rattle.mw_ready.specs.Kept.{board_of}
 use Rattle.mw_ready.proofs.Keeping.{count_is, start_keeps_given, step_of_number, open_number}

@@ -1,7 +1,7 @@
 use Rattle.std.proofs.Common.{refl}
 use Rattle.mw_model.specs.declared.calls.Call.TheVariants as call
 use Rattle.mw_model.specs.declared.requests.Ask.TheVariants as ask
-use Rattle.mw_wire.specs.Writes.{told_text}
+use Rattle.mw_fetched.specs.mw_wire.Writes.{told_text}
 use Rattle.mw_serve.proofs.Texts.{served-load, served-element, served-alone}
 use Rattle.mw_serve.proofs.counter.CounterDesk.answer.Goals as goal
 

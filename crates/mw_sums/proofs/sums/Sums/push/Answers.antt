@@ -1,5 +1,5 @@
 use Rattle.std.proofs.Common.{◌≡◌, ℕ, ◌+◌, ◌*◌, ◌∙◌, ◌++◌, [], ◌∷◌, List, length, ap, arith}
-use Rattle.mw_facts.proofs.Elements.{take-written}
+use Rattle.mw_model.proofs.mw_facts.Elements.{take-written}
 use Rattle.mw_sums.specs.Trees.{leaves}
 use Rattle.mw_sums.proofs.Leaves.{leaves-push}
 use Rattle.mw_sums.proofs.sums.Sums.push.Goals as goal

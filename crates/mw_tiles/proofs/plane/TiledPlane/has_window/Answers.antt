@@ -1,7 +1,7 @@
 use Rattle.std.proofs.Common.{◌≡◌, ℕ, IsTrue, ap, sym, rules, ◌∙◌}
 use Rattle.mw_model.specs.declared.shapes.Kind.TheVariants as kind
-use Rattle.mw_tile.specs.Windows.{SourceWindow}
-use Rattle.mw_pieces.specs.Shared.{grey_joint, source_joint}
+use Rattle.mw_task.specs.mw_tile.Windows.{SourceWindow}
+use Rattle.mw_task.specs.mw_pieces.Shared.{grey_joint, source_joint}
 use Rattle.mw_tiles.specs.Held.{tiled, tiled_held}
 use Rattle.mw_tiles.proofs.Windows.{placed_of, shared_matches, within_of}
 use Rattle.mw_tiles.proofs.plane.TiledPlane.has_window.Goals as goal

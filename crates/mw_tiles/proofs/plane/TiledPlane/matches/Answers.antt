@@ -1,5 +1,5 @@
 use Rattle.std.proofs.Common.{ap}
-use Rattle.mw_tile.specs.Windows.{SourceWindow}
+use Rattle.mw_task.specs.mw_tile.Windows.{SourceWindow}
 use Rattle.mw_tiles.specs.Filled.{filled}
 use Rattle.mw_tiles.proofs.Filled.{filled_is_plane, window_bounded}
 use Rattle.mw_tiles.proofs.plane.TiledPlane.matches.Goals as goal

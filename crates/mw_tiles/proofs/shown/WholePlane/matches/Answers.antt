@@ -1,6 +1,6 @@
 use Rattle.std.proofs.Common.{◌≡◌, ◌↔◌, IsTrue, subst}
 use Rattle.mw_model.specs.Pictures.{Picture}
-use Rattle.mw_tile.specs.Windows.{window_of}
+use Rattle.mw_task.specs.mw_tile.Windows.{window_of}
 use Rattle.mw_tiles.specs.Filled.{filled}
 use Rattle.mw_tiles.proofs.Filled.{filled_is_plane}
 use Rattle.mw_tiles.proofs.shown.WholePlane.matches.Goals as goal

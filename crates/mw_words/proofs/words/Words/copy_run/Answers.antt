@@ -1,5 +1,5 @@
 use Rattle.std.proofs.Common.{◌≡◌, ℕ, ◌+◌, ◌-◌, ◌*◌, List, length, slice_range, get_or, ap, ◌∙◌, arith}
-use Rattle.mw_facts.proofs.Elements.{take-written}
+use Rattle.mw_model.proofs.mw_facts.Elements.{take-written}
 use Rattle.mw_model.specs.Rasters.{Raster, raster}
 use Rattle.mw_words.specs.Packed.{samples_of}
 use Rattle.mw_words.specs.Runs.{put_at}
