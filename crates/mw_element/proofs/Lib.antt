@@ -10,4 +10,4 @@ mod Rows
 mod Room
 -- what lower crates offer
 pub use Rattle.mw_netpbm.proofs as mw_netpbm
-pub use Rattle.mw_netpbm.proofs.pixel as mw_pixel
+pub use Rattle.mw_netpbm.proofs.mw_pixel as mw_pixel

@@ -9,7 +9,7 @@ use Rattle.std.proofs.lemmas.Nat.Bits.{bit_at-zero}
 use Rattle.mw_model.proofs.mw_facts.Alls.{all-append, all-take, all-drop}
 use Rattle.mw_model.proofs.mw_facts.Elements.{get_or-replicate_same}
 use Rattle.mw_pixel.specs.mw_words.Packed.{bit_of, stride_of, samples_of, IsPacked}
-use Rattle.mw_pixel.proofs.words.Bits.{bit_of_word, bit_of_its_word, samples_are_bits}
+use Rattle.mw_pixel.proofs.mw_words.Bits.{bit_of_word, bit_of_its_word, samples_are_bits}
 use Rattle.mw_netpbm.specs.SetWords.{in_words, in_rows}
 use Rattle.mw_netpbm.proofs.Sides.{Within}
 use Rattle.mw_netpbm.proofs.Numbered.{number_bit, number_parts, number_small, number_zeros}

@@ -30,4 +30,4 @@ mod Turning
 mod Whole
 mod Written
 -- what lower crates offer
-pub use Rattle.mw_pixel.proofs as pixel
+pub use Rattle.mw_pixel.proofs as mw_pixel

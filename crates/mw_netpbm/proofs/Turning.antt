@@ -12,7 +12,7 @@ use Rattle.mw_model.proofs.mw_facts.Numbers.{below_or_last}
 use Rattle.mw_model.specs.NetpbmGrammar.{bits_of}
 use Rattle.mw_model.specs.NetpbmWriting.{packed}
 use Rattle.mw_pixel.specs.mw_words.Packed.{bit_of}
-use Rattle.mw_pixel.proofs.words.Bits.{bit_of_word, bit_of_past}
+use Rattle.mw_pixel.proofs.mw_words.Bits.{bit_of_word, bit_of_past}
 use Rattle.mw_netpbm.specs.SetWords.{turn, in_words, pixels_of}
 use Rattle.mw_netpbm.proofs.Sides.{Within, bits_within}
 use Rattle.mw_netpbm.proofs.Numbered.{digit_bit, length-digits, digits_parts}
