@@ -3,7 +3,7 @@
 ghost use Rattle.std.specs.Prelude.{◌≡◌, ◌≤◌, ◌%◌, ◌⊎◌, false};
 ghost use Rattle.mw_batch.specs.Batches.{Ends, Served, Unserved};
 
-use mw_session::mw_wire::{Sink, Source, send, tell};
+use mw_session::wire::{Sink, Source, send, tell};
 use mw_session::{Core, Crew, End, Pick, run_script};
 use std::io::{Read, Write};
 use std::thread::Threads;

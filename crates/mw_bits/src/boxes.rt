@@ -15,10 +15,10 @@ use crate::held::plane_of;
 use crate::spread::spread;
 use crate::uniform::settled_box;
 use mw_model::{NoMemory, OffsetBox, Rect};
-use mw_offset::mw_line::{first_seen, seen_across, seen_down};
-use mw_offset::mw_pixel::{Bit, Plane};
-use mw_offset::mw_tile::Window;
-use mw_offset::mw_words::{Words, repeated, stride, trimmed};
+use mw_offset::line::{first_seen, seen_across, seen_down};
+use mw_offset::pixel::{Bit, Plane};
+use mw_offset::tile::Window;
+use mw_offset::words::{Words, repeated, stride, trimmed};
 use mw_word_rows::slide_words;
 use std::alloc::Global;
 

@@ -20,12 +20,12 @@ use crate::WordExtremum;
 use crate::sizes::{longest_of, next_size};
 use crate::spread::spread;
 use mw_model::{NoMemory, Rect};
-use mw_offset::mw_pixel::Bit;
-use mw_offset::mw_run::{
+use mw_offset::pixel::Bit;
+use mw_offset::run::{
     Extent, Run, Sizes, columns_after, counts_of, first_column, first_row, rows_after, start_of_run,
 };
-use mw_offset::mw_tile::Window;
-use mw_offset::mw_words::{repeated, stride, trimmed};
+use mw_offset::tile::Window;
+use mw_offset::words::{repeated, stride, trimmed};
 use mw_word_rows::{combine_ahead, combine_both, combine_from};
 use std::alloc::Global;
 

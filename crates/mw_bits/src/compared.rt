@@ -8,10 +8,10 @@ ghost use Rattle.mw_offset.specs.mw_words.Packed.{bit_of, stride_of, IsPacked, s
 use crate::held::plane_of;
 use crate::levels::{FromLevel, LevelTest, OfLevel};
 use mw_model::NoMemory;
-use mw_offset::mw_lane::LevelBlocks;
-use mw_offset::mw_pixel::{Bit, Grey, Pixel, Plane};
-use mw_offset::mw_tile::Window;
-use mw_offset::mw_words::{repeated, stride};
+use mw_offset::lane::LevelBlocks;
+use mw_offset::pixel::{Bit, Grey, Pixel, Plane};
+use mw_offset::tile::Window;
+use mw_offset::words::{repeated, stride};
 use std::alloc::Global;
 
 /// The word of the last samples, which are so many; its other bits are 0. The last 64 samples are compared.

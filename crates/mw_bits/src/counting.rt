@@ -2,8 +2,8 @@
 ghost use Rattle.std.specs.Prelude.{◌≡◌, ◌*◌, length, sum};
 
 use crate::held::words_of;
-use mw_offset::mw_pixel::Bit;
-use mw_offset::mw_tile::Window;
+use mw_offset::pixel::Bit;
+use mw_offset::tile::Window;
 use mw_word_rows::count_bits;
 
 /// The sum of all samples, which is the number of pixels in the set.

@@ -3,9 +3,9 @@ ghost use Rattle.std.specs.Prelude.{◌≡◌, ℕ, ◌+◌, ◌*◌, ◌<◌, �
 ghost use Rattle.mw_model.specs.Rasters.{raster};
 ghost use Rattle.mw_offset.specs.mw_words.Packed.{bit_of, stride_of, samples_of, IsPacked};
 
-use mw_offset::mw_pixel::{Bit, Plane};
-use mw_offset::mw_tile::Window;
-use mw_offset::mw_words::Words;
+use mw_offset::pixel::{Bit, Plane};
+use mw_offset::tile::Window;
+use mw_offset::words::Words;
 
 /// All words, by rows.
 pub(crate) fn words_of(set: &Window<Bit>) -> &[u64]

@@ -14,10 +14,10 @@ use crate::held::plane_of;
 use crate::spread::spread_rows;
 use crate::uniform::settled;
 use mw_model::{NoMemory, Offset, Rect};
-use mw_offset::mw_pixel::{Bit, Plane};
-use mw_offset::mw_run::{extent_of, place_of, runs_either_way};
-use mw_offset::mw_tile::Window;
-use mw_offset::mw_words::{Words, repeated, stride, trimmed};
+use mw_offset::pixel::{Bit, Plane};
+use mw_offset::run::{extent_of, place_of, runs_either_way};
+use mw_offset::tile::Window;
+use mw_offset::words::{Words, repeated, stride, trimmed};
 use std::alloc::Global;
 
 /// Merges into each bit of the tile's rows what is seen under the element there.

@@ -6,10 +6,10 @@ ghost use Rattle.mw_offset.specs.mw_words.Packed.{stride_of, IsPacked, samples_o
 
 use crate::held::plane_of;
 use mw_model::NoMemory;
-use mw_offset::mw_lane::LevelBlocks;
-use mw_offset::mw_pixel::{Bit, Grey, Pixel, Plane, copies};
-use mw_offset::mw_tile::Window;
-use mw_offset::mw_words::{repeated, stride};
+use mw_offset::lane::LevelBlocks;
+use mw_offset::pixel::{Bit, Grey, Pixel, Plane, copies};
+use mw_offset::tile::Window;
+use mw_offset::words::{repeated, stride};
 use mw_word_rows::pack_row;
 use std::alloc::Global;
 

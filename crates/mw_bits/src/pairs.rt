@@ -6,9 +6,9 @@ ghost use Rattle.mw_bits.specs.Uniform.{HasOnly};
 
 use crate::held::{plane_of, words_of};
 use mw_model::NoMemory;
-use mw_offset::mw_pixel::{Bit, Plane};
-use mw_offset::mw_tile::Window;
-use mw_offset::mw_words::{stride, trimmed};
+use mw_offset::pixel::{Bit, Plane};
+use mw_offset::tile::Window;
+use mw_offset::words::{stride, trimmed};
 use mw_word_rows::{Both, Either, Less, PairOfWords, flip_words, merge_words};
 use std::alloc::Global;
 

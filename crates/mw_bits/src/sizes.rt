@@ -3,7 +3,7 @@ ghost use Rattle.std.specs.Prelude.{◌≡◌, ℕ, ◌*◌, ◌<◌, ◌≤◌,
 ghost use Rattle.std.specs.List.{AllByRecursion};
 ghost use Rattle.mw_offset.specs.mw_run.declared.runs.Run.{Run};
 
-use mw_offset::mw_run::{Run, Sizes};
+use mw_offset::run::{Run, Sizes};
 
 /// The longest run's length.
 pub(crate) fn longest_of(runs: &[Run]) -> usize

@@ -8,9 +8,9 @@ use crate::WordExtremum;
 use crate::held::words_of;
 use crate::window_rows::combine_window_row;
 use mw_model::NoMemory;
-use mw_offset::mw_pixel::Bit;
-use mw_offset::mw_tile::Window;
-use mw_offset::mw_words::{repeated, stride};
+use mw_offset::pixel::Bit;
+use mw_offset::tile::Window;
+use mw_offset::words::{repeated, stride};
 use mw_word_rows::copy_rows;
 use std::alloc::Global;
 

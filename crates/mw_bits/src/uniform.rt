@@ -12,8 +12,8 @@ ghost use Rattle.mw_bits.specs.Uniform.{HasOnly, SideStays, Stays};
 use crate::WordExtremum;
 use crate::held::{row_of, words_of};
 use mw_model::{Offset, OffsetBox, Rect};
-use mw_offset::mw_pixel::Bit;
-use mw_offset::mw_tile::Window;
+use mw_offset::pixel::Bit;
+use mw_offset::tile::Window;
 
 /// Whether no bit of the words is set.
 fn are_clear(words: &[u64]) -> bool

@@ -4,9 +4,9 @@ ghost use Rattle.mw_offset.specs.mw_words.Packed.{stride_of};
 
 use crate::held::{row_of, words_of};
 use mw_model::NoMemory;
-use mw_offset::mw_pixel::{Bit, Plane, copies};
-use mw_offset::mw_tile::Window;
-use mw_offset::mw_words::stride;
+use mw_offset::pixel::{Bit, Plane, copies};
+use mw_offset::tile::Window;
+use mw_offset::words::stride;
 use mw_word_rows::unpack_row;
 use std::alloc::Global;
 

@@ -6,8 +6,8 @@ ghost use Rattle.mw_offset.specs.mw_words.Packed.{bit_of};
 
 use crate::WordExtremum;
 use crate::held::row_of;
-use mw_offset::mw_pixel::Bit;
-use mw_offset::mw_tile::Window;
+use mw_offset::pixel::Bit;
+use mw_offset::tile::Window;
 use mw_word_rows::combine_row;
 
 /// Merges into each bit what the set has in that row, so many columns further on, both counted from its first place.

@@ -7,4 +7,4 @@ mod elements;
 mod shapes;
 
 pub use checks::{fetch_reply, of_cancel, of_given, of_release, of_run, status_reply};
-pub use mw_store::{mw_element, mw_netpbm, mw_pixel, mw_task};
+pub use mw_store::{element, netpbm, pixel, task};

@@ -1,6 +1,6 @@
 //! What the events on tasks answer.
 
-use mw_checks::mw_task::Work;
+use mw_checks::task::Work;
 
 /// The answer to a worker that asks for a task.
 #[derive(Drop)]

@@ -3,8 +3,8 @@
 ghost use Rattle.std.specs.Prelude.{◌≡◌, ◌≢◌, ◌⊎◌, ◌++◌, ◌∷◌, [], ℕ, true, false, OnErr, IfOk, IsOk, Ok, None};
 
 use crate::machine::Core;
-use mw_checks::mw_element::Element;
-use mw_checks::mw_pixel::Image;
+use mw_checks::element::Element;
+use mw_checks::pixel::Image;
 use mw_ledger::{Counts, Entry, Ledger, Unplanned, planned};
 use mw_model::{Call, Code, Given, LogItem, Name, NoMemory, Op, Outcome, Reply};
 use std::alloc::Global;

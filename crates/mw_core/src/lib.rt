@@ -30,6 +30,6 @@ mod tasks;
 
 pub use answers::{Finish, Refusal, Started};
 pub use machine::Core;
-pub use mw_checks::{mw_element, mw_netpbm, mw_pixel, mw_task};
+pub use mw_checks::{element, netpbm, pixel, task};
 pub use mw_ledger::{Fetched, Shown};
 pub use mw_model::NoMemory;

@@ -8,7 +8,7 @@ ghost use Rattle.mw_core.specs.TaskAnswers.{TakenAt};
 
 use crate::answers::{Finish, Refusal, Started};
 use crate::machine::Core;
-use mw_checks::mw_task::{TaskRefused, TileDone};
+use mw_checks::task::{TaskRefused, TileDone};
 use mw_ledger::{Counts, Ledger, Unfit};
 use mw_model::{LogItem, NoMemory, Outcome};
 

@@ -17,5 +17,5 @@ mod parsing;
 pub use element::Element;
 pub use fault::ElementFault;
 pub use mw_model::{NoMemory, Offset, OffsetBox, Reach};
-pub use mw_netpbm;
-pub use mw_netpbm::mw_pixel;
+pub use mw_netpbm as netpbm;
+pub use mw_netpbm::pixel;

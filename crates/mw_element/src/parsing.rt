@@ -6,7 +6,7 @@ ghost use Rattle.mw_element.specs.Faults.{element_code_of};
 
 use crate::{Element, ElementFault};
 use mw_model::{NoMemory, Offset};
-use mw_netpbm::mw_pixel::{Bit, Plane};
+use mw_netpbm::pixel::{Bit, Plane};
 use mw_netpbm::{read_plain_bitmap, scan_plain_bitmap};
 use std::alloc::{AllocError, Global};
 

@@ -14,10 +14,10 @@ mod rasters;
 
 use crate::rasters::say_tiles;
 use mw_model::{NoMemory, Reply};
-use mw_store::mw_gran::Curve;
-use mw_store::mw_pixel::Image;
+use mw_store::gran::Curve;
+use mw_store::pixel::Image;
 use mw_store::{Fetched, Plate, PlateView, Shown};
-pub use mw_wire;
+pub use mw_wire as wire;
 use mw_wire::{SessionFault, Sink, say, say_curve, say_image, say_told};
 use std::alloc::Global;
 use std::io::Write;
@@ -33,7 +33,7 @@ fn say_picture<W: Write>(
     ensures kept { OnOk result (sink.new.failed ≡ sink.old.failed) }
     ensures flag { OnErr result ((result ≡ Err SessionFault.Write) × (sink.new.failed ≡ true)) }
 {
-    match mw_store::mw_netpbm::parts(alloc, image) {
+    match mw_store::netpbm::parts(alloc, image) {
         Ok(text) => say_image(sink, t, &text.front, text.rest),
         Err(NoMemory) => say_told(sink, Err(NoMemory)),
     }

@@ -9,9 +9,9 @@ ghost use Rattle.mw_wire.specs.Writes.{Wrote};
 
 use mw_model::{NoMemory, Reply};
 use mw_store::Shown;
-use mw_store::mw_netpbm::{RowBytes, header};
-use mw_store::mw_pixel::Plane;
-use mw_store::mw_tiles::{TiledRows, TilesView, WholePlane};
+use mw_store::netpbm::{RowBytes, header};
+use mw_store::pixel::Plane;
+use mw_store::tiles::{TiledRows, TilesView, WholePlane};
 use mw_wire::{ReplyLine, SessionFault, Sink, image_line, say_told, send, send_both};
 use std::alloc::Global;
 use std::io::Write;

@@ -10,8 +10,8 @@ ghost use Rattle.mw_frame_tiles.specs.Tiles.{cells_of, HasAll, HasAlong, HasSide
 use crate::parts::{tile_number, tile_of, whole_tile};
 use crate::placed::Placed;
 use mw_model::Rect;
-use mw_pieces::mw_grid::Grid;
-use mw_pieces::mw_pixel::Planar;
+use mw_pieces::grid::Grid;
+use mw_pieces::pixel::Planar;
 use mw_pieces::{Piece, Pieces, overlap};
 
 /// Whether the window is one of the tiles' frame, and shows what the tiles have there.

@@ -21,7 +21,7 @@ mod tiled_rows;
 
 pub use equal::are_tiles;
 pub use mw_model::{NoMemory, Rect};
-pub use mw_pieces::mw_grid::Grid;
+pub use mw_pieces::grid::Grid;
 pub use placed::Placed;
 pub use rows::shared_plane;
 pub use shares::pieces_of;

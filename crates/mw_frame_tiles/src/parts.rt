@@ -10,8 +10,8 @@ ghost use Rattle.mw_frame_tiles.specs.Tiles.{cells_of, tile_cells, HasSides, Sho
 
 use crate::placed::Placed;
 use mw_model::Rect;
-use mw_pieces::mw_grid::Grid;
-use mw_pieces::mw_pixel::Planar;
+use mw_pieces::grid::Grid;
+use mw_pieces::pixel::Planar;
 
 /// The number of the tile that has column x of row y.
 pub(crate) fn tile_number(grid: Grid, x: u32, y: u32) -> u32

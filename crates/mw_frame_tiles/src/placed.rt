@@ -4,7 +4,7 @@ ghost use Rattle.std.specs.Prelude.{◌≡◌, ◌*◌, IfOk, length};
 ghost use Rattle.std.specs.Arc.{arc_value};
 
 use mw_model::NoMemory;
-use mw_pieces::mw_pixel::{Planar, Plane};
+use mw_pieces::pixel::{Planar, Plane};
 use std::marker::Model;
 use std::sync::Arc;
 

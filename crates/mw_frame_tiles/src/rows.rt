@@ -10,9 +10,9 @@ ghost use Rattle.mw_frame_tiles.specs.Tiles.{cells_of, HasAll, HasAlong, HasSide
 use crate::parts::tile_of;
 use crate::placed::Placed;
 use mw_model::NoMemory;
-use mw_pieces::mw_grid::Grid;
-use mw_pieces::mw_pixel::{Planar, Plane};
-use mw_pieces::mw_tile::paste;
+use mw_pieces::grid::Grid;
+use mw_pieces::pixel::{Planar, Plane};
+use mw_pieces::tile::paste;
 use std::alloc::Global;
 use std::sync::Arc;
 

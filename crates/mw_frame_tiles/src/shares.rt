@@ -10,8 +10,8 @@ ghost use Rattle.mw_frame_tiles.specs.Shares.{AddsTiles, AreTilesMet};
 
 use crate::placed::Placed;
 use mw_model::{NoMemory, Rect};
-use mw_pieces::mw_grid::Grid;
-use mw_pieces::mw_pixel::Planar;
+use mw_pieces::grid::Grid;
+use mw_pieces::pixel::Planar;
 use mw_pieces::{Piece, Pieces};
 use std::alloc::Global;
 

@@ -6,8 +6,8 @@ ghost use Rattle.mw_frame_tiles.specs.Tiles.{cells_in_raster, cells_of, HasSides
 
 use crate::placed::Placed;
 use mw_model::NoMemory;
-use mw_pieces::mw_grid::Grid;
-use mw_pieces::mw_pixel::Planar;
+use mw_pieces::grid::Grid;
+use mw_pieces::pixel::Planar;
 use std::alloc::Global;
 
 /// So many places without a tile.

@@ -2,8 +2,8 @@
 
 use crate::placed::Placed;
 use crate::rows::copy_row;
-use mw_pieces::mw_grid::Grid;
-use mw_pieces::mw_pixel::{Planar, Plane};
+use mw_pieces::grid::Grid;
+use mw_pieces::pixel::{Planar, Plane};
 use std::marker::Model;
 
 /// The tiles of a frame, all of them placed.

@@ -13,7 +13,7 @@ ghost use Rattle.mw_model.specs.Places.{box_offsets};
 ghost use Rattle.mw_plan.specs.Steps.{turned_box};
 ghost use Rattle.mw_gran.specs.Boxes.{multiplied};
 
-pub use mw_plan::mw_laws::laws::{opening_laws, restorations, skeletons, thresholds, volumes};
+pub use mw_plan::{opening_laws, restorations, skeletons, thresholds, volumes};
 
 /// Erosions by a full rectangle that holds its origin are one erosion by its box with all four bounds multiplied; the same
 /// of dilations, also by the rectangle turned round.

@@ -19,6 +19,6 @@ mod sliding;
 mod spectra;
 
 pub use curves::Curve;
-pub use mw_plan;
+pub use mw_plan as plan;
 pub use mw_plan::{GranOp, Input, NoMemory, OffsetBox, Plan, PlanFault};
 pub use plans::plan_of;

@@ -17,7 +17,7 @@ use crate::skeletons::skeleton;
 use crate::sliding::sliding_steps;
 use crate::spectra::spectrum;
 use mw_model::{GranOp, NoMemory, Op};
-use mw_plan::mw_element::Element;
+use mw_plan::element::Element;
 use mw_plan::{Input, Plan, PlanFault, shape_of};
 use std::alloc::Global;
 use std::sync::Arc;

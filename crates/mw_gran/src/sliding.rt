@@ -10,7 +10,7 @@ ghost use Rattle.mw_plan.specs.Steps.{IsNearBox};
 ghost use Rattle.mw_gran.specs.Turns.{Slides};
 
 use mw_model::{NoMemory, OffsetBox};
-use mw_plan::mw_element::Element;
+use mw_plan::element::Element;
 use mw_plan::{Extremum, Input, Step, slide, slide_turned};
 use std::alloc::Global;
 use std::sync::Arc;

@@ -23,7 +23,7 @@ use crate::eroding::{eroded, erosions};
 use crate::growing::add;
 use crate::sliding::{SlidingSteps, rectangle_with_origin, sliding_steps};
 use mw_model::{NoMemory, OffsetBox};
-use mw_plan::mw_element::Element;
+use mw_plan::element::Element;
 use mw_plan::{Plan, Source, Sources, Step, turned};
 use std::alloc::Global;
 use std::sync::Arc;

@@ -9,8 +9,8 @@ ghost use Rattle.mw_joined.specs.Laid.{IsLaid};
 
 use crate::blocks::{Block, common_words};
 use mw_model::Rect;
-use mw_pieces::mw_pixel::Bit;
-use mw_pieces::mw_words::blended;
+use mw_pieces::pixel::Bit;
+use mw_pieces::words::blended;
 use mw_pieces::{Piece, Pieces};
 
 /// Writes a block that lies in one column of words on both sides.

@@ -5,8 +5,8 @@ ghost use Rattle.mw_pieces.specs.mw_words.Packed.{stride_of};
 ghost use Rattle.mw_joined.specs.Blocks.{IsApart, IsCommon};
 
 use mw_model::Rect;
-use mw_pieces::mw_words::stride;
 use mw_pieces::overlap;
+use mw_pieces::words::stride;
 
 /// Columns and rows of cells that are copied from one list of cells into another.
 #[derive(Clone, Copy)]

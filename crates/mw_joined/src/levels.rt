@@ -7,7 +7,7 @@ ghost use Rattle.mw_joined.specs.Laid.{IsLaid};
 
 use crate::blocks::{Block, common};
 use mw_model::Rect;
-use mw_pieces::mw_pixel::{Grey, Pixel};
+use mw_pieces::pixel::{Grey, Pixel};
 use mw_pieces::{Piece, Pieces};
 
 /// Blocks of so few columns are copied column by column: a call for each row would take longer.

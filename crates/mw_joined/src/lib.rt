@@ -13,6 +13,6 @@ mod uniform;
 mod windows;
 
 pub use mw_model::NoMemory;
-pub use mw_pieces;
-pub use mw_pieces::{mw_pixel, mw_tile};
+pub use mw_pieces as pieces;
+pub use mw_pieces::{pixel, tile};
 pub use windows::joined;

@@ -12,7 +12,7 @@ ghost use Rattle.mw_joined.specs.Laid.{IsLaid};
 
 use crate::blocks::{Block, common_words};
 use mw_model::Rect;
-use mw_pieces::mw_pixel::Bit;
+use mw_pieces::pixel::Bit;
 use mw_pieces::{Piece, Pieces};
 
 /// The word of 64 such pixels.

@@ -6,9 +6,9 @@ ghost use Rattle.mw_pieces.specs.Patches.{IsJoined, IsWholeOf};
 use crate::uniform::only_pixel;
 use crate::{bits, levels};
 use mw_model::NoMemory;
-use mw_pieces::mw_pixel::{Bit, Grey, Planar, Plane, Words, copies};
-use mw_pieces::mw_tile::{AnyWindow, Window};
-use mw_pieces::mw_words::{repeated, stride};
+use mw_pieces::pixel::{Bit, Grey, Planar, Plane, Words, copies};
+use mw_pieces::tile::{AnyWindow, Window};
+use mw_pieces::words::{repeated, stride};
 use mw_pieces::{Pieces, PiecesView, SharedWindow};
 use std::alloc::Global;
 

@@ -10,8 +10,8 @@ ghost use Rattle.mw_ledger.specs.Tasks.{value_made};
 use crate::compact::Compact;
 use crate::ledger::Ledger;
 use mw_model::{LogItem, Outcome, Shape};
-use mw_underway::mw_gran::Curve;
-use mw_underway::mw_task::TileDone;
+use mw_underway::gran::Curve;
+use mw_underway::task::TileDone;
 use mw_underway::{Kept, PlanProgress, Waiters, WholePlane};
 
 /// The value that finished work has made, where the result has this shape. No memory is asked for.

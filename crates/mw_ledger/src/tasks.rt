@@ -4,7 +4,7 @@ ghost use Rattle.std.specs.Prelude.{◌≡◌, ◌<◌, ◌≤◌, ◌↔◌, le
 
 use crate::ledger::Ledger;
 use mw_model::{NoMemory, Outcome, TaskId};
-use mw_underway::mw_task::{TileDone, Work};
+use mw_underway::task::{TileDone, Work};
 use mw_underway::{begin, is_fit, is_pending, is_result};
 
 /// Why a task is not taken.

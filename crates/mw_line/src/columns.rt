@@ -6,7 +6,7 @@ ghost use Rattle.std.specs.Prelude.{◌≡◌, ℕ, ◌+◌, ◌*◌, ◌<◌, �
 ghost use Rattle.mw_line.specs.Columns.{IsGrown};
 
 use mw_lane::combine_ahead;
-use mw_tile::mw_pixel::{Extremum, Pixel};
+use mw_tile::pixel::{Extremum, Pixel};
 
 /// Merges into a row the one that is `down` rows below it.
 fn merge_row<P: Pixel, E: Extremum<P>>(rows: &mut [P], width: usize, at: usize, down: usize)

@@ -3,7 +3,7 @@ ghost use Rattle.std.specs.Prelude.{◌≡◌, ℕ, ◌+◌, ◌-◌, ◌*◌, �
 ghost use Rattle.mw_line.specs.Extrema.{strided};
 
 use mw_lane::combine_ahead;
-use mw_tile::mw_pixel::{Extremum, Pixel};
+use mw_tile::pixel::{Extremum, Pixel};
 
 /// That many places, or as many more as fill blocks of 64, where there is room.
 fn whole_blocks(count: usize, room: usize) -> usize

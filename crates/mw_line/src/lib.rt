@@ -26,10 +26,10 @@ pub use doubling::slide_by;
 pub use laws::{
     sliding_maximum_is_dilation, sliding_minimum_is_erosion, windows_of_a_row_are_operators,
 };
-pub use mw_lane;
+pub use mw_lane as lane;
 pub use mw_model::NoMemory;
-pub use mw_tile;
-pub use mw_tile::{mw_pixel, mw_words};
+pub use mw_tile as tile;
+pub use mw_tile::{pixel, words};
 pub use rectangles::rectangle;
 pub use sides::{SeenSide, first_seen, seen_across, seen_down};
 pub use sliding::line;

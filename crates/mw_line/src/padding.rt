@@ -5,7 +5,7 @@ ghost use Rattle.mw_line.specs.Line.{cut_to};
 ghost use Rattle.mw_model.specs.Places.{nonnegative, span};
 
 use crate::NoMemory;
-use mw_tile::mw_pixel::{Pixel, copies};
+use mw_tile::pixel::{Pixel, copies};
 use std::alloc::Global;
 
 /// An end of a bar, cut to a line of n samples: from further on than n places no sample is seen.

@@ -15,7 +15,7 @@ use crate::sides::{first_seen, seen_across, seen_down};
 use crate::window_rows::combine_window_row;
 use mw_model::{NoMemory, OffsetBox, Rect};
 use mw_tile::Window;
-use mw_tile::mw_pixel::{Extremum, Grey, Plane, copies};
+use mw_tile::pixel::{Extremum, Grey, Plane, copies};
 use std::alloc::Global;
 
 /// What the rows of a rectangle's pass hold: at each place the extremum of `across` by `down` places of the window from one

@@ -10,7 +10,7 @@ use crate::padding::{cut_to, padded, places, places_after, places_before, places
 use crate::passes::slide;
 use crate::steps::Tally;
 use crate::{NoMemory, Steps};
-use mw_tile::mw_pixel::{Extremum, Pixel, copies};
+use mw_tile::pixel::{Extremum, Pixel, copies};
 use std::alloc::Global;
 use std::marker::PhantomData;
 

@@ -4,7 +4,7 @@
 //! one thing that it does with two samples counts itself. So no pass can combine samples without counting it.
 ghost use Rattle.std.specs.Prelude.{◌≡◌, ℕ, ◌+◌, ◌<◌, ◌^◌};
 
-use mw_tile::mw_pixel::{Extremum, Pixel};
+use mw_tile::pixel::{Extremum, Pixel};
 use std::marker::PhantomData;
 
 /// How many times two samples were combined.

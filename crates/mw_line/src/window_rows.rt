@@ -5,7 +5,7 @@ ghost use Rattle.mw_lane.specs.Shifted.{merge_at};
 
 use mw_lane::combine_shifted;
 use mw_tile::Window;
-use mw_tile::mw_pixel::{Extremum, Grey};
+use mw_tile::pixel::{Extremum, Grey};
 
 /// Merges into each sample what the window has in that row, so many columns further on, both counted from the window's
 /// first place.

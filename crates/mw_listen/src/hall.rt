@@ -2,7 +2,7 @@
 
 use crate::fault::ListenFault;
 use mw_model::Code;
-use mw_serve::mw_wire::{Sink, Source, end_by};
+use mw_serve::wire::{Sink, Source, end_by};
 use mw_serve::{Board, Gate, Naming, Pass, serve, work};
 use std::alloc::{AllocError, Global};
 use std::io::BufWriter;

@@ -1,7 +1,7 @@
 //! What computes the tasks of a server.
 
 use mw_serve::Gate;
-use mw_step::mw_task::{TaskRefused, TileDone, Work};
+use mw_step::task::{TaskRefused, TileDone, Work};
 use std::alloc::Global;
 
 /// Tasks are run by the kernels.

@@ -5,7 +5,7 @@ ghost use Rattle.mw_listen.specs.Listening.{Audited, Listened, Told};
 
 use crate::fault::ListenFault;
 use crate::hall::{Hall, serve_sessions};
-use mw_serve::mw_wire::{Sink, send};
+use mw_serve::wire::{Sink, send};
 use mw_serve::{Board, Core, Gate, Naming, NewRoll};
 use std::alloc::Global;
 use std::io::Write;

@@ -8,7 +8,7 @@ ghost use Rattle.mw_netpbm.specs.Whole.{raster_from};
 
 use crate::blocks::{block_of, pixels_in, words_in};
 use crate::fault::ReadFault;
-use mw_pixel::mw_words::Words;
+use mw_pixel::words::Words;
 use std::alloc::{AllocError, Global};
 use std::simd::prelude::*;
 

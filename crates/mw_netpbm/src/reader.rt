@@ -16,7 +16,7 @@ use crate::head::{check_limits, read_head};
 use crate::plain::{self, Places};
 use crate::{raw, sets};
 use mw_model::{Format, Header};
-use mw_pixel::mw_words::Words;
+use mw_pixel::words::Words;
 use mw_pixel::{Image, Plane};
 use std::alloc::Global;
 use std::sync::Arc;

@@ -10,7 +10,7 @@ ghost use Rattle.mw_netpbm.specs.Whole.{raster_from};
 use crate::fault::ReadFault;
 use crate::plain::{Places, check, pixel, tail};
 use crate::room::has_room;
-use mw_pixel::mw_words::Words;
+use mw_pixel::words::Words;
 use std::alloc::{AllocError, Global};
 
 /// So many pixels as a word, the first one lowest, and what follows them.

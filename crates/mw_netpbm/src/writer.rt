@@ -10,7 +10,7 @@ ghost use Rattle.mw_netpbm.specs.SetWords.{pixels_of};
 
 use crate::blocks::{eight_words, pixels_as_bytes, words_as_bytes};
 use mw_model::NoMemory;
-use mw_pixel::mw_words::Words;
+use mw_pixel::words::Words;
 use mw_pixel::{Bit, Image, Plane, View};
 use std::alloc::{AllocError, Global};
 

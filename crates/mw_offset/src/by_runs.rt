@@ -19,9 +19,9 @@ use crate::narrow::{is_cheaper_as_list, pick_columns};
 use crate::places::combine_rows_at;
 use crate::sizes::{longest_of, next_size};
 use crate::spread::{Rows, spread};
-use mw_line::mw_lane::combine_ahead;
-use mw_line::mw_pixel::{Extremum, Grey, Pixel, copies};
-use mw_line::mw_tile::Window;
+use mw_line::lane::combine_ahead;
+use mw_line::pixel::{Extremum, Grey, Pixel, copies};
+use mw_line::tile::Window;
 use mw_model::{NoMemory, Rect};
 use mw_run::{
     Extent, Run, Sizes, columns_after, counts_of, first_column, first_row, rows_after, start_of_run,

@@ -14,8 +14,8 @@ mod sizes;
 mod spread;
 mod strips;
 
-pub use mw_line;
-pub use mw_line::{mw_lane, mw_pixel, mw_tile, mw_words};
+pub use mw_line as line;
+pub use mw_line::{lane, pixel, tile, words};
 pub use mw_model::NoMemory;
-pub use mw_run;
+pub use mw_run as run;
 pub use offsets::extremum;

@@ -2,7 +2,7 @@
 //! list, in rows as long as those of the cells, and the tile's columns are picked out of them at the end.
 ghost use Rattle.std.specs.Prelude.{◌≡◌, ℕ, ◌+◌, ◌-◌, ◌*◌, ◌<◌, ◌≤◌, length, slice_index_or};
 
-use mw_line::mw_pixel::Pixel;
+use mw_line::pixel::Pixel;
 
 /// What a block of 64 samples costs besides its runs, as a multiple of what one run costs it.
 const BLOCK: usize = 6;

@@ -11,8 +11,8 @@ ghost use Rattle.mw_line.specs.Extrema.{IsSlidingExtremum};
 
 use crate::strips::extremum_by_strips;
 use mw_line::combine_window_row;
-use mw_line::mw_pixel::{Extremum, Grey, Plane, copies};
-use mw_line::mw_tile::Window;
+use mw_line::pixel::{Extremum, Grey, Plane, copies};
+use mw_line::tile::Window;
 use mw_model::{NoMemory, Offset, Rect};
 use mw_run::{Extent, columns_after, extent_of, place_of, rows_after, runs_either_way};
 use std::alloc::Global;

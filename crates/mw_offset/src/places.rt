@@ -5,7 +5,7 @@ ghost use Rattle.std.specs.Prelude.{◌≡◌, ℕ, ◌+◌, ◌-◌, ◌*◌, �
 ghost use Rattle.std.specs.List.{AllByRecursion};
 ghost use Rattle.mw_offset.specs.Places.{merge_from};
 
-use mw_line::mw_pixel::{Extremum, Pixel};
+use mw_line::pixel::{Extremum, Pixel};
 
 /// Merges into 64 samples those of the cells that stand `at` places after each of the places.
 #[inline(always)]

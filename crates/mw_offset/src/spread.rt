@@ -4,8 +4,8 @@ ghost use Rattle.std.specs.Option.{unwrap_or};
 ghost use Rattle.mw_model.specs.Rasters.{raster, cell_at};
 ghost use Rattle.mw_line.specs.mw_lane.Shifted.{at_place};
 
-use mw_line::mw_pixel::{Grey, Pixel, copies};
-use mw_line::mw_tile::Window;
+use mw_line::pixel::{Grey, Pixel, copies};
+use mw_line::tile::Window;
 use mw_model::NoMemory;
 use std::alloc::Global;
 

@@ -9,8 +9,8 @@ ghost use Rattle.mw_run.specs.Runs.{run_offsets, IsInside};
 ghost use Rattle.mw_offset.specs.Places.{IsStrip};
 
 use crate::by_runs::{Looked, merge_runs};
-use mw_line::mw_pixel::{Extremum, Grey, copies};
-use mw_line::mw_tile::Window;
+use mw_line::pixel::{Extremum, Grey, copies};
+use mw_line::tile::Window;
 use mw_model::{NoMemory, Rect};
 use mw_run::{Extent, Run, rows_after};
 use std::alloc::Global;

@@ -2,8 +2,8 @@
 
 use crate::{Piece, Pieces, overlap};
 use mw_model::Rect;
-use mw_tile::mw_grid::whole_frame;
-use mw_tile::mw_pixel::{Planar, Plane};
+use mw_tile::grid::whole_frame;
+use mw_tile::pixel::{Planar, Plane};
 
 impl<P: Planar> Piece<P> {
     ghost use Rattle.std.specs.Prelude.{◌≡◌, ◌↔◌, ◌+◌, ◌<◌, ◌^◌, IsTrue};

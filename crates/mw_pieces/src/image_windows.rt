@@ -2,7 +2,7 @@
 
 use crate::{Pieces, PiecesView, SharedWindow};
 use mw_model::{NoMemory, Rect};
-use mw_tile::mw_pixel::{Image, SharedView, View};
+use mw_tile::pixel::{Image, SharedView, View};
 use std::alloc::Global;
 
 impl SharedWindow {

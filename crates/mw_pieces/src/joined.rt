@@ -4,7 +4,7 @@ use crate::Pieces;
 use crate::places::has;
 use mw_model::NoMemory;
 use mw_tile::Window;
-use mw_tile::mw_pixel::{Planar, Plane};
+use mw_tile::pixel::{Planar, Plane};
 use std::alloc::Global;
 use std::sync::Arc;
 

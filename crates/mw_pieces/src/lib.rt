@@ -16,8 +16,8 @@ mod places;
 mod shared;
 
 pub use mw_model::{NoMemory, Rect};
-pub use mw_tile;
-pub use mw_tile::{mw_grid, mw_pixel, mw_words};
+pub use mw_tile as tile;
+pub use mw_tile::{grid, pixel, words};
 pub use piece::Piece;
 pub use pieces::Pieces;
 pub use places::overlap;

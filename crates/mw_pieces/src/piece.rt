@@ -6,7 +6,7 @@ ghost use Rattle.mw_model.specs.Rasters.{raster};
 ghost use Rattle.mw_pieces.specs.Patches.{patch, IsFull};
 
 use mw_model::{NoMemory, Rect};
-use mw_tile::mw_pixel::{Planar, Plane};
+use mw_tile::pixel::{Planar, Plane};
 use std::marker::Model;
 use std::sync::Arc;
 

@@ -4,8 +4,8 @@ ghost use Rattle.std.specs.Prelude.{◌≡◌};
 
 use crate::Piece;
 use mw_model::{NoMemory, Rect};
-use mw_tile::mw_grid::whole_frame;
-use mw_tile::mw_pixel::{Planar, Plane};
+use mw_tile::grid::whole_frame;
+use mw_tile::pixel::{Planar, Plane};
 use std::alloc::Global;
 use std::marker::Model;
 use std::sync::Arc;

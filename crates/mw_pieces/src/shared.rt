@@ -4,7 +4,7 @@
 use crate::Pieces;
 use mw_model::{Kind, NoMemory, Rect};
 use mw_tile::AnyWindow;
-use mw_tile::mw_pixel::Bit;
+use mw_tile::pixel::Bit;
 use std::alloc::Global;
 use std::marker::Model;
 

@@ -33,7 +33,7 @@ pub use listed::{Listed, copies};
 pub use max::Max;
 pub use min::Min;
 pub use mw_model::{Kind, NoMemory, Shape};
-pub use mw_words;
+pub use mw_words as words;
 pub use mw_words::Words;
 pub use pixel::Pixel;
 pub use planar::{Grey, Planar};

@@ -9,7 +9,7 @@ ghost use Rattle.mw_ready.specs.Boards.{is_source, step_reads};
 ghost use Rattle.mw_places.specs.Places.{shown, form, place_at, is_read, Swept, SweptAll};
 
 use crate::places::Place;
-use mw_ready::mw_grid::{Block, Grid};
+use mw_ready::grid::{Block, Grid};
 use mw_ready::{Need, Ready};
 use mw_tiles::TiledPlane;
 

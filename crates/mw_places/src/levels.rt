@@ -7,7 +7,7 @@ ghost use Rattle.mw_plan.specs.Seen.{source, sources, planned};
 ghost use Rattle.mw_places.specs.Levels.{Level, no_level, level_of_source, level_of_step, levels};
 
 use mw_model::{Kind, NoMemory};
-use mw_plan::mw_task::Step;
+use mw_plan::task::Step;
 use mw_plan::{Plan, PlannedStep, Source, Sources};
 use std::alloc::Global;
 use std::marker::Model;

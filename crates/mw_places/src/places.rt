@@ -11,8 +11,8 @@ ghost use Rattle.mw_places.specs.Places.{shown, form, IsFormOf, placed_in, Suits
 
 use crate::levels::PlaneLevel;
 use mw_model::NoMemory;
-use mw_plan::mw_task::TileResult;
-use mw_ready::mw_grid::Grid;
+use mw_plan::task::TileResult;
+use mw_ready::grid::Grid;
 use mw_tiles::{Tile, TileSums, TiledPlane};
 use std::alloc::Global;
 

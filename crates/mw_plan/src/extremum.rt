@@ -7,7 +7,7 @@ ghost use Rattle.mw_plan.specs.Steps.{by_box, by_offsets, other};
 
 use mw_model::OffsetBox;
 use mw_task::Step;
-use mw_task::mw_element::Element;
+use mw_task::element::Element;
 use std::sync::Arc;
 
 /// What is taken of the samples under an element.

@@ -24,11 +24,10 @@ pub use inputs::Input;
 pub use laws::{
     accepted_runs_have_no_fault, faults_are_refusals, planes_are_of_steps, tasks_of_plans_fit,
 };
-pub use mw_laws;
-pub use mw_laws::laws::hits_of_sets;
+pub use mw_laws::laws::{hits_of_sets, opening_laws, restorations, skeletons, thresholds, volumes};
 pub use mw_model::{FlatOp, GranOp, NoMemory, OffsetBox, Op, Shape};
-pub use mw_task;
-pub use mw_task::{Element, Step, mw_element};
+pub use mw_task as task;
+pub use mw_task::{Element, Step, element};
 pub use plans::{Plan, PlannedStep, Source, Sources};
 pub use shapes::shape_of;
 pub use sliding::{slide, slide_turned, turned};

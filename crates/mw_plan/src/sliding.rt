@@ -13,7 +13,7 @@ use crate::Input;
 use crate::extremum::Extremum;
 use mw_model::{NoMemory, OffsetBox};
 use mw_task::Step;
-use mw_task::mw_element::Element;
+use mw_task::element::Element;
 use std::alloc::Global;
 use std::sync::Arc;
 

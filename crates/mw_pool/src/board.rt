@@ -6,7 +6,7 @@ use crate::kept::Kept;
 use crate::pass::Pass;
 use crate::payloads::{read_element, read_image};
 use crate::roll::{Front, Naming, NewRoll};
-use mw_core::mw_task::{TaskRefused, TileDone, Work};
+use mw_core::task::{TaskRefused, TileDone, Work};
 use mw_core::{Core, Fetched, Finish, Refusal, Started};
 use mw_model::{Name, NoMemory, Op, Reply};
 use std::alloc::Global;

@@ -9,9 +9,9 @@ use crate::auditing::audit;
 use crate::pass::Pass;
 use crate::roll::{Front, Naming, NewRoll, Roll};
 use crate::tickets::{is_awaited, place_of};
-use mw_core::mw_element::Element;
-use mw_core::mw_pixel::Image;
-use mw_core::mw_task::{TaskRefused, TileDone};
+use mw_core::element::Element;
+use mw_core::pixel::Image;
+use mw_core::task::{TaskRefused, TileDone};
 use mw_core::{Core, Fetched, Finish, Refusal, Started};
 use mw_model::{Code, Name, NoMemory, Op, Reply};
 

@@ -2,8 +2,8 @@
 
 ghost use Rattle.std.specs.Prelude.{◌≡◌, ◌≢◌, ◌↔◌, [], ℕ, true, length, IfOk, OnErr, IsSome, None};
 
-use mw_core::mw_element::Element;
-use mw_core::mw_pixel::Image;
+use mw_core::element::Element;
+use mw_core::pixel::Image;
 use mw_core::{Core, Fetched};
 use mw_model::{Call, Code, Given, Name, NoMemory, Op, Receipt, Reply};
 use std::alloc::Global;

@@ -5,8 +5,8 @@ ghost use Rattle.mw_model.specs.Pictures.{IsImage};
 ghost use Rattle.mw_core.specs.mw_stands.Payloads.{given_image, given_element};
 ghost use Rattle.mw_pool.specs.Payloads.{TellsImage, TellsElement};
 
-use mw_core::mw_element::Element;
-use mw_core::mw_pixel::Image;
+use mw_core::element::Element;
+use mw_core::pixel::Image;
 use mw_model::Code;
 use std::alloc::Global;
 
@@ -15,7 +15,7 @@ pub(crate) fn read_image(alloc: Global, bytes: &[u8]) -> Result<Image, Code>
     ensures told { TellsImage bytes.now (given_image result) }
     ensures image { ForOk result IsImage }
 {
-    match mw_core::mw_netpbm::read(alloc, bytes) {
+    match mw_core::netpbm::read(alloc, bytes) {
         Ok(image) => Ok(image),
         Err(fault) => Err(fault.code()),
     }

@@ -8,7 +8,7 @@ ghost use Rattle.mw_pool.specs.Rolls.{EndsWith, StandsIn, Writes, head_of};
 
 use logbook::{Gain, Offer, Plain, Play, Rule, Seen, Start, Word};
 use mw_core::Started;
-use mw_core::mw_task::{TileDone, Work};
+use mw_core::task::{TileDone, Work};
 use std::marker::{Brand, Model, PhantomData};
 
 /// The rule of the book: its first word is the length of the roll.

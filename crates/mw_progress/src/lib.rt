@@ -19,6 +19,6 @@
 mod progress;
 
 pub use mw_model::{Kind, NoMemory, Rect};
-pub use mw_places::mw_grid::Grid;
-pub use mw_places::{Plan, PlannedStep, SharedWindow, TileResult, TiledPlane, WholePlane, mw_grid};
+pub use mw_places::grid::Grid;
+pub use mw_places::{Plan, PlannedStep, SharedWindow, TileResult, TiledPlane, WholePlane, grid};
 pub use progress::PlanProgress;

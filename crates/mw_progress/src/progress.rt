@@ -9,7 +9,7 @@ ghost use Rattle.mw_places.specs.Places.{is_read, form, IsFormOf, place_at, plan
 ghost use Rattle.mw_progress.specs.ProgressView.{numbers_of};
 
 use mw_model::{Kind, NoMemory, Rect};
-use mw_places::mw_grid::Grid;
+use mw_places::grid::Grid;
 use mw_places::{
     Place, Plan, PlaneLevel, PlannedStep, Ready, SharedWindow, Step, TileResult, TiledPlane,
     closed, drop_read, levels_of, needs_of, tasks_are_those_of_work,

@@ -11,6 +11,6 @@
 
 mod queue;
 
-pub use mw_grid;
+pub use mw_grid as grid;
 pub use mw_model::NoMemory;
 pub use queue::Queue;

@@ -11,7 +11,7 @@ use crate::seen::row_in;
 use mw_model::{NoMemory, Rect};
 use mw_run::{Run, place_of};
 use mw_tile::Window;
-use mw_tile::mw_pixel::{Grey, Pixel};
+use mw_tile::pixel::{Grey, Pixel};
 
 /// Where a run's first sample stands in a window, and the one after its last.
 #[derive(Clone, Copy)]

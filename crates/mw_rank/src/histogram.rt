@@ -6,7 +6,7 @@ ghost use Rattle.mw_model.specs.PlanSteps.{ranked};
 ghost use Rattle.mw_rank.specs.Tallies.{count_under, Tallies, HasRoom, Holds};
 
 use mw_model::NoMemory;
-use mw_tile::mw_pixel::Pixel;
+use mw_tile::pixel::Pixel;
 use std::alloc::Global;
 
 /// How many counters a leap goes over.

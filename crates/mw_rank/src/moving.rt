@@ -18,7 +18,7 @@ use crate::seen::seen_part;
 use mw_model::{NoMemory, Offset, Rect};
 use mw_run::{Run, place_of, runs_of};
 use mw_tile::Window;
-use mw_tile::mw_pixel::{Grey, Pixel, Plane};
+use mw_tile::pixel::{Grey, Pixel, Plane};
 use std::alloc::Global;
 
 /// The level that a window has in that row and column, both counted from its first place.

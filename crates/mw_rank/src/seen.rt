@@ -9,7 +9,7 @@ ghost use Rattle.mw_rank.specs.Runs.{offsets_of};
 use crate::runs::more_of;
 use mw_run::{Run, place_of};
 use mw_tile::Window;
-use mw_tile::mw_pixel::Grey;
+use mw_tile::pixel::Grey;
 
 /// The row of the window in which a run lies, where the window has it.
 pub fn row_in<P: Grey>(window: &Window<P>, run: Run, y: u64) -> Option<usize>

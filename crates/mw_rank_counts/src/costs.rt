@@ -7,8 +7,8 @@ ghost use Rattle.mw_rank_counts.specs.Counting.{AllUnder};
 use crate::Counted;
 use crate::search::{Extent, bits_in, bits_of, extent_of};
 use mw_model::Offset;
-use mw_rank::mw_pixel::Pixel;
-use mw_rank::mw_tile::Window;
+use mw_rank::pixel::Pixel;
+use mw_rank::tile::Window;
 
 // The times of a sample, in picoseconds. Only how they compare matters.
 

@@ -4,7 +4,7 @@ ghost use Rattle.mw_rank_counts.specs.Counting.{levels_on, HasPlaces, AreBetween
 ghost use Rattle.mw_rank_counts.specs.Squeezed.{HasRoom};
 
 use crate::squeezed::Bytes;
-use mw_rank::mw_pixel::Grey;
+use mw_rank::pixel::Grey;
 
 /// Samples of which a rank can be found by counting. A level is found bit by bit from the highest: a bit is set where
 /// fewer than the wanted number of levels are below then.

@@ -15,8 +15,8 @@ use crate::places::{Inner, inner_places, row_places};
 use crate::search::{Search, push_blocks};
 use crate::squeezed::{Bytes, room_for};
 use mw_model::{NoMemory, Offset, Rect};
-use mw_rank::mw_pixel::{Grey, Pixel, Plane, copies};
-use mw_rank::mw_tile::Window;
+use mw_rank::pixel::{Grey, Pixel, Plane, copies};
+use mw_rank::tile::Window;
 use mw_rank::{rank, sample_of};
 use std::alloc::Global;
 

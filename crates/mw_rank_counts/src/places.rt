@@ -5,10 +5,10 @@ ghost use Rattle.mw_rank.specs.Runs.{run_at};
 ghost use Rattle.mw_rank_counts.specs.Counting.{ArePlaces, AddsPlace};
 
 use mw_model::{NoMemory, Offset, Rect};
-use mw_rank::mw_pixel::Grey;
-use mw_rank::mw_run::{Run, place_of};
-use mw_rank::mw_tile::Window;
+use mw_rank::pixel::Grey;
 use mw_rank::row_in;
+use mw_rank::run::{Run, place_of};
+use mw_rank::tile::Window;
 
 /// The columns of a tile at which all offsets lie in columns of a window.
 #[derive(Clone, Copy)]

@@ -11,7 +11,7 @@ ghost use Rattle.mw_rank.specs.Ranks.{GainsRow};
 use crate::Counted;
 use crate::squeezed::Bytes;
 use mw_model::NoMemory;
-use mw_rank::mw_pixel::Pixel;
+use mw_rank::pixel::Pixel;
 use mw_rank::sample_of;
 
 /// The levels that samples have between them.

@@ -8,7 +8,7 @@ ghost use Rattle.mw_rank_counts.specs.Squeezed.{squeezed, HasRoom};
 
 use crate::search::{clear, seek};
 use mw_model::NoMemory;
-use mw_rank::mw_pixel::copies;
+use mw_rank::pixel::copies;
 use std::alloc::Global;
 use std::simd::Simd;
 use std::simd::prelude::*;

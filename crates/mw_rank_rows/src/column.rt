@@ -6,7 +6,7 @@ ghost use Rattle.mw_rank_rows.specs.Lanes.{Counts, Rises};
 
 use crate::search::Front;
 use crate::vectors::{lanes_at, lanes_if, minus, plus, put_lanes};
-use mw_rank_counts::mw_pixel::Pixel;
+use mw_rank_counts::pixel::Pixel;
 use std::simd::Simd;
 
 /// Samples of rows of so many places, and the marks of the lanes that see each row, those of the next row one place on.

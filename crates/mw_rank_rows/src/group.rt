@@ -11,10 +11,10 @@ use crate::marks::sum_of_marks;
 use crate::rectangle::Rectangle;
 use crate::slide::{Span, Strip, rank_rows};
 use mw_model::{NoMemory, Offset, Rect};
-use mw_rank_counts::mw_pixel::Grey;
-use mw_rank_counts::mw_rank::rank;
-use mw_rank_counts::mw_run::place_of;
-use mw_rank_counts::mw_tile::Window;
+use mw_rank_counts::pixel::Grey;
+use mw_rank_counts::rank::rank;
+use mw_rank_counts::run::place_of;
+use mw_rank_counts::tile::Window;
 use std::alloc::Global;
 
 /// How far a search may go for each column on average, and how much farther for each row of the element: beyond, one

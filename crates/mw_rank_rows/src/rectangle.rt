@@ -5,7 +5,7 @@ ghost use Rattle.mw_rank_counts.specs.mw_rank.Runs.{element_of};
 ghost use Rattle.mw_rank_rows.specs.Rectangles.{IsRectangle};
 ghost use Rattle.mw_rank_counts.specs.mw_run.Runs.{IsRun};
 
-use mw_rank_counts::mw_run::Run;
+use mw_rank_counts::run::Run;
 
 /// The first column and row of a rectangle of offsets, and how many it has.
 #[derive(Clone, Copy)]

@@ -13,9 +13,9 @@ use crate::lanes::no_samples;
 use crate::marks::marks_of;
 use crate::rectangle::{Rectangle, rectangle_of};
 use mw_model::{NoMemory, Offset, Rect};
-use mw_rank_counts::mw_pixel::{Grey, Plane, copies};
-use mw_rank_counts::mw_run::runs_of;
-use mw_rank_counts::mw_tile::Window;
+use mw_rank_counts::pixel::{Grey, Plane, copies};
+use mw_rank_counts::run::runs_of;
+use mw_rank_counts::tile::Window;
 use mw_rank_counts::{Counted, Load, Way, load_of, quickest};
 use std::alloc::Global;
 

@@ -7,9 +7,9 @@ use crate::column::{Sheet, enter_column, leave_column};
 use crate::lanes::Lanes;
 use crate::search::select;
 use crate::vectors::{at_most, minus, plus};
-use mw_rank_counts::mw_pixel::Pixel;
-use mw_rank_counts::mw_rank::sample_of;
-use mw_rank_counts::mw_run::place_of;
+use mw_rank_counts::pixel::Pixel;
+use mw_rank_counts::rank::sample_of;
+use mw_rank_counts::run::place_of;
 use std::simd::Simd;
 
 /// How many columns' steps may be taken ahead, so that one far search stops nothing.

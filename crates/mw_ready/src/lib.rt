@@ -27,7 +27,7 @@ mod waits;
 
 pub use laws::tasks_are_those_of_work;
 pub use mw_model::{NoMemory, Reach};
-pub use mw_queue::mw_grid;
-pub use mw_queue::mw_grid::Grid;
+pub use mw_queue::grid;
+pub use mw_queue::grid::Grid;
 pub use need::Need;
 pub use ready::Ready;

@@ -10,7 +10,7 @@ use crate::links::{Link, first_reader, next_reader};
 use crate::need::{Need, does_read};
 use crate::release::release_tiles;
 use mw_queue::Queue;
-use mw_queue::mw_grid::Grid;
+use mw_queue::grid::Grid;
 
 /// One thing less for each task that reads this tile of this step.
 pub(crate) fn release_readers(

@@ -10,7 +10,7 @@ ghost use Rattle.mw_ready.specs.Kept.{reader_count, seen_by, takes};
 
 use crate::need::{Need, sources};
 use mw_model::{NoMemory, Reach};
-use mw_queue::mw_grid::{Block, Grid};
+use mw_queue::grid::{Block, Grid};
 use std::alloc::Global;
 
 /// For each task of a step, as many readers more as there are windows with this reach that meet its tile.

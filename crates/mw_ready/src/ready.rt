@@ -9,7 +9,7 @@ use crate::reads::{first_readers, lower_sources};
 use crate::waits::first_waits;
 use mw_model::NoMemory;
 use mw_queue::Queue;
-use mw_queue::mw_grid::Grid;
+use mw_queue::grid::Grid;
 use std::alloc::Global;
 use std::marker::Model;
 

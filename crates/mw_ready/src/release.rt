@@ -9,7 +9,7 @@ ghost use Rattle.mw_ready.specs.Kept.{is_near};
 
 use mw_model::Reach;
 use mw_queue::Queue;
-use mw_queue::mw_grid::{Block, Grid};
+use mw_queue::grid::{Block, Grid};
 
 /// One thing less for each task of a row.
 fn release_row(queue: &mut Queue, from: u32, to: u32)

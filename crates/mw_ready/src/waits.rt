@@ -9,7 +9,7 @@ ghost use Rattle.mw_ready.specs.Kept.{read_count};
 
 use crate::need::{Need, sources};
 use mw_model::{NoMemory, Reach};
-use mw_queue::mw_grid::{Block, Grid};
+use mw_queue::grid::{Block, Grid};
 use std::alloc::Global;
 
 /// How many of so many steps this source is: one or none.

@@ -12,5 +12,5 @@ pub use laws::{
     marks_are_seen, one_output, work_in_any_order, work_is_lawful, written_is_a_front,
     written_text_stays,
 };
-pub use mw_element;
-pub use mw_element::{mw_netpbm, mw_pixel};
+pub use mw_element as element;
+pub use mw_element::{netpbm, pixel};

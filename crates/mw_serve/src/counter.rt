@@ -6,8 +6,8 @@ ghost use Rattle.mw_model.specs.Lines.{AskAlone};
 ghost use Rattle.mw_fetched.specs.mw_intake.Intake.{asked};
 ghost use Rattle.mw_fetched.specs.mw_wire.Writes.{Wrote};
 
-use mw_fetched::mw_wire::{Desk, SessionFault, Sink, say_told};
 use mw_fetched::say_fetched;
+use mw_fetched::wire::{Desk, SessionFault, Sink, say_told};
 use mw_model::{Name, NoMemory, Request};
 use mw_pool::{Board, Naming, Pass};
 use std::alloc::Global;

@@ -11,7 +11,7 @@ mod laws;
 mod session;
 
 pub use laws::{ended_is_served, stopped_is_served};
-pub use mw_fetched::mw_wire;
+pub use mw_fetched::wire;
 pub use mw_model::End;
 pub use mw_pool::{Board, Core, Gate, Naming, NewRoll, Pass, work};
 pub use session::serve;

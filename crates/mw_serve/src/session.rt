@@ -5,7 +5,7 @@ ghost use Rattle.mw_fetched.specs.mw_wire.Runs.{DeskRan};
 ghost use Rattle.mw_serve.specs.Serving.{Served};
 
 use crate::counter::Counter;
-use mw_fetched::mw_wire::{SessionFault, Sink, Source, run_session};
+use mw_fetched::wire::{SessionFault, Sink, Source, run_session};
 use mw_model::End;
 use mw_pool::{Board, Naming, Pass};
 use std::alloc::Global;

@@ -8,8 +8,8 @@ ghost use Rattle.mw_session.specs.Answering.{ScriptAnswer};
 ghost use Rattle.mw_fetched.specs.mw_wire.Writes.{Wrote};
 
 use crate::payloads::{read_element, read_image};
-use mw_fetched::mw_wire::{Desk, SessionFault, Sink, say_told};
 use mw_fetched::say_fetched;
+use mw_fetched::wire::{Desk, SessionFault, Sink, say_told};
 use mw_model::{Name, NoMemory, Op, Request};
 use mw_wave::{Core, Crew, Pick, run_all_work};
 use std::alloc::Global;

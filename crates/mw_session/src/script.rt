@@ -6,7 +6,7 @@ ghost use Rattle.mw_model.specs.Stands.{StandsFor, running_count};
 ghost use Rattle.mw_session.specs.Runs.{SessionRan};
 
 use crate::answer::Clerk;
-use mw_fetched::mw_wire::{SessionFault, Sink, Source, run_session};
+use mw_fetched::wire::{SessionFault, Sink, Source, run_session};
 use mw_model::End;
 use mw_wave::{Core, Crew, Pick};
 use std::io::{Read, Write};

@@ -4,6 +4,6 @@
 #![tactic(auto)]
 
 pub use mw_store::{
-    Entry, Fetched, Kept, Shown, Store, Waiters, is_pending, mw_gran, mw_plan, mw_task, reserve_row,
+    Entry, Fetched, Kept, Shown, Store, Waiters, gran, is_pending, plan, reserve_row, task,
 };
-pub use mw_work::{PlanProgress, WholePlane, mw_grid, true_tasks};
+pub use mw_work::{PlanProgress, WholePlane, grid, true_tasks};

@@ -1,8 +1,8 @@
 //! The lesser and the greater of levels, whatever samples hold them.
 
 use mw_bits::{WordExtremum, join, meet};
-use mw_joined::mw_pixel::{Bit, Extremum, Max, Min, Plane};
-use mw_joined::mw_tile::Window;
+use mw_joined::pixel::{Bit, Extremum, Max, Min, Plane};
+use mw_joined::tile::Window;
 use mw_model::NoMemory;
 use std::alloc::Global;
 

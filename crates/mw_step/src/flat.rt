@@ -11,11 +11,11 @@ use crate::extrema::LevelExtremum;
 use crate::kinds::of_samples;
 use crate::ranks::rank_of_set;
 use crate::sliding::{set_under_element, under_box, under_element};
-use mw_joined::mw_tile::AnyWindow;
+use mw_joined::tile::AnyWindow;
 use mw_model::{NoMemory, OffsetBox, Rect};
 use mw_rank_rows::rank_of_grey;
 use mw_task::TileResult;
-use mw_task::mw_element::Element;
+use mw_task::element::Element;
 use std::alloc::Global;
 
 /// At each place of the tile the extremum of the samples under the element.

@@ -10,8 +10,8 @@ ghost use Rattle.mw_model.specs.Pictures.{Picture};
 ghost use Rattle.mw_joined.specs.mw_pixel.Images.{set_of, grey_of};
 ghost use Rattle.mw_task.specs.Products.{HoldsImage};
 
-use mw_joined::mw_pixel::{Bit, Pixel, Plane};
-use mw_joined::mw_tile::{AnyWindow, Window, WindowView};
+use mw_joined::pixel::{Bit, Pixel, Plane};
+use mw_joined::tile::{AnyWindow, Window, WindowView};
 use mw_model::NoMemory;
 use mw_task::TileResult;
 use std::alloc::Global;
@@ -21,15 +21,15 @@ use std::sync::Arc;
 macro_rules! of_samples {
     ($alloc:expr, $window:expr, |$set:ident| $made:expr, |$samples:ident, $maxval:ident| $plane:expr) => {
         match $window.view() {
-            mw_joined::mw_tile::WindowView::Bits($set) => {
+            mw_joined::tile::WindowView::Bits($set) => {
                 let plane = $made?;
                 $crate::kinds::made_bits($alloc, plane)
             }
-            mw_joined::mw_tile::WindowView::Grey8($samples, $maxval) => {
+            mw_joined::tile::WindowView::Grey8($samples, $maxval) => {
                 let plane = $plane?;
                 $crate::kinds::made_bytes($alloc, plane, $maxval)
             }
-            mw_joined::mw_tile::WindowView::Grey16($samples, $maxval) => {
+            mw_joined::tile::WindowView::Grey16($samples, $maxval) => {
                 let plane = $plane?;
                 $crate::kinds::made_words($alloc, plane, $maxval)
             }
@@ -41,17 +41,17 @@ macro_rules! of_samples {
 macro_rules! of_both {
     ($alloc:expr, $a:expr, $b:expr, |$set:ident, $other:ident| $made:expr, |$first:ident, $second:ident| $plane:expr) => {
         match $a.view() {
-            mw_joined::mw_tile::WindowView::Bits($set) => {
+            mw_joined::tile::WindowView::Bits($set) => {
                 let $other = $crate::kinds::bits_of($b);
                 let plane = $made?;
                 $crate::kinds::made_bits($alloc, plane)
             }
-            mw_joined::mw_tile::WindowView::Grey8($first, maxval) => {
+            mw_joined::tile::WindowView::Grey8($first, maxval) => {
                 let $second = $crate::kinds::bytes_of($b, maxval);
                 let plane = $plane?;
                 $crate::kinds::made_bytes($alloc, plane, maxval)
             }
-            mw_joined::mw_tile::WindowView::Grey16($first, maxval) => {
+            mw_joined::tile::WindowView::Grey16($first, maxval) => {
                 let $second = $crate::kinds::words_of($b);
                 let plane = $plane?;
                 $crate::kinds::made_words($alloc, plane, maxval)

@@ -22,4 +22,4 @@ mod sliding;
 mod thresholds;
 
 pub use make::{compute, run};
-pub use mw_task;
+pub use mw_task as task;

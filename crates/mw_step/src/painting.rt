@@ -8,8 +8,8 @@ ghost use Rattle.mw_joined.specs.mw_words.Packed.{bit_of, stride_of};
 
 use crate::thresholds::is_sound;
 use mw_bits::{join, minus, row_of};
-use mw_joined::mw_pixel::{Bit, Grey, Pixel, Plane};
-use mw_joined::mw_tile::Window;
+use mw_joined::pixel::{Bit, Grey, Pixel, Plane};
+use mw_joined::tile::Window;
 use mw_model::NoMemory;
 use std::alloc::Global;
 

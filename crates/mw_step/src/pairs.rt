@@ -7,7 +7,7 @@ ghost use Rattle.mw_task.specs.Products.{HoldsImage, both_drawn};
 use crate::extrema::LevelExtremum;
 use crate::kinds::of_both;
 use crate::pointwise::{differences, merged};
-use mw_joined::mw_tile::AnyWindow;
+use mw_joined::tile::AnyWindow;
 use mw_model::NoMemory;
 use mw_task::TileResult;
 use std::alloc::Global;

@@ -3,9 +3,9 @@
 ghost use Rattle.std.specs.Prelude.{◌≡◌, ◌*◌, length, replicate, IfOk};
 ghost use lib.Lanes.{zip2};
 
-use mw_bits::mw_lane::{Lanes, combine_rows, subtract_rows};
-use mw_joined::mw_pixel::{Extremum, Grey, Plane};
-use mw_joined::mw_tile::Window;
+use mw_bits::lane::{Lanes, combine_rows, subtract_rows};
+use mw_joined::pixel::{Extremum, Grey, Plane};
+use mw_joined::tile::Window;
 use mw_model::NoMemory;
 use std::alloc::Global;
 

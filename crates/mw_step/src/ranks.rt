@@ -7,8 +7,8 @@ ghost use Rattle.mw_rank_rows.specs.mw_rank.Ranks.{IsRank};
 
 use crate::thresholds::is_sound;
 use mw_bits::{as_levels, at_least};
-use mw_joined::mw_pixel::{Bit, Plane};
-use mw_joined::mw_tile::Window;
+use mw_joined::pixel::{Bit, Plane};
+use mw_joined::tile::Window;
 use mw_model::{NoMemory, Offset, Rect};
 use mw_rank_rows::rank_of_grey;
 use std::alloc::Global;

@@ -6,8 +6,8 @@ ghost use Rattle.std.specs.Arc.{arc_value};
 ghost use Rattle.mw_joined.specs.mw_pieces.Patches.{IsJoint, IsWholeOf};
 ghost use Rattle.mw_task.specs.Products.{HoldsImage, plane_drawn};
 
-use mw_joined::mw_pieces::{Pieces, PiecesView, SharedWindow};
-use mw_joined::mw_pixel::{Planar, Plane};
+use mw_joined::pieces::{Pieces, PiecesView, SharedWindow};
+use mw_joined::pixel::{Planar, Plane};
 use mw_model::NoMemory;
 use mw_task::TileResult;
 use std::sync::Arc;

@@ -6,11 +6,11 @@ ghost use Rattle.mw_model.specs.Windows.{seen_at};
 ghost use Rattle.mw_bits.specs.mw_line.Extrema.{IsSlidingExtremum};
 
 use mw_bits::WordExtremum;
-use mw_bits::mw_line::rectangle;
-use mw_joined::mw_pixel::{Bit, Extremum, Grey, Plane};
-use mw_joined::mw_tile::Window;
+use mw_bits::line::rectangle;
+use mw_joined::pixel::{Bit, Extremum, Grey, Plane};
+use mw_joined::tile::Window;
 use mw_model::{NoMemory, OffsetBox, Rect};
-use mw_task::mw_element::Element;
+use mw_task::element::Element;
 use std::alloc::Global;
 
 /// The extremum of the samples under the element, at each place of the tile, of an image with this maxval. A full
@@ -28,7 +28,7 @@ pub(crate) fn under_element<P: Grey, E: Extremum<P>>(
         Some(offsets) => under_box::<P, E>(alloc, window, offsets, maxval, tile),
         None => {
             let neutral = E::neutral(maxval);
-            mw_bits::mw_offset::extremum::<P, E>(alloc, window, element.offsets(), neutral, tile)
+            mw_bits::offset::extremum::<P, E>(alloc, window, element.offsets(), neutral, tile)
         }
     }
 }

@@ -2,10 +2,10 @@
 
 ghost use Rattle.std.specs.Prelude.{◌≡◌, ℕ, ◌*◌, ◌≤◌, ◌==◌, All, length, map, IfOk, nat_le, if◌then◌else◌};
 
-use mw_bits::mw_lane::LevelBlocks;
+use mw_bits::lane::LevelBlocks;
 use mw_bits::{invert, join};
-use mw_joined::mw_pixel::{Bit, Grey, Plane};
-use mw_joined::mw_tile::Window;
+use mw_joined::pixel::{Bit, Grey, Plane};
+use mw_joined::tile::Window;
 use mw_model::NoMemory;
 use std::alloc::Global;
 

@@ -6,7 +6,7 @@ ghost use Rattle.mw_store.specs.ImageShapes.{image_shape_of};
 
 use mw_model::Kind;
 use mw_tiles::WholePlane;
-use mw_tiles::mw_pixel::Image;
+use mw_tiles::pixel::Image;
 
 /// The shape of an image, part by part.
 #[derive(Clone, Copy)]

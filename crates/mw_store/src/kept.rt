@@ -3,8 +3,8 @@
 use mw_gran::Curve;
 use mw_model::Submission;
 use mw_tiles::WholePlane;
-use mw_tiles::mw_element::Element;
-use mw_tiles::mw_pixel::Image;
+use mw_tiles::element::Element;
+use mw_tiles::pixel::Image;
 use std::sync::Arc;
 
 /// A value that is kept under a ticket. Others can own the plane of an image, each of the tiles, and the element.

@@ -5,7 +5,7 @@ ghost use Rattle.mw_store.specs.PlateViews.{picture_seen};
 
 use mw_model::NoMemory;
 use mw_tiles::WholePlane;
-use mw_tiles::mw_pixel::Image;
+use mw_tiles::pixel::Image;
 use std::alloc::Global;
 use std::marker::Model;
 

@@ -1,7 +1,7 @@
 //! Tasks that were run.
 
 use crate::{Step, TileResult, Work};
-use mw_element::mw_pixel::Image;
+use mw_element::pixel::Image;
 use mw_model::{Rect, TaskId};
 use mw_pieces::SharedWindow;
 use std::marker::Model;

@@ -20,11 +20,11 @@ pub use laws::{
     cut_windows_are_bounded, cut_windows_fit, made_is_bounded, planes_are_operators,
     tile_of_windows_is_tile_of_planes, whole_tile_is_plane,
 };
-pub use mw_element;
-pub use mw_element::{Element, mw_netpbm, mw_pixel};
+pub use mw_element as element;
+pub use mw_element::{Element, netpbm, pixel};
 pub use mw_model::{NoMemory, Offset, OffsetBox, Reach, Rect, TaskId};
-pub use mw_pieces;
-pub use mw_pieces::{SharedWindow, mw_grid};
+pub use mw_pieces as pieces;
+pub use mw_pieces::{SharedWindow, grid};
 pub use step::Step;
 pub use tile_result::TileResult;
 pub use work::Work;

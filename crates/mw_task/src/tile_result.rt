@@ -1,6 +1,6 @@
 //! The samples or the number that a task makes.
 
-use mw_element::mw_pixel::{Bit, Plane};
+use mw_element::pixel::{Bit, Plane};
 use std::sync::Arc;
 
 /// The plane of a tile, which others can own too, and beside it the maxval; or the sum of the samples of a tile.

@@ -6,7 +6,7 @@ use crate::Step;
 use crate::reads::windows_fit;
 use mw_model::{NoMemory, Rect, TaskId};
 use mw_pieces::SharedWindow;
-use mw_pieces::mw_tile::AnyWindow;
+use mw_pieces::tile::AnyWindow;
 use std::alloc::Global;
 use std::marker::Model;
 

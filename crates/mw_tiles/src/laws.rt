@@ -7,7 +7,7 @@ ghost use Rattle.mw_model.specs.PlanSteps.{PlanStep};
 ghost use Rattle.mw_tiles.specs.Tiles.{AreMade, IsPlaneOf, Tiled};
 
 use crate::TiledPlane;
-use mw_task::mw_grid::Grid;
+use mw_task::grid::Grid;
 
 /// Tiles that are each what a step makes there of the whole planes of its sources are parts of the step's plane.
 pub fn tiles_are_plane(grid: Grid)

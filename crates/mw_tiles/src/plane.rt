@@ -5,9 +5,9 @@ use mw_frame_tiles::{
     Placed, TiledRows, are_tiles, no_tiles, pieces_of, put, share_tiles, shared_plane,
 };
 use mw_model::{Kind, NoMemory, Rect};
-use mw_task::mw_grid::Grid;
-use mw_task::mw_pieces::{PiecesView, SharedWindow};
-use mw_task::mw_pixel::{Bit, Image};
+use mw_task::grid::Grid;
+use mw_task::pieces::{PiecesView, SharedWindow};
+use mw_task::pixel::{Bit, Image};
 use std::alloc::Global;
 use std::marker::Model;
 

@@ -10,8 +10,8 @@ ghost use Rattle.mw_tiles.specs.Views.{Shows};
 
 use crate::{TiledPlane, TilesView};
 use mw_model::{Kind, NoMemory, Rect};
-use mw_task::mw_pieces::SharedWindow;
-use mw_task::mw_pixel::Image;
+use mw_task::pieces::SharedWindow;
+use mw_task::pixel::Image;
 use std::alloc::Global;
 use std::marker::Model;
 

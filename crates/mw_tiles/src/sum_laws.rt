@@ -6,7 +6,7 @@ ghost use Rattle.mw_model.specs.PlanSteps.{Sum};
 ghost use Rattle.mw_tiles.specs.Tiles.{AllPlaced, AreMade, Tiled};
 ghost use Rattle.mw_tiles.specs.Sums.{number_in};
 
-use mw_task::mw_grid::Grid;
+use mw_task::grid::Grid;
 
 /// Where every tile has its number, and each is what a Sum step makes there of an image, the numbers add up to that of the
 /// image.

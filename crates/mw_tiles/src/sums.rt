@@ -4,7 +4,7 @@ ghost use Rattle.std.specs.Prelude.{◌≡◌, ◌<◌, ◌≤◌, ◌^◌, All,
 ghost use Rattle.mw_tiles.specs.Sums.{number_or_zero};
 
 use mw_model::{Kind, NoMemory};
-use mw_task::mw_grid::Grid;
+use mw_task::grid::Grid;
 use std::alloc::Global;
 use std::marker::Model;
 

@@ -1,6 +1,6 @@
 //! The samples of one tile.
 
-use mw_task::mw_pixel::{Bit, Plane};
+use mw_task::pixel::{Bit, Plane};
 use std::sync::Arc;
 
 /// The plane of a tile, of whom others can be owners too; beside it the maxval.

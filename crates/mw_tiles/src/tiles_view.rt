@@ -1,7 +1,7 @@
 //! The tiles of a whole plane, whatever its samples are.
 
 use mw_frame_tiles::TiledRows;
-use mw_task::mw_pixel::Bit;
+use mw_task::pixel::Bit;
 
 /// The tiles of a whole plane, to be looked at; beside them the maxval.
 #[derive(Drop)]

@@ -9,8 +9,8 @@ mod taking;
 
 pub use mw_model::NoMemory;
 pub use mw_stands::{
-    Entry, Fetched, Kept, PlanProgress, Shown, Store, Waiters, WholePlane, is_pending, mw_gran,
-    mw_task, reserve_row,
+    Entry, Fetched, Kept, PlanProgress, Shown, Store, Waiters, WholePlane, gran, is_pending,
+    reserve_row, task,
 };
 pub use planning::{Unplanned, planned};
 pub use results::{is_fit, is_result};

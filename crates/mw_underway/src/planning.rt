@@ -12,8 +12,8 @@ ghost use Rattle.mw_stands.specs.Limits.{ShapesFit};
 ghost use Rattle.mw_underway.specs.Planning.{IsLookedUp, IsPlannedBy, IsSide};
 
 use mw_model::{Call, Name, NoMemory, Op, Shape, Submission};
-use mw_stands::mw_grid::Grid;
-use mw_stands::mw_plan::{Input, Plan, PlanFault};
+use mw_stands::grid::Grid;
+use mw_stands::plan::{Input, Plan, PlanFault};
 use mw_stands::{PlanProgress, Store};
 use std::alloc::Global;
 
@@ -73,8 +73,8 @@ fn plan_of(
     ensures plan { IfOk result (IsPlanOf op a.entry b.entry c.entry) }
 {
     match op {
-        Op::Flat(flat) => mw_stands::mw_plan::plan_of(alloc, &flat, a, b, c),
-        Op::Gran(gran) => mw_stands::mw_gran::plan_of(alloc, &gran, a, b, c),
+        Op::Flat(flat) => mw_stands::plan::plan_of(alloc, &flat, a, b, c),
+        Op::Gran(gran) => mw_stands::gran::plan_of(alloc, &gran, a, b, c),
     }
 }
 

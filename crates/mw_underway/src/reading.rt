@@ -13,8 +13,8 @@ ghost use Rattle.mw_stands.specs.mw_tile.Windows.{window_of};
 ghost use Rattle.mw_underway.specs.SourceWindows.{AreWindowsOf, CanRead, CanReadAll, IsSource, IsWindowOf};
 
 use mw_model::{NoMemory, Rect};
-use mw_stands::mw_plan::{Source, Sources};
-use mw_stands::mw_task::SharedWindow;
+use mw_stands::plan::{Source, Sources};
+use mw_stands::task::SharedWindow;
 use mw_stands::{PlanProgress, Store};
 use std::alloc::Global;
 

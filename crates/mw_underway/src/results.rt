@@ -14,8 +14,8 @@ ghost use Rattle.mw_underway.specs.Results.{AreShown, HasLevel, IsFitOf, IsFound
 
 use crate::reading::{Reading, has_frame};
 use mw_model::{Kind, Rect};
-use mw_stands::mw_plan::{Source, Sources};
-use mw_stands::mw_task::{SharedWindow, TileDone};
+use mw_stands::plan::{Source, Sources};
+use mw_stands::task::{SharedWindow, TileDone};
 use mw_stands::{PlanProgress, Store};
 
 /// Whether the image that is kept of the ticket, if one is, has the level that the work reads.

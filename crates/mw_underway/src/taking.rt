@@ -10,7 +10,7 @@ ghost use Rattle.mw_underway.specs.SourceWindows.{IsTaskOrNone, Takes};
 
 use crate::reading::{Reading, windows};
 use mw_model::{NoMemory, TaskId};
-use mw_stands::mw_task::Work;
+use mw_stands::task::Work;
 use mw_stands::{PlanProgress, Store};
 use std::alloc::Global;
 

@@ -8,7 +8,7 @@ ghost use Rattle.mw_wave.specs.Jobs.{AreMade, IsAnswered, IsAnswerTo};
 use crate::Crew;
 use crate::shared::{Made, put_all, put_hand};
 use mw_model::NoMemory;
-use mw_step::mw_task::{TaskRefused, TileDone, TileResult, Work};
+use mw_step::task::{TaskRefused, TileDone, TileResult, Work};
 use std::alloc::{AllocError, Global};
 use std::thread::Threads;
 use std::{mem, thread};

@@ -17,6 +17,6 @@ mod work;
 
 pub use crew::Crew;
 pub use mw_core::Core;
-pub use mw_script_laws::{mw_element, mw_netpbm, mw_pixel};
+pub use mw_script_laws::{element, netpbm, pixel};
 pub use pick::Pick;
 pub use work::run_all_work;

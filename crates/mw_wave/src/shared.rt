@@ -6,7 +6,7 @@ ghost use Rattle.mw_wave.specs.Jobs.{AreMade, IsKept, IsMadeAt};
 
 use crate::job::Job;
 use mw_model::NoMemory;
-use mw_step::mw_task::TileResult;
+use mw_step::task::TileResult;
 use std::alloc::{AllocError, Global};
 use std::sync::atomic::{AtomicUsize, Ordering};
 use std::thread;

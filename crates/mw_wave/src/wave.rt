@@ -15,7 +15,7 @@ use crate::job::{Job, answered};
 use crate::shared::{Made, make_by, make_some};
 use crate::{Crew, Pick};
 use mw_core::{Core, Started};
-use mw_step::mw_task::{TaskRefused, TileDone, Work};
+use mw_step::task::{TaskRefused, TileDone, Work};
 use std::alloc::{AllocError, Global};
 use std::sync::atomic::AtomicUsize;
 use std::thread::Threads;

@@ -2,7 +2,7 @@
 ghost use Rattle.std.specs.Prelude.{◌≡◌, ℕ, ◌<◌};
 ghost use Rattle.std.specs.Int.{bit_at};
 
-use mw_line::mw_pixel::{Bit, Extremum, Max, Min};
+use mw_line::pixel::{Bit, Extremum, Max, Min};
 
 /// An extremum of sets that is taken word by word.
 pub trait WordExtremum: Extremum<Bit> {

@@ -3,7 +3,7 @@ ghost use Rattle.std.specs.Prelude.{◌≡◌, ℕ, ◌+◌, ◌*◌, ◌/◌, �
 ghost use Rattle.mw_line.specs.mw_words.Packed.{bit_of, stride_of, IsPacked};
 
 use crate::WordExtremum;
-use mw_line::mw_words::stride;
+use mw_line::words::stride;
 
 /// Makes the bits past the width neutral.
 #[inline(always)]

@@ -6,7 +6,7 @@ ghost use Rattle.mw_line.specs.mw_words.Packed.{bit_of, stride_of};
 ghost use Rattle.mw_word_rows.specs.Rows.{pixel_at, words_before};
 
 use crate::WordExtremum;
-use mw_line::mw_words::funnel;
+use mw_line::words::funnel;
 
 /// So many words are thought to stand before a row, so that no place of interest is negative.
 const BEFORE: u64 = 34359738368;

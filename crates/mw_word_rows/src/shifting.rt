@@ -5,7 +5,7 @@ ghost use Rattle.std.specs.Int.{bit_at};
 ghost use Rattle.mw_line.specs.mw_words.Packed.{bit_of};
 
 use crate::WordExtremum;
-use mw_line::mw_words::funnel;
+use mw_line::words::funnel;
 
 /// Merges into each bit the one `start` places further on in the cells.
 pub fn combine_from<E: WordExtremum>(cells: &[u64], start: usize, out: &mut [u64])

@@ -3,7 +3,7 @@ ghost use Rattle.std.specs.Prelude.{◌≡◌, ℕ, ◌*◌, ◌+◌, ◌<◌, �
 ghost use Rattle.std.specs.Int.{bit_at};
 ghost use Rattle.mw_line.specs.mw_words.Packed.{bit_of};
 
-use mw_line::mw_pixel::Bit;
+use mw_line::pixel::Bit;
 
 /// Writes the pixels of a byte.
 #[inline(always)]

@@ -6,4 +6,4 @@ mod laws;
 
 pub use laws::{finished_work, fresh_work, true_tasks, work_goes_on};
 pub use mw_model::NoMemory;
-pub use mw_progress::{PlanProgress, WholePlane, mw_grid};
+pub use mw_progress::{PlanProgress, WholePlane, grid};
