@@ -25,6 +25,8 @@ valgrind:
 test: toolchain python
 	@python3 -B checks/no_leaks.py
 	@python3 -B checks/laid_out.py
+	@python3 -B checks/thin_rows.py --test
+	@python3 -B checks/thin_rows.py
 	rt ci
 
 # Proves and builds the program, as wide as the machine allows, and runs it once on its stored session.

@@ -1,0 +1,71 @@
+#!/usr/bin/env python3
+"""Tells rows of crates.txt that name more than they need.
+
+    python3 checks/thin_rows.py [--test]
+
+`rt` sums up the sources below a crate along every path of rows, so an entry that another entry of its row reaches costs time in
+each crate above. Rows of libraries have no such entry but `mw_model`, whose words all crates use. On programs and crates of
+tests nothing stands, so their rows name what they use. With --test it looks at rows that are spoiled.
+"""
+import os
+import sys
+
+ROOT = os.path.dirname(os.path.dirname(os.path.realpath(__file__)))
+# What a row may name beside the crates that reach it.
+ALWAYS = "mw_model"
+
+
+def rows_of(text):
+    """Each crate with the entries of its row that are crates of the repository."""
+    rows = {}
+    for line in text.splitlines():
+        name, _, needs = line.partition("#")[0].partition(":")
+        if name.strip():
+            # Behind a crate's name may stand what its verdict may have, as may_wait=15.
+            rows[name.split()[0]] = needs.split()
+    return {name: [it for it in needs if it in rows] for name, needs in rows.items()}
+
+
+def all_below(rows, name):
+    """The crates that a crate stands on, at any depth."""
+    found = set()
+    for it in rows[name]:
+        found |= {it} | all_below(rows, it)
+    return found
+
+
+def needless(rows):
+    """The entries of libraries' rows that another entry reaches."""
+    below = {name: all_below(rows, name) for name in rows}
+    libraries = {it for needs in rows.values() for it in needs if not it.endswith("_for_tests")}
+    for name in [it for it in rows if it in libraries]:
+        for entry in rows[name]:
+            through = [it for it in rows[name] if entry in below[it]]
+            if entry != ALWAYS and through:
+                yield f"crates.txt: {name} need not name {entry}, which {through[0]} reaches"
+
+
+def test():
+    """Sees that a needless entry of a library is told, and nothing else."""
+    rows = "mw_facts:\nmw_model: mw_facts\nlow: mw_model\nhigh: mw_model low\ntop: mw_model high low\n"
+    for text, wanted in (
+        (rows, []),
+        (rows.replace("low: mw_model", "low: mw_facts mw_model"), ["crates.txt: low need not name mw_facts, which mw_model reaches"]),
+        (rows + "above: top\n", ["crates.txt: top need not name low, which high reaches"]),
+    ):
+        found = list(needless(rows_of(text)))
+        if found != wanted:
+            sys.exit(f"checks/thin_rows.py tells {found} where it is to tell {wanted}, of\n{text}")
+
+
+def main():
+    if sys.argv[1:] == ["--test"]:
+        return test()
+    with open(f"{ROOT}/crates.txt", encoding="utf-8") as file:
+        told = list(needless(rows_of(file.read())))
+    if told:
+        sys.exit("\n".join(told))
+
+
+if __name__ == "__main__":
+    main()
