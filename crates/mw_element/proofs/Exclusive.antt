@@ -10,7 +10,7 @@ use Rattle.mw_element.proofs.Found.{element_figure}
 element_side-small : element_side < 4294967296
 element_side-small = omega arith
 
-same_bitmap : (bytes : List ℕ) (f g : Raster ℕ) → IsBitmap bytes element_side f → IsBitmap bytes element_side g → f ≡ g
+pub same_bitmap : (bytes : List ℕ) (f g : Raster ℕ) → IsBitmap bytes element_side f → IsBitmap bytes element_side g → f ≡ g
 same_bitmap bytes f g a b = one_bitmap bytes element_side f g element_side-small a b
 
 pub one_element : (bytes : List ℕ) (ox oy : ℕ) (first second : Figure) → IsElement bytes ox oy first → IsElement bytes ox oy second → first ≡ second
@@ -18,7 +18,7 @@ one_element bytes ox oy first second a b =
     a.shows ∙ ap (λ (f : Raster ℕ). figure_of f ox oy) (same_bitmap bytes a.bitmap b.bitmap a.is_bitmap b.is_bitmap) ∙ sym b.shows
 
 -- a bitmap has no refusal of its bytes
-bitmap_clash : (bytes : List ℕ) (c : Code) (f : Raster ℕ) → BitmapRefuses bytes element_side c → IsBitmap bytes element_side f → ⊥
+pub bitmap_clash : (bytes : List ℕ) (c : Code) (f : Raster ℕ) → BitmapRefuses bytes element_side c → IsBitmap bytes element_side f → ⊥
 bitmap_clash bytes c f r is = refusal_or_bitmap bytes element_side c f element_side-small r is
 
 moved_place : (bytes : List ℕ) (ox oy : ℕ) (f g : Raster ℕ) → IsBitmap bytes element_side f → IsBitmap bytes element_side g → HoldsPlace f ox oy → HoldsPlace g ox oy

@@ -25,7 +25,10 @@ few_in_rows f ox oy y (suc n) =
 area-small : (w h : ℕ) → w ≤ 255 → h ≤ 255 → h * w ≤ 65025
 area-small w h narrow low = omega (arith, mul-le-mul_left w low, mul-le-mul_left 255 narrow, mul_comm w 255)
 
+pub few_within : (f : Raster ℕ) (ox oy : ℕ) (found : List Offset) → f.width ≤ 255 → f.height ≤ 255 → found ≡ offsets_of f ox oy → length found ≤ 65025
+few_within f ox oy found narrow low e = omega (arith, ap (λ (xs : List Offset). length xs) e, few_in_rows f ox oy 0 f.height, area-small f.width f.height narrow low)
+
 pub few_offsets : (bytes : List ℕ) (f : Raster ℕ) (ox oy : ℕ) (found : List Offset) → IsBitmap bytes element_side f → found ≡ offsets_of f ox oy → length found ≤ 65025
 few_offsets bytes f ox oy found is e =
     let s = bitmap_sides bytes element_side f is in
-    omega (arith, ap (λ (xs : List Offset). length xs) e, few_in_rows f ox oy 0 f.height, area-small f.width f.height s.2 s.3)
+    few_within f ox oy found s.2 s.3 e

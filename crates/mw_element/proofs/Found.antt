@@ -4,7 +4,7 @@ use Rattle.std.specs.Prelude.{count_by, ◌==◌, ◌≢◌}
 use Rattle.mw_model.specs.declared.codes.Code.TheVariants as code
 use Rattle.mw_model.specs.declared.places.Offset.{Offset}
 use Rattle.mw_model.specs.Rasters.{Raster}
-use Rattle.mw_model.specs.Bitmaps.{IsBitmap}
+use Rattle.mw_model.specs.Bitmaps.{IsBitmap, SidesFit}
 use Rattle.mw_model.specs.Elements.{Figure, IsFigure, IsElement, ElementRefuses, HoldsPlace, element_side, figure_of, offsets_of, no_origin, no_pixel}
 use Rattle.mw_netpbm.specs.declared.bitmap.BitmapFacts.{BitmapFacts}
 use Rattle.mw_netpbm.specs.declared.fault.BitmapFault.{BitmapFault}
@@ -27,15 +27,19 @@ bitmap_sides bytes side f is =
 pub some_offsets : (bytes : List ℕ) (side : ℕ) (f : Raster ℕ) (ox oy : ℕ) → IsBitmap bytes side f → (count_by (λ s. s == 1) f.cells ≡ 0 → ⊥) → offsets_of f ox oy ≢ []
 some_offsets bytes side f ox oy is some e = some (no_pixels f ox oy (bitmap_size bytes side f is) (bitmap_sides bytes side f is).0 e)
 
+-- the offsets of a bitmap that is within the limit are an element's
+pub offsets_figure : (f : Raster ℕ) (ox oy : ℕ) → SidesFit element_side f.width f.height → HoldsPlace f ox oy → offsets_of f ox oy ≢ [] → IsFigure (figure_of f ox oy)
+offsets_figure f ox oy sides place some = record {
+  distinct = offsets_distinct f ox oy;
+  some = some;
+  near = offsets_near f ox oy place.column place.row sides.narrow sides.low;
+  sides = sides;
+}
+
 pub element_figure : (bytes : List ℕ) (f : Raster ℕ) (ox oy : ℕ) → IsBitmap bytes element_side f → ox < f.width → oy < f.height → offsets_of f ox oy ≢ [] → IsFigure (figure f.width f.height (offsets_of f ox oy))
 element_figure bytes f ox oy is column row some =
     let s = bitmap_sides bytes element_side f is in
-    record {
-      distinct = offsets_distinct f ox oy;
-      some = some;
-      near = offsets_near f ox oy column row s.2 s.3;
-      sides = record { some_column = s.0; some_row = s.1; narrow = s.2; low = s.3 };
-    }
+    offsets_figure f ox oy (record { some_column = s.0; some_row = s.1; narrow = s.2; low = s.3 }) (record { column = column; row = row }) some
 
 pub found_element : (bytes : List ℕ) (f : Raster ℕ) (ox oy : ℕ) → IsBitmap bytes element_side f → ox < f.width → oy < f.height → offsets_of f ox oy ≢ [] → IsElement bytes ox oy (figure_of f ox oy)
 found_element bytes f ox oy is column row some = record { bitmap = f; is_bitmap = is; origin = record { column = column; row = row }; some = some; shows = refl }

@@ -4,8 +4,10 @@ pub mod Lists
 pub mod Order
 -- the crate's own
 mod Boxes
+mod Counts
 mod Few
 mod Found
+mod OfBitmaps
 mod Rows
 mod Room
 -- what lower crates offer

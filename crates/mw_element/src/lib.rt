@@ -1,5 +1,5 @@
 //! Structuring elements: an element exactly where the bytes are a plain bitmap with its origin inside, else the one
-//! refusal; and what kernels and plans ask of an element.
+//! refusal; the same of a bitmap that is there already; and what kernels and plans ask of an element.
 //!
 //! ```text
 //! let cross = Element::parse(alloc, b"P1\n3 3\n010\n111\n010\n", 1, 1)?;
@@ -8,6 +8,7 @@
 //! ```
 #![tactic(auto)]
 
+mod bitmaps;
 mod element;
 mod fault;
 pub mod laws;

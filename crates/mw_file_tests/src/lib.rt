@@ -6,6 +6,8 @@
 #![tactic(auto)]
 
 #[cfg(test)]
+mod bitmap_elements;
+#[cfg(test)]
 mod bitmaps;
 #[cfg(test)]
 mod elements;

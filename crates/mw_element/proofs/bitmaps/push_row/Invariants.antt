@@ -1,7 +1,7 @@
 use Rattle.std.proofs.Common.{◌≡◌, ◌++◌}
 use Rattle.std.specs.Prelude.{vec_capacity}
 use Rattle.mw_element.proofs.Rows.{row_part}
-use Rattle.mw_element.proofs.parsing.push_row.Given as goal
+use Rattle.mw_element.proofs.bitmaps.push_row.Given as goal
 
 abbrev pub invariant-columns : goal.invariant-columns
 invariant-columns l = record {

@@ -1,7 +1,7 @@
 use Rattle.std.proofs.Common.{◌≡◌}
 use Rattle.std.specs.Prelude.{vec_capacity}
 use Rattle.mw_element.proofs.Rows.{rows_part}
-use Rattle.mw_element.proofs.parsing.offsets.Given as goal
+use Rattle.mw_element.proofs.bitmaps.offsets.Given as goal
 
 abbrev pub invariant-rows : goal.invariant-rows
 invariant-rows l = record {

@@ -4,8 +4,8 @@ use Rattle.std.specs.Prelude.{vec_capacity}
 use Rattle.mw_model.specs.declared.places.Offset.{Offset}
 use Rattle.mw_element.proofs.Room.{row_room}
 use Rattle.mw_element.proofs.Rows.{row_part, row_set, row_unset, pixel_test}
-use Rattle.mw_element.proofs.parsing.push_row.Goals as goal
-use Rattle.mw_element.proofs.parsing.push_row.Goals.{then-is_set, else-is_set}
+use Rattle.mw_element.proofs.bitmaps.push_row.Goals as goal
+use Rattle.mw_element.proofs.bitmaps.push_row.Goals.{then-is_set, else-is_set}
 
 pub push_reserved-requires : goal.push_reserved-requires
 push_reserved-requires c =

@@ -1,7 +1,7 @@
 use Rattle.std.proofs.Common.{length, ap, arith, ◌∙◌}
 use Rattle.mw_element.proofs.Room.{rows_room}
 use Rattle.mw_element.proofs.Rows.{rows_more}
-use Rattle.mw_element.proofs.parsing.offsets.Goals as goal
+use Rattle.mw_element.proofs.bitmaps.offsets.Goals as goal
 
 pub push_row-requires-clause-room : goal.push_row-requires-clause-room
 push_row-requires-clause-room c =
