@@ -1,10 +1,17 @@
-# `make demo` builds morphd and shows it at work; `make test` is the gate; `make memory` refuses each allocation and each
-# start of a thread in turn, and measures what a FETCH takes; `make soak` runs random sessions beside a plain model, and a
-# server with good and bad clients; `make bench` takes times; `make costs` counts instructions, and compares them with those
-# that are kept.
-.PHONY: demo morphd test memory soak bench costs toolchain python compiler valgrind
+# `make` alone lists the targets. docs/TESTS.md says what each of them tests.
+.PHONY: help demo morphd test documents memory soak bench costs toolchain python compiler valgrind
 
 MORPHD = crates/morphd/out/morphd
+
+help:
+	@echo "make demo       shows a picture and the sizes of its grains in 90 seconds; then proves and builds morphd"
+	@echo "make morphd     proves and builds morphd alone, as crates/morphd/out/morphd"
+	@echo "make test       the gate: proves every crate from nothing, tries the wrong bodies, runs programs and tests"
+	@echo "make documents  compares the documents with the repository, and replays their examples"
+	@echo "make memory     refuses each allocation and each start of a thread in turn, and measures memory"
+	@echo "make soak       runs random sessions beside a plain model, and a server with good and bad clients; FOR=seconds"
+	@echo "make bench      takes the times of docs/PERFORMANCE.md"
+	@echo "make costs      counts instructions, and compares them with those that are kept"
 
 toolchain:
 	@command -v rt >/dev/null || { \
@@ -22,22 +29,26 @@ valgrind:
 	@command -v valgrind >/dev/null || { \
 	  echo "valgrind is missing: install Debian's package valgrind" >&2; exit 1; }
 
-test: toolchain python
+test: toolchain python documents
 	@python3 -B checks/no_leaks.py
 	@python3 -B checks/laid_out.py
 	@python3 -B checks/thin_rows.py --test
 	@python3 -B checks/thin_rows.py
 	rt ci
 
+documents: python
+	@python3 -B checks/docs.py --test
+	@python3 -B checks/docs.py
+
 # Proves and builds the program, as wide as the machine allows, and runs it once on its stored session.
 morphd: toolchain python
 	@python3 -B checks/prove.py morphd
 
-demo: python morphd
-	@echo "a picture of grains:"
-	@python3 examples/show.py examples/grains.pgm
-	@echo "the same, opened by a ball five pixels wide: $(MORPHD) batch < examples/grains.session | python3 examples/show.py -"
-	@$(MORPHD) batch < examples/grains.session | python3 examples/show.py -
+# First a trial build, in a minute; then the proved one, which has to write the same.
+demo: toolchain python
+	@python3 examples/demo.py trial
+	@python3 -B checks/prove.py morphd
+	@python3 examples/demo.py proved
 
 memory: toolchain python compiler
 	@python3 -B checks/prove.py morphd mw_memory_tests mw_machine_tests

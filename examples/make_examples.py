@@ -113,6 +113,10 @@ def main():
     write("grains.session", session([
         ("LOAD grains", pictures["grains.pgm"]), ("ELEMENT ball 2 2", ball),
         "RUN small ERODE grains ball", "RUN opened DILATE small ball", "STATUS opened", "FETCH opened"]))
+    write("demo.session", session([
+        ("LOAD grains", pictures["grains.pgm"]), ("ELEMENT ball 2 2", ball), "RUN opened OPEN grains ball", "FETCH opened",
+        ("ELEMENT square 1 1", b"P1\n3 3\n111111111\n"), "RUN bright THRESHOLD grains 120",
+        "RUN curve SPECTRUM bright square 12", "FETCH curve"]))
     write("defects.session", session([
         ("LOAD mask", pictures["defects.pbm"]), ("ELEMENT bar 2 0", bar),
         "RUN wide DILATE mask bar", "RUN joined ERODE wide bar", "FETCH joined"]))
