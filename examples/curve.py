@@ -2,8 +2,9 @@
 """Draws the last curve of a session's replies as bars, a line for each size: what part of all grains has that width.
 
     morphd batch < SESSION | python3 examples/curve.py [--side S] [--pixel WIDTH] [--unit WORD]
+    python3 examples/curve.py [..] < CURVE
 
-S is the width of the element that the spectrum was taken by, 3 if left out: size n is n(S - 1) + 1 pixels wide. WIDTH is
+CURVE is the text of a curve, as examples/save.py keeps it. S is the width of the element that the spectrum was taken by, 3 if left out: size n is n(S - 1) + 1 pixels wide. WIDTH is
 that of a pixel, in micrometres or in the unit that is named. Where a reply is a refusal, that is told instead.
 """
 import argparse
@@ -24,7 +25,9 @@ def replies(data):
 
 
 def last_curve(data):
-    """The text of the last curve."""
+    """The text of the last curve, or the text itself."""
+    if data.startswith(b"V "):
+        return data.decode()
     found = None
     for words, text in replies(data):
         if words[0] == "ERR":

@@ -48,7 +48,8 @@ def main():
     rows = samples(picture(data))
     for y in range(0, len(rows), 2):
         pair = rows[y:y + 2]
-        print("".join(LEVELS[round(sum(row[x] for row in pair) / len(pair) * (len(LEVELS) - 1))] for x in range(len(rows[0]))))
+        line = "".join(LEVELS[round(sum(row[x] for row in pair) / len(pair) * (len(LEVELS) - 1))] for x in range(len(rows[0])))
+        print(line.rstrip())
 
 
 if __name__ == "__main__":

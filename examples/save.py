@@ -1,0 +1,28 @@
+#!/usr/bin/env python3
+"""Saves the images and curves of a session's replies, in order, under the names that are given.
+
+    morphd batch < SESSION | python3 examples/save.py opened.pgm sizes.curve
+
+Where a reply is a refusal, or there are fewer images and curves than names, it says so, with status 1.
+"""
+import sys
+
+from curve import replies
+
+
+def main():
+    found = []
+    for words, data in replies(sys.stdin.buffer.read()):
+        if words[0] == "ERR":
+            sys.exit("the session was refused: " + " ".join(words))
+        if words[0] in ("IMAGE", "CURVE"):
+            found.append(data)
+    if len(found) != len(sys.argv) - 1:
+        sys.exit(f"the replies hold {len(found)} images and curves, and not {len(sys.argv) - 1}")
+    for name, data in zip(sys.argv[1:], found):
+        with open(name, "wb") as file:
+            file.write(data)
+
+
+if __name__ == "__main__":
+    main()
