@@ -2,7 +2,7 @@
 //!
 //! Each call is one event. For every state of the machine of one thread that the core stands for, the answer is that
 //! machine's, and the core then stands for the state after the step. `events::serve_all` says so of any list of events,
-//! and `locked_core::LockedCore` keeps it for a core under a lock. No call waits, computes a task or copies the samples of a plane:
+//! and `locked_core::LockedCore` keeps it from one event to the next. No call waits, computes a task or copies the samples of a plane:
 //! windows own the tiles that they are. A command of any operation becomes a plan of steps, and each step has one task
 //! for each tile; a task is ready once the tiles under its windows are done.
 //!

@@ -92,7 +92,7 @@ impl Image {
         ensures shows { Shows self.now result }
         ensures picture { IsPicture self.now }
     {
-        // `samples` is called for the number of samples alone.
+        // `width` is called for the number of samples, which it ensures.
         match &self.content {
             Samples::Bits(plane) => {
                 let _width = plane.width();
