@@ -14,6 +14,7 @@ import sys
 import doc_examples
 from doc_examples import fenced, line_at
 
+OWN = "checks/docs.py"
 ROOT = os.path.dirname(os.path.dirname(os.path.realpath(__file__)))
 MOST_README = 8192
 PARTS = ("src", "specs", "proofs")
@@ -47,7 +48,7 @@ class Tree:
         for folder in ("checks", "bench", "examples", "docs"):
             self.files += [it for it in files_below(folder)]
         self.files += [it for it in os.listdir(ROOT) if os.path.isfile(f"{ROOT}/{it}")]
-        self.words |= words_in(it for it in self.files if not it.endswith((".md", ".pgm", ".pbm", ".png", ".session")))
+        self.words |= words_in(it for it in self.files if it.endswith((".py", ".c", ".txt", "Makefile", "HANDLES")) and it != OWN)
         for crate in self.crates:
             self.look_at(crate)
         self.edits = sum(it.endswith(".edit") for it in self.files)
@@ -201,11 +202,16 @@ def of_names(texts, tree):
             continue
         for found in CRATE.finditer(text):
             is_part = text[found.start() - 1:found.start()] in ("/", ".") or text[found.end():found.end() + 1] in (".", "*")
-            if found[0] not in tree.crates and not is_part and found[0] not in tree.words:
+            if found[0] not in tree.crates and not is_part and not is_of_gate(name, text, found.start()):
                 yield name, line_at(text, found.start()), f"there is no such crate as {found[0]}"
         for found in CODE.finditer(text):
             for what in faults_of_code(found[1], tree, name in FOREIGN):
                 yield name, line_at(text, found.start()), what
+
+
+def is_of_gate(name, text, at):
+    """Whether a place is in the table of what the gate took on some day, which may name crates that have gone since."""
+    return name == "docs/PERFORMANCE.md" and text.rfind("\n", 0, at) + 1 == text.rfind("\n| `", 0, at) + 1
 
 
 def faults_of_code(code, tree, is_foreign):
