@@ -15,6 +15,7 @@ import plain_model
 
 ROOT = os.path.dirname(os.path.dirname(os.path.realpath(__file__)))
 PROGRAM = f"{ROOT}/crates/morphd/out/morphd"
+PROTOCOL, SCRIPTED = "docs/PROTOCOL.md", ("README.md", "docs/COOKBOOK.md")
 # What the examples of docs/PROTOCOL.md stand behind.
 F, B, G, X = b"P2\n5 1\n9\n3 1 4 1 5\n", b"P1\n3 1\n111\n", b"P1\n3 1\n100\n", b"P1\n2 1\n10"
 STAND_IN = """#!{python}
@@ -273,16 +274,18 @@ KINDS = {"requests": of_requests, "replies": of_replies, "refusals": of_refusals
 
 
 def faults(texts, _tree):
-    """The faults of all examples; a kind of which too few are found is one, too."""
-    counts = collections.Counter()
-    protocol = "docs/PROTOCOL.md"
-    found = [(protocol, kind, it) for kind, check in KINDS.items() for it in check(texts[protocol]) if protocol in texts]
-    for name in ("README.md", "docs/COOKBOOK.md"):
-        found += [(name, "scripts", it) for it in of_scripts(texts.get(name, ""))]
+    """The faults of all examples of these documents; a kind of which too few are found is one, too."""
+    counts, found = collections.Counter(), []
+    if PROTOCOL in texts:
+        found += [(PROTOCOL, kind, it) for kind, check in KINDS.items() for it in check(texts[PROTOCOL])]
+    for name in SCRIPTED:
+        if name in texts:
+            found += [(name, "scripts", it) for it in of_scripts(texts[name])]
     for name, kind, (line, what) in found:
         counts[kind] += what is None
         if what:
             yield name, line, what
-    for kind, least in LEAST.items():
-        if counts[kind] < least:
-            yield protocol if kind != "scripts" else "docs/COOKBOOK.md", 1, f"only {counts[kind]} examples of {kind} were found"
+    if {PROTOCOL, *SCRIPTED} <= set(texts):
+        for kind, least in LEAST.items():
+            if counts[kind] < least:
+                yield PROTOCOL if kind != "scripts" else SCRIPTED[1], 1, f"only {counts[kind]} examples of {kind} were found"

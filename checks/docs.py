@@ -258,12 +258,12 @@ SPOILED = [
     ("docs/GLOSSARY.md", " words", "1 words", "counts"),
     ("docs/DESIGN.md", "Proofs take some ", "Proofs take some 1", "counts"),
     ("docs/CRATES.md", "| `mw_model` ", "| `mw_modell` ", "tables"),
-    ("docs/TESTS.md", "| `mw_file_tests` ", "| `mw_row_tests` ", "tables"),
-    ("docs/DESIGN.md", "mw_wave ", "mw_core ", "tables"),
+    ("docs/TESTS.md", "| `mw_file_tests` ", "| `mw_file_trials` ", "tables"),
+    ("docs/DESIGN.md", "mw_wave ", "mw_wall ", "tables"),
     ("README.md", "`mw_batch::batch`", "`mw_batch::patch`", "names"),
     ("docs/DECISIONS.md", "`finish_own`", "`finish_owned`", "names"),
     ("CONTRIBUTING.md", "`checks/no_leaks.py`", "`checks/no_leeks.py`", "names"),
-    ("docs/DESIGN.md", "`mw_desk`", "`mw_disk`", "names"),
+    ("docs/DESIGN.md", "`mw_fetched`", "`mw_patched`", "names"),
     ("docs/PROTOCOL.md", "`ERR 41 UNKNOWN`", "`ERR 42 KIND`", "examples"),
     ("docs/PROTOCOL.md", "IMAGE 2 14\n", "IMAGE 2 15\n", "examples"),
     ("docs/PROTOCOL.md", "| 47 | `PARAM`", "| 46 | `PARAM`", "examples"),
@@ -284,11 +284,13 @@ def test(texts, tree):
         text = texts.get(name, "")
         if old not in text:
             sys.exit(f"{name} has no {old!r} to spoil")
-        spoiled = {**texts, name: text.replace(old, new, 1)}
+        beside = {} if kind == "examples" else texts
+        spoiled = {**beside, name: text.replace(old, new, 1)}
         line = changed_lines(text, spoiled[name])
         told = [it for it in faults(spoiled, tree, [kind]) if it[0] == name]
-        near = told if kind in ("size", "examples") else [it for it in told if it[1] == line]
-        if not near:
+        # Of a script and of the README's size another line is told than the one that is wrong.
+        room = {"size": MOST_README, "examples": 20}.get(kind, 0)
+        if not any(abs(it[1] - line) <= room for it in told):
             sys.exit(f"{name}:{line}: {new[:40]!r} in the place of {old!r} is not told, but {told}")
     print(f"each of {len(SPOILED)} spoiled documents is told")
 
