@@ -29,10 +29,12 @@ output, status, _ = plain_model.served(sys.stdin.buffer.read())
 sys.stdout.buffer.write(output)
 sys.exit(status)
 """
+# Such a line needs ImageMagick, and a picture that the user has.
+CONVERT = "convert mine.png "
 # A block between fences: its language, its text, and the line of its first fence.
 Block = collections.namedtuple("Block", "language text line end")
 # Of each kind of example at least so many have to be found, so that none gets lost unseen.
-LEAST = {"requests": 13, "replies": 11, "refusals": 24, "limits": 9, "files": 4, "sessions": 1, "scripts": 7}
+LEAST = {"requests": 13, "replies": 11, "refusals": 24, "limits": 9, "files": 4, "sessions": 1, "scripts": 8}
 
 
 def line_at(text, at):
@@ -215,6 +217,23 @@ def of_client(block):
             yield number, f"a client reads {reply.decode()!r} there"
 
 
+def of_statuses(text):
+    """Commands that end by a fault, where the program is built: their status and what they tell."""
+    where = {**os.environ, "PATH": f"{os.path.dirname(PROGRAM)}:{os.environ['PATH']}"}
+    for line, (status, _, told, example) in rows(text, "Faults and exit statuses", 4):
+        command = re.fullmatch(r"`([^`]*morphd[^`]*)`", example)
+        if not os.path.exists(PROGRAM) or not command:
+            continue
+        words = command[1].replace("\\|", "|")
+        if "ulimit" in words or words.startswith("(") or "session" in words.split():
+            continue
+        yield line, None
+        ran = subprocess.run(["bash", "-c", words], env=where, stdin=subprocess.DEVNULL, capture_output=True, timeout=20, check=False)
+        told = re.fullmatch(r"`([^`]*)`", told)
+        if ran.returncode != int(status) or told and ran.stderr.decode().strip() != told[1]:
+            yield line, f"{words} ends with {ran.returncode} and tells {ran.stderr.decode().strip()!r}"
+
+
 # ---- scripts
 
 
@@ -244,10 +263,10 @@ def of_scripts(text):
     with tempfile.TemporaryDirectory() as room:
         laid_out(room)
         for block in fenced(text):
-            if block.language in ("sh", "python"):
+            if block.language in ("sh", "python") or block.text.startswith(CONVERT):
                 yield block.line, None
-                how = ["bash", "-euo", "pipefail", "-c"] if block.language == "sh" else [sys.executable, "-c"]
-                output, fault = printed(how, block.text, room)
+                how = [sys.executable, "-c"] if block.language == "python" else ["bash", "-euo", "pipefail", "-c"]
+                output, fault = printed(how, given_picture(block.text, room), room)
                 behind = next((it for it in fenced(text) if text[block.end:].lstrip().startswith("```") and it.line > block.line), None)
                 wanted = behind.text if behind and not behind.language else None
                 if fault:
@@ -255,6 +274,15 @@ def of_scripts(text):
                 elif wanted is not None and wanted.rstrip("\n") != output.rstrip("\n"):
                     yield behind.line, f"the script prints:\n{output}"
         yield from made(text, room)
+
+
+def given_picture(text, room):
+    """A script without its first line, where that converts a picture of the user's; that of grains takes its place."""
+    if not text.startswith(CONVERT):
+        return text
+    with open(f"{ROOT}/examples/grains.pgm", "rb") as grains, open(f"{room}/mine.pgm", "wb") as mine:
+        mine.write(grains.read())
+    return text.partition("\n")[2]
 
 
 def made(text, room):
@@ -270,7 +298,7 @@ def made(text, room):
 
 
 KINDS = {"requests": of_requests, "replies": of_replies, "refusals": of_refusals, "limits": of_limits, "files": of_files,
-         "sessions": of_sessions}
+         "sessions": of_sessions, "statuses": of_statuses}
 
 
 def faults(texts, _tree):
