@@ -14,6 +14,9 @@ import sys
 import doc_examples
 from doc_examples import fenced, line_at
 
+sys.path.append(os.path.join(os.path.dirname(os.path.dirname(os.path.realpath(__file__))), "docs", "images"))
+import make_images  # noqa: E402
+
 OWN = "checks/docs.py"
 ROOT = os.path.dirname(os.path.dirname(os.path.realpath(__file__)))
 MOST_README = 8192
@@ -238,8 +241,23 @@ def is_name(word):
     return "_" in word.strip("_") or re.search(r"[a-z][A-Z]", word) is not None
 
 
-CHECKS = {"size": of_size, "links": of_links, "counts": of_counts, "tables": of_tables, "names": of_names,
-          "examples": doc_examples.faults}
+def of_images(texts, tree):
+    """The pictures are those that their script makes, whichever zlib packed them."""
+    for name, data in make_images.pictures():
+        path = f"docs/images/{name}"
+        with open(f"{ROOT}/{path}", "rb") as file:
+            if make_images.raster_of(file.read()) != make_images.raster_of(data):
+                yield path, 1, "docs/images/make_images.py makes another picture"
+
+
+def of_search(texts, tree):
+    """Each library stands once in the table of what was searched."""
+    wanted = [it for it in tree.crates if it.startswith("mw_") and not it.endswith("_tests")]
+    yield from compared("docs/SEARCH.md", first_cells(texts["docs/SEARCH.md"], "| crates | what was searched"), wanted)
+
+
+CHECKS = {"size": of_size, "links": of_links, "counts": of_counts, "tables": of_tables, "search": of_search, "names": of_names,
+          "images": of_images, "examples": doc_examples.faults}
 
 
 def faults(texts, tree, kinds=CHECKS):
@@ -260,6 +278,7 @@ SPOILED = [
     ("docs/CRATES.md", "| `mw_model` ", "| `mw_modell` ", "tables"),
     ("docs/TESTS.md", "| `mw_file_tests` ", "| `mw_file_trials` ", "tables"),
     ("docs/DESIGN.md", "mw_wave ", "mw_wall ", "tables"),
+    ("docs/SEARCH.md", "| `mw_pool` ", "| `mw_pond` ", "search"),
     ("README.md", "`mw_batch::batch`", "`mw_batch::patch`", "names"),
     ("docs/DECISIONS.md", "`finish_own`", "`finish_owned`", "names"),
     ("CONTRIBUTING.md", "`checks/no_leaks.py`", "`checks/no_leeks.py`", "names"),
