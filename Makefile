@@ -15,7 +15,7 @@ help:
 
 toolchain:
 	@command -v rt >/dev/null || { \
-	  echo "rt is missing: install the Rattle kit and put the folder of its program rt on PATH" >&2; exit 1; }
+	  echo "rt is missing: install the Rattle kit, which whoever gave you this repository has, and put the folder of rt on PATH" >&2; exit 1; }
 
 python:
 	@command -v python3 >/dev/null || { \
