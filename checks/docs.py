@@ -207,9 +207,17 @@ def of_names(texts, tree):
             is_part = text[found.start() - 1:found.start()] in ("/", ".") or text[found.end():found.end() + 1] in (".", "*")
             if found[0] not in tree.crates and not is_part and not is_of_gate(name, text, found.start()):
                 yield name, line_at(text, found.start()), f"there is no such crate as {found[0]}"
+        for number, line in enumerate(without_blocks(text).split("\n"), 1):
+            if line.count("`") % 2:
+                yield name, number, "a word between backticks ends in another line"
         for found in CODE.finditer(text):
             for what in faults_of_code(found[1], tree, name in FOREIGN):
                 yield name, line_at(text, found.start()), what
+
+
+def without_blocks(text):
+    """The text with empty lines for blocks between fences."""
+    return re.sub(r"^```.*?^```$", lambda found: "\n" * found[0].count("\n"), text, flags=re.MULTILINE | re.DOTALL)
 
 
 def is_of_gate(name, text, at):
@@ -283,6 +291,7 @@ SPOILED = [
     ("docs/DECISIONS.md", "`finish_own`", "`finish_owned`", "names"),
     ("CONTRIBUTING.md", "`checks/no_leaks.py`", "`checks/no_leeks.py`", "names"),
     ("docs/DESIGN.md", "`mw_fetched`", "`mw_patched`", "names"),
+    ("docs/GLOSSARY.md", "`LOAD`,", "`LOAD,", "names"),
     ("docs/PROTOCOL.md", "`ERR 41 UNKNOWN`", "`ERR 42 KIND`", "examples"),
     ("docs/PROTOCOL.md", "IMAGE 2 14\n", "IMAGE 2 15\n", "examples"),
     ("docs/PROTOCOL.md", "| 47 | `PARAM`", "| 46 | `PARAM`", "examples"),
