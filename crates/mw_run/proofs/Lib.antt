@@ -2,4 +2,5 @@
 pub mod Orders
 pub mod RunLists
 -- the crate's own
+mod Ahead
 mod Fewest

@@ -3,6 +3,7 @@ ghost use Rattle.std.specs.Prelude.{◌≡◌, ℕ, ◌+◌, ◌*◌, ◌<◌, �
 ghost use Rattle.std.specs.List.{AllByRecursion};
 ghost use Rattle.mw_model.specs.Places.{nonnegative};
 ghost use Rattle.mw_run.specs.declared.runs.Extent.{Extent};
+ghost use Rattle.mw_run.specs.Ahead.{AllContinue};
 ghost use Rattle.mw_run.specs.Runs.{run_offsets, offset_at, start_offset, Continues, AreEitherWay, AreLongest, AreFewest, follows, follows_back, pairs, IsRun, IsInside, IsWider};
 
 use mw_model::{NoMemory, Offset};
@@ -30,7 +31,7 @@ pub struct Extent {
 
 /// Whether the offset continues a run of so many that begin with `first`.
 fn continues(first: Offset, count: u32, next: Offset) -> bool
-    requires { count ≤ 65536 }
+    requires { count ≤ 65552 }
     ensures follows { IsTrue result ↔ Continues (record { dx = first.dx; dy = first.dy; count = count }) next }
     ensures few { IsTrue result → count < 65536 }
 {
@@ -49,6 +50,56 @@ fn goes_on(offsets: &[Offset], from: usize, count: u32) -> bool
     next < offsets.len() && continues(offsets[from], count, offsets[next])
 }
 
+/// Whether the offset stands in that row and column.
+#[inline(always)]
+fn is_at(here: Offset, row: i16, column: i32) -> bool
+    ensures { IsTrue result ↔ (here.dy ≡ row) × (here.dx ≡ column) }
+{
+    (here.dy == row) & (i32::from(here.dx) == column)
+}
+
+/// So many offsets of a long run are looked at together.
+const TOGETHER: u32 = 16;
+
+/// How many of the next 16 offsets continue so many that begin at that place of the list, and one another.
+fn count_on(offsets: &[Offset], from: usize, count: u32) -> u32
+    requires within { from < length offsets.now }
+    requires few { count ≤ 65536 }
+    requires room { from + count + 16 ≤ length offsets.now }
+    ensures { 16 ≤ result → AllContinue offsets.now from count 16 }
+{
+    let first = offsets[from];
+    let next = from + count as usize;
+    let column = i32::from(first.dx) + count as i32;
+    let mut same = 0u32;
+    // without an early end, so as vectors
+    for i in 0..TOGETHER {
+        if is_at(offsets[next + i as usize], first.dy, column + i as i32) {
+            same += 1;
+        }
+    }
+    same
+}
+
+/// Whether the next 16 offsets continue so many that begin at that place of the list. The last of them is looked at first, as
+/// it tells mostly.
+fn many_go_on(offsets: &[Offset], from: usize, count: u32) -> bool
+    requires within { from < length offsets.now }
+    requires few { count ≤ 65536 }
+    requires room { from + count ≤ length offsets.now }
+    ensures room { IsTrue result → from + count + 16 ≤ length offsets.now }
+    ensures next { IsTrue result → AllContinue offsets.now from count 16 }
+    ensures few { IsTrue result → count + 16 ≤ 65536 }
+{
+    let next = from + count as usize;
+    if offsets.len() - next < TOGETHER as usize {
+        return false;
+    }
+    let last = TOGETHER - 1;
+    continues(offsets[from], count + last, offsets[next + last as usize])
+        && count_on(offsets, from, count) >= TOGETHER
+}
+
 /// The run that begins at that place of the list.
 fn run_at(offsets: &[Offset], from: usize) -> Run
     requires { from < length offsets.now }
@@ -60,6 +111,9 @@ fn run_at(offsets: &[Offset], from: usize) -> Run
 {
     let first = offsets[from];
     let mut count = 1u32;
+    'many: while many_go_on(offsets, from, count) {
+        count += TOGETHER;
+    }
     'on: while goes_on(offsets, from, count) {
         count += 1;
     }

@@ -2,6 +2,7 @@ use Rattle.std.proofs.Common.{◌≡◌, ◌+◌, pos, ℤ, true, false, arith, 
 use Rattle.std.proofs.lemmas.Int.{ints}
 use Rattle.mw_model.specs.declared.places.Offset.{Offset}
 use Rattle.mw_run.specs.Runs.{offset_at}
+use Rattle.mw_run.proofs.Ahead.{run_many}
 use Rattle.mw_run.proofs.RunLists.{run_more, offset_is}
 use Rattle.mw_run.proofs.runs.run_at.Goals as goal
 
@@ -36,3 +37,13 @@ returns-clause-longest c = λ less onward.
     let dy-is : dy ≡ first.dy = omega (arith, ints) in
     let yes = c.goes_on.ensures.next.1 (less, record { dx = omega (arith, ints, onward.dx, dx-is); dy = omega (arith, ints, onward.dy, dy-is) }) in
     let clash : true ≡ false = sym yes ∙ c.on-test.false in cc
+
+pub many-preserved : goal.many-preserved
+many-preserved c =
+    let room = c.many_go_on.ensures.room c.many-test.true in
+    record {
+      some = omega arith;
+      few = omega (arith, c.many_go_on.ensures.few c.many-test.true);
+      room = omega (arith, room);
+      same = run_many c.args.offsets.now c.args.from c.many.count 16 (c.many_go_on.ensures.next c.many-test.true) room c.many.invariant.same;
+    }
