@@ -21,6 +21,8 @@ OWN = "checks/docs.py"
 ROOT = os.path.dirname(os.path.dirname(os.path.realpath(__file__)))
 MOST_README = 8192
 PARTS = ("src", "specs", "proofs")
+# Files beside the crates whose words documents may name.
+TEXTS = (".py", ".pyi", ".c", ".h", ".toml", ".txt", "Makefile", "HANDLES")
 RECORDS = ("CHANGELOG.md", "docs/PERF.md")
 # Names of other programs stand in these, beside those of the repository.
 FOREIGN = ("docs/CONVENTIONS.md", "docs/PERFORMANCE.md")
@@ -32,7 +34,7 @@ extend_from_slice may_wait xs
 CODE = re.compile(r"(?<!`)`([^`\n]+)`(?!`)")
 LINK = re.compile(r"\]\(([^)\s]+)\)")
 CRATE = re.compile(r"\b(?:mw|bench)_[a-z0-9_]+\b")
-PATH = re.compile(r"[\w./*-]*[\w*-]\.(?:rt|antt|py|md|txt|edit)\b|\b(?:crates|checks|bench|examples|docs)/[\w./*-]*[\w*-]")
+PATH = re.compile(r"[\w./*-]*[\w*-]\.(?:rt|antt|py|md|txt|edit)\b|\b(?:crates|checks|bench|examples|docs|python)/[\w./*-]*[\w*-]")
 NAME = re.compile(r"[A-Za-z][\w-]*(?:::[\w-]+)*")
 
 
@@ -48,10 +50,12 @@ class Tree:
         rows = [line.partition("#")[0].partition(":")[0].split() for line in read(f"{ROOT}/crates.txt").splitlines()]
         self.crates = [row[0] for row in rows if row]
         self.files, self.words, self.words_of, self.lines, self.proofs, self.tests = [], set(), {}, 0, 0, 0
-        for folder in ("checks", "bench", "examples", "docs"):
-            self.files += [it for it in files_below(folder)]
-        self.files += [it for it in os.listdir(ROOT) if os.path.isfile(f"{ROOT}/{it}")]
-        self.words |= words_in(it for it in self.files if it.endswith((".py", ".c", ".txt", "Makefile", "HANDLES")) and it != OWN)
+        for name in sorted(os.listdir(ROOT)):
+            if os.path.isfile(f"{ROOT}/{name}"):
+                self.files.append(name)
+            elif name != "crates" and not name.startswith("."):
+                self.files += files_below(name)
+        self.words |= words_in(it for it in self.files if it.endswith(TEXTS) and it != OWN)
         for crate in self.crates:
             self.look_at(crate)
         self.edits = sum(it.endswith(".edit") for it in self.files)
