@@ -75,7 +75,8 @@ class Tree:
 
     def has_file(self, path):
         """Whether a file or folder ends with the path, in which capitals and single letters stand for any name."""
-        parts = ["[^/]+" if it.isupper() or len(it) == 1 else re.escape(it).replace(r"\*", "[^/]*") for it in path.strip("/").split("/")]
+        parts = ["[^/]+" if it.isupper() or len(it) == 1 else re.escape(it).replace(r"\*", "[^/]*")
+                 for it in path.strip("/").split("/")]
         wanted = re.compile(r"(?:^|/)" + "/".join(parts) + "(?:/|$)")
         return any(wanted.search(it) for it in self.files)
 
@@ -98,8 +99,8 @@ def words_in(paths):
 
 def documents():
     """The text of each document, by its path."""
-    names = [it for it in os.listdir(ROOT) if it.endswith(".md")] + [f"docs/{it}" for it in os.listdir(f"{ROOT}/docs") if it.endswith(".md")]
-    return {name: read(f"{ROOT}/{name}") for name in sorted(names)}
+    names = [*os.listdir(ROOT), *(f"docs/{it}" for it in os.listdir(f"{ROOT}/docs"))]
+    return {name: read(f"{ROOT}/{name}") for name in sorted(names) if name.endswith(".md")}
 
 
 # ---- each check gives the faults: the document, the line, and what is wrong
@@ -166,7 +167,7 @@ def first_cells(text, head):
     """The crates in the first cells of the table with this head, each with its line."""
     start = text.find(head)
     if start < 0:
-        return None
+        return []
     rows = []
     for number, line in enumerate(text[start:].split("\n"), line_at(text, start)):
         if not line.startswith("|"):
@@ -177,7 +178,7 @@ def first_cells(text, head):
 
 def compared(name, rows, wanted):
     """The faults of a list that has to name each wanted crate once, and nothing else."""
-    if rows is None:
+    if not rows:
         yield name, 1, "its table is missing"
         return
     seen = {}
@@ -198,7 +199,8 @@ def of_tables(texts, tree):
     yield from compared("docs/TESTS.md", told, crates_of_tests(tree))
     design = texts["docs/DESIGN.md"]
     floors = next(fenced(design), None)
-    rows = [(it[0], floors.line + 1 + floors.text[:it.start()].count("\n")) for it in CRATE.finditer(floors.text)] if floors else None
+    found = CRATE.finditer(floors.text) if floors else ()
+    rows = [(it[0], floors.line + line_at(floors.text, it.start())) for it in found]
     wanted = [it for it in tree.crates if it.startswith("mw_") and not it.endswith("_tests")]
     yield from compared("docs/DESIGN.md", rows, wanted)
 
