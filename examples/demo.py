@@ -52,7 +52,7 @@ def trial():
     script("show.py", b"", f"{HERE}/grains.pgm")
     if os.path.exists(PROGRAM):
         return
-    print("Building a trial copy of morphd, which takes some 80 seconds.", flush=True)
+    print("Building a trial copy of morphd, which takes one to two minutes.", flush=True)
     began = time.monotonic()
     replies = replies_of(["rt", "try", "--", "batch"], CRATE)
     show(replies)
