@@ -270,7 +270,37 @@ def of_search(texts, tree):
     yield from compared("docs/SEARCH.md", first_cells(texts["docs/SEARCH.md"], "| crates | what was searched"), wanted)
 
 
-CHECKS = {"size": of_size, "links": of_links, "counts": of_counts, "tables": of_tables, "search": of_search, "names": of_names,
+def of_definitions(texts, tree):
+    """Each name in a row of docs/CRATES.md is one of the row's crate, and each definition in docs/DEFINITIONS.md one of its file."""
+    for name in ("docs/CRATES.md", "docs/DEFINITIONS.md"):
+        text, title = texts[name], ""
+        for number, line in enumerate(text.split("\n"), 1):
+            title = line if line.startswith("## ") else title
+            cells = line.split("|")
+            if len(cells) < 4 or not cells[1].strip().startswith("`"):
+                continue
+            known = known_in(tree, title, cells[1])
+            # The last column of a row of definitions says what they rule out.
+            named = cells[1:-2] if name == "docs/DEFINITIONS.md" else cells[1:-1]
+            for code in CODE.findall("|".join(named)):
+                if code.startswith("make "):
+                    continue
+                for word in re.findall(r"[A-Za-z_][\w-]*", PATH.sub(" ", code)):
+                    if known and word not in known and word not in tree.crates and word not in FROM_ELSEWHERE:
+                        yield name, number, f"nothing there has the name {word}"
+
+
+def known_in(tree, title, cell):
+    """The words of the crates that a row names first, or of the files of definitions that its section is titled by."""
+    crates = [it for it in re.findall(r"`(\w+)`", cell) if it in tree.crates]
+    if crates:
+        return set().union(*(tree.words_of[it] for it in crates))
+    files = [f"crates/mw_model/specs/{it}.antt" for it in re.findall(r"`(\w+)`", title)]
+    return words_in(it for it in files if it in tree.files)
+
+
+CHECKS = {"size": of_size, "links": of_links, "counts": of_counts, "tables": of_tables, "search": of_search,
+          "definitions": of_definitions, "names": of_names,
           "images": of_images, "examples": doc_examples.faults}
 
 
@@ -293,6 +323,8 @@ SPOILED = [
     ("docs/TESTS.md", "| `mw_file_tests` ", "| `mw_file_trials` ", "tables"),
     ("docs/DESIGN.md", "mw_wave ", "mw_wall ", "tables"),
     ("docs/SEARCH.md", "| `mw_pool` ", "| `mw_pond` ", "search"),
+    ("docs/CRATES.md", "`say_fetched`", "`run_script`", "definitions"),
+    ("docs/DEFINITIONS.md", "`IsPicture`", "`IsFigure`", "definitions"),
     ("README.md", "`mw_batch::batch`", "`mw_batch::patch`", "names"),
     ("docs/DECISIONS.md", "`finish_own`", "`finish_owned`", "names"),
     ("CONTRIBUTING.md", "`checks/no_leaks.py`", "`checks/no_leeks.py`", "names"),
