@@ -228,7 +228,8 @@ def of_statuses(text):
         if "ulimit" in words or words.startswith("(") or "session" in words.split():
             continue
         yield line, None
-        ran = subprocess.run(["bash", "-c", words], env=where, stdin=subprocess.DEVNULL, capture_output=True, timeout=20, check=False)
+        how = {"stdin": subprocess.DEVNULL, "capture_output": True, "timeout": 20, "check": False}
+        ran = subprocess.run(["bash", "-c", words], env=where, **how)
         told = re.fullmatch(r"`([^`]*)`", told)
         if ran.returncode != int(status) or told and ran.stderr.decode().strip() != told[1]:
             yield line, f"{words} ends with {ran.returncode} and tells {ran.stderr.decode().strip()!r}"
@@ -267,7 +268,8 @@ def of_scripts(text):
                 yield block.line, None
                 how = [sys.executable, "-c"] if block.language == "python" else ["bash", "-euo", "pipefail", "-c"]
                 output, fault = printed(how, given_picture(block.text, room), room)
-                behind = next((it for it in fenced(text) if text[block.end:].lstrip().startswith("```") and it.line > block.line), None)
+                is_followed = text[block.end:].lstrip().startswith("```")
+                behind = next((it for it in fenced(text) if is_followed and it.line > block.line), None)
                 wanted = behind.text if behind and not behind.language else None
                 if fault:
                     yield block.line, f"the script ends with: {fault}"

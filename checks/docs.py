@@ -20,7 +20,10 @@ import make_images  # noqa: E402
 OWN = "checks/docs.py"
 ROOT = os.path.dirname(os.path.dirname(os.path.realpath(__file__)))
 MOST_README = 8192
+MOST_BYTES = {"README.md": MOST_README, "docs/DECISIONS.md": 30720}
 PARTS = ("src", "specs", "proofs")
+# Files beside the crates whose words documents may name.
+TEXTS = (".py", ".pyi", ".c", ".h", ".toml", ".txt", "Makefile", "HANDLES")
 RECORDS = ("CHANGELOG.md", "docs/PERF.md")
 # Names of other programs stand in these, beside those of the repository.
 FOREIGN = ("docs/CONVENTIONS.md", "docs/PERFORMANCE.md")
@@ -32,7 +35,7 @@ extend_from_slice may_wait xs
 CODE = re.compile(r"(?<!`)`([^`\n]+)`(?!`)")
 LINK = re.compile(r"\]\(([^)\s]+)\)")
 CRATE = re.compile(r"\b(?:mw|bench)_[a-z0-9_]+\b")
-PATH = re.compile(r"[\w./*-]*[\w*-]\.(?:rt|antt|py|md|txt|edit)\b|\b(?:crates|checks|bench|examples|docs)/[\w./*-]*[\w*-]")
+PATH = re.compile(r"[\w./*-]*[\w*-]\.(?:rt|antt|py|md|txt|edit)\b|\b(?:crates|checks|bench|examples|docs|python)/[\w./*-]*[\w*-]")
 NAME = re.compile(r"[A-Za-z][\w-]*(?:::[\w-]+)*")
 
 
@@ -48,10 +51,12 @@ class Tree:
         rows = [line.partition("#")[0].partition(":")[0].split() for line in read(f"{ROOT}/crates.txt").splitlines()]
         self.crates = [row[0] for row in rows if row]
         self.files, self.words, self.words_of, self.lines, self.proofs, self.tests = [], set(), {}, 0, 0, 0
-        for folder in ("checks", "bench", "examples", "docs"):
-            self.files += [it for it in files_below(folder)]
-        self.files += [it for it in os.listdir(ROOT) if os.path.isfile(f"{ROOT}/{it}")]
-        self.words |= words_in(it for it in self.files if it.endswith((".py", ".c", ".txt", "Makefile", "HANDLES")) and it != OWN)
+        for name in sorted(os.listdir(ROOT)):
+            if os.path.isfile(f"{ROOT}/{name}"):
+                self.files.append(name)
+            elif name != "crates" and not name.startswith("."):
+                self.files += files_below(name)
+        self.words |= words_in(it for it in self.files if it.endswith(TEXTS) and it != OWN)
         for crate in self.crates:
             self.look_at(crate)
         self.edits = sum(it.endswith(".edit") for it in self.files)
@@ -71,7 +76,8 @@ class Tree:
 
     def has_file(self, path):
         """Whether a file or folder ends with the path, in which capitals and single letters stand for any name."""
-        parts = ["[^/]+" if it.isupper() or len(it) == 1 else re.escape(it).replace(r"\*", "[^/]*") for it in path.strip("/").split("/")]
+        parts = ["[^/]+" if it.isupper() or len(it) == 1 else re.escape(it).replace(r"\*", "[^/]*")
+                 for it in path.strip("/").split("/")]
         wanted = re.compile(r"(?:^|/)" + "/".join(parts) + "(?:/|$)")
         return any(wanted.search(it) for it in self.files)
 
@@ -94,17 +100,18 @@ def words_in(paths):
 
 def documents():
     """The text of each document, by its path."""
-    names = [it for it in os.listdir(ROOT) if it.endswith(".md")] + [f"docs/{it}" for it in os.listdir(f"{ROOT}/docs") if it.endswith(".md")]
-    return {name: read(f"{ROOT}/{name}") for name in sorted(names)}
+    names = [*os.listdir(ROOT), *(f"docs/{it}" for it in os.listdir(f"{ROOT}/docs"))]
+    return {name: read(f"{ROOT}/{name}") for name in sorted(names) if name.endswith(".md")}
 
 
 # ---- each check gives the faults: the document, the line, and what is wrong
 
 
 def of_size(texts, tree):
-    size = len(texts["README.md"].encode())
-    if size > MOST_README:
-        yield "README.md", texts["README.md"].count("\n"), f"it has {size:,} bytes, and may have {MOST_README:,}"
+    for name, most in MOST_BYTES.items():
+        size = len(texts[name].encode())
+        if size > most:
+            yield name, texts[name].count("\n"), f"it has {size:,} bytes, and may have {most:,}"
 
 
 def anchors(text):
@@ -162,7 +169,7 @@ def first_cells(text, head):
     """The crates in the first cells of the table with this head, each with its line."""
     start = text.find(head)
     if start < 0:
-        return None
+        return []
     rows = []
     for number, line in enumerate(text[start:].split("\n"), line_at(text, start)):
         if not line.startswith("|"):
@@ -173,7 +180,7 @@ def first_cells(text, head):
 
 def compared(name, rows, wanted):
     """The faults of a list that has to name each wanted crate once, and nothing else."""
-    if rows is None:
+    if not rows:
         yield name, 1, "its table is missing"
         return
     seen = {}
@@ -194,7 +201,8 @@ def of_tables(texts, tree):
     yield from compared("docs/TESTS.md", told, crates_of_tests(tree))
     design = texts["docs/DESIGN.md"]
     floors = next(fenced(design), None)
-    rows = [(it[0], floors.line + 1 + floors.text[:it.start()].count("\n")) for it in CRATE.finditer(floors.text)] if floors else None
+    found = CRATE.finditer(floors.text) if floors else ()
+    rows = [(it[0], floors.line + line_at(floors.text, it.start())) for it in found]
     wanted = [it for it in tree.crates if it.startswith("mw_") and not it.endswith("_tests")]
     yield from compared("docs/DESIGN.md", rows, wanted)
 
@@ -264,7 +272,37 @@ def of_search(texts, tree):
     yield from compared("docs/SEARCH.md", first_cells(texts["docs/SEARCH.md"], "| crates | what was searched"), wanted)
 
 
-CHECKS = {"size": of_size, "links": of_links, "counts": of_counts, "tables": of_tables, "search": of_search, "names": of_names,
+def of_definitions(texts, tree):
+    """Each name in a row of docs/CRATES.md is one of the row's crate, and each definition in docs/DEFINITIONS.md one of its file."""
+    for name in ("docs/CRATES.md", "docs/DEFINITIONS.md"):
+        text, title = texts[name], ""
+        for number, line in enumerate(text.split("\n"), 1):
+            title = line if line.startswith("## ") else title
+            cells = line.split("|")
+            if len(cells) < 4 or not cells[1].strip().startswith("`"):
+                continue
+            known = known_in(tree, title, cells[1])
+            # The last column of a row of definitions says what they rule out.
+            named = cells[1:-2] if name == "docs/DEFINITIONS.md" else cells[1:-1]
+            for code in CODE.findall("|".join(named)):
+                if code.startswith("make "):
+                    continue
+                for word in re.findall(r"[A-Za-z_][\w-]*", PATH.sub(" ", code)):
+                    if known and word not in known and word not in tree.crates and word not in FROM_ELSEWHERE:
+                        yield name, number, f"nothing there has the name {word}"
+
+
+def known_in(tree, title, cell):
+    """The words of the crates that a row names first, or of the files of definitions that its section is titled by."""
+    crates = [it for it in re.findall(r"`(\w+)`", cell) if it in tree.crates]
+    if crates:
+        return set().union(*(tree.words_of[it] for it in crates))
+    files = [f"crates/mw_model/specs/{it}.antt" for it in re.findall(r"`(\w+)`", title)]
+    return words_in(it for it in files if it in tree.files)
+
+
+CHECKS = {"size": of_size, "links": of_links, "counts": of_counts, "tables": of_tables, "search": of_search,
+          "definitions": of_definitions, "names": of_names,
           "images": of_images, "examples": doc_examples.faults}
 
 
@@ -287,6 +325,8 @@ SPOILED = [
     ("docs/TESTS.md", "| `mw_file_tests` ", "| `mw_file_trials` ", "tables"),
     ("docs/DESIGN.md", "mw_wave ", "mw_wall ", "tables"),
     ("docs/SEARCH.md", "| `mw_pool` ", "| `mw_pond` ", "search"),
+    ("docs/CRATES.md", "`say_fetched`", "`run_script`", "definitions"),
+    ("docs/DEFINITIONS.md", "`IsPicture`", "`IsFigure`", "definitions"),
     ("README.md", "`mw_batch::batch`", "`mw_batch::patch`", "names"),
     ("docs/DECISIONS.md", "`finish_own`", "`finish_owned`", "names"),
     ("CONTRIBUTING.md", "`checks/no_leaks.py`", "`checks/no_leeks.py`", "names"),

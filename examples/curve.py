@@ -4,8 +4,9 @@
     morphd batch < SESSION | python3 examples/curve.py [--side S] [--pixel WIDTH] [--unit WORD]
     python3 examples/curve.py [..] < CURVE
 
-CURVE is the text of a curve, as examples/save.py keeps it. S is the width of the element that the spectrum was taken by, 3 if left out: size n is n(S - 1) + 1 pixels wide. WIDTH is
-that of a pixel, in micrometres or in the unit that is named. Where a reply is a refusal, that is told instead.
+CURVE is the text of a curve, as examples/save.py keeps it. S is the width of the element that the spectrum was taken by, 3 if
+left out: size n is n(S - 1) + 1 pixels wide. WIDTH is that of a pixel, in micrometres or in the unit that is named. Where a
+reply is a refusal, that is told instead.
 """
 import argparse
 import sys

@@ -43,7 +43,7 @@ def replies_of(words, folder):
 def show(replies):
     print("the same, opened by a ball five pixels wide:")
     script("show.py", replies, "-")
-    print("widths of the grains, those of level 120 or more: what part of their pixels is in grains so wide")
+    print("widths of the grains, which have level 120 or more, and how much of their area is so wide:")
     script("curve.py", replies)
 
 
@@ -52,7 +52,7 @@ def trial():
     script("show.py", b"", f"{HERE}/grains.pgm")
     if os.path.exists(PROGRAM):
         return
-    print("Building a trial copy of morphd, which takes some 80 seconds.", flush=True)
+    print("Building a trial copy of morphd, which takes one to two minutes.", flush=True)
     began = time.monotonic()
     replies = replies_of(["rt", "try", "--", "batch"], CRATE)
     show(replies)

@@ -33,7 +33,10 @@ def main():
     if given.side % 2 == 0:
         parser.error("the side has to be odd")
     with open(given.picture, "rb") as file:
-        sys.stdout.buffer.write(session(file.read(), given.above, given.sizes, given.side))
+        picture = file.read()
+    if picture[:2] not in (b"P1", b"P2", b"P4", b"P5"):
+        sys.exit(f"{given.picture} is no PBM or PGM file: convert it first, as docs/COOKBOOK.md shows")
+    sys.stdout.buffer.write(session(picture, given.above, given.sizes, given.side))
 
 
 if __name__ == "__main__":
