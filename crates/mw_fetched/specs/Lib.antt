@@ -1,5 +1,5 @@
 pub mod Texts
 -- what lower crates offer
-pub use Rattle.mw_wire.specs.mw_intake as mw_intake
-pub use Rattle.mw_store.specs as mw_store
-pub use Rattle.mw_wire.specs as mw_wire
+pub mod mw_intake
+pub mod mw_store
+pub mod mw_wire

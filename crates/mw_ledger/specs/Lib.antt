@@ -4,8 +4,8 @@ pub mod Counts
 pub mod Short
 pub mod Tasks
 -- what lower crates offer
-pub use Rattle.mw_underway.specs.mw_places as mw_places
-pub use Rattle.mw_underway.specs.mw_progress as mw_progress
-pub use Rattle.mw_underway.specs.mw_stands as mw_stands
-pub use Rattle.mw_underway.specs as mw_underway
-pub use Rattle.mw_underway.specs.mw_work as mw_work
+pub mod mw_places
+pub mod mw_progress
+pub mod mw_stands
+pub mod mw_underway
+pub mod mw_work

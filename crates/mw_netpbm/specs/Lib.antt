@@ -11,4 +11,4 @@ pub mod Whole
 pub mod Faults
 pub mod SetWords
 -- what lower crates offer
-pub use Rattle.mw_pixel.specs as mw_pixel
+pub mod mw_pixel

@@ -1,4 +1,4 @@
 pub mod Queues
 pub mod Shown
 -- what lower crates offer
-pub use Rattle.mw_grid.specs as mw_grid
+pub mod mw_grid

@@ -4,4 +4,4 @@ pub mod Counters
 pub mod Kept
 pub mod Links
 -- what lower crates offer
-pub use Rattle.mw_queue.specs.mw_grid as mw_grid
+pub mod mw_grid

@@ -1,3 +1,3 @@
 pub mod Marks
 -- what lower crates offer
-pub use Rattle.mw_intake.specs as mw_intake
+pub mod mw_intake

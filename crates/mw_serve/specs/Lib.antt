@@ -1,3 +1,3 @@
 pub mod Serving
 -- what lower crates offer
-pub use Rattle.mw_fetched.specs.mw_wire as mw_wire
+pub mod mw_wire

@@ -8,13 +8,13 @@ pub mod Events
 pub mod TaskEvents
 pub mod Turns
 -- what lower crates offer
-pub use Rattle.mw_work.specs.mw_grid as mw_grid
-pub use Rattle.mw_store.specs.mw_laws as mw_laws
-pub use Rattle.mw_work.specs.mw_places as mw_places
-pub use Rattle.mw_store.specs.mw_plan as mw_plan
-pub use Rattle.mw_work.specs.mw_progress as mw_progress
-pub use Rattle.mw_store.specs as mw_store
-pub use Rattle.mw_store.specs.mw_task as mw_task
-pub use Rattle.mw_store.specs.mw_tile as mw_tile
-pub use Rattle.mw_store.specs.mw_tiles as mw_tiles
-pub use Rattle.mw_work.specs as mw_work
+pub mod mw_grid
+pub mod mw_laws
+pub mod mw_places
+pub mod mw_plan
+pub mod mw_progress
+pub mod mw_store
+pub mod mw_task
+pub mod mw_tile
+pub mod mw_tiles
+pub mod mw_work

@@ -1,1 +1,1 @@
-pub use Rattle.mw_task.specs as mw_task
+pub mod mw_task

@@ -5,8 +5,8 @@ pub mod Views
 pub mod Sums
 pub use Rattle.mw_frame_tiles.specs.Rows
 -- what lower crates offer
-pub use Rattle.mw_task.specs.mw_grid as mw_grid
-pub use Rattle.mw_task.specs.mw_netpbm as mw_netpbm
-pub use Rattle.mw_task.specs.mw_pixel as mw_pixel
-pub use Rattle.mw_task.specs as mw_task
-pub use Rattle.mw_task.specs.mw_tile as mw_tile
+pub mod mw_grid
+pub mod mw_netpbm
+pub mod mw_pixel
+pub mod mw_task
+pub mod mw_tile

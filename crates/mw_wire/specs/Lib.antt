@@ -4,4 +4,4 @@ pub mod Rooms
 pub mod Chains
 pub mod Runs
 -- what lower crates offer
-pub use Rattle.mw_intake.specs as mw_intake
+pub mod mw_intake

@@ -1,0 +1,5 @@
+-- What `mw_store` offers, for the crates above.
+pub use Rattle.mw_store.specs.Entries
+pub use Rattle.mw_store.specs.Fetches
+pub use Rattle.mw_store.specs.Stored
+pub use Rattle.mw_store.specs.declared

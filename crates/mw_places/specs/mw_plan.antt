@@ -1,0 +1,5 @@
+-- What `mw_plan` offers, for the crates above.
+pub use Rattle.mw_plan.specs.Asked
+pub use Rattle.mw_plan.specs.PlansOf
+pub use Rattle.mw_plan.specs.Seen
+pub use Rattle.mw_plan.specs.declared

@@ -1,0 +1,2 @@
+-- What `mw_intake` offers, for the crates above.
+pub use Rattle.mw_intake.specs.Reading

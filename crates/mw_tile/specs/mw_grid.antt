@@ -1,0 +1,3 @@
+-- What `mw_grid` offers, for the crates above.
+pub use Rattle.mw_grid.specs.Grids
+pub use Rattle.mw_grid.specs.Rectangles

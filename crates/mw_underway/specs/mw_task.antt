@@ -1,0 +1,4 @@
+-- What `mw_task` offers, for the crates above.
+pub use Rattle.mw_stands.specs.mw_task.Products
+pub use Rattle.mw_stands.specs.mw_task.WindowTasks
+pub use Rattle.mw_stands.specs.mw_task.declared
