@@ -30,9 +30,20 @@ pub use held::row_of;
 pub use kernel::extremum;
 pub use levels::{at_least, equal};
 pub use mw_model::NoMemory;
-pub use mw_offset as offset;
-pub use mw_offset::{lane, line};
 pub use mw_word_rows::WordExtremum;
 pub use pairs::{invert, is_within, join, meet, minus};
 pub use uniform::is_blank;
 pub use unpacked::as_levels;
+
+// What lower crates offer, for the crates above.
+pub mod lane {
+    pub use mw_offset::lane::{Lanes, LevelBlocks, combine_rows, subtract_rows};
+}
+
+pub mod line {
+    pub use mw_offset::line::rectangle;
+}
+
+pub mod offset {
+    pub use mw_offset::extremum;
+}

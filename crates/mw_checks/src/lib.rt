@@ -7,4 +7,20 @@ mod elements;
 mod shapes;
 
 pub use checks::{fetch_reply, of_cancel, of_given, of_release, of_run, status_reply};
-pub use mw_store::{element, netpbm, pixel, task};
+
+// What lower crates offer, for the crates above.
+pub mod element {
+    pub use mw_store::element::Element;
+}
+
+pub mod netpbm {
+    pub use mw_store::netpbm::read;
+}
+
+pub mod pixel {
+    pub use mw_store::pixel::Image;
+}
+
+pub mod task {
+    pub use mw_store::task::{TaskRefused, TileDone, Work};
+}

@@ -30,6 +30,22 @@ mod tasks;
 
 pub use answers::{Finish, Refusal, Started};
 pub use machine::Core;
-pub use mw_checks::{element, netpbm, pixel, task};
 pub use mw_ledger::{Fetched, Shown};
 pub use mw_model::NoMemory;
+
+// What lower crates offer, for the crates above.
+pub mod element {
+    pub use mw_checks::element::Element;
+}
+
+pub mod netpbm {
+    pub use mw_checks::netpbm::read;
+}
+
+pub mod pixel {
+    pub use mw_checks::pixel::Image;
+}
+
+pub mod task {
+    pub use mw_checks::task::{TaskRefused, TileDone, Work};
+}

@@ -18,5 +18,12 @@ mod parsing;
 pub use element::Element;
 pub use fault::ElementFault;
 pub use mw_model::{NoMemory, Offset, OffsetBox, Reach};
-pub use mw_netpbm as netpbm;
-pub use mw_netpbm::pixel;
+
+// What lower crates offer, for the crates above.
+pub mod netpbm {
+    pub use mw_netpbm::{RowBytes, header, parts, read, read_owned};
+}
+
+pub mod pixel {
+    pub use mw_netpbm::pixel::{Bit, Image, Plane};
+}

@@ -17,7 +17,6 @@ use mw_model::{NoMemory, Reply};
 use mw_store::gran::Curve;
 use mw_store::pixel::Image;
 use mw_store::{Fetched, Plate, PlateView, Shown};
-pub use mw_wire as wire;
 use mw_wire::{SessionFault, Sink, say, say_curve, say_image, say_told};
 use std::alloc::Global;
 use std::io::Write;
@@ -89,4 +88,11 @@ pub fn say_fetched<W: Write>(
         (Reply::Shown(t), Shown::Curve(curve)) => say_volumes(alloc, sink, t, &curve),
         (other, _) => say(sink, other),
     }
+}
+
+// What lower crates offer, for the crates above.
+pub mod wire {
+    pub use mw_wire::{
+        Desk, SessionFault, Sink, Source, end_by, run_session, say_told, send, tell,
+    };
 }

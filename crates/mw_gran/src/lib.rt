@@ -19,6 +19,10 @@ mod sliding;
 mod spectra;
 
 pub use curves::Curve;
-pub use mw_plan as plan;
 pub use mw_plan::{GranOp, Input, NoMemory, OffsetBox, Plan, PlanFault};
 pub use plans::plan_of;
+
+// What lower crates offer, for the crates above.
+pub mod plan {
+    pub use mw_plan::{Input, Plan, PlanFault, Source, Sources, plan_of};
+}

@@ -13,6 +13,17 @@ mod uniform;
 mod windows;
 
 pub use mw_model::NoMemory;
-pub use mw_pieces as pieces;
-pub use mw_pieces::{pixel, tile};
 pub use windows::joined;
+
+// What lower crates offer, for the crates above.
+pub mod pieces {
+    pub use mw_pieces::{Pieces, PiecesView, SharedWindow};
+}
+
+pub mod pixel {
+    pub use mw_pieces::pixel::{Bit, Extremum, Grey, Max, Min, Pixel, Planar, Plane};
+}
+
+pub mod tile {
+    pub use mw_pieces::tile::{AnyWindow, Window, WindowView};
+}

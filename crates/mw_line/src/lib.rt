@@ -26,12 +26,26 @@ pub use doubling::slide_by;
 pub use laws::{
     sliding_maximum_is_dilation, sliding_minimum_is_erosion, windows_of_a_row_are_operators,
 };
-pub use mw_lane as lane;
 pub use mw_model::NoMemory;
-pub use mw_tile as tile;
-pub use mw_tile::{pixel, words};
 pub use rectangles::rectangle;
 pub use sides::{SeenSide, first_seen, seen_across, seen_down};
 pub use sliding::line;
 pub use steps::Steps;
 pub use window_rows::combine_window_row;
+
+// What lower crates offer, for the crates above.
+pub mod lane {
+    pub use mw_lane::{Lanes, LevelBlocks, combine_ahead, combine_rows, subtract_rows};
+}
+
+pub mod pixel {
+    pub use mw_tile::pixel::{Bit, Extremum, Grey, Max, Min, Pixel, Plane, copies};
+}
+
+pub mod tile {
+    pub use mw_tile::Window;
+}
+
+pub mod words {
+    pub use mw_tile::words::{Words, funnel, repeated, stride, trimmed};
+}

@@ -24,7 +24,11 @@ mod writer;
 pub use bitmap::{BitmapFacts, read_plain_bitmap, scan_plain_bitmap};
 pub use fault::{BitmapFault, ReadFault};
 pub use mw_model::NoMemory;
-pub use mw_pixel as pixel;
 pub use reader::{read, read_owned};
 pub use row_bytes::{RowBytes, header};
 pub use writer::{Text, parts, write};
+
+// What lower crates offer, for the crates above.
+pub mod pixel {
+    pub use mw_pixel::{Bit, Image, Plane};
+}

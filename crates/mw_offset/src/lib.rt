@@ -14,8 +14,33 @@ mod sizes;
 mod spread;
 mod strips;
 
-pub use mw_line as line;
-pub use mw_line::{lane, pixel, tile, words};
 pub use mw_model::NoMemory;
-pub use mw_run as run;
 pub use offsets::extremum;
+
+// What lower crates offer, for the crates above.
+pub mod lane {
+    pub use mw_line::lane::{Lanes, LevelBlocks, combine_rows, subtract_rows};
+}
+
+pub mod line {
+    pub use mw_line::{first_seen, rectangle, seen_across, seen_down};
+}
+
+pub mod pixel {
+    pub use mw_line::pixel::{Bit, Grey, Pixel, Plane, copies};
+}
+
+pub mod run {
+    pub use mw_run::{
+        Extent, Run, Sizes, columns_after, counts_of, extent_of, first_column, first_row, place_of,
+        rows_after, runs_either_way, start_of_run,
+    };
+}
+
+pub mod tile {
+    pub use mw_line::tile::Window;
+}
+
+pub mod words {
+    pub use mw_line::words::{Words, repeated, stride, trimmed};
+}

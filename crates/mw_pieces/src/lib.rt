@@ -16,9 +16,24 @@ mod places;
 mod shared;
 
 pub use mw_model::{NoMemory, Rect};
-pub use mw_tile as tile;
-pub use mw_tile::{grid, pixel, words};
 pub use piece::Piece;
 pub use pieces::Pieces;
 pub use places::overlap;
 pub use shared::{PiecesView, SharedWindow};
+
+// What lower crates offer, for the crates above.
+pub mod grid {
+    pub use mw_tile::grid::Grid;
+}
+
+pub mod pixel {
+    pub use mw_tile::pixel::{Bit, Extremum, Grey, Max, Min, Pixel, Planar, Plane, Words, copies};
+}
+
+pub mod tile {
+    pub use mw_tile::{AnyWindow, Window, WindowView, paste};
+}
+
+pub mod words {
+    pub use mw_tile::words::{blended, repeated, stride};
+}

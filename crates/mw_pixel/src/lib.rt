@@ -33,9 +33,13 @@ pub use listed::{Listed, copies};
 pub use max::Max;
 pub use min::Min;
 pub use mw_model::{Kind, NoMemory, Shape};
-pub use mw_words as words;
 pub use mw_words::Words;
 pub use pixel::Pixel;
 pub use planar::{Grey, Planar};
 pub use plane::Plane;
 pub use samples::Samples;
+
+// What lower crates offer, for the crates above.
+pub mod words {
+    pub use mw_words::{Words, blended, funnel, repeated, stride, trimmed};
+}

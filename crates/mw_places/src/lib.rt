@@ -23,7 +23,12 @@ pub use mw_model::{Kind, NoMemory};
 pub use mw_plan::task::{SharedWindow, Step, TileResult};
 pub use mw_plan::{Plan, PlannedStep};
 pub use mw_ready::grid::Grid;
-pub use mw_ready::{Need, Ready, grid, tasks_are_those_of_work};
+pub use mw_ready::{Need, Ready, tasks_are_those_of_work};
 pub use mw_tiles::{TileSums, TiledPlane, WholePlane};
 pub use needs::needs_of;
 pub use places::{Place, closed};
+
+// What lower crates offer, for the crates above.
+pub mod grid {
+    pub use mw_ready::grid::Grid;
+}

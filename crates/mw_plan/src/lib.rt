@@ -26,8 +26,16 @@ pub use laws::{
 };
 pub use mw_laws::laws::{hits_of_sets, opening_laws, restorations, skeletons, thresholds, volumes};
 pub use mw_model::{FlatOp, GranOp, NoMemory, OffsetBox, Op, Shape};
-pub use mw_task as task;
-pub use mw_task::{Element, Step, element};
+pub use mw_task::{Element, Step};
 pub use plans::{Plan, PlannedStep, Source, Sources};
 pub use shapes::shape_of;
 pub use sliding::{slide, slide_turned, turned};
+
+// What lower crates offer, for the crates above.
+pub mod element {
+    pub use mw_task::element::Element;
+}
+
+pub mod task {
+    pub use mw_task::{SharedWindow, Step, TileResult};
+}

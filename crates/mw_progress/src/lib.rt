@@ -20,5 +20,10 @@ mod progress;
 
 pub use mw_model::{Kind, NoMemory, Rect};
 pub use mw_places::grid::Grid;
-pub use mw_places::{Plan, PlannedStep, SharedWindow, TileResult, TiledPlane, WholePlane, grid};
+pub use mw_places::{Plan, PlannedStep, SharedWindow, TileResult, TiledPlane, WholePlane};
 pub use progress::PlanProgress;
+
+// What lower crates offer, for the crates above.
+pub mod grid {
+    pub use mw_places::grid::Grid;
+}

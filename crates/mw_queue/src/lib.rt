@@ -11,6 +11,10 @@
 
 mod queue;
 
-pub use mw_grid as grid;
 pub use mw_model::NoMemory;
 pub use queue::Queue;
+
+// What lower crates offer, for the crates above.
+pub mod grid {
+    pub use mw_grid::{Block, Grid};
+}

@@ -15,7 +15,17 @@ mod seen;
 pub use laws::ranks_are_rank_filter;
 pub use moving::{rank, sample_of};
 pub use mw_model::NoMemory;
-pub use mw_run as run;
-pub use mw_tile as tile;
-pub use mw_tile::pixel;
 pub use seen::row_in;
+
+// What lower crates offer, for the crates above.
+pub mod pixel {
+    pub use mw_tile::pixel::{Grey, Pixel, Plane, copies};
+}
+
+pub mod run {
+    pub use mw_run::{Run, place_of, runs_of};
+}
+
+pub mod tile {
+    pub use mw_tile::Window;
+}

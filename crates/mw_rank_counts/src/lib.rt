@@ -19,7 +19,22 @@ pub use costs::{Load, Way, load_of, quickest};
 pub use counted::Counted;
 pub use counting::rank_of_grey;
 pub use mw_model::NoMemory;
-pub use mw_rank as rank;
-pub use mw_rank::{pixel, run, tile};
 pub use search::bits_in;
 pub use squeezed::Bytes;
+
+// What lower crates offer, for the crates above.
+pub mod pixel {
+    pub use mw_rank::pixel::{Grey, Pixel, Plane, copies};
+}
+
+pub mod rank {
+    pub use mw_rank::{rank, sample_of};
+}
+
+pub mod run {
+    pub use mw_rank::run::{Run, place_of, runs_of};
+}
+
+pub mod tile {
+    pub use mw_rank::tile::Window;
+}

@@ -12,5 +12,16 @@ pub use laws::{
     marks_are_seen, one_output, work_in_any_order, work_is_lawful, written_is_a_front,
     written_text_stays,
 };
-pub use mw_element as element;
-pub use mw_element::{netpbm, pixel};
+
+// What lower crates offer, for the crates above.
+pub mod element {
+    pub use mw_element::Element;
+}
+
+pub mod netpbm {
+    pub use mw_element::netpbm::read_owned;
+}
+
+pub mod pixel {
+    pub use mw_element::pixel::Image;
+}

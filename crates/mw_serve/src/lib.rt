@@ -11,7 +11,11 @@ mod laws;
 mod session;
 
 pub use laws::{ended_is_served, stopped_is_served};
-pub use mw_fetched::wire;
 pub use mw_model::End;
-pub use mw_pool::{Board, Core, Gate, Naming, NewRoll, Pass, work};
+pub use mw_pool::{Board, Core, Gate, Naming, NewRoll, Pass};
 pub use session::serve;
+
+// What lower crates offer, for the crates above.
+pub mod wire {
+    pub use mw_fetched::wire::{Sink, Source, end_by, send};
+}

@@ -13,7 +13,11 @@ mod payloads;
 mod script;
 
 pub use laws::{finished_is_script, stopped_is_broken};
-pub use mw_fetched::wire;
 pub use mw_model::End;
 pub use mw_wave::{Core, Crew, Pick};
 pub use script::run_script;
+
+// What lower crates offer, for the crates above.
+pub mod wire {
+    pub use mw_fetched::wire::{Sink, Source, send, tell};
+}

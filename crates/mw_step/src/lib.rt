@@ -22,4 +22,8 @@ mod sliding;
 mod thresholds;
 
 pub use make::{compute, run};
-pub use mw_task as task;
+
+// What lower crates offer, for the crates above.
+pub mod task {
+    pub use mw_task::{TaskRefused, TileDone, TileResult, Work};
+}

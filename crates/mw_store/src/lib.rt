@@ -33,12 +33,37 @@ pub use columns::Store;
 pub use fetched::{Fetched, Shown};
 pub use image_shapes::ImageShape;
 pub use kept::{Entry, Kept};
-pub use mw_gran as gran;
-pub use mw_gran::plan;
 pub use mw_model::NoMemory;
-pub use mw_tiles as tiles;
-pub use mw_tiles::{element, netpbm, pixel, task};
 pub use outcomes::{is_dead, is_done, is_pending, is_released, is_there};
 pub use places::reserve_row;
 pub use plates::{Plate, PlateView};
 pub use waiting::Waiters;
+
+// What lower crates offer, for the crates above.
+pub mod element {
+    pub use mw_tiles::element::Element;
+}
+
+pub mod gran {
+    pub use mw_gran::{Curve, plan_of};
+}
+
+pub mod netpbm {
+    pub use mw_tiles::netpbm::{RowBytes, header, parts, read};
+}
+
+pub mod pixel {
+    pub use mw_tiles::pixel::{Image, Plane};
+}
+
+pub mod plan {
+    pub use mw_gran::plan::{Input, Plan, PlanFault, Source, Sources, plan_of};
+}
+
+pub mod task {
+    pub use mw_tiles::task::{SharedWindow, TaskRefused, TileDone, Work};
+}
+
+pub mod tiles {
+    pub use mw_tiles::{TiledRows, TilesView, WholePlane};
+}

@@ -20,11 +20,30 @@ pub use laws::{
     cut_windows_are_bounded, cut_windows_fit, made_is_bounded, planes_are_operators,
     tile_of_windows_is_tile_of_planes, whole_tile_is_plane,
 };
-pub use mw_element as element;
-pub use mw_element::{Element, netpbm, pixel};
+pub use mw_element::Element;
 pub use mw_model::{NoMemory, Offset, OffsetBox, Reach, Rect, TaskId};
-pub use mw_pieces as pieces;
-pub use mw_pieces::{SharedWindow, grid};
+pub use mw_pieces::SharedWindow;
 pub use step::Step;
 pub use tile_result::TileResult;
 pub use work::Work;
+
+// What lower crates offer, for the crates above.
+pub mod element {
+    pub use mw_element::Element;
+}
+
+pub mod grid {
+    pub use mw_pieces::grid::Grid;
+}
+
+pub mod netpbm {
+    pub use mw_element::netpbm::{RowBytes, header, parts, read};
+}
+
+pub mod pieces {
+    pub use mw_pieces::{PiecesView, SharedWindow};
+}
+
+pub mod pixel {
+    pub use mw_element::pixel::{Bit, Image, Plane};
+}

@@ -19,8 +19,20 @@ mod window;
 pub use any::{AnyWindow, WindowView};
 pub use cuts::{cut, paste};
 pub use laws::{cut_is_window, window_shows_frame, window_shows_picture};
-pub use mw_grid as grid;
 pub use mw_model::{NoMemory, Offset, Reach, Rect};
-pub use mw_pixel as pixel;
-pub use mw_pixel::words;
 pub use window::Window;
+
+// What lower crates offer, for the crates above.
+pub mod grid {
+    pub use mw_grid::{Grid, whole_frame};
+}
+
+pub mod pixel {
+    pub use mw_pixel::{
+        Bit, Extremum, Grey, Image, Max, Min, Pixel, Planar, Plane, SharedView, View, Words, copies,
+    };
+}
+
+pub mod words {
+    pub use mw_pixel::words::{Words, blended, funnel, repeated, stride, trimmed};
+}

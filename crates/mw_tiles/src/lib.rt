@@ -30,12 +30,31 @@ mod tiles_view;
 pub use laws::{plane_is_of_an_image, tiles_are_plane};
 pub use mw_frame_tiles::TiledRows;
 pub use mw_model::{Kind, NoMemory, Rect};
-pub use mw_task as task;
 pub use mw_task::grid::Grid;
-pub use mw_task::{element, netpbm, pieces, pixel};
 pub use plane::TiledPlane;
 pub use shown::WholePlane;
 pub use sum_laws::tile_sums_are_sum_of_plane;
 pub use sums::TileSums;
 pub use tile::Tile;
 pub use tiles_view::TilesView;
+
+// What lower crates offer, for the crates above.
+pub mod element {
+    pub use mw_task::element::Element;
+}
+
+pub mod netpbm {
+    pub use mw_task::netpbm::{RowBytes, header, parts, read};
+}
+
+pub mod pieces {
+    pub use mw_task::pieces::SharedWindow;
+}
+
+pub mod pixel {
+    pub use mw_task::pixel::{Bit, Image, Plane};
+}
+
+pub mod task {
+    pub use mw_task::{SharedWindow, TaskRefused, TileDone, Work};
+}

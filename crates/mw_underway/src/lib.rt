@@ -9,9 +9,17 @@ mod taking;
 
 pub use mw_model::NoMemory;
 pub use mw_stands::{
-    Entry, Fetched, Kept, PlanProgress, Shown, Store, Waiters, WholePlane, gran, is_pending,
-    reserve_row, task,
+    Entry, Fetched, Kept, PlanProgress, Shown, Store, Waiters, WholePlane, is_pending, reserve_row,
 };
 pub use planning::{Unplanned, planned};
 pub use results::{is_fit, is_result};
 pub use taking::begin;
+
+// What lower crates offer, for the crates above.
+pub mod gran {
+    pub use mw_stands::gran::Curve;
+}
+
+pub mod task {
+    pub use mw_stands::task::{TileDone, Work};
+}

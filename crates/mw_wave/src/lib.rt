@@ -17,6 +17,18 @@ mod work;
 
 pub use crew::Crew;
 pub use mw_core::Core;
-pub use mw_script_laws::{element, netpbm, pixel};
 pub use pick::Pick;
 pub use work::run_all_work;
+
+// What lower crates offer, for the crates above.
+pub mod element {
+    pub use mw_script_laws::element::Element;
+}
+
+pub mod netpbm {
+    pub use mw_script_laws::netpbm::read_owned;
+}
+
+pub mod pixel {
+    pub use mw_script_laws::pixel::Image;
+}

@@ -6,4 +6,9 @@ mod laws;
 
 pub use laws::{finished_work, fresh_work, true_tasks, work_goes_on};
 pub use mw_model::NoMemory;
-pub use mw_progress::{PlanProgress, WholePlane, grid};
+pub use mw_progress::{PlanProgress, WholePlane};
+
+// What lower crates offer, for the crates above.
+pub mod grid {
+    pub use mw_progress::grid::Grid;
+}
