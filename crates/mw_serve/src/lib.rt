@@ -12,7 +12,7 @@ mod session;
 
 pub use laws::{ended_is_served, stopped_is_served};
 pub use mw_model::End;
-pub use mw_pool::{Board, Core, Gate, Naming, NewRoll, Pass};
+pub use mw_pool::{Board, Core, Gate, Naming, NewRoll, Pass, work};
 pub use session::serve;
 
 // What lower crates offer, for the crates above.
