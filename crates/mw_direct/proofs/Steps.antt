@@ -1,10 +1,10 @@
 -- One step more of a plan that is run on an image.
-use Rattle.std.proofs.Common.{◌≡◌, ℕ, zero, suc, ◌+◌, ◌<◌, true, false, Bool, List, [], ◌∷◌, ◌++◌, length, map, take, sum, Option, Some, None, refl, ap, sym, subst, arith, ◌∙◌, inl, inr, length-append}
+use Rattle.std.proofs.Common.{◌≡◌, ℕ, zero, suc, ◌+◌, ◌*◌, ◌-◌, ◌<◌, ◌≤◌, true, false, Bool, List, [], ◌∷◌, ◌++◌, length, map, take, sum, Option, Some, None, refl, ap, sym, subst, arith, ◌∙◌, inl, inr, length-append}
 use Rattle.std.specs.Prelude.{slice_index_or, unwrap_or, IsSome, IfSome}
 use Rattle.std.specs.List.{AllByRecursion}
 use Rattle.std.proofs.lemmas.Bool.{cases_lt}
 use Rattle.std.proofs.lemmas.List.{take_all}
-use Rattle.mw_model.specs.Pictures.{Picture}
+use Rattle.mw_model.specs.Pictures.{Picture, FitsKind, IsImage, IsPicture}
 use Rattle.mw_model.specs.Plans.{Plan, Planned, Source, FromInput, FromStep, IsSourceAt, is_sum, no_picture, numbers_from, plane_of, plane_of_source, with_number}
 use Rattle.mw_model.specs.Tasks.{nothing_planned}
 use Rattle.mw_step.specs.mw_task.Sources.{HasFrame}
@@ -205,6 +205,22 @@ one_more plan image k kept numbers made runs lt run is = record {
       ∙ ap (λ (ns : List ℕ). numbers_from (take k plan) (planes_on plan image) ++ ns) (sym (number_of (step_in plan k) (plane_at plan image k) made is))
       ∙ sym (numbers_more plan (planes_on plan image) k lt (length-planes plan (image ∷ []) image.width image.height));
 }
+
+-- ---- the last plane
+
+pub last_sound : (plan : Plan) (image f : Picture) → IsRunnable plan image → IsImage image → f ≡ plane_at plan image (length plan - 1) → IsPicture f → FitsKind f.kind f.maxval → IsImage f
+last_sound plan image f runs sound last picture maxval =
+    let some = runs.some in
+    let frame = plane_frame plan image (length plan - 1) runs (omega arith) in
+    let wide : f.width ≡ image.width = ap (λ (g : Picture). g.width) last ∙ frame.width in
+    let high : f.height ≡ image.height = ap (λ (g : Picture). g.height) last ∙ frame.height in
+    record {
+      picture = picture;
+      maxval = maxval;
+      width = subst (λ (n : ℕ). (1 ≤ n) × (n ≤ 8192)) (sym wide) sound.width;
+      height = subst (λ (n : ℕ). (1 ≤ n) × (n ≤ 8192)) (sym high) sound.height;
+      area = subst (λ (n : ℕ). n * f.width ≤ 16777216) (sym high) (subst (λ (n : ℕ). image.height * n ≤ 16777216) (sym wide) sound.area);
+    }
 
 -- ---- planes are dropped, and it stays so
 

@@ -6,7 +6,7 @@ use Rattle.std.specs.declared.sync.Arc.{Arc}
 use Rattle.std.proofs.Common.{Global}
 use Rattle.mw_model.specs.declared.places.Offset.{Offset}
 use Rattle.mw_model.specs.Elements.{Figure}
-use Rattle.mw_model.specs.Pictures.{Picture}
+use Rattle.mw_model.specs.Pictures.{Picture, IsImage}
 use Rattle.mw_model.specs.Values.{Value, ImageValue, ElementValue, CurveValue}
 use Rattle.mw_gran.specs.mw_plan.declared.inputs.Input.{Input}
 use Rattle.mw_gran.specs.mw_plan.declared.inputs.Input.TheVariants as input
@@ -40,3 +40,8 @@ value_made (made.Curve volumes) = CurveValue volumes
 abbrev pub IsImageMade : Picture → Made → Type 0
 IsImageMade f (made.Image g) = g ≡ f
 IsImageMade f (made.Curve volumes) = ⊥
+
+-- an image is within the limits of one
+abbrev pub IsSoundMade : Made → Type 0
+IsSoundMade (made.Image f) = IsImage f
+IsSoundMade (made.Curve volumes) = Unit {0}

@@ -2,14 +2,14 @@
 
 ghost use Rattle.std.specs.Prelude.{◌≡◌, true, Some, IfOk};
 ghost use Rattle.mw_model.specs.declared.operations.FlatOp.{FlatOp};
-ghost use Rattle.mw_model.specs.Pictures.{IsImage};
+ghost use Rattle.mw_model.specs.Pictures.{FitsKind, IsImage, IsPicture};
 ghost use Rattle.mw_model.specs.Plans.{numbers_from};
 ghost use Rattle.mw_model.specs.Refusals.{is_image};
 ghost use Rattle.mw_model.specs.Values.{result_of, shape_of_picture};
 ghost use Rattle.mw_gran.specs.mw_plan.Asked.{IsRefusedBy, fault_in, is_image_input, shape_made};
 ghost use Rattle.mw_gran.specs.mw_plan.PlansOf.{IsPlanOf};
 ghost use Rattle.mw_gran.specs.mw_plan.Steps.{operator_of};
-ghost use Rattle.mw_direct.specs.Values.{IsImageMade, figure_given, input_given, offsets_given, value_made, values_given};
+ghost use Rattle.mw_direct.specs.Values.{IsImageMade, IsSoundMade, figure_given, input_given, offsets_given, value_made, values_given};
 
 use crate::running::{last_plane, numbers};
 use mw_gran::Curve;
@@ -65,6 +65,15 @@ fn input(element: Option<&Arc<Element>>) -> Input<'_>
     }
 }
 
+/// What holds of every image. It does nothing.
+fn is_sound(image: &Image)
+    ensures picture { IsPicture image.now }
+    ensures maxval { FitsKind image.now.kind image.now.maxval }
+{
+    let _maxval = image.maxval();
+    let _view = image.view();
+}
+
 /// What the operation makes of the image and the elements, or its first fault as `shape_of` tells it, or
 /// `NoMemory` where memory was refused. The names in the operation are not looked at.
 pub fn apply(
@@ -77,12 +86,17 @@ pub fn apply(
     requires { IsImage image.now }
     ensures refused { IsRefusedBy (fault_in op.now (Input.Image (shape_of_picture image.now)) (input_given b.entry) (input_given c.entry)) result }
     ensures value { IfOk result (λ m. result_of op.now (values_given image.now (figure_given b.entry) (figure_given c.entry)) ≡ Some (value_made m)) }
+    // An image that was made may be given again.
+    ensures sound { IfOk result IsSoundMade }
     ensures operator { (flat : FlatOp) → op.now ≡ Op.Flat flat → IfOk result (IsImageMade (operator_of flat (offsets_given (figure_given b.entry)) (offsets_given (figure_given c.entry)) image.now)) }
 {
     let a = Input::Image(image.shape());
     let plan = plan_of(alloc, op, a, input(b), input(c))?;
     if draws(op, a) {
-        Ok(Made::Image(last_plane(alloc, &plan, image)?))
+        let plane = last_plane(alloc, &plan, image)?;
+        // for the maxval
+        is_sound(&plane);
+        Ok(Made::Image(plane))
     } else {
         Ok(Made::Curve(Curve::of(numbers(alloc, &plan, image)?)))
     }

@@ -3,7 +3,7 @@
 //!
 //! ```text
 //! let opening = Op::Flat(FlatOp::Opening(n, n));      // the names in an operation are not looked at
-//! match apply(alloc, &opening, &image, Input::Element(&b), Input::Absent)? {
+//! match apply(alloc, &opening, &image, Some(&b), None)? {
 //!     Made::Image(opened) => ..,
 //!     Made::Curve(curve) => ..,                       // of a spectrum
 //! }

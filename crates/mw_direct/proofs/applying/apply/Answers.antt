@@ -2,6 +2,7 @@ use Rattle.std.proofs.Common.{sym, ◌∙◌}
 use Rattle.std.proofs.lemmas.Result.{err_from_is_err_and}
 use Rattle.mw_direct.specs.Values.{figure_given}
 use Rattle.mw_direct.proofs.Inputs.{accepted, curve_is, fault_same, image_is, is_given, operator_is, refused_alike, runnable}
+use Rattle.mw_direct.proofs.Steps.{last_sound}
 use Rattle.mw_direct.proofs.applying.apply.Goals as goal
 
 pub returns-in_err-plan-clause-refused : goal.returns-in_err-plan-clause-refused
@@ -21,13 +22,18 @@ returns-then-draws-clause-refused c =
 
 pub returns-then-draws-clause-value : goal.returns-then-draws-clause-value
 returns-then-draws-clause-value c =
-    image_is _ _ _ _ _ _ _ _ c.in_ok-last_plane.field-0 (is_given c.args.op.now c.args.image.now c.args.b c.args.c c.shape.result c.input.result c.input-2.result c.in_ok-plan.plan c.requires c.shape.ensures c.input.ensures c.input-2.ensures c.in_ok-plan.ensures.plan) (sym c.draws.ensures ∙ c.if-draws.true) c.in_ok-last_plane.ensures
+    image_is _ _ _ _ _ _ _ _ c.in_ok-plane.plane (is_given c.args.op.now c.args.image.now c.args.b c.args.c c.shape.result c.input.result c.input-2.result c.in_ok-plan.plan c.requires c.shape.ensures c.input.ensures c.input-2.ensures c.in_ok-plan.ensures.plan) (sym c.draws.ensures ∙ c.if-draws.true) c.in_ok-plane.ensures
 
 pub returns-then-draws-clause-operator : goal.returns-then-draws-clause-operator
 returns-then-draws-clause-operator c =
     λ flat is.
-    operator_is c.args.op.now flat c.args.image.now (figure_given c.args.b) (figure_given c.args.c) c.in_ok-last_plane.field-0
-    (image_is _ _ _ _ _ _ _ _ c.in_ok-last_plane.field-0 (is_given c.args.op.now c.args.image.now c.args.b c.args.c c.shape.result c.input.result c.input-2.result c.in_ok-plan.plan c.requires c.shape.ensures c.input.ensures c.input-2.ensures c.in_ok-plan.ensures.plan) (sym c.draws.ensures ∙ c.if-draws.true) c.in_ok-last_plane.ensures) is
+    operator_is c.args.op.now flat c.args.image.now (figure_given c.args.b) (figure_given c.args.c) c.in_ok-plane.plane
+    (image_is _ _ _ _ _ _ _ _ c.in_ok-plane.plane (is_given c.args.op.now c.args.image.now c.args.b c.args.c c.shape.result c.input.result c.input-2.result c.in_ok-plan.plan c.requires c.shape.ensures c.input.ensures c.input-2.ensures c.in_ok-plan.ensures.plan) (sym c.draws.ensures ∙ c.if-draws.true) c.in_ok-plane.ensures) is
+
+pub returns-then-draws-clause-sound : goal.returns-then-draws-clause-sound
+returns-then-draws-clause-sound c =
+    let given = is_given c.args.op.now c.args.image.now c.args.b c.args.c c.shape.result c.input.result c.input-2.result c.in_ok-plan.plan c.requires c.shape.ensures c.input.ensures c.input-2.ensures c.in_ok-plan.ensures.plan in
+    last_sound c.in_ok-plan.plan c.args.image.now c.in_ok-plane.plane (runnable _ _ _ _ _ _ _ _ given) c.requires c.in_ok-plane.ensures c.is_sound.ensures.picture c.is_sound.ensures.maxval
 
 pub numbers-requires : goal.numbers-requires
 numbers-requires c =
