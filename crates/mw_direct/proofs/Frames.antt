@@ -12,11 +12,11 @@ use Rattle.mw_model.specs.PlanSteps.{PlanStep, looks_at, kind_of_step, maxval_of
 use Rattle.mw_model.specs.Plans.{Planned, Source, is_sum, no_picture, plane_of, sight_of}
 use Rattle.mw_model.specs.Tasks.{made_of_planes, place_read}
 use Rattle.mw_model.proofs.ImagePlaces.{drawn_same}
-use Rattle.mw_step.specs.mw_task.mw_tile.Windows.{SourceWindow, window_of}
-use Rattle.mw_step.specs.mw_task.Sources.{HasFrame, AreCut}
-use Rattle.mw_step.specs.mw_task.WindowTasks.{WindowTask, FitsStep, made_of_windows, tile_made, window_at}
-use Rattle.mw_gran.proofs.mw_plan.mw_task.Cut.{made_of_cut}
-use Rattle.mw_gran.proofs.mw_plan.WindowsFit.{made_fits}
+use Rattle.mw_tile.specs.Windows.{SourceWindow, window_of}
+use Rattle.mw_task.specs.Sources.{HasFrame, AreCut}
+use Rattle.mw_task.specs.WindowTasks.{WindowTask, FitsStep, made_of_windows, tile_made, window_at}
+use Rattle.mw_task.proofs.Cut.{made_of_cut}
+use Rattle.mw_plan.proofs.WindowsFit.{made_fits}
 use Rattle.mw_direct.specs.Kept.{IsDone, IsReady, plane_kept, sources_kept, whole_window}
 
 -- ---- what a step reads for the whole frame is the whole frame

@@ -18,13 +18,13 @@ use Rattle.mw_model.specs.Plans.{Plan, IsSourceAt, images_of, no_picture, number
 use Rattle.mw_model.specs.Refusals.{inputs_wanted, is_image}
 use Rattle.mw_model.specs.Tasks.{nothing_planned}
 use Rattle.mw_model.specs.Values.{Value, ImageValue, ElementValue, CurveValue, result_of, shape_of_picture}
-use Rattle.mw_gran.specs.mw_plan.declared.faults.PlanFault.{PlanFault}
-use Rattle.mw_gran.specs.mw_plan.declared.inputs.Input.{Input}
-use Rattle.mw_gran.specs.mw_plan.declared.inputs.Input.TheVariants as input
-use Rattle.mw_gran.specs.mw_plan.Asked.{IsRefusedBy, fault_in, shape_made}
-use Rattle.mw_gran.specs.mw_plan.PlansOf.{AreValuesOf, CanBeMade, HaveFrame, IsPlanOf, IsValueOf, inputs_taken, planes_read}
-use Rattle.mw_gran.specs.mw_plan.Steps.{operator_of}
-use Rattle.mw_gran.proofs.mw_plan.Planes.{length-planes}
+use Rattle.mw_plan.specs.declared.faults.PlanFault.{PlanFault}
+use Rattle.mw_plan.specs.declared.inputs.Input.{Input}
+use Rattle.mw_plan.specs.declared.inputs.Input.TheVariants as input
+use Rattle.mw_plan.specs.Asked.{IsRefusedBy, fault_in, shape_made}
+use Rattle.mw_plan.specs.PlansOf.{AreValuesOf, CanBeMade, HaveFrame, IsPlanOf, IsValueOf, inputs_taken, planes_read}
+use Rattle.mw_plan.specs.Steps.{operator_of}
+use Rattle.mw_plan.proofs.Planes.{length-planes}
 use Rattle.mw_direct.specs.declared.applying.Made.{Made}
 use Rattle.mw_direct.specs.Runs.{IsRunnable, planes_on}
 use Rattle.mw_direct.specs.Values.{figure_given, input_given, offsets_given, values_given}

@@ -7,9 +7,9 @@ use Rattle.std.proofs.lemmas.List.{take_all}
 use Rattle.mw_model.specs.Pictures.{Picture, FitsKind, IsImage, IsPicture}
 use Rattle.mw_model.specs.Plans.{Plan, Planned, Source, FromInput, FromStep, IsSourceAt, is_sum, no_picture, numbers_from, plane_of, plane_of_source, with_number}
 use Rattle.mw_model.specs.Tasks.{nothing_planned}
-use Rattle.mw_step.specs.mw_task.Sources.{HasFrame}
-use Rattle.mw_gran.specs.mw_plan.PlansOf.{CanBeMade, IsPlaneSource, planes_read}
-use Rattle.mw_gran.proofs.mw_plan.Planes.{length-planes, plane_is}
+use Rattle.mw_task.specs.Sources.{HasFrame}
+use Rattle.mw_plan.specs.PlansOf.{CanBeMade, IsPlaneSource, planes_read}
+use Rattle.mw_plan.proofs.Planes.{length-planes, plane_is}
 use Rattle.mw_direct.specs.declared.making.Product.{Product}
 use Rattle.mw_direct.specs.declared.making.Product.TheVariants as product
 use Rattle.mw_direct.specs.Kept.{IsReady, IsThere, IsThereBelow, KeepsRead, kept_at, plane_kept, sources_kept}

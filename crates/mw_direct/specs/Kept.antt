@@ -4,11 +4,11 @@ use Rattle.std.specs.List.{AllByRecursion}
 use Rattle.mw_model.specs.Pictures.{Picture}
 use Rattle.mw_model.specs.Plans.{Plan, Planned, Source, FromInput, FromStep, no_picture}
 use Rattle.mw_model.specs.Tasks.{nothing_planned}
-use Rattle.mw_step.specs.mw_task.mw_grid.Rectangles.{whole_frame}
-use Rattle.mw_step.specs.mw_task.mw_tile.Windows.{SourceWindow, window_of}
-use Rattle.mw_step.specs.mw_task.Sources.{HasFrame}
-use Rattle.mw_step.specs.mw_task.WindowTasks.{WindowTask, IsBounded}
-use Rattle.mw_gran.specs.mw_plan.PlansOf.{CanBeMade}
+use Rattle.mw_grid.specs.Rectangles.{whole_frame}
+use Rattle.mw_tile.specs.Windows.{SourceWindow, window_of}
+use Rattle.mw_task.specs.Sources.{HasFrame}
+use Rattle.mw_task.specs.WindowTasks.{WindowTask, IsBounded}
+use Rattle.mw_plan.specs.PlansOf.{CanBeMade}
 
 -- the window that has the whole of an image
 abbrev pub whole_window : Picture → SourceWindow

@@ -4,7 +4,7 @@ use Rattle.std.specs.List.{AllByRecursion}
 use Rattle.mw_model.specs.Pictures.{Picture}
 use Rattle.mw_model.specs.Plans.{Plan, IsSourceAt, no_picture, numbers_from, planes}
 use Rattle.mw_model.specs.Tasks.{nothing_planned}
-use Rattle.mw_gran.specs.mw_plan.PlansOf.{CanBeMade, IsPlaneSource, planes_read}
+use Rattle.mw_plan.specs.PlansOf.{CanBeMade, IsPlaneSource, planes_read}
 use Rattle.mw_direct.specs.Kept.{IsThereBelow, kept_at}
 
 -- the planes of the plan on the image

@@ -8,8 +8,8 @@ use Rattle.mw_model.specs.declared.places.Offset.{Offset}
 use Rattle.mw_model.specs.Elements.{Figure}
 use Rattle.mw_model.specs.Pictures.{Picture, IsImage}
 use Rattle.mw_model.specs.Values.{Value, ImageValue, ElementValue, CurveValue}
-use Rattle.mw_gran.specs.mw_plan.declared.inputs.Input.{Input}
-use Rattle.mw_gran.specs.mw_plan.declared.inputs.Input.TheVariants as input
+use Rattle.mw_plan.specs.declared.inputs.Input.{Input}
+use Rattle.mw_plan.specs.declared.inputs.Input.TheVariants as input
 use Rattle.mw_direct.specs.declared.applying.Made.{Made}
 use Rattle.mw_direct.specs.declared.applying.Made.TheVariants as made
 

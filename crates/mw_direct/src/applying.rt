@@ -6,17 +6,17 @@ ghost use Rattle.mw_model.specs.Pictures.{FitsKind, IsImage, IsPicture};
 ghost use Rattle.mw_model.specs.Plans.{numbers_from};
 ghost use Rattle.mw_model.specs.Refusals.{is_image};
 ghost use Rattle.mw_model.specs.Values.{result_of, shape_of_picture};
-ghost use Rattle.mw_gran.specs.mw_plan.Asked.{IsRefusedBy, fault_in, is_image_input, shape_made};
-ghost use Rattle.mw_gran.specs.mw_plan.PlansOf.{IsPlanOf};
-ghost use Rattle.mw_gran.specs.mw_plan.Steps.{operator_of};
+ghost use Rattle.mw_plan.specs.Asked.{IsRefusedBy, fault_in, is_image_input, shape_made};
+ghost use Rattle.mw_plan.specs.PlansOf.{IsPlanOf};
+ghost use Rattle.mw_plan.specs.Steps.{operator_of};
 ghost use Rattle.mw_direct.specs.Values.{IsImageMade, IsSoundMade, figure_given, input_given, offsets_given, value_made, values_given};
 
 use crate::running::{last_plane, numbers};
+use mw_element::Element;
 use mw_gran::Curve;
-use mw_gran::plan::{Input, Plan, PlanFault};
 use mw_model::{GranOp, Op};
-use mw_step::task::element::Element;
-use mw_step::task::pixel::Image;
+use mw_pixel::Image;
+use mw_plan::{Input, Plan, PlanFault};
 use std::alloc::Global;
 use std::sync::Arc;
 
@@ -39,7 +39,7 @@ fn plan_of(
     ensures plan { IfOk result (IsPlanOf op.now a.entry b.entry c.entry) }
 {
     match op {
-        Op::Flat(flat) => mw_gran::plan::plan_of(alloc, flat, a, b, c),
+        Op::Flat(flat) => mw_plan::plan_of(alloc, flat, a, b, c),
         Op::Gran(gran) => mw_gran::plan_of(alloc, gran, a, b, c),
     }
 }

@@ -17,7 +17,7 @@ mod seeing;
 mod spent;
 
 pub use applying::{Made, apply};
+pub use mw_element::Element;
 pub use mw_gran::{Curve, PlanFault};
 pub use mw_model::{FlatOp, GranOp, Op};
-pub use mw_step::task::element::Element;
-pub use mw_step::task::pixel::Image;
+pub use mw_pixel::Image;

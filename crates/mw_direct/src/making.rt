@@ -2,18 +2,18 @@
 
 ghost use Rattle.std.specs.Prelude.{◌≡◌, [], ◌∷◌, false, true, IfOk};
 ghost use Rattle.mw_model.specs.Plans.{is_sum, plane_of};
-ghost use Rattle.mw_gran.specs.mw_plan.Seen.{planned};
-ghost use Rattle.mw_step.specs.mw_task.Meanings.{meaning};
-ghost use Rattle.mw_step.specs.mw_task.WindowTasks.{made_of_windows};
+ghost use Rattle.mw_plan.specs.Seen.{planned};
+ghost use Rattle.mw_task.specs.Meanings.{meaning};
+ghost use Rattle.mw_task.specs.WindowTasks.{made_of_windows};
 ghost use Rattle.mw_direct.specs.Kept.{IsDone, IsReady, sources_kept};
 ghost use Rattle.mw_direct.specs.Products.{IsProduct};
 
 use crate::seeing::windows;
-use mw_gran::plan::PlannedStep;
+use mw_grid::whole_frame;
 use mw_model::{NoMemory, TaskId};
-use mw_step::task::grid::whole_frame;
-use mw_step::task::pixel::Image;
-use mw_step::task::{Step, TileDone, TileResult, Work};
+use mw_pixel::Image;
+use mw_plan::PlannedStep;
+use mw_task::{Step, TileDone, TileResult, Work};
 use std::alloc::Global;
 
 /// A task wants numbers, which nobody looks at here.

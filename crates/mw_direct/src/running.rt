@@ -8,9 +8,9 @@ ghost use Rattle.mw_direct.specs.Runs.{HasRun, IsRunnable, planes_on};
 
 use crate::making::{Product, made};
 use crate::spent::drop_spent;
-use mw_gran::plan::Plan;
 use mw_model::NoMemory;
-use mw_step::task::pixel::Image;
+use mw_pixel::Image;
+use mw_plan::Plan;
 use std::alloc::Global;
 
 /// What the steps so far made: for each its plane, unless it sums up or no later step reads it; and the numbers of those

@@ -2,15 +2,15 @@
 
 ghost use Rattle.std.specs.Prelude.{◌≡◌, map, IfOk};
 ghost use Rattle.std.specs.List.{AllByRecursion};
-ghost use Rattle.mw_gran.specs.mw_plan.Seen.{source, sources};
-ghost use Rattle.mw_step.specs.mw_task.WindowTasks.{IsBounded};
+ghost use Rattle.mw_plan.specs.Seen.{source, sources};
+ghost use Rattle.mw_task.specs.WindowTasks.{IsBounded};
 ghost use Rattle.mw_direct.specs.Kept.{IsThere, plane_kept, whole_window};
 
-use mw_gran::plan::{Source, Sources};
+use mw_grid::whole_frame;
 use mw_model::NoMemory;
-use mw_step::task::SharedWindow;
-use mw_step::task::grid::whole_frame;
-use mw_step::task::pixel::Image;
+use mw_pixel::Image;
+use mw_plan::{Source, Sources};
+use mw_task::SharedWindow;
 use std::alloc::Global;
 
 /// The window that has the whole image.

@@ -3,11 +3,11 @@
 ghost use Rattle.std.specs.Prelude.{◌≡◌, ℕ, ◌<◌, ◌≤◌, true, length, slice_index_or};
 ghost use Rattle.std.specs.List.{list_any};
 ghost use Rattle.mw_model.specs.Tasks.{is_step, nothing_planned};
-ghost use Rattle.mw_gran.specs.mw_plan.Seen.{source, sources};
+ghost use Rattle.mw_plan.specs.Seen.{source, sources};
 ghost use Rattle.mw_direct.specs.Kept.{KeepsRead};
 
-use mw_gran::plan::{Plan, Source, Sources};
-use mw_step::task::pixel::Image;
+use mw_pixel::Image;
+use mw_plan::{Plan, Source, Sources};
 
 fn is_step(from: Source, k: u16) -> bool
     ensures { result ≡ is_step k (source from) }

@@ -1,5 +1,5 @@
 use Rattle.std.proofs.Common.{◌∙◌, sym}
-use Rattle.mw_gran.specs.mw_plan.Seen.{planned}
+use Rattle.mw_plan.specs.Seen.{planned}
 use Rattle.mw_direct.proofs.Frames.{number_is, plane_is_made}
 use Rattle.mw_direct.proofs.making.made.Goals as goal
 

@@ -1,7 +1,7 @@
 use Rattle.std.proofs.Common.{ℕ, ◌-◌, ◌<◌, length, ap, arith, ◌∙◌}
 use Rattle.std.specs.Prelude.{slice_index_or}
 use Rattle.mw_model.specs.Plans.{no_picture}
-use Rattle.mw_gran.specs.mw_plan.Seen.{planned}
+use Rattle.mw_plan.specs.Seen.{planned}
 use Rattle.mw_direct.specs.Runs.{planes_on}
 use Rattle.mw_direct.proofs.Steps.{plane_told, product_true, ready_held}
 use Rattle.mw_direct.proofs.running.last_plane.Goals as goal

@@ -1,9 +1,9 @@
 use Rattle.std.proofs.Common.{◌≡◌, ℕ, subst, sym}
 use Rattle.std.proofs.lemmas.Result.{IfOk-weaker}
 use Rattle.mw_model.specs.Places.{IsWithin}
-use Rattle.mw_step.specs.mw_task.mw_tile.Windows.{SourceWindow, window_of}
-use Rattle.mw_step.specs.mw_task.WindowTasks.{IsBounded}
-use Rattle.mw_gran.proofs.mw_plan.mw_task.Cut.{window_bounded_cut}
+use Rattle.mw_tile.specs.Windows.{SourceWindow, window_of}
+use Rattle.mw_task.specs.WindowTasks.{IsBounded}
+use Rattle.mw_task.proofs.Cut.{window_bounded_cut}
 use Rattle.mw_direct.proofs.seeing.whole.Goals as goal
 
 pub returns-clause-bounded : goal.returns-clause-bounded

@@ -1,4 +1,4 @@
-use Rattle.mw_gran.specs.mw_plan.Seen.{planned}
+use Rattle.mw_plan.specs.Seen.{planned}
 use Rattle.mw_direct.proofs.Steps.{advanced, product_true, ready_held}
 use Rattle.mw_direct.proofs.running.Run.advance.Goals as goal
 
