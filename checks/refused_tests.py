@@ -19,6 +19,7 @@ MODULES = {
     "mw_memory_tests_tests": ["files", "makers", "results", "sharing"],
     "mw_machine_tests_tests": ["machine_calls", "machine_owners", "machine_results"],
     "mw_core_tests_tests": ["refused"],
+    "mw_direct_tests_tests": ["memory"],
 }
 
 

@@ -5,7 +5,8 @@
 
 `rt` sums up the sources below a crate along every path of rows, so an entry that another entry of its row reaches costs time in
 each crate above. Rows of libraries have no such entry but `mw_model`, whose words all crates use. On programs and crates of
-tests nothing stands, so their rows name what they use. With --test it looks at rows that are spoiled.
+tests nothing stands, and on some libraries tests alone, so these rows name what they use. With --test it looks at rows that are
+spoiled.
 """
 import os
 import sys
@@ -37,7 +38,8 @@ def all_below(rows, name):
 def needless(rows):
     """The entries of libraries' rows that another entry reaches."""
     below = {name: all_below(rows, name) for name in rows}
-    libraries = {it for needs in rows.values() for it in needs if not it.endswith("_for_tests")}
+    above = [needs for name, needs in rows.items() if not name.endswith("_tests")]
+    libraries = {it for needs in above for it in needs if not it.endswith("_for_tests")}
     for name in [it for it in rows if it in libraries]:
         for entry in rows[name]:
             through = [it for it in rows[name] if entry in below[it]]
@@ -52,6 +54,7 @@ def test():
         (rows, []),
         (rows.replace("low: mw_model", "low: mw_facts mw_model"), ["crates.txt: low need not name mw_facts, which mw_model reaches"]),
         (rows + "above: top\n", ["crates.txt: top need not name low, which high reaches"]),
+        (rows + "top_tests: top\n", []),
     ):
         found = list(needless(rows_of(text)))
         if found != wanted:

@@ -1,0 +1,5 @@
+-- the crate's own
+mod Dropping
+mod Frames
+mod Inputs
+mod Steps

@@ -1,0 +1,4 @@
+pub mod Kept
+pub mod Products
+pub mod Runs
+pub mod Values
