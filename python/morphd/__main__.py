@@ -256,7 +256,13 @@ def _bar(words: argparse.Namespace) -> Callable[[], None]:
         left = iter(range(len(words.files) - 1, -1, -1))
         return lambda: print(f"\r{next(left):6} left ", end="", file=sys.stderr, flush=True)
     bar = tqdm(total=len(words.files), unit="picture")
-    return lambda: (bar.update(), bar.close() if bar.n == bar.total else None)[0]
+
+    def one_more() -> None:
+        bar.update()
+        if bar.n == bar.total:
+            bar.close()
+
+    return one_more
 
 
 def _run(words: argparse.Namespace) -> int:

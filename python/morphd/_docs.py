@@ -46,7 +46,7 @@ OutOfMemory
 COMPARES = """\
 Other integers and
     floats are taken, too, with up to 65,536 values and no NaN, since the operator only compares samples; where a footprint
-    sees nothing, the image's greatest value stands for the maxval."""
+    sees nothing, the image's greatest value stands for the maxval, and its least for 0."""
 COMPUTES = "Other types are refused, since the operator subtracts samples."
 
 

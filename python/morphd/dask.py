@@ -16,11 +16,11 @@ from collections.abc import Callable, Iterable, Mapping
 from dataclasses import dataclass, field
 from typing import Any
 
-import dask
 import dask.array
 import numpy as np
+from dask.array import Array
 
-from . import _arrays, _calls, _library, operators
+from . import _calls, _library, operators
 from .footprints import Footprint, Reach
 
 __all__ = [
@@ -33,7 +33,6 @@ _OPS = {
     "gradient": _library.GRADIENT, "white_tophat": _library.WHITE_TOPHAT, "black_tophat": _library.BLACK_TOPHAT,
     "rank": _library.RANK,
 }
-Array = dask.array.Array
 
 
 def _overlapped(name: str, array: Array, call: _calls.Call | None, arguments: tuple[Any, ...], made: Any = None, **options: Any) -> Array:

@@ -34,13 +34,13 @@ class Reach(NamedTuple):
     left: int
     right: int
 
-    def __add__(self, other: object) -> Reach:  # type: ignore[override]
+    def __add__(self, other: object) -> Reach:
         """The reach of two steps, one behind the other."""
         if not isinstance(other, Reach):
             return NotImplemented
         return Reach(*(mine + theirs for mine, theirs in zip(self, other)))
 
-    def __mul__(self, times: object) -> Reach:  # type: ignore[override]
+    def __mul__(self, times: object) -> Reach:
         """The reach of so many steps."""
         if not isinstance(times, int):
             return NotImplemented
@@ -52,7 +52,7 @@ class Reach(NamedTuple):
 
     def joined(self, other: Reach) -> Reach:
         """The reach of two looks from one place."""
-        return Reach(*map(max, self, other))
+        return Reach(*(max(mine, theirs) for mine, theirs in zip(self, other)))
 
 
 def _bitmap_bytes(bitmap: Any) -> tuple[bytes, int, int]:
