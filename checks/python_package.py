@@ -23,7 +23,7 @@ LEAST = (3, 11)
 MODULES = {
     "pytest": "python3-pytest", "numpy": "python3-numpy", "scipy": "python3-scipy", "skimage": "python3-skimage", "cv2": "python3-opencv",
     "PIL": "python3-pil", "tifffile": "python3-tifffile", "matplotlib": "python3-matplotlib", "dask": "python3-dask",
-    "distributed": "python3-distributed", "hypothesis": "python3-hypothesis", "tqdm": "python3-tqdm", "mypy": "mypy",
+    "distributed": "python3-distributed", "hypothesis": "python3-hypothesis", "tqdm": "python3-tqdm", "mypy": "python3-mypy",
 }
 FINDS = """
 import importlib.util, sys
