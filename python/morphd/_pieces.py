@@ -92,6 +92,11 @@ def _parts(length: int, most: int, rim: int) -> int:
     return math.ceil(length / (most - rim))
 
 
+def fits(shape: tuple[int, ...]) -> bool:
+    """Whether the library takes an array of this shape in one piece. One without samples it refuses itself."""
+    return max(shape) <= LONGEST_SIDE and shape[0] * shape[1] <= MOST_SAMPLES
+
+
 def cut(shape: tuple[int, ...], reach: Reach, workers: int) -> list[Piece]:
     """The pieces of an array: within the library's limits, and as many as there are workers where they are worth it."""
     height, width = shape
@@ -143,8 +148,8 @@ def check_samples(field: Field, asked: object) -> None:
 def apply(call: Call, field: Field, out: Samples | None, workers: int) -> Samples:
     """What the call makes of the array, in `out` where it is given: by rows without gaps, of the result's type."""
     made = np.empty(field.samples.shape, call.dtype(field)) if out is None else out
-    pieces = cut(field.samples.shape, call.reach, workers)
-    if len(pieces) == 1:
+    pieces = [] if workers == 1 and fits(field.samples.shape) else cut(field.samples.shape, call.reach, workers)
+    if len(pieces) < 2:
         call.run(field, made)
         return made
     check_samples(field, call)

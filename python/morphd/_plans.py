@@ -63,60 +63,63 @@ def _dilate(footprint: Footprint) -> Flat:
     return Flat(DILATE, footprint)
 
 
-def _pairs(erode: Footprint, dilate: Footprint, then_dilate: Footprint, then_erode: Footprint) -> dict[str, Plan]:
-    """The seven operators where openings and closings end by these footprints."""
-    opening = Chain((_erode(erode), _dilate(then_dilate)))
+def _built(name: str, erode: Footprint, dilate: Footprint, then_dilate: Footprint, then_erode: Footprint) -> Plan:
+    """One of the seven operators, where openings and closings end by these footprints."""
+    if name == "erosion":
+        return _erode(erode)
+    if name == "dilation":
+        return _dilate(dilate)
+    if name == "gradient":
+        return Less(_dilate(dilate), _erode(erode))
+    if name in ("opening", "white_tophat"):
+        opening = Chain((_erode(erode), _dilate(then_dilate)))
+        return opening if name == "opening" else Less(None, opening)
     closing = Chain((_dilate(dilate), _erode(then_erode)))
-    return {
-        "erosion": _erode(erode),
-        "dilation": _dilate(dilate),
-        "opening": opening,
-        "closing": closing,
-        "gradient": Less(_dilate(dilate), _erode(erode)),
-        "white_tophat": Less(None, opening),
-        "black_tophat": Less(closing, None),
-    }
+    return closing if name == "closing" else Less(closing, None)
 
 
-def _ours(b: Footprint) -> dict[str, Plan]:
-    return _pairs(b, b, -b, -b)
+def _ours(name: str, b: Footprint) -> Plan:
+    back = -b
+    return _built(name, b, b, back, back)
 
 
-def _scipy(b: Footprint) -> dict[str, Plan]:
+def _scipy(name: str, b: Footprint) -> Plan:
     """Its dilation takes p - b, and so does the first step of its closing."""
-    return _pairs(b, -b, -b, b)
+    back = -b
+    return _built(name, b, back, back, b)
 
 
-def _opencv(b: Footprint) -> dict[str, Plan]:
+def _opencv(name: str, b: Footprint) -> Plan:
     """Both steps of its openings and closings take p + b."""
-    return _pairs(b, b, b, b)
+    return _built(name, b, b, b, b)
 
 
-def _before_middle(b: Footprint) -> Footprint:
-    return b.at([(side - 1) // 2 for side in b.shape])
-
-
-def _skimage(b: Footprint) -> dict[str, Plan]:
+def _skimage(name: str, b: Footprint) -> Plan:
     """As OpenCV, but first steps have the origin of even sides before the middle, and pairs of steps a rim on those axes.
     Its gradient is that of `filters.rank`, and its white top-hat SciPy's."""
-    first, rows, columns = _before_middle(b), *(0 if side % 2 else side - 1 for side in b.shape)
-    pairs = _pairs(first, first, b, b)
-    rim = Reach(rows, rows, columns, columns)
-    opening, closing = Rimmed(rim, pairs["opening"]), Rimmed(rim, pairs["closing"])
-    return {**pairs, "opening": opening, "closing": closing, "gradient": _ours(b)["gradient"],
-            "white_tophat": _scipy(b)["white_tophat"], "black_tophat": Less(closing, None)}
+    if name == "gradient":
+        return _ours(name, b)
+    if name == "white_tophat":
+        return _scipy(name, b)
+    first = b.at([(side - 1) // 2 for side in b.shape])
+    if name == "black_tophat":
+        return Less(_skimage("closing", b), None)
+    plan = _built(name, first, first, b, b)
+    if name in ("erosion", "dilation"):
+        return plan
+    rows, columns = (0 if side % 2 else side - 1 for side in b.shape)
+    return Rimmed(Reach(rows, rows, columns, columns), plan)
 
 
-_STEPS: dict[str | None, Callable[[Footprint], dict[str, Plan]]] = {
-    None: _ours, "scipy": _scipy, "skimage": _skimage, "opencv": _opencv}
+_STEPS: dict[str | None, Callable[[str, Footprint], Plan]] = {None: _ours, "scipy": _scipy, "skimage": _skimage, "opencv": _opencv}
 _PAIRS = ("erosion", "dilation", "opening", "closing")
 
 
 def of(name: str, footprint: Footprint, compat: str | None, is_set: bool) -> Plan:
     """The plan of an operator."""
     if compat == "skimage" and is_set and name in _PAIRS:
-        return _scipy(footprint)[name]
-    return _STEPS[compat](footprint)[name]
+        return _scipy(name, footprint)
+    return _STEPS[compat](name, footprint)
 
 
 def checked_compat(compat: str | None) -> str | None:

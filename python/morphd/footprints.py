@@ -165,7 +165,7 @@ class Footprint:
     @property
     def count(self) -> int:
         """How many pixels it has."""
-        return self.pixels.count(1)
+        return self.pixels.count(b"\1")
 
     @property
     def has_origin(self) -> bool:

@@ -192,11 +192,9 @@ def is_wanted():
 
 
 def in_process():
-    """The environment and the words in which a test starts Python so that the package there uses what it uses here."""
-    here = Path(__file__).resolve()
-    paths = [str(here.parent), str(here.parents[1]), os.environ.get("PYTHONPATH", "")]
+    """The environment and the words in which a test starts the package's program, so that it calls what it calls here."""
+    here = Path(__file__).resolve().parent
+    paths = [str(here / "site")] if _library.loaded() is library else []
+    paths += [str(here), str(here.parent), os.environ.get("PYTHONPATH", "")]
     environment = dict(os.environ, PYTHONPATH=os.pathsep.join(path for path in paths if path))
-    if _library.loaded() is not library:
-        return environment, [sys.executable, "-m", "morphd"]
-    return environment, [sys.executable, "-c", "import stand_in, sys; stand_in.install(); "
-                         "from morphd.__main__ import main; sys.exit(main())"]
+    return environment, [sys.executable, "-m", "morphd"]

@@ -63,25 +63,10 @@ def test_what_is_not_taken():
 def cluster():
     """A cluster of two processes, which call what this one calls."""
     distributed = pytest.importorskip("distributed")
-    before = {name: os.environ.get(name) for name in ("PYTHONPATH",)}
-    environment, _ = stand_in.in_process()
-    os.environ["PYTHONPATH"] = environment["PYTHONPATH"]
-    try:
+    with pytest.MonkeyPatch.context() as here:
+        here.setenv("PYTHONPATH", stand_in.in_process()[0]["PYTHONPATH"])
         with distributed.Client(n_workers=2, threads_per_worker=1, processes=True, dashboard_address=None) as client:
-            import conftest
-
-            if conftest.USES_STAND_IN:
-                client.register_worker_callbacks(install)
             yield client
-    finally:
-        for name, value in before.items():
-            os.environ.pop(name) if value is None else os.environ.__setitem__(name, value)
-
-
-def install():
-    import stand_in as there
-
-    there.install()
 
 
 def process_of(path):

@@ -1,5 +1,6 @@
 """The command line: results, pipes, folders, faults and exit statuses."""
 import subprocess
+from pathlib import Path
 
 import numpy as np
 import pytest
@@ -154,10 +155,8 @@ def test_a_reader_that_has_enough(tmp_path, grains):
 
 
 def test_a_missing_library_in_a_shell(tmp_path, grains):
-    environment, _ = stand_in.in_process()
-    import sys
-
-    environment["MORPHD_LIBRARY"] = str(tmp_path / "none.so")
-    words = [sys.executable, "-m", "morphd", "opening", "--disk", "2", str(tmp_path / "grains.pgm"), "-o", str(tmp_path / "made.pgm")]
+    environment, words = stand_in.in_process()
+    environment.update(MORPHD_LIBRARY=str(tmp_path / "none.so"), PYTHONPATH=str(Path(morphd.__file__).parents[1]))
+    words += ["opening", "--disk", "2", str(tmp_path / "grains.pgm"), "-o", str(tmp_path / "made.pgm")]
     made = subprocess.run(words, capture_output=True, env=environment, text=True, check=False)
     assert made.returncode == 1 and made.stderr.startswith("morph: libmorphd was not found: build it with `make library`")
