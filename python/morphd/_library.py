@@ -36,6 +36,8 @@ ANSWERS = {name: _U32 if name == "morphd_version" else ctypes.c_int32 for name i
 ERODE, DILATE, OPEN, CLOSE, GRADIENT, WHITE_TOPHAT, BLACK_TOPHAT, RANK = range(8)
 
 MEMORY = 50
+# The version of include/morphd.h that this module speaks.
+VERSION = 1
 _SUFFIX = ".dylib" if sys.platform == "darwin" else ".so"
 _HOW = (
     "libmorphd was not found: build it with `make library` at the top of the repository, or install a wheel that "
@@ -61,6 +63,8 @@ def _opened(place: str) -> Any:
         except AttributeError:
             raise LibraryMissing(f"{place} has no call {name}: it is no libmorphd, or an old one; `make library` makes it anew") from None
         call.argtypes, call.restype = types, ANSWERS[name]
+    if library.morphd_version() != VERSION:
+        raise LibraryMissing(f"{place} has version {library.morphd_version()}, and this package needs {VERSION}; `make library` makes it anew")
     return library
 
 

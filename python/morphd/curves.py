@@ -25,6 +25,7 @@ from .footprints import Footprint, Reach
 
 __all__ = ["Spectrum", "spectrum"]
 
+# What the library takes; an array that is cut asks it for no spectrum.
 MOST_SIZES = 32
 _PIXEL = re.compile(r"\s*([0-9]*\.?[0-9]+(?:[eE][-+]?[0-9]+)?)\s*(\S*)\s*")
 MEANING = (

@@ -80,7 +80,7 @@ def applied(operation, f, elements, number):
 def flat(kind):
     def call(op, k, width, height, *rest):
         top, (address, count, *figure, out, out_count) = (1, rest) if kind == "set" else (rest[0], rest[1:])
-        unless(op < len(OPERATIONS), 10)
+        unless(op < len(OPERATIONS), 47)
         f = image(kind, width, height, top, address, count)
         unless(out_count == count, 11)
         b = element(*figure)
@@ -91,6 +91,7 @@ def flat(kind):
 
 def threshold(kind):
     def call(k, width, height, top, address, count, out, out_count):
+        unless(k <= 65535, 47)
         f = image(kind, width, height, top, address, count)
         unless(out_count == count, 11)
         put(applied("THRESHOLD", f, [], k).samples, ctypes.c_uint8, out, out_count)
@@ -109,6 +110,7 @@ def hit_or_miss(kind):
 
 def skeleton(levels, width, height, address, count, *rest):
     *figure, out, out_count = rest
+    unless(1 <= levels <= 254, 47)
     f = image("set", width, height, 1, address, count)
     unless(out_count == count, 11)
     put(applied("SKELETON", f, [element(*figure)], levels).samples, ctypes.c_uint8, out, out_count)
@@ -117,6 +119,7 @@ def skeleton(levels, width, height, address, count, *rest):
 def restore(kind):
     def call(levels, width, height, top, address, count, *rest):
         *figure, out, out_count = rest
+        unless(1 <= levels <= 254, 47)
         f = image(kind, width, height, top, address, count)
         unless(out_count == count, 11)
         put(applied("RESTORE", f, [element(*figure)], levels).samples, ctypes.c_uint8, out, out_count)
@@ -126,9 +129,10 @@ def restore(kind):
 def spectrum(kind):
     def call(levels, width, height, *rest):
         top, (address, count, *figure, out, out_count) = (1, rest) if kind == "set" else (rest[0], rest[1:])
+        unless(1 <= levels <= 32, 47)
         f = image(kind, width, height, top, address, count)
-        volumes = applied("SPECTRUM", f, [element(*figure)], levels)
         unless(out_count == levels + 1, 11)
+        volumes = applied("SPECTRUM", f, [element(*figure)], levels)
         put(volumes, ctypes.c_uint64, out, out_count)
     return call
 
@@ -171,7 +175,7 @@ class Library:
         return call
 
     def morphd_version(self):
-        return 0
+        return _library.VERSION
 
 
 library = Library()

@@ -44,7 +44,7 @@ def test_the_built_library():
     if conftest.USES_STAND_IN:
         pytest.skip("no library is built")
     assert isinstance(_library.loaded(), ctypes.CDLL)
-    assert morphd.library_version() > 0
+    assert morphd.library_version() == _library.VERSION
 
 
 def test_a_missing_library_says_how_to_build_it(monkeypatch, tmp_path):
@@ -57,15 +57,18 @@ def test_a_missing_library_says_how_to_build_it(monkeypatch, tmp_path):
         _library.use(before)
 
 
-def test_another_library_is_told(monkeypatch, tmp_path):
+@pytest.mark.parametrize("calls, told", [
+    (["morphd_version"], "has no call morphd_flat_u8"), (list(_library.PROTOTYPES), "has version 99, and this package needs 1")])
+def test_another_library_is_told(monkeypatch, tmp_path, calls, told):
     if shutil.which("cc") is None:
         pytest.skip("cc is missing")
-    (tmp_path / "other.c").write_text("int morphd_version(void) { return 1; }\n", encoding="utf-8")
+    text = "".join(f"unsigned {name}(void) {{ return 99; }}\n" for name in calls)
+    (tmp_path / "other.c").write_text(text, encoding="utf-8")
     subprocess.run(["cc", "-shared", "-fPIC", "-o", tmp_path / "other.so", tmp_path / "other.c"], check=True)
     monkeypatch.setenv("MORPHD_LIBRARY", str(tmp_path / "other.so"))
     before = _library.use(None)
     try:
-        with pytest.raises(morphd.LibraryMissing, match="has no call morphd_flat_u8"):
+        with pytest.raises(morphd.LibraryMissing, match=told):
             _library.loaded()
     finally:
         _library.use(before)
