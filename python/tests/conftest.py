@@ -28,7 +28,8 @@ if USES_STAND_IN:
 
 
 def pytest_report_header():
-    told = ["library: a slow stand-in made of checks/plain_model.py, since none is built" if USES_STAND_IN else "library: the one that is built"]
+    stand = "a slow stand-in made of checks/plain_model.py, since none is built"
+    told = [f"library: {stand if USES_STAND_IN else 'the one that is built'}"]
     if collect_ignore:
         told.append(f"NumPy is missing: {', '.join(collect_ignore)} are left out")
     return told
@@ -79,7 +80,8 @@ class Server:
             found.bind(("127.0.0.1", 0))
             self.port = found.getsockname()[1]
         words = [program, "listen", "--port", str(self.port), "--sessions", str(sessions)]
-        self.run = subprocess.Popen(words, stdin=subprocess.DEVNULL, stderr=subprocess.DEVNULL, env=dict(os.environ, **environment))
+        silent = dict.fromkeys(("stdin", "stdout", "stderr"), subprocess.DEVNULL)
+        self.run = subprocess.Popen(words, env=dict(os.environ, **environment), **silent)
 
     def session(self):
         from morphd import Session

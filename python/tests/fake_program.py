@@ -1,7 +1,8 @@
-"""A slow stand-in for the program `morphd`, made of the plain model in checks/plain_model.py: `batch` and `listen`.
+"""A slow stand-in for the program `morphd`, made of the plain model in checks/plain_model.py: `batch`, `listen` and `serve`.
 
     python3 fake_program.py batch
     python3 fake_program.py listen --port 7001
+    python3 fake_program.py serve
 
 Environment: FAKE_WORK is how many seconds a result stays pending; FAKE_PAUSE how long each request is left alone; FAKE_ENTRIES
 how many entries there is room for; FAKE_KILLED the number of the request at which it kills itself; FAKE_STATUS the status with
@@ -114,18 +115,22 @@ def serve_client(machine, client):
             pass
 
 
-def listen(port):
-    machine = Machine(True)
+def listen(port, machine_of):
+    """Serves clients at a port, each by the machine that is made or kept for it."""
     with socket.create_server(("127.0.0.1", port)) as door:
+        print("LISTENING 127.0.0.1", door.getsockname()[1], flush=True)
         while True:
             client, _ = door.accept()
-            threading.Thread(target=serve_client, args=(machine, client), daemon=True).start()
+            threading.Thread(target=serve_client, args=(machine_of(), client), daemon=True).start()
 
 
 def main():
     plain_model.MOST_ENTRIES = int(told("FAKE_ENTRIES", "65536"))
     if sys.argv[1] == "listen":
-        listen(int(sys.argv[sys.argv.index("--port") + 1]))
+        shared = Machine(True)
+        listen(int(sys.argv[sys.argv.index("--port") + 1]), lambda: shared)
+    if sys.argv[1] == "serve":
+        listen(0, lambda: Machine(False))
     sys.exit(serve(Machine(False), sys.stdin.buffer, sys.stdout.buffer))
 
 

@@ -3,6 +3,7 @@ import gc
 import os
 import pickle
 import signal
+import subprocess
 import threading
 import time
 
@@ -250,6 +251,24 @@ def test_two_clients_of_one_server(server):
         assert samples(other.dilation(other.handle(f.name), BAR)) == [3, 4, 4, 5, 5]
         assert samples(other.handle(made.name)) == [1] * 5
         assert samples(made) == [1] * 5
+
+
+def test_a_service_with_a_table_for_each_session(program):
+    run = subprocess.Popen([program, "serve"], stdin=subprocess.DEVNULL, stdout=subprocess.PIPE, stderr=subprocess.DEVNULL)
+    try:
+        line = run.stdout.readline().split()
+        if not line:
+            pytest.skip("this program has no serve")
+        with Session.connect(line[1].decode(), int(line[2])) as one, Session.connect(line[1].decode(), int(line[2])) as other:
+            made = one.erosion(FIVE, BAR)
+            assert made.result(timeout=30).samples == bytes([1] * 5)
+            assert samples(other.dilation(FIVE, BAR)) == [3, 4, 4, 5, 5]
+            with pytest.raises(Refused, match="41 UNKNOWN"):
+                other.handle(made.name).status()
+    finally:
+        run.kill()
+        run.wait()
+        run.stdout.close()
 
 
 def test_a_server_that_is_killed(server):
