@@ -53,8 +53,8 @@ def tell(python, missing):
         python, "out/libmorphd.so" if os.path.exists(LIBRARY) else "none is built, a slow stand-in takes its place",
         "crates/morphd/out/morphd" if os.path.exists(PROGRAM) else "none is built, a stand-in takes its place"), flush=True)
     if missing:
-        print("python package: missing, and what needs it is skipped: " + ", ".join("%s (Debian: %s)" % (it, MODULES[it]) for it in missing),
-              flush=True)
+        told = ", ".join("%s (Debian: %s)" % (it, MODULES[it]) for it in missing)
+        print("python package: missing, and what needs it is skipped: " + told, flush=True)
 
 
 def environment(room):
@@ -90,7 +90,8 @@ def wheel():
         sys.exit("python package: no wheel without " + ", ".join(sorted("python3-" + it for it in set(needed) - set(has))))
     with tempfile.TemporaryDirectory() as room:
         copy = os.path.join(room, "python")
-        shutil.copytree(os.path.join(ROOT, "python"), copy, ignore=shutil.ignore_patterns("tests", "__pycache__", "build", "*.egg-info"))
+        left_out = shutil.ignore_patterns("tests", "__pycache__", "build", "*.egg-info")
+        shutil.copytree(os.path.join(ROOT, "python"), copy, ignore=left_out)
         shutil.copy(LIBRARY, os.path.join(copy, "morphd"))
         backend = "import setuptools.build_meta as backend; backend.build_wheel(%r)" % room
         subprocess.run([python, "-c", backend], cwd=copy, check=True, stdout=subprocess.DEVNULL)

@@ -112,12 +112,12 @@ def _add_common(parser: argparse.ArgumentParser, name: str) -> None:
 
 
 def _parser() -> argparse.ArgumentParser:
-    form = argparse.RawDescriptionHelpFormatter
-    parser = argparse.ArgumentParser("morph", description="Proved flat morphology on pictures.", epilog=EXAMPLES, formatter_class=form)
+    shown: dict[str, Any] = {"epilog": EXAMPLES, "formatter_class": argparse.RawDescriptionHelpFormatter}
+    parser = argparse.ArgumentParser("morph", description="Proved flat morphology on pictures.", **shown)
     parser.add_argument("--version", action="version", version=f"morph {__version__}")
     operations = parser.add_subparsers(dest="operation", required=True, metavar="OPERATION")
     for name, text in HELP.items():
-        one = operations.add_parser(name, help=text, description=f"{text[0].upper()}{text[1:]}.", epilog=EXAMPLES, formatter_class=form)
+        one = operations.add_parser(name, help=text, description=f"{text[0].upper()}{text[1:]}.", **shown)
         if name in FLAT or name in ("skeleton", "restored", "spectrum"):
             _add_footprint(one)
         if name in FLAT or name == "hit-or-miss":

@@ -26,7 +26,7 @@ def as_array(image: Any, axes: tuple[int, int] | None) -> NDArray[Any]:
         raise TypeError("masked arrays are not taken: fill them, and choose by np.where behind the call")
     array = np.asarray(image)
     if array.ndim != 2 and axes is None:
-        raise ValueError(f"an image has two axes, and this array has {array.ndim}: axes=(ROWS, COLUMNS) says which two are a plane's")
+        raise ValueError(f"an image has two axes, and this array has {array.ndim}: axes=(ROWS, COLUMNS) says which are a plane's")
     return array
 
 

@@ -109,7 +109,10 @@ class Threshold:
 
     def run(self, field: Field, out: Samples) -> None:
         arguments = (self.k, *_frame(field), field.maxval, *_array(field.samples), *_array(out))
-        _library.call(f"morphd_threshold_{field.levels.kind}", lambda: f"threshold at {self.k} of {field}", *arguments)
+        _library.call(f"morphd_threshold_{field.levels.kind}", lambda: f"{self} of {field}", *arguments)
+
+    def __str__(self) -> str:
+        return f"threshold at {self.k}"
 
 
 @dataclass(frozen=True)
@@ -129,7 +132,10 @@ class HitOrMiss:
     def run(self, field: Field, out: Samples) -> None:
         elements = (*_element(self.hit), *_element(self.miss))
         arguments = (*_frame(field), *field.top, *_array(field.samples), *elements, *_array(out))
-        _library.call(f"morphd_hit_or_miss_{field.kind}", lambda: f"hit-or-miss by {self.hit!r} and {self.miss!r} of {field}", *arguments)
+        _library.call(f"morphd_hit_or_miss_{field.kind}", lambda: f"{self} of {field}", *arguments)
+
+    def __str__(self) -> str:
+        return f"hit-or-miss by {self.hit!r} and {self.miss!r}"
 
 
 @dataclass(frozen=True)
@@ -149,7 +155,10 @@ class Skeleton:
 
     def run(self, field: Field, out: Samples) -> None:
         arguments = (self.levels, *_frame(field), *_array(field.samples), *_element(self.footprint), *_array(out))
-        _library.call("morphd_skeleton", lambda: f"skeleton of {self.levels} levels by {self.footprint!r} of {field}", *arguments)
+        _library.call("morphd_skeleton", lambda: f"{self} of {field}", *arguments)
+
+    def __str__(self) -> str:
+        return f"skeleton of {self.levels} levels by {self.footprint!r}"
 
 
 @dataclass(frozen=True)
@@ -168,8 +177,10 @@ class Restoration:
 
     def run(self, field: Field, out: Samples) -> None:
         arguments = (self.levels, *_frame(field), field.maxval, *_array(field.samples), *_element(self.footprint), *_array(out))
-        asked = lambda: f"restoration of {self.levels} levels by {self.footprint!r} of {field}"  # noqa: E731
-        _library.call(f"morphd_restore_{field.levels.kind}", asked, *arguments)
+        _library.call(f"morphd_restore_{field.levels.kind}", lambda: f"{self} of {field}", *arguments)
+
+    def __str__(self) -> str:
+        return f"restoration of {self.levels} levels by {self.footprint!r}"
 
 
 def volumes(field: Field, footprint: Footprint, levels: int) -> Samples:

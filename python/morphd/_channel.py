@@ -278,7 +278,8 @@ class Channel:
         if self._last is not None and (number in ENDING or (number == 50 and (status == 1 or status is None))):
             assert number is not None
             ending = Refused(number, self._last.asked)
-            return SessionEnded(f"the session was ended by refusal {number} {REFUSALS[number][0]} of {self._last.asked}", ending, status)
+            told = f"the session was ended by refusal {number} {REFUSALS[number][0]} of {self._last.asked}"
+            return SessionEnded(told, ending, status)
         left = len(self._awaited)
         return SessionEnded(f"{why}; {left} {'request' if left == 1 else 'requests'} had no reply", None, status)
 

@@ -43,6 +43,7 @@ _HOW = (
     "libmorphd was not found: build it with `make library` at the top of the repository, or install a wheel that "
     "`make python` made, or set MORPHD_LIBRARY to the path of libmorphd.so. Looked for: "
 )
+_ANEW = "`make library` makes it anew"
 _loaded: Any = None
 
 
@@ -61,10 +62,10 @@ def _opened(place: str) -> Any:
         try:
             call = getattr(library, name)
         except AttributeError:
-            raise LibraryMissing(f"{place} has no call {name}: it is no libmorphd, or an old one; `make library` makes it anew") from None
+            raise LibraryMissing(f"{place} has no call {name}: it is no libmorphd, or an old one; {_ANEW}") from None
         call.argtypes, call.restype = types, ANSWERS[name]
     if library.morphd_version() != VERSION:
-        raise LibraryMissing(f"{place} has version {library.morphd_version()}, and this package needs {VERSION}; `make library` makes it anew")
+        raise LibraryMissing(f"{place} has version {library.morphd_version()}, and this package needs {VERSION}; {_ANEW}")
     return library
 
 

@@ -130,7 +130,8 @@ class Spectrum:
     def __str__(self) -> str:
         rows = [f"{width:>12.6g} {fall:>14}" for width, fall in zip(self.widths, self.falls.tolist())]
         head = f"{'width, ' + self.unit:>12} {'fall':>14}"
-        return "\n".join([head, *rows, f"{'left over':>12} {self.rest:>14}", f"mean width {self.mean_size:.6g} {self.unit}", self.meaning])
+        rows += [f"{'left over':>12} {self.rest:>14}", f"mean width {self.mean_size:.6g} {self.unit}"]
+        return "\n".join([head, *rows, self.meaning])
 
 
 def pixel_size(pixel: float | str) -> tuple[float, str]:

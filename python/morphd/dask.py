@@ -35,7 +35,9 @@ _OPS = {
 }
 
 
-def _overlapped(name: str, array: Array, call: _calls.Call | None, arguments: tuple[Any, ...], made: Any = None, **options: Any) -> Array:
+def _overlapped(
+    name: str, array: Array, call: _calls.Call | None, arguments: tuple[Any, ...], made: Any = None, **options: Any,
+) -> Array:
     """The operator on each chunk and what stands around it."""
     if array.ndim != 2:
         raise ValueError(f"an image has two axes, and this array has {array.ndim}: take plane after plane")
@@ -44,10 +46,11 @@ def _overlapped(name: str, array: Array, call: _calls.Call | None, arguments: tu
         raise TypeError(f"{name} over chunks takes arrays of bool, uint8 and uint16, and this is one of {array.dtype}")
     reach = Reach(0, 0, 0, 0) if call is None else call.reach
     work, dtype = _Chunk(name, arguments, options), array.dtype if made is None else np.dtype(made)
+    meta = np.empty((0, 0), dtype)
     if not any(reach):
-        return array.map_blocks(work, dtype=dtype, meta=np.empty((0, 0), dtype))
+        return array.map_blocks(work, dtype=dtype, meta=meta)
     depth = {0: (reach.up, reach.down), 1: (reach.left, reach.right)}
-    return dask.array.map_overlap(work, array, depth=depth, boundary="none", dtype=dtype, meta=np.empty((0, 0), dtype), align_arrays=False)
+    return dask.array.map_overlap(work, array, depth=depth, boundary="none", dtype=dtype, meta=meta, align_arrays=False)
 
 
 @dataclass(frozen=True)

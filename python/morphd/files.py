@@ -65,7 +65,7 @@ def _of_page(image: Any, path: Path) -> NDArray[Any]:
         held = np.asarray(image)
         if held.min() >= 0 and held.max() <= 65535:
             return held.astype(np.uint16)
-    raise ValueError(f"{path}: a picture of mode {image.mode} is no set and no levels of 8 or 16 bits: take one of its channels first")
+    raise ValueError(f"{path}: a picture of mode {image.mode} is no set and no levels of 8 or 16 bits: take one channel of it")
 
 
 def _of_tiff(path: Path) -> NDArray[Any]:
@@ -73,9 +73,12 @@ def _of_tiff(path: Path) -> NDArray[Any]:
         import tifffile
     except ImportError:
         return _of_pillow(path)
-    array: NDArray[Any] = tifffile.imread(path)
-    if array.dtype not in (np.bool_, np.uint8, np.uint16) or not 2 <= array.ndim <= 3 or (array.ndim == 3 and array.shape[-1] in (3, 4)):
-        raise ValueError(f"{path}: an array of {array.dtype} and {array.shape} is no set and no levels of 8 or 16 bits, nor a stack of such")
+    with tifffile.TiffFile(path) as file:
+        array: NDArray[Any] = file.asarray()
+        has_colours = file.pages[0].samplesperpixel > 1
+    if array.dtype not in (np.bool_, np.uint8, np.uint16) or not 2 <= array.ndim <= 3 or has_colours:
+        what = "colours" if has_colours else f"an array of {array.dtype} and {array.shape}"
+        raise ValueError(f"{path}: {what} is no set and no levels of 8 or 16 bits, nor a stack of such")
     return array
 
 

@@ -98,7 +98,7 @@ class Picture:
 
         held = np.asarray(array)
         if held.ndim != 2 or not (held.dtype == bool or held.dtype.newbyteorder("=") in (np.uint8, np.uint16)):
-            raise TypeError(f"a picture is made of an array of bool, uint8 or uint16 with two axes, not of {held.dtype} with {held.ndim}")
+            raise TypeError(f"a picture is made of bool, uint8 or uint16 with two axes, not of {held.dtype} with {held.ndim}")
         is_set = held.dtype == bool
         top = 1 if is_set else int(np.iinfo(held.dtype).max) if maxval is None else int(maxval)
         _unless(held.size > 0, 22, "a picture")

@@ -260,7 +260,9 @@ class Session:
 
     is_shared: bool
 
-    def __init__(self, workers: int | None = None, tile: int | None = None, *, program: str | os.PathLike[str] | None = None) -> None:
+    def __init__(
+        self, workers: int | None = None, tile: int | None = None, *, program: str | os.PathLike[str] | None = None,
+    ) -> None:
         words = [found_program(program), "batch"]
         for option, value in (("--workers", workers), ("--tile", tile)):
             words += [] if value is None else [option, str(value)]

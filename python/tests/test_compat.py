@@ -79,7 +79,8 @@ def test_scipys_ranks():
         same(morphd.rank(image, r + 1, bitmap, mode=mode, cval=3), ndimage.rank_filter(image, r, **options), r, mode, image, bitmap)
         if number % 4 == 0:
             same(morphd.median(image, bitmap, mode=mode, cval=3), ndimage.median_filter(image, **options), mode, image, bitmap)
-            same(morphd.percentile(image, q, bitmap, mode=mode, cval=3), ndimage.percentile_filter(image, q, **options), q, mode, image, bitmap)
+            wanted = ndimage.percentile_filter(image, q, **options)
+            same(morphd.percentile(image, q, bitmap, mode=mode, cval=3), wanted, q, mode, image, bitmap)
 
 
 def test_scipys_hit_or_miss():

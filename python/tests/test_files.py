@@ -109,10 +109,13 @@ def test_a_missing_module_is_told(tmp_path, monkeypatch):
 
 
 PAYLOADS = [
-    b"P1\n3 2\n1 0 1\n010\n", b"P1 3 2 #c\n101010", b"P2\n2 1\n1000\n7 1000\n", b"P2#x\n2 1\n9\n3 4", b"P2 #x\n2 1\n9\n#y\n3 #z\n4 and more",
+    b"P1\n3 2\n1 0 1\n010\n", b"P1 3 2 #c\n101010", b"P2\n2 1\n1000\n7 1000\n", b"P2#x\n2 1\n9\n3 4",
+    b"P2 #x\n2 1\n9\n#y\n3 #z\n4 and more",
     b"P4\n3 1\n\xa0", b"P4\n9 2\n\xff\x80\x01\x00", b"P5\n2 1\n9\n\7\1", b"P5\n2 1\n300\n\1\x2c\0\1", b"P5 # \n 1\t1\r255 \x09",
-    b"", b"P6\n1 1\n9\n\0", b"P5\n1 1\n", b"P5\n0 1\n9\n", b"P5\n1 1\n0\n\0", b"P5\n1 1\n65536\n\0", b"P2\n2 1\n9\n7", b"P2\n2 1\n9\n7 x", b"P2\n2 1\n9\n7 10",
-    b"P1\n2 1\n1", b"P1\n2 1\n12", b"P1\n1 1\n1", b"P5\n2 1\n9\n\7", b"P5\n2 1\n9\n\7\1\1", b"P5\n2 1\n9\n\7\x0a", b"P5\n1 1\n300\n\1\x2d", b"P4\n9 1\n\0",
+    b"", b"P6\n1 1\n9\n\0", b"P5\n1 1\n", b"P5\n0 1\n9\n", b"P5\n1 1\n0\n\0", b"P5\n1 1\n65536\n\0",
+    b"P2\n2 1\n9\n7", b"P2\n2 1\n9\n7 x", b"P2\n2 1\n9\n7 10",
+    b"P1\n2 1\n1", b"P1\n2 1\n12", b"P1\n1 1\n1", b"P5\n2 1\n9\n\7", b"P5\n2 1\n9\n\7\1\1",
+    b"P5\n2 1\n9\n\7\x0a", b"P5\n1 1\n300\n\1\x2d", b"P4\n9 1\n\0",
 ]
 
 
@@ -152,7 +155,8 @@ def test_arrays_go_to_sessions_and_come_back(program):
             np.testing.assert_array_equal(session.load(array).array(), array)
         camera = ARRAYS["uint16"] % 4096
         far = morphd.Footprint([[1, 0, 0]], (0, 2))
-        np.testing.assert_array_equal(np.asarray(session.erosion(session.load(camera, 4095), far)), morphd.erosion(camera, far, maxval=4095))
+        eroded = session.erosion(session.load(camera, 4095), far)
+        np.testing.assert_array_equal(np.asarray(eroded), morphd.erosion(camera, far, maxval=4095))
         grains = np.array([[1, 0, 1, 1, 1, 0, 1]], bool)
         curve = session.spectrum(grains, [[1, 1, 1]], 2).spectrum("0.32um")
         wanted = morphd.spectrum(grains, [[1, 1, 1]], 2, "0.32um")

@@ -76,9 +76,11 @@ def test_offsets():
 
 
 @pytest.mark.parametrize("number, make", [
-    (22, lambda: square(0)), (22, lambda: square(256)), (22, lambda: rectangle(3, -1)), (22, lambda: disk(128)), (22, lambda: Footprint([])),
+    (22, lambda: square(0)), (22, lambda: square(256)), (22, lambda: rectangle(3, -1)), (22, lambda: disk(128)),
+    (22, lambda: Footprint([])),
     (31, lambda: Footprint([[1]], (0, 1))), (31, lambda: Footprint([[1]], (-1, 0))), (32, lambda: Footprint([[0, 0]])),
-    (22, lambda: Footprint([[0]] * 256, (300, 0))), (31, lambda: Footprint([[0]], (1, 0))), (22, lambda: line(0)), (22, lambda: line(256))])
+    (22, lambda: Footprint([[0]] * 256, (300, 0))), (31, lambda: Footprint([[0]], (1, 0))),
+    (22, lambda: line(0)), (22, lambda: line(256))])
 def test_refusals_in_the_librarys_order(number, make):
     with pytest.raises(Refused) as told:
         make()

@@ -36,7 +36,8 @@ CALLS = [
     ("black-tophat --square 2 --compat scipy", lambda f: morphd.black_tophat(f, morphd.square(2), compat="scipy")),
     ("rank --number 2 --square 2 --mode ignore", lambda f: morphd.rank(f, 2, morphd.square(2), mode="ignore")),
     ("median --square 3", lambda f: morphd.median(f, morphd.square(3))),
-    ("percentile --percent 20 --square 3 --mode constant --cval 7", lambda f: morphd.percentile(f, 20, morphd.square(3), mode="constant", cval=7)),
+    ("percentile --percent 20 --square 3 --mode constant --cval 7",
+     lambda f: morphd.percentile(f, 20, morphd.square(3), mode="constant", cval=7)),
     ("threshold --at 99.5", lambda f: f >= 100),
     ("erosion --square 3 --origin 2,2 --maxval 255", lambda f: morphd.erosion(f, morphd.square(3).at((2, 2)))),
 ]
@@ -110,10 +111,13 @@ def test_what_cannot_be_made(tmp_path, grains, capsys, line, told):
 
 
 @pytest.mark.parametrize("line", [
-    "", "opened @grains.pgm", "opening @grains.pgm -o @x.pgm", "opening --disk 1 --square 3 @grains.pgm -o @x.pgm", "opening --disk x @grains.pgm -o @x.pgm",
+    "", "opened @grains.pgm", "opening @grains.pgm -o @x.pgm", "opening --disk 1 --square 3 @grains.pgm -o @x.pgm",
+    "opening --disk x @grains.pgm -o @x.pgm",
     "opening --square 256 @grains.pgm -o @x.pgm", "opening --disk 1 @grains.pgm", "opening --disk 1 @grains.pgm @mask.pbm -o -",
-    "opening --disk 1 @grains.pgm @grains.pgm -o @folder", "opening --disk 1 --origin 9,9 @grains.pgm -o @x.pgm", "opening --disk 1 --jobs 0 @grains.pgm -o @x.pgm",
-    "opening --disk 1 --workers 0 @grains.pgm -o @x.pgm", "opening --footprint @none.pbm @grains.pgm -o @x.pgm", "threshold @grains.pgm -o @x.pgm",
+    "opening --disk 1 @grains.pgm @grains.pgm -o @folder", "opening --disk 1 --origin 9,9 @grains.pgm -o @x.pgm",
+    "opening --disk 1 --jobs 0 @grains.pgm -o @x.pgm",
+    "opening --disk 1 --workers 0 @grains.pgm -o @x.pgm", "opening --footprint @none.pbm @grains.pgm -o @x.pgm",
+    "threshold @grains.pgm -o @x.pgm",
     "rectangle --rectangle 3 @grains.pgm -o @x.pgm",
 ])
 def test_wrong_words(tmp_path, grains, line, capsys):
@@ -137,15 +141,17 @@ def test_help(capsys):
 def test_pipes(tmp_path, grains):
     environment, words = stand_in.in_process()
     picture = (tmp_path / "grains.pgm").read_bytes()
-    first = subprocess.run([*words, "white-tophat", "--disk", "2", "-"], input=picture, capture_output=True, env=environment, check=True)
-    second = subprocess.run([*words, "threshold", "--at", "40", "-", "-o", "-"], input=first.stdout, capture_output=True, env=environment, check=True)
+    piped = {"capture_output": True, "env": environment, "check": True}
+    first = subprocess.run([*words, "white-tophat", "--disk", "2", "-"], input=picture, **piped)
+    second = subprocess.run([*words, "threshold", "--at", "40", "-", "-o", "-"], input=first.stdout, **piped)
     wanted = morphd.threshold(morphd.white_tophat(grains, morphd.disk(2)), 40)
     np.testing.assert_array_equal(np.asarray(morphd.Picture.of_file(second.stdout)), wanted)
 
 
 def test_a_reader_that_has_enough(tmp_path, grains):
     environment, words = stand_in.in_process()
-    run = subprocess.Popen([*words, "opening", "--disk", "2", "-"], stdin=subprocess.PIPE, stdout=subprocess.PIPE, stderr=subprocess.PIPE, env=environment)
+    pipes = dict.fromkeys(("stdin", "stdout", "stderr"), subprocess.PIPE)
+    run = subprocess.Popen([*words, "opening", "--disk", "2", "-"], env=environment, **pipes)
     run.stdout.close()
     run.stdin.write((tmp_path / "grains.pgm").read_bytes())
     run.stdin.close()

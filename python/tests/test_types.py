@@ -21,14 +21,14 @@ def call(name, image, **options):
     return getattr(morphd, name)(image, *before, *behind, **options)
 
 
-@pytest.mark.parametrize("dtype", [np.int8, np.int16, np.int32, np.int64, np.uint32, np.uint64, np.float16, np.float32, np.float64, ">i4", ">f8"])
+@pytest.mark.parametrize("dtype", ["i1", "i2", "i4", "i8", "u4", "u8", "f2", "f4", "f8", ">i4", ">f8"])
 @pytest.mark.parametrize("name", COMPARING)
 def test_ordered_levels(name, dtype):
     """What only compares samples makes the same of their places in order."""
     ranks = random_bytes() // 4
     ranks[3, 4] = 0
-    values = np.sort(np.random.default_rng(2).choice(100, 64, replace=False)).astype(dtype) - (50 if np.dtype(dtype).kind != "u" else 0)
-    values = values.astype(dtype)
+    values = np.sort(np.random.default_rng(2).choice(100, 64, replace=False))
+    values = (values - (0 if np.dtype(dtype).kind == "u" else 50)).astype(dtype)
     made, wanted = call(name, values[ranks]), call(name, ranks, maxval=int(ranks.max()))
     if name == "threshold":
         np.testing.assert_array_equal(made, wanted)
@@ -113,7 +113,8 @@ def arrangements(image):
     shifted = np.zeros(image.nbytes + 1, np.uint8)[1:].view(image.dtype).reshape(image.shape)
     shifted[...] = image
     return {"steps": wide[::2, ::3], "columns first": np.asfortranarray(image), "turned": image[::-1, ::-1].copy()[::-1, ::-1],
-            "read-only": frozen, "unaligned": shifted, "other order of bytes": image.astype(image.dtype.newbyteorder()), "list": image.tolist()}
+            "read-only": frozen, "unaligned": shifted,
+            "other order of bytes": image.astype(image.dtype.newbyteorder()), "list": image.tolist()}
 
 
 @pytest.mark.parametrize("dtype", cases.TYPES)

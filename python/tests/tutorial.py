@@ -44,7 +44,8 @@ def differences(text, environment):
     """Pairs of what a block is told to print and what it prints, for those that differ."""
     held = list(blocks(text))
     made = printed([code for code, _ in held], environment)
-    return [(behind[2] if behind else "", out) for (_, behind), out in zip(held, made, strict=True) if out != (behind[2] if behind else "")]
+    pairs = [(behind[2] if behind else "", out) for (_, behind), out in zip(held, made, strict=True)]
+    return [(wanted, out) for wanted, out in pairs if wanted != out]
 
 
 def written(text, environment):
