@@ -516,11 +516,16 @@ def hit_or_miss(
         raise ValueError("skimage has no hit_or_miss")
     first = Footprint(hit)
     second = Footprint(~first.bitmap, first.origin) if miss is None else Footprint(miss)
-    options = _Options(mode, cval, maxval, axes, compat, out, workers)
-    if compat == "scipy" and not set(first.offsets).isdisjoint(second.offsets):
+
+    def plan(reading: _arrays.Reading) -> _plans.Plan:
+        if compat != "scipy":
+            return HitOrMiss(first, second)
+        if not reading.field.is_set:
+            raise TypeError(f"SciPy's hit_or_miss takes an array of bool, and this is one of {reading.dtype}")
         # nothing hits where it misses: a set less itself
-        return _made(_Work("hit_or_miss", lambda _: _plans.Less(None, None)), image, options)
-    return _made(_Work("hit_or_miss", lambda _: HitOrMiss(first, second)), image, options)
+        return HitOrMiss(first, second) if set(first.offsets).isdisjoint(second.offsets) else _plans.Less(None, None)
+
+    return _made(_Work("hit_or_miss", plan), image, _Options(mode, cval, maxval, axes, compat, out, workers))
 
 
 @documented(COMPUTES)

@@ -6,7 +6,8 @@
 
 Environment: FAKE_WORK is how many seconds a result stays pending; FAKE_PAUSE how long each request is left alone; FAKE_ENTRIES
 how many entries there is room for; FAKE_KILLED the number of the request at which it kills itself; FAKE_STATUS the status with
-which it ends there in place of that; FAKE_LACK the number of the request that is answered 50, behind which the session ends.
+which it ends there in place of that; FAKE_LACK the number of the request that is answered 50, behind which the session ends;
+FAKE_STARVED the operation whose results find no memory.
 """
 import os
 import signal
@@ -24,20 +25,41 @@ def told(name, usual="0"):
     return float(os.environ.get(name, usual))
 
 
+class Entry(plain_model.Entry):
+    """An entry that can die for want of memory, too."""
+
+    def is_dead(self):
+        return self.outcome == "MEMORY" or super().is_dead()
+
+
 class Machine(plain_model.Session):
     """The machine, whose results are pending for some time where other clients look at it."""
 
     def __init__(self, is_shared):
         super().__init__()
         self.is_shared, self.lock, self.due, self.requests = is_shared, threading.RLock(), {}, 0
+        self.starved = set()
 
     def accept(self, entry):
         self.due[entry.name] = time.monotonic() + told("FAKE_WORK")
-        return super().accept(entry)
+        return super().accept(Entry(entry.name, entry.shape, entry.inputs, entry.outcome, entry.make))
+
+    def starve(self, entry):
+        """The entry dies, and so does what is made of it."""
+        self.cancel(entry.name)
+        entry.outcome = "MEMORY"
+
+    def status(self, name):
+        text = super().status(name)
+        t, entry = self.known(name)
+        return b"FAILED %d MEMORY\n" % t if entry.outcome == "MEMORY" else text
 
     def work(self):
         if not self.is_shared:
             time.sleep(told("FAKE_WORK") if any(entry.outcome == "PENDING" for entry in self.entries) else 0)
+        for entry in self.entries:
+            if entry.outcome == "PENDING" and entry.name in self.starved:
+                self.starve(entry)
         for entry in self.entries:
             if entry.outcome == "PENDING" and (not self.is_shared or time.monotonic() >= self.due[entry.name]):
                 entry.outcome = "DONE"
@@ -52,6 +74,8 @@ class Machine(plain_model.Session):
         while word == "WAIT" and self.is_pending(words[0]):
             time.sleep(0.005)
         with self.lock:
+            if word == os.environ.get("FAKE_STARVED"):
+                self.starved.add(words[0])
             return plain_model.answer(self, word, words, payload)
 
 

@@ -90,6 +90,8 @@ def test_scipys_hit_or_miss():
         other[0, 0] = True
         wanted = ndimage.binary_hit_or_miss(image, bitmap, other)
         same(morphd.hit_or_miss(image, bitmap, other, compat="scipy"), wanted, image, bitmap, other)
+    with pytest.raises(TypeError, match="uint8"):
+        morphd.hit_or_miss(image.astype(np.uint8), [[1, 0]], compat="scipy")
 
 
 def of_skimage(theirs, name, image, bitmap):

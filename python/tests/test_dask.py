@@ -132,6 +132,14 @@ def test_a_process_that_dies_is_replaced(cluster, tmp_path):
     assert outcome.results == {str(tmp_path / "a"): "done"}
 
 
+def test_a_cluster_of_its_own(monkeypatch, tmp_path):
+    pytest.importorskip("distributed")
+    monkeypatch.setenv("PYTHONPATH", stand_in.in_process()[0]["PYTHONPATH"])
+    monkeypatch.setattr(os, "cpu_count", lambda: 2)
+    morphd.write(tmp_path / "a.pgm", np.full((5, 5), 3, np.uint8))
+    assert morphd.dask.map_files([tmp_path / "a.pgm"], volume, progress=False).results == {str(tmp_path / "a.pgm"): 75}
+
+
 def test_without_a_bar_of_its_own(monkeypatch, capsys):
     monkeypatch.setitem(sys.modules, "tqdm.auto", None)
     one_more = morphd.dask._bar(2, True)

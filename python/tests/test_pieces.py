@@ -101,6 +101,14 @@ def test_an_overlap_that_leaves_no_room_is_told(small_limits):
         morphd.skeleton(np.ones((3, 60), bool), morphd.square(3), 20)
 
 
+@pytest.mark.parametrize("shape", [(8195, 3), (3, 8195)])
+def test_true_limits(shape):
+    image, b = np.random.default_rng(4).integers(0, 256, shape).astype(np.uint8), morphd.Footprint([[1, 0, 1]], (0, 2))
+    shifted = np.full(shape, 255, np.uint8)
+    shifted[:, 2:] = image[:, :-2]
+    np.testing.assert_array_equal(morphd.erosion(image, b), np.minimum(image, shifted))
+
+
 def test_pieces_hold_every_sample_once():
     for shape in ((1, 1), (100, 3), (9000, 5), (5, 9000), (8192, 8192), (20000, 20000)):
         for reach in (Reach(0, 0, 0, 0), Reach(3, 1, 0, 7), Reach(127, 127, 127, 127)):

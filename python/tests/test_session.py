@@ -209,6 +209,21 @@ def test_want_of_memory_that_ends_the_session(fake, monkeypatch):
         kept.status()
 
 
+def test_results_that_find_no_memory(fake, monkeypatch):
+    monkeypatch.setenv("FAKE_STARVED", "RANK")
+    with Session(program=fake) as session:
+        dead = session.rank(FIVE, 1, BAR)
+        made = session.erosion(dead, BAR)
+        with pytest.raises(OutOfMemory, match="RANK .* 1: there is not enough memory"):
+            dead.result()
+        with pytest.raises(InputFailed, match="its input, ticket 2,"):
+            made.wait()
+        assert dead.status() == made.status() == "failed"
+        with pytest.raises(Refused, match="43 DEAD"):
+            session.erosion(dead, BAR).result()
+        assert samples(session.erosion(FIVE, BAR)) == [1] * 5
+
+
 def test_a_full_session(fake, monkeypatch):
     monkeypatch.setenv("FAKE_ENTRIES", "3")
     with Session(program=fake) as session:

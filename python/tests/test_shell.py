@@ -70,6 +70,14 @@ def test_maxval_of_a_file(tmp_path, grains):
     assert (tmp_path / "made.pgm").read_bytes().startswith(b"P5\n12 9\n4095\n")
 
 
+def test_stacks(tmp_path, grains):
+    pytest.importorskip("tifffile")
+    stack = np.stack([grains, 255 - grains])
+    morphd.write(tmp_path / "stack.tif", stack)
+    assert run(tmp_path, "median --square 3 @stack.tif -o @made.tif") == 0
+    np.testing.assert_array_equal(morphd.read(tmp_path / "made.tif"), morphd.median(stack, morphd.square(3), axes=(1, 2)))
+
+
 def test_spectra(tmp_path, grains, capsys):
     pytest.importorskip("matplotlib")
     assert run(tmp_path, "spectrum --disk 1 --sizes 3 --pixel 0.32um @mask.pbm --plot @curve.svg --csv @curve.csv") == 0
