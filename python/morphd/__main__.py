@@ -106,7 +106,7 @@ def _add_common(parser: argparse.ArgumentParser, name: str) -> None:
         parser.add_argument("--maxval", type=int, metavar="SAMPLE", help="the greatest sample there can be, as 4095")
     if name == "spectrum":
         parser.add_argument("--plot", metavar="FILE", help="draw the curve, as SVG, PNG or PDF")
-        parser.add_argument("--csv", metavar="FILE", help="write the curve")
+        parser.add_argument("--csv", metavar="FILE", help="write the curve; - is standard output")
     else:
         parser.add_argument("-o", "--output", metavar="FILE", help="the result; a folder for several files; - is standard output")
 
@@ -204,7 +204,7 @@ class Job:
         """Writes a curve where it is wanted, and prints it where it is wanted nowhere."""
         words = self.words
         if words.csv is not None:
-            curve.to_csv(self._target(words.csv, ".csv"))
+            curve.to_csv(sys.stdout if words.csv == "-" else self._target(words.csv, ".csv"))
         if words.plot is not None:
             from matplotlib.figure import Figure
 
@@ -236,6 +236,8 @@ def _check(parser: argparse.ArgumentParser, words: argparse.Namespace) -> None:
         parser.error("-o says where the result goes")
     if words.operation != "spectrum" and several and words.output == "-":
         parser.error("several results go into a folder: -o FOLDER/")
+    if words.operation == "spectrum" and words.plot == "-":
+        parser.error("--plot takes a file, whose suffix tells its form")
     names = [Path(path).name for path in words.files]
     if several and len(set(names)) < len(names):
         parser.error("two files have the same name, and would go into one")

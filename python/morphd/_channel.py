@@ -118,7 +118,8 @@ class Pipe:
         self._told = tempfile.TemporaryFile()
         pipes = {"stdin": subprocess.PIPE, "stdout": subprocess.PIPE, "stderr": self._told}
         try:
-            self._run = subprocess.Popen(command, bufsize=0, **pipes)  # type: ignore[call-overload]
+            # a session of its own, so that an interrupt at the terminal is this process's to handle
+            self._run = subprocess.Popen(command, bufsize=0, start_new_session=True, **pipes)  # type: ignore[call-overload]
         except OSError as fault:
             self._told.close()
             raise ProgramMissing(f"{command[0]} cannot be started: {fault}") from fault

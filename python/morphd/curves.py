@@ -11,7 +11,7 @@ import csv
 import os
 import re
 from dataclasses import dataclass
-from typing import Any
+from typing import IO, Any
 
 import numpy as np
 from numpy.typing import ArrayLike, NDArray
@@ -113,19 +113,22 @@ class Spectrum:
         ax.set_title(f"mean {self.mean_size:.3g} {self.unit}, {self.rest / whole:.1%} left over", fontsize="medium")
         return ax
 
-    def to_csv(self, path: str | os.PathLike[str]) -> None:
+    def to_csv(self, path: str | os.PathLike[str] | IO[str]) -> None:
         """Writes a line for each size: its number, width, volume before the opening and fall; then one for what is left over.
 
         Parameters
         ----------
-        path : str or path
+        path : str, path or text file
         """
-        with open(path, "w", newline="", encoding="utf-8") as file:
-            rows = csv.writer(file)
-            rows.writerow(["size", f"width in {self.unit}", "volume", "fall"])
-            table = zip(self.widths.tolist(), self.volumes.tolist(), self.falls.tolist())
-            rows.writerows((n, f"{width:.9g}", volume, fall) for n, (width, volume, fall) in enumerate(table))
-            rows.writerow([len(self.volumes) - 1, "", self.rest, ""])
+        if isinstance(path, (str, os.PathLike)):
+            with open(path, "w", newline="", encoding="utf-8") as file:
+                self.to_csv(file)
+            return
+        rows = csv.writer(path, lineterminator="\n")
+        rows.writerow(["size", f"width in {self.unit}", "volume", "fall"])
+        table = zip(self.widths.tolist(), self.volumes.tolist(), self.falls.tolist())
+        rows.writerows((n, f"{width:.9g}", volume, fall) for n, (width, volume, fall) in enumerate(table))
+        rows.writerow([len(self.volumes) - 1, "", self.rest, ""])
 
     def __str__(self) -> str:
         rows = [f"{width:>12.6g} {fall:>14}" for width, fall in zip(self.widths, self.falls.tolist())]

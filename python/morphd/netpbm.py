@@ -9,6 +9,8 @@ This module needs nothing but Python; `numpy.asarray(picture)` makes an array of
 from __future__ import annotations
 
 import re
+import sys
+from array import array
 from dataclasses import dataclass
 from typing import Any
 
@@ -81,12 +83,12 @@ class Picture:
         return cls(width, height, maxval, is_set, read(data[header.end() :], width, height, 0 if is_set else maxval))
 
     @classmethod
-    def of_array(cls, array: Any, maxval: int | None = None) -> Picture:
-        """The picture of an array of bool, uint8 or uint16 with two axes, as long as NumPy is installed.
+    def of_array(cls, image: Any, maxval: int | None = None) -> Picture:
+        """The picture of an array of bool, uint8 or uint16 with two axes, where NumPy is installed.
 
         Parameters
         ----------
-        array : array_like
+        image : array_like
         maxval : int, optional
             The type's greatest value if left out.
 
@@ -96,7 +98,7 @@ class Picture:
         """
         import numpy as np
 
-        held = np.asarray(array)
+        held = np.asarray(image)
         if held.ndim != 2 or not (held.dtype == bool or held.dtype.newbyteorder("=") in (np.uint8, np.uint16)):
             raise TypeError(f"a picture is made of bool, uint8 or uint16 with two axes, not of {held.dtype} with {held.ndim}")
         is_set = held.dtype == bool
@@ -115,8 +117,7 @@ class Picture:
 
     def rows(self) -> list[list[int]]:
         """Its samples as lists of numbers, one for each row."""
-        size = 1 if self.maxval < 256 else 2
-        levels = [int.from_bytes(self.samples[at : at + size], "big") for at in range(0, len(self.samples), size)]
+        levels = list(self.samples if self.maxval < 256 else _wide(self.samples))
         return [levels[at : at + self.width] for at in range(0, len(levels), self.width)]
 
     def __array__(self, dtype: Any = None, copy: bool | None = None) -> Any:
@@ -125,6 +126,14 @@ class Picture:
         held = np.frombuffer(self.samples, "u1" if self.maxval < 256 else ">u2").reshape(self.height, self.width)
         made = held.astype(bool if self.is_set else "u1" if self.maxval < 256 else "u2")
         return made if dtype is None else made.astype(dtype)
+
+
+def _wide(raster: bytes) -> array[int]:
+    """Samples of two bytes, the higher one first."""
+    made = array("H", raster)
+    if sys.byteorder == "little":
+        made.byteswap()
+    return made
 
 
 def _packed(row: bytes) -> bytes:
@@ -156,6 +165,5 @@ def _raw(raster: bytes, width: int, height: int, maxval: int) -> bytes:
         rows = (raster[at : at + across] for at in range(0, len(raster), across))
         return b"".join(b"".join(map(_UNPACKED.__getitem__, row))[:width] for row in rows)
     if maxval not in (255, 65535):
-        greatest = max(raster) if maxval < 256 else max(256 * high + low for high, low in zip(raster[::2], raster[1::2]))
-        _unless(greatest <= maxval, 25, "a raw Netpbm file")
+        _unless(max(raster if maxval < 256 else _wide(raster)) <= maxval, 25, "a raw Netpbm file")
     return raster

@@ -84,6 +84,8 @@ def test_spectra(tmp_path, grains, capsys):
     assert (tmp_path / "curve.svg").read_text(encoding="utf-8").lstrip().startswith("<?xml")
     assert (tmp_path / "curve.csv").read_text(encoding="utf-8").startswith("size,width in µm,volume,fall\n")
     assert capsys.readouterr().out == ""
+    assert run(tmp_path, "spectrum --disk 1 --sizes 3 --pixel 0.32um @mask.pbm --csv -") == 0
+    assert capsys.readouterr().out == (tmp_path / "curve.csv").read_text(encoding="utf-8")
     assert run(tmp_path, "spectrum --disk 1 --sizes 3 @mask.pbm") == 0
     assert capsys.readouterr().out == f"{morphd.spectrum(grains > 100, morphd.disk(1), 3)}\n"
     assert run(tmp_path, "spectrum --disk 1 --sizes 3 @mask.pbm @grains.pgm --csv @curves/") == 0
@@ -126,7 +128,8 @@ def test_what_cannot_be_made(tmp_path, grains, capsys, line, told):
     "opening --disk 1 --jobs 0 @grains.pgm -o @x.pgm",
     "opening --disk 1 --workers 0 @grains.pgm -o @x.pgm", "opening --footprint @none.pbm @grains.pgm -o @x.pgm",
     "threshold @grains.pgm -o @x.pgm",
-    "rectangle --rectangle 3 @grains.pgm -o @x.pgm",
+    "rectangle --rectangle 3 @grains.pgm -o @x.pgm", "opening --rectangle 3 @grains.pgm -o @x.pgm",
+    "spectrum --disk 1 @grains.pgm --plot -",
 ])
 def test_wrong_words(tmp_path, grains, line, capsys):
     with pytest.raises(SystemExit) as ended:
