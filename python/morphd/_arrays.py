@@ -126,6 +126,20 @@ def _of_values(array: NDArray[Any], more: list[Any], what: str) -> Reading:
     return Reading(field, dtype, lambda value: int(np.searchsorted(values, value)), lambda samples: values[samples])
 
 
+def _of_type(cval: Any, dtype: np.dtype[Any]) -> Any:
+    """A sample outside the frame in the array's type."""
+    if dtype.kind == "f":
+        held = dtype.type(cval)
+        is_fit = not np.isnan(held)
+    else:
+        limits = np.iinfo(dtype)
+        is_fit = limits.min <= cval <= limits.max and int(cval) == cval
+        held = dtype.type(int(cval)) if is_fit else None
+    if not is_fit:
+        raise ValueError(f"cval is a sample of the image's type: {cval!r}")
+    return held
+
+
 def check_kind(array: NDArray[Any], what: str, only_compares: bool) -> None:
     """Refuses types that the operator does not take."""
     dtype = array.dtype
@@ -148,7 +162,7 @@ def read(array: NDArray[Any], what: str, maxval: int | None, cval: Any = None) -
         return Reading(Field(_plain(array, np.bool_).view(np.uint8), 1, True), dtype, _whole)
     if native in _LEVELS:
         return _of_levels(array, maxval)
-    return _of_values(array, [] if cval is None else [np.asarray(cval, dtype)[()]], what)
+    return _of_values(array, [] if cval is None else [_of_type(cval, dtype)], what)
 
 
 def checked_out(out: Any, array: NDArray[Any], dtype: Any) -> NDArray[Any] | None:

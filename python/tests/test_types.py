@@ -64,6 +64,13 @@ def test_a_constant_outside_has_a_level():
     assert morphd.dilation(image.astype(int), [[1, 1, 1]], mode="constant", cval=100000).tolist() == [[100000, 7, 100000]]
 
 
+@pytest.mark.parametrize("dtype, cval", [("i1", 300), ("i4", 1.5), ("u4", -1), ("f4", float("nan"))])
+def test_a_constant_outside_is_of_the_images_type(dtype, cval):
+    with pytest.raises(ValueError, match="cval is a sample of the image's type"):
+        morphd.erosion(np.array([[1, 2]], dtype), [[1]], mode="constant", cval=cval)
+    assert morphd.erosion(np.array([[1, 2]], dtype), [[1, 1]], mode="constant", cval=0).tolist() == [[0, 1]]
+
+
 def test_thresholds_between_values():
     image = np.array([[-3, 0, 2]])
     assert morphd.threshold(image, -2.5).tolist() == [[False, True, True]]
