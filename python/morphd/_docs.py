@@ -18,7 +18,8 @@ footprint : Footprint or array_like
     "mode": """\
 mode : {{'ignore', 'reflect', 'mirror', 'nearest', 'wrap', 'constant'}}
     What stands outside the frame. 'ignore' leaves it out, and is what is proved. The others are those of
-    scipy.ndimage: a rim is put around the array before each step.
+    scipy.ndimage: a rim is put around the array before each step.""",
+    "cval": """\
 cval : scalar
     The sample outside with ``mode='constant'``.""",
     "options": """\

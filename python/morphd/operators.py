@@ -140,6 +140,7 @@ def erosion(
     %(image)s
     %(footprint)s
     %(mode)s
+    %(cval)s
     %(options)s
     %(compat)s
     %(out)s
@@ -174,6 +175,7 @@ def dilation(
     %(image)s
     %(footprint)s
     %(mode)s
+    %(cval)s
     %(options)s
     %(compat)s
     %(out)s
@@ -203,6 +205,7 @@ def opening(
     %(image)s
     %(footprint)s
     %(mode)s
+    %(cval)s
     %(options)s
     %(compat)s
     %(out)s
@@ -232,6 +235,7 @@ def closing(
     %(image)s
     %(footprint)s
     %(mode)s
+    %(cval)s
     %(options)s
     %(compat)s
     %(out)s
@@ -260,6 +264,7 @@ def gradient(
     %(image)s
     %(footprint)s
     %(mode)s
+    %(cval)s
     %(options)s
     %(compat)s
     %(out)s
@@ -288,6 +293,7 @@ def white_tophat(
     %(image)s
     %(footprint)s
     %(mode)s
+    %(cval)s
     %(options)s
     %(compat)s
     %(out)s
@@ -316,6 +322,7 @@ def black_tophat(
     %(image)s
     %(footprint)s
     %(mode)s
+    %(cval)s
     %(options)s
     %(compat)s
     %(out)s
@@ -364,6 +371,7 @@ def rank(
         Here 'reflect' is the default, as SciPy has it. With 'ignore' the frame's edge has fewer samples, and number
         min(k, m) of these m is taken, which is the greatest one where k is over m: then the footprint's origin has to be
         one of its pixels.
+    %(cval)s
     %(options)s
     %(compat)s
     %(out)s
@@ -395,6 +403,7 @@ def median(
     %(mode)s
         Here 'reflect' is the default. With 'ignore' the result is no median at the frame's edge: the same number is taken
         of fewer samples.
+    %(cval)s
     %(options)s
     %(compat)s
     %(out)s
@@ -427,6 +436,7 @@ def percentile(
     %(footprint)s
     %(mode)s
         Here 'reflect' is the default, as for `median`.
+    %(cval)s
     %(options)s
     %(compat)s
     %(out)s
@@ -499,6 +509,7 @@ def hit_or_miss(
     miss : Footprint or array_like, optional
         What has to lie outside; the pixels of the bitmap of `hit` that are none of `hit`, if left out.
     %(mode)s
+    %(cval)s
     %(options)s
     %(compat)s
     %(out)s
