@@ -238,7 +238,7 @@ def map_files(
         raise ImportError("map_files needs python3-distributed: apt-get install python3-distributed") from missing
     if client is not None:
         return _mapped(wanted, _Tried(work, retries), client, progress)
-    with distributed.Client(n_workers=os.cpu_count(), threads_per_worker=1, processes=True, dashboard_address=None) as own:
+    with distributed.Client(n_workers=os.cpu_count(), threads_per_worker=1, processes=True, dashboard_address=":0") as own:
         return _mapped(wanted, _Tried(work, retries), own, progress)
 
 

@@ -66,7 +66,7 @@ def cluster():
     distributed = pytest.importorskip("distributed")
     with pytest.MonkeyPatch.context() as here:
         here.setenv("PYTHONPATH", stand_in.in_process()[0]["PYTHONPATH"])
-        with distributed.Client(n_workers=2, threads_per_worker=1, processes=True, dashboard_address=None) as client:
+        with distributed.Client(n_workers=2, threads_per_worker=1, processes=True, dashboard_address=":0") as client:
             yield client
 
 
