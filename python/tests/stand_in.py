@@ -147,11 +147,28 @@ BODIES = {
 }
 
 
+def arrays(name, arguments):
+    """The first address and the one behind the last of each array that a call is given; the result's is the last."""
+    kinds = _library.PROTOTYPES[name]
+    places = [at for at, kind in enumerate(kinds) if kind is ctypes.c_void_p]
+    sizes = [1] * len(places)
+    sizes[0] = 2 if name.endswith("u16") else 1
+    sizes[-1] = 8 if "spectrum" in name else sizes[0] if "flat" in name or "miss" in name else 1
+    return [(arguments[at], arguments[at] + size * arguments[at + 1]) for at, size in zip(places, sizes)]
+
+
+def overlaps(name, arguments):
+    """Whether the result's array lies over another one, which the library forbids and cannot tell."""
+    *others, (begin, end) = arrays(name, arguments)
+    return any(first < end and begin < last for first, last in others)
+
+
 def answering(name, body):
     """The body as a call of C: with the library's types, and a number for what it refuses."""
     def call(*arguments):
         calls[name] = calls.get(name, 0) + 1
         try:
+            unless(not overlaps(name, arguments), -1)
             body(*arguments)
         except Faulty as fault:
             return fault.args[0]

@@ -90,6 +90,19 @@ def test_spectra_by_several_workers():
     np.testing.assert_array_equal(curves._by_openings(field, b, 4, 1), morphd.spectrum(image, b, 4).volumes)
 
 
+def test_seams_of_skeletons(monkeypatch):
+    """Footprints that look to one side alone: an overlap that is too small on the other one is seen."""
+    monkeypatch.setattr(_pieces, "LEAST_ROWS", 1)
+    rng = np.random.default_rng(5)
+    for number in range(60):
+        image = rng.random((24, 3)) < 0.9
+        b = morphd.Footprint([[1], [rng.random() < 0.5], [1]], (2 * (number % 2), 0))
+        levels = 1 + number % 3
+        marks = morphd.skeleton(image, b, levels)
+        np.testing.assert_array_equal(morphd.skeleton(image, b, levels, workers=12), marks)
+        np.testing.assert_array_equal(morphd.restored(marks, b, levels, workers=12), morphd.restored(marks, b, levels))
+
+
 def test_skeletons_of_one_row_whose_reach_is_all_of_it(small_limits):
     image = np.ones((3, 60), bool)
     cross = morphd.diamond(1)

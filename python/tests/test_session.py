@@ -124,6 +124,18 @@ def test_a_dropped_handle_is_let_go_of(program):
         assert f.status() == "done"
 
 
+def test_a_handle_that_is_dropped_while_it_is_pending(program):
+    with Session(program=program) as session:
+        f = session.load(FIVE).accepted()
+        name = session.erosion(f, BAR).name
+        gc.collect()
+        # the first time it is refused, since it is pending; behind a result it is tried again
+        f.wait()
+        f.wait()
+        f.status()
+        assert session.handle(name).status() == "released"
+
+
 def test_handles_by_name_are_not_let_go_of(program):
     with Session(program=program) as session:
         f = session.load(FIVE).accepted()

@@ -137,7 +137,7 @@ def test_strides_and_orders_of_bytes(dtype):
 
 @pytest.mark.parametrize("name", ["erosion", "opening", "white_tophat", "median"])
 @pytest.mark.parametrize("dtype", [*cases.TYPES, np.int32, ">u2"])
-def test_out(name, dtype):
+def test_out(name, dtype, stood_in):
     if name == "white_tophat" and dtype == np.int32:
         pytest.skip("top-hats take no int32")
     image = cases.image(np.random.default_rng(4), (8, 6), np.uint16 if dtype in (np.int32, ">u2") else dtype).astype(dtype)
@@ -150,7 +150,8 @@ def test_out(name, dtype):
     np.testing.assert_array_equal(image, wanted)
 
 
-def test_out_that_lies_over_the_image():
+def test_out_that_lies_over_the_image(stood_in):
+    """The stand-in sees arrays that lie over one another, which the library's own calls must not be given."""
     held = random_bytes((9, 6))
     wanted = morphd.erosion(held[:8], L)
     morphd.erosion(held[:8], L, out=held[1:])
