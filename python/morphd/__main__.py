@@ -11,6 +11,7 @@ from pathlib import Path
 from typing import TYPE_CHECKING, Any
 
 from . import __version__, footprints
+from ._progress import bar
 from .errors import LibraryMissing
 from .footprints import Footprint
 
@@ -248,28 +249,10 @@ def _check(parser: argparse.ArgumentParser, words: argparse.Namespace) -> None:
             parser.error(str(fault))
 
 
-def _bar(words: argparse.Namespace) -> Callable[[], None]:
-    """What is called behind each picture."""
-    if words.quiet or len(words.files) < 2 or not sys.stderr.isatty():
-        return lambda: None
-    try:
-        from tqdm import tqdm
-    except ImportError:
-        left = iter(range(len(words.files) - 1, -1, -1))
-        return lambda: print(f"\r{next(left):6} left ", end="", file=sys.stderr, flush=True)
-    bar = tqdm(total=len(words.files), unit="picture")
-
-    def one_more() -> None:
-        bar.update()
-        if bar.n == bar.total:
-            bar.close()
-
-    return one_more
-
-
 def _run(words: argparse.Namespace) -> int:
     """Runs all jobs; gives the exit status."""
-    status, one_more = 0, _bar(words)
+    status, is_shown = 0, len(words.files) > 1 and not words.quiet and sys.stderr.isatty()
+    one_more = bar(len(words.files), "picture") if is_shown else None
     with ThreadPoolExecutor(words.jobs) as crew:
         running = {crew.submit(Job(words, path).run): path for path in words.files}
         for done in as_completed(running):
@@ -282,7 +265,8 @@ def _run(words: argparse.Namespace) -> int:
                 status = 1
                 place = "" if isinstance(fault, (LibraryMissing, ModuleNotFoundError)) else f"{running[done]}: "
                 print(f"morph: {place}{fault}", file=sys.stderr)
-            one_more()
+            if one_more is not None:
+                one_more()
     return status
 
 

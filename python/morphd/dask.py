@@ -21,6 +21,7 @@ import numpy as np
 from dask.array import Array
 
 from . import _calls, _library, operators
+from ._progress import bar
 from .footprints import Footprint, Reach
 
 __all__ = [
@@ -190,25 +191,6 @@ class _Tried:
         raise AssertionError("a work is tried at least once")
 
 
-def _bar(total: int, progress: bool) -> Callable[[], None]:
-    """What is called for each file that is done: tqdm's bar, or nothing where it is not wanted or not installed."""
-    if not progress:
-        return lambda: None
-    try:
-        from tqdm.auto import tqdm
-    except ImportError:
-        done = iter(range(1, total + 1))
-        return lambda: print(f"\r{next(done)} of {total} files", end="", file=sys.stderr, flush=True)
-    bar = tqdm(total=total, unit="file")
-
-    def one_more() -> None:
-        bar.update()
-        if bar.n >= total:
-            bar.close()
-
-    return one_more
-
-
 def map_files(
     paths: Iterable[Any], work: Callable[[Any], Any], client: Any = None, *, retries: int = 2, progress: bool = True,
 ) -> Outcome:
@@ -248,12 +230,13 @@ def _mapped(paths: list[Any], tried: _Tried, client: Any, progress: bool) -> Out
 
     tasks = client.map(tried, paths, retries=tried.retries, pure=False)
     at = {task.key: path for task, path in zip(tasks, paths)}
-    made, one_more = Outcome(), _bar(len(paths), progress)
+    made, one_more = Outcome(), bar(len(paths), "file") if progress else None
     for task in distributed.as_completed(tasks):
         fault = task.exception() if task.status == "error" else None
         result, own_fault = (None, None) if fault is not None else task.result()
         made.put(at[task.key], result, fault or own_fault)
-        one_more()
+        if one_more is not None:
+            one_more()
     for kept in (made.results, made.failures):
         in_order = {path: kept[path] for path in paths if path in kept}
         kept.clear()

@@ -1,6 +1,5 @@
 """Operators over chunks, and work on many files on a cluster of processes."""
 import os
-import sys
 
 import cases
 import numpy as np
@@ -138,11 +137,3 @@ def test_a_cluster_of_its_own(monkeypatch, tmp_path):
     monkeypatch.setattr(os, "cpu_count", lambda: 2)
     morphd.write(tmp_path / "a.pgm", np.full((5, 5), 3, np.uint8))
     assert morphd.dask.map_files([tmp_path / "a.pgm"], volume, progress=False).results == {str(tmp_path / "a.pgm"): 75}
-
-
-def test_without_a_bar_of_its_own(monkeypatch, capsys):
-    monkeypatch.setitem(sys.modules, "tqdm.auto", None)
-    one_more = morphd.dask._bar(2, True)
-    one_more()
-    one_more()
-    assert capsys.readouterr().err == "\r1 of 2 files\r2 of 2 files"

@@ -1,5 +1,6 @@
 """The command line: results, pipes, folders, faults and exit statuses."""
 import subprocess
+import sys
 from pathlib import Path
 
 import numpy as np
@@ -106,6 +107,13 @@ def test_a_bar(tmp_path, grains, monkeypatch, capsys):
     assert "2" in capsys.readouterr().err
     assert run(tmp_path, "opening --disk 1 @grains.pgm @camera.pgm -o @opened --quiet") == 0
     assert capsys.readouterr().err == ""
+
+
+def test_a_bar_without_tqdm(tmp_path, grains, monkeypatch, capsys):
+    monkeypatch.setitem(sys.modules, "tqdm.auto", None)
+    monkeypatch.setattr("sys.stderr.isatty", lambda: True)
+    assert run(tmp_path, "opening --disk 1 @grains.pgm @camera.pgm -o @opened") == 0
+    assert capsys.readouterr().err == "\r1 of 2 pictures\r2 of 2 pictures"
 
 
 @pytest.mark.parametrize("line, told", [
