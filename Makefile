@@ -1,5 +1,5 @@
 # `make` alone lists the targets. docs/TESTS.md says what each of them tests.
-.PHONY: help demo morphd test documents memory soak bench costs toolchain python compiler valgrind
+.PHONY: help demo morphd test documents memory soak bench costs toolchain python3 compiler valgrind
 
 MORPHD = crates/morphd/out/morphd
 
@@ -12,12 +12,14 @@ help:
 	@echo "make soak       runs random sessions beside a plain model, and a server with good and bad clients; FOR=seconds"
 	@echo "make bench      takes the times of docs/PERFORMANCE.md"
 	@echo "make costs      counts instructions, and compares them with those that are kept"
+	@echo "make python     makes the Python package with the library in it, as a wheel in out"
+	@echo "make check-python  runs all tests of the Python package over the built library"
 
 toolchain:
 	@command -v rt >/dev/null || { \
 	  echo "rt is missing: install the Rattle kit, which whoever gave you this repository has, and put the folder of rt on PATH" >&2; exit 1; }
 
-python:
+python3:
 	@command -v python3 >/dev/null || { \
 	  echo "python3 is missing: install Debian's package python3" >&2; exit 1; }
 
@@ -29,28 +31,29 @@ valgrind:
 	@command -v valgrind >/dev/null || { \
 	  echo "valgrind is missing: install Debian's package valgrind" >&2; exit 1; }
 
-test: toolchain python documents
+test: toolchain python3 documents
 	@python3 -B checks/no_leaks.py
 	@python3 -B checks/laid_out.py
 	@python3 -B checks/thin_rows.py --test
 	@python3 -B checks/thin_rows.py
 	rt ci
+	@python3 -B checks/python_package.py test
 
-documents: python
+documents: python3
 	@python3 -B checks/docs.py --test
 	@python3 -B checks/docs.py
 
 # Proves and builds the program, as wide as the machine allows, and runs it once on its stored session.
-morphd: toolchain python
+morphd: toolchain python3
 	@python3 -B checks/prove.py morphd
 
 # First a trial build, in a minute; then the proved one, which has to write the same.
-demo: toolchain python
+demo: toolchain python3
 	@python3 examples/demo.py trial
 	@python3 -B checks/prove.py morphd
 	@python3 examples/demo.py proved
 
-memory: toolchain python compiler
+memory: toolchain python3 compiler
 	@python3 -B checks/prove.py morphd mw_memory_tests mw_machine_tests mw_direct_tests
 	@python3 -B checks/refused_memory.py $(MORPHD)
 	@python3 -B checks/fetch_memory.py $(MORPHD)
@@ -62,7 +65,7 @@ memory: toolchain python compiler
 # Each of the two soaks for as long as is asked for, and by a seed if one is given: make soak FOR=600 SEED=one
 FOR = 60
 
-soak: toolchain python
+soak: toolchain python3
 	@python3 -B checks/prove.py morphd
 	@python3 -B checks/bad_peers.py $(MORPHD)
 	@python3 -B checks/soak.py $(MORPHD) $(FOR) $(SEED)
@@ -74,7 +77,7 @@ soak: toolchain python
 # word `measure`, as where they are built, the programs end at once.
 KEEP = MALLOC_MMAP_MAX_=0 MALLOC_TRIM_THRESHOLD_=17179869184
 
-bench: toolchain python
+bench: toolchain python3
 	@python3 -B checks/prove.py morphd bench_files bench_kernels bench_core bench_board
 	$(KEEP) crates/bench_files/out/bench_files measure
 	$(KEEP) crates/bench_kernels/out/bench_kernels measure all
@@ -87,7 +90,15 @@ bench: toolchain python
 	@/usr/bin/python3 bench/peers.py || echo "the peers were not measured" >&2
 
 # A busy machine counts as a quiet one does.
-costs: toolchain python valgrind
+costs: toolchain python3 valgrind
 	@python3 -B checks/costs.py --test
 	@python3 -B checks/prove.py bench_sessions
 	@python3 -B checks/costs.py
+
+# The Python package. The tests of `make test` take what is built, and stand-ins for what is not.
+.PHONY: python check-python
+python: python3
+	@python3 -B checks/python_package.py wheel
+
+check-python: python3
+	@python3 -B checks/python_package.py built

@@ -1,0 +1,164 @@
+#!/usr/bin/env python3
+"""Times the Python package beside OpenCV, SciPy and scikit-image, on one thread and on four, and what it adds to the library.
+
+    python3 bench/python.py [SIDE..]        sides of the pictures; 1024 and 4096 if left out
+
+Each time is the best of several runs in milliseconds, taken by turns in one process. The pictures are of real shape: soft discs
+of many sizes on a slanted ground with noise. A peer whose first run takes longer than 10 s is run once. It needs a built
+library; peers that are missing are left out, and so are those that have no such operation.
+"""
+import os
+import sys
+import time
+
+ROOT = os.path.dirname(os.path.dirname(os.path.realpath(__file__)))
+sys.path.insert(0, f"{ROOT}/python")
+try:
+    import numpy as np
+except ImportError as missing:
+    sys.exit(f"no times of the Python package: {missing} (Debian: apt install python3-numpy)")
+
+import morphd  # noqa: E402
+from morphd import _arrays, _calls, _library  # noqa: E402
+
+ROUNDS, LONGEST = 5, 10.0
+
+
+def optional(name):
+    try:
+        return __import__(name, fromlist=["x"])
+    except ImportError:
+        print(f"{name} is missing, and left out", file=sys.stderr)
+        return None
+
+
+cv2, ndimage, skimage = optional("cv2"), optional("scipy.ndimage"), optional("skimage.morphology")
+
+
+def picture(side):
+    """Soft discs on a slanted ground with a few hundredths of noise, in 16 bits."""
+    rng = np.random.default_rng(1)
+    y, x = np.mgrid[:side, :side].astype(np.float32)
+    held = 0.2 + 0.2 * x / side + 0.02 * rng.standard_normal((side, side), np.float32)
+    for cy, cx, r in zip(*rng.integers(0, side, (2, side // 4)), rng.integers(3, 40, side // 4)):
+        rows, columns = slice(max(cy - r, 0), cy + r + 1), slice(max(cx - r, 0), cx + r + 1)
+        inside = (y[rows, columns] - cy) ** 2 + (x[rows, columns] - cx) ** 2 <= r * r
+        held[rows, columns] = np.where(inside, held[rows, columns] + 0.4, held[rows, columns])
+    return (held.clip(0, 1) * 65535).astype(np.uint16)
+
+
+def jobs(image):
+    """A name, what the package does with so many workers, and what the peers do where they have it."""
+    kernels = {"disc of 5": morphd.disk(2), "disc of 15": morphd.disk(7), "disc of 31": morphd.disk(15), "3 x 3": morphd.square(3),
+               "15 x 15": morphd.square(15), "line of 41": morphd.line(41, 45)}
+    asked = [("erosion", "3 x 3"), ("erosion", "15 x 15"), ("erosion", "disc of 5"), ("erosion", "disc of 15"), ("erosion", "disc of 31"),
+             ("opening", "disc of 15"), ("opening", "line of 41"), ("white_tophat", "disc of 31"), ("gradient", "3 x 3")]
+    for name, kernel in asked:
+        yield f"{name}, {kernel}", *flat(name, image, kernels[kernel])
+    if image.dtype != bool:
+        for side in (3, 5, 15):
+            yield f"median, {side} x {side}", *median(image, side)
+        return
+    cross = morphd.diamond(1)
+    yield "skeleton of 50 levels by a cross", (lambda workers: morphd.skeleton(image, cross, 50, workers=workers)), {}
+    yield "spectrum of 16 sizes, disc of 5", (lambda workers: morphd.spectrum(image, kernels["disc of 5"], 16, workers=workers)), {}
+    corner = [[0, 0, 0], [0, 1, 1], [0, 1, 0]]
+    yield "hit-or-miss of a corner", (lambda workers: morphd.hit_or_miss(image, corner, workers=workers)), \
+        {} if ndimage is None else {"SciPy": lambda: ndimage.binary_hit_or_miss(image, np.array(corner))}
+
+
+CV2 = {"erosion": "MORPH_ERODE", "opening": "MORPH_OPEN", "white_tophat": "MORPH_TOPHAT", "gradient": "MORPH_GRADIENT"}
+SCIPY = {"erosion": "grey_erosion", "opening": "grey_opening", "white_tophat": "white_tophat", "gradient": "morphological_gradient"}
+
+
+def flat(name, image, b):
+    """An operator, and the same of the peers."""
+    bits, peers = b.bitmap, {}
+    if cv2 is not None:
+        held = image.astype(np.uint8) if image.dtype == bool else image
+        peers["OpenCV"] = lambda: cv2.morphologyEx(held, getattr(cv2, CV2[name]), bits.astype(np.uint8))
+    if ndimage is not None:
+        if image.dtype != bool:
+            peers["SciPy"] = lambda: getattr(ndimage, SCIPY[name])(image, footprint=bits)
+        elif name in ("erosion", "opening"):
+            peers["SciPy"] = lambda: getattr(ndimage, f"binary_{name}")(image, bits)
+    if skimage is not None and hasattr(skimage, name):
+        peers["scikit-image"] = lambda: getattr(skimage, name)(image, bits)
+    return (lambda workers: getattr(morphd, name)(image, b, workers=workers)), peers
+
+
+def median(image, side):
+    b, peers = morphd.square(side), {}
+    if cv2 is not None and (image.dtype == np.uint8 or side < 7):
+        peers["OpenCV"] = lambda: cv2.medianBlur(image, side)
+    if ndimage is not None:
+        peers["SciPy"] = lambda: ndimage.median_filter(image, side)
+    return (lambda workers: morphd.median(image, b, workers=workers)), peers
+
+
+def timed(run):
+    begun = time.perf_counter()
+    run()
+    return 1000 * (time.perf_counter() - begun)
+
+
+def best(runs):
+    """The best of each of several runs, taken by turns; one that takes too long is run once."""
+    times = [timed(run) for run in runs]
+    for _ in range(ROUNDS - 1):
+        times = [time if time > 1000 * LONGEST else min(time, timed(run)) for time, run in zip(times, runs)]
+    return times
+
+
+def tell_jobs(side):
+    print(f"\n{side} x {side}, milliseconds, best of {ROUNDS}\n")
+    print("| job | samples | morphd, 1 | 4 | gain | OpenCV, 1 | 4 | SciPy | scikit-image |\n|---|---|---:|---:|---:|---:|---:|---:|---:|")
+    levels = picture(side)
+    for image in ((levels >> 8).astype(np.uint8), levels, levels > 30000):
+        for name, ours, peers in jobs(image):
+            found = dict(zip(("one", "four"), best([lambda: ours(1), lambda: ours(4)])))
+            for threads, word in ((1, "OpenCV, 1"), (4, "OpenCV, 4")):
+                if "OpenCV" in peers:
+                    cv2.setNumThreads(threads)
+                    found[word] = best([peers["OpenCV"]])[0]
+            for word in ("SciPy", "scikit-image"):
+                if word in peers:
+                    found[word] = best([peers[word]])[0]
+            cells = [f"{found[word]:.1f}" if word in found else "-" for word in ("OpenCV, 1", "OpenCV, 4", "SciPy", "scikit-image")]
+            gain = found["one"] / found["four"]
+            print(f"| {name} | {image.dtype} | {found['one']:.1f} | {found['four']:.1f} | {gain:.2f} | {' | '.join(cells)} |", flush=True)
+
+
+def tell_added(side):
+    """What a call of the package takes beside the library's own call on the same samples."""
+    image, b = (picture(max(side, 16))[:side, :side] >> 8).astype(np.uint8), morphd.square(3)
+    field, out = _arrays.read(image, "erosion", None).field, np.empty_like(image)
+    call, often = _calls.Flat(_library.ERODE, b), 200 if side < 1024 else 1
+
+    def alone():
+        for _ in range(often):
+            call.run(field, out)
+
+    def packed():
+        for _ in range(often):
+            morphd.erosion(image, b, out=out)
+
+    own, whole, copy = best([alone, packed, lambda: np.copyto(out, image)])
+    print(f"| {side} x {side} | {own / often:.4f} | {whole / often:.4f} | {(whole - own) / often:.4f} | {copy:.4f} |")
+
+
+def main():
+    try:
+        _library.loaded()
+    except morphd.LibraryMissing as missing:
+        sys.exit(f"no times of the Python package: {missing}")
+    print("What the package adds to an erosion by 3 x 3, 8 bits, milliseconds\n")
+    print("| picture | the library's call | morphd.erosion | more | one copy of the picture |\n|---|---:|---:|---:|---:|")
+    for side in (16, 256, 1024, 4096):
+        tell_added(side)
+    for side in [int(word) for word in sys.argv[1:]] or [1024, 4096]:
+        tell_jobs(side)
+
+
+if __name__ == "__main__":
+    main()

@@ -1,0 +1,122 @@
+#!/usr/bin/env python3
+"""Tests the Python package in python/, and makes its wheel.
+
+    python3 checks/python_package.py test     its tests, over the library that is built, or over a slow stand-in
+    python3 checks/python_package.py built    the same, where a library and all that the tests need has to be there
+    python3 checks/python_package.py wheel    out/morphd-VERSION-py3-none-PLATFORM.whl, with the library in it
+
+The stand-in is made of checks/plain_model.py. `test` says what is missing and what is skipped for that, and fails for no
+missing package; it takes the Python that has most of them. Nothing is fetched from a network.
+"""
+import glob
+import os
+import shutil
+import subprocess
+import sys
+import tempfile
+
+ROOT = os.path.dirname(os.path.dirname(os.path.realpath(__file__)))
+LIBRARY = os.path.join(ROOT, "out", "libmorphd.so")
+PROGRAM = os.path.join(ROOT, "crates", "morphd", "out", "morphd")
+LEAST = (3, 11)
+# Modules that tests take, with Debian's package of each.
+MODULES = {
+    "pytest": "python3-pytest", "numpy": "python3-numpy", "scipy": "python3-scipy", "skimage": "python3-skimage", "cv2": "python3-opencv",
+    "PIL": "python3-pil", "tifffile": "python3-tifffile", "matplotlib": "python3-matplotlib", "dask": "python3-dask",
+    "distributed": "python3-distributed", "hypothesis": "python3-hypothesis", "tqdm": "python3-tqdm", "mypy": "python3-mypy",
+}
+FINDS = """
+import importlib.util, sys
+print(*sys.version_info[:2], *(name for name in %r if importlib.util.find_spec(name)))
+"""
+
+
+def pythons(modules):
+    """Each Python of this machine that is new enough, with those of the modules that it has."""
+    places = [sys.executable, shutil.which("python3"), "/usr/bin/python3"]
+    for place in dict.fromkeys(os.path.realpath(it) for it in places if it and os.path.exists(it)):
+        words = subprocess.run([place, "-c", FINDS % (list(modules),)], capture_output=True, text=True, check=True).stdout.split()
+        if (int(words[0]), int(words[1])) >= LEAST:
+            yield place, words[2:]
+
+
+def best_python(modules, needed):
+    """The Python that has most of the modules, of those that have the needed ones if there is one."""
+    found = list(pythons(modules))
+    if not found:
+        sys.exit("python_package.py: Python %d.%d is needed" % LEAST)
+    return max(found, key=lambda one: (len(set(needed) & set(one[1])), len(one[1])))
+
+
+def tell(python, missing):
+    print("python package: %s; library: %s; program: %s" % (
+        python, "out/libmorphd.so" if os.path.exists(LIBRARY) else "none is built, a slow stand-in takes its place",
+        "crates/morphd/out/morphd" if os.path.exists(PROGRAM) else "none is built, a stand-in takes its place"), flush=True)
+    if missing:
+        told = ", ".join("%s (Debian: %s)" % (it, MODULES[it]) for it in missing)
+        print("python package: missing, and what needs it is skipped: " + told, flush=True)
+
+
+def environment(room):
+    """What the tests run in: nothing is written into the tree, and what this tree has built is taken."""
+    kept = dict(os.environ, PYTHONDONTWRITEBYTECODE="1", HYPOTHESIS_STORAGE_DIRECTORY=room, MPLCONFIGDIR=room)
+    for name, place in (("MORPHD_LIBRARY", LIBRARY), ("MORPHD", PROGRAM)):
+        if os.path.exists(place):
+            kept.setdefault(name, place)
+    return kept
+
+
+def test(is_strict):
+    python, has = best_python(MODULES, ("numpy", "pytest"))
+    missing = [name for name in MODULES if name not in has]
+    tell(python, missing)
+    if is_strict and (missing or not os.path.exists(LIBRARY)):
+        sys.exit("python package: not tested; `make library` builds the library, and apt-get install gets the packages")
+    if "pytest" in missing:
+        print("python package: none of its tests was run")
+        return 0
+    with tempfile.TemporaryDirectory() as room:
+        command = [python, "-m", "pytest", "-q", "-p", "no:cacheprovider", *sys.argv[2:]]
+        return subprocess.run(command, cwd=os.path.join(ROOT, "python"), env=environment(room), check=False).returncode
+
+
+def wheel():
+    """Makes the wheel in a copy, puts it into out/, and sees that it can be installed and works."""
+    if not os.path.exists(LIBRARY):
+        sys.exit("python package: no wheel without a library: `make library` builds it")
+    needed = ("setuptools", "wheel", "pip", "numpy")
+    python, has = best_python(needed, needed)
+    if set(needed) - set(has):
+        sys.exit("python package: no wheel without " + ", ".join(sorted("python3-" + it for it in set(needed) - set(has))))
+    with tempfile.TemporaryDirectory() as room:
+        copy = os.path.join(room, "python")
+        left_out = shutil.ignore_patterns("tests", "__pycache__", "build", "*.egg-info")
+        shutil.copytree(os.path.join(ROOT, "python"), copy, ignore=left_out)
+        shutil.copy(LIBRARY, os.path.join(copy, "morphd"))
+        backend = "import setuptools.build_meta as backend; backend.build_wheel(%r)" % room
+        subprocess.run([python, "-c", backend], cwd=copy, check=True, stdout=subprocess.DEVNULL)
+        made = glob.glob(os.path.join(room, "*.whl"))[0]
+        try_out(python, made, os.path.join(room, "installed"))
+        print(shutil.copy(made, os.path.join(ROOT, "out")))
+    return 0
+
+
+def try_out(python, made, place):
+    """Installs the wheel somewhere, and calls the library that is in it."""
+    pip = [python, "-m", "pip", "install", "--quiet", "--no-index", "--no-deps", "--target", place, made]
+    subprocess.run(pip, check=True, env=dict(os.environ, PIP_ROOT_USER_ACTION="ignore"))
+    code = ("import morphd, numpy; assert morphd.__file__.startswith(%r); print('library version', morphd.library_version()); "
+            "assert morphd.erosion(numpy.array([[3, 1, 4, 1, 5]], numpy.uint8), [[1, 1, 1]]).tolist() == [[1] * 5]" % place)
+    kept = {name: value for name, value in os.environ.items() if name != "MORPHD_LIBRARY"}
+    subprocess.run([python, "-c", code], check=True, cwd=place, env=kept)
+
+
+def main():
+    work = {"test": lambda: test(False), "built": lambda: test(True), "wheel": wheel}
+    if len(sys.argv) < 2 or sys.argv[1] not in work:
+        sys.exit(__doc__)
+    sys.exit(work[sys.argv[1]]())
+
+
+if __name__ == "__main__":
+    main()

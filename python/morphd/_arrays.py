@@ -1,0 +1,188 @@
+"""Arrays of the caller as the library takes them, and its samples as arrays of the caller's type.
+
+bool is a set; uint8 and uint16 are levels as they stand. Other integers and floats become their places in rising order
+where they have at most 65,536 values: an operator that only compares samples makes the same of them either way.
+"""
+from __future__ import annotations
+
+import math
+from collections.abc import Callable
+from dataclasses import dataclass
+from typing import Any
+
+import numpy as np
+from numpy.typing import NDArray
+
+from ._calls import Field, Samples
+from .errors import Refused
+
+MOST_LEVELS = 65536
+_LEVELS = (np.dtype(np.uint8), np.dtype(np.uint16))
+
+
+def as_array(image: Any, axes: tuple[int, int] | None) -> NDArray[Any]:
+    """The array of an image, with two axes unless `axes` says which ones are its rows and columns."""
+    if isinstance(image, np.ma.MaskedArray):
+        raise TypeError("masked arrays are not taken: fill them, and choose by np.where behind the call")
+    array = np.asarray(image)
+    if array.ndim != 2 and axes is None:
+        raise ValueError(f"an image has two axes, and this array has {array.ndim}: axes=(ROWS, COLUMNS) says which are a plane's")
+    return array
+
+
+@dataclass(frozen=True)
+class Reading:
+    """An array as the library takes it.
+
+    Attributes
+    ----------
+    field : Field
+        Its samples for the library.
+    dtype : numpy.dtype
+        The caller's type.
+    level_of : callable
+        Gives the least level whose value is not less than a number.
+    back : callable or None
+        Makes values of levels; None where samples stand as they are.
+    """
+
+    field: Field
+    dtype: np.dtype[Any]
+    level_of: Callable[[Any], int]
+    back: Callable[[Samples], NDArray[Any]] | None = None
+
+    def restored(self, samples: Samples) -> NDArray[Any]:
+        """Samples of the result as an array of the caller's type."""
+        if self.back is not None:
+            samples = self.back(samples)
+        if self.field.is_set:
+            return samples.view(np.bool_)
+        return samples if samples.dtype == self.dtype else samples.astype(self.dtype)
+
+
+def _plain(array: NDArray[Any], dtype: Any) -> Samples:
+    """The same samples by rows, without gaps, aligned and in this machine's order of bytes."""
+    return np.require(array, dtype, ["C_CONTIGUOUS", "ALIGNED"])
+
+
+def _of_levels(array: NDArray[Any], maxval: int | None) -> Reading:
+    """An array of uint8 or uint16."""
+    most = int(np.iinfo(array.dtype).max)
+    top = most if maxval is None else int(maxval)
+    if not 1 <= top <= most:
+        raise Refused(23, f"maxval {top} for {array.dtype}")
+    native = array.dtype.newbyteorder("=")
+    samples = _plain(array, native)
+    if native == np.uint16 and top < 256:
+        # the library takes levels of one byte where they fit
+        if array.size and samples.max() > top:
+            raise Refused(25, f"{array.shape} samples up to {top}")
+        samples = samples.astype(np.uint8)
+    return Reading(Field(samples, top, False), array.dtype, _whole)
+
+
+def _whole(value: Any) -> int:
+    """The least whole number that is not less. Infinity has none that the library takes."""
+    if math.isinf(value):
+        raise Refused(47, str(value))
+    return math.ceil(value)
+
+
+def _narrowed(levels: NDArray[Any], count: int) -> Field:
+    """Places in rising order as samples of the smallest type."""
+    return Field(_plain(levels, np.uint8 if count <= 256 else np.uint16), max(count - 1, 1), False)
+
+
+def _of_range(array: NDArray[Any], low: int, high: int) -> Reading:
+    """Integers that lie close enough to one another: each is its distance from the least."""
+    wide = np.int64 if array.dtype.kind == "i" else np.uint64
+    levels = (array.astype(wide) - wide(low)).astype(np.uint16)
+
+    def level_of(value: Any) -> int:
+        return 0 if value <= low else high - low + 1 if value > high else math.ceil(value) - low
+
+    def back(samples: Samples) -> NDArray[Any]:
+        return (samples.astype(wide) + wide(low)).astype(array.dtype)
+
+    return Reading(_narrowed(levels, high - low + 1), array.dtype, level_of, back)
+
+
+def _of_values(array: NDArray[Any], more: list[Any], what: str) -> Reading:
+    """An array of other numbers. `more` are values beyond the array's that have a level, too."""
+    dtype = array.dtype
+    if array.size == 0:
+        raise Refused(22, f"{what} of {array.shape}")
+    if dtype.kind == "f" and np.isnan(array).any():
+        raise ValueError(f"{what}: NaN has no place in the order of samples; fill it, and choose by np.where behind the call")
+    if dtype.kind in "iu":
+        ends = [int(array.min()), int(array.max()), *map(int, more)]
+        if max(ends) - min(ends) < MOST_LEVELS:
+            return _of_range(array, min(ends), max(ends))
+    values = np.unique(np.concatenate([array.ravel(), np.asarray(more, dtype)]))
+    if len(values) > MOST_LEVELS:
+        raise TypeError(f"{what} takes arrays of {dtype} with up to {MOST_LEVELS} values, and this has {len(values)}: "
+                        "bring them to uint16")
+    field = _narrowed(np.searchsorted(values, array), len(values))
+    return Reading(field, dtype, lambda value: int(np.searchsorted(values, value)), lambda samples: values[samples])
+
+
+def _of_type(cval: Any, dtype: np.dtype[Any]) -> Any:
+    """A sample outside the frame in the array's type."""
+    if dtype.kind == "f":
+        held = dtype.type(cval)
+        is_fit = not np.isnan(held)
+    else:
+        limits = np.iinfo(dtype)
+        is_fit = limits.min <= cval <= limits.max and int(cval) == cval
+        held = dtype.type(int(cval)) if is_fit else None
+    if not is_fit:
+        raise ValueError(f"cval is a sample of the image's type: {cval!r}")
+    return held
+
+
+def check_kind(array: NDArray[Any], what: str, only_compares: bool) -> None:
+    """Refuses types that the operator does not take."""
+    dtype = array.dtype
+    if dtype == np.bool_ or dtype.newbyteorder("=") in _LEVELS:
+        return
+    if dtype.kind not in "iuf":
+        raise TypeError(f"{what} takes arrays of bool, integers and floats, and this is one of {dtype}")
+    if not only_compares:
+        raise TypeError(f"{what} takes arrays of bool, uint8 and uint16, and this is one of {dtype}: it computes with samples, "
+                        "so their order alone does not tell its result")
+
+
+def read(array: NDArray[Any], what: str, maxval: int | None, cval: Any = None) -> Reading:
+    """The array for the library. `cval` has a level, too, where it is not None."""
+    dtype = array.dtype
+    native = dtype.newbyteorder("=")
+    if maxval is not None and native not in _LEVELS:
+        raise TypeError(f"{what}: maxval goes with uint8 and uint16, and this is an array of {dtype}")
+    if dtype == np.bool_:
+        return Reading(Field(_plain(array, np.bool_).view(np.uint8), 1, True), dtype, _whole)
+    if native in _LEVELS:
+        return _of_levels(array, maxval)
+    return _of_values(array, [] if cval is None else [_of_type(cval, dtype)], what)
+
+
+def checked_out(out: Any, array: NDArray[Any], dtype: Any) -> NDArray[Any] | None:
+    """The caller's array for the result, if he gave one that it fits."""
+    if out is None:
+        return None
+    if not isinstance(out, np.ndarray):
+        raise TypeError("out is a NumPy array")
+    if out.shape != array.shape or out.dtype != dtype:
+        raise ValueError(f"out is an array of {dtype} and {array.shape}, and this is one of {out.dtype} and {out.shape}")
+    if not out.flags.writeable:
+        raise ValueError("out is read-only")
+    return out
+
+
+def direct(out: NDArray[Any] | None, reading: Reading, samples_type: Any) -> Samples | None:
+    """`out` as samples that the library can write at once, or None where a copy is needed."""
+    if out is None or reading.back is not None or not (out.flags.c_contiguous and out.flags.aligned):
+        return None
+    held = out.view(np.uint8) if out.dtype == np.bool_ else out
+    if held.dtype != samples_type or np.may_share_memory(held, reading.field.samples):
+        return None
+    return held

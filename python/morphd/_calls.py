@@ -1,0 +1,191 @@
+"""One call of the library on one array, as a value: what is asked for, how far it looks, and what its result is made of.
+
+A call knows nothing of edges, cores or arrays that are too large; `_pieces`, `_edges` and `_plans` do.
+"""
+from __future__ import annotations
+
+from dataclasses import dataclass
+from typing import Any, NamedTuple, Protocol
+
+import numpy as np
+from numpy.typing import NDArray
+
+from . import _library
+from .footprints import Footprint, Reach
+
+Samples = NDArray[Any]
+NOWHERE = Reach(0, 0, 0, 0)
+_TWO_STEPS = (_library.OPEN, _library.CLOSE, _library.WHITE_TOPHAT, _library.BLACK_TOPHAT)
+_NAMES = ("erosion", "dilation", "opening", "closing", "gradient", "white top-hat", "black top-hat", "rank")
+
+
+class Field(NamedTuple):
+    """Samples as the library takes them: two axes, by rows without gaps, uint8 or uint16; a set is of uint8."""
+
+    samples: Samples
+    maxval: int
+    is_set: bool
+
+    @property
+    def kind(self) -> str:
+        """What the library calls this kind of samples."""
+        return "set" if self.is_set else "u8" if self.samples.dtype == np.uint8 else "u16"
+
+    @property
+    def top(self) -> tuple[int, ...]:
+        """The maxval as an argument: sets have none."""
+        return () if self.is_set else (self.maxval,)
+
+    @property
+    def levels(self) -> Field:
+        """The same where sets are not taken: levels up to 1."""
+        return self._replace(is_set=False)
+
+    def __str__(self) -> str:
+        rows, columns = self.samples.shape
+        return f"a set of {rows} x {columns}" if self.is_set else f"{rows} x {columns} samples up to {self.maxval}"
+
+
+class Call(Protocol):
+    """What all calls have."""
+
+    @property
+    def reach(self) -> Reach: ...
+
+    def dtype(self, field: Field) -> Any:
+        """The type of the result's samples."""
+
+    def run(self, field: Field, out: Samples) -> None:
+        """Writes the result."""
+
+
+def _array(samples: Samples) -> tuple[int, int]:
+    return samples.ctypes.data, samples.size
+
+
+def _frame(field: Field) -> tuple[int, int]:
+    return field.samples.shape[1], field.samples.shape[0]
+
+
+def _element(footprint: Footprint) -> tuple[bytes, int, int, int, int, int]:
+    (rows, columns), (row, column) = footprint.shape, footprint.origin
+    return footprint.pixels, len(footprint.pixels), columns, rows, column, row
+
+
+@dataclass(frozen=True)
+class Flat:
+    """One of the eight flat operations."""
+
+    op: int
+    footprint: Footprint
+    k: int = 0
+
+    @property
+    def reach(self) -> Reach:
+        own = self.footprint.reach
+        return own + own.turned() if self.op in _TWO_STEPS else own
+
+    def dtype(self, field: Field) -> Any:
+        return field.samples.dtype
+
+    def run(self, field: Field, out: Samples) -> None:
+        arguments = (*_frame(field), *field.top, *_array(field.samples), *_element(self.footprint), *_array(out))
+        _library.call(f"morphd_flat_{field.kind}", lambda: f"{self} of {field}", self.op, self.k, *arguments)
+
+    def __str__(self) -> str:
+        number = f" number {self.k}" if self.op == _library.RANK else ""
+        return f"{_NAMES[self.op]}{number} by {self.footprint!r}"
+
+
+@dataclass(frozen=True)
+class Threshold:
+    """The set of the samples of k or more."""
+
+    k: int
+    reach = NOWHERE
+
+    def dtype(self, field: Field) -> Any:
+        return np.uint8
+
+    def run(self, field: Field, out: Samples) -> None:
+        arguments = (self.k, *_frame(field), field.maxval, *_array(field.samples), *_array(out))
+        _library.call(f"morphd_threshold_{field.levels.kind}", lambda: f"{self} of {field}", *arguments)
+
+    def __str__(self) -> str:
+        return f"threshold at {self.k}"
+
+
+@dataclass(frozen=True)
+class HitOrMiss:
+    """Erosion by the one footprint less dilation by the other."""
+
+    hit: Footprint
+    miss: Footprint
+
+    @property
+    def reach(self) -> Reach:
+        return self.hit.reach.joined(self.miss.reach)
+
+    def dtype(self, field: Field) -> Any:
+        return field.samples.dtype
+
+    def run(self, field: Field, out: Samples) -> None:
+        elements = (*_element(self.hit), *_element(self.miss))
+        arguments = (*_frame(field), *field.top, *_array(field.samples), *elements, *_array(out))
+        _library.call(f"morphd_hit_or_miss_{field.kind}", lambda: f"{self} of {field}", *arguments)
+
+    def __str__(self) -> str:
+        return f"hit-or-miss by {self.hit!r} and {self.miss!r}"
+
+
+@dataclass(frozen=True)
+class Skeleton:
+    """Marks of the residues of so many erosions."""
+
+    footprint: Footprint
+    levels: int
+
+    @property
+    def reach(self) -> Reach:
+        # the last residue looks through all erosions, and back once
+        return self.footprint.reach * self.levels + self.footprint.reach.turned()
+
+    def dtype(self, field: Field) -> Any:
+        return np.uint8
+
+    def run(self, field: Field, out: Samples) -> None:
+        arguments = (self.levels, *_frame(field), *_array(field.samples), *_element(self.footprint), *_array(out))
+        _library.call("morphd_skeleton", lambda: f"{self} of {field}", *arguments)
+
+    def __str__(self) -> str:
+        return f"skeleton of {self.levels} levels by {self.footprint!r}"
+
+
+@dataclass(frozen=True)
+class Restoration:
+    """The set that the marks of a skeleton came from."""
+
+    footprint: Footprint
+    levels: int
+
+    @property
+    def reach(self) -> Reach:
+        return self.footprint.reach.turned() * self.levels
+
+    def dtype(self, field: Field) -> Any:
+        return np.uint8
+
+    def run(self, field: Field, out: Samples) -> None:
+        arguments = (self.levels, *_frame(field), field.maxval, *_array(field.samples), *_element(self.footprint), *_array(out))
+        _library.call(f"morphd_restore_{field.levels.kind}", lambda: f"{self} of {field}", *arguments)
+
+    def __str__(self) -> str:
+        return f"restoration of {self.levels} levels by {self.footprint!r}"
+
+
+def volumes(field: Field, footprint: Footprint, levels: int) -> Samples:
+    """The volumes of a spectrum: of the array, and behind each of so many openings."""
+    out = np.zeros(max(levels, 0) + 1, np.uint64)
+    arguments = (levels, *_frame(field), *field.top, *_array(field.samples), *_element(footprint), *_array(out))
+    _library.call(f"morphd_spectrum_{field.kind}", lambda: f"spectrum of {levels} sizes by {footprint!r} of {field}", *arguments)
+    return out

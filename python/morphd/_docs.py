@@ -1,0 +1,63 @@
+"""Parameters that many functions share, told once and put into the docstring of each."""
+from __future__ import annotations
+
+import textwrap
+from collections.abc import Callable
+from typing import Any, TypeVar
+
+Function = TypeVar("Function", bound=Callable[..., Any])
+
+_PARTS = {
+    "image": """\
+image : array_like
+    Two axes, unless `axes` is given. An array of bool is a set; uint8 and uint16 are taken as they are. {types}
+    Any strides and order of bytes do, and read-only arrays, too.""",
+    "footprint": """\
+footprint : Footprint or array_like
+    What the operator looks through, see `morphd.footprints`.""",
+    "mode": """\
+mode : {{'ignore', 'reflect', 'mirror', 'nearest', 'wrap', 'constant'}}
+    What stands outside the frame. 'ignore' leaves it out, and is what is proved. The others are those of
+    scipy.ndimage: a rim is put around the array before each step.""",
+    "cval": """\
+cval : scalar
+    The sample outside with ``mode='constant'``.""",
+    "options": """\
+maxval : int, optional
+    The greatest sample that an array of uint8 or uint16 can have, 4095 for a camera of 12 bits; the type's if left out.
+    It is what an erosion gives where its footprint sees nothing. A sample over it is refused.
+axes : (int, int), optional
+    Which axes are the rows and the columns of a plane, for arrays with more than two. Planes are treated by themselves.""",
+    "compat": """\
+compat : {{'scipy', 'skimage', 'opencv'}}, optional
+    Whose rules are taken for reflected footprints, the origin of even sides and edges: those of SciPy 1.10,
+    scikit-image 0.19 or OpenCV 4.6. `mode` counts where it is not the default. Differences stop at 0, where some of
+    theirs wrap round.""",
+    "out": """\
+out : ndarray, optional
+    Where the result is written: an array of the image's shape and of the result's type. It may be `image`.
+workers : int, optional
+    How many threads share the rows; -1 is one for each processor. The result is the same.""",
+    "raises": """\
+Refused
+    Where the library refuses it: by number and word, see docs/PROTOCOL.md.
+OutOfMemory
+    Where there is not enough memory.""",
+}
+COMPARES = """\
+Other integers and
+    floats are taken, too, with up to 65,536 values and no NaN, since the operator only compares samples; where a footprint
+    sees nothing, the image's greatest value stands for the maxval, and its least for 0."""
+COMPUTES = "Other types are refused, since the operator subtracts samples."
+
+
+def documented(types: str = COMPARES) -> Callable[[Function], Function]:
+    """Puts the shared parts in the place of their names, as `%(image)s`."""
+
+    def filled(function: Function) -> Function:
+        parts = {name: part.format(types=types) for name, part in _PARTS.items()}
+        text = textwrap.dedent(f"    {function.__doc__}")
+        function.__doc__ = text % parts
+        return function
+
+    return filled

@@ -1,0 +1,111 @@
+"""The calls of libmorphd, by ctypes, which lets go of the interpreter's lock while a call runs.
+
+`PROTOTYPES` says what each call takes, as include/morphd.h does. Nothing above this module knows of ctypes.
+"""
+from __future__ import annotations
+
+import ctypes
+import os
+import sys
+from collections.abc import Callable
+from pathlib import Path
+from typing import Any
+
+from .errors import LibraryMissing, OutOfMemory, Refused
+
+_U8, _U16, _U32, _SIZE, _POINTER = ctypes.c_uint8, ctypes.c_uint16, ctypes.c_uint32, ctypes.c_size_t, ctypes.c_void_p
+_ARRAY = (_POINTER, _SIZE)
+_FRAME = (_U32, _U32)
+_ELEMENT = (*_ARRAY, _U32, _U32, _U32, _U32)
+# What stands for the maxval: sets have none.
+_TOPS: dict[str, tuple[Any, ...]] = {"u8": (_U8,), "u16": (_U16,), "set": ()}
+
+# Each call with the types of its arguments. Those of one family differ in the samples that they take.
+PROTOTYPES: dict[str, tuple[Any, ...]] = {
+    **{f"morphd_flat_{kind}": (_U32, _U32, *_FRAME, *top, *_ARRAY, *_ELEMENT, *_ARRAY) for kind, top in _TOPS.items()},
+    **{f"morphd_threshold_{kind}": (_U32, *_FRAME, *_TOPS[kind], *_ARRAY, *_ARRAY) for kind in ("u8", "u16")},
+    **{f"morphd_hit_or_miss_{kind}": (*_FRAME, *top, *_ARRAY, *_ELEMENT, *_ELEMENT, *_ARRAY) for kind, top in _TOPS.items()},
+    "morphd_skeleton": (_U32, *_FRAME, *_ARRAY, *_ELEMENT, *_ARRAY),
+    **{f"morphd_restore_{kind}": (_U32, *_FRAME, *_TOPS[kind], *_ARRAY, *_ELEMENT, *_ARRAY) for kind in ("u8", "u16")},
+    **{f"morphd_spectrum_{kind}": (_U32, *_FRAME, *top, *_ARRAY, *_ELEMENT, *_ARRAY) for kind, top in _TOPS.items()},
+    "morphd_version": (),
+}
+ANSWERS = {name: _U32 if name == "morphd_version" else ctypes.c_int32 for name in PROTOTYPES}
+
+# The numbers of the operations of the flat calls.
+ERODE, DILATE, OPEN, CLOSE, GRADIENT, WHITE_TOPHAT, BLACK_TOPHAT, RANK = range(8)
+
+MEMORY = 50
+# The version of include/morphd.h that this module speaks.
+VERSION = 1
+_SUFFIX = ".dylib" if sys.platform == "darwin" else ".so"
+_HOW = (
+    "libmorphd was not found: build it with `make library` at the top of the repository, or install a wheel that "
+    "`make python` made, or set MORPHD_LIBRARY to the path of libmorphd.so. Looked for: "
+)
+_ANEW = "`make library` makes it anew"
+_loaded: Any = None
+
+
+def _places() -> list[str]:
+    """Where the library may be, the first first: as the environment says, in the package, in a checkout, in the system."""
+    if "MORPHD_LIBRARY" in os.environ:
+        return [os.environ["MORPHD_LIBRARY"]]
+    here, name = Path(__file__).resolve().parent, f"libmorphd{_SUFFIX}"
+    return [*(str(path) for path in (here / name, here.parents[1] / "out" / name) if path.exists()), name]
+
+
+def _opened(place: str) -> Any:
+    """The library at a place, with the types of its calls."""
+    library = ctypes.CDLL(place)
+    for name, types in PROTOTYPES.items():
+        try:
+            call = getattr(library, name)
+        except AttributeError:
+            raise LibraryMissing(f"{place} has no call {name}: it is no libmorphd, or an old one; {_ANEW}") from None
+        call.argtypes, call.restype = types, ANSWERS[name]
+    if library.morphd_version() != VERSION:
+        raise LibraryMissing(f"{place} has version {library.morphd_version()}, and this package needs {VERSION}; {_ANEW}")
+    return library
+
+
+def loaded() -> Any:
+    """The library, opened at the first call that needs it."""
+    global _loaded
+    if _loaded is None:
+        faults = []
+        for place in _places():
+            try:
+                _loaded = _opened(place)
+                break
+            except OSError as fault:
+                faults.append(f"{place} ({fault})")
+        else:
+            raise LibraryMissing(_HOW + ", ".join(faults))
+    return _loaded
+
+
+def use(library: Any) -> Any:
+    """Calls this library from now on, None for the one that is found; gives the one before."""
+    global _loaded
+    before, _loaded = _loaded, library
+    return before
+
+
+def call(name: str, asked: Callable[[], str], *arguments: Any) -> None:
+    """Calls the library, and raises what its answer stands for. `asked` tells what was asked for, if it is refused."""
+    number = getattr(loaded(), name)(*arguments)
+    if number == MEMORY:
+        raise OutOfMemory(asked())
+    if number:
+        raise Refused(number, asked())
+
+
+def library_version() -> int:
+    """The number of the library's version, as it tells it.
+
+    Returns
+    -------
+    int
+    """
+    return int(loaded().morphd_version())

@@ -1,0 +1,221 @@
+"""A slow stand-in for libmorphd, with its calls, made of the plain model in checks/plain_model.py.
+
+    import stand_in
+    stand_in.install()          # from now on the package calls it
+
+It takes and answers what the library does: arrays by their addresses, and 0 or the number of the first refusal. So tests
+see everything of the package but the library itself. Programs that a test starts install it by themselves, see `in_process`.
+"""
+from __future__ import annotations
+
+import ctypes
+import os
+import sys
+from pathlib import Path
+
+CHECKS = Path(__file__).resolve().parents[2] / "checks"
+sys.path.insert(0, str(CHECKS))
+
+import plain_model  # noqa: E402
+
+from morphd import _library  # noqa: E402
+
+OPERATIONS = ("ERODE", "DILATE", "OPEN", "CLOSE", "GRADIENT", "WTOPHAT", "BTOPHAT", "RANK")
+TYPES = {"u8": ctypes.c_uint8, "u16": ctypes.c_uint16, "set": ctypes.c_uint8}
+# How often each call was made, which tests look at.
+calls: dict[str, int] = {}
+
+
+class Faulty(Exception):
+    """A number to answer."""
+
+
+def unless(holds, number):
+    if not holds:
+        raise Faulty(number)
+
+
+def cells(kind, address, count):
+    return (kind * count).from_address(address) if count else []
+
+
+def image(kind, width, height, maxval, address, count):
+    """The picture in an array."""
+    unless(1 <= width <= 8192 and 1 <= height <= 8192 and width * height <= 1 << 24, 22)
+    unless(count == width * height, 11)
+    samples = list(cells(TYPES[kind], address, count))
+    if kind == "set":
+        return plain_model.Image("BIT", width, height, 1, [int(sample != 0) for sample in samples])
+    unless(maxval >= (256 if kind == "u16" else 1), 23)
+    unless(all(sample <= maxval for sample in samples), 25)
+    return plain_model.Image("GREY", width, height, maxval, samples)
+
+
+def element(address, count, width, height, ox, oy):
+    """The offsets of the footprint in a bitmap."""
+    unless(1 <= width <= 255 and 1 <= height <= 255, 22)
+    unless(count == width * height, 11)
+    unless(ox < width and oy < height, 31)
+    pixels = cells(ctypes.c_uint8, address, count)
+    offsets = [(at % width - ox, at // width - oy) for at, pixel in enumerate(pixels) if pixel]
+    unless(offsets, 32)
+    return plain_model.Element(width, height, offsets)
+
+
+def put(samples, kind, address, count):
+    """Writes a result."""
+    cells(kind, address, count)[:] = samples
+
+
+def applied(operation, f, elements, number):
+    """What the plain model makes of it, or its refusal."""
+    try:
+        plain_model.check_arguments(operation, f[:4], elements, number)
+    except plain_model.Refused as refused:
+        raise Faulty(refused.code) from None
+    numbers = [] if number is None else [number]
+    return plain_model.OPERATIONS[operation][2](f, *[b.offsets for b in elements], *numbers)
+
+
+def flat(kind):
+    def call(op, k, width, height, *rest):
+        top, (address, count, *figure, out, out_count) = (1, rest) if kind == "set" else (rest[0], rest[1:])
+        unless(op < len(OPERATIONS), 47)
+        f = image(kind, width, height, top, address, count)
+        unless(out_count == count, 11)
+        b = element(*figure)
+        made = applied(OPERATIONS[op], f, [b], k if OPERATIONS[op] == "RANK" else None)
+        put(made.samples, TYPES[kind], out, out_count)
+    return call
+
+
+def threshold(kind):
+    def call(k, width, height, top, address, count, out, out_count):
+        unless(k <= 65535, 47)
+        f = image(kind, width, height, top, address, count)
+        unless(out_count == count, 11)
+        put(applied("THRESHOLD", f, [], k).samples, ctypes.c_uint8, out, out_count)
+    return call
+
+
+def hit_or_miss(kind):
+    def call(width, height, *rest):
+        top, (address, count, *figures, out, out_count) = (1, rest) if kind == "set" else (rest[0], rest[1:])
+        f = image(kind, width, height, top, address, count)
+        unless(out_count == count, 11)
+        made = applied("HITMISS", f, [element(*figures[:6]), element(*figures[6:])], None)
+        put(made.samples, TYPES[kind], out, out_count)
+    return call
+
+
+def skeleton(levels, width, height, address, count, *rest):
+    *figure, out, out_count = rest
+    unless(1 <= levels <= 254, 47)
+    f = image("set", width, height, 1, address, count)
+    unless(out_count == count, 11)
+    put(applied("SKELETON", f, [element(*figure)], levels).samples, ctypes.c_uint8, out, out_count)
+
+
+def restore(kind):
+    def call(levels, width, height, top, address, count, *rest):
+        *figure, out, out_count = rest
+        unless(1 <= levels <= 254, 47)
+        f = image(kind, width, height, top, address, count)
+        unless(out_count == count, 11)
+        put(applied("RESTORE", f, [element(*figure)], levels).samples, ctypes.c_uint8, out, out_count)
+    return call
+
+
+def spectrum(kind):
+    def call(levels, width, height, *rest):
+        top, (address, count, *figure, out, out_count) = (1, rest) if kind == "set" else (rest[0], rest[1:])
+        unless(1 <= levels <= 32, 47)
+        f = image(kind, width, height, top, address, count)
+        unless(out_count == levels + 1, 11)
+        volumes = applied("SPECTRUM", f, [element(*figure)], levels)
+        put(volumes, ctypes.c_uint64, out, out_count)
+    return call
+
+
+BODIES = {
+    **{f"morphd_flat_{kind}": flat(kind) for kind in TYPES},
+    **{f"morphd_threshold_{kind}": threshold(kind) for kind in ("u8", "u16")},
+    **{f"morphd_hit_or_miss_{kind}": hit_or_miss(kind) for kind in TYPES},
+    "morphd_skeleton": skeleton,
+    **{f"morphd_restore_{kind}": restore(kind) for kind in ("u8", "u16")},
+    **{f"morphd_spectrum_{kind}": spectrum(kind) for kind in TYPES},
+}
+
+
+def arrays(name, arguments):
+    """The first address and the one behind the last of each array that a call is given; the result's is the last."""
+    kinds = _library.PROTOTYPES[name]
+    places = [at for at, kind in enumerate(kinds) if kind is ctypes.c_void_p]
+    sizes = [1] * len(places)
+    sizes[0] = 2 if name.endswith("u16") else 1
+    sizes[-1] = 8 if "spectrum" in name else sizes[0] if "flat" in name or "miss" in name else 1
+    return [(arguments[at], arguments[at] + size * arguments[at + 1]) for at, size in zip(places, sizes)]
+
+
+def overlaps(name, arguments):
+    """Whether the result's array lies over another one, which the library forbids and cannot tell."""
+    *others, (begin, end) = arrays(name, arguments)
+    return any(first < end and begin < last for first, last in others)
+
+
+def answering(name, body):
+    """The body as a call of C: with the library's types, and a number for what it refuses."""
+    def call(*arguments):
+        calls[name] = calls.get(name, 0) + 1
+        try:
+            unless(not overlaps(name, arguments), -1)
+            body(*arguments)
+        except Faulty as fault:
+            return fault.args[0]
+        return 0
+    return ctypes.CFUNCTYPE(_library.ANSWERS[name], *_library.PROTOTYPES[name])(call)
+
+
+class Library:
+    """The stand-in. `refusing` is a number that each call answers from now on, None for none."""
+
+    def __init__(self):
+        self.refusing = None
+        for name, body in BODIES.items():
+            setattr(self, name, answering(name, self.guarded(body)))
+
+    def guarded(self, body):
+        def call(*arguments):
+            if self.refusing is not None:
+                raise Faulty(self.refusing)
+            body(*arguments)
+        return call
+
+    def morphd_version(self):
+        return _library.VERSION
+
+
+library = Library()
+
+
+def install():
+    """Lets the package call the stand-in; gives what it called before."""
+    return _library.use(library)
+
+
+def is_wanted():
+    """Whether tests are to use it: where no library is built."""
+    try:
+        _library.loaded()
+    except _library.LibraryMissing:
+        return True
+    return False
+
+
+def in_process():
+    """The environment and the words in which a test starts the package's program, so that it calls what it calls here."""
+    here = Path(__file__).resolve().parent
+    paths = [str(here / "site")] if _library.loaded() is library else []
+    paths += [str(here), str(here.parent), os.environ.get("PYTHONPATH", "")]
+    environment = dict(os.environ, PYTHONPATH=os.pathsep.join(path for path in paths if path))
+    return environment, [sys.executable, "-m", "morphd"]

@@ -1,0 +1,139 @@
+"""Operators over chunks, and work on many files on a cluster of processes."""
+import os
+
+import cases
+import numpy as np
+import pytest
+
+da = pytest.importorskip("dask.array")
+
+import stand_in  # noqa: E402
+
+import morphd  # noqa: E402
+import morphd.dask  # noqa: E402
+
+OPERATORS = ("erosion", "dilation", "opening", "closing", "gradient", "white_tophat", "black_tophat")
+
+
+def made(array):
+    return array.compute(scheduler="synchronous")
+
+
+@pytest.mark.parametrize("name", OPERATORS)
+def test_chunks(name):
+    rng = np.random.default_rng(1)
+    for dtype in cases.TYPES:
+        for chunks in ((9, 7), (1, 40), (40, 1), ((5, 1, 20, 4), (30, 3))):
+            image, b = cases.image(rng, (30, 33), dtype), cases.footprint(rng, 4)
+            over = getattr(morphd.dask, name)(da.from_array(image, chunks=chunks), b)
+            assert over.dtype == image.dtype and over.shape == image.shape
+            np.testing.assert_array_equal(made(over), getattr(morphd, name)(image, b), (name, chunks))
+
+
+def test_other_operators():
+    image = np.random.default_rng(2).integers(0, 256, (30, 33)).astype(np.uint8)
+    b, corner = morphd.Footprint([[1, 1], [0, 1]], (0, 1)), [[0, 1], [1, 1]]
+    chunks = da.from_array(image, chunks=(11, 9))
+    np.testing.assert_array_equal(made(morphd.dask.threshold(chunks, 99)), image >= 99)
+    np.testing.assert_array_equal(made(morphd.dask.rank(chunks, 2, b)), morphd.rank(image, 2, b, mode="ignore"))
+    np.testing.assert_array_equal(made(morphd.dask.hit_or_miss(chunks, corner)), morphd.hit_or_miss(image, corner))
+    marks = morphd.dask.skeleton(chunks > 60, b, 3)
+    np.testing.assert_array_equal(made(marks), morphd.skeleton(image > 60, b, 3))
+    np.testing.assert_array_equal(made(morphd.dask.restored(marks, b, 3)), morphd.restored(morphd.skeleton(image > 60, b, 3), b, 3))
+    far = morphd.Footprint([[1, 0, 0]], (0, 2))
+    camera = image.astype(np.uint16)
+    over = morphd.dask.erosion(da.from_array(camera, chunks=(11, 9)), far, maxval=4095)
+    np.testing.assert_array_equal(made(over), morphd.erosion(camera, far, maxval=4095))
+
+
+def test_chains_stay_lazy():
+    image = np.random.default_rng(3).integers(0, 256, (30, 33)).astype(np.uint8)
+    lazy = morphd.dask.opening(morphd.dask.closing(da.from_array(image, chunks=(8, 8)), morphd.square(3)), morphd.square(3))
+    np.testing.assert_array_equal(made(lazy), morphd.opening(morphd.closing(image, morphd.square(3)), morphd.square(3)))
+
+
+def test_what_is_not_taken():
+    with pytest.raises(TypeError, match="float64"):
+        morphd.dask.erosion(da.ones((4, 4), chunks=2), [[1]])
+    with pytest.raises(ValueError, match="two axes"):
+        morphd.dask.erosion(da.ones((4, 4, 4), chunks=2, dtype=np.uint8), [[1]])
+
+
+@pytest.fixture(scope="module")
+def cluster():
+    """A cluster of two processes, which call what this one calls."""
+    distributed = pytest.importorskip("distributed")
+    with pytest.MonkeyPatch.context() as here:
+        here.setenv("PYTHONPATH", stand_in.in_process()[0]["PYTHONPATH"])
+        with distributed.Client(n_workers=2, threads_per_worker=1, processes=True, dashboard_address=":0") as client:
+            yield client
+
+
+def process_of(path):
+    return os.getpid()
+
+
+def volume(path):
+    """What a night's work does with a picture. It is sent to workers by its name."""
+    if "broken" in str(path):
+        raise ValueError(f"{path} is\nbroken")
+    return int(morphd.opening(morphd.read(path), morphd.square(3)).sum())
+
+
+def dies_once(path):
+    """Ends its process the first time."""
+    mark = f"{path}.mark"
+    if not os.path.exists(mark):
+        open(mark, "w", encoding="utf-8").close()
+        os._exit(1)
+    return "done"
+
+
+def fails_once(path):
+    mark = f"{path}.tried"
+    if not os.path.exists(mark):
+        open(mark, "w", encoding="utf-8").close()
+        raise OSError("not yet")
+    return "done"
+
+
+def test_a_cluster_gives_what_one_piece_gives(cluster):
+    image = np.random.default_rng(4).integers(0, 256, (40, 50)).astype(np.uint8)
+    lazy = morphd.dask.opening(da.from_array(image, chunks=(13, 17)), morphd.disk(2))
+    np.testing.assert_array_equal(cluster.compute(lazy).result(), morphd.opening(image, morphd.disk(2)))
+
+
+def test_files_on_a_cluster(cluster, tmp_path, capsys):
+    rng = np.random.default_rng(5)
+    paths = [tmp_path / f"{number}.pgm" for number in range(12)]
+    images = [rng.integers(0, 256, (9, 9)).astype(np.uint8) for _ in paths]
+    for path, image in zip(paths, images):
+        morphd.write(path, image)
+    outcome = morphd.dask.map_files([*paths, tmp_path / "broken"], volume, cluster, retries=1)
+    assert list(outcome.results) == [str(path) for path in paths]
+    assert list(outcome.results.values()) == [int(morphd.opening(image, morphd.square(3)).sum()) for image in images]
+    assert list(outcome.failures) == [str(tmp_path / "broken")]
+    told = capsys.readouterr().err
+    assert f"{tmp_path / 'broken'}: ValueError: {tmp_path / 'broken'} is broken\n" in told
+    assert len(set(morphd.dask.map_files(paths, process_of, cluster, progress=False).results.values())) == 2
+    assert capsys.readouterr().err == ""
+
+
+def test_work_is_tried_again(cluster, tmp_path):
+    outcome = morphd.dask.map_files([str(tmp_path / "a")], fails_once, cluster, progress=False)
+    assert outcome.results == {str(tmp_path / "a"): "done"} and not outcome.failures
+    outcome = morphd.dask.map_files([str(tmp_path / "b")], fails_once, cluster, retries=0, progress=False)
+    assert isinstance(outcome.failures[str(tmp_path / "b")], OSError)
+
+
+def test_a_process_that_dies_is_replaced(cluster, tmp_path):
+    outcome = morphd.dask.map_files([str(tmp_path / "a")], dies_once, cluster, progress=False)
+    assert outcome.results == {str(tmp_path / "a"): "done"}
+
+
+def test_a_cluster_of_its_own(monkeypatch, tmp_path):
+    pytest.importorskip("distributed")
+    monkeypatch.setenv("PYTHONPATH", stand_in.in_process()[0]["PYTHONPATH"])
+    monkeypatch.setattr(os, "cpu_count", lambda: 2)
+    morphd.write(tmp_path / "a.pgm", np.full((5, 5), 3, np.uint8))
+    assert morphd.dask.map_files([tmp_path / "a.pgm"], volume, progress=False).results == {str(tmp_path / "a.pgm"): 75}

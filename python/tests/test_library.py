@@ -1,0 +1,131 @@
+"""How the library is found and called."""
+import ctypes
+import re
+import shutil
+import subprocess
+import sys
+from pathlib import Path
+
+import conftest
+import numpy as np
+import pytest
+
+import morphd
+from morphd import _library
+
+HEADER = Path(__file__).resolve().parents[2] / "include" / "morphd.h"
+C_TYPES = {"uint8_t": ctypes.c_uint8, "uint16_t": ctypes.c_uint16, "uint32_t": ctypes.c_uint32, "size_t": ctypes.c_size_t,
+           "int32_t": ctypes.c_int32}
+
+
+def prototypes(text):
+    """The calls of a header, with the types of their answers and arguments."""
+    text = re.sub(r"/\*.*?\*/|//[^\n]*", "", text, flags=re.DOTALL)
+    for answer, name, arguments in re.findall(r"(\w+)\s+(morphd_\w+)\s*\(([^)]*)\)\s*;", text):
+        kinds = [each.strip() for each in arguments.split(",") if each.strip() not in ("", "void")]
+        types = [ctypes.c_void_p if "*" in each else C_TYPES[re.sub(r"\bconst\b", "", each).split()[0]] for each in kinds]
+        yield name, C_TYPES[answer], tuple(types)
+
+
+def test_calls_are_those_of_the_header():
+    if not HEADER.exists():
+        pytest.skip("include/morphd.h is not there yet")
+    found = {name: (answer, types) for name, answer, types in prototypes(HEADER.read_text(encoding="utf-8"))}
+    assert found == {name: (_library.ANSWERS[name], types) for name, types in _library.PROTOTYPES.items()}
+
+
+def test_prototypes_are_read():
+    text = "/* int32_t morphd_x(int); */ int32_t morphd_y(uint32_t a, const uint8_t *b,\n size_t c);\nuint32_t morphd_version(void);"
+    assert list(prototypes(text)) == [
+        ("morphd_y", ctypes.c_int32, (ctypes.c_uint32, ctypes.c_void_p, ctypes.c_size_t)), ("morphd_version", ctypes.c_uint32, ())]
+
+
+def test_the_built_library():
+    if conftest.USES_STAND_IN:
+        pytest.skip("no library is built")
+    assert isinstance(_library.loaded(), ctypes.CDLL)
+    assert morphd.library_version() == _library.VERSION
+
+
+def test_a_missing_library_says_how_to_build_it(monkeypatch, tmp_path):
+    monkeypatch.setenv("MORPHD_LIBRARY", str(tmp_path / "libmorphd.so"))
+    before = _library.use(None)
+    try:
+        with pytest.raises(morphd.LibraryMissing, match="make library"):
+            morphd.erosion(np.ones((2, 2), np.uint8), [[1]])
+    finally:
+        _library.use(before)
+
+
+@pytest.mark.parametrize("calls, told", [
+    (["morphd_version"], "has no call morphd_flat_u8"), (list(_library.PROTOTYPES), "has version 99, and this package needs 1")])
+def test_another_library_is_told(monkeypatch, tmp_path, calls, told):
+    if shutil.which("cc") is None:
+        pytest.skip("cc is missing")
+    text = "".join(f"unsigned {name}(void) {{ return 99; }}\n" for name in calls)
+    (tmp_path / "other.c").write_text(text, encoding="utf-8")
+    subprocess.run(["cc", "-shared", "-fPIC", "-o", tmp_path / "other.so", tmp_path / "other.c"], check=True)
+    monkeypatch.setenv("MORPHD_LIBRARY", str(tmp_path / "other.so"))
+    before = _library.use(None)
+    try:
+        with pytest.raises(morphd.LibraryMissing, match=told):
+            _library.loaded()
+    finally:
+        _library.use(before)
+
+
+def test_places(monkeypatch, tmp_path):
+    monkeypatch.delenv("MORPHD_LIBRARY", raising=False)
+    assert _library._places()[-1].startswith("libmorphd.")
+    monkeypatch.setattr(_library, "__file__", str(tmp_path / "python" / "morphd" / "_library.py"))
+    for folder in ("out", "python/morphd"):
+        (tmp_path / folder).mkdir(parents=True, exist_ok=True)
+        (tmp_path / folder / f"libmorphd{_library._SUFFIX}").touch()
+    assert [Path(place).parent.name for place in _library._places()] == ["morphd", "out", ""]
+
+
+def test_a_number_without_a_name():
+    assert str(morphd.Refused(99, "x")) == "x: a refusal without a name (99 )"
+
+
+def test_the_package_names_what_it_has():
+    assert set(morphd.__all__) <= set(dir(morphd))
+    assert all(getattr(morphd, name) is not None for name in morphd.__all__)
+    with pytest.raises(AttributeError):
+        morphd.watershed
+
+
+def test_examples_of_docstrings():
+    """Run where NumPy prints as the examples have it."""
+    import doctest
+
+    from morphd import curves, footprints, operators
+
+    for module in (footprints, operators, curves):
+        outcome = doctest.testmod(module)
+        assert outcome.failed == 0
+    assert outcome.attempted > 0
+
+
+def test_every_public_function_tells_its_parameters():
+    """As NumPy has them: each parameter stands in the docstring."""
+    import inspect
+
+    from morphd import curves, operators
+
+    for module in (operators, curves):
+        for name in module.__all__:
+            function = getattr(module, name)
+            if inspect.isfunction(function):
+                assert "Parameters\n----------" in function.__doc__ and "Returns\n-------" in function.__doc__, name
+                for parameter in inspect.signature(function).parameters:
+                    assert re.search(rf"^{parameter}( :|,)|, {parameter} :", function.__doc__, re.M), (name, parameter)
+                assert "%(" not in function.__doc__
+
+
+def test_types(tmp_path):
+    pytest.importorskip("mypy")
+    folder = Path(__file__).resolve().parents[1]
+    command = [sys.executable, "-m", "mypy", "--cache-dir", str(tmp_path), "--config-file", "pyproject.toml"]
+    made = subprocess.run(command, cwd=folder, capture_output=True, text=True, check=False)
+    assert made.returncode == 0, made.stdout[-3000:]

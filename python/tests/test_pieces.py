@@ -1,0 +1,192 @@
+"""Arrays cut into pieces: results are those of one piece, byte for byte, also over seams."""
+import threading
+
+import cases
+import numpy as np
+import pytest
+
+import morphd
+from morphd import _pieces, curves
+from morphd.footprints import Reach
+
+OPERATORS = ("erosion", "dilation", "opening", "closing", "gradient", "white_tophat", "black_tophat")
+
+
+@pytest.fixture
+def small_limits(monkeypatch):
+    """Limits that small arrays are over."""
+    monkeypatch.setattr(_pieces, "LONGEST_SIDE", 17)
+    monkeypatch.setattr(_pieces, "MOST_SAMPLES", 17 * 15)
+    monkeypatch.setattr(_pieces, "LEAST_ROWS", 1)
+
+
+def pairs(call, image):
+    """What is made in one piece, and cut."""
+    with pytest.MonkeyPatch.context() as wide:
+        wide.setattr(_pieces, "LONGEST_SIDE", 8192)
+        wide.setattr(_pieces, "MOST_SAMPLES", 1 << 24)
+        whole = call(image)
+    return whole, call(image)
+
+
+def images():
+    rng = np.random.default_rng(1)
+    for dtype in cases.TYPES:
+        for shape in ((40, 9), (9, 40), (31, 33)):
+            yield cases.image(rng, shape, dtype), cases.footprint(rng, 5)
+
+
+@pytest.mark.parametrize("mode", ["ignore", "reflect", "wrap"])
+@pytest.mark.parametrize("name", OPERATORS)
+def test_pieces_of_large_arrays(small_limits, stood_in, name, mode):
+    import stand_in
+
+    def counted(held):
+        before = sum(stand_in.calls.values())
+        made = getattr(morphd, name)(held, b, mode=mode)
+        return made, sum(stand_in.calls.values()) - before
+
+    for image, b in images():
+        (whole, calls), (cut, more_calls) = pairs(counted, image)
+        np.testing.assert_array_equal(whole, cut)
+        assert more_calls >= 2 * calls
+
+
+@pytest.mark.parametrize("workers", [2, 3, 7])
+@pytest.mark.parametrize("name", OPERATORS)
+def test_rows_are_shared(monkeypatch, name, workers):
+    monkeypatch.setattr(_pieces, "LEAST_ROWS", 2)
+    for image, b in images():
+        wanted = getattr(morphd, name)(image, b)
+        np.testing.assert_array_equal(getattr(morphd, name)(image, b, workers=workers), wanted)
+        out = np.zeros_like(image)
+        getattr(morphd, name)(image, b, workers=workers, out=out)
+        np.testing.assert_array_equal(out, wanted)
+
+
+def test_other_operators_are_cut(small_limits):
+    rng = np.random.default_rng(2)
+    for shape in ((40, 9), (9, 40), (31, 33)):
+        image, b = cases.image(rng, shape, bool), cases.footprint(rng, 3, with_origin=True)
+        other = morphd.Footprint([[1, 0], [0, 0]], (1, 0))
+        calls = [
+            lambda held: morphd.threshold(held, 1),
+            lambda held: morphd.median(held, b),
+            lambda held: morphd.rank(held, 1, b, mode="ignore"),
+            lambda held: morphd.hit_or_miss(held, morphd.Footprint([[0, 0], [1, 0]], (1, 0)), other),
+            lambda held: morphd.skeleton(held, b, 2),
+            lambda held: morphd.restored(morphd.skeleton(held, b, 2), b, 2),
+            lambda held: morphd.spectrum(held, b, 3).volumes,
+        ]
+        for call in calls:
+            np.testing.assert_array_equal(*pairs(call, image))
+
+
+def test_spectra_by_several_workers():
+    image, b = np.random.default_rng(3).integers(0, 256, (40, 13)).astype(np.uint8), morphd.Footprint([[1, 1, 0], [0, 1, 1]], (1, 2))
+    assert len(_pieces.cut(image.shape, Reach(0, 0, 0, 0), 2)) == 2
+    np.testing.assert_array_equal(morphd.spectrum(image, b, 4, workers=2).volumes, morphd.spectrum(image, b, 4).volumes)
+    field = curves._arrays.read(image, "spectrum", None).field
+    np.testing.assert_array_equal(curves._by_openings(field, b, 4, 1), morphd.spectrum(image, b, 4).volumes)
+
+
+def test_seams_of_skeletons(monkeypatch):
+    """Footprints that look to one side alone: an overlap that is too small on the other one is seen."""
+    monkeypatch.setattr(_pieces, "LEAST_ROWS", 1)
+    rng = np.random.default_rng(5)
+    for number in range(60):
+        image = rng.random((24, 3)) < 0.9
+        b = morphd.Footprint([[1], [rng.random() < 0.5], [1]], (2 * (number % 2), 0))
+        levels = 1 + number % 3
+        marks = morphd.skeleton(image, b, levels)
+        np.testing.assert_array_equal(morphd.skeleton(image, b, levels, workers=12), marks)
+        np.testing.assert_array_equal(morphd.restored(marks, b, levels, workers=12), morphd.restored(marks, b, levels))
+
+
+def test_skeletons_of_one_row_whose_reach_is_all_of_it(small_limits):
+    image = np.ones((3, 60), bool)
+    cross = morphd.diamond(1)
+    np.testing.assert_array_equal(*pairs(lambda held: morphd.skeleton(held, cross, 5), image))
+
+
+def test_an_overlap_that_leaves_no_room_is_told(small_limits):
+    with pytest.raises(ValueError, match="no room"):
+        morphd.skeleton(np.ones((3, 60), bool), morphd.square(3), 20)
+
+
+@pytest.mark.parametrize("shape", [(8195, 3), (3, 8195)])
+def test_true_limits(shape):
+    image, b = np.random.default_rng(4).integers(0, 256, shape).astype(np.uint8), morphd.Footprint([[1, 0, 1]], (0, 2))
+    shifted = np.full(shape, 255, np.uint8)
+    shifted[:, 2:] = image[:, :-2]
+    np.testing.assert_array_equal(morphd.erosion(image, b), np.minimum(image, shifted))
+
+
+def test_pieces_hold_every_sample_once():
+    for shape in ((1, 1), (100, 3), (9000, 5), (5, 9000), (8192, 8192), (20000, 20000)):
+        for reach in (Reach(0, 0, 0, 0), Reach(3, 1, 0, 7), Reach(127, 127, 127, 127)):
+            for workers in (1, 4):
+                check_pieces(shape, reach, workers)
+
+
+def check_pieces(shape, reach, workers):
+    pieces = _pieces.cut(shape, reach, workers)
+    assert sum((p.rows.end - p.rows.begin) * (p.columns.end - p.columns.begin) for p in pieces) == shape[0] * shape[1]
+    assert len({(p.rows.begin, p.columns.begin) for p in pieces}) == len(pieces)
+    for p in pieces:
+        height, width = p.rows.last - p.rows.first, p.columns.last - p.columns.first
+        assert 1 <= height <= 8192 and 1 <= width <= 8192 and height * width <= 1 << 24
+        assert p.rows.first == max(p.rows.begin - reach.up, 0) and p.rows.last == min(p.rows.end + reach.down, shape[0])
+        assert p.columns.first == max(p.columns.begin - reach.left, 0) and p.columns.last == min(p.columns.end + reach.right, shape[1])
+
+
+def test_workers_are_threads_of_their_own(monkeypatch, stood_in):
+    monkeypatch.setattr(_pieces, "LEAST_ROWS", 1)
+    met = threading.Barrier(4, timeout=20)
+    seen = set()
+    real = stood_in.morphd_flat_u8
+
+    def together(*arguments):
+        met.wait()
+        seen.add(threading.get_ident())
+        return real(*arguments)
+
+    monkeypatch.setattr(stood_in, "morphd_flat_u8", together)
+    morphd.erosion(np.ones((8, 3), np.uint8), [[1]], workers=4)
+    assert len(seen) == 4
+
+
+def test_how_many_workers(monkeypatch):
+    monkeypatch.setattr("os.cpu_count", lambda: 8)
+    assert [_pieces.worker_count(number) for number in (None, 1, 5, -1, -3)] == [1, 1, 5, 8, 6]
+    for number in (0, -9):
+        with pytest.raises(ValueError, match="workers"):
+            _pieces.worker_count(number)
+
+
+def test_a_sample_over_the_maxval_is_found_before_anything_is_written(monkeypatch):
+    monkeypatch.setattr(_pieces, "LEAST_ROWS", 1)
+    image, out = np.full((8, 3), 5, np.uint8), np.full((8, 3), 1, np.uint8)
+    image[7, 2] = 9
+    with pytest.raises(morphd.Refused, match="25 SAMPLE"):
+        morphd.erosion(image, [[1]], maxval=8, workers=4, out=out)
+    assert (out == 1).all()
+
+
+def test_want_of_memory_in_a_thread(monkeypatch, stood_in):
+    monkeypatch.setattr(_pieces, "LEAST_ROWS", 1)
+    stood_in.refusing = 50
+    with pytest.raises(morphd.OutOfMemory):
+        morphd.erosion(np.ones((8, 3), np.uint8), [[1]], workers=4)
+
+
+def test_a_child_process_has_threads_of_its_own(monkeypatch):
+    import os
+
+    monkeypatch.setattr(_pieces, "LEAST_ROWS", 1)
+    image = np.ones((8, 3), np.uint8)
+    morphd.erosion(image, [[1]], workers=2)
+    child = os.fork()
+    if child == 0:
+        os._exit(0 if (morphd.erosion(image, [[1]], workers=2) == 1).all() else 1)
+    assert os.waitpid(child, 0)[1] == 0

@@ -1,0 +1,375 @@
+"""Sessions: handles, refusals, pending results, ends of every kind, and servers that are killed, slow and full."""
+import gc
+import os
+import pickle
+import signal
+import subprocess
+import threading
+import time
+
+import pytest
+
+from morphd import Cancelled, Footprint, InputFailed, OutOfMemory, Picture, ProgramMissing, Refused, Session, SessionEnded, errors, square
+
+FIVE = Picture(5, 1, 9, False, bytes([3, 1, 4, 1, 5]))
+BAR = Footprint([[1, 1, 1]])
+
+
+def samples(handle):
+    return list(handle.result().samples)
+
+
+def test_an_erosion_of_five_samples(program):
+    with Session(program=program) as session:
+        eroded = session.erosion(FIVE, BAR)
+        assert eroded.result() == Picture(5, 1, 9, False, bytes([1, 1, 1, 1, 1]))
+        assert eroded.status() == "done"
+        assert eroded.ticket == 2
+
+
+def test_all_operations(program):
+    with Session(workers=2, tile=64, program=program) as session:
+        f, b = session.load(FIVE), session.element(BAR)
+        x = session.threshold(f, 3)
+        assert samples(x) == [1, 0, 1, 0, 1]
+        assert samples(session.dilation(f, b)) == [3, 4, 4, 5, 5]
+        assert samples(session.opening(f, b)) == [1, 1, 1, 1, 1]
+        assert samples(session.closing(f, b)) == [3, 3, 4, 4, 5]
+        assert samples(session.gradient(f, b)) == [2, 3, 3, 4, 4]
+        assert samples(session.white_tophat(f, b)) == [2, 0, 3, 0, 4]
+        assert samples(session.black_tophat(f, b)) == [0, 2, 0, 3, 0]
+        assert samples(session.rank(f, 2, b)) == [3, 3, 1, 4, 5]
+        assert samples(session.hit_or_miss(x, Footprint([[1, 0]], (0, 0)), Footprint([[0, 1]], (0, 0)))) == [1, 0, 1, 0, 1]
+        marks = session.skeleton(x, b, 2)
+        assert samples(marks) == [1, 0, 1, 0, 1]
+        assert samples(session.restored(marks, b, 2)) == [1, 0, 1, 0, 1]
+        assert session.spectrum(f, b, 2).result() == [14, 5, 5]
+
+
+def test_handles_are_taken_while_they_are_pending(program):
+    with Session(program=program) as session:
+        handle = session.load(FIVE)
+        for _ in range(200):
+            handle = session.dilation(handle, BAR)
+        assert samples(handle) == [5, 5, 5, 5, 5]
+
+
+def test_more_is_written_than_pipes_hold(program):
+    """Replies are read while requests are written: neither side may wait for the other."""
+    image = Picture(300, 200, 255, False, bytes(range(200)) * 300)
+    with Session(program=program) as session:
+        handles = [session.load(image) for _ in range(20)]
+        fetched = [session._ask("FETCH", handle.name) for handle in handles]
+        assert all(Picture.of_file(reply.checked().payload) == image for reply in fetched)
+
+
+def test_a_footprint_is_loaded_once(program):
+    with Session(program=program) as session:
+        assert session.element(square(3)) is session.element([[1, 1, 1]] * 3)
+        assert session.element(square(3)) is not session.element(square(3).at((0, 0)))
+
+
+def test_refusals_are_told_where_the_result_is_asked_for(program):
+    with Session(program=program) as session:
+        bad = session.rank(FIVE, 4, BAR)
+        of_bad = session.opening(session.erosion(bad, BAR), BAR)
+        with pytest.raises(Refused) as told:
+            of_bad.result()
+        assert (told.value.number, told.value.word) == (47, "PARAM")
+        assert told.value.asked.startswith("RANK ") and told.value.asked.endswith(" 4")
+        with pytest.raises(Refused, match="22 SIZE"):
+            session.load(b"P5\n0 1\n9\n").accepted()
+        with pytest.raises(Refused, match="44 BINARY"):
+            session.skeleton(FIVE, BAR, 2).wait()
+        assert samples(session.erosion(FIVE, BAR)) == [1] * 5
+
+
+def test_cancelled_results_and_those_made_of_them(program):
+    with Session(program=program) as session:
+        f = session.load(FIVE)
+        first = session.erosion(f, BAR)
+        second = session.dilation(first, BAR)
+        assert first.cancel() is True
+        with pytest.raises(Cancelled):
+            first.result()
+        with pytest.raises(InputFailed) as told:
+            second.result()
+        assert told.value.ticket == first.ticket
+        assert first.status() == "cancelled" and second.status() == "failed"
+        assert f.cancel() is False
+
+
+def test_released_results(program):
+    with Session(program=program) as session:
+        made = session.erosion(FIVE, BAR).wait()
+        made.release()
+        assert made.status() == "released"
+        with pytest.raises(Refused, match="51 RELEASED"):
+            made.result()
+
+
+def test_a_dropped_handle_is_let_go_of(program):
+    with Session(program=program) as session:
+        f = session.load(FIVE)
+        pending = session.erosion(f, BAR)
+        name, kept = pending.name, session.dilation(pending, BAR)
+        del pending
+        gc.collect()
+        # it is pending at first, and cannot be let go of; then it is done
+        assert samples(kept) == [1] * 5
+        kept.wait()
+        f.status()
+        f.status()
+        assert session.handle(name).status() == "released"
+        assert f.status() == "done"
+
+
+def test_a_handle_that_is_dropped_while_it_is_pending(program):
+    with Session(program=program) as session:
+        f = session.load(FIVE).accepted()
+        name = session.erosion(f, BAR).name
+        gc.collect()
+        # the first time it is refused, since it is pending; behind a result it is tried again
+        f.wait()
+        f.wait()
+        f.status()
+        assert session.handle(name).status() == "released"
+
+
+def test_handles_by_name_are_not_let_go_of(program):
+    with Session(program=program) as session:
+        f = session.load(FIVE).accepted()
+        session.handle(f.name).wait()
+        gc.collect()
+        assert f.status() == "done"
+        with pytest.raises(Refused, match="41 UNKNOWN"):
+            session.handle("nobody").status()
+
+
+def test_the_session_is_closed(program):
+    session = Session(program=program)
+    f = session.load(FIVE).accepted()
+    session.close()
+    session.close()
+    with pytest.raises(SessionEnded, match="closed"):
+        f.status()
+
+
+def test_a_missing_program(tmp_path, monkeypatch):
+    with pytest.raises(ProgramMissing, match="nowhere"):
+        Session(program=tmp_path / "nowhere")
+
+
+def test_refused_words_of_the_command_line(program):
+    if program.endswith("fake"):
+        pytest.skip("the stand-in takes any number of workers")
+    session = Session(workers=65, program=program)
+    with pytest.raises(SessionEnded, match="workers must be from 1 to 64") as told:
+        session.load(FIVE).wait()
+    assert told.value.status == 2
+
+
+def test_a_killed_program_is_told(program):
+    session = Session(program=program)
+    f = session.load(FIVE).accepted()
+    os.kill(session.pid, signal.SIGKILL)
+    with pytest.raises(SessionEnded, match="killed by SIGKILL") as told:
+        for _ in range(100):
+            f.wait()
+    assert told.value.status == -9
+    with pytest.raises(SessionEnded, match="killed by SIGKILL"):
+        session.load(FIVE)
+    with pytest.raises(SessionEnded, match="killed by SIGKILL"):
+        session.close()
+
+
+def test_killed_while_much_is_written(fake, monkeypatch):
+    monkeypatch.setenv("FAKE_KILLED", "3")
+    session = Session(program=fake)
+    image = Picture(1000, 1000, 255, False, bytes(1000000))
+    with pytest.raises(SessionEnded, match="killed by SIGKILL"):
+        for handle in [session.load(image) for _ in range(50)]:
+            handle.accepted()
+
+
+def test_an_exit_status_and_what_it_said(fake, monkeypatch):
+    monkeypatch.setenv("FAKE_KILLED", "2")
+    monkeypatch.setenv("FAKE_STATUS", "1")
+    session = Session(program=fake)
+    kept = session.load(FIVE).accepted()
+    with pytest.raises(SessionEnded, match="status 1, and said: error: output.*1 request had no reply"):
+        session.load(FIVE).accepted()
+
+
+def test_a_refusal_that_ends_the_session(program):
+    session = Session(program=program)
+    with pytest.raises(Refused, match="10 LINE"):
+        session._send("nonsense", b"NONSENSE\n").checked()
+    with pytest.raises(SessionEnded, match="ended by refusal 10 LINE of nonsense") as told:
+        session.load(FIVE).accepted()
+    assert told.value.refusal.number == 10
+    session.close()
+
+
+def test_want_of_memory_that_ends_the_session(fake, monkeypatch):
+    monkeypatch.setenv("FAKE_LACK", "2")
+    session = Session(program=fake)
+    kept = session.load(FIVE).accepted()
+    with pytest.raises(OutOfMemory):
+        session.load(FIVE).accepted()
+    with pytest.raises(SessionEnded, match="refusal 50 MEMORY"):
+        kept.status()
+
+
+def test_results_that_find_no_memory(fake, monkeypatch):
+    monkeypatch.setenv("FAKE_STARVED", "RANK")
+    with Session(program=fake) as session:
+        dead = session.rank(FIVE, 1, BAR)
+        made = session.erosion(dead, BAR)
+        with pytest.raises(OutOfMemory, match="RANK .* 1: there is not enough memory"):
+            dead.result()
+        with pytest.raises(InputFailed, match="its input, ticket 2,"):
+            made.wait()
+        assert dead.status() == made.status() == "failed"
+        with pytest.raises(Refused, match="43 DEAD"):
+            session.erosion(dead, BAR).result()
+        assert samples(session.erosion(FIVE, BAR)) == [1] * 5
+
+
+def test_a_full_session(fake, monkeypatch):
+    monkeypatch.setenv("FAKE_ENTRIES", "3")
+    with Session(program=fake) as session:
+        f = session.load(FIVE)
+        assert samples(session.erosion(f, BAR)) == [1] * 5
+        with pytest.raises(Refused, match="48 FULL"):
+            session.erosion(f, BAR).result()
+
+
+def test_a_slow_program(fake, monkeypatch):
+    monkeypatch.setenv("FAKE_WORK", "0.5")
+    with Session(program=fake) as session:
+        made = session.erosion(FIVE, BAR)
+        with pytest.raises(TimeoutError):
+            made.result(timeout=0.05)
+        assert samples(made) == [1] * 5
+
+
+def test_a_slow_server_lets_other_requests_through(server):
+    if not server.is_fake:
+        pytest.skip("the program is quick")
+    with server(FAKE_WORK="0.4").session() as session:
+        made = session.erosion(FIVE, BAR)
+        assert made.status() == "pending"
+        with pytest.raises(TimeoutError):
+            made.wait(timeout=0.05)
+        with pytest.raises(Refused, match="52 PENDING"):
+            made.release()
+        assert made.result(timeout=5).samples == bytes([1] * 5)
+        other = session.erosion(made, BAR)
+        assert other.cancel() is True
+
+
+def test_two_clients_of_one_server(server):
+    started = server()
+    with started.session() as one, started.session() as other:
+        f = one.load(FIVE)
+        made = one.erosion(f, BAR)
+        assert made.accepted().name.isascii()
+        assert samples(other.dilation(other.handle(f.name), BAR)) == [3, 4, 4, 5, 5]
+        assert samples(other.handle(made.name)) == [1] * 5
+        assert samples(made) == [1] * 5
+
+
+def test_a_service_with_a_table_for_each_session(program):
+    run = subprocess.Popen([program, "serve"], stdin=subprocess.DEVNULL, stdout=subprocess.PIPE, stderr=subprocess.DEVNULL)
+    try:
+        line = run.stdout.readline().split()
+        if not line:
+            pytest.skip("this program has no serve")
+        with Session.connect(line[1].decode(), int(line[2])) as one, Session.connect(line[1].decode(), int(line[2])) as other:
+            made = one.erosion(FIVE, BAR)
+            assert made.result(timeout=30).samples == bytes([1] * 5)
+            assert samples(other.dilation(FIVE, BAR)) == [3, 4, 4, 5, 5]
+            with pytest.raises(Refused, match="41 UNKNOWN"):
+                other.handle(made.name).status()
+    finally:
+        run.kill()
+        run.wait()
+        run.stdout.close()
+
+
+def test_a_server_that_is_killed(server):
+    started = server()
+    session = started.session()
+    f = session.load(FIVE).accepted()
+    started.kill()
+    with pytest.raises(SessionEnded, match="closed the connection|reset|broke"):
+        for _ in range(100):
+            f.wait()
+    session.close()
+
+
+def test_no_server():
+    with pytest.raises(ConnectionRefusedError):
+        Session.connect("127.0.0.1", 1, 5)
+
+
+def test_many_threads_share_a_session(program):
+    wrong = []
+    with Session(program=program) as session:
+        def work(level):
+            picture = Picture(5, 1, 99, False, bytes([level] * 5))
+            for _ in range(5):
+                if samples(session.erosion(picture, BAR)) != [level] * 5:
+                    wrong.append(level)
+
+        crew = [threading.Thread(target=work, args=(level,)) for level in range(8)]
+        for each in crew:
+            each.start()
+        for each in crew:
+            each.join()
+    assert wrong == []
+
+
+def test_an_interrupted_request_ends_the_session(fake, monkeypatch):
+    session = Session(program=fake)
+    session.load(FIVE).accepted()
+
+    def interrupted(data):
+        raise KeyboardInterrupt
+
+    monkeypatch.setattr(session._channel.way, "send", interrupted)
+    with pytest.raises(KeyboardInterrupt):
+        session.load(FIVE)
+    with pytest.raises(SessionEnded, match="in part"):
+        session.load(FIVE)
+
+
+def test_a_dropped_session_ends_its_program(fake):
+    session = Session(program=fake)
+    session.load(FIVE).accepted()
+    pid = session.pid
+    del session
+    gc.collect()
+    until = time.monotonic() + 10
+    while time.monotonic() < until:
+        try:
+            os.kill(pid, 0)
+        except ProcessLookupError:
+            return
+        time.sleep(0.02)
+    raise AssertionError("the program goes on")
+
+
+@pytest.mark.parametrize("fault", [
+    Refused(47, "rank"), OutOfMemory("rank"), SessionEnded("over", Refused(10, "x"), 1), InputFailed("RUN", 3), Cancelled("x")])
+def test_faults_go_to_other_processes(fault):
+    back = pickle.loads(pickle.dumps(fault))
+    assert type(back) is type(fault) and str(back) == str(fault)
+    assert {name: str(value) for name, value in vars(back).items()} == {name: str(value) for name, value in vars(fault).items()}
+
+
+def test_faults_are_of_pythons_kinds():
+    assert issubclass(Refused, ValueError) and issubclass(OutOfMemory, MemoryError)
+    assert issubclass(SessionEnded, ConnectionError) and issubclass(errors.LibraryMissing, ImportError)
+    assert str(Refused(47, "rank")).startswith("rank: ") and "47 PARAM" in str(Refused(47))
