@@ -5,7 +5,7 @@
     done = morphd.dask.map_files(paths, measure, client)          # measure(path) on each worker, with a bar
 
 A chunk is computed on what stands around it as far as the operator looks, so the result is that of the whole array, byte for
-byte. What lies outside the array is left out, as with ``mode='ignore'``.
+byte. What lies outside the array is left out, as with ``mode='ignore'``; medians and other ranks reflect unless told.
 """
 from __future__ import annotations
 
@@ -25,33 +25,16 @@ from ._progress import bar
 from .footprints import Footprint, Reach
 
 __all__ = [
-    "Outcome", "black_tophat", "closing", "dilation", "erosion", "gradient", "hit_or_miss", "map_files", "opening", "rank",
-    "restored", "skeleton", "threshold", "white_tophat",
+    "Outcome", "black_tophat", "closing", "dilation", "erosion", "gradient", "hit_or_miss", "map_files", "median", "opening",
+    "percentile", "rank", "restored", "skeleton", "threshold", "white_tophat",
 ]
 
 _OPS = {
     "erosion": _library.ERODE, "dilation": _library.DILATE, "opening": _library.OPEN, "closing": _library.CLOSE,
     "gradient": _library.GRADIENT, "white_tophat": _library.WHITE_TOPHAT, "black_tophat": _library.BLACK_TOPHAT,
-    "rank": _library.RANK,
 }
-
-
-def _overlapped(
-    name: str, array: Array, call: _calls.Call | None, arguments: tuple[Any, ...], made: Any = None, **options: Any,
-) -> Array:
-    """The operator on each chunk and what stands around it."""
-    if array.ndim != 2:
-        raise ValueError(f"an image has two axes, and this array has {array.ndim}: take plane after plane")
-    if array.dtype != np.bool_ and array.dtype.newbyteorder("=") not in (np.uint8, np.uint16):
-        # the order of samples is that of a chunk, and what an erosion gives where it sees nothing would be, too
-        raise TypeError(f"{name} over chunks takes arrays of bool, uint8 and uint16, and this is one of {array.dtype}")
-    reach = Reach(0, 0, 0, 0) if call is None else call.reach
-    work, dtype = _Chunk(name, arguments, options), array.dtype if made is None else np.dtype(made)
-    meta = np.empty((0, 0), dtype)
-    if not any(reach):
-        return array.map_blocks(work, dtype=dtype, meta=meta)
-    depth = {0: (reach.up, reach.down), 1: (reach.left, reach.right)}
-    return dask.array.map_overlap(work, array, depth=depth, boundary="none", dtype=dtype, meta=meta, align_arrays=False)
+# What Dask calls the modes that it can put around an array.
+_RIMS = {"ignore": "none", "reflect": "reflect", "nearest": "nearest", "wrap": "periodic"}
 
 
 @dataclass(frozen=True)
@@ -66,9 +49,32 @@ class _Chunk:
         return getattr(operators, self.name)(chunk, *self.arguments, **self.options)
 
 
+def _checked(name: str, array: Array) -> None:
+    """Refuses arrays that cannot be treated chunk by chunk."""
+    if array.ndim != 2:
+        raise ValueError(f"an image has two axes, and this array has {array.ndim}: take plane after plane")
+    if array.dtype != np.bool_ and array.dtype.newbyteorder("=") not in (np.uint8, np.uint16):
+        # the order of samples is that of a chunk, and what an erosion gives where it sees nothing would be, too
+        raise TypeError(f"{name} over chunks takes arrays of bool, uint8 and uint16, and this is one of {array.dtype}")
+
+
+def _overlapped(work: _Chunk, array: Array, reach: Reach, made: Any = None, rim: str = "none") -> Array:
+    """The operator on each chunk and what stands around it."""
+    _checked(work.name, array)
+    dtype = array.dtype if made is None else np.dtype(made)
+    meta = np.empty((0, 0), dtype)
+    if not any(reach):
+        return array.map_blocks(work, dtype=dtype, meta=meta)
+    depth: dict[int, Any] = {0: (reach.up, reach.down), 1: (reach.left, reach.right)}
+    if rim != "none":
+        # Dask puts rims around an array that are equally wide on both sides
+        depth = {axis: max(sides) for axis, sides in depth.items()}
+    return dask.array.map_overlap(work, array, depth=depth, boundary=rim, dtype=dtype, meta=meta, align_arrays=False)
+
+
 def _flat(name: str, array: Array, footprint: Any, maxval: int | None) -> Array:
     b = Footprint(footprint)
-    return _overlapped(name, array, _calls.Flat(_OPS[name], b), (b,), maxval=maxval)
+    return _overlapped(_Chunk(name, (b,), {"maxval": maxval}), array, _calls.Flat(_OPS[name], b).reach)
 
 
 def erosion(array: Array, footprint: Any, *, maxval: int | None = None) -> Array:
@@ -119,34 +125,71 @@ def black_tophat(array: Array, footprint: Any, *, maxval: int | None = None) -> 
     return _flat("black_tophat", array, footprint, maxval)
 
 
-def rank(array: Array, k: int, footprint: Any, *, maxval: int | None = None) -> Array:
-    """`morphd.rank` over chunks, with ``mode='ignore'``: at the array's edge it is number min(k, m) of the m that are there."""
+def _ranked(work: _Chunk, array: Array, b: Footprint, mode: str) -> Array:
+    if mode not in _RIMS:
+        raise ValueError(f"mode is one of {', '.join(_RIMS)} over chunks: {mode!r}")
+    # a chunk's own rim is cut off, so it may be any where the array has one
+    options = {**work.options, "mode": "ignore" if mode == "ignore" else "nearest"}
+    return _overlapped(_Chunk(work.name, work.arguments, options), array, b.reach, rim=_RIMS[mode])
+
+
+def rank(array: Array, k: int, footprint: Any, *, mode: str = "reflect", maxval: int | None = None) -> Array:
+    """`morphd.rank` over chunks. So are `median` and `percentile`, each of the one of its name.
+
+    Parameters
+    ----------
+    array : dask.array.Array
+        Two axes; of bool, uint8 or uint16.
+    k : int
+        From 1, the least, to the number of the footprint's pixels.
+    footprint : Footprint or array_like
+    mode : {'reflect', 'nearest', 'wrap', 'ignore'}
+        What stands outside the array.
+    maxval : int, optional
+        The greatest sample that the array can have; the type's if left out.
+
+    Returns
+    -------
+    dask.array.Array
+    """
     b = Footprint(footprint)
-    return _overlapped("rank", array, _calls.Flat(_library.RANK, b, k), (k, b), mode="ignore", maxval=maxval)
+    return _ranked(_Chunk("rank", (k, b), {"maxval": maxval}), array, b, mode)
+
+
+def median(array: Array, footprint: Any, *, mode: str = "reflect", maxval: int | None = None) -> Array:
+    """`morphd.median` over chunks."""
+    b = Footprint(footprint)
+    return _ranked(_Chunk("median", (b,), {"maxval": maxval}), array, b, mode)
+
+
+def percentile(array: Array, q: float, footprint: Any, *, mode: str = "reflect", maxval: int | None = None) -> Array:
+    """`morphd.percentile` over chunks."""
+    b = Footprint(footprint)
+    return _ranked(_Chunk("percentile", (q, b), {"maxval": maxval}), array, b, mode)
 
 
 def threshold(array: Array, k: int, *, maxval: int | None = None) -> Array:
     """`morphd.threshold` over chunks."""
-    return _overlapped("threshold", array, None, (k,), np.bool_, maxval=maxval)
+    return _overlapped(_Chunk("threshold", (k,), {"maxval": maxval}), array, _calls.NOWHERE, np.bool_)
 
 
 def hit_or_miss(array: Array, hit: Any, miss: Any = None, *, maxval: int | None = None) -> Array:
     """`morphd.hit_or_miss` over chunks."""
     first = Footprint(hit)
     second = Footprint(~first.bitmap, first.origin) if miss is None else Footprint(miss)
-    return _overlapped("hit_or_miss", array, _calls.HitOrMiss(first, second), (first, second), maxval=maxval)
+    return _overlapped(_Chunk("hit_or_miss", (first, second), {"maxval": maxval}), array, _calls.HitOrMiss(first, second).reach)
 
 
 def skeleton(array: Array, footprint: Any, levels: int) -> Array:
     """`morphd.skeleton` over chunks, which reach far: by the footprint's reach for each level."""
     b = Footprint(footprint)
-    return _overlapped("skeleton", array, _calls.Skeleton(b, levels), (b, levels), np.uint8)
+    return _overlapped(_Chunk("skeleton", (b, levels), {}), array, _calls.Skeleton(b, levels).reach, np.uint8)
 
 
 def restored(array: Array, footprint: Any, levels: int) -> Array:
     """`morphd.restored` over chunks, which reach far: by the footprint's reach for each level."""
     b = Footprint(footprint)
-    return _overlapped("restored", array, _calls.Restoration(b, levels), (b, levels), np.bool_)
+    return _overlapped(_Chunk("restored", (b, levels), {}), array, _calls.Restoration(b, levels).reach, np.bool_)
 
 
 @dataclass

@@ -35,7 +35,6 @@ def test_other_operators():
     b, corner = morphd.Footprint([[1, 1], [0, 1]], (0, 1)), [[0, 1], [1, 1]]
     chunks = da.from_array(image, chunks=(11, 9))
     np.testing.assert_array_equal(made(morphd.dask.threshold(chunks, 99)), image >= 99)
-    np.testing.assert_array_equal(made(morphd.dask.rank(chunks, 2, b)), morphd.rank(image, 2, b, mode="ignore"))
     np.testing.assert_array_equal(made(morphd.dask.hit_or_miss(chunks, corner)), morphd.hit_or_miss(image, corner))
     marks = morphd.dask.skeleton(chunks > 60, b, 3)
     np.testing.assert_array_equal(made(marks), morphd.skeleton(image > 60, b, 3))
@@ -44,6 +43,21 @@ def test_other_operators():
     camera = image.astype(np.uint16)
     over = morphd.dask.erosion(da.from_array(camera, chunks=(11, 9)), far, maxval=4095)
     np.testing.assert_array_equal(made(over), morphd.erosion(camera, far, maxval=4095))
+
+
+@pytest.mark.parametrize("mode", ["reflect", "nearest", "wrap", "ignore"])
+def test_ranks(mode):
+    rng = np.random.default_rng(6)
+    for dtype in cases.TYPES:
+        image, b = cases.image(rng, (30, 33), dtype), cases.footprint(rng, 4, with_origin=mode == "ignore")
+        chunks = da.from_array(image, chunks=(11, 9))
+        for name, before in (("rank", [b.count]), ("median", []), ("percentile", [40])):
+            wanted = getattr(morphd, name)(image, *before, b, mode=mode)
+            np.testing.assert_array_equal(made(getattr(morphd.dask, name)(chunks, *before, b, mode=mode)), wanted, name)
+        usual = morphd.dask.median(chunks, b)
+        np.testing.assert_array_equal(made(usual), morphd.median(image, b))
+    with pytest.raises(ValueError, match="mode"):
+        morphd.dask.median(chunks, b, mode="mirror")
 
 
 def test_chains_stay_lazy():
