@@ -24,7 +24,7 @@ from .errors import REFUSALS, OutOfMemory, ProgramMissing, Refused, SessionEnded
 # The refusals behind which a session has ended. A 50 may be one, too; then the end follows at once.
 ENDING = (10, 11, 12)
 # How long the end of a program or of a thread is waited for, in seconds, where it has to come at once.
-PATIENCE = 10.0
+PATIENCE = 30.0
 _REPLIES = (b"OK", b"ERR", b"DONE", b"FAILED", b"CANCELLED", b"RELEASED", b"PENDING", b"IMAGE", b"CURVE")
 
 

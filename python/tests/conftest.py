@@ -86,10 +86,10 @@ class Server:
     def session(self):
         from morphd import Session
 
-        until = time.monotonic() + 20
+        until = time.monotonic() + 60
         while True:
             try:
-                return Session.connect("127.0.0.1", self.port, 5)
+                return Session.connect("127.0.0.1", self.port, 60)
             except ConnectionRefusedError:
                 if self.run.poll() is not None or time.monotonic() > until:
                     raise

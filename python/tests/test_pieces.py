@@ -142,7 +142,7 @@ def check_pieces(shape, reach, workers):
 
 def test_workers_are_threads_of_their_own(monkeypatch, stood_in):
     monkeypatch.setattr(_pieces, "LEAST_ROWS", 1)
-    met = threading.Barrier(4, timeout=20)
+    met = threading.Barrier(4, timeout=60)
     seen = set()
     real = stood_in.morphd_flat_u8
 

@@ -257,14 +257,15 @@ def test_a_slow_program(fake, monkeypatch):
 def test_a_slow_server_lets_other_requests_through(server):
     if not server.is_fake:
         pytest.skip("the program is quick")
-    with server(FAKE_WORK="0.4").session() as session:
+    # long enough for what is asked meanwhile, on a busy machine, too
+    with server(FAKE_WORK="3").session() as session:
         made = session.erosion(FIVE, BAR)
         assert made.status() == "pending"
         with pytest.raises(TimeoutError):
             made.wait(timeout=0.05)
         with pytest.raises(Refused, match="52 PENDING"):
             made.release()
-        assert made.result(timeout=5).samples == bytes([1] * 5)
+        assert made.result(timeout=60).samples == bytes([1] * 5)
         other = session.erosion(made, BAR)
         assert other.cancel() is True
 
@@ -351,7 +352,7 @@ def test_a_dropped_session_ends_its_program(fake):
     pid = session.pid
     del session
     gc.collect()
-    until = time.monotonic() + 10
+    until = time.monotonic() + 60
     while time.monotonic() < until:
         try:
             os.kill(pid, 0)
