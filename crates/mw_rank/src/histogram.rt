@@ -10,10 +10,10 @@ use mw_tile::pixel::Pixel;
 use std::alloc::Global;
 
 /// How many counters a leap goes over.
-const SPAN: u32 = 32;
+const SPAN: u32 = 16;
 
 /// How many levels the level moves step by step before it leaps: it is mostly near.
-const NEAR: u32 = 128;
+const NEAR: u32 = 64;
 
 /// How often each level was counted, and how many levels below the present one.
 #[derive(Drop)]
