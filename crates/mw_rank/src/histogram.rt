@@ -10,18 +10,19 @@ use mw_tile::pixel::Pixel;
 use std::alloc::Global;
 
 /// How many counters a leap goes over.
-const SPAN: u32 = 16;
+const SPAN: u32 = 32;
 
-/// How many levels the level moves step by step before it leaps: it is mostly near.
-const NEAR: u32 = 64;
+/// Where the level moved over more levels than these it leaps at first the next time.
+const FAR: u32 = 128;
 
-/// How often each level was counted, and how many levels below the present one.
+/// How often each level was counted, how many levels are below the present one, and whether this moved far the last time.
 #[derive(Drop)]
 pub(crate) struct Histogram {
     pub counts: Vec<u16>,
     pub level: u32,
     pub below: u32,
     pub held: u32,
+    pub is_far: bool,
 }
 
 impl Histogram {
@@ -35,6 +36,7 @@ impl Histogram {
             level: 0,
             below: 0,
             held: 0,
+            is_far: false,
         })
     }
 
@@ -149,38 +151,38 @@ impl Histogram {
         }
     }
 
-    /// Moves down until fewer than n levels are below, but not below `end`.
+    /// Moves down until fewer than n levels are below.
     #[inline(always)]
-    fn lower(&mut self, n: u32, end: u32)
+    fn lower(&mut self, n: u32)
+        requires some { 1 ≤ n }
         requires held { (top : ℕ) × Holds top self.old [] }
         ensures tallies { (top : ℕ) (ns : List ℕ) → Tallies top self.old ns → Tallies top self.new ns }
         ensures held { self.new.held ≡ self.old.held }
-        ensures few { (self.new.below < n) ⊎ (self.new.level ≤ end) }
+        ensures few { self.new.below < n }
     {
-        while self.below >= n && self.level > end {
+        while self.below >= n {
             self.level -= 1;
             self.below -= u32::from(self.counts[self.level as usize]);
         }
     }
 
-    /// Moves up until n levels or more are not above, but not above `end`.
+    /// Moves up until n levels or more are not above.
     #[inline(always)]
-    fn raise(&mut self, n: u32, end: u32)
+    fn raise(&mut self, n: u32)
         requires within { n ≤ self.old.held }
         requires few { self.old.below < n }
         requires held { (top : ℕ) × Holds top self.old [] }
         ensures tallies { (top : ℕ) (ns : List ℕ) → Tallies top self.old ns → Tallies top self.new ns }
-        ensures held { self.new.held ≡ self.old.held }
         ensures few { self.new.below < n }
-        ensures enough { (top : ℕ) (ns : List ℕ) → Tallies top self.old ns → self.new.level < end → n ≤ count_under (self.new.level + 1) ns }
+        ensures enough { (top : ℕ) (ns : List ℕ) → Tallies top self.old ns → n ≤ count_under (self.new.level + 1) ns }
     {
-        while self.level < end && self.below + u32::from(self.counts[self.level as usize]) < n {
+        while self.below + u32::from(self.counts[self.level as usize]) < n {
             self.below += u32::from(self.counts[self.level as usize]);
             self.level += 1;
         }
     }
 
-    /// Moves down until fewer than n levels are below: step by step, and by leaps where it is not near.
+    /// Moves down until fewer than n levels are below: by leaps and then step by step where it is far.
     #[inline(always)]
     fn go_down(&mut self, n: u32)
         requires some { 1 ≤ n }
@@ -189,14 +191,13 @@ impl Histogram {
         ensures held { self.new.held ≡ self.old.held }
         ensures few { self.new.below < n }
     {
-        self.lower(n, self.level.saturating_sub(NEAR));
-        if self.below >= n {
+        if self.is_far {
             self.leap_down(n);
-            self.lower(n, 0);
         }
+        self.lower(n);
     }
 
-    /// Moves up until n levels or more are not above: step by step, and by leaps where it is not near.
+    /// Moves up until n levels or more are not above: by leaps and then step by step where it is far.
     #[inline(always)]
     fn go_up(&mut self, n: u32)
         requires within { n ≤ self.old.held }
@@ -206,12 +207,16 @@ impl Histogram {
         ensures few { self.new.below < n }
         ensures enough { (top : ℕ) (ns : List ℕ) → Tallies top self.old ns → n ≤ count_under (self.new.level + 1) ns }
     {
-        let near = self.level.saturating_add(NEAR);
-        self.raise(n, near);
-        if self.level >= near {
+        if self.is_far {
             self.leap_up(n);
-            self.raise(n, u32::MAX);
         }
+        self.raise(n);
+    }
+
+    /// Whether a move from that level to the present one was far.
+    #[inline(always)]
+    fn has_moved_far(&self, from: u32) -> bool {
+        self.level.abs_diff(from) > FAR
     }
 
     /// Of the levels in rising order number k, or the last where there are fewer; 0 where there is none.
@@ -226,8 +231,10 @@ impl Histogram {
             return 0;
         }
         let n = self.held.min(k).max(1);
+        let from = self.level;
         self.go_down(n);
         self.go_up(n);
+        self.is_far = self.has_moved_far(from);
         self.level as u16
     }
 }

@@ -28,7 +28,7 @@ overflow_add-self-in-loop-self-2 c =
     let t = c.loop-self.invariant.tallies c.requires.held.0 r.others r.tallies in
     let within : h.level < length h.counts.items = omega (arith, t.size, t.level) in
     let counter = get_or_read h.counts.items h.level c.index.result.now within c.index.ensures 0 in
-    let lower = not_top c.requires.held.0 c.args.n h r.others t (omega (arith, c.requires.within, c.loop-self.invariant.held)) (omega (arith, counter, c.from.ensures, c.if-self-from.true)) in
+    let lower = not_top c.requires.held.0 c.args.n h r.others t (omega (arith, c.requires.within, c.loop-self.invariant.held)) (omega (arith, counter, c.from.ensures, c.loop-self-test.true)) in
     omega (arith, lower, t.short)
 
 pub loop-self-smaller : goal.loop-self-smaller
@@ -49,17 +49,17 @@ loop-self-preserved c =
     record {
       tallies = λ top ns before.
           let t = c.loop-self.invariant.tallies top ns before in
-          let lower = not_top top c.args.n h ns t (omega (arith, c.requires.within, c.loop-self.invariant.held)) (omega (arith, first, c.from.ensures, c.if-self-from.true)) in
+          let lower = not_top top c.args.n h ns t (omega (arith, c.requires.within, c.loop-self.invariant.held)) (omega (arith, first, c.from.ensures, c.loop-self-test.true)) in
           tallies_moved top h _ ns refl refl (omega (arith, lower)) (omega (arith, c.from-in-loop-self.ensures, again, t.each h.level, t.below)) t;
-      few = omega (arith, first, again, c.from.ensures, c.from-in-loop-self.ensures, c.if-self-from.true);
+      few = omega (arith, first, again, c.from.ensures, c.from-in-loop-self.ensures, c.loop-self-test.true);
       held = c.loop-self.invariant.held;
       size = c.loop-self.invariant.size;
     }
 
-pub returns-else-self-from-clause-enough : goal.returns-else-self-from-clause-enough
-returns-else-self-from-clause-enough c = λ top ns before under.
+pub returns-clause-enough : goal.returns-clause-enough
+returns-clause-enough c = λ top ns before.
     let h = c.loop-self.self in
     let t = c.loop-self.invariant.tallies top ns before in
     let within : h.level < length h.counts.items = omega (arith, t.size, t.level) in
     let counter = get_or_read h.counts.items h.level c.index.result.now within c.index.ensures 0 in
-    omega (arith, counter, c.from.ensures, c.if-self-from.false, t.each h.level, t.below)
+    omega (arith, counter, c.from.ensures, c.loop-self-test.false, t.each h.level, t.below)

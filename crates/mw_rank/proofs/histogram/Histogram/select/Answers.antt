@@ -1,5 +1,5 @@
-use Rattle.std.proofs.Common.{arith}
-use Rattle.mw_rank.proofs.Counts.{level-selected}
+use Rattle.std.proofs.Common.{arith, refl}
+use Rattle.mw_rank.proofs.Counts.{level-selected, tallies_moved}
 use Rattle.mw_rank.proofs.histogram.Histogram.select.Goals as goal
 
 pub go_up-requires-clause-within : goal.go_up-requires-clause-within
@@ -17,7 +17,9 @@ overflow_cast-result c =
     omega (arith, t.level, t.short)
 
 pub returns-clause-tallies : goal.returns-clause-tallies
-returns-clause-tallies c = λ top ns t. c.go_up.ensures.tallies top ns (c.go_down.ensures.tallies top ns t)
+returns-clause-tallies c = λ top ns t.
+    let u = c.go_up.ensures.tallies top ns (c.go_down.ensures.tallies top ns t) in
+    tallies_moved top c.go_up.new.self _ ns refl refl u.level u.below u
 
 pub returns-clause-level : goal.returns-clause-level
 returns-clause-level c = λ top ns t.
