@@ -59,7 +59,7 @@ MEMORY = $(KIT)/c/liblibc_c.a
 library: toolchain python3 compiler
 	@python3 -B checks/prove.py mw_c
 	@mkdir -p out
-	@printf 'MORPHD_1 { global: morphd_*; local: *; };\n' > out/morphd.map
+	@printf '{ global: morphd_*; local: *; };\n' > out/morphd.map
 	cc -shared -o out/libmorphd.so -Wl,-soname,libmorphd.so.1 -Wl,--version-script=out/morphd.map -Wl,--gc-sections \
 	  -Wl,--whole-archive crates/mw_c/out/libmw_c.a -Wl,--no-whole-archive $(MEMORY)
 	@ln -sf libmorphd.so out/libmorphd.so.1

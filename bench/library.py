@@ -29,8 +29,8 @@ def flat(library, kind):
     def run(operation, k, image, element, out):
         (height, width), (rows, columns) = image.shape, element.shape
         tops = [] if kind == "set" else [numpy.iinfo(image.dtype).max]
-        answer = call(operation, k, width, height, *tops, image.ctypes.data, image.size, element.ctypes.data, element.size, columns,
-                      rows, columns // 2, rows // 2, out.ctypes.data, out.size)
+        bitmap = (element.ctypes.data, element.size, columns, rows, columns // 2, rows // 2)
+        answer = call(operation, k, width, height, *tops, image.ctypes.data, image.size, *bitmap, out.ctypes.data, out.size)
         if answer:
             sys.exit("answer %d" % answer)
     return run
@@ -44,7 +44,8 @@ def lines():
             yield f"erosion, {name}", kind, ERODE, 0, element, lambda f, e, out: cv2.erode(f, e, dst=out)
         for name, element in (("disc of 15", disc(15)), ("box of 15", rectangle(15))):
             yield f"opening, {name}", kind, OPEN, 0, element, lambda f, e, out: cv2.morphologyEx(f, cv2.MORPH_OPEN, e, dst=out)
-        yield "gradient, box of 3", kind, GRADIENT, 0, rectangle(3), lambda f, e, out: cv2.morphologyEx(f, cv2.MORPH_GRADIENT, e, dst=out)
+        yield ("gradient, box of 3", kind, GRADIENT, 0, rectangle(3),
+               lambda f, e, out: cv2.morphologyEx(f, cv2.MORPH_GRADIENT, e, dst=out))
     for side in (3, 5, 15):
         yield (f"median, box of {side}", "u8", RANK, (side * side + 1) // 2, rectangle(side),
                lambda f, e, out: cv2.medianBlur(f, len(e), dst=out))

@@ -88,8 +88,8 @@ def session_of(call):
     """A session that does what a call does, or none where a call has no session."""
     f, what = call.image, calls.family(call)
     samples = [int(s != 0) for s in f.samples] if f.kind == "set" else f.samples
-    image = plain_model.Image("BIT" if f.kind == "set" else "GREY", f.width, f.height, 1 if f.kind == "set" else f.maxval, samples)
-    text = plain_model.image_text(image)
+    kind = "BIT" if f.kind == "set" else "GREY"
+    text = plain_model.image_text(plain_model.Image(kind, f.width, f.height, 1 if f.kind == "set" else f.maxval, samples))
     parts = [b"LOAD f %d\n" % len(text), text]
     for name, b in zip("bc", call.bitmaps):
         bitmap = b"P1\n%d %d\n" % (b.width, b.height) + b"".join(b"1" if p else b"0" for p in b.pixels)
@@ -181,7 +181,8 @@ def main():
     if library.morphd_version() != 1:
         sys.exit("the version is not 1")
     seen = one_by_one(library, chance)
-    print("%d random calls beside the plain model; answers: %s" % (CALLS, ", ".join("%d: %d" % it for it in sorted(seen.items()))))
+    told = ", ".join("%d: %d" % it for it in sorted(seen.items()))
+    print("%d random calls beside the plain model; answers: %s" % (CALLS, told))
     side_by_side(library, chance)
     print("four threads at once make the same")
     with tempfile.TemporaryDirectory() as folder:

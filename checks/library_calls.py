@@ -52,11 +52,12 @@ def made(library, call):
     """What the library answers, and all of `out` with what stands on both sides of it."""
     _, parameters = prototypes()[call.name]
     kinds = {name: it._type_ for it, name in parameters if hasattr(it, "contents")}
-    out = filled(kinds["out"], [UNTOUCHED] * (call.room + 2 * MARGIN - 1))
+    out = (kinds["out"] * (call.room + 2 * MARGIN))(*[UNTOUCHED] * (call.room + 2 * MARGIN))
     inner = ctypes.cast(ctypes.byref(out, MARGIN * ctypes.sizeof(kinds["out"])), ctypes.POINTER(kinds["out"]))
     image = call.image
     levels = [] if image.kind == "set" else [image.maxval]
-    given = [*call.numbers, image.width, image.height, *levels, filled(TYPES[sample_type(image.kind)], image.samples), len(image.samples)]
+    samples = filled(TYPES[sample_type(image.kind)], image.samples)
+    given = [*call.numbers, image.width, image.height, *levels, samples, len(image.samples)]
     for b in call.bitmaps:
         given += [filled(ctypes.c_uint8, b.pixels), len(b.pixels), b.width, b.height, b.x, b.y]
     answer = getattr(library, call.name)(*given, inner, call.room)
@@ -147,6 +148,13 @@ def value(call):
 # ---- random calls
 
 
+def apart(b, c):
+    """The second bitmap without the pixels that it shares with the first, if one is left then."""
+    shared = set(offsets(b))
+    pixels = [0 if (n % c.width - c.x, n // c.width - c.y) in shared else p for n, p in enumerate(c.pixels)]
+    return c._replace(pixels=pixels) if any(pixels) else c
+
+
 class Writer:
     """Writes random calls; one in `odd` has a fault or more."""
 
@@ -174,7 +182,8 @@ class Writer:
     def numbers(self, what, bitmaps):
         if what == "flat":
             return [self.chance.randrange(8), self.chance.randint(1, sum(1 for p in bitmaps[0].pixels if p))]
-        return {"threshold": [self.chance.choice((0, 1, 7, 255, 300, 65535))], "hit_or_miss": []}.get(what, [self.chance.randint(1, 5)])
+        k = self.chance.choice((0, 1, 7, 255, 300, 65535))
+        return {"threshold": [k], "hit_or_miss": []}.get(what, [self.chance.randint(1, 5)])
 
     def call(self):
         name = self.chance.choice(self.names)
@@ -182,8 +191,7 @@ class Writer:
         kind = name.rpartition("_")[2] if what != "skeleton" else "set"
         bitmaps = [self.bitmap() for _ in range({"threshold": 0, "hit_or_miss": 2}.get(what, 1))]
         if what == "hit_or_miss" and self.chance.random() < 0.8:
-            first, second = bitmaps
-            bitmaps[1] = Bitmap(1, 1, 0, 0, [1]) if not first.pixels[first.y * first.width + first.x] else second
+            bitmaps[1] = apart(*bitmaps)
         image = self.image(kind, 6 if what == "restore" else 65535)
         call = Call(name, self.numbers(what, bitmaps), image, bitmaps, 0)
         call = call._replace(room=room_wanted(call))
@@ -209,10 +217,11 @@ class Writer:
         changes = [{"width": 0}, {"height": 0}, {"width": 8193}, {"height": 4294967295}, {"width": 8192, "height": 8192},
                    {"samples": f.samples[:-1]}, {"samples": f.samples + [0]}, {"samples": []}]
         if f.kind != "set":
-            changes += [{"maxval": 0}, {"maxval": top}, {"samples": f.samples[:-1] + [top]}] + [{"maxval": 255}] * (f.kind == "u16")
+            changes += [{"maxval": 0}, {"maxval": top}, {"samples": f.samples[:-1] + [top]}, {"maxval": min(f.maxval, 255)}]
         return f._replace(**self.chance.choice(changes))
 
     def spoiled_bitmap(self, b):
-        changes = [{"width": 0}, {"height": 0}, {"width": 256}, {"height": 4294967295}, {"pixels": b.pixels[:-1]}, {"pixels": b.pixels + [1]},
-                   {"pixels": []}, {"x": b.width}, {"y": b.height}, {"x": 4294967295}, {"pixels": [0] * len(b.pixels)}]
+        changes = [{"width": 0}, {"height": 0}, {"width": 256}, {"height": 4294967295}, {"x": b.width}, {"y": b.height},
+                   {"x": 4294967295}, {"pixels": b.pixels[:-1]}, {"pixels": []}, {"pixels": b.pixels + [1]},
+                   {"pixels": [0] * len(b.pixels)}]
         return b._replace(**self.chance.choice(changes))

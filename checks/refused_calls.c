@@ -1,5 +1,6 @@
-/* Refuses each allocation of a call in turn, for one call of each kind: a call that was refused memory answers 50 and leaves `out` as
- * it was; what it took is free again; and a later call makes what the first one made. Linked with --wrap=malloc and the like. */
+/* Refuses each allocation of a call in turn, for one call of each kind: a call that was refused memory answers 50 and leaves
+ * `out` as it was; what it took is free again; and a later call makes what the first one made. It is linked with --wrap=malloc
+ * and the like. */
 #include <morphd.h>
 #include <stdio.h>
 #include <string.h>
