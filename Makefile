@@ -1,11 +1,14 @@
 # `make` alone lists the targets. docs/TESTS.md says what each of them tests.
-.PHONY: help demo morphd test documents memory soak bench costs toolchain python3 compiler valgrind
+.PHONY: help demo morphd library check-library install test documents memory soak bench costs toolchain python3 compiler valgrind
 
 MORPHD = crates/morphd/out/morphd
 
 help:
 	@echo "make demo       shows a picture and the sizes of its grains in 90 seconds; then proves and builds morphd"
 	@echo "make morphd     proves and builds morphd alone, as crates/morphd/out/morphd"
+	@echo "make library    proves and links out/libmorphd.so and out/libmorphd.a, which C calls by include/morphd.h"
+	@echo "make check-library  holds them against the plain model, and runs the programs of docs/LIBRARY.md"
+	@echo "make install    puts library, header, morphd.pc and program into PREFIX, which is /usr/local if left out"
 	@echo "make test       the gate: proves every crate from nothing, tries the wrong bodies, runs programs and tests"
 	@echo "make documents  compares the documents with the repository, and replays their examples"
 	@echo "make memory     refuses each allocation and each start of a thread in turn, and measures memory"
@@ -46,6 +49,38 @@ documents: python3
 # Proves and builds the program, as wide as the machine allows, and runs it once on its stored session.
 morphd: toolchain python3
 	@python3 -B checks/prove.py morphd
+
+# The library for C: the proved crate, and the functions of the kit by which it asks for memory. The shared one shows the
+# functions of the header alone. `make test` proves the crate, but links nothing: `rt ci` leaves no static library behind, so
+# `make check-library` there would prove it a second time.
+KIT = $(shell dirname "$$(rt doc)")
+MEMORY = $(KIT)/c/liblibc_c.a
+
+library: toolchain python3 compiler
+	@python3 -B checks/prove.py mw_c
+	@mkdir -p out
+	@printf '{ global: morphd_*; local: *; };\n' > out/morphd.map
+	cc -shared -o out/libmorphd.so -Wl,-soname,libmorphd.so.1 -Wl,--version-script=out/morphd.map -Wl,--gc-sections \
+	  -Wl,--whole-archive crates/mw_c/out/libmw_c.a -Wl,--no-whole-archive $(MEMORY)
+	@ln -sf libmorphd.so out/libmorphd.so.1
+	@rm -f out/libmorphd.a
+	@printf 'create out/libmorphd.a\naddlib crates/mw_c/out/libmw_c.a\naddlib $(MEMORY)\nsave\nend\n' | ar -M
+
+check-library: library
+	@python3 -B checks/library.py out $(wildcard $(MORPHD))
+
+# The program goes with it where it is built.
+PREFIX = /usr/local
+
+install: library
+	install -d $(DESTDIR)$(PREFIX)/lib/pkgconfig $(DESTDIR)$(PREFIX)/include $(DESTDIR)$(PREFIX)/bin
+	install -m 755 out/libmorphd.so $(DESTDIR)$(PREFIX)/lib/libmorphd.so.1
+	ln -sf libmorphd.so.1 $(DESTDIR)$(PREFIX)/lib/libmorphd.so
+	install -m 644 out/libmorphd.a $(DESTDIR)$(PREFIX)/lib
+	install -m 644 include/morphd.h $(DESTDIR)$(PREFIX)/include
+	printf 'prefix=%s\nName: morphd\nDescription: flat mathematical morphology on arrays\nVersion: 1\n%s\n%s\n' '$(PREFIX)' \
+	  'Libs: -L$${prefix}/lib -lmorphd' 'Cflags: -I$${prefix}/include' > $(DESTDIR)$(PREFIX)/lib/pkgconfig/morphd.pc
+	if [ -x $(MORPHD) ]; then install -m 755 $(MORPHD) $(DESTDIR)$(PREFIX)/bin; fi
 
 # First a trial build, in a minute; then the proved one, which has to write the same.
 demo: toolchain python3

@@ -134,4 +134,5 @@ def main():
     show_sets(words % 10 > 0)
 
 
-main()
+if __name__ == "__main__":
+    main()

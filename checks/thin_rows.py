@@ -4,9 +4,9 @@
     python3 checks/thin_rows.py [--test]
 
 `rt` sums up the sources below a crate along every path of rows, so an entry that another entry of its row reaches costs time in
-each crate above. Rows of libraries have no such entry but `mw_model`, whose words all crates use. On programs and crates of
-tests nothing stands, and on some libraries tests alone, so these rows name what they use. With --test it looks at rows that are
-spoiled.
+each crate above. Rows of libraries have no such entry but `mw_model`, whose words all crates use. On programs, static libraries
+and crates of tests nothing stands, and on some libraries only such crates, so these rows name what they use. With --test it looks
+at rows that are spoiled.
 """
 import os
 import sys
@@ -22,9 +22,9 @@ def rows_of(text):
     for line in text.splitlines():
         name, _, needs = line.partition("#")[0].partition(":")
         if name.strip():
-            # Behind a crate's name may stand what its verdict may have, as may_wait=15.
-            rows[name.split()[0]] = needs.split()
-    return {name: [it for it in needs if it in rows] for name, needs in rows.items()}
+            # Behind a crate's name may stand what it is, as staticlib, or what its verdict may have, as may_wait=15.
+            rows[name.split()[0]] = needs.split(), name.split()[1:]
+    return {name: ([it for it in needs if it in rows], words) for name, (needs, words) in rows.items()}
 
 
 def all_below(rows, name):
@@ -35,10 +35,11 @@ def all_below(rows, name):
     return found
 
 
-def needless(rows):
+def needless(rows_and_words):
     """The entries of libraries' rows that another entry reaches."""
+    rows = {name: needs for name, (needs, _) in rows_and_words.items()}
     below = {name: all_below(rows, name) for name in rows}
-    above = [needs for name, needs in rows.items() if not name.endswith("_tests")]
+    above = [needs for name, (needs, words) in rows_and_words.items() if not name.endswith("_tests") and "staticlib" not in words]
     libraries = {it for needs in above for it in needs if not it.endswith("_for_tests")}
     for name in [it for it in rows if it in libraries]:
         for entry in rows[name]:
@@ -55,6 +56,7 @@ def test():
         (rows.replace("low: mw_model", "low: mw_facts mw_model"), ["crates.txt: low need not name mw_facts, which mw_model reaches"]),
         (rows + "above: top\n", ["crates.txt: top need not name low, which high reaches"]),
         (rows + "top_tests: top\n", []),
+        (rows + "top_c staticlib: top\n", []),
     ):
         found = list(needless(rows_of(text)))
         if found != wanted:

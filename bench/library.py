@@ -1,0 +1,93 @@
+#!/usr/bin/python3
+"""Times libmorphd beside OpenCV, both in one thread and by turns in one run, on images of 4096 x 4096, with the samples of
+bench_kernels. The best of so many rounds counts; both write into an array that is there already.
+
+    /usr/bin/python3 bench/library.py out/libmorphd.so [ROUNDS [WORD]]
+
+With a word only the lines that have it are timed. It needs a Python with cv2 (Debian: python3-opencv).
+"""
+import ctypes
+import pathlib
+import sys
+import time
+
+import cv2
+import numpy
+from peers import SIDE, disc, levels, rectangle
+
+ERODE, OPEN, GRADIENT, RANK = 0, 2, 4, 7
+NUMBER, LENGTH, POINTER = ctypes.c_uint32, ctypes.c_size_t, ctypes.c_void_p
+ARRAY, ELEMENT = [POINTER, LENGTH], [POINTER, LENGTH] + [NUMBER] * 4
+LEVELS = {"u8": [ctypes.c_uint8], "u16": [ctypes.c_uint16], "set": []}
+
+
+def flat(library, kind):
+    """The flat call of a kind of samples, on arrays of NumPy."""
+    call = getattr(library, "morphd_flat_" + kind)
+    call.restype, call.argtypes = ctypes.c_int32, [NUMBER] * 4 + LEVELS[kind] + ARRAY + ELEMENT + ARRAY
+
+    def run(operation, k, image, element, out):
+        (height, width), (rows, columns) = image.shape, element.shape
+        tops = [] if kind == "set" else [numpy.iinfo(image.dtype).max]
+        bitmap = (element.ctypes.data, element.size, columns, rows, columns // 2, rows // 2)
+        answer = call(operation, k, width, height, *tops, image.ctypes.data, image.size, *bitmap, out.ctypes.data, out.size)
+        if answer:
+            sys.exit("answer %d" % answer)
+    return run
+
+
+def lines():
+    """What is timed: its name, the kind of samples, the operation with its k, the element, and what OpenCV does."""
+    for kind in ("u8", "u16"):
+        for name, element in (("box of 3", rectangle(3)), ("box of 15", rectangle(15)), ("box of 63", rectangle(63)),
+                              ("disc of 5", disc(5)), ("disc of 15", disc(15)), ("disc of 31", disc(31))):
+            yield f"erosion, {name}", kind, ERODE, 0, element, lambda f, e, out: cv2.erode(f, e, dst=out)
+        for name, element in (("disc of 15", disc(15)), ("box of 15", rectangle(15))):
+            yield f"opening, {name}", kind, OPEN, 0, element, lambda f, e, out: cv2.morphologyEx(f, cv2.MORPH_OPEN, e, dst=out)
+        yield ("gradient, box of 3", kind, GRADIENT, 0, rectangle(3),
+               lambda f, e, out: cv2.morphologyEx(f, cv2.MORPH_GRADIENT, e, dst=out))
+    for side in (3, 5, 15):
+        yield (f"median, box of {side}", "u8", RANK, (side * side + 1) // 2, rectangle(side),
+               lambda f, e, out: cv2.medianBlur(f, len(e), dst=out))
+    yield "opening, disc of 15", "set", OPEN, 0, disc(15), lambda f, e, out: cv2.morphologyEx(f, cv2.MORPH_OPEN, e, dst=out)
+
+
+def milliseconds(run):
+    start = time.perf_counter()
+    run()
+    return 1000 * (time.perf_counter() - start)
+
+
+def by_turns(first, second, rounds):
+    """The least time of each of the two, run one after the other."""
+    times = [(milliseconds(first), milliseconds(second)) for _ in range(rounds)]
+    return min(it[0] for it in times), min(it[1] for it in times)
+
+
+def agrees(ours, theirs, element):
+    """Whether both made the same, apart from the border, at which medians differ."""
+    reach = max(element.shape)
+    inner = (slice(reach, -reach), slice(reach, -reach))
+    return bool((ours[inner] == theirs[inner]).all())
+
+
+def main():
+    library = ctypes.CDLL(str(pathlib.Path(sys.argv[1]).resolve()))
+    rounds, word = int(sys.argv[2]) if len(sys.argv) > 2 else 7, sys.argv[3] if len(sys.argv) > 3 else ""
+    cv2.setNumThreads(1)
+    words = levels()
+    octets = words.astype(numpy.uint8)
+    images = {"u8": octets, "u16": words, "set": (words % 10 != 0).astype(numpy.uint8)}
+    print(f"OpenCV {cv2.__version__}, one thread each, {SIDE} x {SIDE}, the best of {rounds} by turns, in milliseconds")
+    print("| samples | what | libmorphd | OpenCV | times OpenCV's | the same |")
+    for name, kind, operation, k, element, theirs in lines():
+        if word not in f"{kind} {name}":
+            continue
+        image, run = images[kind], flat(library, kind)
+        ours, other = numpy.zeros_like(image), numpy.zeros_like(image)
+        mine, its = by_turns(lambda: run(operation, k, image, element, ours), lambda: theirs(image, element, other), rounds)
+        print(f"| {kind} | {name} | {mine:.1f} | {its:.1f} | {mine / its:.2f} | {agrees(ours, other, element)} |", flush=True)
+
+
+if __name__ == "__main__":
+    main()

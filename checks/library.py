@@ -1,0 +1,197 @@
+#!/usr/bin/env python3
+"""Holds a built libmorphd against the plain model (checks/plain_model.py) on random images, elements, origins and numbers,
+with and without faults, from one thread and from four; refuses each of its allocations in turn; and runs the programs of
+docs/LIBRARY.md, the one in C also with the sanitizers of addresses and of undefined behaviour.
+
+    python3 checks/library.py out [MORPHD]
+
+`out` is the folder that `make library` makes. Where a built morphd is given, `morphd batch` has to make the same of the same
+images. It begins by spoiling what the library makes, and stops where it does not notice that. It needs a C compiler.
+"""
+import pathlib
+import random
+import re
+import subprocess
+import sys
+import tempfile
+import threading
+
+import library_calls as calls
+import plain_model
+
+ROOT = calls.ROOT
+CALLS, BATCHES = 3000, 200
+NUMBERS = {0, 11, 22, 23, 25, 31, 32, 45, 46, 47}
+
+
+def differs(made, call):
+    """Whether the library answered or wrote something else than it has to."""
+    answer, samples = calls.wanted(call)
+    margin = [calls.UNTOUCHED] * calls.MARGIN
+    inner = samples if answer == 0 else [calls.UNTOUCHED] * call.room
+    return made != (answer, margin + list(inner) + margin)
+
+
+def spoiled(made):
+    """What a library with a fault might have answered and written."""
+    answer, out = made
+    first = calls.MARGIN
+    yield (answer ^ 1, out)
+    yield (answer, out[:-1] + [out[-1] ^ 1])
+    yield (answer, [out[0] ^ 1] + out[1:])
+    if len(out) > 2 * first:
+        yield (answer, out[:first] + [out[first] ^ 1] + out[first + 1:])
+
+
+def one_by_one(library, chance):
+    """Random calls one after the other: how often each number was answered."""
+    writer, seen = calls.Writer(chance), {}
+    for number in range(CALLS):
+        call = writer.call()
+        made = calls.made(library, call)
+        if differs(made, call):
+            sys.exit("DIFFERS: %r\nmade %r\nwanted %r" % (call, made, calls.wanted(call)))
+        if number < 100 and not all(differs(it, call) for it in spoiled(made)):
+            sys.exit("a spoiled result of %r was not noticed" % (call,))
+        seen[made[0]] = seen.get(made[0], 0) + 1
+    missing = NUMBERS - set(seen)
+    if missing or set(seen) - NUMBERS:
+        sys.exit("answers that never came: %s; that should not have come: %s" % (sorted(missing), sorted(set(seen) - NUMBERS)))
+    return seen
+
+
+def side_by_side(library, chance):
+    """The same calls from four threads at once: each has to make what it made alone."""
+    writer = calls.Writer(chance)
+    work = [writer.call() for _ in range(200)]
+    alone, wrong = [calls.made(library, call) for call in work], []
+
+    def run(start):
+        for number in range(len(work)):
+            place = (start + number) % len(work)
+            if calls.made(library, work[place]) != alone[place]:
+                wrong.append(work[place])
+
+    threads = [threading.Thread(target=run, args=(50 * number,)) for number in range(4)]
+    for thread in threads:
+        thread.start()
+    for thread in threads:
+        thread.join()
+    if wrong:
+        sys.exit("DIFFERS from four threads: %r" % (wrong[0],))
+
+
+# ---- beside the program
+
+
+def session_of(call):
+    """A session that does what a call does, or none where a call has no session."""
+    f, what = call.image, calls.family(call)
+    samples = [int(s != 0) for s in f.samples] if f.kind == "set" else f.samples
+    kind = "BIT" if f.kind == "set" else "GREY"
+    text = plain_model.image_text(plain_model.Image(kind, f.width, f.height, 1 if f.kind == "set" else f.maxval, samples))
+    parts = [b"LOAD f %d\n" % len(text), text]
+    for name, b in zip("bc", call.bitmaps):
+        bitmap = b"P1\n%d %d\n" % (b.width, b.height) + b"".join(b"1" if p else b"0" for p in b.pixels)
+        parts += [b"ELEMENT %s %d %d %d\n" % (name.encode(), b.x, b.y, len(bitmap)), bitmap]
+    word = calls.FLAT[call.numbers[0]] if what == "flat" else {"hit_or_miss": "HITMISS"}.get(what, what.upper())
+    numbers = [] if what == "flat" and word != "RANK" else call.numbers[-1:]
+    names = ["f"] + ["b", "c"][:len(call.bitmaps)]
+    parts.append(" ".join(["RUN r", word, *names, *map(str, numbers)]).encode() + b"\nFETCH r\n")
+    return b"".join(parts)
+
+
+def beside_program(library, program, chance):
+    """Calls without faults, and the sessions that do the same."""
+    writer, count = calls.Writer(chance, odd=10**9), 0
+    while count < BATCHES:
+        call = writer.call()
+        if calls.wanted(call)[0]:
+            continue
+        count += 1
+        output = subprocess.run([program, "batch"], input=session_of(call), capture_output=True, check=True).stdout
+        text = output.split(b"\n", 3 + len(call.bitmaps))[-1]
+        _, out = calls.made(library, call)
+        samples = out[calls.MARGIN:-calls.MARGIN]
+        if calls.family(call) == "spectrum":
+            same = plain_model.curve_text(samples) == text
+        else:
+            same = list(plain_model.image_in(text).samples) == samples
+        if not same:
+            sys.exit("DIFFERS from morphd batch: %r" % (call,))
+    return count
+
+
+# ---- programs in C
+
+
+def built(folder, name, sources, *flags):
+    program = pathlib.Path(folder) / name
+    subprocess.run(["cc", "-Wall", "-Wextra", "-Werror", "-I", ROOT / "include", *sources, "-o", program, *flags], check=True)
+    return program
+
+
+def refusals(out, folder):
+    """Each allocation of calls of each kind is refused in turn."""
+    program = built(folder, "refused_calls", [ROOT / "checks/refused_calls.c", out / "libmorphd.a"],
+                    "-Wl,--wrap=malloc,--wrap=realloc,--wrap=free")
+    said = subprocess.run([program], capture_output=True, text=True)
+    if said.returncode:
+        sys.exit("allocations refused in turn: " + said.stdout + said.stderr)
+    return said.stdout.strip()
+
+
+def examples(text):
+    """The programs of the document, each with what it prints: the language, the program, the output."""
+    blocks = re.findall(r"^```(c|python|text)\n(.*?)^```$", text, re.MULTILINE | re.DOTALL)
+    pairs = [(one[0], one[1], other[1]) for one, other in zip(blocks, blocks[1:]) if one[0] != "text" and other[0] == "text"]
+    if [it[0] for it in pairs] != ["c", "python"]:
+        sys.exit("docs/LIBRARY.md has not one program in C and one in Python, each with its output behind it")
+    return pairs
+
+
+def documents(out, folder):
+    """The programs of docs/LIBRARY.md print what stands there."""
+    (_, c_text, c_output), (_, python_text, python_output) = examples((ROOT / "docs/LIBRARY.md").read_text(encoding="utf-8"))
+    source = pathlib.Path(folder) / "example.c"
+    source.write_text(c_text, encoding="utf-8")
+    archive = out / "libmorphd.a"
+    for name, flags in (("shared", ["-L", out, "-lmorphd", "-Wl,-rpath," + str(out)]), ("static", [archive]),
+                        ("checked", [archive, "-g", "-fsanitize=address,undefined", "-fno-sanitize-recover=all"])):
+        said = subprocess.run([built(folder, name, [source], *flags)], capture_output=True, text=True)
+        if (said.returncode, said.stdout, said.stderr) != (0, c_output, ""):
+            sys.exit("the program in C, %s, printed %r %r" % (name, said.stdout, said.stderr))
+    said = subprocess.run([sys.executable, "-c", python_text], capture_output=True, text=True, cwd=ROOT)
+    if (said.returncode, said.stdout, said.stderr) != (0, python_output, ""):
+        sys.exit("the program in Python printed %r %r" % (said.stdout, said.stderr))
+    subprocess.run(["c++", "-Wall", "-Wextra", "-Werror", "-fsyntax-only", "-x", "c++", ROOT / "include/morphd.h"], check=True)
+
+
+def exported(path):
+    """The functions that the shared library offers."""
+    listed = subprocess.run(["nm", "-D", "--defined-only", path], capture_output=True, check=True, text=True).stdout
+    return {line.split()[2] for line in listed.splitlines()}
+
+
+def main():
+    out = pathlib.Path(sys.argv[1]).resolve()
+    library, chance = calls.opened(out / "libmorphd.so"), random.Random(41)
+    if exported(out / "libmorphd.so") != set(calls.prototypes()):
+        sys.exit("the library offers %s" % sorted(exported(out / "libmorphd.so") ^ set(calls.prototypes())))
+    if library.morphd_version() != 1:
+        sys.exit("the version is not 1")
+    seen = one_by_one(library, chance)
+    told = ", ".join("%d: %d" % it for it in sorted(seen.items()))
+    print("%d random calls beside the plain model; answers: %s" % (CALLS, told))
+    side_by_side(library, chance)
+    print("four threads at once make the same")
+    with tempfile.TemporaryDirectory() as folder:
+        print(refusals(out, folder))
+        documents(out, folder)
+    print("the programs of docs/LIBRARY.md print what stands there")
+    if len(sys.argv) > 2:
+        print("%d calls beside morphd batch" % beside_program(library, sys.argv[2], chance))
+
+
+if __name__ == "__main__":
+    main()

@@ -1,0 +1,61 @@
+//! Tests of sides, numbers and samples, none of which takes memory.
+
+ghost use Rattle.std.specs.Prelude.{◌≡◌, ◌&&◌, ◌*◌, ◌==◌, length, nat_le, nat_lt, not};
+ghost use Rattle.std.specs.List.{list_any};
+ghost use Rattle.mw_arrays.specs.Faults.{bitmap_sides_fit, image_sides_fit};
+
+/// Whether the number is from the first to the last.
+pub(crate) fn lies_from(first: u32, last: u32, n: u32) -> bool
+    ensures { result ≡ (nat_le first n && nat_le n last) }
+{
+    first <= n && n <= last
+}
+
+/// Whether an image may have these sides.
+pub(crate) fn image_sides_fit(width: u32, height: u32) -> bool
+    ensures { result ≡ image_sides_fit width height }
+{
+    lies_from(1, 8192, width) && lies_from(1, 8192, height) && is_small(width, height)
+}
+
+/// Whether an image of these sides has no more pixels than it may.
+fn is_small(width: u32, height: u32) -> bool
+    ensures { result ≡ nat_le (height * width) 16777216 }
+{
+    height as usize * width as usize <= 16777216
+}
+
+/// Whether an element's bitmap may have these sides.
+pub(crate) fn bitmap_sides_fit(width: u32, height: u32) -> bool
+    ensures { result ≡ bitmap_sides_fit width height }
+{
+    lies_from(1, 255, width) && lies_from(1, 255, height)
+}
+
+/// Whether so many are as many as the places of a rectangle.
+pub(crate) fn fills(count: usize, width: u32, height: u32) -> bool
+    ensures { result ≡ (count == height * width) }
+{
+    count == height as usize * width as usize
+}
+
+/// Whether a sample is over the level.
+pub(crate) fn any_over_8(samples: &[u8], most: u32) -> bool
+    ensures { result ≡ list_any (λ s. nat_lt most s) samples.now }
+{
+    samples.iter().any(|s| u32::from(*s) > most)
+}
+
+/// Whether a sample is over the level.
+pub(crate) fn any_over_16(samples: &[u16], most: u32) -> bool
+    ensures { result ≡ list_any (λ s. nat_lt most s) samples.now }
+{
+    samples.iter().any(|s| u32::from(*s) > most)
+}
+
+/// Whether a byte is not 0.
+pub(crate) fn any_set(bytes: &[u8]) -> bool
+    ensures { result ≡ list_any (λ s. nat_le 1 s) bytes.now }
+{
+    bytes.iter().any(|s| 1 <= *s)
+}

@@ -1,0 +1,8 @@
+-- the crate's own
+mod Answered
+mod Asked
+mod Meant
+mod Passed
+mod Sets
+mod Sized
+mod Told

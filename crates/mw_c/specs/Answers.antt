@@ -1,0 +1,28 @@
+-- What C is answered: 0, or the number of a refusal.
+use Rattle.std.specs.Prelude.{◌≡◌, ◌⊎◌, ℤ, pos, Option, Some, None, Result, Ok, Err}
+use Rattle.mw_model.specs.declared.codes.Code.{Code}
+use Rattle.mw_model.specs.declared.codes.Code.TheVariants as code
+use Rattle.mw_model.specs.Codes.{number_and_word}
+
+-- the number of a refusal
+abbrev pub number_of : Code → ℤ
+number_of c = pos (number_and_word c).0
+
+-- The first is what is wrong with the arrays, the second what the operation misses in what stands in them. Memory may be
+-- refused between the two, and behind them.
+abbrev pub IsAnswer : Option Code → Option Code → ℤ → Type 0
+IsAnswer (Some c) asked answer = answer ≡ number_of c
+IsAnswer None (Some c) answer = (answer ≡ number_of c) ⊎ (answer ≡ number_of code.Memory)
+IsAnswer None None answer = (answer ≡ pos 0) ⊎ (answer ≡ number_of code.Memory)
+
+-- the same of a result
+abbrev pub IsTold : {A : Type 0} → Option Code → Option Code → Result A Code → Type 0
+IsTold (Some c) asked r = r ≡ Err c
+IsTold None (Some c) r = (r ≡ Err c) ⊎ (r ≡ Err code.Memory)
+IsTold None None (Ok a) = Unit {0}
+IsTold None None (Err c) = c ≡ code.Memory
+
+-- how a result is answered
+abbrev pub answer_of : {A : Type 0} → Result A Code → ℤ
+answer_of (Ok a) = pos 0
+answer_of (Err c) = number_of c

@@ -1,0 +1,23 @@
+//! What C calls: the operators on arrays of the caller. Each function answers 0 where the caller's array has what the operator's
+//! definition makes, and else the number of a refusal, and that array is as it was. Nothing is required of C but that
+//! pointers and lengths are those of arrays, and that the array for the result overlaps none of the others: every function
+//! tests the rest. The functions that C calls have more than six arguments, since C has no slices; all others stay below. `include/morphd.h` tells C of them.
+//!
+//! ```text
+//! // an erosion of five samples up to 9 by a bar of three pixels, whose origin is in its middle
+//! int answer = morphd_flat_u8(MORPHD_ERODE, 0, 5, 1, 9, samples, 5, ones, 3, 3, 1, 1, 0, out, 5);
+//! ```
+#![tactic(auto)]
+
+mod answers;
+mod calls;
+mod elements;
+mod flat;
+mod hits;
+mod making;
+mod operations;
+mod residues;
+mod sources;
+mod spectra;
+mod thresholds;
+mod version;

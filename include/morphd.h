@@ -1,0 +1,179 @@
+/* libmorphd: flat mathematical morphology on arrays in memory.
+ *
+ *     uint8_t samples[5] = {3, 1, 4, 1, 5}, ones[3] = {1, 1, 1}, out[5];
+ *     int32_t answer = morphd_flat_u8(MORPHD_ERODE, 0, 5, 1, 9, samples, 5, ones, 3, 3, 1, 1, 0, out, 5);
+ *
+ * What the functions take
+ *
+ * An image: its width and height in pixels; for levels of grey its maxval, the greatest level that a sample may have; its
+ * samples by rows from the top, each row from the left, without gaps; and `count`, how many samples the array has, which is
+ * width times height. It has 1 to 8192 columns, 1 to 8192 rows and at most 16777216 samples.
+ *   _u8    levels of one byte; maxval is from 1 to 255
+ *   _u16   levels of two bytes; maxval is from 256 to 65535
+ *   _set   a byte for each pixel; any but 0 is in the set. Sets that are made have the bytes 0 and 1, as bool has
+ * An element: a bitmap of a byte a pixel, any but 0 being in the element; its length; its width and height, from 1 to 255
+ * pixels each; and the column and the row of its origin, counted from 0.
+ * The array for the result, and its length in samples, which is that of the image but where a function says otherwise.
+ *
+ * What they make
+ *
+ * S is the samples under the element at a place (x, y) of the image: those at (x + i - element_x, y + j - element_y) for each
+ * column i and row j of the bitmap that is in the element. What lies outside the image is left out. The element turned round
+ * has each of its pixels on the other side of its origin.
+ *
+ * Who owns what
+ *
+ * All arrays are the caller's. No call keeps a pointer; what a call takes by malloc and realloc it frees before it returns. A
+ * call reads what its const pointers point to, and writes `out` alone. The caller keeps that
+ *   - each pointer points to an array of that length; where the length is 0, it is not null and aligned all the same;
+ *   - `out` overlaps nothing else that the call is given;
+ *   - arrays of uint16_t and uint64_t are aligned;
+ *   - nobody writes those arrays while a call runs, or reads `out`;
+ *   - no call runs in a signal handler, or in a child that a process with threads has forked;
+ *   - malloc, realloc and free are of one allocator, and align as the C standard says.
+ * Every call tests the rest. Any number of threads may call at once.
+ *
+ * Answers
+ *
+ * 0 (MORPHD_DONE): `out` has the result. Any other answer is the first of these that holds, and `out` is as it was:
+ *   1. the call's first number (operation, k of a threshold, levels): MORPHD_PARAM
+ *   2. the image: MORPHD_SIZE, MORPHD_LENGTH, MORPHD_MAXVAL, MORPHD_SAMPLE
+ *   3. out_count is not the length of the result: MORPHD_LENGTH
+ *   4. the element: MORPHD_SIZE, MORPHD_LENGTH, MORPHD_ORIGIN, MORPHD_EMPTY; then a second one in the same way
+ *   5. what the operation asks of the element's pixels: MORPHD_NO_ORIGIN, MORPHD_PARAM (k of a rank), MORPHD_OVERLAP
+ * MORPHD_MEMORY may come in the place of the result, or of 5, since the element has to be in memory for that.
+ *
+ * Of every function it is proved that it makes and answers what this file says. docs/DEFINITIONS.md has the operators,
+ * docs/PROTOCOL.md the numbers, docs/LIBRARY.md programs.
+ */
+#ifndef MORPHD_H
+#define MORPHD_H
+
+#include <stddef.h>
+#include <stdint.h>
+
+#ifdef __cplusplus
+extern "C" {
+#endif
+
+/* Operations of the flat calls. */
+enum {
+    MORPHD_ERODE = 0,         /* the least of S, or maxval (1 of a set) where S is empty */
+    MORPHD_DILATE = 1,        /* the greatest of S, or 0 where S is empty */
+    MORPHD_OPEN = 2,          /* an erosion, then a dilation by the element turned round */
+    MORPHD_CLOSE = 3,         /* a dilation, then an erosion by the element turned round */
+    MORPHD_GRADIENT = 4,      /* the dilation less the erosion, and 0 where that is below 0 */
+    MORPHD_WHITE_TOP_HAT = 5, /* the image less its opening, in the same way */
+    MORPHD_BLACK_TOP_HAT = 6, /* the closing less the image, in the same way */
+    MORPHD_RANK = 7           /* sample number min(k, m) of the m samples of S in rising order, from 1 */
+};
+
+/* Answers. */
+enum {
+    MORPHD_DONE = 0,
+    MORPHD_LENGTH = 11,    /* an array is not as long as its sides say, or `out` not as long as the result */
+    MORPHD_SIZE = 22,      /* sides that no image, or no element, has */
+    MORPHD_MAXVAL = 23,    /* a maxval outside its limits */
+    MORPHD_SAMPLE = 25,    /* a sample over the maxval */
+    MORPHD_ORIGIN = 31,    /* the origin lies outside the bitmap */
+    MORPHD_EMPTY = 32,     /* no pixel of the bitmap is in the element */
+    MORPHD_NO_ORIGIN = 45, /* a rank or a skeleton by an element without the pixel at its origin */
+    MORPHD_OVERLAP = 46,   /* the two elements share a pixel, seen from their origins */
+    MORPHD_PARAM = 47,     /* an operation, k or levels outside its limits */
+    MORPHD_MEMORY = 50     /* malloc or realloc gave no memory */
+};
+
+/* The version of this file, which is 1: it rises when a function or a number changes its meaning. */
+uint32_t morphd_version(void);
+
+/* A flat operation, one of the eight above; the result has the image's maxval. MORPHD_RANK alone looks at `k`, which is there
+ * from 1 to the number of the element's pixels; the element then has the pixel at its origin. */
+int32_t morphd_flat_u8(
+    uint32_t operation, uint32_t k,
+    uint32_t width, uint32_t height, uint8_t maxval, const uint8_t *samples, size_t count,
+    const uint8_t *element, size_t element_count, uint32_t element_width, uint32_t element_height, uint32_t element_x, uint32_t element_y,
+    uint8_t *out, size_t out_count);
+int32_t morphd_flat_u16(
+    uint32_t operation, uint32_t k,
+    uint32_t width, uint32_t height, uint16_t maxval, const uint16_t *samples, size_t count,
+    const uint8_t *element, size_t element_count, uint32_t element_width, uint32_t element_height, uint32_t element_x, uint32_t element_y,
+    uint16_t *out, size_t out_count);
+int32_t morphd_flat_set(
+    uint32_t operation, uint32_t k,
+    uint32_t width, uint32_t height, const uint8_t *pixels, size_t count,
+    const uint8_t *element, size_t element_count, uint32_t element_width, uint32_t element_height, uint32_t element_x, uint32_t element_y,
+    uint8_t *out, size_t out_count);
+
+/* The set of the places with level `k` or more; `k` is from 0 to 65535. */
+int32_t morphd_threshold_u8(
+    uint32_t k,
+    uint32_t width, uint32_t height, uint8_t maxval, const uint8_t *samples, size_t count,
+    uint8_t *out, size_t out_count);
+int32_t morphd_threshold_u16(
+    uint32_t k,
+    uint32_t width, uint32_t height, uint16_t maxval, const uint16_t *samples, size_t count,
+    uint8_t *out, size_t out_count);
+
+/* The erosion by `hit` less the dilation by `miss`, and 0 where that is below 0: of a set, the places where `hit` fits into it
+ * and `miss` beside it. The elements share no pixel, seen from their origins. The result has the image's maxval. */
+int32_t morphd_hit_or_miss_u8(
+    uint32_t width, uint32_t height, uint8_t maxval, const uint8_t *samples, size_t count,
+    const uint8_t *hit, size_t hit_count, uint32_t hit_width, uint32_t hit_height, uint32_t hit_x, uint32_t hit_y,
+    const uint8_t *miss, size_t miss_count, uint32_t miss_width, uint32_t miss_height, uint32_t miss_x, uint32_t miss_y,
+    uint8_t *out, size_t out_count);
+int32_t morphd_hit_or_miss_u16(
+    uint32_t width, uint32_t height, uint16_t maxval, const uint16_t *samples, size_t count,
+    const uint8_t *hit, size_t hit_count, uint32_t hit_width, uint32_t hit_height, uint32_t hit_x, uint32_t hit_y,
+    const uint8_t *miss, size_t miss_count, uint32_t miss_width, uint32_t miss_height, uint32_t miss_x, uint32_t miss_y,
+    uint16_t *out, size_t out_count);
+int32_t morphd_hit_or_miss_set(
+    uint32_t width, uint32_t height, const uint8_t *pixels, size_t count,
+    const uint8_t *hit, size_t hit_count, uint32_t hit_width, uint32_t hit_height, uint32_t hit_x, uint32_t hit_y,
+    const uint8_t *miss, size_t miss_count, uint32_t miss_width, uint32_t miss_height, uint32_t miss_x, uint32_t miss_y,
+    uint8_t *out, size_t out_count);
+
+/* The skeleton of a set, as an image of levels up to levels + 1: n + 1 at a pixel that the n-fold erosion has and its opening
+ * has not, for the greatest such n below `levels`; levels + 1 at what `levels` erosions leave; 0 elsewhere. `levels` is from
+ * 1 to 254. The element has the pixel at its origin. */
+int32_t morphd_skeleton(
+    uint32_t levels,
+    uint32_t width, uint32_t height, const uint8_t *pixels, size_t count,
+    const uint8_t *element, size_t element_count, uint32_t element_width, uint32_t element_height, uint32_t element_x, uint32_t element_y,
+    uint8_t *out, size_t out_count);
+
+/* The set that the marks of a skeleton restore: the union, for n from 0 to `levels`, of the n-fold dilations, by the element
+ * turned round, of the places marked n + 1. `levels` is from 1 to 254. */
+int32_t morphd_restore_u8(
+    uint32_t levels,
+    uint32_t width, uint32_t height, uint8_t maxval, const uint8_t *samples, size_t count,
+    const uint8_t *element, size_t element_count, uint32_t element_width, uint32_t element_height, uint32_t element_x, uint32_t element_y,
+    uint8_t *out, size_t out_count);
+int32_t morphd_restore_u16(
+    uint32_t levels,
+    uint32_t width, uint32_t height, uint16_t maxval, const uint16_t *samples, size_t count,
+    const uint8_t *element, size_t element_count, uint32_t element_width, uint32_t element_height, uint32_t element_x, uint32_t element_y,
+    uint8_t *out, size_t out_count);
+
+/* Volumes: out[n] is the sum of all samples after n erosions and then n dilations by the element turned round, for n from 0 to
+ * `levels`, which is from 1 to 32. out_count is levels + 1. */
+int32_t morphd_spectrum_u8(
+    uint32_t levels,
+    uint32_t width, uint32_t height, uint8_t maxval, const uint8_t *samples, size_t count,
+    const uint8_t *element, size_t element_count, uint32_t element_width, uint32_t element_height, uint32_t element_x, uint32_t element_y,
+    uint64_t *out, size_t out_count);
+int32_t morphd_spectrum_u16(
+    uint32_t levels,
+    uint32_t width, uint32_t height, uint16_t maxval, const uint16_t *samples, size_t count,
+    const uint8_t *element, size_t element_count, uint32_t element_width, uint32_t element_height, uint32_t element_x, uint32_t element_y,
+    uint64_t *out, size_t out_count);
+int32_t morphd_spectrum_set(
+    uint32_t levels,
+    uint32_t width, uint32_t height, const uint8_t *pixels, size_t count,
+    const uint8_t *element, size_t element_count, uint32_t element_width, uint32_t element_height, uint32_t element_x, uint32_t element_y,
+    uint64_t *out, size_t out_count);
+
+#ifdef __cplusplus
+}
+#endif
+
+#endif
