@@ -132,8 +132,8 @@ costs: toolchain python3 valgrind
 
 # The Python package. The tests of `make test` take what is built, and stand-ins for what is not.
 .PHONY: python check-python
-python: python3
+python: library
 	@python3 -B checks/python_package.py wheel
 
-check-python: python3
+check-python: library
 	@python3 -B checks/python_package.py built
