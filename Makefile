@@ -12,7 +12,7 @@ help:
 	@echo "make test       the gate: proves every crate from nothing, tries the wrong bodies, runs programs and tests"
 	@echo "make documents  compares the documents with the repository, and replays their examples"
 	@echo "make memory     refuses each allocation and each start of a thread in turn, and measures memory"
-	@echo "make soak       runs random sessions beside a plain model, and a server with good and bad clients; FOR=seconds"
+	@echo "make soak       runs random sessions beside a plain model, and two servers with good and bad clients; FOR=seconds"
 	@echo "make bench      takes the times of docs/PERFORMANCE.md"
 	@echo "make costs      counts instructions, and compares them with those that are kept"
 	@echo "make python     makes the Python package with the library in it, as a wheel in out"
@@ -97,14 +97,16 @@ memory: toolchain python3 compiler
 	@python3 -B checks/refused_tests.py crates/mw_machine_tests/out/mw_machine_tests_tests
 	@python3 -B checks/refused_tests.py crates/mw_direct_tests/out/mw_direct_tests_tests
 
-# Each of the two soaks for as long as is asked for, and by a seed if one is given: make soak FOR=600 SEED=one
+# Each of the three soaks for as long as is asked for, and by a seed if one is given: make soak FOR=600 SEED=one
 FOR = 60
 
 soak: toolchain python3
 	@python3 -B checks/prove.py morphd
 	@python3 -B checks/bad_peers.py $(MORPHD)
+	@python3 -B checks/bad_peers_serve.py $(MORPHD)
 	@python3 -B checks/soak.py $(MORPHD) $(FOR) $(SEED)
 	@python3 -B checks/soak_listen.py $(MORPHD) $(FOR) $(SEED)
+	@python3 -B checks/soak_serve.py $(MORPHD) $(FOR) $(SEED)
 
 # Best on a machine that does nothing else: each line is the best of five runs in one thread (of `bench_core` and
 # `bench_board` the best of three, of the latter also with workers). The C library is told to
@@ -122,6 +124,7 @@ bench: toolchain python3
 	python3 -B bench/operations.py $(MORPHD)
 	python3 bench/workers.py $(MORPHD)
 	python3 -B bench/listen.py $(MORPHD)
+	python3 -B bench/serve.py $(MORPHD)
 	@/usr/bin/python3 bench/peers.py || echo "the peers were not measured" >&2
 
 # A busy machine counts as a quiet one does.

@@ -1,8 +1,10 @@
-"""Starts and stops a `morphd listen`, and speaks to it as a client. Whatever waits here has a time limit, and says what it
-waited for when that is over.
+"""Starts and stops a `morphd listen` or a `morphd serve`, and speaks to it as a client. Whatever waits here has a time limit,
+and says what it waited for when that is over.
 """
 import random
 import re
+import resource
+import select
 import socket
 import subprocess
 import time
@@ -92,6 +94,33 @@ class Server:
             last = now
             time.sleep(0.3)
         return False
+
+
+class Service(Server):
+    """A `morphd serve`, which ends when its standard input does. It says on which port it listens."""
+
+    def __init__(self, program, sessions, workers=1, tile=128, idle=None, descriptors=None):
+        words = ["--sessions", sessions, "--workers", workers, "--tile", tile] + (["--idle", idle] if idle else [])
+        pipes = {"stdin": subprocess.PIPE, "stdout": subprocess.PIPE, "stderr": subprocess.PIPE}
+        few = (lambda: resource.setrlimit(resource.RLIMIT_NOFILE, (descriptors, descriptors))) if descriptors else None
+        words = [program, "serve", "--until-end", *map(str, words)]
+        self.run = subprocess.Popen(words, preexec_fn=few, **pipes)
+        self.port = self.told_port()
+
+    def told_port(self, patience=PATIENCE):
+        """The port of the line that comes when connections can be made."""
+        if not select.select([self.run.stdout], [], [], patience)[0]:
+            raise NoAnswer("no line came in %.0f s" % patience)
+        line = self.run.stdout.readline()
+        told = re.fullmatch(rb"LISTENING 127\.0\.0\.1 ([1-9][0-9]*)\n", line)
+        if not told:
+            raise NoAnswer("the first line was %r: %s" % (line, self.how_it_is()))
+        return int(told.group(1))
+
+    def __exit__(self, *_):
+        super().__exit__()
+        self.run.stdin.close()
+        self.run.stdout.close()
 
 
 class Client:

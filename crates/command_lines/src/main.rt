@@ -11,7 +11,7 @@ use std::io::{Eprint, Print};
 const PROCESSORS: usize = 3;
 
 /// The command lines that are shown after the words of the process.
-const LINES: [&str; 17] = [
+const LINES: [&str; 25] = [
     "morphd --version",
     "morphd batch",
     "morphd batch --tile 1024",
@@ -29,6 +29,14 @@ const LINES: [&str; 17] = [
     "morphd listen --port 7001 --workers 0 --sessions 0",
     "morphd listen --port 7001 --sessions 65 --tile 65",
     "morphd listen --port 7001 --tile 100",
+    "morphd listen --port 7001 --announce --idle 60",
+    "morphd listen --port 7001 --tile 100 --idle 0",
+    "morphd serve",
+    "morphd serve --port 65535 --workers 64 --sessions 1024 --tile 64 --idle 86400 --until-end",
+    "morphd serve --port 65536 --workers 0",
+    "morphd serve --workers 65 --sessions 0",
+    "morphd serve --sessions 1025 --tile 65",
+    "morphd serve --idle 86401",
 ];
 
 /// Prints to standard output what goes to either output.
@@ -70,6 +78,17 @@ fn split(alloc: Global, line: &str) -> Result<Vec<String>, AllocError> {
     Ok(words)
 }
 
+/// Prints how long sessions wait, where there is a bound, and the words for a flag that is set.
+fn show_bounds<R: Print>(rt: &R, idle: Option<u32>, words: &str, flag: bool) -> io::Result<()> {
+    if let Some(seconds) = idle {
+        println!(rt; "  waits {seconds} seconds")?;
+    }
+    if flag {
+        println!(rt; "  {words}")?;
+    }
+    Ok(())
+}
+
 /// Prints what was asked for, or what is printed and the status in its place.
 fn show<R: Print>(rt: &R, job: Result<Job, LineFault>) -> io::Result<()> {
     match job {
@@ -83,7 +102,15 @@ fn show<R: Print>(rt: &R, job: Result<Job, LineFault>) -> io::Result<()> {
             println!(rt;
                 "port {}, {} workers, {} sessions, tiles of {}",
                 given.port, given.workers, given.sessions, given.side
-            )
+            )?;
+            show_bounds(rt, given.idle, "announced", given.announce)
+        }
+        Ok(Job::Serve(given)) => {
+            println!(rt;
+                "serves on port {}, {} workers each, {} sessions at once, tiles of {}",
+                given.port, given.workers, given.sessions, given.side
+            )?;
+            show_bounds(rt, given.idle, "until the end", given.until_end)
         }
         Err(fault) => {
             fault.print(&Shown { rt })?;

@@ -1,15 +1,21 @@
-// Runs a script of morphology from standard input to standard output, or serves sessions over TCP.
+// Runs a script of morphology from standard input to standard output, or serves sessions over TCP, on one table of names
+// or each on its own.
 #![tactic(auto)]
 
 ghost use Rattle.std.specs.Prelude.{◌≡◌, ◌≤◌, ◌%◌, false};
 
 use mw_batch::{Crew, batch};
-use mw_cli::{Job, options, processors, words};
-use mw_listen::{Kernels, Service, listen};
+use mw_cli::{Job, ListenOptions, ServeOptions, options, processors, words};
+use mw_listen::{Kernels, listen};
+use mw_server::serve;
 use mw_wire::{Sink, Source, send};
+use std::alloc::Global;
 use std::io::{BufWriter, Read, Write};
+use std::net::{Net, TcpListener, TcpStream};
 use std::process::ExitCode;
+use std::sync::Wait;
 use std::thread::Threads;
+use std::time::Clock;
 
 /// How many bytes of replies may wait for those behind them, so that they go out in one write.
 const HELD: usize = 65536;
@@ -34,8 +40,58 @@ fn run<R: Read, W: Write + Drop, F: Write, T: Threads + Sync>(
     batch(crew, source, &mut sink, faults, side)
 }
 
+/// Serves sessions that share a board, and gives the exit status.
+fn run_listen<
+    R: Net<Listener = TcpListener, Stream = TcpStream> + Threads + Wait + Sync,
+    O: Write,
+    F: Write,
+>(rt: &R, alloc: Global, given: ListenOptions, output: &mut Sink<O>, faults: &mut Sink<F>) -> u8
+    requires port { 1 ≤ given.port }
+    requires workers { (1 ≤ given.workers) × (given.workers ≤ 64) }
+    requires sessions { (1 ≤ given.sessions) × (given.sessions ≤ 64) }
+    requires side { (64 ≤ given.side) × (given.side ≤ 1024) × (given.side % 64 ≡ 0) }
+{
+    let service = mw_listen::Service {
+        port: given.port,
+        workers: given.workers,
+        sessions: given.sessions,
+        side: given.side,
+        idle: given.idle,
+        announce: given.announce,
+    };
+    listen(rt, alloc, service, output, faults, &Kernels { alloc })
+}
+
+/// Serves sessions that share nothing, and gives the exit status.
+fn run_serve<
+    R: Net<Listener = TcpListener, Stream = TcpStream> + Threads + Wait + Clock + Sync,
+    I: Read + Drop,
+    O: Write,
+    F: Write,
+>(
+    rt: &R,
+    alloc: Global,
+    given: ServeOptions,
+    input: I,
+    output: &mut Sink<O>,
+    faults: &mut Sink<F>,
+) -> u8
+    requires side { (64 ≤ given.side) × (given.side ≤ 1024) × (given.side % 64 ≡ 0) }
+{
+    let service = mw_server::Service {
+        port: given.port,
+        workers: given.workers,
+        sessions: given.sessions,
+        side: given.side,
+        idle: given.idle,
+    };
+    let until = if given.until_end { Some(input) } else { None };
+    serve(rt, alloc, service, until, output, faults)
+}
+
 fn main(rt: HostRuntime) -> ExitCode {
     let alloc = rt.alloc();
+    let mut faults = Sink::new(rt.stderr());
     let job = match words(&rt) {
         Ok(words) => options(alloc, words.as_slice(), processors(&rt)),
         Err(fault) => Err(fault),
@@ -48,18 +104,15 @@ fn main(rt: HostRuntime) -> ExitCode {
                 workers: given.workers,
             };
             let mut source = Source::new(rt.stdin());
-            let mut faults = Sink::new(rt.stderr());
             run(crew, &mut source, rt.stdout(), &mut faults, given.side)
         }
         Ok(Job::Listen(given)) => {
-            let service = Service {
-                port: given.port,
-                workers: given.workers,
-                sessions: given.sessions,
-                side: given.side,
-            };
-            let mut faults = Sink::new(rt.stderr());
-            listen(&rt, alloc, service, &mut faults, &Kernels { alloc })
+            let mut output = Sink::new(rt.stdout());
+            run_listen(&rt, alloc, given, &mut output, &mut faults)
+        }
+        Ok(Job::Serve(given)) => {
+            let mut output = Sink::new(rt.stdout());
+            run_serve(&rt, alloc, given, rt.stdin(), &mut output, &mut faults)
         }
         Err(fault) => match fault.print(&rt) {
             Ok(()) => fault.status(),

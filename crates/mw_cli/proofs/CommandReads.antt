@@ -1,5 +1,5 @@
 -- What clap reads of a command stays when a text of its help is set, and what is read of the texts of a job's options.
-use Rattle.std.proofs.Common.{◌≡◌, ℕ, ap, refl, codes, Option, Some, None, List, option_map, sym, ◌∙◌, subst, inl, inr}
+use Rattle.std.proofs.Common.{◌≡◌, ◌≤◌, ℕ, Bool, true, false, ap, refl, codes, Option, Some, None, List, option_map, sym, ◌∙◌, subst, inl, inr}
 use Rattle.std.specs.Prelude.{◌↔◌, Box, option_and_then, Result, Ok, Err}
 use Rattle.std.specs.Str.Parse.{ParsesUnsigned}
 use Rattle.clap.specs.Matches.{TriesOne}
@@ -11,7 +11,7 @@ use Rattle.clap.specs.declared.parser.matches.SubCommand.{SubCommand}
 use Rattle.std.specs.Box.{box_value}
 use Rattle.clap.specs.declared.builder.command.Command.{Command}
 use Rattle.clap.specs.declared.builder.command.Command.TheViews.{out-Command as fields_of}
-use Rattle.mw_cli.specs.CommandLine.{AreListens, AreTaken, AsksNoCrew, AsksWorkers, Faults, HasNoGlobals, IsCrew, IsRefused, IsUpTo, Reads, Writes, WritesNone, program_words, text_in, usual_workers}
+use Rattle.mw_cli.specs.CommandLine.{AreListens, AreServes, AreTaken, AsksIdle, AsksNoCrew, AsksNoIdle, AsksWorkers, Faults, HasNoGlobals, IsCrew, IsRefused, IsUpTo, Reads, Writes, WritesNoPort, WritesNone, program_words, text_in, usual_workers}
 use Rattle.mw_cli.specs.declared.fault.LineFault.{LineFault}
 use Rattle.mw_cli.specs.declared.fault.LineFault.TheVariants as fault
 
@@ -75,6 +75,34 @@ missing_is_none most (Some t) e n w ok = cc
 pub no_other : (most : ℕ) (text : Option Text) (m : ℕ) → Writes text m → (IsUpTo most m → ⊥) → WritesNone most text
 no_other most text m v bad n w ok = bad (subst (IsUpTo most) (one_number text n m w v) ok)
 
+pub unread_is_no_port : (E : Type 0) (text : Option Text) (x : E) → Reads text (Err x) → WritesNoPort text
+unread_is_no_port E text x h n w ok = h.1 n w
+
+pub missing_is_no_port : (text : Option Text) → text ≡ None → WritesNoPort text
+missing_is_no_port None e n w ok = w
+missing_is_no_port (Some t) e n w ok = cc
+
+pub no_other_port : (text : Option Text) (m : ℕ) → Writes text m → (m ≤ 65535 → ⊥) → WritesNoPort text
+no_other_port text m v bad n w ok = bad (subst (λ k. k ≤ 65535) (one_number text n m w v) ok)
+
+pub asks_any_time : (text : Option Text) → text ≡ None → AsksIdle text None
+asks_any_time None e = refl
+asks_any_time (Some t) e = cc
+
+pub asks_seconds : (text : Option Text) (n : ℕ) → Writes text n → IsUpTo 86400 n → AsksIdle text (Some n)
+asks_seconds None n w ok = absurd w
+asks_seconds (Some t) n w ok = (w, ok)
+
+pub no_other_idle : (text : Option Text) (m : ℕ) → Writes text m → (IsUpTo 86400 m → ⊥) → AsksNoIdle text
+no_other_idle None m v bad idle asked = absurd v
+no_other_idle (Some t) m v bad None asked = asked
+no_other_idle (Some t) m v bad (Some n) asked = bad (subst (IsUpTo 86400) (one_number (Some t) n m asked.0 v) asked.1)
+
+pub unread_is_no_idle : (E : Type 0) (text : Option Text) (x : E) → Reads text (Err x) → AsksNoIdle text
+unread_is_no_idle E None x h idle asked = h.0 refl
+unread_is_no_idle E (Some t) x h None asked = asked
+unread_is_no_idle E (Some t) x h (Some n) asked = h.1 n asked.0
+
 -- the name of the job that the matches have
 pub name-rows : (m : ArgMatches) → subcommand_name_of m ≡ option_map (λ p. p.0) (subcommand_rows_of m)
 name-rows m = go (out-ArgMatches m).subcommand
@@ -86,11 +114,22 @@ name-rows m = go (out-ArgMatches m).subcommand
 pub listens_named : (m : ArgMatches) → (subcommand_name_of m ≡ Some (codes "listen")) ↔ AreListens (subcommand_rows_of m)
 listens_named m = (λ h. sym (name-rows m) ∙ h, λ h. name-rows m ∙ h)
 
+pub serves_named : (m : ArgMatches) → (subcommand_name_of m ≡ Some (codes "serve")) ↔ AreServes (subcommand_rows_of m)
+serves_named m = (λ h. sym (name-rows m) ∙ h, λ h. name-rows m ∙ h)
+
+pub not_both : (b : Bool) → b ≡ true → b ≡ false → ⊥
+not_both true is_true is_false = cc
+not_both false is_true is_false = cc
+
 -- a fault of the numbers refuses the words
 pub faults_refuse : (processors : ℕ) (words : List Text) (f : LineFault) → AreTaken words → Faults processors (subcommand_of program_words words) f → IsRefused processors words f
-faults_refuse processors words (fault.Line e) taken h = elim h [ inl other ↦ absurd other.1 | inr own ↦ absurd own.1 ]
+faults_refuse processors words (fault.Line e) taken h =
+    elim h [ inl other ↦ absurd other.2 | inr own ↦ elim own [ inl l ↦ absurd l.1 | inr s ↦ absurd s.1 ] ]
 faults_refuse processors words fault.Port taken h = (taken, h)
+faults_refuse processors words fault.ServePort taken h = (taken, h)
 faults_refuse processors words fault.Workers taken h = (taken, h)
 faults_refuse processors words fault.Sessions taken h = (taken, h)
+faults_refuse processors words fault.ServeSessions taken h = (taken, h)
 faults_refuse processors words fault.Tile taken h = (taken, h)
+faults_refuse processors words fault.Idle taken h = (taken, h)
 faults_refuse processors words fault.NoMemory taken h = tt

@@ -3,6 +3,7 @@ use Rattle.std.specs.Prelude.{◌≡◌, ◌≤◌, ◌<◌, ◌^◌, ◌%◌, �
 use Rattle.std.specs.Str.Parse.{IsNumeral, digits_value, without_leading_plus}
 use Rattle.clap.specs.Words.{App, IsAmong, Row, Rule, Text, fault_of, kind_of, new_app, new_rule, one_of, subcommand_of, with_rule, with_subcommand}
 use Rattle.clap.specs.Simple.{on_top}
+use Rattle.clap.specs.declared.builder.action.ArgAction.TheVariants.{SetTrue}
 use Rattle.clap.specs.declared.builder.command.Command.{Command}
 use Rattle.clap.specs.declared.builder.command.Command.TheViews.{out-Command as fields_of}
 use Rattle.clap.specs.declared.builder.value_parser.ValueParser.TheVariants as parser
@@ -12,6 +13,7 @@ use Rattle.mw_cli.specs.declared.line.BatchOptions.{BatchOptions}
 use Rattle.mw_cli.specs.declared.line.Job.{Job}
 use Rattle.mw_cli.specs.declared.line.Job.TheVariants as job
 use Rattle.mw_cli.specs.declared.line.ListenOptions.{ListenOptions}
+use Rattle.mw_cli.specs.declared.line.ServeOptions.{ServeOptions}
 use Rattle.mw_cli.specs.declared.fault.LineFault.{LineFault}
 use Rattle.mw_cli.specs.declared.fault.LineFault.TheVariants as fault
 
@@ -23,9 +25,24 @@ number_option name = record (new_rule name) {
   value_names = 1;
 }
 
+-- the same, with what it is where it is left out
+abbrev pub usual_option : Text → Text → Rule
+usual_option name usual = record (number_option name) { defaults = usual ∷ [] }
+
+-- `--NAME`, alone
+abbrev pub flag_option : Text → Rule
+flag_option name = record (new_rule name) {
+  long = Some name;
+  action = Some SetTrue;
+}
+
 -- `--tile S`, 128 where it is left out
 abbrev pub tile_option : Rule
-tile_option = record (number_option (codes "tile")) { defaults = codes "128" ∷ [] }
+tile_option = usual_option (codes "tile") (codes "128")
+
+-- `--idle S`; clap has no number for it where it is left out
+abbrev pub idle_option : Rule
+idle_option = number_option (codes "idle")
 
 -- `--workers W`; clap has no number for it where it is left out
 abbrev pub workers_option : Rule
@@ -41,23 +58,40 @@ port_option = record (number_option (codes "port")) { required = true }
 
 -- `--workers W` of a server, 2 where it is left out
 abbrev pub crew_option : Rule
-crew_option = record (number_option (codes "workers")) { defaults = codes "2" ∷ [] }
+crew_option = usual_option (codes "workers") (codes "2")
 
 -- `--sessions C`, 1 where it is left out
 abbrev pub sessions_option : Rule
-sessions_option = record (number_option (codes "sessions")) { defaults = codes "1" ∷ [] }
+sessions_option = usual_option (codes "sessions") (codes "1")
 
--- `listen --port P [--workers W] [--sessions C] [--tile S]`
+-- a job with a port, workers, sessions, tiles, a bound on waiting, and a flag
+abbrev pub server_words : Text → Rule → Rule → Rule → Rule → App
+server_words name port crew sessions flag =
+    with_rule
+    (with_rule (with_rule (with_rule (with_rule (with_rule (new_app name) port) crew) sessions) tile_option) idle_option)
+    flag
+
+-- `listen --port P [--workers W] [--sessions C] [--tile S] [--idle S] [--announce]`
 abbrev pub listen_words : App
-listen_words =
-    with_rule (with_rule (with_rule (with_rule (new_app (codes "listen")) port_option) crew_option) sessions_option) tile_option
+listen_words = server_words (codes "listen") port_option crew_option sessions_option (flag_option (codes "announce"))
 
--- `morphd`, and then one of its jobs; it has a version to show
+-- `serve [--port P] [--workers W] [--sessions C] [--tile S] [--idle S] [--until-end]`; left out, the port is 0, the workers are 1 and the sessions 16
+abbrev pub serve_words : App
+serve_words =
+    server_words
+    (codes "serve")
+    (usual_option (codes "port") (codes "0"))
+    (usual_option (codes "workers") (codes "1"))
+    (usual_option (codes "sessions") (codes "16"))
+    (flag_option (codes "until-end"))
+
+-- `morphd`, which has a version to show
+abbrev pub bare_words : App
+bare_words = on_top (λ s. record s { has_version = true; subcommand_required = true }) (new_app (codes "morphd"))
+
+-- `morphd`, and then one of its jobs
 abbrev pub program_words : App
-program_words =
-    with_subcommand
-    (with_subcommand (on_top (λ s. record s { has_version = true; subcommand_required = true }) (new_app (codes "morphd"))) batch_words.top)
-    listen_words.top
+program_words = with_subcommand (with_subcommand (with_subcommand bare_words batch_words.top) listen_words.top) serve_words.top
 
 -- no option of the command is one of its jobs too
 abbrev pub HasNoGlobals : Command → Type 0
@@ -74,6 +108,10 @@ text_in id = option_and_then (λ p. one_of id p.1)
 -- the rows are those of `listen`
 abbrev pub AreListens : Option (Text × List Row) → Type 0
 AreListens rows = option_map (λ p. p.0) rows ≡ Some (codes "listen")
+
+-- the rows are those of `serve`
+abbrev pub AreServes : Option (Text × List Row) → Type 0
+AreServes rows = option_map (λ p. p.0) rows ≡ Some (codes "serve")
 
 -- there is a text, and it writes this number of 32 bits
 abbrev pub Writes : Option Text → ℕ → Type 0
@@ -95,6 +133,10 @@ IsTileSide side = (64 ≤ side) × (side ≤ 1024) × (side % 64 ≡ 0)
 -- the text writes no side of tiles
 abbrev pub WritesNoSide : Option Text → Type 0
 WritesNoSide text = (side : ℕ) → Writes text side → IsTileSide side → ⊥
+
+-- the text writes a side of tiles
+abbrev pub WritesSide : Option Text → Type 0
+WritesSide text = (side : ℕ) × Writes text side × IsTileSide side
 
 -- a number from 1 to the most that there may be
 abbrev pub IsUpTo : ℕ → ℕ → Type 0
@@ -128,6 +170,31 @@ AsksWorkers processors (Some text) n = Writes (Some text) n
 abbrev pub AsksNoCrew : ℕ → Option Text → Type 0
 AsksNoCrew processors text = (n : ℕ) → AsksWorkers processors text n → IsCrew n → ⊥
 
+-- the text of a flag says that it is set, or not; there is none where it is not
+abbrev pub Sets : Option Text → Bool → Type 0
+Sets text flag =
+    (text ≡ Some (codes "true") → flag ≡ true)
+    × (text ≡ Some (codes "false") → flag ≡ false)
+    × (text ≡ None → flag ≡ false)
+
+-- the text asks for so many seconds; left out, it asks for none
+abbrev pub AsksIdle : Option Text → Option ℕ → Type 0
+AsksIdle None idle = idle ≡ None
+AsksIdle (Some text) None = ⊥
+AsksIdle (Some text) (Some seconds) = Writes (Some text) seconds × IsUpTo 86400 seconds
+
+-- the text asks for no bound on waiting that there may be, and not for none
+abbrev pub AsksNoIdle : Option Text → Type 0
+AsksNoIdle text = (idle : Option ℕ) → AsksIdle text idle → ⊥
+
+-- the text writes a port, or 0
+abbrev pub WritesPort : Option Text → Type 0
+WritesPort text = (n : ℕ) × Writes text n × (n ≤ 65535)
+
+-- the text writes no port, and not 0
+abbrev pub WritesNoPort : Option Text → Type 0
+WritesNoPort text = (n : ℕ) → Writes text n → n ≤ 65535 → ⊥
+
 -- the rows ask for this batch, where there are so many processors
 abbrev pub AsksBatch : ℕ → Option (Text × List Row) → BatchOptions → Type 0
 AsksBatch processors rows given =
@@ -140,12 +207,25 @@ AsksListen rows given =
     (Writes (text_in (codes "port") rows) given.port × IsUpTo 65535 given.port)
     × (Writes (text_in (codes "workers") rows) given.workers × IsCrew given.workers)
     × (Writes (text_in (codes "sessions") rows) given.sessions × IsUpTo 64 given.sessions)
-    × Writes (text_in (codes "tile") rows) given.side × IsTileSide given.side
+    × (Writes (text_in (codes "tile") rows) given.side × IsTileSide given.side)
+    × AsksIdle (text_in (codes "idle") rows) given.idle
+    × Sets (text_in (codes "announce") rows) given.announce
+
+-- the rows ask for this service
+abbrev pub AsksServe : Option (Text × List Row) → ServeOptions → Type 0
+AsksServe rows given =
+    (Writes (text_in (codes "port") rows) given.port × (given.port ≤ 65535))
+    × (Writes (text_in (codes "workers") rows) given.workers × IsCrew given.workers)
+    × (Writes (text_in (codes "sessions") rows) given.sessions × IsUpTo 1024 given.sessions)
+    × (Writes (text_in (codes "tile") rows) given.side × IsTileSide given.side)
+    × AsksIdle (text_in (codes "idle") rows) given.idle
+    × Sets (text_in (codes "until-end") rows) given.until_end
 
 -- the rows ask for this job
 abbrev pub Asks : ℕ → Option (Text × List Row) → Job → Type 0
-Asks processors rows (job.Batch given) = (AreListens rows → ⊥) × AsksBatch processors rows given
+Asks processors rows (job.Batch given) = (AreListens rows → ⊥) × (AreServes rows → ⊥) × AsksBatch processors rows given
 Asks processors rows (job.Listen given) = AreListens rows × AsksListen rows given
+Asks processors rows (job.Serve given) = AreServes rows × AsksServe rows given
 
 -- the words ask for this job
 abbrev pub IsAsked : ℕ → List Text → Job → Type 0
@@ -174,11 +254,42 @@ FaultsListen rows fault.Tile =
     × WritesUpTo 64 (text_in (codes "workers") rows)
     × WritesUpTo 64 (text_in (codes "sessions") rows)
     × WritesNoSide (text_in (codes "tile") rows)
+FaultsListen rows fault.Idle =
+    WritesUpTo 65535 (text_in (codes "port") rows)
+    × WritesUpTo 64 (text_in (codes "workers") rows)
+    × WritesUpTo 64 (text_in (codes "sessions") rows)
+    × WritesSide (text_in (codes "tile") rows)
+    × AsksNoIdle (text_in (codes "idle") rows)
 FaultsListen rows f = ⊥
+
+-- this is the first fault of a service's numbers
+abbrev pub FaultsServe : Option (Text × List Row) → LineFault → Type 0
+FaultsServe rows fault.ServePort = WritesNoPort (text_in (codes "port") rows)
+FaultsServe rows fault.Workers =
+    WritesPort (text_in (codes "port") rows)
+    × WritesNone 64 (text_in (codes "workers") rows)
+FaultsServe rows fault.ServeSessions =
+    WritesPort (text_in (codes "port") rows)
+    × WritesUpTo 64 (text_in (codes "workers") rows)
+    × WritesNone 1024 (text_in (codes "sessions") rows)
+FaultsServe rows fault.Tile =
+    WritesPort (text_in (codes "port") rows)
+    × WritesUpTo 64 (text_in (codes "workers") rows)
+    × WritesUpTo 1024 (text_in (codes "sessions") rows)
+    × WritesNoSide (text_in (codes "tile") rows)
+FaultsServe rows fault.Idle =
+    WritesPort (text_in (codes "port") rows)
+    × WritesUpTo 64 (text_in (codes "workers") rows)
+    × WritesUpTo 1024 (text_in (codes "sessions") rows)
+    × WritesSide (text_in (codes "tile") rows)
+    × AsksNoIdle (text_in (codes "idle") rows)
+FaultsServe rows f = ⊥
 
 -- this is the first fault of the job's numbers
 abbrev pub Faults : ℕ → Option (Text × List Row) → LineFault → Type 0
-Faults processors rows f = ((AreListens rows → ⊥) × FaultsBatch processors rows f) ⊎ (AreListens rows × FaultsListen rows f)
+Faults processors rows f =
+    ((AreListens rows → ⊥) × (AreServes rows → ⊥) × FaultsBatch processors rows f)
+    ⊎ ((AreListens rows × FaultsListen rows f) ⊎ (AreServes rows × FaultsServe rows f))
 
 -- the words are refused so; memory may be refused for any words
 abbrev pub IsRefused : ℕ → List Text → LineFault → Type 0

@@ -12,9 +12,12 @@ use std::io::{Eprint, Print};
 pub enum LineFault {
     Line(clap::Error),
     Port,
+    ServePort,
     Workers,
     Sessions,
+    ServeSessions,
     Tile,
+    Idle,
     NoMemory,
 }
 
@@ -36,9 +39,12 @@ impl LineFault {
         match self {
             LineFault::Line(error) => error.print(rt),
             LineFault::Port => eprintln!(rt; "error: port must be from 1 to 65535"),
+            LineFault::ServePort => eprintln!(rt; "error: port must be from 0 to 65535"),
             LineFault::Workers => eprintln!(rt; "error: workers must be from 1 to 64"),
             LineFault::Sessions => eprintln!(rt; "error: sessions must be from 1 to 64"),
+            LineFault::ServeSessions => eprintln!(rt; "error: sessions must be from 1 to 1024"),
             LineFault::Tile => eprintln!(rt; "error: tile must be a multiple of 64"),
+            LineFault::Idle => eprintln!(rt; "error: idle must be from 1 to 86400"),
             LineFault::NoMemory => eprintln!(rt; "error: memory"),
         }
     }

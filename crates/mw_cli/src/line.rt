@@ -1,13 +1,13 @@
 //! What the command line asks for.
 
-ghost use Rattle.std.specs.Prelude.{◌≡◌, ◌≤◌, false, ◌↔◌, codes, IfOk, IfErr, IfSome, IsTrue, None, map};
-ghost use Rattle.clap.specs.Words.{app_of, rule_of, subcommand_rows_of};
-ghost use Rattle.mw_cli.specs.CommandLine.{AreListens, Asks, AsksBatch, AsksListen, AsksNoCrew, AsksWorkers, Faults, FaultsBatch, FaultsListen, HasNoGlobals, IsAsked, IsCrew, IsNoText, IsRefused, IsTileSide, IsUpTo, Reads, Writes, WritesNone, WritesNoSide, batch_words, listen_words, number_option, program_words, text_in, tile_option, usual_workers};
+ghost use Rattle.std.specs.Prelude.{◌≡◌, ◌≤◌, ◌∷◌, [], false, ◌↔◌, codes, IfOk, IfErr, IfSome, IsTrue, None, map};
+ghost use Rattle.clap.specs.Words.{app_of, kind_of, rule_of, subcommand_rows_of};
+ghost use Rattle.mw_cli.specs.CommandLine.{AreListens, AreServes, Asks, AsksBatch, AsksIdle, AsksListen, AsksNoCrew, AsksNoIdle, AsksServe, AsksWorkers, Faults, FaultsBatch, FaultsListen, FaultsServe, HasNoGlobals, IsAsked, IsCrew, IsNoText, IsRefused, IsTileSide, IsUpTo, Reads, Sets, Writes, WritesNone, WritesNoPort, WritesNoSide, bare_words, batch_words, flag_option, listen_words, number_option, program_words, serve_words, text_in, tile_option, usual_option, usual_workers};
 ghost use Rattle.std.specs.String.{string_bytes};
 
 use crate::fault::LineFault;
 use clap::error::ErrorKind;
-use clap::{Arg, ArgMatches, Command, value_parser};
+use clap::{Arg, ArgAction, ArgMatches, Command, value_parser};
 use mw_grid::side_ok;
 use std::alloc::{Alloc, AllocError, Global};
 use std::env::{Env, args};
@@ -45,12 +45,16 @@ and what is written to standard output, where \\1 is a byte of value 1:
   9
   \\1\\1\\1\\1\\1";
 
-/// What the program is asked to do: a script from standard input to standard output, or sessions over
-/// TCP.
+/// What `--announce` does.
+const ANNOUNCES: &str = "Prints `LISTENING 127.0.0.1 P` when connections can be made";
+
+/// What the program is asked to do: a script from standard input to standard output, sessions over TCP on one table
+/// of names, or sessions over TCP that share nothing.
 #[derive(Clone, Copy, Debug, PartialEq, Eq)]
 pub enum Job {
     Batch(BatchOptions),
     Listen(ListenOptions),
+    Serve(ServeOptions),
 }
 
 /// The side of the tiles, and how many workers compute them.
@@ -60,14 +64,29 @@ pub struct BatchOptions {
     pub workers: usize,
 }
 
-/// The port to listen on, how many workers compute, how many sessions are served, and the side of the
-/// tiles.
+/// The port to listen on, how many workers compute, how many sessions are served, the side of the tiles, how many
+/// seconds a session waits for its client, and whether a line tells that connections can be made.
 #[derive(Clone, Copy, Debug, PartialEq, Eq)]
 pub struct ListenOptions {
     pub port: u16,
     pub workers: usize,
     pub sessions: usize,
     pub side: u32,
+    pub idle: Option<u32>,
+    pub announce: bool,
+}
+
+/// The port to listen on, 0 for any; how many workers compute each session, how many sessions are served at once, the
+/// side of the tiles, how many seconds a session waits for its client, and whether the end of standard input ends the
+/// service.
+#[derive(Clone, Copy, Debug, PartialEq, Eq)]
+pub struct ServeOptions {
+    pub port: u16,
+    pub workers: usize,
+    pub sessions: usize,
+    pub side: u32,
+    pub idle: Option<u32>,
+    pub until_end: bool,
 }
 
 // `--NAME`, with a number of 32 bits behind it.
@@ -82,13 +101,47 @@ fn number_option<'a>(alloc: Global, name: &'a str, value: &'a str, help: &'a str
         .help(help)
 }
 
+// The same, with what it is where it is left out.
+fn usual_option<'a>(
+    alloc: Global,
+    name: &'a str,
+    value: &'a str,
+    help: &'a str,
+    usual: &'a str,
+) -> Arg<'a>
+    ensures rule { rule_of result ≡ usual_option name.now usual.now }
+    ensures local { result.global ≡ false }
+{
+    number_option(alloc, name, value, help).default_value(usual)
+}
+
+// `--NAME`, alone.
+fn flag_option<'a>(alloc: Global, name: &'a str, help: &'a str) -> Arg<'a>
+    ensures rule { rule_of result ≡ flag_option name.now }
+    ensures local { result.global ≡ false }
+{
+    Arg::new(alloc, name)
+        .long(name)
+        .action(ArgAction::SetTrue)
+        .help(help)
+}
+
+// `--idle`, with a number of seconds behind it.
+fn idle_option<'a>(alloc: Global) -> Arg<'a>
+    ensures rule { rule_of result ≡ number_option (codes "idle") }
+    ensures local { result.global ≡ false }
+{
+    let help = "How many seconds a session waits for its client: 1 to 86400 [default: any time]";
+    number_option(alloc, "idle", "S", help)
+}
+
 // `--tile`, with the side of the tiles behind it.
 fn tile_option<'a>(alloc: Global) -> Arg<'a>
     ensures rule { rule_of result ≡ tile_option }
     ensures local { result.global ≡ false }
 {
     let help = "The side of a tile: a multiple of 64 from 64 to 1024";
-    number_option(alloc, "tile", "S", help).default_value("128")
+    usual_option(alloc, "tile", "S", help, "128")
 }
 
 // `batch`, and what may stand behind it.
@@ -108,28 +161,57 @@ fn listen_command<'a>(alloc: Global) -> Result<Command<'a>, AllocError>
     ensures { IfOk result (λ c. (app_of c ≡ listen_words) × HasNoGlobals c) }
 {
     let port = number_option(alloc, "port", "P", "The port: 1 to 65535").required(true);
-    let crew = number_option(alloc, "workers", "W", "How many workers compute: 1 to 64");
+    let crew = "How many workers compute: 1 to 64";
     let served = "How many sessions are served, each by a connection: 1 to 64";
-    let sessions = number_option(alloc, "sessions", "C", served);
     Command::new(alloc, "listen")
         .about("Serves sessions over TCP on 127.0.0.1, all of them on one table of names")
         .arg(port)?
-        .arg(crew.default_value("2"))?
-        .arg(sessions.default_value("1"))?
-        .arg(tile_option(alloc))
+        .arg(usual_option(alloc, "workers", "W", crew, "2"))?
+        .arg(usual_option(alloc, "sessions", "C", served, "1"))?
+        .arg(tile_option(alloc))?
+        .arg(idle_option(alloc))?
+        .arg(flag_option(alloc, "announce", ANNOUNCES))
 }
 
-// The command line as clap knows it.
-fn command<'a>(alloc: Global) -> Result<Command<'a>, AllocError>
-    ensures { IfOk result (λ c. app_of c ≡ program_words) }
+// `serve`, and what may stand behind it.
+fn serve_command<'a>(alloc: Global) -> Result<Command<'a>, AllocError>
+    ensures { IfOk result (λ c. (app_of c ≡ serve_words) × HasNoGlobals c) }
+{
+    let port = "The port, 0 for one that the system picks: 0 to 65535";
+    let crew = "How many workers compute each session: 1 to 64";
+    let served = "How many sessions are served at once, each by a connection: 1 to 1024";
+    let until = "Ends the service at the end of standard input, once its sessions have ended";
+    Command::new(alloc, "serve")
+        .about(
+            "Serves sessions over TCP on 127.0.0.1, each on a table of its own, and says on which port",
+        )
+        .arg(usual_option(alloc, "port", "P", port, "0"))?
+        .arg(usual_option(alloc, "workers", "W", crew, "1"))?
+        .arg(usual_option(alloc, "sessions", "C", served, "16"))?
+        .arg(tile_option(alloc))?
+        .arg(idle_option(alloc))?
+        .arg(flag_option(alloc, "until-end", until))
+}
+
+// The program, without its jobs.
+fn program<'a>(alloc: Global) -> Command<'a>
+    ensures { app_of result ≡ bare_words }
 {
     Command::new(alloc, "morphd")
         .version(VERSION)
         .about("Flat mathematical morphology of images, by scripts")
         .after_help(EXAMPLE)
         .subcommand_required(true)
+}
+
+// The command line as clap knows it.
+fn command<'a>(alloc: Global) -> Result<Command<'a>, AllocError>
+    ensures { IfOk result (λ c. app_of c ≡ program_words) }
+{
+    program(alloc)
         .subcommand(batch_command(alloc)?)?
-        .subcommand(listen_command(alloc)?)
+        .subcommand(listen_command(alloc)?)?
+        .subcommand(serve_command(alloc)?)
 }
 
 // The number that clap read for an option of the job; none where the option is left out.
@@ -202,6 +284,41 @@ fn batch_of(matches: &ArgMatches<'_>, processors: usize) -> Result<BatchOptions,
     Ok(BatchOptions { side, workers })
 }
 
+// Whether a flag of the job is set.
+fn flag_of(matches: &ArgMatches<'_>, id: &str) -> bool
+    ensures { Sets (text_in id.now (subcommand_rows_of matches.now)) result }
+{
+    match matches.subcommand() {
+        Some((_, given)) => given.get_flag(id),
+        None => false,
+    }
+}
+
+// How many seconds a session waits for its client; none where it waits any time.
+#[tactic(auto, using(crate::proofs::CommandReads::asks_any_time, crate::proofs::CommandReads::asks_seconds, crate::proofs::CommandReads::unread_is_no_idle, crate::proofs::CommandReads::no_other_idle))]
+fn idle_of(matches: &ArgMatches<'_>) -> Result<Option<u32>, LineFault>
+    ensures ok { IfOk result (AsksIdle (text_in (codes "idle") (subcommand_rows_of matches.now))) }
+    ensures err { IfErr result (λ e. (e ≡ LineFault.Idle) × AsksNoIdle (text_in (codes "idle") (subcommand_rows_of matches.now))) }
+{
+    match number_of(matches, "idle") {
+        Ok(None) => Ok(None),
+        Ok(Some(seconds)) if is_up_to(seconds, 86400) => Ok(Some(seconds)),
+        _ => Err(LineFault::Idle),
+    }
+}
+
+// The port, or 0 for any; none where it is over 65535.
+#[tactic(auto, using(crate::proofs::CommandReads::unread_is_no_port, crate::proofs::CommandReads::missing_is_no_port, crate::proofs::CommandReads::no_other_port))]
+fn port_of(matches: &ArgMatches<'_>) -> Option<u16>
+    ensures some { IfSome result (λ n. Writes (text_in (codes "port") (subcommand_rows_of matches.now)) n × (n ≤ 65535)) }
+    ensures none { result ≡ None → WritesNoPort (text_in (codes "port") (subcommand_rows_of matches.now)) }
+{
+    match number_of(matches, "port") {
+        Ok(Some(port)) if port <= 65535 => Some(port as u16),
+        _ => None,
+    }
+}
+
 // What a server is asked to do.
 fn listen_of(matches: &ArgMatches<'_>) -> Result<ListenOptions, LineFault>
     ensures ok { IfOk result (AsksListen (subcommand_rows_of matches.now)) }
@@ -217,11 +334,40 @@ fn listen_of(matches: &ArgMatches<'_>) -> Result<ListenOptions, LineFault>
         return Err(LineFault::Sessions);
     };
     let side = side_of(matches)?;
+    let idle = idle_of(matches)?;
     Ok(ListenOptions {
         port: port as u16,
         workers: workers as usize,
         sessions: sessions as usize,
         side,
+        idle,
+        announce: flag_of(matches, "announce"),
+    })
+}
+
+// What a service is asked to do.
+fn serve_of(matches: &ArgMatches<'_>) -> Result<ServeOptions, LineFault>
+    ensures ok { IfOk result (AsksServe (subcommand_rows_of matches.now)) }
+    ensures err { IfErr result (FaultsServe (subcommand_rows_of matches.now)) }
+{
+    let Some(port) = port_of(matches) else {
+        return Err(LineFault::ServePort);
+    };
+    let Some(workers) = number_up_to(matches, "workers", 64) else {
+        return Err(LineFault::Workers);
+    };
+    let Some(sessions) = number_up_to(matches, "sessions", 1024) else {
+        return Err(LineFault::ServeSessions);
+    };
+    let side = side_of(matches)?;
+    let idle = idle_of(matches)?;
+    Ok(ServeOptions {
+        port,
+        workers: workers as usize,
+        sessions: sessions as usize,
+        side,
+        idle,
+        until_end: flag_of(matches, "until-end"),
     })
 }
 
@@ -233,6 +379,14 @@ fn is_listen(matches: &ArgMatches<'_>) -> bool
     matches.subcommand_matches("listen").is_some()
 }
 
+// Whether the job is `serve`.
+#[tactic(auto, using(crate::proofs::CommandReads::serves_named))]
+fn is_serve(matches: &ArgMatches<'_>) -> bool
+    ensures { IsTrue result ↔ AreServes (subcommand_rows_of matches.now) }
+{
+    matches.subcommand_matches("serve").is_some()
+}
+
 // The job of words that clap took.
 fn job_of(matches: &ArgMatches<'_>, processors: usize) -> Result<Job, LineFault>
     ensures ok { IfOk result (Asks processors (subcommand_rows_of matches.now)) }
@@ -240,6 +394,9 @@ fn job_of(matches: &ArgMatches<'_>, processors: usize) -> Result<Job, LineFault>
 {
     if is_listen(matches) {
         return Ok(Job::Listen(listen_of(matches)?));
+    }
+    if is_serve(matches) {
+        return Ok(Job::Serve(serve_of(matches)?));
     }
     Ok(Job::Batch(batch_of(matches, processors)?))
 }
@@ -277,9 +434,16 @@ fn not_text(alloc: Global) -> LineFault
     }
 }
 
+// Whether clap found no memory.
+fn is_memory(error: &clap::Error) -> bool
+    ensures { IsTrue result ↔ (kind_of error.now ≡ ErrorKind.OutOfMemory) }
+{
+    error.kind() == ErrorKind::OutOfMemory
+}
+
 /// What the words ask for; the first of them is the program's name. Clap reads them first, then the
-/// numbers are tested: the port, the workers, the sessions, and then the side of the tiles. Left out,
-/// the workers of a batch are as many as there are processors, and at most 16.
+/// numbers are tested: the port, the workers, the sessions, the side of the tiles, and then the seconds that a session
+/// waits. Left out, the workers of a batch are as many as there are processors, and at most 16.
 pub fn options(alloc: Global, words: &[String], processors: usize) -> Result<Job, LineFault>
     ensures job { IfOk result (IsAsked processors (map string_bytes words.now)) }
     ensures fault { IfErr result (IsRefused processors (map string_bytes words.now)) }
@@ -290,7 +454,7 @@ pub fn options(alloc: Global, words: &[String], processors: usize) -> Result<Job
     match command.try_get_matches_from(words) {
         Ok(matches) => job_of(&matches, processors),
         Err(error) => {
-            if error.kind() == ErrorKind::OutOfMemory {
+            if is_memory(&error) {
                 return Err(LineFault::NoMemory);
             }
             Err(LineFault::Line(error))

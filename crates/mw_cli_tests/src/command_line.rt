@@ -1,7 +1,7 @@
 //! The command line, and its help.
 
 use clap::error::ErrorKind;
-use mw_cli::{Job, LineFault, ListenOptions, VERSION, options, processors, words};
+use mw_cli::{Job, LineFault, ListenOptions, ServeOptions, VERSION, options, processors, words};
 use std::alloc::Global;
 use std::fmt::Display;
 use std::io;
@@ -41,6 +41,23 @@ fn listen_of(rt: &impl Abort, alloc: Global, line: &str) -> ListenOptions {
             workers: 0,
             sessions: 0,
             side: 0,
+            idle: None,
+            announce: false,
+        },
+    }
+}
+
+/// What a service is asked to do; no worker where none is asked for.
+fn serve_of(rt: &impl Abort, alloc: Global, line: &str) -> ServeOptions {
+    match asked(rt, alloc, line, 1) {
+        Ok(Job::Serve(given)) => given,
+        _ => ServeOptions {
+            port: 0,
+            workers: 0,
+            sessions: 0,
+            side: 0,
+            idle: None,
+            until_end: false,
         },
     }
 }
@@ -109,6 +126,47 @@ fn numbers_of_a_server(rt: HostRuntime) {
 }
 
 #[test]
+fn waiting_and_the_line_of_a_server(rt: HostRuntime) {
+    let alloc = rt.alloc();
+    let given = listen_of(&rt, alloc, "morphd listen --port 7001");
+    assert!(rt; (given.idle, given.announce) == (None, false));
+    let given = listen_of(&rt, alloc, "morphd listen --idle=1 --port 7001 --announce");
+    assert!(rt; (given.idle, given.announce) == (Some(1), true));
+    let fault = asked(&rt, alloc, "morphd listen --port 7001 --idle 86401", 1);
+    assert!(rt; matches!(fault, Err(LineFault::Idle)));
+    let fault = asked(&rt, alloc, "morphd listen --port 7001 --idle 0 --tile 1", 1);
+    assert!(rt; matches!(fault, Err(LineFault::Tile)));
+}
+
+#[test]
+fn numbers_of_a_service(rt: HostRuntime) {
+    let alloc = rt.alloc();
+    let given = serve_of(&rt, alloc, "morphd serve");
+    assert!(rt; (given.port, given.workers, given.sessions, given.side) == (0, 1, 16, 128));
+    assert!(rt; (given.idle, given.until_end) == (None, false));
+    let line =
+        "morphd serve --port 65535 --workers 64 --sessions 1024 --tile 64 --idle 86400 --until-end";
+    let given = serve_of(&rt, alloc, line);
+    assert!(rt; (given.port, given.workers, given.sessions, given.side) == (65535, 64, 1024, 64));
+    assert!(rt; (given.idle, given.until_end) == (Some(86400), true));
+}
+
+#[test]
+fn faults_of_a_service(rt: HostRuntime) {
+    let alloc = rt.alloc();
+    let fault = asked(&rt, alloc, "morphd serve --port 65536 --workers 0", 1);
+    assert!(rt; matches!(fault, Err(LineFault::ServePort)));
+    let fault = asked(&rt, alloc, "morphd serve --workers 65 --sessions 0", 1);
+    assert!(rt; matches!(fault, Err(LineFault::Workers)));
+    let fault = asked(&rt, alloc, "morphd serve --sessions 1025 --tile 1", 1);
+    assert!(rt; matches!(fault, Err(LineFault::ServeSessions)));
+    let fault = asked(&rt, alloc, "morphd serve --tile 1 --idle 0", 1);
+    assert!(rt; matches!(fault, Err(LineFault::Tile)));
+    let fault = asked(&rt, alloc, "morphd serve --idle 0", 1);
+    assert!(rt; matches!(fault, Err(LineFault::Idle)));
+}
+
+#[test]
 fn words_of_the_process(rt: HostRuntime) {
     let Ok(given) = words(&rt) else {
         panic!(rt; "no memory");
@@ -123,6 +181,8 @@ fn statuses(rt: HostRuntime) {
     assert!(rt; status_of(&rt, alloc, "morphd listen --help") == 0);
     assert!(rt; status_of(&rt, alloc, "morphd listen") == 2);
     assert!(rt; status_of(&rt, alloc, "morphd listen --port 0") == 2);
+    assert!(rt; status_of(&rt, alloc, "morphd serve --help") == 0);
+    assert!(rt; status_of(&rt, alloc, "morphd serve --idle 0") == 2);
     assert!(rt; status_of(&rt, alloc, "morphd batch --tile 65") == 2);
     assert!(rt; status_of(&rt, alloc, "morphd batch --workers 65") == 2);
     assert!(rt; LineFault::NoMemory.status() == 1);
@@ -175,6 +235,12 @@ fn lines_of_faults(rt: HostRuntime) {
     assert!(rt; tells(rt.alloc(), &LineFault::Port, port));
     let sessions = "error: sessions must be from 1 to 64";
     assert!(rt; tells(rt.alloc(), &LineFault::Sessions, sessions));
+    let port = "error: port must be from 0 to 65535";
+    assert!(rt; tells(rt.alloc(), &LineFault::ServePort, port));
+    let sessions = "error: sessions must be from 1 to 1024";
+    assert!(rt; tells(rt.alloc(), &LineFault::ServeSessions, sessions));
+    let idle = "error: idle must be from 1 to 86400";
+    assert!(rt; tells(rt.alloc(), &LineFault::Idle, idle));
     let workers = "error: workers must be from 1 to 64";
     assert!(rt; tells(rt.alloc(), &LineFault::Workers, workers));
     assert!(rt; tells(rt.alloc(), &LineFault::NoMemory, "error: memory"));

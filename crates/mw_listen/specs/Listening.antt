@@ -1,11 +1,12 @@
 -- What a server leaves behind (own).
-use Rattle.std.specs.Prelude.{◌≡◌, ◌⊎◌, ℕ, Bool, true, List, Option, length, codes}
+use Rattle.std.specs.Prelude.{◌≡◌, ◌⊎◌, ℕ, Bool, true, List, Option, MatchBool, length, codes}
 use Rattle.std.specs.Io.KnownBytes.{Appends}
 use Rattle.mw_model.specs.declared.receipts.Receipt.{Receipt}
 use Rattle.mw_model.specs.Machine.{Machine}
 use Rattle.mw_model.specs.Receipts.{Covers}
 use Rattle.mw_model.specs.Stands.{CoreView, StandsFor}
 use Rattle.mw_serve.specs.mw_wire.Writes.{CutsShort}
+use Rattle.mw_socket.specs.Announcements.{announcement}
 use Rattle.mw_listen.specs.declared.fault.ListenFault.{ListenFault}
 use Rattle.mw_listen.specs.declared.fault.ListenFault.TheVariants as fault
 
@@ -15,6 +16,11 @@ listen_line fault.Memory = codes "error: memory\n"
 listen_line fault.Socket = codes "error: socket\n"
 listen_line fault.Thread = codes "error: thread\n"
 listen_line fault.Audit = codes "error: audit\n"
+listen_line fault.Output = codes "error: output\n"
+
+-- where it is asked for, the line of this port was written, and else nothing
+abbrev pub AnnouncesIf : Bool → ℕ → Option (List ℕ) → Option (List ℕ) → Type 0
+AnnouncesIf asked port old new = MatchBool asked (Appends old new (announcement port)) (new ≡ old)
 
 -- what is known of what the writer of faults holds, and whether it failed
 pub record Told : Type 0 where

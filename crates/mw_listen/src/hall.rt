@@ -4,9 +4,10 @@ use crate::fault::ListenFault;
 use mw_model::Code;
 use mw_serve::wire::{Sink, Source, end_by};
 use mw_serve::{Board, Gate, Naming, Pass, serve, work};
+use mw_socket::bound;
 use std::alloc::{AllocError, Global};
 use std::io::BufWriter;
-use std::net::{TcpListener, TcpStream};
+use std::net::{Shutdown, TcpListener, TcpStream};
 use std::sync::Wait;
 use std::thread;
 use std::thread::{JoinHandle, Scope, Threads};
@@ -17,6 +18,7 @@ pub(crate) struct Hall<'h, R, G, J: Naming> {
     pub alloc: Global,
     pub board: &'h Board<J>,
     pub gate: &'h G,
+    pub idle: Option<u32>,
 }
 
 impl<R, G, J: Naming> Copy for Hall<'_, R, G, J> {}
@@ -37,8 +39,17 @@ impl<R, G, J: Naming> Clone for Hall<'_, R, G, J> {
 const HELD: usize = 65536;
 
 /// One session, to its end, and the receipts of its calls. A fault of its wire ends this session alone.
-fn session<R: Wait, J: Naming>(rt: &R, alloc: Global, board: &Board<J>, stream: TcpStream) -> Pass {
+fn session<R: Wait, J: Naming>(
+    rt: &R,
+    alloc: Global,
+    board: &Board<J>,
+    stream: TcpStream,
+    idle: Option<u32>,
+) -> Pass {
     let mut pass = board.pass();
+    if !bound(&stream, idle) {
+        return pass;
+    }
     // Without this, a short reply would wait until what was sent before it is acknowledged.
     let _quick = stream.set_nodelay(true);
     let Ok(writer) = BufWriter::with_capacity(alloc, HELD, &stream) else {
@@ -48,6 +59,10 @@ fn session<R: Wait, J: Naming>(rt: &R, alloc: Global, board: &Board<J>, stream: 
     let mut source = Source::new(&stream);
     let mut sink = Sink::new(writer);
     let _end = serve(rt, alloc, &mut source, &mut sink, board, &mut pass);
+    if idle.is_some() && sink.failed() {
+        // Else the writer, which holds replies still, would wait for its client once more where it is dropped.
+        let _closed = stream.shutdown(Shutdown::Both);
+    }
     pass
 }
 
@@ -74,12 +89,12 @@ fn accept_all<'h, E: 'h, R: Wait + Sync, G: Sync, J: Naming + Send + Sync>(
     sessions: usize,
     handles: &mut Vec<JoinHandle<Pass>>,
 ) -> Result<(), ListenFault> {
-    let (rt, alloc, board) = (hall.rt, hall.alloc, hall.board);
+    let (rt, alloc, board, idle) = (hall.rt, hall.alloc, hall.board, hall.idle);
     for _ in 0..sessions {
         let Ok((stream, _)) = listener.accept() else {
             return Err(ListenFault::Socket);
         };
-        let Ok(handle) = scope.spawn(move || session(rt, alloc, board, stream)) else {
+        let Ok(handle) = scope.spawn(move || session(rt, alloc, board, stream, idle)) else {
             return Err(ListenFault::Thread);
         };
         if handles.push(handle).is_err() {

@@ -2,8 +2,8 @@
 //! all passes at the end.
 //!
 //! ```text
-//! let service = Service { port: 7001, workers: 2, sessions: 1, side: 128 };
-//! let status = listen(&rt, alloc, service, &mut faults, &Kernels { alloc });
+//! let service = Service { port: 7001, workers: 2, sessions: 1, side: 128, idle: None, announce: false };
+//! let status = listen(&rt, alloc, service, &mut output, &mut faults, &Kernels { alloc });
 //! ```
 #![tactic(auto)]
 

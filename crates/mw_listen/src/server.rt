@@ -1,12 +1,13 @@
 //! A server: from its port to its exit status.
 
-ghost use Rattle.std.specs.Prelude.{◌≡◌, ◌≤◌, ◌%◌, IfOk};
-ghost use Rattle.mw_listen.specs.Listening.{Audited, Listened, Told};
+ghost use Rattle.std.specs.Prelude.{◌≡◌, ◌≤◌, ◌%◌, IfOk, OnOk};
+ghost use Rattle.mw_listen.specs.Listening.{AnnouncesIf, Audited, Listened, Told};
 
 use crate::fault::ListenFault;
 use crate::hall::{Hall, serve_sessions};
 use mw_serve::wire::{Sink, send};
 use mw_serve::{Board, Core, Gate, Naming, NewRoll};
+use mw_socket::announce;
 use std::alloc::Global;
 use std::io::Write;
 use std::marker::Brand;
@@ -14,24 +15,46 @@ use std::net::{Ipv4Addr, Net, TcpListener, TcpStream};
 use std::sync::Wait;
 use std::thread::Threads;
 
-/// The port on 127.0.0.1, how many workers compute, how many sessions are served, and the side of the tiles.
+/// The port on 127.0.0.1, how many workers compute, how many sessions are served, the side of the tiles, how many seconds a
+/// session waits for its client, and whether a line tells that connections can be made.
 #[derive(Clone, Copy, Debug, PartialEq, Eq)]
 pub struct Service {
     pub port: u16,
     pub workers: usize,
     pub sessions: usize,
     pub side: u32,
+    pub idle: Option<u32>,
+    pub announce: bool,
+}
+
+/// Tells where connections can be made, if that is asked for.
+fn announce_of<O: Write>(service: Service, output: &mut Sink<O>) -> Result<(), ListenFault>
+    ensures { OnOk result (AnnouncesIf service.announce service.port (O.contents output.old.inner) (O.contents output.new.inner)) }
+{
+    if service.announce && announce(output, service.port).is_err() {
+        return Err(ListenFault::Output);
+    }
+    Ok(())
 }
 
 /// Serves the sessions of a service on a board of its own, and audits them.
 fn serve_all<
     J: Naming + Send + Sync,
     R: Net<Listener = TcpListener, Stream = TcpStream> + Threads + Wait + Sync,
+    O: Write,
     G: Gate + Sync,
->(rt: &R, alloc: Global, service: Service, gate: &G, roll: NewRoll) -> Result<(), ListenFault>
+>(
+    rt: &R,
+    alloc: Global,
+    service: Service,
+    output: &mut Sink<O>,
+    gate: &G,
+    roll: NewRoll,
+) -> Result<(), ListenFault>
     requires named { roll ≡ J.book }
     requires side { (64 ≤ service.side) × (service.side ≤ 1024) × (service.side % 64 ≡ 0) }
-    ensures { IfOk result (λ _. Audited service.sessions) }
+    ensures audited { IfOk result (λ _. Audited service.sessions) }
+    ensures announced { OnOk result (AnnouncesIf service.announce service.port (O.contents output.old.inner) (O.contents output.new.inner)) }
 {
     let Ok(core) = Core::new(alloc, service.side) else {
         return Err(ListenFault::Memory);
@@ -40,11 +63,13 @@ fn serve_all<
     let Ok(listener) = TcpListener::bind(rt, (Ipv4Addr::LOCALHOST, service.port)) else {
         return Err(ListenFault::Socket);
     };
+    announce_of(service, output)?;
     let hall = Hall {
         rt,
         alloc,
         board: &board,
         gate,
+        idle: service.idle,
     };
     let passes = serve_sessions(hall, &listener, service.workers, service.sessions)?;
     // That each session has left its pass is looked at here too: no clause of a scope tells what its threads leave.
@@ -56,22 +81,32 @@ fn serve_all<
 
 /// Listens on 127.0.0.1, serves so many sessions beside so many workers, audits them, and gives the exit status: 0 where
 /// all sessions were joined and their passes cover the log, and else 1. The first fault ends the accepting; what runs is
-/// joined as before, and the line of that fault alone goes to `faults`: `error: socket`, `error: thread`, `error: audit` or
-/// `error: memory`. A session whose connection fails ends alone, and is no fault.
+/// joined as before, and the line of that fault alone goes to `faults`: `error: socket`, `error: thread`, `error: audit`,
+/// `error: memory`, or `error: output` where the line that was asked for could not be written. A session whose connection
+/// fails, or waits too long for its client, ends alone, and is no fault.
 pub fn listen<
     R: Net<Listener = TcpListener, Stream = TcpStream> + Threads + Wait + Sync,
+    O: Write,
     F: Write,
     G: Gate + Sync,
->(rt: &R, alloc: Global, service: Service, faults: &mut Sink<F>, gate: &G) -> u8
+>(
+    rt: &R,
+    alloc: Global,
+    service: Service,
+    output: &mut Sink<O>,
+    faults: &mut Sink<F>,
+    gate: &G,
+) -> u8
     requires port { 1 ≤ service.port }
     requires workers { (1 ≤ service.workers) × (service.workers ≤ 64) }
     requires sessions { (1 ≤ service.sessions) × (service.sessions ≤ 64) }
     requires side { (64 ≤ service.side) × (service.side ≤ 1024) × (service.side % 64 ≡ 0) }
-    ensures { let old : Told = record { text = F.contents faults.old.inner; failed = faults.old.failed } in
+    ensures audited { let old : Told = record { text = F.contents faults.old.inner; failed = faults.old.failed } in
         let new : Told = record { text = F.contents faults.new.inner; failed = faults.new.failed } in
         Listened service.sessions old new result }
+    ensures announced { result ≡ 0 → AnnouncesIf service.announce service.port (O.contents output.old.inner) (O.contents output.new.inner) }
 {
-    match serve_all::<Brand, R, G>(rt, alloc, service, gate, NewRoll::new()) {
+    match serve_all::<Brand, R, O, G>(rt, alloc, service, output, gate, NewRoll::new()) {
         Ok(()) => 0,
         Err(fault) => {
             let _told = send(faults, fault.line().as_bytes());

@@ -1,8 +1,8 @@
 //! Clients that break off, keep silent, do not listen or speak nonsense, beside one that does well: each session ends by the
 //! rules or waits alone, and none is a fault of the server.
 
-use crate::client::{ERODE, answers, connect, heard};
-use mw_listen::{Kernels, Service, listen};
+use crate::client::{ERODE, answers, connect, heard, service};
+use mw_listen::{Kernels, listen};
 use mw_wire::Sink;
 use std::alloc::Global;
 use std::io::{Read, Write};
@@ -33,8 +33,12 @@ fn picture(alloc: Global) -> io::Result<Vec<u8>> {
 }
 
 /// A client that loads a picture, asks for it 32 times, which no socket has room for, and listens to none of these replies.
-fn deaf<R: Net<Stream = TcpStream>>(rt: &R, alloc: Global) -> io::Result<TcpStream> {
-    let stream = connect(rt, PORT)?;
+pub(crate) fn deaf<R: Net<Stream = TcpStream>>(
+    rt: &R,
+    alloc: Global,
+    port: u16,
+) -> io::Result<TcpStream> {
+    let stream = connect(rt, port)?;
     let picture = picture(alloc)?;
     let mut wire = &stream;
     wire.write_all(&picture)?;
@@ -50,7 +54,7 @@ fn deaf<R: Net<Stream = TcpStream>>(rt: &R, alloc: Global) -> io::Result<TcpStre
 /// end; then by one that does well, while another one keeps silent and a last one listens to nothing.
 fn all_heard<R: Net<Stream = TcpStream>>(rt: &R, alloc: Global) -> io::Result<[Vec<u8>; 6]> {
     let silent = connect(rt, PORT)?;
-    let unheard = deaf(rt, alloc)?;
+    let unheard = deaf(rt, alloc, PORT)?;
     let line = answers(rt, alloc, PORT, b"STATUS x\nSTAT")?;
     let payload = answers(rt, alloc, PORT, b"LOAD x 19\nP2\n5 1\n")?;
     let long = answers(rt, alloc, PORT, b"LOAD x 134217728\n0123456789")?;
@@ -67,18 +71,14 @@ fn all_heard<R: Net<Stream = TcpStream>>(rt: &R, alloc: Global) -> io::Result<[V
 #[test]
 fn bad_peers_end_alone(rt: HostRuntime) -> Result<(), Fail> {
     let alloc = rt.alloc();
-    let given = Service {
-        port: PORT,
-        workers: 2,
-        sessions: PEERS,
-        side: 128,
-    };
+    let given = service(PORT, PEERS);
     let gate = Kernels { alloc };
+    let mut output = Sink::new(Vec::new(alloc));
     let mut faults = Sink::new(Vec::new(alloc));
     let (heard, status) = thread::join(
         &rt,
         || all_heard(&rt, alloc),
-        || listen(&rt, alloc, given, &mut faults, &gate),
+        || listen(&rt, alloc, given, &mut output, &mut faults, &gate),
     );
     let [line, payload, long, endless, well, nothing] = heard?;
     assert_eq!(rt; status, 0);

@@ -11,3 +11,5 @@ mod bad_peers;
 mod client;
 #[cfg(test)]
 mod loopback;
+#[cfg(test)]
+mod waiting;

@@ -1,7 +1,7 @@
 //! Each test has a port of its own.
 
-use crate::client::{ERODE, ERODED, answers};
-use mw_listen::{Kernels, Service, listen};
+use crate::client::{ERODE, ERODED, answers, service};
+use mw_listen::{Kernels, listen};
 use mw_pool::Gate;
 use mw_task::{TaskRefused, TileDone, Work};
 use mw_wire::Sink;
@@ -63,21 +63,18 @@ impl Gate for Meeting {
 #[test]
 fn one_session(rt: HostRuntime) -> Result<(), Fail> {
     let alloc = rt.alloc();
-    let given = Service {
-        port: 7001,
-        workers: 2,
-        sessions: 1,
-        side: 128,
-    };
+    let given = service(7001, 1);
     let gate = Kernels { alloc };
+    let mut output = Sink::new(Vec::new(alloc));
     let mut faults = Sink::new(Vec::new(alloc));
     let (read, status) = thread::join(
         &rt,
         || answers(&rt, alloc, 7001, ERODE),
-        || listen(&rt, alloc, given, &mut faults, &gate),
+        || listen(&rt, alloc, given, &mut output, &mut faults, &gate),
     );
     let read = read?;
     assert_eq!(rt; status, 0);
+    assert!(rt; output.into_inner().is_empty());
     assert!(rt; faults.into_inner().is_empty());
     assert_eq!(rt; read.as_slice(), ERODED);
     Ok(())
@@ -86,18 +83,14 @@ fn one_session(rt: HostRuntime) -> Result<(), Fail> {
 #[test]
 fn workers_overlap(rt: HostRuntime) -> Result<(), Fail> {
     let alloc = rt.alloc();
-    let given = Service {
-        port: 7002,
-        workers: 2,
-        sessions: 1,
-        side: 128,
-    };
+    let given = service(7002, 1);
     let gate = Meeting::new(alloc);
+    let mut output = Sink::new(Vec::new(alloc));
     let mut faults = Sink::new(Vec::new(alloc));
     let (read, status) = thread::join(
         &rt,
         || answers(&rt, alloc, 7002, BOTH),
-        || listen(&rt, alloc, given, &mut faults, &gate),
+        || listen(&rt, alloc, given, &mut output, &mut faults, &gate),
     );
     let read = read?;
     assert_eq!(rt; status, 0);
@@ -120,18 +113,14 @@ fn two_answers<R: Net<Stream = TcpStream>>(
 #[test]
 fn two_sessions_share_names(rt: HostRuntime) -> Result<(), Fail> {
     let alloc = rt.alloc();
-    let given = Service {
-        port: 7003,
-        workers: 2,
-        sessions: 2,
-        side: 128,
-    };
+    let given = service(7003, 2);
     let gate = Kernels { alloc };
+    let mut output = Sink::new(Vec::new(alloc));
     let mut faults = Sink::new(Vec::new(alloc));
     let (read, status) = thread::join(
         &rt,
         || two_answers(&rt, alloc),
-        || listen(&rt, alloc, given, &mut faults, &gate),
+        || listen(&rt, alloc, given, &mut output, &mut faults, &gate),
     );
     let (first, second) = read?;
     assert_eq!(rt; status, 0);
@@ -144,14 +133,17 @@ fn two_sessions_share_names(rt: HostRuntime) -> Result<(), Fail> {
 fn port_in_use(rt: HostRuntime) -> Result<(), Fail> {
     let alloc = rt.alloc();
     let _first = TcpListener::bind(&rt, (Ipv4Addr::LOCALHOST, 7004))?;
-    let given = Service {
-        port: 7004,
-        workers: 2,
-        sessions: 1,
-        side: 128,
-    };
+    let given = service(7004, 1);
+    let mut output = Sink::new(Vec::new(alloc));
     let mut faults = Sink::new(Vec::new(alloc));
-    let status = listen(&rt, alloc, given, &mut faults, &Kernels { alloc });
+    let status = listen(
+        &rt,
+        alloc,
+        given,
+        &mut output,
+        &mut faults,
+        &Kernels { alloc },
+    );
     assert_eq!(rt; status, 1);
     assert_eq!(rt;
         faults.into_inner().as_slice(),

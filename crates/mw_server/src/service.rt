@@ -1,0 +1,209 @@
+//! A service: its threads, which are started once, and its end.
+
+ghost use Rattle.std.specs.Prelude.{◌≡◌, ◌≤◌, ◌%◌, ℕ, OnOk};
+ghost use Rattle.std.specs.Io.KnownBytes.{Appends};
+ghost use Rattle.mw_socket.specs.Announcements.{announcement};
+ghost use Rattle.mw_server.specs.Services.{Offered, Told};
+
+use crate::connection::{HELD, serve_stream};
+use crate::fault::ServeFault;
+use mw_batch::Crew;
+use mw_socket::announce;
+use mw_socket::wire::{Sink, send};
+use std::alloc::Global;
+use std::io::{BufWriter, ErrorKind, Read, Write};
+use std::net::{Ipv4Addr, Net, Shutdown, TcpListener, TcpStream};
+use std::os::fd::OwnedFd;
+use std::sync::Wait;
+use std::sync::atomic::{AtomicBool, Ordering};
+use std::thread::{Scope, Threads};
+use std::time::{Clock, Duration};
+use std::{io, thread};
+
+/// The port on 127.0.0.1, 0 for one that the system picks; how many workers compute each session, how many sessions are
+/// served at once, the side of the tiles, and how many seconds a session waits for its client.
+#[derive(Clone, Copy, Debug, PartialEq, Eq)]
+pub struct Service {
+    pub port: u16,
+    pub workers: usize,
+    pub sessions: usize,
+    pub side: u32,
+    pub idle: Option<u32>,
+}
+
+/// What the threads of a service share. Each takes one connection after the other until the service is over.
+#[derive(Drop)]
+struct Door {
+    listener: TcpListener,
+    is_over: AtomicBool,
+}
+
+/// How many milliseconds a thread waits that could not accept a connection: where descriptors or memory are short, others give
+/// some back meanwhile.
+const PAUSE: u64 = 20;
+
+/// Serves one connection after the other.
+fn serve_connections<R: Threads + Clock + Sync>(
+    rt: &R,
+    alloc: Global,
+    service: Service,
+    door: &Door,
+)
+    requires side { (64 ≤ service.side) × (service.side ≤ 1024) × (service.side % 64 ≡ 0) }
+{
+    let crew = Crew {
+        alloc,
+        rt,
+        workers: service.workers,
+    };
+    for accepted in door.listener.incoming() {
+        if door.is_over.load(Ordering::SeqCst) {
+            return;
+        }
+        match accepted {
+            Ok(stream) => serve_stream(crew, stream, service.idle, service.side),
+            Err(_) => thread::sleep(rt, Duration::from_millis(PAUSE)),
+        }
+    }
+}
+
+/// Starts a thread for each session that may be served at once.
+fn start_all<'h, E: 'h, R: Threads + Clock + Sync>(
+    scope: &Scope<'h, E>,
+    rt: &'h R,
+    alloc: Global,
+    service: Service,
+    door: &'h Door,
+) -> Result<(), ServeFault>
+    requires side { (64 ≤ service.side) × (service.side ≤ 1024) × (service.side % 64 ≡ 0) }
+{
+    for _ in 0..service.sessions {
+        let started = scope.spawn(
+            move || -> ()
+                requires { (64 ≤ service.side) × (service.side ≤ 1024) × (service.side % 64 ≡ 0) }
+            { serve_connections(rt, alloc, service, door) },
+        );
+        if started.is_err() {
+            return Err(ServeFault::Thread);
+        }
+    }
+    Ok(())
+}
+
+/// Reads to the end, or until reading fails.
+fn wait_for_end<I: Read + Drop>(mut input: I) {
+    let mut dropped = [0u8; 4096];
+    for _ in 0..u64::MAX {
+        match input.read(&mut dropped) {
+            Ok(0) => return,
+            Err(error) if error.kind() != ErrorKind::Interrupted => return,
+            _ => {}
+        }
+    }
+}
+
+/// Has no more connections accepted, and ends each wait for one.
+fn close(door: &Door, listener: TcpListener) {
+    door.is_over.store(true, Ordering::SeqCst);
+    // The system ends all that wait at a socket that is shut down; std's listener has no such call, but its descriptor has.
+    let _closed = TcpStream::from(OwnedFd::from(listener)).shutdown(Shutdown::Both);
+}
+
+/// Serves in threads that are all joined when it returns: at the end of what it is to read, or never where that is nothing.
+fn serve_until<R: Threads + Wait + Clock + Sync, I: Read + Drop>(
+    rt: &R,
+    alloc: Global,
+    service: Service,
+    listener: TcpListener,
+    until: Option<I>,
+) -> Result<(), ServeFault>
+    requires side { (64 ≤ service.side) × (service.side ≤ 1024) × (service.side % 64 ≡ 0) }
+{
+    let Ok(again) = listener.try_clone() else {
+        return Err(ServeFault::Socket);
+    };
+    let door = Door {
+        listener,
+        is_over: AtomicBool::new(false),
+    };
+    let door = &door;
+    thread::scope(
+        thread::scope_env(),
+        rt,
+        |scope| -> Result<(), ServeFault>
+            requires { (64 ≤ service.side) × (service.side ≤ 1024) × (service.side % 64 ≡ 0) }
+        {
+            let started = start_all(scope, rt, alloc, service, door);
+            if started.is_ok() {
+                match until {
+                    Some(input) => wait_for_end(input),
+                    None => return Ok(()),
+                }
+            }
+            close(door, again);
+            started
+        },
+    )
+}
+
+/// Listens, tells the port, and serves.
+fn serve_all<
+    R: Net<Listener = TcpListener, Stream = TcpStream> + Threads + Wait + Clock + Sync,
+    I: Read + Drop,
+    O: Write,
+>(
+    rt: &R,
+    alloc: Global,
+    service: Service,
+    until: Option<I>,
+    output: &mut Sink<O>,
+) -> Result<(), ServeFault>
+    requires side { (64 ≤ service.side) × (service.side ≤ 1024) × (service.side % 64 ≡ 0) }
+    ensures { OnOk result ((port : ℕ) × Appends (O.contents output.old.inner) (O.contents output.new.inner) (announcement port)) }
+{
+    if BufWriter::with_capacity(alloc, HELD, io::sink()).is_err() {
+        return Err(ServeFault::Memory);
+    }
+    let Ok(listener) = TcpListener::bind(rt, (Ipv4Addr::LOCALHOST, service.port)) else {
+        return Err(ServeFault::Socket);
+    };
+    let Ok(address) = listener.local_addr() else {
+        return Err(ServeFault::Socket);
+    };
+    if announce(output, address.port()).is_err() {
+        return Err(ServeFault::Output);
+    }
+    serve_until(rt, alloc, service, listener, until)
+}
+
+/// Listens on 127.0.0.1, tells on which port, and serves one connection after the other, so many at once, each as a batch.
+/// It ends when what it is to read has ended, once the sessions that run have ended too, or never where it is to read
+/// nothing, and gives the exit status: 0, or 1 where the service could not be begun; then the line of that fault goes to
+/// `faults`: `error: memory`, `error: socket`, `error: output` or `error: thread`. A connection that fails ends alone, and
+/// is no fault.
+pub fn serve<
+    R: Net<Listener = TcpListener, Stream = TcpStream> + Threads + Wait + Clock + Sync,
+    I: Read + Drop,
+    O: Write,
+    F: Write,
+>(
+    rt: &R,
+    alloc: Global,
+    service: Service,
+    until: Option<I>,
+    output: &mut Sink<O>,
+    faults: &mut Sink<F>,
+) -> u8
+    requires side { (64 ≤ service.side) × (service.side ≤ 1024) × (service.side % 64 ≡ 0) }
+    ensures { let old : Told = record { text = F.contents faults.old.inner; failed = faults.old.failed } in
+        let new : Told = record { text = F.contents faults.new.inner; failed = faults.new.failed } in
+        Offered (O.contents output.old.inner) (O.contents output.new.inner) old new result }
+{
+    match serve_all(rt, alloc, service, until, output) {
+        Ok(()) => 0,
+        Err(fault) => {
+            let _told = send(faults, fault.line().as_bytes());
+            1
+        }
+    }
+}

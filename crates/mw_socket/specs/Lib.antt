@@ -1,0 +1,3 @@
+pub mod Announcements
+-- what lower crates offer
+pub mod mw_wire

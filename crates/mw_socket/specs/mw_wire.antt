@@ -1,0 +1,2 @@
+-- What `mw_wire` offers, for the crates above.
+pub use Rattle.mw_wire.specs.Writes
