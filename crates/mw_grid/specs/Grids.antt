@@ -1,6 +1,7 @@
 -- Tilings of a frame, and which of them a grid may be (own).
 use Rattle.std.specs.Prelude.{◌≡◌, ℕ, ◌+◌, ◌-◌, ◌*◌, ◌/◌, ◌%◌, ◌≤◌, min, List, map}
 use Rattle.std.specs.List.{range_with_len}
+use Rattle.mw_model.specs.declared.limits.TheConstants.{SIDE_LIMIT, TILE_SIDE_LIMIT, TILE_SIDE_UNIT}
 use Rattle.mw_model.specs.declared.places.Rect.{Rect}
 use Rattle.mw_model.specs.Places.{rect}
 
@@ -35,12 +36,14 @@ tiles_of g = map (tile_at g) (range_with_len 0 (tile_count g))
 abbrev pub tiling : ℕ → ℕ → ℕ → Tiling
 tiling width height side = record { width = width; height = height; side = side }
 
--- a frame of 1 to 8192 pixels on each side, with tiles whose side is a multiple of 64 from 64 to 1024
+-- tiles may have this side, in pixels
+abbrev pub IsTileSide : ℕ → Type 0
+IsTileSide side = (TILE_SIDE_UNIT ≤ side) × (side ≤ TILE_SIDE_LIMIT) × (side % TILE_SIDE_UNIT ≡ 0)
+
+-- a frame with the sides of an image, in tiles of a side that they may have
 pub record IsTiling (g : Tiling) : Type 0 where
   pub wide : 1 ≤ g.width
-  pub narrow : g.width ≤ 8192
+  pub narrow : g.width ≤ SIDE_LIMIT
   pub high : 1 ≤ g.height
-  pub low : g.height ≤ 8192
-  pub least : 64 ≤ g.side
-  pub most : g.side ≤ 1024
-  pub words : g.side % 64 ≡ 0
+  pub low : g.height ≤ SIDE_LIMIT
+  pub side : IsTileSide g.side

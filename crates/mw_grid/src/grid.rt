@@ -1,12 +1,14 @@
 //! A frame that is cut into squares, and the windows that a step reads.
 
-ghost use Rattle.std.specs.Prelude.{◌≡◌, ◌↔◌, ◌+◌, ◌%◌, ◌<◌, ◌≤◌, IsTrue};
+ghost use Rattle.std.specs.Prelude.{◌↔◌, IsTrue};
+ghost use Rattle.mw_model.specs.declared.limits.TheConstants.{SIDE_LIMIT};
+ghost use Rattle.mw_grid.specs.Grids.{IsTileSide};
 
 use crate::rectangles::grown;
-use mw_model::{Reach, Rect};
+use mw_model::{Reach, Rect, TILE_SIDE_LIMIT, TILE_SIDE_UNIT};
 use std::marker::Model;
 
-/// A frame of at most 8192 by 8192 pixels, cut into squares of one side.
+/// A frame with the sides of an image, cut into squares of one side.
 #[derive(Clone, Copy)]
 pub struct Grid {
     width: u32,
@@ -26,23 +28,23 @@ impl Model for Grid {
     ghost inverse = { λ g. record { width = g.width; height = g.height; side = g.side } };
 }
 
-/// Whether tiles may have this side: a multiple of 64 from 64 to 1024.
+/// Whether tiles may have this side: a multiple of the least one, and no more than the greatest.
 pub fn side_ok(side: u32) -> bool
-    ensures { IsTrue result ↔ ((64 ≤ side) × (side ≤ 1024) × (side % 64 ≡ 0)) }
+    ensures { IsTrue result ↔ IsTileSide side }
 {
-    side >= 64 && side <= 1024 && side % 64 == 0
+    side >= TILE_SIDE_UNIT && side <= TILE_SIDE_LIMIT && side % TILE_SIDE_UNIT == 0
 }
 
 impl Grid {
-    ghost use Rattle.std.specs.Prelude.{◌≡◌, ◌+◌, ◌%◌, ◌<◌, ◌≤◌};
+    ghost use Rattle.std.specs.Prelude.{◌≡◌, ◌+◌, ◌<◌, ◌≤◌};
     ghost use Rattle.mw_model.specs.Places.{grown, IsWithin};
     ghost use Rattle.mw_grid.specs.Grids.{columns_of, rows_of, tile_count, tile_at, tiling};
 
     /// The tiles of a frame of so many columns and rows, squares of this side in pixels.
     pub fn new(width: u32, height: u32, side: u32) -> Grid
-        requires width { (1 ≤ width) × (width ≤ 8192) }
-        requires height { (1 ≤ height) × (height ≤ 8192) }
-        requires side { (64 ≤ side) × (side ≤ 1024) × (side % 64 ≡ 0) }
+        requires width { (1 ≤ width) × (width ≤ SIDE_LIMIT) }
+        requires height { (1 ≤ height) × (height ≤ SIDE_LIMIT) }
+        requires side { IsTileSide side }
         ensures { result ≡ tiling width height side }
     {
         Grid {
@@ -56,7 +58,7 @@ impl Grid {
     pub fn width(self) -> u32
         ensures value { result ≡ self.width }
         ensures some { 1 ≤ result }
-        ensures small { result ≤ 8192 }
+        ensures small { result ≤ SIDE_LIMIT }
     {
         self.width
     }
@@ -65,7 +67,7 @@ impl Grid {
     pub fn height(self) -> u32
         ensures value { result ≡ self.height }
         ensures some { 1 ≤ result }
-        ensures small { result ≤ 8192 }
+        ensures small { result ≤ SIDE_LIMIT }
     {
         self.height
     }
@@ -73,8 +75,8 @@ impl Grid {
     /// The side of a tile, in pixels.
     pub fn side(self) -> u32
         ensures value { result ≡ self.side }
-        ensures some { 64 ≤ result }
-        ensures small { result ≤ 1024 }
+        ensures some { TILE_SIDE_UNIT ≤ result }
+        ensures small { result ≤ TILE_SIDE_LIMIT }
     {
         self.side
     }

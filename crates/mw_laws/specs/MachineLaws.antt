@@ -16,6 +16,7 @@ use Rattle.mw_model.specs.declared.calls.Call.{Call}
 use Rattle.mw_model.specs.declared.calls.Call.TheVariants as call
 use Rattle.mw_model.specs.declared.calls.LogItem.{LogItem}
 use Rattle.mw_model.specs.declared.calls.LogItem.TheVariants as item
+use Rattle.mw_model.specs.declared.limits.TheConstants.{ENTRY_LIMIT}
 use Rattle.mw_model.specs.Names.{name_of}
 use Rattle.mw_model.specs.Pictures.{IsImage}
 use Rattle.mw_model.specs.Elements.{IsFigure}
@@ -101,7 +102,7 @@ CommandsAreBare m =
 -- all of this
 pub record IsSound (m : Machine) : Type 0 where
   pub lengths : AreOfOneLength m
-  pub small : length m.table.names ≤ 65536
+  pub small : length m.table.names ≤ ENTRY_LIMIT
   pub names : NamesLead m.table
   pub inputs : InputsStandBefore m.table
   pub pending : NoneAwaitsDead m.table

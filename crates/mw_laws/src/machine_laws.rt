@@ -15,6 +15,7 @@ ghost use Rattle.mw_model.specs.declared.calls.Call.TheVariants as call;
 ghost use Rattle.mw_model.specs.declared.calls.Reply.TheVariants as reply;
 ghost use Rattle.mw_model.specs.declared.calls.LogItem.{LogItem};
 ghost use Rattle.mw_model.specs.declared.calls.LogItem.TheVariants as item;
+ghost use Rattle.mw_model.specs.declared.limits.TheConstants.{ENTRY_LIMIT};
 ghost use Rattle.mw_model.specs.Names.{same_name};
 ghost use Rattle.mw_model.specs.Values.{Value, result_of, value_at};
 ghost use Rattle.mw_model.specs.Refusals.{Table, first_of, input_case, inputs_wanted, is_dead, is_element, is_pending, is_released, is_there, op_cases, outcome_at, refusal, shape_at, submission_at, ticket_of, wanted_case, when};
@@ -45,7 +46,7 @@ pub fn names_are_distinct()
 /// inputs of an entry have lower tickets.
 pub fn entries_in_order()
     ensures lengths { (log : List LogItem) (m : Machine) → Run start_state log m → AreOfOneLength m }
-    ensures small { (log : List LogItem) (m : Machine) → Run start_state log m → length m.table.names ≤ 65536 }
+    ensures small { (log : List LogItem) (m : Machine) → Run start_state log m → length m.table.names ≤ ENTRY_LIMIT }
     ensures inputs { (log : List LogItem) (m : Machine) → Run start_state log m → InputsStandBefore m.table }
 {}
 
@@ -154,10 +155,10 @@ pub fn refusals_in_order()
     ensures taken { (w : Table) (elements : List (Option Value)) (c : Call) (n : Name) (t : ℕ) → new_name c ≡ Some n → ticket_of w.names n ≡ Some t
         → refusal w elements c ≡ Some code.NameTaken }
     ensures full { (w : Table) (elements : List (Option Value)) (c : Call) (n : Name) → new_name c ≡ Some n → ticket_of w.names n ≡ None
-        → 65536 ≤ length w.names → refusal w elements c ≡ Some code.Full }
+        → ENTRY_LIMIT ≤ length w.names → refusal w elements c ≡ Some code.Full }
     ensures unknown { (w : Table) (elements : List (Option Value)) (c : Call) (n : Name) → old_name c ≡ Some n → ticket_of w.names n ≡ None
         → refusal w elements c ≡ Some code.Unknown }
-    ensures run { (w : Table) (elements : List (Option Value)) (n : Name) (o : Op) → ticket_of w.names n ≡ None → length w.names < 65536
+    ensures run { (w : Table) (elements : List (Option Value)) (n : Name) (o : Op) → ticket_of w.names n ≡ None → length w.names < ENTRY_LIMIT
         → refusal w elements (call.Run n o) ≡ first_of (first_of (map (wanted_case w) (inputs_wanted o)) ∷ first_of (op_cases w elements o) ∷ []) }
     ensures input { (w : Table) (fits : Shape → Bool) (n : Name) (t : ℕ) → ticket_of w.names n ≡ Some t
         → input_case w fits n

@@ -4,6 +4,7 @@ use Rattle.std.specs.Ordering.{int_eq}
 use Rattle.std.specs.List.{range_with_len, list_any, IsDistinct, AllByRecursion}
 use Rattle.mw_model.specs.declared.codes.Code.{Code}
 use Rattle.mw_model.specs.declared.codes.Code.TheVariants as code
+use Rattle.mw_model.specs.declared.limits.TheConstants.{ELEMENT_SIDE_LIMIT}
 use Rattle.mw_model.specs.declared.places.Offset.{Offset}
 use Rattle.mw_model.specs.declared.places.Reach.{Reach}
 use Rattle.mw_model.specs.Places.{nonnegative}
@@ -40,7 +41,7 @@ same_offset a b = int_eq a.dx b.dx && int_eq a.dy b.dy
 
 -- the greatest side of an element's bitmap (own)
 abbrev pub element_side : ℕ
-element_side = 255
+element_side = ELEMENT_SIDE_LIMIT
 
 -- the offset stays within the sides, whatever the origin
 pub record IsNear (b : Offset) : Type 0 where

@@ -7,6 +7,7 @@ use Rattle.mw_model.specs.declared.shapes.Kind.TheVariants.{Bit, Grey}
 use Rattle.mw_model.specs.declared.formats.Format.{Format}
 use Rattle.mw_model.specs.declared.formats.Format.TheVariants.{PlainBits, PlainGrey, RawBits, RawGrey}
 use Rattle.mw_model.specs.declared.formats.Header.{Header}
+use Rattle.mw_model.specs.declared.limits.TheConstants.{LEVEL_LIMIT, PIXEL_LIMIT, SIDE_LIMIT}
 use Rattle.mw_model.specs.Pictures.{Picture}
 
 -- ---- bytes
@@ -151,14 +152,14 @@ pub record IsRaster (h : Header) (bytes samples : List ℕ) : Type 0 where
 pub record SizeFits (width height : ℕ) : Type 0 where
   pub some_column : 0 < width
   pub some_row : 0 < height
-  pub narrow : width ≤ 8192
-  pub low : height ≤ 8192
-  pub area : height * width ≤ 16777216
+  pub narrow : width ≤ SIDE_LIMIT
+  pub low : height ≤ SIDE_LIMIT
+  pub area : height * width ≤ PIXEL_LIMIT
 
 -- the maxvals that pgm(5) allows
 pub record MaxvalFits (maxval : ℕ) : Type 0 where
   pub some : 0 < maxval
-  pub small : maxval ≤ 65535
+  pub small : maxval ≤ LEVEL_LIMIT
 
 -- the kind of the images of a format
 abbrev pub kind_of : Format → Kind

@@ -1,6 +1,7 @@
 -- Images and their places.
 use Rattle.std.specs.Prelude.{◌≡◌, ℕ, ◌+◌, ◌*◌, ◌<◌, ◌≤◌, ◌&&◌, List, length, map, flat_map, ℤ, pos, negsuc, nat_lt, if◌then◌else◌, Option, Some, None, slice_index, All}
 use Rattle.std.specs.List.{range_with_len}
+use Rattle.mw_model.specs.declared.limits.TheConstants.{LEVEL_LIMIT, PIXEL_LIMIT, SIDE_LIMIT}
 use Rattle.mw_model.specs.declared.shapes.Kind.{Kind}
 use Rattle.mw_model.specs.declared.shapes.Kind.TheVariants.{Bit, Grey}
 
@@ -40,11 +41,11 @@ pub record IsPicture (f : Picture) : Type 0 where
   pub size : length f.samples ≡ f.height * f.width
   pub bounded : All (λ s. s ≤ f.maxval) f.samples
 
--- an image of at most 8,192 columns and rows, with samples of 16 bits (own)
+-- an image with no more columns and rows than a file may have, and samples of 16 bits (own)
 pub record IsSmallPicture (f : Picture) : Type 0 where
   pub picture : IsPicture f
-  pub columns : f.width ≤ 8192
-  pub rows : f.height ≤ 8192
+  pub columns : f.width ≤ SIDE_LIMIT
+  pub rows : f.height ≤ SIDE_LIMIT
   pub levels : f.maxval < 65536
 
 -- the image is a set: its samples are 0 and 1
@@ -56,12 +57,12 @@ pub record IsSet (f : Picture) : Type 0 where
 -- a set has maxval 1, and levels of grey have one that two bytes hold
 abbrev pub FitsKind : Kind → ℕ → Type 0
 FitsKind Bit maxval = maxval ≡ 1
-FitsKind Grey maxval = (1 ≤ maxval) × (maxval ≤ 65535)
+FitsKind Grey maxval = (1 ≤ maxval) × (maxval ≤ LEVEL_LIMIT)
 
 -- an image within the limits of a file (own)
 pub record IsImage (f : Picture) : Type 0 where
   pub picture : IsPicture f
   pub maxval : FitsKind f.kind f.maxval
-  pub width : (1 ≤ f.width) × (f.width ≤ 8192)
-  pub height : (1 ≤ f.height) × (f.height ≤ 8192)
-  pub area : f.height * f.width ≤ 16777216
+  pub width : (1 ≤ f.width) × (f.width ≤ SIDE_LIMIT)
+  pub height : (1 ≤ f.height) × (f.height ≤ SIDE_LIMIT)
+  pub area : f.height * f.width ≤ PIXEL_LIMIT

@@ -1,6 +1,7 @@
 -- What stands in the machine's table, and why a call is refused: the first case that holds (own).
 use Rattle.std.specs.Prelude.{not, unwrap_or, ℕ, ◌||◌, ◌&&◌, Bool, true, false, nat_lt, nat_le, List, [], ◌∷◌, length, map, slice_index_or, Option, Some, None, position}
 use Rattle.std.specs.Option.{option_map_or}
+use Rattle.mw_model.specs.declared.limits.TheConstants.{ENTRY_LIMIT, LEVEL_LIMIT}
 use Rattle.mw_model.specs.declared.names.Name.{Name}
 use Rattle.mw_model.specs.declared.places.Offset.{Offset}
 use Rattle.mw_model.specs.declared.shapes.Kind.TheVariants as kind
@@ -125,9 +126,9 @@ if_known w n holds = option_map_or holds (ticket_of w.names n) (Some code.Unknow
 abbrev pub name_taken : Table → Name → Option Code
 name_taken w n = option_map_or (λ t. Some code.NameTaken) (ticket_of w.names n) None
 
--- there are 65,536 entries
+-- there are as many entries as there may be
 abbrev pub no_room : Table → Option Code
-no_room w = when (not (nat_lt (length w.names) 65536)) code.Full
+no_room w = when (not (nat_lt (length w.names) ENTRY_LIMIT)) code.Full
 
 -- what may stand in the place of an input
 pub data Wanted : Type 0 where
@@ -181,7 +182,7 @@ param_case first last k = when (not (nat_le first k && nat_le k last)) code.Para
 -- what else an operation asks of its inputs and numbers
 abbrev pub op_cases : Table → List (Option Value) → Op → List (Option Code)
 op_cases w values (op.Flat (flat.Rank f b k)) = origin_case w values b ∷ param_case 1 (length (offsets_at w values b)) k ∷ []
-op_cases w values (op.Flat (flat.Threshold f k)) = param_case 0 65535 k ∷ []
+op_cases w values (op.Flat (flat.Threshold f k)) = param_case 0 LEVEL_LIMIT k ∷ []
 op_cases w values (op.Flat (flat.HitMiss f hit miss)) = when (overlaps (offsets_at w values hit) (offsets_at w values miss)) code.Overlap ∷ []
 op_cases w values (op.Gran (gran.Skeleton f b levels)) = binary_case w f ∷ origin_case w values b ∷ param_case 1 254 levels ∷ []
 op_cases w values (op.Gran (gran.Restore f b levels)) = param_case 1 254 levels ∷ []

@@ -5,6 +5,7 @@
 mod calls;
 mod codes;
 mod formats;
+mod limits;
 mod memory;
 mod names;
 mod operations;
@@ -19,6 +20,10 @@ mod tasks;
 pub use calls::{Call, Given, LogItem, Outcome, Reply};
 pub use codes::Code;
 pub use formats::{Format, Header};
+pub use limits::{
+    ELEMENT_SIDE_LIMIT, ENTRY_LIMIT, FAR_LIMIT, LEVEL_LIMIT, PIXEL_LIMIT, SIDE_LIMIT,
+    TILE_SIDE_LIMIT, TILE_SIDE_UNIT,
+};
 pub use memory::NoMemory;
 pub use names::Name;
 pub use operations::{FlatOp, GranOp, Op};

@@ -1,6 +1,7 @@
 //! Images of the plain program.
 
 ghost use Rattle.std.specs.Prelude.{◌≡◌, ◌<◌, ◌^◌, ◌-ℤ◌, pos, sum};
+ghost use Rattle.mw_model.specs.declared.limits.TheConstants.{SIDE_LIMIT};
 
 use crate::{Kind, Offset};
 use std::marker::Model;
@@ -50,8 +51,8 @@ impl PlainImage {
 
     /// The image with these samples, by rows from the top.
     pub fn new(kind: Kind, width: u32, height: u32, maxval: u16, samples: Vec<u16>) -> PlainImage
-        requires columns { width ≤ 8192 }
-        requires rows { height ≤ 8192 }
+        requires columns { width ≤ SIDE_LIMIT }
+        requires rows { height ≤ SIDE_LIMIT }
         requires size { vec_len samples ≡ height * width }
         requires bounded { All (λ s. s ≤ maxval) samples.items }
         ensures { result ≡ picture kind width height maxval samples.items }

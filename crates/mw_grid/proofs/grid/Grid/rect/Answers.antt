@@ -9,7 +9,7 @@ returns-clause-within c =
     let height-is : c.self.inside.height ≡ c.args.self.height = ap (λ t. t.height) c.self.view_is in
     let wide = c.self.invariant.wide in
     let high = c.self.invariant.high in
-    let least = c.self.invariant.least in
+    let least = c.self.invariant.side in
     let has : HasTiles c.args.self = record { wide = omega arith; high = omega arith; some = omega arith } in
     rect_within c.args.self c.args.i c.columns-columns.result c.self.inside.side c.self.inside.width c.self.inside.height c.min.result c.min-2.result has c.requires
     c.columns-columns.ensures.value side-is width-is height-is c.min.ensures c.min-2.ensures
