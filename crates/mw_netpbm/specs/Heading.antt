@@ -3,6 +3,7 @@ use Rattle.std.specs.Prelude.{ℕ, ◌*◌, ◌||◌, List, [], ◌∷◌, Resul
 use Rattle.mw_model.specs.declared.formats.Format.{Format}
 use Rattle.mw_model.specs.declared.formats.Format.TheVariants.{PlainBits, PlainGrey, RawBits, RawGrey}
 use Rattle.mw_model.specs.declared.formats.Header.{Header as Head}
+use Rattle.mw_model.specs.declared.limits.TheConstants.{LEVEL_LIMIT, PIXEL_LIMIT, SIDE_LIMIT}
 use Rattle.mw_model.specs.NetpbmGrammar.{is_white}
 use Rattle.mw_netpbm.specs.declared.fault.ReadFault.{ReadFault}
 use Rattle.mw_netpbm.specs.declared.fault.ReadFault.TheVariants.{Magic, Header, Size, Maxval}
@@ -42,8 +43,8 @@ head_at bytes = do
 -- the sides and the maxval that are read
 unfoldable pub limits : Head → Result (Unit {0}) ReadFault
 limits h =
-    if (h.width == 0) || (h.height == 0) || nat_lt 8192 h.width || nat_lt 8192 h.height || nat_lt 16777216 (h.height * h.width) then Err Size
-    else (if (h.maxval == 0) || nat_lt 65535 h.maxval then Err Maxval else Ok tt)
+    if (h.width == 0) || (h.height == 0) || nat_lt SIDE_LIMIT h.width || nat_lt SIDE_LIMIT h.height || nat_lt PIXEL_LIMIT (h.height * h.width) then Err Size
+    else (if (h.maxval == 0) || nat_lt LEVEL_LIMIT h.maxval then Err Maxval else Ok tt)
 
 -- the sides of a bitmap that are read
 unfoldable pub side_limits : ℕ → Head → Result (Unit {0}) ReadFault

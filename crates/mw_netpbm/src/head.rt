@@ -1,13 +1,13 @@
 //! The header.
 
-ghost use Rattle.std.specs.Prelude.{◌≡◌, ◌≤◌, ◌*◌, ◌^◌, IfOk, OnOk};
+ghost use Rattle.std.specs.Prelude.{◌≡◌, ◌≤◌, ◌*◌, IfOk, OnOk};
 ghost use Rattle.mw_netpbm.specs.Heading.{magic_at, maxval_at, white_at, head_at, limits, side_limits};
 ghost use Rattle.mw_netpbm.specs.Whole.{bitmap_head_at, plain_only};
 ghost use Rattle.mw_netpbm.specs.Reading.{seen};
 
 use crate::fault::ReadFault;
 use crate::words::{field, is_white};
-use mw_model::{Format, Header};
+use mw_model::{Format, Header, LEVEL_LIMIT, PIXEL_LIMIT, SIDE_LIMIT};
 
 #[tactic(auto, unfolding(crate::specs::Heading::magic_at))]
 fn magic(bytes: &[u8]) -> Result<(Format, &[u8]), ReadFault>
@@ -65,11 +65,11 @@ pub(crate) fn read_head(bytes: &[u8]) -> Result<(Header, &[u8]), ReadFault>
 #[tactic(auto, unfolding(crate::specs::Heading::limits))]
 pub(crate) fn check_limits(head: &Header) -> Result<(), ReadFault>
     ensures value { seen (λ _. tt) result ≡ limits head.now }
-    ensures width { OnOk result (head.now.width ≤ 8192) }
-    ensures height { OnOk result (head.now.height ≤ 8192) }
-    ensures area { OnOk result (head.now.height * head.now.width ≤ 2 ^ 24) }
+    ensures width { OnOk result (head.now.width ≤ SIDE_LIMIT) }
+    ensures height { OnOk result (head.now.height ≤ SIDE_LIMIT) }
+    ensures area { OnOk result (head.now.height * head.now.width ≤ PIXEL_LIMIT) }
     ensures some { OnOk result (1 ≤ head.now.maxval) }
-    ensures maxval { OnOk result (head.now.maxval ≤ 65535) }
+    ensures maxval { OnOk result (head.now.maxval ≤ LEVEL_LIMIT) }
 {
     let Header {
         width,
@@ -77,10 +77,16 @@ pub(crate) fn check_limits(head: &Header) -> Result<(), ReadFault>
         maxval,
         ..
     } = *head;
-    if width == 0 || height == 0 || width > 8192 || height > 8192 || height * width > 1 << 24 {
+    let side = u64::from(SIDE_LIMIT);
+    if width == 0
+        || height == 0
+        || width > side
+        || height > side
+        || height * width > u64::from(PIXEL_LIMIT)
+    {
         return Err(ReadFault::Size);
     }
-    if maxval == 0 || maxval > 65535 {
+    if maxval == 0 || maxval > u64::from(LEVEL_LIMIT) {
         return Err(ReadFault::Maxval);
     }
     Ok(())

@@ -1,6 +1,7 @@
 //! Raw rasters: samples of one or two bytes, or pixels of one bit, which become words; by vectors, 64 bytes at a time.
 
-ghost use Rattle.std.specs.Prelude.{◌≡◌, ℕ, ◌≤◌, ◌<◌, ◌*◌, ◌+◌, ◌/◌, ◌++◌, ◌^◌, List, length, IfOk, OnOk, fold, max, take, drop, vec_len};
+ghost use Rattle.std.specs.Prelude.{◌≡◌, ℕ, ◌≤◌, ◌<◌, ◌*◌, ◌+◌, ◌/◌, ◌++◌, List, length, IfOk, OnOk, fold, max, take, drop, vec_len};
+ghost use Rattle.mw_model.specs.declared.limits.TheConstants.{PIXEL_LIMIT, SIDE_LIMIT};
 ghost use Rattle.mw_netpbm.specs.Reading.{seen, Gives};
 ghost use Rattle.mw_netpbm.specs.Rasters.{words_of, row_bits, rows_bits, grey8_at, grey16_at, bits_at};
 ghost use Rattle.mw_netpbm.specs.SetWords.{in_words, in_rows};
@@ -150,7 +151,7 @@ pub(crate) fn grey16(
     maxval: u16,
     raster: &[u8],
 ) -> Result<Vec<u16>, ReadFault>
-    requires { count ≤ 2 ^ 24 }
+    requires { count ≤ PIXEL_LIMIT }
     ensures { Gives (λ v. v.items) result (grey16_at count maxval raster.now) }
 {
     if raster.len() < 2 * count {
@@ -179,7 +180,7 @@ fn push_rest(out: &mut Vec<u64>, left: usize, rest: &[u8]) -> Result<(), AllocEr
 
 /// Adds the words of a row.
 fn push_row(out: &mut Vec<u64>, width: usize, row: &[u8]) -> Result<(), AllocError>
-    requires wide { width ≤ 8192 }
+    requires wide { width ≤ SIDE_LIMIT }
     requires long { length row.now ≡ (width + 7) / 8 }
     ensures { OnOk result (out.new.items ≡ out.old.items ++ in_words ((width + 63) / 64) (row_bits width row.now)) }
 {
@@ -198,8 +199,8 @@ fn push_row(out: &mut Vec<u64>, width: usize, row: &[u8]) -> Result<(), AllocErr
 }
 
 fn rows(alloc: Global, width: usize, height: usize, raster: &[u8]) -> Result<Vec<u64>, AllocError>
-    requires wide { width ≤ 8192 }
-    requires high { height ≤ 8192 }
+    requires wide { width ≤ SIDE_LIMIT }
+    requires high { height ≤ SIDE_LIMIT }
     requires long { height * ((width + 7) / 8) ≤ length raster.now }
     ensures { IfOk result (λ v. v.items ≡ in_rows width height (rows_bits width height raster.now)) }
 {
@@ -222,8 +223,8 @@ pub(crate) fn bits(
     height: u32,
     raster: &[u8],
 ) -> Result<Words, ReadFault>
-    requires wide { width ≤ 8192 }
-    requires high { height ≤ 8192 }
+    requires wide { width ≤ SIDE_LIMIT }
+    requires high { height ≤ SIDE_LIMIT }
     ensures { Gives (λ f. f) result (raster_from width height (bits_at width height raster.now)) }
 {
     let count = height as usize * ((width as usize + 7) / 8);

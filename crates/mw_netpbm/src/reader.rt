@@ -1,6 +1,6 @@
 //! Reading a whole file: its header says which raster is to follow, and the raster decides.
 
-ghost use Rattle.std.specs.Prelude.{◌≡◌, ℕ, ◌≤◌, ◌<◌, ◌*◌, ◌-◌, ◌^◌, List, length, drop, ◌≢◌, IfOk, IfErr, Ok, Err, true, nat_lt, MatchResult};
+ghost use Rattle.std.specs.Prelude.{◌≡◌, ℕ, ◌≤◌, ◌<◌, ◌*◌, ◌-◌, List, length, drop, ◌≢◌, IfOk, IfErr, Ok, Err, true, nat_lt, MatchResult};
 ghost use Rattle.mw_netpbm.specs.Reading.{seen, Gives};
 ghost use Rattle.mw_netpbm.specs.Heading.{head_at, limits};
 ghost use Rattle.mw_netpbm.specs.Whole.{IsFit, grey_from, image_at, reading};
@@ -8,6 +8,7 @@ ghost use Rattle.mw_netpbm.specs.Faults.{code_of};
 ghost use Rattle.mw_model.specs.NetpbmGrammar.{IsFile};
 ghost use Rattle.mw_model.specs.NetpbmRefusals.{Refuses};
 ghost use Rattle.mw_model.specs.Pictures.{Picture, IsImage};
+ghost use Rattle.mw_model.specs.declared.limits.TheConstants.{LEVEL_LIMIT, PIXEL_LIMIT, SIDE_LIMIT};
 ghost use Rattle.mw_pixel.specs.Images.{set_of};
 ghost use Rattle.mw_model.specs.declared.formats.Format.TheVariants as Format;
 
@@ -69,11 +70,11 @@ fn grey16_image(
 /// The image in the raster under a header.
 #[tactic(auto, unfolding(crate::specs::Whole::raster_as))]
 fn raster(alloc: Global, head: &Header, raster: &[u8]) -> Result<Image, ReadFault>
-    requires width { head.now.width ≤ 8192 }
-    requires height { head.now.height ≤ 8192 }
-    requires area { head.now.height * head.now.width ≤ 2 ^ 24 }
+    requires width { head.now.width ≤ SIDE_LIMIT }
+    requires height { head.now.height ≤ SIDE_LIMIT }
+    requires area { head.now.height * head.now.width ≤ PIXEL_LIMIT }
     requires some { 1 ≤ head.now.maxval }
-    requires maxval { head.now.maxval ≤ 65535 }
+    requires maxval { head.now.maxval ≤ LEVEL_LIMIT }
     ensures { Gives (λ i. i) result (image_at head.now raster.now) }
 {
     let width = head.width as u32;
@@ -115,11 +116,11 @@ fn opened(bytes: &[u8]) -> Result<(Header, &[u8]), ReadFault>
     ensures found { IfOk result (λ x. reading bytes.now ≡ image_at x.0 x.1.now) }
     ensures shorter { IfOk result (λ x. length x.1.now ≤ length bytes.now) }
     ensures last { IfOk result (λ x. x.1.now ≡ drop (length bytes.now - length x.1.now) bytes.now) }
-    ensures width { IfOk result (λ x. x.0.width ≤ 8192) }
-    ensures height { IfOk result (λ x. x.0.height ≤ 8192) }
-    ensures area { IfOk result (λ x. x.0.height * x.0.width ≤ 2 ^ 24) }
+    ensures width { IfOk result (λ x. x.0.width ≤ SIDE_LIMIT) }
+    ensures height { IfOk result (λ x. x.0.height ≤ SIDE_LIMIT) }
+    ensures area { IfOk result (λ x. x.0.height * x.0.width ≤ PIXEL_LIMIT) }
     ensures some { IfOk result (λ x. 1 ≤ x.0.maxval) }
-    ensures maxval { IfOk result (λ x. x.0.maxval ≤ 65535) }
+    ensures maxval { IfOk result (λ x. x.0.maxval ≤ LEVEL_LIMIT) }
 {
     let (head, rest) = read_head(bytes)?;
     check_limits(&head)?;
@@ -144,8 +145,8 @@ fn owned_raster(
     file: Vec<u8>,
 ) -> Result<Image, ReadFault>
     requires format { head.now.format ≡ Format.RawGrey }
-    requires width { head.now.width ≤ 8192 }
-    requires height { head.now.height ≤ 8192 }
+    requires width { head.now.width ≤ SIDE_LIMIT }
+    requires height { head.now.height ≤ SIDE_LIMIT }
     requires some { 1 ≤ head.now.maxval }
     requires maxval { head.now.maxval < 256 }
     requires short { 2 * start ≤ length file.items }

@@ -2,6 +2,7 @@
 //! the header alone. A row is lent as what holds a plane of one row: words for a set.
 
 ghost use Rattle.std.specs.Prelude.{◌≡◌, ◌≤◌, ℕ, List, length, IfOk, string_bytes, vec_capacity};
+ghost use Rattle.mw_model.specs.declared.limits.TheConstants.{SIDE_LIMIT};
 ghost use Rattle.mw_netpbm.specs.Rows.{header_as};
 
 use crate::writer::{append, grey_head, push_packed, push_words, set_head};
@@ -17,7 +18,7 @@ pub trait RowBytes: Planar {
 
     /// How many bytes a row of so many samples has.
     fn byte_count(width: u32) -> usize
-        requires { width ≤ 8192 }
+        requires { width ≤ SIDE_LIMIT }
         ensures value { (row : List Self) → length row ≡ width → length (bytes width row) ≡ result }
         ensures small { result ≤ 16384 };
 
