@@ -5,18 +5,15 @@ ghost use Rattle.mw_model.specs.Bitmaps.{SidesFit};
 ghost use Rattle.mw_model.specs.Elements.{HoldsPlace, element_side, offset_from, offsets_in_row, offsets_of};
 
 use crate::{Element, ElementFault};
-use mw_model::{NoMemory, Offset};
+use mw_model::{ELEMENT_SIDE_LIMIT, NoMemory, Offset};
 use mw_netpbm::BitmapFault;
 use mw_netpbm::pixel::{Bit, Plane};
 use std::alloc::Global;
 
-/// The greatest side of an element's bitmap, in pixels.
-pub(crate) const SIDE: u32 = 255;
-
 /// The offset of column x of row y, seen from the origin.
 fn seen_from(ox: u32, oy: u32, x: u32, y: u32) -> Offset
-    requires origin { (ox ≤ 255) × (oy ≤ 255) }
-    requires place { (x ≤ 255) × (y ≤ 255) }
+    requires origin { (ox ≤ ELEMENT_SIDE_LIMIT) × (oy ≤ ELEMENT_SIDE_LIMIT) }
+    requires place { (x ≤ ELEMENT_SIDE_LIMIT) × (y ≤ ELEMENT_SIDE_LIMIT) }
     ensures { result ≡ offset_from ox oy x y }
 {
     Offset {
@@ -27,10 +24,10 @@ fn seen_from(ox: u32, oy: u32, x: u32, y: u32) -> Offset
 
 /// Adds the offsets of a row of the bitmap, seen from the origin, where there is room for them.
 fn push_row(out: &mut Vec<Offset>, bitmap: &Plane<Bit>, ox: u32, oy: u32, y: u32)
-    requires wide { bitmap.now.width ≤ 255 }
-    requires high { bitmap.now.height ≤ 255 }
-    requires column { ox ≤ 255 }
-    requires row { oy ≤ 255 }
+    requires wide { bitmap.now.width ≤ ELEMENT_SIDE_LIMIT }
+    requires high { bitmap.now.height ≤ ELEMENT_SIDE_LIMIT }
+    requires column { ox ≤ ELEMENT_SIDE_LIMIT }
+    requires row { oy ≤ ELEMENT_SIDE_LIMIT }
     requires inside { y < bitmap.now.height }
     requires room { vec_len out.old + length (offsets_in_row bitmap.now ox oy y) ≤ vec_capacity out.old }
     ensures items { out.new.items ≡ out.old.items ++ offsets_in_row bitmap.now ox oy y }
@@ -51,10 +48,10 @@ pub(crate) fn offsets(
     oy: u32,
     count: usize,
 ) -> Result<Vec<Offset>, NoMemory>
-    requires wide { bitmap.now.width ≤ 255 }
-    requires high { bitmap.now.height ≤ 255 }
-    requires column { ox ≤ 255 }
-    requires row { oy ≤ 255 }
+    requires wide { bitmap.now.width ≤ ELEMENT_SIDE_LIMIT }
+    requires high { bitmap.now.height ≤ ELEMENT_SIDE_LIMIT }
+    requires column { ox ≤ ELEMENT_SIDE_LIMIT }
+    requires row { oy ≤ ELEMENT_SIDE_LIMIT }
     requires count { length (offsets_of bitmap.now ox oy) ≡ count }
     ensures items { IfOk result (λ v. v.items ≡ offsets_of bitmap.now ox oy) }
     ensures few { IfOk result (λ v. vec_capacity v ≤ count) }
@@ -83,8 +80,8 @@ fn count_row(bitmap: &Plane<Bit>, y: u32) -> usize
 
 /// How many offsets the bitmap has, wherever the origin is.
 fn count(bitmap: &Plane<Bit>) -> usize
-    requires wide { bitmap.now.width ≤ 255 }
-    requires high { bitmap.now.height ≤ 255 }
+    requires wide { bitmap.now.width ≤ ELEMENT_SIDE_LIMIT }
+    requires high { bitmap.now.height ≤ ELEMENT_SIDE_LIMIT }
     ensures { (ox oy : ℕ) → length (offsets_of bitmap.now ox oy) ≡ result }
 {
     let mut count: usize = 0;
@@ -99,7 +96,7 @@ fn sides_fit(bitmap: &Plane<Bit>) -> bool
     ensures { IsTrue result ↔ SidesFit element_side bitmap.now.width bitmap.now.height }
 {
     let (width, height) = (bitmap.width(), bitmap.height());
-    width > 0 && height > 0 && width <= SIDE && height <= SIDE
+    width > 0 && height > 0 && width <= ELEMENT_SIDE_LIMIT && height <= ELEMENT_SIDE_LIMIT
 }
 
 /// Whether the origin lies in the bitmap.

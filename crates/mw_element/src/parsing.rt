@@ -1,7 +1,8 @@
 //! Reading elements from plain bitmaps.
 
-use crate::bitmaps::{SIDE, offsets};
+use crate::bitmaps::offsets;
 use crate::{Element, ElementFault};
+use mw_model::ELEMENT_SIDE_LIMIT;
 use mw_netpbm::{read_plain_bitmap, scan_plain_bitmap};
 use std::alloc::Global;
 
@@ -20,14 +21,14 @@ impl Element {
         // Memory is wanting only where the bytes are an element.
         ensures memory { result ≡ Err ElementFault.NoMemory → (figure : Figure) × IsElement bytes.now ox oy figure }
     {
-        let facts = scan_plain_bitmap(bytes, SIDE)?;
+        let facts = scan_plain_bitmap(bytes, ELEMENT_SIDE_LIMIT)?;
         if ox >= facts.width || oy >= facts.height {
             return Err(ElementFault::Origin);
         }
         if facts.ones == 0 {
             return Err(ElementFault::Empty);
         }
-        let Ok(bitmap) = read_plain_bitmap(alloc, bytes, SIDE) else {
+        let Ok(bitmap) = read_plain_bitmap(alloc, bytes, ELEMENT_SIDE_LIMIT) else {
             return Err(ElementFault::NoMemory);
         };
         let found = offsets(alloc, &bitmap, ox, oy, facts.ones as usize)?;
