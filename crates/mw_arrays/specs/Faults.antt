@@ -3,19 +3,21 @@ use Rattle.std.specs.Prelude.{ℕ, ◌*◌, ◌==◌, ◌&&◌, Bool, not, nat_l
 use Rattle.std.specs.List.{list_any}
 use Rattle.mw_model.specs.declared.codes.Code.{Code}
 use Rattle.mw_model.specs.declared.codes.Code.TheVariants as code
+use Rattle.mw_model.specs.declared.limits.TheConstants.{LEVEL_LIMIT, PIXEL_LIMIT, SIDE_LIMIT}
+use Rattle.mw_model.specs.Elements.{element_side}
 use Rattle.mw_model.specs.Refusals.{first_of, when}
 use Rattle.mw_arrays.specs.declared.arrays.Bitmap.{Bitmap}
 use Rattle.mw_arrays.specs.declared.arrays.Grey16.{Grey16}
 use Rattle.mw_arrays.specs.declared.arrays.Grey8.{Grey8}
 use Rattle.mw_arrays.specs.declared.arrays.Set.{Set}
 
--- an image has 1 to 8,192 columns, as many rows, and at most 16,777,216 pixels
+-- an image has a column and a row, and no more of them, nor of pixels, than the limits
 abbrev pub image_sides_fit : ℕ → ℕ → Bool
-image_sides_fit width height = (nat_le 1 width && nat_le width 8192) && (nat_le 1 height && nat_le height 8192) && nat_le (height * width) 16777216
+image_sides_fit width height = (nat_le 1 width && nat_le width SIDE_LIMIT) && (nat_le 1 height && nat_le height SIDE_LIMIT) && nat_le (height * width) PIXEL_LIMIT
 
--- an element's bitmap has 1 to 255 columns, and as many rows
+-- an element's bitmap has a column and a row, and no more of them than the limit
 abbrev pub bitmap_sides_fit : ℕ → ℕ → Bool
-bitmap_sides_fit width height = (nat_le 1 width && nat_le width 255) && (nat_le 1 height && nat_le height 255)
+bitmap_sides_fit width height = (nat_le 1 width && nat_le width element_side) && (nat_le 1 height && nat_le height element_side)
 
 -- the sides are those of no image
 abbrev pub size_case : ℕ → ℕ → Option Code
@@ -67,7 +69,7 @@ grey8_fault f = levels_fault 1 255 f.width f.height f.maxval f.samples.now
 
 -- what is wrong with levels of two bytes
 abbrev pub grey16_fault : Grey16 → Option Code
-grey16_fault f = levels_fault 256 65535 f.width f.height f.maxval f.samples.now
+grey16_fault f = levels_fault 256 LEVEL_LIMIT f.width f.height f.maxval f.samples.now
 
 -- what is wrong with a set
 abbrev pub set_fault : Set → Option Code

@@ -4,7 +4,7 @@ use crate::cases::{first_of, when};
 use crate::tests::{
     any_over_8, any_over_16, any_set, bitmap_sides_fit, fills, image_sides_fit, lies_from,
 };
-use mw_model::Code;
+use mw_model::{Code, LEVEL_LIMIT};
 
 /// An image in levels of grey of one byte: its samples by rows from the top, without gaps.
 #[derive(Clone, Copy)]
@@ -80,7 +80,7 @@ impl<'a> Grey16<'a> {
                 !fills(self.samples.len(), self.width, self.height),
                 Code::Length,
             ),
-            when(!lies_from(256, 65535, self.maxval), Code::Maxval),
+            when(!lies_from(256, LEVEL_LIMIT, self.maxval), Code::Maxval),
             when(any_over_16(self.samples, self.maxval), Code::Sample),
         ])
     }

@@ -4,6 +4,8 @@ ghost use Rattle.std.specs.Prelude.{◌≡◌, ◌&&◌, ◌*◌, ◌==◌, leng
 ghost use Rattle.std.specs.List.{list_any};
 ghost use Rattle.mw_arrays.specs.Faults.{bitmap_sides_fit, image_sides_fit};
 
+use mw_model::{ELEMENT_SIDE_LIMIT, PIXEL_LIMIT, SIDE_LIMIT};
+
 /// Whether the number is from the first to the last.
 pub(crate) fn lies_from(first: u32, last: u32, n: u32) -> bool
     ensures { result ≡ (nat_le first n && nat_le n last) }
@@ -15,21 +17,21 @@ pub(crate) fn lies_from(first: u32, last: u32, n: u32) -> bool
 pub(crate) fn image_sides_fit(width: u32, height: u32) -> bool
     ensures { result ≡ image_sides_fit width height }
 {
-    lies_from(1, 8192, width) && lies_from(1, 8192, height) && is_small(width, height)
+    lies_from(1, SIDE_LIMIT, width) && lies_from(1, SIDE_LIMIT, height) && is_small(width, height)
 }
 
 /// Whether an image of these sides has no more pixels than it may.
 fn is_small(width: u32, height: u32) -> bool
-    ensures { result ≡ nat_le (height * width) 16777216 }
+    ensures { result ≡ nat_le (height * width) PIXEL_LIMIT }
 {
-    height as usize * width as usize <= 16777216
+    height as usize * width as usize <= PIXEL_LIMIT as usize
 }
 
 /// Whether an element's bitmap may have these sides.
 pub(crate) fn bitmap_sides_fit(width: u32, height: u32) -> bool
     ensures { result ≡ bitmap_sides_fit width height }
 {
-    lies_from(1, 255, width) && lies_from(1, 255, height)
+    lies_from(1, ELEMENT_SIDE_LIMIT, width) && lies_from(1, ELEMENT_SIDE_LIMIT, height)
 }
 
 /// Whether so many are as many as the places of a rectangle.

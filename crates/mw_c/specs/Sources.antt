@@ -1,6 +1,7 @@
 -- Images that stand in arrays, whatever their samples.
 use Rattle.std.specs.Prelude.{◌≡◌, ℕ, ◌*◌, ◌≤◌, List, length, Option}
 use Rattle.mw_model.specs.declared.codes.Code.{Code}
+use Rattle.mw_model.specs.declared.limits.TheConstants.{PIXEL_LIMIT, SIDE_LIMIT}
 use Rattle.mw_model.specs.Elements.{Figure, figure_of}
 use Rattle.mw_model.specs.Pictures.{Picture, IsImage}
 use Rattle.mw_arrays.specs.declared.arrays.Bitmap.{Bitmap}
@@ -43,9 +44,9 @@ StandsIn (source.Pixels f) maxval = maxval ≤ 255
 -- there is a byte for each pixel of an image's sides
 pub record FillsSides (w h : ℕ) (bytes : List ℕ) : Type 0 where
   pub size : length bytes ≡ h * w
-  pub width : (1 ≤ w) × (w ≤ 8192)
-  pub height : (1 ≤ h) × (h ≤ 8192)
-  pub area : h * w ≤ 16777216
+  pub width : (1 ≤ w) × (w ≤ SIDE_LIMIT)
+  pub height : (1 ≤ h) × (h ≤ SIDE_LIMIT)
+  pub area : h * w ≤ PIXEL_LIMIT
 
 -- the element of a bitmap
 abbrev pub figure_in : Bitmap → Figure

@@ -10,7 +10,8 @@ ghost use Rattle.mw_checks.specs.Checks.{refused, state_case, inputs_case, flat_
 
 use crate::{elements, shapes};
 use mw_model::{
-    Call, Code, Command, FlatOp, Given, GranOp, Inputs, Name, Op, Outcome, Reply, Shape, Submission,
+    Call, Code, Command, ENTRY_LIMIT, FlatOp, Given, GranOp, Inputs, LEVEL_LIMIT, Name, Op, Outcome,
+    Reply, Shape, Submission,
 };
 use mw_store::{Store, is_dead, is_released};
 
@@ -26,9 +27,9 @@ fn free(store: &Store, name: Name) -> Result<(), Code>
 
 fn room(store: &Store) -> Result<(), Code>
     ensures code { refused result ≡ no_room store.now.table }
-    ensures ok { OnOk result (length store.now.table.names < 65536) }
+    ensures ok { OnOk result (length store.now.table.names < ENTRY_LIMIT) }
 {
-    if store.len() < 65536 {
+    if store.len() < ENTRY_LIMIT {
         Ok(())
     } else {
         Err(Code::Full)
@@ -147,7 +148,7 @@ fn of_threshold(store: &Store, f: Name, k: u32) -> Result<Submission, Code>
     ensures below { IfOk result (λ s. AllByRecursion (λ i. i < length store.now.table.names) (tickets s.inputs)) }
 {
     let x = image(store, f)?;
-    param(0, 65535, k)?;
+    param(0, LEVEL_LIMIT, k)?;
     Ok(submission(
         Op::Flat(FlatOp::Threshold(f, k)),
         shapes::as_bits(store.shape(x)),
@@ -269,7 +270,7 @@ pub fn of_run(store: &Store, name: Name, op: Op) -> Result<Submission, Code>
     ensures submission { IfOk result (λ s. s ≡ run_submission store.now.table op) }
     ensures below { IfOk result (λ s. AllByRecursion (λ i. i < length store.now.table.names) (tickets s.inputs)) }
     ensures free { OnOk result (ticket_of store.now.table.names name ≡ None) }
-    ensures room { OnOk result (length store.now.table.names < 65536) }
+    ensures room { OnOk result (length store.now.table.names < ENTRY_LIMIT) }
 {
     free(store, name)?;
     room(store)?;
@@ -284,7 +285,7 @@ pub fn of_given(store: &Store, name: Name, given: Given) -> Result<(), Code>
     ensures load { refused result ≡ refusal store.now.table store.now.kept (Call.Load name given) }
     ensures element { refused result ≡ refusal store.now.table store.now.kept (Call.Element name given) }
     ensures free { OnOk result (ticket_of store.now.table.names name ≡ None) }
-    ensures room { OnOk result (length store.now.table.names < 65536) }
+    ensures room { OnOk result (length store.now.table.names < ENTRY_LIMIT) }
 {
     free(store, name)?;
     room(store)?;

@@ -1,5 +1,5 @@
 -- The command line of the program (own): what clap is to read of it, and which job its words ask for.
-use Rattle.std.specs.Prelude.{◌≡◌, ◌≤◌, ◌<◌, ◌^◌, ◌%◌, ℕ, Bool, true, false, if◌then◌else◌, nat_lt, Result, Ok, Err, List, [], ◌∷◌, Option, Some, None, codes, option_and_then, option_map, pos, ◌⊎◌}
+use Rattle.std.specs.Prelude.{◌≡◌, ◌≤◌, ◌<◌, ◌^◌, ℕ, Bool, true, false, if◌then◌else◌, nat_lt, Result, Ok, Err, List, [], ◌∷◌, Option, Some, None, codes, option_and_then, option_map, pos, ◌⊎◌}
 use Rattle.std.specs.Str.Parse.{IsNumeral, digits_value, without_leading_plus}
 use Rattle.clap.specs.Words.{App, IsAmong, Row, Rule, Text, fault_of, kind_of, new_app, new_rule, one_of, subcommand_of, with_rule, with_subcommand}
 use Rattle.clap.specs.Simple.{on_top}
@@ -9,6 +9,7 @@ use Rattle.clap.specs.declared.builder.command.Command.TheViews.{out-Command as 
 use Rattle.clap.specs.declared.builder.value_parser.ValueParser.TheVariants as parser
 use Rattle.clap.specs.declared.error.kind.ErrorKind.{ErrorKind}
 use Rattle.clap.specs.declared.error.kind.ErrorKind.TheVariants as kind
+use Rattle.mw_grid.specs.Grids.{IsTileSide}
 use Rattle.mw_cli.specs.declared.line.BatchOptions.{BatchOptions}
 use Rattle.mw_cli.specs.declared.line.Job.{Job}
 use Rattle.mw_cli.specs.declared.line.Job.TheVariants as job
@@ -125,10 +126,6 @@ abbrev pub Reads : {E : Type 0} → Option Text → Result (Option ℕ) E → Ty
 Reads text (Ok (Some n)) = Writes text n
 Reads text (Ok None) = text ≡ None
 Reads text (Err e) = (text ≡ None → ⊥) × ((n : ℕ) → Writes text n → ⊥)
-
--- tiles may have this side
-abbrev pub IsTileSide : ℕ → Type 0
-IsTileSide side = (64 ≤ side) × (side ≤ 1024) × (side % 64 ≡ 0)
 
 -- the text writes no side of tiles
 abbrev pub WritesNoSide : Option Text → Type 0

@@ -2,7 +2,8 @@
 
 ghost use Rattle.std.specs.Prelude.{◌≡◌, ◌≤◌, ◌∷◌, [], false, ◌↔◌, codes, IfOk, IfErr, IfSome, IsTrue, None, map};
 ghost use Rattle.clap.specs.Words.{app_of, kind_of, rule_of, subcommand_rows_of};
-ghost use Rattle.mw_cli.specs.CommandLine.{AreListens, AreServes, Asks, AsksBatch, AsksIdle, AsksListen, AsksNoCrew, AsksNoIdle, AsksServe, AsksWorkers, Faults, FaultsBatch, FaultsListen, FaultsServe, HasNoGlobals, IsAsked, IsCrew, IsNoText, IsRefused, IsTileSide, IsUpTo, Reads, Sets, Writes, WritesNone, WritesNoPort, WritesNoSide, bare_words, batch_words, flag_option, listen_words, number_option, program_words, serve_words, text_in, tile_option, usual_option, usual_workers};
+ghost use Rattle.mw_cli.specs.CommandLine.{AreListens, AreServes, Asks, AsksBatch, AsksIdle, AsksListen, AsksNoCrew, AsksNoIdle, AsksServe, AsksWorkers, Faults, FaultsBatch, FaultsListen, FaultsServe, HasNoGlobals, IsAsked, IsCrew, IsNoText, IsRefused, IsUpTo, Reads, Sets, Writes, WritesNone, WritesNoPort, WritesNoSide, bare_words, batch_words, flag_option, listen_words, number_option, program_words, serve_words, text_in, tile_option, usual_option, usual_workers};
+ghost use Rattle.mw_grid.specs.Grids.{IsTileSide};
 ghost use Rattle.std.specs.String.{string_bytes};
 
 use crate::fault::LineFault;

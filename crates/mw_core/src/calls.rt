@@ -17,7 +17,7 @@ impl Core {
     ghost use Rattle.mw_model.specs.Refusals.{refusal};
     ghost use Rattle.mw_model.specs.Scripts.{refused_unread};
     ghost use Rattle.mw_model.specs.Stands.{StandsFor};
-    ghost use Rattle.mw_ledger.specs.mw_underway.Planning.{IsSide};
+    ghost use Rattle.mw_ledger.specs.mw_grid.Grids.{IsTileSide};
     ghost use Rattle.mw_ledger.specs.mw_stands.Payloads.{given_image, image_payload, given_element, element_payload};
     ghost use Rattle.mw_checks.specs.Faults.{IsFault};
     ghost use Rattle.mw_ledger.specs.Short.{is_long};
@@ -26,7 +26,7 @@ impl Core {
 
     /// A core that has accepted nothing yet. The side is that of the tiles, in pixels.
     pub fn new(alloc: Global, side: u32) -> Result<Self, NoMemory>
-        requires { IsSide side }
+        requires { IsTileSide side }
         ensures stands { IfOk result (λ c. StandsFor c start_state) }
         ensures log { IfOk result (λ c. c.log ≡ []) }
         ensures side { IfOk result (λ c. c.side ≡ side) }

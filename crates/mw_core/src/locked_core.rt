@@ -3,7 +3,7 @@
 ghost use Rattle.std.specs.Prelude.{◌≡◌, [], IfOk};
 ghost use Rattle.mw_model.specs.Machine.{Machine, start_state};
 ghost use Rattle.mw_model.specs.Stands.{StandsFor};
-ghost use Rattle.mw_ledger.specs.mw_underway.Planning.{IsSide};
+ghost use Rattle.mw_ledger.specs.mw_grid.Grids.{IsTileSide};
 
 use crate::Core;
 use crate::events::{Answer, Event, serve};
@@ -22,7 +22,7 @@ impl LockedCore {
 
     /// A core that has accepted nothing yet.
     pub fn new(alloc: Global, side: u32) -> Result<Self, NoMemory>
-        requires { IsSide side }
+        requires { IsTileSide side }
         ensures stands { IfOk result (λ h. StandsFor h.core start_state) }
         ensures log { IfOk result (λ h. h.core.log ≡ []) }
         ensures side { IfOk result (λ h. h.core.side ≡ side) }

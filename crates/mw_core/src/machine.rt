@@ -1,6 +1,7 @@
 //! The core: a ledger, and the counts of its tasks. What is private here is said in plain equations, beside any machine.
 
 ghost use Rattle.std.specs.Prelude.{◌≡◌, ◌⊎◌, ◌<◌, ◌≤◌, [], ◌∷◌, ◌++◌, length, OnOk, OnErr, IfOk, IfSome, option_map, true, false};
+ghost use Rattle.mw_model.specs.declared.limits.TheConstants.{ENTRY_LIMIT};
 
 use mw_ledger::{Compact, Counts, Entry, Ledger, PlanProgress};
 use mw_model::{Call, LogItem, Name, NoMemory, Outcome, Reply};
@@ -50,7 +51,8 @@ impl Core {
     ghost use Rattle.mw_ledger.specs.mw_stands.Facts.{IsComplete};
     ghost use Rattle.mw_ledger.specs.mw_stands.Limits.{FitsLimits, ShapesFit};
     ghost use Rattle.mw_ledger.specs.mw_stands.Rows.{IsLogFull};
-    ghost use Rattle.mw_ledger.specs.mw_underway.Planning.{IsPlannedOn, IsSide};
+    ghost use Rattle.mw_ledger.specs.mw_grid.Grids.{IsTileSide};
+    ghost use Rattle.mw_ledger.specs.mw_underway.Planning.{IsPlannedOn};
     ghost use Rattle.mw_ledger.specs.Short.{is_long};
     ghost use Rattle.mw_ledger.specs.Books.{progress_of};
 
@@ -58,7 +60,7 @@ impl Core {
     pub(crate) fn whole(&self)
         ensures complete { IsComplete self.now }
         ensures fits { ShapesFit self.now.table }
-        ensures side { IsSide self.now.side }
+        ensures side { IsTileSide self.now.side }
     {
         self.ledger.sound();
     }
@@ -84,7 +86,7 @@ impl Core {
         work: Option<PlanProgress>,
     ) -> Result<Reply, NoMemory>
         requires free { ticket_of self.old.table.names name ≡ None }
-        requires room { length self.old.table.names < 65536 }
+        requires room { length self.old.table.names < ENTRY_LIMIT }
         requires below { AllByRecursion (λ i. i < length self.old.table.names) (tickets (submission_of entry).inputs) }
         requires fits { FitsLimits (submission_of entry).shape }
         requires planned { IfSome work (IsPlannedOn self.old.table (submission_of entry)) }

@@ -1,6 +1,7 @@
 -- Planes of earlier steps that are kept, and what a step reads of them (own).
 use Rattle.std.specs.Prelude.{◌≡◌, ℕ, ◌<◌, ◌≤◌, List, length, map, Option, Some, None, IsSome, IfSome, slice_index_or, unwrap_or}
 use Rattle.std.specs.List.{AllByRecursion}
+use Rattle.mw_model.specs.declared.limits.TheConstants.{SIDE_LIMIT}
 use Rattle.mw_model.specs.Pictures.{Picture}
 use Rattle.mw_model.specs.Plans.{Plan, Planned, Source, FromInput, FromStep, no_picture}
 use Rattle.mw_model.specs.Tasks.{nothing_planned}
@@ -38,9 +39,9 @@ pub record IsReady (image : Picture) (planes : List (Option Picture)) (s : Plann
   pub frames : AllByRecursion (HasFrame image.width image.height) (sources_kept image planes s)
   pub can : CanBeMade s.step (sources_kept image planes s)
   pub wide : 1 ≤ image.width
-  pub narrow : image.width ≤ 8192
+  pub narrow : image.width ≤ SIDE_LIMIT
   pub high : 1 ≤ image.height
-  pub low : image.height ≤ 8192
+  pub low : image.height ≤ SIDE_LIMIT
 
 -- The task is the step's for the whole frame, with the whole of each source.
 pub record IsDone (image : Picture) (planes : List (Option Picture)) (s : Planned) (t : WindowTask) : Type 0 where

@@ -1,6 +1,7 @@
 -- Plans that are run on an image, step by step (own).
 use Rattle.std.specs.Prelude.{◌≡◌, ℕ, ◌<◌, ◌≤◌, List, [], ◌∷◌, length, take, Option, IfSome, slice_index_or}
 use Rattle.std.specs.List.{AllByRecursion}
+use Rattle.mw_model.specs.declared.limits.TheConstants.{SIDE_LIMIT}
 use Rattle.mw_model.specs.Pictures.{Picture}
 use Rattle.mw_model.specs.Plans.{Plan, IsSourceAt, no_picture, numbers_from, planes}
 use Rattle.mw_model.specs.Tasks.{nothing_planned}
@@ -18,9 +19,9 @@ pub record IsRunnable (plan : Plan) (image : Picture) : Type 0 where
   pub planes : (k : ℕ) → AllByRecursion (IsPlaneSource plan) (slice_index_or plan k nothing_planned).sources
   pub made : (k : ℕ) → k < length plan → CanBeMade (slice_index_or plan k nothing_planned).step (planes_read plan (image ∷ []) image.width image.height k)
   pub wide : 1 ≤ image.width
-  pub narrow : image.width ≤ 8192
+  pub narrow : image.width ≤ SIDE_LIMIT
   pub high : 1 ≤ image.height
-  pub low : image.height ≤ 8192
+  pub low : image.height ≤ SIDE_LIMIT
 
 -- The first k steps of the plan have run: what is kept of them is their planes, what later steps read is kept, and the numbers are those of their Sum steps.
 pub record HasRun (plan : Plan) (image : Picture) (k : ℕ) (kept : List (Option Picture)) (numbers : List ℕ) : Type 0 where

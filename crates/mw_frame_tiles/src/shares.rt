@@ -1,6 +1,7 @@
 //! Rectangles of a plane as the tiles that they meet, each with one more owner. No sample is copied.
 
 ghost use Rattle.std.specs.Prelude.{◌≡◌, ◌+◌, ◌-◌, ◌/◌, ◌<◌, ◌≤◌, IfOk};
+ghost use Rattle.mw_model.specs.declared.limits.TheConstants.{SIDE_LIMIT};
 ghost use Rattle.mw_model.specs.Places.{IsWithin};
 ghost use Rattle.mw_model.specs.Rasters.{Raster};
 ghost use Rattle.mw_pieces.specs.mw_grid.Grids.{tile_count};
@@ -61,7 +62,7 @@ fn push_tiles<P: Planar>(
 fn end_of(side: u32, at: u32, count: u32) -> u32
     requires some { 1 ≤ count }
     requires least { 1 ≤ side }
-    requires fits { at + count ≤ 8192 }
+    requires fits { at + count ≤ SIDE_LIMIT }
     ensures { result ≡ (at + count - 1) / side + 1 }
 {
     (at + count - 1) / side + 1

@@ -26,6 +26,7 @@ impl<'a, P: Planar> Model for TiledRows<'a, P> {
 
 impl<'a, P: Planar> TiledRows<'a, P> {
     ghost use Rattle.std.specs.Prelude.{◌≡◌, ◌*◌, ◌<◌, ◌≤◌, take, drop, length};
+    ghost use Rattle.mw_model.specs.declared.limits.TheConstants.{SIDE_LIMIT};
     ghost use Rattle.mw_model.specs.Rasters.{Raster};
     ghost use Rattle.mw_frame_tiles.specs.Tiles.{cells_of, HasSides};
     ghost use Rattle.mw_frame_tiles.specs.Rows.{AreCutFrom, EachPlaced};
@@ -42,7 +43,7 @@ impl<'a, P: Planar> TiledRows<'a, P> {
     /// The columns of the frame.
     pub fn width(&self) -> u32
         ensures value { result ≡ self.now.tiling.width }
-        ensures small { result ≤ 8192 }
+        ensures small { result ≤ SIDE_LIMIT }
     {
         self.grid.width()
     }
@@ -50,7 +51,7 @@ impl<'a, P: Planar> TiledRows<'a, P> {
     /// The rows of the frame.
     pub fn height(&self) -> u32
         ensures value { result ≡ self.now.tiling.height }
-        ensures small { result ≤ 8192 }
+        ensures small { result ≤ SIDE_LIMIT }
     {
         self.grid.height()
     }

@@ -19,7 +19,8 @@ use Rattle.mw_model.specs.Tasks.{Progress, remaining_tasks, task_count}
 use Rattle.mw_underway.specs.mw_progress.ProgressView.{ProgressView, IsFinished, IsStarted}
 use Rattle.mw_underway.specs.mw_store.Stored.{IsWhole}
 use Rattle.mw_underway.specs.mw_stands.Limits.{FitsLimits, ShapesFit}
-use Rattle.mw_underway.specs.Planning.{IsPlannedAt, IsPlannedOn, IsSide}
+use Rattle.mw_underway.specs.Planning.{IsPlannedAt, IsPlannedOn}
+use Rattle.mw_underway.specs.mw_grid.Grids.{IsTileSide}
 use Rattle.mw_ledger.specs.Books.{Book, IsOrderly, stored_in, work_at}
 
 -- ---- nothing yet
@@ -50,7 +51,7 @@ follows-orderly old new o f = record {
   planned = λ t u e. planned-table old.table new.table t u f.submissions (o.planned t u (f.works t u e));
   left = λ t u e. o.left t u (f.works t u e);
   most = λ t u e. o.most t u (f.works t u e);
-  side = subst IsSide (sym f.side) o.side;
+  side = subst IsTileSide (sym f.side) o.side;
 }
 
 -- another log, and other room in it

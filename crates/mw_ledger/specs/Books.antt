@@ -6,10 +6,11 @@ use Rattle.mw_model.specs.Values.{Value}
 use Rattle.mw_model.specs.Refusals.{Table, is_pending}
 use Rattle.mw_model.specs.Stands.{CoreView}
 use Rattle.mw_model.specs.Tasks.{Progress, remaining_tasks, task_count}
+use Rattle.mw_underway.specs.mw_grid.Grids.{IsTileSide}
 use Rattle.mw_underway.specs.mw_progress.ProgressView.{ProgressView}
 use Rattle.mw_underway.specs.mw_store.Stored.{Stored, IsWhole}
 use Rattle.mw_underway.specs.mw_stands.Limits.{ShapesFit}
-use Rattle.mw_underway.specs.Planning.{IsPlannedAt, IsSide}
+use Rattle.mw_underway.specs.Planning.{IsPlannedAt}
 
 -- What a ledger shows: its table, the value that it keeps of each ticket, the work under each, with the planes that its tasks have made, its log, the side of its tiles in pixels, and how many more items find a place in the log without memory being asked for.
 pub record Book : Type 0 where
@@ -52,4 +53,4 @@ pub record IsOrderly (b : Book) : Type 0 where
   pub planned : (t : ℕ) (u : ProgressView) → work_at b.works t ≡ Some u → IsPlannedAt b.table t u
   pub left : (t : ℕ) (u : ProgressView) → work_at b.works t ≡ Some u → 1 ≤ remaining_tasks u.progress
   pub most : (t : ℕ) (u : ProgressView) → work_at b.works t ≡ Some u → task_count u.progress ≤ 4194304
-  pub side : IsSide b.side
+  pub side : IsTileSide b.side

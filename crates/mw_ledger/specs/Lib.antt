@@ -4,6 +4,7 @@ pub mod Counts
 pub mod Short
 pub mod Tasks
 -- what lower crates offer
+pub mod mw_grid
 pub mod mw_places
 pub mod mw_progress
 pub mod mw_stands

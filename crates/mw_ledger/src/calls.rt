@@ -1,6 +1,7 @@
 //! Session calls: entries are added, die, and are let go, and each call has its item in the log.
 
 ghost use Rattle.std.specs.Prelude.{◌≡◌, ◌<◌, ◌≤◌, ◌++◌, ◌∷◌, ◌⊎◌, [], length, OnOk, OnErr, IfOk, IfSome, None, true, false};
+ghost use Rattle.mw_model.specs.declared.limits.TheConstants.{ENTRY_LIMIT};
 
 use crate::compact::Compact;
 use crate::ledger::Ledger;
@@ -50,7 +51,7 @@ impl Ledger {
         work: Option<PlanProgress>,
     ) -> Result<u32, NoMemory>
         requires free { ticket_of self.old.table.names name ≡ None }
-        requires room { length self.old.table.names < 65536 }
+        requires room { length self.old.table.names < ENTRY_LIMIT }
         requires below { AllByRecursion (λ i. i < length self.old.table.names) (tickets (submission_of entry).inputs) }
         requires fits { FitsLimits (submission_of entry).shape }
         requires planned { IfSome work (IsPlannedOn self.old.table (submission_of entry)) }

@@ -51,12 +51,12 @@ impl Model for Ledger {
 
 impl Ledger {
     ghost use Rattle.std.specs.Prelude.{slice_get};
-    ghost use Rattle.mw_underway.specs.Planning.{IsSide};
+    ghost use Rattle.mw_underway.specs.mw_grid.Grids.{IsTileSide};
     ghost use Rattle.mw_ledger.specs.Books.{IsOrderly, empty_book, stored_in};
 
     /// A ledger without entries. The side is that of the tiles, in pixels.
     pub fn new(alloc: Global, side: u32) -> Result<Ledger, NoMemory>
-        requires { IsSide side }
+        requires { IsTileSide side }
         ensures { IfOk result (λ l. l ≡ empty_book side) }
     {
         Ok(Ledger {

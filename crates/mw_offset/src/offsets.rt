@@ -1,7 +1,8 @@
 //! The extremum over a list of offsets: by horizontal runs, or, where these lie too far apart to be laid out around the
 //! tile, one row of the tile after another and in it one offset after another, each as a row of the window that is merged
 //! by vector code, shifted. What lies outside the window is no sample.
-ghost use Rattle.std.specs.Prelude.{◌≡◌, ℕ, ◌+◌, ◌*◌, ◌<◌, ◌≤◌, ◌^◌, pos, negsuc, ◌+ℤ◌, ◌-ℤ◌, ◌≤ℤ◌, length, slice_index_or, fold, vec_len, All, IfOk, IsTrue};
+ghost use Rattle.std.specs.Prelude.{◌≡◌, ℕ, ◌+◌, ◌*◌, ◌<◌, ◌≤◌, pos, negsuc, ◌+ℤ◌, ◌-ℤ◌, ◌≤ℤ◌, length, slice_index_or, fold, vec_len, All, IfOk, IsTrue};
+ghost use Rattle.mw_model.specs.declared.limits.TheConstants.{FAR_LIMIT};
 ghost use Rattle.mw_model.specs.Places.{nonnegative};
 ghost use Rattle.mw_model.specs.Rasters.{Raster, cell_at, seen_under};
 ghost use Rattle.mw_model.specs.Windows.{seen_at};
@@ -25,8 +26,8 @@ fn combine_offset<P: Grey, E: Extremum<P>>(
     row: u64,
     out: &mut [P],
 )
-    requires near { column ≤ 2 ^ 40 }
-    requires high { row ≤ 2 ^ 40 }
+    requires near { column ≤ FAR_LIMIT }
+    requires high { row ≤ FAR_LIMIT }
     ensures { (x : ℕ) (d : P) → x < length out.old → slice_index_or out.new x d ≡ merge_at E.merge (slice_index_or out.old x d) (seen_at window.now (pos (column + x) +ℤ offset.dx) (pos row +ℤ offset.dy)) }
 {
     let place = window.place();
@@ -43,8 +44,8 @@ fn combine_offsets<P: Grey, E: Extremum<P>>(
     row: u64,
     out: &mut [P],
 )
-    requires near { column ≤ 2 ^ 40 }
-    requires high { row ≤ 2 ^ 40 }
+    requires near { column ≤ FAR_LIMIT }
+    requires high { row ≤ FAR_LIMIT }
     ensures { (x : ℕ) (d : P) → x < length out.old → slice_index_or out.new x d ≡ fold E.merge (slice_index_or out.old x d) (seen_under (seen_at window.now) offsets.now (column + x) row) }
 {
     for offset in offsets {

@@ -1,6 +1,7 @@
 //! Samples of a window in rows of one length, with neutral samples around them.
 ghost use Rattle.std.specs.Prelude.{◌≡◌, ℕ, ◌+◌, ◌-◌, ◌*◌, ◌<◌, ◌≤◌, ◌^◌, pos, ◌+ℤ◌, ◌≤ℤ◌, nat_lt, if◌then◌else◌, length, slice_get, slice_index_or, vec_len, IfOk, IfSome, IsSome};
 ghost use Rattle.std.specs.Option.{unwrap_or};
+ghost use Rattle.mw_model.specs.declared.limits.TheConstants.{FAR_LIMIT};
 ghost use Rattle.mw_model.specs.Rasters.{raster, cell_at};
 ghost use Rattle.mw_line.specs.mw_lane.Shifted.{at_place};
 
@@ -53,7 +54,7 @@ fn copy_window_row<P: Grey>(window: &Window<P>, column: i64, row: i64, out: &mut
 /// Copies what the window has at each place of the rows, which are all that is there.
 fn copy_all<P: Grey>(window: &Window<P>, rows: Rows, out: &mut [P])
     requires few { rows.high ≤ 2 ^ 20 }
-    requires near { rows.row ≤ℤ pos (2 ^ 40) }
+    requires near { rows.row ≤ℤ pos FAR_LIMIT }
     requires size { length out.old ≡ rows.high * rows.wide }
     ensures { (x y : ℕ) (d : P) → x < rows.wide → y < rows.high → slice_index_or out.new (y * rows.wide + x) d ≡ unwrap_or (cell_at (raster window.now.place.width window.now.place.height window.now.cells) (rows.column +ℤ pos x) (rows.row +ℤ pos y)) (slice_index_or out.old (y * rows.wide + x) d) }
 {
@@ -68,7 +69,7 @@ fn copy_all<P: Grey>(window: &Window<P>, rows: Rows, out: &mut [P])
 /// Copies what the window has at each place of the rows.
 fn copy_rows<P: Grey>(window: &Window<P>, rows: Rows, out: &mut [P])
     requires few { rows.high ≤ 2 ^ 20 }
-    requires near { rows.row ≤ℤ pos (2 ^ 40) }
+    requires near { rows.row ≤ℤ pos FAR_LIMIT }
     requires room { rows.high * rows.wide ≤ length out.old }
     ensures { (x y : ℕ) (d : P) → x < rows.wide → y < rows.high → slice_index_or out.new (y * rows.wide + x) d ≡ unwrap_or (cell_at (raster window.now.place.width window.now.place.height window.now.cells) (rows.column +ℤ pos x) (rows.row +ℤ pos y)) (slice_index_or out.old (y * rows.wide + x) d) }
 {
@@ -78,7 +79,7 @@ fn copy_rows<P: Grey>(window: &Window<P>, rows: Rows, out: &mut [P])
 /// The row of the window from which on its rows stand as they are wanted: as long, from its first column on, and all there.
 fn held_row<P: Grey>(window: &Window<P>, rows: Rows) -> Option<usize>
     requires few { rows.high ≤ 2 ^ 20 }
-    requires near { rows.row ≤ℤ pos (2 ^ 40) }
+    requires near { rows.row ≤ℤ pos FAR_LIMIT }
     ensures held { IfSome result (λ row. (rows.column ≡ pos 0) × (rows.wide ≡ window.now.place.width) × (rows.row ≡ pos row) × (row + rows.high ≤ window.now.place.height)) }
     ensures always { rows.column ≡ pos 0 → rows.wide ≡ window.now.place.width → pos 0 ≤ℤ rows.row → (rows.row +ℤ pos rows.high) ≤ℤ pos window.now.place.height → IsSome result }
 {
@@ -123,7 +124,7 @@ pub(crate) fn spread<P: Grey>(
 ) -> Result<Vec<P>, NoMemory>
     requires few { rows.high ≤ 2 ^ 20 }
     requires narrow { rows.wide ≤ 2 ^ 33 }
-    requires near { rows.row ≤ℤ pos (2 ^ 40) }
+    requires near { rows.row ≤ℤ pos FAR_LIMIT }
     ensures size { IfOk result (λ v. vec_len v ≡ rows.high * rows.wide + 63) }
     ensures cells { IfOk result (λ v. (x y : ℕ) → x < rows.wide → y < rows.high → slice_index_or v.items (y * rows.wide + x) neutral ≡ unwrap_or (cell_at (raster window.now.place.width window.now.place.height window.now.cells) (rows.column +ℤ pos x) (rows.row +ℤ pos y)) neutral) }
 {

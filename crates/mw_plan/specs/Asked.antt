@@ -8,6 +8,7 @@ use Rattle.mw_model.specs.declared.operations.Op.{Op}
 use Rattle.mw_model.specs.declared.operations.Op.TheVariants as op
 use Rattle.mw_model.specs.declared.operations.FlatOp.TheVariants as flat
 use Rattle.mw_model.specs.declared.operations.GranOp.TheVariants as gran
+use Rattle.mw_model.specs.declared.limits.TheConstants.{LEVEL_LIMIT}
 use Rattle.mw_model.specs.Elements.{holds_origin, overlaps}
 use Rattle.mw_model.specs.Refusals.{Wanted, AnImage, AnElement, inputs_wanted, is_image, is_binary}
 use Rattle.mw_model.specs.Machine.{as_bits, as_grey}
@@ -77,7 +78,7 @@ number_fault first last k = unless (nat_le first k && nat_le k last) fault.Param
 -- what else an operation asks of its inputs and numbers
 abbrev pub op_faults : Op → Input → Input → Input → List (Option PlanFault)
 op_faults (op.Flat (flat.Rank f e k)) a b c = origin_fault b ∷ number_fault 1 (length (offsets_of_input b)) k ∷ []
-op_faults (op.Flat (flat.Threshold f k)) a b c = number_fault 0 65535 k ∷ []
+op_faults (op.Flat (flat.Threshold f k)) a b c = number_fault 0 LEVEL_LIMIT k ∷ []
 op_faults (op.Flat (flat.HitMiss f hit miss)) a b c = unless (not (overlaps (offsets_of_input b) (offsets_of_input c))) fault.Overlap ∷ []
 op_faults (op.Gran (gran.Skeleton f e levels)) a b c = binary_fault a ∷ origin_fault b ∷ number_fault 1 254 levels ∷ []
 op_faults (op.Gran (gran.Restore f e levels)) a b c = number_fault 1 254 levels ∷ []

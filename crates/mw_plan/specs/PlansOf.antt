@@ -4,6 +4,7 @@ use Rattle.std.specs.List.{AllByRecursion}
 use Rattle.std.specs.Arc.{arc_value}
 use Rattle.mw_model.specs.declared.shapes.Kind.TheVariants as kind
 use Rattle.mw_model.specs.declared.operations.Op.{Op}
+use Rattle.mw_model.specs.declared.limits.TheConstants.{LEVEL_LIMIT}
 use Rattle.mw_model.specs.Pictures.{Picture, IsImage}
 use Rattle.mw_model.specs.Values.{Value, ImageValue, ElementValue, CurveValue, shape_of_picture, result_of}
 use Rattle.mw_model.specs.Refusals.{inputs_wanted, is_image}
@@ -55,7 +56,7 @@ abbrev pub KindsAllow : PlanStep → List Picture → Type 0
 KindsAllow Minus sources = AreAlike (picture_at sources 0) (picture_at sources 1)
 KindsAllow Meet sources = AreAlike (picture_at sources 0) (picture_at sources 1)
 KindsAllow Join sources = AreAlike (picture_at sources 0) (picture_at sources 1)
-KindsAllow (Blank m) sources = (1 ≤ m) × (m ≤ 65535)
+KindsAllow (Blank m) sources = (1 ≤ m) × (m ≤ LEVEL_LIMIT)
 KindsAllow (Mark v) sources = (v ≤ (picture_at sources 0).maxval) × ((picture_at sources 1).kind ≡ kind.Bit) × ((picture_at sources 2).kind ≡ kind.Bit)
 KindsAllow (MarkLast v) sources = (v ≤ (picture_at sources 0).maxval) × ((picture_at sources 1).kind ≡ kind.Bit)
 KindsAllow s sources = Unit {0}

@@ -7,6 +7,7 @@ ghost use Rattle.mw_model.specs.declared.calls.Call.TheVariants as call;
 ghost use Rattle.mw_model.specs.declared.names.Name.{Name};
 ghost use Rattle.mw_model.specs.declared.operations.Op.{Op};
 ghost use Rattle.mw_model.specs.declared.places.Rect.{Rect};
+ghost use Rattle.mw_model.specs.declared.limits.TheConstants.{SIDE_LIMIT};
 ghost use Rattle.mw_model.specs.Machine.{Machine, inputs_from, shape_of_result, values};
 ghost use Rattle.mw_model.specs.Pictures.{Picture};
 ghost use Rattle.mw_model.specs.PlanSteps.{PlanStep};
@@ -33,7 +34,7 @@ pub fn planes_are_of_steps()
 
 /// Where a step can be made of its planes, each of its tasks can be made of the windows that it reads.
 pub fn tasks_of_plans_fit()
-    ensures { (s : PlanStep) (sources : List Picture) (width height : ℕ) (tile : Rect) (windows : List SourceWindow) → AreCut s sources width height tile windows → width ≤ 8192 → height ≤ 8192 → 1 ≤ tile.width → 1 ≤ tile.height → CanBeMade s sources → FitsStep s tile windows }
+    ensures { (s : PlanStep) (sources : List Picture) (width height : ℕ) (tile : Rect) (windows : List SourceWindow) → AreCut s sources width height tile windows → width ≤ SIDE_LIMIT → height ≤ SIDE_LIMIT → 1 ≤ tile.width → 1 ≤ tile.height → CanBeMade s sources → FitsStep s tile windows }
 {}
 
 /// Where the inputs are entries that are neither dead nor released, the machine refuses a RUN by the first fault, and the

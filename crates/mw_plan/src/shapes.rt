@@ -10,7 +10,7 @@ ghost use Rattle.mw_plan.specs.declared.inputs.Input.{Input};
 ghost use Rattle.mw_plan.specs.Asked.{binary_fault, fault_in, first_fault, image_shape, is_element_input, is_image_input, number_fault, offsets_of_input, origin_fault, shape_made, unless};
 
 use crate::{Input, PlanFault};
-use mw_model::{FlatOp, GranOp, Kind, Op, Shape};
+use mw_model::{FlatOp, GranOp, Kind, LEVEL_LIMIT, Op, Shape};
 use mw_task::element::Element;
 use std::sync::Arc;
 
@@ -107,11 +107,11 @@ fn of_rank(a: Input<'_>, b: Input<'_>, k: u32) -> Result<Shape, PlanFault>
 }
 
 fn of_threshold(a: Input<'_>, k: u32) -> Result<Shape, PlanFault>
-    ensures fault { result_err result ≡ first_fault (unless (is_image_input a.entry) (PlanFault.Kind 0) ∷ number_fault 0 65535 k ∷ []) }
+    ensures fault { result_err result ≡ first_fault (unless (is_image_input a.entry) (PlanFault.Kind 0) ∷ number_fault 0 LEVEL_LIMIT k ∷ []) }
     ensures shape { IfOk result (λ s. s ≡ as_bits (image_shape a.entry)) }
 {
     let shape = image(0, a)?;
-    number(0, 65535, k)?;
+    number(0, LEVEL_LIMIT, k)?;
     Ok(as_bits(shape))
 }
 

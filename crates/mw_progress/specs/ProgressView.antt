@@ -2,6 +2,7 @@
 use Rattle.std.specs.Prelude.{ℕ, ◌≡◌, ◌+◌, ◌*◌, ◌<◌, ◌≤◌, ◌⊎◌, ◌↔◌, Bool, true, false, not, ◌||◌, List, [], ◌∷◌, length, map, flat_map, replicate, slice_index_or, slice_set, Option, Some, None, IsSome}
 use Rattle.std.specs.List.{AllByRecursion, list_all}
 use Rattle.mw_model.specs.declared.shapes.Kind.TheVariants as kind
+use Rattle.mw_model.specs.declared.limits.TheConstants.{SIDE_LIMIT, TILE_SIDE_LIMIT, TILE_SIDE_UNIT}
 use Rattle.mw_model.specs.Plans.{Plan, Source, FromStep, IsSourceAt, is_sum, with_number}
 use Rattle.mw_model.specs.Tasks.{Progress, flag, task_count, tasks_below, nothing_planned, reads, is_needed, remaining_tasks}
 use Rattle.mw_places.specs.mw_grid.Grids.{Tiling, tile_count, tiles_of}
@@ -60,14 +61,14 @@ KeepsNeeded p = (n : ℕ) → n < task_count p → IsSome (slice_index_or p.plac
 abbrev pub has_all_read : Progress → ℕ → Bool
 has_all_read p n = list_all (λ u. not (reads p n u) || flag p.finished u) (tasks_below p)
 
--- a frame of 1 to 8192 places on each side, in tiles of a side from 64 to 1024
+-- a frame with the sides of an image, in tiles of a side within its limits
 pub record IsFramed (g : Tiling) : Type 0 where
   pub wide : 1 ≤ g.width
-  pub narrow : g.width ≤ 8192
+  pub narrow : g.width ≤ SIDE_LIMIT
   pub high : 1 ≤ g.height
-  pub low : g.height ≤ 8192
-  pub least : 64 ≤ g.side
-  pub most : g.side ≤ 1024
+  pub low : g.height ≤ SIDE_LIMIT
+  pub least : TILE_SIDE_UNIT ≤ g.side
+  pub most : g.side ≤ TILE_SIDE_LIMIT
 
 -- The parts agree: the plan can be worked off, the planes are those of its steps on the tiles of the frame, what started tasks read is finished, and what is needed is kept.
 pub record IsWhole (u : ProgressView) : Type 0 where

@@ -1,6 +1,7 @@
 -- What a store shows, and what it keeps beside it.
 use Rattle.std.specs.Prelude.{ℕ, ◌≡◌, ◌<◌, ◌≤◌, ◌&&◌, Bool, true, not, if◌then◌else◌, List, Option, None, length, count_by, slice_index_or}
 use Rattle.std.specs.List.{AllByRecursion}
+use Rattle.mw_model.specs.declared.limits.TheConstants.{ENTRY_LIMIT}
 use Rattle.mw_model.specs.declared.submissions.Submission.{Submission}
 use Rattle.mw_model.specs.Values.{Value, value_at, tickets}
 use Rattle.mw_model.specs.Refusals.{Table, outcome_at, submission_at, is_pending, is_released}
@@ -22,7 +23,7 @@ pub record IsWhole (s : Stored) : Type 0 where
   pub submissions : length s.table.submissions ≡ length s.table.names
   pub outcomes : length s.table.outcomes ≡ length s.table.names
   pub kept : length s.kept ≡ length s.table.names
-  pub small : length s.table.names ≤ 65536
+  pub small : length s.table.names ≤ ENTRY_LIMIT
   pub inputs : InputsBelow s.table.submissions
 
 -- the ticket is released, and no pending entry has it as an input

@@ -1,6 +1,7 @@
 //! The table of entries, and the values that are kept of them.
 
 ghost use Rattle.std.specs.Prelude.{count_by, true, false, ◌≡◌, ◌⊎◌, ◌&&◌, ℕ, ◌+◌, ◌<◌, ◌≤◌, [], ◌∷◌, ◌++◌, length, nat_eq, OnOk, OnErr, IfOk, IfSome, Some, None, IsSome, is_some, option_map, slice_set};
+ghost use Rattle.mw_model.specs.declared.limits.TheConstants.{ENTRY_LIMIT};
 
 use crate::cascade::fail_dependents;
 use crate::image_shapes::ImageShape;
@@ -174,7 +175,7 @@ impl Store {
     pub fn pending(&self) -> usize
         ensures value { result ≡ count_by is_pending self.now.table.outcomes }
         ensures whole { IsWhole self.now }
-        ensures small { result ≤ 65536 }
+        ensures small { result ≤ ENTRY_LIMIT }
     {
         self.pending
     }
@@ -368,7 +369,7 @@ impl Store {
         value: Option<Kept>,
     ) -> Result<u32, NoMemory>
         requires free { ticket_of self.old.table.names name ≡ None }
-        requires room { length self.old.table.names < 65536 }
+        requires room { length self.old.table.names < ENTRY_LIMIT }
         requires below { AllByRecursion (λ i. i < length self.old.table.names) (tickets submission.inputs) }
         requires kept { is_released outcome ≡ false }
         ensures ticket { IfOk result (λ t. t ≡ length self.old.table.names) }
@@ -404,7 +405,7 @@ impl Store {
     /// rows of places, for the owners of an element, or for what a pending input has to know of the entry.
     pub fn add(&mut self, name: Name, entry: Entry) -> Result<u32, NoMemory>
         requires free { ticket_of self.old.table.names name ≡ None }
-        requires room { length self.old.table.names < 65536 }
+        requires room { length self.old.table.names < ENTRY_LIMIT }
         requires below { AllByRecursion (λ i. i < length self.old.table.names) (tickets (submission_of entry).inputs) }
         ensures ticket { IfOk result (λ t. t ≡ length self.old.table.names) }
         ensures table { OnOk result (self.new.table ≡ with_entry self.old.table name (submission_of entry) (outcome_of entry)) }

@@ -2,6 +2,7 @@
 
 ghost use Rattle.std.specs.Prelude.{◌≡◌, ◌≤◌, ◌<◌, ◌+◌, ◌&&◌, ℕ, true, false, length, slice_index_or};
 ghost use Rattle.std.specs.List.{AllByRecursion};
+ghost use Rattle.mw_model.specs.declared.limits.TheConstants.{ENTRY_LIMIT};
 ghost use Rattle.mw_model.specs.Values.{option_list};
 ghost use Rattle.mw_store.specs.Stored.{InputsBelow};
 ghost use Rattle.mw_store.specs.Wanted.{is_among, is_at, one_if, wanted_by};
@@ -46,7 +47,7 @@ pub fn raise_inputs(waits: bool, wanted: &mut [u32], inputs: Inputs)
     requires a { AllByRecursion (λ i. i < length wanted.old) (option_list inputs.a) }
     requires b { AllByRecursion (λ i. i < length wanted.old) (option_list inputs.b) }
     requires c { AllByRecursion (λ i. i < length wanted.old) (option_list inputs.c) }
-    requires small { (t : ℕ) → slice_index_or wanted.old t 0 ≤ 65536 }
+    requires small { (t : ℕ) → slice_index_or wanted.old t 0 ≤ ENTRY_LIMIT }
     ensures { (t : ℕ) → slice_index_or wanted.new t 0 ≡ slice_index_or wanted.old t 0 + one_if (waits && is_among inputs t) }
 {
     let (second, third) = counts_for(waits, inputs);
@@ -84,7 +85,7 @@ pub fn lower_inputs(wanted: &mut [u32], inputs: Inputs)
 pub fn count_wanted(submissions: &[Submission], outcomes: &[Outcome], wanted: &mut [u32])
     requires same { length submissions.now ≡ length outcomes.now }
     requires columns { length wanted.old ≡ length outcomes.now }
-    requires small { length outcomes.now ≤ 65536 }
+    requires small { length outcomes.now ≤ ENTRY_LIMIT }
     requires below { InputsBelow submissions.now }
     ensures { (t : ℕ) → slice_index_or wanted.new t 0 ≡ wanted_by submissions.now outcomes.now t }
 {

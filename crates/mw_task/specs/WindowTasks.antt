@@ -4,6 +4,7 @@ use Rattle.std.specs.List.{AllByRecursion}
 use Rattle.mw_model.specs.declared.places.Rect.{Rect}
 use Rattle.mw_model.specs.declared.tasks.TaskId.{TaskId}
 use Rattle.mw_model.specs.declared.shapes.Kind.TheVariants as kind
+use Rattle.mw_model.specs.declared.limits.TheConstants.{SIDE_LIMIT}
 use Rattle.mw_model.specs.Places.{IsWithin}
 use Rattle.mw_model.specs.Pictures.{Picture}
 use Rattle.mw_model.specs.Rasters.{Sight}
@@ -64,8 +65,8 @@ KindsFit s windows = Unit {0}
 pub record IsRead (s : PlanStep) (tile : Rect) (m n : ℕ) (w : SourceWindow) : Type 0 where
   pub width : w.view.frame_width ≡ m
   pub height : w.view.frame_height ≡ n
-  pub narrow : m ≤ 8192
-  pub low : n ≤ 8192
+  pub narrow : m ≤ SIDE_LIMIT
+  pub low : n ≤ SIDE_LIMIT
   pub within : IsWithin tile m n
   pub place : w.view.place ≡ place_read s m n tile
 

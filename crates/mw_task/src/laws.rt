@@ -4,6 +4,7 @@ ghost use Rattle.std.specs.Prelude.{◌≡◌, ℕ, ◌≤◌, List, [], ◌∷�
 ghost use Rattle.std.specs.List.{AllByRecursion};
 ghost use Rattle.mw_model.specs.declared.places.Offset.{Offset};
 ghost use Rattle.mw_model.specs.declared.places.Rect.{Rect};
+ghost use Rattle.mw_model.specs.declared.limits.TheConstants.{SIDE_LIMIT};
 ghost use Rattle.mw_model.specs.Flat.{erosion, dilation, minus, threshold, complement, rank};
 ghost use Rattle.mw_model.specs.Places.{rect};
 ghost use Rattle.mw_model.specs.Pictures.{Picture, IsPicture};
@@ -38,7 +39,7 @@ pub fn planes_are_operators()
 /// Windows that were cut from images of the frame are those that the step reads, if they are as many as its sources and
 /// of such kinds.
 pub fn cut_windows_fit()
-    ensures { (s : PlanStep) (sources : List Picture) (width height : ℕ) (tile : Rect) (windows : List SourceWindow) → AreCut s sources width height tile windows → width ≤ 8192 → height ≤ 8192 → 1 ≤ tile.width → 1 ≤ tile.height → length sources ≡ source_count s → KindsFit s windows → FitsStep s tile windows }
+    ensures { (s : PlanStep) (sources : List Picture) (width height : ℕ) (tile : Rect) (windows : List SourceWindow) → AreCut s sources width height tile windows → width ≤ SIDE_LIMIT → height ≤ SIDE_LIMIT → 1 ≤ tile.width → 1 ≤ tile.height → length sources ≡ source_count s → KindsFit s windows → FitsStep s tile windows }
 {}
 
 /// No sample of a window that was cut from an image is over the image's maxval.

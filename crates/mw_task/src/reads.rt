@@ -8,7 +8,7 @@ ghost use Rattle.mw_task.specs.Meanings.{meaning};
 ghost use Rattle.mw_task.specs.WindowTasks.{FitsStep, IsRead, KindsFit, SameKind, IsSetWindow, source_count};
 
 use crate::Step;
-use mw_model::{Kind, Rect};
+use mw_model::{Kind, Rect, SIDE_LIMIT};
 use mw_pieces::SharedWindow;
 
 /// The tile grown by the reach of the step and cut to the frame.
@@ -47,8 +47,8 @@ fn is_read(step: &Step, tile: Rect, width: u32, height: u32, window: &SharedWind
 {
     window.frame_width() == width
         && window.frame_height() == height
-        && width <= 8192
-        && height <= 8192
+        && width <= SIDE_LIMIT
+        && height <= SIDE_LIMIT
         && within(tile, width, height)
         && window.place() == place_read(step, width, height, tile)
 }

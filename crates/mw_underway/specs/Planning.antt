@@ -1,8 +1,9 @@
 -- What is known of the work under a ticket without any state of the machine.
-use Rattle.std.specs.Prelude.{ℕ, ◌≡◌, ◌-◌, ◌%◌, ◌<◌, ◌≤◌, true, false, List, length, map, Option, None, slice_index_or}
+use Rattle.std.specs.Prelude.{ℕ, ◌≡◌, ◌-◌, ◌<◌, ◌≤◌, true, false, List, length, map, Option, None, slice_index_or}
 use Rattle.mw_model.specs.declared.shapes.Kind.TheVariants as kind
 use Rattle.mw_model.specs.declared.shapes.Shape.{Shape}
 use Rattle.mw_model.specs.declared.shapes.Shape.TheVariants as shape
+use Rattle.mw_model.specs.declared.limits.TheConstants.{LEVEL_LIMIT}
 use Rattle.mw_model.specs.PlanSteps.{PlanStep, Minus, Meet, Join, Blank, Mark, MarkLast}
 use Rattle.mw_model.specs.Plans.{Plan, is_sum}
 use Rattle.mw_model.specs.declared.operations.Op.{Op}
@@ -42,7 +43,7 @@ abbrev pub LevelsAllow : PlanStep → List Level → Type 0
 LevelsAllow Minus ls = AreSame (level_at ls 0) (level_at ls 1)
 LevelsAllow Meet ls = AreSame (level_at ls 0) (level_at ls 1)
 LevelsAllow Join ls = AreSame (level_at ls 0) (level_at ls 1)
-LevelsAllow (Blank m) ls = (1 ≤ m) × (m ≤ 65535)
+LevelsAllow (Blank m) ls = (1 ≤ m) × (m ≤ LEVEL_LIMIT)
 LevelsAllow (Mark v) ls = (v ≤ (level_at ls 0).maxval) × ((level_at ls 1).kind ≡ kind.Bit) × ((level_at ls 2).kind ≡ kind.Bit)
 LevelsAllow (MarkLast v) ls = (v ≤ (level_at ls 0).maxval) × ((level_at ls 1).kind ≡ kind.Bit)
 LevelsAllow s ls = Unit {0}
@@ -67,10 +68,6 @@ abbrev pub IsPlannedAt : Table → ℕ → ProgressView → Type 0
 IsPlannedAt w t u = IsPlannedOn w (submission_at w.submissions t) u
 
 -- ---- commands that are accepted
-
--- a side of tiles, in pixels
-abbrev pub IsSide : ℕ → Type 0
-IsSide n = (64 ≤ n) × (n ≤ 1024) × (n % 64 ≡ 0)
 
 -- why there is no work, where there is no plan for this reason
 abbrev pub unplanned_of : PlanFault → Unplanned

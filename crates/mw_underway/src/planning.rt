@@ -9,7 +9,8 @@ ghost use Rattle.mw_stands.specs.mw_plan.Asked.{IsRefusedBy, fault_in};
 ghost use Rattle.mw_stands.specs.mw_plan.PlansOf.{IsPlanOf};
 ghost use Rattle.mw_stands.specs.mw_plan.Tables.{AreValuesAt};
 ghost use Rattle.mw_stands.specs.Limits.{ShapesFit};
-ghost use Rattle.mw_underway.specs.Planning.{IsLookedUp, IsPlannedBy, IsSide};
+ghost use Rattle.mw_stands.specs.mw_grid.Grids.{IsTileSide};
+ghost use Rattle.mw_underway.specs.Planning.{IsLookedUp, IsPlannedBy};
 
 use mw_model::{Call, Name, NoMemory, Op, Shape, Submission};
 use mw_stands::grid::Grid;
@@ -91,7 +92,7 @@ pub fn planned(
     requires submission { submission ≡ run_submission store.now.table op }
     requires below { AllByRecursion (λ i. i < length store.now.table.names) (tickets submission.inputs) }
     requires fits { ShapesFit store.now.table }
-    requires side { IsSide side }
+    requires side { IsTileSide side }
     ensures planned { IfOk result (IsPlannedBy store.now.table store.now.kept op submission side) }
     ensures faultless { (values : List (Option Value)) (f : PlanFault) → AreValuesAt store.now.table store.now.kept values → result ≡ Err (Unplanned.Fault f) → ⊥ }
 {
