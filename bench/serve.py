@@ -157,7 +157,8 @@ def main():
     took = 1000 * min(by_nc(image) for _ in range(2 * rounds))
     for name in ("sent", "come"):
         os.unlink(name)
-    print("nc: %.1f ms; LOAD takes %.2f times as long, and FETCH %.2f times" % (took, load / took, fetch / took))
+    print("nc: %.1f ms; LOAD takes %.2f times as long, FETCH %.2f times, and both %.2f times nc both ways"
+          % (took, load / took, fetch / took, (load + fetch) / (2 * took)))
 
 
 if __name__ == "__main__":

@@ -74,7 +74,7 @@ fn load<R: Wait, J: Naming>(
     job: Job,
 ) -> Result<(), Fault> {
     let (file, bitmap) = (job.file(alloc)?, job.bitmap(alloc)?);
-    accepted(board.load(rt, pass, image_name()?, &file)?)?;
+    accepted(board.load(rt, pass, image_name()?, file)?)?;
     accepted(board.element(rt, pass, element_name()?, job.origin(), &bitmap)?)
 }
 

@@ -124,6 +124,7 @@ impl<J: Naming> Desk<'_, J> {
             Some(picture) => picture.bytes.as_slice(),
             None => b"P5\n1 1\n",
         };
+        let bytes = bytes.to_vec(self.alloc).ok().expect(rt, "memory");
         self.board.load(rt, pass, name, bytes).expect(rt, "memory");
     }
 

@@ -58,15 +58,15 @@ impl<J: Naming> Board<J> {
         Pass::new(self.alloc)
     }
 
-    /// LOAD of the bytes of a file.
+    /// LOAD of the bytes of a file, which are the board's from then on.
     pub fn load<R: Wait>(
         &self,
         rt: &R,
         pass: &mut Pass,
         name: Name,
-        bytes: &[u8],
+        bytes: Vec<u8>,
     ) -> Result<Reply, NoMemory>
-        ensures receipt { IfOk result (λ r. (g : Given) × TellsImage bytes.now g × AddsReceipt pass.old pass.new (call.Load name g) r) }
+        ensures receipt { IfOk result (λ r. (g : Given) × TellsImage bytes.items g × AddsReceipt pass.old pass.new (call.Load name g) r) }
         ensures shows_nothing { IfOk result (λ r. ¬ ShowsSome r) }
         ensures err { OnErr result (pass.new ≡ pass.old) }
     {

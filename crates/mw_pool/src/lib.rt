@@ -12,8 +12,8 @@
 //! work(&rt, &board, &gate);
 //! // each session, in a thread of its own, with a pass of its own:
 //! let mut pass = board.pass();
-//! board.load(&rt, &mut pass, f, b"P2\n5 1\n9\n3 1 4 1 5\n")?;               // Reply::Accepted(0)
-//! board.element(&rt, &mut pass, b, 1, 0, b"P1\n3 1\n111\n")?;              // Reply::Accepted(1)
+//! board.load(&rt, &mut pass, f, file)?;                                  // a file of 19 bytes; Reply::Accepted(0)
+//! board.element(&rt, &mut pass, b, (1, 0), b"P1\n3 1\n111\n")?;            // Reply::Accepted(1)
 //! board.run(&rt, &mut pass, e, Op::Flat(FlatOp::Erode(f, b)))?;            // Reply::Accepted(2)
 //! board.wait(&rt, &mut pass, e)?;                                          // Reply::Done(2, ..)
 //! // once all are joined:

@@ -10,12 +10,12 @@ use mw_core::pixel::Image;
 use mw_model::Code;
 use std::alloc::Global;
 
-/// The image that the bytes are a file of, or why there is none.
-pub(crate) fn read_image(alloc: Global, bytes: &[u8]) -> Result<Image, Code>
-    ensures told { TellsImage bytes.now (given_image result) }
+/// The image that the bytes are a file of, or why there is none. Samples of one byte stay where they are.
+pub(crate) fn read_image(alloc: Global, bytes: Vec<u8>) -> Result<Image, Code>
+    ensures told { TellsImage bytes.items (given_image result) }
     ensures image { ForOk result IsImage }
 {
-    match mw_core::netpbm::read(alloc, bytes) {
+    match mw_script_laws::netpbm::read_owned(alloc, bytes) {
         Ok(image) => Ok(image),
         Err(fault) => Err(fault.code()),
     }

@@ -98,9 +98,15 @@ pub(crate) fn both(rt: &impl Abort, alloc: Global, one: Pass, other: Pass) -> Ve
 }
 
 /// Loads the row under `f`, ticket 0, and the bar under `b`, ticket 1.
-pub(crate) fn load_both<R: Wait + Abort, J: Naming>(rt: &R, board: &Board<J>, pass: &mut Pass) {
+pub(crate) fn load_both<R: Wait + Abort, J: Naming>(
+    rt: &R,
+    alloc: Global,
+    board: &Board<J>,
+    pass: &mut Pass,
+) {
+    let row = ROW.to_vec(alloc).ok().expect(rt, "memory");
     board
-        .load(rt, pass, name(rt, b"f"), ROW)
+        .load(rt, pass, name(rt, b"f"), row)
         .expect(rt, "memory");
     board
         .element(rt, pass, name(rt, b"b"), (1, 0), BAR)

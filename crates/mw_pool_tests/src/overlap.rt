@@ -85,9 +85,9 @@ fn meet<R: Threads + Wait + Abort + Sync, J: Naming + Send + Sync>(
 }
 
 /// An erosion and a dilation, which wait for workers.
-fn lay_out<R: Wait + Abort, J: Naming>(rt: &R, board: &Board<J>) -> Pass {
+fn lay_out<R: Wait + Abort, J: Naming>(rt: &R, alloc: Global, board: &Board<J>) -> Pass {
     let mut pass = board.pass();
-    load_both(rt, board, &mut pass);
+    load_both(rt, alloc, board, &mut pass);
     run(rt, board, &mut pass, b"d", erosion(rt));
     run(rt, board, &mut pass, b"e", dilation(rt));
     pass
@@ -102,7 +102,7 @@ fn overlapped<J: Naming + Send + Sync, R: Threads + Wait + Abort + Sync>(
     requires { roll ≡ J.book }
 {
     let board = new_board::<J>(rt, gate.alloc, roll);
-    let mut pass = lay_out(rt, &board);
+    let mut pass = lay_out(rt, gate.alloc, &board);
     let replies = meet(rt, &board, gate, &mut pass);
     let eroded = fetch(rt, gate.alloc, &board, &mut pass, b"d");
     let dilated = fetch(rt, gate.alloc, &board, &mut pass, b"e");

@@ -15,9 +15,13 @@ use std::thread::{Threads, join};
 use std::{slice, thread};
 
 /// One session: an erosion that no worker takes is waited for.
-fn wait_for_erosion<R: Wait + Abort, J: Naming>(rt: &R, board: &Board<J>) -> (Pass, Reply) {
+fn wait_for_erosion<R: Wait + Abort, J: Naming>(
+    rt: &R,
+    alloc: Global,
+    board: &Board<J>,
+) -> (Pass, Reply) {
     let mut pass = board.pass();
-    load_both(rt, board, &mut pass);
+    load_both(rt, alloc, board, &mut pass);
     run(rt, board, &mut pass, b"e", erosion(rt));
     let reply = wait(rt, board, &mut pass, b"e");
     (pass, reply)
@@ -43,7 +47,7 @@ fn closed<J: Naming + Send + Sync, R: Threads + Wait + Abort + Sync>(
     let shared = &board;
     let ((pass, reply), ()) = join(
         rt,
-        move || wait_for_erosion(rt, shared),
+        move || wait_for_erosion(rt, alloc, shared),
         move || close_later(rt, shared),
     );
     let covered = board.audit_all(rt, slice::from_ref(&pass));
@@ -64,10 +68,11 @@ fn cancel<R: Wait + Abort, J: Naming>(rt: &R, board: &Board<J>, pass: &mut Pass)
 /// One session on a board without workers, which is closed at its end.
 fn without_workers<R: Wait + Abort, J: Naming>(
     rt: &R,
+    alloc: Global,
     board: &Board<J>,
     pass: &mut Pass,
 ) -> [Reply; 5] {
-    load_both(rt, board, pass);
+    load_both(rt, alloc, board, pass);
     let first = run(rt, board, pass, b"e", erosion(rt));
     let cancelled = cancel(rt, board, pass);
     let waited = wait(rt, board, pass, b"e");
@@ -87,7 +92,7 @@ fn alone<J: Naming, R: Wait + Abort>(
 {
     let board = new_board::<J>(rt, alloc, roll);
     let mut pass = board.pass();
-    let replies = without_workers(rt, &board, &mut pass);
+    let replies = without_workers(rt, alloc, &board, &mut pass);
     let none = board.audit_all(rt, &[]);
     let one = board.audit_all(rt, slice::from_ref(&pass));
     (replies, pass.receipts().len(), none, one)
@@ -109,9 +114,9 @@ fn waits_end_without_workers(rt: HostRuntime) {
 }
 
 /// A session that loads the row.
-fn load_session<R: Wait + Abort, J: Naming>(rt: &R, board: &Board<J>) -> Pass {
+fn load_session<R: Wait + Abort, J: Naming>(rt: &R, alloc: Global, board: &Board<J>) -> Pass {
     let mut pass = board.pass();
-    load_both(rt, board, &mut pass);
+    load_both(rt, alloc, board, &mut pass);
     pass
 }
 
@@ -125,9 +130,10 @@ fn status_session<R: Wait + Abort, J: Naming>(rt: &R, board: &Board<J>) -> (Pass
 /// Two sessions in threads of their own, one after the other, and what the second is told.
 fn two_sessions<R: Threads + Wait + Abort + Sync, J: Naming + Send + Sync>(
     rt: &R,
+    alloc: Global,
     board: &Board<J>,
 ) -> (Pass, Pass, Reply) {
-    let (one, ()) = join(rt, move || load_session(rt, board), || ());
+    let (one, ()) = join(rt, move || load_session(rt, alloc, board), || ());
     let ((two, reply), ()) = join(rt, move || status_session(rt, board), || ());
     (one, two, reply)
 }
@@ -141,7 +147,7 @@ fn two_audits<J: Naming + Send + Sync, R: Threads + Wait + Abort + Sync>(
     requires { roll ≡ J.book }
 {
     let board = new_board::<J>(rt, alloc, roll);
-    let (one, two, reply) = two_sessions(rt, &board);
+    let (one, two, reply) = two_sessions(rt, alloc, &board);
     let first = board.audit_all(rt, slice::from_ref(&one));
     let second = board.audit_all(rt, slice::from_ref(&two));
     let all = board.audit_all(rt, &both(rt, alloc, one, two));
@@ -169,7 +175,7 @@ fn fetch_both<R: Wait + Abort, J: Naming>(
     board: &Board<J>,
 ) -> (Vec<u8>, Vec<u8>) {
     let mut pass = board.pass();
-    load_both(rt, board, &mut pass);
+    load_both(rt, alloc, board, &mut pass);
     run(rt, board, &mut pass, b"e", erosion(rt));
     wait(rt, board, &mut pass, b"e");
     let loaded = fetch(rt, alloc, board, &mut pass, b"f");

@@ -39,11 +39,11 @@ no-value (reply.Shown t) none = absurd (none (t, refl))
 plain-text : (a : Reply) → (ShowsSome a → ⊥) → IsTextOf a (reply_text a NoValue)
 plain-text a none = inl (NoValue, no-value a none, refl)
 
-pub served-load : {E : Type 0} (name : Name) (bytes seen : List ℕ) (old new : List Receipt) (r : Result Reply E) → seen ≡ bytes → IfOk r (λ a. (g : Given) × TellsImage seen g × AddsReceipt old new (call.Load name g) a) → IfOk r (λ a. ShowsSome a → ⊥) → OnErr r (new ≡ old)
+pub served-load : {E : Type 0} (name : Name) (bytes : List ℕ) (old new : List Receipt) (r : Result Reply E) → IfOk r (λ a. (g : Given) × TellsImage bytes g × AddsReceipt old new (call.Load name g) a) → IfOk r (λ a. ShowsSome a → ⊥) → OnErr r (new ≡ old)
     → Served old (AskLoad name bytes) (told_text r) new
-served-load name bytes seen old new (Ok a) same (g, tells, adds) none stays =
-    let P : List ℕ → Type 0 = λ l. TellsImage l g in received (call.Load name g) a (g, subst P same tells, refl) adds (plain-text a none)
-served-load name bytes seen old new (Err e) same made none stays = refused stays refl
+served-load name bytes old new (Ok a) (g, tells, adds) none stays =
+    received (call.Load name g) a (g, tells, refl) adds (plain-text a none)
+served-load name bytes old new (Err e) made none stays = refused stays refl
 
 pub served-element : {E : Type 0} (name : Name) (ox oy : ℕ) (bytes seen : List ℕ) (old new : List Receipt) (r : Result Reply E) → seen ≡ bytes → IfOk r (λ a. (g : Given) × TellsElement seen ox oy g × AddsReceipt old new (call.Element name g) a) → IfOk r (λ a. ShowsSome a → ⊥) → OnErr r (new ≡ old)
     → Served old (AskElement name ox oy bytes) (told_text r) new

@@ -59,7 +59,7 @@ impl<'b, R: Wait, J: Naming> Desk for Counter<'b, R, J> {
     ) -> Result<(), SessionFault> {
         let (rt, board) = (self.rt, self.board);
         match request {
-            Request::Load(name, payload) => say_told(sink, board.load(rt, pass, name, &payload)),
+            Request::Load(name, payload) => say_told(sink, board.load(rt, pass, name, payload)),
             Request::Element(name, ox, oy, payload) => say_told(
                 sink,
                 board.element(rt, pass, name, (ox, oy), &payload),

@@ -8,14 +8,14 @@ use Rattle.mw_serve.proofs.counter.CounterDesk.answer.Goals as goal
 pub returns-in-Load-clause-answered : goal.returns-in-Load-clause-answered
 returns-in-Load-clause-answered g c = rw c.in-Load.is (
   told_text c.load.result,
-  served-load c.in-Load.name c.in-Load.payload.items c.deref.result.now c.args.pass.now c.load.new.pass c.load.result c.deref.ensures.value c.load.ensures.receipt c.load.ensures.shows_nothing c.load.ensures.err,
+  served-load c.in-Load.name c.in-Load.payload.items c.args.pass.now c.load.new.pass c.load.result c.load.ensures.receipt c.load.ensures.shows_nothing c.load.ensures.err,
   c.say_told.ensures.wrote,
 )
 
 pub returns-in-Element-clause-answered : goal.returns-in-Element-clause-answered
 returns-in-Element-clause-answered g c = rw c.in-Element.is (
   told_text c.element.result,
-  served-element c.in-Element.name c.in-Element.ox c.in-Element.oy c.in-Element.payload.items c.deref-in-Element.result.now c.args.pass.now c.element.new.pass c.element.result c.deref-in-Element.ensures.value c.element.ensures.receipt c.element.ensures.shows_nothing c.element.ensures.err,
+  served-element c.in-Element.name c.in-Element.ox c.in-Element.oy c.in-Element.payload.items c.deref.result.now c.args.pass.now c.element.new.pass c.element.result c.deref.ensures.value c.element.ensures.receipt c.element.ensures.shows_nothing c.element.ensures.err,
   c.say_told-in-Element.ensures.wrote,
 )
 
