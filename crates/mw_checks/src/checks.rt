@@ -10,8 +10,8 @@ ghost use Rattle.mw_checks.specs.Checks.{refused, state_case, inputs_case, flat_
 
 use crate::{elements, shapes};
 use mw_model::{
-    Call, Code, Command, ENTRY_LIMIT, FlatOp, Given, GranOp, Inputs, LEVEL_LIMIT, Name, Op, Outcome,
-    Reply, Shape, Submission,
+    Call, Code, Command, ENTRY_LIMIT, FlatOp, Given, GranOp, Inputs, LEVEL_LIMIT, Name, Op,
+    Outcome, Reply, Shape, Submission,
 };
 use mw_store::{Store, is_dead, is_released};
 
