@@ -2,12 +2,16 @@
 """What the gate costs: runs `rt ci` and prints, as a Markdown table, the processor seconds of each crate's proof, of its
 tests' check and of its must-fail edits, and the totals.
 
-    python3 checks/gate_times.py [--keep FILE]     at the top of the repository; the figures go into FILE too
-    python3 checks/gate_times.py --read FILE       prints the table of figures that were kept
+    python3 checks/gate_times.py [--keep FILE]             at the top of the repository; the figures go into FILE too
+    python3 checks/gate_times.py --keep FILE --parts CRATE..   the same of `rt ci CRATE..`, joined with what FILE has
+    python3 checks/gate_times.py --read FILE               prints the table of figures that were kept
 
 `rt ci` prints no times, so the processes that it starts are looked at ten times a second: what runs `rattle` for a crate
 in a folder `rt-edit-..` tries an edit, with `--test` it checks tests, and otherwise it proves or compiles the crate. What
 the table has beside the crates is `rt` itself, the layout's checks and the runs of programs and tests.
+
+`rt ci` takes what earlier runs on the same machine proved of the same files, and such a crate costs nothing. So the gate's figures
+come from a machine that has kept nothing, in one run or in parts; of a crate that was tried in several parts the dearest counts.
 """
 import argparse
 import json
@@ -103,10 +107,10 @@ def edits_of(name):
     return len([it for it in os.listdir(folder) if it.endswith(".edit")]) if os.path.isdir(folder) else 0
 
 
-def run_gate():
-    """Runs the gate, whose output goes on as it is, and returns the figures."""
+def run_gate(names):
+    """Runs the gate, or the part of it that proves some crates; its output goes on as it is. Returns the figures."""
     crates, began = listed(), time.monotonic()
-    run = subprocess.Popen(["rt", "ci"], stdout=sys.stderr)
+    run = subprocess.Popen(["rt", "ci", *names], stdout=sys.stderr)
     watch, ended = Watch(run.pid), 0
     while not ended:
         watch.look()
@@ -117,6 +121,17 @@ def run_gate():
         crates[name] |= took
     whole = {"wall": time.monotonic() - began, "processor": used.ru_utime + used.ru_stime}
     return {"crates": crates, **whole, "processors": len(os.sched_getaffinity(0)), "status": run.returncode}
+
+
+def joined(earlier, figures):
+    """The figures of a part of the gate, with those of earlier parts."""
+    for name, of_crate in figures["crates"].items():
+        before = earlier["crates"].get(name, {})
+        for kind in KINDS:
+            of_crate[kind] = max(of_crate.get(kind, 0), before.get(kind, 0))
+    for whole in ("wall", "processor"):
+        figures[whole] += earlier[whole]
+    return figures
 
 
 def table(figures):
@@ -144,8 +159,11 @@ def main():
     wanted = argparse.ArgumentParser(description=__doc__.split("\n\n")[0])
     wanted.add_argument("--keep", metavar="FILE", help="where the figures are to be kept")
     wanted.add_argument("--read", metavar="FILE", help="figures that an earlier run kept")
+    wanted.add_argument("--parts", metavar="CRATE", nargs="+", default=[], help="crates whose part of the gate is run alone")
     wanted = wanted.parse_args()
-    figures = json.loads(read(wanted.read)) if wanted.read else run_gate()
+    figures = json.loads(read(wanted.read)) if wanted.read else run_gate(wanted.parts)
+    if wanted.parts and wanted.keep and os.path.isfile(wanted.keep):
+        figures = joined(json.loads(read(wanted.keep)), figures)
     if wanted.keep:
         with open(wanted.keep, "w", encoding="utf-8") as file:
             json.dump(figures, file, indent=1)
