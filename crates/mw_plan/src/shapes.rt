@@ -111,7 +111,7 @@ fn of_threshold(a: Input<'_>, k: u32) -> Result<Shape, PlanFault>
     ensures shape { IfOk result (λ s. s ≡ as_bits (image_shape a.entry)) }
 {
     let shape = image(0, a)?;
-    number(0, LEVEL_LIMIT, k)?;
+    number(0, LEVEL_LIMIT as usize, k)?;
     Ok(as_bits(shape))
 }
 
