@@ -148,7 +148,7 @@ fn of_threshold(store: &Store, f: Name, k: u32) -> Result<Submission, Code>
     ensures below { IfOk result (λ s. AllByRecursion (λ i. i < length store.now.table.names) (tickets s.inputs)) }
 {
     let x = image(store, f)?;
-    param(0, LEVEL_LIMIT, k)?;
+    param(0, LEVEL_LIMIT as usize, k)?;
     Ok(submission(
         Op::Flat(FlatOp::Threshold(f, k)),
         shapes::as_bits(store.shape(x)),
