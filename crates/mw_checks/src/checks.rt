@@ -29,7 +29,7 @@ fn room(store: &Store) -> Result<(), Code>
     ensures code { refused result ≡ no_room store.now.table }
     ensures ok { OnOk result (length store.now.table.names < ENTRY_LIMIT) }
 {
-    if store.len() < ENTRY_LIMIT {
+    if (store.len() as usize) < ENTRY_LIMIT {
         Ok(())
     } else {
         Err(Code::Full)
