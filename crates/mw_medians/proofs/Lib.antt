@@ -1,0 +1,9 @@
+-- the crate's own
+mod Tests
+mod Lanes
+mod Orders
+mod Sums
+mod Columns
+mod Squares
+mod Medians
+mod Joined
