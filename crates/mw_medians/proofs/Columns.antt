@@ -29,6 +29,29 @@ nine_counted level d samples from stride j at v number t =
     turned : (c p : ℕ) → p ≡ at + j + c → column_below level d samples from stride 3 p t ≡ column_below level d samples from stride 3 (at + j + c) t
     turned c p is = ap (λ (q : ℕ). column_below level d samples from stride 3 q t) is
 
+pub five_loaded : {A : Type 0} (level : A → ℕ) (d : A) (samples : List A) (from stride j p q r s u a b c e f t : ℕ) → p ≡ from + j → q ≡ p + stride → r ≡ q + stride → s ≡ r + stride → u ≡ s + stride
+    → a ≡ level (get_or samples p d) → b ≡ level (get_or samples q d) → c ≡ level (get_or samples r d) → e ≡ level (get_or samples s d) → f ≡ level (get_or samples u d)
+    → column_below level d samples from stride 5 j t ≡ below a t + below b t + below c t + below e t + below f t
+five_loaded level d samples from stride j p q r s u a b c e f t p-is q-is r-is s-is u-is a-is b-is c-is e-is f-is =
+    omega (
+      arith,
+      cell_is level d samples from stride 0 j p a t (omega arith) a-is,
+      cell_is level d samples from stride 1 j q b t (omega arith) b-is,
+      cell_is level d samples from stride 2 j r c t (omega arith) c-is,
+      cell_is level d samples from stride 3 j s e t (omega arith) e-is,
+      cell_is level d samples from stride 4 j u f t (omega arith) f-is,
+    )
+
+-- five columns beside one another
+pub all_counted : {A : Type 0} (level : A → ℕ) (d : A) (samples : List A) (from stride j at v : ℕ)
+    → IsNumber (λ t. column_below level d samples from stride 5 (at + j) t + column_below level d samples from stride 5 (at + 1 + j) t + (column_below level d samples from stride 5 (at + 2 + j) t + column_below level d samples from stride 5 (at + 3 + j) t) + column_below level d samples from stride 5 (at + 4 + j) t) 13 v
+    → IsNumber (block_below level d samples from stride 5 (at + j)) 13 v
+all_counted level d samples from stride j at v number t =
+    number t ∙ ap (nat_le 13) (omega (arith, turned 0 (at + j) (omega arith), turned 1 (at + 1 + j) (omega arith), turned 2 (at + 2 + j) (omega arith), turned 3 (at + 3 + j) (omega arith), turned 4 (at + 4 + j) (omega arith)))
+  where
+    turned : (c p : ℕ) → p ≡ at + j + c → column_below level d samples from stride 5 p t ≡ column_below level d samples from stride 5 (at + j + c) t
+    turned c p is = ap (λ (q : ℕ). column_below level d samples from stride 5 q t) is
+
 -- a vector more of a line, which may begin within what is there
 pub line_more : {A : Type 0} (level : A → ℕ) (d : A) (count : ℕ → ℕ → ℕ) (k from done width next : ℕ) (old new : List A) (lane : ℕ → ℕ) → from ≤ done → next ≡ from + width
     → ((i : ℕ) → i < width → level (get_or new (from + i) d) ≡ lane i) → ((p : ℕ) → p < from → get_or new p d ≡ get_or old p d)

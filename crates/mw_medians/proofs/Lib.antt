@@ -2,6 +2,7 @@
 mod Tests
 mod Lanes
 mod Orders
+mod Merges
 mod Sums
 mod Columns
 mod Squares

@@ -1,6 +1,5 @@
 -- A level that is known by the levels below each limit is the rank.
 use Rattle.std.proofs.Common.{◌≡◌, ℕ, ◌+◌, ◌*◌, ◌<◌, ◌≤◌, List, length, get_or, ap, sym, arith, ◌∙◌, inl, inr}
-use Rattle.std.specs.Prelude.{nat_lt, nat_le}
 use Rattle.std.proofs.lemmas.Bool.{cases_lt, lt-ltb, le-ltb, le-leb, lt-leb, true≢false}
 use Rattle.mw_model.specs.declared.places.Offset.{Offset}
 use Rattle.mw_model.specs.declared.places.Rect.{Rect}
@@ -12,7 +11,7 @@ use Rattle.mw_rank.specs.Tallies.{count_under}
 use Rattle.mw_rank.proofs.Counts.{count_within}
 use Rattle.mw_medians.specs.Numbered.{IsNumber}
 use Rattle.mw_medians.specs.Columns.{block_below}
-use Rattle.mw_medians.specs.Squares.{ShowsSquare}
+use Rattle.mw_medians.specs.Squares.{ShowsSquare, IsMedian}
 
 pub number_ranked : (k v : ℕ) (count : ℕ → ℕ) (ns : List ℕ) → ((t : ℕ) → count_under t ns ≡ count t) → 1 ≤ k → IsNumber count k v → v ≡ ranked k ns
 number_ranked k v count ns is some number =
@@ -48,3 +47,8 @@ row_ranked level d k sight element x y width i place r line x-is y-is width-is o
     ∙ ranks.cells i 0 d (omega arith) (omega arith)
     ∙ ap (λ (p : ℕ). ranked k (levels_under level sight element p (place.y + 0))) (let e : place.x + i ≡ x + i = omega arith in e)
     ∙ ap (λ (p : ℕ). ranked k (levels_under level sight element (x + i) p)) (let e : place.y + 0 ≡ y = omega arith in e)
+
+-- the squares for which there is a network
+pub median_some : (side k : ℕ) → IsMedian side k → (1 ≤ side) × (1 ≤ k)
+median_some side k (inl (a, b)) = (omega arith, omega arith)
+median_some side k (inr (a, b)) = (omega arith, omega arith)

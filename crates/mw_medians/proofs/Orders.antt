@@ -1,6 +1,6 @@
 -- The networks put levels in order: by the principle of zeros and ones (Knuth, volume 3), it is enough to look at how many
 -- levels are below a limit.
-use Rattle.std.proofs.Common.{◌≡◌, ℕ, ◌+◌, ◌<◌, ◌≤◌, Bool, true, false, ◌&&◌, ◌||◌, min, max, cond, refl, ap, sym, arith, ◌∙◌}
+use Rattle.std.proofs.Common.{◌≡◌, ℕ, ◌+◌, ◌≤◌, Bool, true, false, ◌&&◌, ◌||◌, min, max, cond, refl, arith}
 use Rattle.std.specs.Prelude.{nat_lt, nat_le}
 use Rattle.mw_medians.specs.declared.nine.Three.{Three}
 use Rattle.mw_medians.specs.Numbered.{below, IsNumber, AreThree, middle}

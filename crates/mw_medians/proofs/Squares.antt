@@ -1,6 +1,5 @@
 -- What a window shows under a square of offsets.
-use Rattle.std.proofs.Common.{◌≡◌, ℕ, ℤ, pos, ◌+ℤ◌, ◌-ℤ◌, zero, suc, ◌+◌, ◌*◌, ◌<◌, ◌≤◌, List, [], ◌∷◌, ◌++◌, map, length, get_or, take, refl, ap, sym, arith, ◌∙◌, append-nil, append_assoc}
-use Rattle.std.specs.Option.{option_to_list}
+use Rattle.std.proofs.Common.{◌≡◌, ℕ, ℤ, pos, ◌+ℤ◌, ◌-ℤ◌, zero, suc, ◌+◌, ◌*◌, ◌<◌, ◌≤◌, List, [], ◌∷◌, ◌++◌, length, get_or, take, refl, ap, sym, arith, ◌∙◌, append-nil, append_assoc}
 use Rattle.std.proofs.lemmas.Int.{ints}
 use Rattle.std.proofs.lemmas.List.{get_or_default, take_more}
 use Rattle.std.proofs.lemmas.Nat.{mul-add-lt}
@@ -13,7 +12,7 @@ use Rattle.mw_rank.specs.Tallies.{count_under}
 use Rattle.mw_rank.proofs.Counts.{count-append, count-cons}
 use Rattle.mw_rank.proofs.Sights.{levels-append, levels-cons, offset_on, offsets-snoc, seen_inside}
 use Rattle.mw_medians.specs.Numbered.{below}
-use Rattle.mw_medians.specs.Columns.{sum_to, cell_from, block_below}
+use Rattle.mw_medians.specs.Columns.{sum_to, cell_from}
 use Rattle.mw_medians.specs.Squares.{row_down, rows_from, ShowsSquare}
 use Rattle.mw_medians.proofs.Sums.{sum_to-same, sum_to-turned}
 

@@ -1,5 +1,5 @@
 -- Elements that are squares of offsets.
-use Rattle.std.specs.Prelude.{◌≡◌, ℕ, zero, suc, ◌+◌, ◌*◌, ◌<◌, ◌≤◌, List, [], ◌++◌, length, pos, ◌+ℤ◌}
+use Rattle.std.specs.Prelude.{◌≡◌, ℕ, zero, suc, ◌+◌, ◌*◌, ◌<◌, ◌≤◌, List, [], ◌++◌, length, pos, ◌+ℤ◌, ◌⊎◌}
 use Rattle.mw_model.specs.declared.places.Offset.{Offset}
 use Rattle.mw_model.specs.Rasters.{Sight}
 use Rattle.mw_rank.specs.Ranks.{levels_under}
@@ -18,7 +18,7 @@ rows_from b side (suc n) = rows_from b side n ++ offsets_from (row_down b n) sid
 
 -- number k is the median under a square of that side, one for which there is a network
 abbrev pub IsMedian : ℕ → ℕ → Type 0
-IsMedian side k = (side ≡ 3) × (k ≡ 5)
+IsMedian side k = ((side ≡ 3) × (k ≡ 5)) ⊎ ((side ≡ 5) × (k ≡ 13))
 
 -- for n columns of row y from x on, all that is seen under the element stands in rows and columns from a place on
 pub record ShowsSquare {A : Type 0} (level : A → ℕ) (d : A) (sight : Sight A) (samples : List A) (element : List Offset) (x y n from stride side : ℕ) : Type 0 where

@@ -213,6 +213,7 @@ fn side_of(k: u32) -> Option<u32>
 {
     match k {
         5 => Some(3),
+        13 => Some(5),
         _ => None,
     }
 }
@@ -254,8 +255,8 @@ fn by_vectors<P: Vectored>(
     Ok(Some(samples))
 }
 
-/// The ranks of a tile, where they are medians under a square of 3 x 3 offsets and there are columns for a vector. It may
-/// want memory (`NoMemory`).
+/// The ranks of a tile, where they are medians under a square of 3 x 3 or 5 x 5 offsets and there are columns for a vector;
+/// else None. It may want memory (`NoMemory`).
 pub fn median_of_grey<P: Vectored>(
     alloc: Global,
     window: &Window<P>,

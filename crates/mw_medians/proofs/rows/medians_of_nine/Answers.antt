@@ -1,4 +1,4 @@
-use Rattle.std.proofs.Common.{◌≡◌, ◌+◌, ◌∙◌, ℕ, ap, arith}
+use Rattle.std.proofs.Common.{◌+◌, ◌∙◌, ℕ, ap, arith}
 use Rattle.mw_medians.specs.Columns.{block_below}
 use Rattle.mw_medians.proofs.Columns.{nine_counted, line_more}
 use Rattle.mw_medians.proofs.rows.medians_of_nine.Goals as goal
