@@ -2,17 +2,15 @@
 //! as a command runs that is one task, with the result as a plane of its own; and tile by tile, where each tile is cut
 //! with its halo, computed and pasted. Each figure is the best of five runs, or of as many as begin within two seconds.
 //! The program times only where it is asked to, as in `out/bench_kernels measure all`, or `rectangle`, `disc`, `rank`,
-//! `lines`, `medians` or `sets` in place of `all`, since times differ from run to run.
+//! `lines` or `sets` in place of `all`, since times differ from run to run.
 #![tactic(auto)]
 
 ghost use Rattle.std.specs.Prelude.{◌≡◌, ◌*◌, ◌≤◌, ◌%◌, vec_len, IfOk};
 
 mod lines;
-mod medians;
 mod words;
 
 use crate::lines::time_lines;
-use crate::medians::time_medians;
 use crate::words::time_sets;
 use mw_grid::{Grid, side_ok};
 use mw_line::rectangle;
@@ -338,10 +336,6 @@ fn main(rt: HostRuntime) -> Result<(), Fault> {
     }
     if matches!(wanted.as_str(), "all" | "lines") {
         time_lines::<HostRuntime>(&rt, alloc)?;
-    }
-    if matches!(wanted.as_str(), "all" | "medians") {
-        time_medians::<HostRuntime, u8>(&rt, alloc, 8)?;
-        time_medians::<HostRuntime, u16>(&rt, alloc, 16)?;
     }
     measure::<HostRuntime, u8, Min>(&rt, alloc, wanted.as_str(), 8)?;
     measure::<HostRuntime, u16, Max>(&rt, alloc, wanted.as_str(), 16)

@@ -9,7 +9,7 @@ ghost use Rattle.mw_task.specs.Products.{HoldsImage, tile_drawn};
 
 use crate::extrema::LevelExtremum;
 use crate::kinds::of_samples;
-use crate::levels::rank_of_levels;
+use crate::ranked::rank_of_levels;
 use crate::ranks::rank_of_set;
 use crate::sliding::{set_under_element, under_box, under_element};
 use mw_joined::tile::AnyWindow;

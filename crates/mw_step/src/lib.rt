@@ -10,7 +10,7 @@
 mod extrema;
 mod flat;
 mod kinds;
-mod levels;
+mod ranked;
 mod make;
 mod marks;
 mod painting;
