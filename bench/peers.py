@@ -129,6 +129,9 @@ def main():
         for across in (5, 15, 31):
             element = disc(across)
             show(f"disc of {across}, {bits} bits", lambda: filtered(image, element))
+    for bits, image in ((8, octets), (16, words)):
+        for across in (3, 5):
+            show(f"median {across} x {across}, {bits} bits", lambda: cv2.medianBlur(image, across))
     show("median 15 x 15, 8 bits", lambda: cv2.medianBlur(octets, 15))
     print(f"| {'Leptonica':<27} | {'ms':>8} |")
     show_sets(words % 10 > 0)

@@ -9,6 +9,8 @@
 #[cfg(test)]
 mod extrema;
 #[cfg(test)]
+mod medians;
+#[cfg(test)]
 mod moving_ranks;
 #[cfg(test)]
 mod rank_counts;

@@ -18,4 +18,5 @@ mod slide;
 mod vectors;
 
 pub use mw_model::NoMemory;
+pub use mw_rank_counts::Counted;
 pub use rows::rank_of_grey;

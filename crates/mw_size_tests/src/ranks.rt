@@ -1,9 +1,10 @@
-//! Ranks as sessions ask for them: under few offsets by counting, under rectangles eight rows at a time, under other elements
-//! by the moving histogram.
+//! Ranks as sessions ask for them: medians under small squares by vectors, under few offsets by counting, under rectangles eight
+//! rows at a time, under other elements by the moving histogram.
 
 use crate::ramps::{Form, Sight, half, ramp, shows_sight};
 use crate::slopes::{SQUARE, Sides, WIDE};
 use mw_bits::{as_levels, threshold};
+use mw_medians::{Vectored, median_of_grey};
 use mw_pixel::Plane;
 use mw_rank_counts::Counted;
 use mw_rank_rows::rank_of_grey;
@@ -50,6 +51,28 @@ fn ranks_of_bytes(rt: HostRuntime) {
 fn ranks_of_words(rt: HostRuntime) {
     of_levels::<u16>(&rt, rt.alloc(), SQUARE);
     of_levels::<u16>(&rt, rt.alloc(), WIDE);
+}
+
+/// The medians of levels of grey under small squares, by vectors.
+fn by_vectors<P: Vectored>(rt: &impl Abort, alloc: Global, sides: Sides) {
+    let window = Window::whole(ramp::<P>(rt, alloc, sides));
+    for (form, k) in [(Form::Square(1), 5), (Form::Square(2), 13)] {
+        let sight = Sight { sides, form, k };
+        let offsets = form.offsets(rt, alloc);
+        assert!(rt; offsets.len() < 65536);
+        let made = median_of_grey(alloc, &window, &offsets, k, sides.frame())
+            .expect(rt, "memory")
+            .expect(rt, "a vector's columns");
+        assert!(rt; shows_sight(rt, alloc, &made, sight), "{k}");
+    }
+}
+
+#[test]
+fn medians_by_vectors(rt: HostRuntime) {
+    by_vectors::<u8>(&rt, rt.alloc(), SQUARE);
+    by_vectors::<u8>(&rt, rt.alloc(), WIDE);
+    by_vectors::<u16>(&rt, rt.alloc(), SQUARE);
+    by_vectors::<u16>(&rt, rt.alloc(), WIDE);
 }
 
 /// The medians of a set, which are those of its pixels as levels.

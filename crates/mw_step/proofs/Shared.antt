@@ -1,5 +1,5 @@
 -- Sources that a step makes again.
-use Rattle.std.proofs.Common.{◌≡◌, ℕ, ◌-◌, ◌*◌, length, get_or, Bool, true, false, refl, ap, sym, subst, arith, ◌∙◌}
+use Rattle.std.proofs.Common.{◌≡◌, ℕ, ◌-◌, get_or, Bool, true, false, refl, ap, sym, subst, arith, ◌∙◌}
 use Rattle.std.specs.Prelude.{◌==◌, ◌&&◌, if◌then◌else◌}
 use lib.Lanes.{zip2}
 use Rattle.std.proofs.lemmas.Bool.{eqb-true, and_parts}
@@ -15,7 +15,7 @@ use Rattle.mw_bits.specs.Uniform.{HasOnly}
 use Rattle.mw_joined.specs.mw_pieces.Patches.{Joint, IsJoint, IsJoined, IsWholeOf}
 use Rattle.mw_joined.specs.mw_pieces.Shared.{level_in, source_joint}
 use Rattle.mw_joined.proofs.mw_pieces.TileCells.{length-cells_in}
-use Rattle.mw_joined.proofs.mw_pieces.Windows.{joined_is, source_window}
+use Rattle.mw_joined.proofs.mw_pieces.Windows.{joined_is}
 use Rattle.mw_task.specs.Products.{both_drawn, three_drawn, plane_drawn}
 use Rattle.mw_step.proofs.PlaceByPlace.{Fills, three_held}
 

@@ -9,11 +9,11 @@ ghost use Rattle.mw_task.specs.Products.{HoldsImage, tile_drawn};
 
 use crate::extrema::LevelExtremum;
 use crate::kinds::of_samples;
+use crate::ranked::rank_of_levels;
 use crate::ranks::rank_of_set;
 use crate::sliding::{set_under_element, under_box, under_element};
 use mw_joined::tile::AnyWindow;
 use mw_model::{NoMemory, OffsetBox, Rect};
-use mw_rank_rows::rank_of_grey;
 use mw_task::TileResult;
 use mw_task::element::Element;
 use std::alloc::Global;
@@ -67,6 +67,6 @@ pub(crate) fn rank_filter(
         alloc,
         window,
         |set| rank_of_set(alloc, set, offsets, k, tile),
-        |samples, maxval| rank_of_grey(alloc, samples, offsets, k, tile)
+        |samples, maxval| rank_of_levels(alloc, samples, offsets, k, tile)
     )
 }

@@ -10,6 +10,7 @@
 mod extrema;
 mod flat;
 mod kinds;
+mod ranked;
 mod make;
 mod marks;
 mod painting;

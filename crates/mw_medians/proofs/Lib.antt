@@ -1,0 +1,10 @@
+-- the crate's own
+mod Tests
+mod Lanes
+mod Orders
+mod Merges
+mod Sums
+mod Columns
+mod Squares
+mod Medians
+mod Joined

@@ -1,0 +1,4 @@
+pub mod Numbered
+pub mod Networks
+pub mod Columns
+pub mod Squares

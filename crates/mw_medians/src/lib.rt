@@ -1,0 +1,20 @@
+//! Medians under squares of 3 x 3 and 5 x 5 offsets, by networks of exchanges (Batcher 1968; Smith 1996 for nine samples): a
+//! fixed list of pairs, each put in order, so that no step depends on a sample. All lanes of a vector go through it at once.
+//!
+//! ```text
+//! if let Some(medians) = median_of_grey(alloc, &window, offsets, 5, tile)? { .. }
+//! ```
+#![tactic(auto)]
+
+mod five;
+mod nine;
+mod rows;
+mod square;
+mod tiles;
+mod vectors;
+mod vectors_16;
+mod vectors_8;
+
+pub use mw_model::NoMemory;
+pub use tiles::median_of_grey;
+pub use vectors::Vectored;

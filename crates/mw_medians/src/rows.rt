@@ -1,0 +1,109 @@
+//! Medians of a row of results.
+ghost use Rattle.std.specs.Prelude.{◌≡◌, ℕ, ◌+◌, ◌*◌, ◌<◌, ◌≤◌, length, slice_index_or};
+ghost use Rattle.mw_medians.specs.Numbered.{lanes_of_three, lanes_of_five, AreThree, AreFive, IsNumber};
+ghost use Rattle.mw_medians.specs.Columns.{column_below, block_below};
+ghost use Rattle.mw_medians.specs.Squares.{IsMedian};
+
+use crate::Vectored;
+use crate::five::{Five, five_in_order, five_merged, median_of_tens};
+use crate::nine::{Three, median_of_nine, three_in_order};
+use mw_rank::pixel::Pixel;
+
+/// Samples in rows of one length, from a place on.
+#[derive(Clone, Copy)]
+pub(crate) struct Sheet<'a, P: Pixel> {
+    pub samples: &'a [P],
+    pub from: usize,
+    pub stride: usize,
+}
+
+/// The samples of three rows in rising order, column by column.
+#[inline(always)]
+fn columns_of_three<P: Vectored>(sheet: Sheet<P>, at: usize) -> Three<P::Vector>
+    requires { sheet.from + 2 * sheet.stride + at + P.WIDTH ≤ length sheet.samples.now }
+    ensures { (i : ℕ) → i < P.WIDTH → AreThree (column_below P.level P.TOP sheet.entry.samples.now sheet.entry.from sheet.entry.stride 3 (at + i)) (lanes_of_three P.lane result i) }
+{
+    let first = sheet.from + at;
+    let second = first + sheet.stride;
+    three_in_order::<P>(
+        P::load(sheet.samples, first),
+        P::load(sheet.samples, second),
+        P::load(sheet.samples, second + sheet.stride),
+    )
+}
+
+/// The medians of nine samples each. The last vector begins early enough to end with them.
+fn medians_of_nine<P: Vectored>(out: &mut [P], sheet: Sheet<P>)
+    requires wide { P.WIDTH ≤ length out.old }
+    requires inside { sheet.from + 2 * sheet.stride + length out.old + 2 ≤ length sheet.samples.now }
+    ensures size { length out.new ≡ length out.old }
+    ensures medians { (i : ℕ) → i < length out.old → IsNumber (block_below P.level P.TOP sheet.entry.samples.now sheet.entry.from sheet.entry.stride 3 i) 5 (P.level (slice_index_or out.new i P.TOP)) }
+{
+    let mut done = 0usize;
+    'by_vector: while done < out.len() {
+        let from = done.min(out.len() - P::WIDTH);
+        let left = columns_of_three(sheet, from);
+        let middle = columns_of_three(sheet, from + 1);
+        let right = columns_of_three(sheet, from + 2);
+        let medians = median_of_nine::<P>(left, middle, right);
+        P::store(medians, out, from);
+        done = from + P::WIDTH;
+    }
+}
+
+/// The samples of five rows in rising order, column by column.
+#[inline(always)]
+fn columns_of_five<P: Vectored>(sheet: Sheet<P>, at: usize) -> Five<P::Vector>
+    requires { sheet.from + 4 * sheet.stride + at + P.WIDTH ≤ length sheet.samples.now }
+    ensures { (i : ℕ) → i < P.WIDTH → AreFive (column_below P.level P.TOP sheet.entry.samples.now sheet.entry.from sheet.entry.stride 5 (at + i)) (lanes_of_five P.lane result i) }
+{
+    let first = sheet.from + at;
+    let second = first + sheet.stride;
+    let third = second + sheet.stride;
+    let fourth = third + sheet.stride;
+    five_in_order::<P>(
+        P::load(sheet.samples, first),
+        P::load(sheet.samples, second),
+        P::load(sheet.samples, third),
+        P::load(sheet.samples, fourth),
+        P::load(sheet.samples, fourth + sheet.stride),
+    )
+}
+
+/// The medians of 25 samples each.
+fn medians_of_25<P: Vectored>(out: &mut [P], sheet: Sheet<P>)
+    requires wide { P.WIDTH ≤ length out.old }
+    requires inside { sheet.from + 4 * sheet.stride + length out.old + 4 ≤ length sheet.samples.now }
+    ensures size { length out.new ≡ length out.old }
+    ensures medians { (i : ℕ) → i < length out.old → IsNumber (block_below P.level P.TOP sheet.entry.samples.now sheet.entry.from sheet.entry.stride 5 i) 13 (P.level (slice_index_or out.new i P.TOP)) }
+{
+    let mut done = 0usize;
+    'by_vector: while done < out.len() {
+        let from = done.min(out.len() - P::WIDTH);
+        let first = columns_of_five(sheet, from);
+        let second = columns_of_five(sheet, from + 1);
+        let third = columns_of_five(sheet, from + 2);
+        let fourth = columns_of_five(sheet, from + 3);
+        let fifth = columns_of_five(sheet, from + 4);
+        let left = five_merged::<P>(first, second);
+        let right = five_merged::<P>(third, fourth);
+        let medians = median_of_tens::<P>(left, right, fifth);
+        P::store(medians, out, from);
+        done = from + P::WIDTH;
+    }
+}
+
+/// The medians under squares of that side.
+pub(crate) fn medians_of_rows<P: Vectored>(out: &mut [P], sheet: Sheet<P>, side: u32, k: u32)
+    requires wide { P.WIDTH ≤ length out.old }
+    requires inside { sheet.from + side * sheet.stride + length out.old + side ≤ length sheet.samples.now + sheet.stride + 1 }
+    requires median { IsMedian side k }
+    ensures size { length out.new ≡ length out.old }
+    ensures medians { (i : ℕ) → i < length out.old → IsNumber (block_below P.level P.TOP sheet.entry.samples.now sheet.entry.from sheet.entry.stride side i) k (P.level (slice_index_or out.new i P.TOP)) }
+{
+    if side == 3 {
+        medians_of_nine(out, sheet);
+    } else {
+        medians_of_25(out, sheet);
+    }
+}

@@ -1,0 +1,56 @@
+//! Vectors of 8 samples of 16 bits.
+ghost use Rattle.std.specs.Prelude.{◌≡◌, ℕ, ◌+◌, ◌<◌, ◌≤◌, min, max, length, slice_index_or};
+
+use super::Vectored;
+use std::simd::Simd;
+use std::simd::prelude::*;
+
+/// 8 samples of 16 bits.
+#[derive(Clone, Copy)]
+pub struct Words {
+    pub lanes: Simd<u16, 8>,
+    pub ghost whole: { length lanes ≡ 8 },
+}
+
+impl Vectored for u16 {
+    type Vector = Words;
+
+    ghost use Rattle.std.specs.Prelude.{slice_index_or};
+    ghost use Rattle.std.proofs.Common.{arith};
+
+    ghost lane = { λ v i. slice_index_or v.lanes i 0 };
+
+    ghost WIDTH = { 8 };
+
+    const WIDTH: usize = 8;
+
+    ghost is_wide = { Prim.omega arith };
+
+    ghost is_narrow = { Prim.omega arith };
+
+    #[inline(always)]
+    fn load(samples: &[u16], at: usize) -> Words {
+        Words {
+            lanes: Simd::<u16, 8>::from_slice(&samples[at..at + 8]),
+        }
+    }
+
+    #[inline(always)]
+    fn store(vector: Words, out: &mut [u16], at: usize) {
+        vector.lanes.copy_to_slice(&mut out[at..at + 8]);
+    }
+
+    #[inline(always)]
+    fn lower(a: Words, b: Words) -> Words {
+        Words {
+            lanes: a.lanes.simd_min(b.lanes),
+        }
+    }
+
+    #[inline(always)]
+    fn higher(a: Words, b: Words) -> Words {
+        Words {
+            lanes: a.lanes.simd_max(b.lanes),
+        }
+    }
+}
