@@ -15,7 +15,7 @@ import sys
 import time
 
 from bad_peers import ERODED, LONGEST, SLACK, Wrong, hang_up, must_be
-from server import NoAnswer, Service
+from server import NoAnswer, Server, Service
 
 ERODE = b"LOAD f 19\nP2\n5 1\n9\n3 1 4 1 5\nELEMENT b 1 0 11\nP1\n3 1\n111\nRUN e ERODE f b\nFETCH e\n"
 REPLIES = [(b"OK 0\n", b""), (b"OK 1\n", b""), (b"OK 2\n", b""), (b"IMAGE 2 14\n", ERODED)]
@@ -204,6 +204,22 @@ def takes_all_memory(program):
         return "ERR 50 MEMORY behind %d pictures of 4 MiB within 256" % count
 
 
+def loads_once(program):
+    """loads 16 MiB, which stay where they came"""
+    picture = b"P5\n4096 4096\n255\n" + bytes(1 << 24)
+    for kind in (Service, Server):
+        with kind(program, 1) as server, server.connect() as peer:
+            must_be(peer.ask(b"STATUS x\n"), (b"ERR 41 UNKNOWN\n", b""), "a first line")
+            before = server.size("VmHWM")
+            must_be(peer.ask(b"LOAD f %d\n" % len(picture) + picture), (b"OK 0\n", b""), "the picture")
+            grown = server.size("VmHWM") - before
+            if 1024 * grown > len(picture) + (4 << 20):
+                raise Wrong("a picture of %d bytes took %d kB at most" % (len(picture), grown))
+            peer.send(b"QUIT\n")
+            must_be(peer.rest(), b"", "behind QUIT")
+    return "%d bytes take %d kB at most" % (len(picture), grown)
+
+
 def port_is_taken(program):
     """is given a port that is taken"""
     with Service(program, 1) as first:
@@ -214,7 +230,7 @@ def port_is_taken(program):
 
 
 PEERS = (within_a_line, within_a_payload, within_a_reply, speaks_on, keeps_silent, never_listens, waits_for_ever, announces_much,
-         many_at_once, comes_late, takes_all_memory)
+         many_at_once, comes_late, takes_all_memory, loads_once)
 
 
 def main():

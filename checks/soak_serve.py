@@ -219,6 +219,7 @@ class Soak:
         neighbours = threading.Thread(target=self.bad_peers, args=(stop,), daemon=True)
         self.hands = [Hand(self, number) for number in range(CLIENTS)]
         self.begun = self.told = time.monotonic()
+        start = 1024 * self.service.size()
         for thread in [threading.Thread(target=self.works, args=(hand,), daemon=True) for hand in self.hands] + [neighbours]:
             thread.start()
         first_part = self.until(60 / self.seconds if self.seconds >= 120 else 0.4)
@@ -232,8 +233,8 @@ class Soak:
         if (status, told) != (0, b""):
             raise Differs("the service ended with status %d and told %r" % (status, told))
         print("%s; greatest resident size %d kB; seed %s" % (self.counted(), greatest, self.seed))
-        print("  at rest: %d kB, and at the end %d kB, of %d kB that it may have"
-              % (first // 1024, last // 1024, (first + SLACK) // 1024))
+        print("  before the first client %d kB, at rest %d kB, and at the end %d kB, of %d kB that it may have"
+              % (start // 1024, first // 1024, last // 1024, (first + SLACK) // 1024))
         if last > first + SLACK:
             raise Differs("the service grew by %d bytes, and may by %d" % (last - first, SLACK))
 
