@@ -45,11 +45,13 @@ fn by_vectors<P: Counted + Vectored>(
 }
 
 /// A plane without a pattern, up to a maxval.
-fn plane<P: Counted>(alloc: Global, width: u32, height: u32, maxval: u16) -> Result<Plane<P>, Fail> {
-    Ok(plane_of::<P>(
-        alloc,
-        &noise(alloc, Kind::Grey, width, height, maxval)?,
-    )?)
+fn plane<P: Counted>(
+    alloc: Global,
+    width: u32,
+    height: u32,
+    maxval: u16,
+) -> Result<Plane<P>, Fail> {
+    Ok(plane_of::<P>(alloc, &noise(alloc, Kind::Grey, width, height, maxval)?)?)
 }
 
 /// Frames of each width: vectors go from their own width and the square's on.
@@ -66,7 +68,9 @@ fn widths<P: Counted + Vectored>(
         dy: 0i16.wrapping_sub(half),
     };
     let offsets = square(alloc, side, first)?;
-    let least = (P::WIDTH as u32).saturating_add(half.unsigned_abs().into()).saturating_add(half.unsigned_abs().into());
+    let least = (P::WIDTH as u32)
+        .saturating_add(half.unsigned_abs().into())
+        .saturating_add(half.unsigned_abs().into());
     for width in 1..71u32 {
         let window = Window::whole(plane::<P>(alloc, width, 7, maxval)?);
         let made = by_vectors(rt, alloc, &window, &offsets, k, rect(0, 0, width, 7))?;
@@ -99,11 +103,27 @@ fn places<P: Counted + Vectored>(
     let plane = plane::<P>(alloc, 70, 50, maxval)?;
     assert!(rt; plane.width() == 70 && plane.height() == 50);
     let mut count = 0u32;
-    for (dx, dy) in [(-1i16, -1i16), (0, 0), (-4, -2), (3, -7), (-30, 20), (100, 0), (0, -90), (-32768, 5), (32000, -3)] {
+    for (dx, dy) in [
+        (-1i16, -1i16),
+        (0, 0),
+        (-4, -2),
+        (3, -7),
+        (-30, 20),
+        (100, 0),
+        (0, -90),
+        (-32768, 5),
+        (32000, -3),
+    ] {
         let offsets = square(alloc, side, Offset { dx, dy })?;
         for place in [rect(0, 0, 70, 50), rect(10, 12, 45, 21)] {
             let window = Window::cut(alloc, &plane, place)?;
-            for tile in [rect(0, 0, 70, 50), rect(20, 17, 33, 9), rect(35, 41, 35, 9), rect(66, 40, 40, 20), rect(90, 0, 20, 9)] {
+            for tile in [
+                rect(0, 0, 70, 50),
+                rect(20, 17, 33, 9),
+                rect(35, 41, 35, 9),
+                rect(66, 40, 40, 20),
+                rect(90, 0, 20, 9),
+            ] {
                 if by_vectors(rt, alloc, &window, &offsets, k, tile)? {
                     count = count.saturating_add(1);
                 }
@@ -131,12 +151,18 @@ fn other_ranks_go_without_vectors(rt: HostRuntime) -> Result<(), Fail> {
     let start = Offset { dx: -1, dy: -1 };
     let nine = square(alloc, 3, start)?;
     for k in [0u32, 1, 4, 6, 9, 10, 13] {
-        assert!(rt; !by_vectors(&rt, alloc, &window, &nine, k, tile)?, "number {k} of 9");
+        assert!(rt;
+            !by_vectors(&rt, alloc, &window, &nine, k, tile)?,
+            "number {k} of 9"
+        );
     }
     for side in [1i16, 2, 4, 6] {
         let offsets = square(alloc, side, start)?;
         for k in [5u32, 13] {
-            assert!(rt; !by_vectors(&rt, alloc, &window, &offsets, k, tile)?, "{side} across");
+            assert!(rt;
+                !by_vectors(&rt, alloc, &window, &offsets, k, tile)?,
+                "{side} across"
+            );
         }
     }
     // nine offsets that are no square

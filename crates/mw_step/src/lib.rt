@@ -10,12 +10,12 @@
 mod extrema;
 mod flat;
 mod kinds;
-mod ranked;
 mod make;
 mod marks;
 mod painting;
 mod pairs;
 mod pointwise;
+mod ranked;
 mod ranks;
 mod sharing;
 mod singles;
