@@ -1,6 +1,7 @@
 """Starts and stops a `morphd listen` or a `morphd serve`, and speaks to it as a client. Whatever waits here has a time limit,
 and says what it waited for when that is over.
 """
+import os
 import random
 import re
 import resource
@@ -99,12 +100,12 @@ class Server:
 class Service(Server):
     """A `morphd serve`, which ends when its standard input does. It says on which port it listens."""
 
-    def __init__(self, program, sessions, workers=1, tile=128, idle=None, descriptors=None):
+    def __init__(self, program, sessions, workers=1, tile=128, idle=None, descriptors=None, settings=()):
         words = ["--sessions", sessions, "--workers", workers, "--tile", tile] + (["--idle", idle] if idle else [])
         pipes = {"stdin": subprocess.PIPE, "stdout": subprocess.PIPE, "stderr": subprocess.PIPE}
         few = (lambda: resource.setrlimit(resource.RLIMIT_NOFILE, (descriptors, descriptors))) if descriptors else None
         words = [program, "serve", "--until-end", *map(str, words)]
-        self.run = subprocess.Popen(words, preexec_fn=few, **pipes)
+        self.run = subprocess.Popen(words, preexec_fn=few, env=os.environ | dict(settings), **pipes)
         self.port = self.told_port()
 
     def told_port(self, patience=PATIENCE):

@@ -8,8 +8,9 @@ break their connection off anywhere. Beside them there are always one that keeps
     python3 checks/soak_serve.py crates/morphd/out/morphd [SECONDS [SEED]]
 
 It prints sessions, requests, images and the greatest resident size. It begins by spoiling what came, to show that it would
-notice. At the end the service is no larger than it was when the first part was over, but for SLACK, ends with status 0 when
-its standard input does, and has told nothing. It ends by itself: each reply has a time limit, and so has the whole.
+notice. The service has the settings of the unit for systemd. At the end it is no larger than it was before the first client, but
+for SLACK, ends with status 0 when its standard input does, and has told nothing. It ends by itself: each reply has a time limit, and
+so has the whole.
 """
 import collections
 import contextlib
@@ -36,12 +37,19 @@ TELLS = 10
 SLACK = 10 << 20
 # How long the service waits for a client.
 IDLE = 600
+UNIT = f"{os.path.dirname(os.path.dirname(os.path.realpath(__file__)))}/examples/morphd.service"
 SIDE = 1024
 PICTURE = b"P5\n%d %d\n255\n" % (SIDE, SIDE) + bytes(range(256)) * (SIDE * SIDE // 256)
 
 
 class Differs(Exception):
     """Something else came than the plain model has."""
+
+
+def settings_of_unit():
+    """The environment that the unit gives the service."""
+    with open(UNIT, encoding="utf-8") as unit:
+        return [it.split("=", 1) for line in unit if line.startswith("Environment=") for it in line.strip()[len("Environment="):].split()]
 
 
 def hang_up(client):
@@ -110,10 +118,10 @@ class Hand:
         self.counts["sessions"] += 1
 
     def works(self):
-        while time.monotonic() < self.soak.until(1) and not self.soak.fault:
+        while time.monotonic() < self.soak.ends() and not self.soak.fault:
             data, model = self.next_session()
             for _ in range(TIMES):
-                if time.monotonic() < self.soak.until(1) and not self.soak.fault:
+                if time.monotonic() < self.soak.ends() and not self.soak.fault:
                     self.session(data, model)
 
 
@@ -125,8 +133,8 @@ class Soak:
         self.service, self.begun, self.told = None, time.monotonic(), time.monotonic()
         self.hands, self.turn, self.resting, self.has_rest = [], threading.Condition(), 0, False
 
-    def until(self, part):
-        return self.begun + part * self.seconds
+    def ends(self):
+        return self.begun + self.seconds
 
     def spoils(self, come):
         """What came is compared as it is."""
@@ -211,7 +219,7 @@ class Soak:
 
     def to_the_end(self):
         # Sessions for the clients, and for their bad neighbours.
-        with Service(self.program, CLIENTS + 3, tile=64, idle=IDLE) as self.service:
+        with Service(self.program, CLIENTS + 3, tile=64, idle=IDLE, settings=settings_of_unit()) as self.service:
             self.runs()
 
     def runs(self):
@@ -222,10 +230,7 @@ class Soak:
         start = 1024 * self.service.size()
         for thread in [threading.Thread(target=self.works, args=(hand,), daemon=True) for hand in self.hands] + [neighbours]:
             thread.start()
-        first_part = self.until(60 / self.seconds if self.seconds >= 120 else 0.4)
-        self.waits(lambda: time.monotonic() > first_part, self.seconds + GRACE)
-        first = self.size_at_rest()
-        self.waits(lambda: time.monotonic() > self.until(1), self.seconds + GRACE)
+        self.waits(lambda: time.monotonic() > self.ends(), self.seconds + GRACE)
         stop.set()
         neighbours.join(PATIENCE)
         last, greatest = self.size_at_rest(), self.service.size("VmHWM")
@@ -233,10 +238,10 @@ class Soak:
         if (status, told) != (0, b""):
             raise Differs("the service ended with status %d and told %r" % (status, told))
         print("%s; greatest resident size %d kB; seed %s" % (self.counted(), greatest, self.seed))
-        print("  before the first client %d kB, at rest %d kB, and at the end %d kB, of %d kB that it may have"
-              % (start // 1024, first // 1024, last // 1024, (first + SLACK) // 1024))
-        if last > first + SLACK:
-            raise Differs("the service grew by %d bytes, and may by %d" % (last - first, SLACK))
+        print("  before the first client %d kB, and at the end %d kB, of %d kB that it may have"
+              % (start // 1024, last // 1024, (start + SLACK) // 1024))
+        if last > start + SLACK:
+            raise Differs("the service grew by %d bytes, and may by %d" % (last - start, SLACK))
 
 
 class Spoiled(Soak):
