@@ -45,20 +45,23 @@ fn by_vectors<P: Counted + Vectored>(
 }
 
 /// A plane without a pattern, up to a maxval.
-fn plane<P: Counted>(alloc: Global, width: u32, height: u32, maxval: u16) -> Result<Plane<P>, Fail> {
-    Ok(plane_of::<P>(
-        alloc,
-        &noise(alloc, Kind::Grey, width, height, maxval)?,
-    )?)
+fn plane<P: Counted>(
+    alloc: Global,
+    width: u32,
+    height: u32,
+    maxval: u16,
+) -> Result<Plane<P>, Fail> {
+    Ok(plane_of::<P>(alloc, &noise(alloc, Kind::Grey, width, height, maxval)?)?)
 }
 
-/// Frames of each width: vectors go from their own width and the square's on.
+/// Frames of each width up to one: vectors go from their own width and the square's on.
 fn widths<P: Counted + Vectored>(
     rt: &impl Abort,
     alloc: Global,
     maxval: u16,
     side: i16,
     k: u32,
+    widest: u32,
 ) -> Result<(), Fail> {
     let half = side / 2;
     let first = Offset {
@@ -66,8 +69,10 @@ fn widths<P: Counted + Vectored>(
         dy: 0i16.wrapping_sub(half),
     };
     let offsets = square(alloc, side, first)?;
-    let least = (P::WIDTH as u32).saturating_add(half.unsigned_abs().into()).saturating_add(half.unsigned_abs().into());
-    for width in 1..71u32 {
+    let least = (P::WIDTH as u32)
+        .saturating_add(half.unsigned_abs().into())
+        .saturating_add(half.unsigned_abs().into());
+    for width in 1..widest {
         let window = Window::whole(plane::<P>(alloc, width, 7, maxval)?);
         let made = by_vectors(rt, alloc, &window, &offsets, k, rect(0, 0, width, 7))?;
         assert!(rt; made == (width >= least), "{width} columns");
@@ -77,14 +82,20 @@ fn widths<P: Counted + Vectored>(
 
 #[test]
 fn medians_of_frames_of_each_width(rt: HostRuntime) -> Result<(), Fail> {
-    let alloc = rt.alloc();
-    for (side, k) in [(3i16, 5u32), (5, 13)] {
-        widths::<u8>(&rt, alloc, 255, side, k)?;
-        widths::<u8>(&rt, alloc, 1, side, k)?;
-        widths::<u16>(&rt, alloc, 65535, side, k)?;
-        widths::<u16>(&rt, alloc, 900, side, k)?;
-    }
-    Ok(())
+    widths::<u8>(&rt, rt.alloc(), 255, 3, 5, 71)?;
+    widths::<u8>(&rt, rt.alloc(), 255, 5, 13, 71)
+}
+
+#[test]
+fn medians_of_narrow_frames_of_words(rt: HostRuntime) -> Result<(), Fail> {
+    widths::<u16>(&rt, rt.alloc(), 65535, 3, 5, 20)?;
+    widths::<u16>(&rt, rt.alloc(), 65535, 5, 13, 20)
+}
+
+#[test]
+fn medians_of_dark_frames(rt: HostRuntime) -> Result<(), Fail> {
+    widths::<u8>(&rt, rt.alloc(), 1, 3, 5, 35)?;
+    widths::<u8>(&rt, rt.alloc(), 1, 5, 13, 35)
 }
 
 /// Tiles at corners and sides of a frame of 70 by 50, inside of it and past it, in all of it and in a part, under squares from
@@ -99,11 +110,27 @@ fn places<P: Counted + Vectored>(
     let plane = plane::<P>(alloc, 70, 50, maxval)?;
     assert!(rt; plane.width() == 70 && plane.height() == 50);
     let mut count = 0u32;
-    for (dx, dy) in [(-1i16, -1i16), (0, 0), (-4, -2), (3, -7), (-30, 20), (100, 0), (0, -90), (-32768, 5), (32000, -3)] {
+    for (dx, dy) in [
+        (-1i16, -1i16),
+        (0, 0),
+        (-4, -2),
+        (3, -7),
+        (-30, 20),
+        (100, 0),
+        (0, -90),
+        (-32768, 5),
+        (32000, -3),
+    ] {
         let offsets = square(alloc, side, Offset { dx, dy })?;
         for place in [rect(0, 0, 70, 50), rect(10, 12, 45, 21)] {
             let window = Window::cut(alloc, &plane, place)?;
-            for tile in [rect(0, 0, 70, 50), rect(20, 17, 33, 9), rect(35, 41, 35, 9), rect(66, 40, 40, 20), rect(90, 0, 20, 9)] {
+            for tile in [
+                rect(0, 0, 70, 50),
+                rect(20, 17, 33, 9),
+                rect(35, 41, 35, 9),
+                rect(66, 40, 40, 20),
+                rect(90, 0, 20, 9),
+            ] {
                 if by_vectors(rt, alloc, &window, &offsets, k, tile)? {
                     count = count.saturating_add(1);
                 }
@@ -131,12 +158,18 @@ fn other_ranks_go_without_vectors(rt: HostRuntime) -> Result<(), Fail> {
     let start = Offset { dx: -1, dy: -1 };
     let nine = square(alloc, 3, start)?;
     for k in [0u32, 1, 4, 6, 9, 10, 13] {
-        assert!(rt; !by_vectors(&rt, alloc, &window, &nine, k, tile)?, "number {k} of 9");
+        assert!(rt;
+            !by_vectors(&rt, alloc, &window, &nine, k, tile)?,
+            "number {k} of 9"
+        );
     }
     for side in [1i16, 2, 4, 6] {
         let offsets = square(alloc, side, start)?;
         for k in [5u32, 13] {
-            assert!(rt; !by_vectors(&rt, alloc, &window, &offsets, k, tile)?, "{side} across");
+            assert!(rt;
+                !by_vectors(&rt, alloc, &window, &offsets, k, tile)?,
+                "{side} across"
+            );
         }
     }
     // nine offsets that are no square
