@@ -54,13 +54,14 @@ fn plane<P: Counted>(
     Ok(plane_of::<P>(alloc, &noise(alloc, Kind::Grey, width, height, maxval)?)?)
 }
 
-/// Frames of each width: vectors go from their own width and the square's on.
+/// Frames of each width up to one: vectors go from their own width and the square's on.
 fn widths<P: Counted + Vectored>(
     rt: &impl Abort,
     alloc: Global,
     maxval: u16,
     side: i16,
     k: u32,
+    widest: u32,
 ) -> Result<(), Fail> {
     let half = side / 2;
     let first = Offset {
@@ -71,7 +72,7 @@ fn widths<P: Counted + Vectored>(
     let least = (P::WIDTH as u32)
         .saturating_add(half.unsigned_abs().into())
         .saturating_add(half.unsigned_abs().into());
-    for width in 1..71u32 {
+    for width in 1..widest {
         let window = Window::whole(plane::<P>(alloc, width, 7, maxval)?);
         let made = by_vectors(rt, alloc, &window, &offsets, k, rect(0, 0, width, 7))?;
         assert!(rt; made == (width >= least), "{width} columns");
@@ -81,14 +82,20 @@ fn widths<P: Counted + Vectored>(
 
 #[test]
 fn medians_of_frames_of_each_width(rt: HostRuntime) -> Result<(), Fail> {
-    let alloc = rt.alloc();
-    for (side, k) in [(3i16, 5u32), (5, 13)] {
-        widths::<u8>(&rt, alloc, 255, side, k)?;
-        widths::<u8>(&rt, alloc, 1, side, k)?;
-        widths::<u16>(&rt, alloc, 65535, side, k)?;
-        widths::<u16>(&rt, alloc, 900, side, k)?;
-    }
-    Ok(())
+    widths::<u8>(&rt, rt.alloc(), 255, 3, 5, 71)?;
+    widths::<u8>(&rt, rt.alloc(), 255, 5, 13, 71)
+}
+
+#[test]
+fn medians_of_narrow_frames_of_words(rt: HostRuntime) -> Result<(), Fail> {
+    widths::<u16>(&rt, rt.alloc(), 65535, 3, 5, 20)?;
+    widths::<u16>(&rt, rt.alloc(), 65535, 5, 13, 20)
+}
+
+#[test]
+fn medians_of_dark_frames(rt: HostRuntime) -> Result<(), Fail> {
+    widths::<u8>(&rt, rt.alloc(), 1, 3, 5, 35)?;
+    widths::<u8>(&rt, rt.alloc(), 1, 5, 13, 35)
 }
 
 /// Tiles at corners and sides of a frame of 70 by 50, inside of it and past it, in all of it and in a part, under squares from
