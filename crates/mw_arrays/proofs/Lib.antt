@@ -1,5 +1,6 @@
 -- what other crates may cite
 pub mod FirstCases
+pub mod SourceImages
 -- the crate's own
 mod Bitmaps
 mod SoundImages

@@ -1,3 +1,4 @@
 pub mod Arrays
 pub mod Faults
 pub mod Sound
+pub mod Sources

@@ -15,6 +15,7 @@ mod arrays;
 mod cases;
 mod images;
 pub mod laws;
+mod sources;
 mod tests;
 mod writing;
 
@@ -22,4 +23,5 @@ pub use arrays::{Bitmap, Grey8, Grey16, Set};
 pub use cases::{first_of, when};
 pub use images::levels_of;
 pub use mw_model::{Code, NoMemory};
+pub use sources::Source;
 pub use writing::{put_bytes, put_words};

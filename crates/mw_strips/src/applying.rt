@@ -1,0 +1,222 @@
+//! Flat operators from array to array. Each writes nothing where memory is refused.
+
+ghost use Rattle.std.specs.Prelude.{◌≡◌, length, map, IfErr, IfOk};
+ghost use Rattle.std.specs.Arc.{arc_value};
+ghost use Rattle.mw_model.specs.Flat.{gradient, minus, rank, reflected, threshold};
+ghost use Rattle.mw_model.specs.Laws.{SameShape};
+ghost use Rattle.mw_model.specs.Pictures.{Picture};
+ghost use Rattle.mw_plan.specs.Steps.{filtering, other, residue, sliding};
+ghost use Rattle.mw_arrays.specs.Sources.{IsSource, picture_in, source_count};
+ghost use Rattle.mw_strips.specs.Layers.{rest, rule_picture};
+
+use crate::Sample;
+use crate::layers::{Formula, Layer, Rule};
+use crate::writing::write_all;
+use mw_arrays::Source;
+use mw_element::Element;
+use mw_model::NoMemory;
+use mw_pixel::copies;
+use mw_plan::Extremum;
+use std::alloc::Global;
+use std::sync::Arc;
+
+/// The rule of an extremum under an element.
+fn slid(extremum: Extremum, element: &Arc<Element>) -> Rule<'_>
+    ensures { (f : Picture) → rule_picture result f ≡ sliding extremum (arc_value element.entry.now).offsets f }
+{
+    match extremum {
+        Extremum::Least => Rule::Least(element),
+        Extremum::Greatest => Rule::Greatest(element),
+    }
+}
+
+/// The rule of the other extremum.
+fn slid_back(extremum: Extremum, element: &Arc<Element>) -> Rule<'_>
+    ensures { (f : Picture) → rule_picture result f ≡ sliding (other extremum) (arc_value element.entry.now).offsets f }
+{
+    match extremum {
+        Extremum::Least => Rule::Greatest(element),
+        Extremum::Greatest => Rule::Least(element),
+    }
+}
+
+/// The element turned round.
+fn turned(alloc: Global, b: &Arc<Element>) -> Result<Arc<Element>, NoMemory>
+    ensures { IfOk result (λ e. (arc_value e).offsets ≡ reflected (arc_value b.now).offsets) }
+{
+    Ok(Arc::new(alloc, b.reflect(alloc)?)?)
+}
+
+/// Writes what one rule makes.
+fn one<P: Sample>(
+    alloc: Global,
+    rule: Rule<'_>,
+    f: Source<'_>,
+    out: &mut [P],
+) -> Result<(), NoMemory>
+    requires sound { IsSource f }
+    requires room { length out.old ≡ source_count f }
+    requires stands { P.stands (rule_picture rule (picture_in f)).maxval }
+    ensures made { IfOk result (λ _. map P.level out.new ≡ (rule_picture rule.entry (picture_in f.entry)).samples) }
+    ensures kept { IfErr result (λ _. out.new ≡ out.old) }
+{
+    write_all(alloc, Formula::One(Layer::By(rule, f)), out)
+}
+
+/// Writes what one rule makes, less what another makes of the same image.
+fn difference<P: Sample>(
+    alloc: Global,
+    upper: Rule<'_>,
+    lower: Rule<'_>,
+    f: Source<'_>,
+    out: &mut [P],
+) -> Result<(), NoMemory>
+    requires sound { IsSource f }
+    requires room { length out.old ≡ source_count f }
+    requires alike { SameShape (rule_picture lower (picture_in f)) (rule_picture upper (picture_in f)) }
+    requires stands { P.stands (rule_picture upper (picture_in f)).maxval }
+    ensures made { IfOk result (λ _. map P.level out.new ≡ (minus (rule_picture upper.entry (picture_in f.entry)) (rule_picture lower.entry (picture_in f.entry))).samples) }
+    ensures kept { IfErr result (λ _. out.new ≡ out.old) }
+{
+    write_all(
+        alloc,
+        Formula::Less(Layer::By(upper, f), Layer::By(lower, f)),
+        out,
+    )
+}
+
+/// What a rule makes of the whole image.
+fn plane_of<P: Sample>(alloc: Global, rule: Rule<'_>, f: Source<'_>) -> Result<Vec<P>, NoMemory>
+    requires sound { IsSource f }
+    requires stands { P.stands (rule_picture rule (picture_in f)).maxval }
+    ensures { IfOk result (λ v. map P.level v.items ≡ (rule_picture rule.entry (picture_in f.entry)).samples) }
+{
+    let mut plane = copies(alloc, f.count(), P::TOP)?;
+    one(alloc, rule, f, plane.as_mut_slice())?;
+    Ok(plane)
+}
+
+/// Writes an opening or a closing.
+pub fn filter_into<P: Sample>(
+    alloc: Global,
+    extremum: Extremum,
+    f: Source<'_>,
+    b: &Arc<Element>,
+    out: &mut [P],
+) -> Result<(), NoMemory>
+    requires sound { IsSource f }
+    requires room { length out.old ≡ source_count f }
+    requires stands { P.stands (picture_in f).maxval }
+    ensures made { IfOk result (λ _. map P.level out.new ≡ (filtering extremum (arc_value b.now).offsets (picture_in f.entry)).samples) }
+    ensures kept { IfErr result (λ _. out.new ≡ out.old) }
+{
+    let back = turned(alloc, b)?;
+    let plane = plane_of::<P>(alloc, slid(extremum, b), f)?;
+    let between = P::like(f, plane.as_slice());
+    one(alloc, slid_back(extremum, &back), between, out)
+}
+
+/// Writes the image less its opening, or its closing less the image, of the plane between the two steps.
+fn left_over<P: Sample>(
+    alloc: Global,
+    extremum: Extremum,
+    f: Source<'_>,
+    between: Source<'_>,
+    back: &Arc<Element>,
+    out: &mut [P],
+) -> Result<(), NoMemory>
+    requires sound { IsSource f }
+    requires between { IsSource between }
+    requires alike { SameShape (picture_in between) (picture_in f) }
+    requires room { length out.old ≡ source_count f }
+    requires stands { P.stands (picture_in f).maxval }
+    ensures made { IfOk result (λ _. map P.level out.new ≡ (rest extremum (picture_in f.entry) (sliding (other extremum) (arc_value back.now).offsets (picture_in between.entry))).samples) }
+    ensures kept { IfErr result (λ _. out.new ≡ out.old) }
+{
+    let filtered = Layer::By(slid_back(extremum, back), between);
+    let itself = Layer::Itself(f);
+    match extremum {
+        Extremum::Least => write_all(alloc, Formula::Less(itself, filtered), out),
+        Extremum::Greatest => write_all(alloc, Formula::Less(filtered, itself), out),
+    }
+}
+
+/// Writes what an opening takes away, or a closing adds.
+pub fn residue_into<P: Sample>(
+    alloc: Global,
+    extremum: Extremum,
+    f: Source<'_>,
+    b: &Arc<Element>,
+    out: &mut [P],
+) -> Result<(), NoMemory>
+    requires sound { IsSource f }
+    requires room { length out.old ≡ source_count f }
+    requires stands { P.stands (picture_in f).maxval }
+    ensures made { IfOk result (λ _. map P.level out.new ≡ (residue extremum (arc_value b.now).offsets (picture_in f.entry)).samples) }
+    ensures kept { IfErr result (λ _. out.new ≡ out.old) }
+{
+    let back = turned(alloc, b)?;
+    let plane = plane_of::<P>(alloc, slid(extremum, b), f)?;
+    let between = P::like(f, plane.as_slice());
+    left_over(alloc, extremum, f, between, &back, out)
+}
+
+/// Writes an erosion or a dilation.
+pub fn slide_into<P: Sample>(
+    alloc: Global,
+    extremum: Extremum,
+    f: Source<'_>,
+    b: &Arc<Element>,
+    out: &mut [P],
+) -> Result<(), NoMemory>
+    requires sound { IsSource f }
+    requires room { length out.old ≡ source_count f }
+    requires stands { P.stands (picture_in f).maxval }
+    ensures made { IfOk result (λ _. map P.level out.new ≡ (sliding extremum (arc_value b.now).offsets (picture_in f.entry)).samples) }
+    ensures kept { IfErr result (λ _. out.new ≡ out.old) }
+{
+    one(alloc, slid(extremum, b), f, out)
+}
+
+/// Writes at each place, of the samples under the element in rising order, number `k`, or the last of fewer.
+pub fn rank_into<P: Sample>(
+    alloc: Global,
+    k: u32,
+    f: Source<'_>,
+    b: &Arc<Element>,
+    out: &mut [P],
+) -> Result<(), NoMemory>
+    requires sound { IsSource f }
+    requires room { length out.old ≡ source_count f }
+    requires stands { P.stands (picture_in f).maxval }
+    ensures made { IfOk result (λ _. map P.level out.new ≡ (rank (arc_value b.now).offsets k (picture_in f.entry)).samples) }
+    ensures kept { IfErr result (λ _. out.new ≡ out.old) }
+{
+    one(alloc, Rule::Nth(b, k), f, out)
+}
+
+/// Writes the set of the places with level `k` or more.
+pub fn threshold_into(alloc: Global, k: u32, f: Source<'_>, out: &mut [u8]) -> Result<(), NoMemory>
+    requires sound { IsSource f }
+    requires room { length out.old ≡ source_count f }
+    ensures made { IfOk result (λ _. out.new ≡ (threshold k (picture_in f.entry)).samples) }
+    ensures kept { IfErr result (λ _. out.new ≡ out.old) }
+{
+    one(alloc, Rule::AtLeast(k), f, out)
+}
+
+/// Writes the greatest sample under the element less the least.
+pub fn gradient_into<P: Sample>(
+    alloc: Global,
+    f: Source<'_>,
+    b: &Arc<Element>,
+    out: &mut [P],
+) -> Result<(), NoMemory>
+    requires sound { IsSource f }
+    requires room { length out.old ≡ source_count f }
+    requires stands { P.stands (picture_in f).maxval }
+    ensures made { IfOk result (λ _. map P.level out.new ≡ (gradient (arc_value b.now).offsets (picture_in f.entry)).samples) }
+    ensures kept { IfErr result (λ _. out.new ≡ out.old) }
+{
+    difference(alloc, Rule::Greatest(b), Rule::Least(b), f, out)
+}

@@ -1,0 +1,27 @@
+//! Flat operators from a caller's array into a caller's array, by strips of rows: what a strip reads and what is made of it
+//! stay in the cache, and neither image is copied whole. An operator of two steps takes one frame of memory between them.
+//!
+//! ```text
+//! let f = Source::Grey8(Grey8 { samples: &bytes, width: 640, height: 480, maxval: 255 });
+//! slide_into(alloc, Extremum::Least, f, &b, &mut out)?;     // an erosion
+//! filter_into(alloc, Extremum::Least, f, &b, &mut out)?;    // an opening
+//! ```
+#![tactic(auto)]
+
+mod applying;
+mod layers;
+mod plain;
+mod rows;
+mod samples;
+mod strips;
+mod windows;
+mod writing;
+
+pub use applying::{
+    filter_into, gradient_into, rank_into, residue_into, slide_into, threshold_into,
+};
+pub use mw_arrays::{Grey8, Grey16, Set, Source};
+pub use mw_element::Element;
+pub use mw_model::NoMemory;
+pub use mw_plan::Extremum;
+pub use samples::Sample;

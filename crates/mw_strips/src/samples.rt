@@ -1,0 +1,85 @@
+//! Samples of a caller's array.
+
+ghost use Rattle.std.specs.Prelude.{◌≡◌, ◌≤◌, length, map};
+ghost use Rattle.mw_model.specs.Pictures.{IsImage, Picture};
+ghost use Rattle.mw_arrays.specs.Sources.{IsSource, picture_in};
+ghost use Rattle.mw_strips.specs.Parts.{refilled};
+
+use mw_arrays::{Grey8, Grey16, Set, Source, put_bytes, put_words};
+use mw_pixel::{Image, Pixel};
+
+/// A sample of an array that an operator writes.
+pub trait Sample: Pixel {
+    ghost use Rattle.std.specs.Prelude.{ℕ};
+
+    /// Levels up to this maxval stand in such samples.
+    ghost stands: { ℕ → Type 0 };
+
+    /// Writes the samples of an image whose levels stand in such samples.
+    fn put(image: &Image, out: &mut [Self])
+        requires size { length image.now.samples ≡ length out.old }
+        requires stands { stands image.now.maxval }
+        ensures { map Self.level out.new ≡ image.now.samples };
+
+    /// An image of the kind, the sides and the maxval of another, with these samples.
+    fn like<'a>(f: Source<'_>, samples: &'a [Self]) -> Source<'a>
+        requires sound { IsSource f }
+        requires stands { stands (picture_in f).maxval }
+        requires image { IsImage (refilled (picture_in f) (map Self.level samples.now)) }
+        ensures sound { IsSource result }
+        ensures image { picture_in result ≡ refilled (picture_in f.entry) (map Self.level samples.entry.now) };
+
+    ghost stands_within: { (m : ℕ) → stands m → m ≤ Self.top_level };
+}
+
+impl Sample for u8 {
+    ghost stands = { λ m. m ≤ 255 };
+
+    fn put(image: &Image, out: &mut [u8]) {
+        put_bytes(image, out);
+    }
+
+    fn like<'a>(f: Source<'_>, samples: &'a [u8]) -> Source<'a> {
+        match f {
+            Source::Grey8(f) => Source::Grey8(Grey8 {
+                samples,
+                width: f.width,
+                height: f.height,
+                maxval: f.maxval,
+            }),
+            Source::Grey16(_) => unreachable!(),
+            Source::Pixels(f) => Source::Pixels(Set {
+                pixels: samples,
+                width: f.width,
+                height: f.height,
+            }),
+        }
+    }
+
+    ghost stands_within = { λ m e. e };
+}
+
+impl Sample for u16 {
+    ghost use Rattle.std.specs.Prelude.{◌≤◌};
+
+    ghost stands = { λ m. (256 ≤ m) × (m ≤ 65535) };
+
+    fn put(image: &Image, out: &mut [u16]) {
+        put_words(image, out);
+    }
+
+    fn like<'a>(f: Source<'_>, samples: &'a [u16]) -> Source<'a> {
+        match f {
+            Source::Grey16(f) => Source::Grey16(Grey16 {
+                samples,
+                width: f.width,
+                height: f.height,
+                maxval: f.maxval,
+            }),
+            Source::Grey8(_) => unreachable!(),
+            Source::Pixels(_) => unreachable!(),
+        }
+    }
+
+    ghost stands_within = { λ m e. e.1 };
+}
