@@ -1,6 +1,7 @@
 //! Medians under small squares by vectors, beside the ranks of any element: on both sides of each width from which vectors
 //! go, at the edges of a frame and past them, and under squares far from their origin.
 
+use crate::rank_rows::window_of;
 use mw_images_for_tests::{noise, plane_of, rect};
 use mw_medians::{Vectored, median_of_grey};
 use mw_model::{Kind, Offset, Rect};
@@ -108,7 +109,6 @@ fn places<P: Counted + Vectored>(
     k: u32,
 ) -> Result<u32, Fail> {
     let plane = plane::<P>(alloc, 70, 50, maxval)?;
-    assert!(rt; plane.width() == 70 && plane.height() == 50);
     let mut count = 0u32;
     for (dx, dy) in [
         (-1i16, -1i16),
@@ -123,7 +123,7 @@ fn places<P: Counted + Vectored>(
     ] {
         let offsets = square(alloc, side, Offset { dx, dy })?;
         for place in [rect(0, 0, 70, 50), rect(10, 12, 45, 21)] {
-            let window = Window::cut(alloc, &plane, place)?;
+            let window = window_of(alloc, &plane, place)?;
             for tile in [
                 rect(0, 0, 70, 50),
                 rect(20, 17, 33, 9),
@@ -174,6 +174,7 @@ fn other_ranks_go_without_vectors(rt: HostRuntime) -> Result<(), Fail> {
     }
     // nine offsets that are no square
     let mut bent = square(alloc, 3, start)?;
+    assert!(rt; bent.len() == 9);
     bent.swap(0, 1);
     assert!(rt; !by_vectors(&rt, alloc, &window, &bent, 5, tile)?);
     Ok(())

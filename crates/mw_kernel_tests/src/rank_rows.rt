@@ -47,7 +47,11 @@ fn agree_in<P: Counted>(
 }
 
 /// A part of a plane as a window, if the plane has it.
-fn window_of<P: Counted>(alloc: Global, plane: &Plane<P>, place: Rect) -> Result<Window<P>, Fail> {
+pub(crate) fn window_of<P: Counted>(
+    alloc: Global,
+    plane: &Plane<P>,
+    place: Rect,
+) -> Result<Window<P>, Fail> {
     let right = place.x.checked_add(place.width).ok_or("no such column")?;
     let bottom = place.y.checked_add(place.height).ok_or("no such row")?;
     if right > plane.width() || bottom > plane.height() {

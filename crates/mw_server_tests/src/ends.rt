@@ -1,8 +1,8 @@
 //! How a service ends, and how it does not begin.
 
 use crate::client::{ERODE, ERODED, connect, rest, say};
-use crate::stage::{Line, PATIENCE, Stage, served};
-use mw_server::{Service, serve};
+use crate::stage::{Line, PATIENCE, Stage, served, service};
+use mw_server::serve;
 use mw_wire::Sink;
 use std::alloc::Global;
 use std::io::{Read, Write};
@@ -13,17 +13,6 @@ use std::{io, thread};
 
 /// How many bytes the replies to LOAD and ELEMENT take.
 const ACCEPTED: usize = 10;
-
-/// A service of three sessions on this port.
-fn service(port: u16) -> Service {
-    Service {
-        port,
-        workers: 1,
-        sessions: 3,
-        side: 64,
-        idle: None,
-    }
-}
 
 /// Whether no connection is accepted soon.
 fn is_closed<R: Net<Stream = TcpStream> + Clock>(rt: &R, port: u16) -> bool {
@@ -63,7 +52,7 @@ fn sessions_that_run_end_by_themselves(rt: HostRuntime) -> Result<(), Fail> {
     let seen = served(
         &rt,
         alloc,
-        service(0),
+        service(0, 3, 1, None),
         &stage,
         || ended_within(&rt, alloc, &stage),
     );
@@ -86,7 +75,7 @@ fn port_in_use(rt: HostRuntime) -> Result<(), Fail> {
     let status = serve(
         &rt,
         alloc,
-        service(port),
+        service(port, 3, 1, None),
         Some(until),
         &mut output,
         &mut faults,
@@ -123,7 +112,7 @@ fn line_that_nobody_takes(rt: HostRuntime) -> Result<(), Fail> {
     let status = serve(
         &rt,
         alloc,
-        service(0),
+        service(0, 3, 1, None),
         Some(until),
         &mut output,
         &mut faults,
@@ -146,7 +135,7 @@ fn end_before_any_client(rt: HostRuntime) -> Result<(), Fail> {
     let status = serve(
         &rt,
         alloc,
-        service(0),
+        service(0, 3, 1, None),
         Some(until),
         &mut output,
         &mut faults,

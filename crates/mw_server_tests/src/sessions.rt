@@ -1,8 +1,7 @@
 //! Sessions of a service: each has its own names, and each ends alone.
 
 use crate::client::{ERODE, ERODED, answers, connect, rest, say};
-use crate::stage::{Stage, served};
-use mw_server::Service;
+use crate::stage::{Stage, served, service};
 use std::alloc::Global;
 use std::io;
 use std::net::{Net, Shutdown, TcpStream};
@@ -11,17 +10,6 @@ use std::time::Clock;
 
 /// How many connections there are one after the other.
 const MANY: u32 = 2000;
-
-/// A service of so many sessions, of this many workers each.
-fn service(sessions: usize, workers: usize) -> Service {
-    Service {
-        port: 0,
-        workers,
-        sessions,
-        side: 64,
-        idle: None,
-    }
-}
 
 /// What two clients hear that speak at once of the same names: the first one loads, the second one loads and erodes, and then
 /// the first one erodes.
@@ -52,7 +40,7 @@ fn two_clients_have_their_own_names(rt: HostRuntime) -> Result<(), Fail> {
     let seen = served(
         &rt,
         alloc,
-        service(2, 2),
+        service(0, 2, 2, None),
         &stage,
         || two_heard(&rt, alloc, &stage),
     );
@@ -85,7 +73,7 @@ fn each_connection_has_a_core_of_its_own(rt: HostRuntime) -> Result<(), Fail> {
     let seen = served(
         &rt,
         alloc,
-        service(1, 1),
+        service(0, 1, 1, None),
         &stage,
         || names_after(&rt, alloc, &stage),
     );
@@ -123,7 +111,7 @@ fn a_fault_ends_one_connection_alone(rt: HostRuntime) -> Result<(), Fail> {
     let seen = served(
         &rt,
         alloc,
-        service(1, 1),
+        service(0, 1, 1, None),
         &stage,
         || heard_after_others(&rt, alloc, &stage),
     );
@@ -159,7 +147,7 @@ fn many_connections(rt: HostRuntime) -> Result<(), Fail> {
     let seen = served(
         &rt,
         alloc,
-        service(2, 1),
+        service(0, 2, 1, None),
         &stage,
         || answered(&rt, alloc, &stage),
     );

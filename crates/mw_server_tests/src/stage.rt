@@ -116,6 +116,19 @@ pub(crate) struct Seen<T> {
     pub told: Vec<u8>,
 }
 
+/// A service on this port of so many sessions, of so many workers each, with tiles of the least side.
+pub(crate) fn service(port: u16, sessions: usize, workers: usize, idle: Option<u32>) -> Service
+    ensures side { (64 ≤ result.side) × (result.side ≤ 1024) × (result.side % 64 ≡ 0) }
+{
+    Service {
+        port,
+        workers,
+        sessions,
+        side: 64,
+        idle,
+    }
+}
+
 /// Runs a service until its clients are done.
 pub(crate) fn served<
     R: Net<Listener = TcpListener, Stream = TcpStream> + Threads + Wait + Clock + Sync,
@@ -131,7 +144,9 @@ pub(crate) fn served<
     let (heard, status) = thread::join(
         rt,
         || stage.ends(clients()),
-        || serve(rt, alloc, given, Some(until), &mut output, &mut faults),
+        || -> u8
+            requires { (64 ≤ given.side) × (given.side ≤ 1024) × (given.side % 64 ≡ 0) }
+        { serve(rt, alloc, given, Some(until), &mut output, &mut faults) },
     );
     Seen {
         heard,

@@ -1,25 +1,13 @@
 //! How long clients are waited for, and how long they wait.
 
 use crate::client::{ERODE, ERODED, answers, connect, rest, say};
-use crate::stage::{Stage, served};
-use mw_server::Service;
+use crate::stage::{Stage, served, service};
 use std::alloc::Global;
 use std::io;
 use std::io::Read;
 use std::net::{Net, TcpStream};
 use std::test::Fail;
 use std::time::{Clock, Duration};
-
-/// A service of one session.
-fn service(idle: Option<u32>) -> Service {
-    Service {
-        port: 0,
-        workers: 1,
-        sessions: 1,
-        side: 64,
-        idle,
-    }
-}
 
 /// The bytes of a picture of 1024 x 1024 samples, behind a line that loads it.
 fn picture(alloc: Global) -> io::Result<Vec<u8>> {
@@ -51,7 +39,7 @@ fn a_silent_client_is_not_waited_for(rt: HostRuntime) -> Result<(), Fail> {
     let seen = served(
         &rt,
         alloc,
-        service(Some(1)),
+        service(0, 1, 1, Some(1)),
         &stage,
         || silent(&rt, alloc, &stage),
     );
@@ -87,7 +75,7 @@ fn a_deaf_client_is_not_waited_for(rt: HostRuntime) -> Result<(), Fail> {
     let seen = served(
         &rt,
         alloc,
-        service(Some(1)),
+        service(0, 1, 1, Some(1)),
         &stage,
         || behind_a_deaf_one(&rt, alloc, &stage),
     );
@@ -123,7 +111,7 @@ fn one_client_more_waits_its_turn(rt: HostRuntime) -> Result<(), Fail> {
     let seen = served(
         &rt,
         alloc,
-        service(None),
+        service(0, 1, 1, None),
         &stage,
         || waits_its_turn(&rt, alloc, &stage),
     );
