@@ -1,8 +1,8 @@
 //! Clients that break off, keep silent, do not listen or speak nonsense, beside one that does well: each session ends by the
 //! rules or waits alone, and none is a fault of the server.
 
-use crate::client::{ERODE, answers, connect, heard, service};
-use mw_listen::{Kernels, listen};
+use crate::client::{ERODE, answers, connect, heard};
+use mw_listen::{Kernels, Service, listen};
 use mw_wire::Sink;
 use std::alloc::Global;
 use std::io::{Read, Write};
@@ -71,7 +71,14 @@ fn all_heard<R: Net<Stream = TcpStream>>(rt: &R, alloc: Global) -> io::Result<[V
 #[test]
 fn bad_peers_end_alone(rt: HostRuntime) -> Result<(), Fail> {
     let alloc = rt.alloc();
-    let given = service(PORT, PEERS);
+    let given = Service {
+        port: PORT,
+        workers: 2,
+        sessions: PEERS,
+        side: 128,
+        idle: None,
+        announce: false,
+    };
     let gate = Kernels { alloc };
     let mut output = Sink::new(Vec::new(alloc));
     let mut faults = Sink::new(Vec::new(alloc));

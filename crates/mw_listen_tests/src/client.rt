@@ -1,6 +1,5 @@
 //! Clients of a server that is in the same process.
 
-use mw_listen::Service;
 use std::alloc::Global;
 use std::io::{Read, Write};
 use std::net::{Ipv4Addr, Net, Shutdown, TcpStream};
@@ -12,18 +11,6 @@ pub(crate) const ERODE: &[u8] =
 
 pub(crate) const ERODED: &[u8] =
     b"OK 0\nOK 1\nOK 2\nDONE 2 GREY 5 1 9\nIMAGE 2 14\nP5\n5 1\n9\n\x01\x01\x01\x01\x01";
-
-/// A server of so many sessions, with two workers.
-pub(crate) fn service(port: u16, sessions: usize) -> Service {
-    Service {
-        port,
-        workers: 2,
-        sessions,
-        side: 128,
-        idle: None,
-        announce: false,
-    }
-}
 
 /// A connection to the server, which may not listen yet.
 pub(crate) fn connect<R: Net<Stream = TcpStream>>(rt: &R, port: u16) -> io::Result<TcpStream> {

@@ -1,7 +1,7 @@
 //! Each test has a port of its own.
 
-use crate::client::{ERODE, ERODED, answers, service};
-use mw_listen::{Kernels, listen};
+use crate::client::{ERODE, ERODED, answers};
+use mw_listen::{Kernels, Service, listen};
 use mw_pool::Gate;
 use mw_task::{TaskRefused, TileDone, Work};
 use mw_wire::Sink;
@@ -63,7 +63,14 @@ impl Gate for Meeting {
 #[test]
 fn one_session(rt: HostRuntime) -> Result<(), Fail> {
     let alloc = rt.alloc();
-    let given = service(7001, 1);
+    let given = Service {
+        port: 7001,
+        workers: 2,
+        sessions: 1,
+        side: 128,
+        idle: None,
+        announce: false,
+    };
     let gate = Kernels { alloc };
     let mut output = Sink::new(Vec::new(alloc));
     let mut faults = Sink::new(Vec::new(alloc));
@@ -83,7 +90,14 @@ fn one_session(rt: HostRuntime) -> Result<(), Fail> {
 #[test]
 fn workers_overlap(rt: HostRuntime) -> Result<(), Fail> {
     let alloc = rt.alloc();
-    let given = service(7002, 1);
+    let given = Service {
+        port: 7002,
+        workers: 2,
+        sessions: 1,
+        side: 128,
+        idle: None,
+        announce: false,
+    };
     let gate = Meeting::new(alloc);
     let mut output = Sink::new(Vec::new(alloc));
     let mut faults = Sink::new(Vec::new(alloc));
@@ -113,7 +127,14 @@ fn two_answers<R: Net<Stream = TcpStream>>(
 #[test]
 fn two_sessions_share_names(rt: HostRuntime) -> Result<(), Fail> {
     let alloc = rt.alloc();
-    let given = service(7003, 2);
+    let given = Service {
+        port: 7003,
+        workers: 2,
+        sessions: 2,
+        side: 128,
+        idle: None,
+        announce: false,
+    };
     let gate = Kernels { alloc };
     let mut output = Sink::new(Vec::new(alloc));
     let mut faults = Sink::new(Vec::new(alloc));
@@ -133,7 +154,14 @@ fn two_sessions_share_names(rt: HostRuntime) -> Result<(), Fail> {
 fn port_in_use(rt: HostRuntime) -> Result<(), Fail> {
     let alloc = rt.alloc();
     let _first = TcpListener::bind(&rt, (Ipv4Addr::LOCALHOST, 7004))?;
-    let given = service(7004, 1);
+    let given = Service {
+        port: 7004,
+        workers: 2,
+        sessions: 1,
+        side: 128,
+        idle: None,
+        announce: false,
+    };
     let mut output = Sink::new(Vec::new(alloc));
     let mut faults = Sink::new(Vec::new(alloc));
     let status = listen(

@@ -1,8 +1,8 @@
 //! The line that tells the port, and clients that are not waited for.
 
 use crate::bad_peers::deaf;
-use crate::client::{ERODE, ERODED, answers, heard, service};
-use mw_listen::{Kernels, listen};
+use crate::client::{ERODE, ERODED, answers, heard};
+use mw_listen::{Kernels, Service, listen};
 use mw_wire::Sink;
 use std::alloc::Global;
 use std::io::Write;
@@ -13,8 +13,14 @@ use std::{io, thread};
 #[test]
 fn port_is_told(rt: HostRuntime) -> Result<(), Fail> {
     let alloc = rt.alloc();
-    let mut given = service(7006, 1);
-    given.announce = true;
+    let given = Service {
+        port: 7006,
+        workers: 2,
+        sessions: 1,
+        side: 128,
+        idle: None,
+        announce: true,
+    };
     let gate = Kernels { alloc };
     let mut output = Sink::new(Vec::new(alloc));
     let mut faults = Sink::new(Vec::new(alloc));
@@ -50,8 +56,14 @@ impl Write for Full {
 #[test]
 fn line_that_nobody_takes(rt: HostRuntime) -> Result<(), Fail> {
     let alloc = rt.alloc();
-    let mut given = service(7007, 1);
-    given.announce = true;
+    let given = Service {
+        port: 7007,
+        workers: 2,
+        sessions: 1,
+        side: 128,
+        idle: None,
+        announce: true,
+    };
     let gate = Kernels { alloc };
     let mut output = Sink::new(Full);
     let mut faults = Sink::new(Vec::new(alloc));
@@ -75,8 +87,14 @@ fn ended<R: Net<Stream = TcpStream>>(rt: &R, alloc: Global) -> io::Result<(Vec<u
 #[test]
 fn clients_that_are_not_waited_for(rt: HostRuntime) -> Result<(), Fail> {
     let alloc = rt.alloc();
-    let mut given = service(7008, 2);
-    given.idle = Some(1);
+    let given = Service {
+        port: 7008,
+        workers: 2,
+        sessions: 2,
+        side: 128,
+        idle: Some(1),
+        announce: false,
+    };
     let gate = Kernels { alloc };
     let mut output = Sink::new(Vec::new(alloc));
     let mut faults = Sink::new(Vec::new(alloc));
