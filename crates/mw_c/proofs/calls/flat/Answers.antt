@@ -26,6 +26,6 @@ write_by-requires g c =
     record {
       sound = given;
       element = where_none c.fault.result (IsElementBitmap c.args.b.now) parts.element c.fault.ensures.sound;
-      room = room_is (length c.args.out.old) c.count.result (sym c.room_fault-room.ensures ∙ parts.room) ∙ c.count.ensures;
+      room = room_is (length c.args.out.now) c.count.result (sym c.room_fault-room.ensures ∙ parts.room) ∙ c.count.ensures;
       stands = c.requires given;
     }

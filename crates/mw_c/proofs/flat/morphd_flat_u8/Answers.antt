@@ -19,7 +19,7 @@ returns-clause-made c zero =
 pub returns-clause-kept : goal.returns-clause-kept
 returns-clause-kept c not_zero =
     let same : to_z w32 (of_z w32 c.answer.result) ≡ c.answer.result = search rules in
-    kept_else c.flat.result (to_z w32 (of_z w32 c.answer.result)) (c.flat.new.out ≡ c.args.out.old) (same ∙ c.answer.ensures) c.flat.ensures.kept not_zero
+    kept_else c.flat.result (to_z w32 (of_z w32 c.answer.result)) (c.flat.new.out ≡ c.args.out.now) (same ∙ c.answer.ensures) c.flat.ensures.kept not_zero
 
 pub returns-clause-first : goal.returns-clause-first
 returns-clause-first c =
