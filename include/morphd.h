@@ -41,7 +41,9 @@
  *   3. out_count is not the length of the result: MORPHD_LENGTH
  *   4. the element: MORPHD_SIZE, MORPHD_LENGTH, MORPHD_ORIGIN, MORPHD_EMPTY; then a second one in the same way
  *   5. what the operation asks of the element's pixels: MORPHD_NO_ORIGIN, MORPHD_PARAM (k of a rank), MORPHD_OVERLAP
- * MORPHD_MEMORY may come in the place of the result, or of 5, since the element has to be in memory for that.
+ * MORPHD_MEMORY may come in the place of the result, or of 5, since the element has to be in memory for that. The flat calls
+ * and thresholds write strips of rows: all that can be refused is asked for before the first is written. A later strip for
+ * which there is no memory is made sample by sample, slowly, and the answer is 0.
  *
  * Of every function it is proved that it makes and answers what this file says. docs/DEFINITIONS.md has the operators,
  * docs/PROTOCOL.md the numbers, docs/LIBRARY.md programs.

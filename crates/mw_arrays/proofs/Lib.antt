@@ -4,4 +4,5 @@ pub mod SourceImages
 -- the crate's own
 mod Bitmaps
 mod SoundImages
+mod Tops
 mod Written

@@ -41,17 +41,23 @@ pub(crate) fn fills(count: usize, width: u32, height: u32) -> bool
     count == height as usize * width as usize
 }
 
-/// Whether a sample is over the level.
+/// Whether a sample is over the level. At the top of its type none is looked at.
 pub(crate) fn any_over_8(samples: &[u8], most: u32) -> bool
     ensures { result ≡ list_any (λ s. nat_lt most s) samples.now }
 {
+    if most >= 255 {
+        return false;
+    }
     samples.iter().any(|s| u32::from(*s) > most)
 }
 
-/// Whether a sample is over the level.
+/// Whether a sample is over the level. At the top of its type none is looked at.
 pub(crate) fn any_over_16(samples: &[u16], most: u32) -> bool
     ensures { result ≡ list_any (λ s. nat_lt most s) samples.now }
 {
+    if most >= 65535 {
+        return false;
+    }
     samples.iter().any(|s| u32::from(*s) > most)
 }
 

@@ -50,6 +50,11 @@ pub measured_zero : (r : Result (List ℕ) Code) (v new : List ℕ) (answer : �
 measured_zero (Ok w) v new answer is value made zero = made ∙ value
 measured_zero (Err c) v new answer is value made zero = absurd (number_not_zero c (sym is ∙ zero))
 
+-- what was written stands on 0
+pub written_zero : {A : Type 0} (r : Result A Code) (answer : ℤ) (P : Type 0) → answer ≡ answer_of r → IfOk r (λ _. P) → answer ≡ pos 0 → P
+written_zero {A} (Ok a) answer P is written zero = written
+written_zero {A} (Err c) answer P is written zero = absurd (number_not_zero c (sym is ∙ zero))
+
 -- else the array is as it was
 pub kept_else : {A : Type 0} (r : Result A Code) (answer : ℤ) (P : Type 0) → answer ≡ answer_of r → IfErr r (λ _. P) → (answer ≡ pos 0 → ⊥) → P
 kept_else {A} (Ok a) answer P is kept not_zero = absurd (not_zero is)

@@ -46,6 +46,18 @@ told_first A (Some d) asked c e =
     ap (λ (x : Code). let r : Result A Code = Err x in r) same
 told_first A None asked c e = absurd cc
 
+-- what is missed is told
+pub told_asked : (A : Type 0) (asked : Option Code) (c : Code) → asked ≡ Some c → IsTold {A = A} None asked (Err c)
+told_asked A (Some d) c e =
+    let same : c ≡ d = cc in
+    inl (ap (λ (x : Code). let r : Result A Code = Err x in r) same)
+told_asked A None c e = absurd cc
+
+-- where nothing is missed something is made
+pub told_made : {A : Type 0} (asked : Option Code) (a : A) → asked ≡ None → IsTold None asked (Ok a)
+told_made {A} (Some c) a e = absurd cc
+told_made {A} None a e = tt
+
 -- where nothing is wrong with them, what is told stands behind it
 pub told_behind : {A : Type 0} (first asked : Option Code) (r : Result A Code) → first ≡ None → IsTold None asked r → IsTold first asked r
 told_behind {A} (Some d) asked r e told = absurd cc

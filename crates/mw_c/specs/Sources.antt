@@ -1,39 +1,11 @@
--- Images that stand in arrays, whatever their samples.
-use Rattle.std.specs.Prelude.{◌≡◌, ℕ, ◌*◌, ◌≤◌, List, length, Option}
-use Rattle.mw_model.specs.declared.codes.Code.{Code}
+-- Images and elements that stand in arrays.
+use Rattle.std.specs.Prelude.{◌≡◌, ℕ, ◌*◌, ◌≤◌, List, length}
 use Rattle.mw_model.specs.declared.limits.TheConstants.{PIXEL_LIMIT, SIDE_LIMIT}
 use Rattle.mw_model.specs.Elements.{Figure, figure_of}
-use Rattle.mw_model.specs.Pictures.{Picture, IsImage}
 use Rattle.mw_arrays.specs.declared.arrays.Bitmap.{Bitmap}
-use Rattle.mw_arrays.specs.Arrays.{bitmap_raster, grey16_picture, grey8_picture, set_picture}
-use Rattle.mw_arrays.specs.Faults.{grey16_fault, grey8_fault, set_fault}
-use Rattle.mw_arrays.specs.Sound.{IsGrey16, IsGrey8}
-use Rattle.mw_c.specs.declared.sources.Source.{Source}
-use Rattle.mw_c.specs.declared.sources.Source.TheVariants as source
-
--- the image
-abbrev pub picture_in : Source → Picture
-picture_in (source.Grey8 f) = grey8_picture f
-picture_in (source.Grey16 f) = grey16_picture f
-picture_in (source.Pixels f) = set_picture f
-
--- what is wrong with it
-abbrev pub source_fault : Source → Option Code
-source_fault (source.Grey8 f) = grey8_fault f
-source_fault (source.Grey16 f) = grey16_fault f
-source_fault (source.Pixels f) = set_fault f
-
--- how many samples it has
-abbrev pub source_count : Source → ℕ
-source_count (source.Grey8 f) = length f.samples.now
-source_count (source.Grey16 f) = length f.samples.now
-source_count (source.Pixels f) = length f.pixels.now
-
--- nothing is wrong with it
-abbrev pub IsSource : Source → Type 0
-IsSource (source.Grey8 f) = IsGrey8 f
-IsSource (source.Grey16 f) = IsGrey16 f
-IsSource (source.Pixels f) = IsImage (set_picture f)
+use Rattle.mw_arrays.specs.Arrays.{bitmap_raster}
+use Rattle.mw_arrays.specs.declared.sources.Source.{Source}
+use Rattle.mw_arrays.specs.declared.sources.Source.TheVariants as source
 
 -- levels up to this maxval stand in samples as those of the image do
 abbrev pub StandsIn : Source → ℕ → Type 0

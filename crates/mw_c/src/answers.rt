@@ -13,6 +13,16 @@ fn number(code: Code) -> i32
     i32::from(code.number())
 }
 
+/// Tells of what was written.
+pub(crate) fn answer(written: Result<(), Code>) -> i32
+    ensures { result ≡ answer_of written }
+{
+    match written {
+        Ok(()) => 0,
+        Err(code) => number(code),
+    }
+}
+
 /// Writes an image of one byte a sample.
 pub(crate) fn answer_bytes(made: Result<Image, Code>, out: &mut [u8]) -> i32
     requires size { IfOk made (λ g. length g.samples ≡ length out.old) }

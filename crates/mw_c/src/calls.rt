@@ -1,20 +1,22 @@
 //! Calls of C: what is wrong with them is told before anything is made.
 
-ghost use Rattle.std.specs.Prelude.{◌≡◌, ◌+◌, ◌≤◌, length, None, IfOk};
+ghost use Rattle.std.specs.Prelude.{◌≡◌, ◌+◌, ◌≤◌, length, map, None, IfErr, IfOk};
 ghost use Rattle.mw_model.specs.Flat.{hit_or_miss, threshold};
 ghost use Rattle.mw_model.specs.Iterates.{restoration, skeleton, spectrum};
 ghost use Rattle.mw_model.specs.Refusals.{param_case};
 ghost use Rattle.mw_arrays.specs.Arrays.{element_in, set_picture};
 ghost use Rattle.mw_arrays.specs.Faults.{bitmap_fault, set_fault};
+ghost use Rattle.mw_arrays.specs.Sources.{IsSource, picture_in, source_count, source_fault};
 ghost use Rattle.mw_c.specs.Answers.{IsTold};
 ghost use Rattle.mw_c.specs.Calls.{call_fault, flat_asks, flat_of, no_origin_case, operation_case, overlap_case, room_case};
-ghost use Rattle.mw_c.specs.Sources.{StandsIn, picture_in, source_count, source_fault};
+ghost use Rattle.mw_c.specs.Sources.{StandsIn};
 
-use crate::making::{drawn_by, hits_of, measured_by, upper_set};
-use crate::operations::{flat_op, name};
-use crate::sources::{Source, source_count, source_fault};
-use mw_arrays::{Bitmap, Code, Set, first_of, when};
+use crate::making::{drawn_by, hits_of, measured_by};
+use crate::operations::name;
+use crate::ways::{way_of, write_by};
+use mw_arrays::{Bitmap, Code, NoMemory, Set, Source, first_of, when};
 use mw_direct::{Curve, GranOp, Image, Op};
+use mw_strips::{Sample, threshold_into};
 use std::alloc::Global;
 
 /// What is wrong with the number of a call.
@@ -43,41 +45,45 @@ fn refused(
     first_of(&[number, image, room, element])
 }
 
-/// A flat operator, for an array of so many places.
-pub(crate) fn flat(
+/// Writes a flat operator.
+pub(crate) fn flat<P: Sample>(
     alloc: Global,
     numbers: (u32, u32),
     f: Source<'_>,
     b: &Bitmap<'_>,
-    room: usize,
-) -> Result<Image, Code>
-    ensures value { IfOk result (λ g. g ≡ flat_of numbers.0 numbers.1 (element_in b.now) (picture_in f.entry)) }
-    ensures size { IfOk result (λ g. length g.samples ≡ room) }
-    ensures levels { IfOk result (λ g. StandsIn f.entry g.maxval) }
-    ensures told { IsTold (call_fault (operation_case numbers.0) (source_fault f.entry) (room_case room (source_count f.entry)) (bitmap_fault b.now)) (flat_asks numbers.0 numbers.1 (element_in b.now)) result }
+    out: &mut [P],
+) -> Result<(), Code>
+    requires { IsSource f → P.stands (picture_in f).maxval }
+    ensures made { IfOk result (λ _. map P.level out.new ≡ (flat_of numbers.0 numbers.1 (element_in b.now) (picture_in f.entry)).samples) }
+    ensures kept { IfErr result (λ _. out.new ≡ out.old) }
+    ensures told { IsTold (call_fault (operation_case numbers.0) (source_fault f.entry) (room_case (length out.old) (source_count f.entry)) (bitmap_fault b.now)) (flat_asks numbers.0 numbers.1 (element_in b.now)) result }
 {
     let (operation, k) = numbers;
     let number = when(operation >= 8, Code::Param);
-    let room = room_fault(room, source_count(f));
-    if let Some(code) = refused(number, source_fault(f), room, b.fault()) {
+    let image = f.fault();
+    let room = room_fault(out.len(), f.count());
+    if let Some(code) = refused(number, image, room, b.fault()) {
         return Err(code);
     }
-    drawn_by(alloc, &flat_op(operation, k), f, b)
+    write_by(alloc, way_of(operation, k), f, b, out)
 }
 
-/// A threshold, for an array of so many places.
-pub(crate) fn upper(alloc: Global, k: u32, f: Source<'_>, room: usize) -> Result<Image, Code>
-    ensures value { IfOk result (λ g. g ≡ threshold k (picture_in f.entry)) }
-    ensures size { IfOk result (λ g. length g.samples ≡ room) }
-    ensures small { IfOk result (λ g. g.maxval ≤ 255) }
-    ensures told { IsTold (call_fault (param_case 0 65535 k) (source_fault f.entry) (room_case room (source_count f.entry)) None) None result }
+/// Writes a threshold.
+pub(crate) fn upper(alloc: Global, k: u32, f: Source<'_>, out: &mut [u8]) -> Result<(), Code>
+    ensures made { IfOk result (λ _. out.new ≡ (threshold k (picture_in f.entry)).samples) }
+    ensures kept { IfErr result (λ _. out.new ≡ out.old) }
+    ensures told { IsTold (call_fault (param_case 0 65535 k) (source_fault f.entry) (room_case (length out.old) (source_count f.entry)) None) None result }
 {
     let number = number_fault(0, 65535, k);
-    let room = room_fault(room, source_count(f));
-    if let Some(code) = refused(number, source_fault(f), room, None) {
+    let image = f.fault();
+    let room = room_fault(out.len(), f.count());
+    if let Some(code) = refused(number, image, room, None) {
         return Err(code);
     }
-    upper_set(alloc, k, f)
+    match threshold_into(alloc, k, f, out) {
+        Ok(()) => Ok(()),
+        Err(NoMemory) => Err(Code::Memory),
+    }
 }
 
 /// Hits and misses, for an array of so many places.
@@ -93,8 +99,9 @@ pub(crate) fn hits(
     ensures levels { IfOk result (λ g. StandsIn f.entry g.maxval) }
     ensures told { IsTold (call_fault (source_fault f.entry) (room_case room (source_count f.entry)) (bitmap_fault hit.now) (bitmap_fault miss.now)) (overlap_case (element_in hit.now) (element_in miss.now)) result }
 {
-    let room = room_fault(room, source_count(f));
-    if let Some(code) = refused(source_fault(f), room, hit.fault(), miss.fault()) {
+    let image = f.fault();
+    let room = room_fault(room, f.count());
+    if let Some(code) = refused(image, room, hit.fault(), miss.fault()) {
         return Err(code);
     }
     hits_of(alloc, f, hit, miss)
@@ -114,8 +121,9 @@ pub(crate) fn marks(
     ensures told { IsTold (call_fault (param_case 1 254 levels) (set_fault f.entry) (room_case room (length f.entry.pixels.now)) (bitmap_fault b.now)) (no_origin_case (element_in b.now)) result }
 {
     let number = number_fault(1, 254, levels);
+    let image = f.fault();
     let room = room_fault(room, f.pixels.len());
-    if let Some(code) = refused(number, f.fault(), room, b.fault()) {
+    if let Some(code) = refused(number, image, room, b.fault()) {
         return Err(code);
     }
     let op = Op::Gran(GranOp::Skeleton(name(), name(), levels));
@@ -136,8 +144,9 @@ pub(crate) fn restored(
     ensures told { IsTold (call_fault (param_case 1 254 levels) (source_fault f.entry) (room_case room (source_count f.entry)) (bitmap_fault b.now)) None result }
 {
     let number = number_fault(1, 254, levels);
-    let room = room_fault(room, source_count(f));
-    if let Some(code) = refused(number, source_fault(f), room, b.fault()) {
+    let image = f.fault();
+    let room = room_fault(room, f.count());
+    if let Some(code) = refused(number, image, room, b.fault()) {
         return Err(code);
     }
     let op = Op::Gran(GranOp::Restore(name(), name(), levels));
@@ -157,8 +166,9 @@ pub(crate) fn volumes(
     ensures told { IsTold (call_fault (param_case 1 32 levels) (source_fault f.entry) (room_case room (levels + 1)) (bitmap_fault b.now)) None result }
 {
     let number = number_fault(1, 32, levels);
+    let image = f.fault();
     let room = room_fault(room, levels as usize + 1);
-    if let Some(code) = refused(number, source_fault(f), room, b.fault()) {
+    if let Some(code) = refused(number, image, room, b.fault()) {
         return Err(code);
     }
     let op = Op::Gran(GranOp::Spectrum(name(), name(), levels));

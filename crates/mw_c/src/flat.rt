@@ -6,10 +6,9 @@ ghost use Rattle.mw_arrays.specs.Faults.{element_fault, levels_fault, pixels_fau
 ghost use Rattle.mw_c.specs.Answers.{IsAnswer};
 ghost use Rattle.mw_c.specs.Calls.{call_fault, flat_asks, flat_of, operation_case, room_case};
 
-use crate::answers::{answer_bytes, answer_words};
+use crate::answers::answer;
 use crate::calls::flat;
-use crate::sources::Source;
-use mw_arrays::{Bitmap, Grey8, Grey16, Set};
+use mw_arrays::{Bitmap, Grey8, Grey16, Set, Source};
 use std::alloc::Global;
 
 /// The flat operator of a number on levels of one byte.
@@ -47,10 +46,7 @@ pub extern "C" fn morphd_flat_u8(
         origin_y: element_y,
     };
     let source = Source::Grey8(image);
-    answer_bytes(
-        flat(alloc, (operation, k), source, &element, out.len()),
-        out,
-    )
+    answer(flat(alloc, (operation, k), source, &element, out))
 }
 
 /// The flat operator of a number on levels of two bytes.
@@ -88,10 +84,7 @@ pub extern "C" fn morphd_flat_u16(
         origin_y: element_y,
     };
     let source = Source::Grey16(image);
-    answer_words(
-        flat(alloc, (operation, k), source, &element, out.len()),
-        out,
-    )
+    answer(flat(alloc, (operation, k), source, &element, out))
 }
 
 /// The flat operator of a number on a set, whose pixels are made 1 and the others 0.
@@ -127,8 +120,5 @@ pub extern "C" fn morphd_flat_set(
         origin_y: element_y,
     };
     let source = Source::Pixels(image);
-    answer_bytes(
-        flat(alloc, (operation, k), source, &element, out.len()),
-        out,
-    )
+    answer(flat(alloc, (operation, k), source, &element, out))
 }

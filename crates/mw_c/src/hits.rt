@@ -9,8 +9,7 @@ ghost use Rattle.mw_c.specs.Calls.{call_fault, overlap_case, room_case};
 
 use crate::answers::{answer_bytes, answer_words};
 use crate::calls::hits;
-use crate::sources::Source;
-use mw_arrays::{Bitmap, Grey8, Grey16, Set};
+use mw_arrays::{Bitmap, Grey8, Grey16, Set, Source};
 use std::alloc::Global;
 
 /// The erosion by one element less the dilation by the other, of levels of one byte.

@@ -21,3 +21,4 @@ mod sources;
 mod spectra;
 mod thresholds;
 mod version;
+mod ways;

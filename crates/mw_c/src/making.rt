@@ -1,20 +1,21 @@
 //! What operations make of arrays with which nothing is wrong.
 
-ghost use Rattle.std.specs.Prelude.{◌≡◌, ◌≤◌, Some, None, [], ◌∷◌, true, false, IfOk};
-ghost use Rattle.mw_model.specs.Flat.{hit_or_miss, threshold};
+ghost use Rattle.std.specs.Prelude.{◌≡◌, Some, None, [], ◌∷◌, true, false, IfOk};
+ghost use Rattle.mw_model.specs.Flat.{hit_or_miss};
 ghost use Rattle.mw_model.specs.Pictures.{IsImage};
 ghost use Rattle.mw_model.specs.Values.{CurveValue, ElementValue, ImageValue, result_of};
 ghost use Rattle.mw_arrays.specs.Arrays.{element_in};
 ghost use Rattle.mw_arrays.specs.Sound.{IsElementBitmap};
+ghost use Rattle.mw_arrays.specs.Sources.{IsSource, picture_in};
 ghost use Rattle.mw_direct.specs.Values.{IsSoundMade, value_made};
 ghost use Rattle.mw_c.specs.Answers.{IsTold};
 ghost use Rattle.mw_c.specs.Calls.{asks, is_drawing, overlap_case, takes_one};
-ghost use Rattle.mw_c.specs.Sources.{IsSource, figure_in, picture_in};
+ghost use Rattle.mw_c.specs.Sources.{figure_in};
 
 use crate::elements::element;
 use crate::operations::name;
-use crate::sources::{Source, image};
-use mw_arrays::{Bitmap, Code};
+use crate::sources::image;
+use mw_arrays::{Bitmap, Code, Source};
 use mw_direct::{Curve, FlatOp, Image, Made, Op, apply};
 use std::alloc::Global;
 
@@ -74,25 +75,6 @@ pub(crate) fn measured_by(
         Ok(Made::Curve(curve)) => Ok(curve),
         Ok(Made::Image(_)) => unreachable!(),
         Err(code) => Err(code),
-    }
-}
-
-/// The set of the places with level `k` or more.
-pub(crate) fn upper_set(alloc: Global, k: u32, f: Source<'_>) -> Result<Image, Code>
-    requires image { IsSource f }
-    requires small { k ≤ 65535 }
-    ensures value { IfOk result (λ g. g ≡ threshold k (picture_in f.entry)) }
-    ensures sound { IfOk result IsImage }
-    ensures told { IsTold None None result }
-{
-    let Ok(image) = image(alloc, f) else {
-        return Err(Code::Memory);
-    };
-    let op = Op::Flat(FlatOp::Threshold(name(), k));
-    match apply(alloc, &op, &image, None, None) {
-        Ok(Made::Image(set)) => Ok(set),
-        Ok(Made::Curve(_)) => unreachable!(),
-        Err(_refused) => Err(Code::Memory),
     }
 }
 

@@ -10,8 +10,7 @@ ghost use Rattle.mw_c.specs.Calls.{call_fault, no_origin_case, room_case};
 
 use crate::answers::answer_bytes;
 use crate::calls::{marks, restored};
-use crate::sources::Source;
-use mw_arrays::{Bitmap, Grey8, Grey16, Set};
+use mw_arrays::{Bitmap, Grey8, Grey16, Set, Source};
 use std::alloc::Global;
 
 /// The marks of a skeleton of a set.

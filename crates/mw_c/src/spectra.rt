@@ -10,8 +10,7 @@ ghost use Rattle.mw_c.specs.Calls.{call_fault, room_case};
 
 use crate::answers::answer_volumes;
 use crate::calls::volumes;
-use crate::sources::Source;
-use mw_arrays::{Bitmap, Grey8, Grey16, Set};
+use mw_arrays::{Bitmap, Grey8, Grey16, Set, Source};
 use std::alloc::Global;
 
 /// The volumes of levels of one byte.

@@ -8,10 +8,9 @@ ghost use Rattle.mw_arrays.specs.Faults.{levels_fault};
 ghost use Rattle.mw_c.specs.Answers.{IsAnswer};
 ghost use Rattle.mw_c.specs.Calls.{call_fault, room_case};
 
-use crate::answers::answer_bytes;
+use crate::answers::answer;
 use crate::calls::upper;
-use crate::sources::Source;
-use mw_arrays::{Grey8, Grey16};
+use mw_arrays::{Grey8, Grey16, Source};
 use std::alloc::Global;
 
 /// The set of the places with level `k` or more, of levels of one byte.
@@ -35,7 +34,7 @@ pub extern "C" fn morphd_threshold_u8(
         height,
         maxval: maxval as u32,
     };
-    answer_bytes(upper(alloc, k, Source::Grey8(image), out.len()), out)
+    answer(upper(alloc, k, Source::Grey8(image), out))
 }
 
 /// The set of the places with level `k` or more, of levels of two bytes.
@@ -59,5 +58,5 @@ pub extern "C" fn morphd_threshold_u16(
         height,
         maxval: maxval as u32,
     };
-    answer_bytes(upper(alloc, k, Source::Grey16(image), out.len()), out)
+    answer(upper(alloc, k, Source::Grey16(image), out))
 }

@@ -1,27 +1,31 @@
-use Rattle.std.proofs.Common.{◌≡◌, ◌∙◌, None, rules, sym}
+use Rattle.std.proofs.Common.{◌≡◌, ◌∙◌, None, ap, length, map, rules, sym}
+use Rattle.std.proofs.lemmas.Result.{IfOk-weaker}
+use Rattle.mw_model.specs.Pictures.{Picture}
 use Rattle.mw_arrays.specs.Arrays.{element_in}
+use Rattle.mw_arrays.specs.Sound.{IsElementBitmap}
+use Rattle.mw_arrays.specs.Sources.{IsSource, picture_in}
 use Rattle.mw_c.specs.Calls.{flat_of}
-use Rattle.mw_c.specs.Sources.{IsSource, figure_in, picture_in}
-use Rattle.mw_c.proofs.Meant.{value_by, value_is}
+use Rattle.mw_c.specs.Ways.{way_picture}
 use Rattle.mw_c.proofs.Passed.{passed, room_is, where_none}
-use Rattle.mw_c.proofs.Sized.{flat_fills, flat_levels}
 use Rattle.mw_c.proofs.calls.flat.Goals as goal
 
-pub returns-clause-size : goal.returns-clause-size
-returns-clause-size c =
-    let none : c.refused.result ≡ None = search rules in
-    let parts = passed c.when-number.result c.source_fault.result c.room_fault-room.result c.fault.result (sym c.refused.ensures ∙ none) in
-    let given = where_none c.source_fault.result (IsSource c.args.f) parts.image c.source_fault.ensures.sound in
-    let room = room_is c.args.room c.source_count.result (sym c.room_fault-room.ensures ∙ parts.room) ∙ c.source_count.ensures in
-    let value = value_is c.drawn_by.result (value_by c.flat_op.result (picture_in c.args.f) (figure_in c.args.b.now)) (flat_of c.args.numbers.0 c.args.numbers.1 (element_in c.args.b.now) (picture_in c.args.f))
-    c.drawn_by.ensures.value (c.flat_op.ensures.value (picture_in c.args.f) (figure_in c.args.b.now)) in
-    flat_fills c.drawn_by.result c.args.numbers.0 c.args.numbers.1 (element_in c.args.b.now) c.args.f c.args.room c.drawn_by.ensures.sound value given room
+pub returns-clause-made : goal.returns-clause-made
+returns-clause-made g c =
+    let e = element_in c.args.b.now in
+    let f = picture_in c.args.f in
+    let made = way_picture c.way_of.result e f in
+    let wanted = flat_of c.args.numbers.0 c.args.numbers.1 e f in
+    IfOk-weaker c.write_by.result (λ _. map g.P.Pixel.level c.write_by.new.out ≡ made.samples) (λ _. map g.P.Pixel.level c.write_by.new.out ≡ wanted.samples)
+    (λ _ is. is ∙ ap (λ (p : Picture). p.samples) (c.way_of.ensures.value e f)) c.write_by.ensures.made
 
-pub returns-clause-levels : goal.returns-clause-levels
-returns-clause-levels c =
+pub write_by-requires : goal.write_by-requires
+write_by-requires g c =
     let none : c.refused.result ≡ None = search rules in
-    let parts = passed c.when-number.result c.source_fault.result c.room_fault-room.result c.fault.result (sym c.refused.ensures ∙ none) in
-    let given = where_none c.source_fault.result (IsSource c.args.f) parts.image c.source_fault.ensures.sound in
-    let value = value_is c.drawn_by.result (value_by c.flat_op.result (picture_in c.args.f) (figure_in c.args.b.now)) (flat_of c.args.numbers.0 c.args.numbers.1 (element_in c.args.b.now) (picture_in c.args.f))
-    c.drawn_by.ensures.value (c.flat_op.ensures.value (picture_in c.args.f) (figure_in c.args.b.now)) in
-    flat_levels c.drawn_by.result c.args.numbers.0 c.args.numbers.1 (element_in c.args.b.now) c.args.f value given
+    let parts = passed c.when-number.result c.fault-image.result c.room_fault-room.result c.fault.result (sym c.refused.ensures ∙ none) in
+    let given = where_none c.fault-image.result (IsSource c.args.f) parts.image c.fault-image.ensures.sound in
+    record {
+      sound = given;
+      element = where_none c.fault.result (IsElementBitmap c.args.b.now) parts.element c.fault.ensures.sound;
+      room = room_is (length c.args.out.now) c.count.result (sym c.room_fault-room.ensures ∙ parts.room) ∙ c.count.ensures;
+      stands = c.requires given;
+    }

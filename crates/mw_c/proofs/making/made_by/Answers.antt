@@ -1,4 +1,4 @@
-use Rattle.mw_c.specs.Sources.{picture_in}
+use Rattle.mw_arrays.specs.Sources.{picture_in}
 use Rattle.mw_c.proofs.Asked.{asked_told}
 use Rattle.mw_c.proofs.making.made_by.Goals as goal
 
