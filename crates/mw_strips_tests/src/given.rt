@@ -4,10 +4,21 @@ ghost use Rattle.std.specs.Prelude.{◌≤◌, IfOk};
 ghost use Rattle.mw_arrays.specs.Sources.{IsSource, picture_in};
 
 use mw_images_for_tests::element;
-use mw_strips::{Element, Grey8, Grey16, Set, Source};
+use mw_pixel::{Pixel, copies};
+use mw_strips::{Element, Grey8, Grey16, NoMemory, Set, Source};
 use std::alloc::Global;
 use std::sync::Arc;
 use std::test::Fail;
+
+/// What a call gives, made once more where it was refused for want of memory.
+macro_rules! once_more {
+    ($refused:pat, $call:expr) => {
+        match $call {
+            Err($refused) => $call?,
+            first => first?,
+        }
+    };
+}
 
 /// A plain bitmap with the column and the row of the origin.
 pub(crate) type Bitmap = (&'static [u8], u32, u32);
@@ -86,11 +97,27 @@ pub(crate) fn set(pixels: &[u8], width: u32, height: u32) -> Result<Source<'_>, 
     }
 }
 
-/// The bytes of a set of 0 and 1, with other numbers than 1 in the place of some.
+/// Other numbers than 1 in the place of ones.
 pub(crate) fn various(bytes: &mut [u8]) {
-    for i in 0..bytes.len() {
-        if bytes[i] != 0 {
-            bytes[i] = (i % 255) as u8 + 1;
+    let mut number = 1u8;
+    for s in bytes.iter_mut() {
+        if *s != 0 {
+            *s = number | 1;
+        }
+        number = number.wrapping_add(1);
+    }
+}
+
+/// Samples without a pattern up to a level, the same at each run; made once more where memory was refused.
+pub(crate) fn mixed<P: Pixel>(alloc: Global, count: usize, maxval: u16) -> Result<Vec<P>, Fail> {
+    let mut samples = once_more!(NoMemory, copies(alloc, count, P::TOP));
+    let levels = u32::from(maxval) + 1;
+    let mut state = 1u32;
+    for s in samples.iter_mut() {
+        state = state.wrapping_mul(1664525).wrapping_add(1013904223);
+        if let Some(sample) = P::of(((state >> 16) % levels) as u16) {
+            *s = sample;
         }
     }
+    Ok(samples)
 }

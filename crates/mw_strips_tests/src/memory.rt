@@ -5,7 +5,7 @@ ghost use Rattle.std.specs.Prelude.{◌≡◌, ◌≤◌, length, IfOk};
 ghost use Rattle.mw_arrays.specs.Sources.{IsSource, picture_in, source_count};
 
 use crate::direct::{image_of_bytes, shows, wanted};
-use crate::given::{grey8, set};
+use crate::given::{grey8, mixed, set};
 use crate::jobs::{Job, write};
 use mw_element::ElementFault;
 use mw_model::NoMemory;
@@ -35,18 +35,6 @@ const COUNT: usize = 540672;
 
 /// What no operator writes here.
 const MARK: u8 = 255;
-
-/// Bytes without a pattern, up to a level.
-fn mixed(alloc: Global, maxval: u8) -> Result<Vec<u8>, Fail> {
-    let mut bytes = once_more!(NoMemory, copies(alloc, COUNT, 0u8));
-    let levels = u32::from(maxval) + 1;
-    let mut state = 1u32;
-    for i in 0..bytes.len() {
-        state = state.wrapping_mul(1664525).wrapping_add(1013904223);
-        bytes[i] = ((state >> 16) % levels) as u8;
-    }
-    Ok(bytes)
-}
 
 fn parsed(alloc: Global) -> Result<Element, Fail> {
     let bytes = b"P1\n2 4\n10\n10\n00\n01\n";
@@ -108,14 +96,14 @@ fn job_is_whole(
 }
 
 fn on_levels(rt: &impl Abort, alloc: Global, job: Job) -> Result<(), Fail> {
-    let samples = mixed(alloc, 200)?;
+    let samples = mixed::<u8>(alloc, COUNT, 200)?;
     let f = grey8(&samples, WIDTH, HEIGHT, 200)?;
     job_is_whole(rt, alloc, job, f, &samples, 200)
 }
 
 /// On a set, beside the levels 0 and 1.
 fn on_a_set(rt: &impl Abort, alloc: Global, job: Job) -> Result<(), Fail> {
-    let pixels = mixed(alloc, 1)?;
+    let pixels = mixed::<u8>(alloc, COUNT, 1)?;
     let f = set(&pixels, WIDTH, HEIGHT)?;
     job_is_whole(rt, alloc, job, f, &pixels, 1)
 }
@@ -175,7 +163,7 @@ fn threshold_again(
 #[test]
 fn a_threshold(rt: HostRuntime) -> Result<(), Fail> {
     let alloc = rt.alloc();
-    let samples = mixed(alloc, 200)?;
+    let samples = mixed::<u8>(alloc, COUNT, 200)?;
     let f = grey8(&samples, WIDTH, HEIGHT, 200)?;
     let mut out = once_more!(NoMemory, copies(alloc, f.count(), MARK));
     threshold_again(&rt, alloc, f, out.as_mut_slice())?;

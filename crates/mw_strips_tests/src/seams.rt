@@ -1,13 +1,12 @@
-//! Frames of three strips, the last of which has one row or two, beside the same in one piece.
+//! Frames of three strips beside the same in one piece.
 
 ghost use Rattle.mw_arrays.specs.Sources.{IsSource, picture_in};
 ghost use Rattle.mw_model.specs.Pictures.{IsImage};
 
 use crate::direct::{image_of_bytes, image_of_words, shows, wanted};
-use crate::given::{ELEMENTS, grey8, grey16, set, shared, various};
+use crate::given::{ELEMENTS, grey8, grey16, mixed, set, shared, various};
 use crate::jobs::{Job, write};
-use mw_images_for_tests::{element, noise, row_of};
-use mw_model::Kind;
+use mw_images_for_tests::element;
 use mw_pixel::{Image, copies};
 use mw_strips::{Element, Extremum, Sample, Source};
 use std::alloc::Global;
@@ -15,14 +14,14 @@ use std::process::Abort;
 use std::sync::Arc;
 use std::test::Fail;
 
-/// Each operator once.
-const JOBS: [Job; 5] = [
-    Job::Slide(Extremum::Least),
-    Job::Rank(2),
-    Job::Filter(Extremum::Greatest),
-    Job::Residue(Extremum::Least),
-    Job::Gradient,
-];
+/// Strips of 32, 32 and 2 rows.
+const LOW: (u32, u32) = (8192, 66);
+
+/// Strips of 2730, 2730 and 172 rows.
+const NARROW: (u32, u32) = (96, 5632);
+
+/// The samples of each of the two.
+const COUNT: usize = 540672;
 
 /// Stops where the job writes something else than is made of the image in one piece.
 fn job_is_whole<P: Sample>(
@@ -44,63 +43,48 @@ fn job_is_whole<P: Sample>(
     Ok(())
 }
 
-/// Stops where a job writes something else than is made of the image in one piece.
-fn is_whole<P: Sample>(
-    rt: &impl Abort,
-    alloc: Global,
-    f: Source<'_>,
-    image: &Image,
-    b: &Arc<Element>,
-) -> Result<(), Fail>
-    requires sound { IsSource f }
-    requires stands { P.stands (picture_in f).maxval }
-    requires image { IsImage image.now }
-{
-    for job in JOBS {
-        job_is_whole::<P>(rt, alloc, job, f, image, b)?;
-    }
-    Ok(())
-}
-
 fn bytes_are_whole(
     rt: &impl Abort,
     alloc: Global,
-    width: u32,
-    height: u32,
+    job: Job,
+    sides: (u32, u32),
     b: &Arc<Element>,
 ) -> Result<(), Fail> {
-    let noise = noise(alloc, Kind::Grey, width, height, 200)?;
-    let samples = row_of::<u8>(alloc, noise.samples())?;
+    let (width, height) = sides;
+    let samples = mixed::<u8>(alloc, COUNT, 200)?;
     let image = image_of_bytes(alloc, &samples, width, height, 200)?;
-    is_whole::<u8>(rt, alloc, grey8(&samples, width, height, 200)?, &image, b)
+    let f = grey8(&samples, width, height, 200)?;
+    job_is_whole::<u8>(rt, alloc, job, f, &image, b)
 }
 
 fn words_are_whole(
     rt: &impl Abort,
     alloc: Global,
-    width: u32,
-    height: u32,
+    job: Job,
+    sides: (u32, u32),
     b: &Arc<Element>,
 ) -> Result<(), Fail> {
-    let noise = noise(alloc, Kind::Grey, width, height, 4095)?;
-    let image = image_of_words(alloc, noise.samples(), width, height, 4095)?;
-    let f = grey16(noise.samples(), width, height, 4095)?;
-    is_whole::<u16>(rt, alloc, f, &image, b)
+    let (width, height) = sides;
+    let samples = mixed::<u16>(alloc, COUNT, 4095)?;
+    let image = image_of_words(alloc, &samples, width, height, 4095)?;
+    let f = grey16(&samples, width, height, 4095)?;
+    job_is_whole::<u16>(rt, alloc, job, f, &image, b)
 }
 
 /// A set in strips beside the levels 0 and 1 in one piece.
 fn sets_are_whole(
     rt: &impl Abort,
     alloc: Global,
-    width: u32,
-    height: u32,
+    job: Job,
+    sides: (u32, u32),
     b: &Arc<Element>,
 ) -> Result<(), Fail> {
-    let noise = noise(alloc, Kind::Bit, width, height, 1)?;
-    let mut pixels = row_of::<u8>(alloc, noise.samples())?;
+    let (width, height) = sides;
+    let mut pixels = mixed::<u8>(alloc, COUNT, 1)?;
     let image = image_of_bytes(alloc, &pixels, width, height, 1)?;
     various(pixels.as_mut_slice());
-    is_whole::<u8>(rt, alloc, set(&pixels, width, height)?, &image, b)
+    let f = set(&pixels, width, height)?;
+    job_is_whole::<u8>(rt, alloc, job, f, &image, b)
 }
 
 /// An element of 71 rows, which is higher than some strips, with gaps.
@@ -113,43 +97,48 @@ fn high(alloc: Global) -> Result<Arc<Element>, Fail> {
 }
 
 #[test]
-fn strips_of_32_rows(rt: HostRuntime) -> Result<(), Fail> {
+fn an_erosion(rt: HostRuntime) -> Result<(), Fail> {
     let b = shared(rt.alloc(), ELEMENTS[0])?;
-    bytes_are_whole(&rt, rt.alloc(), 8192, 66, &b)
+    let job = Job::Slide(Extremum::Least);
+    bytes_are_whole(&rt, rt.alloc(), job, LOW, &b)
 }
 
 #[test]
-fn strips_of_2621_rows(rt: HostRuntime) -> Result<(), Fail> {
+fn a_top_hat_of_a_narrow_frame(rt: HostRuntime) -> Result<(), Fail> {
     let b = shared(rt.alloc(), ELEMENTS[0])?;
-    bytes_are_whole(&rt, rt.alloc(), 100, 5243, &b)
+    let job = Job::Residue(Extremum::Least);
+    bytes_are_whole(&rt, rt.alloc(), job, NARROW, &b)
 }
 
 #[test]
-fn an_element_of_rows_below(rt: HostRuntime) -> Result<(), Fail> {
+fn a_bottom_hat_by_rows_below(rt: HostRuntime) -> Result<(), Fail> {
     let b = shared(rt.alloc(), ELEMENTS[1])?;
-    bytes_are_whole(&rt, rt.alloc(), 8192, 66, &b)
+    let job = Job::Residue(Extremum::Greatest);
+    bytes_are_whole(&rt, rt.alloc(), job, LOW, &b)
 }
 
 #[test]
-fn an_element_of_rows_above(rt: HostRuntime) -> Result<(), Fail> {
+fn a_rank_by_rows_above(rt: HostRuntime) -> Result<(), Fail> {
     let b = shared(rt.alloc(), ELEMENTS[2])?;
-    bytes_are_whole(&rt, rt.alloc(), 8192, 66, &b)
+    bytes_are_whole(&rt, rt.alloc(), Job::Rank(2), LOW, &b)
 }
 
 #[test]
-fn an_element_higher_than_a_strip(rt: HostRuntime) -> Result<(), Fail> {
+fn an_opening_by_more_rows_than_a_strip(rt: HostRuntime) -> Result<(), Fail> {
     let b = high(rt.alloc())?;
-    bytes_are_whole(&rt, rt.alloc(), 8192, 66, &b)
+    let job = Job::Filter(Extremum::Least);
+    bytes_are_whole(&rt, rt.alloc(), job, LOW, &b)
 }
 
 #[test]
-fn levels_of_two_bytes(rt: HostRuntime) -> Result<(), Fail> {
+fn a_gradient_of_two_bytes(rt: HostRuntime) -> Result<(), Fail> {
     let b = shared(rt.alloc(), ELEMENTS[0])?;
-    words_are_whole(&rt, rt.alloc(), 8192, 66, &b)
+    words_are_whole(&rt, rt.alloc(), Job::Gradient, LOW, &b)
 }
 
 #[test]
-fn sets(rt: HostRuntime) -> Result<(), Fail> {
+fn a_closing_of_a_set(rt: HostRuntime) -> Result<(), Fail> {
     let b = shared(rt.alloc(), ELEMENTS[0])?;
-    sets_are_whole(&rt, rt.alloc(), 4100, 127, &b)
+    let job = Job::Filter(Extremum::Greatest);
+    sets_are_whole(&rt, rt.alloc(), job, LOW, &b)
 }
