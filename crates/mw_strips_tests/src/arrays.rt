@@ -1,10 +1,7 @@
 //! Arrays: the first thing that is wrong with each, what they show, and images that are written into them.
 
 use mw_arrays::{Bitmap, Code, Grey8, Grey16, Set, Source, levels_of, put_bytes, put_words};
-use mw_images_for_tests::{bit_row, plane_of};
-use mw_pixel::{Bit, Image};
 use std::process::Abort;
-use std::sync::Arc;
 use std::test::Fail;
 
 const SIX: &[u8] = &[3, 0, 7, 200, 5, 9];
@@ -142,10 +139,6 @@ fn images_in_arrays(rt: HostRuntime) -> Result<(), Fail> {
     let mut out = [255u8; 6];
     put_bytes(&levels_of(alloc, SIX, 3, 2)?, &mut out);
     assert!(rt; out.as_slice() == SIX);
-    let plane = plane_of::<Bit>(alloc, &bit_row(alloc, &[1, 0, 0, 1, 1, 0])?)?;
-    let set = Image::bits(Arc::new(alloc, plane)?);
-    put_bytes(&set, &mut out);
-    assert!(rt; out.as_slice() == [1u8, 0, 0, 1, 1, 0].as_slice());
     Ok(())
 }
 

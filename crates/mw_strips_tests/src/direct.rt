@@ -93,9 +93,16 @@ pub(crate) fn wanted(
 /// Whether the array has the samples of the image.
 pub(crate) fn shows<P: Sample>(out: &[P], image: &Image) -> bool {
     let (width, height) = (image.width(), image.height());
-    out.len() == height as usize * width as usize
-        && (0..height).all(|y| (0..width).all(|x| {
+    if out.len() != height as usize * width as usize {
+        return false;
+    }
+    for y in 0..height {
+        for x in 0..width {
             let at = y as usize * width as usize + x as usize;
-            out.get(at).map(|s| s.value()) == Some(image.sample(x, y))
-        }))
+            if out.get(at).map(|s| s.value()) != Some(image.sample(x, y)) {
+                return false;
+            }
+        }
+    }
+    true
 }
