@@ -89,13 +89,14 @@ demo: toolchain python3
 	@python3 examples/demo.py proved
 
 memory: toolchain python3 compiler
-	@python3 -B checks/prove.py morphd mw_memory_tests mw_machine_tests mw_direct_tests
+	@python3 -B checks/prove.py morphd mw_memory_tests mw_machine_tests mw_direct_tests mw_strips_tests
 	@python3 -B checks/refused_memory.py $(MORPHD)
 	@python3 -B checks/fetch_memory.py $(MORPHD)
 	@python3 -B checks/set_memory.py $(MORPHD)
 	@python3 -B checks/refused_tests.py crates/mw_memory_tests/out/mw_memory_tests_tests
 	@python3 -B checks/refused_tests.py crates/mw_machine_tests/out/mw_machine_tests_tests
 	@python3 -B checks/refused_tests.py crates/mw_direct_tests/out/mw_direct_tests_tests
+	@python3 -B checks/refused_tests.py crates/mw_strips_tests/out/mw_strips_tests_tests
 
 # Each of the three soaks for as long as is asked for, and by a seed if one is given: make soak FOR=600 SEED=one
 FOR = 60

@@ -20,6 +20,7 @@ MODULES = {
     "mw_machine_tests_tests": ["machine_calls", "machine_owners", "machine_results"],
     "mw_core_tests_tests": ["refused"],
     "mw_direct_tests_tests": ["memory"],
+    "mw_strips_tests_tests": ["memory"],
 }
 
 

@@ -1,0 +1,92 @@
+//! Operators from array to array by one word, and the same by other ways.
+
+ghost use Rattle.std.specs.Prelude.{◌≡◌, length, IfErr};
+ghost use Rattle.mw_arrays.specs.Sources.{IsSource, picture_in, source_count};
+
+use mw_model::plain::PlainImage;
+use mw_model::{FlatOp, Name, NoMemory, Offset, plain};
+use mw_strips::{
+    Element, Extremum, Sample, Source, filter_into, gradient_into, rank_into, residue_into,
+    slide_into,
+};
+use std::alloc::Global;
+use std::sync::Arc;
+
+/// What is written.
+#[derive(Clone, Copy)]
+pub(crate) enum Job {
+    Slide(Extremum),
+    Rank(u32),
+    Filter(Extremum),
+    Residue(Extremum),
+    Gradient,
+}
+
+/// Each operator, and ranks at the ends and between them.
+pub(crate) const JOBS: [Job; 10] = [
+    Job::Slide(Extremum::Least),
+    Job::Slide(Extremum::Greatest),
+    Job::Rank(1),
+    Job::Rank(2),
+    Job::Rank(4),
+    Job::Filter(Extremum::Least),
+    Job::Filter(Extremum::Greatest),
+    Job::Residue(Extremum::Least),
+    Job::Residue(Extremum::Greatest),
+    Job::Gradient,
+];
+
+/// Writes what the job makes.
+pub(crate) fn write<P: Sample>(
+    alloc: Global,
+    job: Job,
+    f: Source<'_>,
+    b: &Arc<Element>,
+    out: &mut [P],
+) -> Result<(), NoMemory>
+    requires sound { IsSource f }
+    requires room { length out.old ≡ source_count f }
+    requires stands { P.stands (picture_in f).maxval }
+    ensures kept { IfErr result (λ _. out.new ≡ out.old) }
+{
+    match job {
+        Job::Slide(extremum) => slide_into(alloc, extremum, f, b, out),
+        Job::Rank(k) => rank_into(alloc, k, f, b, out),
+        Job::Filter(extremum) => filter_into(alloc, extremum, f, b, out),
+        Job::Residue(extremum) => residue_into(alloc, extremum, f, b, out),
+        Job::Gradient => gradient_into(alloc, f, b, out),
+    }
+}
+
+/// The same operation of the protocol.
+pub(crate) fn operation(job: Job, n: Name) -> FlatOp {
+    match job {
+        Job::Slide(Extremum::Least) => FlatOp::Erode(n, n),
+        Job::Slide(Extremum::Greatest) => FlatOp::Dilate(n, n),
+        Job::Rank(k) => FlatOp::Rank(n, n, k),
+        Job::Filter(Extremum::Least) => FlatOp::Opening(n, n),
+        Job::Filter(Extremum::Greatest) => FlatOp::Closing(n, n),
+        Job::Residue(Extremum::Least) => FlatOp::WhiteTopHat(n, n),
+        Job::Residue(Extremum::Greatest) => FlatOp::BlackTopHat(n, n),
+        Job::Gradient => FlatOp::Gradient(n, n),
+    }
+}
+
+/// What the plain program makes.
+pub(crate) fn plainly(
+    alloc: Global,
+    job: Job,
+    image: &PlainImage,
+    b: &[Offset],
+) -> Result<PlainImage, NoMemory> {
+    match job {
+        Job::Slide(Extremum::Least) => plain::erosion(alloc, image, b),
+        Job::Slide(Extremum::Greatest) => plain::dilation(alloc, image, b),
+        Job::Rank(k) => plain::rank(alloc, image, b, k),
+        Job::Filter(Extremum::Least) => plain::opening(alloc, image, b),
+        Job::Filter(Extremum::Greatest) => plain::closing(alloc, image, b),
+        Job::Residue(Extremum::Least) => plain::white_top_hat(alloc, image, b),
+        Job::Residue(Extremum::Greatest) => plain::black_top_hat(alloc, image, b),
+        Job::Gradient => plain::gradient(alloc, image, b),
+    }
+}
