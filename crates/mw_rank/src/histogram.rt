@@ -1,6 +1,7 @@
-//! A histogram of levels with a level that moves to the wanted rank (Huang, Yang and Tang 1979). Where that is far, as
-//! among many levels, it goes on by leaps over spans of counters at once: their sum is one pass of vector code, where a
-//! walk has a test for each counter.
+//! A histogram of levels with a level that moves to the wanted rank (Huang, Yang and Tang 1979). Where few samples lie near
+//! it, as among many levels, it moves far, and leaps at first over spans of counters at once: their sum is one pass of vector
+//! code, where a walk has a test for each counter. Among the levels of a byte leaps do not pay. A walk keeps its level
+//! beside the histogram until it ends, so that it writes nothing on its way.
 ghost use Rattle.std.specs.Prelude.{◌≡◌, ℕ, ◌+◌, ◌<◌, ◌≤◌, ◌⊎◌, List, [], ◌∷◌, length, cond, nat_lt, IfOk};
 ghost use Rattle.mw_model.specs.PlanSteps.{ranked};
 ghost use Rattle.mw_rank.specs.Tallies.{count_under, Tallies, HasRoom, Holds};
@@ -10,18 +11,25 @@ use mw_tile::pixel::Pixel;
 use std::alloc::Global;
 
 /// How many counters a leap goes over.
-const SPAN: u32 = 16;
+const SPAN: u32 = 64;
 
-/// How many levels the level moves step by step before it leaps: it is mostly near.
-const NEAR: u32 = 64;
+/// A look at how far the level moves goes over so many counters.
+const LOOKED_AT: u32 = 128;
 
-/// How often each level was counted, and how many levels below the present one.
+/// Whether there are so many levels that leaps pay.
+#[inline(always)]
+fn leaps_pay<P: Pixel>() -> bool {
+    P::TOP.value() > 255
+}
+
+/// How often each level was counted, how many levels are below the present one, and whether this is thought to move far.
 #[derive(Drop)]
 pub(crate) struct Histogram {
     pub counts: Vec<u16>,
     pub level: u32,
     pub below: u32,
     pub held: u32,
+    pub is_far: bool,
 }
 
 impl Histogram {
@@ -35,6 +43,7 @@ impl Histogram {
             level: 0,
             below: 0,
             held: 0,
+            is_far: false,
         })
     }
 
@@ -149,56 +158,28 @@ impl Histogram {
         }
     }
 
-    /// Moves down until fewer than n levels are below, but not below `end`.
+    /// Moves down until fewer than n levels are below.
     #[inline(always)]
-    fn lower(&mut self, n: u32, end: u32)
-        requires held { (top : ℕ) × Holds top self.old [] }
-        ensures tallies { (top : ℕ) (ns : List ℕ) → Tallies top self.old ns → Tallies top self.new ns }
-        ensures held { self.new.held ≡ self.old.held }
-        ensures few { (self.new.below < n) ⊎ (self.new.level ≤ end) }
-    {
-        while self.below >= n && self.level > end {
-            self.level -= 1;
-            self.below -= u32::from(self.counts[self.level as usize]);
-        }
-    }
-
-    /// Moves up until n levels or more are not above, but not above `end`.
-    #[inline(always)]
-    fn raise(&mut self, n: u32, end: u32)
-        requires within { n ≤ self.old.held }
-        requires few { self.old.below < n }
-        requires held { (top : ℕ) × Holds top self.old [] }
-        ensures tallies { (top : ℕ) (ns : List ℕ) → Tallies top self.old ns → Tallies top self.new ns }
-        ensures held { self.new.held ≡ self.old.held }
-        ensures few { self.new.below < n }
-        ensures enough { (top : ℕ) (ns : List ℕ) → Tallies top self.old ns → self.new.level < end → n ≤ count_under (self.new.level + 1) ns }
-    {
-        while self.level < end && self.below + u32::from(self.counts[self.level as usize]) < n {
-            self.below += u32::from(self.counts[self.level as usize]);
-            self.level += 1;
-        }
-    }
-
-    /// Moves down until fewer than n levels are below: step by step, and by leaps where it is not near.
-    #[inline(always)]
-    fn go_down(&mut self, n: u32)
+    fn lower(&mut self, n: u32)
         requires some { 1 ≤ n }
         requires held { (top : ℕ) × Holds top self.old [] }
         ensures tallies { (top : ℕ) (ns : List ℕ) → Tallies top self.old ns → Tallies top self.new ns }
         ensures held { self.new.held ≡ self.old.held }
         ensures few { self.new.below < n }
     {
-        self.lower(n, self.level.saturating_sub(NEAR));
-        if self.below >= n {
-            self.leap_down(n);
-            self.lower(n, 0);
+        let mut level = self.level;
+        let mut below = self.below;
+        while below >= n {
+            level -= 1;
+            below -= u32::from(self.counts[level as usize]);
         }
+        self.level = level;
+        self.below = below;
     }
 
-    /// Moves up until n levels or more are not above: step by step, and by leaps where it is not near.
+    /// Moves up until n levels or more are not above.
     #[inline(always)]
-    fn go_up(&mut self, n: u32)
+    fn raise(&mut self, n: u32)
         requires within { n ≤ self.old.held }
         requires few { self.old.below < n }
         requires held { (top : ℕ) × Holds top self.old [] }
@@ -206,17 +187,72 @@ impl Histogram {
         ensures few { self.new.below < n }
         ensures enough { (top : ℕ) (ns : List ℕ) → Tallies top self.old ns → n ≤ count_under (self.new.level + 1) ns }
     {
-        let near = self.level.saturating_add(NEAR);
-        self.raise(n, near);
-        if self.level >= near {
+        let mut level = self.level;
+        let mut below = self.below;
+        while below + u32::from(self.counts[level as usize]) < n {
+            below += u32::from(self.counts[level as usize]);
+            level += 1;
+        }
+        self.level = level;
+        self.below = below;
+    }
+
+    /// Leaps towards the level that n levels or more are not above.
+    #[inline(never)]
+    fn leap(&mut self, n: u32)
+        requires { (top : ℕ) × Holds top self.old [] }
+        ensures tallies { (top : ℕ) (ns : List ℕ) → Tallies top self.old ns → Tallies top self.new ns }
+        ensures held { self.new.held ≡ self.old.held }
+    {
+        if self.below >= n {
+            self.leap_down(n);
+        } else {
             self.leap_up(n);
-            self.raise(n, u32::MAX);
+        }
+    }
+
+    /// Whether so few levels are counted from the present one on that it moves over most of those that were looked at, where
+    /// so many are exchanged at a time. By chance the square root of these more enter below it than leave there, or fewer.
+    fn is_sparse(&self, exchanged: usize) -> bool
+        requires { (top : ℕ) × Holds top self.now [] }
+    {
+        let end = self.level.saturating_add(LOOKED_AT);
+        if end as usize > self.counts.len() {
+            return false;
+        }
+        let near = self.counted(self.level, end) as usize;
+        near.saturating_mul(near) < exchanged
+    }
+
+    /// Looks whether to leap, where so many levels are exchanged at a time.
+    pub(crate) fn look<P: Pixel>(&mut self, exchanged: usize)
+        requires { (top : ℕ) × Holds top self.old [] }
+        ensures { (top : ℕ) (ns : List ℕ) → Tallies top self.old ns → Tallies top self.new ns }
+    {
+        self.is_far = leaps_pay::<P>() && self.is_sparse(exchanged);
+    }
+
+    /// Whether to leap.
+    #[inline(always)]
+    fn leaps<P: Pixel>(&self) -> bool {
+        leaps_pay::<P>() && self.is_far
+    }
+
+    /// Leaps where the level moves far.
+    #[inline(always)]
+    fn go_near<P: Pixel>(&mut self, n: u32)
+        requires { (top : ℕ) × Holds top self.old [] }
+        ensures tallies { (top : ℕ) (ns : List ℕ) → Tallies top self.old ns → Tallies top self.new ns }
+        ensures held { self.new.held ≡ self.old.held }
+    {
+        if self.leaps::<P>() {
+            self.leap(n);
         }
     }
 
     /// Of the levels in rising order number k, or the last where there are fewer; 0 where there is none.
     #[inline(always)]
-    pub(crate) fn select(&mut self, k: u32) -> u16
+    pub(crate) fn select<P: Pixel>(&mut self, k: u32) -> u16
         requires { (top : ℕ) × Holds top self.old [] }
         ensures tallies { (top : ℕ) (ns : List ℕ) → Tallies top self.old ns → Tallies top self.new ns }
         ensures level { (top : ℕ) (ns : List ℕ) → Tallies top self.old ns → result ≡ ranked k ns }
@@ -226,8 +262,9 @@ impl Histogram {
             return 0;
         }
         let n = self.held.min(k).max(1);
-        self.go_down(n);
-        self.go_up(n);
+        self.go_near::<P>(n);
+        self.lower(n);
+        self.raise(n);
         self.level as u16
     }
 }

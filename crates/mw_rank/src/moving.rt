@@ -203,7 +203,7 @@ pub(crate) fn push_row<P: Grey>(
     ensures moved { OnOk result (Tallies P.top_level histogram.new (levels_under P.level (seen_at window.now) (element_of runs.now) (at.x + at.width) at.y)) }
 {
     for i in 0..at.width {
-        let sample = sample_of::<P>(histogram.select(at.k));
+        let sample = sample_of::<P>(histogram.select::<P>(at.k));
         out.push(sample)?;
         advance(histogram, window, runs, at.x + u64::from(i), at.y);
     }
@@ -229,7 +229,7 @@ fn push_inside<P: Grey>(
     let _runs = runs;
     let samples = window.samples();
     for i in 0..at.width {
-        let sample = sample_of::<P>(histogram.select(at.k));
+        let sample = sample_of::<P>(histogram.select::<P>(at.k));
         out.push(sample)?;
         exchange_ends(histogram, samples, ends, i as usize);
     }
@@ -319,6 +319,7 @@ fn push_whole_row<P: Grey>(
 {
     let at = row.at;
     enter_all(histogram, window, runs, at.x, at.y);
+    histogram.look::<P>(runs.len());
     push_columns(out, histogram, ends, window, runs, row)?;
     leave_all(histogram, window, runs, at.x + u64::from(at.width), at.y);
     Ok(())

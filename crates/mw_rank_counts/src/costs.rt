@@ -21,8 +21,8 @@ const COUNTED_BYTE: u64 = 34;
 /// Counting: a sample of 16 bits at an offset, for each bit.
 const COUNTED_WORD: u64 = 45;
 
-/// Counting: how many bits more it takes to make two bytes of 16 bits.
-const BITS_TO_SPLIT: u64 = 3;
+/// Counting: how many bits more it takes to find the lowest level and to make two bytes of 16 bits.
+const BITS_TO_SPLIT: u64 = 5;
 
 /// The moving histogram: whatever the element.
 const MOVED: u64 = 7_000;
@@ -45,16 +45,16 @@ const EIGHTH: u64 = 3_500;
 const EIGHTH_ROW: u64 = 370;
 
 /// Eight rows at a time: a level between those of the rows.
-const EIGHTH_LEVEL: u64 = 130;
+const EIGHTH_LEVEL: u64 = 160;
 
 /// How many rows eight rows see beside those that one sees.
 const ROWS_BESIDE: u64 = 7;
 
-/// A look at how far levels lie apart goes over so many samples of a row.
+/// A look at how far levels lie apart goes over so many samples of a row, and of the row below.
 const LOOKED_AT: usize = 32;
 
 /// And over so many of the last row that the element reaches from there, as a block of columns sees more than one row.
-const LOOKED_AT_BELOW: usize = 96;
+const LOOKED_AT_LAST: usize = 64;
 
 /// From so many samples one look is taken.
 const SAMPLES_A_LOOK: usize = 1000;
@@ -81,13 +81,17 @@ pub struct Load {
     pub beside: u32,
     /// By how many bits levels of all rows that the element sees lie apart, on average.
     pub apart: u32,
+    /// How many levels lie between those of a row and those of the row below, on average.
+    pub between: u32,
 }
 
-/// By how many bits levels lie apart: beside one another, and in more rows than one.
+/// By how many bits levels lie apart: beside one another, and in more rows than one. And how many levels lie between those
+/// of two rows.
 #[derive(Clone, Copy)]
 struct Apart {
     beside: u32,
     apart: u32,
+    between: u32,
 }
 
 /// How many runs the offsets are: each that does not continue the one before it begins one.
@@ -134,37 +138,56 @@ fn average(sum: u32, count: u32) -> u32 {
     sum.saturating_add(count / 2) / count.max(1)
 }
 
-/// By how many bits levels lie apart in one row, and in rows so many places from one another. For one row it is the lesser of
-/// two looks, which leaves out single samples that stand out.
-fn apart_at<P: Counted>(samples: &[P], place: usize, reach: usize) -> Apart {
+/// How many levels lie between those of two rows, where no level of one is among those of the other.
+fn levels_between(here: Extent, below: Extent) -> u32 {
+    let rise = below.least.saturating_sub(here.most);
+    let fall = here.least.saturating_sub(below.most);
+    u32::from(rise.max(fall))
+}
+
+/// How many samples there are from a place to the one below it, and to that of the last row that the element reaches.
+#[derive(Clone, Copy)]
+struct Down {
+    row: usize,
+    reach: usize,
+}
+
+/// How far levels lie apart in one row, in it and the one below, and in rows so many places from one another. For one row it
+/// is the lesser of two looks, which leaves out single samples that stand out.
+fn apart_at<P: Counted>(samples: &[P], place: usize, down: Down) -> Apart {
     let here = extent_at(samples, place, LOOKED_AT);
-    let there = extent_at(samples, place.saturating_add(reach), LOOKED_AT_BELOW);
+    let below = extent_at(samples, place.saturating_add(down.row), LOOKED_AT);
+    let last = extent_at(samples, place.saturating_add(down.reach), LOOKED_AT_LAST);
     let one = bits_between::<P>(here.least, here.most);
-    let other = bits_between::<P>(there.least, there.most);
-    let least = here.least.min(there.least);
-    let most = here.most.max(there.most);
+    let other = bits_between::<P>(last.least, last.most);
+    let least = here.least.min(below.least).min(last.least);
+    let most = here.most.max(below.most).max(last.most);
     Apart {
         beside: one.min(other),
         apart: bits_between::<P>(least, most),
+        between: levels_between(here, below),
     }
 }
 
-/// By how many bits levels lie apart, on average.
-fn bits_apart<P: Counted>(samples: &[P], reach: usize) -> Apart {
+/// How far levels lie apart, on average.
+fn mostly_apart<P: Counted>(samples: &[P], down: Down) -> Apart {
     let mut beside = 0u32;
     let mut apart = 0u32;
+    let mut between = 0u32;
     let mut count = 0u32;
     let mut place = 0usize;
-    'looks: while place.saturating_add(reach) < samples.len() {
-        let here = apart_at(samples, place, reach);
+    'looks: while place.saturating_add(down.reach) < samples.len() {
+        let here = apart_at(samples, place, down);
         beside = beside.saturating_add(here.beside);
         apart = apart.saturating_add(here.apart);
+        between = between.saturating_add(here.between);
         count = count.saturating_add(1);
         place = place.saturating_add(SAMPLES_A_LOOK);
     }
     Apart {
         beside: average(beside, count),
         apart: average(apart, count),
+        between: average(between, count),
     }
 }
 
@@ -174,14 +197,17 @@ pub fn load_of<P: Counted>(window: &Window<P>, offsets: &[Offset]) -> Load
     ensures small { AllUnder P.level P.TOP window.now.cells (2 ^ result.bits) }
 {
     let samples = window.samples();
-    let down = reach_of(offsets).saturating_mul(window.place().width as usize);
-    let lie = bits_apart(samples, down.min(samples.len() / 2));
+    let row = window.place().width as usize;
+    let reach = reach_of(offsets).saturating_mul(row).min(samples.len() / 2);
+    let row = row.min(reach);
+    let lie = mostly_apart(samples, Down { row, reach });
     Load {
         offsets: offsets.len() as u64,
         runs: count_of_runs(offsets),
         bits: bits_in(samples),
         beside: lie.beside,
         apart: lie.apart,
+        between: lie.between,
     }
 }
 
@@ -199,8 +225,10 @@ fn counting_time<P: Counted>(load: Load) -> u64 {
     let apart = u64::from(load.apart.min(load.bits));
     let one = if P::BITS > 8 {
         COUNTED_WORD * (apart + BITS_TO_SPLIT)
+    } else if are_close(load) {
+        COUNTED_BYTE * (apart + 1)
     } else {
-        COUNTED_BYTE * u64::from(load.bits).min(apart + 1)
+        COUNTED_BYTE * u64::from(load.bits)
     };
     load.offsets.saturating_mul(COUNTED_PLACE + one)
 }
@@ -224,10 +252,12 @@ fn histogram_time(load: Load) -> u64 {
     runs.saturating_add(walk).saturating_add(MOVED)
 }
 
-/// The time of a sample, eight rows at a time, under a rectangle of so many rows.
+/// The time of a sample, eight rows at a time, under a rectangle of so many rows. The levels of the rows lie apart by chance, and
+/// as far as each row lies from the next.
 fn eight_rows_time(load: Load, rows: u32) -> u64 {
     let columns = load.offsets / u64::from(rows.max(1));
-    let levels = levels_moved(load, columns.saturating_mul(ROWS_BESIDE));
+    let between = u64::from(load.between) * ROWS_BESIDE;
+    let levels = levels_moved(load, columns.saturating_mul(ROWS_BESIDE)).saturating_add(between);
     let seen = (u64::from(rows) + ROWS_BESIDE) * EIGHTH_ROW;
     levels
         .saturating_mul(EIGHTH_LEVEL)
