@@ -1,6 +1,7 @@
 //! Times of sets as words: made of levels and taken as levels, erosions by rectangles and discs, of the whole frame and, by
 //! discs, as a step of a plan takes them, with each tile cut, eroded and pasted.
-ghost use Rattle.std.specs.Prelude.{◌≡◌, ◌*◌, ◌≤◌, ◌%◌, vec_len, IfOk};
+ghost use Rattle.std.specs.Prelude.{◌≡◌, ◌*◌, vec_len, IfOk};
+ghost use Rattle.mw_grid.specs.Grids.{IsTileSide};
 
 use crate::{FRAME, Fault, SIDE, disc, reach, square};
 use mw_bits::{as_levels, at_least, extremum, rectangle};
@@ -113,7 +114,7 @@ fn time_steps<R: std::rt::Clock + Print>(
     k: u8,
     side: u32,
 ) -> Result<(), Fault>
-    requires { (64 ≤ side) × (side ≤ 1024) × (side % 64 ≡ 0) }
+    requires { IsTileSide side }
 {
     let offsets = disc(alloc, k)?;
     let grid = Grid::new(SIDE, SIDE, side);

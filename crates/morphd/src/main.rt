@@ -2,7 +2,8 @@
 // or each on its own.
 #![tactic(auto)]
 
-ghost use Rattle.std.specs.Prelude.{◌≡◌, ◌≤◌, ◌%◌, false};
+ghost use Rattle.std.specs.Prelude.{◌≡◌, ◌≤◌, false};
+ghost use Rattle.mw_batch.specs.mw_grid.Grids.{IsTileSide};
 
 use mw_batch::{Crew, batch};
 use mw_cli::{Job, ListenOptions, ServeOptions, options, processors, words};
@@ -28,7 +29,7 @@ fn run<R: Read, W: Write + Drop, F: Write, T: Threads + Sync>(
     faults: &mut Sink<F>,
     side: u32,
 ) -> u8
-    requires side { (64 ≤ side) × (side ≤ 1024) × (side % 64 ≡ 0) }
+    requires side { IsTileSide side }
     requires source_clear { source.old.failed ≡ false }
     requires unread { source.old.reads ≡ 0 }
 {
@@ -49,7 +50,7 @@ fn run_listen<
     requires port { 1 ≤ given.port }
     requires workers { (1 ≤ given.workers) × (given.workers ≤ 64) }
     requires sessions { (1 ≤ given.sessions) × (given.sessions ≤ 64) }
-    requires side { (64 ≤ given.side) × (given.side ≤ 1024) × (given.side % 64 ≡ 0) }
+    requires side { IsTileSide given.side }
 {
     let service = mw_listen::Service {
         port: given.port,
@@ -76,7 +77,7 @@ fn run_serve<
     output: &mut Sink<O>,
     faults: &mut Sink<F>,
 ) -> u8
-    requires side { (64 ≤ given.side) × (given.side ≤ 1024) × (given.side % 64 ≡ 0) }
+    requires side { IsTileSide given.side }
 {
     let service = mw_server::Service {
         port: given.port,

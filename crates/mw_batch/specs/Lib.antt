@@ -1,1 +1,3 @@
 pub mod Batches
+-- what lower crates offer
+pub mod mw_grid

@@ -1,6 +1,7 @@
 //! A script from a reader to a writer, and what is told of its faults.
 
-ghost use Rattle.std.specs.Prelude.{◌≡◌, ◌≤◌, ◌%◌, ◌⊎◌, false};
+ghost use Rattle.std.specs.Prelude.{◌≡◌, ◌⊎◌, false};
+ghost use Rattle.mw_batch.specs.mw_grid.Grids.{IsTileSide};
 ghost use Rattle.mw_batch.specs.Batches.{Ends, Served, Unserved};
 
 use mw_session::wire::{Sink, Source, send, tell};
@@ -30,7 +31,7 @@ pub fn batch<R: Read, W: Write, F: Write, T: Threads + Sync>(
     faults: &mut Sink<F>,
     side: u32,
 ) -> u8
-    requires side { (64 ≤ side) × (side ≤ 1024) × (side % 64 ≡ 0) }
+    requires side { IsTileSide side }
     requires source_clear { source.old.failed ≡ false }
     requires sink_clear { sink.old.failed ≡ false }
     requires unread { source.old.reads ≡ 0 }

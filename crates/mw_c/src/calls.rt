@@ -4,6 +4,7 @@ ghost use Rattle.std.specs.Prelude.{◌≡◌, ◌+◌, ◌≤◌, length, map, 
 ghost use Rattle.mw_model.specs.Flat.{hit_or_miss, threshold};
 ghost use Rattle.mw_model.specs.Iterates.{restoration, skeleton, spectrum};
 ghost use Rattle.mw_model.specs.Refusals.{param_case};
+ghost use Rattle.mw_model.specs.declared.limits.TheConstants.{LEVEL_LIMIT};
 ghost use Rattle.mw_arrays.specs.Arrays.{element_in, set_picture};
 ghost use Rattle.mw_arrays.specs.Faults.{bitmap_fault, set_fault};
 ghost use Rattle.mw_arrays.specs.Sources.{IsSource, picture_in, source_count, source_fault};
@@ -16,6 +17,7 @@ use crate::operations::name;
 use crate::ways::{way_of, write_by};
 use mw_arrays::{Bitmap, Code, NoMemory, Set, Source, first_of, when};
 use mw_direct::{Curve, GranOp, Image, Op};
+use mw_model::LEVEL_LIMIT;
 use mw_strips::{Sample, threshold_into};
 use std::alloc::Global;
 
@@ -72,9 +74,9 @@ pub(crate) fn flat<P: Sample>(
 pub(crate) fn upper(alloc: Global, k: u32, f: Source<'_>, out: &mut [u8]) -> Result<(), Code>
     ensures made { IfOk result (λ _. out.new ≡ (threshold k (picture_in f.entry)).samples) }
     ensures kept { IfErr result (λ _. out.new ≡ out.old) }
-    ensures told { IsTold (call_fault (param_case 0 65535 k) (source_fault f.entry) (room_case (length out.old) (source_count f.entry)) None) None result }
+    ensures told { IsTold (call_fault (param_case 0 LEVEL_LIMIT k) (source_fault f.entry) (room_case (length out.old) (source_count f.entry)) None) None result }
 {
-    let number = number_fault(0, 65535, k);
+    let number = number_fault(0, LEVEL_LIMIT, k);
     let image = f.fault();
     let room = room_fault(out.len(), f.count());
     if let Some(code) = refused(number, image, room, None) {

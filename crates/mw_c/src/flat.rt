@@ -1,6 +1,7 @@
 //! Flat operators on arrays: erosions, dilations, openings, closings, gradients, top-hats and ranks.
 
 ghost use Rattle.std.specs.Prelude.{◌≡◌, ◌≢◌, pos, length};
+ghost use Rattle.mw_model.specs.declared.limits.TheConstants.{LEVEL_LIMIT};
 ghost use Rattle.mw_arrays.specs.Arrays.{element_of, grey_of, set_of};
 ghost use Rattle.mw_arrays.specs.Faults.{element_fault, levels_fault, pixels_fault};
 ghost use Rattle.mw_c.specs.Answers.{IsAnswer};
@@ -68,7 +69,7 @@ pub extern "C" fn morphd_flat_u16(
 ) -> i32
     ensures made { result ≡ pos 0 → out.new ≡ (flat_of operation k (element_of element_width element_height element_x element_y element.now) (grey_of width height maxval samples.now)).samples }
     ensures kept { result ≢ pos 0 → out.new ≡ out.old }
-    ensures first { IsAnswer (call_fault (operation_case operation) (levels_fault 256 65535 width height maxval samples.now) (room_case (length out.old) (length samples.now)) (element_fault element_width element_height element_x element_y element.now)) (flat_asks operation k (element_of element_width element_height element_x element_y element.now)) result }
+    ensures first { IsAnswer (call_fault (operation_case operation) (levels_fault 256 LEVEL_LIMIT width height maxval samples.now) (room_case (length out.old) (length samples.now)) (element_fault element_width element_height element_x element_y element.now)) (flat_asks operation k (element_of element_width element_height element_x element_y element.now)) result }
 {
     let image = Grey16 {
         samples,

@@ -2,6 +2,7 @@
 
 ghost use Rattle.std.specs.Prelude.{◌≡◌, ◌≢◌, pos, length};
 ghost use Rattle.mw_model.specs.Flat.{hit_or_miss};
+ghost use Rattle.mw_model.specs.declared.limits.TheConstants.{LEVEL_LIMIT};
 ghost use Rattle.mw_arrays.specs.Arrays.{element_of, grey_of, set_of};
 ghost use Rattle.mw_arrays.specs.Faults.{element_fault, levels_fault, pixels_fault};
 ghost use Rattle.mw_c.specs.Answers.{IsAnswer};
@@ -82,7 +83,7 @@ pub extern "C" fn morphd_hit_or_miss_u16(
 ) -> i32
     ensures made { result ≡ pos 0 → out.new ≡ (hit_or_miss (element_of hit_width hit_height hit_x hit_y hit.now) (element_of miss_width miss_height miss_x miss_y miss.now) (grey_of width height maxval samples.now)).samples }
     ensures kept { result ≢ pos 0 → out.new ≡ out.old }
-    ensures first { IsAnswer (call_fault (levels_fault 256 65535 width height maxval samples.now) (room_case (length out.old) (length samples.now)) (element_fault hit_width hit_height hit_x hit_y hit.now) (element_fault miss_width miss_height miss_x miss_y miss.now)) (overlap_case (element_of hit_width hit_height hit_x hit_y hit.now) (element_of miss_width miss_height miss_x miss_y miss.now)) result }
+    ensures first { IsAnswer (call_fault (levels_fault 256 LEVEL_LIMIT width height maxval samples.now) (room_case (length out.old) (length samples.now)) (element_fault hit_width hit_height hit_x hit_y hit.now) (element_fault miss_width miss_height miss_x miss_y miss.now)) (overlap_case (element_of hit_width hit_height hit_x hit_y hit.now) (element_of miss_width miss_height miss_x miss_y miss.now)) result }
 {
     let image = Grey16 {
         samples,

@@ -3,6 +3,7 @@
 ghost use Rattle.std.specs.Prelude.{◌≡◌, ◌≢◌, pos, length, None};
 ghost use Rattle.mw_model.specs.Iterates.{restoration, skeleton};
 ghost use Rattle.mw_model.specs.Refusals.{param_case};
+ghost use Rattle.mw_model.specs.declared.limits.TheConstants.{LEVEL_LIMIT};
 ghost use Rattle.mw_arrays.specs.Arrays.{element_of, grey_of, set_of};
 ghost use Rattle.mw_arrays.specs.Faults.{element_fault, levels_fault, pixels_fault};
 ghost use Rattle.mw_c.specs.Answers.{IsAnswer};
@@ -102,7 +103,7 @@ pub extern "C" fn morphd_restore_u16(
 ) -> i32
     ensures made { result ≡ pos 0 → out.new ≡ (restoration (element_of element_width element_height element_x element_y element.now) levels (grey_of width height maxval samples.now)).samples }
     ensures kept { result ≢ pos 0 → out.new ≡ out.old }
-    ensures first { IsAnswer (call_fault (param_case 1 254 levels) (levels_fault 256 65535 width height maxval samples.now) (room_case (length out.old) (length samples.now)) (element_fault element_width element_height element_x element_y element.now)) None result }
+    ensures first { IsAnswer (call_fault (param_case 1 254 levels) (levels_fault 256 LEVEL_LIMIT width height maxval samples.now) (room_case (length out.old) (length samples.now)) (element_fault element_width element_height element_x element_y element.now)) None result }
 {
     let image = Grey16 {
         samples,

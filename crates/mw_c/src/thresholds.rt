@@ -3,6 +3,7 @@
 ghost use Rattle.std.specs.Prelude.{◌≡◌, ◌≢◌, pos, length, None};
 ghost use Rattle.mw_model.specs.Flat.{threshold};
 ghost use Rattle.mw_model.specs.Refusals.{param_case};
+ghost use Rattle.mw_model.specs.declared.limits.TheConstants.{LEVEL_LIMIT};
 ghost use Rattle.mw_arrays.specs.Arrays.{grey_of};
 ghost use Rattle.mw_arrays.specs.Faults.{levels_fault};
 ghost use Rattle.mw_c.specs.Answers.{IsAnswer};
@@ -26,7 +27,7 @@ pub extern "C" fn morphd_threshold_u8(
 ) -> i32
     ensures made { result ≡ pos 0 → out.new ≡ (threshold k (grey_of width height maxval samples.now)).samples }
     ensures kept { result ≢ pos 0 → out.new ≡ out.old }
-    ensures first { IsAnswer (call_fault (param_case 0 65535 k) (levels_fault 1 255 width height maxval samples.now) (room_case (length out.old) (length samples.now)) None) None result }
+    ensures first { IsAnswer (call_fault (param_case 0 LEVEL_LIMIT k) (levels_fault 1 255 width height maxval samples.now) (room_case (length out.old) (length samples.now)) None) None result }
 {
     let image = Grey8 {
         samples,
@@ -50,7 +51,7 @@ pub extern "C" fn morphd_threshold_u16(
 ) -> i32
     ensures made { result ≡ pos 0 → out.new ≡ (threshold k (grey_of width height maxval samples.now)).samples }
     ensures kept { result ≢ pos 0 → out.new ≡ out.old }
-    ensures first { IsAnswer (call_fault (param_case 0 65535 k) (levels_fault 256 65535 width height maxval samples.now) (room_case (length out.old) (length samples.now)) None) None result }
+    ensures first { IsAnswer (call_fault (param_case 0 LEVEL_LIMIT k) (levels_fault 256 LEVEL_LIMIT width height maxval samples.now) (room_case (length out.old) (length samples.now)) None) None result }
 {
     let image = Grey16 {
         samples,

@@ -1,6 +1,6 @@
 //! A session as the program runs it, over bytes that are there and a writer that takes all.
 
-ghost use Rattle.std.specs.Prelude.{◌≡◌, ◌≤◌, ◌%◌};
+ghost use Rattle.mw_batch.specs.mw_grid.Grids.{IsTileSide};
 
 use mw_batch::{Crew, batch};
 use mw_wire::{Sink, Source};
@@ -34,7 +34,7 @@ pub(crate) fn writes(
     output: &[u8],
     side: u32,
 )
-    requires { (64 ≤ side) × (side ≤ 1024) × (side % 64 ≡ 0) }
+    requires { IsTileSide side }
 {
     let mut source = Source::new(Bytes { left: input });
     let mut sink = Sink::new(Vec::new(alloc));

@@ -1,6 +1,6 @@
 //! Sessions with the longest payload, with the largest pictures, with many requests, and with the greatest tiles.
 
-ghost use Rattle.std.specs.Prelude.{◌≡◌, ◌≤◌, ◌%◌};
+ghost use Rattle.mw_batch.specs.mw_grid.Grids.{IsTileSide};
 
 use crate::frames::{BYTES, Frame, SQUARE, WORDS, file_of};
 use crate::served::writes;
@@ -70,7 +70,7 @@ fn with_bytes(rt: &impl Abort, alloc: Global, line: &str, bytes: &[u8]) -> Vec<u
 
 /// A frame is loaded, eroded and handed out, in tiles of this side.
 fn hands_out(rt: &(impl Abort + Threads + Sync), alloc: Global, frame: Frame, side: u32)
-    requires { (64 ≤ side) × (side ≤ 1024) × (side % 64 ≡ 0) }
+    requires { IsTileSide side }
 {
     let mut input = with_bytes(rt, alloc, "LOAD f", &file_of(rt, alloc, frame, 0));
     push(

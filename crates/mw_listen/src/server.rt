@@ -1,6 +1,7 @@
 //! A server: from its port to its exit status.
 
-ghost use Rattle.std.specs.Prelude.{◌≡◌, ◌≤◌, ◌%◌, IfOk, OnOk};
+ghost use Rattle.std.specs.Prelude.{◌≡◌, ◌≤◌, IfOk, OnOk};
+ghost use Rattle.mw_step.specs.mw_grid.Grids.{IsTileSide};
 ghost use Rattle.mw_listen.specs.Listening.{AnnouncesIf, Audited, Listened, Told};
 
 use crate::fault::ListenFault;
@@ -52,7 +53,7 @@ fn serve_all<
     roll: NewRoll,
 ) -> Result<(), ListenFault>
     requires named { roll ≡ J.book }
-    requires side { (64 ≤ service.side) × (service.side ≤ 1024) × (service.side % 64 ≡ 0) }
+    requires side { IsTileSide service.side }
     ensures audited { IfOk result (λ _. Audited service.sessions) }
     ensures announced { OnOk result (AnnouncesIf service.announce service.port (O.contents output.old.inner) (O.contents output.new.inner)) }
 {
@@ -100,7 +101,7 @@ pub fn listen<
     requires port { 1 ≤ service.port }
     requires workers { (1 ≤ service.workers) × (service.workers ≤ 64) }
     requires sessions { (1 ≤ service.sessions) × (service.sessions ≤ 64) }
-    requires side { (64 ≤ service.side) × (service.side ≤ 1024) × (service.side % 64 ≡ 0) }
+    requires side { IsTileSide service.side }
     ensures audited { let old : Told = record { text = F.contents faults.old.inner; failed = faults.old.failed } in
         let new : Told = record { text = F.contents faults.new.inner; failed = faults.new.failed } in
         Listened service.sessions old new result }

@@ -1,6 +1,7 @@
 //! One connection: a session that begins with nothing and leaves nothing.
 
-ghost use Rattle.std.specs.Prelude.{◌≡◌, ◌≤◌, ◌%◌, None, false};
+ghost use Rattle.std.specs.Prelude.{◌≡◌, None, false};
+ghost use Rattle.mw_server.specs.mw_grid.Grids.{IsTileSide};
 ghost use Rattle.mw_batch.specs.Batches.{Ends};
 ghost use Rattle.mw_server.specs.Services.{ServedAlone};
 
@@ -30,7 +31,7 @@ pub fn serve_one<R: Read, W: Write, T: Threads + Sync>(
     sink: &mut Sink<W>,
     side: u32,
 ) -> u8
-    requires side { (64 ≤ side) × (side ≤ 1024) × (side % 64 ≡ 0) }
+    requires side { IsTileSide side }
     requires source_clear { source.old.failed ≡ false }
     requires sink_clear { sink.old.failed ≡ false }
     requires unread { source.old.reads ≡ 0 }
@@ -65,7 +66,7 @@ pub(crate) fn serve_stream<T: Threads + Sync>(
     idle: Option<u32>,
     side: u32,
 )
-    requires side { (64 ≤ side) × (side ≤ 1024) × (side % 64 ≡ 0) }
+    requires side { IsTileSide side }
 {
     // Without this, a short reply would wait until what was sent before it is acknowledged.
     let _quick = stream.set_nodelay(true);

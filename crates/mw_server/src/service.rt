@@ -1,7 +1,8 @@
 //! A service: its threads, which are started once, and its end.
 
-ghost use Rattle.std.specs.Prelude.{◌≡◌, ◌≤◌, ◌%◌, ℕ, OnOk};
+ghost use Rattle.std.specs.Prelude.{ℕ, OnOk};
 ghost use Rattle.std.specs.Io.KnownBytes.{Appends};
+ghost use Rattle.mw_server.specs.mw_grid.Grids.{IsTileSide};
 ghost use Rattle.mw_socket.specs.Announcements.{announcement};
 ghost use Rattle.mw_server.specs.Services.{Offered, Told};
 
@@ -49,7 +50,7 @@ fn serve_connections<R: Threads + Clock + Sync>(
     service: Service,
     door: &Door,
 )
-    requires side { (64 ≤ service.side) × (service.side ≤ 1024) × (service.side % 64 ≡ 0) }
+    requires side { IsTileSide service.side }
 {
     let crew = Crew {
         alloc,
@@ -75,12 +76,12 @@ fn start_all<'h, E: 'h, R: Threads + Clock + Sync>(
     service: Service,
     door: &'h Door,
 ) -> Result<(), ServeFault>
-    requires side { (64 ≤ service.side) × (service.side ≤ 1024) × (service.side % 64 ≡ 0) }
+    requires side { IsTileSide service.side }
 {
     for _ in 0..service.sessions {
         let started = scope.spawn(
             move || -> ()
-                requires { (64 ≤ service.side) × (service.side ≤ 1024) × (service.side % 64 ≡ 0) }
+                requires { IsTileSide service.side }
             { serve_connections(rt, alloc, service, door) },
         );
         if started.is_err() {
@@ -117,7 +118,7 @@ fn serve_until<R: Threads + Wait + Clock + Sync, I: Read + Drop>(
     listener: TcpListener,
     until: Option<I>,
 ) -> Result<(), ServeFault>
-    requires side { (64 ≤ service.side) × (service.side ≤ 1024) × (service.side % 64 ≡ 0) }
+    requires side { IsTileSide service.side }
 {
     let Ok(again) = listener.try_clone() else {
         return Err(ServeFault::Socket);
@@ -131,7 +132,7 @@ fn serve_until<R: Threads + Wait + Clock + Sync, I: Read + Drop>(
         thread::scope_env(),
         rt,
         |scope| -> Result<(), ServeFault>
-            requires { (64 ≤ service.side) × (service.side ≤ 1024) × (service.side % 64 ≡ 0) }
+            requires { IsTileSide service.side }
         {
             let started = start_all(scope, rt, alloc, service, door);
             if started.is_ok() {
@@ -158,7 +159,7 @@ fn serve_all<
     until: Option<I>,
     output: &mut Sink<O>,
 ) -> Result<(), ServeFault>
-    requires side { (64 ≤ service.side) × (service.side ≤ 1024) × (service.side % 64 ≡ 0) }
+    requires side { IsTileSide service.side }
     ensures { OnOk result ((port : ℕ) × Appends (O.contents output.old.inner) (O.contents output.new.inner) (announcement port)) }
 {
     if BufWriter::with_capacity(alloc, HELD, io::sink()).is_err() {
@@ -194,7 +195,7 @@ pub fn serve<
     output: &mut Sink<O>,
     faults: &mut Sink<F>,
 ) -> u8
-    requires side { (64 ≤ service.side) × (service.side ≤ 1024) × (service.side % 64 ≡ 0) }
+    requires side { IsTileSide service.side }
     ensures { let old : Told = record { text = F.contents faults.old.inner; failed = faults.old.failed } in
         let new : Told = record { text = F.contents faults.new.inner; failed = faults.new.failed } in
         Offered (O.contents output.old.inner) (O.contents output.new.inner) old new result }

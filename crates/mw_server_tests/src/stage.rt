@@ -1,7 +1,7 @@
 //! What a service and its clients in the same process know of each other: the port that the service told, and whether the
 //! clients are done.
 
-ghost use Rattle.std.specs.Prelude.{◌≡◌, ◌≤◌, ◌%◌};
+ghost use Rattle.mw_server.specs.mw_grid.Grids.{IsTileSide};
 
 use mw_server::{Service, serve};
 use mw_wire::Sink;
@@ -118,7 +118,7 @@ pub(crate) struct Seen<T> {
 
 /// A service on this port of so many sessions, of so many workers each, with tiles of the least side.
 pub(crate) fn service(port: u16, sessions: usize, workers: usize, idle: Option<u32>) -> Service
-    ensures side { (64 ≤ result.side) × (result.side ≤ 1024) × (result.side % 64 ≡ 0) }
+    ensures side { IsTileSide result.side }
 {
     Service {
         port,
@@ -135,7 +135,7 @@ pub(crate) fn served<
     T: Send + Drop,
     F: FnOnce() -> T + Send,
 >(rt: &R, alloc: Global, given: Service, stage: &Stage, clients: F) -> Seen<T>
-    requires side { (64 ≤ given.side) × (given.side ≤ 1024) × (given.side % 64 ≡ 0) }
+    requires side { IsTileSide given.side }
     requires clients { F.pre clients }
 {
     let mut output = Sink::new(Line::new(alloc, stage));
@@ -145,7 +145,7 @@ pub(crate) fn served<
         rt,
         || stage.ends(clients()),
         || -> u8
-            requires { (64 ≤ given.side) × (given.side ≤ 1024) × (given.side % 64 ≡ 0) }
+            requires { IsTileSide given.side }
         { serve(rt, alloc, given, Some(until), &mut output, &mut faults) },
     );
     Seen {

@@ -2,4 +2,5 @@ pub mod Turns
 pub mod Runs
 pub mod Answering
 -- what lower crates offer
+pub mod mw_grid
 pub mod mw_wire

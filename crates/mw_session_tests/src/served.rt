@@ -1,6 +1,6 @@
 //! A session as the program runs it, over a reader and a writer that end where they are told to.
 
-ghost use Rattle.std.specs.Prelude.{◌≡◌, ◌≤◌, ◌%◌};
+ghost use Rattle.mw_batch.specs.mw_grid.Grids.{IsTileSide};
 
 use mw_batch::{Crew, batch};
 use mw_wire::{Sink, Source};
@@ -118,7 +118,7 @@ pub(crate) fn served(rt: &(impl Threads + Sync), alloc: Global, input: &[u8], cu
 
 /// What the session leaves by this crew over tiles of this side.
 pub(crate) fn served_by<T: Threads + Sync>(crew: Crew<T>, input: &[u8], cut: Cut, side: u32) -> Left
-    requires { (64 ≤ side) × (side ≤ 1024) × (side % 64 ≡ 0) }
+    requires { IsTileSide side }
 {
     let alloc = crew.alloc;
     let mut source = Source::new(Pieces {

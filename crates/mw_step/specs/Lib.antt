@@ -1,1 +1,2 @@
+pub mod mw_grid
 pub mod mw_task
