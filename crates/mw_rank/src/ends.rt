@@ -1,6 +1,7 @@
 //! The ends of an element's runs along a row where all of them lie in the window, or in rows above or below it: there a
 //! move of the element takes no test.
 ghost use Rattle.std.specs.Prelude.{◌≡◌, ℕ, pos, ◌+ℤ◌, ◌-ℤ◌, ◌+◌, ◌-◌, ◌<◌, ◌≤◌, ◌^◌, List, ◌++◌, IfOk, IfSome, IsTrue};
+ghost use Rattle.mw_model.specs.declared.limits.TheConstants.{FAR_LIMIT};
 ghost use Rattle.mw_model.specs.Windows.{seen_at};
 ghost use Rattle.mw_rank.specs.Ends.{levels_left, levels_entered, HasEnds, AreEnds, AddsEnds};
 ghost use Rattle.mw_rank.specs.Tallies.{Tallies, Holds};
@@ -29,7 +30,7 @@ pub(crate) struct Columns {
 
 /// The column of the place in which a run begins, where both its ends stay in the place's columns for so many more.
 pub(crate) fn column_in(place: Rect, run: Run, x: u64, count: u32) -> Option<usize>
-    requires { x ≤ 2 ^ 40 }
+    requires { x ≤ FAR_LIMIT }
     ensures { IfSome result (λ column. (pos x +ℤ run.dx -ℤ pos place.x ≡ pos column) × (column + (run.count - 1 + 1) + count ≤ place.width)) }
 {
     let from = place_of(x, run.dx, place.x);
@@ -52,8 +53,8 @@ fn push_ends<P: Grey>(
     y: u64,
     count: u32,
 ) -> Result<bool, NoMemory>
-    requires near { x ≤ 2 ^ 40 }
-    requires high { y ≤ 2 ^ 40 }
+    requires near { x ≤ FAR_LIMIT }
+    requires high { y ≤ FAR_LIMIT }
     ensures { IfOk result (λ inside. IsTrue inside → AddsEnds P.level P.TOP (seen_at window.now) window.now.cells run x y count ends.old.items ends.new.items) }
 {
     let place = window.place();
@@ -82,8 +83,8 @@ pub(crate) fn row_ends<P: Grey>(
     y: u64,
     count: u32,
 ) -> Result<bool, NoMemory>
-    requires near { x ≤ 2 ^ 40 }
-    requires high { y ≤ 2 ^ 40 }
+    requires near { x ≤ FAR_LIMIT }
+    requires high { y ≤ FAR_LIMIT }
     ensures { IfOk result (λ inside. IsTrue inside → AreEnds P.level P.TOP (seen_at window.now) window.now.cells runs.now x y count ends.new.items) }
 {
     ends.clear();

@@ -2,6 +2,7 @@
 //! the ends of the element's horizontal runs leave and enter, and the rank is looked for from its last level.
 ghost use Rattle.std.specs.Prelude.{◌≡◌, ℕ, ◌+◌, ◌*◌, ◌<◌, ◌≤◌, ◌^◌, pos, ◌+ℤ◌, ◌-ℤ◌, List, [], ◌++◌, map, length, vec_capacity, IfOk, IfSome, OnOk};
 ghost use Rattle.std.specs.Option.{option_to_list};
+ghost use Rattle.mw_model.specs.declared.limits.TheConstants.{FAR_LIMIT};
 ghost use Rattle.mw_model.specs.PlanSteps.{ranked};
 ghost use Rattle.mw_model.specs.Rasters.{Raster, raster, cell_at};
 ghost use Rattle.mw_model.specs.Windows.{seen_at};
@@ -38,8 +39,8 @@ fn level_in<P: Grey>(window: &Window<P>, column: i64, row: i64) -> Option<u16>
 /// The level that is seen at an offset from column x of row y of the frame.
 #[inline(always)]
 fn level_at<P: Grey>(window: &Window<P>, offset: Offset, x: u64, y: u64) -> Option<u16>
-    requires near { x ≤ 2 ^ 40 }
-    requires high { y ≤ 2 ^ 40 }
+    requires near { x ≤ FAR_LIMIT }
+    requires high { y ≤ FAR_LIMIT }
     ensures levels { option_to_list result ≡ levels_at P.level (seen_at window.now) offset x y }
     ensures small { IfSome result (λ s. s ≤ P.top_level) }
 {
@@ -52,8 +53,8 @@ fn level_at<P: Grey>(window: &Window<P>, offset: Offset, x: u64, y: u64) -> Opti
 /// Counts what is seen at an offset.
 #[inline(always)]
 fn enter<P: Grey>(histogram: &mut Histogram, window: &Window<P>, offset: Offset, x: u64, y: u64)
-    requires near { x ≤ 2 ^ 40 }
-    requires high { y ≤ 2 ^ 40 }
+    requires near { x ≤ FAR_LIMIT }
+    requires high { y ≤ FAR_LIMIT }
     requires room { HasRoom P.top_level histogram.old }
     ensures { (ns : List ℕ) → Tallies P.top_level histogram.old ns → Tallies P.top_level histogram.new (levels_at P.level (seen_at window.now) offset x y ++ ns) }
 {
@@ -65,8 +66,8 @@ fn enter<P: Grey>(histogram: &mut Histogram, window: &Window<P>, offset: Offset,
 /// Takes back what is seen at an offset.
 #[inline(always)]
 fn leave<P: Grey>(histogram: &mut Histogram, window: &Window<P>, offset: Offset, x: u64, y: u64)
-    requires near { x ≤ 2 ^ 40 }
-    requires high { y ≤ 2 ^ 40 }
+    requires near { x ≤ FAR_LIMIT }
+    requires high { y ≤ FAR_LIMIT }
     requires held { Holds P.top_level histogram.old (levels_at P.level (seen_at window.now) offset x y) }
     ensures { (ns : List ℕ) → Tallies P.top_level histogram.old (levels_at P.level (seen_at window.now) offset x y ++ ns) → Tallies P.top_level histogram.new ns }
 {
@@ -103,8 +104,8 @@ pub(crate) fn enter_all<P: Grey>(
     x: u64,
     y: u64,
 )
-    requires near { x ≤ 2 ^ 40 }
-    requires high { y ≤ 2 ^ 40 }
+    requires near { x ≤ FAR_LIMIT }
+    requires high { y ≤ FAR_LIMIT }
     requires few { length (element_of runs.now) < 2 ^ 16 }
     requires empty { Tallies P.top_level histogram.old [] }
     ensures { Tallies P.top_level histogram.new (levels_under P.level (seen_at window.now) (element_of runs.now) x y) }
@@ -122,8 +123,8 @@ pub(crate) fn leave_all<P: Grey>(
     x: u64,
     y: u64,
 )
-    requires near { x ≤ 2 ^ 40 }
-    requires high { y ≤ 2 ^ 40 }
+    requires near { x ≤ FAR_LIMIT }
+    requires high { y ≤ FAR_LIMIT }
     requires few { length (element_of runs.now) < 2 ^ 16 }
     requires held { Tallies P.top_level histogram.old (levels_under P.level (seen_at window.now) (element_of runs.now) x y) }
     ensures { Tallies P.top_level histogram.new [] }
@@ -141,7 +142,7 @@ pub(crate) fn leave_all<P: Grey>(
 /// Moves the element one column on.
 fn advance<P: Grey>(histogram: &mut Histogram, window: &Window<P>, runs: &[Run], x: u64, y: u64)
     requires near { x ≤ 2 ^ 39 }
-    requires high { y ≤ 2 ^ 40 }
+    requires high { y ≤ FAR_LIMIT }
     requires few { length (element_of runs.now) < 2 ^ 16 }
     requires held { Tallies P.top_level histogram.old (levels_under P.level (seen_at window.now) (element_of runs.now) x y) }
     ensures { Tallies P.top_level histogram.new (levels_under P.level (seen_at window.now) (element_of runs.now) (x + 1) y) }
@@ -196,7 +197,7 @@ pub(crate) fn push_row<P: Grey>(
     at: Stretch,
 ) -> Result<(), NoMemory>
     requires near { at.x + at.width ≤ 2 ^ 39 }
-    requires high { at.y ≤ 2 ^ 40 }
+    requires high { at.y ≤ FAR_LIMIT }
     requires few { length (element_of runs.now) < 2 ^ 16 }
     requires held { Tallies P.top_level histogram.old (levels_under P.level (seen_at window.now) (element_of runs.now) at.x at.y) }
     ensures row { OnOk result (GainsRow P.level (λ i. ranked at.k (levels_under P.level (seen_at window.now) (element_of runs.now) (at.x + i) at.y)) at.width out.old.items out.new.items) }
@@ -246,7 +247,7 @@ fn push_middle<P: Grey>(
     at: Stretch,
 ) -> Result<(), NoMemory>
     requires near { at.x + at.width ≤ 2 ^ 39 }
-    requires high { at.y ≤ 2 ^ 40 }
+    requires high { at.y ≤ FAR_LIMIT }
     requires few { length (element_of runs.now) < 2 ^ 16 }
     requires held { Tallies P.top_level histogram.old (levels_under P.level (seen_at window.now) (element_of runs.now) at.x at.y) }
     ensures row { OnOk result (GainsRow P.level (λ i. ranked at.k (levels_under P.level (seen_at window.now) (element_of runs.now) (at.x + i) at.y)) at.width out.old.items out.new.items) }
@@ -270,7 +271,7 @@ fn push_columns<P: Grey>(
     row: Row,
 ) -> Result<(), NoMemory>
     requires near { row.at.x + row.at.width ≤ 2 ^ 39 }
-    requires high { row.at.y ≤ 2 ^ 40 }
+    requires high { row.at.y ≤ FAR_LIMIT }
     requires few { length (element_of runs.now) < 2 ^ 16 }
     requires inner { row.inner.first + row.inner.count ≤ row.at.width }
     requires held { Tallies P.top_level histogram.old (levels_under P.level (seen_at window.now) (element_of runs.now) row.at.x row.at.y) }
@@ -310,7 +311,7 @@ fn push_whole_row<P: Grey>(
     row: Row,
 ) -> Result<(), NoMemory>
     requires near { row.at.x < 2 ^ 32 }
-    requires high { row.at.y ≤ 2 ^ 40 }
+    requires high { row.at.y ≤ FAR_LIMIT }
     requires few { length (element_of runs.now) < 2 ^ 16 }
     requires inner { row.inner.first + row.inner.count ≤ row.at.width }
     requires empty { Tallies P.top_level histogram.old [] }

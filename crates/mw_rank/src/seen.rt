@@ -1,5 +1,6 @@
 //! What a window shows of an element's runs.
-ghost use Rattle.std.specs.Prelude.{◌≡◌, ℕ, ℤ, pos, ◌+ℤ◌, ◌-ℤ◌, ◌<◌, ◌≤◌, ◌^◌, map, min, None, MatchOption};
+ghost use Rattle.std.specs.Prelude.{◌≡◌, ℕ, ℤ, pos, ◌+ℤ◌, ◌-ℤ◌, ◌<◌, ◌≤◌, map, min, None, MatchOption};
+ghost use Rattle.mw_model.specs.declared.limits.TheConstants.{FAR_LIMIT};
 ghost use Rattle.mw_model.specs.Places.{nonnegative};
 ghost use Rattle.mw_model.specs.Rasters.{raster, cell_at};
 ghost use Rattle.mw_model.specs.Windows.{seen_at};
@@ -13,7 +14,7 @@ use mw_tile::pixel::Grey;
 
 /// The row of the window in which a run lies, where the window has it.
 pub fn row_in<P: Grey>(window: &Window<P>, run: Run, y: u64) -> Option<usize>
-    requires { y ≤ 2 ^ 40 }
+    requires { y ≤ FAR_LIMIT }
     ensures { MatchOption result ((column : ℤ) → cell_at (raster window.now.place.width window.now.place.height window.now.cells) column (pos y +ℤ run.dy -ℤ pos window.now.place.y) ≡ None) (λ row. (row < window.now.place.height) × (pos y +ℤ run.dy -ℤ pos window.now.place.y ≡ pos row)) }
 {
     let place = window.place();
@@ -36,8 +37,8 @@ fn clamped(column: i64, width: u32) -> usize
 
 /// The samples of the window that a run shows at column x of row y of the frame.
 pub(crate) fn seen_part<P: Grey>(window: &Window<P>, run: Run, x: u64, y: u64) -> &[P]
-    requires near { x ≤ 2 ^ 40 }
-    requires high { y ≤ 2 ^ 40 }
+    requires near { x ≤ FAR_LIMIT }
+    requires high { y ≤ FAR_LIMIT }
     ensures { map P.level result.now ≡ levels_under P.level (seen_at window.now) (offsets_of run) x y }
 {
     let place = window.place();

@@ -1,5 +1,6 @@
 //! Where an element's offsets lie in a window, for columns at which all of them do.
-ghost use Rattle.std.specs.Prelude.{◌≡◌, ℕ, pos, ◌+ℤ◌, ◌-ℤ◌, ◌+◌, ◌≤◌, ◌^◌, IfOk, IfSome, IsTrue};
+ghost use Rattle.std.specs.Prelude.{◌≡◌, ℕ, pos, ◌+ℤ◌, ◌-ℤ◌, ◌+◌, ◌≤◌, IfOk, IfSome, IsTrue};
+ghost use Rattle.mw_model.specs.declared.limits.TheConstants.{FAR_LIMIT};
 ghost use Rattle.mw_model.specs.Windows.{seen_at};
 ghost use Rattle.mw_rank.specs.Runs.{run_at};
 ghost use Rattle.mw_rank_counts.specs.Counting.{ArePlaces, AddsPlace};
@@ -30,7 +31,7 @@ fn lone(offset: Offset) -> Run
 
 /// The column of the place in which an offset lies, where it does so at `count` columns in all.
 fn column_in(place: Rect, offset: Offset, x: u64, count: u32) -> Option<usize>
-    requires { x ≤ 2 ^ 40 }
+    requires { x ≤ FAR_LIMIT }
     ensures { IfSome result (λ column. (pos x +ℤ offset.dx -ℤ pos place.x ≡ pos column) × (column + count ≤ place.width)) }
 {
     let from = place_of(x, offset.dx, place.x);
@@ -49,8 +50,8 @@ fn push_place<P: Grey>(
     y: u64,
     count: u32,
 ) -> Result<bool, NoMemory>
-    requires near { x ≤ 2 ^ 40 }
-    requires high { y ≤ 2 ^ 40 }
+    requires near { x ≤ FAR_LIMIT }
+    requires high { y ≤ FAR_LIMIT }
     requires some { 1 ≤ count }
     ensures { IfOk result (λ inside. IsTrue inside → AddsPlace P.level P.TOP (seen_at window.now) window.now.cells offset x y count places.old.items places.new.items) }
 {
@@ -80,8 +81,8 @@ pub(crate) fn row_places<P: Grey>(
     y: u64,
     count: u32,
 ) -> Result<bool, NoMemory>
-    requires near { x ≤ 2 ^ 40 }
-    requires high { y ≤ 2 ^ 40 }
+    requires near { x ≤ FAR_LIMIT }
+    requires high { y ≤ FAR_LIMIT }
     requires some { 1 ≤ count }
     ensures { IfOk result (λ inside. IsTrue inside → ArePlaces P.level P.TOP (seen_at window.now) window.now.cells offsets.now x y count places.new.items) }
 {

@@ -1,5 +1,6 @@
 //! Eight rows of results, of a window that may show a part of what they look at.
 ghost use Rattle.std.specs.Prelude.{◌≡◌, ℕ, ℤ, ◌+◌, ◌*◌, ◌<◌, ◌≤◌, ◌^◌, pos, negsuc, ◌≤ℤ◌, length, IsTrue, OnOk};
+ghost use Rattle.mw_model.specs.declared.limits.TheConstants.{FAR_LIMIT};
 ghost use Rattle.mw_model.specs.Windows.{seen_at};
 ghost use Rattle.mw_rank_counts.specs.Counting.{AllUnder};
 ghost use Rattle.mw_rank_rows.specs.Rectangles.{AreRanks, AreMarks, IsRectangle, IsShown};
@@ -33,7 +34,7 @@ pub(crate) struct Shown {
 
 /// The rows that a window of that height shows of so many from `top` on, where its own first is row 0.
 fn shown_rows(top: i64, count: usize, height: u32) -> Shown
-    requires low { negsuc (2 ^ 40) ≤ℤ top }
+    requires low { negsuc FAR_LIMIT ≤ℤ top }
     requires high { top ≤ℤ pos (2 ^ 42) }
     requires few { count ≤ 2 ^ 17 }
     ensures { IsShown top count height result }

@@ -1,5 +1,6 @@
 //! Eight rows of results: the element slides along them, and each step takes back one column of samples and counts another.
-ghost use Rattle.std.specs.Prelude.{◌≡◌, ℕ, ◌+◌, ◌-◌, ◌*◌, ◌<◌, ◌≤◌, ◌^◌, pos, ◌+ℤ◌, ◌-ℤ◌, length, slice_index_or, IsTrue, MatchOption};
+ghost use Rattle.std.specs.Prelude.{◌≡◌, ℕ, ◌+◌, ◌-◌, ◌*◌, ◌<◌, ◌≤◌, pos, ◌+ℤ◌, ◌-ℤ◌, length, slice_index_or, IsTrue, MatchOption};
+ghost use Rattle.mw_model.specs.declared.limits.TheConstants.{FAR_LIMIT};
 ghost use Rattle.mw_rank_rows.specs.Lanes.{Rises};
 ghost use Rattle.mw_rank_rows.specs.Tables.{Holds, ShowsColumns, Slides, HasFound};
 
@@ -31,7 +32,7 @@ pub(crate) struct Strip<'a, P: Pixel> {
 /// The column of the sheet that the first column of the element, placed at column x of the frame, lies in.
 #[inline(always)]
 fn column_of<P: Pixel>(strip: Strip<P>, x: u64) -> Option<usize>
-    requires { x ≤ 2 ^ 40 }
+    requires { x ≤ FAR_LIMIT }
     ensures { MatchOption result ((at : ℕ) → at < strip.entry.sheet.width → pos x +ℤ strip.entry.dx -ℤ pos strip.entry.first ≡ pos at → ⊥) (λ at. (at < strip.entry.sheet.width) × (pos x +ℤ strip.entry.dx -ℤ pos strip.entry.first ≡ pos at)) }
 {
     let column = place_of(x, strip.dx, strip.first);
@@ -50,7 +51,7 @@ fn enter<P: Pixel>(
     all: Simd<u16, 8>,
     x: u64,
 )
-    requires near { x ≤ 2 ^ 40 }
+    requires near { x ≤ FAR_LIMIT }
     requires known { (levels : ℕ) × (column : ℕ → ℕ → ℕ → ℕ) × (u : ℕ → ℕ → ℕ) × ShowsColumns P.level P.TOP levels column strip all × Holds levels u counts.old lanes.old }
     ensures { (levels : ℕ) (column : ℕ → ℕ → ℕ → ℕ) (u w : ℕ → ℕ → ℕ) → ShowsColumns P.level P.TOP levels column strip.entry all → Holds levels u counts.old lanes.old → ((v j : ℕ) → j < 8 → w v j ≡ u v j + column v x j) → ((j : ℕ) → j < 8 → w levels j < 65536) → Holds levels w counts.new lanes.new }
 {
@@ -69,7 +70,7 @@ fn leave<P: Pixel>(
     all: Simd<u16, 8>,
     x: u64,
 )
-    requires near { x ≤ 2 ^ 40 }
+    requires near { x ≤ FAR_LIMIT }
     requires known { (levels : ℕ) × (column : ℕ → ℕ → ℕ → ℕ) × (u : ℕ → ℕ → ℕ) × ShowsColumns P.level P.TOP levels column strip all × Holds levels u counts.old lanes.old }
     ensures { (levels : ℕ) (column : ℕ → ℕ → ℕ → ℕ) (u w : ℕ → ℕ → ℕ) → ShowsColumns P.level P.TOP levels column strip.entry all → Holds levels u counts.old lanes.old → ((v j : ℕ) → j < 8 → u v j ≡ w v j + column v x j) → Rises w → Holds levels w counts.new lanes.new }
 {
@@ -88,7 +89,7 @@ fn enter_all<P: Pixel>(
     x: u64,
     columns: u32,
 )
-    requires near { x + columns ≤ 2 ^ 40 }
+    requires near { x + columns ≤ FAR_LIMIT }
     requires known { (levels : ℕ) × (column : ℕ → ℕ → ℕ → ℕ) × (seen : ℕ → ℕ → ℕ → ℕ → ℕ) × ShowsColumns P.level P.TOP levels column strip all × Slides columns column seen × Holds levels (λ v j. seen v x 0 j) counts.old lanes.old }
     ensures { (levels : ℕ) (column : ℕ → ℕ → ℕ → ℕ) (seen : ℕ → ℕ → ℕ → ℕ → ℕ) → ShowsColumns P.level P.TOP levels column strip.entry all → Slides columns column seen → Holds levels (λ v j. seen v x 0 j) counts.old lanes.old → Holds levels (λ v j. seen v x columns j) counts.new lanes.new }
 {
@@ -106,7 +107,7 @@ fn leave_all<P: Pixel>(
     x: u64,
     columns: u32,
 )
-    requires near { x + columns ≤ 2 ^ 40 }
+    requires near { x + columns ≤ FAR_LIMIT }
     requires known { (levels : ℕ) × (column : ℕ → ℕ → ℕ → ℕ) × (seen : ℕ → ℕ → ℕ → ℕ → ℕ) × ShowsColumns P.level P.TOP levels column strip all × Slides columns column seen × Holds levels (λ v j. seen v x columns j) counts.old lanes.old }
     ensures { (levels : ℕ) (column : ℕ → ℕ → ℕ → ℕ) (seen : ℕ → ℕ → ℕ → ℕ → ℕ) → ShowsColumns P.level P.TOP levels column strip.entry all → Slides columns column seen → Holds levels (λ v j. seen v x columns j) counts.old lanes.old → Holds levels (λ v j. seen v (x + columns) 0 j) counts.new lanes.new }
 {
@@ -171,7 +172,7 @@ fn slide<P: Pixel>(
 ) -> u32
     requires whole { length made.old ≡ 8 * span.width }
     requires some { 1 ≤ span.columns }
-    requires near { span.x + span.width + span.columns ≤ 2 ^ 40 }
+    requires near { span.x + span.width + span.columns ≤ FAR_LIMIT }
     requires known { (levels : ℕ) × (column : ℕ → ℕ → ℕ → ℕ) × (seen : ℕ → ℕ → ℕ → ℕ → ℕ) × ShowsColumns P.level P.TOP levels column strip all × Slides span.columns column seen × Holds levels (λ v j. seen v span.x span.columns j) counts.old lanes.old × (levels ≤ P.top_level + 1) }
     ensures within { result ≤ span.width }
     ensures moved { (levels : ℕ) (column : ℕ → ℕ → ℕ → ℕ) (seen : ℕ → ℕ → ℕ → ℕ → ℕ) → ShowsColumns P.level P.TOP levels column strip.entry all → Slides span.columns column seen → Holds levels (λ v j. seen v span.x span.columns j) counts.old lanes.old → Holds levels (λ v j. seen v (span.x + result) span.columns j) counts.new lanes.new }
@@ -206,7 +207,7 @@ pub(crate) fn rank_rows<P: Pixel>(
 ) -> bool
     requires whole { length made.old ≡ 8 * span.width }
     requires some { 1 ≤ span.columns }
-    requires near { span.x + span.width + span.columns ≤ 2 ^ 40 }
+    requires near { span.x + span.width + span.columns ≤ FAR_LIMIT }
     requires known { (levels : ℕ) × (column : ℕ → ℕ → ℕ → ℕ) × (seen : ℕ → ℕ → ℕ → ℕ → ℕ) × ShowsColumns P.level P.TOP levels column strip all × Slides span.columns column seen × Holds levels (λ v j. 0) counts.old lanes.old × (levels ≤ P.top_level + 1) }
     ensures empty { (levels : ℕ) (column : ℕ → ℕ → ℕ → ℕ) (seen : ℕ → ℕ → ℕ → ℕ → ℕ) → ShowsColumns P.level P.TOP levels column strip.entry all → Slides span.columns column seen → Holds levels (λ v j. 0) counts.old lanes.old → Holds levels (λ v j. 0) counts.new lanes.new }
     ensures found { IsTrue result → (levels : ℕ) (column : ℕ → ℕ → ℕ → ℕ) (seen : ℕ → ℕ → ℕ → ℕ → ℕ) → ShowsColumns P.level P.TOP levels column strip.entry all → Slides span.columns column seen → Holds levels (λ v j. 0) counts.old lanes.old → HasFound P.level levels seen span.columns span.k span.x span.width span.width made.new }
