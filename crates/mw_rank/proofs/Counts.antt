@@ -173,23 +173,18 @@ tallies_exchanged top a b h g mid ns le mid-is counts-is level-is held-is below-
 pub below_within : (top : ℕ) (h : Histogram) (ns : List ℕ) → Tallies top h ns → h.below ≤ length ns
 below_within top h ns t = omega (arith, t.below, count_within h.level ns)
 
--- where some levels are below, the present level is not the lowest
-pub not_lowest : (top : ℕ) (h : Histogram) (ns : List ℕ) → Tallies top h ns → 1 ≤ h.below → 1 ≤ h.level
-not_lowest top h ns t some = elim (cases_lt 0 h.level) [
-  | inl high ↦ high
-  | inr low ↦ absurd (let e : count_under h.level ns ≡ count_under 0 ns = ap (λ (v : ℕ). count_under v ns) (let z : h.level ≡ 0 = omega arith in z) in omega (arith, e, count-zero ns, t.below))
-]
+-- the level after the one before
+pub count_before : (level : ℕ) (ns : List ℕ) → 1 ≤ level → count_under (level - 1 + 1) ns ≡ count_under level ns
+count_before level ns some = ap (λ (v : ℕ). count_under v ns) (let z : level - 1 + 1 ≡ level = omega arith in z)
 
-pub next_below : (top : ℕ) (h : Histogram) (ns : List ℕ) → Tallies top h ns → 1 ≤ h.level → h.below ≡ get_or h.counts.items (h.level - 1) 0 + count_under (h.level - 1) ns
-next_below top h ns t some =
-    let e : count_under (h.level - 1 + 1) ns ≡ count_under h.level ns = ap (λ (v : ℕ). count_under v ns) (let z : h.level - 1 + 1 ≡ h.level = omega arith in z) in
-    omega (arith, e, t.each (h.level - 1), t.below)
+pub next_below : (top level : ℕ) (h : Histogram) (ns : List ℕ) → Tallies top h ns → 1 ≤ level → count_under level ns ≡ get_or h.counts.items (level - 1) 0 + count_under (level - 1) ns
+next_below top level h ns t some = omega (arith, count_before level ns some, t.each (level - 1))
 
--- where the levels up to the present one are not all, it is not the top
-pub not_top : (top n : ℕ) (h : Histogram) (ns : List ℕ) → Tallies top h ns → n ≤ h.held → h.below + get_or h.counts.items h.level 0 < n → h.level < top
-not_top top n h ns t all few = elim (cases_lt h.level top) [
+-- where the levels up to one are not all, it is not the top
+pub not_top : (top n level : ℕ) (h : Histogram) (ns : List ℕ) → Tallies top h ns → level ≤ top → n ≤ h.held → count_under level ns + get_or h.counts.items level 0 < n → level < top
+not_top top n level h ns t within all few = elim (cases_lt level top) [
   | inl low ↦ low
-  | inr high ↦ absurd (let e : count_under (h.level + 1) ns ≡ count_under (top + 1) ns = ap (λ (v : ℕ). count_under (v + 1) ns) (let z : h.level ≡ top = omega (arith, t.level) in z) in omega (arith, e, t.all, t.held, t.below, t.each h.level))
+  | inr high ↦ absurd (let e : count_under (level + 1) ns ≡ count_under (top + 1) ns = ap (λ (v : ℕ). count_under (v + 1) ns) (let z : level ≡ top = omega (arith, within) in z) in omega (arith, e, t.all, t.held, t.each level))
 ]
 
 -- what was counted, with another spelling of one level

@@ -1,6 +1,6 @@
 //! A histogram of levels with a level that moves to the wanted rank (Huang, Yang and Tang 1979). Where that is far, as
 //! among many levels, it goes on by leaps over spans of counters at once: their sum is one pass of vector code, where a
-//! walk has a test for each counter.
+//! walk has a test for each counter. A walk keeps its level beside the histogram, and writes it back only where it moved.
 ghost use Rattle.std.specs.Prelude.{◌≡◌, ℕ, ◌+◌, ◌<◌, ◌≤◌, ◌⊎◌, List, [], ◌∷◌, length, cond, nat_lt, IfOk};
 ghost use Rattle.mw_model.specs.PlanSteps.{ranked};
 ghost use Rattle.mw_rank.specs.Tallies.{count_under, Tallies, HasRoom, Holds};
@@ -10,7 +10,7 @@ use mw_tile::pixel::Pixel;
 use std::alloc::Global;
 
 /// How many counters a leap goes over.
-const SPAN: u32 = 16;
+const SPAN: u32 = 64;
 
 /// How many levels the level moves step by step before it leaps: it is mostly near.
 const NEAR: u32 = 64;
@@ -117,6 +117,7 @@ impl Histogram {
         requires { (top : ℕ) × Holds top self.old [] }
         ensures tallies { (top : ℕ) (ns : List ℕ) → Tallies top self.old ns → Tallies top self.new ns }
         ensures held { self.new.held ≡ self.old.held }
+        ensures many { n ≤ self.old.below → n ≤ self.new.below }
     {
         while self.below >= n && self.level >= SPAN {
             let less = self.counted(self.level - SPAN, self.level);
@@ -156,11 +157,16 @@ impl Histogram {
         ensures tallies { (top : ℕ) (ns : List ℕ) → Tallies top self.old ns → Tallies top self.new ns }
         ensures held { self.new.held ≡ self.old.held }
         ensures few { (self.new.below < n) ⊎ (self.new.level ≤ end) }
+        ensures enough { (top : ℕ) (ns : List ℕ) → Tallies top self.old ns → n ≤ self.old.below → n ≤ count_under (self.new.level + 1) ns }
     {
-        while self.below >= n && self.level > end {
-            self.level -= 1;
-            self.below -= u32::from(self.counts[self.level as usize]);
+        let mut level = self.level;
+        let mut below = self.below;
+        while below >= n && level > end {
+            level -= 1;
+            below -= u32::from(self.counts[level as usize]);
         }
+        self.level = level;
+        self.below = below;
     }
 
     /// Moves up until n levels or more are not above, but not above `end`.
@@ -174,20 +180,26 @@ impl Histogram {
         ensures few { self.new.below < n }
         ensures enough { (top : ℕ) (ns : List ℕ) → Tallies top self.old ns → self.new.level < end → n ≤ count_under (self.new.level + 1) ns }
     {
-        while self.level < end && self.below + u32::from(self.counts[self.level as usize]) < n {
-            self.below += u32::from(self.counts[self.level as usize]);
-            self.level += 1;
+        let mut level = self.level;
+        let mut below = self.below;
+        while level < end && below + u32::from(self.counts[level as usize]) < n {
+            below += u32::from(self.counts[level as usize]);
+            level += 1;
         }
+        self.level = level;
+        self.below = below;
     }
 
     /// Moves down until fewer than n levels are below: step by step, and by leaps where it is not near.
     #[inline(always)]
     fn go_down(&mut self, n: u32)
         requires some { 1 ≤ n }
+        requires many { n ≤ self.old.below }
         requires held { (top : ℕ) × Holds top self.old [] }
         ensures tallies { (top : ℕ) (ns : List ℕ) → Tallies top self.old ns → Tallies top self.new ns }
         ensures held { self.new.held ≡ self.old.held }
         ensures few { self.new.below < n }
+        ensures enough { (top : ℕ) (ns : List ℕ) → Tallies top self.old ns → n ≤ count_under (self.new.level + 1) ns }
     {
         self.lower(n, self.level.saturating_sub(NEAR));
         if self.below >= n {
@@ -214,6 +226,23 @@ impl Histogram {
         }
     }
 
+    /// Moves the level to number n of those that were counted. It mostly stands there.
+    #[inline(always)]
+    fn go_to(&mut self, n: u32)
+        requires some { 1 ≤ n }
+        requires within { n ≤ self.old.held }
+        requires held { (top : ℕ) × Holds top self.old [] }
+        ensures tallies { (top : ℕ) (ns : List ℕ) → Tallies top self.old ns → Tallies top self.new ns }
+        ensures few { self.new.below < n }
+        ensures enough { (top : ℕ) (ns : List ℕ) → Tallies top self.old ns → n ≤ count_under (self.new.level + 1) ns }
+    {
+        if self.below >= n {
+            self.go_down(n);
+        } else if self.below + u32::from(self.counts[self.level as usize]) < n {
+            self.go_up(n);
+        }
+    }
+
     /// Of the levels in rising order number k, or the last where there are fewer; 0 where there is none.
     #[inline(always)]
     pub(crate) fn select(&mut self, k: u32) -> u16
@@ -226,8 +255,7 @@ impl Histogram {
             return 0;
         }
         let n = self.held.min(k).max(1);
-        self.go_down(n);
-        self.go_up(n);
+        self.go_to(n);
         self.level as u16
     }
 }

@@ -25,3 +25,9 @@ returns-then-self-n-clause-few c = elim c.lower-then-self-n.ensures.few [
       let e : count_under c.lower-then-self-n.new.self.level r.others ≡ count_under 0 r.others = ap (λ (v : ℕ). count_under v r.others) (let z : c.lower-then-self-n.new.self.level ≡ 0 = omega (arith, lowest) in z) in
       omega (arith, e, count-zero r.others, t.below, c.requires.some)
 ]
+
+pub returns-then-self-n-clause-enough : goal.returns-then-self-n-clause-enough
+returns-then-self-n-clause-enough c = λ top ns t. c.lower-then-self-n.ensures.enough top ns (c.leap_down.ensures.tallies top ns (c.lower.ensures.tallies top ns t)) (c.leap_down.ensures.many (omega arith))
+
+pub returns-else-self-n-clause-enough : goal.returns-else-self-n-clause-enough
+returns-else-self-n-clause-enough c = λ top ns t. c.lower.ensures.enough top ns t c.requires.many

@@ -23,4 +23,5 @@ loop-self-preserved c = record {
       let t = c.loop-self.invariant.tallies top ns before in
       tallies_moved top c.loop-self.self _ ns refl refl (omega (arith, t.level)) (omega (arith, t.below, c.counted-less.ensures top ns t)) t;
   held = c.loop-self.invariant.held;
+  many = λ many. omega arith;
 }

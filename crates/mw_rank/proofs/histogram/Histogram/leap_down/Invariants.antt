@@ -1,4 +1,4 @@
-use Rattle.std.proofs.Common.{◌≡◌, ℕ, List}
+use Rattle.std.proofs.Common.{◌≡◌, ◌≤◌, ℕ, List}
 use Rattle.mw_rank.specs.Tallies.{Tallies}
 use Rattle.mw_rank.proofs.histogram.Histogram.leap_down.Given as goal
 
@@ -6,6 +6,7 @@ abbrev pub invariant-loop-self : goal.invariant-loop-self
 invariant-loop-self l = record {
   tallies : (top : ℕ) (ns : List ℕ) → Tallies top l.initial.self ns → Tallies top l.self ns;
   held : l.self.held ≡ l.initial.self.held;
+  many : l.n ≤ l.initial.self.below → l.n ≤ l.self.below;
 }
 
 abbrev pub decreases-loop-self : goal.decreases-loop-self

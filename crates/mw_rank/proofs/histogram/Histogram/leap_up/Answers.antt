@@ -21,7 +21,7 @@ pub overflow_add-below : goal.overflow_add-below
 overflow_add-below c =
     let r = c.requires.held.1 in
     let t = c.loop-self.invariant.tallies c.requires.held.0 r.others r.tallies in
-    omega (arith, t.below, c.counted-more.ensures c.requires.held.0 r.others t, count_within (c.loop-self.self.level + 16) r.others, r.few)
+    omega (arith, t.below, c.counted-more.ensures c.requires.held.0 r.others t, count_within (c.loop-self.self.level + 64) r.others, r.few)
 
 pub loop-self-preserved : goal.loop-self-preserved
 loop-self-preserved c = record {

@@ -1,12 +1,12 @@
-use Rattle.std.proofs.Common.{◌≡◌, ℕ, List}
-use Rattle.mw_rank.specs.Tallies.{Tallies}
+use Rattle.std.proofs.Common.{◌≡◌, ◌≤◌, ◌+◌, ℕ, List}
+use Rattle.mw_rank.specs.Tallies.{Tallies, count_under}
 use Rattle.mw_rank.proofs.histogram.Histogram.lower.Given as goal
 
-abbrev pub invariant-loop-self : goal.invariant-loop-self
-invariant-loop-self l = record {
-  tallies : (top : ℕ) (ns : List ℕ) → Tallies top l.initial.self ns → Tallies top l.self ns;
-  held : l.self.held ≡ l.initial.self.held;
+abbrev pub invariant-loop-below : goal.invariant-loop-below
+invariant-loop-below l = record {
+  place : (top : ℕ) (ns : List ℕ) → Tallies top l.self ns → (l.below ≡ count_under l.level ns) × (l.level ≤ top);
+  enough : (top : ℕ) (ns : List ℕ) → Tallies top l.self ns → l.n ≤ l.self.below → l.n ≤ count_under (l.level + 1) ns;
 }
 
-abbrev pub decreases-loop-self : goal.decreases-loop-self
-decreases-loop-self l = l.self.level
+abbrev pub decreases-loop-below : goal.decreases-loop-below
+decreases-loop-below l = l.level
