@@ -1,6 +1,7 @@
 //! Elements that are squares of offsets, and where a window shows them.
-ghost use Rattle.std.specs.Prelude.{◌≡◌, ◌+◌, ◌<◌, ◌≤◌, ◌^◌, pos, ◌+ℤ◌, ◌-ℤ◌, IfSome, IsTrue};
+ghost use Rattle.std.specs.Prelude.{◌≡◌, ◌+◌, ◌<◌, ◌≤◌, pos, ◌+ℤ◌, ◌-ℤ◌, IfSome, IsTrue};
 ghost use Rattle.mw_model.specs.Windows.{seen_at};
+ghost use Rattle.mw_model.specs.declared.limits.TheConstants.{FAR_LIMIT};
 ghost use Rattle.mw_medians.specs.Squares.{rows_from, ShowsSquare};
 
 use mw_model::{Offset, Rect};
@@ -47,7 +48,7 @@ pub(crate) fn square_of(offsets: &[Offset], side: usize) -> Option<Offset>
 
 /// The column of the place in which the square begins, where it stays in the place's columns at so many columns in all.
 fn column_in(place: Rect, first: Offset, side: u32, x: u64, count: u32) -> Option<usize>
-    requires near { x ≤ 2 ^ 40 }
+    requires near { x ≤ FAR_LIMIT }
     ensures { IfSome result (λ column. (pos x +ℤ first.dx -ℤ pos place.x ≡ pos column) × (column + count + side ≤ place.width + 1)) }
 {
     let from = place_of(x, first.dx, place.x);
@@ -63,7 +64,7 @@ fn column_in(place: Rect, first: Offset, side: u32, x: u64, count: u32) -> Optio
 
 /// The row of the place in which the square begins, where the place has all of its rows.
 fn row_in(place: Rect, first: Offset, side: u32, y: u64) -> Option<usize>
-    requires high { y ≤ 2 ^ 40 }
+    requires high { y ≤ FAR_LIMIT }
     ensures { IfSome result (λ row. (pos y +ℤ first.dy -ℤ pos place.y ≡ pos row) × (row + side ≤ place.height)) }
 {
     let from = place_of(y, first.dy, place.y);
@@ -87,8 +88,8 @@ pub(crate) fn square_in<P: Grey>(
     y: u64,
     count: u32,
 ) -> Option<usize>
-    requires near { x ≤ 2 ^ 40 }
-    requires high { y ≤ 2 ^ 40 }
+    requires near { x ≤ FAR_LIMIT }
+    requires high { y ≤ FAR_LIMIT }
     requires some { 1 ≤ side }
     ensures { IfSome result (λ from. ShowsSquare P.level P.TOP (seen_at window.now) window.now.cells (rows_from first side side) x y count from window.now.place.width side) }
 {

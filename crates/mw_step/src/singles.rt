@@ -1,6 +1,7 @@
 //! Steps that look at one image, place by place, or at none.
 
 ghost use Rattle.std.specs.Prelude.{◌≡◌, ◌-◌, ◌*◌, ◌≤◌, ◌==◌, nat_le, if◌then◌else◌, length, sum, sum_by, IfOk};
+ghost use Rattle.mw_model.specs.declared.limits.TheConstants.{SIDE_LIMIT};
 ghost use Rattle.mw_model.specs.declared.shapes.Kind.TheVariants as kind;
 ghost use Rattle.mw_task.specs.Products.{HoldsImage, each_drawn, tile_drawn};
 
@@ -64,8 +65,8 @@ pub(crate) fn blank(alloc: Global, maxval: u16, tile: Rect) -> Result<TileResult
 
 /// The sum of the samples.
 pub(crate) fn sum_up(a: &AnyWindow) -> u64
-    requires wide { a.now.view.place.width ≤ 8192 }
-    requires high { a.now.view.place.height ≤ 8192 }
+    requires wide { a.now.view.place.width ≤ SIDE_LIMIT }
+    requires high { a.now.view.place.height ≤ SIDE_LIMIT }
     ensures value { result ≡ sum a.now.view.cells }
     ensures fills { length a.now.view.cells ≡ a.now.view.place.height * a.now.view.place.width }
 {
