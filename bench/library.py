@@ -3,11 +3,16 @@
 bench_kernels. The best of so many rounds counts; both write into an array that is there already.
 
     /usr/bin/python3 bench/library.py out/libmorphd.so [ROUNDS [WORD]]
+    /usr/bin/python3 bench/library.py out/libmorphd.so memory [WORD]
 
-With a word only the lines that have it are timed. It needs a Python with cv2 (Debian: python3-opencv).
+With a word only the lines that have it are timed. With `memory` it tells instead how much memory a call takes beyond the
+caller's arrays, and how often it waits for a page, from a heap that is empty. It needs a Python with cv2 (Debian:
+python3-opencv).
 """
 import ctypes
 import pathlib
+import re
+import resource
 import sys
 import time
 
@@ -64,6 +69,21 @@ def by_turns(first, second, rounds):
     return min(it[0] for it in times), min(it[1] for it in times)
 
 
+def resident(word):
+    """A line of /proc/self/status, in KiB."""
+    return int(re.search(word + r":\s+(\d+)", pathlib.Path("/proc/self/status").read_text())[1])
+
+
+def taken(run):
+    """How many KiB more a call makes resident while it runs, and how many pages it waits for."""
+    ctypes.CDLL(None).malloc_trim(0)
+    # the greatest resident size is counted anew
+    pathlib.Path("/proc/self/clear_refs").write_text("5")
+    before, faults = resident("VmRSS"), resource.getrusage(resource.RUSAGE_SELF).ru_minflt
+    run()
+    return resident("VmHWM") - before, resource.getrusage(resource.RUSAGE_SELF).ru_minflt - faults
+
+
 def agrees(ours, theirs, element):
     """Whether both made the same, apart from the border, at which medians differ."""
     reach = max(element.shape)
@@ -71,22 +91,38 @@ def agrees(ours, theirs, element):
     return bool((ours[inner] == theirs[inner]).all())
 
 
-def main():
-    library = ctypes.CDLL(str(pathlib.Path(sys.argv[1]).resolve()))
-    rounds, word = int(sys.argv[2]) if len(sys.argv) > 2 else 7, sys.argv[3] if len(sys.argv) > 3 else ""
-    cv2.setNumThreads(1)
-    words = levels()
-    octets = words.astype(numpy.uint8)
-    images = {"u8": octets, "u16": words, "set": (words % 10 != 0).astype(numpy.uint8)}
+def tell_memory(library, images, wanted):
+    print(f"{SIDE} x {SIDE}, a call's memory beyond the caller's arrays")
+    print("| samples | what | KiB | page faults |")
+    for name, kind, operation, k, element, _ in wanted:
+        image, run = images[kind], flat(library, kind)
+        out = numpy.ones_like(image)
+        kib, faults = taken(lambda: run(operation, k, image, element, out))
+        print(f"| {kind} | {name} | {kib} | {faults} |", flush=True)
+
+
+def tell_times(library, images, wanted, rounds):
     print(f"OpenCV {cv2.__version__}, one thread each, {SIDE} x {SIDE}, the best of {rounds} by turns, in milliseconds")
     print("| samples | what | libmorphd | OpenCV | times OpenCV's | the same |")
-    for name, kind, operation, k, element, theirs in lines():
-        if word not in f"{kind} {name}":
-            continue
+    for name, kind, operation, k, element, theirs in wanted:
         image, run = images[kind], flat(library, kind)
         ours, other = numpy.zeros_like(image), numpy.zeros_like(image)
         mine, its = by_turns(lambda: run(operation, k, image, element, ours), lambda: theirs(image, element, other), rounds)
         print(f"| {kind} | {name} | {mine:.1f} | {its:.1f} | {mine / its:.2f} | {agrees(ours, other, element)} |", flush=True)
+
+
+def main():
+    library = ctypes.CDLL(str(pathlib.Path(sys.argv[1]).resolve()))
+    first, word = sys.argv[2] if len(sys.argv) > 2 else "7", sys.argv[3] if len(sys.argv) > 3 else ""
+    cv2.setNumThreads(1)
+    words = levels()
+    octets = words.astype(numpy.uint8)
+    images = {"u8": octets, "u16": words, "set": (words % 10 != 0).astype(numpy.uint8)}
+    wanted = [line for line in lines() if word in f"{line[1]} {line[0]}"]
+    if first == "memory":
+        tell_memory(library, images, wanted)
+    else:
+        tell_times(library, images, wanted, int(first))
 
 
 if __name__ == "__main__":

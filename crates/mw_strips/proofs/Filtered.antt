@@ -42,6 +42,9 @@ refilled_image x e f g samples image is same =
       area = image.area;
     }
 
+pub slid_image : (x : Extremum) (e : List Offset) (f g : Picture) → IsImage f → g ≡ sliding x e f → IsImage g
+slid_image x e f g image is = subst (λ (h : Picture). IsImage h) (refilled_is x e f g g.samples is refl ∙ sym is) (refilled_image x e f g g.samples image is refl)
+
 -- the other extremum of an extremum by the element turned round
 filtered : (x : Extremum) (e : List Offset) (f : Picture) → sliding (other x) (reflected e) (sliding x e f) ≡ filtering x e f
 filtered Least e f = refl

@@ -11,15 +11,16 @@ use Rattle.mw_task.proofs.Cut.{plane_of_one}
 use Rattle.std.specs.Prelude.{cond, nat_le}
 use Rattle.std.specs.Arc.{arc_value}
 use Rattle.mw_model.specs.declared.shapes.Kind.TheVariants as kind
-use Rattle.mw_arrays.specs.Sources.{IsSource, picture_in}
 use Rattle.mw_arrays.proofs.SourceImages.{source_image}
+use Rattle.mw_strips.specs.Origins.{IsOrigin, picture_of}
+use Rattle.mw_strips.proofs.OriginImages.{origin_image}
 use Rattle.mw_strips.specs.declared.layers.Formula.{Formula}
 use Rattle.mw_strips.specs.declared.layers.Formula.TheVariants.{One, Less}
 use Rattle.mw_strips.specs.declared.layers.Layer.{Layer}
 use Rattle.mw_strips.specs.declared.layers.Layer.TheVariants.{By, Itself}
 use Rattle.mw_strips.specs.declared.layers.Rule.{Rule}
 use Rattle.mw_strips.specs.declared.layers.Rule.TheVariants as rules
-use Rattle.mw_strips.specs.Layers.{IsFormula, first_source, formula_picture, layer_picture, rule_picture, source_of}
+use Rattle.mw_strips.specs.Layers.{IsFormula, first_origin, formula_picture, layer_picture, origin_of, rule_picture}
 use Rattle.mw_strips.specs.Parts.{IsStrip, part_of, whole_window}
 
 -- the sides of an image
@@ -27,13 +28,16 @@ pub record HasSides (f : Picture) : Type 0 where
   pub wide : (1 ≤ f.width) × (f.width ≤ 8192)
   pub high : (1 ≤ f.height) × (f.height ≤ 8192)
 
-pub layer_sides : (l : Layer) → IsSource (source_of l) → HasSides (layer_picture l)
+pub layer_sides : (l : Layer) → IsOrigin (origin_of l) → HasSides (layer_picture l)
 layer_sides (Itself f) is = let image = source_image f is in record { wide = image.width; high = image.height }
-layer_sides (By r f) is = let image = source_image f is in record { wide = image.width; high = image.height }
+layer_sides (By r f) is = let image = origin_image f is in record { wide = image.width; high = image.height }
 
 -- a strip of what a rule makes is one of what it looks at
 pub strip_below : (r : Rule) (f : Picture) (strip : Rect) → IsStrip strip (rule_picture r f) → IsStrip strip f
 strip_below r f strip is = record { left = is.left; wide = is.wide; some = is.some; low = is.low }
+
+pub strip_above : (r : Rule) (f : Picture) (strip : Rect) → IsStrip strip f → IsStrip strip (rule_picture r f)
+strip_above r f strip is = record { left = is.left; wide = is.wide; some = is.some; low = is.low }
 
 -- the same of the two images of a difference
 pub strip_first : (a b : Picture) (strip : Rect) → IsStrip strip (minus a b) → IsStrip strip a
@@ -71,15 +75,15 @@ two_windows a b r w v ws alike whole first second is =
 
 -- ---- they are images
 
-rule_is_picture : (r : Rule) (f : Picture) → IsPicture f → IsPicture (rule_picture r f)
+pub rule_is_picture : (r : Rule) (f : Picture) → IsPicture f → IsPicture (rule_picture r f)
 rule_is_picture (rules.Least e) f is = erosion_picture (arc_value e.now).offsets f
 rule_is_picture (rules.Greatest e) f is = dilation_picture (arc_value e.now).offsets f is
 rule_is_picture (rules.Nth e k) f is = rank_picture (arc_value e.now).offsets k f is
 rule_is_picture (rules.AtLeast k) f is = subst (λ (g : Picture). IsPicture g) (sym (plane_of_one kind.Bit 1 (λ n. cond (nat_le k n) 1 0) f)) (threshold_picture k f)
 
-pub layer_is_picture : (l : Layer) → IsSource (source_of l) → IsPicture (layer_picture l)
+pub layer_is_picture : (l : Layer) → IsOrigin (origin_of l) → IsPicture (layer_picture l)
 layer_is_picture (Itself f) is = (source_image f is).picture
-layer_is_picture (By r f) is = rule_is_picture r (picture_in f) (source_image f is).picture
+layer_is_picture (By r f) is = rule_is_picture r (picture_of f) (origin_image f is).picture
 
 pub formula_is_picture : (x : Formula) → IsFormula x → IsPicture (formula_picture x)
 formula_is_picture (One l) is = layer_is_picture l is
@@ -89,11 +93,11 @@ pub formula_sides : (x : Formula) → IsFormula x → HasSides (formula_picture 
 formula_sides (One l) is = layer_sides l is
 formula_sides (Less a b) is = let sides = layer_sides a is.0 in record { wide = sides.wide; high = sides.high }
 
-layer_frame : (l : Layer) → ((layer_picture l).width ≡ (picture_in (source_of l)).width) × ((layer_picture l).height ≡ (picture_in (source_of l)).height)
+layer_frame : (l : Layer) → ((layer_picture l).width ≡ (picture_of (origin_of l)).width) × ((layer_picture l).height ≡ (picture_of (origin_of l)).height)
 layer_frame (Itself f) = (refl, refl)
 layer_frame (By r f) = (refl, refl)
 
 -- their frame is that of the image that is looked at first
-pub formula_frame : (x : Formula) → ((formula_picture x).width ≡ (picture_in (first_source x)).width) × ((formula_picture x).height ≡ (picture_in (first_source x)).height)
+pub formula_frame : (x : Formula) → ((formula_picture x).width ≡ (picture_of (first_origin x)).width) × ((formula_picture x).height ≡ (picture_of (first_origin x)).height)
 formula_frame (One l) = layer_frame l
 formula_frame (Less a b) = layer_frame a

@@ -4,6 +4,9 @@ mod Formulas
 mod Cutting
 mod UnderOffsets
 mod RowCells
+mod OriginImages
+mod Marked
+mod Gathered
 mod PlainValues
 mod SmallLevels
 mod Refilled

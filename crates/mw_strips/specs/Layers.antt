@@ -7,8 +7,10 @@ use Rattle.mw_model.specs.Pictures.{Picture}
 use Rattle.mw_model.specs.Plans.{plane_of}
 use Rattle.mw_model.specs.PlanSteps.{PlanStep}
 use Rattle.mw_model.specs.PlanSteps as plan
-use Rattle.mw_arrays.specs.declared.sources.Source.{Source}
-use Rattle.mw_arrays.specs.Sources.{IsSource, picture_in}
+use Rattle.mw_arrays.specs.Sources.{picture_in}
+use Rattle.mw_strips.specs.declared.origins.Origin.{Origin}
+use Rattle.mw_strips.specs.declared.origins.Origin.TheVariants.{Array}
+use Rattle.mw_strips.specs.Origins.{IsOrigin, picture_of}
 use Rattle.mw_plan.specs.declared.extremum.Extremum.{Extremum}
 use Rattle.mw_plan.specs.declared.extremum.Extremum.TheVariants as extremum
 use Rattle.mw_strips.specs.declared.layers.Rule.{Rule}
@@ -30,19 +32,19 @@ abbrev pub rule_picture : Rule → Picture → Picture
 rule_picture r f = plane_of (step_of r) (f ∷ []) f.width f.height
 
 -- the image that a layer looks at
-abbrev pub source_of : Layer → Source
-source_of (Itself f) = f
-source_of (By r f) = f
+abbrev pub origin_of : Layer → Origin
+origin_of (Itself f) = Array f
+origin_of (By r f) = f
 
 -- the image that a formula looks at first
-abbrev pub first_source : Formula → Source
-first_source (One l) = source_of l
-first_source (Less a b) = source_of a
+abbrev pub first_origin : Formula → Origin
+first_origin (One l) = origin_of l
+first_origin (Less a b) = origin_of a
 
 -- the image of a layer
 abbrev pub layer_picture : Layer → Picture
 layer_picture (Itself f) = picture_in f
-layer_picture (By r f) = rule_picture r (picture_in f)
+layer_picture (By r f) = rule_picture r (picture_of f)
 
 -- the image that a formula makes
 abbrev pub formula_picture : Formula → Picture
@@ -51,8 +53,8 @@ formula_picture (Less a b) = minus (layer_picture a) (layer_picture b)
 
 -- the images that it looks at are sound, and those of a difference alike
 abbrev pub IsFormula : Formula → Type 0
-IsFormula (One l) = IsSource (source_of l)
-IsFormula (Less a b) = IsSource (source_of a) × IsSource (source_of b) × SameShape (layer_picture b) (layer_picture a)
+IsFormula (One l) = IsOrigin (origin_of l)
+IsFormula (Less a b) = IsOrigin (origin_of a) × IsOrigin (origin_of b) × SameShape (layer_picture b) (layer_picture a)
 
 -- the image less what is filtered of it where that is an opening, and turned where it is a closing
 abbrev pub rest : Extremum → Picture → Picture → Picture

@@ -1,2 +1,4 @@
 pub mod Layers
+pub mod Origins
 pub mod Parts
+pub mod Tables

@@ -2,20 +2,23 @@
 
 ghost use Rattle.std.specs.Prelude.{◌≡◌, length, map, IfErr, IfOk};
 ghost use Rattle.std.specs.Arc.{arc_value};
+ghost use Rattle.mw_model.specs.declared.shapes.Kind.TheVariants as kind;
 ghost use Rattle.mw_model.specs.Flat.{gradient, minus, rank, reflected, threshold};
 ghost use Rattle.mw_model.specs.Laws.{SameShape};
 ghost use Rattle.mw_model.specs.Pictures.{Picture};
 ghost use Rattle.mw_plan.specs.Steps.{filtering, other, residue, sliding};
 ghost use Rattle.mw_arrays.specs.Sources.{IsSource, picture_in, source_count};
 ghost use Rattle.mw_strips.specs.Layers.{rest, rule_picture};
+ghost use Rattle.mw_strips.specs.Origins.{IsOrigin, picture_of};
 
 use crate::Sample;
+use crate::gathering::{levels_made, set_made};
 use crate::layers::{Formula, Layer, Rule};
+use crate::origins::{Origin, is_set};
 use crate::writing::write_all;
 use mw_arrays::Source;
 use mw_element::Element;
 use mw_model::NoMemory;
-use mw_pixel::copies;
 use mw_plan::Extremum;
 use std::alloc::Global;
 use std::sync::Arc;
@@ -60,7 +63,7 @@ fn one<P: Sample>(
     ensures made { IfOk result (λ _. map P.level out.new ≡ (rule_picture rule.entry (picture_in f.entry)).samples) }
     ensures kept { IfErr result (λ _. out.new ≡ out.old) }
 {
-    write_all(alloc, Formula::One(Layer::By(rule, f)), out)
+    write_all(alloc, Formula::One(Layer::By(rule, Origin::Array(f))), out)
 }
 
 /// Writes what one rule makes, less what another makes of the same image.
@@ -80,20 +83,54 @@ fn difference<P: Sample>(
 {
     write_all(
         alloc,
-        Formula::Less(Layer::By(upper, f), Layer::By(lower, f)),
+        Formula::Less(
+            Layer::By(upper, Origin::Array(f)),
+            Layer::By(lower, Origin::Array(f)),
+        ),
         out,
     )
 }
 
-/// What a rule makes of the whole image.
-fn plane_of<P: Sample>(alloc: Global, rule: Rule<'_>, f: Source<'_>) -> Result<Vec<P>, NoMemory>
+/// Writes an opening or a closing of a set, with words between the two steps.
+fn filter_set<P: Sample>(
+    alloc: Global,
+    extremum: Extremum,
+    f: Source<'_>,
+    b: &Arc<Element>,
+    out: &mut [P],
+) -> Result<(), NoMemory>
     requires sound { IsSource f }
-    requires stands { P.stands (rule_picture rule (picture_in f)).maxval }
-    ensures { IfOk result (λ v. map P.level v.items ≡ (rule_picture rule.entry (picture_in f.entry)).samples) }
+    requires set { (picture_in f).kind ≡ kind.Bit }
+    requires room { length out.old ≡ source_count f }
+    requires stands { P.stands (picture_in f).maxval }
+    ensures made { IfOk result (λ _. map P.level out.new ≡ (filtering extremum (arc_value b.now).offsets (picture_in f.entry)).samples) }
+    ensures kept { IfErr result (λ _. out.new ≡ out.old) }
 {
-    let mut plane = copies(alloc, f.count(), P::TOP)?;
-    one(alloc, rule, f, plane.as_mut_slice())?;
-    Ok(plane)
+    let back = turned(alloc, b)?;
+    let image = set_made(alloc, slid(extremum, b), f)?;
+    let second = Layer::By(slid_back(extremum, &back), Origin::Made(&image));
+    write_all(alloc, Formula::One(second), out)
+}
+
+/// Writes an opening or a closing of levels.
+fn filter_levels<P: Sample>(
+    alloc: Global,
+    extremum: Extremum,
+    f: Source<'_>,
+    b: &Arc<Element>,
+    out: &mut [P],
+) -> Result<(), NoMemory>
+    requires sound { IsSource f }
+    requires grey { (picture_in f).kind ≡ kind.Grey }
+    requires room { length out.old ≡ source_count f }
+    requires stands { P.stands (picture_in f).maxval }
+    ensures made { IfOk result (λ _. map P.level out.new ≡ (filtering extremum (arc_value b.now).offsets (picture_in f.entry)).samples) }
+    ensures kept { IfErr result (λ _. out.new ≡ out.old) }
+{
+    let back = turned(alloc, b)?;
+    let plane = levels_made::<P>(alloc, slid(extremum, b), f)?;
+    let between = P::like(f, plane.as_slice());
+    one(alloc, slid_back(extremum, &back), between, out)
 }
 
 /// Writes an opening or a closing.
@@ -110,27 +147,28 @@ pub fn filter_into<P: Sample>(
     ensures made { IfOk result (λ _. map P.level out.new ≡ (filtering extremum (arc_value b.now).offsets (picture_in f.entry)).samples) }
     ensures kept { IfErr result (λ _. out.new ≡ out.old) }
 {
-    let back = turned(alloc, b)?;
-    let plane = plane_of::<P>(alloc, slid(extremum, b), f)?;
-    let between = P::like(f, plane.as_slice());
-    one(alloc, slid_back(extremum, &back), between, out)
+    if is_set(f) {
+        filter_set(alloc, extremum, f, b, out)
+    } else {
+        filter_levels(alloc, extremum, f, b, out)
+    }
 }
 
-/// Writes the image less its opening, or its closing less the image, of the plane between the two steps.
+/// Writes the image less its opening, or its closing less the image, of what stands between the two steps.
 fn left_over<P: Sample>(
     alloc: Global,
     extremum: Extremum,
     f: Source<'_>,
-    between: Source<'_>,
+    between: Origin<'_>,
     back: &Arc<Element>,
     out: &mut [P],
 ) -> Result<(), NoMemory>
     requires sound { IsSource f }
-    requires between { IsSource between }
-    requires alike { SameShape (picture_in between) (picture_in f) }
+    requires between { IsOrigin between }
+    requires alike { SameShape (picture_of between) (picture_in f) }
     requires room { length out.old ≡ source_count f }
     requires stands { P.stands (picture_in f).maxval }
-    ensures made { IfOk result (λ _. map P.level out.new ≡ (rest extremum (picture_in f.entry) (sliding (other extremum) (arc_value back.now).offsets (picture_in between.entry))).samples) }
+    ensures made { IfOk result (λ _. map P.level out.new ≡ (rest extremum (picture_in f.entry) (sliding (other extremum) (arc_value back.now).offsets (picture_of between.entry))).samples) }
     ensures kept { IfErr result (λ _. out.new ≡ out.old) }
 {
     let filtered = Layer::By(slid_back(extremum, back), between);
@@ -139,6 +177,47 @@ fn left_over<P: Sample>(
         Extremum::Least => write_all(alloc, Formula::Less(itself, filtered), out),
         Extremum::Greatest => write_all(alloc, Formula::Less(filtered, itself), out),
     }
+}
+
+/// Writes what an opening of a set takes away, or a closing adds, with words between the two steps.
+fn residue_set<P: Sample>(
+    alloc: Global,
+    extremum: Extremum,
+    f: Source<'_>,
+    b: &Arc<Element>,
+    out: &mut [P],
+) -> Result<(), NoMemory>
+    requires sound { IsSource f }
+    requires set { (picture_in f).kind ≡ kind.Bit }
+    requires room { length out.old ≡ source_count f }
+    requires stands { P.stands (picture_in f).maxval }
+    ensures made { IfOk result (λ _. map P.level out.new ≡ (residue extremum (arc_value b.now).offsets (picture_in f.entry)).samples) }
+    ensures kept { IfErr result (λ _. out.new ≡ out.old) }
+{
+    let back = turned(alloc, b)?;
+    let image = set_made(alloc, slid(extremum, b), f)?;
+    left_over(alloc, extremum, f, Origin::Made(&image), &back, out)
+}
+
+/// Writes what an opening of levels takes away, or a closing adds.
+fn residue_levels<P: Sample>(
+    alloc: Global,
+    extremum: Extremum,
+    f: Source<'_>,
+    b: &Arc<Element>,
+    out: &mut [P],
+) -> Result<(), NoMemory>
+    requires sound { IsSource f }
+    requires grey { (picture_in f).kind ≡ kind.Grey }
+    requires room { length out.old ≡ source_count f }
+    requires stands { P.stands (picture_in f).maxval }
+    ensures made { IfOk result (λ _. map P.level out.new ≡ (residue extremum (arc_value b.now).offsets (picture_in f.entry)).samples) }
+    ensures kept { IfErr result (λ _. out.new ≡ out.old) }
+{
+    let back = turned(alloc, b)?;
+    let plane = levels_made::<P>(alloc, slid(extremum, b), f)?;
+    let between = P::like(f, plane.as_slice());
+    left_over(alloc, extremum, f, Origin::Array(between), &back, out)
 }
 
 /// Writes what an opening takes away, or a closing adds.
@@ -155,10 +234,11 @@ pub fn residue_into<P: Sample>(
     ensures made { IfOk result (λ _. map P.level out.new ≡ (residue extremum (arc_value b.now).offsets (picture_in f.entry)).samples) }
     ensures kept { IfErr result (λ _. out.new ≡ out.old) }
 {
-    let back = turned(alloc, b)?;
-    let plane = plane_of::<P>(alloc, slid(extremum, b), f)?;
-    let between = P::like(f, plane.as_slice());
-    left_over(alloc, extremum, f, between, &back, out)
+    if is_set(f) {
+        residue_set(alloc, extremum, f, b, out)
+    } else {
+        residue_levels(alloc, extremum, f, b, out)
+    }
 }
 
 /// Writes an erosion or a dilation.

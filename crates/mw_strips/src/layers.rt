@@ -2,8 +2,9 @@
 
 ghost use Rattle.std.specs.Prelude.{◌≡◌, IfOk};
 ghost use Rattle.mw_task.specs.Meanings.{meaning};
-ghost use Rattle.mw_strips.specs.Layers.{source_of, step_of};
+ghost use Rattle.mw_strips.specs.Layers.{origin_of, step_of};
 
+use crate::origins::Origin;
 use mw_arrays::Source;
 use mw_element::Element;
 use mw_model::NoMemory;
@@ -27,7 +28,7 @@ pub(crate) enum Rule<'a> {
 #[derive(Clone, Copy)]
 pub(crate) enum Layer<'a> {
     Itself(Source<'a>),
-    By(Rule<'a>, Source<'a>),
+    By(Rule<'a>, Origin<'a>),
 }
 
 /// A layer, or what a first layer has more than a second.
@@ -50,11 +51,11 @@ pub(crate) fn step_of(rule: Rule<'_>) -> Result<Step, NoMemory>
 }
 
 /// The image that a layer looks at.
-pub(crate) fn source_of(layer: Layer<'_>) -> Source<'_>
-    ensures { result ≡ source_of layer.entry }
+pub(crate) fn origin_of(layer: Layer<'_>) -> Origin<'_>
+    ensures { result ≡ origin_of layer.entry }
 {
     match layer {
-        Layer::Itself(f) => f,
+        Layer::Itself(f) => Origin::Array(f),
         Layer::By(_, f) => f,
     }
 }

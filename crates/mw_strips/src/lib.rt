@@ -1,5 +1,6 @@
 //! Flat operators from a caller's array into a caller's array, by strips of rows: what a strip reads and what is made of it
-//! stay in the cache, and neither image is copied whole. An operator of two steps takes one frame of memory between them.
+//! stay in the cache, and neither image is copied whole. An operator of two steps takes one frame of memory between them, of a set
+//! as words of 64 pixels.
 //!
 //! ```text
 //! let f = Source::Grey8(Grey8 { samples: &bytes, width: 640, height: 480, maxval: 255 });
@@ -9,11 +10,16 @@
 #![tactic(auto)]
 
 mod applying;
+mod cuts;
+mod gathering;
 mod layers;
+mod origins;
+mod packing;
 mod plain;
 mod rows;
 mod samples;
 mod strips;
+mod unpacking;
 mod windows;
 mod writing;
 

@@ -7,40 +7,30 @@ ghost use Rattle.std.specs.Option.{option_to_list};
 ghost use Rattle.mw_model.specs.Flat.{greatest, least, under};
 ghost use Rattle.mw_model.specs.Pictures.{sample, sample_at};
 ghost use Rattle.mw_model.specs.PlanSteps.{ranked};
-ghost use Rattle.mw_arrays.specs.Sources.{IsSource, picture_in};
-ghost use Rattle.mw_strips.specs.Layers.{IsFormula, formula_picture, layer_picture, rule_picture, source_of};
+ghost use Rattle.mw_strips.specs.Layers.{IsFormula, formula_picture, layer_picture, origin_of, rule_picture};
+ghost use Rattle.mw_strips.specs.Origins.{IsOrigin, picture_of};
 
 use crate::layers::{Formula, Layer, Rule};
-use mw_arrays::Source;
+use crate::origins::Origin;
 use mw_element::Element;
 use mw_model::Offset;
 use std::sync::Arc;
 
-/// The level in column x of row y.
-fn level_in(f: Source<'_>, x: u32, y: u32) -> u16
-    requires sound { IsSource f }
-    requires across { x < (picture_in f).width }
-    requires down { y < (picture_in f).height }
-    ensures { result ≡ sample (picture_in f.entry) x y }
-{
-    f.level(y as usize * f.width() as usize + x as usize)
-}
-
 /// The level at a place of the plane, where the frame has that place.
-fn seen_at(f: Source<'_>, column: i64, row: i64) -> Option<u16>
-    requires { IsSource f }
-    ensures { result ≡ sample_at (picture_in f.entry) column row }
+fn seen_at(f: Origin<'_>, column: i64, row: i64) -> Option<u16>
+    requires { IsOrigin f }
+    ensures { result ≡ sample_at (picture_of f.entry) column row }
 {
     if column < 0 || row < 0 || column >= i64::from(f.width()) || row >= i64::from(f.height()) {
         return None;
     }
-    Some(level_in(f, column as u32, row as u32))
+    Some(f.level_in(column as u32, row as u32))
 }
 
 /// The level at the offset from column x of row y, where the frame has that place.
-fn level_from(f: Source<'_>, x: u32, y: u32, b: Offset) -> Option<u16>
-    requires { IsSource f }
-    ensures { result ≡ sample_at (picture_in f.entry) (pos x +ℤ b.dx) (pos y +ℤ b.dy) }
+fn level_from(f: Origin<'_>, x: u32, y: u32, b: Offset) -> Option<u16>
+    requires { IsOrigin f }
+    ensures { result ≡ sample_at (picture_of f.entry) (pos x +ℤ b.dx) (pos y +ℤ b.dy) }
 {
     seen_at(
         f,
@@ -81,9 +71,9 @@ fn one_below(seen: Option<u16>, limit: u32) -> usize
 }
 
 /// The least level under the offsets, or the maxval where there is none.
-fn least_under(f: Source<'_>, offsets: &[Offset], x: u32, y: u32) -> u16
-    requires { IsSource f }
-    ensures { result ≡ least (picture_in f.entry).maxval (under (picture_in f.entry) offsets.now x y) }
+fn least_under(f: Origin<'_>, offsets: &[Offset], x: u32, y: u32) -> u16
+    requires { IsOrigin f }
+    ensures { result ≡ least (picture_of f.entry).maxval (under (picture_of f.entry) offsets.now x y) }
 {
     let mut best = f.maxval();
     let mut left = offsets.len();
@@ -95,9 +85,9 @@ fn least_under(f: Source<'_>, offsets: &[Offset], x: u32, y: u32) -> u16
 }
 
 /// The greatest level under the offsets, or 0 where there is none.
-fn greatest_under(f: Source<'_>, offsets: &[Offset], x: u32, y: u32) -> u16
-    requires { IsSource f }
-    ensures { result ≡ greatest (under (picture_in f.entry) offsets.now x y) }
+fn greatest_under(f: Origin<'_>, offsets: &[Offset], x: u32, y: u32) -> u16
+    requires { IsOrigin f }
+    ensures { result ≡ greatest (under (picture_of f.entry) offsets.now x y) }
 {
     let mut best = 0;
     let mut left = offsets.len();
@@ -109,9 +99,9 @@ fn greatest_under(f: Source<'_>, offsets: &[Offset], x: u32, y: u32) -> u16
 }
 
 /// How many levels under the offsets are below the limit.
-fn count_below(f: Source<'_>, offsets: &[Offset], x: u32, y: u32, limit: u32) -> usize
-    requires { IsSource f }
-    ensures { result ≡ count_by (λ s. nat_lt s limit) (under (picture_in f.entry) offsets.now x y) }
+fn count_below(f: Origin<'_>, offsets: &[Offset], x: u32, y: u32, limit: u32) -> usize
+    requires { IsOrigin f }
+    ensures { result ≡ count_by (λ s. nat_lt s limit) (under (picture_of f.entry) offsets.now x y) }
 {
     let mut count = 0;
     let mut left = offsets.len();
@@ -124,9 +114,9 @@ fn count_below(f: Source<'_>, offsets: &[Offset], x: u32, y: u32, limit: u32) ->
 
 /// Of the levels under the offsets in rising order number `k`, or the last where there are fewer; 0 where there is none. It
 /// is found by halving the levels among which it lies.
-fn nth_under(f: Source<'_>, offsets: &[Offset], x: u32, y: u32, k: u32) -> u16
-    requires { IsSource f }
-    ensures { result ≡ ranked k (under (picture_in f.entry) offsets.now x y) }
+fn nth_under(f: Origin<'_>, offsets: &[Offset], x: u32, y: u32, k: u32) -> u16
+    requires { IsOrigin f }
+    ensures { result ≡ ranked k (under (picture_of f.entry) offsets.now x y) }
 {
     let seen = count_below(f, offsets, x, y, 65536);
     if seen == 0 {
@@ -160,29 +150,29 @@ fn one_if(holds: bool) -> u16
 }
 
 /// What a rule makes at column x of row y.
-fn made_at(rule: Rule<'_>, f: Source<'_>, x: u32, y: u32) -> u16
-    requires sound { IsSource f }
-    requires across { x < (picture_in f).width }
-    requires down { y < (picture_in f).height }
-    ensures { result ≡ sample (rule_picture rule.entry (picture_in f.entry)) x y }
+fn made_at(rule: Rule<'_>, f: Origin<'_>, x: u32, y: u32) -> u16
+    requires sound { IsOrigin f }
+    requires across { x < (picture_of f).width }
+    requires down { y < (picture_of f).height }
+    ensures { result ≡ sample (rule_picture rule.entry (picture_of f.entry)) x y }
 {
     match rule {
         Rule::Least(element) => least_under(f, offsets_of(element), x, y),
         Rule::Greatest(element) => greatest_under(f, offsets_of(element), x, y),
         Rule::Nth(element, k) => nth_under(f, offsets_of(element), x, y, k),
-        Rule::AtLeast(k) => one_if(k <= u32::from(level_in(f, x, y))),
+        Rule::AtLeast(k) => one_if(k <= u32::from(f.level_in(x, y))),
     }
 }
 
 /// The level of a layer at column x of row y.
 fn layer_at(layer: Layer<'_>, x: u32, y: u32) -> u16
-    requires sound { IsSource (source_of layer) }
+    requires sound { IsOrigin (origin_of layer) }
     requires across { x < (layer_picture layer).width }
     requires down { y < (layer_picture layer).height }
     ensures { result ≡ sample (layer_picture layer.entry) x y }
 {
     match layer {
-        Layer::Itself(f) => level_in(f, x, y),
+        Layer::Itself(f) => Origin::Array(f).level_in(x, y),
         Layer::By(rule, f) => made_at(rule, f, x, y),
     }
 }

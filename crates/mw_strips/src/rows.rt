@@ -5,11 +5,10 @@ ghost use Rattle.mw_arrays.specs.Arrays.{set_of};
 ghost use Rattle.mw_arrays.specs.Sources.{IsSource, picture_in};
 ghost use Rattle.mw_strips.specs.Parts.{IsStrip, part_of};
 
+use crate::packing::{image_of, packed};
 use mw_arrays::Source;
 use mw_model::{NoMemory, Rect};
 use mw_pixel::{Image, Plane};
-use mw_tile::Window;
-use mw_tile::grid::whole_frame;
 use std::alloc::Global;
 use std::sync::Arc;
 
@@ -18,13 +17,7 @@ fn pixels(alloc: Global, bytes: &[u8], width: u32, height: u32) -> Result<Image,
     requires { length bytes.now ≡ height * width }
     ensures { IfOk result (λ g. g ≡ set_of width height bytes.now) }
 {
-    let samples = Vec::from_slice(alloc, bytes)?;
-    let plane = Plane::new(width, height, samples);
-    let window = Window::new(width, height, whole_frame(width, height), plane);
-    let set = mw_bits::threshold(alloc, &window, 1)?;
-    // for its pixels, which are 0 or 1
-    let _words = set.words();
-    Ok(Image::bits(Arc::new(alloc, set)?))
+    image_of(alloc, packed(alloc, bytes, width, height)?)
 }
 
 /// The samples of the rows of a strip.

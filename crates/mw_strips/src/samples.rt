@@ -1,12 +1,14 @@
 //! Samples of a caller's array.
 
 ghost use Rattle.std.specs.Prelude.{◌≡◌, ◌≤◌, length, map};
+ghost use Rattle.mw_model.specs.declared.shapes.Kind.TheVariants as kind;
 ghost use Rattle.mw_model.specs.Pictures.{IsImage, Picture};
 ghost use Rattle.mw_arrays.specs.Sources.{IsSource, picture_in};
 ghost use Rattle.mw_strips.specs.Parts.{refilled};
 
-use mw_arrays::{Grey8, Grey16, Set, Source, put_bytes, put_words};
-use mw_pixel::{Image, Pixel};
+use crate::unpacking::put_octets;
+use mw_arrays::{Grey8, Grey16, Set, Source, put_words};
+use mw_pixel::{Image, Pixel, View};
 
 /// A sample of an array that an operator writes.
 pub trait Sample: Pixel {
@@ -20,6 +22,12 @@ pub trait Sample: Pixel {
         requires size { length image.now.samples ≡ length out.old }
         requires stands { stands image.now.maxval }
         ensures { map Self.level out.new ≡ image.now.samples };
+
+    /// The levels of an image in levels of grey that stand in such samples.
+    fn levels(image: &Image) -> &[Self]
+        requires grey { image.now.kind ≡ kind.Grey }
+        requires stands { stands image.now.maxval }
+        ensures { map Self.level result.now ≡ image.now.samples };
 
     /// An image of the kind, the sides and the maxval of another, with these samples.
     fn like<'a>(f: Source<'_>, samples: &'a [Self]) -> Source<'a>
@@ -36,7 +44,15 @@ impl Sample for u8 {
     ghost stands = { λ m. m ≤ 255 };
 
     fn put(image: &Image, out: &mut [u8]) {
-        put_bytes(image, out);
+        put_octets(image, out);
+    }
+
+    fn levels(image: &Image) -> &[u8] {
+        match image.view() {
+            View::Grey8(plane, _) => plane.samples(),
+            View::Bits(_) => unreachable!(),
+            View::Grey16(_, _) => unreachable!(),
+        }
     }
 
     fn like<'a>(f: Source<'_>, samples: &'a [u8]) -> Source<'a> {
@@ -66,6 +82,14 @@ impl Sample for u16 {
 
     fn put(image: &Image, out: &mut [u16]) {
         put_words(image, out);
+    }
+
+    fn levels(image: &Image) -> &[u16] {
+        match image.view() {
+            View::Grey16(plane, _) => plane.samples(),
+            View::Bits(_) => unreachable!(),
+            View::Grey8(_, _) => unreachable!(),
+        }
     }
 
     fn like<'a>(f: Source<'_>, samples: &'a [u16]) -> Source<'a> {

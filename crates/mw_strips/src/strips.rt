@@ -7,14 +7,14 @@ ghost use Rattle.mw_model.specs.Laws.{SameShape};
 ghost use Rattle.mw_model.specs.Plans.{is_sum};
 ghost use Rattle.mw_task.specs.Meanings.{meaning};
 ghost use Rattle.mw_task.specs.WindowTasks.{FitsStep, IsBounded};
-ghost use Rattle.mw_arrays.specs.Sources.{IsSource, picture_in};
-ghost use Rattle.mw_strips.specs.Layers.{IsFormula, formula_picture, layer_picture, rule_picture, source_of};
+ghost use Rattle.mw_strips.specs.Layers.{IsFormula, formula_picture, layer_picture, origin_of, rule_picture};
+ghost use Rattle.mw_strips.specs.Origins.{IsOrigin, picture_of};
 ghost use Rattle.mw_strips.specs.Parts.{IsStrip, made_picture, part_of, whole_window};
 
 use crate::layers::{Formula, Layer, Rule, step_of};
+use crate::origins::Origin;
 use crate::rows::rows;
 use crate::windows::window;
-use mw_arrays::Source;
 use mw_grid::{grown, whole_frame};
 use mw_model::{NoMemory, Rect, TaskId};
 use mw_pieces::SharedWindow;
@@ -86,10 +86,15 @@ fn pair(alloc: Global, a: SharedWindow, b: SharedWindow) -> Result<Vec<SharedWin
 }
 
 /// The rows of a strip, as a rule makes them of an image.
-fn by_rule(alloc: Global, rule: Rule<'_>, f: Source<'_>, strip: Rect) -> Result<Image, NoMemory>
-    requires sound { IsSource f }
-    requires strip { IsStrip strip (picture_in f) }
-    ensures { IfOk result (λ g. g ≡ part_of (rule_picture rule.entry (picture_in f.entry)) strip) }
+pub(crate) fn by_rule(
+    alloc: Global,
+    rule: Rule<'_>,
+    f: Origin<'_>,
+    strip: Rect,
+) -> Result<Image, NoMemory>
+    requires sound { IsOrigin f }
+    requires strip { IsStrip strip (picture_of f) }
+    ensures { IfOk result (λ g. g ≡ part_of (rule_picture rule.entry (picture_of f.entry)) strip) }
 {
     let step = step_of(rule)?;
     let place = grown(strip, step.reach(), f.width(), f.height());
@@ -100,7 +105,7 @@ fn by_rule(alloc: Global, rule: Rule<'_>, f: Source<'_>, strip: Rect) -> Result<
 
 /// The rows of a strip of a layer.
 fn layer_strip(alloc: Global, layer: Layer<'_>, strip: Rect) -> Result<Image, NoMemory>
-    requires sound { IsSource (source_of layer) }
+    requires sound { IsOrigin (origin_of layer) }
     requires strip { IsStrip strip (layer_picture layer) }
     ensures { IfOk result (λ g. g ≡ part_of (layer_picture layer.entry) strip) }
 {

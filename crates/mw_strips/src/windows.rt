@@ -8,8 +8,10 @@ ghost use Rattle.mw_pieces.specs.Patches.{joint, patch};
 ghost use Rattle.mw_tile.specs.Windows.{window_of};
 ghost use Rattle.mw_task.specs.WindowTasks.{IsBounded};
 ghost use Rattle.mw_arrays.specs.Sources.{IsSource, picture_in};
+ghost use Rattle.mw_strips.specs.Origins.{IsOrigin, picture_of};
 ghost use Rattle.mw_strips.specs.Parts.{IsStrip, part_of};
 
+use crate::origins::Origin;
 use crate::rows::rows;
 use mw_arrays::Source;
 use mw_model::{NoMemory, Rect};
@@ -64,8 +66,8 @@ fn standing(
     }
 }
 
-/// The window of some rows of the image.
-pub(crate) fn window(alloc: Global, f: Source<'_>, place: Rect) -> Result<SharedWindow, NoMemory>
+/// The window of some rows of an array.
+fn window_of_array(alloc: Global, f: Source<'_>, place: Rect) -> Result<SharedWindow, NoMemory>
     requires sound { IsSource f }
     requires strip { IsStrip place (picture_in f) }
     ensures window { IfOk result (λ w. w ≡ window_of place (picture_in f.entry)) }
@@ -73,4 +75,28 @@ pub(crate) fn window(alloc: Global, f: Source<'_>, place: Rect) -> Result<Shared
 {
     let image = rows(alloc, f, place)?;
     standing(alloc, f.width(), f.height(), place, &image)
+}
+
+/// The window of some rows of what a first step made. It shares the samples.
+fn window_of_made(alloc: Global, f: &Image, place: Rect) -> Result<SharedWindow, NoMemory>
+    requires { IsStrip place f.now }
+    ensures window { IfOk result (λ w. w ≡ window_of place f.now) }
+    ensures bounded { IfOk result IsBounded }
+{
+    // for what holds of every image
+    let _picture = f.view();
+    SharedWindow::of_image(alloc, f, place)
+}
+
+/// The window of some rows of the image.
+pub(crate) fn window(alloc: Global, f: Origin<'_>, place: Rect) -> Result<SharedWindow, NoMemory>
+    requires sound { IsOrigin f }
+    requires strip { IsStrip place (picture_of f) }
+    ensures window { IfOk result (λ w. w ≡ window_of place (picture_of f.entry)) }
+    ensures bounded { IfOk result IsBounded }
+{
+    match f {
+        Origin::Array(f) => window_of_array(alloc, f, place),
+        Origin::Made(f) => window_of_made(alloc, f, place),
+    }
 }

@@ -2,44 +2,18 @@
 
 ghost use Rattle.std.specs.Prelude.{◌≡◌, ◌+◌, ◌*◌, ◌<◌, ◌≤◌, length, map, IfErr, IfOk};
 ghost use Rattle.mw_model.specs.Pictures.{Picture};
-ghost use Rattle.mw_arrays.specs.Sources.{IsSource, picture_in};
-ghost use Rattle.mw_strips.specs.Layers.{IsFormula, first_source, formula_picture};
+ghost use Rattle.mw_strips.specs.Layers.{IsFormula, first_origin, formula_picture};
 ghost use Rattle.mw_strips.specs.Parts.{HasRows, IsStrip, part_of};
 
 use crate::Sample;
-use crate::layers::{Formula, Layer, source_of};
+use crate::cuts::{ask_once, rows_of, strip_from};
+use crate::layers::{Formula, Layer, origin_of};
+use crate::origins::Origin;
 use crate::plain::level_at;
 use crate::strips::strip_of;
-use mw_arrays::Source;
 use mw_model::{NoMemory, Rect};
 use mw_pixel::Image;
 use std::alloc::Global;
-
-/// About so many samples has a strip, so that its window and what is made of it stay in the cache.
-const STRIP: u32 = 262144;
-
-/// How many rows a strip has in a frame of so many columns.
-fn rows_of(width: u32) -> u32
-    requires { 1 ≤ width }
-    ensures { (1 ≤ result) × (result ≤ 262144) }
-{
-    (STRIP / width).max(16)
-}
-
-/// The strip from row y on.
-fn strip_from(width: u32, height: u32, y: u32) -> Rect
-    requires wide { 1 ≤ width }
-    requires within { y < height }
-    ensures place { result.y ≡ y }
-    ensures strip { (f : Picture) → width ≡ f.width → height ≡ f.height → IsStrip result f }
-{
-    Rect {
-        x: 0,
-        y,
-        width,
-        height: rows_of(width).min(height - y),
-    }
-}
 
 /// The sample of a level.
 fn sample_of<P: Sample>(level: u16) -> P
@@ -110,32 +84,33 @@ fn put_strip<P: Sample>(alloc: Global, formula: Formula<'_>, strip: Rect, out: &
     }
 }
 
-/// Writes the rows from y on.
-fn put_rest<P: Sample>(alloc: Global, formula: Formula<'_>, y: u32, out: &mut [P])
+/// Writes the rows from y on, by strips of so many.
+fn put_rest<P: Sample>(alloc: Global, formula: Formula<'_>, rows: u32, y: u32, out: &mut [P])
     requires sound { IsFormula formula }
+    requires some { 1 ≤ rows }
     requires within { y ≤ (formula_picture formula).height }
     requires size { length out.old ≡ (formula_picture formula).height * (formula_picture formula).width }
     requires stands { P.stands (formula_picture formula).maxval }
     requires before { HasRows P.level (formula_picture formula) y out.old }
     ensures { map P.level out.new ≡ (formula_picture formula.entry).samples }
 {
-    let f = first_source(formula);
+    let f = first_origin(formula);
     let (width, height) = (f.width(), f.height());
     let mut done = y;
     'strips: while done < height {
-        let strip = strip_from(width, height, done);
+        let strip = strip_from(rows, width, height, done);
         put_strip(alloc, formula, strip, out);
         done += strip.height;
     }
 }
 
 /// The image that a formula looks at first.
-fn first_source(formula: Formula<'_>) -> Source<'_>
-    ensures { result ≡ first_source formula.entry }
+fn first_origin(formula: Formula<'_>) -> Origin<'_>
+    ensures { result ≡ first_origin formula.entry }
 {
     match formula {
-        Formula::One(layer) => source_of(layer),
-        Formula::Less(first, _) => source_of(first),
+        Formula::One(layer) => origin_of(layer),
+        Formula::Less(first, _) => origin_of(first),
     }
 }
 
@@ -152,11 +127,13 @@ pub(crate) fn write_all<P: Sample>(
     ensures made { IfOk result (λ _. map P.level out.new ≡ (formula_picture formula.entry).samples) }
     ensures kept { IfErr result (λ _. out.new ≡ out.old) }
 {
-    let f = first_source(formula);
+    let f = first_origin(formula);
     let (width, height) = (f.width(), f.height());
-    let first = strip_from(width, height, 0);
+    ask_once(alloc);
+    let rows = rows_of(formula);
+    let first = strip_from(rows, width, height, 0);
     let image = strip_of(alloc, formula, first)?;
     put_rows(&image, first, out);
-    put_rest(alloc, formula, first.height, out);
+    put_rest(alloc, formula, rows, first.height, out);
     Ok(())
 }

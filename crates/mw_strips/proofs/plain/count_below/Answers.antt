@@ -1,10 +1,10 @@
 use Rattle.std.proofs.Common.{◌-◌, arith}
-use Rattle.mw_arrays.specs.Sources.{picture_in}
+use Rattle.mw_strips.specs.Origins.{picture_of}
 use Rattle.mw_strips.proofs.UnderOffsets.{below_more}
 use Rattle.mw_strips.proofs.plain.count_below.Goals as goal
 
 pub each-preserved : goal.each-preserved
 each-preserved c = record {
-  counted = below_more (picture_in c.args.f) c.args.offsets.now c.args.limit c.each.left (c.each.left - 1) c.args.x c.args.y c.each.count c.one_below-count.result _ c.level_from.result (omega arith) (omega arith) c.level_from.ensures c.each.invariant.counted c.one_below-count.ensures.is;
+  counted = below_more (picture_of c.args.f) c.args.offsets.now c.args.limit c.each.left (c.each.left - 1) c.args.x c.args.y c.each.count c.one_below-count.result _ c.level_from.result (omega arith) (omega arith) c.level_from.ensures c.each.invariant.counted c.one_below-count.ensures.is;
   small = omega arith;
 }

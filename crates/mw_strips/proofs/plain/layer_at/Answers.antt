@@ -1,13 +1,13 @@
 use Rattle.std.proofs.Common.{◌≡◌, ◌<◌, sym, subst}
 use Rattle.mw_model.specs.Pictures.{sample}
-use Rattle.mw_arrays.specs.Sources.{IsSource}
+use Rattle.mw_strips.specs.Origins.{IsOrigin}
 use Rattle.mw_strips.specs.declared.layers.Layer.{Layer}
-use Rattle.mw_strips.specs.Layers.{layer_picture, source_of}
+use Rattle.mw_strips.specs.Layers.{layer_picture, origin_of}
 use Rattle.mw_strips.proofs.plain.layer_at.Goals as goal
 
 pub level_in-requires : goal.level_in-requires
 level_in-requires c = record {
-  sound = subst (λ (l : Layer). IsSource (source_of l)) c.in-Itself.is c.requires.sound;
+  sound = subst (λ (l : Layer). IsOrigin (origin_of l)) c.in-Itself.is c.requires.sound;
   across = subst (λ (l : Layer). c.args.x < (layer_picture l).width) c.in-Itself.is c.requires.across;
   down = subst (λ (l : Layer). c.args.y < (layer_picture l).height) c.in-Itself.is c.requires.down;
 }
@@ -17,7 +17,7 @@ returns-in-Itself c = subst (λ (l : Layer). c.level_in.result ≡ sample (layer
 
 pub made_at-requires : goal.made_at-requires
 made_at-requires c = record {
-  sound = subst (λ (l : Layer). IsSource (source_of l)) c.in-By.is c.requires.sound;
+  sound = subst (λ (l : Layer). IsOrigin (origin_of l)) c.in-By.is c.requires.sound;
   across = subst (λ (l : Layer). c.args.x < (layer_picture l).width) c.in-By.is c.requires.across;
   down = subst (λ (l : Layer). c.args.y < (layer_picture l).height) c.in-By.is c.requires.down;
 }

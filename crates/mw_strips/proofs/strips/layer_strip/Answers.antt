@@ -1,15 +1,15 @@
 use Rattle.std.proofs.Common.{◌≡◌, sym, subst}
 use Rattle.std.specs.Prelude.{IfOk}
-use Rattle.mw_arrays.specs.Sources.{IsSource, picture_in}
+use Rattle.mw_strips.specs.Origins.{IsOrigin, picture_of}
 use Rattle.mw_strips.specs.declared.layers.Layer.{Layer}
-use Rattle.mw_strips.specs.Layers.{layer_picture, source_of}
+use Rattle.mw_strips.specs.Layers.{layer_picture, origin_of}
 use Rattle.mw_strips.specs.Parts.{IsStrip, part_of}
 use Rattle.mw_strips.proofs.Formulas.{strip_below}
 use Rattle.mw_strips.proofs.strips.layer_strip.Goals as goal
 
 pub rows-requires : goal.rows-requires
 rows-requires c = record {
-  sound = subst (λ (l : Layer). IsSource (source_of l)) c.in-Itself.is c.requires.sound;
+  sound = subst (λ (l : Layer). IsOrigin (origin_of l)) c.in-Itself.is c.requires.sound;
   strip = subst (λ (l : Layer). IsStrip c.args.strip (layer_picture l)) c.in-Itself.is c.requires.strip;
 }
 
@@ -18,8 +18,8 @@ returns-in-Itself c = subst (λ (l : Layer). IfOk c.rows.result (λ g. g ≡ par
 
 pub by_rule-requires : goal.by_rule-requires
 by_rule-requires c = record {
-  sound = subst (λ (l : Layer). IsSource (source_of l)) c.in-By.is c.requires.sound;
-  strip = strip_below c.in-By.rule (picture_in c.in-By.f) c.args.strip (subst (λ (l : Layer). IsStrip c.args.strip (layer_picture l)) c.in-By.is c.requires.strip);
+  sound = subst (λ (l : Layer). IsOrigin (origin_of l)) c.in-By.is c.requires.sound;
+  strip = strip_below c.in-By.rule (picture_of c.in-By.f) c.args.strip (subst (λ (l : Layer). IsStrip c.args.strip (layer_picture l)) c.in-By.is c.requires.strip);
 }
 
 pub returns-in-By : goal.returns-in-By

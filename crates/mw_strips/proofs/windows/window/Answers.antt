@@ -1,19 +1,22 @@
 use Rattle.std.proofs.Common.{◌≡◌, sym, subst}
-use Rattle.std.proofs.lemmas.Result.{IfOk-weaker}
+use Rattle.std.specs.Prelude.{IfOk}
 use Rattle.mw_tile.specs.Windows.{SourceWindow, window_of}
-use Rattle.mw_task.specs.WindowTasks.{IsBounded}
-use Rattle.mw_task.proofs.Cut.{window_bounded_cut}
-use Rattle.mw_arrays.specs.Sources.{picture_in}
-use Rattle.mw_arrays.proofs.SourceImages.{source_image}
-use Rattle.mw_strips.proofs.Cutting.{strip_inside}
+use Rattle.mw_strips.specs.declared.origins.Origin.{Origin}
+use Rattle.mw_strips.specs.Origins.{IsOrigin, picture_of}
+use Rattle.mw_strips.specs.Parts.{IsStrip}
 use Rattle.mw_strips.proofs.windows.window.Goals as goal
 
-pub returns-clause-window : goal.returns-clause-window
-returns-clause-window c = c.standing.ensures (picture_in c.args.f) (sym c.width.ensures) (sym c.height.ensures) c.in_ok-image.ensures
+pub window_of_array-requires : goal.window_of_array-requires
+window_of_array-requires c = record {
+  sound = subst IsOrigin c.in-Array.is c.requires.sound;
+  strip = subst (λ (o : Origin). IsStrip c.args.place (picture_of o)) c.in-Array.is c.requires.strip;
+}
 
-pub returns-clause-bounded : goal.returns-clause-bounded
-returns-clause-bounded c =
-    let f = picture_in c.args.f in
-    let window = c.standing.ensures f (sym c.width.ensures) (sym c.height.ensures) c.in_ok-image.ensures in
-    IfOk-weaker c.standing.result (λ (w : SourceWindow). w ≡ window_of c.args.place f) IsBounded
-    (λ w is. subst IsBounded (sym is) (window_bounded_cut f c.args.place (source_image c.args.f c.requires.sound).picture (strip_inside c.args.place f c.requires.strip))) window
+pub returns-in-Array-clause-window : goal.returns-in-Array-clause-window
+returns-in-Array-clause-window c = subst (λ (o : Origin). IfOk c.window_of_array.result (λ (w : SourceWindow). w ≡ window_of c.args.place (picture_of o))) (sym c.in-Array.is) c.window_of_array.ensures.window
+
+pub window_of_made-requires : goal.window_of_made-requires
+window_of_made-requires c = subst (λ (o : Origin). IsStrip c.args.place (picture_of o)) c.in-Made.is c.requires.strip
+
+pub returns-in-Made-clause-window : goal.returns-in-Made-clause-window
+returns-in-Made-clause-window c = subst (λ (o : Origin). IfOk c.window_of_made.result (λ (w : SourceWindow). w ≡ window_of c.args.place (picture_of o))) (sym c.in-Made.is) c.window_of_made.ensures.window

@@ -1,6 +1,6 @@
 use Rattle.std.proofs.Common.{◌≡◌, ℕ, ◌+◌, ap, arith, subst, sym, ◌∙◌}
-use Rattle.mw_arrays.specs.declared.sources.Source.{Source}
-use Rattle.mw_arrays.specs.Sources.{picture_in}
+use Rattle.mw_strips.specs.declared.origins.Origin.{Origin}
+use Rattle.mw_strips.specs.Origins.{picture_of}
 use Rattle.mw_strips.specs.Layers.{formula_picture}
 use Rattle.mw_strips.specs.Parts.{HasRows}
 use Rattle.mw_strips.proofs.Formulas.{formula_frame, formula_is_picture, formula_sides}
@@ -9,13 +9,12 @@ use Rattle.mw_strips.proofs.writing.put_rest.Goals as goal
 
 pub strip_from-strip-requires : goal.strip_from-strip-requires
 strip_from-strip-requires g c =
-    let wide : c.width-width.result ≡ (formula_picture c.args.formula).width = c.width-width.ensures ∙ ap (λ (s : Source). (picture_in s).width) c.first_source-f.ensures ∙ sym (formula_frame c.args.formula).0 in
-    record { wide = omega (arith, wide, (formula_sides c.args.formula c.requires.sound).wide.0); within = c.strips-test.true }
+    record { some = c.requires.some; within = c.strips-test.true }
 
 pub put_strip-requires : goal.put_strip-requires
 put_strip-requires g c =
-    let wide : c.width-width.result ≡ (formula_picture c.args.formula).width = c.width-width.ensures ∙ ap (λ (s : Source). (picture_in s).width) c.first_source-f.ensures ∙ sym (formula_frame c.args.formula).0 in
-    let high : c.height-height.result ≡ (formula_picture c.args.formula).height = c.height-height.ensures ∙ ap (λ (s : Source). (picture_in s).height) c.first_source-f.ensures ∙ sym (formula_frame c.args.formula).1 in
+    let wide : c.width-width.result ≡ (formula_picture c.args.formula).width = c.width-width.ensures ∙ ap (λ (s : Origin). (picture_of s).width) c.first_origin-f.ensures ∙ sym (formula_frame c.args.formula).0 in
+    let high : c.height-height.result ≡ (formula_picture c.args.formula).height = c.height-height.ensures ∙ ap (λ (s : Origin). (picture_of s).height) c.first_origin-f.ensures ∙ sym (formula_frame c.args.formula).1 in
     record {
       sound = c.requires.sound;
       strip = c.strip_from-strip.ensures.strip (formula_picture c.args.formula) wide high;
@@ -27,8 +26,8 @@ put_strip-requires g c =
 pub strips-preserved : goal.strips-preserved
 strips-preserved g c =
     let f = formula_picture c.args.formula in
-    let wide : c.width-width.result ≡ f.width = c.width-width.ensures ∙ ap (λ (s : Source). (picture_in s).width) c.first_source-f.ensures ∙ sym (formula_frame c.args.formula).0 in
-    let high : c.height-height.result ≡ f.height = c.height-height.ensures ∙ ap (λ (s : Source). (picture_in s).height) c.first_source-f.ensures ∙ sym (formula_frame c.args.formula).1 in
+    let wide : c.width-width.result ≡ f.width = c.width-width.ensures ∙ ap (λ (s : Origin). (picture_of s).width) c.first_origin-f.ensures ∙ sym (formula_frame c.args.formula).0 in
+    let high : c.height-height.result ≡ f.height = c.height-height.ensures ∙ ap (λ (s : Origin). (picture_of s).height) c.first_origin-f.ensures ∙ sym (formula_frame c.args.formula).1 in
     let low = (c.strip_from-strip.ensures.strip f wide high).low in
     let place = c.strip_from-strip.ensures.place in
     record {
@@ -40,16 +39,16 @@ strips-preserved g c =
 pub strips-smaller : goal.strips-smaller
 strips-smaller g c =
     let f = formula_picture c.args.formula in
-    let wide : c.width-width.result ≡ f.width = c.width-width.ensures ∙ ap (λ (s : Source). (picture_in s).width) c.first_source-f.ensures ∙ sym (formula_frame c.args.formula).0 in
-    let high : c.height-height.result ≡ f.height = c.height-height.ensures ∙ ap (λ (s : Source). (picture_in s).height) c.first_source-f.ensures ∙ sym (formula_frame c.args.formula).1 in
+    let wide : c.width-width.result ≡ f.width = c.width-width.ensures ∙ ap (λ (s : Origin). (picture_of s).width) c.first_origin-f.ensures ∙ sym (formula_frame c.args.formula).0 in
+    let high : c.height-height.result ≡ f.height = c.height-height.ensures ∙ ap (λ (s : Origin). (picture_of s).height) c.first_origin-f.ensures ∙ sym (formula_frame c.args.formula).1 in
     let some = (c.strip_from-strip.ensures.strip f wide high).some in
     omega (arith, some, c.strips-test.true)
 
 pub overflow_add-done : goal.overflow_add-done
 overflow_add-done g c =
     let f = formula_picture c.args.formula in
-    let wide : c.width-width.result ≡ f.width = c.width-width.ensures ∙ ap (λ (s : Source). (picture_in s).width) c.first_source-f.ensures ∙ sym (formula_frame c.args.formula).0 in
-    let high : c.height-height.result ≡ f.height = c.height-height.ensures ∙ ap (λ (s : Source). (picture_in s).height) c.first_source-f.ensures ∙ sym (formula_frame c.args.formula).1 in
+    let wide : c.width-width.result ≡ f.width = c.width-width.ensures ∙ ap (λ (s : Origin). (picture_of s).width) c.first_origin-f.ensures ∙ sym (formula_frame c.args.formula).0 in
+    let high : c.height-height.result ≡ f.height = c.height-height.ensures ∙ ap (λ (s : Origin). (picture_of s).height) c.first_origin-f.ensures ∙ sym (formula_frame c.args.formula).1 in
     let low = (c.strip_from-strip.ensures.strip f wide high).low in
     let place = c.strip_from-strip.ensures.place in
     let sides = (formula_sides c.args.formula c.requires.sound).high.1 in
@@ -57,6 +56,6 @@ overflow_add-done g c =
 
 pub returns : goal.returns
 returns g c =
-    let high : c.height-height.result ≡ (formula_picture c.args.formula).height = c.height-height.ensures ∙ ap (λ (s : Source). (picture_in s).height) c.first_source-f.ensures ∙ sym (formula_frame c.args.formula).1 in
+    let high : c.height-height.result ≡ (formula_picture c.args.formula).height = c.height-height.ensures ∙ ap (λ (s : Origin). (picture_of s).height) c.first_origin-f.ensures ∙ sym (formula_frame c.args.formula).1 in
     all_cells g.P.Pixel.level (formula_picture c.args.formula) c.strips.done c.strips.out (formula_is_picture c.args.formula c.requires.sound).size c.strips.invariant.size
     (omega (arith, high, c.strips-test.false)) c.strips.invariant.within c.strips.invariant.rows

@@ -1,6 +1,6 @@
 use Rattle.std.proofs.Common.{◌≡◌, ℕ, ◌+◌, ap, arith, subst, sym, ◌∙◌}
-use Rattle.mw_arrays.specs.declared.sources.Source.{Source}
-use Rattle.mw_arrays.specs.Sources.{picture_in}
+use Rattle.mw_strips.specs.declared.origins.Origin.{Origin}
+use Rattle.mw_strips.specs.Origins.{picture_of}
 use Rattle.mw_strips.specs.Layers.{formula_picture}
 use Rattle.mw_strips.specs.Parts.{HasRows}
 use Rattle.mw_strips.proofs.Formulas.{formula_frame, formula_is_picture, formula_sides}
@@ -11,23 +11,22 @@ use Rattle.mw_strips.proofs.writing.write_all.Goals as goal
 pub strip_from-first-requires : goal.strip_from-first-requires
 strip_from-first-requires g c =
     let f = formula_picture c.args.formula in
-    let wide : c.width-width.result ≡ f.width = c.width-width.ensures ∙ ap (λ (s : Source). (picture_in s).width) c.first_source-f.ensures ∙ sym (formula_frame c.args.formula).0 in
-    let high : c.height-height.result ≡ f.height = c.height-height.ensures ∙ ap (λ (s : Source). (picture_in s).height) c.first_source-f.ensures ∙ sym (formula_frame c.args.formula).1 in
+    let high : c.height-height.result ≡ f.height = c.height-height.ensures ∙ ap (λ (s : Origin). (picture_of s).height) c.first_origin-f.ensures ∙ sym (formula_frame c.args.formula).1 in
     let sides = formula_sides c.args.formula c.requires.sound in
-    record { wide = omega (arith, wide, sides.wide.0); within = omega (arith, high, sides.high.0) }
+    record { some = omega (arith, c.rows_of-rows.ensures); within = omega (arith, high, sides.high.0) }
 
 pub strip_of-requires : goal.strip_of-requires
 strip_of-requires g c =
     let f = formula_picture c.args.formula in
-    let wide : c.width-width.result ≡ f.width = c.width-width.ensures ∙ ap (λ (s : Source). (picture_in s).width) c.first_source-f.ensures ∙ sym (formula_frame c.args.formula).0 in
-    let high : c.height-height.result ≡ f.height = c.height-height.ensures ∙ ap (λ (s : Source). (picture_in s).height) c.first_source-f.ensures ∙ sym (formula_frame c.args.formula).1 in
+    let wide : c.width-width.result ≡ f.width = c.width-width.ensures ∙ ap (λ (s : Origin). (picture_of s).width) c.first_origin-f.ensures ∙ sym (formula_frame c.args.formula).0 in
+    let high : c.height-height.result ≡ f.height = c.height-height.ensures ∙ ap (λ (s : Origin). (picture_of s).height) c.first_origin-f.ensures ∙ sym (formula_frame c.args.formula).1 in
     record { sound = c.requires.sound; strip = c.strip_from-first.ensures.strip f wide high }
 
 pub put_rows-requires : goal.put_rows-requires
 put_rows-requires g c =
     let f = formula_picture c.args.formula in
-    let wide : c.width-width.result ≡ f.width = c.width-width.ensures ∙ ap (λ (s : Source). (picture_in s).width) c.first_source-f.ensures ∙ sym (formula_frame c.args.formula).0 in
-    let high : c.height-height.result ≡ f.height = c.height-height.ensures ∙ ap (λ (s : Source). (picture_in s).height) c.first_source-f.ensures ∙ sym (formula_frame c.args.formula).1 in
+    let wide : c.width-width.result ≡ f.width = c.width-width.ensures ∙ ap (λ (s : Origin). (picture_of s).width) c.first_origin-f.ensures ∙ sym (formula_frame c.args.formula).0 in
+    let high : c.height-height.result ≡ f.height = c.height-height.ensures ∙ ap (λ (s : Origin). (picture_of s).height) c.first_origin-f.ensures ∙ sym (formula_frame c.args.formula).1 in
     record {
       size = part_size f c.in_ok-image.image c.strip_from-first.result c.in_ok-image.ensures;
       stands = subst (λ (m : ℕ). g.P.Sample.stands m) (sym (part_top f c.in_ok-image.image c.strip_from-first.result c.in_ok-image.ensures)) c.requires.stands;
@@ -38,8 +37,8 @@ pub put_rest-requires : goal.put_rest-requires
 put_rest-requires g c =
     let f = formula_picture c.args.formula in
     let r = c.strip_from-first.result in
-    let wide : c.width-width.result ≡ f.width = c.width-width.ensures ∙ ap (λ (s : Source). (picture_in s).width) c.first_source-f.ensures ∙ sym (formula_frame c.args.formula).0 in
-    let high : c.height-height.result ≡ f.height = c.height-height.ensures ∙ ap (λ (s : Source). (picture_in s).height) c.first_source-f.ensures ∙ sym (formula_frame c.args.formula).1 in
+    let wide : c.width-width.result ≡ f.width = c.width-width.ensures ∙ ap (λ (s : Origin). (picture_of s).width) c.first_origin-f.ensures ∙ sym (formula_frame c.args.formula).0 in
+    let high : c.height-height.result ≡ f.height = c.height-height.ensures ∙ ap (λ (s : Origin). (picture_of s).height) c.first_origin-f.ensures ∙ sym (formula_frame c.args.formula).1 in
     let strip = c.strip_from-first.ensures.strip f wide high in
     let begin : r.y ≡ 0 = c.strip_from-first.ensures.place in
     let low = strip.low in
@@ -47,6 +46,7 @@ put_rest-requires g c =
     let rows = c.put_rows.ensures f c.in_ok-image.ensures strip (formula_is_picture c.args.formula c.requires.sound).size (no_rows g.P.Pixel.level f r.y c.args.out.now begin) in
     record {
       sound = c.requires.sound;
+      some = omega (arith, c.rows_of-rows.ensures);
       within = omega (arith, low, begin);
       size = c.put_rows.auto.out ∙ c.requires.size;
       stands = c.requires.stands;

@@ -2,12 +2,19 @@ use Rattle.std.proofs.Common.{◌≡◌, ℕ, List, map, ap, sym, subst, ◌∙�
 use Rattle.std.specs.Arc.{arc_value}
 use Rattle.std.proofs.lemmas.Result.{IfOk-weaker}
 use Rattle.mw_model.specs.Pictures.{Picture}
+use Rattle.mw_model.proofs.ImagePlaces.{shape_itself}
 use Rattle.mw_plan.specs.Steps.{filtering, other, sliding}
 use Rattle.mw_arrays.specs.Sources.{picture_in}
 use Rattle.mw_arrays.proofs.SourceImages.{source_image}
 use Rattle.mw_strips.specs.Layers.{rule_picture}
 use Rattle.mw_strips.proofs.Filtered.{filtered_is, refilled_image, refilled_is, same_count, same_shape, slid_alike}
-use Rattle.mw_strips.proofs.applying.filter_into.Goals as goal
+use Rattle.mw_strips.proofs.applying.filter_levels.Goals as goal
+
+pub levels_made-requires : goal.levels_made-requires
+levels_made-requires g c =
+    let f = picture_in c.args.f in
+    let shape = slid_alike c.args.extremum (arc_value c.args.b.now).offsets f f (rule_picture c.slid.result f) (shape_itself f) (c.slid.ensures f) in
+    record { sound = c.requires.sound; grey = shape.kind ∙ c.requires.grey; stands = subst (λ (m : ℕ). g.P.Sample.stands m) (sym shape.maxval) c.requires.stands }
 
 pub like-between-requires : goal.like-between-requires
 like-between-requires g c =

@@ -2,7 +2,7 @@ use Rattle.std.proofs.Common.{ℕ, ◌+◌, ◌*◌, ap, ◌∙◌}
 use Rattle.std.specs.Prelude.{slice_index}
 use Rattle.mw_arrays.specs.Sources.{picture_in}
 use Rattle.mw_strips.proofs.PlainValues.{place_within}
-use Rattle.mw_strips.proofs.plain.level_in.Goals as goal
+use Rattle.mw_strips.proofs.origins.level_in_array.Goals as goal
 
 pub level-requires : goal.level-requires
 level-requires c = place_within c.args.f c.args.x c.args.y c.width.result c.requires.sound c.width.ensures c.requires.across c.requires.down
