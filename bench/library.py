@@ -92,6 +92,8 @@ def agrees(ours, theirs, element):
 
 
 def tell_memory(library, images, wanted):
+    # PR_SET_THP_DISABLE: else a heap grows by pages of 2 MiB
+    ctypes.CDLL(None).prctl(41, 1, 0, 0, 0)
     print(f"{SIDE} x {SIDE}, a call's memory beyond the caller's arrays")
     print("| samples | what | KiB | page faults |")
     for name, kind, operation, k, element, _ in wanted:

@@ -132,8 +132,11 @@ pub(crate) fn write_all<P: Sample>(
     ask_once(alloc);
     let rows = rows_of(formula);
     let first = strip_from(rows, width, height, 0);
-    let image = strip_of(alloc, formula, first)?;
-    put_rows(&image, first, out);
+    {
+        // given back before the next strip
+        let image = strip_of(alloc, formula, first)?;
+        put_rows(&image, first, out);
+    }
     put_rest(alloc, formula, rows, first.height, out);
     Ok(())
 }
