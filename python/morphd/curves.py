@@ -21,7 +21,7 @@ from ._calls import Field, Flat, Samples, volumes
 from ._docs import COMPUTES, documented
 from ._library import DILATE, ERODE
 from .errors import Refused
-from .footprints import Footprint, Reach
+from .footprints import Footprint
 
 __all__ = ["Spectrum", "spectrum"]
 
@@ -171,7 +171,9 @@ def spectrum(
     maxval : int, optional
         The greatest sample that an array of uint8 or uint16 can have; the type's if left out.
     workers : int, optional
-        How many threads share the work; -1 is one for each processor. The result is the same.
+        How many threads share the work where a picture is larger than 8192 a side or 16,777,216 samples; -1 is one for each
+        processor. A smaller one is the work of one thread: pieces would have to be put together behind each step. The result is
+        the same.
 
     Returns
     -------
@@ -200,7 +202,7 @@ def spectrum(
     if not 1 <= count <= MOST_SIZES:
         raise Refused(47, f"spectrum of {count} sizes")
     threads = _pieces.worker_count(workers)
-    is_whole = len(_pieces.cut(field.samples.shape, Reach(0, 0, 0, 0), threads)) == 1
+    is_whole = _pieces.fits(field.samples.shape)
     found = volumes(field, b, count) if is_whole else _by_openings(field, b, count, threads)
     return Spectrum(found, b, size, unit, field.is_set)
 

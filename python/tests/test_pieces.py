@@ -84,10 +84,10 @@ def test_other_operators_are_cut(small_limits):
 
 def test_spectra_by_several_workers():
     image, b = np.random.default_rng(3).integers(0, 256, (40, 13)).astype(np.uint8), morphd.Footprint([[1, 1, 0], [0, 1, 1]], (1, 2))
-    assert len(_pieces.cut(image.shape, Reach(0, 0, 0, 0), 2)) == 2
     np.testing.assert_array_equal(morphd.spectrum(image, b, 4, workers=2).volumes, morphd.spectrum(image, b, 4).volumes)
     field = curves._arrays.read(image, "spectrum", None).field
-    np.testing.assert_array_equal(curves._by_openings(field, b, 4, 1), morphd.spectrum(image, b, 4).volumes)
+    for workers in (1, 2):
+        np.testing.assert_array_equal(curves._by_openings(field, b, 4, workers), morphd.spectrum(image, b, 4).volumes)
 
 
 def test_seams_of_skeletons(monkeypatch):
@@ -138,6 +138,16 @@ def check_pieces(shape, reach, workers):
         assert 1 <= height <= 8192 and 1 <= width <= 8192 and height * width <= 1 << 24
         assert p.rows.first == max(p.rows.begin - reach.up, 0) and p.rows.last == min(p.rows.end + reach.down, shape[0])
         assert p.columns.first == max(p.columns.begin - reach.left, 0) and p.columns.last == min(p.columns.end + reach.right, shape[1])
+
+
+def test_workers_get_several_pieces_where_rims_are_thin():
+    for height in (1, 40, 1024, 4096, 8192):
+        for rim in (0, 2, 30, 254):
+            for workers in (2, 3, 4):
+                pieces = _pieces.cut((height, 100), Reach(rim // 2, rim - rim // 2, 1, 1), workers)
+                assert len(pieces) <= 4 * workers
+                assert len(pieces) <= workers or (len(pieces) % workers == 0 and 16 * rim * len(pieces) <= height)
+    assert len(_pieces.cut((4096, 4096), Reach(7, 7, 7, 7), 4)) == 16
 
 
 def test_workers_are_threads_of_their_own(monkeypatch, stood_in):
