@@ -1,5 +1,5 @@
 //! What an array holds where memory was refused. Where memory is refused a call is made once more, so each test passes
-//! whichever allocation is refused. In frames of three strips it may be refused between strips that are written.
+//! whichever allocation is refused. In frames of several strips it may be refused between strips that are written.
 
 ghost use Rattle.std.specs.Prelude.{◌≡◌, ◌≤◌, length, IfOk};
 ghost use Rattle.mw_arrays.specs.Sources.{IsSource, picture_in, source_count};
@@ -27,11 +27,14 @@ macro_rules! once_more {
 }
 
 /// Strips of 32, 32 and 2 rows.
-const WIDTH: u32 = 8192;
+const LEVELS: (u32, u32) = (8192, 66);
 
-const HEIGHT: u32 = 66;
+const LEVEL_COUNT: usize = 540672;
 
-const COUNT: usize = 540672;
+/// Sets in strips of 128, 128 and 8 rows.
+const PIXELS: (u32, u32) = (8190, 264);
+
+const PIXEL_COUNT: usize = 2162160;
 
 /// What no operator writes here.
 const MARK: u8 = 255;
@@ -89,22 +92,24 @@ fn job_is_whole(
     let b = corner(alloc)?;
     let mut out = once_more!(NoMemory, copies(alloc, f.count(), MARK));
     write_again(rt, alloc, job, f, &b, out.as_mut_slice())?;
-    let image = image_of_bytes(alloc, levels, WIDTH, HEIGHT, maxval)?;
+    let image = image_of_bytes(alloc, levels, f.width(), f.height(), maxval)?;
     let made = wanted(alloc, job, &image, &b)?;
     assert!(rt; shows(&out, &made));
     Ok(())
 }
 
 fn on_levels(rt: &impl Abort, alloc: Global, job: Job) -> Result<(), Fail> {
-    let samples = mixed::<u8>(alloc, COUNT, 200)?;
-    let f = grey8(&samples, WIDTH, HEIGHT, 200)?;
+    let (width, height) = LEVELS;
+    let samples = mixed::<u8>(alloc, LEVEL_COUNT, 200)?;
+    let f = grey8(&samples, width, height, 200)?;
     job_is_whole(rt, alloc, job, f, &samples, 200)
 }
 
 /// On a set, beside the levels 0 and 1.
 fn on_a_set(rt: &impl Abort, alloc: Global, job: Job) -> Result<(), Fail> {
-    let pixels = mixed::<u8>(alloc, COUNT, 1)?;
-    let f = set(&pixels, WIDTH, HEIGHT)?;
+    let (width, height) = PIXELS;
+    let pixels = mixed::<u8>(alloc, PIXEL_COUNT, 1)?;
+    let f = set(&pixels, width, height)?;
     job_is_whole(rt, alloc, job, f, &pixels, 1)
 }
 
@@ -126,6 +131,11 @@ fn a_rank(rt: HostRuntime) -> Result<(), Fail> {
 #[test]
 fn an_opening_of_a_set(rt: HostRuntime) -> Result<(), Fail> {
     on_a_set(&rt, rt.alloc(), Job::Filter(Extremum::Least))
+}
+
+#[test]
+fn a_top_hat_of_a_set(rt: HostRuntime) -> Result<(), Fail> {
+    on_a_set(&rt, rt.alloc(), Job::Residue(Extremum::Least))
 }
 
 #[test]
@@ -163,8 +173,9 @@ fn threshold_again(
 #[test]
 fn a_threshold(rt: HostRuntime) -> Result<(), Fail> {
     let alloc = rt.alloc();
-    let samples = mixed::<u8>(alloc, COUNT, 200)?;
-    let f = grey8(&samples, WIDTH, HEIGHT, 200)?;
+    let (width, height) = LEVELS;
+    let samples = mixed::<u8>(alloc, LEVEL_COUNT, 200)?;
+    let f = grey8(&samples, width, height, 200)?;
     let mut out = once_more!(NoMemory, copies(alloc, f.count(), MARK));
     threshold_again(&rt, alloc, f, out.as_mut_slice())?;
     for i in 0..samples.len() {

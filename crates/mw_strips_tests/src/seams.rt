@@ -1,4 +1,4 @@
-//! Frames of three strips beside the same in one piece.
+//! Frames of several strips beside the same in one piece.
 
 ghost use Rattle.mw_arrays.specs.Sources.{IsSource, picture_in};
 ghost use Rattle.mw_model.specs.Pictures.{IsImage};
@@ -14,7 +14,7 @@ use std::process::Abort;
 use std::sync::Arc;
 use std::test::Fail;
 
-/// Strips of 32, 32 and 2 rows.
+/// Strips of 32 rows of one byte or of 16 of two, and a last one of 2.
 const LOW: (u32, u32) = (8192, 66);
 
 /// Strips of 2730, 2730 and 172 rows.
@@ -22,6 +22,12 @@ const NARROW: (u32, u32) = (96, 5632);
 
 /// The samples of each of the two.
 const COUNT: usize = 540672;
+
+/// Sets in strips of 128, 128 and 8 rows, whose last word is not full.
+const WIDE: (u32, u32) = (8190, 264);
+
+/// Sets in strips of 5140 and 3052 rows.
+const HIGH: (u32, u32) = (201, 8192);
 
 /// Stops where the job writes something else than is made of the image in one piece.
 fn job_is_whole<P: Sample>(
@@ -80,14 +86,14 @@ fn sets_are_whole(
     b: &Arc<Element>,
 ) -> Result<(), Fail> {
     let (width, height) = sides;
-    let mut pixels = mixed::<u8>(alloc, COUNT, 1)?;
+    let mut pixels = mixed::<u8>(alloc, height as usize * width as usize, 1)?;
     let image = image_of_bytes(alloc, &pixels, width, height, 1)?;
     various(pixels.as_mut_slice());
     let f = set(&pixels, width, height)?;
     job_is_whole::<u8>(rt, alloc, job, f, &image, b)
 }
 
-/// An element of 71 rows, which is higher than some strips, with gaps.
+/// An element of 71 rows with gaps, by which the lower frames are cut into two strips of 33 rows.
 fn high(alloc: Global) -> Result<Arc<Element>, Fail> {
     let mut bytes = b"P1\n1 71\n1".to_vec(alloc)?;
     for _ in 0..35u32 {
@@ -137,8 +143,35 @@ fn a_gradient_of_two_bytes(rt: HostRuntime) -> Result<(), Fail> {
 }
 
 #[test]
+fn a_dilation_of_a_set(rt: HostRuntime) -> Result<(), Fail> {
+    let b = shared(rt.alloc(), ELEMENTS[1])?;
+    let job = Job::Slide(Extremum::Greatest);
+    sets_are_whole(&rt, rt.alloc(), job, WIDE, &b)
+}
+
+#[test]
+fn an_opening_of_a_set(rt: HostRuntime) -> Result<(), Fail> {
+    let b = shared(rt.alloc(), ELEMENTS[2])?;
+    let job = Job::Filter(Extremum::Least);
+    sets_are_whole(&rt, rt.alloc(), job, HIGH, &b)
+}
+
+#[test]
 fn a_closing_of_a_set(rt: HostRuntime) -> Result<(), Fail> {
     let b = shared(rt.alloc(), ELEMENTS[0])?;
     let job = Job::Filter(Extremum::Greatest);
-    sets_are_whole(&rt, rt.alloc(), job, LOW, &b)
+    sets_are_whole(&rt, rt.alloc(), job, WIDE, &b)
+}
+
+#[test]
+fn a_top_hat_of_a_set(rt: HostRuntime) -> Result<(), Fail> {
+    let b = shared(rt.alloc(), ELEMENTS[0])?;
+    let job = Job::Residue(Extremum::Least);
+    sets_are_whole(&rt, rt.alloc(), job, WIDE, &b)
+}
+
+#[test]
+fn a_gradient_of_a_set(rt: HostRuntime) -> Result<(), Fail> {
+    let b = shared(rt.alloc(), ELEMENTS[1])?;
+    sets_are_whole(&rt, rt.alloc(), Job::Gradient, HIGH, &b)
 }
