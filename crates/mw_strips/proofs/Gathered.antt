@@ -1,9 +1,9 @@
 -- Planes that are put together strip by strip.
-use Rattle.std.proofs.Common.{◌≡◌, ℕ, ◌+◌, ◌-◌, ◌*◌, ◌/◌, ◌%◌, ◌<◌, ◌≤◌, List, [], ◌++◌, length, get_or, take, drop, ap, sym, arith, ◌∙◌, inl, inr, length-take}
+use Rattle.std.proofs.Common.{◌≡◌, ℕ, ◌+◌, ◌-◌, ◌*◌, ◌/◌, ◌%◌, ◌<◌, ◌≤◌, List, [], ◌++◌, map, length, get_or, take, drop, ap, sym, arith, ◌∙◌, inl, inr, length-take}
 use Rattle.std.specs.Prelude.{slice_range}
 use Rattle.std.specs.Int.{bit_at}
 use Rattle.std.proofs.lemmas.Bool.{cases_lt}
-use Rattle.std.proofs.lemmas.List.{length-append, get_or_append_left, get_or-append_right}
+use Rattle.std.proofs.lemmas.List.{map-append, length-append, get_or_append_left, get_or-append_right}
 use Rattle.std.proofs.Math.Seq.{take-add}
 use Rattle.mw_model.specs.declared.places.Rect.{Rect}
 use Rattle.mw_model.specs.declared.shapes.Kind.{Kind}
@@ -37,6 +37,12 @@ taken_more f r done w part strip size y-is w-is is =
         ap (λ (n : ℕ). take n (drop (r.y * r.width) f.samples)) (count (r.y * r.width) (r.height * r.width))
         ∙ ap (λ (m : ℕ). take (r.height * m) (drop (r.y * m) f.samples)) m-is
         ∙ ap (λ (y : ℕ). take (r.height * w) (drop (y * w) f.samples)) y-is
+
+-- samples with these levels, and those of the strip behind them
+pub levels_more : {A : Type 0} (level : A → ℕ) (p : Picture) (r : Rect) (done w : ℕ) (old new items : List A) → items ≡ old ++ new → map level old ≡ take (done * w) p.samples
+    → IsStrip r p → length p.samples ≡ p.height * p.width → r.y ≡ done → w ≡ p.width → map level new ≡ cells_in r (sample p) → map level items ≡ take ((done + r.height) * w) p.samples
+levels_more level p r done w old new items is before strip size y-is w-is part =
+    ap (map level) is ∙ map-append level old new ∙ ap (λ (ns : List ℕ). ns ++ map level new) before ∙ taken_more p r done w (map level new) strip size y-is w-is part
 
 -- no rows at first
 pub none_taken : (w : ℕ) (xs : List ℕ) → [] ≡ take (0 * w) xs

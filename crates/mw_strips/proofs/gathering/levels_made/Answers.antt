@@ -1,12 +1,11 @@
-use Rattle.std.proofs.Common.{◌≡◌, ℕ, List, ◌*◌, ◌≤◌, ◌++◌, map, length, ap, arith, subst, sym, ◌∙◌}
-use Rattle.std.proofs.lemmas.List.{map-append, take_all}
-use Rattle.mw_model.specs.Pictures.{Picture, sample}
-use Rattle.mw_model.specs.Tasks.{cells_in}
+use Rattle.std.proofs.Common.{◌≡◌, ℕ, ◌*◌, ◌≤◌, map, length, ap, arith, subst, sym, ◌∙◌}
+use Rattle.std.proofs.lemmas.List.{take_all}
+use Rattle.mw_model.specs.Pictures.{Picture}
 use Rattle.mw_arrays.specs.Sources.{picture_in}
 use Rattle.mw_arrays.proofs.SourceImages.{source_image}
 use Rattle.mw_strips.specs.Layers.{rule_picture}
 use Rattle.mw_strips.proofs.Formulas.{rule_is_picture, strip_above}
-use Rattle.mw_strips.proofs.Gathered.{none_taken, taken_more}
+use Rattle.mw_strips.proofs.Gathered.{levels_more, none_taken}
 use Rattle.mw_strips.proofs.gathering.levels_made.Goals as goal
 
 pub strips-init : goal.strips-init
@@ -31,20 +30,13 @@ pub strips-preserved : goal.strips-preserved
 strips-preserved g c =
     let level = g.P.Pixel.level in
     let f = picture_in c.args.f in
-    let p = rule_picture c.args.rule f in
     let r = c.strip_from-strip.result in
-    let w = c.width-width.result in
     let own = c.strip_from-strip.ensures.strip f c.width-width.ensures c.height-height.ensures in
     let low = own.low in
     let place = c.strip_from-strip.ensures.place in
-    let new = c.levels.result.now in
-    let part : map level new ≡ cells_in r (sample p) = c.levels.ensures ∙ ap (λ (h : Picture). h.samples) c.in_ok-image.ensures in
     record {
-      rows =
-          ap (map level) c.in_ok-extend_from_slice.ensures.items
-          ∙ map-append level c.strips.plane.items new
-          ∙ ap (λ (ns : List ℕ). ns ++ map level new) c.strips.invariant.rows
-          ∙ taken_more p r c.strips.done w (map level new) (strip_above c.args.rule f r own) (rule_is_picture c.args.rule f (source_image c.args.f c.requires.sound).picture).size place c.width-width.ensures part;
+      rows = levels_more level (rule_picture c.args.rule f) r c.strips.done c.width-width.result c.strips.plane.items c.levels.result.now c.extend_from_slice.new.self.items c.in_ok-extend_from_slice.ensures.items c.strips.invariant.rows
+          (strip_above c.args.rule f r own) (rule_is_picture c.args.rule f (source_image c.args.f c.requires.sound).picture).size place c.width-width.ensures (c.levels.ensures ∙ ap (λ (h : Picture). h.samples) c.in_ok-image.ensures);
       within = omega (arith, low, place);
     }
 
@@ -52,20 +44,13 @@ pub strips-preserved-in_ok-extend_from_slice-2 : goal.strips-preserved-in_ok-ext
 strips-preserved-in_ok-extend_from_slice-2 g c =
     let level = g.P.Pixel.level in
     let f = picture_in c.args.f in
-    let p = rule_picture c.args.rule f in
     let r = c.strip_from-strip.result in
-    let w = c.width-width.result in
     let own = c.strip_from-strip.ensures.strip f c.width-width.ensures c.height-height.ensures in
     let low = own.low in
     let place = c.strip_from-strip.ensures.place in
-    let new = c.levels.result.now in
-    let part : map level new ≡ cells_in r (sample p) = c.levels.ensures ∙ ap (λ (h : Picture). h.samples) c.in_ok-image.ensures in
     record {
-      rows =
-          ap (map level) c.in_ok-extend_from_slice.ensures.items
-          ∙ map-append level c.strips.plane.items new
-          ∙ ap (λ (ns : List ℕ). ns ++ map level new) c.strips.invariant.rows
-          ∙ taken_more p r c.strips.done w (map level new) (strip_above c.args.rule f r own) (rule_is_picture c.args.rule f (source_image c.args.f c.requires.sound).picture).size place c.width-width.ensures part;
+      rows = levels_more level (rule_picture c.args.rule f) r c.strips.done c.width-width.result c.strips.plane.items c.levels.result.now c.extend_from_slice.new.self.items c.in_ok-extend_from_slice.ensures.items c.strips.invariant.rows
+          (strip_above c.args.rule f r own) (rule_is_picture c.args.rule f (source_image c.args.f c.requires.sound).picture).size place c.width-width.ensures (c.levels.ensures ∙ ap (λ (h : Picture). h.samples) c.in_ok-image.ensures);
       within = omega (arith, low, place);
     }
 
