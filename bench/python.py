@@ -3,7 +3,7 @@
 
     python3 bench/python.py [SIDE..]        sides of the pictures; 1024 and 4096 if left out
 
-Each time is the best of several runs in milliseconds, taken by turns in one process. The pictures are of real shape: soft discs
+Each time is the best of five runs or more in milliseconds, taken by turns in one process. The pictures are of real shape: soft discs
 of many sizes on a slanted ground with noise. A peer whose first run takes longer than 10 s is run once. It needs a built
 library; peers that are missing are left out, and so are those that have no such operation.
 """
@@ -21,7 +21,8 @@ except ImportError as missing:
 import morphd  # noqa: E402
 from morphd import _arrays, _calls, _library  # noqa: E402
 
-ROUNDS, LONGEST = 5, 10.0
+# Rounds at least, and for how many seconds short runs go on: a machine that others share is slow for some of them.
+ROUNDS, SECONDS, LONGEST = 5, 1.0, 10.0
 
 
 def optional(name):
@@ -105,13 +106,15 @@ def timed(run):
 def best(runs):
     """The best of each of several runs, taken by turns; one that takes too long is run once."""
     times = [timed(run) for run in runs]
-    for _ in range(ROUNDS - 1):
-        times = [time if time > 1000 * LONGEST else min(time, timed(run)) for time, run in zip(times, runs)]
+    begun, rounds = time.perf_counter(), 1
+    while rounds < ROUNDS or time.perf_counter() - begun < SECONDS:
+        times = [was if was > 1000 * LONGEST else min(was, timed(run)) for was, run in zip(times, runs)]
+        rounds += 1
     return times
 
 
 def tell_jobs(side):
-    print(f"\n{side} x {side}, milliseconds, best of {ROUNDS}\n")
+    print(f"\n{side} x {side}, milliseconds, best of {ROUNDS} or more\n")
     print("| job | samples | morphd, 1 | 4 | gain | OpenCV, 1 | 4 | SciPy | scikit-image |\n|---|---|---:|---:|---:|---:|---:|---:|---:|")
     levels = picture(side)
     for image in ((levels >> 8).astype(np.uint8), levels, levels > 30000):

@@ -1,6 +1,11 @@
-"""What stands outside the frame, for modes other than the library's own: a rim is put around the array, and cut off behind."""
+"""What stands outside the frame, for modes other than the library's own.
+
+Samples that see nothing outside are the same in each mode, so a large array is computed as it stands, and then its edges anew, each
+with a rim around it. A small one gets a rim as a whole, which is cut off behind.
+"""
 from __future__ import annotations
 
+from collections.abc import Iterator
 from typing import NamedTuple
 
 import numpy as np
@@ -11,6 +16,8 @@ from ._calls import Call, Field, Flat, Samples
 from .footprints import Reach
 
 MODES = ("ignore", "reflect", "mirror", "nearest", "wrap", "constant")
+# An array is large whose sides are so many times as long as the rims on both ends: its edges are at most as much work as the rest.
+SIDE_PER_RIMS = 6
 
 
 class Edges(NamedTuple):
@@ -20,9 +27,19 @@ class Edges(NamedTuple):
     cval: int = 0
 
 
-def _places(length: int, before: int, behind: int, mode: str) -> NDArray[np.intp]:
-    """Which row or column stands at each place from so many before the first to so many behind the last."""
-    at = np.arange(-before, length + behind)
+class Part(NamedTuple):
+    """A run of rows or columns, counted from the array's first one. It may begin before that, and end behind the last."""
+
+    begin: int
+    end: int
+
+    def wider(self, before: int, behind: int) -> Part:
+        return Part(self.begin - before, self.end + behind)
+
+
+def _places(part: Part, length: int, mode: str) -> NDArray[np.intp]:
+    """Which row or column of so many stands at each place of the part."""
+    at = np.arange(part.begin, part.end)
     if mode == "nearest":
         return at.clip(0, length - 1)
     if mode == "wrap":
@@ -48,10 +65,48 @@ def with_rim(field: Field, reach: Reach, edges: Edges) -> Field:
     if edges.mode == "constant":
         middle[:, :left] = middle[:, left + width :] = made[:up] = made[up + height :] = edges.cval
     else:
-        columns, rows = _places(width, left, right, edges.mode), _places(height, up, down, edges.mode)
+        columns, rows = _places(Part(-left, width + right), width, edges.mode), _places(Part(-up, height + down), height, edges.mode)
         middle[:, :left], middle[:, left + width :] = samples[:, columns[:left]], samples[:, columns[left + width :]]
         made[:up], made[up + height :] = middle[rows[:up]], middle[rows[up + height :]]
     return field._replace(samples=made)
+
+
+def _cut(field: Field, rows: Part, columns: Part, edges: Edges) -> Field:
+    """Some rows and columns, with what stands outside the array."""
+    samples = field.samples
+    height, width = samples.shape
+    if edges.mode != "constant":
+        places = np.ix_(_places(rows, height, edges.mode), _places(columns, width, edges.mode))
+        return field._replace(samples=samples[places])
+    made = np.full((rows.end - rows.begin, columns.end - columns.begin), edges.cval, samples.dtype)
+    inside = samples[max(rows.begin, 0) : max(rows.end, 0), max(columns.begin, 0) : max(columns.end, 0)]
+    made[max(-rows.begin, 0) :, max(-columns.begin, 0) :][: inside.shape[0], : inside.shape[1]] = inside
+    return field._replace(samples=made)
+
+
+def _is_large(shape: tuple[int, ...], reach: Reach) -> bool:
+    (height, width), (up, down, left, right) = shape, reach
+    return SIDE_PER_RIMS * (up + down) <= height and SIDE_PER_RIMS * (left + right) <= width
+
+
+def _edges_of(shape: tuple[int, ...], reach: Reach) -> Iterator[tuple[Part, Part]]:
+    """The four rectangles whose samples see what stands outside."""
+    (height, width), (up, down, left, right) = shape, reach
+    yield Part(0, up), Part(0, width)
+    yield Part(height - down, height), Part(0, width)
+    yield Part(up, height - down), Part(0, left)
+    yield Part(up, height - down), Part(width - right, width)
+
+
+def _with_edges(call: Call, field: Field, edges: Edges, made: Samples) -> Samples:
+    """The result, with its edges computed anew."""
+    up, down, left, right = reach = call.reach
+    for rows, columns in _edges_of(field.samples.shape, reach):
+        if rows.begin < rows.end and columns.begin < columns.end:
+            held = _cut(field, rows.wider(up, down), columns.wider(left, right), edges)
+            whole, part = _pieces.apply(call, held, None, 1), made[rows.begin : rows.end, columns.begin : columns.end]
+            part[...] = whole[up:, left:][: part.shape[0], : part.shape[1]]
+    return made
 
 
 def _from_a_pixel(call: Call) -> tuple[Call, int, int]:
@@ -68,8 +123,10 @@ def apply(call: Call, field: Field, edges: Edges, out: Samples | None, workers: 
     if edges.mode == "ignore":
         return _pieces.apply(call, field, out, workers)
     reach, (height, width) = call.reach, field.samples.shape
-    call, down, right = _from_a_pixel(call)
-    whole = _pieces.apply(call, with_rim(field, reach, edges), None, workers)
+    moved, down, right = _from_a_pixel(call)
+    if moved is call and _is_large(field.samples.shape, reach):
+        return _with_edges(call, field, edges, _pieces.apply(call, field, out, workers))
+    whole = _pieces.apply(moved, with_rim(field, reach, edges), None, workers)
     inner = whole[reach.up + down :, reach.left + right :][:height, :width]
     if out is None:
         return np.ascontiguousarray(inner)
