@@ -4,10 +4,11 @@ bench_kernels. The best of so many rounds counts, by the time of the processor; 
 
     /usr/bin/python3 bench/library.py out/libmorphd.so [ROUNDS [WORD]]
     /usr/bin/python3 bench/library.py out/libmorphd.so memory [WORD]
+    /usr/bin/python3 bench/library.py out/libmorphd.so alone [WORD]
 
 With a word only the lines that have it are timed. With `memory` it tells instead how much memory a call takes beyond the
-caller's arrays, and how often it waits for a page, from a heap that is empty. It needs a Python with cv2 (Debian:
-python3-opencv).
+caller's arrays, and how often it waits for a page, from a heap that is empty. With `alone` it only calls libmorphd, for who
+counts where the time goes. It needs a Python with cv2 (Debian: python3-opencv).
 """
 import ctypes
 import pathlib
@@ -104,6 +105,13 @@ def tell_memory(library, images, wanted):
         print(f"| {kind} | {name} | {kib} | {faults} |", flush=True)
 
 
+def call_alone(library, images, wanted):
+    for name, kind, operation, k, element, _ in wanted:
+        image, run = images[kind], flat(library, kind)
+        out = numpy.ones_like(image)
+        print(f"{kind} {name}: {min(milliseconds(lambda: run(operation, k, image, element, out)) for _ in range(100)):.1f} ms")
+
+
 def tell_times(library, images, wanted, rounds):
     print(f"OpenCV {cv2.__version__}, one thread each, {SIDE} x {SIDE}, the best of {rounds} by turns, in milliseconds")
     print("| samples | what | libmorphd | OpenCV | times OpenCV's | the same |")
@@ -124,6 +132,8 @@ def main():
     wanted = [line for line in lines() if word in f"{line[1]} {line[0]}"]
     if first == "memory":
         tell_memory(library, images, wanted)
+    elif first == "alone":
+        call_alone(library, images, wanted)
     else:
         tell_times(library, images, wanted, int(first))
 
