@@ -98,10 +98,13 @@ pub(crate) fn strip_from(rows: u32, width: u32, height: u32, y: u32) -> Rect
     }
 }
 
-/// Asks for as much memory as a strip takes, and gives it back at once. An allocator that learns by what is freed, as that of the
-/// GNU C library does, then keeps the lists of a strip for the next: else their pages are made anew for each strip, which may
-/// take longer than all else. Whether it is refused makes no difference.
-pub(crate) fn ask_once(alloc: Global) {
+/// Asks for as much memory as a strip may take, and gives it back at once, where there are several strips of so many rows. An
+/// allocator that learns by what is freed, as that of the GNU C library does, then keeps the lists of a strip for the next one:
+/// else their pages are made anew for each strip, which may take longer than all else. Whether it is refused makes no difference.
+pub(crate) fn ask_once(alloc: Global, rows: u32, height: u32) {
+    if height <= rows {
+        return;
+    }
     match Vec::<u64>::with_capacity(alloc, MEMORY as usize / 8) {
         Ok(_room) => (),
         Err(_refused) => (),

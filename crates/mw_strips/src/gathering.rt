@@ -29,9 +29,9 @@ pub(crate) fn levels_made<P: Sample>(
     requires stands { P.stands (rule_picture rule (picture_in f)).maxval }
     ensures { IfOk result (λ v. map P.level v.items ≡ (rule_picture rule.entry (picture_in f.entry)).samples) }
 {
-    ask_once(alloc);
     let (width, height) = (f.width(), f.height());
     let rows = rows_of_layer(Layer::By(rule, Origin::Array(f)));
+    ask_once(alloc, rows, height);
     let mut plane = Vec::with_capacity(alloc, f.count())?;
     let mut done = 0;
     'strips: while done < height {
@@ -63,9 +63,9 @@ fn words_made(alloc: Global, rule: Rule<'_>, f: Source<'_>) -> Result<Vec<u64>, 
     ensures packed { IfOk result (λ v. IsPacked (picture_in f.entry).width (picture_in f.entry).height v.items) }
     ensures samples { IfOk result (λ v. samples_of (picture_in f.entry).width (picture_in f.entry).height v.items ≡ (rule_picture rule.entry (picture_in f.entry)).samples) }
 {
-    ask_once(alloc);
     let (width, height) = (f.width(), f.height());
     let rows = rows_of_layer(Layer::By(rule, Origin::Array(f)));
+    ask_once(alloc, rows, height);
     let mut words = Vec::with_capacity(alloc, height as usize * stride(width))?;
     let mut done = 0;
     'strips: while done < height {

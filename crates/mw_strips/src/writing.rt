@@ -129,8 +129,8 @@ pub(crate) fn write_all<P: Sample>(
 {
     let f = first_origin(formula);
     let (width, height) = (f.width(), f.height());
-    ask_once(alloc);
     let rows = rows_of(formula);
+    ask_once(alloc, rows, height);
     let first = strip_from(rows, width, height, 0);
     {
         // given back before the next strip
