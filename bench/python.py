@@ -22,7 +22,7 @@ import morphd  # noqa: E402
 from morphd import _arrays, _calls, _library  # noqa: E402
 
 # Rounds at least, and for how many seconds short runs go on: a machine that others share is slow for some of them.
-ROUNDS, SECONDS, LONGEST = 5, 1.0, 10.0
+ROUNDS, SECONDS, LONGEST = 5, 0.5, 10.0
 
 
 def optional(name):

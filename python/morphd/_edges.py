@@ -90,22 +90,30 @@ def _is_large(shape: tuple[int, ...], reach: Reach) -> bool:
 
 
 def _edges_of(shape: tuple[int, ...], reach: Reach) -> Iterator[tuple[Part, Part]]:
-    """The four rectangles whose samples see what stands outside."""
+    """The rectangles whose samples see what stands outside: up to four."""
     (height, width), (up, down, left, right) = shape, reach
-    yield Part(0, up), Part(0, width)
-    yield Part(height - down, height), Part(0, width)
-    yield Part(up, height - down), Part(0, left)
-    yield Part(up, height - down), Part(width - right, width)
+    middle = Part(up, height - down)
+    if up:
+        yield Part(0, up), Part(0, width)
+    if down:
+        yield Part(height - down, height), Part(0, width)
+    if left:
+        yield middle, Part(0, left)
+    if right:
+        yield middle, Part(width - right, width)
 
 
-def _with_edges(call: Call, field: Field, edges: Edges, made: Samples) -> Samples:
+def _with_edges(call: Call, field: Field, edges: Edges, made: Samples, workers: int) -> Samples:
     """The result, with its edges computed anew."""
     up, down, left, right = reach = call.reach
-    for rows, columns in _edges_of(field.samples.shape, reach):
-        if rows.begin < rows.end and columns.begin < columns.end:
-            held = _cut(field, rows.wider(up, down), columns.wider(left, right), edges)
-            whole, part = _pieces.apply(call, held, None, 1), made[rows.begin : rows.end, columns.begin : columns.end]
-            part[...] = whole[up:, left:][: part.shape[0], : part.shape[1]]
+
+    def one(place: tuple[Part, Part]) -> None:
+        rows, columns = place
+        held = _cut(field, rows.wider(up, down), columns.wider(left, right), edges)
+        whole, part = _pieces.apply(call, held, None, 1), made[rows.begin : rows.end, columns.begin : columns.end]
+        part[...] = whole[up:, left:][: part.shape[0], : part.shape[1]]
+
+    _pieces.each(one, _edges_of(field.samples.shape, reach), workers)
     return made
 
 
@@ -125,7 +133,7 @@ def apply(call: Call, field: Field, edges: Edges, out: Samples | None, workers: 
     reach, (height, width) = call.reach, field.samples.shape
     moved, down, right = _from_a_pixel(call)
     if moved is call and _is_large(field.samples.shape, reach):
-        return _with_edges(call, field, edges, _pieces.apply(call, field, out, workers))
+        return _with_edges(call, field, edges, _pieces.apply(call, field, out, workers), workers)
     whole = _pieces.apply(moved, with_rim(field, reach, edges), None, workers)
     inner = whole[reach.up + down :, reach.left + right :][:height, :width]
     if out is None:
