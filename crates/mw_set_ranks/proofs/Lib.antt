@@ -1,0 +1,4 @@
+mod Carries
+mod Vectors
+mod Sums
+mod Weights
