@@ -24,6 +24,7 @@ mod unpacked;
 mod window_rows;
 
 pub use boxes::rectangle;
+pub use by_runs::is_near;
 pub use compared::{level_set, threshold};
 pub use counting::count;
 pub use held::row_of;
@@ -32,6 +33,7 @@ pub use levels::{at_least, equal};
 pub use mw_model::NoMemory;
 pub use mw_word_rows::WordExtremum;
 pub use pairs::{invert, is_within, join, meet, minus};
+pub use spread::spread;
 pub use uniform::is_blank;
 pub use unpacked::as_levels;
 
@@ -46,4 +48,27 @@ pub mod line {
 
 pub mod offset {
     pub use mw_offset::extremum;
+}
+
+pub mod pixel {
+    pub use mw_offset::pixel::{Bit, Plane};
+    pub use mw_word_rows::pixel::{Max, Min};
+}
+
+pub mod run {
+    pub use mw_offset::run::{
+        Extent, Run, columns_after, extent_of, first_column, first_row, rows_after, start_of_run,
+    };
+}
+
+pub mod tile {
+    pub use mw_offset::tile::Window;
+}
+
+pub mod word_rows {
+    pub use mw_word_rows::{Both, flip_words, merge_words};
+}
+
+pub mod words {
+    pub use mw_offset::words::{Words, repeated, stride, trimmed};
 }

@@ -3,7 +3,7 @@ use Rattle.std.proofs.Common.{◌≡◌, ℕ, ◌+◌, ◌-◌, ◌*◌, ◌^◌
 use Rattle.std.proofs.Math.Seq.{take-add}
 use Rattle.std.proofs.lemmas.List.{drop-drop, get_or-drop, take_all}
 use Rattle.std.proofs.lemmas.List.Sums.{sum_by-append, sum_by_more, sum_by-take-drop}
-use Rattle.mw_words.specs.Packed.{bit_of}
+use Rattle.mw_bits.specs.mw_words.Packed.{bit_of}
 use Rattle.mw_set_ranks.specs.Numbers.{bits_at, number_at, HasAdded}
 
 pub parts : (cells places : List ℕ) (i m n k j q : ℕ) → k ≡ m + n → j ≡ i + m → bits_at cells (take k (drop i places)) q ≡ bits_at cells (take m (drop i places)) q + bits_at cells (take n (drop j places)) q

@@ -6,10 +6,10 @@ use Rattle.std.proofs.lemmas.List.{get_or-take, get_or-drop}
 use Rattle.std.proofs.lemmas.Nat.Bits.{bit_at_and, bit_at_or, bit_at_xor, bit_at_ones, bit_at-zero}
 use Rattle.std.proofs.lemmas.Simd.{put_chunk_whole, length-zip2, get_or-zip2, get_or-chunk, length-chunk}
 use Rattle.mw_model.proofs.mw_facts.Parts.{get_or-put_mid_below, get_or-put_mid_within, get_or-put_mid_above}
-use Rattle.mw_words.specs.Packed.{bit_of}
-use Rattle.mw_words.proofs.Bits.{bit_of_word, bit_of_its_word, bit_of-lt}
-use Rattle.mw_words.proofs.Done.{blank_bit}
-use Rattle.mw_words.proofs.Funnels.{IsFunnel, funnel_at, funnel_below, funnel_above}
+use Rattle.mw_bits.specs.mw_words.Packed.{bit_of}
+use Rattle.mw_bits.proofs.mw_words.Bits.{bit_of_word, bit_of_its_word, bit_of-lt}
+use Rattle.mw_bits.proofs.mw_words.Done.{blank_bit}
+use Rattle.mw_bits.proofs.mw_words.Funnels.{IsFunnel, funnel_at, funnel_below, funnel_above}
 use borrow.Rule.Slice.PartMut.{put_mid}
 use lib.Lanes.{zip2, chunk, put_chunk}
 

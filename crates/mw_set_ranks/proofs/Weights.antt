@@ -4,8 +4,12 @@ use Rattle.std.proofs.Math.Nat.{mul-le-mul_left, mul-le-mul_right}
 use Rattle.std.proofs.lemmas.Bool.{cases_lt, cases_eq, lt-ltb, le-ltb}
 use Rattle.std.proofs.lemmas.List.{get_or_past, get_or-replicate}
 use Rattle.std.proofs.lemmas.List.Sums.{sum_by_more, sum_by_push}
-use Rattle.std.proofs.lemmas.Nat.{div-mul-add, mod-mul-add, div-add-mod'}
-use Rattle.mw_set_ranks.specs.Moves.{weighed, marks_at, marks_before, place_in}
+use Rattle.std.proofs.lemmas.Nat.{div-mul-add, mod-mul-add, div-add-mod', div_below}
+use Rattle.std.proofs.Math.ListN.{length-set}
+use Rattle.std.proofs.lemmas.List.{length-replicate}
+use Rattle.std.specs.List.{AllByRecursion}
+use Rattle.mw_set_ranks.specs.Moves.{weighed, marks_at, marks_before, place_in, HasMarks, HasChanged}
+use Rattle.mw_set_ranks.proofs.Walks.{sums_same}
 
 pub weighed_same : (w v f : ℕ → ℕ) (n : ℕ) → ((t : ℕ) → t < n → w t ≡ v t) → weighed w f n ≡ weighed v f n
 weighed_same w v f zero same = refl
@@ -103,21 +107,90 @@ place_below columns wide t some =
     next_column : (t columns : ℕ) → 0 < columns → (t + columns) % columns ≡ t % columns
     next_column t columns some = ap (λ (s : ℕ). s % columns) (split t columns) ∙ mod-mul-add (t / columns + 1) columns (t % columns) (mod_small t columns some)
 
-pub place_small : (columns wide t n : ℕ) → 0 < columns → t < n + columns → place_in columns wide t < (n / columns + 1) * wide + columns
-place_small columns wide t n some lt =
+pub place_small : (columns wide t rows : ℕ) → 0 < columns → t < rows * columns + columns → place_in columns wide t < rows * wide + columns
+place_small columns wide t rows some lt =
     let column : t % columns < columns = omega arith in
-    let row : t / columns ≤ n / columns + 1 = row_small columns t n some lt in
-    let rows = mul-le-mul_right wide row in
-    omega (arith, rows, column)
+    let row : t / columns < rows + 1 = div_below t columns (rows + 1) some (omega arith) in
+    let least : t / columns ≤ rows = omega arith in
+    let down = mul-le-mul_right wide least in
+    omega (arith, down, column)
+
+-- marks of no places, and of one place more
+pub marks_none : (places : List ℕ) (count : ℕ) (marks : List ℕ) → ◌≡◌ {A = List ℕ} marks (replicate count 0) → HasMarks places count 0 marks
+marks_none places count marks is = subst (HasMarks places count 0) (sym is) (record {
+  size = length-replicate {A = ℕ} count 0;
+  few = λ k. let none = no_mark count k in omega arith;
+  sums = λ f. unmarked f count count (omega arith);
+})
   where
-    row_small : (columns t n : ℕ) → 0 < columns → t < n + columns → t / columns ≤ n / columns + 1
-    row_small columns t n some lt = elim (cases_lt (n / columns + 1) (t / columns)) [
-      | inr le ↦ le
-      | inl past ↦
-          let more : n / columns + 2 ≤ t / columns = omega arith in
-          let rows = mul-le-mul_right columns more in
-          let t-is = div-add-mod' t columns in
-          let n-is = div-add-mod' n columns in
-          let rest : n % columns < columns = omega arith in
-          absurd (omega (arith, rows, t-is, n-is, rest))
-    ]
+    no_mark : (count k : ℕ) → ◌≡◌ {A = ℕ} (get_or (replicate count 0) k 0) 0
+    no_mark count k = elim (cases_lt k count) [ inl lt ↦ get_or-replicate count k 0 0 lt | inr past ↦ get_or_past (replicate count 0) k 0 (omega (arith, length-replicate {A = ℕ} count 0)) ]
+
+pub marks_next : (places : List ℕ) (count i p v : ℕ) (marks : List ℕ) → p ≡ get_or places i 0 → v ≡ get_or marks p 0 → i < length places → p < count → HasMarks places count i marks → HasMarks places count (i + 1) (set marks p (v + 1))
+marks_next places count i p v marks p-is v-is lt inside before =
+    let size = before.size in
+    subst (λ (t : ℕ). HasMarks places count (i + 1) (set marks p (t + 1))) (sym v-is) (record {
+      size = length-set marks p (get_or marks p 0 + 1) ∙ before.size;
+      few = λ k. marks_few marks p k i (omega arith) before.few;
+      sums = λ f. marked_more marks f p count inside (omega arith) ∙ ap (λ (t : ℕ). t + f p) (before.sums f) ∙ ap (λ (t : ℕ). sum_by f (take i places) + f t) p-is ∙ sym (sum_by_more f places i 0 lt);
+    })
+
+-- one place more
+pub changed_more : (marks : List ℕ) (columns wide limit t place here above more less : ℕ) (entered left entered_new left_new : List ℕ) → place ≡ place_in columns wide t → here ≡ marks_at marks t → above ≡ marks_before marks columns t
+    → more ≡ above - here → less ≡ here - above → place < limit
+    → ((f : ℕ → ℕ) → sum_by f entered_new ≡ sum_by f entered + more * f place) → ((n : ℕ) → place < n → AllByRecursion (λ (s : ℕ). s < n) entered → AllByRecursion (λ (s : ℕ). s < n) entered_new)
+    → ((f : ℕ → ℕ) → sum_by f left_new ≡ sum_by f left + less * f place) → ((n : ℕ) → place < n → AllByRecursion (λ (s : ℕ). s < n) left → AllByRecursion (λ (s : ℕ). s < n) left_new)
+    → HasChanged marks columns wide limit t entered left → HasChanged marks columns wide limit (t + 1) entered_new left_new
+changed_more marks columns wide limit t place here above more less entered left entered_new left_new place-is here-is above-is more-is less-is inside entered-sum entered-below left-sum left-below before =
+    let up : suc t ≡ t + 1 = omega arith in
+    subst (λ (n : ℕ). HasChanged marks columns wide limit n entered_new left_new) up (record {
+      balance = λ f.
+          let there = ap f place-is in
+          step (marks_at marks t) (marks_before marks columns t) more less (f place) (f (place_in columns wide t)) _ _ _ _ _ _ (more-is ∙ ap (λ (n : ℕ). n - here) above-is ∙ ap (λ (n : ℕ). marks_before marks columns t - n) here-is)
+          (less-is ∙ ap (λ (n : ℕ). n - above) here-is ∙ ap (λ (n : ℕ). marks_at marks t - n) above-is) there (before.balance f) (entered-sum f) (left-sum f);
+      part = λ f.
+          let there = ap f place-is in
+          part_step (marks_at marks t) (marks_before marks columns t) less (f place) (f (place_in columns wide t)) _ _ _ (less-is ∙ ap (λ (n : ℕ). n - above) here-is ∙ ap (λ (n : ℕ). marks_at marks t - n) above-is) there (before.part f) (left-sum f);
+      entered_below = entered-below limit inside before.entered_below;
+      left_below = left-below limit inside before.left_below;
+    })
+  where
+    step : (h a more less v w e l x y e_new l_new : ℕ) → more ≡ a - h → less ≡ h - a → v ≡ w → e + x ≡ l + y → e_new ≡ e + more * v → l_new ≡ l + less * v → e_new + (x + h * w) ≡ l_new + (y + a * w)
+    step h a more less v w e l x y e_new l_new more-is less-is same balance e-is l-is =
+        let both : more + h ≡ less + a = omega arith in
+        let times = ap (λ (n : ℕ). n * w) both in
+        let more_same = ap (λ (n : ℕ). more * n) same in
+        let less_same = ap (λ (n : ℕ). less * n) same in
+        omega (arith, times, more_same, less_same)
+
+    part_step : (h a less v w l x l_new : ℕ) → less ≡ h - a → v ≡ w → l ≤ x → l_new ≡ l + less * v → l_new ≤ x + h * w
+    part_step h a less v w l x l_new less-is same part l-is =
+        let few : less ≤ h = omega arith in
+        let times = mul-le-mul_right w few in
+        let less_same = ap (λ (n : ℕ). less * n) same in
+        omega (arith, times, less_same)
+
+pub changed_none : (marks : List ℕ) (columns wide limit : ℕ) (entered left : List ℕ) → entered ≡ [] → left ≡ [] → HasChanged marks columns wide limit 0 entered left
+changed_none marks columns wide limit entered left entered-is left-is =
+    subst (λ (l : List ℕ). HasChanged marks columns wide limit 0 entered l) (sym left-is) (subst (λ (l : List ℕ). HasChanged marks columns wide limit 0 l []) (sym entered-is)
+    (record { balance = λ f. refl; part = λ f. omega arith; entered_below = tt; left_below = tt }))
+
+-- the changes of all places that are marked
+all_weighed : (places marks : List ℕ) (count columns : ℕ) → length marks ≡ count → ((f : ℕ → ℕ) → weighed (marks_at marks) f count ≡ sum_by f places) → (f : ℕ → ℕ) → weighed (marks_at marks) f (count + columns) ≡ sum_by f places
+all_weighed places marks count columns size sums f =
+    let turn : count + columns ≡ columns + count = omega arith in
+    ap (weighed (marks_at marks) f) turn ∙ weighed_past (marks_at marks) f count columns (λ t past. marks_past marks t (omega arith)) ∙ sums f
+
+pub changed_balance : (places marks : List ℕ) (count columns wide limit : ℕ) (entered left : List ℕ) → 0 < columns → length marks ≡ count → ((f : ℕ → ℕ) → weighed (marks_at marks) f count ≡ sum_by f places)
+    → HasChanged marks columns wide limit (count + columns) entered left
+    → (f : ℕ → ℕ) → sum_by f entered + sum_by (λ t. f (place_in columns wide t)) places ≡ sum_by f left + sum_by (λ t. f (place_in columns wide t + wide)) places
+changed_balance places marks count columns wide limit entered left some size sums done f =
+    let g : ℕ → ℕ = λ t. f (place_in columns wide t) in
+    let here = all_weighed places marks count columns size sums g in
+    let above = weighed_before marks columns g count ∙ sums (λ t. g (t + columns)) ∙ sums_same (λ t. g (t + columns)) (λ t. f (place_in columns wide t + wide)) places (λ t. ap f (place_below columns wide t some)) in
+    omega (arith, done.balance f, here, above)
+
+pub changed_part : (places marks : List ℕ) (count columns wide limit : ℕ) (entered left : List ℕ) → length marks ≡ count → ((f : ℕ → ℕ) → weighed (marks_at marks) f count ≡ sum_by f places)
+    → HasChanged marks columns wide limit (count + columns) entered left → (f : ℕ → ℕ) → sum_by f left ≤ sum_by (λ t. f (place_in columns wide t)) places
+changed_part places marks count columns wide limit entered left size sums done f =
+    omega (arith, done.part f, all_weighed places marks count columns size sums (λ t. f (place_in columns wide t)))

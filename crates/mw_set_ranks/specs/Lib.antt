@@ -1,2 +1,4 @@
 pub mod Numbers
 pub mod Moves
+pub mod Walks
+pub mod Elements

@@ -1,7 +1,7 @@
 -- Numbers whose binary digits stand in planes of bits.
 use Rattle.std.specs.Prelude.{◌≡◌, ℕ, zero, suc, ◌+◌, ◌*◌, ◌^◌, ◌<◌, ◌≤◌, List}
 use Rattle.std.specs.List.{sum_by}
-use Rattle.mw_words.specs.Packed.{bit_of}
+use Rattle.mw_bits.specs.mw_words.Packed.{bit_of}
 use Rattle.mw_set_ranks.specs.declared.adding.TwoDigits.{TwoDigits}
 use Rattle.mw_set_ranks.specs.declared.adding.ThreeDigits.{ThreeDigits}
 

@@ -1,6 +1,6 @@
 //! Sums of bits that stand at places of a row, for 128 places at once.
 ghost use Rattle.std.specs.Prelude.{◌≡◌, ℕ, ◌+◌, ◌*◌, ◌/◌, ◌<◌, ◌≤◌, length, take, drop, slice_index};
-ghost use Rattle.mw_words.specs.Packed.{bit_of};
+ghost use Rattle.mw_bits.specs.mw_words.Packed.{bit_of};
 ghost use Rattle.mw_set_ranks.specs.Numbers.{bits_at, two_digits, three_digits};
 
 use crate::lanes::{Lanes, ahead, all_or_none, majority, parity};

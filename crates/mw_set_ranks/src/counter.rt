@@ -1,7 +1,7 @@
 //! Counters of 128 places, each a number in binary digits: one plane of 128 bits for each digit, so that one step counts for all
 //! places at once.
 ghost use Rattle.std.specs.Prelude.{◌≡◌, ◌⊎◌, ℕ, ◌+◌, ◌-◌, ◌*◌, ◌/◌, ◌%◌, ◌^◌, ◌<◌, ◌≤◌, length, slice_index};
-ghost use Rattle.mw_words.specs.Packed.{bit_of};
+ghost use Rattle.mw_bits.specs.mw_words.Packed.{bit_of};
 ghost use Rattle.mw_set_ranks.specs.Numbers.{bits_at, three_digits, HasAdded};
 
 use crate::adding::{ThreeDigits, sum_at_one, sum_at_seven, sum_at_three};

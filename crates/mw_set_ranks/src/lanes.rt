@@ -1,6 +1,6 @@
 //! 128 bits side by side: two words of a row of bits, as one vector.
 ghost use Rattle.std.specs.Prelude.{◌≡◌, ◌⊎◌, ℕ, Bool, cond, ◌+◌, ◌-◌, ◌*◌, ◌/◌, ◌%◌, ◌<◌, ◌≤◌, length};
-ghost use Rattle.mw_words.specs.Packed.{bit_of};
+ghost use Rattle.mw_bits.specs.mw_words.Packed.{bit_of};
 
 use std::simd::Simd;
 use std::simd::prelude::*;

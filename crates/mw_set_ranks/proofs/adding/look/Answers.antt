@@ -1,5 +1,5 @@
 use Rattle.std.proofs.Common.{◌≡◌, ℕ, ◌+◌, ◌*◌, ◌/◌, ◌%◌, get_or, ap, arith, ◌∙◌}
-use Rattle.mw_words.specs.Packed.{bit_of}
+use Rattle.mw_bits.specs.mw_words.Packed.{bit_of}
 use Rattle.mw_set_ranks.proofs.adding.look.Goals as goal
 
 pub returns : goal.returns

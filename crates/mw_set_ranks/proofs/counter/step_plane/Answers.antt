@@ -1,6 +1,6 @@
 use Rattle.std.proofs.Common.{◌≡◌, ◌⊎◌, ℕ, ◌+◌, ◌*◌, ◌%◌, ◌<◌, ◌≤◌, inl, inr, ap, sym, arith, ◌∙◌}
-use Rattle.mw_words.specs.Packed.{bit_of}
-use Rattle.mw_words.proofs.Bits.{bit_of-lt}
+use Rattle.mw_bits.specs.mw_words.Packed.{bit_of}
+use Rattle.mw_bits.proofs.mw_words.Bits.{bit_of-lt}
 use Rattle.mw_set_ranks.proofs.counter.step_plane.Goals as goal
 
 pub returns-clause-digit : goal.returns-clause-digit
