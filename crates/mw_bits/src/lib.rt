@@ -33,7 +33,6 @@ pub use levels::{at_least, equal};
 pub use mw_model::NoMemory;
 pub use mw_word_rows::WordExtremum;
 pub use pairs::{invert, is_within, join, meet, minus};
-pub use spread::spread;
 pub use uniform::is_blank;
 pub use unpacked::as_levels;
 
@@ -59,6 +58,10 @@ pub mod run {
     pub use mw_offset::run::{
         Extent, Run, columns_after, extent_of, first_column, first_row, rows_after, start_of_run,
     };
+}
+
+pub mod spreading {
+    pub use crate::spread::spread;
 }
 
 pub mod tile {

@@ -3,6 +3,6 @@ mod Vectors
 mod Sums
 mod Weights
 mod Walks
-mod Tiles
+mod Around
 mod Ranked
 mod Made

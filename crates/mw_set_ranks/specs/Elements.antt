@@ -1,11 +1,12 @@
 -- Offsets of an element, one by one, and what is seen of a set under them.
-use Rattle.std.specs.Prelude.{◌≡◌, ℕ, ◌+◌, ◌-◌, ◌*◌, ◌<◌, List, length, Option, Some, None, pos, ◌+ℤ◌, slice_get}
+use Rattle.std.specs.Prelude.{◌≡◌, ℕ, ◌+◌, ◌-◌, ◌*◌, ◌<◌, List, length, Option, Some, None, pos, ◌+ℤ◌, min, slice_get, slice_index}
 use Rattle.std.specs.List.{sum_by}
 use Rattle.mw_model.specs.declared.places.Offset.{Offset}
 use Rattle.mw_model.specs.declared.places.Rect.{Rect}
 use Rattle.mw_model.specs.PlanSteps.{ranked}
 use Rattle.mw_model.specs.Rasters.{Raster, Sight, seen_under}
 use Rattle.mw_bits.specs.mw_run.declared.runs.Run.{Run}
+use Rattle.mw_bits.specs.mw_words.Packed.{bit_of, stride_of}
 
 -- an offset as a run of its own
 abbrev pub single_run : Offset → Run
@@ -26,3 +27,11 @@ pub record IsSetRank (k : ℕ) (sight : Sight ℕ) (element : List Offset) (tile
   pub height : r.height ≡ tile.height
   pub size : length r.cells ≡ tile.height * tile.width
   pub cells : (x y : ℕ) → x < tile.width → y < tile.height → slice_get r.cells (y * tile.width + x) ≡ Some (ranked k (seen_under sight element (tile.x + x) (tile.y + y)))
+
+-- the pixels of words that a plane has too
+pub record IsMet (words : List ℕ) (plane made : Raster ℕ) : Type 0 where
+  pub width : made.width ≡ plane.width
+  pub height : made.height ≡ plane.height
+  pub size : length made.cells ≡ plane.height * plane.width
+  pub cells : (x y : ℕ) → x < plane.width → y < plane.height
+      → slice_get made.cells (y * plane.width + x) ≡ Some (min (bit_of words (y * (64 * stride_of plane.width) + x)) (slice_index plane.cells (y * plane.width + x)))

@@ -7,7 +7,7 @@ ghost use Rattle.mw_bits.specs.mw_lane.Shifted.{merge_at};
 ghost use Rattle.mw_bits.specs.mw_words.Packed.{bit_of, stride_of, IsPacked};
 ghost use Rattle.mw_bits.specs.mw_run.Runs.{IsInside};
 ghost use Rattle.mw_bits.specs.Layouts.{IsNear};
-ghost use Rattle.mw_set_ranks.specs.Elements.{lacks_under, IsSetRank};
+ghost use Rattle.mw_set_ranks.specs.Elements.{lacks_under, IsSetRank, IsMet};
 ghost use Rattle.mw_set_ranks.specs.Walks.{is_below, AreMoves, HasRoom};
 
 use crate::element::{Moves, moves_of, single_runs};
@@ -19,7 +19,8 @@ use mw_bits::run::{
 use mw_bits::tile::Window;
 use mw_bits::word_rows::{Both, flip_words, merge_words};
 use mw_bits::words::{Words, repeated, stride, trimmed};
-use mw_bits::{extremum, is_near, spread};
+use mw_bits::spreading::spread;
+use mw_bits::{extremum, is_near};
 use mw_model::{NoMemory, Offset, Rect};
 use std::alloc::Global;
 
@@ -153,6 +154,15 @@ fn has_layout(tile: Rect) -> bool
     tile.width > 0 && tile.height > 0 && tile.width <= 2147483648 && tile.height <= 2147483648
 }
 
+/// The pixels of these words that are in the plane too.
+fn met(mut words: Vec<u64>, plane: &Plane<Bit>) -> Plane<Bit>
+    requires { IsPacked plane.now.width plane.now.height words.items }
+    ensures { IsMet words.items plane.now result }
+{
+    merge_words::<Both>(words.as_mut_slice(), plane.words().words());
+    Plane::of_words(Words::new(plane.width(), plane.height(), words))
+}
+
 /// What is so of each set: a call that is made only for this fact.
 fn is_sound(set: &Window<Bit>)
     ensures { All (λ s. s ≤ 1) set.now.cells }
@@ -184,8 +194,8 @@ pub fn rank_by_words(
     }
     is_sound(set);
     let number = k.max(1).min(offsets.len() as u32 + 1);
-    let mut words = few_lacking(alloc, set, runs.as_slice(), extent, number, tile)?;
+    let words = few_lacking(alloc, set, runs.as_slice(), extent, number, tile)?;
     let seen = extremum::<Max>(alloc, set, offsets, tile)?;
-    merge_words::<Both>(words.as_mut_slice(), seen.words().words());
-    Ok(Some(Plane::of_words(Words::new(tile.width, tile.height, words))))
+    let ranks = met(words, &seen);
+    Ok(Some(ranks))
 }

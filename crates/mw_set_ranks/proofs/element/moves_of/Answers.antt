@@ -4,7 +4,7 @@ use Rattle.std.proofs.Math.Nat.{mul-le-mul_right}
 use Rattle.mw_model.specs.Places.{nonnegative}
 use Rattle.mw_bits.specs.mw_run.declared.runs.Run.{Run}
 use Rattle.mw_bits.specs.mw_run.Runs.{start_of, IsInside}
-use Rattle.mw_set_ranks.proofs.Tiles.{moves_are, all_mapped, start_below, near_few}
+use Rattle.mw_set_ranks.proofs.Around.{moves_are, all_mapped, start_below, near_few}
 use Rattle.mw_set_ranks.proofs.element.moves_of.Goals as goal
 
 pub changes_of-changes-requires : goal.changes_of-changes-requires

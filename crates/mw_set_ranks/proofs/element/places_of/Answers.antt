@@ -3,7 +3,7 @@ use Rattle.std.proofs.lemmas.List.{map_more, take_all}
 use Rattle.mw_model.proofs.mw_facts.Alls.{all-get_or}
 use Rattle.mw_bits.specs.mw_run.declared.runs.Run.{Run}
 use Rattle.mw_bits.specs.mw_run.Runs.{start_of, IsInside}
-use Rattle.mw_set_ranks.proofs.Tiles.{start_fits}
+use Rattle.mw_set_ranks.proofs.Around.{start_fits}
 use Rattle.mw_set_ranks.proofs.element.places_of.Goals as goal
 
 pub start_of_run-requires : goal.start_of_run-requires

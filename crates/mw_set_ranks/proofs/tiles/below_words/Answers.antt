@@ -33,5 +33,16 @@ walk_all-requires c =
       fits = c.requires.rows;
     }
 
-pub returns : goal.returns
-returns c = ?
+pub returns-clause-bits : goal.returns-clause-bits
+returns-clause-bits c =
+    let rows = c.args.rows in
+    let digits = c.args.digits in
+    let cells = c.args.cells.now in
+    let out = c.walk_all.new.out in
+    let whole : length out ≡ c.in_ok-out.out.len = omega arith in
+    let size : length c.as_mut_slice.result.now ≡ 2 * digits = ap length (c.as_mut_slice.ensures.value ∙ c.in_ok-planes.ensures) ∙ length-replicate (2 * digits) 0 in
+    let half : length c.as_mut_slice.result.now / 2 ≡ digits = omega arith in
+    rw (take-written c.in_ok-out.out.items out c.in_ok-out.out.len whole)
+    (λ x y lt less.
+      let p = y * (64 * rows.wide) + x in
+      c.walk_all.ensures x y lt less ∙ ap (λ (t : ℕ). is_below t rows.start cells c.as_slice.result.now p) half ∙ ap (λ (s : List ℕ). is_below digits rows.start cells s p) c.as_slice.ensures.value)
