@@ -43,7 +43,7 @@ both_met few other made d p packed other-is both p-is =
       cells = λ x y lt down.
           let place = y * (64 * stride_of d.width) + x in
           let i = y * d.width + x in
-          let inside : i < d.height * d.width = mul-add-lt y d.width x d.height down lt in
+          let inside : i < d.height * d.width = omega (arith, mul-add-lt y d.width x d.height down lt) in
           let fits = rows_fit y d.height (stride_of d.width) down in
           let there : place < 64 * length few = omega (arith, fits, packed.size) in
           let second : bit_of other place ≡ get_or d.cells i 0 = sym (sample_is_bit d.width d.height other x y lt down) ∙ ap (λ (t : List ℕ). get_or t i 0) (sym other-is) in
@@ -61,7 +61,7 @@ rank_made k number w offsets tile runs few d p small number-is runs-is few-is se
   size = met.size ∙ ap (λ (t : ℕ). t * d.width) seen.height ∙ ap (λ (t : ℕ). tile.height * t) seen.width;
   cells = λ x y lt down.
       let i = y * tile.width + x in
-      let inside : i < tile.height * tile.width = mul-add-lt y tile.width x tile.height down lt in
+      let inside : i < tile.height * tile.width = omega (arith, mul-add-lt y tile.width x tile.height down lt) in
       let sight = seen_at w in
       let ns = seen_under sight offsets (tile.x + x) (tile.y + y) in
       let size = seen.size in
