@@ -42,7 +42,7 @@ impl Model for Core {
 impl Core {
     ghost use Rattle.std.specs.List.{AllByRecursion};
     ghost use Rattle.mw_model.specs.Values.{tickets};
-    ghost use Rattle.mw_model.specs.Refusals.{ticket_of, outcome_at, is_pending};
+    ghost use Rattle.mw_model.specs.Refusals.{ticket_of, outcome_at, is_dead};
     ghost use Rattle.mw_model.specs.Machine.{with_entry, killed, settled};
     ghost use Rattle.mw_model.specs.Tasks.{remaining_tasks, task_count};
     ghost use Rattle.mw_checks.specs.mw_store.Entries.{submission_of, outcome_of, payload_in};
@@ -88,7 +88,9 @@ impl Core {
         requires free { ticket_of self.old.table.names name ≡ None }
         requires room { length self.old.table.names < ENTRY_LIMIT }
         requires below { AllByRecursion (λ i. i < length self.old.table.names) (tickets (submission_of entry).inputs) }
+        requires alive { AllByRecursion (λ i. is_dead (outcome_at self.old.table.outcomes i) ≡ false) (tickets (submission_of entry).inputs) }
         requires fits { FitsLimits (submission_of entry).shape }
+        requires under { IfSome work (λ u. outcome_of entry ≡ Outcome.Pending) }
         requires planned { IfSome work (IsPlannedOn self.old.table (submission_of entry)) }
         requires left { IfSome work (λ u. 1 ≤ remaining_tasks u.progress) }
         requires most { IfSome work (λ u. task_count u.progress ≤ 4194304) }
@@ -119,7 +121,7 @@ impl Core {
     pub(crate) fn end(&mut self, t: u32, cause: Outcome, item: LogItem)
         requires within { t < length self.old.table.names }
         requires pending { outcome_at self.old.table.outcomes t ≡ Outcome.Pending }
-        requires dead { is_pending cause ≡ false }
+        requires dead { is_dead cause ≡ true }
         requires short { is_long item ≡ false }
         ensures table { self.new.table ≡ killed self.old.table t cause }
         ensures kept { DropsSpent self.new.table self.old.kept self.new.kept }
@@ -128,8 +130,10 @@ impl Core {
         ensures side { self.new.side ≡ self.old.side }
     {
         self.ledger.sound();
+        let wanted = self.ledger.store().is_wanted(t);
+        let was = self.ledger.running_of(t);
         self.ledger.end(t, cause, Compact::short(item));
-        self.counts.recount(&self.ledger);
+        self.counts.count_dead(&self.ledger, t, was, wanted);
     }
 
     /// Lets a done ticket go. Memory is wanting only where the log is full.
