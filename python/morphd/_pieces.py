@@ -23,9 +23,6 @@ Made = TypeVar("Made")
 
 # The library's limits of one image, and the least rows that are worth a core of their own.
 LONGEST_SIDE, MOST_SAMPLES, LEAST_ROWS = 8192, 1 << 24, 16
-# Some parts of a picture take longer than others. So a worker gets up to so many pieces, one after the other, where the rows that
-# are computed twice stay below a sixteenth.
-PIECES_EACH, ROWS_PER_RIM = 4, 16
 
 _pools: dict[int, ThreadPoolExecutor] = {}
 _making = threading.Lock()
@@ -100,20 +97,14 @@ def fits(shape: tuple[int, ...]) -> bool:
     return max(shape) <= LONGEST_SIDE and shape[0] * shape[1] <= MOST_SAMPLES
 
 
-def _wanted(height: int, rim: int, workers: int) -> int:
-    """Into how many parts so many rows are cut for the workers: one each, or several where their rims are thin beside them."""
-    each = min(PIECES_EACH, height // max(LEAST_ROWS, ROWS_PER_RIM * rim) // workers)
-    return workers * each if each > 1 else min(workers, height // max(LEAST_ROWS, rim))
-
-
 def cut(shape: tuple[int, ...], reach: Reach, workers: int) -> list[Piece]:
-    """The pieces of an array: within the library's limits, and for each worker some, where they are worth it."""
+    """The pieces of an array: within the library's limits, and as many as there are workers where they are worth it."""
     height, width = shape
     columns = _spans(width, _parts(width, LONGEST_SIDE, reach.left + reach.right), reach.left, reach.right)
     widest = max((span.last - span.first for span in columns), default=1)
     rim = reach.up + reach.down
     parts = _parts(height, min(LONGEST_SIDE, MOST_SAMPLES // max(widest, 1)), rim)
-    wanted = 1 if workers == 1 else _wanted(height, rim, workers) // len(columns)
+    wanted = min(workers, height // max(LEAST_ROWS, rim)) // len(columns)
     rows = _spans(height, max(parts, wanted, 1), reach.up, reach.down)
     return [Piece(row, column) for row in rows for column in columns]
 

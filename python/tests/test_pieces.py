@@ -140,16 +140,6 @@ def check_pieces(shape, reach, workers):
         assert p.columns.first == max(p.columns.begin - reach.left, 0) and p.columns.last == min(p.columns.end + reach.right, shape[1])
 
 
-def test_workers_get_several_pieces_where_rims_are_thin():
-    for height in (1, 40, 1024, 4096, 8192):
-        for rim in (0, 2, 30, 254):
-            for workers in (2, 3, 4):
-                pieces = _pieces.cut((height, 100), Reach(rim // 2, rim - rim // 2, 1, 1), workers)
-                assert len(pieces) <= 4 * workers
-                assert len(pieces) <= workers or (len(pieces) % workers == 0 and 16 * rim * len(pieces) <= height)
-    assert len(_pieces.cut((4096, 4096), Reach(7, 7, 7, 7), 4)) == 16
-
-
 def test_workers_are_threads_of_their_own(monkeypatch, stood_in):
     monkeypatch.setattr(_pieces, "LEAST_ROWS", 1)
     met = threading.Barrier(4, timeout=60)
