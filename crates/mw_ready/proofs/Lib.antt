@@ -8,6 +8,7 @@ mod Firsts
 mod Raising
 mod ReaderCounts
 mod Joining
+mod Spanning
 mod Tied
 -- what lower crates offer
 pub use Rattle.mw_queue.proofs.mw_grid as mw_grid

@@ -1,27 +1,25 @@
 -- Raising and lowering the counters of readers, source by source.
-use Rattle.std.proofs.Common.{◌≡◌, ℕ, ◌+◌, ◌*◌, ◌/◌, ◌%◌, ◌<◌, ◌≤◌, Bool, true, false, ◌&&◌, nat_eq, List, Option, Some, length, subst, refl, ap, sym, ◌∙◌, arith, inl, inr, set, get_or, length-set}
+use Rattle.std.proofs.Common.{◌≡◌, ℕ, ◌+◌, ◌*◌, ◌/◌, ◌%◌, ◌<◌, ◌≤◌, Bool, true, false, ◌&&◌, nat_eq, List, Option, Some, length, subst, refl, ap, sym, ◌∙◌, arith, inl, inr, get_or}
 use Rattle.std.proofs.Math.Bool.{and-true, and-false}
 use Rattle.std.proofs.Math.Nat.{mul-le-mul_left}
-use Rattle.std.proofs.lemmas.Bool.{cases_eq, ne_eqb}
-use Rattle.std.proofs.lemmas.List.{get_or-set_same, get_or-set_other}
+use Rattle.std.proofs.lemmas.Bool.{cases_lt, ne_eqb}
 use Rattle.std.proofs.lemmas.Nat.{div-mul-add, mod-mul-add, mod_below}
-use Rattle.mw_model.proofs.mw_facts.Counts.{count_by-same, count_by-most}
+use Rattle.mw_model.proofs.mw_facts.Counts.{count_by-same}
 use Rattle.mw_model.proofs.mw_facts.Numbers.{one_if-le}
 use Rattle.mw_queue.specs.mw_grid.declared.blocks.Block.{Block}
 use Rattle.mw_queue.specs.mw_grid.Blocks.{sees, in_block}
 use Rattle.mw_queue.specs.mw_grid.Counts.{bit, in_range}
 use Rattle.mw_queue.specs.mw_grid.Grids.{Tiling, tile_count}
 use Rattle.mw_queue.proofs.mw_grid.Meeting.{row_is}
-use Rattle.mw_queue.proofs.mw_grid.Counts.{bit-other, in-yes, in-high, count-add, count-if}
+use Rattle.mw_queue.proofs.mw_grid.Counts.{in-yes, in-low, in-high, count-add, count-if}
 use Rattle.mw_queue.proofs.mw_grid.Lines.{row_less}
-use Rattle.mw_model.specs.declared.places.Reach.{Reach}
 use Rattle.mw_ready.specs.declared.need.Need.{Need}
 use Rattle.mw_ready.specs.Boards.{is_source, step_of, step_reads, reads, no_need}
 use Rattle.mw_ready.specs.Kept.{reader_count, seen_by, takes}
 use Rattle.mw_ready.specs.Counters.{Lowers, Raises, Counted}
 use Rattle.mw_queue.proofs.mw_grid.Counts.{bit_true}
 use Rattle.mw_ready.proofs.Boxes.{boxes_fit}
-use Rattle.mw_ready.proofs.Lowering.{range_more, lowers_same, counted_same}
+use Rattle.mw_ready.proofs.Lowering.{lowers_same, counted_same}
 use Rattle.mw_ready.proofs.Numbers.{eq_swap}
 
 -- a task of a table has one of its steps
@@ -44,34 +42,55 @@ lowers_none here xs none = record { size = refl; each = λ u lt. let e : bit (he
 pub raises_same : (more other : ℕ → ℕ) (old now : List ℕ) → ((u : ℕ) → more u ≡ other u) → Raises more old now → Raises other old now
 raises_same more other old now same raises = record { size = raises.size; each = λ u lt. let e = same u in let r = raises.each u lt in omega arith }
 
--- one place more is raised
-pub raises_at : (f : ℕ → ℕ) (a place v : ℕ) (old now out : List ℕ) → a ≤ place → place < length now → Raises (λ u. bit (in_range a place u) * f u) old now → v ≡ f place
-    → out ≡ set now place (get_or now place 0 + v) → Raises (λ u. bit (in_range a (place + 1) u) * f u) old out
-raises_at f a place v old now out from place-lt raises v-is out-is = record {
-  size = ap (λ (xs : List ℕ). length xs) out-is ∙ same_length ∙ raises.size;
-  each = λ u lt. elim (cases_eq u place) [
-    | inl here ↦
-        let before : bit (in_range a place u) * f u ≡ 0 * f u = ap (λ (b : Bool). bit b * f u) (in-high a place u (omega arith)) in
-        let after : bit (in_range a (place + 1) u) * f u ≡ 1 * f u = ap (λ (b : Bool). bit b * f u) (in-yes a (place + 1) u (omega arith) (omega arith)) in
-        let read : get_or out u 0 ≡ get_or now place 0 + v = ap (λ (xs : List ℕ). get_or xs u 0) out-is ∙ ap (λ (k : ℕ). get_or (set now place (get_or now place 0 + v)) k 0) here ∙ get_or-set_same now place (get_or now place 0 + v) 0 place-lt in
-        let same : get_or now u 0 ≡ get_or now place 0 = ap (λ (k : ℕ). get_or now k 0) here in
-        let value : f u ≡ f place = ap f here in
-        let r = raises.each u lt in
-        omega arith
-    | inr ne ↦
-        let read : get_or out u 0 ≡ get_or now u 0 = ap (λ (xs : List ℕ). get_or xs u 0) out-is ∙ get_or-set_other now place u (get_or now place 0 + v) 0 ne in
-        let bits : bit (in_range a (place + 1) u) ≡ bit (in_range a place u) = range_more a place u from ∙ zero_more (bit (in_range a place u)) (bit (nat_eq u place)) (bit-other u place ne) in
-        let more : bit (in_range a (place + 1) u) * f u ≡ bit (in_range a place u) * f u = ap (λ (k : ℕ). k * f u) bits in
-        let r = raises.each u lt in
-        omega arith
-  ];
-}
+-- no place of an empty row is raised
+pub raises_empty : (f : ℕ → ℕ) (a b : ℕ) (xs : List ℕ) → b ≤ a → Raises (λ u. bit (in_range a b u) * f u) xs xs
+raises_empty f a b xs le = raises_none (λ u. bit (in_range a b u) * f u) xs (λ u lt. elim (cases_lt u a) [
+  | inl low ↦ ap (λ (v : Bool). bit v * f u) (in-low a b u low) ∙ none (f u)
+  | inr high ↦ ap (λ (v : Bool). bit v * f u) (in-high a b u (omega (arith, high))) ∙ none (f u)
+])
   where
-    same_length : length (set now place (get_or now place 0 + v)) ≡ length now
-    same_length = simp length-set
+    none : (k : ℕ) → 0 * k ≡ 0
+    none k = omega arith
 
-    zero_more : (k z : ℕ) → z ≡ 0 → k + z ≡ k
-    zero_more k z e = omega arith
+-- the places behind those that were raised are raised too, by the same numbers
+pub raises_join : (f h : ℕ → ℕ) (a b c : ℕ) (old now out : List ℕ) → a ≤ b → b ≤ c → ((u : ℕ) → b ≤ u → u < c → h u ≡ f u)
+    → Raises (λ u. bit (in_range a b u) * f u) old now → Raises (λ u. bit (in_range b c u) * h u) now out → Raises (λ u. bit (in_range a c u) * f u) old out
+raises_join f h a b c old now out ab bc same first second = record {
+  size = second.size ∙ first.size;
+  each = λ u lt.
+      let size = first.size in
+      let p = first.each u lt in
+      let q = second.each u (omega arith) in
+      let was : Bool → ℕ = λ v. bit v * f u in
+      let more : Bool → ℕ = λ v. bit v * h u in
+      elim (cases_lt u b) [
+        | inl before ↦
+            let z : bit (in_range b c u) * h u ≡ 0 * h u = ap more (in-low b c u before) in
+            elim (cases_lt u a) [
+              | inl low ↦
+                  let x : bit (in_range a b u) * f u ≡ 0 * f u = ap was (in-low a b u low) in
+                  let y : bit (in_range a c u) * f u ≡ 0 * f u = ap was (in-low a c u low) in
+                  omega arith
+              | inr from ↦
+                  let x : bit (in_range a b u) * f u ≡ 1 * f u = ap was (in-yes a b u from before) in
+                  let y : bit (in_range a c u) * f u ≡ 1 * f u = ap was (in-yes a c u from (omega arith)) in
+                  omega arith
+            ]
+        | inr past ↦
+            let x : bit (in_range a b u) * f u ≡ 0 * f u = ap was (in-high a b u past) in
+            elim (cases_lt u c) [
+              | inl within ↦
+                  let y : bit (in_range a c u) * f u ≡ 1 * f u = ap was (in-yes a c u (omega arith) within) in
+                  let z : bit (in_range b c u) * h u ≡ 1 * h u = ap more (in-yes b c u past within) in
+                  let e = same u past within in
+                  omega arith
+              | inr high ↦
+                  let y : bit (in_range a c u) * f u ≡ 0 * f u = ap was (in-high a c u high) in
+                  let z : bit (in_range b c u) * h u ≡ 0 * h u = ap more (in-high b c u high) in
+                  omega arith
+            ]
+      ];
+}
 
 -- the tasks of a step stand in a row
 pub in_step : (k n u : ℕ) → 0 < n → in_range (k * n) (k * n + n) u ≡ nat_eq k (u / n)
@@ -103,10 +122,9 @@ bit_mul_le : (b : Bool) (k : ℕ) → bit b * k ≤ k
 bit_mul_le true k = omega arith
 bit_mul_le false k = omega arith
 
--- no counter is raised by more than the tiles of a grid
-pub raised_most : (g : Tiling) (reach : Reach) (p : ℕ → Bool) (old now : List ℕ) (u : ℕ) → Raises (λ u. bit (p u) * seen_by g reach (u % tile_count g)) old now → u < length old → get_or now u 0 ≤ get_or old u 0 + tile_count g
-raised_most g reach p old now u raises lt =
-    omega (arith, raises.each u lt, bit_mul_le (p u) (seen_by g reach (u % tile_count g)), count_by-most (λ w. sees g reach w (u % tile_count g)) (tile_count g))
+-- no counter is raised by more than one of the numbers
+pub raised_most : (f : ℕ → ℕ) (p : ℕ → Bool) (old now : List ℕ) (u most : ℕ) → Raises (λ u. bit (p u) * f u) old now → u < length old → f u ≤ most → get_or now u 0 ≤ get_or old u 0 + most
+raised_most f p old now u most raises lt le = omega (arith, raises.each u lt, bit_mul_le (p u) (f u), le)
 
 -- what the task of a step and a tile reads
 pub reads_takes : (needs : List Need) (need : Need) (g : Tiling) (k tile u : ℕ) → tile < tile_count g → get_or needs k no_need ≡ need → reads needs g (k * tile_count g + tile) u ≡ takes need g tile u
@@ -234,22 +252,11 @@ block_fits bottom k n rows columns size le lt is =
     let up : columns * bottom ≤ columns * (k * rows + rows) = mul-le-mul_left columns le in
     omega (arith, boxes_fit k n rows columns lt)
 
--- one tile of a step more is raised
-pub raises_next : (g : Tiling) (reach : Reach) (step tile tiles v : ℕ) (old now out : List ℕ) → tiles ≡ tile_count g → tile < tile_count g → step * tile_count g + tile_count g ≤ length old
-    → Raises (λ u. bit (in_range (step * tile_count g) (step * tile_count g + tile) u) * seen_by g reach (u % tile_count g)) old now → v ≡ seen_by g reach tile → out ≡ set now (step * tiles + tile) (get_or now (step * tiles + tile) 0 + v)
-    → Raises (λ u. bit (in_range (step * tile_count g) (step * tile_count g + (tile + 1)) u) * seen_by g reach (u % tile_count g)) old out
-raises_next g reach step tile tiles v old now out tiles-is lt room raises v-is out-is =
-    let a = step * tile_count g in
-    let f : ℕ → ℕ = λ u. seen_by g reach (u % tile_count g) in
-    raises_same (λ u. bit (in_range a (a + tile + 1) u) * f u) (λ u. bit (in_range a (a + (tile + 1)) u) * f u) old out (λ u. ap (λ (k : ℕ). bit (in_range a k u) * f u) (grouped a tile))
-    (raises_at f a (a + tile) v old now out (omega arith) (let s = raises.size in omega arith) raises (v-is ∙ ap (seen_by g reach) (sym (mod-mul-add step (tile_count g) tile lt)))
-    (out-is ∙ ap (λ (k : ℕ). set now (step * k + tile) (get_or now (step * k + tile) 0 + v)) tiles-is))
+-- the tasks of a source that is a step are raised once
+pub raises_once : (g : Tiling) (f : ℕ → ℕ) (x : Option ℕ) (k : ℕ) (old now : List ℕ) → x ≡ Some k → Raises (λ u. bit (nat_eq k (step_of g u)) * (1 * f u)) old now → Raises (λ u. bit (is_source (step_of g u) x) * f u) old now
+raises_once g f x k old now is raises =
+    raises_same (λ u. bit (nat_eq k (step_of g u)) * (1 * f u)) (λ u. bit (is_source (step_of g u) x) * f u) old now
+    (λ u. ap (λ (n : ℕ). bit (nat_eq k (step_of g u)) * n) (once (f u)) ∙ ap (λ (y : Option ℕ). bit (is_source (step_of g u) y) * f u) (sym is)) raises
   where
-    grouped : (a t : ℕ) → a + t + 1 ≡ a + (t + 1)
-    grouped a t = omega arith
-
-pub raises_step : (g : Tiling) (reach : Reach) (step tile : ℕ) (old now : List ℕ) → 0 < tile_count g → tile ≡ tile_count g
-    → Raises (λ u. bit (in_range (step * tile_count g) (step * tile_count g + tile) u) * seen_by g reach (u % tile_count g)) old now → Raises (λ u. bit (nat_eq step (step_of g u)) * seen_by g reach (u % tile_count g)) old now
-raises_step g reach step tile old now some is raises =
-    raises_same (λ u. bit (in_range (step * tile_count g) (step * tile_count g + tile) u) * seen_by g reach (u % tile_count g)) (λ u. bit (nat_eq step (step_of g u)) * seen_by g reach (u % tile_count g)) old now
-    (λ u. ap (λ (k : ℕ). bit (in_range (step * tile_count g) (step * tile_count g + k) u) * seen_by g reach (u % tile_count g)) is ∙ ap (λ (v : Bool). bit v * seen_by g reach (u % tile_count g)) (in_step step (tile_count g) u some)) raises
+    once : (k : ℕ) → 1 * k ≡ k
+    once k = omega arith

@@ -3,5 +3,6 @@ pub mod Work
 pub mod Counters
 pub mod Kept
 pub mod Links
+pub mod Spans
 -- what lower crates offer
 pub mod mw_grid

@@ -23,6 +23,7 @@ mod readers;
 mod reads;
 mod ready;
 mod release;
+mod spans;
 mod waits;
 
 pub use laws::tasks_are_those_of_work;

@@ -2,41 +2,31 @@
 
 ghost use Rattle.std.specs.Prelude.{◌≡◌, ℕ, ◌+◌, ◌*◌, ◌%◌, ◌<◌, ◌≤◌, ◌^◌, ◌&&◌, nat_eq, length, slice_index, vec_len, IfOk};
 ghost use Rattle.mw_queue.specs.mw_grid.Counts.{bit, in_range};
-ghost use Rattle.mw_queue.specs.mw_grid.Grids.{columns_of, tile_count};
+ghost use Rattle.mw_queue.specs.mw_grid.Grids.{columns_of, rows_of, tile_count};
 ghost use Rattle.mw_queue.specs.mw_grid.Blocks.{IsBlock, in_block};
 ghost use Rattle.mw_ready.specs.Boards.{is_source, step_of, step_reads};
 ghost use Rattle.mw_ready.specs.Counters.{Lowers, Raises, Counted};
 ghost use Rattle.mw_ready.specs.Kept.{reader_count, seen_by, takes};
+ghost use Rattle.mw_ready.specs.Spans.{tiles_spanned};
 
 use crate::need::{Need, sources};
-use mw_model::{NoMemory, Reach};
+use crate::spans::{Spans, raise_step};
+use mw_model::NoMemory;
 use mw_queue::grid::{Block, Grid};
 use std::alloc::Global;
 
-/// For each task of a step, as many readers more as there are windows with this reach that meet its tile.
-fn raise_step(counts: &mut [u32], grid: Grid, reach: Reach, step: u32)
-    requires within { step * tile_count grid + tile_count grid ≤ length counts.old }
-    requires small { length counts.old < 2 ^ 31 }
-    requires fits { (u : ℕ) → u < length counts.old → slice_index counts.old u + tile_count grid < 2 ^ 32 }
-    ensures { Raises (λ u. bit (nat_eq step (step_of grid u)) * seen_by grid reach (u % tile_count grid)) counts.old counts.new }
-{
-    let tiles = grid.len();
-    for tile in 0..tiles {
-        let task = (step * tiles + tile) as usize;
-        counts[task] += Block::meeting(grid, tile, reach).len(grid);
-    }
-}
-
-/// The same for a source of a step, where it is one of so many steps.
-fn raise_source(counts: &mut [u32], grid: Grid, reach: Reach, steps: u32, source: Option<u32>)
+/// For each task of a source of a step, as many readers more as its tile has by the spans, where the source is one of so
+/// many steps.
+fn raise_source(counts: &mut [u32], grid: Grid, spans: &Spans, steps: u32, source: Option<u32>)
     requires size { length counts.old ≡ steps * tile_count grid }
     requires small { length counts.old < 2 ^ 31 }
-    requires fits { (u : ℕ) → u < length counts.old → slice_index counts.old u + tile_count grid < 2 ^ 32 }
-    ensures { Raises (λ u. bit (is_source (step_of grid u) source) * seen_by grid reach (u % tile_count grid)) counts.old counts.new }
+    requires low { (row : ℕ) → row < rows_of grid → slice_index spans.now.down row ≤ 128 }
+    requires fits { (u : ℕ) → u < length counts.old → slice_index counts.old u + tiles_spanned grid spans.now (u % tile_count grid) < 2 ^ 32 }
+    ensures { Raises (λ u. bit (is_source (step_of grid u) source) * tiles_spanned grid spans.now (u % tile_count grid)) counts.old counts.new }
 {
     if let Some(step) = source {
         if step < steps {
-            raise_step(counts, grid, reach, step);
+            raise_step(counts, grid, spans, step, 1);
         }
     }
 }
@@ -49,9 +39,10 @@ fn raise_sources(counts: &mut [u32], grid: Grid, need: Need, steps: u32)
     ensures { Raises (λ u. bit (step_reads need (step_of grid u)) * seen_by grid need.reach (u % tile_count grid)) counts.old counts.new }
 {
     let (first, second, third) = sources(need);
-    raise_source(counts, grid, need.reach, steps, first);
-    raise_source(counts, grid, need.reach, steps, second);
-    raise_source(counts, grid, need.reach, steps, third);
+    let spans = Spans::meeting(grid, need.reach);
+    raise_source(counts, grid, &spans, steps, first);
+    raise_source(counts, grid, &spans, steps, second);
+    raise_source(counts, grid, &spans, steps, third);
 }
 
 /// For each task, how many others read it.

@@ -2,14 +2,14 @@
 
 ghost use Rattle.std.specs.Prelude.{◌≡◌, ℕ, ◌+◌, ◌*◌, ◌<◌, ◌≤◌, ◌^◌, length, slice_index, vec_len, IfOk};
 ghost use Rattle.mw_queue.specs.mw_grid.Grids.{tile_count};
-ghost use Rattle.mw_queue.specs.mw_grid.Blocks.{sees};
 ghost use Rattle.mw_ready.specs.Boards.{is_source, step_reads};
 ghost use Rattle.mw_queue.specs.mw_grid.Counts.{count_below};
 ghost use Rattle.mw_ready.specs.Kept.{read_count};
 
 use crate::need::{Need, sources};
-use mw_model::{NoMemory, Reach};
-use mw_queue::grid::{Block, Grid};
+use crate::spans::{Spans, raise_step};
+use mw_model::NoMemory;
+use mw_queue::grid::Grid;
 use std::alloc::Global;
 
 /// How many of so many steps this source is: one or none.
@@ -32,30 +32,18 @@ fn steps_read(need: Need, steps: u32) -> u32
     is_step(first, steps) + is_step(second, steps) + is_step(third, steps)
 }
 
-/// How many tiles the window of a tile meets.
-fn tiles_met(grid: Grid, reach: Reach, tile: u32) -> u32
-    requires { tile < tile_count grid }
-    ensures value { result ≡ count_below (sees grid reach tile) (tile_count grid) }
-    ensures most { result ≤ tile_count grid }
-{
-    Block::met_by(grid, tile, reach).len(grid)
-}
-
 /// For each task, how many others it reads.
 pub(crate) fn first_waits(alloc: Global, needs: &[Need], grid: Grid) -> Result<Vec<u32>, NoMemory>
     requires { length needs.now ≤ 65535 }
     ensures size { IfOk result (λ v. vec_len v ≡ length needs.now * tile_count grid) }
     ensures each { IfOk result (λ v. (t : ℕ) → t < vec_len v → slice_index v.items t ≡ read_count needs.now grid (length needs.now * tile_count grid) t) }
 {
-    let tiles = grid.len();
     let steps = needs.len() as u32;
-    let mut waits = Vec::with_capacity(alloc, needs.len() * tiles as usize)?;
+    let mut waits = vec![in alloc; 0; needs.len() * grid.len() as usize]?;
     for k in 0..needs.len() {
         let need = needs[k];
-        let sources = steps_read(need, steps);
-        for tile in 0..tiles {
-            waits.push_reserved(sources * tiles_met(grid, need.reach, tile));
-        }
+        let spans = Spans::met_by(grid, need.reach);
+        raise_step(&mut waits, grid, &spans, k as u32, steps_read(need, steps));
     }
     Ok(waits)
 }

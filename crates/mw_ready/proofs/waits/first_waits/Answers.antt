@@ -1,28 +1,26 @@
-use Rattle.std.proofs.Common.{◌*◌, ◌<◌, length, refl, arith, get_or}
-use Rattle.mw_queue.specs.mw_grid.Grids.{tile_count}
+use Rattle.std.proofs.Common.{◌≡◌, ℕ, ◌+◌, List, length, subst, sym, ap, arith, get_or}
+use Rattle.mw_model.proofs.mw_facts.Elements.{take-written}
 use Rattle.mw_ready.specs.Boards.{no_need}
-use Rattle.mw_ready.specs.Kept.{read_count}
-use Rattle.mw_queue.proofs.mw_grid.Lines.{number_of}
-use Rattle.mw_ready.proofs.Firsts.{read_count-is, each-next}
+use Rattle.mw_ready.proofs.Firsts.{CountsWaits, waits-most, waits-next, waits-room}
 use Rattle.mw_ready.proofs.waits.first_waits.Goals as goal
 
-pub push_reserved-requires : goal.push_reserved-requires
-push_reserved-requires c =
-    let before = c.loop-tile.invariant in
-    omega (arith, before.size, before.capacity, number_of (length c.args.needs.now) (tile_count c.args.grid) c.loop-tile.tile c.loop-k.k (omega (arith, c.loop-tile-test.true, c.len-tiles.ensures.value)) c.loop-k-test.true)
+pub raise_step-requires-clause-fits : goal.raise_step-requires-clause-fits
+raise_step-requires-clause-fits c = λ u lt.
+    let a = c.args in
+    let same : get_or c.deref_mut.result.now u 0 ≡ get_or c.loop-k.waits.items u 0 = ap (λ (xs : List ℕ). get_or xs u 0) c.deref_mut.ensures.value in
+    let most = waits-most a.needs.now a.grid (length a.needs.now) c.loop-k.k u c.loop-k.waits.items c.loop-k.invariant in
+    let room = waits-room a.grid (get_or a.needs.now c.loop-k.k no_need).reach c.met_by-spans.result (length a.needs.now) c.steps_read.result u c.requires (omega (arith, c.steps_read.ensures.most)) (omega (arith, c.len.ensures.value, c.len.ensures.small)) c.met_by-spans.ensures in
+    omega (arith, same, most, room)
 
-pub loop-tile-preserved : goal.loop-tile-preserved
-loop-tile-preserved c =
-    let before = c.loop-tile.invariant in
-    let needs = c.args.needs.now in
-    let g = c.args.grid in
+pub loop-k-preserved : goal.loop-k-preserved
+loop-k-preserved c =
+    let a = c.args in
     let k = c.loop-k.k in
-    let tile = c.loop-tile.tile in
-    let n = c.loop-tile.waits.len in
-    let tile-lt : tile < tile_count g = omega (arith, c.loop-tile-test.true, c.len-tiles.ensures.value) in
-    let here = read_count-is needs (get_or needs k no_need) g (length needs) k tile n c.steps_read-sources.result c.tiles_met.result refl tile-lt before.size c.steps_read-sources.ensures.value c.tiles_met.ensures.value in
-    record {
-      size = omega (arith, c.push_reserved.ensures.len, before.size);
-      capacity = omega (arith, c.push_reserved.ensures.capacity, before.capacity);
-      each = λ t lt. each-next (read_count needs g (length needs * tile_count g)) c.loop-tile.waits.items c.push_reserved.new.self.items (c.steps_read-sources.result * c.tiles_met.result) n c.push_reserved.ensures.items (let ok = c.loop-tile.waits.ok in omega arith) here before.each t (omega (arith, c.push_reserved.ensures.len));
-    }
+    let old = c.loop-k.waits in
+    let new = c.raise_step.new.counts in
+    let value = c.deref_mut.ensures.value in
+    let size : length c.deref_mut.result.now ≡ length old.items = ap (λ (xs : List ℕ). length xs) value in
+    let back = take-written old.items new old.len (let ok = old.ok in omega (arith, c.raise_step.ensures.size)) in
+    subst (CountsWaits a.needs.now a.grid (length a.needs.now) (k + 1)) (sym back)
+    (waits-next a.needs.now a.grid c.met_by-spans.result (length a.needs.now) k c.steps_read.result c.deref_mut.result.now new c.loop-k-test.true c.steps_read.ensures.value c.met_by-spans.ensures
+    (subst (CountsWaits a.needs.now a.grid (length a.needs.now) k) (sym value) c.loop-k.invariant) c.raise_step.ensures)
