@@ -8,3 +8,4 @@ mod Columns
 mod Squares
 mod Medians
 mod Joined
+mod Gathered

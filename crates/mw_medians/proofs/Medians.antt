@@ -1,12 +1,11 @@
 -- A level that is known by the levels below each limit is the rank.
-use Rattle.std.proofs.Common.{◌≡◌, ℕ, ◌+◌, ◌*◌, ◌<◌, ◌≤◌, List, length, get_or, ap, sym, arith, ◌∙◌, inl, inr}
+use Rattle.std.proofs.Common.{◌≡◌, ℕ, ◌+◌, ◌<◌, ◌≤◌, List, length, ap, sym, arith, ◌∙◌, inl, inr}
 use Rattle.std.proofs.lemmas.Bool.{cases_lt, lt-ltb, le-ltb, le-leb, lt-leb, true≢false}
 use Rattle.mw_model.specs.declared.places.Offset.{Offset}
-use Rattle.mw_model.specs.declared.places.Rect.{Rect}
 use Rattle.mw_model.specs.PlanSteps.{ranked}
-use Rattle.mw_model.specs.Rasters.{Raster, Sight}
+use Rattle.mw_model.specs.Rasters.{Sight}
 use Rattle.mw_model.proofs.PlainRanks.{nth_from}
-use Rattle.mw_rank.specs.Ranks.{levels_under, IsRank}
+use Rattle.mw_rank.specs.Ranks.{levels_under}
 use Rattle.mw_rank.specs.Tallies.{count_under}
 use Rattle.mw_rank.proofs.Counts.{count_within}
 use Rattle.mw_medians.specs.Numbered.{IsNumber}
@@ -37,16 +36,6 @@ median_is level d sight cells samples offsets square x y n from stride width sid
     ∙ ap (λ (w : ℕ). block_below level d cells from w side i t) (sym stride-is)
     ∙ ap (λ (l : List _). block_below level d l from stride side i t) (sym samples-is))
     some number
-
--- the ranks of a tile of one row
-pub row_ranked : {A : Type 0} (level : A → ℕ) (d : A) (k : ℕ) (sight : Sight A) (element : List Offset) (x y width i : ℕ) (place : Rect) (r : Raster A) (line : List A) → place.x ≡ x → place.y ≡ y → place.width ≡ width → place.height ≡ 1 → line ≡ r.cells
-    → IsRank level k sight element place r → i < width → level (get_or line i d) ≡ ranked k (levels_under level sight element (x + i) y)
-row_ranked level d k sight element x y width i place r line x-is y-is width-is one line-is ranks lt =
-    ap (λ (l : List _). level (get_or l i d)) line-is
-    ∙ ap (λ (p : ℕ). level (get_or r.cells p d)) (let e : i ≡ 0 * place.width + i = omega arith in e)
-    ∙ ranks.cells i 0 d (omega arith) (omega arith)
-    ∙ ap (λ (p : ℕ). ranked k (levels_under level sight element p (place.y + 0))) (let e : place.x + i ≡ x + i = omega arith in e)
-    ∙ ap (λ (p : ℕ). ranked k (levels_under level sight element (x + i) p)) (let e : place.y + 0 ≡ y = omega arith in e)
 
 -- the squares for which there is a network
 pub median_some : (side k : ℕ) → IsMedian side k → (1 ≤ side) × (1 ≤ k)

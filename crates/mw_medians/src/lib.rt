@@ -6,6 +6,7 @@
 //! ```
 #![tactic(auto)]
 
+mod cut;
 mod five;
 mod nine;
 mod rows;

@@ -1,6 +1,6 @@
 //! The medians of a tile, row after row. Where the window does not show the whole square, as at an edge of the frame, the
-//! ranks are those of the moving histogram.
-ghost use Rattle.std.specs.Prelude.{◌≡◌, ℕ, ◌+◌, ◌-◌, ◌*◌, ◌<◌, ◌≤◌, ◌^◌, length, slice_index_or, IfOk, IfSome, OnOk};
+//! ranks are made one by one.
+ghost use Rattle.std.specs.Prelude.{◌≡◌, ℕ, ◌+◌, ◌<◌, ◌≤◌, ◌^◌, length, IfOk, IfSome, OnOk};
 ghost use Rattle.mw_model.specs.PlanSteps.{ranked};
 ghost use Rattle.mw_model.specs.Rasters.{Raster, cell_at};
 ghost use Rattle.mw_model.specs.Windows.{seen_at};
@@ -9,11 +9,12 @@ ghost use Rattle.mw_rank.specs.Ranks.{levels_under, IsRank, GainsRow, HasRows};
 ghost use Rattle.mw_medians.specs.Squares.{rows_from, IsMedian};
 
 use crate::Vectored;
+use crate::cut::{gather, number_of};
 use crate::rows::{Sheet, medians_of_rows};
 use crate::square::{square_in, square_of};
 use mw_model::{NoMemory, Offset, Rect};
-use mw_rank::pixel::{Grey, Pixel, Plane, copies};
-use mw_rank::rank;
+use mw_rank::pixel::{Grey, Plane, copies};
+use mw_rank::sample_of;
 use mw_rank::tile::Window;
 use std::alloc::Global;
 
@@ -36,13 +37,6 @@ struct Wanted<'a, P: Grey> {
     inner: Inner,
 }
 
-/// The ranks of the columns left and right of the inner ones.
-#[derive(Clone, Copy)]
-struct Edges<'a, P: Grey> {
-    left: &'a [P],
-    right: &'a [P],
-}
-
 /// The columns of the tile at which the square is in columns of the window; `square_in` looks whether it is.
 fn inner_columns(first: Offset, side: u32, tile: Rect, place: Rect) -> Inner
     requires { side < 256 }
@@ -62,43 +56,48 @@ fn inner_columns(first: Offset, side: u32, tile: Rect, place: Rect) -> Inner
     }
 }
 
-/// The ranks of some columns of a tile by the moving histogram; of no columns nothing is asked.
-fn edge_ranks<P: Grey>(
-    alloc: Global,
-    window: &Window<P>,
-    offsets: &[Offset],
-    k: u32,
-    tile: Rect,
-) -> Result<Vec<P>, NoMemory>
-    requires { length offsets.now < 2 ^ 16 }
-    ensures { IfOk result (λ v. HasRows P.level (λ x y. ranked k (levels_under P.level (seen_at window.now) offsets.now (tile.x + x) (tile.y + y))) tile.width tile.height v.items) }
+/// The rank at a place.
+fn rank_at<P: Grey>(seen: &mut Vec<u16>, wanted: Wanted<P>, x: u32, y: u32) -> Result<P, NoMemory>
+    requires { length wanted.offsets.now < 2 ^ 16 }
+    ensures { IfOk result (λ s. P.level s ≡ ranked wanted.entry.k (levels_under P.level (seen_at wanted.entry.window.now) wanted.entry.offsets.now x y)) }
 {
-    if tile.width == 0 {
-        return Ok(Vec::new(alloc));
-    }
-    let ranks = rank(alloc, window, offsets, k, tile)?;
-    Ok(ranks.into_samples())
+    gather(
+        seen,
+        wanted.window,
+        wanted.offsets,
+        u64::from(x),
+        u64::from(y),
+    )?;
+    let top = P::TOP.value();
+    let level = number_of(seen, wanted.k, top);
+    Ok(sample_of::<P>(level))
 }
 
-/// Adds a row of samples that stand row after row.
-fn push_row_of<P: Pixel>(
+/// Adds the ranks of places of a row, one by one.
+fn push_cut<P: Grey>(
     out: &mut Vec<P>,
-    samples: &[P],
-    row: u32,
-    width: u32,
+    seen: &mut Vec<u16>,
+    wanted: Wanted<P>,
+    x: u32,
+    y: u32,
+    count: u32,
 ) -> Result<(), NoMemory>
-    requires { row * width + width ≤ length samples.now }
-    ensures { OnOk result (GainsRow P.level (λ i. P.level (slice_index_or samples.now (row * width + i) P.TOP)) width out.old.items out.new.items) }
+    requires few { length wanted.offsets.now < 2 ^ 16 }
+    requires near { x + count < 2 ^ 32 }
+    ensures { OnOk result (GainsRow P.level (λ i. ranked wanted.entry.k (levels_under P.level (seen_at wanted.entry.window.now) wanted.entry.offsets.now (x + i) y)) count out.old.items out.new.items) }
 {
-    let from = row as usize * width as usize;
-    out.extend_from_slice(&samples[from..from + width as usize])?;
+    for i in 0..count {
+        let sample = rank_at(seen, wanted, x + i, y)?;
+        out.push(sample)?;
+    }
     Ok(())
 }
 
-/// The medians of the inner columns of a row.
-fn inner_row<P: Vectored>(
-    alloc: Global,
+/// Adds the medians of the inner columns of a row.
+fn push_inner<P: Vectored>(
+    out: &mut Vec<P>,
     line: &mut [P],
+    seen: &mut Vec<u16>,
     wanted: Wanted<P>,
     row: u32,
 ) -> Result<(), NoMemory>
@@ -110,7 +109,7 @@ fn inner_row<P: Vectored>(
     requires high { wanted.tile.y + row < 2 ^ 32 }
     requires square { wanted.offsets.now ≡ rows_from wanted.first wanted.side wanted.side }
     requires median { IsMedian wanted.side wanted.k }
-    ensures medians { OnOk result ((i : ℕ) → i < length line.new → P.level (slice_index_or line.new i P.TOP) ≡ ranked wanted.entry.k (levels_under P.level (seen_at wanted.entry.window.now) wanted.entry.offsets.now (wanted.entry.tile.x + wanted.entry.inner.first + i) (wanted.entry.tile.y + row))) }
+    ensures medians { OnOk result (GainsRow P.level (λ i. ranked wanted.entry.k (levels_under P.level (seen_at wanted.entry.window.now) wanted.entry.offsets.now (wanted.entry.tile.x + wanted.entry.inner.first + i) (wanted.entry.tile.y + row))) wanted.entry.inner.count out.old.items out.new.items) }
     ensures whole { length line.new ≡ length line.old }
 {
     let x = wanted.tile.x + wanted.inner.first;
@@ -130,41 +129,38 @@ fn inner_row<P: Vectored>(
             stride: wanted.window.place().width as usize,
         };
         medians_of_rows(line, sheet, wanted.side, wanted.k);
+        out.extend_from_slice(line)?;
         return Ok(());
     }
-    let place = Rect {
-        x,
-        y,
-        width: count,
-        height: 1,
-    };
-    let ranks = rank(alloc, wanted.window, wanted.offsets, wanted.k, place)?;
-    line.copy_from_slice(ranks.samples());
-    Ok(())
+    push_cut(out, seen, wanted, x, y, count)
 }
 
-/// Adds the medians of a row, of which those of the inner columns are known.
+/// Adds the medians of a row.
 fn push_row<P: Vectored>(
     out: &mut Vec<P>,
-    line: &[P],
+    line: &mut [P],
+    seen: &mut Vec<u16>,
     wanted: Wanted<P>,
-    edges: Edges<P>,
     row: u32,
 ) -> Result<(), NoMemory>
-    requires down { row < wanted.tile.height }
+    requires few { length wanted.offsets.now < 2 ^ 16 }
+    requires wide { P.WIDTH ≤ length line.old }
+    requires whole { length line.old ≡ wanted.inner.count }
     requires near { wanted.tile.x + wanted.tile.width < 2 ^ 32 }
     requires inner { wanted.inner.first + wanted.inner.count ≤ wanted.tile.width }
-    requires whole { length line.now ≡ wanted.inner.count }
-    requires medians { (i : ℕ) → i < length line.now → P.level (slice_index_or line.now i P.TOP) ≡ ranked wanted.k (levels_under P.level (seen_at wanted.window.now) wanted.offsets.now (wanted.tile.x + wanted.inner.first + i) (wanted.tile.y + row)) }
-    requires left { HasRows P.level (λ x y. ranked wanted.k (levels_under P.level (seen_at wanted.window.now) wanted.offsets.now (wanted.tile.x + x) (wanted.tile.y + y))) wanted.inner.first wanted.tile.height edges.left.now }
-    requires right { HasRows P.level (λ x y. ranked wanted.k (levels_under P.level (seen_at wanted.window.now) wanted.offsets.now (wanted.tile.x + (wanted.inner.first + wanted.inner.count) + x) (wanted.tile.y + y))) (wanted.tile.width - (wanted.inner.first + wanted.inner.count)) wanted.tile.height edges.right.now }
-    ensures { OnOk result (GainsRow P.level (λ i. ranked wanted.entry.k (levels_under P.level (seen_at wanted.entry.window.now) wanted.entry.offsets.now (wanted.entry.tile.x + i) (wanted.entry.tile.y + row))) wanted.entry.tile.width out.old.items out.new.items) }
+    requires high { wanted.tile.y + row < 2 ^ 32 }
+    requires square { wanted.offsets.now ≡ rows_from wanted.first wanted.side wanted.side }
+    requires median { IsMedian wanted.side wanted.k }
+    ensures medians { OnOk result (GainsRow P.level (λ i. ranked wanted.entry.k (levels_under P.level (seen_at wanted.entry.window.now) wanted.entry.offsets.now (wanted.entry.tile.x + i) (wanted.entry.tile.y + row))) wanted.entry.tile.width out.old.items out.new.items) }
+    ensures whole { OnOk result (length line.new ≡ length line.old) }
 {
+    let tile = wanted.tile;
+    let y = tile.y + row;
     let first = wanted.inner.first;
-    let rest = wanted.tile.width - (first + wanted.inner.count);
-    push_row_of(out, edges.left, row, first)?;
-    push_row_of(out, line, 0, wanted.inner.count)?;
-    push_row_of(out, edges.right, row, rest)?;
+    let last = first + wanted.inner.count;
+    push_cut(out, seen, wanted, tile.x, y, first)?;
+    push_inner(out, line, seen, wanted, row)?;
+    push_cut(out, seen, wanted, tile.x + last, y, tile.width - last)?;
     Ok(())
 }
 
@@ -180,29 +176,12 @@ fn median_samples<P: Vectored>(alloc: Global, wanted: Wanted<P>) -> Result<Vec<P
     ensures { IfOk result (λ v. HasRows P.level (λ x y. ranked wanted.entry.k (levels_under P.level (seen_at wanted.entry.window.now) wanted.entry.offsets.now (wanted.entry.tile.x + x) (wanted.entry.tile.y + y))) wanted.entry.tile.width wanted.entry.tile.height v.items) }
 {
     let tile = wanted.tile;
-    let first = wanted.inner.first;
-    let last = first + wanted.inner.count;
-    let front = Rect {
-        width: first,
-        ..tile
-    };
-    let back = Rect {
-        x: tile.x + last,
-        width: tile.width - last,
-        ..tile
-    };
-    let left = edge_ranks(alloc, wanted.window, wanted.offsets, wanted.k, front)?;
-    let right = edge_ranks(alloc, wanted.window, wanted.offsets, wanted.k, back)?;
-    let edges = Edges {
-        left: &left,
-        right: &right,
-    };
+    let mut seen = Vec::with_capacity(alloc, wanted.offsets.len())?;
     let mut room = copies(alloc, wanted.inner.count as usize, P::TOP)?;
     let mut out = Vec::with_capacity(alloc, tile.height as usize * tile.width as usize)?;
     let line = room.as_mut_slice();
     for row in 0..tile.height {
-        inner_row(alloc, line, wanted, row)?;
-        push_row(&mut out, line, wanted, edges, row)?;
+        push_row(&mut out, line, &mut seen, wanted, row)?;
     }
     Ok(out)
 }
