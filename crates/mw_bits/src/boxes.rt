@@ -2,6 +2,7 @@
 //! extremum of the box's columns from it on, and then that of the box's rows, both by doubling. So a side of k pixels
 //! takes about log2(k) passes of shifted words over all rows at once.
 ghost use Rattle.std.specs.Prelude.{◌≡◌, ℕ, ◌+◌, ◌-◌, ◌*◌, ◌/◌, ◌<◌, ◌≤◌, ◌^◌, pos, negsuc, ◌+ℤ◌, ◌≤ℤ◌, length, fold, slice_index_or, vec_len, IfOk, OnOk};
+ghost use Rattle.mw_model.specs.declared.limits.TheConstants.{FAR_LIMIT};
 ghost use Rattle.mw_model.specs.Places.{box_offsets};
 ghost use Rattle.mw_model.specs.Rasters.{Raster, raster, cell_at, seen_under};
 ghost use Rattle.mw_model.specs.Windows.{seen_at};
@@ -70,9 +71,9 @@ fn box_words<E: WordExtremum>(
 ) -> Result<Vec<u64>, NoMemory>
     requires some { (0 < looked.across) × (0 < looked.down) × (0 < tile.width) × (0 < tile.height) }
     requires few { (looked.across ≤ 2 ^ 33) × (looked.down ≤ 2 ^ 33) }
-    requires left { negsuc (2 ^ 40) ≤ℤ looked.column }
-    requires right { looked.column ≤ℤ pos (2 ^ 40) }
-    requires near { looked.row ≤ℤ pos (2 ^ 40) }
+    requires left { negsuc FAR_LIMIT ≤ℤ looked.column }
+    requires right { looked.column ≤ℤ pos FAR_LIMIT }
+    requires near { looked.row ≤ℤ pos FAR_LIMIT }
     ensures packed { IfOk result (λ v. IsPacked tile.width tile.height v.items) }
     ensures cells { IfOk result (λ v. (x y : ℕ) → x < tile.width → y < tile.height → bit_of v.items (y * (64 * stride_of tile.width) + x) ≡ over E.merge (λ j. over E.merge (λ i. merge_at E.merge (E.neutral_of 1) (cell_at (raster set.now.place.width set.now.place.height set.now.cells) (looked.column +ℤ pos (x + i)) (looked.row +ℤ pos (y + j)))) 0 (looked.across - 1)) 0 (looked.down - 1)) }
 {

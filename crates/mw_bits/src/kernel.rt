@@ -2,6 +2,7 @@
 //! the tile, one offset after another, each as the set's words shifted against those of the tile. What lies outside the
 //! window is no pixel.
 ghost use Rattle.std.specs.Prelude.{◌≡◌, ℕ, ◌+◌, ◌*◌, ◌<◌, ◌≤◌, ◌^◌, pos, negsuc, ◌+ℤ◌, ◌-ℤ◌, ◌≤ℤ◌, length, fold, IfOk, IsTrue};
+ghost use Rattle.mw_model.specs.declared.limits.TheConstants.{FAR_LIMIT};
 ghost use Rattle.mw_model.specs.Rasters.{Raster, cell_at, seen_under};
 ghost use Rattle.mw_model.specs.Windows.{seen_at};
 ghost use Rattle.mw_offset.specs.mw_tile.Windows.{IsWindow};
@@ -29,7 +30,7 @@ fn combine_offsets<E: WordExtremum>(
     out: &mut [u64],
 )
     requires size { length out.old ≡ tile.height * stride }
-    requires few { stride ≤ 2 ^ 40 }
+    requires few { stride ≤ FAR_LIMIT }
     ensures { (x y : ℕ) → x < 64 * stride → y < tile.height → bit_of out.new (y * (64 * stride) + x) ≡ fold E.merge (bit_of out.old (y * (64 * stride) + x)) (seen_under (seen_at set.now) offsets.now (tile.x + x) (tile.y + y)) }
 {
     let place = set.place();

@@ -1,5 +1,6 @@
 //! A set in rows of so many words, with neutral pixels around it.
 ghost use Rattle.std.specs.Prelude.{◌≡◌, ℕ, ◌+◌, ◌*◌, ◌<◌, ◌≤◌, ◌^◌, negsuc, pos, ◌+ℤ◌, ◌≤ℤ◌, length, vec_len, IfOk, IsTrue};
+ghost use Rattle.mw_model.specs.declared.limits.TheConstants.{FAR_LIMIT};
 ghost use Rattle.mw_model.specs.Rasters.{raster, cell_at};
 ghost use Rattle.mw_offset.specs.mw_lane.Shifted.{merge_at};
 ghost use Rattle.mw_offset.specs.mw_words.Packed.{bit_of, stride_of};
@@ -24,11 +25,11 @@ pub(crate) fn spread_rows<E: WordExtremum>(
     out: &mut [u64],
 )
     requires room { high * wide ≤ length out.old }
-    requires few { high ≤ 2 ^ 40 }
-    requires narrow { wide ≤ 2 ^ 40 }
-    requires low { negsuc (2 ^ 40) ≤ℤ column }
-    requires far { column ≤ℤ pos (2 ^ 40) }
-    requires near { row ≤ℤ pos (2 ^ 40) }
+    requires few { high ≤ FAR_LIMIT }
+    requires narrow { wide ≤ FAR_LIMIT }
+    requires low { negsuc FAR_LIMIT ≤ℤ column }
+    requires far { column ≤ℤ pos FAR_LIMIT }
+    requires near { row ≤ℤ pos FAR_LIMIT }
     ensures { (x y : ℕ) → x < 64 * wide → y < high → bit_of out.new (y * (64 * wide) + x) ≡ merge_at E.merge (bit_of out.old (y * (64 * wide) + x)) (cell_at (raster set.now.place.width set.now.place.height set.now.cells) (column +ℤ pos x) (row +ℤ pos y)) }
 {
     for y in 0..high {
@@ -39,7 +40,7 @@ pub(crate) fn spread_rows<E: WordExtremum>(
 
 /// Whether the set's rows stand as they are wanted: of so many words from the window's first column on, and all there.
 fn has_rows(set: &Window<Bit>, column: i64, row: i64, wide: usize, high: usize) -> bool
-    requires near { row ≤ℤ pos (2 ^ 40) }
+    requires near { row ≤ℤ pos FAR_LIMIT }
     requires few { high ≤ 2 ^ 34 }
     ensures { IsTrue result → (column ≡ pos 0) × (wide ≡ stride_of set.now.place.width) × (pos 0 ≤ℤ row) × ((row +ℤ pos high) ≤ℤ pos set.now.place.height) }
 {
@@ -74,9 +75,9 @@ pub(crate) fn spread<E: WordExtremum>(
 ) -> Result<Vec<u64>, NoMemory>
     requires few { high ≤ 2 ^ 34 }
     requires narrow { wide ≤ 2 ^ 28 }
-    requires low { negsuc (2 ^ 40) ≤ℤ column }
-    requires far { column ≤ℤ pos (2 ^ 40) }
-    requires near { row ≤ℤ pos (2 ^ 40) }
+    requires low { negsuc FAR_LIMIT ≤ℤ column }
+    requires far { column ≤ℤ pos FAR_LIMIT }
+    requires near { row ≤ℤ pos FAR_LIMIT }
     ensures size { IfOk result (λ v. vec_len v ≡ high * wide + 1) }
     ensures cells { IfOk result (λ v. (x y : ℕ) → x < 64 * wide → y < high → bit_of v.items (y * (64 * wide) + x) ≡ merge_at E.merge (E.neutral_of 1) (cell_at (raster set.now.place.width set.now.place.height set.now.cells) (column +ℤ pos x) (row +ℤ pos y))) }
 {

@@ -1,7 +1,8 @@
 //! Windows of one pixel throughout, as most are in masks of few or of compact grains. What is seen of such a window is that pixel
 //! or nothing: so its extremum is that pixel wherever anything is seen, and everywhere where the pixel is the neutral one.
-ghost use Rattle.std.specs.Prelude.{◌≡◌, ◌↔◌, ℕ, ◌+◌, ◌*◌, ◌<◌, ◌≤◌, ◌^◌, ℤ, pos, ◌+ℤ◌, ◌-ℤ◌, ◌≤ℤ◌, length, fold, cond, IfSome, IsTrue};
+ghost use Rattle.std.specs.Prelude.{◌≡◌, ◌↔◌, ℕ, ◌+◌, ◌*◌, ◌<◌, ◌≤◌, ℤ, pos, ◌+ℤ◌, ◌-ℤ◌, ◌≤ℤ◌, length, fold, cond, IfSome, IsTrue};
 ghost use Rattle.std.specs.Int.{bit_at};
+ghost use Rattle.mw_model.specs.declared.limits.TheConstants.{FAR_LIMIT};
 ghost use Rattle.mw_model.specs.Places.{box_offsets};
 ghost use Rattle.mw_model.specs.Rasters.{seen_under};
 ghost use Rattle.mw_model.specs.Windows.{seen_at};
@@ -107,7 +108,7 @@ fn is_neutral<E: WordExtremum>(pixel: bool) -> bool
 /// Where a step takes the tile's first place, counted from `first`.
 fn moved(tile: u32, step: i32, first: u32) -> i64
     ensures value { result ≡ pos tile +ℤ step -ℤ pos first }
-    ensures high { result ≤ℤ pos (2 ^ 40) }
+    ensures high { result ≤ℤ pos FAR_LIMIT }
 {
     i64::from(tile) + i64::from(step) - i64::from(first)
 }

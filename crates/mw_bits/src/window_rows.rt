@@ -1,5 +1,6 @@
 //! A row of a set merged into a row of words, shifted; where the set has no place, nothing changes.
-ghost use Rattle.std.specs.Prelude.{◌≡◌, ℕ, ◌+◌, ◌*◌, ◌<◌, ◌≤◌, ◌^◌, negsuc, pos, ◌+ℤ◌, ◌≤ℤ◌, length};
+ghost use Rattle.std.specs.Prelude.{◌≡◌, ℕ, ◌+◌, ◌*◌, ◌<◌, ◌≤◌, negsuc, pos, ◌+ℤ◌, ◌≤ℤ◌, length};
+ghost use Rattle.mw_model.specs.declared.limits.TheConstants.{FAR_LIMIT};
 ghost use Rattle.mw_model.specs.Rasters.{raster, cell_at};
 ghost use Rattle.mw_offset.specs.mw_lane.Shifted.{merge_at};
 ghost use Rattle.mw_offset.specs.mw_words.Packed.{bit_of};
@@ -17,9 +18,9 @@ pub(crate) fn combine_window_row<E: WordExtremum>(
     row: i64,
     out: &mut [u64],
 )
-    requires low { negsuc (2 ^ 40) ≤ℤ column }
-    requires high { column ≤ℤ pos (2 ^ 40) }
-    requires few { length out.old ≤ 2 ^ 40 }
+    requires low { negsuc FAR_LIMIT ≤ℤ column }
+    requires high { column ≤ℤ pos FAR_LIMIT }
+    requires few { length out.old ≤ FAR_LIMIT }
     ensures { (x : ℕ) → x < 64 * length out.old → bit_of out.new x ≡ merge_at E.merge (bit_of out.old x) (cell_at (raster set.now.place.width set.now.place.height set.now.cells) (column +ℤ pos x) row) }
 {
     let place = set.place();

@@ -2,6 +2,7 @@
 //! places as each sample stands for, so a side of k places takes about log2(k) merges of vector code. The two passes of
 //! van Herk (1992) and Gil and Werman (1993), which `line` has, take one sample after another.
 ghost use Rattle.std.specs.Prelude.{◌≡◌, ℕ, ◌+◌, ◌-◌, ◌*◌, ◌<◌, ◌≤◌, ◌^◌, pos, negsuc, ◌+ℤ◌, ◌≤ℤ◌, length, slice_index_or, replicate, vec_len, All, IfOk};
+ghost use Rattle.mw_model.specs.declared.limits.TheConstants.{FAR_LIMIT};
 ghost use Rattle.mw_model.specs.Places.{box_offsets};
 ghost use Rattle.mw_model.specs.Rasters.{Raster, raster, cell_at};
 ghost use Rattle.mw_model.specs.Windows.{seen_at};
@@ -61,8 +62,8 @@ fn slide_rows<P: Grey, E: Extremum<P>>(
     requires room { slide.width + (slide.across - 1) ≤ length blank.now }
     requires wide { (0 < slide.width) × (slide.width < 2 ^ 32) }
     requires paired { length line.old ≡ length blank.now }
-    requires few { slide.height + (slide.down - 1) ≤ 2 ^ 40 }
-    requires near { slide.row ≤ℤ pos (2 ^ 40) }
+    requires few { slide.height + (slide.down - 1) ≤ FAR_LIMIT }
+    requires near { slide.row ≤ℤ pos FAR_LIMIT }
     ensures size { IfOk result (λ v. vec_len v ≡ (slide.height + (slide.down - 1)) * slide.width) }
     ensures cells { IfOk result (λ v. (n : P) → blank.now ≡ replicate (length blank.now) n → (x y : ℕ) → x < slide.width → y < slide.height → slice_index_or v.items (y * slide.width + x) n ≡ over E.merge (λ j. over E.merge (λ i. merge_at E.merge n (cell_at (raster window.now.place.width window.now.place.height window.now.cells) (slide.column +ℤ pos (x + i)) (slide.row +ℤ pos j))) 0 (slide.across - 1)) y (slide.down - 1)) }
 {
@@ -87,7 +88,7 @@ fn boxes<P: Grey, E: Extremum<P>>(
     requires some { (0 < slide.across) × (0 < slide.down) × (0 < slide.width) × (0 < slide.height) }
     requires narrow { (slide.width < 2 ^ 32) × (slide.across ≤ 2 ^ 34) }
     requires low { (slide.height < 2 ^ 32) × (slide.down ≤ 2 ^ 34) }
-    requires near { slide.row ≤ℤ pos (2 ^ 40) }
+    requires near { slide.row ≤ℤ pos FAR_LIMIT }
     ensures size { IfOk result (λ v. vec_len v ≡ slide.height * slide.width) }
     ensures cells { IfOk result (λ v. (x y : ℕ) → x < slide.width → y < slide.height → slice_index_or v.items (y * slide.width + x) neutral ≡ over E.merge (λ j. over E.merge (λ i. merge_at E.merge neutral (cell_at (raster window.now.place.width window.now.place.height window.now.cells) (slide.column +ℤ pos (x + i)) (slide.row +ℤ pos (y + j)))) 0 (slide.across - 1)) 0 (slide.down - 1)) }
 {

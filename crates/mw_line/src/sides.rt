@@ -1,5 +1,6 @@
 //! Which places of a box's side can see a window from a tile, along one axis.
 ghost use Rattle.std.specs.Prelude.{◌≡◌, ℕ, ◌+◌, ◌≤◌, ◌^◌, pos, negsuc, ◌+ℤ◌, ◌-ℤ◌, ◌≤ℤ◌};
+ghost use Rattle.mw_model.specs.declared.limits.TheConstants.{FAR_LIMIT};
 ghost use Rattle.mw_model.specs.Places.{nonnegative, span};
 ghost use Rattle.mw_line.specs.Sides.{IsSeenSide};
 
@@ -88,8 +89,8 @@ pub fn seen_down(offsets: OffsetBox, tile: Rect, place: Rect) -> SeenSide
 pub fn first_seen(tile: u32, a: i32, skipped: usize, first: u32) -> i64
     requires { skipped ≤ 2 ^ 34 }
     ensures value { result ≡ pos tile +ℤ (a +ℤ pos skipped) -ℤ pos first }
-    ensures low { negsuc (2 ^ 40) ≤ℤ result }
-    ensures high { result ≤ℤ pos (2 ^ 40) }
+    ensures low { negsuc FAR_LIMIT ≤ℤ result }
+    ensures high { result ≤ℤ pos FAR_LIMIT }
 {
     i64::from(tile) + i64::from(a) + (skipped as i64) - i64::from(first)
 }

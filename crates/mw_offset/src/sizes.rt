@@ -1,6 +1,7 @@
 //! How many samples the cells stand for while they grow, and which runs are merged then.
 ghost use Rattle.std.specs.Prelude.{◌≡◌, ◌*◌, ◌<◌, ◌≤◌, ◌^◌};
 ghost use Rattle.std.specs.List.{AllByRecursion};
+ghost use Rattle.mw_model.specs.declared.limits.TheConstants.{FAR_LIMIT};
 ghost use Rattle.mw_run.specs.declared.runs.Run.{Run};
 
 use mw_run::{Run, Sizes};
@@ -21,7 +22,7 @@ pub(crate) fn longest_of(runs: &[Run]) -> usize
 /// each is worth a pass over the cells, of which there are so many for each sample.
 pub(crate) fn next_size(counts: &[usize], least: usize, per_sample: usize) -> Sizes
     requires some { 0 < least }
-    requires few { least ≤ 2 ^ 40 }
+    requires few { least ≤ FAR_LIMIT }
     ensures least { result.least ≡ least }
     ensures more { least < result.next }
     ensures twice { result.next ≤ 2 * least }

@@ -14,7 +14,8 @@ ghost use Rattle.mw_ready.specs.Spans.{AreSpans, span_of, tiles_spanned};
 use mw_model::Reach;
 use mw_queue::grid::Grid;
 
-/// Of windows of one reach: how many columns of tiles those of a column span, and how many rows those of a row.
+/// Of windows of one reach: how many columns of tiles those of a column span, and how many rows those of a row. A side has
+/// at most 128 tiles: 8192 pixels in tiles of 64.
 #[derive(Drop)]
 pub(crate) struct Spans {
     across: [u32; 128],

@@ -1,5 +1,6 @@
 //! Runs laid out around a tile: in rows of one length, from the first column and row of the element on.
 ghost use Rattle.std.specs.Prelude.{◌≡◌, ◌<◌, ◌≤◌, ◌^◌, pos, negsuc, ◌+ℤ◌, ◌-ℤ◌, ◌≤ℤ◌};
+ghost use Rattle.mw_model.specs.declared.limits.TheConstants.{FAR_LIMIT};
 ghost use Rattle.mw_model.specs.Places.{nonnegative};
 ghost use Rattle.mw_run.specs.declared.runs.Run.{Run};
 ghost use Rattle.mw_run.specs.Runs.{start_of, IsInside};
@@ -29,8 +30,8 @@ pub fn start_of_run(run: Run, extent: Extent, wide: usize) -> usize
 /// Where the first place that is looked at from a tile lies in the window, along one axis.
 fn first_looked(tile: u32, offset: i32, first: u32) -> i64
     ensures value { result ≡ pos tile +ℤ offset -ℤ pos first }
-    ensures low { negsuc (2 ^ 40) ≤ℤ result }
-    ensures high { result ≤ℤ pos (2 ^ 40) }
+    ensures low { negsuc FAR_LIMIT ≤ℤ result }
+    ensures high { result ≤ℤ pos FAR_LIMIT }
 {
     i64::from(tile) + i64::from(offset) - i64::from(first)
 }
@@ -65,8 +66,8 @@ pub fn rows_after(extent: Extent) -> usize
 /// The column of the window at which the tile begins to look.
 pub fn first_column(tile: Rect, extent: Extent, place: Rect) -> i64
     ensures value { result ≡ pos tile.x +ℤ extent.left -ℤ pos place.x }
-    ensures low { negsuc (2 ^ 40) ≤ℤ result }
-    ensures high { result ≤ℤ pos (2 ^ 40) }
+    ensures low { negsuc FAR_LIMIT ≤ℤ result }
+    ensures high { result ≤ℤ pos FAR_LIMIT }
 {
     first_looked(tile.x, extent.left, place.x)
 }
@@ -74,8 +75,8 @@ pub fn first_column(tile: Rect, extent: Extent, place: Rect) -> i64
 /// The row of the window at which the tile begins to look.
 pub fn first_row(tile: Rect, extent: Extent, place: Rect) -> i64
     ensures value { result ≡ pos tile.y +ℤ extent.top -ℤ pos place.y }
-    ensures low { negsuc (2 ^ 40) ≤ℤ result }
-    ensures high { result ≤ℤ pos (2 ^ 40) }
+    ensures low { negsuc FAR_LIMIT ≤ℤ result }
+    ensures high { result ≤ℤ pos FAR_LIMIT }
 {
     first_looked(tile.y, extent.top, place.y)
 }

@@ -1,7 +1,8 @@
 //! Sets of which a caller has a byte a pixel, packed into words: 64 bytes are compared with 0 at once.
 
-ghost use Rattle.std.specs.Prelude.{◌≡◌, ℕ, ◌+◌, ◌*◌, ◌<◌, ◌≤◌, ◌^◌, length, map, nat_le, if◌then◌else◌, slice_index, IfOk};
+ghost use Rattle.std.specs.Prelude.{◌≡◌, ℕ, ◌+◌, ◌*◌, ◌<◌, ◌≤◌, length, map, nat_le, if◌then◌else◌, slice_index, IfOk};
 ghost use Rattle.std.specs.Int.{bit_at};
+ghost use Rattle.mw_model.specs.declared.limits.TheConstants.{FAR_LIMIT};
 ghost use Rattle.mw_model.specs.Rasters.{raster};
 ghost use Rattle.mw_arrays.specs.Arrays.{pixels_of};
 ghost use Rattle.mw_pixel.specs.Images.{set_of};
@@ -39,7 +40,7 @@ fn word_from(bytes: &[u8], from: usize) -> u64
 
 /// Packs a row; bits past its last byte are 0.
 fn pack_row(bytes: &[u8], out: &mut [u64])
-    requires { length out.old ≤ 2 ^ 40 }
+    requires { length out.old ≤ FAR_LIMIT }
     ensures { (x : ℕ) → x < 64 * length out.old → bit_of out.new x ≡ slice_index (pixels_of bytes.now) x }
 {
     for k in 0..out.len() {

@@ -5,6 +5,7 @@ ghost use Rattle.std.specs.List.{AllByRecursion};
 ghost use Rattle.mw_model.specs.Flat.{minus};
 ghost use Rattle.mw_model.specs.Laws.{SameShape};
 ghost use Rattle.mw_model.specs.Plans.{is_sum};
+ghost use Rattle.mw_model.specs.declared.limits.TheConstants.{SIDE_LIMIT};
 ghost use Rattle.mw_task.specs.Meanings.{meaning};
 ghost use Rattle.mw_task.specs.WindowTasks.{FitsStep, IsBounded};
 ghost use Rattle.mw_strips.specs.Layers.{IsFormula, formula_picture, layer_picture, origin_of, rule_picture};
@@ -128,8 +129,8 @@ fn whole(alloc: Global, image: &Image) -> Result<SharedWindow, NoMemory>
 /// What the first image has more than the second.
 fn less(alloc: Global, a: &Image, b: &Image) -> Result<Image, NoMemory>
     requires alike { SameShape b.now a.now }
-    requires wide { (1 ≤ a.now.width) × (a.now.width ≤ 8192) }
-    requires high { (1 ≤ a.now.height) × (a.now.height ≤ 8192) }
+    requires wide { (1 ≤ a.now.width) × (a.now.width ≤ SIDE_LIMIT) }
+    requires high { (1 ≤ a.now.height) × (a.now.height ≤ SIDE_LIMIT) }
     ensures { IfOk result (λ g. g ≡ minus a.now b.now) }
 {
     let frame = whole_frame(a.width(), a.height());

@@ -1,6 +1,7 @@
 //! Pixels packed into words: 64 at a time, by comparing 64 bytes with 0 at once.
-ghost use Rattle.std.specs.Prelude.{◌≡◌, ℕ, ◌*◌, ◌+◌, ◌<◌, ◌≤◌, ◌^◌, length, slice_index, slice_range};
+ghost use Rattle.std.specs.Prelude.{◌≡◌, ℕ, ◌*◌, ◌+◌, ◌<◌, ◌≤◌, length, slice_index, slice_range};
 ghost use Rattle.std.specs.Int.{bit_at};
+ghost use Rattle.mw_model.specs.declared.limits.TheConstants.{FAR_LIMIT};
 ghost use Rattle.mw_line.specs.mw_words.Packed.{bit_of, stride_of};
 
 use mw_line::pixel::Bit;
@@ -47,7 +48,7 @@ fn pack_from(row: &[Bit], from: usize) -> u64
 
 /// Packs a row; bits past its last pixel are 0.
 pub fn pack_row(row: &[Bit], out: &mut [u64])
-    requires { length out.old ≤ 2 ^ 40 }
+    requires { length out.old ≤ FAR_LIMIT }
     ensures { (x : ℕ) → x < 64 * length out.old → bit_of out.new x ≡ slice_index row.now x }
 {
     for k in 0..out.len() {

@@ -1,6 +1,7 @@
 //! A row of pixels merged into a row of words, shifted; where the row has no place, nothing changes.
 ghost use Rattle.std.specs.Prelude.{◌≡◌, ℕ, ◌+◌, ◌*◌, ◌<◌, ◌≤◌, ◌^◌, negsuc, pos, ◌+ℤ◌, ◌-ℤ◌, ◌≤ℤ◌, length};
 ghost use Rattle.std.specs.Int.{bit_at};
+ghost use Rattle.mw_model.specs.declared.limits.TheConstants.{FAR_LIMIT};
 ghost use Rattle.mw_line.specs.mw_lane.Shifted.{merge_at};
 ghost use Rattle.mw_line.specs.mw_words.Packed.{bit_of, stride_of};
 ghost use Rattle.mw_word_rows.specs.Rows.{pixel_at, words_before};
@@ -33,8 +34,8 @@ fn padded_word<E: WordExtremum>(row: &[u64], width: u32, at: u64) -> u64
 
 /// How many places there are to a column from `BEFORE` words before the row on.
 fn places_to(column: i64) -> u64
-    requires low { negsuc (2 ^ 40) ≤ℤ column }
-    requires high { column ≤ℤ pos (2 ^ 40) }
+    requires low { negsuc FAR_LIMIT ≤ℤ column }
+    requires high { column ≤ℤ pos FAR_LIMIT }
     ensures value { column ≡ pos result -ℤ pos (64 * words_before) }
     ensures small { result ≤ 2 ^ 42 }
 {
@@ -45,9 +46,9 @@ fn places_to(column: i64) -> u64
 pub fn combine_row<E: WordExtremum>(row: &[u64], width: u32, column: i64, out: &mut [u64])
     requires size { length row.now ≡ stride_of width }
     requires clean { (x : ℕ) → width ≤ x → bit_of row.now x ≡ 0 }
-    requires low { negsuc (2 ^ 40) ≤ℤ column }
-    requires high { column ≤ℤ pos (2 ^ 40) }
-    requires few { length out.old ≤ 2 ^ 40 }
+    requires low { negsuc FAR_LIMIT ≤ℤ column }
+    requires high { column ≤ℤ pos FAR_LIMIT }
+    requires few { length out.old ≤ FAR_LIMIT }
     ensures { (x : ℕ) → x < 64 * length out.old → bit_of out.new x ≡ merge_at E.merge (bit_of out.old x) (pixel_at row.now width (column +ℤ pos x)) }
 {
     let from = places_to(column);
