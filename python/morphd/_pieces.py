@@ -8,8 +8,9 @@ from __future__ import annotations
 import math
 import os
 import threading
+from collections import deque
 from collections.abc import Callable, Iterable
-from concurrent.futures import ThreadPoolExecutor
+from concurrent.futures import ThreadPoolExecutor, wait
 from typing import NamedTuple, TypeVar
 
 import numpy as np
@@ -128,14 +129,33 @@ os.register_at_fork(after_in_child=_forget_threads)
 
 
 def each(work: Callable[[Item], Made], items: Iterable[Item], workers: int) -> list[Made]:
-    """What the work makes of each item, by so many threads. The first fault is raised, when all have ended."""
+    """What the work makes of each item, by so many threads, the caller's among them. The first fault is raised, when all have ended."""
     held = list(items)
     if workers == 1 or len(held) < 2:
         return [work(item) for item in held]
-    running = [_pool(workers).submit(work, item) for item in held]
-    for one in running:
-        one.exception()
-    return [one.result() for one in running]
+    waiting = deque(enumerate(held))
+    made: dict[int, Made] = {}
+    faults: dict[int, Exception] = {}
+
+    def take() -> None:
+        while True:
+            try:
+                at, item = waiting.popleft()
+            except IndexError:
+                return
+            try:
+                made[at] = work(item)
+            except Exception as fault:
+                faults[at] = fault
+
+    others = min(workers, len(held)) - 1
+    running = [_pool(workers - 1).submit(take) for _ in range(others)]
+    take()
+    # a thread that has not begun yet would find nothing to do
+    wait([one for one in running if not one.cancel()])
+    if faults:
+        raise faults[min(faults)]
+    return [made[at] for at in range(len(held))]
 
 
 def check_samples(field: Field, asked: object) -> None:
