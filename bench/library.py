@@ -52,9 +52,11 @@ def lines():
             yield f"opening, {name}", kind, OPEN, 0, element, lambda f, e, out: cv2.morphologyEx(f, cv2.MORPH_OPEN, e, dst=out)
         yield ("gradient, box of 3", kind, GRADIENT, 0, rectangle(3),
                lambda f, e, out: cv2.morphologyEx(f, cv2.MORPH_GRADIENT, e, dst=out))
-    for side in (3, 5, 15):
-        yield (f"median, box of {side}", "u8", RANK, (side * side + 1) // 2, rectangle(side),
-               lambda f, e, out: cv2.medianBlur(f, len(e), dst=out))
+    # OpenCV has medians of 16 bits under these two squares alone
+    for kind, sides in (("u8", (3, 5, 15)), ("u16", (3, 5))):
+        for side in sides:
+            yield (f"median, box of {side}", kind, RANK, (side * side + 1) // 2, rectangle(side),
+                   lambda f, e, out: cv2.medianBlur(f, len(e), dst=out))
     yield "opening, disc of 15", "set", OPEN, 0, disc(15), lambda f, e, out: cv2.morphologyEx(f, cv2.MORPH_OPEN, e, dst=out)
 
 
