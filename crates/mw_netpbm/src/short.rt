@@ -2,8 +2,8 @@
 //! for where the maxval has no more, else up to five.
 //!
 //! How many digits there are is no branch of the code, since a processor cannot foresee it: the numbers of one digit and
-//! of more are all computed, and one is selected. On 4096 x 4096 samples without a pattern a raster takes 7 to 13 ns a
-//! sample of 8 bits and 8 to 15 ns one of 16; in two passes, the longer samples digit by digit, it took 13 and 39.
+//! of more are all computed, and one is selected. A raster without a pattern takes longer where the longer samples are
+//! read digit by digit, in a pass of their own.
 
 ghost use Rattle.std.specs.Prelude.{◌≡◌, ◌≤◌, ◌+◌, ◌-◌, ◌*◌, ◌↔◌, [], ◌∷◌, ℕ, take, IfSome, IsSome, IsTrue, if◌then◌else◌};
 ghost use Rattle.mw_model.specs.NetpbmGrammar.{IsNumber, IsSample, is_digit};
