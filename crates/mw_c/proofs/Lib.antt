@@ -3,6 +3,7 @@ mod Answered
 mod Asked
 mod Meant
 mod Passed
+mod RowsAsked
 mod Sets
 mod Sized
 mod Told

@@ -1,0 +1,43 @@
+use Rattle.std.proofs.Common.{◌≡◌, ◌∙◌, None, ap, length, map, rules, sym, true}
+use Rattle.std.proofs.lemmas.Result.{IfOk-weaker}
+use Rattle.mw_arrays.specs.Arrays.{element_in}
+use Rattle.mw_arrays.specs.Sound.{IsElementBitmap}
+use Rattle.mw_arrays.specs.Sources.{IsSource, picture_in}
+use Rattle.mw_strips.specs.Rows.{rows_from}
+use Rattle.mw_model.specs.Pictures.{Picture}
+use Rattle.mw_c.specs.Calls.{flat_of}
+use Rattle.mw_c.specs.Ways.{way_picture}
+use Rattle.mw_c.proofs.Passed.{passed, where_none}
+use Rattle.mw_c.proofs.RowsAsked.{of_eight, one_step, rows_there}
+use Rattle.mw_c.proofs.row_calls.flat_rows.Goals as goal
+
+pub returns-clause-made : goal.returns-clause-made
+returns-clause-made g c =
+    let e = element_in c.args.b.now in
+    let f = picture_in c.args.f in
+    let first = c.args.first in
+    let count = length c.args.out.now in
+    let out = c.write_rows_by.new.out in
+    let made = way_picture c.way_of.result e f in
+    let wanted = flat_of c.args.numbers.0 c.args.numbers.1 e f in
+    IfOk-weaker c.write_rows_by.result (λ _. map g.P.Pixel.level out ≡ rows_from first count made) (λ _. map g.P.Pixel.level out ≡ rows_from first count wanted)
+    (λ _ is. is ∙ ap (λ (p : Picture). rows_from first count p) (c.way_of.ensures.value e f)) c.write_rows_by.ensures.made
+
+pub way_of-requires : goal.way_of-requires
+way_of-requires g c =
+    let none : c.refused.result ≡ None = search rules in
+    let parts = passed c.when-number.result c.fault-image.result c.rows_fault-room.result c.fault.result (sym c.refused.ensures ∙ none) in
+    of_eight c.args.numbers.0 (one_step c.args.numbers.0 parts.number)
+
+pub write_rows_by-requires : goal.write_rows_by-requires
+write_rows_by-requires g c =
+    let none : c.refused.result ≡ None = search rules in
+    let parts = passed c.when-number.result c.fault-image.result c.rows_fault-room.result c.fault.result (sym c.refused.ensures ∙ none) in
+    let given = where_none c.fault-image.result (IsSource c.args.f) parts.image c.fault-image.ensures.sound in
+    record {
+      sound = given;
+      element = where_none c.fault.result (IsElementBitmap c.args.b.now) parts.element c.fault.ensures.sound;
+      one = c.way_of.ensures.steps ∙ one_step c.args.numbers.0 parts.number;
+      rows = rows_there c.args.f c.args.first (length c.args.out.now) given (sym c.rows_fault-room.ensures ∙ parts.room);
+      stands = c.requires given;
+    }
