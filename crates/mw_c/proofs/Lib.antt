@@ -2,8 +2,8 @@
 mod Answered
 mod Asked
 mod Meant
+mod OneStep
 mod Passed
-mod RowsAsked
 mod Sets
 mod Sized
 mod Told

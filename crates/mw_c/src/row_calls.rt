@@ -1,19 +1,19 @@
 //! Calls for some rows of what a flat operator of one step makes: what is wrong with them is told before anything is made.
 
-ghost use Rattle.std.specs.Prelude.{◌≡◌, ◌+◌, ◌*◌, length, map, nat_le, IfErr, IfOk};
+ghost use Rattle.std.specs.Prelude.{◌≡◌, length, map, IfErr, IfOk};
 ghost use Rattle.mw_arrays.specs.Arrays.{element_in};
 ghost use Rattle.mw_arrays.specs.Faults.{bitmap_fault};
 ghost use Rattle.mw_arrays.specs.Sources.{IsSource, picture_in, source_count, source_fault};
 ghost use Rattle.mw_strips.specs.Rows.{rows_from};
 ghost use Rattle.mw_c.specs.Answers.{IsTold};
 ghost use Rattle.mw_c.specs.Calls.{call_fault, flat_asks, flat_of};
-ghost use Rattle.mw_c.specs.Rows.{fill_rows, has_one_step, row_operation_case, rows_case};
+ghost use Rattle.mw_c.specs.Rows.{has_one_step, row_operation_case, rows_case};
 
 use crate::calls::refused;
 use crate::row_ways::write_rows_by;
 use crate::ways::way_of;
 use mw_arrays::{Bitmap, Code, Source, when};
-use mw_strips::Sample;
+use mw_strips::{Sample, are_rows};
 use std::alloc::Global;
 
 /// Whether the flat operator of the number has one step.
@@ -21,37 +21,6 @@ fn has_one_step(operation: u32) -> bool
     ensures { result ≡ has_one_step operation }
 {
     (operation == 0 || operation == 1) || (operation == 4 || operation == 7)
-}
-
-/// Whether so many samples fill rows of this width.
-fn fill_rows(room: usize, width: u32) -> bool
-    ensures { result ≡ fill_rows room width }
-{
-    if width == 0 {
-        return false;
-    }
-    room % width as usize == 0
-}
-
-/// Whether the image has so many samples from row `first` on.
-fn are_within(first: u32, room: usize, width: u32, count: usize) -> bool
-    ensures { result ≡ nat_le (first * width + room) count }
-{
-    if count < room {
-        return false;
-    }
-    let above = first as usize * width as usize;
-    above <= count - room
-}
-
-/// What is wrong with the room for rows from row `first` on.
-fn rows_fault(first: u32, room: usize, width: u32, count: usize) -> Option<Code>
-    ensures { result ≡ rows_case first room width count }
-{
-    let some = room >= 1;
-    let whole = fill_rows(room, width);
-    let within = are_within(first, room, width, count);
-    when(!((some && whole) && within), Code::Length)
 }
 
 /// Writes rows of a flat operator of one step, from row `first` on.
@@ -69,9 +38,11 @@ pub(crate) fn flat_rows<P: Sample>(
     ensures told { IsTold (call_fault (row_operation_case numbers.0) (source_fault f.entry) (rows_case first (length out.old) (picture_in f.entry).width (source_count f.entry)) (bitmap_fault b.now)) (flat_asks numbers.0 numbers.1 (element_in b.now)) result }
 {
     let (operation, k) = numbers;
-    let number = when(!has_one_step(operation), Code::Param);
+    let one = has_one_step(operation);
+    let number = when(!one, Code::Param);
     let image = f.fault();
-    let room = rows_fault(first, out.len(), f.width(), f.count());
+    let fits = are_rows(f, first, out.len());
+    let room = when(!fits, Code::Length);
     if let Some(code) = refused(number, image, room, b.fault()) {
         return Err(code);
     }

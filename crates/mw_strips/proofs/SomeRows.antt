@@ -1,12 +1,16 @@
--- Arrays that take some rows of an image: where those end, and that there is room for each.
-use Rattle.std.proofs.Common.{◌≡◌, ℕ, ◌+◌, ◌*◌, ◌/◌, ◌%◌, ◌<◌, ◌≤◌, List, length, take, drop, ap, sym, subst, arith, ◌∙◌, inl, inr, length-take, length-drop}
-use Rattle.std.proofs.lemmas.Bool.{cases_lt}
+-- Arrays that take some rows of an image: what is asked of them, where the rows end, and that there is room for each.
+use Rattle.std.proofs.Common.{◌≡◌, ℕ, ◌+◌, ◌-◌, ◌*◌, ◌/◌, ◌%◌, ◌<◌, ◌≤◌, true, ◌&&◌, List, length, take, drop, ap, sym, subst, arith, ◌∙◌, inl, inr, length-take, length-drop}
+use Rattle.std.specs.Prelude.{nat_le, ◌==◌}
+use Rattle.std.proofs.lemmas.Bool.{and_parts, cases_lt, eqb-true, le-leb, leb-true, lt-leb}
 use Rattle.std.proofs.lemmas.List.{take_all}
 use Rattle.std.proofs.lemmas.Nat.{div-add-mod', mod-mul-add, mul-le}
 use Rattle.mw_model.specs.declared.places.Rect.{Rect}
 use Rattle.mw_model.specs.Pictures.{Picture}
+use Rattle.mw_arrays.specs.declared.sources.Source.{Source}
+use Rattle.mw_arrays.specs.Sources.{IsSource, picture_in, source_count}
 use Rattle.mw_strips.specs.Parts.{IsStrip}
-use Rattle.mw_strips.specs.Rows.{AreRows, EndAt, rows_from}
+use Rattle.mw_strips.specs.Rows.{AreRows, EndAt, are_rows, fill_rows, rows_from}
+use Rattle.mw_strips.proofs.Filtered.{fills}
 use Rattle.mw_strips.proofs.Formulas.{HasSides}
 
 -- of two products the lesser has the lesser factor
@@ -109,3 +113,22 @@ room_for_cell first k y w x count row across room =
   where
     split : (a b w : ℕ) → (a + b + 1) * w ≡ a * w + (b * w + w)
     split a b w = omega arith
+
+-- ---- what is asked of it
+
+-- whether so many samples stand behind so many others
+pub stand_behind : (above room count : ℕ) → room ≤ count → nat_le above (count - room) ≡ nat_le (above + room) count
+stand_behind above room count le =
+    elim (cases_lt count (above + room)) [
+      | inl over ↦ lt-leb above (count - room) (omega (arith, over, le)) ∙ sym (lt-leb (above + room) count over)
+      | inr within ↦ le-leb above (count - room) (omega (arith, within)) ∙ sym (le-leb (above + room) count within)
+    ]
+
+-- the image has these rows
+pub rows_there : (f : Source) (first room : ℕ) → IsSource f → are_rows first room (picture_in f).width (source_count f) ≡ true → AreRows first room (picture_in f)
+rows_there f first room is all =
+    let w = (picture_in f).width in
+    let outer = and_parts (nat_le 1 room && fill_rows room w) (nat_le (first * w + room) (source_count f)) all in
+    let inner = and_parts (nat_le 1 room) (fill_rows room w) outer.0 in
+    let filled = and_parts (nat_le 1 w) (room % w == 0) inner.1 in
+    record { some = leb-true 1 room inner.0; whole = eqb-true (room % w) 0 filled.1; within = omega (arith, leb-true (first * w + room) (source_count f) outer.1, fills f is) }

@@ -1,14 +1,16 @@
-use Rattle.std.proofs.Common.{◌≡◌, ◌∙◌, None, ap, length, map, rules, sym, true}
+use Rattle.std.proofs.Common.{◌≡◌, ◌∙◌, None, ap, length, map, rules, sym}
 use Rattle.std.proofs.lemmas.Result.{IfOk-weaker}
+use Rattle.mw_model.specs.declared.codes.Code.TheVariants as code
+use Rattle.mw_model.specs.Pictures.{Picture}
 use Rattle.mw_arrays.specs.Arrays.{element_in}
 use Rattle.mw_arrays.specs.Sound.{IsElementBitmap}
 use Rattle.mw_arrays.specs.Sources.{IsSource, picture_in}
+use Rattle.mw_arrays.proofs.FirstCases.{when_not-none}
 use Rattle.mw_strips.specs.Rows.{rows_from}
-use Rattle.mw_model.specs.Pictures.{Picture}
 use Rattle.mw_c.specs.Calls.{flat_of}
 use Rattle.mw_c.specs.Ways.{way_picture}
+use Rattle.mw_c.proofs.OneStep.{of_eight}
 use Rattle.mw_c.proofs.Passed.{passed, where_none}
-use Rattle.mw_c.proofs.RowsAsked.{of_eight, one_step, rows_there}
 use Rattle.mw_c.proofs.row_calls.flat_rows.Goals as goal
 
 pub returns-clause-made : goal.returns-clause-made
@@ -26,18 +28,21 @@ returns-clause-made g c =
 pub way_of-requires : goal.way_of-requires
 way_of-requires g c =
     let none : c.refused.result ≡ None = search rules in
-    let parts = passed c.when-number.result c.fault-image.result c.rows_fault-room.result c.fault.result (sym c.refused.ensures ∙ none) in
-    of_eight c.args.numbers.0 (one_step c.args.numbers.0 parts.number)
+    let parts = passed c.when-number.result c.fault-image.result c.when-room.result c.fault.result (sym c.refused.ensures ∙ none) in
+    let one = when_not-none c.has_one_step-one.result code.Param (sym c.when-number.ensures ∙ parts.number) in
+    of_eight c.args.numbers.0 (sym c.has_one_step-one.ensures ∙ one)
 
 pub write_rows_by-requires : goal.write_rows_by-requires
 write_rows_by-requires g c =
     let none : c.refused.result ≡ None = search rules in
-    let parts = passed c.when-number.result c.fault-image.result c.rows_fault-room.result c.fault.result (sym c.refused.ensures ∙ none) in
+    let parts = passed c.when-number.result c.fault-image.result c.when-room.result c.fault.result (sym c.refused.ensures ∙ none) in
     let given = where_none c.fault-image.result (IsSource c.args.f) parts.image c.fault-image.ensures.sound in
+    let one = when_not-none c.has_one_step-one.result code.Param (sym c.when-number.ensures ∙ parts.number) in
+    let fits = when_not-none c.are_rows-fits.result code.Length (sym c.when-room.ensures ∙ parts.room) in
     record {
       sound = given;
       element = where_none c.fault.result (IsElementBitmap c.args.b.now) parts.element c.fault.ensures.sound;
-      one = c.way_of.ensures.steps ∙ one_step c.args.numbers.0 parts.number;
-      rows = rows_there c.args.f c.args.first (length c.args.out.now) given (sym c.rows_fault-room.ensures ∙ parts.room);
+      one = c.way_of.ensures.steps ∙ sym c.has_one_step-one.ensures ∙ one;
+      rows = c.are_rows-fits.ensures.rows given fits;
       stands = c.requires given;
     }
