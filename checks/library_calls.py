@@ -242,7 +242,8 @@ class Writer:
 
     def rows(self, whole):
         """A call for some rows of the result of a flat call of one step."""
-        call = whole._replace(name=whole.name.replace("flat", "flat_rows"), numbers=[*whole.numbers, self.chance.randrange(whole.image.height)])
+        numbers = [*whole.numbers, self.chance.randrange(whole.image.height)]
+        call = whole._replace(name=whole.name.replace("flat", "flat_rows"), numbers=numbers)
         return call._replace(room=self.room(call))
 
     def spoiled(self, call):
