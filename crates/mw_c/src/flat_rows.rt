@@ -51,8 +51,7 @@ pub extern "C" fn morphd_flat_rows_u8(
         origin_y: element_y,
     };
     let source = Source::Grey8(image);
-    let numbers = (operation, k);
-    answer(flat_rows(alloc, numbers, first_row, source, &element, out))
+    answer(flat_rows(alloc, (operation, k), first_row, source, &element, out))
 }
 
 /// Rows of the flat operator of a number, from `first_row` on, on levels of two bytes.
@@ -91,8 +90,7 @@ pub extern "C" fn morphd_flat_rows_u16(
         origin_y: element_y,
     };
     let source = Source::Grey16(image);
-    let numbers = (operation, k);
-    answer(flat_rows(alloc, numbers, first_row, source, &element, out))
+    answer(flat_rows(alloc, (operation, k), first_row, source, &element, out))
 }
 
 /// Rows of the flat operator of a number, from `first_row` on, on a set, whose pixels are made 1 and the others 0.
@@ -129,6 +127,5 @@ pub extern "C" fn morphd_flat_rows_set(
         origin_y: element_y,
     };
     let source = Source::Pixels(image);
-    let numbers = (operation, k);
-    answer(flat_rows(alloc, numbers, first_row, source, &element, out))
+    answer(flat_rows(alloc, (operation, k), first_row, source, &element, out))
 }

@@ -49,11 +49,11 @@ fn made<P: Sample>(
     let (first, end) = rows;
     let count = end.saturating_sub(first) as usize * f.width() as usize;
     let mut out = copies(alloc, count, P::TOP)?;
-    if write_rows(alloc, job, f, b, first, out.as_mut_slice())? {
-        Ok(out)
-    } else {
-        Err("rows".into())
+    let is_room = write_rows(alloc, job, f, b, first, out.as_mut_slice())?;
+    if !is_room {
+        return Err("rows".into());
     }
+    Ok(out)
 }
 
 /// All that the job makes.
