@@ -13,6 +13,9 @@ use Rattle.mw_strips.specs.Rows.{AreRows, EndAt, are_rows, fill_rows, rows_from}
 use Rattle.mw_strips.proofs.Filtered.{fills}
 use Rattle.mw_strips.proofs.Formulas.{HasSides}
 
+no_product : (w : ℕ) → 0 * w ≡ 0
+no_product w = omega arith
+
 -- of two products the lesser has the lesser factor
 lesser_factor : (a b w : ℕ) → 1 ≤ w → a * w ≤ b * w → a ≤ b
 lesser_factor a b w some le =
@@ -34,13 +37,10 @@ rows_end first count m f some wide rows = subst (λ (w : ℕ). EndAt first (firs
     exact : n * f.width ≡ count
     exact = omega (arith, div-add-mod' count f.width, rows.whole)
 
-    no_product : (w : ℕ) → 0 * w ≡ 0
-    no_product w = omega arith
-
     one : 1 ≤ n
     one =
         elim (cases_lt 0 n) [
-          | inl over ↦ over
+          | inl over ↦ omega (arith, over)
           | inr none ↦
               let zero_is : n ≡ 0 = omega (arith, none) in
               let nothing : n * f.width ≡ 0 * f.width = ap (λ (t : ℕ). t * f.width) zero_is in
@@ -64,18 +64,12 @@ all_rows count f sides is =
     record {
       some = omega (arith, one, is);
       whole = ap (λ (t : ℕ). t % f.width) padded ∙ mod-mul-add f.height f.width 0 (omega (arith, sides.wide.0));
-      within = omega (arith, is, none f.width);
+      within = omega (arith, is, no_product f.width);
     }
-  where
-    none : (w : ℕ) → 0 * w ≡ 0
-    none w = omega arith
 
 -- and these are the image
 pub all_from_first : (count : ℕ) (f : Picture) → length f.samples ≡ f.height * f.width → count ≡ f.height * f.width → rows_from 0 count f ≡ f.samples
-all_from_first count f size is = ap (λ (n : ℕ). take count (drop n f.samples)) (none f.width) ∙ take_all count f.samples (omega (arith, size, is))
-  where
-    none : (w : ℕ) → 0 * w ≡ 0
-    none w = omega arith
+all_from_first count f size is = ap (λ (n : ℕ). take count (drop n f.samples)) (no_product f.width) ∙ take_all count f.samples (omega (arith, size, is))
 
 -- there are so many samples
 pub length-rows_from : (first end count : ℕ) (f : Picture) → length f.samples ≡ f.height * f.width → EndAt first end count f → length (rows_from first count f) ≡ count
