@@ -107,10 +107,10 @@ int32_t morphd_flat_set(
     uint8_t *out, size_t out_count);
 
 /* Some rows of what a flat operation of one step makes: MORPHD_ERODE, MORPHD_DILATE, MORPHD_GRADIENT or MORPHD_RANK; any other
- * answers MORPHD_PARAM. Several threads can share one picture so: each gives the same image, or a window of its rows, and gets
- * rows of its own. `out` has the rows from `first_row` on, counted from 0, as many as out_count samples are; nothing else of the
- * result is made or written. They are those that morphd_flat_* gives of the same image. out_count is the width or a multiple of it,
- * and the rows lie in the image, or the answer is MORPHD_LENGTH. */
+ * answers MORPHD_PARAM. So several threads can share one picture: each calls with the same image and another `first_row`, and
+ * makes rows of its own. `out` gets as many rows of the result as it has room for, from `first_row` on, counted from 0, with the
+ * samples that morphd_flat_* gives them. Nothing else of the result is made or written. out_count is the width or a multiple of
+ * it, and all these rows lie in the image; else the answer is MORPHD_LENGTH. */
 int32_t morphd_flat_rows_u8(
     uint32_t operation, uint32_t k, uint32_t first_row,
     uint32_t width, uint32_t height, uint8_t maxval, const uint8_t *samples, size_t count,
