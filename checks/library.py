@@ -81,12 +81,32 @@ def side_by_side(library, chance):
         sys.exit("DIFFERS from four threads: %r" % (wrong[0],))
 
 
+def rows_beside_whole(library, chance):
+    """Rows that are made alone, beside the same rows of the whole result, also in frames of several strips."""
+    writer, count = calls.Writer(chance), 0
+    for sides in ((8192, 40), (37, 64), (1, 300), (300, 1)):
+        for kind in ("u8", "u16", "set"):
+            image = writer.image(kind, 65535, sides)
+            for number in calls.OF_ONE_STEP:
+                b = writer.bitmap()
+                b.pixels[b.y * b.width + b.x] = 1
+                whole = calls.Call("morphd_flat_" + kind, [number, 1], image, [b], len(image.samples))
+                answer, out = calls.made(library, whole)
+                for call in (writer.rows(whole) for _ in range(3)):
+                    margin = [calls.UNTOUCHED] * calls.MARGIN
+                    rows = calls.asked_of(call, out[calls.MARGIN:-calls.MARGIN])
+                    if answer or calls.made(library, call) != (0, margin + rows + margin):
+                        sys.exit("DIFFERS from the whole result: %r of %d x %d by %r" % (call.numbers, *sides, b))
+                    count += 1
+    return count
+
+
 # ---- beside the program
 
 
 def session_of(call):
     """A session that does what a call does, or none where a call has no session."""
-    f, what = call.image, calls.family(call)
+    f = call.image
     samples = [int(s != 0) for s in f.samples] if f.kind == "set" else f.samples
     kind = "BIT" if f.kind == "set" else "GREY"
     text = plain_model.image_text(plain_model.Image(kind, f.width, f.height, 1 if f.kind == "set" else f.maxval, samples))
@@ -94,10 +114,9 @@ def session_of(call):
     for name, b in zip("bc", call.bitmaps):
         bitmap = b"P1\n%d %d\n" % (b.width, b.height) + b"".join(b"1" if p else b"0" for p in b.pixels)
         parts += [b"ELEMENT %s %d %d %d\n" % (name.encode(), b.x, b.y, len(bitmap)), bitmap]
-    word = calls.FLAT[call.numbers[0]] if what == "flat" else {"hit_or_miss": "HITMISS"}.get(what, what.upper())
-    numbers = [] if what == "flat" and word != "RANK" else call.numbers[-1:]
     names = ["f"] + ["b", "c"][:len(call.bitmaps)]
-    parts.append(" ".join(["RUN r", word, *names, *map(str, numbers)]).encode() + b"\nFETCH r\n")
+    words = [calls.operation(call), *names, *map(str, calls.operation_numbers(call))]
+    parts.append(" ".join(["RUN r", *words]).encode() + b"\nFETCH r\n")
     return b"".join(parts)
 
 
@@ -116,7 +135,7 @@ def beside_program(library, program, chance):
         if calls.family(call) == "spectrum":
             same = plain_model.curve_text(samples) == text
         else:
-            same = list(plain_model.image_in(text).samples) == samples
+            same = list(calls.asked_of(call, plain_model.image_in(text).samples)) == samples
         if not same:
             sys.exit("DIFFERS from morphd batch: %r" % (call,))
     return count
@@ -185,6 +204,7 @@ def main():
     print("%d random calls beside the plain model; answers: %s" % (CALLS, told))
     side_by_side(library, chance)
     print("four threads at once make the same")
+    print("%d calls for rows beside the whole result" % rows_beside_whole(library, chance))
     with tempfile.TemporaryDirectory() as folder:
         print(refusals(out, folder))
         documents(out, folder)

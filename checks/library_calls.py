@@ -13,6 +13,8 @@ TYPES = {"int32_t": ctypes.c_int32, "uint32_t": ctypes.c_uint32, "uint8_t": ctyp
          "uint64_t": ctypes.c_uint64, "size_t": ctypes.c_size_t}
 PROTOTYPE = re.compile(r"^(u?int32_t) (morphd_\w+)\(([^;]*)\);", re.MULTILINE)
 FLAT = ("ERODE", "DILATE", "OPEN", "CLOSE", "GRADIENT", "WTOPHAT", "BTOPHAT", "RANK")
+# The numbers of those of one step, of whose results rows are made alone.
+OF_ONE_STEP = (0, 1, 4, 7)
 LENGTH, SIZE, MAXVAL, SAMPLE, ORIGIN, EMPTY, NO_ORIGIN, OVERLAP, PARAM = 11, 22, 23, 25, 31, 32, 45, 46, 47
 # What stands in `out` before a call, and on both sides of it.
 UNTOUCHED, MARGIN = 0xA5, 3
@@ -102,12 +104,46 @@ def family(call):
 
 
 def room_wanted(call):
+    """How many samples the result has; of rows that are made alone any number of whole ones is right."""
     return call.numbers[0] + 1 if family(call) == "spectrum" else len(call.image.samples)
+
+
+def room_fits(call):
+    """Whether `out` has the length of the result, or of rows of it from the first that is asked for."""
+    if family(call) != "flat_rows":
+        return call.room == room_wanted(call)
+    width, above = call.image.width, call.numbers[2] * call.image.width
+    return width > 0 and call.room > 0 and call.room % width == 0 and above + call.room <= len(call.image.samples)
+
+
+def asked_of(call, samples):
+    """Those of the whole result's samples that the call asks for."""
+    if family(call) != "flat_rows":
+        return samples
+    above = call.numbers[2] * call.image.width
+    return samples[above:above + call.room]
+
+
+def operation(call):
+    """The word of the protocol for what a call makes."""
+    what = family(call)
+    if what in ("flat", "flat_rows"):
+        return FLAT[call.numbers[0]]
+    return {"hit_or_miss": "HITMISS"}.get(what, what.upper())
+
+
+def operation_numbers(call):
+    """The numbers that go with that word."""
+    if family(call) in ("flat", "flat_rows"):
+        return call.numbers[1:2] if operation(call) == "RANK" else []
+    return call.numbers
 
 
 def refusal_of_number(call):
     """What is wrong with the first number of a call."""
     limits = {"flat": (0, 7), "threshold": (0, 65535), "skeleton": (1, 254), "restore": (1, 254), "spectrum": (1, 32)}
+    if family(call) == "flat_rows":
+        return 0 if call.numbers[0] in OF_ONE_STEP else PARAM
     if family(call) not in limits:
         return 0
     first, last = limits[family(call)]
@@ -119,7 +155,7 @@ def refusal_of_pixels(call):
     elements, what = [offsets(b) for b in call.bitmaps], family(call)
     if what == "hit_or_miss":
         return OVERLAP if set(elements[0]) & set(elements[1]) else 0
-    is_rank = what == "flat" and FLAT[call.numbers[0]] == "RANK"
+    is_rank = operation(call) == "RANK"
     if (is_rank or what == "skeleton") and (0, 0) not in elements[0]:
         return NO_ORIGIN
     return PARAM if is_rank and not 1 <= call.numbers[1] <= len(elements[0]) else 0
@@ -127,7 +163,7 @@ def refusal_of_pixels(call):
 
 def wanted(call):
     """The answer of a call where memory is ample, and the samples of its result."""
-    cases = [refusal_of_number(call), refusal_of_image(call.image), LENGTH if call.room != room_wanted(call) else 0]
+    cases = [refusal_of_number(call), refusal_of_image(call.image), 0 if room_fits(call) else LENGTH]
     cases += [refusal_of_bitmap(b) for b in call.bitmaps]
     answer = next((it for it in cases if it), 0) or refusal_of_pixels(call)
     return (answer, None) if answer else (0, value(call))
@@ -139,10 +175,8 @@ def value(call):
     samples = [int(s != 0) for s in f.samples] if f.kind == "set" else f.samples
     g = plain_model.Image("BIT" if f.kind == "set" else "GREY", f.width, f.height, 1 if f.kind == "set" else f.maxval, samples)
     elements = [offsets(b) for b in call.bitmaps]
-    word = {"flat": None, "hit_or_miss": "HITMISS"}.get(what, what.upper()) or FLAT[call.numbers[0]]
-    numbers = {"flat": call.numbers[1:] if word == "RANK" else ()}.get(what, call.numbers)
-    result = plain_model.OPERATIONS[word][2](g, *elements, *numbers)
-    return result if what == "spectrum" else result.samples
+    result = plain_model.OPERATIONS[operation(call)][2](g, *elements, *operation_numbers(call))
+    return result if what == "spectrum" else asked_of(call, result.samples)
 
 
 # ---- random calls
@@ -161,8 +195,8 @@ class Writer:
     def __init__(self, chance, odd=4):
         self.chance, self.odd, self.names = chance, odd, sorted(it for it in prototypes() if it != "morphd_version")
 
-    def image(self, kind, most):
-        width, height = self.chance.randint(1, 17), self.chance.randint(1, 13)
+    def image(self, kind, most, sides=None):
+        width, height = sides or (self.chance.randint(1, 17), self.chance.randint(1, 13))
         lowest, highest = {"u8": (1, 255), "u16": (256, 65535), "set": (1, 1)}[kind]
         maxval = self.chance.choice((lowest, highest, self.chance.randint(lowest, highest)))
         top = 255 if kind == "set" else min(most, maxval)
@@ -179,9 +213,12 @@ class Writer:
             pixels[y * width + x] = 1
         return Bitmap(width, height, x, y, pixels)
 
-    def numbers(self, what, bitmaps):
-        if what == "flat":
-            return [self.chance.randrange(8), self.chance.randint(1, sum(1 for p in bitmaps[0].pixels if p))]
+    def numbers(self, what, image, bitmaps):
+        if what in ("flat", "flat_rows"):
+            k = self.chance.randint(1, sum(1 for p in bitmaps[0].pixels if p))
+            if what == "flat":
+                return [self.chance.randrange(8), k]
+            return [self.chance.choice(OF_ONE_STEP), k, self.chance.randrange(image.height)]
         k = self.chance.choice((0, 1, 7, 255, 300, 65535))
         return {"threshold": [k], "hit_or_miss": []}.get(what, [self.chance.randint(1, 5)])
 
@@ -193,9 +230,21 @@ class Writer:
         if what == "hit_or_miss" and self.chance.random() < 0.8:
             bitmaps[1] = apart(*bitmaps)
         image = self.image(kind, 6 if what == "restore" else 65535)
-        call = Call(name, self.numbers(what, bitmaps), image, bitmaps, 0)
-        call = call._replace(room=room_wanted(call))
+        call = Call(name, self.numbers(what, image, bitmaps), image, bitmaps, 0)
+        call = call._replace(room=self.room(call))
         return self.spoiled(call) if self.chance.randrange(self.odd) == 0 else call
+
+    def room(self, call):
+        """A length of `out` that is right."""
+        if family(call) != "flat_rows":
+            return room_wanted(call)
+        return self.chance.randint(1, call.image.height - call.numbers[2]) * call.image.width
+
+    def rows(self, whole):
+        """A call for some rows of the result of a flat call of one step."""
+        numbers = [*whole.numbers, self.chance.randrange(whole.image.height)]
+        call = whole._replace(name=whole.name.replace("flat", "flat_rows"), numbers=numbers)
+        return call._replace(room=self.room(call))
 
     def spoiled(self, call):
         """The call with one fault or more."""
@@ -206,7 +255,8 @@ class Writer:
             elif kind == "image":
                 call = call._replace(image=self.spoiled_image(call.image))
             elif kind == "room":
-                call = call._replace(room=max(0, call.room + self.chance.choice((-1, 1, 7))))
+                more = self.chance.choice((-1, 1, 7, call.image.width, -call.room))
+                call = call._replace(room=max(0, call.room + more))
             elif kind == "bitmap" and call.bitmaps:
                 place = self.chance.randrange(len(call.bitmaps))
                 call.bitmaps[place] = self.spoiled_bitmap(call.bitmaps[place])

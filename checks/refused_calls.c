@@ -7,6 +7,7 @@
 
 #define SIDE 9
 #define PIXELS (SIDE * SIDE)
+#define CALLS 19
 
 void *__real_malloc(size_t size);
 void *__real_realloc(void *old, size_t size);
@@ -63,7 +64,10 @@ static int32_t call(int number) {
     case 12: return morphd_restore_u16(2, SIDE, SIDE, 65535, words, PIXELS, BOX, out.bytes, PIXELS);
     case 13: return morphd_spectrum_u8(3, SIDE, SIDE, 255, bytes, PIXELS, BOX, out.volumes, 4);
     case 14: return morphd_spectrum_u16(3, SIDE, SIDE, 65535, words, PIXELS, BOX, out.volumes, 4);
-    default: return morphd_spectrum_set(3, SIDE, SIDE, bytes, PIXELS, BOX, out.volumes, 4);
+    case 15: return morphd_spectrum_set(3, SIDE, SIDE, bytes, PIXELS, BOX, out.volumes, 4);
+    case 16: return morphd_flat_rows_u8(MORPHD_ERODE, 0, 3, SIDE, SIDE, 255, bytes, PIXELS, BOX, out.bytes, 4 * SIDE);
+    case 17: return morphd_flat_rows_u16(MORPHD_GRADIENT, 0, 0, SIDE, SIDE, 65535, words, PIXELS, BOX, out.words, SIDE);
+    default: return morphd_flat_rows_set(MORPHD_RANK, 5, 8, SIDE, SIDE, bytes, PIXELS, BOX, out.bytes, SIDE);
     }
 }
 
@@ -108,11 +112,11 @@ int main(void) {
         words[i] = i * 3571;
     }
     memset(&before, 0xA5, sizeof before);
-    for (int number = 0; number < 16; number++) {
+    for (int number = 0; number < CALLS; number++) {
         long some = tried(number);
         if (some <= 0) return fails(number, 0, "no allocation was refused");
         allocations += some;
     }
-    printf("%ld allocations of 16 calls refused in turn\n", allocations);
+    printf("%ld allocations of %d calls refused in turn\n", allocations, CALLS);
     return 0;
 }

@@ -38,7 +38,7 @@
  * 0 (MORPHD_DONE): `out` has the result. Any other answer is the first of these that holds, and `out` is as it was:
  *   1. the call's first number (operation, k of a threshold, levels): MORPHD_PARAM
  *   2. the image: MORPHD_SIZE, MORPHD_LENGTH, MORPHD_MAXVAL, MORPHD_SAMPLE
- *   3. out_count is not the length of the result: MORPHD_LENGTH
+ *   3. out_count is not the length of the result, or not that of rows of it that are asked for: MORPHD_LENGTH
  *   4. the element: MORPHD_SIZE, MORPHD_LENGTH, MORPHD_ORIGIN, MORPHD_EMPTY; then a second one in the same way
  *   5. what the operation asks of the element's pixels: MORPHD_NO_ORIGIN, MORPHD_PARAM (k of a rank), MORPHD_OVERLAP
  * MORPHD_MEMORY may come in the place of the result, or of 5, since the element has to be in memory for that. The flat calls
@@ -73,7 +73,7 @@ enum {
 /* Answers. */
 enum {
     MORPHD_DONE = 0,
-    MORPHD_LENGTH = 11,    /* an array is not as long as its sides say, or `out` not as long as the result */
+    MORPHD_LENGTH = 11,    /* an array is not as long as its sides say, or `out` not as long as the result, or no rows of it */
     MORPHD_SIZE = 22,      /* sides that no image, or no element, has */
     MORPHD_MAXVAL = 23,    /* a maxval outside its limits */
     MORPHD_SAMPLE = 25,    /* a sample over the maxval */
@@ -102,6 +102,27 @@ int32_t morphd_flat_u16(
     uint16_t *out, size_t out_count);
 int32_t morphd_flat_set(
     uint32_t operation, uint32_t k,
+    uint32_t width, uint32_t height, const uint8_t *pixels, size_t count,
+    const uint8_t *element, size_t element_count, uint32_t element_width, uint32_t element_height, uint32_t element_x, uint32_t element_y,
+    uint8_t *out, size_t out_count);
+
+/* Some rows of what a flat operation of one step makes: MORPHD_ERODE, MORPHD_DILATE, MORPHD_GRADIENT or MORPHD_RANK; any other
+ * answers MORPHD_PARAM. So several threads can share one picture: each calls with the same image and another `first_row`, and
+ * makes rows of its own. `out` gets as many rows of the result as it has room for, from `first_row` on, counted from 0, with the
+ * samples that morphd_flat_* gives them. Nothing else of the result is made or written. out_count is the width or a multiple of
+ * it, and all these rows lie in the image; else the answer is MORPHD_LENGTH. */
+int32_t morphd_flat_rows_u8(
+    uint32_t operation, uint32_t k, uint32_t first_row,
+    uint32_t width, uint32_t height, uint8_t maxval, const uint8_t *samples, size_t count,
+    const uint8_t *element, size_t element_count, uint32_t element_width, uint32_t element_height, uint32_t element_x, uint32_t element_y,
+    uint8_t *out, size_t out_count);
+int32_t morphd_flat_rows_u16(
+    uint32_t operation, uint32_t k, uint32_t first_row,
+    uint32_t width, uint32_t height, uint16_t maxval, const uint16_t *samples, size_t count,
+    const uint8_t *element, size_t element_count, uint32_t element_width, uint32_t element_height, uint32_t element_x, uint32_t element_y,
+    uint16_t *out, size_t out_count);
+int32_t morphd_flat_rows_set(
+    uint32_t operation, uint32_t k, uint32_t first_row,
     uint32_t width, uint32_t height, const uint8_t *pixels, size_t count,
     const uint8_t *element, size_t element_count, uint32_t element_width, uint32_t element_height, uint32_t element_x, uint32_t element_y,
     uint8_t *out, size_t out_count);

@@ -85,12 +85,34 @@ class Flat:
         own = self.footprint.reach
         return own + own.turned() if self.op in _TWO_STEPS else own
 
+    @property
+    def has_one_step(self) -> bool:
+        """Whether rows of the result can be made alone."""
+        return self.op not in _TWO_STEPS
+
     def dtype(self, field: Field) -> Any:
         return field.samples.dtype
 
+    def _arguments(self, field: Field, out: Samples) -> tuple[Any, ...]:
+        return (*_frame(field), *field.top, *_array(field.samples), *_element(self.footprint), *_array(out))
+
     def run(self, field: Field, out: Samples) -> None:
-        arguments = (*_frame(field), *field.top, *_array(field.samples), *_element(self.footprint), *_array(out))
-        _library.call(f"morphd_flat_{field.kind}", lambda: f"{self} of {field}", self.op, self.k, *arguments)
+        _library.call(f"morphd_flat_{field.kind}", lambda: f"{self} of {field}", self.op, self.k, *self._arguments(field, out))
+
+    def run_rows(self, field: Field, first: int, out: Samples) -> None:
+        """Writes rows of the result alone, where the operation has one step.
+
+        Parameters
+        ----------
+        field : Field
+            What is looked at: those rows, and what the footprint reaches above and below them.
+        first : int
+            The first of the rows, counted from the first one of `field`.
+        out : Samples
+            Room for the rows, without gaps: as many are written as it has.
+        """
+        arguments = (self.op, self.k, first, *self._arguments(field, out))
+        _library.call(f"morphd_flat_rows_{field.kind}", lambda: f"rows of {self} of {field}", *arguments)
 
     def __str__(self) -> str:
         number = f" number {self.k}" if self.op == _library.RANK else ""

@@ -23,6 +23,7 @@ _TOPS: dict[str, tuple[Any, ...]] = {"u8": (_U8,), "u16": (_U16,), "set": ()}
 # Each call with the types of its arguments. Those of one family differ in the samples that they take.
 PROTOTYPES: dict[str, tuple[Any, ...]] = {
     **{f"morphd_flat_{kind}": (_U32, _U32, *_FRAME, *top, *_ARRAY, *_ELEMENT, *_ARRAY) for kind, top in _TOPS.items()},
+    **{f"morphd_flat_rows_{kind}": (_U32, _U32, _U32, *_FRAME, *top, *_ARRAY, *_ELEMENT, *_ARRAY) for kind, top in _TOPS.items()},
     **{f"morphd_threshold_{kind}": (_U32, *_FRAME, *_TOPS[kind], *_ARRAY, *_ARRAY) for kind in ("u8", "u16")},
     **{f"morphd_hit_or_miss_{kind}": (*_FRAME, *top, *_ARRAY, *_ELEMENT, *_ELEMENT, *_ARRAY) for kind, top in _TOPS.items()},
     "morphd_skeleton": (_U32, *_FRAME, *_ARRAY, *_ELEMENT, *_ARRAY),

@@ -1,7 +1,8 @@
 """Arrays cut into pieces: for several cores, and where an array is larger than the library's limits.
 
-A piece is computed on a window that is larger than it by the call's reach, where the frame goes on, and its rim is cut off.
-What a sample depends on lies inside that window, so the result is that of one piece, byte for byte.
+A piece is computed on a window that is larger than it by the call's reach, where the frame goes on. What a sample depends on lies
+inside that window, so the result is that of one piece, byte for byte. Of whole rows under a call of one step the library makes the
+piece alone, where it belongs; else the rim is computed too, and cut off.
 """
 from __future__ import annotations
 
@@ -15,7 +16,7 @@ from typing import NamedTuple, TypeVar
 
 import numpy as np
 
-from ._calls import Call, Field, Samples
+from ._calls import Call, Field, Flat, Samples
 from .errors import Refused
 from .footprints import Reach
 
@@ -63,6 +64,10 @@ class Piece(NamedTuple):
     def is_its_window(self) -> bool:
         """Whether there is no rim to cut off."""
         return all(span.own == span.window for span in self)
+
+    def has_whole_rows(self, shape: tuple[int, ...]) -> bool:
+        """Whether its rows are those of an array of this shape from the first column to the last."""
+        return self.columns.own == slice(0, shape[1])
 
 
 def worker_count(workers: int | None) -> int:
@@ -179,10 +184,12 @@ def apply(call: Call, field: Field, out: Samples | None, workers: int) -> Sample
         target = made[piece.rows.own, piece.columns.own]
         if piece.is_its_window and target.flags.c_contiguous:
             call.run(window, target)
-            return
-        whole = np.empty(window.samples.shape, made.dtype)
-        call.run(window, whole)
-        target[...] = whole[piece.rows.inner, piece.columns.inner]
+        elif isinstance(call, Flat) and call.has_one_step and piece.has_whole_rows(made.shape):
+            call.run_rows(window, piece.rows.inner.start, target)
+        else:
+            whole = np.empty(window.samples.shape, made.dtype)
+            call.run(window, whole)
+            target[...] = whole[piece.rows.inner, piece.columns.inner]
 
     each(one, pieces, workers)
     return made

@@ -21,6 +21,7 @@ import plain_model  # noqa: E402
 from morphd import _library  # noqa: E402
 
 OPERATIONS = ("ERODE", "DILATE", "OPEN", "CLOSE", "GRADIENT", "WTOPHAT", "BTOPHAT", "RANK")
+OF_ONE_STEP = ("ERODE", "DILATE", "GRADIENT", "RANK")
 TYPES = {"u8": ctypes.c_uint8, "u16": ctypes.c_uint16, "set": ctypes.c_uint8}
 # How often each call was made, which tests look at.
 calls: dict[str, int] = {}
@@ -77,15 +78,29 @@ def applied(operation, f, elements, number):
     return plain_model.OPERATIONS[operation][2](f, *[b.offsets for b in elements], *numbers)
 
 
+def flat_made(op, k, f, b):
+    """The samples that a flat operation makes."""
+    return applied(OPERATIONS[op], f, [b], k if OPERATIONS[op] == "RANK" else None).samples
+
+
 def flat(kind):
     def call(op, k, width, height, *rest):
         top, (address, count, *figure, out, out_count) = (1, rest) if kind == "set" else (rest[0], rest[1:])
         unless(op < len(OPERATIONS), 47)
         f = image(kind, width, height, top, address, count)
         unless(out_count == count, 11)
-        b = element(*figure)
-        made = applied(OPERATIONS[op], f, [b], k if OPERATIONS[op] == "RANK" else None)
-        put(made.samples, TYPES[kind], out, out_count)
+        put(flat_made(op, k, f, element(*figure)), TYPES[kind], out, out_count)
+    return call
+
+
+def flat_rows(kind):
+    def call(op, k, first, width, height, *rest):
+        top, (address, count, *figure, out, out_count) = (1, rest) if kind == "set" else (rest[0], rest[1:])
+        unless(op < len(OPERATIONS) and OPERATIONS[op] in OF_ONE_STEP, 47)
+        f = image(kind, width, height, top, address, count)
+        unless(out_count >= 1 and out_count % width == 0 and first * width + out_count <= count, 11)
+        made = flat_made(op, k, f, element(*figure))
+        put(made[first * width:first * width + out_count], TYPES[kind], out, out_count)
     return call
 
 
@@ -139,6 +154,7 @@ def spectrum(kind):
 
 BODIES = {
     **{f"morphd_flat_{kind}": flat(kind) for kind in TYPES},
+    **{f"morphd_flat_rows_{kind}": flat_rows(kind) for kind in TYPES},
     **{f"morphd_threshold_{kind}": threshold(kind) for kind in ("u8", "u16")},
     **{f"morphd_hit_or_miss_{kind}": hit_or_miss(kind) for kind in TYPES},
     "morphd_skeleton": skeleton,

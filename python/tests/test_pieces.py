@@ -1,4 +1,5 @@
 """Arrays cut into pieces: results are those of one piece, byte for byte, also over seams."""
+import ctypes
 import threading
 
 import cases
@@ -6,7 +7,7 @@ import numpy as np
 import pytest
 
 import morphd
-from morphd import _pieces, curves
+from morphd import _library, _pieces, curves
 from morphd.footprints import Reach
 
 OPERATORS = ("erosion", "dilation", "opening", "closing", "gradient", "white_tophat", "black_tophat")
@@ -62,6 +63,60 @@ def test_rows_are_shared(monkeypatch, name, workers):
         out = np.zeros_like(image)
         getattr(morphd, name)(image, b, workers=workers, out=out)
         np.testing.assert_array_equal(out, wanted)
+
+
+def watch(monkeypatch, library):
+    """The calls of the library from now on: the name, and the address and the length of the first array and of the result's."""
+    import stand_in
+
+    seen = []
+
+    def watched(name, real):
+        places = [at for at, kind in enumerate(_library.PROTOTYPES[name]) if kind is ctypes.c_void_p]
+
+        def call(*arguments):
+            seen.append((name, *(arguments[at:at + 2] for at in (places[0], places[-1]))))
+            return real(*arguments)
+
+        return call
+
+    for name in stand_in.BODIES:
+        monkeypatch.setattr(library, name, watched(name, getattr(library, name)))
+    return seen
+
+
+def lies_in(place, array):
+    """Whether what a call was given, by its address and its length, is part of an array."""
+    address, count = place
+    begin = array.ctypes.data
+    return begin <= address and address + count * array.itemsize <= begin + array.nbytes
+
+
+@pytest.mark.parametrize("workers", [2, 5])
+@pytest.mark.parametrize("name", ["erosion", "dilation", "gradient", "rank"])
+def test_rows_are_made_where_they_belong(monkeypatch, stood_in, name, workers):
+    """By operations of one step: no piece is copied out of the image, and none has room of its own for its result."""
+    monkeypatch.setattr(_pieces, "LEAST_ROWS", 2)
+    rng, b = np.random.default_rng(6), morphd.Footprint([[1, 0, 1], [0, 1, 0], [0, 1, 1], [1, 0, 0]], (2, 1))
+    numbers = (2,) if name == "rank" else ()
+    for dtype in cases.TYPES:
+        image = cases.image(rng, (41, 9), dtype)
+        wanted, out = getattr(morphd, name)(image, *numbers, b, mode="ignore"), np.zeros_like(image)
+        with pytest.MonkeyPatch.context() as watching:
+            seen = watch(watching, stood_in)
+            getattr(morphd, name)(image, *numbers, b, mode="ignore", workers=workers, out=out)
+        np.testing.assert_array_equal(out, wanted)
+        assert len(seen) == workers
+        for call, samples, target in seen:
+            assert call.startswith("morphd_flat_rows_") and lies_in(samples, image) and lies_in(target, out)
+        assert sum(target[1] for _, _, target in seen) == out.size
+
+
+def test_rows_of_two_steps_have_room_of_their_own(monkeypatch, stood_in):
+    monkeypatch.setattr(_pieces, "LEAST_ROWS", 2)
+    seen = watch(monkeypatch, stood_in)
+    morphd.opening(np.ones((40, 3), np.uint8), morphd.square(3), workers=4)
+    assert [call for call, _, _ in seen] == ["morphd_flat_u8"] * 4
 
 
 def test_other_operators_are_cut(small_limits):

@@ -2,6 +2,7 @@
 mod Answered
 mod Asked
 mod Meant
+mod OneStep
 mod Passed
 mod Sets
 mod Sized

@@ -36,7 +36,7 @@ fn room_fault(room: usize, count: usize) -> Option<Code>
 }
 
 /// The first thing that is wrong with a call: its number, the image, the room for what is made, and the element.
-fn refused(
+pub(crate) fn refused(
     number: Option<Code>,
     image: Option<Code>,
     room: Option<Code>,

@@ -9,6 +9,7 @@ ghost use Rattle.mw_arrays.specs.Sound.{IsElementBitmap};
 ghost use Rattle.mw_arrays.specs.Sources.{IsSource, picture_in, source_count};
 ghost use Rattle.mw_c.specs.Answers.{IsTold};
 ghost use Rattle.mw_c.specs.Calls.{flat_asks, flat_of, rank_fault};
+ghost use Rattle.mw_c.specs.Rows.{has_one_step, is_one_step};
 ghost use Rattle.mw_c.specs.Ways.{way_asks, way_picture};
 
 use crate::elements::element;
@@ -39,6 +40,7 @@ pub(crate) fn way_of(operation: u32, k: u32) -> Way
     requires { operation < 8 }
     ensures value { (e : List Offset) (f : Picture) → way_picture result e f ≡ flat_of operation k e f }
     ensures asks { (e : List Offset) → way_asks result e ≡ flat_asks operation k e }
+    ensures steps { is_one_step result ≡ has_one_step operation }
 {
     match operation {
         0 => Way::Slide(Extremum::Least),
@@ -64,7 +66,7 @@ fn rank_fault(k: u32, b: &Arc<Element>) -> Option<Code>
 }
 
 /// What the way misses in its element.
-fn missed(way: Way, b: &Arc<Element>) -> Option<Code>
+pub(crate) fn missed(way: Way, b: &Arc<Element>) -> Option<Code>
     ensures { result ≡ way_asks way (arc_value b.now).offsets }
 {
     match way {

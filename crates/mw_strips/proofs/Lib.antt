@@ -11,4 +11,5 @@ mod PlainValues
 mod SmallLevels
 mod Refilled
 mod Standing
+mod SomeRows
 mod Written

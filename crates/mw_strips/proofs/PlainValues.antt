@@ -43,9 +43,3 @@ place_within f x y width is wide across down =
 pub difference_there : (a b : Picture) (x y m n d : ℕ) → x < a.width → y < a.height → m ≡ sample a x y → n ≡ sample b x y → d ≡ m - n → d ≡ sample (minus a b) x y
 difference_there a b x y m n d across down first second is =
     is ∙ ap (λ (t : ℕ). t - n) first ∙ ap (λ (t : ℕ). sample a x y - t) second ∙ sym (sample-redrawn a (λ u v. sample a u v - sample b u v) x y across down)
-
-pub cell_within : (f : Picture) (x y w n : ℕ) → w ≡ f.width → x < w → y < f.height → n ≡ f.height * f.width → y * w + x < n
-cell_within f x y w n wide across down size =
-    let there : y * w + x < w * f.height = mul-add-lt y w x f.height down across in
-    let same : w * f.height ≡ f.height * f.width = mul_comm w f.height ∙ ap (λ (t : ℕ). f.height * t) wide in
-    omega (arith, there, same, size)

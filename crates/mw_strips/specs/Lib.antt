@@ -1,4 +1,5 @@
 pub mod Layers
 pub mod Origins
 pub mod Parts
+pub mod Rows
 pub mod Tables

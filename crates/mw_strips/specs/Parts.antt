@@ -32,10 +32,10 @@ abbrev pub made_picture : PlanStep → List SourceWindow → Rect → Picture
 made_picture s ws tile =
     picture (kind_of_step s (window_at ws 0).kind) tile.width tile.height (maxval_of_step s (window_at ws 0).maxval) (made_of_windows s ws tile)
 
--- the cells begin with the first n samples of the image
-abbrev pub HasCells : {A : Type 0} → (A → ℕ) → Picture → ℕ → List A → Type 0
-HasCells {A} level f n cells = (i : ℕ) (d : A) → i < n → level (slice_index_or cells i d) ≡ slice_index f.samples i
+-- the cells begin with the samples of the image from number `base` on, up to number n
+abbrev pub HasCells : {A : Type 0} → (A → ℕ) → Picture → ℕ → ℕ → List A → Type 0
+HasCells {A} level f base n cells = (i : ℕ) (d : A) → base + i < n → level (slice_index_or cells i d) ≡ slice_index f.samples (base + i)
 
--- the cells begin with the first n rows of the image
-abbrev pub HasRows : {A : Type 0} → (A → ℕ) → Picture → ℕ → List A → Type 0
-HasRows level f n cells = HasCells level f (n * f.width) cells
+-- the cells begin with the rows of the image from row `first` on, up to row n
+abbrev pub HasRows : {A : Type 0} → (A → ℕ) → Picture → ℕ → ℕ → List A → Type 0
+HasRows level f first n cells = HasCells level f (first * f.width) (n * f.width) cells

@@ -24,7 +24,7 @@ use std::alloc::Global;
 use std::sync::Arc;
 
 /// The rule of an extremum under an element.
-fn slid(extremum: Extremum, element: &Arc<Element>) -> Rule<'_>
+pub(crate) fn slid(extremum: Extremum, element: &Arc<Element>) -> Rule<'_>
     ensures { (f : Picture) → rule_picture result f ≡ sliding extremum (arc_value element.entry.now).offsets f }
 {
     match extremum {

@@ -1,6 +1,6 @@
 //! How frames are cut into strips.
 
-ghost use Rattle.std.specs.Prelude.{◌≡◌, ◌<◌, ◌≤◌};
+ghost use Rattle.std.specs.Prelude.{◌≡◌, ◌+◌, ◌<◌, ◌≤◌};
 ghost use Rattle.mw_model.specs.Pictures.{Picture};
 ghost use Rattle.mw_strips.specs.Parts.{IsStrip};
 
@@ -83,18 +83,19 @@ pub(crate) fn rows_of(formula: Formula<'_>) -> u32
     }
 }
 
-/// The strip of so many rows, or as many as there are, from row y on.
-pub(crate) fn strip_from(rows: u32, width: u32, height: u32, y: u32) -> Rect
+/// The strip of so many rows, or as many as there are before `end`, from row y on.
+pub(crate) fn strip_from(rows: u32, width: u32, end: u32, y: u32) -> Rect
     requires some { 1 ≤ rows }
-    requires within { y < height }
+    requires within { y < end }
     ensures place { result.y ≡ y }
-    ensures strip { (f : Picture) → width ≡ f.width → height ≡ f.height → IsStrip result f }
+    ensures before { result.y + result.height ≤ end }
+    ensures strip { (f : Picture) → width ≡ f.width → end ≤ f.height → IsStrip result f }
 {
     Rect {
         x: 0,
         y,
         width,
-        height: rows.min(height - y),
+        height: rows.min(end - y),
     }
 }
 

@@ -90,19 +90,23 @@ pub(crate) fn wanted(
     in_one_piece(alloc, Op::Flat(operation(job, n)), image, b)
 }
 
-/// Whether the array has the samples of the image.
-pub(crate) fn shows<P: Sample>(out: &[P], image: &Image) -> bool {
+/// Whether the array has rows of the image, from row `first` on: as many samples as it has.
+pub(crate) fn shows_rows<P: Sample>(out: &[P], image: &Image, first: u32) -> bool {
     let (width, height) = (image.width(), image.height());
-    if out.len() != height as usize * width as usize {
-        return false;
-    }
+    let above = first as usize * width as usize;
     for y in 0..height {
         for x in 0..width {
-            let at = y as usize * width as usize + x as usize;
-            if out.get(at).map(|s| s.value()) != Some(image.sample(x, y)) {
+            let place = y as usize * width as usize + x as usize;
+            let seen = out.get(place.wrapping_sub(above)).map(|s| s.value());
+            if seen.is_some() && seen != Some(image.sample(x, y)) {
                 return false;
             }
         }
     }
     true
+}
+
+/// Whether the array has the samples of the image.
+pub(crate) fn shows<P: Sample>(out: &[P], image: &Image) -> bool {
+    out.len() == image.height() as usize * image.width() as usize && shows_rows(out, image, 0)
 }

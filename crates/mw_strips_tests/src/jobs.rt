@@ -6,8 +6,8 @@ ghost use Rattle.mw_arrays.specs.Sources.{IsSource, picture_in, source_count};
 use mw_model::plain::PlainImage;
 use mw_model::{FlatOp, Name, NoMemory, Offset, plain};
 use mw_strips::{
-    Element, Extremum, Sample, Source, filter_into, gradient_into, rank_into, residue_into,
-    slide_into,
+    Element, Extremum, Sample, Source, are_rows, filter_into, gradient_into, gradient_rows_into,
+    rank_into, rank_rows_into, residue_into, slide_into, slide_rows_into,
 };
 use std::alloc::Global;
 use std::sync::Arc;
@@ -56,6 +56,56 @@ pub(crate) fn write<P: Sample>(
         Job::Residue(extremum) => residue_into(alloc, extremum, f, b, out),
         Job::Gradient => gradient_into(alloc, f, b, out),
     }
+}
+
+/// What is written by rows: operators of one step.
+#[derive(Clone, Copy)]
+pub(crate) enum RowJob {
+    Slide(Extremum),
+    Rank(u32),
+    Gradient,
+}
+
+/// Each operator of one step, and ranks at the ends and between them.
+pub(crate) const ROW_JOBS: [RowJob; 6] = [
+    RowJob::Slide(Extremum::Least),
+    RowJob::Slide(Extremum::Greatest),
+    RowJob::Rank(1),
+    RowJob::Rank(2),
+    RowJob::Rank(4),
+    RowJob::Gradient,
+];
+
+/// The job that makes all rows.
+pub(crate) fn whole_of(job: RowJob) -> Job {
+    match job {
+        RowJob::Slide(extremum) => Job::Slide(extremum),
+        RowJob::Rank(k) => Job::Rank(k),
+        RowJob::Gradient => Job::Gradient,
+    }
+}
+
+/// Writes rows of what the job makes, from row `first` on; no where the array is no room for such rows.
+pub(crate) fn write_rows<P: Sample>(
+    alloc: Global,
+    job: RowJob,
+    f: Source<'_>,
+    b: &Arc<Element>,
+    first: u32,
+    out: &mut [P],
+) -> Result<bool, NoMemory>
+    requires sound { IsSource f }
+    requires stands { P.stands (picture_in f).maxval }
+{
+    if !are_rows(f, first, out.len()) {
+        return Ok(false);
+    }
+    match job {
+        RowJob::Slide(extremum) => slide_rows_into(alloc, extremum, f, b, first, out)?,
+        RowJob::Rank(k) => rank_rows_into(alloc, k, f, b, first, out)?,
+        RowJob::Gradient => gradient_rows_into(alloc, f, b, first, out)?,
+    }
+    Ok(true)
 }
 
 /// The same operation of the protocol.

@@ -1,5 +1,5 @@
-//! Tests of operators from array to array, and of arrays: each beside the plain program, strips beside whole frames, faults,
-//! and what an array holds where memory was refused.
+//! Tests of operators from array to array, and of arrays: each beside the plain program, strips beside whole frames, rows beside
+//! the whole result, faults, and what an array holds where memory was refused.
 //!
 //! ```text
 //! rt test     // in this folder; then `make memory` refuses each allocation of the module `memory` in turn
@@ -18,5 +18,7 @@ mod given;
 mod jobs;
 #[cfg(test)]
 mod memory;
+#[cfg(test)]
+mod rows;
 #[cfg(test)]
 mod seams;

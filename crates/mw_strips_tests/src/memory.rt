@@ -4,9 +4,9 @@
 ghost use Rattle.std.specs.Prelude.{◌≡◌, ◌≤◌, length, IfOk};
 ghost use Rattle.mw_arrays.specs.Sources.{IsSource, picture_in, source_count};
 
-use crate::direct::{image_of_bytes, shows, wanted};
+use crate::direct::{image_of_bytes, shows, shows_rows, wanted};
 use crate::given::{grey8, mixed, set};
-use crate::jobs::{Job, write};
+use crate::jobs::{Job, RowJob, whole_of, write, write_rows};
 use mw_element::ElementFault;
 use mw_model::NoMemory;
 use mw_pixel::copies;
@@ -182,4 +182,55 @@ fn a_threshold(rt: HostRuntime) -> Result<(), Fail> {
         assert!(rt; out.get(i).copied() == Some(u8::from(samples[i] >= 100)));
     }
     Ok(())
+}
+
+/// Of the rows of `LEVELS` those from this on, in strips of 32 and 20 rows.
+const FIRST: u32 = 9;
+
+const ROWS_COUNT: usize = 425984;
+
+/// Writes rows of what the job makes, once more where memory was refused. Says whether a refused call wrote nothing.
+fn rows_again(
+    alloc: Global,
+    job: RowJob,
+    f: Source<'_>,
+    b: &Arc<Element>,
+    out: &mut [u8],
+) -> Result<bool, Fail>
+    requires sound { IsSource f }
+    requires small { (picture_in f).maxval ≤ 255 }
+{
+    match write_rows(alloc, job, f, b, FIRST, out) {
+        Ok(is_room) => Ok(is_room),
+        Err(NoMemory) => {
+            if !is_unwritten(out) {
+                return Ok(false);
+            }
+            Ok(write_rows(alloc, job, f, b, FIRST, out)?)
+        }
+    }
+}
+
+/// Stops where the job writes other rows than are made of the same levels in one piece.
+fn rows_are_whole(rt: &impl Abort, alloc: Global, job: RowJob) -> Result<(), Fail> {
+    let (width, height) = LEVELS;
+    let samples = mixed::<u8>(alloc, LEVEL_COUNT, 200)?;
+    let f = grey8(&samples, width, height, 200)?;
+    let b = corner(alloc)?;
+    let mut out = once_more!(NoMemory, copies(alloc, ROWS_COUNT, MARK));
+    assert!(rt; rows_again(alloc, job, f, &b, out.as_mut_slice())?);
+    let image = image_of_bytes(alloc, &samples, width, height, 200)?;
+    let made = wanted(alloc, whole_of(job), &image, &b)?;
+    assert!(rt; shows_rows(&out, &made, FIRST));
+    Ok(())
+}
+
+#[test]
+fn rows_of_an_erosion(rt: HostRuntime) -> Result<(), Fail> {
+    rows_are_whole(&rt, rt.alloc(), RowJob::Slide(Extremum::Least))
+}
+
+#[test]
+fn rows_of_a_gradient(rt: HostRuntime) -> Result<(), Fail> {
+    rows_are_whole(&rt, rt.alloc(), RowJob::Gradient)
 }

@@ -18,7 +18,7 @@ pub strip_from-strip-requires : goal.strip_from-strip-requires
 strip_from-strip-requires g c = record { some = omega (arith, c.rows_of_layer-rows.ensures); within = c.strips-test.true }
 
 pub by_rule-requires : goal.by_rule-requires
-by_rule-requires g c = record { sound = c.requires.sound; strip = c.strip_from-strip.ensures.strip (picture_in c.args.f) c.width-width.ensures c.height-height.ensures }
+by_rule-requires g c = record { sound = c.requires.sound; strip = c.strip_from-strip.ensures.strip (picture_in c.args.f) c.width-width.ensures (omega (arith, c.height-height.ensures)) }
 
 pub levels-requires : goal.levels-requires
 levels-requires g c = record {
@@ -31,7 +31,7 @@ strips-preserved g c =
     let level = g.P.Pixel.level in
     let f = picture_in c.args.f in
     let r = c.strip_from-strip.result in
-    let own = c.strip_from-strip.ensures.strip f c.width-width.ensures c.height-height.ensures in
+    let own = c.strip_from-strip.ensures.strip f c.width-width.ensures (omega (arith, c.height-height.ensures)) in
     let low = own.low in
     let place = c.strip_from-strip.ensures.place in
     record {
@@ -45,7 +45,7 @@ strips-preserved-in_ok-extend_from_slice-2 g c =
     let level = g.P.Pixel.level in
     let f = picture_in c.args.f in
     let r = c.strip_from-strip.result in
-    let own = c.strip_from-strip.ensures.strip f c.width-width.ensures c.height-height.ensures in
+    let own = c.strip_from-strip.ensures.strip f c.width-width.ensures (omega (arith, c.height-height.ensures)) in
     let low = own.low in
     let place = c.strip_from-strip.ensures.place in
     record {
@@ -56,18 +56,18 @@ strips-preserved-in_ok-extend_from_slice-2 g c =
 
 pub strips-smaller : goal.strips-smaller
 strips-smaller g c =
-    let some = (c.strip_from-strip.ensures.strip (picture_in c.args.f) c.width-width.ensures c.height-height.ensures).some in
+    let some = (c.strip_from-strip.ensures.strip (picture_in c.args.f) c.width-width.ensures (omega (arith, c.height-height.ensures))).some in
     omega (arith, some, c.strips-test.true)
 
 pub strips-smaller-in_ok-extend_from_slice-2 : goal.strips-smaller-in_ok-extend_from_slice-2
 strips-smaller-in_ok-extend_from_slice-2 g c =
-    let some = (c.strip_from-strip.ensures.strip (picture_in c.args.f) c.width-width.ensures c.height-height.ensures).some in
+    let some = (c.strip_from-strip.ensures.strip (picture_in c.args.f) c.width-width.ensures (omega (arith, c.height-height.ensures))).some in
     omega (arith, some, c.strips-test.true)
 
 pub overflow_add-done : goal.overflow_add-done
 overflow_add-done g c =
     let f = picture_in c.args.f in
-    let low = (c.strip_from-strip.ensures.strip f c.width-width.ensures c.height-height.ensures).low in
+    let low = (c.strip_from-strip.ensures.strip f c.width-width.ensures (omega (arith, c.height-height.ensures))).low in
     let place = c.strip_from-strip.ensures.place in
     let most : f.height ≤ 8192 = (source_image c.args.f c.requires.sound).height.1 in
     omega (arith, low, place, most)

@@ -24,7 +24,7 @@ pub strip_from-strip-requires : goal.strip_from-strip-requires
 strip_from-strip-requires c = record { some = omega (arith, c.rows_of_layer-rows.ensures); within = c.strips-test.true }
 
 pub by_rule-requires : goal.by_rule-requires
-by_rule-requires c = record { sound = c.requires.sound; strip = c.strip_from-strip.ensures.strip (picture_in c.args.f) c.width-width.ensures c.height-height.ensures }
+by_rule-requires c = record { sound = c.requires.sound; strip = c.strip_from-strip.ensures.strip (picture_in c.args.f) c.width-width.ensures (omega (arith, c.height-height.ensures)) }
 
 pub words_in-requires : goal.words_in-requires
 words_in-requires c = ap (λ (h : Picture). h.kind) c.in_ok-image.ensures ∙ c.requires.set
@@ -36,7 +36,7 @@ strips-preserved-in_ok-extend_from_slice c =
     let r = c.strip_from-strip.result in
     let w = c.width-width.result in
     let done = c.strips.done in
-    let strip = c.strip_from-strip.ensures.strip f c.width-width.ensures c.height-height.ensures in
+    let strip = c.strip_from-strip.ensures.strip f c.width-width.ensures (omega (arith, c.height-height.ensures)) in
     let low = strip.low in
     let place = c.strip_from-strip.ensures.place in
     let image = c.in_ok-image.image in
@@ -63,13 +63,13 @@ strips-preserved-in_ok-extend_from_slice c =
 
 pub strips-smaller-in_ok-extend_from_slice : goal.strips-smaller-in_ok-extend_from_slice
 strips-smaller-in_ok-extend_from_slice c =
-    let some = (c.strip_from-strip.ensures.strip (picture_in c.args.f) c.width-width.ensures c.height-height.ensures).some in
+    let some = (c.strip_from-strip.ensures.strip (picture_in c.args.f) c.width-width.ensures (omega (arith, c.height-height.ensures))).some in
     omega (arith, some, c.strips-test.true)
 
 pub overflow_add-done : goal.overflow_add-done
 overflow_add-done c =
     let f = picture_in c.args.f in
-    let low = (c.strip_from-strip.ensures.strip f c.width-width.ensures c.height-height.ensures).low in
+    let low = (c.strip_from-strip.ensures.strip f c.width-width.ensures (omega (arith, c.height-height.ensures))).low in
     let place = c.strip_from-strip.ensures.place in
     let most : f.height ≤ 8192 = (source_image c.args.f c.requires.sound).height.1 in
     omega (arith, low, place, most)
