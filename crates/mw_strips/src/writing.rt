@@ -73,13 +73,7 @@ fn put_rows<P: Sample>(image: &Image, strip: Rect, done: u32, out: &mut [P])
 }
 
 /// Writes the rows of a strip, place by place where memory is refused. The array begins with row `first`.
-fn put_strip<P: Sample>(
-    alloc: Global,
-    formula: Formula<'_>,
-    strip: Rect,
-    first: u32,
-    out: &mut [P],
-)
+fn put_strip<P: Sample>(alloc: Global, formula: Formula<'_>, strip: Rect, first: u32, out: &mut [P])
     requires sound { IsFormula formula }
     requires strip { IsStrip strip (formula_picture formula) }
     requires behind { first ≤ strip.y }
