@@ -4,7 +4,7 @@
 MORPHD = crates/morphd/out/morphd
 
 help:
-	@echo "make demo       shows a picture and the sizes of its grains in 90 seconds; then proves and builds morphd"
+	@echo "make demo       shows a picture and the sizes of its grains in one to two minutes; then proves and builds morphd"
 	@echo "make morphd     proves and builds morphd alone, as crates/morphd/out/morphd"
 	@echo "make library    proves and links out/libmorphd.so and out/libmorphd.a, which C calls by include/morphd.h"
 	@echo "make check-library  holds them against the plain model, and runs the programs of docs/LIBRARY.md"
