@@ -168,10 +168,7 @@ fn measure_waits<R: Threads + Wait + Clock + Print + Sync>(
         )?;
     }
     let wait = wait_time(rt, alloc)?;
-    println!(rt;
-        "WAIT behind 1,000,000 items: {} ns",
-        wait.as_nanos()
-    )?;
+    println!(rt; "WAIT behind 1,000,000 items: {} ns", wait.as_nanos())?;
     Ok(())
 }
 

@@ -85,9 +85,12 @@ fn time_sessions<R: Threads + Wait + Clock + Sync, J: Naming + Send + Sync>(
     sessions: u32,
 ) -> Result<Duration, Fault> {
     let start = Instant::now(rt)?;
-    let ended = map_indices(rt, alloc, sessions as usize, &|i| {
-        session(rt, board, i as u32).is_ok()
-    })?;
+    let ended = map_indices(
+        rt,
+        alloc,
+        sessions as usize,
+        &|i| { session(rt, board, i as u32).is_ok() },
+    )?;
     if !ended.iter().all(|is_well| *is_well) {
         return Err(Fault::Answer);
     }

@@ -192,9 +192,12 @@ fn all_done<R: Threads + Wait + Abort + Sync, J: Naming + Send + Sync>(
             let _ = scope.spawn(move || work(rt, board, door));
         }
         let count = SESSIONS as usize;
-        let done = map_indices(rt, alloc, count, &|i| {
-            commands_done(rt, board, i as u32)
-        });
+        let done = map_indices(
+            rt,
+            alloc,
+            count,
+            &|i| { commands_done(rt, board, i as u32) },
+        );
         board.close(rt);
         done.expect(rt, "memory")
     })
@@ -224,11 +227,7 @@ fn no_waking_is_lost(rt: HostRuntime) {
 }
 
 /// Waits for what is done since long ago and for a name without an entry, while an entry is pending.
-fn waits_at_once<J: Naming, R: Wait + Abort>(
-    rt: &R,
-    alloc: Global,
-    roll: NewRoll,
-) -> [Reply; 3]
+fn waits_at_once<J: Naming, R: Wait + Abort>(rt: &R, alloc: Global, roll: NewRoll) -> [Reply; 3]
     requires { roll ≡ J.book }
 {
     let board = new_board::<J>(rt, alloc, roll);
@@ -248,10 +247,6 @@ fn waits_at_once<J: Naming, R: Wait + Abort>(
 #[test]
 fn waits_for_what_is_settled_end_at_once(rt: HostRuntime) {
     let replies = waits_at_once::<Brand, _>(&rt, rt.alloc(), NewRoll::new());
-    let wanted = [
-        Reply::Pending(2),
-        done(0),
-        Reply::Refused(Code::Unknown),
-    ];
+    let wanted = [Reply::Pending(2), done(0), Reply::Refused(Code::Unknown)];
     assert_eq!(rt; replies, wanted);
 }
