@@ -1,5 +1,5 @@
 //! Times of work through a board: one, two and four workers beside one thread that works on a core without a board, and
-//! the audit of a long log.
+//! the audit of a long log; and sessions that wait, many at once or behind a long log.
 //!
 //! Of each row the time goes from the first RUN to the last result, in the best of three rounds on new boards. In one
 //! thread the clock also stands at each call of `start` and `finish` of the core: that is how long a worker holds the
@@ -16,6 +16,7 @@ mod beside;
 mod fault;
 mod jobs;
 mod side;
+mod waits;
 
 use alone::{SoloTimes, alone};
 use audits::{PASSES, audit_time};
@@ -29,6 +30,7 @@ use std::rt::Clock;
 use std::sync::Wait;
 use std::thread::Threads;
 use std::time::Duration;
+use waits::{command_time, wait_time};
 
 const ROUNDS: u32 = 3;
 
@@ -147,6 +149,26 @@ fn measure<R: Threads + Wait + Clock + Print + Sync>(rt: &R, alloc: Global) -> R
         "audit of 1,000,000 items and {PASSES} passes: {} ms",
         audit.as_millis()
     )?;
+    measure_waits(rt, alloc)
+}
+
+/// Rows of sessions that ask for work and wait for it, and that of a wait behind a long log.
+fn measure_waits<R: Threads + Wait + Clock + Print + Sync>(
+    rt: &R,
+    alloc: Global,
+) -> Result<(), Fault> {
+    for sessions in [1, 8, 64] {
+        let mut best = command_time(rt, alloc, sessions)?;
+        for _ in 1..ROUNDS {
+            best = best.min(command_time(rt, alloc, sessions)?);
+        }
+        println!(rt;
+            "RUN and WAIT of {sessions} sessions at once: {} us a command",
+            best.as_micros()
+        )?;
+    }
+    let wait = wait_time(rt, alloc)?;
+    println!(rt; "WAIT behind 1,000,000 items: {} ns", wait.as_nanos())?;
     Ok(())
 }
 

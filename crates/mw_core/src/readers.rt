@@ -3,11 +3,11 @@
 ghost use Rattle.std.specs.Prelude.{◌≡◌, ◌<◌, ◌&&◌, ◌||◌, Some, is_some, length, slice_get};
 
 use crate::machine::Core;
-use mw_model::LogItem;
+use mw_model::{LogItem, Name};
 
 impl Core {
     ghost use Rattle.mw_model.specs.Values.{value_at};
-    ghost use Rattle.mw_model.specs.Refusals.{outcome_at, is_done, is_released};
+    ghost use Rattle.mw_model.specs.Refusals.{ticket_of, outcome_at, is_done, is_released};
     ghost use Rattle.mw_model.specs.Machine.{Machine};
     ghost use Rattle.mw_model.specs.Stands.{StandsFor, is_wanted};
 
@@ -22,6 +22,13 @@ impl Core {
             return false;
         }
         self.ledger.store().keeps(t)
+    }
+
+    /// The ticket of a name.
+    pub fn ticket_of(&self, name: Name) -> Option<u32>
+        ensures { result ≡ ticket_of self.now.table.names name }
+    {
+        self.ledger.store().find(name)
     }
 
     /// The side of the tiles that its tasks make, in pixels.

@@ -16,7 +16,7 @@ use Rattle.mw_model.specs.declared.calls.Reply.{Reply}
 use Rattle.mw_model.specs.declared.tasks.TaskId.{TaskId}
 use Rattle.mw_model.specs.Values.{Value, tickets, value_at, values_after}
 use Rattle.mw_model.specs.Refusals.{Table, is_pending, outcome_at, refusal, submission_at}
-use Rattle.mw_model.specs.Machine.{Machine, after, changed, given_submission, killed, payload_of, run_submission, settled, unless_refused, values, with_table}
+use Rattle.mw_model.specs.Machine.{Machine, after, changed, given_submission, killed, payload_of, run_submission, settled, unless_refused, with_table}
 use Rattle.mw_model.specs.Tasks.{Progress, flag, is_running}
 use Rattle.mw_model.specs.Stands.{CoreView, StandsFor, input_values, inputs_there, progress_at}
 use Rattle.mw_core.specs.mw_laws.MachineLaws.{IsSound}

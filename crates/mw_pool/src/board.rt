@@ -6,6 +6,7 @@ use crate::kept::Kept;
 use crate::pass::Pass;
 use crate::payloads::{read_element, read_image};
 use crate::roll::{Front, Naming, NewRoll};
+use crate::signals::Signals;
 use mw_core::task::{TaskRefused, TileDone, Work};
 use mw_core::{Core, Fetched, Finish, Refusal, Started};
 use mw_model::{Name, NoMemory, Op, Reply};
@@ -18,8 +19,8 @@ pub struct Board<J: Naming> {
     kept: Mutex<Kept<J>>,
     /// Workers sleep here until a task is ready.
     ready: Condvar,
-    /// Sessions sleep here until an entry is settled.
-    settled: Condvar,
+    /// Sessions sleep here, each by the ticket that it waits for, until an entry is settled.
+    settled: Signals,
     alloc: Global,
 }
 
@@ -46,7 +47,7 @@ impl<J: Naming> Board<J> {
         Board {
             kept: Mutex::new(Kept::new(core, roll)),
             ready: Condvar::new(),
-            settled: Condvar::new(),
+            settled: Signals::new(),
             alloc,
         }
     }
@@ -111,14 +112,14 @@ impl<J: Naming> Board<J> {
         reply
     }
 
-    /// CANCEL. Sessions that wait look again.
+    /// CANCEL. All sessions that wait look again, since what depends on the entry is settled with it.
     pub fn cancel<R: Wait>(&self, rt: &R, pass: &mut Pass, name: Name) -> Result<Reply, NoMemory>
         ensures receipt { IfOk result (λ r. AddsReceipt pass.old pass.new (call.Cancel name) r) }
         ensures shows_nothing { IfOk result (λ r. ¬ ShowsSome r) }
         ensures err { OnErr result (pass.new ≡ pass.old) }
     {
         let reply = self.kept.lock(rt).cancel(pass, name);
-        self.settled.notify_all();
+        self.settled.wake_all();
         reply
     }
 
@@ -146,12 +147,15 @@ impl<J: Naming> Board<J> {
         ensures shows_nothing { IfOk result (λ r. ¬ ShowsSome r) }
         ensures err { OnErr result (pass.new ≡ pass.old) }
     {
-        let kept = self.kept.lock(rt);
-        let first = kept.place_of(name);
-        let mut kept = self
-            .settled
-            .wait_while(rt, kept, |kept| kept.awaits(name, first));
-        kept.end_wait(pass, name)
+        let mut kept = self.kept.lock(rt);
+        // The ticket is looked up in the hold in which the sleep begins, and whoever settles it wakes its class after that.
+        for _ in rt.forever() {
+            match kept.awaited(name) {
+                Some(t) => kept = self.settled.of(t).wait(rt, kept),
+                None => return kept.end_wait(pass, name),
+            }
+        }
+        unreachable!()
     }
 
     /// FETCH. A value is handed out exactly where the reply is `Shown`.
@@ -167,7 +171,7 @@ impl<J: Naming> Board<J> {
     pub fn close<R: Wait>(&self, rt: &R) {
         self.kept.lock(rt).closed = true;
         self.ready.notify_all();
-        self.settled.notify_all();
+        self.settled.wake_all();
     }
 
     /// Whether the passes cover the log. Then there is a state of the machine whose run has all their calls, each once, and
@@ -198,7 +202,7 @@ impl<J: Naming> Board<J> {
             let (started, slip) = kept.start();
             match started {
                 Started::Work(work) => return Some((work, slip)),
-                Started::Refused(_) => self.settled.notify_all(),
+                Started::Refused(_) => self.settled.wake_all(),
                 Started::Idle => self.sleep(rt, kept),
             }
         }
@@ -212,8 +216,9 @@ impl<J: Naming> Board<J> {
         kept.asleep = kept.asleep.saturating_sub(1);
     }
 
-    /// A worker brings a result, with what it saw of the roll up to its task, and takes one of the ready tasks itself. Where
-    /// the result was the last of its ticket, the others wake sleeping workers, and sessions that wait look again.
+    /// A worker brings a result, with what it saw of the roll up to its task, and takes one of the ready tasks itself. The
+    /// others wake sleeping workers. Where the result was the last of its ticket, that ticket alone is settled, and sessions
+    /// that wait for it look again.
     pub(crate) fn finish<R: Wait>(&self, rt: &R, done: TileDone, slip: &Option<Front<J>>)
         requires bounded { AllByRecursion IsBounded done.windows }
         requires slip { IfSome slip.now (λ seen. EndsWith seen done) }
@@ -222,17 +227,18 @@ impl<J: Naming> Board<J> {
         let answer = kept.finish(done, slip);
         let wanted = kept.wanted_workers(1);
         drop(kept);
-        if let Finish::Settled(_) = answer {
-            self.settled.notify_all();
+        if let Finish::Settled(t) = answer {
+            self.settled.of(t).notify_all();
         }
         self.wake_workers(wanted);
     }
 
-    /// A worker found no memory for a task.
+    /// A worker found no memory for a task. Where its ticket is killed, all sessions that wait look again: what depends on
+    /// it is settled with it.
     pub(crate) fn refuse<R: Wait>(&self, rt: &R, refused: TaskRefused) {
         let answer = self.kept.lock(rt).refuse(refused);
         if let Refusal::Killed(_) = answer {
-            self.settled.notify_all();
+            self.settled.wake_all();
         }
     }
 }

@@ -1,6 +1,6 @@
 //! What the lock of a board keeps.
 
-ghost use Rattle.std.specs.Prelude.{◌≡◌, ◌≢◌, ◌↔◌, ◌-◌, [], min, ℕ, true, false, length, IfOk, IfSome, OnErr, IsTrue, IsSome, None};
+ghost use Rattle.std.specs.Prelude.{◌≡◌, ◌≢◌, ◌↔◌, ◌-◌, [], min, ℕ, true, false, length, IfOk, IfSome, OnErr, IsTrue, IsSome, None, Some};
 ghost use Rattle.mw_model.specs.Machine.{Machine};
 ghost use Rattle.mw_model.specs.Stands.{StandsFor, ready_count};
 ghost use Rattle.mw_pool.specs.Handed.{AreHanded};
@@ -8,7 +8,7 @@ ghost use Rattle.mw_pool.specs.Handed.{AreHanded};
 use crate::auditing::audit;
 use crate::pass::Pass;
 use crate::roll::{Front, Naming, NewRoll, Roll};
-use crate::tickets::{is_awaited, place_of};
+use crate::tickets::awaited_ticket;
 use mw_core::element::Element;
 use mw_core::pixel::Image;
 use mw_core::task::{TaskRefused, TileDone};
@@ -38,6 +38,7 @@ impl<J: Naming> Kept<J> {
     ghost use Rattle.mw_model.specs.Pictures.{IsImage};
     ghost use Rattle.mw_model.specs.declared.calls.Call.TheVariants as call;
     ghost use Rattle.mw_model.specs.Receipts.{Covers};
+    ghost use Rattle.mw_model.specs.Refusals.{ticket_of};
     ghost use Rattle.mw_core.specs.mw_stands.Payloads.{given_image, image_payload, given_element, element_payload};
     ghost use Rattle.mw_core.specs.mw_stands.Events.{FollowsMachine};
     ghost use Rattle.mw_core.specs.mw_task.WindowTasks.{IsBounded};
@@ -45,7 +46,7 @@ impl<J: Naming> Kept<J> {
     ghost use Rattle.mw_core.specs.mw_store.Fetches.{ShowsSome, shown_value};
     ghost use Rattle.mw_pool.specs.Passes.{with_receipt};
     ghost use Rattle.mw_pool.specs.Rolls.{EndsWith, IsSlipOf, StandsIn};
-    ghost use Rattle.mw_pool.specs.Tickets.{told_at, IsAwaited};
+    ghost use Rattle.mw_pool.specs.Tickets.{IsAwaited};
 
     /// An open board's, before any worker sleeps.
     pub fn new(core: Core, roll: NewRoll) -> Kept<J>
@@ -150,18 +151,15 @@ impl<J: Naming> Kept<J> {
         pass.fetch(&mut self.core, name)
     }
 
-    /// The place in the log where the entry of a name is looked for first.
-    pub fn place_of(&self, name: Name) -> usize
-        ensures { told_at self.now.core.log name result ≡ None → (place : ℕ) → told_at self.now.core.log name place ≡ None }
+    /// The ticket that who waits for the name waits for: the board is open, and the name's entry is pending.
+    pub fn awaited(&self, name: Name) -> Option<u32>
+        ensures ticket { (m : Machine) → StandsFor self.now.core m → IfSome result (λ t. ticket_of m.table.names name ≡ Some t) }
+        ensures awaited { (m : Machine) → StandsFor self.now.core m → IsSome result ↔ ((self.now.closed ≡ false) × IsAwaited m.table name) }
     {
-        place_of(&self.core, name)
-    }
-
-    /// Whether who waits for the name waits on: the board is open, and the name's entry is pending.
-    pub fn awaits(&self, name: Name, first: usize) -> bool
-        ensures { (m : Machine) → StandsFor self.now.core m → IsTrue result ↔ ((self.now.closed ≡ false) × IsAwaited m.table name) }
-    {
-        !self.closed && is_awaited(&self.core, name, first)
+        if self.closed {
+            return None;
+        }
+        awaited_ticket(&self.core, name)
     }
 
     /// The STATUS that ends a wait. On an open board it never tells that the entry is pending.

@@ -31,6 +31,7 @@ mod payloads;
 mod places;
 mod roll;
 mod same;
+mod signals;
 mod tickets;
 mod workers;
 

@@ -15,3 +15,5 @@ mod lent;
 mod overlap;
 #[cfg(test)]
 mod sessions;
+#[cfg(test)]
+mod waking;
