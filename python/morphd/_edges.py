@@ -5,7 +5,8 @@ with a rim around it. A small one gets a rim as a whole, which is cut off behind
 """
 from __future__ import annotations
 
-from collections.abc import Iterator
+from collections.abc import Callable, Iterator
+from functools import partial
 from typing import NamedTuple
 
 import numpy as np
@@ -103,17 +104,21 @@ def _edges_of(shape: tuple[int, ...], reach: Reach) -> Iterator[tuple[Part, Part
         yield middle, Part(width - right, width)
 
 
-def _with_edges(call: Call, field: Field, edges: Edges, made: Samples, workers: int) -> Samples:
-    """The result, with its edges computed anew."""
+def _with_edges(call: Call, field: Field, edges: Edges, out: Samples | None, workers: int) -> Samples:
+    """The result, whose edges are computed anew beside it, and written over it at the end."""
     up, down, left, right = reach = call.reach
+    made, places = _pieces.room(call, field, out), list(_edges_of(field.samples.shape, reach))
 
-    def one(place: tuple[Part, Part]) -> None:
-        rows, columns = place
+    def edge(rows: Part, columns: Part) -> Samples:
         held = _cut(field, rows.wider(up, down), columns.wider(left, right), edges)
-        whole, part = _pieces.apply(call, held, None, 1), made[rows.begin : rows.end, columns.begin : columns.end]
-        part[...] = whole[up:, left:][: part.shape[0], : part.shape[1]]
+        whole = _pieces.apply(call, held, None, 1)
+        return whole[up:, left:][: rows.end - rows.begin, : columns.end - columns.begin]
 
-    _pieces.each(one, _edges_of(field.samples.shape, reach), workers)
+    rest = _pieces.tasks(call, field, made, workers)
+    tasks: list[Callable[[], Samples | None]] = [*rest, *(partial(edge, *place) for place in places)]
+    results = _pieces.each(lambda task: task(), tasks, workers)
+    for (rows, columns), samples in zip(places, results[len(rest) :]):
+        made[rows.begin : rows.end, columns.begin : columns.end] = samples
     return made
 
 
@@ -133,7 +138,7 @@ def apply(call: Call, field: Field, edges: Edges, out: Samples | None, workers: 
     reach, (height, width) = call.reach, field.samples.shape
     moved, down, right = _from_a_pixel(call)
     if moved is call and _is_large(field.samples.shape, reach):
-        return _with_edges(call, field, edges, _pieces.apply(call, field, out, workers), workers)
+        return _with_edges(call, field, edges, out, workers)
     whole = _pieces.apply(moved, with_rim(field, reach, edges), None, workers)
     inner = whole[reach.up + down :, reach.left + right :][:height, :width]
     if out is None:

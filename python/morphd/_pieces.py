@@ -12,6 +12,7 @@ import threading
 from collections import deque
 from collections.abc import Callable, Iterable
 from concurrent.futures import ThreadPoolExecutor, wait
+from functools import partial
 from typing import NamedTuple, TypeVar
 
 import numpy as np
@@ -170,13 +171,16 @@ def check_samples(field: Field, asked: object) -> None:
         raise Refused(25, f"{asked} of {field}")
 
 
-def apply(call: Call, field: Field, out: Samples | None, workers: int) -> Samples:
-    """What the call makes of the array, in `out` where it is given: by rows without gaps, of the result's type."""
-    made = np.empty(field.samples.shape, call.dtype(field)) if out is None else out
+def room(call: Call, field: Field, out: Samples | None) -> Samples:
+    """Where the result goes: `out`, or a new array."""
+    return np.empty(field.samples.shape, call.dtype(field)) if out is None else out
+
+
+def tasks(call: Call, field: Field, made: Samples, workers: int) -> list[Callable[[], None]]:
+    """What writes the result, a piece each: in any order, or at once."""
     pieces = [] if workers == 1 and fits(field.samples.shape) else cut(field.samples.shape, call.reach, workers)
     if len(pieces) < 2:
-        call.run(field, made)
-        return made
+        return [lambda: call.run(field, made)]
     check_samples(field, call)
 
     def one(piece: Piece) -> None:
@@ -191,5 +195,11 @@ def apply(call: Call, field: Field, out: Samples | None, workers: int) -> Sample
             call.run(window, whole)
             target[...] = whole[piece.rows.inner, piece.columns.inner]
 
-    each(one, pieces, workers)
+    return [partial(one, piece) for piece in pieces]
+
+
+def apply(call: Call, field: Field, out: Samples | None, workers: int) -> Samples:
+    """What the call makes of the array, in `out` where it is given: by rows without gaps, of the result's type."""
+    made = room(call, field, out)
+    each(lambda task: task(), tasks(call, field, made, workers), workers)
     return made
