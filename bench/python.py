@@ -19,7 +19,7 @@ except ImportError as missing:
     sys.exit(f"no times of the Python package: {missing} (Debian: apt install python3-numpy)")
 
 import morphd  # noqa: E402
-from morphd import _arrays, _calls, _library  # noqa: E402
+from morphd import _arrays, _calls, _library, _pieces  # noqa: E402
 
 # Rounds at least, and for how many seconds short runs go on: a machine that others share is slow for some of them.
 ROUNDS, SECONDS, LONGEST = 5, 0.5, 10.0
@@ -150,6 +150,19 @@ def tell_added(side):
     print(f"| {side} x {side} | {own / often:.4f} | {whole / often:.4f} | {(whole - own) / often:.4f} | {copy:.4f} |")
 
 
+def tell_threads():
+    """What four threads are worth on this machine: medians of small pictures by the library alone, each in its core's own cache."""
+    image = (picture(256) >> 8).astype(np.uint8)
+    field, call = _arrays.read(image, "median", None).field, _calls.Flat(_library.RANK, morphd.square(15), 113)
+    rooms = [np.empty_like(image) for _ in range(32)]
+
+    def by(threads):
+        _pieces.each(lambda out: call.run(field, out), rooms, threads)
+
+    one, four = best([lambda: by(1), lambda: by(4)])
+    print(f"\n32 medians of 256 x 256 by 15 x 15: {one:.1f} ms by one thread, {four:.1f} by four, gain {one / four:.2f}")
+
+
 def main():
     try:
         _library.loaded()
@@ -159,6 +172,7 @@ def main():
     print("| picture | the library's call | morphd.erosion | more | one copy of the picture |\n|---|---:|---:|---:|---:|")
     for side in (16, 256, 1024, 4096):
         tell_added(side)
+    tell_threads()
     for side in [int(word) for word in sys.argv[1:]] or [1024, 4096]:
         tell_jobs(side)
 
