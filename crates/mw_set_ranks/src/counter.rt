@@ -1,5 +1,5 @@
 //! Counters of 128 places, each a number in binary digits: one plane of 128 bits for each digit, so that one step counts for all
-//! places at once.
+//! places at once. Bits are first added up by carry-save adders (Wallace 1964), seven to a number of three digits.
 ghost use Rattle.std.specs.Prelude.{◌≡◌, ◌⊎◌, ℕ, ◌+◌, ◌-◌, ◌*◌, ◌/◌, ◌%◌, ◌^◌, ◌<◌, ◌≤◌, length, slice_index};
 ghost use Rattle.mw_bits.specs.mw_words.Packed.{bit_of};
 ghost use Rattle.mw_set_ranks.specs.Numbers.{bits_at, three_digits, HasAdded};

@@ -1,4 +1,5 @@
-//! Ranks of the pixels of a tile.
+//! Ranks of the pixels of a tile: a rank is 1 where few enough of the pixels that are seen are not of the set, and some is. The
+//! first are counted, 128 places at a time; the second is a dilation.
 ghost use Rattle.std.specs.Prelude.{◌≡◌, ℕ, All, cond, nat_lt, ◌+◌, ◌-◌, ◌*◌, ◌/◌, ◌^◌, ◌<◌, ◌≤◌, min, max, pos, negsuc, ◌+ℤ◌, ◌-ℤ◌, ◌≤ℤ◌, length, vec_len, IfOk, IfSome, IsTrue};
 ghost use Rattle.std.specs.List.{AllByRecursion};
 ghost use Rattle.mw_model.specs.declared.limits.TheConstants.{FAR_LIMIT};
@@ -184,7 +185,7 @@ fn is_sound(set: &Window<Bit>)
 }
 
 /// At each place of the tile, of the pixels that a set has under the element in rising order, number k, counted from 1, or the
-/// last where there are fewer; 0 where there is none. None where the element has few offsets, or they lie too far apart.
+/// last where there are fewer; 0 where there is none. None where that does not pay, or offsets lie too far apart.
 pub fn rank_by_words(
     alloc: Global,
     set: &Window<Bit>,

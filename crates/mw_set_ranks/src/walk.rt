@@ -1,5 +1,5 @@
 //! Counters that walk down a tile, 128 columns at a time: what a place sees differs from what the one above it sees by the ends
-//! of the element's columns alone.
+//! of the element's columns alone, as in a moving histogram (Huang, Yang and Tang 1979) that has one level.
 ghost use Rattle.std.specs.Prelude.{◌≡◌, ◌⊎◌, ℕ, cond, nat_lt, ◌+◌, ◌-◌, ◌*◌, ◌/◌, ◌^◌, ◌<◌, ◌≤◌, length, slice_index};
 ghost use Rattle.mw_bits.specs.mw_words.Packed.{bit_of};
 ghost use Rattle.mw_set_ranks.specs.Numbers.{bits_at, number_at};
