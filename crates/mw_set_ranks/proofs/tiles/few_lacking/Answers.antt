@@ -21,15 +21,15 @@ below_words-requires c =
     let e = c.args.extent in
     let runs = c.args.runs.now in
     let pairs = (tile.width + 127) / 128 in
-    let columns = c.columns_after-wide.result in
-    let below = c.rows_after-high.result in
+    let columns = c.columns_after.result in
+    let below = c.rows_after.result in
     let wide = 2 * pairs + columns / 64 + 1 in
     let high = tile.height + below in
     let cells = c.as_slice.result.now in
     let moves = c.in_ok-moves.moves in
     let digits = c.digits_for-digits.ensures in
-    let rows-is = c.rows_after-high.ensures.value in
-    let columns-is = c.columns_after-wide.ensures.value in
+    let rows-is = c.rows_after.ensures.value in
+    let columns-is = c.columns_after.ensures.value in
     let size : length cells ≡ high * wide + 1 = omega (arith, c.as_slice.ensures.len, c.in_ok-cells.ensures.size) in
     let count : length moves.seen.items ≡ length runs = ap length c.in_ok-moves.ensures.seen ∙ length-map runs (start_of e (64 * wide)) in
     let some : 0 < pairs = omega (arith, c.requires.some.0) in
@@ -45,7 +45,7 @@ below_words-requires c =
     limit_room cells places more (y * wide + (2 * pairs - 2)) (λ s less. rows_room s (below + 1) y high wide pairs columns (length cells) less refl some (omega arith) size) under in
     let high_few : tile.height ≤ 2147483648 = c.requires.small.1 in
     let pairs_few : 2 * pairs ≤ 33554436 = omega (arith, c.requires.small.0) in
-    let columns_few : columns ≤ 4294967296 = c.columns_after-wide.ensures.small in
+    let columns_few : columns ≤ 4294967296 = c.columns_after.ensures.small in
     let wide_few : wide ≤ 134217728 = omega arith in
     let out_few = mul-le tile.height (2 * pairs) 2147483648 33554436 high_few pairs_few in
     let cells_few = mul-le tile.height wide 2147483648 134217728 high_few wide_few in
@@ -78,8 +78,8 @@ returns-clause-cells c = λ x y lt less.
     let w = c.args.set.now in
     let runs = c.args.runs.now in
     let pairs = (tile.width + 127) / 128 in
-    let columns = c.columns_after-wide.result in
-    let below = c.rows_after-high.result in
+    let columns = c.columns_after.result in
+    let below = c.rows_after.result in
     let wide = 2 * pairs + columns / 64 + 1 in
     let high = tile.height + below in
     let cells = c.as_slice.result.now in
@@ -94,12 +94,12 @@ returns-clause-cells c = λ x y lt less.
     let laid : HasLacks w tile e wide high column row cells = record {
       column_is = omega (arith, ints, c.first_column-column.ensures, place_x);
       row_is = omega (arith, ints, c.first_row-row.ensures, place_y);
-      high_is = ap (λ (t : ℕ). tile.height + t) c.rows_after-high.ensures.value;
+      high_is = ap (λ (t : ℕ). tile.height + t) c.rows_after.ensures.value;
       cells_are = λ p q inside down. ap (λ (t : List ℕ). bit_of t (q * (64 * wide) + p)) c.as_slice.ensures.value ∙ c.in_ok-cells.ensures.cells p q inside down;
     } in
     let half = 2 ^ (digits.count - 1) in
     let z = lacks_under (seen_at w) runs (tile.x + x) (tile.y + y) in
-    let lacks = runs_lack w tile e wide high column row cells c.in_ok-moves.moves.seen.items runs x y laid (omega (arith, c.columns_after-wide.ensures.value)) less c.in_ok-moves.ensures.seen c.requires.inside in
+    let lacks = runs_lack w tile e wide high column row cells c.in_ok-moves.moves.seen.items runs x y laid (omega (arith, c.columns_after.ensures.value)) less c.in_ok-moves.ensures.seen c.requires.inside in
     c.in_ok-made.ensures.bits x y lt less
     ∙ ap (λ (t : List ℕ). bit_of t (y * (64 * (2 * pairs)) + x)) c.as_slice-2.ensures.value
     ∙ c.in_ok-out.ensures.bits x y (omega arith) less

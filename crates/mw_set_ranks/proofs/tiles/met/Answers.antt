@@ -1,4 +1,4 @@
-use Rattle.std.proofs.Common.{◌≡◌, ◌*◌, ◌<◌, ℕ, min, List, length, ap, sym, subst, arith, ◌∙◌}
+use Rattle.std.proofs.Common.{◌≡◌, ◌*◌, ◌<◌, ◌++◌, ℕ, min, List, length, take, drop, ap, sym, subst, arith, ◌∙◌}
 use Rattle.mw_model.proofs.mw_facts.Elements.{take-written}
 use Rattle.mw_model.specs.Rasters.{Raster, raster}
 use Rattle.mw_bits.specs.mw_words.Packed.{bit_of, IsPacked, samples_of, stride_of}
@@ -34,10 +34,11 @@ returns c =
     let value = c.as_mut_slice.ensures.value in
     let old = ap length value in
     let whole : length out ≡ c.args.words.len = omega (arith, c.as_mut_slice.ensures.len) in
+    let held : List ℕ = take c.args.words.len (out ++ drop (length out) words) in
     let both : (q : ℕ) → q < 64 * length words → bit_of out q ≡ min (bit_of words q) (bit_of other q) = λ q lt. c.merge_words.ensures q (omega (arith, old)) ∙ ap (λ (t : List ℕ). min (bit_of t q) (bit_of other q)) value in
     both_met words other out plane c.of_words.result c.requires (subst (λ (r : Raster ℕ). r.cells ≡ samples_of r.width r.height other) c.words.ensures.value c.words-2.ensures.samples) both
     (c.of_words.ensures
     ∙ c.new.ensures
-    ∙ ap (λ (t : ℕ). raster t c.height.result (samples_of t c.height.result _)) c.width.ensures.value
-    ∙ ap (λ (t : ℕ). raster plane.width t (samples_of plane.width t _)) c.height.ensures.value
+    ∙ ap (λ (t : ℕ). raster t c.height.result (samples_of t c.height.result held)) c.width.ensures.value
+    ∙ ap (λ (t : ℕ). raster plane.width t (samples_of plane.width t held)) c.height.ensures.value
     ∙ ap (λ (t : List ℕ). raster plane.width plane.height (samples_of plane.width plane.height t)) (take-written words out c.args.words.len whole))

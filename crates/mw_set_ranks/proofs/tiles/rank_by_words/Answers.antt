@@ -32,8 +32,8 @@ pub met-ranks-requires : goal.met-ranks-requires
 met-ranks-requires c =
     let tile = c.args.tile in
     let seen = c.in_ok-seen.ensures.over_window in
-    let words = c.in-Some-words.words.items in
-    let packed : IsPacked tile.width tile.height words = subst (λ (o : Option _). IfSome o (λ v. IsPacked tile.width tile.height v.items)) c.in-Some-words.is c.in_ok-words.ensures.packed in
+    let words = c.in-Some-2.words.items in
+    let packed : IsPacked tile.width tile.height words = subst (λ (o : Option _). IfSome o (λ v. IsPacked tile.width tile.height v.items)) c.in-Some-2.is c.in_ok-words.ensures.packed in
     subst (λ (t : ℕ). IsPacked t c.in_ok-seen.seen.height words) (sym seen.width) (subst (λ (t : ℕ). IsPacked tile.width t words) (sym seen.height) packed)
 
 pub returns : goal.returns
@@ -42,7 +42,7 @@ returns c =
     let runs = c.as_slice-runs.result.now in
     let number = c.number_of-number.result in
     let sight = seen_at c.args.set.now in
-    let few : (x y : ℕ) → x < tile.width → y < tile.height → bit_of c.in-Some-words.words.items (y * (64 * stride_of tile.width) + x) ≡ cond (nat_lt (lacks_under sight runs (tile.x + x) (tile.y + y)) number) 1 0 =
-    subst (λ (o : Option _). IfSome o (λ v. (x y : ℕ) → x < tile.width → y < tile.height → bit_of v.items (y * (64 * stride_of tile.width) + x) ≡ cond (nat_lt (lacks_under sight runs (tile.x + x) (tile.y + y)) number) 1 0)) c.in-Some-words.is c.in_ok-words.ensures.cells in
-    rank_made c.args.k number c.args.set.now c.args.offsets.now tile runs c.in-Some-words.words.items c.in_ok-seen.seen c.met-ranks.result
+    let few : (x y : ℕ) → x < tile.width → y < tile.height → bit_of c.in-Some-2.words.items (y * (64 * stride_of tile.width) + x) ≡ cond (nat_lt (lacks_under sight runs (tile.x + x) (tile.y + y)) number) 1 0 =
+    subst (λ (o : Option _). IfSome o (λ v. (x y : ℕ) → x < tile.width → y < tile.height → bit_of v.items (y * (64 * stride_of tile.width) + x) ≡ cond (nat_lt (lacks_under sight runs (tile.x + x) (tile.y + y)) number) 1 0)) c.in-Some-2.is c.in_ok-words.ensures.cells in
+    rank_made c.args.k number c.args.set.now c.args.offsets.now tile runs c.in-Some-2.words.items c.in_ok-seen.seen c.met-ranks.result
     c.is_sound.ensures c.number_of-number.ensures (c.as_slice-runs.ensures.value ∙ c.in_ok-held.ensures) few c.in_ok-seen.ensures.over_window c.met-ranks.ensures

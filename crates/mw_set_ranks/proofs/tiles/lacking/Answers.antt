@@ -1,0 +1,20 @@
+use Rattle.std.proofs.Common.{◌≡◌, ℕ, ◌+◌, ◌-◌, ◌*◌, ◌<◌, List, length, ap, arith, ◌∙◌}
+use Rattle.mw_model.proofs.mw_facts.Elements.{take-written}
+use Rattle.mw_bits.specs.mw_words.Packed.{bit_of}
+use Rattle.mw_bits.proofs.mw_words.Bits.{rows_fit}
+use Rattle.mw_set_ranks.proofs.tiles.lacking.Goals as goal
+
+pub returns-clause-cells : goal.returns-clause-cells
+returns-clause-cells c =
+    let out = c.flip_words.new.words in
+    let cells = c.in_ok-cells.cells in
+    let wide = c.args.wide in
+    let old = ap length c.as_mut_slice.ensures.value in
+    let whole : length out ≡ cells.len = omega (arith, c.as_mut_slice.ensures.len) in
+    rw (take-written cells.items out cells.len whole)
+    (λ x y lt less.
+      let p = y * (64 * wide) + x in
+      let fits = rows_fit y c.args.high wide less in
+      c.flip_words.ensures p (omega (arith, fits, whole, c.as_mut_slice.ensures.len, c.in_ok-cells.ensures.size))
+      ∙ ap (λ (t : List ℕ). 1 - bit_of t p) c.as_mut_slice.ensures.value
+      ∙ ap (λ (t : ℕ). 1 - t) (c.in_ok-cells.ensures.cells x y lt less))
