@@ -86,7 +86,7 @@ returns-clause-cells c = λ x y lt less.
     let digits = c.digits_for-digits.result in
     let is = c.digits_for-digits.ensures in
     let number = c.args.number in
-    let start = digits.half - number in
+    let start = digits.half - c.from.result in
     let place_x = ap (λ (t : Rect). t.x) c.place-place.ensures.value in
     let place_y = ap (λ (t : Rect). t.y) c.place-place.ensures.value in
     let column : ℤ = to_z w64 (of_z w64 c.first_column-column.result) in
@@ -98,10 +98,11 @@ returns-clause-cells c = λ x y lt less.
       cells_are = λ p q inside down. ap (λ (t : List ℕ). bit_of t (q * (64 * wide) + p)) c.as_slice.ensures.value ∙ c.in_ok-cells.ensures.cells p q inside down;
     } in
     let half = 2 ^ (digits.count - 1) in
+    let below_half : ℕ → ℕ = λ t. cond (nat_lt (start + t) half) 1 0 in
     let z = lacks_under (seen_at w) runs (tile.x + x) (tile.y + y) in
     let lacks = runs_lack w tile e wide high column row cells c.in_ok-moves.moves.seen.items runs x y laid (omega (arith, c.columns_after.ensures.value)) less c.in_ok-moves.ensures.seen c.requires.inside in
     c.in_ok-made.ensures.bits x y lt less
     ∙ ap (λ (t : List ℕ). bit_of t (y * (64 * (2 * pairs)) + x)) c.as_slice-2.ensures.value
     ∙ c.in_ok-out.ensures.bits x y (omega arith) less
-    ∙ ap (λ (t : ℕ). cond (nat_lt (start + t) half) 1 0) lacks
-    ∙ few_are half start number z (ap (λ (t : ℕ). t - number) is.half) (omega (arith, is.half, is.room, c.requires.number))
+    ∙ ap below_half lacks
+    ∙ few_are half start number z (omega (arith, is.half, c.from.ensures)) (omega (arith, is.half, is.room, c.requires.number))
