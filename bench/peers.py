@@ -1,8 +1,8 @@
-"""Times OpenCV and Leptonica on what bench_kernels measures, on the same samples and in one thread: erosions and a median
-of 4096 x 4096 bytes, dilations of as many 16-bit samples, and erosions of a set.
+"""Times OpenCV and Leptonica on what bench_kernels measures, on the same samples and in one thread: erosions and medians
+of 4096 x 4096 bytes, dilations and medians of as many 16-bit samples, and erosions and a majority of a set.
 
 Run it with a Python that has cv2 (Debian: python3-opencv), beside Leptonica's library (Debian: libleptonica-dev), which
-erodes sets. Each line has the best of five runs. The C library keeps what is freed, as the Makefile tells it to for
+takes sets. Each line has the best of five runs. The C library keeps what is freed, as the Makefile tells it to for
 bench_kernels: else each result of 16-bit samples, of 32 MiB, would be in pages that the system gives anew.
 """
 import ctypes
@@ -55,18 +55,18 @@ def rectangle(across):
     return numpy.ones((across, across), numpy.uint8)
 
 
-def best(run):
+def best(run, rounds):
     """The least of several times, in milliseconds."""
     times = []
-    for _ in range(ROUNDS):
+    for _ in range(rounds):
         start = time.perf_counter()
         run()
         times.append(time.perf_counter() - start)
     return 1000 * min(times)
 
 
-def show(name, run):
-    print(f"| {name:<27} | {best(run):8.1f} |", flush=True)
+def show(name, run, rounds=ROUNDS):
+    print(f"| {name:<30} | {best(run, rounds):8.1f} |", flush=True)
 
 
 def leptonica():
@@ -75,12 +75,15 @@ def leptonica():
     if name is None:
         return None
     library = ctypes.CDLL(name)
-    pointer, number = ctypes.c_void_p, ctypes.c_int
+    pointer, number, part = ctypes.c_void_p, ctypes.c_int, ctypes.c_float
     for function, result, arguments in (
         ("pixCreate", pointer, [number] * 3),
         ("pixGetData", pointer, [pointer]),
         ("pixGetWpl", number, [pointer]),
         ("pixErode", pointer, [pointer] * 3),
+        ("pixErodeBrick", pointer, [pointer] * 2 + [number] * 2),
+        ("pixErodeCompBrickDwa", pointer, [pointer] * 2 + [number] * 2),
+        ("pixBlockrank", pointer, [pointer] * 2 + [number] * 2 + [part]),
         ("pixDestroy", None, [ctypes.POINTER(pointer)]),
         ("selCreate", pointer, [number, number, ctypes.c_char_p]),
         ("selSetOrigin", number, [pointer, number, number]),
@@ -91,13 +94,15 @@ def leptonica():
     return library
 
 
-def erode_set(library, pix, sel):
-    made = ctypes.c_void_p(library.pixErode(None, pix, sel))
-    library.pixDestroy(ctypes.byref(made))
+def drop(library, pix):
+    """Lets go of what a call made, and stops where it made nothing."""
+    if pix is None:
+        sys.exit("a call of Leptonica failed")
+    library.pixDestroy(ctypes.byref(ctypes.c_void_p(pix)))
 
 
 def show_sets(pixels):
-    """Erosions of a set by discs."""
+    """Erosions of a set by rectangles and discs, and a majority."""
     library = leptonica()
     if library is None:
         print("no times of Leptonica (Debian: apt install libleptonica-dev)", file=sys.stderr)
@@ -107,13 +112,19 @@ def show_sets(pixels):
     words = numpy.packbits(pixels, axis=1).view(">u4").astype(numpy.uint32)
     assert words.shape == (SIDE, library.pixGetWpl(pix))
     ctypes.memmove(library.pixGetData(pix), words.ctypes.data, words.nbytes)
+    for across in (3, 15, 63, 127):
+        show(f"rectangle {across} x {across}, a set", lambda: drop(library, library.pixErodeBrick(None, pix, across, across)))
+    # by words that were made for each of its sizes
+    for across in (3, 15, 63):
+        show(f"the same, {across} x {across}, composed", lambda: drop(library, library.pixErodeCompBrickDwa(None, pix, across, across)))
     for across in (5, 15, 31):
         sel = library.selCreate(across, across, b"disc")
         library.selSetOrigin(sel, across // 2, across // 2)
         for y, row in enumerate(disc(across)):
             for x, hit in enumerate(row):
                 library.selSetElement(sel, y, x, int(hit))
-        show(f"disc of {across}, a set", lambda: erode_set(library, pix, sel))
+        show(f"disc of {across}, a set", lambda: drop(library, library.pixErode(None, pix, sel)))
+    show("majority of 15 x 15, a set", lambda: drop(library, library.pixBlockrank(pix, None, 7, 7, 0.5)))
 
 
 def main():
@@ -121,7 +132,7 @@ def main():
     cv2.setNumThreads(1)
     words = levels()
     octets = words.astype(numpy.uint8)
-    print(f"| {'OpenCV ' + cv2.__version__:<27} | {'ms':>8} |")
+    print(f"| {'OpenCV ' + cv2.__version__:<30} | {'ms':>8} |")
     for bits, image, filtered in ((8, octets, cv2.erode), (16, words, cv2.dilate)):
         for across in (3, 15, 63, 127):
             element = rectangle(across)
@@ -133,7 +144,9 @@ def main():
         for across in (3, 5):
             show(f"median {across} x {across}, {bits} bits", lambda: cv2.medianBlur(image, across))
     show("median 15 x 15, 8 bits", lambda: cv2.medianBlur(octets, 15))
-    print(f"| {'Leptonica':<27} | {'ms':>8} |")
+    # it takes half a minute
+    show("closing, disc of 255, 8 bits", lambda: cv2.morphologyEx(octets, cv2.MORPH_CLOSE, disc(255)), rounds=1)
+    print(f"| {'Leptonica':<30} | {'ms':>8} |")
     show_sets(words % 10 > 0)
 
 
