@@ -3,11 +3,13 @@
 
     python3 bench/python.py [SIDE..]        sides of the pictures; 1024 and 4096 if left out
 
-Each time is the best of five runs or more in milliseconds, taken by turns in one process. The pictures are of real shape: soft discs
+Each time is the best of five runs or more in milliseconds, taken by turns in one process; gains of four workers are told beside what
+four threads are worth at that moment. The pictures are of real shape: soft discs
 of many sizes on a slanted ground with noise. A peer whose first run takes longer than 10 s is run once. It needs a built
 library; peers that are missing are left out, and so are those that have no such operation.
 """
 import os
+import statistics
 import sys
 import time
 
@@ -23,6 +25,8 @@ from morphd import _arrays, _calls, _library, _pieces  # noqa: E402
 
 # Rounds at least, and for how many seconds short runs go on: a machine that others share is slow for some of them.
 ROUNDS, SECONDS, LONGEST = 5, 0.5, 10.0
+# Where four threads gain so much, they have four cores, or nearly.
+CORES, GAIN_ROUNDS = 3.0, 20
 
 
 def optional(name):
@@ -150,17 +154,38 @@ def tell_added(side):
     print(f"| {side} x {side} | {own / often:.4f} | {whole / often:.4f} | {(whole - own) / often:.4f} | {copy:.4f} |")
 
 
-def tell_threads():
-    """What four threads are worth on this machine: medians of small pictures by the library alone, each in its core's own cache."""
+def small_medians():
+    """32 medians of small pictures by the library alone, by so many threads: each is in its core's own cache."""
     image = (picture(256) >> 8).astype(np.uint8)
     field, call = _arrays.read(image, "median", None).field, _calls.Flat(_library.RANK, morphd.square(15), 113)
     rooms = [np.empty_like(image) for _ in range(32)]
+    return lambda threads: _pieces.each(lambda out: call.run(field, out), rooms, threads)
 
-    def by(threads):
-        _pieces.each(lambda out: call.run(field, out), rooms, threads)
 
-    one, four = best([lambda: by(1), lambda: by(4)])
-    print(f"\n32 medians of 256 x 256 by 15 x 15: {one:.1f} ms by one thread, {four:.1f} by four, gain {one / four:.2f}")
+def least(run, rounds):
+    return min(timed(run) for _ in range(rounds))
+
+
+def gains(job, control):
+    """A round: what four workers gain over one, and the least that four threads gained around it."""
+    one, alone = least(lambda: job(1), 2), least(lambda: control(1), 2)
+    before, four, behind = least(lambda: control(4), 2), least(lambda: job(4), 5), least(lambda: control(4), 2)
+    return one / four, alone / max(before, behind)
+
+
+def tell_gains(side):
+    """What four workers gain, beside what four threads are worth in the same second: the host may run two of them on one core."""
+    print(f"\nGains of four workers, {side} x {side}, 8 bits, by what four threads gained around them: medians of so many rounds\n")
+    print(f"| job | {CORES} or more | rounds | less | rounds |\n|---|---:|---:|---:|---:|")
+    image, control = (picture(side) >> 8).astype(np.uint8), small_medians()
+    for name, ours, _ in jobs(image):
+        if not name.startswith(("erosion, disc", "median")):
+            continue
+        found = [gains(ours, control) for _ in range(GAIN_ROUNDS)]
+        cells = []
+        for part in ([gain for gain, worth in found if worth >= CORES], [gain for gain, worth in found if worth < CORES]):
+            cells += [f"{statistics.median(part):.2f}" if part else "-", str(len(part))]
+        print(f"| {name} | {' | '.join(cells)} |", flush=True)
 
 
 def main():
@@ -172,7 +197,7 @@ def main():
     print("| picture | the library's call | morphd.erosion | more | one copy of the picture |\n|---|---:|---:|---:|---:|")
     for side in (16, 256, 1024, 4096):
         tell_added(side)
-    tell_threads()
+    tell_gains(4096)
     for side in [int(word) for word in sys.argv[1:]] or [1024, 4096]:
         tell_jobs(side)
 
