@@ -1,5 +1,5 @@
 -- Ranks of sets are 0 or 1.
-use Rattle.std.proofs.Common.{◌≡◌, ℕ, ◌+◌, ◌-◌, ◌*◌, ◌≤◌, min, All, ℤ, pos, negsuc, ◌+ℤ◌, ◌-ℤ◌, List, length, map, get_or, Option, None, IfSome, slice_get, Bool, true, false, refl, ap, sym, subst, arith, ◌∙◌, inl, inr}
+use Rattle.std.proofs.Common.{◌≡◌, ℕ, ◌+◌, ◌-◌, ◌*◌, ◌<◌, ◌≤◌, min, All, ℤ, pos, negsuc, ◌+ℤ◌, ◌-ℤ◌, List, length, map, get_or, Option, None, Some, IfSome, slice_get, Bool, true, false, refl, ap, sym, subst, arith, ◌∙◌, inl, inr}
 use Rattle.std.specs.Prelude.{◌&&◌, nat_lt, nat_le, cond, if◌then◌else◌}
 use Rattle.std.specs.List.{AllByRecursion}
 use Rattle.std.proofs.lemmas.Bool.{cases_lt}
@@ -15,6 +15,7 @@ use Rattle.mw_model.specs.Rasters.{Raster, raster, cell_at, seen_under}
 use Rattle.mw_model.specs.Windows.{View, seen_at}
 use Rattle.mw_model.proofs.ImageLaws.{sorted_below, index_below}
 use Rattle.mw_rank_rows.specs.mw_rank.Ranks.{IsRank}
+use Rattle.mw_set_ranks.specs.Elements.{IsSetRank}
 use Rattle.mw_step.proofs.Levels.{two_levels}
 use Rattle.mw_step.proofs.SameMembers.{of_seen}
 
@@ -67,3 +68,21 @@ set_ranks k w set offsets tile ranks p w-is small is width height cells =
           ∙ ap upper r-is
           ∙ two_levels upper (λ (n : ℕ). n) (ranked k (found set)) low refl refl;
     }
+
+-- ranks of pixels are ranks of levels, where each pixel is its level
+pub ranks_of_pixels : (k : ℕ) (set : View ℕ) (offsets : List Offset) (tile : Rect) (p : Raster ℕ) → IsSetRank k (seen_at set) offsets tile p → IsRank (λ (n : ℕ). n) k (seen_at set) offsets tile p
+ranks_of_pixels k set offsets tile p is =
+    let size = is.size in
+    record {
+      width = is.width;
+      height = is.height;
+      size = size;
+      cells = λ x y d across down.
+          let i = y * tile.width + x in
+          let seen = seen_under (seen_at set) offsets (tile.x + x) (tile.y + y) in
+          let inside : i < length p.cells = omega (arith, mul-add-lt y tile.width x tile.height down across) in
+          the_same p.cells i d (ranked k seen) inside (is.cells x y across down) ∙ ap (ranked k) (sym (map-id seen));
+    }
+  where
+    the_same : (xs : List ℕ) (i d v : ℕ) → i < length xs → slice_get xs i ≡ Some v → get_or xs i d ≡ v
+    the_same xs i d v lt at = let e : Some (get_or xs i d) ≡ Some v = sym (slice_get-get_or xs i d lt) ∙ at in cc
