@@ -1,4 +1,4 @@
-//! Times of ranks of sets both ways.
+//! Times of ranks of sets by words and by levels of one byte, in nanoseconds for 1,000 places.
 #![tactic(auto)]
 
 use mw_bits::{as_levels, at_least};
@@ -41,43 +41,58 @@ impl From<io::Error> for Fault {
     }
 }
 
-const SIDE: u32 = 1500;
-
-fn samples(alloc: Global, kind: u32) -> Result<Vec<u8>, Fault> {
-    let mut pixels = Vec::new(alloc);
-    let mut state = 1u32;
-    for i in 0..SIDE as usize * SIDE as usize {
-        state = state.wrapping_mul(1664525).wrapping_add(1013904223);
-        let level = if kind == 0 { 0u32 } else { (state >> 16) % 2 };
-        pixels.push(level as u8)?;
-    }
-    Ok(pixels)
+/// 0: blank; 1: noise; 2: blobs; 3: full but for few
+fn level_at(kind: u32, column: u32, row: u32, state: u32) -> u8 {
+    let random = state >> 16;
+    let block = (column / 24)
+        .wrapping_mul(2654435761)
+        .wrapping_add((row / 24).wrapping_mul(2246822519))
+        .wrapping_mul(3266489917);
+    let set = match kind {
+        0 => false,
+        1 => random % 2 == 1,
+        2 => (block >> 15) % 3 == 0,
+        _ => random % 512 != 0,
+    };
+    u8::from(set)
 }
 
-fn set_of(alloc: Global, kind: u32) -> Result<Window<Bit>, Fault> {
-    let pixels = samples(alloc, kind)?;
-    if pixels.len() != SIDE as usize * SIDE as usize {
+fn set_of(alloc: Global, kind: u32, width: u32, height: u32) -> Result<Window<Bit>, Fault> {
+    let mut pixels = Vec::new(alloc);
+    let mut state = 1u32;
+    for row in 0..height {
+        for column in 0..width {
+            state = state.wrapping_mul(1664525).wrapping_add(1013904223);
+            pixels.push(level_at(kind, column, row, state))?;
+        }
+    }
+    if pixels.len() as u64 != u64::from(width) * u64::from(height) {
         return Err(Fault::Memory);
     }
-    let levels = Window::whole(Plane::new(SIDE, SIDE, pixels));
+    let levels = Window::whole(Plane::new(width, height, pixels));
     Ok(Window::whole(at_least(alloc, &levels, 1)?))
 }
 
-/// 0: a rectangle; 1: every second place of it; 2: a disc
+/// 0: a rectangle; 1: a disc; 2: every second place of it; 3: two of three
+fn has(form: u32, dx: i16, dy: i16, reach: i32) -> bool {
+    let x = i32::from(dx);
+    let y = i32::from(dy);
+    let far = x.wrapping_mul(x).wrapping_add(y.wrapping_mul(y));
+    match form {
+        0 => true,
+        1 => far <= reach.wrapping_mul(reach),
+        2 => (x.wrapping_add(y)).rem_euclid(2) == 0,
+        _ => (x.wrapping_mul(5).wrapping_add(y.wrapping_mul(7))).rem_euclid(3) != 0,
+    }
+}
+
 fn offsets_of(alloc: Global, form: u32, columns: i16, rows: i16) -> Result<Vec<Offset>, Fault> {
     let mut offsets = Vec::new(alloc);
     for row in 0..rows {
         for column in 0..columns {
             let dx = column.wrapping_sub(columns / 2);
             let dy = row.wrapping_sub(rows / 2);
-            let far = i32::from(dx).wrapping_mul(i32::from(dx)).wrapping_add(i32::from(dy).wrapping_mul(i32::from(dy)));
-            let reach = i32::from(columns / 2);
-            let has = match form {
-                0 => true,
-                1 => (i32::from(row) + i32::from(column)) % 2 == 0,
-                _ => far <= reach.wrapping_mul(reach),
-            };
-            if has {
+            if has(form, dx, dy, i32::from(columns / 2)) {
                 offsets.push(Offset { dx, dy })?;
             }
         }
@@ -85,7 +100,13 @@ fn offsets_of(alloc: Global, form: u32, columns: i16, rows: i16) -> Result<Vec<O
     Ok(offsets)
 }
 
-fn by_levels(alloc: Global, set: &Window<Bit>, offsets: &[Offset], k: u32, tile: Rect) -> Result<(), Fault> {
+fn by_levels(
+    alloc: Global,
+    set: &Window<Bit>,
+    offsets: &[Offset],
+    k: u32,
+    tile: Rect,
+) -> Result<(), Fault> {
     if offsets.len() >= 65536 {
         return Err(Fault::Memory);
     }
@@ -96,7 +117,13 @@ fn by_levels(alloc: Global, set: &Window<Bit>, offsets: &[Offset], k: u32, tile:
     Ok(())
 }
 
-fn by_words(alloc: Global, set: &Window<Bit>, offsets: &[Offset], k: u32, tile: Rect) -> Result<bool, Fault> {
+fn by_words(
+    alloc: Global,
+    set: &Window<Bit>,
+    offsets: &[Offset],
+    k: u32,
+    tile: Rect,
+) -> Result<bool, Fault> {
     if offsets.len() >= 65536 {
         return Err(Fault::Memory);
     }
@@ -108,51 +135,148 @@ fn cut_of(alloc: Global, set: &Window<Bit>, tile: Rect, reach: u32) -> Result<Wi
     let plane = set.plane();
     let x = tile.x.saturating_sub(reach);
     let y = tile.y.saturating_sub(reach);
-    let width = tile.width.saturating_add(reach).saturating_add(tile.x.min(reach));
-    let height = tile.height.saturating_add(reach).saturating_add(tile.y.min(reach));
-    let right = x.checked_add(width).ok_or(Fault::Memory)?;
-    let bottom = y.checked_add(height).ok_or(Fault::Memory)?;
+    let right = tile
+        .x
+        .saturating_add(tile.width)
+        .saturating_add(reach)
+        .min(plane.width());
+    let bottom = tile
+        .y
+        .saturating_add(tile.height)
+        .saturating_add(reach)
+        .min(plane.height());
+    if right < x || bottom < y {
+        return Err(Fault::Memory);
+    }
+    let place = Rect {
+        x,
+        y,
+        width: right - x,
+        height: bottom - y,
+    };
     if right > plane.width() || bottom > plane.height() {
         return Err(Fault::Memory);
     }
-    Ok(Window::cut(alloc, plane, Rect { x, y, width, height })?)
+    Ok(Window::cut(alloc, plane, place)?)
 }
 
-fn rounds_of(places: u64, offsets: u64) -> u32 {
-    let work = places.saturating_mul(8).saturating_add(offsets.saturating_mul(64)).max(1);
-    (200_000_000u64 / work).max(1).min(200) as u32
+#[derive(Clone, Copy)]
+struct Case {
+    kind: u32,
+    form: u32,
+    columns: i16,
+    rows: i16,
+    /// 0: the least, 1: the middle, 2: the greatest
+    rank: u32,
+    tile: Rect,
+}
+
+fn rank_of(case: Case, count: usize) -> u32 {
+    let all = count.min(65535) as u32;
+    match case.rank {
+        0 => 1,
+        1 => all / 2 + 1,
+        _ => all,
+    }
 }
 
 fn time_case<R: std::rt::Clock + Print>(
     rt: &R,
     alloc: Global,
     set: &Window<Bit>,
-    form: u32,
-    columns: i16,
-    rows: i16,
-    width: u32,
-    height: u32,
+    case: Case,
 ) -> Result<(), Fault> {
-    let offsets = offsets_of(alloc, form, columns, rows)?;
-    let tile = Rect { x: 130, y: 130, width, height };
-    let reach = columns.max(rows).max(0) as u32 / 2;
+    let tile = case.tile;
+    let offsets = offsets_of(alloc, case.form, case.columns, case.rows)?;
+    let reach = case.columns.max(case.rows).max(0) as u32 / 2;
     let window = cut_of(alloc, set, tile, reach)?;
-    let k = offsets.len().min(65535) as u32 / 2 + 1;
+    let k = rank_of(case, offsets.len());
+    let places = (u128::from(tile.width) * u128::from(tile.height)).max(1);
     let mut words = u128::MAX;
     let mut levels = u128::MAX;
     let mut some = false;
-    let rounds = rounds_of(u64::from(width) * u64::from(height), offsets.len() as u64);
-    for _ in 0..rounds {
-        let start = Instant::now(rt)?;
-        some = by_words(alloc, &window, &offsets, k, tile)?;
-        words = words.min(start.elapsed(rt)?.as_nanos());
-        let start = Instant::now(rt)?;
-        by_levels(alloc, &window, &offsets, k, tile)?;
-        levels = levels.min(start.elapsed(rt)?.as_nanos());
+    let mut spent = 0u128;
+    for round in 0..40u32 {
+        if spent < 30_000_000 || round < 3 {
+            let start = Instant::now(rt)?;
+            some = by_words(alloc, &window, &offsets, k, tile)?;
+            let one = start.elapsed(rt)?.as_nanos();
+            let start = Instant::now(rt)?;
+            by_levels(alloc, &window, &offsets, k, tile)?;
+            let other = start.elapsed(rt)?.as_nanos();
+            words = words.min(one);
+            levels = levels.min(other);
+            spent = spent.saturating_add(one).saturating_add(other);
+        }
     }
-    let count = offsets.len();
-    println!(rt; "form {form} {columns} x {rows} ({count}) tile {width} x {height}: words {words} levels {levels} {some}")?;
+    let words = words.saturating_mul(1000) / places;
+    let levels = levels.saturating_mul(1000) / places;
+    println!(rt;
+        "kind {} form {} columns {} rows {} offsets {} rank {} width {} height {} words {words} levels {levels} some {some}",
+        case.kind,
+        case.form,
+        case.columns,
+        case.rows,
+        offsets.len(),
+        case.rank,
+        tile.width,
+        tile.height
+    )?;
     Ok(())
+}
+
+const ELEMENTS: [(u32, i16, i16); 20] = [
+    (0, 3, 3),
+    (0, 5, 5),
+    (0, 9, 9),
+    (0, 15, 15),
+    (0, 21, 21),
+    (0, 31, 31),
+    (1, 3, 3),
+    (1, 5, 5),
+    (1, 11, 11),
+    (1, 15, 15),
+    (1, 31, 31),
+    (0, 31, 1),
+    (0, 127, 1),
+    (0, 1, 31),
+    (0, 1, 127),
+    (0, 255, 1),
+    (2, 7, 7),
+    (2, 15, 15),
+    (3, 9, 9),
+    (3, 15, 15),
+];
+
+fn time_all<R: std::rt::Clock + Print>(
+    rt: &R,
+    alloc: Global,
+    kind: u32,
+    rank: u32,
+    set: &Window<Bit>,
+    tile: Rect,
+) -> Result<(), Fault> {
+    for (form, columns, rows) in ELEMENTS {
+        let case = Case {
+            kind,
+            form,
+            columns,
+            rows,
+            rank,
+            tile,
+        };
+        time_case(rt, alloc, set, case)?;
+    }
+    Ok(())
+}
+
+fn part(x: u32, y: u32, width: u32, height: u32) -> Rect {
+    Rect {
+        x,
+        y,
+        width,
+        height,
+    }
 }
 
 fn number(args: Option<String>) -> u32 {
@@ -164,25 +288,50 @@ fn number(args: Option<String>) -> u32 {
 
 fn main(rt: HostRuntime) -> Result<(), Fault> {
     let alloc: Global = rt.alloc();
-    let kind = number(env::args(&rt)?.nth(2));
-    if number(env::args(&rt)?.nth(1)) == 0 {
-        return Ok(());
-    }
-    let set = set_of(alloc, kind)?;
-    for (form, columns, rows) in [
-        (0u32, 3i16, 3i16), (0, 5, 5), (0, 7, 7), (0, 15, 15), (0, 31, 31), (0, 63, 63), (0, 127, 127), (0, 255, 255),
-        (2, 5, 5), (2, 7, 7), (2, 15, 15), (2, 31, 31), (2, 63, 63),
-        (0, 9, 1), (0, 15, 1), (0, 33, 1), (0, 65, 1), (0, 129, 1), (0, 255, 1), (0, 31, 2), (0, 127, 2), (0, 255, 2), (0, 255, 4), (0, 255, 8), (0, 255, 15),
-        (0, 1, 31), (0, 1, 255), (0, 2, 127),
-        (1, 7, 7), (1, 11, 11), (1, 21, 21), (1, 45, 45),
-    ] {
-        for (width, height) in [(64u32, 64u32), (128, 128), (1024, 1024)] {
-            time_case(&rt, alloc, &set, form, columns, rows, width, height)?;
+    let what = number(env::args(&rt)?.nth(1));
+    if what == 1 || what == 3 {
+        for kind in [1u32, 2, 0, 3] {
+            let set = set_of(alloc, kind, 1300, 1300)?;
+            time_all(&rt, alloc, kind, 1, &set, part(130, 130, 64, 64))?;
+            time_all(&rt, alloc, kind, 1, &set, part(130, 130, 128, 128))?;
+            time_all(&rt, alloc, kind, 1, &set, part(130, 130, 1024, 1024))?;
+            if kind == 1 {
+                time_all(&rt, alloc, kind, 0, &set, part(130, 130, 256, 256))?;
+                time_all(&rt, alloc, kind, 2, &set, part(130, 130, 256, 256))?;
+            }
+        }
+        for width in [1u32, 8, 17, 33, 48, 70, 130, 200] {
+            let set = set_of(alloc, 1, width, 1024)?;
+            time_all(&rt, alloc, 1, 1, &set, part(0, 0, width, 1024))?;
+        }
+        for height in [1u32, 2, 8, 17] {
+            let set = set_of(alloc, 1, 1024, height)?;
+            time_all(&rt, alloc, 1, 1, &set, part(0, 0, 1024, height))?;
         }
     }
-    for (form, columns, rows) in [(0u32, 3i16, 3i16), (0, 15, 15), (2, 31, 31), (0, 63, 63), (0, 255, 255), (0, 255, 20)] {
-        for (width, height) in [(1u32, 1024u32), (8, 1024), (16, 1024), (32, 1024), (1024, 1), (1024, 2), (1024, 8), (1024, 16), (16, 16), (32, 32), (128, 16)] {
-            time_case(&rt, alloc, &set, form, columns, rows, width, height)?;
+    if what == 2 || what == 3 {
+        let set = set_of(alloc, 1, 4096, 4096)?;
+        let tile = part(0, 0, 4096, 4096);
+        for (form, columns, rows) in [
+            (0u32, 3i16, 3i16),
+            (0, 5, 5),
+            (0, 15, 15),
+            (1, 31, 31),
+            (0, 31, 31),
+        ] {
+            time_case(
+                &rt,
+                alloc,
+                &set,
+                Case {
+                    kind: 1,
+                    form,
+                    columns,
+                    rows,
+                    rank: 1,
+                    tile,
+                },
+            )?;
         }
     }
     Ok(())

