@@ -150,8 +150,8 @@ funnelled_word low high s k l h lt =
     get_or-zip2 bit_or lower twice k 0 0 0 (omega arith) (omega arith)
     ∙ ap (λ (t : ℕ). bit_or t (get_or twice k 0)) (get_or-zip2 right low (s ∷ s ∷ []) k 0 0 0 (omega arith) lt ∙ ap (right (get_or low k 0)) (twice_at s k lt))
     ∙ ap (bit_or (get_or low k 0 / 2 ^ s)) (get_or-zip2 left once ((63 - s) ∷ (63 - s) ∷ []) k 0 0 0 (omega arith) lt
-      ∙ ap (left (get_or once k 0)) (twice_at (63 - s) k lt)
-      ∙ ap (λ (t : ℕ). left t (63 - s)) (get_or-zip2 left high (1 ∷ 1 ∷ []) k 0 0 0 (omega arith) lt ∙ ap (left (get_or high k 0)) (twice_at 1 k lt)))
+    ∙ ap (left (get_or once k 0)) (twice_at (63 - s) k lt)
+    ∙ ap (λ (t : ℕ). left t (63 - s)) (get_or-zip2 left high (1 ∷ 1 ∷ []) k 0 0 0 (omega arith) lt ∙ ap (left (get_or high k 0)) (twice_at 1 k lt)))
 
 pub ahead_bit : (words : List ℕ) (at s q : ℕ) → ((k : ℕ) → get_or words k 0 < 2 ^ 64) → s < 64 → at + 3 ≤ length words → q < 128
     → bit_of (funnelled (chunk 0 2 (take (at + 2 - at) (drop at words))) (chunk 0 2 (take (at + 3 - (at + 1)) (drop (at + 1) words))) s) q ≡ bit_of words (64 * at + s + q)

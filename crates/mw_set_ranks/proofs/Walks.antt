@@ -118,10 +118,10 @@ pub columns_more : (value : ℕ → ℕ → ℕ) (column : ℕ → ℕ → ℕ) 
     → (x y : ℕ) → x < 128 * (i + 1) → y < high → bit_of new (y * (64 * (2 * pairs)) + x) ≡ value x y
 columns_more value column pairs i high old new inside same made before x y lt less = elim (cases_lt x (128 * i)) [
   | inl earlier ↦ made.others (y * (64 * (2 * pairs)) + x) (λ r row_less. elim (cases_order r y) [
-      | inl here ↦ let rows = ap (λ (t : ℕ). t * (2 * pairs)) here in inl (omega (arith, rows))
-      | inr (inl above) ↦ let le : r + 1 ≤ y = omega arith in let rows = mul-le-mul_right (2 * pairs) le in inr (omega (arith, rows))
-      | inr (inr below) ↦ let le : y + 1 ≤ r = omega arith in let rows = mul-le-mul_right (2 * pairs) le in inl (omega (arith, rows))
-    ]) ∙ before x y earlier less
+    | inl here ↦ let rows = ap (λ (t : ℕ). t * (2 * pairs)) here in inl (omega (arith, rows))
+    | inr (inl above) ↦ let le : r + 1 ≤ y = omega arith in let rows = mul-le-mul_right (2 * pairs) le in inr (omega (arith, rows))
+    | inr (inr below) ↦ let le : y + 1 ≤ r = omega arith in let rows = mul-le-mul_right (2 * pairs) le in inl (omega (arith, rows))
+  ]) ∙ before x y earlier less
   | inr from ↦
       let q = x - 128 * i in
       let place : y * (64 * (2 * pairs)) + x ≡ 64 * (y * (2 * pairs) + 2 * i) + q = omega arith in

@@ -12,8 +12,10 @@ const CHANGE: u64 = 2_500;
 
 const DIGIT: u64 = 900;
 
-/// Words: to lay out an offset.
+/// Words: to lay out an offset, and a place from its first column and row to its last.
 const LAID_OUT: u64 = 10_000;
+
+const LOOKED_AT: u64 = 10_000;
 
 /// Words: to merge what is seen, for each row of the element.
 const MERGED: u64 = 1_000;
@@ -60,15 +62,19 @@ fn words_time(load: Load, tile: Rect) -> u64 {
         .saturating_add(load.rows.saturating_mul(MERGED))
         .saturating_add(STEP);
     let first = load.offsets.saturating_mul(CHANGE);
+    let looked_at = load.rows.saturating_add(1).saturating_mul(load.columns);
     step.saturating_mul(u64::from(tile.height))
         .saturating_add(first)
         .saturating_mul(pairs)
         .saturating_add(load.offsets.saturating_mul(LAID_OUT))
+        .saturating_add(looked_at.saturating_mul(LOOKED_AT))
 }
 
 /// The time of a place by levels.
 fn place_time(load: Load) -> u64 {
-    let moved = if load.runs == load.rows && load.offsets == load.rows.saturating_mul(load.columns) {
+    let moved = if load.runs == load.rows
+        && load.offsets == load.rows.saturating_mul(load.columns)
+    {
         load.rows.saturating_mul(EIGHTH_ROW).saturating_add(EIGHTH)
     } else {
         load.runs.saturating_mul(MOVED_RUN).saturating_add(MOVED)

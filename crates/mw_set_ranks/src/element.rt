@@ -75,7 +75,15 @@ pub(crate) fn moves_of(
     let rows = rows_after(extent) + 1;
     let seen = places_of(alloc, runs, extent, wide)?;
     let places = places_of(alloc, runs, extent, columns)?;
-    let changes = changes_of(alloc, places.as_slice(), Sheet { rows, columns, wide })?;
+    let changes = changes_of(
+        alloc,
+        places.as_slice(),
+        Sheet {
+            rows,
+            columns,
+            wide,
+        },
+    )?;
     Ok(Moves { seen, changes })
 }
 
@@ -95,20 +103,31 @@ fn count_of_runs(offsets: &[Run]) -> u64 {
     count
 }
 
-/// What the time of ranks under an element depends on, of which each offset is a run.
-pub(crate) fn load_of(moves: &Moves, offsets: &[Run], extent: Extent, digits: usize) -> Load
+/// What the time of ranks depends on at best, under an element of which each offset is a run: where no column has a gap.
+pub(crate) fn least_load(offsets: &[Run], extent: Extent, digits: usize) -> Load
     requires across { extent.left ≤ℤ extent.right }
     requires down { extent.top ≤ℤ extent.bottom }
 {
-    let entered = moves.changes.entered.len();
-    let left = moves.changes.left.len();
+    let columns = columns_after(extent) + 1;
+    let ends = columns.min(offsets.len());
     Load {
         offsets: offsets.len() as u64,
         runs: count_of_runs(offsets),
         rows: rows_after(extent) as u64 + 1,
-        columns: columns_after(extent) as u64 + 1,
+        columns: columns as u64,
+        changes: ends.saturating_mul(2) as u64,
+        sums: sums_of(ends).saturating_mul(2) as u64,
+        digits: digits as u64,
+    }
+}
+
+/// What the time of ranks depends on.
+pub(crate) fn load_of(moves: &Moves, least: Load) -> Load {
+    let entered = moves.changes.entered.len();
+    let left = moves.changes.left.len();
+    Load {
         changes: entered.saturating_add(left) as u64,
         sums: sums_of(entered).saturating_add(sums_of(left)) as u64,
-        digits: digits as u64,
+        ..least
     }
 }

@@ -4,8 +4,8 @@ ghost use Rattle.std.specs.Prelude.{◌≡◌, ℕ, ◌+◌, ◌-◌, ◌*◌, �
 ghost use Rattle.std.specs.List.{AllByRecursion};
 ghost use Rattle.mw_set_ranks.specs.Moves.{weighed, marks_at, marks_before, place_in, HasChanged};
 
-use mw_model::NoMemory;
 use mw_bits::words::repeated;
+use mw_model::NoMemory;
 use std::alloc::Global;
 
 /// Places in rows, counted from the row before: those that are seen anew, and those that are seen no more.
@@ -98,11 +98,7 @@ fn changes_by_marks(alloc: Global, marks: &[u64], sheet: Sheet) -> Result<Change
 }
 
 /// The changes of the places of an element in rows of so many columns, given the places in the wide rows.
-pub(crate) fn changes_of(
-    alloc: Global,
-    places: &[usize],
-    sheet: Sheet,
-) -> Result<Changes, NoMemory>
+pub(crate) fn changes_of(alloc: Global, places: &[usize], sheet: Sheet) -> Result<Changes, NoMemory>
     requires inside { AllByRecursion (λ (s : ℕ). s < sheet.rows * sheet.columns) places.now }
     requires some { 0 < sheet.columns }
     requires room { sheet.rows * sheet.columns + sheet.columns < 2 ^ 64 }

@@ -12,17 +12,15 @@ ghost use Rattle.mw_bits.specs.Layouts.{IsNear};
 ghost use Rattle.mw_set_ranks.specs.Elements.{lacks_under, IsSetRank, IsMet};
 ghost use Rattle.mw_set_ranks.specs.Walks.{is_below, AreMoves, HasRoom};
 
-use crate::costs::pays;
-use crate::element::{Moves, load_of, moves_of, single_runs};
+use crate::costs::{Load, pays};
+use crate::element::{Moves, least_load, load_of, moves_of, single_runs};
 use crate::walk::{Places, Rows, walk_all};
 use mw_bits::pixel::{Bit, Max, Min, Plane};
-use mw_bits::run::{
-    Extent, Run, columns_after, extent_of, first_column, first_row, rows_after,
-};
+use mw_bits::run::{Extent, Run, columns_after, extent_of, first_column, first_row, rows_after};
+use mw_bits::spreading::spread;
 use mw_bits::tile::Window;
 use mw_bits::word_rows::{Both, flip_words, merge_words};
 use mw_bits::words::{Words, repeated, stride, trimmed};
-use mw_bits::spreading::spread;
 use mw_bits::{extremum, is_near};
 use mw_model::{NoMemory, Offset, Rect};
 use std::alloc::Global;
@@ -50,13 +48,25 @@ fn digits_for(count: usize) -> Digits
     } else if count < 64 {
         Digits { count: 7, half: 64 }
     } else if count < 256 {
-        Digits { count: 9, half: 256 }
+        Digits {
+            count: 9,
+            half: 256,
+        }
     } else if count < 1024 {
-        Digits { count: 11, half: 1024 }
+        Digits {
+            count: 11,
+            half: 1024,
+        }
     } else if count < 4096 {
-        Digits { count: 13, half: 4096 }
+        Digits {
+            count: 13,
+            half: 4096,
+        }
     } else {
-        Digits { count: 17, half: 65536 }
+        Digits {
+            count: 17,
+            half: 65536,
+        }
     }
 }
 
@@ -111,7 +121,13 @@ fn below_words(
         entered: moves.changes.entered.as_slice(),
         left: moves.changes.left.as_slice(),
     };
-    walk_all(planes.as_mut_slice(), cells, places, rows, out.as_mut_slice());
+    walk_all(
+        planes.as_mut_slice(),
+        cells,
+        places,
+        rows,
+        out.as_mut_slice(),
+    );
     Ok(out)
 }
 
@@ -121,6 +137,7 @@ fn few_lacking(
     set: &Window<Bit>,
     runs: &[Run],
     extent: Extent,
+    load: Load,
     number: u32,
     tile: Rect,
 ) -> Result<Option<Vec<u64>>, NoMemory>
@@ -141,7 +158,7 @@ fn few_lacking(
     let row = first_row(tile, extent, place);
     let digits = digits_for(runs.len());
     let moves = moves_of(alloc, runs, extent, 64 * wide)?;
-    if !pays(load_of(&moves, runs, extent, digits.count), tile) {
+    if !pays(load_of(&moves, load), tile) {
         return Ok(None);
     }
     let cells = lacking(alloc, set, column, row, wide, high)?;
@@ -216,9 +233,13 @@ pub fn rank_by_words(
     if !is_near(extent) {
         return Ok(None);
     }
+    let load = least_load(runs, extent, digits_for(offsets.len()).count);
+    if !pays(load, tile) {
+        return Ok(None);
+    }
     is_sound(set);
     let number = number_of(k, offsets.len());
-    let Some(words) = few_lacking(alloc, set, runs, extent, number, tile)? else {
+    let Some(words) = few_lacking(alloc, set, runs, extent, load, number, tile)? else {
         return Ok(None);
     };
     let seen = extremum::<Max>(alloc, set, offsets, tile)?;

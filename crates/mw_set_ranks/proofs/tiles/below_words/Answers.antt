@@ -44,5 +44,5 @@ returns-clause-bits c =
     let half : length c.as_mut_slice.result.now / 2 ≡ digits = omega arith in
     rw (take-written c.in_ok-out.out.items out c.in_ok-out.out.len whole)
     (λ x y lt less.
-      let p = y * (64 * rows.wide) + x in
-      c.walk_all.ensures x y lt less ∙ ap (λ (t : ℕ). is_below t rows.start cells c.as_slice.result.now p) half ∙ ap (λ (s : List ℕ). is_below digits rows.start cells s p) c.as_slice.ensures.value)
+    let p = y * (64 * rows.wide) + x in
+    c.walk_all.ensures x y lt less ∙ ap (λ (t : ℕ). is_below t rows.start cells c.as_slice.result.now p) half ∙ ap (λ (s : List ℕ). is_below digits rows.start cells s p) c.as_slice.ensures.value)

@@ -22,11 +22,11 @@ returns-clause-cells c =
     let whole : length out ≡ cells.len = omega (arith, c.as_mut_slice.ensures.len) in
     rw (take-written cells.items out cells.len whole)
     (λ x y lt less.
-      let p = y * (64 * wide) + x in
-      let fits = rows_fit y c.args.high wide less in
-      let seen : ℤ → ℤ → ℕ = λ p q. 1 - merge_at min 1 (cell_at f (p +ℤ pos x) (q +ℤ pos y)) in
-      c.flip_words.ensures p (omega (arith, fits, whole, c.as_mut_slice.ensures.len, c.in_ok-cells.ensures.size))
-      ∙ ap (λ (t : List ℕ). 1 - bit_of t p) c.as_mut_slice.ensures.value
-      ∙ ap (λ (t : ℕ). 1 - t) (c.in_ok-cells.ensures.cells x y lt less)
-      ∙ ap (λ (t : ℤ). seen t row) column-is
-      ∙ ap (seen c.args.column) row-is)
+    let p = y * (64 * wide) + x in
+    let fits = rows_fit y c.args.high wide less in
+    let seen : ℤ → ℤ → ℕ = λ p q. 1 - merge_at min 1 (cell_at f (p +ℤ pos x) (q +ℤ pos y)) in
+    c.flip_words.ensures p (omega (arith, fits, whole, c.as_mut_slice.ensures.len, c.in_ok-cells.ensures.size))
+    ∙ ap (λ (t : List ℕ). 1 - bit_of t p) c.as_mut_slice.ensures.value
+    ∙ ap (λ (t : ℕ). 1 - t) (c.in_ok-cells.ensures.cells x y lt less)
+    ∙ ap (λ (t : ℤ). seen t row) column-is
+    ∙ ap (seen c.args.column) row-is)

@@ -38,8 +38,8 @@ loop-i-preserved c =
     let m-is : m ≡ n = omega arith in
     columns_more (λ x y. is_below n rows.start cells seen (y * (64 * rows.wide) + x)) (λ q y. is_below m rows.start cells seen (64 * (y * rows.wide + 2 * i) + q)) rows.pairs i rows.high c.loop-i.out c.walk_down.new.out c.loop-i-test.true
     (λ q y lt less.
-      let place : 64 * (y * rows.wide + 2 * i) + q ≡ y * (64 * rows.wide) + (128 * i + q) = omega arith in
-      ap (λ (t : ℕ). is_below t rows.start cells seen (64 * (y * rows.wide + 2 * i) + q)) m-is ∙ ap (is_below n rows.start cells seen) place)
+    let place : 64 * (y * rows.wide + 2 * i) + q ≡ y * (64 * rows.wide) + (128 * i + q) = omega arith in
+    ap (λ (t : ℕ). is_below t rows.start cells seen (64 * (y * rows.wide + 2 * i) + q)) m-is ∙ ap (is_below n rows.start cells seen) place)
     c.walk_down.ensures c.loop-i.invariant
 
 pub returns : goal.returns

@@ -5,8 +5,8 @@ use Rattle.mw_set_ranks.specs.Elements.{IsSetRank}
 use Rattle.mw_step.proofs.SetRanks.{blank_ranks, ranks_of_pixels}
 use Rattle.mw_step.proofs.ranks.rank_of_set.Goals as goal
 
-pub returns-in_ok-filled : goal.returns-in_ok-filled
-returns-in_ok-filled c =
+pub returns-then-is_blank : goal.returns-in_ok-filled
+returns-then-is_blank c =
     let tile = c.args.tile in
     blank_ranks c.args.k c.args.set.now c.args.offsets.now tile c.in_ok-filled.field-0 (c.is_blank.ensures.only.0 c.if-is_blank.true)
     (c.in_ok-filled.ensures.value ∙ ap (λ (s : ℕ). raster tile.width tile.height (replicate (tile.height * tile.width) s)) c.new.ensures)
