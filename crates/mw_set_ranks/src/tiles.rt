@@ -158,7 +158,7 @@ fn few_lacking(
     let row = first_row(tile, extent, place);
     let digits = digits_for(runs.len());
     let moves = moves_of(alloc, runs, extent, 64 * wide)?;
-    if !pays(load_of(&moves, load), tile) {
+    if !pays(load_of(&moves, load), tile, place) {
         return Ok(None);
     }
     let cells = lacking(alloc, set, column, row, wide, high)?;
@@ -172,9 +172,6 @@ fn few_lacking(
     let made = trimmed(alloc, out.as_slice(), 2 * pairs, tile.width, tile.height)?;
     Ok(Some(made))
 }
-
-/// Under fewer offsets than this the levels of one byte are ranked as quickly.
-const LEAST_OFFSETS: usize = 32;
 
 /// Whether the tile has places, and few enough to lay out an element around it.
 fn has_layout(tile: Rect) -> bool
@@ -219,9 +216,6 @@ pub fn rank_by_words(
     requires { length offsets.now < 2 ^ 16 }
     ensures { IfOk result (λ o. IfSome o (IsSetRank k (seen_at set.now) offsets.now tile)) }
 {
-    if offsets.len() < LEAST_OFFSETS {
-        return Ok(None);
-    }
     if !has_layout(tile) {
         return Ok(None);
     }
@@ -234,7 +228,7 @@ pub fn rank_by_words(
         return Ok(None);
     }
     let load = least_load(runs, extent, digits_for(offsets.len()).count);
-    if !pays(load, tile) {
+    if !pays(load, tile, set.place()) {
         return Ok(None);
     }
     is_sound(set);

@@ -5,7 +5,7 @@ use Rattle.mw_set_ranks.specs.Elements.{IsSetRank}
 use Rattle.mw_step.proofs.SetRanks.{blank_ranks, ranks_of_pixels}
 use Rattle.mw_step.proofs.ranks.rank_of_set.Goals as goal
 
-pub returns-then-is_blank : goal.returns-in_ok-filled
+pub returns-then-is_blank : goal.returns-then-is_blank
 returns-then-is_blank c =
     let tile = c.args.tile in
     blank_ranks c.args.k c.args.set.now c.args.offsets.now tile c.in_ok-filled.field-0 (c.is_blank.ensures.only.0 c.if-is_blank.true)
