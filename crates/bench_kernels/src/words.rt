@@ -1,13 +1,14 @@
-//! Times of sets as words: made of levels and taken as levels, erosions by rectangles and discs, of the whole frame and, by
-//! discs, as a step of a plan takes them, with each tile cut, eroded and pasted.
+//! Times of sets as words: made of levels and taken as levels, medians, erosions by rectangles and discs, of the whole frame and,
+//! by discs, as a step of a plan takes them, with each tile cut, eroded and pasted.
 ghost use Rattle.std.specs.Prelude.{◌≡◌, ◌*◌, vec_len, IfOk};
 ghost use Rattle.mw_grid.specs.Grids.{IsTileSide};
 
-use crate::{FRAME, Fault, SIDE, disc, reach, square};
+use crate::{FRAME, Fault, SIDE, disc, full, reach, square};
 use mw_bits::{as_levels, at_least, extremum, rectangle};
 use mw_grid::Grid;
 use mw_model::Offset;
 use mw_pixel::{Bit, Min, Plane};
+use mw_set_ranks::rank_by_words;
 use mw_tile::{Window, paste};
 use std::alloc::Global;
 use std::time::Instant;
@@ -129,6 +130,28 @@ fn time_steps<R: std::rt::Clock + Print>(
     Ok(())
 }
 
+/// The best of five medians of the frame.
+fn time_median<R: std::rt::Clock + Print>(
+    rt: &R,
+    alloc: Global,
+    set: &Window<Bit>,
+    name: &str,
+    offsets: &[Offset],
+) -> Result<(), Fault> {
+    if offsets.len() > 65535 {
+        return Err(Fault::Memory);
+    }
+    let middle = offsets.len() as u32 / 2 + 1;
+    let mut best = u128::MAX;
+    for _ in 0..5 {
+        let start = Instant::now(rt)?;
+        let _made = rank_by_words(alloc, set, offsets, middle, FRAME)?;
+        best = best.min(start.elapsed(rt)?.as_micros());
+    }
+    println!(rt; "median under a {name}, a set in words, whole: {best} us")?;
+    Ok(())
+}
+
 pub(crate) fn time_sets<R: std::rt::Clock + Print>(rt: &R, alloc: Global) -> Result<(), Fault> {
     let levels = Window::whole(Plane::new(SIDE, SIDE, dots(alloc)?));
     let set = Window::whole(at_least(alloc, &levels, 1)?);
@@ -136,6 +159,8 @@ pub(crate) fn time_sets<R: std::rt::Clock + Print>(rt: &R, alloc: Global) -> Res
     for k in [3u8, 15, 63, 127] {
         time_rectangle(rt, alloc, &set, k)?;
     }
+    time_median(rt, alloc, &set, "square of 15", full(alloc, 15)?.as_slice())?;
+    time_median(rt, alloc, &set, "disc of 31", disc(alloc, 31)?.as_slice())?;
     for k in [5u8, 15, 31] {
         time_words(rt, alloc, &set, k)?;
         for side in [128u32, 512, 1024] {

@@ -9,3 +9,4 @@ mod UniformSeen
 mod UniformWords
 -- what lower crates offer
 pub use Rattle.mw_offset.proofs.mw_line as mw_line
+pub use Rattle.mw_offset.proofs.mw_words as mw_words

@@ -2,4 +2,7 @@ pub mod Layouts
 pub mod Uniform
 pub mod Waiting
 -- what lower crates offer
+pub mod mw_lane
 pub mod mw_line
+pub mod mw_run
+pub mod mw_words

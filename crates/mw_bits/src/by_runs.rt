@@ -154,7 +154,7 @@ fn are_near(first: i32, last: i32) -> bool
 }
 
 /// Whether an element has few columns and rows near its origin, so that it can be laid out around a tile.
-pub(crate) fn is_near(extent: Extent) -> bool
+pub fn is_near(extent: Extent) -> bool
     ensures { IsTrue result → IsNear extent }
 {
     are_near(extent.left, extent.right) && are_near(extent.top, extent.bottom)

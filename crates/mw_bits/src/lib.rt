@@ -24,6 +24,7 @@ mod unpacked;
 mod window_rows;
 
 pub use boxes::rectangle;
+pub use by_runs::is_near;
 pub use compared::{level_set, threshold};
 pub use counting::count;
 pub use held::row_of;
@@ -46,4 +47,31 @@ pub mod line {
 
 pub mod offset {
     pub use mw_offset::extremum;
+}
+
+pub mod pixel {
+    pub use mw_offset::pixel::{Bit, Plane};
+    pub use mw_word_rows::pixel::{Max, Min};
+}
+
+pub mod run {
+    pub use mw_offset::run::{
+        Extent, Run, columns_after, extent_of, first_column, first_row, rows_after, start_of_run,
+    };
+}
+
+pub mod spreading {
+    pub use crate::spread::spread;
+}
+
+pub mod tile {
+    pub use mw_offset::tile::Window;
+}
+
+pub mod word_rows {
+    pub use mw_word_rows::{Both, flip_words, merge_words};
+}
+
+pub mod words {
+    pub use mw_offset::words::{Words, repeated, stride, trimmed};
 }

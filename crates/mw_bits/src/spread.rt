@@ -65,7 +65,7 @@ fn copy_held<E: WordExtremum>(set: &Window<Bit>, row: usize, high: usize, out: &
 }
 
 /// Neutral pixels in each of `high` rows of `wide` words, merged with what the set has there, and one word more.
-pub(crate) fn spread<E: WordExtremum>(
+pub fn spread<E: WordExtremum>(
     alloc: Global,
     set: &Window<Bit>,
     column: i64,

@@ -15,6 +15,7 @@ use mw_pixel::{Bit, Extremum, Grey, Image, Max, Min, Pixel, Planar, Plane};
 use mw_rank::rank;
 use mw_rank_counts::Counted;
 use mw_rank_rows::rank_of_grey;
+use mw_set_ranks::rank_by_words;
 use mw_tile::{AnyWindow, Window, WindowView};
 use std::alloc::Global;
 use std::process::Abort;
@@ -609,6 +610,43 @@ fn ranks_of_sets(rt: HostRuntime) -> Result<(), Fail> {
         let ranks = Window::whole(ranks_of(&rt, rt.alloc(), &levels, case)?);
         let made = once_more!(NoMemory, threshold(rt.alloc(), &ranks, 1));
         assert!(rt; are_ranks(&made, case, Some(120)));
+    }
+    Ok(())
+}
+
+/// A frame of three words a row that rises by columns, and one that rises by rows.
+const BY_WORDS: [Rising; 2] = [
+    Rising {
+        width: 130,
+        height: 40,
+        by_rows: false,
+        step: 2,
+        reach: 4,
+        k: 41,
+    },
+    Rising {
+        width: 130,
+        height: 40,
+        by_rows: true,
+        step: 6,
+        reach: 4,
+        k: 30,
+    },
+];
+
+#[test]
+fn ranks_of_sets_by_words(rt: HostRuntime) -> Result<(), Fail> {
+    for case in BY_WORDS {
+        let set = high(&rt, rt.alloc(), case)?;
+        let tile = part(0, 0, case.width, case.height);
+        let offsets = once_more!(NoMemory, square(rt.alloc(), case.reach));
+        assert!(rt; offsets.len() < 65536);
+        let made = once_more!(
+            NoMemory,
+            rank_by_words(rt.alloc(), &set, &offsets, case.k, tile)
+        );
+        let ranks = made.ok_or("ranks by words")?;
+        assert!(rt; are_ranks(&ranks, case, Some(120)));
     }
     Ok(())
 }

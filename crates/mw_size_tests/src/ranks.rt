@@ -1,5 +1,5 @@
 //! Ranks as sessions ask for them: medians under small squares by vectors, under few offsets by counting, under rectangles eight
-//! rows at a time, under other elements by the moving histogram.
+//! rows at a time, under other elements by the moving histogram, and those of sets by words.
 
 use crate::ramps::{Form, Sight, half, ramp, shows_sight};
 use crate::slopes::{SQUARE, Sides, WIDE};
@@ -8,6 +8,7 @@ use mw_medians::{Vectored, median_of_grey};
 use mw_pixel::Plane;
 use mw_rank_counts::Counted;
 use mw_rank_rows::rank_of_grey;
+use mw_set_ranks::rank_by_words;
 use mw_tile::Window;
 use std::alloc::Global;
 use std::process::Abort;
@@ -91,4 +92,32 @@ fn of_sets(rt: &impl Abort, alloc: Global, sides: Sides) {
 fn ranks_of_sets(rt: HostRuntime) {
     of_sets(&rt, rt.alloc(), SQUARE);
     of_sets(&rt, rt.alloc(), WIDE);
+}
+
+/// Elements of 225, 709, 3,969 and 65,025 offsets, each with the number of the middle one.
+const MEDIANS_OF_SETS: [(Form, u32); 4] = [
+    (Form::Square(7), 113),
+    (Form::Disc(15), 355),
+    (Form::Square(31), 1985),
+    (Form::Square(127), 32513),
+];
+
+/// The same by words.
+fn of_sets_by_words(rt: &impl Abort, alloc: Global, sides: Sides) {
+    let set = half(rt, alloc, sides);
+    for (form, k) in MEDIANS_OF_SETS {
+        let sight = Sight { sides, form, k };
+        let offsets = form.offsets(rt, alloc);
+        assert!(rt; offsets.len() < 65536);
+        let made = rank_by_words(alloc, &set, &offsets, k, sides.frame())
+            .expect(rt, "memory")
+            .expect(rt, "ranks by words");
+        assert!(rt; shows_sight(rt, alloc, &made, sight), "{k}");
+    }
+}
+
+#[test]
+fn ranks_of_sets_by_words(rt: HostRuntime) {
+    of_sets_by_words(&rt, rt.alloc(), SQUARE);
+    of_sets_by_words(&rt, rt.alloc(), WIDE);
 }

@@ -8,8 +8,8 @@ use Rattle.mw_model.specs.declared.places.Rect.{Rect}
 use Rattle.mw_model.specs.Places.{box_offsets}
 use Rattle.mw_task.specs.mw_element.Figures.{FillsBox}
 use Rattle.mw_model.specs.Rasters.{Raster, Sight, seen_under}
-use Rattle.mw_bits.specs.mw_line.Extrema.{IsSlidingExtremum}
-use Rattle.mw_bits.proofs.mw_line.Folds.{IsExtremum}
+use Rattle.mw_set_ranks.specs.mw_line.Extrema.{IsSlidingExtremum}
+use Rattle.mw_set_ranks.proofs.mw_line.Folds.{IsExtremum}
 use Rattle.mw_task.proofs.Boxes.{box_all, box_at}
 
 -- a value that is merged before the list may be merged after it

@@ -1,11 +1,12 @@
 -- Ranks of sets are 0 or 1.
-use Rattle.std.proofs.Common.{◌≡◌, ℕ, ◌+◌, ◌-◌, ◌*◌, ◌≤◌, min, All, ℤ, pos, negsuc, ◌+ℤ◌, ◌-ℤ◌, List, length, map, get_or, Option, None, IfSome, slice_get, Bool, true, false, refl, ap, sym, subst, arith, ◌∙◌, inl, inr}
+use Rattle.std.proofs.Common.{◌≡◌, ℕ, ◌+◌, ◌-◌, ◌*◌, ◌≤◌, min, All, ℤ, pos, negsuc, ◌+ℤ◌, ◌-ℤ◌, List, length, map, get_or, replicate, Option, None, IfSome, slice_get, Bool, true, false, refl, ap, sym, subst, arith, ◌∙◌, inl, inr}
 use Rattle.std.specs.Prelude.{◌&&◌, nat_lt, nat_le, cond, if◌then◌else◌}
 use Rattle.std.specs.List.{AllByRecursion}
 use Rattle.std.proofs.lemmas.Bool.{cases_lt}
-use Rattle.std.proofs.lemmas.List.{get_or-map, length-map, map-id}
+use Rattle.std.proofs.lemmas.Grind.{get_or_default_zero}
+use Rattle.std.proofs.lemmas.List.{get_or-map, get_or-replicate, length-map, length-replicate, map-id}
 use Rattle.std.proofs.lemmas.Nat.{mul-add-lt}
-use Rattle.std.proofs.lemmas.Option.{slice_get-get_or, slice_get_past}
+use Rattle.std.proofs.lemmas.Option.{get_or_from_slice_get, slice_get-get_or, slice_get_past}
 use Rattle.mw_model.proofs.mw_facts.Alls.{all-each_contained}
 use Rattle.mw_model.specs.declared.places.Offset.{Offset}
 use Rattle.mw_model.specs.declared.places.Rect.{Rect}
@@ -15,6 +16,8 @@ use Rattle.mw_model.specs.Rasters.{Raster, raster, cell_at, seen_under}
 use Rattle.mw_model.specs.Windows.{View, seen_at}
 use Rattle.mw_model.proofs.ImageLaws.{sorted_below, index_below}
 use Rattle.mw_rank_rows.specs.mw_rank.Ranks.{IsRank}
+use Rattle.mw_set_ranks.specs.Elements.{IsSetRank}
+use Rattle.mw_set_ranks.specs.mw_bits.Uniform.{HasOnly}
 use Rattle.mw_step.proofs.Levels.{two_levels}
 use Rattle.mw_step.proofs.SameMembers.{of_seen}
 
@@ -66,4 +69,37 @@ set_ranks k w set offsets tile ranks p w-is small is width height cells =
           ∙ get_or-map upper ranks.cells i 0 d (omega (arith, mul-add-lt y tile.width x tile.height down across))
           ∙ ap upper r-is
           ∙ two_levels upper (λ (n : ℕ). n) (ranked k (found set)) low refl refl;
+    }
+
+-- ranks of pixels are ranks of levels, where each pixel is its level
+pub ranks_of_pixels : (k : ℕ) (set : View ℕ) (offsets : List Offset) (tile : Rect) (p : Raster ℕ) → IsSetRank k (seen_at set) offsets tile p → IsRank (λ (n : ℕ). n) k (seen_at set) offsets tile p
+ranks_of_pixels k set offsets tile p is =
+    let size = is.size in
+    record {
+      width = is.width;
+      height = is.height;
+      size = size;
+      cells = λ x y d across down.
+          let i = y * tile.width + x in
+          let seen = seen_under (seen_at set) offsets (tile.x + x) (tile.y + y) in
+          get_or_from_slice_get p.cells i (ranked k seen) d (is.cells x y across down) ∙ ap (ranked k) (sym (map-id seen));
+    }
+
+-- a set without pixels has no rank of 1
+pub blank_ranks : (k : ℕ) (set : View ℕ) (offsets : List Offset) (tile : Rect) (p : Raster ℕ) → HasOnly 0 set.cells → p ≡ raster tile.width tile.height (replicate (tile.height * tile.width) 0) → IsRank (λ (n : ℕ). n) k (seen_at set) offsets tile p
+blank_ranks k set offsets tile p only is =
+    let none : All (λ s. s ≤ 0) set.cells = λ i d lt. let same = get_or_default_zero set.cells i d lt in let zero = only i lt in omega arith in
+    record {
+      width = ap (λ (r : Raster ℕ). r.width) is;
+      height = ap (λ (r : Raster ℕ). r.height) is;
+      size = ap (λ (r : Raster ℕ). length r.cells) is ∙ length-replicate (tile.height * tile.width) 0;
+      cells = λ x y d across down.
+          let i = y * tile.width + x in
+          let seen = seen_under (seen_at set) offsets (tile.x + x) (tile.y + y) in
+          let low : ranked k seen ≤ 0 = ranked_below 0 k seen (seen_below 0 set offsets (tile.x + x) (tile.y + y) none) in
+          let zero : 0 ≡ ranked k seen = omega arith in
+          ap (λ (r : Raster ℕ). get_or r.cells i d) is
+          ∙ get_or-replicate (tile.height * tile.width) i 0 d (omega (arith, mul-add-lt y tile.width x tile.height down across))
+          ∙ zero
+          ∙ ap (ranked k) (sym (map-id seen));
     }

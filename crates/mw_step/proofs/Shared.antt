@@ -11,7 +11,7 @@ use Rattle.mw_model.specs.Windows.{View}
 use Rattle.mw_model.specs.Pictures.{picture}
 use Rattle.mw_joined.specs.mw_tile.Windows.{SourceWindow}
 use Rattle.mw_joined.specs.mw_tile.Cuts.{view_of}
-use Rattle.mw_bits.specs.Uniform.{HasOnly}
+use Rattle.mw_set_ranks.specs.mw_bits.Uniform.{HasOnly}
 use Rattle.mw_joined.specs.mw_pieces.Patches.{Joint, IsJoint, IsJoined, IsWholeOf}
 use Rattle.mw_joined.specs.mw_pieces.Shared.{level_in, source_joint}
 use Rattle.mw_joined.proofs.mw_pieces.TileCells.{length-cells_in}

@@ -14,6 +14,7 @@ use crate::ranks::rank_of_set;
 use crate::sliding::{set_under_element, under_box, under_element};
 use mw_joined::tile::AnyWindow;
 use mw_model::{NoMemory, OffsetBox, Rect};
+use mw_set_ranks::bits;
 use mw_task::TileResult;
 use mw_task::element::Element;
 use std::alloc::Global;
@@ -47,7 +48,7 @@ pub(crate) fn slide_box<E: LevelExtremum>(
     of_samples!(
         alloc,
         window,
-        |set| mw_bits::rectangle::<E>(alloc, set, offsets, tile),
+        |set| bits::rectangle::<E>(alloc, set, offsets, tile),
         |samples, maxval| under_box::<_, E>(alloc, samples, offsets, maxval, tile)
     )
 }

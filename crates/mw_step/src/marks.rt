@@ -8,11 +8,11 @@ ghost use Rattle.mw_task.specs.Products.{HoldsImage, both_drawn, three_drawn, pl
 use crate::kinds::{bits_of, of_samples, sample_of};
 use crate::painting::{marked, marked_set, without};
 use crate::sharing::shared;
-use mw_bits::{is_blank, is_within};
 use mw_joined::pieces::SharedWindow;
 use mw_joined::pixel::Bit;
 use mw_joined::tile::{AnyWindow, Window};
 use mw_model::NoMemory;
+use mw_set_ranks::bits::{is_blank, is_within};
 use mw_task::TileResult;
 use std::alloc::Global;
 

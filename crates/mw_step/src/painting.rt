@@ -7,10 +7,10 @@ ghost use lib.Lanes.{zip2};
 ghost use Rattle.mw_joined.specs.mw_words.Packed.{bit_of, stride_of};
 
 use crate::thresholds::is_sound;
-use mw_bits::{join, minus, row_of};
 use mw_joined::pixel::{Bit, Grey, Pixel, Plane};
 use mw_joined::tile::Window;
 use mw_model::NoMemory;
+use mw_set_ranks::bits::{join, minus, row_of};
 use std::alloc::Global;
 
 /// The places of the first set that are not in the second.

@@ -9,6 +9,7 @@ use crate::kinds::of_both;
 use crate::pointwise::{differences, merged};
 use mw_joined::tile::AnyWindow;
 use mw_model::NoMemory;
+use mw_set_ranks::bits;
 use mw_task::TileResult;
 use std::alloc::Global;
 
@@ -22,7 +23,7 @@ pub(crate) fn minus(alloc: Global, a: &AnyWindow, b: &AnyWindow) -> Result<TileR
         alloc,
         a,
         b,
-        |set, other| mw_bits::minus(alloc, set, other),
+        |set, other| bits::minus(alloc, set, other),
         |first, second| differences(alloc, first, second)
     )
 }

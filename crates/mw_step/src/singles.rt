@@ -8,10 +8,11 @@ ghost use Rattle.mw_task.specs.Products.{HoldsImage, each_drawn, tile_drawn};
 use crate::kinds::{made_bits, made_bytes, made_words, of_samples};
 use crate::pointwise::inverted;
 use crate::thresholds::{level_of_set, level_set, upper_of_set, upper_set};
-use mw_bits::lane::LevelBlocks;
 use mw_joined::pixel::Plane;
 use mw_joined::tile::{AnyWindow, WindowView};
 use mw_model::{NoMemory, Rect};
+use mw_set_ranks::bits;
+use mw_set_ranks::lane::LevelBlocks;
 use mw_task::TileResult;
 use std::alloc::Global;
 
@@ -22,7 +23,7 @@ pub(crate) fn invert(alloc: Global, a: &AnyWindow) -> Result<TileResult, NoMemor
     of_samples!(
         alloc,
         a,
-        |set| mw_bits::invert(alloc, set),
+        |set| bits::invert(alloc, set),
         |samples, maxval| inverted(alloc, maxval, samples)
     )
 }
@@ -71,7 +72,7 @@ pub(crate) fn sum_up(a: &AnyWindow) -> u64
     ensures fills { length a.now.view.cells ≡ a.now.view.place.height * a.now.view.place.width }
 {
     match a.view() {
-        WindowView::Bits(w) => mw_bits::count(w),
+        WindowView::Bits(w) => bits::count(w),
         WindowView::Grey8(w, _) => total(w.samples()),
         WindowView::Grey16(w, _) => total(w.samples()),
     }

@@ -3,13 +3,14 @@
 ghost use Rattle.std.specs.Prelude.{IfOk};
 ghost use Rattle.mw_model.specs.Places.{box_offsets};
 ghost use Rattle.mw_model.specs.Windows.{seen_at};
-ghost use Rattle.mw_bits.specs.mw_line.Extrema.{IsSlidingExtremum};
+ghost use Rattle.mw_set_ranks.specs.mw_line.Extrema.{IsSlidingExtremum};
 
-use mw_bits::WordExtremum;
-use mw_bits::line::rectangle;
 use mw_joined::pixel::{Bit, Extremum, Grey, Plane};
 use mw_joined::tile::Window;
 use mw_model::{NoMemory, OffsetBox, Rect};
+use mw_set_ranks::bits;
+use mw_set_ranks::bits::WordExtremum;
+use mw_set_ranks::line::rectangle;
 use mw_task::element::Element;
 use std::alloc::Global;
 
@@ -28,7 +29,7 @@ pub(crate) fn under_element<P: Grey, E: Extremum<P>>(
         Some(offsets) => under_box::<P, E>(alloc, window, offsets, maxval, tile),
         None => {
             let neutral = E::neutral(maxval);
-            mw_bits::offset::extremum::<P, E>(alloc, window, element.offsets(), neutral, tile)
+            mw_set_ranks::offset::extremum::<P, E>(alloc, window, element.offsets(), neutral, tile)
         }
     }
 }
@@ -56,7 +57,7 @@ pub(crate) fn set_under_element<E: WordExtremum>(
     ensures { IfOk result (IsSlidingExtremum E.merge (E.neutral_of 1) (seen_at set.now) element.now.offsets tile) }
 {
     match element.as_rectangle() {
-        Some(offsets) => Ok(mw_bits::rectangle::<E>(alloc, set, offsets, tile)?),
-        None => Ok(mw_bits::extremum::<E>(alloc, set, element.offsets(), tile)?),
+        Some(offsets) => Ok(bits::rectangle::<E>(alloc, set, offsets, tile)?),
+        None => Ok(bits::extremum::<E>(alloc, set, element.offsets(), tile)?),
     }
 }

@@ -2,11 +2,12 @@
 
 ghost use Rattle.std.specs.Prelude.{◌≡◌, ℕ, ◌*◌, ◌≤◌, ◌==◌, All, length, map, IfOk, nat_le, if◌then◌else◌};
 
-use mw_bits::lane::LevelBlocks;
-use mw_bits::{invert, join};
 use mw_joined::pixel::{Bit, Grey, Plane};
 use mw_joined::tile::Window;
 use mw_model::NoMemory;
+use mw_set_ranks::bits::{invert, join};
+use mw_set_ranks::bits;
+use mw_set_ranks::lane::LevelBlocks;
 use std::alloc::Global;
 
 /// What is so of each set: a call that is made only for these facts.
@@ -70,7 +71,7 @@ pub(crate) fn level_set<P: LevelBlocks + Grey>(
 {
     // for their number
     let _samples = a.samples();
-    Ok(mw_bits::level_set(alloc, a, u32::from(v))?)
+    Ok(bits::level_set(alloc, a, u32::from(v))?)
 }
 
 /// The places of a window in levels of grey with level `k` or more.
@@ -86,5 +87,5 @@ pub(crate) fn upper_set<P: LevelBlocks + Grey>(
 {
     // for their number
     let _samples = a.samples();
-    Ok(mw_bits::threshold(alloc, a, k)?)
+    Ok(bits::threshold(alloc, a, k)?)
 }

@@ -28,3 +28,8 @@ pub use packing::pack_row;
 pub use padding::combine_row;
 pub use shifting::{combine_ahead, combine_both, combine_from};
 pub use unpacking::unpack_row;
+
+// What lower crates offer, for the crates above.
+pub mod pixel {
+    pub use mw_line::pixel::{Max, Min};
+}

@@ -14,4 +14,6 @@ mod pairs;
 #[cfg(test)]
 mod seams;
 #[cfg(test)]
+mod set_ranks;
+#[cfg(test)]
 mod words;

@@ -1,13 +1,17 @@
-use Rattle.std.proofs.Common.{ℕ, map, ap, ◌∙◌}
-use Rattle.std.specs.Prelude.{nat_le, if◌then◌else◌}
-use Rattle.mw_model.specs.Windows.{View}
-use Rattle.mw_step.proofs.SetRanks.{set_ranks}
+use Rattle.std.proofs.Common.{Option, IfSome, ℕ, ◌*◌, replicate, ap, subst, ◌∙◌}
+use Rattle.mw_model.specs.Rasters.{raster}
+use Rattle.mw_model.specs.Windows.{seen_at}
+use Rattle.mw_set_ranks.specs.Elements.{IsSetRank}
+use Rattle.mw_step.proofs.SetRanks.{blank_ranks, ranks_of_pixels}
 use Rattle.mw_step.proofs.ranks.rank_of_set.Goals as goal
 
-pub returns : goal.returns
-returns c =
-    let made = c.in_ok-at_least in
-    let levels-is = c.new-levels.ensures in
-    set_ranks c.args.k c.in_ok-window.window c.args.set.now c.args.offsets.now c.args.tile c.in_ok-ranks.ranks made.field-0 c.in_ok-window.ensures c.is_sound.ensures.small c.in_ok-ranks.ensures.over_window
-    (made.ensures.width ∙ ap (λ (w : View ℕ). w.place.width) levels-is) (made.ensures.height ∙ ap (λ (w : View ℕ). w.place.height) levels-is)
-    (made.ensures.cells ∙ ap (λ (w : View ℕ). map (λ (s : ℕ). if nat_le 1 s then 1 else 0) w.cells) levels-is)
+pub returns-then-is_blank : goal.returns-then-is_blank
+returns-then-is_blank c =
+    let tile = c.args.tile in
+    blank_ranks c.args.k c.args.set.now c.args.offsets.now tile c.in_ok-filled.field-0 (c.is_blank.ensures.only.0 c.if-is_blank.true)
+    (c.in_ok-filled.ensures.value ∙ ap (λ (s : ℕ). raster tile.width tile.height (replicate (tile.height * tile.width) s)) c.new.ensures)
+
+pub returns-in-Some : goal.returns-in-Some
+returns-in-Some c =
+    ranks_of_pixels c.args.k c.args.set.now c.args.offsets.now c.args.tile c.in-Some.ranks
+    (subst (λ (o : Option _). IfSome o (IsSetRank c.args.k (seen_at c.args.set.now) c.args.offsets.now c.args.tile)) c.in-Some.is c.in_ok-ranks.ensures)
