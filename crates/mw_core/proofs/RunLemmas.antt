@@ -1,5 +1,5 @@
 -- A RUN that is not refused: no fault, and work that is fresh and means the command.
-use Rattle.std.proofs.Common.{◌≡◌, ℕ, ◌<◌, ◌≤◌, ◌++◌, ◌∷◌, [], List, length, Option, Some, None, Result, Ok, Err, IfOk, OnOk, sym, ap, ◌∙◌, subst}
+use Rattle.std.proofs.Common.{◌≡◌, ℕ, ◌<◌, ◌≤◌, ◌++◌, ◌∷◌, [], false, List, length, map, Option, Some, None, Result, Ok, Err, IfOk, OnOk, sym, ap, ◌∙◌, subst}
 use Rattle.std.specs.List.{AllByRecursion}
 use Rattle.mw_model.proofs.mw_facts.Elements.{get_or-push_last}
 use Rattle.mw_model.specs.declared.names.Name.{Name}
@@ -12,11 +12,12 @@ use Rattle.mw_model.specs.declared.calls.Reply.{Reply}
 use Rattle.mw_model.specs.declared.calls.Reply.TheVariants as reply
 use Rattle.mw_model.specs.declared.calls.LogItem.TheVariants as item
 use Rattle.mw_model.specs.Values.{Value, tickets}
-use Rattle.mw_model.specs.Refusals.{Table, refusal}
+use Rattle.mw_model.specs.Refusals.{Table, first_of, inputs_wanted, is_dead, name_taken, no_room, op_cases, outcome_at, refusal, wanted_case}
 use Rattle.mw_model.specs.Machine.{Machine, values, with_entry, run_submission}
 use Rattle.mw_model.specs.Tasks.{Progress, remaining_tasks, running_tasks, task_count}
 use Rattle.mw_model.specs.Stands.{CoreView, StandsFor, progress_at}
 use Rattle.mw_checks.specs.mw_plan.Tables.{AreValuesAt}
+use Rattle.mw_checks.proofs.mw_laws.RunTables.{first_none, inputs_all, wanted_alive}
 use Rattle.mw_checks.proofs.mw_plan.Accepted.{machine_values}
 use Rattle.mw_ledger.specs.mw_progress.ProgressView.{ProgressView}
 use Rattle.mw_checks.specs.mw_store.Stored.{Stored}
@@ -92,3 +93,11 @@ fresh-seen c s again o e side u fits seen seen_again below planned =
     let Below : Stored → Type 0 = λ x. AllByRecursion (λ i. i < length x.table.names) (tickets e.inputs) in
     let On : Stored → Type 0 = λ x. IsPlannedBy x.table x.kept o e side u in
     planned-fresh c.table c.kept o e side u fits (subst Below seen below) (subst On seen_again planned)
+
+-- no input of a command that is accepted is dead
+pub accepted-alive : (w : Table) (kept : List (Option Value)) (n : Name) (o : Op) → refusal w kept (call.Run n o) ≡ None → AllByRecursion (λ i. is_dead (outcome_at w.outcomes i) ≡ false) (tickets (run_submission w o).inputs)
+accepted-alive w kept n o r =
+    let x = first_none (name_taken w n) _ r in
+    let y = first_none (no_room w) (first_of (map (wanted_case w) (inputs_wanted o)) ∷ first_of (op_cases w kept o) ∷ []) x.1 in
+    let z = first_none (first_of (map (wanted_case w) (inputs_wanted o))) (first_of (op_cases w kept o) ∷ []) y.1 in
+    inputs_all w (λ i. is_dead (outcome_at w.outcomes i) ≡ false) (inputs_wanted o) (wanted_alive w) z.0

@@ -42,7 +42,7 @@ impl Model for Core {
 impl Core {
     ghost use Rattle.std.specs.List.{AllByRecursion};
     ghost use Rattle.mw_model.specs.Values.{tickets};
-    ghost use Rattle.mw_model.specs.Refusals.{ticket_of, outcome_at, is_pending};
+    ghost use Rattle.mw_model.specs.Refusals.{ticket_of, outcome_at, is_dead, is_pending};
     ghost use Rattle.mw_model.specs.Machine.{with_entry, killed, settled};
     ghost use Rattle.mw_model.specs.Tasks.{remaining_tasks, task_count};
     ghost use Rattle.mw_checks.specs.mw_store.Entries.{submission_of, outcome_of, payload_in};
@@ -88,6 +88,7 @@ impl Core {
         requires free { ticket_of self.old.table.names name ≡ None }
         requires room { length self.old.table.names < ENTRY_LIMIT }
         requires below { AllByRecursion (λ i. i < length self.old.table.names) (tickets (submission_of entry).inputs) }
+        requires alive { AllByRecursion (λ i. is_dead (outcome_at self.old.table.outcomes i) ≡ false) (tickets (submission_of entry).inputs) }
         requires fits { FitsLimits (submission_of entry).shape }
         requires planned { IfSome work (IsPlannedOn self.old.table (submission_of entry)) }
         requires left { IfSome work (λ u. 1 ≤ remaining_tasks u.progress) }
@@ -128,8 +129,10 @@ impl Core {
         ensures side { self.new.side ≡ self.old.side }
     {
         self.ledger.sound();
+        let wanted = self.ledger.store().is_wanted(t);
+        let was = self.ledger.running_of(t);
         self.ledger.end(t, cause, Compact::short(item));
-        self.counts.recount(&self.ledger);
+        self.counts.count_dead(&self.ledger, t, was, wanted);
     }
 
     /// Lets a done ticket go. Memory is wanting only where the log is full.

@@ -1,5 +1,5 @@
 -- The counts are right after a change of the ledger.
-use Rattle.std.proofs.Common.{◌≡◌, ◌≢◌, ℕ, false, nat_eq, ◌+◌, ◌-◌, ◌*◌, ◌<◌, ◌≤◌, ◌^◌, inl, inr, List, [], ◌∷◌, ◌++◌, length, get_or, set, sum, Option, None, option_map, sym, ap, ◌∙◌, arith, length-set, length-append}
+use Rattle.std.proofs.Common.{◌≡◌, ◌≢◌, ℕ, Bool, false, nat_eq, ◌+◌, ◌-◌, ◌*◌, ◌<◌, ◌≤◌, ◌^◌, inl, inr, List, [], ◌∷◌, ◌++◌, length, get_or, set, sum, Option, None, option_map, sym, ap, ◌∙◌, arith, length-set, length-append}
 use Rattle.std.specs.Prelude.{◌&&◌}
 use Rattle.std.specs.Option.{option_map_or}
 use Rattle.std.specs.List.{list_any}
@@ -9,12 +9,14 @@ use Rattle.std.proofs.lemmas.List.FromFn.{length-map-range_with_len, length-rang
 use Rattle.std.proofs.lemmas.List.Sums.{count_by-le-length}
 use Rattle.mw_model.proofs.mw_facts.Elements.{get_or-push_below}
 use Rattle.mw_model.proofs.mw_facts.Finds.{option_cases}
+use Rattle.mw_model.proofs.mw_facts.Tests.{list_any-range}
 use Rattle.mw_model.specs.declared.calls.Call.{Call}
+use Rattle.mw_model.specs.declared.calls.Outcome.{Outcome}
 use Rattle.mw_model.specs.declared.calls.Outcome.TheVariants as outcome
 use Rattle.mw_model.specs.declared.names.Name.{Name}
 use Rattle.mw_model.specs.Machine.{settled}
 use Rattle.mw_model.specs.Refusals.{Table, outcome_at, is_pending}
-use Rattle.mw_model.specs.Stands.{CoreView, progress_at, inputs_of, ready_under, running_count}
+use Rattle.mw_model.specs.Stands.{CoreView, progress_at, inputs_of, is_wanted, ready_under, running_count}
 use Rattle.mw_model.specs.Tasks.{Progress, is_running, running_tasks, task_count, tasks_below}
 use Rattle.mw_underway.specs.mw_progress.ProgressView.{ProgressView}
 use Rattle.mw_underway.proofs.mw_stands.CountLemmas.{sum-more, sum-at, sum-most}
@@ -138,7 +140,7 @@ counts-settled b new old k t was mid waiters orderly in-new counts table works w
     let apart : (v : ℕ) → v < n → v ≢ t → list_any (nat_eq v) waiters ≡ false → g v ≡ f v =
     λ v lt ne out. elim (cases_Bool (is_pending (outcome_at b.table.outcomes v) && list_any (nat_eq t) (inputs_of b.table v))) [
       | inl waits ↦ absurd (let in_list = wait v lt waits in cc)
-      | inr free ↦ ready-apart b new t v table works ne free
+      | inr free ↦ ready-apart b new t v outcome.Done table works ne free
     ]
     in
     let at : (v : ℕ) → v < n → get_or k.ready v 0 ≡ g v = λ v lt. elim (cases_Bool (list_any (nat_eq v) waiters)) [
@@ -150,6 +152,27 @@ counts-settled b new old k t was mid waiters orderly in-new counts table works w
     ]
     in (
       row-is k.ready g n (omega arith) at ∙ ap (row g) (sym long),
+      running-set b new t was old.running k.running orderly within long was-is (λ v ne. work-other b new t v None works ne) counts.1 running,
+    )
+
+-- a ticket has ended that is no input of a pending entry
+pub counts-ended : (b new : Book) (old k : Tally) (t was : ℕ) (o : Outcome) → IsOrderly b → t < length new.table.names → AreCounts (seen_of b) old → new.table ≡ settled b.table t o → new.works ≡ set b.works t None → is_wanted b.table t ≡ false → was ≡ running_under (seen_of b) t
+    → k.ready ≡ set old.ready t (ready_under (seen_of new) t) → (old.running ≤ 2 ^ 63 → k.running ≡ old.running - was + running_under (seen_of new) t) → AreCounts (seen_of new) k
+counts-ended b new old k t was o orderly in-new counts table works nobody was-is ready running =
+    let n = length b.table.names in
+    let long : length new.table.names ≡ n = ap (λ (w : Table). length w.names) table in
+    let within : t < n = omega arith in
+    let waits : ℕ → Bool = λ v. is_pending (outcome_at b.table.outcomes v) && list_any (nat_eq t) (inputs_of b.table v) in
+    let apart : (v : ℕ) → v < n → waits v ≡ false =
+    λ v lt. elim (cases_Bool (waits v)) [
+      | inl some ↦ absurd (let any = list_any-range waits 0 n v (omega arith) (omega arith) some in cc)
+      | inr free ↦ free
+    ]
+    in
+    let written : set (row (ready_under (seen_of b)) n) t (ready_under (seen_of new) t) ≡ row (ready_under (seen_of new)) n =
+    row-set (ready_under (seen_of b)) (ready_under (seen_of new)) n t within (λ v lt ne. ready-apart b new t v o table works ne (apart v lt))
+    in (
+      ready ∙ ap (λ (xs : List ℕ). set xs t (ready_under (seen_of new) t)) counts.0 ∙ written ∙ ap (row (ready_under (seen_of new))) (sym long),
       running-set b new t was old.running k.running orderly within long was-is (λ v ne. work-other b new t v None works ne) counts.1 running,
     )
 

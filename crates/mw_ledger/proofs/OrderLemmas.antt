@@ -12,11 +12,15 @@ use Rattle.mw_model.specs.declared.submissions.Submission.{Submission}
 use Rattle.mw_model.specs.declared.submissions.Inputs.{Inputs}
 use Rattle.mw_model.specs.declared.calls.LogItem.{LogItem}
 use Rattle.mw_model.specs.declared.calls.Outcome.{Outcome}
+use Rattle.mw_model.specs.declared.calls.Outcome.TheVariants as outcome
 use Rattle.mw_model.specs.Values.{Value, option_list, tickets}
-use Rattle.mw_model.specs.Refusals.{Table, is_element, no_submission, submission_at, shape_at}
+use Rattle.mw_model.specs.Refusals.{Table, is_element, is_pending, no_submission, outcome_at, submission_at, shape_at}
 use Rattle.mw_model.specs.Machine.{with_entry}
 use Rattle.mw_model.specs.Tasks.{Progress, remaining_tasks, task_count}
 use Rattle.mw_underway.specs.mw_progress.ProgressView.{ProgressView, IsFinished, IsStarted}
+use Rattle.mw_underway.specs.mw_store.declared.kept.Entry.{Entry}
+use Rattle.mw_underway.specs.mw_store.declared.kept.Entry.TheVariants as entry
+use Rattle.mw_underway.specs.mw_store.Entries.{submission_of, outcome_of}
 use Rattle.mw_underway.specs.mw_store.Stored.{IsWhole}
 use Rattle.mw_underway.specs.mw_stands.Limits.{FitsLimits, ShapesFit}
 use Rattle.mw_underway.specs.Planning.{IsPlannedAt, IsPlannedOn}
@@ -34,6 +38,7 @@ pub record Follows (old new : Book) : Type 0 where
   pub names : length new.table.names ≡ length old.table.names
   pub count : length new.works ≡ length old.works
   pub works : (t : ℕ) (u : ProgressView) → work_at new.works t ≡ Some u → work_at old.works t ≡ Some u
+  pub under : (t : ℕ) (u : ProgressView) → work_at new.works t ≡ Some u → outcome_at new.table.outcomes t ≡ outcome.Pending
   pub side : new.side ≡ old.side
 
 planned-table : (w v : Table) (t : ℕ) (u : ProgressView) → v.submissions ≡ w.submissions → IsPlannedAt w t u → IsPlannedAt v t u
@@ -48,6 +53,7 @@ follows-orderly old new o f = record {
   fits = λ t l.
       let P : List Submission → Type 0 = λ ss. FitsLimits (shape_at ss t) in
       subst P (sym f.submissions) (o.fits t (omega (arith, l, f.names)));
+  under = f.under;
   planned = λ t u e. planned-table old.table new.table t u f.submissions (o.planned t u (f.works t u e));
   left = λ t u e. o.left t u (f.works t u e);
   most = λ t u e. o.most t u (f.works t u e);
@@ -58,7 +64,7 @@ follows-orderly old new o f = record {
 pub alike-orderly : (b : Book) (ws : List (Option ProgressView)) (log : List LogItem) (room : ℕ) → IsOrderly b → ws ≡ b.works → IsOrderly (record b { works = ws; log = log; room = room })
 alike-orderly b ws log room o same =
     let P : List (Option ProgressView) → Type 0 = λ xs. IsOrderly (record b { works = xs; log = log; room = room }) in
-    subst P (sym same) (record { stored = o.stored; works = o.works; fits = o.fits; planned = o.planned; left = o.left; most = o.most; side = o.side })
+    subst P (sym same) (record { stored = o.stored; works = o.works; fits = o.fits; under = o.under; planned = o.planned; left = o.left; most = o.most; side = o.side })
 
 kept-was : (b : Bool) (o : Option ProgressView) (u : ProgressView) → cond b o None ≡ Some u → o ≡ Some u
 kept-was true o u e = e
@@ -67,6 +73,27 @@ kept-was false o u e = absurd cc
 -- work that is kept under some tickets only was there before
 pub swept-was : (b : Bool) (new old : Option ProgressView) (u : ProgressView) → new ≡ cond b old None → new ≡ Some u → old ≡ Some u
 swept-was b new old u e h = kept-was b old u (sym e ∙ h)
+
+-- an entry that has no work gets another outcome
+pub under-set : (os : List Outcome) (ws : List (Option ProgressView)) (t : ℕ) (o : Outcome) → ((u : ProgressView) → work_at ws t ≡ Some u → ⊥) → ((k : ℕ) (u : ProgressView) → work_at ws k ≡ Some u → outcome_at os k ≡ outcome.Pending)
+    → (k : ℕ) (u : ProgressView) → work_at ws k ≡ Some u → outcome_at (set os t o) k ≡ outcome.Pending
+under-set os ws t o none under k u h =
+    elim (cases_eq k t) [
+      | inl e ↦ absurd (none u (ap (work_at ws) (sym e) ∙ h))
+      | inr n ↦ get_or-set_other os t k o outcome.Pending n ∙ under k u h
+    ]
+
+-- work that is kept under pending tickets only is under one
+pub swept-under : (o : Outcome) (new old : Option ProgressView) (u : ProgressView) → new ≡ cond (is_pending o) old None → new ≡ Some u → o ≡ outcome.Pending
+swept-under o new old u e h = kept-under o old u (sym e ∙ h)
+  where
+    kept-under : (o : Outcome) (old : Option ProgressView) (u : ProgressView) → cond (is_pending o) old None ≡ Some u → o ≡ outcome.Pending
+    kept-under outcome.Pending old u e = refl
+    kept-under outcome.Done old u e = absurd cc
+    kept-under outcome.Cancelled old u e = absurd cc
+    kept-under outcome.Memory old u e = absurd cc
+    kept-under (outcome.Input s) old u e = absurd cc
+    kept-under outcome.Released old u e = absurd cc
 
 -- ---- an entry more
 
@@ -131,6 +158,20 @@ pub record CanJoin (b : Book) (e : Submission) (u : Option ProgressView) : Type 
   pub left : IfSome u (λ v. 1 ≤ remaining_tasks v.progress)
   pub most : IfSome u (λ v. task_count v.progress ≤ 4194304)
 
+-- work reads an input, so it is planned for a command alone, which is pending
+pub planned-pends : (w : Table) (x : Entry) (u : Option ProgressView) → IfSome u (IsPlannedOn w (submission_of x)) → IfSome u (λ v. outcome_of x ≡ outcome.Pending)
+planned-pends w x None h = tt
+planned-pends w (entry.Image f) (Some v) h = absurd (let first : None ≡ Some h.input.image = h.input.first in cc)
+planned-pends w (entry.Element b) (Some v) h = absurd (let first : None ≡ Some h.input.image = h.input.first in cc)
+planned-pends w (entry.Run s) (Some v) h = refl
+
+under-joined : (b : Book) (o : Outcome) (u : Option ProgressView) → IsOrderly b → IfSome u (λ v. o ≡ outcome.Pending) → (t : ℕ) (v : ProgressView) → work_at (b.works ++ u ∷ []) t ≡ Some v → outcome_at (b.table.outcomes ++ o ∷ []) t ≡ outcome.Pending
+under-joined b o u k pends t v h =
+    elim (work-cases b.works u t v h) [
+      | inl l ↦ get_or-push_below b.table.outcomes o outcome.Pending t (omega (arith, l.0, k.works, k.stored.outcomes)) ∙ k.under t v l.1
+      | inr l ↦ get_or-push_last b.table.outcomes o outcome.Pending t (l.0 ∙ k.works ∙ sym k.stored.outcomes) ∙ some-has (λ x. o ≡ outcome.Pending) u v l.1 pends
+    ]
+
 -- the same book with an entry more
 abbrev pub joined : Book → Name → Submission → Outcome → List (Option Value) → Option ProgressView → List LogItem → ℕ → Book
 joined b n e o kept u log room = record { table = with_entry b.table n e o; kept = kept; works = b.works ++ u ∷ []; log = log; side = b.side; room = room }
@@ -164,12 +205,13 @@ fits-joined b n e o k fits t l =
     ]
 
 -- an entry that may be added leaves the book in order
-pub joined-orderly : (b : Book) (n : Name) (e : Submission) (o : Outcome) (kept : List (Option Value)) (u : Option ProgressView) (log : List LogItem) (room : ℕ) → IsOrderly b → CanJoin b e u
+pub joined-orderly : (b : Book) (n : Name) (e : Submission) (o : Outcome) (kept : List (Option Value)) (u : Option ProgressView) (log : List LogItem) (room : ℕ) → IsOrderly b → CanJoin b e u → IfSome u (λ v. o ≡ outcome.Pending)
     → IsWhole (stored_in (joined b n e o kept u log room)) → IsOrderly (joined b n e o kept u log room)
-joined-orderly b n e o kept u log room k j whole = record {
+joined-orderly b n e o kept u log room k j pends whole = record {
   stored = whole;
   works = omega (arith, length-append b.works (u ∷ []), length-append b.table.names (n ∷ []), k.works);
   fits = fits-joined b n e o k j.fits;
+  under = under-joined b o u k pends;
   planned = planned-joined b n e o u k j;
   left = λ t v h.
       elim (work-cases b.works u t v h) [
@@ -227,6 +269,14 @@ set-cases ws t o k v within h =
       | inr n ↦ inr (sym (get_or-set_other ws t k o None n) ∙ h)
     ]
 
+-- work that was taken away is not there
+pub none-left : (ws : List (Option ProgressView)) (t : ℕ) → work_at (set ws t None) t ≡ None
+none-left ws t =
+    elim (cases_lt t (length ws)) [
+      | inl l ↦ get_or-set_same ws t None None l
+      | inr g ↦ get_or_past (set ws t None) t None (omega (arith, g, length-set ws t None))
+    ]
+
 -- without the work under a ticket
 pub without-orderly : (b : Book) (t : ℕ) → IsOrderly b → t < length b.works → IsOrderly (with_work b t None)
 without-orderly b t k within =
@@ -236,6 +286,7 @@ without-orderly b t k within =
       stored = k.stored;
       works = length-set b.works t None ∙ k.works;
       fits = k.fits;
+      under = λ i u h. k.under i u (was i u h);
       planned = λ i u h. k.planned i u (was i u h);
       left = λ i u h. k.left i u (was i u h);
       most = λ i u h. k.most i u (was i u h);
@@ -254,6 +305,11 @@ with-orderly b t old new k within there g left =
       stored = k.stored;
       works = length-set b.works t (Some new) ∙ k.works;
       fits = k.fits;
+      under = λ i u h.
+          elim (set-cases b.works t (Some new) i u within h) [
+            | inl l ↦ ap (outcome_at b.table.outcomes) l.0 ∙ k.under t old there
+            | inr e ↦ k.under i u e
+          ];
       planned = λ i u h.
           elim (set-cases b.works t (Some new) i u within h) [
             | inl l ↦ of (λ (v : ProgressView). IsPlannedAt b.table i v) u l.1 (subst At (sym l.0) here)

@@ -93,14 +93,14 @@ ready-before b c n e u room v orderly within =
     let work = work-alike b new v (get_or-push_below b.works u None v (let long = orderly.works in omega arith)) in
     ready-alike (seen_of b) (seen_of new) v (may-run-alike b.table new.table v (ap is_pending (outcome-same v within)) submission-same inputs) work
 
--- another ticket is settled, for which this one did not wait
-pub ready-apart : (b new : Book) (t v : ℕ) → new.table ≡ settled b.table t outcome.Done → new.works ≡ set b.works t None → v ≢ t
+-- another ticket ends, for which this one did not wait
+pub ready-apart : (b new : Book) (t v : ℕ) (o : Outcome) → new.table ≡ settled b.table t o → new.works ≡ set b.works t None → v ≢ t
     → (is_pending (outcome_at b.table.outcomes v) && list_any (nat_eq t) (inputs_of b.table v)) ≡ false → ready_under (seen_of new) v ≡ ready_under (seen_of b) v
-ready-apart b new t v table works other apart =
-    let outcomes : new.table.outcomes ≡ set b.table.outcomes t outcome.Done = ap (λ (w : Table). w.outcomes) table in
+ready-apart b new t v o table works other apart =
+    let outcomes : new.table.outcomes ≡ set b.table.outcomes t o = ap (λ (w : Table). w.outcomes) table in
     let submissions : new.table.submissions ≡ b.table.submissions = ap (λ (w : Table). w.submissions) table in
     let outcome-same : (i : ℕ) → i ≢ t → outcome_at new.table.outcomes i ≡ outcome_at b.table.outcomes i =
-    λ i ne. ap (λ (os : List Outcome). outcome_at os i) outcomes ∙ get_or-set_other b.table.outcomes t i outcome.Done outcome.Pending ne
+    λ i ne. ap (λ (os : List Outcome). outcome_at os i) outcomes ∙ get_or-set_other b.table.outcomes t i o outcome.Pending ne
     in
     elim (cases_Bool (is_pending (outcome_at b.table.outcomes v))) [
       | inl pending ↦

@@ -2,8 +2,9 @@
 use Rattle.std.specs.Prelude.{ℕ, ◌≡◌, ◌+◌, ◌-◌, ◌≤◌, List, [], length, map, count_by, Option, Some, None, option_map, slice_index_or}
 use Rattle.mw_model.specs.declared.calls.LogItem.{LogItem}
 use Rattle.mw_model.specs.declared.calls.Outcome.{Outcome}
+use Rattle.mw_model.specs.declared.calls.Outcome.TheVariants as outcome
 use Rattle.mw_model.specs.Values.{Value}
-use Rattle.mw_model.specs.Refusals.{Table, is_pending}
+use Rattle.mw_model.specs.Refusals.{Table, is_pending, outcome_at}
 use Rattle.mw_model.specs.Stands.{CoreView}
 use Rattle.mw_model.specs.Tasks.{Progress, remaining_tasks, task_count}
 use Rattle.mw_underway.specs.mw_grid.Grids.{IsTileSide}
@@ -45,11 +46,12 @@ empty_book side = record { table = record { names = []; submissions = []; outcom
 abbrev pub room_in : ℕ → ℕ → List Outcome → ℕ
 room_in capacity len outcomes = capacity - (len + count_by is_pending outcomes)
 
--- The store is whole, each shape is within the limits, there is a place for work with each name, and what stands there is planned for its ticket, is not finished, and has at most 4,194,304 tasks.
+-- The store is whole, each shape is within the limits, there is a place for work with each name, and what stands there is under a pending ticket, is planned for it, is not finished, and has at most 4,194,304 tasks.
 pub record IsOrderly (b : Book) : Type 0 where
   pub stored : IsWhole (stored_in b)
   pub works : length b.works ≡ length b.table.names
   pub fits : ShapesFit b.table
+  pub under : (t : ℕ) (u : ProgressView) → work_at b.works t ≡ Some u → outcome_at b.table.outcomes t ≡ outcome.Pending
   pub planned : (t : ℕ) (u : ProgressView) → work_at b.works t ≡ Some u → IsPlannedAt b.table t u
   pub left : (t : ℕ) (u : ProgressView) → work_at b.works t ≡ Some u → 1 ≤ remaining_tasks u.progress
   pub most : (t : ℕ) (u : ProgressView) → work_at b.works t ≡ Some u → task_count u.progress ≤ 4194304

@@ -1,20 +1,21 @@
 //! Session calls: entries are added, die, and are let go, and each call has its item in the log.
 
-ghost use Rattle.std.specs.Prelude.{◌≡◌, ◌<◌, ◌≤◌, ◌++◌, ◌∷◌, ◌⊎◌, [], length, OnOk, OnErr, IfOk, IfSome, None, true, false};
+ghost use Rattle.std.specs.Prelude.{◌≡◌, ◌<◌, ◌≤◌, ◌++◌, ◌∷◌, ◌⊎◌, [], length, slice_set, OnOk, OnErr, IfOk, IfSome, None, true, false};
 ghost use Rattle.mw_model.specs.declared.limits.TheConstants.{ENTRY_LIMIT};
 
 use crate::compact::Compact;
 use crate::ledger::Ledger;
 use crate::places::make_places;
-use crate::sweep::drop_settled;
+use crate::sweep::drop_ended;
 use mw_model::{Call, LogItem, Name, NoMemory, Outcome, Reply};
 use mw_underway::{Entry, PlanProgress, reserve_row};
 
 impl Ledger {
     ghost use Rattle.std.specs.List.{AllByRecursion};
     ghost use Rattle.mw_model.specs.Values.{tickets};
-    ghost use Rattle.mw_model.specs.Refusals.{ticket_of, outcome_at, is_pending};
+    ghost use Rattle.mw_model.specs.Refusals.{ticket_of, outcome_at, is_dead, is_pending};
     ghost use Rattle.mw_model.specs.Machine.{killed, settled};
+    ghost use Rattle.mw_model.specs.Stands.{is_wanted};
     ghost use Rattle.mw_model.specs.Tasks.{remaining_tasks, task_count};
     ghost use Rattle.mw_underway.specs.mw_store.Entries.{submission_of};
     ghost use Rattle.mw_underway.specs.mw_store.Places.{FillsRows, TakesMore};
@@ -53,6 +54,7 @@ impl Ledger {
         requires free { ticket_of self.old.table.names name ≡ None }
         requires room { length self.old.table.names < ENTRY_LIMIT }
         requires below { AllByRecursion (λ i. i < length self.old.table.names) (tickets (submission_of entry).inputs) }
+        requires alive { AllByRecursion (λ i. is_dead (outcome_at self.old.table.outcomes i) ≡ false) (tickets (submission_of entry).inputs) }
         requires fits { FitsLimits (submission_of entry).shape }
         requires planned { IfSome work (IsPlannedOn self.old.table (submission_of entry)) }
         requires left { IfSome work (λ u. 1 ≤ remaining_tasks u.progress) }
@@ -73,22 +75,25 @@ impl Ledger {
         Ok(t)
     }
 
-    /// Ends a pending ticket by its death, in the place that its item has, and drops what nothing waits for any more. This
-    /// is the only call that looks at all entries. No memory is asked for.
+    /// Ends a pending ticket by its death, in the place that its item has, and drops what nothing waits for any more. Where
+    /// a pending entry has it as an input, this is the only call that looks at all entries. No memory is asked for.
     pub fn end(&mut self, t: u32, cause: Outcome, item: Compact)
         requires within { t < length self.old.table.names }
         requires pending { outcome_at self.old.table.outcomes t ≡ Outcome.Pending }
         requires dead { is_pending cause ≡ false }
         ensures table { self.new.table ≡ killed self.old.table t cause }
+        ensures alone { is_wanted self.old.table t ≡ false → self.new.table ≡ settled self.old.table t cause }
         ensures kept { DropsSpent self.new.table self.old.kept self.new.kept }
         ensures works { KeepsWorks self.new.table self.old.works self.new.works }
+        ensures own { is_wanted self.old.table t ≡ false → self.new.works ≡ slice_set self.old.works t None }
         ensures log { self.new.log ≡ self.old.log ++ item ∷ [] }
         ensures side { self.new.side ≡ self.old.side }
     {
         let _pending = self.store.pending();
+        let wanted = self.store.is_wanted(t);
         self.store.kill(t, cause);
         let _whole = self.store.pending();
-        drop_settled(&self.store, &mut self.works);
+        drop_ended(&self.store, &mut self.works, t, wanted);
         self.log.push_reserved(item);
     }
 

@@ -36,7 +36,7 @@ impl Ledger {
     ghost use Rattle.mw_model.specs.Machine.{settled};
     ghost use Rattle.mw_model.specs.Stands.{inputs_of};
     ghost use Rattle.mw_underway.specs.mw_store.Stored.{DropsSpent};
-    ghost use Rattle.mw_ledger.specs.Books.{IsOrderly};
+    ghost use Rattle.mw_ledger.specs.Books.{IsOrderly, work_at};
     ghost use Rattle.mw_ledger.specs.Tasks.{FinishesAt, IsFitAt, PlacesAt, SettlesAt};
 
     /// Takes the work of a result's ticket away, and finishes the task in it.
@@ -61,6 +61,7 @@ impl Ledger {
     fn settle(&mut self, t: u32, value: Kept) -> Waiters
         requires within { t < length self.old.table.names }
         requires pending { outcome_at self.old.table.outcomes t ≡ Outcome.Pending }
+        requires empty { work_at self.old.works t ≡ None }
         ensures table { self.new.table ≡ settled self.old.table t Outcome.Done }
         ensures kept { DropsSpent self.new.table (slice_set self.old.kept t (Some (kept_value value))) self.new.kept }
         ensures works { self.new.works ≡ self.old.works }

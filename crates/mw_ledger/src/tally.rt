@@ -1,6 +1,6 @@
 //! Counts of ready and running tasks beside a ledger.
 
-ghost use Rattle.std.specs.Prelude.{◌≡◌, ℕ, ◌+◌, ◌-◌, ◌<◌, ◌≤◌, ◌^◌, length, sum, slice_index, slice_set, Option, IfOk, MatchResult};
+ghost use Rattle.std.specs.Prelude.{◌≡◌, ℕ, ◌+◌, ◌-◌, ◌<◌, ◌≤◌, ◌^◌, length, sum, slice_index, slice_set, Option, None, false, IfOk, MatchResult};
 
 use crate::ledger::Ledger;
 use mw_model::NoMemory;
@@ -27,7 +27,9 @@ impl Counts {
     ghost use Rattle.std.specs.List.{AllByRecursion};
     ghost use Rattle.mw_model.specs.declared.calls.Call.{Call};
     ghost use Rattle.mw_model.specs.declared.names.Name.{Name};
-    ghost use Rattle.mw_model.specs.Stands.{CoreView, ready_under};
+    ghost use Rattle.mw_model.specs.declared.calls.Outcome.{Outcome};
+    ghost use Rattle.mw_model.specs.Machine.{settled};
+    ghost use Rattle.mw_model.specs.Stands.{CoreView, is_wanted, ready_under};
     ghost use Rattle.mw_underway.specs.mw_progress.ProgressView.{ProgressView};
     ghost use Rattle.mw_underway.specs.mw_stands.Counts.{running_under};
     ghost use Rattle.mw_underway.specs.mw_stands.Turns.{IsAt};
@@ -112,6 +114,21 @@ impl Counts {
         self.count(ledger, t, was);
         for &u in waiters {
             self.ready.set(u, ledger.ready_of(u));
+        }
+    }
+
+    /// Counts the tasks of a ticket that has died. So many of its own were running before. Where no pending entry had it as
+    /// an input, nothing is ready that was not before; else all tickets are counted anew.
+    pub fn count_dead(&mut self, ledger: &Ledger, t: u32, was: u32, wanted: bool)
+        requires within { t < length ledger.now.table.names }
+        requires count { length self.old.ready ≡ length ledger.now.table.names }
+        ensures { (b : Book) (o : Outcome) → IsOrderly b → AreCounts (seen_of b) self.old → wanted ≡ is_wanted b.table t → (is_wanted b.table t ≡ false → ledger.now.table ≡ settled b.table t o)
+            → (is_wanted b.table t ≡ false → ledger.now.works ≡ slice_set b.works t None) → was ≡ running_under (seen_of b) t → AreCounts (seen_of ledger.now) self.new }
+    {
+        if wanted {
+            self.recount(ledger);
+        } else {
+            self.count(ledger, t, was);
         }
     }
 

@@ -12,7 +12,7 @@ use Rattle.mw_store.specs.Wanted.{one_if}
 pub count-more : (p : ℕ → Bool) (n : ℕ) → count_by p (range_with_len 0 (n + 1)) ≡ count_by p (range_with_len 0 n) + one_if (p n)
 count-more p n = ap (λ (xs : List ℕ). count_by p xs) (range_with_len-more 0 n n (zero-add n)) ∙ sum_by_push (λ x. cond (p x) 1 0) (range_with_len 0 n) n
 
-count-suc : (p : ℕ → Bool) (n : ℕ) → count_by p (range_with_len 0 (suc n)) ≡ count_by p (range_with_len 0 n) + one_if (p n)
+pub count-suc : (p : ℕ → Bool) (n : ℕ) → count_by p (range_with_len 0 (suc n)) ≡ count_by p (range_with_len 0 n) + one_if (p n)
 count-suc p n = ap (λ (k : ℕ). count_by p (range_with_len 0 k)) (sym (add-one n)) ∙ count-more p n
 
 -- a test that changes at one number

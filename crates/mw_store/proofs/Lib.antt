@@ -4,6 +4,7 @@ pub mod PlaceLemmas
 -- the crate's own
 mod AddLemmas
 mod Counting
+mod Living
 mod Tracking
 -- what lower crates offer
 pub use Rattle.mw_tiles.proofs.mw_element as mw_element

@@ -15,7 +15,7 @@ use Rattle.mw_model.specs.declared.names.Name.{Name}
 use Rattle.mw_model.specs.declared.calls.Outcome.{Outcome}
 use Rattle.mw_model.specs.declared.calls.Outcome.TheVariants as outcome
 use Rattle.mw_model.specs.Values.{Value, value_at, option_list, tickets}
-use Rattle.mw_model.specs.Refusals.{Table, is_pending, is_released, outcome_at, submission_at, no_submission}
+use Rattle.mw_model.specs.Refusals.{Table, is_dead, is_pending, is_released, outcome_at, submission_at, no_submission}
 use Rattle.mw_model.specs.Machine.{settled, cascaded, with_entry}
 use Rattle.mw_model.specs.Stands.{is_wanted}
 use Rattle.mw_store.specs.declared.kept.Kept.{Kept}
@@ -27,6 +27,7 @@ use Rattle.mw_model.proofs.mw_facts.Alls.{all-append, all-weaker, all-append_lef
 use Rattle.mw_model.proofs.mw_facts.Counts.{count_by-most, count_by-same}
 use Rattle.mw_store.proofs.AddLemmas.{whole-push}
 use Rattle.mw_store.proofs.CascadeLemmas.{Fate, cascaded-fate, count-push, fate-pending}
+use Rattle.mw_store.proofs.Living.{NoneAwaits, NoneDead, none-awaits-cascaded, none-awaits-push, none-awaits-set}
 use Rattle.mw_store.proofs.Counting.{count-more, count-change, count-any, zero-or-more}
 
 -- ---- the inputs of an entry
@@ -136,6 +137,13 @@ zero-not zero h = refl
 zero-not (suc n) h =
     let no : not (nat_lt 0 (suc n)) ≡ false = ap not (lt-ltb 0 (suc n) (omega arith)) in
     cc (no, h)
+
+pub nobody-waits : (w : Table) (t : ℕ) → length w.outcomes ≡ length w.names → is_wanted w t ≡ false → wanted_by w.submissions w.outcomes t ≡ 0
+nobody-waits w t e alone = zero-not (wanted_by w.submissions w.outcomes t) (ap not (wanted-tells w t e ∙ alone))
+
+pub nobody-dead : (w : Table) (t : ℕ) (o : Outcome) → length w.outcomes ≡ length w.names → (is_dead o ≡ false) ⊎ (is_wanted w t ≡ false) → (is_dead o ≡ false) ⊎ (wanted_by w.submissions w.outcomes t ≡ 0)
+nobody-dead w t o e (inl lives) = inl lives
+nobody-dead w t o e (inr alone) = inr (nobody-waits w t e alone)
 
 released-wanted : (w : Table) (t : ℕ) → length w.outcomes ≡ length w.names → is_spent w t ≡ true → (is_released (outcome_at w.outcomes t) ≡ true) × (wanted_by w.submissions w.outcomes t ≡ 0)
 released-wanted w t e spent =
@@ -280,6 +288,7 @@ tracked-lists s counts lists now left tracked size same = record {
   wanted = tracked.wanted;
   waiting = waiting-fewer s.table.submissions s.table.outcomes s.table.outcomes lists now tracked.waiting refl (λ u e. e) (λ t. inl (same t));
   spent = tracked.spent;
+  alive = tracked.alive;
 }
 
 pub whole-outcomes : (s : Stored) (os : List Outcome) (kept : List (Option Value)) → IsWhole s → length os ≡ length s.table.outcomes → length kept ≡ length s.kept
@@ -317,70 +326,90 @@ settled-list lists t w lt none k =
       | inr there ↦ inl (ap tickets-of (get_or-set_other lists t k w no_waiting there.1))
     ]
 
--- what is looked at when an entry is done: its inputs alone
-pub settle-drops : (s : Stored) (counts now : List ℕ) (lists : List Waiting) (left t : ℕ) (v : Value) (kept : List (Option Value)) → IsTracked s counts lists left
-    → t < length s.table.names → outcome_at s.table.outcomes t ≡ outcome.Pending
+-- a value is kept of an entry that is pending
+pub value-tracked : (s : Stored) (counts : List ℕ) (lists : List Waiting) (left t : ℕ) (v : Option Value) → IsTracked s counts lists left → outcome_at s.table.outcomes t ≡ outcome.Pending
+    → IsTracked (record s { kept = set s.kept t v }) counts lists left
+value-tracked s counts lists left t v tracked was = record {
+  whole = record { submissions = tracked.whole.submissions; outcomes = tracked.whole.outcomes; kept = length-set s.kept t v ∙ tracked.whole.kept; small = tracked.whole.small; inputs = tracked.whole.inputs };
+  counted = tracked.counted;
+  listed = tracked.listed;
+  pending = tracked.pending;
+  wanted = tracked.wanted;
+  waiting = tracked.waiting;
+  spent = λ k released none.
+      elim (eqb_tells k t) [
+        | inl here ↦ absurd (let no : is_released (outcome_at s.table.outcomes k) ≡ false = ap is_released (ap (outcome_at s.table.outcomes) here.1 ∙ was) in cc)
+        | inr there ↦ get_or-set_other s.kept t k v None there.1 ∙ tracked.spent k released none
+      ];
+  alive = tracked.alive;
+}
+
+-- what is looked at when an entry ends: its inputs alone
+pub leave-drops : (s : Stored) (counts now : List ℕ) (lists : List Waiting) (left t : ℕ) (o : Outcome) (kept : List (Option Value)) → IsTracked s counts lists left
+    → t < length s.table.names → outcome_at s.table.outcomes t ≡ outcome.Pending → is_pending o ≡ false → is_released o ≡ false
     → ((k : ℕ) → slice_index_or now k 0 + one_if (is_among (submission_at s.table.submissions t).inputs k) ≡ slice_index_or counts k 0)
-    → ((k : ℕ) → value_at kept k ≡ (if is_among (submission_at s.table.submissions t).inputs k && spent_by (set s.table.outcomes t outcome.Done) now k then None else value_at (set s.kept t (Some v)) k))
-    → DropsSpent (settled s.table t outcome.Done) (set s.kept t (Some v)) kept
-settle-drops s counts now lists left t v kept tracked within was lowered dropped k =
+    → ((k : ℕ) → value_at kept k ≡ (if is_among (submission_at s.table.submissions t).inputs k && spent_by (set s.table.outcomes t o) now k then None else value_at s.kept k))
+    → DropsSpent (settled s.table t o) s.kept kept
+leave-drops s counts now lists left t o kept tracked within was ended held lowered dropped k =
     let os = s.table.outcomes in
     let es = s.table.submissions in
-    let w = settled s.table t outcome.Done in
+    let w = settled s.table t o in
     let inputs = (submission_at es t).inputs in
-    let size : length w.outcomes ≡ length w.names = length-set os t outcome.Done ∙ tracked.whole.outcomes in
+    let size : length w.outcomes ≡ length w.names = length-set os t o ∙ tracked.whole.outcomes in
     let lt : t < length os = omega (arith, within, tracked.whole.outcomes) in
-    let counted : slice_index_or now k 0 ≡ wanted_by w.submissions w.outcomes k = omega (arith, lowered k, tracked.wanted k, wanted-settled es os t outcome.Done k lt was refl) in
-    near-enough (is_among inputs k) (is_spent w k) (value_at (set s.kept t (Some v)) k) (value_at kept k)
+    let counted : slice_index_or now k 0 ≡ wanted_by w.submissions w.outcomes k = omega (arith, lowered k, tracked.wanted k, wanted-settled es os t o k lt was ended) in
+    near-enough (is_among inputs k) (is_spent w k) (value_at s.kept k) (value_at kept k)
     (λ far spent.
     let both = released-wanted w k size spent in
     elim (eqb_tells k t) [
-      | inl here ↦ absurd (done-released os t k here.1 lt both.0)
+      | inl here ↦ absurd (held-released os t k o here.1 lt held both.0)
       | inr there ↦
-          let none : wanted_by es os k ≡ 0 = omega (arith, both.1, wanted-settled es os t outcome.Done k lt was refl, ap one_if far) in
-          let released = ap is_released (sym (get_or-set_other os t k outcome.Done outcome.Pending there.1)) ∙ both.0 in
-          get_or-set_other s.kept t k (Some v) None there.1 ∙ tracked.spent k released none
+          let none : wanted_by es os k ≡ 0 = omega (arith, both.1, wanted-settled es os t o k lt was ended, ap one_if far) in
+          let released = ap is_released (sym (get_or-set_other os t k o outcome.Pending there.1)) ∙ both.0 in
+          tracked.spent k released none
     ])
-    (dropped k ∙ ap (λ (b : Bool). if is_among inputs k && b then None else value_at (set s.kept t (Some v)) k) (spent-tells w now k size counted))
+    (dropped k ∙ ap (λ (b : Bool). if is_among inputs k && b then None else value_at s.kept k) (spent-tells w now k size counted))
   where
-    done-released : (os : List Outcome) (t k : ℕ) → k ≡ t → t < length os → is_released (outcome_at (set os t outcome.Done) k) ≡ true → ⊥
-    done-released os t k e lt r =
-        let is : outcome_at (set os t outcome.Done) k ≡ outcome.Done = ap (λ (n : ℕ). outcome_at (set os t outcome.Done) n) e ∙ get_or-set_same os t outcome.Done outcome.Pending lt in
-        let no : is_released (outcome_at (set os t outcome.Done) k) ≡ false = ap is_released is in
+    held-released : (os : List Outcome) (t k : ℕ) (o : Outcome) → k ≡ t → t < length os → is_released o ≡ false → is_released (outcome_at (set os t o) k) ≡ true → ⊥
+    held-released os t k o e lt held r =
+        let is : outcome_at (set os t o) k ≡ o = ap (λ (n : ℕ). outcome_at (set os t o) n) e ∙ get_or-set_same os t o outcome.Pending lt in
+        let no : is_released (outcome_at (set os t o) k) ≡ false = ap is_released is ∙ held in
         cc (no, r)
 
-pub settle-tracked : (s : Stored) (counts now : List ℕ) (lists rest : List Waiting) (left t : ℕ) (v : Value) (kept : List (Option Value)) → IsTracked s counts lists left
-    → t < length s.table.names → outcome_at s.table.outcomes t ≡ outcome.Pending
+-- an entry that lives on, or that nothing waits for, ends
+pub leave-tracked : (s : Stored) (counts now : List ℕ) (lists rest : List Waiting) (left t : ℕ) (o : Outcome) (kept : List (Option Value)) → IsTracked s counts lists left
+    → t < length s.table.names → outcome_at s.table.outcomes t ≡ outcome.Pending → is_pending o ≡ false → (is_dead o ≡ false) ⊎ (wanted_by s.table.submissions s.table.outcomes t ≡ 0)
     → length now ≡ length counts → length rest ≡ length lists → length kept ≡ length s.kept
     → ((k : ℕ) → slice_index_or now k 0 + one_if (is_among (submission_at s.table.submissions t).inputs k) ≡ slice_index_or counts k 0)
     → ((k : ℕ) → (waiting_at rest k ≡ waiting_at lists k) ⊎ ((waiting_at rest k ≡ []) × (k ≡ t)))
-    → DropsSpent (settled s.table t outcome.Done) (set s.kept t (Some v)) kept
-    → IsTracked (after_settling s t outcome.Done kept) now rest (left - 1)
-settle-tracked s counts now lists rest left t v kept tracked within was counts-size lists-size kept-size lowered each drops =
+    → DropsSpent (settled s.table t o) s.kept kept
+    → IsTracked (after_settling s t o kept) now rest (left - 1)
+leave-tracked s counts now lists rest left t o kept tracked within was ended why counts-size lists-size kept-size lowered each drops =
     let os = s.table.outcomes in
     let es = s.table.submissions in
-    let w = settled s.table t outcome.Done in
-    let size : length w.outcomes ≡ length w.names = length-set os t outcome.Done ∙ tracked.whole.outcomes in
+    let w = settled s.table t o in
+    let size : length w.outcomes ≡ length w.names = length-set os t o ∙ tracked.whole.outcomes in
     let lt : t < length os = omega (arith, within, tracked.whole.outcomes) in
     record {
-      whole = whole-outcomes s (set os t outcome.Done) kept tracked.whole (length-set os t outcome.Done) kept-size;
+      whole = whole-outcomes s (set os t o) kept tracked.whole (length-set os t o) kept-size;
       counted = counts-size ∙ tracked.counted;
       listed = lists-size ∙ tracked.listed;
-      pending = omega (arith, count-settled os t left outcome.Done tracked.pending lt was refl);
-      wanted = λ k. omega (arith, lowered k, tracked.wanted k, wanted-settled es os t outcome.Done k lt was refl);
-      waiting = waiting-fewer es os (set os t outcome.Done) lists rest tracked.waiting (length-set os t outcome.Done) (λ u e. pending-before os t u lt was e)
+      pending = omega (arith, count-settled os t left o tracked.pending lt was ended);
+      wanted = λ k. omega (arith, lowered k, tracked.wanted k, wanted-settled es os t o k lt was ended);
+      waiting = waiting-fewer es os (set os t o) lists rest tracked.waiting (length-set os t o) (λ u e. pending-before os t u o lt was e)
           (λ k. elim (each k) [
             | inl same ↦ inl same
-            | inr gone ↦ inr (gone.0, ap (λ (n : ℕ). is_pending (outcome_at (set os t outcome.Done) n)) gone.1 ∙ ap is_pending (get_or-set_same os t outcome.Done outcome.Pending lt))
+            | inr gone ↦ inr (gone.0, ap (λ (n : ℕ). is_pending (outcome_at (set os t o) n)) gone.1 ∙ ap is_pending (get_or-set_same os t o outcome.Pending lt) ∙ ended)
           ]);
-      spent = none-spent w (set s.kept t (Some v)) kept size drops;
+      spent = none-spent w s.kept kept size drops;
+      alive = none-awaits-set es os t (length s.table.names) o lt (sym tracked.whole.outcomes) ended why tracked.alive;
     }
   where
-    pending-before : (os : List Outcome) (t u : ℕ) → t < length os → outcome_at os t ≡ outcome.Pending → is_pending (outcome_at (set os t outcome.Done) u) ≡ true → is_pending (outcome_at os u) ≡ true
-    pending-before os t u lt was e =
+    pending-before : (os : List Outcome) (t u : ℕ) (o : Outcome) → t < length os → outcome_at os t ≡ outcome.Pending → is_pending (outcome_at (set os t o) u) ≡ true → is_pending (outcome_at os u) ≡ true
+    pending-before os t u o lt was e =
         elim (eqb_tells u t) [
           | inl here ↦ ap (λ (n : ℕ). is_pending (outcome_at os n)) here.1 ∙ ap is_pending was
-          | inr there ↦ ap is_pending (sym (get_or-set_other os t u outcome.Done outcome.Pending there.1)) ∙ e
+          | inr there ↦ ap is_pending (sym (get_or-set_other os t u o outcome.Pending there.1)) ∙ e
         ]
 
 -- ---- a release
@@ -443,6 +472,7 @@ release-tracked s counts lists left t kept tracked within was kept-size drops =
       wanted = λ k. tracked.wanted k ∙ sym (wanted-kept es os (set os t outcome.Released) k size (λ u. same-pending os t u lt was));
       waiting = waiting-fewer es os (set os t outcome.Released) lists lists tracked.waiting size (λ u e. sym (same-pending os t u lt was) ∙ e) (λ k. inl refl);
       spent = none-spent w s.kept kept (size ∙ tracked.whole.outcomes) drops;
+      alive = none-awaits-set es os t (length s.table.names) outcome.Released lt (sym tracked.whole.outcomes) refl (inl refl) tracked.alive;
     }
 
 -- ---- a death
@@ -500,6 +530,7 @@ kill-tracked s counts now lists rest left count t cause new kept tracked within 
           (pending-before-kill es os new t cause (tracked.whole.submissions ∙ sym tracked.whole.outcomes) lt dead is size)
           (λ k. by-pending (is_pending (outcome_at new k)) (waiting_at lists k) (waiting_at rest k) (each k));
       spent = none-spent (with_outcomes s.table new) s.kept kept (size ∙ tracked.whole.outcomes) drops;
+      alive = subst (λ (xs : List Outcome). NoneAwaits es xs (length s.table.names)) (sym is) (none-awaits-cascaded s.table t cause (tracked.whole.submissions ∙ sym tracked.whole.outcomes) tracked.whole.outcomes tracked.whole.inputs lt dead);
     }
   where
     by-pending : (b : Bool) (old new : List ℕ) → new ≡ (if b then old else []) → (new ≡ old) ⊎ ((new ≡ []) × (b ≡ false))
@@ -524,14 +555,14 @@ not-released o zero e = e
 not-released o (suc j) e = refl
 
 pub push-tracked : (s : Stored) (counts now : List ℕ) (lists rest : List Waiting) (left count : ℕ) (n : Name) (e : Submission) (o : Outcome) (v : Option Value) (w : Waiting) (waited : Inputs) → IsTracked s counts lists left
-    → length s.table.names < 65536 → AllByRecursion (λ i. i < length s.table.names) (tickets e.inputs) → is_released o ≡ false → w.tickets ≡ []
+    → length s.table.names < 65536 → AllByRecursion (λ i. i < length s.table.names) (tickets e.inputs) → NoneDead s.table.outcomes (tickets e.inputs) → is_released o ≡ false → w.tickets ≡ []
     → length now ≡ length counts + 1 → length rest ≡ length lists + 1
     → ((k : ℕ) → slice_index_or now k 0 ≡ slice_index_or (counts ++ 0 ∷ []) k 0 + one_if (is_pending o && is_among e.inputs k))
     → ((k : ℕ) → is_among waited k ≡ (is_among e.inputs k && is_pending (outcome_at s.table.outcomes k)))
     → ((k : ℕ) → waiting_at rest k ≡ waiting_at (lists ++ w ∷ []) k ++ entry_for waited (length s.table.names) k)
     → count ≡ left + one_if (is_pending o)
     → IsTracked (record { table = with_entry s.table n e o; kept = s.kept ++ v ∷ [] }) now rest count
-push-tracked s counts now lists rest left count n e o v w waited tracked room own stays none counts-size lists-size raised opens each count-is =
+push-tracked s counts now lists rest left count n e o v w waited tracked room own living stays none counts-size lists-size raised opens each count-is =
     let os = s.table.outcomes in
     let es = s.table.submissions in
     let same : length es ≡ length os = tracked.whole.submissions ∙ sym tracked.whole.outcomes in
@@ -555,4 +586,5 @@ push-tracked s counts now lists rest left count n e o v w waited tracked room ow
                 let no : is_released (outcome_at (os ++ o ∷ []) k) ≡ false = ap is_released last ∙ not-released o (k - length os) stays in
                 absurd (cc (no, released))
           ];
+      alive = subst (NoneAwaits (es ++ e ∷ []) (os ++ o ∷ [])) (sym (length-append s.table.names (n ∷ []))) (none-awaits-push es os e o (length s.table.names) same (sym tracked.whole.outcomes) tracked.whole.inputs own' living tracked.alive);
     }

@@ -6,6 +6,7 @@ use Rattle.mw_model.specs.declared.submissions.Submission.{Submission}
 use Rattle.mw_model.specs.Values.{Value, value_at, tickets}
 use Rattle.mw_model.specs.Refusals.{Table, outcome_at, submission_at, is_pending, is_released}
 use Rattle.mw_model.specs.Stands.{is_wanted}
+use Rattle.mw_store.specs.mw_laws.MachineLaws.{NoneAwaitsDead}
 use Rattle.mw_store.specs.Wanted.{wanted_by}
 use Rattle.mw_store.specs.Waiting.{Waiting, KnowsWaiting}
 
@@ -34,7 +35,7 @@ is_spent w t = is_released (outcome_at w.outcomes t) && not (is_wanted w t)
 abbrev pub DropsSpent : Table → List (Option Value) → List (Option Value) → Type 0
 DropsSpent w old new = (t : ℕ) → value_at new t ≡ (if is_spent w t then None else value_at old t)
 
--- What spares a pass over the entries: how many pending ones have each ticket as an input, which wait for it, and how many are pending. Nothing is kept of a ticket that is spent.
+-- What spares a pass over the entries: how many pending ones have each ticket as an input, which wait for it, and how many are pending. Nothing is kept of a ticket that is spent, and no input of a pending entry is dead.
 pub record IsTracked (s : Stored) (counts : List ℕ) (lists : List Waiting) (left : ℕ) : Type 0 where
   pub whole : IsWhole s
   pub counted : length counts ≡ length s.table.names
@@ -43,3 +44,4 @@ pub record IsTracked (s : Stored) (counts : List ℕ) (lists : List Waiting) (le
   pub wanted : (t : ℕ) → slice_index_or counts t 0 ≡ wanted_by s.table.submissions s.table.outcomes t
   pub waiting : KnowsWaiting s.table.submissions s.table.outcomes lists
   pub spent : (t : ℕ) → is_released (outcome_at s.table.outcomes t) ≡ true → wanted_by s.table.submissions s.table.outcomes t ≡ 0 → value_at s.kept t ≡ None
+  pub alive : NoneAwaitsDead s.table

@@ -6,7 +6,7 @@ ghost use Rattle.mw_model.specs.declared.limits.TheConstants.{ENTRY_LIMIT};
 use crate::cascade::fail_dependents;
 use crate::image_shapes::ImageShape;
 use crate::kept::{Entry, Kept};
-use crate::outcomes::{count_pending, is_pending, is_there, one_if_pending};
+use crate::outcomes::{count_pending, is_dead, is_pending, is_there, one_if_pending};
 use crate::places::{reserve_name, reserve_row};
 use crate::plates::Plate;
 use crate::spent::{drop_inputs, drop_one, drop_spent};
@@ -85,7 +85,7 @@ impl Store {
     ghost use Rattle.std.specs.Prelude.{◌↔◌, IsTrue};
     ghost use Rattle.mw_model.specs.Pictures.{IsPicture};
     ghost use Rattle.mw_model.specs.Values.{image_of, option_list, tickets, value_at};
-    ghost use Rattle.mw_model.specs.Refusals.{is_pending, is_released, is_there, ticket_of, outcome_at, submission_at, shape_at};
+    ghost use Rattle.mw_model.specs.Refusals.{is_dead, is_pending, is_released, is_there, ticket_of, outcome_at, submission_at, shape_at};
     ghost use Rattle.mw_model.specs.Machine.{killed, settled, with_entry};
     ghost use Rattle.mw_model.specs.Stands as stands;
     ghost use Rattle.mw_model.specs.Places.{IsWithin};
@@ -308,13 +308,39 @@ impl Store {
         self.has_input(inputs.a) && self.has_input(inputs.b) && self.has_input(inputs.c)
     }
 
-    /// Ends a pending entry by its death, and fails what it was an input of, in ticket order. Each value that nothing
-    /// needs any more is dropped. This is the only call that looks at all entries.
-    pub fn kill(&mut self, t: u32, cause: Outcome)
+    /// Ends a pending entry, and drops its inputs where nothing needs them any more. One that dies is no input of a pending
+    /// entry. The entries that waited for it are handed out: each pending entry that has it as an input is among them. No
+    /// memory is asked for.
+    fn leave(&mut self, t: u32, outcome: Outcome) -> Waiters
+        requires within { t < length self.old.table.names }
+        requires pending { outcome_at self.old.table.outcomes t ≡ Outcome.Pending }
+        requires ended { is_pending outcome ≡ false }
+        requires held { is_released outcome ≡ false }
+        requires alone { (is_dead outcome ≡ false) ⊎ (stands.is_wanted self.old.table t ≡ false) }
+        ensures table { self.new.table ≡ settled self.old.table t outcome }
+        ensures killed { stands.is_wanted self.old.table t ≡ false → self.new.table ≡ killed self.old.table t outcome }
+        ensures kept { DropsSpent self.new.table self.old.kept self.new.kept }
+        ensures pending { count_by is_pending self.new.table.outcomes + 1 ≡ count_by is_pending self.old.table.outcomes }
+        ensures all { (u : ℕ) → u < length self.old.table.names → (is_pending (outcome_at self.old.table.outcomes u) && list_any (nat_eq t) (stands.inputs_of self.old.table u)) ≡ true
+            → list_any (nat_eq u) result ≡ true }
+        ensures below { AllByRecursion (λ u. u < length self.old.table.names) result }
+    {
+        let inputs = self.submissions[t as usize].inputs;
+        self.outcomes[t as usize] = outcome;
+        let list = replace(&mut self.waiting[t as usize], WaitingList::none(self.alloc));
+        self.pending -= 1;
+        lower_inputs(&mut self.wanted, inputs);
+        drop_inputs(&self.outcomes, &self.wanted, &mut self.kept, inputs);
+        list.into_waiters()
+    }
+
+    /// Ends a pending entry by its death, and fails what it was an input of, in ticket order, by a pass over all entries.
+    fn cascade(&mut self, t: u32, cause: Outcome)
         requires within { t < length self.old.table.names }
         requires pending { outcome_at self.old.table.outcomes t ≡ Outcome.Pending }
         requires dead { is_pending cause ≡ false }
         ensures table { self.new.table ≡ killed self.old.table t cause }
+        ensures alone { stands.is_wanted self.old.table t ≡ false → self.new.table ≡ settled self.old.table t cause }
         ensures kept { DropsSpent self.new.table self.old.kept self.new.kept }
         ensures pending { count_by is_pending self.new.table.outcomes + 1 ≤ count_by is_pending self.old.table.outcomes }
     {
@@ -324,6 +350,26 @@ impl Store {
         count_wanted(&self.submissions, &self.outcomes, &mut self.wanted);
         drop_settled(self.alloc, &self.outcomes, &mut self.waiting);
         drop_spent(&self.outcomes, &self.wanted, &mut self.kept);
+    }
+
+    /// Ends a pending entry by its death, and fails what it was an input of, in ticket order. Each value that nothing
+    /// needs any more is dropped. Where no pending entry has it as an input, it dies alone, and its inputs alone are looked
+    /// at: no input of a pending entry is dead, so no other can fail. Else this is the only call that looks at all entries.
+    pub fn kill(&mut self, t: u32, cause: Outcome)
+        requires within { t < length self.old.table.names }
+        requires pending { outcome_at self.old.table.outcomes t ≡ Outcome.Pending }
+        requires dead { is_pending cause ≡ false }
+        ensures table { self.new.table ≡ killed self.old.table t cause }
+        ensures alone { stands.is_wanted self.old.table t ≡ false → self.new.table ≡ settled self.old.table t cause }
+        ensures kept { DropsSpent self.new.table self.old.kept self.new.kept }
+        ensures pending { count_by is_pending self.new.table.outcomes + 1 ≤ count_by is_pending self.old.table.outcomes }
+    {
+        let (wanted, dies) = (self.is_wanted(t), is_dead(cause));
+        if wanted || !dies {
+            self.cascade(t, cause);
+        } else {
+            let _waiters = self.leave(t, cause);
+        }
     }
 
     /// Ends a pending entry by its value, which is kept. Its inputs are dropped where nothing needs them any more. The
@@ -339,14 +385,8 @@ impl Store {
             → list_any (nat_eq u) result ≡ true }
         ensures below { AllByRecursion (λ u. u < length self.old.table.names) result }
     {
-        let inputs = self.submissions[t as usize].inputs;
-        self.outcomes[t as usize] = Outcome::Done;
         self.kept[t as usize] = Some(value);
-        let list = replace(&mut self.waiting[t as usize], WaitingList::none(self.alloc));
-        self.pending -= 1;
-        lower_inputs(&mut self.wanted, inputs);
-        drop_inputs(&self.outcomes, &self.wanted, &mut self.kept, inputs);
-        list.into_waiters()
+        self.leave(t, Outcome::Done)
     }
 
     /// Lets a done entry go. Its value stays while a pending entry has it as an input. No memory is asked for.
@@ -371,6 +411,7 @@ impl Store {
         requires free { ticket_of self.old.table.names name ≡ None }
         requires room { length self.old.table.names < ENTRY_LIMIT }
         requires below { AllByRecursion (λ i. i < length self.old.table.names) (tickets submission.inputs) }
+        requires alive { AllByRecursion (λ i. is_dead (outcome_at self.old.table.outcomes i) ≡ false) (tickets submission.inputs) }
         requires kept { is_released outcome ≡ false }
         ensures ticket { IfOk result (λ t. t ≡ length self.old.table.names) }
         ensures table { OnOk result (self.new.table ≡ with_entry self.old.table name submission outcome) }
@@ -407,6 +448,7 @@ impl Store {
         requires free { ticket_of self.old.table.names name ≡ None }
         requires room { length self.old.table.names < ENTRY_LIMIT }
         requires below { AllByRecursion (λ i. i < length self.old.table.names) (tickets (submission_of entry).inputs) }
+        requires alive { AllByRecursion (λ i. is_dead (outcome_at self.old.table.outcomes i) ≡ false) (tickets (submission_of entry).inputs) }
         ensures ticket { IfOk result (λ t. t ≡ length self.old.table.names) }
         ensures table { OnOk result (self.new.table ≡ with_entry self.old.table name (submission_of entry) (outcome_of entry)) }
         ensures kept { OnOk result (self.new.kept ≡ self.old.kept ++ payload_in entry ∷ []) }

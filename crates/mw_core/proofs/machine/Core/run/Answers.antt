@@ -1,11 +1,12 @@
-use Rattle.std.proofs.Common.{◌≡◌, ◌∙◌, ◌++◌, ◌∷◌, [], List, Option, length, ap, sym, refl, subst, Some, None, Err}
+use Rattle.std.proofs.Common.{◌≡◌, ◌∙◌, ◌++◌, ◌∷◌, [], List, Option, length, ap, sym, refl, subst, Some, None, Err, false}
+use Rattle.std.specs.List.{AllByRecursion}
 use Rattle.mw_model.specs.declared.submissions.Submission.{Submission}
 use Rattle.mw_model.specs.declared.calls.Outcome.TheVariants as outcome
 use Rattle.mw_model.specs.declared.calls.Call.TheVariants as call
 use Rattle.mw_model.specs.declared.calls.Reply.TheVariants as reply
 use Rattle.mw_model.specs.declared.calls.LogItem.TheVariants as item
-use Rattle.mw_model.specs.Values.{Value}
-use Rattle.mw_model.specs.Refusals.{refusal}
+use Rattle.mw_model.specs.Values.{Value, tickets}
+use Rattle.mw_model.specs.Refusals.{is_dead, outcome_at, refusal}
 use Rattle.mw_model.specs.Machine.{with_entry, run_submission}
 use Rattle.mw_checks.specs.mw_plan.Tables.{AreValuesAt}
 use Rattle.mw_checks.specs.mw_store.Stored.{Stored}
@@ -14,7 +15,7 @@ use Rattle.mw_ledger.specs.mw_stands.Limits.{FitsLimits}
 use Rattle.mw_ledger.specs.mw_stands.Events.{FollowsMachine}
 use Rattle.mw_ledger.proofs.mw_stands.CallLemmas.{IfOk-from-one, IfOk-from-four, serves-refused}
 use Rattle.mw_ledger.proofs.mw_stands.LimitLemmas.{accepted-fits}
-use Rattle.mw_core.proofs.RunLemmas.{serves-no-fault, serves-planned, accepted-fresh, planned-seen, fresh-seen}
+use Rattle.mw_core.proofs.RunLemmas.{accepted-alive, serves-no-fault, serves-planned, accepted-fresh, planned-seen, fresh-seen}
 use Rattle.mw_core.proofs.machine.Core.run.Goals as goal
 
 pub returns-in-Err-clause-served : goal.returns-in-Err-clause-served
@@ -36,6 +37,16 @@ accept-requires-clause-fits c =
     let free = sym (ap (λ v. refusal v.table v.kept q) seen) ∙ sym c.in-Ok.ensures.code in
     let Fit : Submission → Type 0 = λ e. FitsLimits e.shape in
     subst Fit (sym is) (accepted-fits old.table old.kept c.args.name c.args.op c.whole.ensures.fits free)
+
+pub accept-requires-clause-alive : goal.accept-requires-clause-alive
+accept-requires-clause-alive c =
+    let old = c.args.self.now in
+    let seen = c.store.ensures ∙ ap stored_of c.self.view_is in
+    let q = call.Run c.args.name c.args.op in
+    let is = c.in-Ok.ensures.submission ∙ ap (λ v. run_submission v.table c.args.op) seen in
+    let free = sym (ap (λ v. refusal v.table v.kept q) seen) ∙ sym c.in-Ok.ensures.code in
+    let Alive : Submission → Type 0 = λ e. AllByRecursion (λ i. is_dead (outcome_at old.table.outcomes i) ≡ false) (tickets e.inputs) in
+    subst Alive (sym is) (accepted-alive old.table old.kept c.args.name c.args.op free)
 
 pub accept-requires-clause-left : goal.accept-requires-clause-left
 accept-requires-clause-left c =

@@ -7,7 +7,7 @@ use Rattle.mw_underway.specs.mw_store.Places.{HasRow}
 use Rattle.mw_underway.specs.mw_store.Stored.{IsWhole, Stored}
 use Rattle.mw_underway.proofs.mw_store.CascadeLemmas.{count-push}
 use Rattle.mw_ledger.specs.Books.{Book, IsOrderly, room_in}
-use Rattle.mw_ledger.proofs.OrderLemmas.{CanJoin, alike-orderly, joined-orderly}
+use Rattle.mw_ledger.proofs.OrderLemmas.{CanJoin, alike-orderly, joined-orderly, planned-pends}
 use Rattle.mw_ledger.proofs.ledger.Ledger.accept.Goals as goal
 
 pub invariant_of-self-2 : goal.invariant_of-self-2
@@ -21,7 +21,7 @@ invariant_of-self-2 c =
     let table = c.in_ok-t.ensures.table in
     let Whole : Table → Type 0 = λ w. IsWhole (record { table = w; kept = c.add.new.self.kept }) in
     let whole = subst Whole table c.pending-whole.ensures.whole in
-    let order = joined-orderly book c.args.name e (outcome_of c.args.entry) c.add.new.self.kept c.args.work c.push_reserved-2.new.self.items room c.self.invariant.1 (subst Joins (sym c.self.view_is) can) whole in
+    let order = joined-orderly book c.args.name e (outcome_of c.args.entry) c.add.new.self.kept c.args.work c.push_reserved-2.new.self.items room c.self.invariant.1 (subst Joins (sym c.self.view_is) can) (planned-pends c.args.self.now.table c.args.entry c.args.work c.requires.planned) whole in
     let Tabled : Table → Type 0 = λ w. IsOrderly (record { table = w; kept = c.add.new.self.kept; works = book.works ++ c.args.work ∷ []; log = c.push_reserved-2.new.self.items; side = book.side; room = room }) in
     let Worked : List (Option ProgressView) → Type 0 = λ ws. IsOrderly (record { table = c.add.new.self.table; kept = c.add.new.self.kept; works = ws; log = c.push_reserved-2.new.self.items; side = book.side; room = room }) in
     let pushed = c.push_reserved.ensures.items ∙ ap (λ (ws : List (Option ProgressView)). ws ++ c.args.work ∷ []) c.reserve_row.ensures.items in

@@ -1,11 +1,12 @@
-use Rattle.std.proofs.Common.{◌≡◌, ◌<◌, ◌≤◌, ◌&&◌, ◌∙◌, ℕ, true, nat_eq, length, ap, sym, subst, arith}
+use Rattle.std.proofs.Common.{◌≡◌, ◌<◌, ◌≤◌, ◌&&◌, ◌∙◌, ℕ, true, nat_eq, None, length, set, ap, sym, subst, arith}
 use Rattle.std.specs.List.{AllByRecursion, list_any}
 use Rattle.mw_model.specs.declared.tasks.TaskId.{TaskId}
 use Rattle.mw_model.specs.Refusals.{is_pending, outcome_at, shape_at}
 use Rattle.mw_model.specs.Stands.{inputs_of}
 use Rattle.mw_model.specs.Tasks.{remaining_tasks}
 use Rattle.mw_underway.specs.mw_store.Kept.{kept_value}
-use Rattle.mw_ledger.specs.Books.{Book, IsOrderly, room_in}
+use Rattle.mw_ledger.specs.Books.{Book, IsOrderly, room_in, work_at}
+use Rattle.mw_ledger.proofs.OrderLemmas.{none-left}
 use Rattle.mw_ledger.proofs.SettleLemmas.{back-at, places-at, settles-at}
 use Rattle.mw_ledger.proofs.ledger.Ledger.finish.Goals as goal
 
@@ -28,6 +29,13 @@ returns-then-remaining-gt0-clause-placed c = λ _.
     let e = ap (λ (i : TaskId). i.ticket) c.task-t.ensures in
     let left : 1 ≤ remaining_tasks u.progress = omega (arith, c.if-remaining-gt0.true, c.remaining.ensures.value) in
     places-at c.args.self.now mid c.args.done c.task-t.result.ticket u e c.finished-work.ensures.finishes (c.self.view_is ∙ c.finished-work.ensures.book) left
+
+pub settle-requires-clause-empty : goal.settle-requires-clause-empty
+settle-requires-clause-empty c =
+    let old = c.args.self.now in
+    let t = c.args.done.task.ticket in
+    let e = ap (λ (i : TaskId). i.ticket) c.task-t.ensures in
+    ap (λ (v : Book). work_at v.works c.task-t.result.ticket) c.finished-work.ensures.book ∙ ap (work_at (set old.works t None)) e ∙ none-left old.works t
 
 pub returns-clause-settled : goal.returns-clause-settled
 returns-clause-settled c =

@@ -1,7 +1,10 @@
-use Rattle.std.proofs.Common.{◌∙◌, ◌%◌, ℕ, length, refl, ap, arith}
-use Rattle.mw_model.specs.Refusals.{Table}
-use Rattle.mw_ledger.specs.Books.{Book, room_in}
-use Rattle.mw_ledger.proofs.OrderLemmas.{follows-orderly}
+use Rattle.std.proofs.Common.{◌≡◌, ◌∙◌, ◌%◌, ℕ, List, Some, length, refl, ap, sym, subst, arith}
+use Rattle.mw_model.specs.declared.calls.Outcome.{Outcome}
+use Rattle.mw_model.specs.declared.calls.Outcome.TheVariants as outcome
+use Rattle.mw_model.specs.Refusals.{Table, outcome_at}
+use Rattle.mw_underway.specs.mw_progress.ProgressView.{ProgressView}
+use Rattle.mw_ledger.specs.Books.{Book, room_in, work_at}
+use Rattle.mw_ledger.proofs.OrderLemmas.{follows-orderly, under-set}
 use Rattle.mw_ledger.proofs.ledger.Ledger.let_go.Goals as goal
 
 pub invariant_of-self-2 : goal.invariant_of-self-2
@@ -17,6 +20,8 @@ invariant_of-self-2 c =
         names = ap (λ (w : Table). length w.names) table;
         count = refl;
         works = λ t u h. h;
+        under = subst (λ (os : List Outcome). (k : ℕ) (u : ProgressView) → work_at b.works.items k ≡ Some u → outcome_at os k ≡ outcome.Pending) (sym (ap (λ (w : Table). w.outcomes) table))
+            (under-set b.store.table.outcomes b.works.items c.args.t outcome.Released (λ u h. (let pends = c.self.invariant.1.under c.args.t u h in let done : outcome_at b.store.table.outcomes c.args.t ≡ outcome.Done = subst (λ (x : Book). outcome_at x.table.outcomes c.args.t ≡ outcome.Done) (sym c.self.view_is) c.requires.done in let both = sym pends ∙ done in cc)) c.self.invariant.1.under);
         side = refl;
       }),
     )

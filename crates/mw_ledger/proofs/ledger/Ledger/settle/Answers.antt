@@ -1,8 +1,11 @@
-use Rattle.std.proofs.Common.{◌∙◌, ◌%◌, ℕ, ◌<◌, length, refl, ap, subst, arith}
+use Rattle.std.proofs.Common.{◌≡◌, ◌∙◌, ◌%◌, ℕ, ◌<◌, List, Some, None, length, refl, ap, sym, subst, arith}
+use Rattle.mw_model.specs.declared.calls.Outcome.{Outcome}
+use Rattle.mw_model.specs.declared.calls.Outcome.TheVariants as outcome
+use Rattle.mw_underway.specs.mw_progress.ProgressView.{ProgressView}
 use Rattle.std.specs.List.{AllByRecursion}
-use Rattle.mw_model.specs.Refusals.{Table}
-use Rattle.mw_ledger.specs.Books.{Book, room_in}
-use Rattle.mw_ledger.proofs.OrderLemmas.{follows-orderly}
+use Rattle.mw_model.specs.Refusals.{Table, outcome_at}
+use Rattle.mw_ledger.specs.Books.{Book, room_in, work_at}
+use Rattle.mw_ledger.proofs.OrderLemmas.{follows-orderly, under-set}
 use Rattle.mw_ledger.proofs.ledger.Ledger.settle.Goals as goal
 
 pub invariant_of-self : goal.invariant_of-self
@@ -18,6 +21,8 @@ invariant_of-self c =
         names = ap (λ (w : Table). length w.names) told.table;
         count = refl;
         works = λ t u h. h;
+        under = subst (λ (os : List Outcome). (k : ℕ) (u : ProgressView) → work_at b.works.items k ≡ Some u → outcome_at os k ≡ outcome.Pending) (sym (ap (λ (w : Table). w.outcomes) told.table))
+            (under-set b.store.table.outcomes b.works.items c.args.t outcome.Done (λ u h. (let none : work_at b.works.items c.args.t ≡ None = subst (λ (x : Book). work_at x.works c.args.t ≡ None) (sym c.self.view_is) c.requires.empty in let both = sym none ∙ h in cc)) c.self.invariant.1.under);
         side = refl;
       }),
     )

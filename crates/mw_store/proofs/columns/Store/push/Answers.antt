@@ -12,6 +12,7 @@ use Rattle.mw_store.specs.Stored.{Stored}
 use Rattle.mw_store.specs.Waiting.{Waiting, entry_for, waiting_at}
 use Rattle.mw_store.specs.Wanted.{is_among, one_if}
 use Rattle.mw_store.proofs.AddLemmas.{added}
+use Rattle.mw_store.proofs.Living.{NoneDead}
 use Rattle.mw_store.proofs.PlaceLemmas.{on_err, row-more, rows-full}
 use Rattle.mw_store.proofs.Tracking.{push-tracked, tracked-lists, wanted-small, zero-behind}
 use Rattle.mw_store.proofs.columns.Store.push.Goals as goal
@@ -72,6 +73,8 @@ invariant_of-self-2 c =
     let below : AllByRecursion (λ i. i < length a.names.keys) (tickets c.args.submission.inputs)
     = let B : Stored → Type 0 = λ x. AllByRecursion (λ i. i < length x.table.names) (tickets c.args.submission.inputs) in subst B (sym v) c.requires.below in
     let room : length a.names.keys < 65536 = let R : Stored → Type 0 = λ x. length x.table.names < 65536 in subst R (sym v) c.requires.room in
+    let living : NoneDead a.outcomes.items (tickets c.args.submission.inputs)
+    = let B : Stored → Type 0 = λ x. NoneDead x.table.outcomes (tickets c.args.submission.inputs) in subst B (sym v) c.requires.alive in
     let made = c.reserve_inputs.new.waiting in
     let now = c.raise_inputs.new.wanted in
     let rest = c.push_inputs.new.waiting in
@@ -107,7 +110,7 @@ invariant_of-self-2 c =
       take_at rest _ c.push_reserved-5.new.self.len (omega (arith, c.push_inputs.auto.waiting, c.deref_mut-3.ensures.len)),
     ) (
       push-tracked s a.wanted.items now made rest a.pending (a.pending + c.one_if_pending.result) c.args.name c.args.submission c.args.outcome (option_map kept_value c.args.value) c.none.result waited
-          tracked room below c.requires.kept c.none.ensures counts-size lists-size raised waits each (ap (λ (n : ℕ). a.pending + n) c.one_if_pending.ensures),
+          tracked room below living c.requires.kept c.none.ensures counts-size lists-size raised waits each (ap (λ (n : ℕ). a.pending + n) c.one_if_pending.ensures),
       rows,
     )
 
