@@ -3,16 +3,16 @@ ghost use Rattle.std.specs.Prelude.{◌≡◌, ℕ, ◌+◌, ◌-◌, ◌*◌, �
 ghost use Rattle.std.specs.Option.{unwrap_or};
 ghost use Rattle.mw_model.specs.declared.limits.TheConstants.{FAR_LIMIT};
 ghost use Rattle.mw_model.specs.Rasters.{raster, cell_at};
-ghost use Rattle.mw_line.specs.mw_lane.Shifted.{at_place};
+ghost use Rattle.mw_lane.specs.Shifted.{at_place};
 
-use mw_line::pixel::{Grey, Pixel, copies};
-use mw_line::tile::Window;
 use mw_model::NoMemory;
+use mw_tile::Window;
+use mw_tile::pixel::{Grey, Pixel, copies};
 use std::alloc::Global;
 
 /// Rows of a window: the column and the row of their first place there, how long they are, and how many.
 #[derive(Clone, Copy)]
-pub(crate) struct Rows {
+pub struct Rows {
     pub column: i64,
     pub row: i64,
     pub wide: usize,
@@ -116,7 +116,7 @@ fn held_rows<P: Grey>(
 
 /// What the window has at each place of the rows, and the neutral sample where it has nothing and at 63 places more. Rows that
 /// stand as they are wanted, as those of a tile amid its frame do, are copied at once.
-pub(crate) fn spread<P: Grey>(
+pub fn spread<P: Grey>(
     alloc: Global,
     window: &Window<P>,
     rows: Rows,
