@@ -10,7 +10,7 @@ ghost use Rattle.mw_line.specs.Extrema.{over};
 use crate::doubling::slide_by;
 use crate::pairs::merge_rows;
 use crate::slides::Slide;
-use crate::spreading::{Rows, spread};
+use crate::spreading::{SpreadRows, spread};
 use mw_model::NoMemory;
 use mw_tile::Window;
 use mw_tile::pixel::{Extremum, Grey, Pixel, copies};
@@ -80,7 +80,7 @@ pub(crate) fn boxes_in_cache<P: Grey, E: Extremum<P>>(
     ensures size { IfOk result (λ v. vec_len v ≡ slide.height * slide.width) }
     ensures cells { IfOk result (λ v. (x y : ℕ) → x < slide.width → y < slide.height → slice_index_or v.items (y * slide.width + x) neutral ≡ over E.merge (λ j. over E.merge (λ i. merge_at E.merge neutral (cell_at (raster window.now.place.width window.now.place.height window.now.cells) (slide.column +ℤ pos (x + i)) (slide.row +ℤ pos (y + j)))) 0 (slide.across - 1)) 0 (slide.down - 1)) }
 {
-    let rows = Rows {
+    let rows = SpreadRows {
         column: slide.column,
         row: slide.row,
         wide: slide.width + (slide.across - 1),

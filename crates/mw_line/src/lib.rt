@@ -34,7 +34,7 @@ pub use mw_model::NoMemory;
 pub use rectangles::rectangle;
 pub use sides::{SeenSide, first_seen, seen_across, seen_down};
 pub use sliding::line;
-pub use spreading::{Rows, spread};
+pub use spreading::{SpreadRows, spread};
 pub use steps::Steps;
 pub use window_rows::combine_window_row;
 
