@@ -16,15 +16,30 @@ use mw_tile::Window;
 use mw_tile::pixel::{Extremum, Grey, Pixel, copies};
 use std::alloc::Global;
 
-/// How many bytes stay in the cache while they are passed over. It was fitted to measured times.
-const BYTES: usize = 40960;
+/// The longest row, and how much all rows may have for each place of a box's sides after the first, up to five of them, in bytes.
+/// Longer rows take few calls, and few passes do not pay for the list. Both were fitted to measured times.
+const ROW: usize = 512;
+const ALL: usize = 8192;
 
-/// Whether so many rows stay in the cache: any answer is right for so few samples.
-pub(crate) fn is_in_cache<P: Pixel>(wide: usize, high: usize) -> bool
-    ensures { IsTrue result → (wide ≤ 2 ^ 20) × (high ≤ 2 ^ 20) × (high * wide ≤ 2 ^ 20) }
+/// How many bytes a sample takes.
+fn bytes_of<P: Pixel>() -> usize
+    ensures { 0 < result }
 {
-    let most = if P::TOP.value() > 255 { BYTES / 2 } else { BYTES };
-    wide <= most && high <= most && high * wide <= most
+    if P::TOP.value() > 255 { 2 } else { 1 }
+}
+
+/// Whether one list of all rows costs less than row after row: any answer is right for so few samples.
+pub(crate) fn is_cheaper_as_list<P: Pixel>(slide: Slide) -> bool
+    requires some { (0 < slide.across) × (0 < slide.down) }
+    requires narrow { (slide.width < 2 ^ 32) × (slide.across ≤ 2 ^ 34) }
+    requires low { (slide.height < 2 ^ 32) × (slide.down ≤ 2 ^ 34) }
+    ensures { IsTrue result → (slide.width + (slide.across - 1) ≤ 2 ^ 20) × (slide.height + (slide.down - 1) ≤ 2 ^ 20) × ((slide.height + (slide.down - 1)) * (slide.width + (slide.across - 1)) ≤ 2 ^ 20) }
+{
+    let bytes = bytes_of::<P>();
+    let wide = slide.width + (slide.across - 1);
+    let high = slide.height + (slide.down - 1);
+    let most = ALL * (slide.across + slide.down - 1).min(5) / bytes;
+    wide <= ROW / bytes && high <= most && high * wide <= most
 }
 
 /// The greatest power of 2 that is not more than k.

@@ -12,7 +12,7 @@ ghost use Rattle.mw_line.specs.Extrema.{over, IsSlidingExtremum};
 
 use crate::columns::grow;
 use crate::doubling::slide_by;
-use crate::in_cache::{boxes_in_cache, is_in_cache};
+use crate::in_cache::{boxes_in_cache, is_cheaper_as_list};
 use crate::sides::{first_seen, seen_across, seen_down};
 use crate::slides::Slide;
 use crate::window_rows::combine_window_row;
@@ -104,9 +104,7 @@ fn boxes<P: Grey, E: Extremum<P>>(
     ensures size { IfOk result (λ v. vec_len v ≡ slide.height * slide.width) }
     ensures cells { IfOk result (λ v. (x y : ℕ) → x < slide.width → y < slide.height → slice_index_or v.items (y * slide.width + x) neutral ≡ over E.merge (λ j. over E.merge (λ i. merge_at E.merge neutral (cell_at (raster window.now.place.width window.now.place.height window.now.cells) (slide.column +ℤ pos (x + i)) (slide.row +ℤ pos (y + j)))) 0 (slide.across - 1)) 0 (slide.down - 1)) }
 {
-    let wide = slide.width + (slide.across - 1);
-    let high = slide.height + (slide.down - 1);
-    if is_in_cache::<P>(wide, high) {
+    if is_cheaper_as_list::<P>(slide) {
         return boxes_in_cache::<P, E>(alloc, window, slide, neutral);
     }
     boxes_by_rows::<P, E>(alloc, window, slide, neutral)
