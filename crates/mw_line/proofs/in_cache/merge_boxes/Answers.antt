@@ -1,4 +1,4 @@
-use Rattle.std.proofs.Common.{◌≡◌, ◌+◌, ◌-◌, ◌*◌, ◌<◌, ◌≤◌, ◌∙◌, ℕ, get_or, ap, arith, refl}
+use Rattle.std.proofs.Common.{◌+◌, ◌-◌, ◌*◌, ◌<◌, ◌≤◌, ◌∙◌, get_or, ap, arith, refl}
 use Rattle.std.proofs.Math.Nat.{mul-le-mul_left}
 use Rattle.mw_line.proofs.Cells.{box_of_parts}
 use Rattle.mw_line.proofs.Folds.{IsExtremum}
@@ -14,18 +14,18 @@ slide_by-requires-clause-room g c =
     let some : 0 < wide = omega (arith, c.requires.some) in
     omega (arith, mul-le-mul_left wide le, some)
 
-pub slide_by-2-requires-clause-within : goal.slide_by-2-requires-clause-within
-slide_by-2-requires-clause-within g c =
+pub slide_by-requires-2-clause-within : goal.slide_by-requires-2-clause-within
+slide_by-requires-2-clause-within g c =
     let s = c.args.slide in
     let wide = s.width + (s.across - 1) in
     let le : s.height ≤ s.height + (s.down - 1) = omega arith in
     omega (arith, mul-le-mul_left wide le, c.requires.cells, c.slide_by.auto.row)
 
-pub slide_by-2-requires-clause-room : goal.slide_by-2-requires-clause-room
-slide_by-2-requires-clause-room g c =
+pub slide_by-requires-2-clause-room : goal.slide_by-requires-2-clause-room
+slide_by-requires-2-clause-room g c =
     let s = c.args.slide in
     let wide = s.width + (s.across - 1) in
-    let first = rows_fit 0 s.height wide c.requires.some.2.2.1 in
+    let first = rows_fit 0 s.height wide c.requires.some.3 in
     omega (arith, first, c.requires.some, c.power_within-taken.ensures.within)
 
 pub merge_rows-requires-clause-cells : goal.merge_rows-requires-clause-cells
