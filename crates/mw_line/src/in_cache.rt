@@ -16,9 +16,10 @@ use mw_tile::Window;
 use mw_tile::pixel::{Extremum, Grey, Pixel, copies};
 use std::alloc::Global;
 
-/// The longest row, and how much all rows may have for each place of a box's sides after the first, up to five of them, in bytes.
-/// Longer rows take few calls, and few passes do not pay for the list. Both were fitted to measured times.
+/// The longest row of a list, in bytes: longer rows take few calls. It was fitted to measured times, as the next is.
 const ROW: usize = 512;
+
+/// How many bytes all rows may have for each place of a box's sides after the first, up to five: few passes do not pay for a list.
 const ALL: usize = 8192;
 
 /// How many bytes a sample takes.

@@ -31,7 +31,10 @@ fn are_part<P: Grey>(
         for x in 0..made.width() {
             let (column, row) = (tile.x.saturating_add(x), tile.y.saturating_add(y));
             assert!(rt; column < whole.width() && row < whole.height(), "{tile:?}");
-            assert!(rt; made.at(x, y) == whole.at(column, row), "{tile:?} at {x} {y}");
+            assert!(rt;
+                made.at(x, y) == whole.at(column, row),
+                "{tile:?} at {x} {y}"
+            );
         }
     }
     Ok(())
