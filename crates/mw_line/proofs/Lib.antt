@@ -7,10 +7,13 @@ pub mod Seen
 pub mod Tiles
 pub mod Within
 -- the crate's own
+mod Cells
 mod Cut
+mod HeldRows
 mod SlidRows
 mod Spans
 mod Levels
+mod Merged
 mod Growing
 mod Segments
 mod Padded

@@ -1,5 +1,6 @@
 -- Extrema over the places of a range.
 use Rattle.std.proofs.Common.{◌≡◌, ℕ, zero, suc, ◌+◌, ◌*◌, ◌<◌, ◌≤◌, List, [], ◌∷◌, ◌++◌, Option, Some, None, get_or, fold, refl, ap, sym, arith, ◌∙◌}
+use Rattle.std.specs.Option.{unwrap_or}
 use Rattle.std.specs.List.{range_with_len, filter_map, flat_map, cons_option}
 use Rattle.std.proofs.Math.Nat.{add-zero}
 use Rattle.std.proofs.lemmas.List.{append-nil}
@@ -7,6 +8,7 @@ use Rattle.mw_model.proofs.mw_facts.Numbers.{add_one-add}
 use Rattle.mw_lane.specs.Shifted.{merge_at}
 use Rattle.mw_line.specs.Extrema.{strided, over}
 use Rattle.mw_line.proofs.Folds.{IsExtremum, fold_both}
+use Rattle.mw_line.proofs.Joined.{spread_in}
 
 pub over_same : {A : Type 0} (f : A → A → A) (v u : ℕ → A) (a m : ℕ) → ((k : ℕ) → a ≤ k → k ≤ a + m → v k ≡ u k) → over f v a m ≡ over f u a m
 over_same f v u a zero same = same a (omega arith) (omega arith)
@@ -24,6 +26,31 @@ over_strided f row d s p a zero q q-is = ap (λ (t : ℕ). get_or row t d) q-is
 over_strided f row d s p a (suc m) q q-is =
     ap (λ (t : ℕ). f (get_or row t d) (strided f row d s m (q + s))) q-is
     ∙ ap (f (get_or row (p + a * s) d)) (over_strided f row d s p (a + 1) m (q + s) (omega arith))
+
+exchanged : {A : Type 0} (f : A → A → A) → IsExtremum f → (a b c d : A) → f (f a b) (f c d) ≡ f (f a c) (f b d)
+exchanged f laws a b c d =
+    laws.associates a b (f c d)
+    ∙ ap (f a) (sym (laws.associates b c d) ∙ ap (λ (t : _). f t d) (laws.commutes b c) ∙ laws.associates c b d)
+    ∙ sym (laws.associates a c (f b d))
+
+over_both : {A : Type 0} (f : A → A → A) → IsExtremum f → (v u : ℕ → A) (a m : ℕ) → over f (λ k. f (v k) (u k)) a m ≡ f (over f v a m) (over f u a m)
+over_both f laws v u a zero = refl
+over_both f laws v u a (suc m) = ap (f (f (v a) (u a))) (over_both f laws v u (a + 1) m) ∙ exchanged f laws (v a) (u a) (over f v (a + 1) m) (over f u (a + 1) m)
+
+-- the extremum of columns' extrema is that of rows' extrema
+pub over_swapped : {A : Type 0} (f : A → A → A) → IsExtremum f → (v : ℕ → ℕ → A) (a m b n : ℕ) → over f (λ i. over f (v i) b n) a m ≡ over f (λ j. over f (λ i. v i j) a m) b n
+over_swapped f laws v a zero b n = refl
+over_swapped f laws v a (suc m) b n =
+    ap (f (over f (v a) b n)) (over_swapped f laws v (a + 1) m b n) ∙ sym (over_both f laws (v a) (λ j. over f (λ i. v i j) (a + 1) m) b n)
+
+-- n is merged into each value as well as into their extremum
+pub over_out : {A : Type 0} (f : A → A → A) → IsExtremum f → (n : A) (value : ℕ → A) (a m : ℕ) → f n (over f value a m) ≡ over f (λ i. f n (value i)) a m
+over_out f laws n value a zero = refl
+over_out f laws n value a (suc m) = sym (spread_in f laws n (value a) (over f value (a + 1) m)) ∙ ap (f (f n (value a))) (over_out f laws n value (a + 1) m)
+
+pub merged_or : {A : Type 0} (f : A → A → A) → IsExtremum f → (n : A) (o : Option A) → f n (unwrap_or o n) ≡ merge_at f n o
+merged_or f laws n None = laws.is_idempotent n
+merged_or f laws n (Some a) = refl
 
 -- the fold of rows that are joined is the extremum of their folds
 pub fold_flat : {A : Type 0} (f : A → A → A) → IsExtremum f → (n : A) (rows : ℕ → List A) (a m : ℕ)

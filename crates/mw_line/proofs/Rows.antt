@@ -8,6 +8,9 @@ pub use Rattle.mw_tile.proofs.mw_words.Bits.{rows_fit}
 use Rattle.mw_model.proofs.mw_facts.Parts.{length-put_mid, get_or-put_mid_below, get_or-put_mid_within, get_or-put_mid_above}
 use borrow.Rule.Slice.PartMut.{put_mid}
 
+pub row_within : (x y w h : ℕ) → x < w → y < h → y * w + x < h * w
+row_within x y w h less row_less = omega (arith, rows_fit y h w row_less)
+
 -- the rows above y have their values, made from what stood there, and the others are as they were
 pub record RowsDone {A : Type 0} (value : A → ℕ → ℕ → A) (w h y : ℕ) (old out : List A) : Type 0 where
   pub size : length out ≡ h * w

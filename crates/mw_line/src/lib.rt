@@ -13,12 +13,16 @@
 
 mod columns;
 mod doubling;
+mod in_cache;
 mod laws;
 mod padding;
+mod pairs;
 mod passes;
 mod rectangles;
 mod sides;
+mod slides;
 mod sliding;
+mod spreading;
 mod steps;
 mod window_rows;
 
@@ -30,6 +34,7 @@ pub use mw_model::NoMemory;
 pub use rectangles::rectangle;
 pub use sides::{SeenSide, first_seen, seen_across, seen_down};
 pub use sliding::line;
+pub use spreading::{SpreadRows, spread};
 pub use steps::Steps;
 pub use window_rows::combine_window_row;
 

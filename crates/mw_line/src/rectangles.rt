@@ -12,24 +12,14 @@ ghost use Rattle.mw_line.specs.Extrema.{over, IsSlidingExtremum};
 
 use crate::columns::grow;
 use crate::doubling::slide_by;
+use crate::in_cache::{boxes_in_cache, is_cheaper_as_list};
 use crate::sides::{first_seen, seen_across, seen_down};
+use crate::slides::Slide;
 use crate::window_rows::combine_window_row;
 use mw_model::{NoMemory, OffsetBox, Rect};
 use mw_tile::Window;
 use mw_tile::pixel::{Extremum, Grey, Plane, copies};
 use std::alloc::Global;
-
-/// What the rows of a rectangle's pass hold: at each place the extremum of `across` by `down` places of the window from one
-/// on, which for the first place stands in this column and row; there are `width` places in each of `height` rows.
-#[derive(Clone, Copy)]
-struct Slide {
-    column: i64,
-    row: i64,
-    across: usize,
-    down: usize,
-    width: usize,
-    height: usize,
-}
 
 /// Leaves at each of the first places of the line the extremum of `across` places of that row of the window.
 fn slide_row<P: Grey, E: Extremum<P>>(
@@ -78,8 +68,8 @@ fn slide_rows<P: Grey, E: Extremum<P>>(
     Ok(rows)
 }
 
-/// The rows, over a window that goes on with neutral samples.
-fn boxes<P: Grey, E: Extremum<P>>(
+/// The rows, made one after another.
+fn boxes_by_rows<P: Grey, E: Extremum<P>>(
     alloc: Global,
     window: &Window<P>,
     slide: Slide,
@@ -98,6 +88,26 @@ fn boxes<P: Grey, E: Extremum<P>>(
     let mut rows = slide_rows::<P, E>(alloc, window, slide, blank.as_slice(), line.as_mut_slice())?;
     rows.truncate(slide.height * slide.width);
     Ok(rows)
+}
+
+/// The rows, over a window that goes on with neutral samples.
+fn boxes<P: Grey, E: Extremum<P>>(
+    alloc: Global,
+    window: &Window<P>,
+    slide: Slide,
+    neutral: P,
+) -> Result<Vec<P>, NoMemory>
+    requires some { (0 < slide.across) × (0 < slide.down) × (0 < slide.width) × (0 < slide.height) }
+    requires narrow { (slide.width < 2 ^ 32) × (slide.across ≤ 2 ^ 34) }
+    requires low { (slide.height < 2 ^ 32) × (slide.down ≤ 2 ^ 34) }
+    requires near { slide.row ≤ℤ pos FAR_LIMIT }
+    ensures size { IfOk result (λ v. vec_len v ≡ slide.height * slide.width) }
+    ensures cells { IfOk result (λ v. (x y : ℕ) → x < slide.width → y < slide.height → slice_index_or v.items (y * slide.width + x) neutral ≡ over E.merge (λ j. over E.merge (λ i. merge_at E.merge neutral (cell_at (raster window.now.place.width window.now.place.height window.now.cells) (slide.column +ℤ pos (x + i)) (slide.row +ℤ pos (y + j)))) 0 (slide.across - 1)) 0 (slide.down - 1)) }
+{
+    if is_cheaper_as_list::<P>(slide) {
+        return boxes_in_cache::<P, E>(alloc, window, slide, neutral);
+    }
+    boxes_by_rows::<P, E>(alloc, window, slide, neutral)
 }
 
 /// The extremum of the neutral sample and what the window has under the box, at each place of the tile. Where the window

@@ -4,7 +4,6 @@ pub mod Rooms
 pub mod Gathers
 pub mod Seens
 -- the crate's own
-mod HeldRows
 mod Parts
 mod StripRows
 mod Lists

@@ -4,14 +4,10 @@ use Rattle.std.proofs.Math.Nat.{mul-le-mul_left}
 use Rattle.std.proofs.lemmas.List.{get_or-take, get_or-drop}
 use Rattle.std.proofs.lemmas.Simd.{get_or-zip2, length-zip2}
 use Rattle.mw_line.proofs.Folds.{IsExtremum}
-use Rattle.mw_line.proofs.Rows.{rows_fit}
 use lib.Lanes.{zip2}
 
 pub row_fits : (y high wide width n : ℕ) → y < high → (high - 1) * wide + width ≤ n → y * wide + width ≤ n
 row_fits y high wide width n lt room = let le : y ≤ high - 1 = omega arith in omega (arith, mul-le-mul_left wide le, room)
-
-pub row_within : (x y w h : ℕ) → x < w → y < h → y * w + x < h * w
-row_within x y w h less row_less = omega (arith, rows_fit y h w row_less)
 
 -- a part of a list, merged into another
 pub part_merged : {A : Type 0} (f : A → A → A) (out cells made : List A) (start m q : ℕ) (d : A) → start + length out ≤ length cells → m ≡ length out → made ≡ zip2 f out (take m (drop start cells)) → q < length out

@@ -16,8 +16,7 @@ use Rattle.mw_model.proofs.Nonnegative.{nonnegative_is}
 use Rattle.mw_line.specs.mw_lane.Shifted.{merge_at}
 use Rattle.mw_line.specs.Extrema.{strided, over}
 use Rattle.mw_line.proofs.Folds.{IsExtremum, fold_both}
-use Rattle.mw_line.proofs.Joined.{spread_in}
-use Rattle.mw_line.proofs.Over.{over_same, over_strided, fold_flat, those, fold_those, filter_map-flat}
+use Rattle.mw_line.proofs.Over.{over_same, over_strided, over_out, merged_or, fold_flat, those, fold_those, filter_map-flat}
 use Rattle.mw_run.specs.declared.runs.Run.{Run}
 use Rattle.mw_run.specs.declared.runs.Extent.{Extent}
 use Rattle.mw_run.specs.Runs.{run_offsets, start_of, IsInside, HasRoom, gather}
@@ -104,14 +103,6 @@ run_value : {A : Type 0} (f : A → A → A) → IsExtremum f → (n : A) (w : V
     → strided f cells n 1 (r.count - 1) (start_of e wide r + (y * wide + x)) ≡ fold f n (seen_under (seen_at w) (run_offsets r) (tile.x + x) (tile.y + y))
 run_value f laws n w tile e wide high column row cells laid x y less row_less r inside =
     run_looked f (merge_at f n) n w tile e wide high column row cells laid r inside x y less row_less ∙ sym (seen_run f laws n (seen_at w) r (tile.x + x) (tile.y + y) inside.run.some)
-
-merged_or : {A : Type 0} (f : A → A → A) → IsExtremum f → (n : A) (o : Option A) → f n (unwrap_or o n) ≡ merge_at f n o
-merged_or f laws n None = laws.is_idempotent n
-merged_or f laws n (Some a) = refl
-
-over_out : {A : Type 0} (f : A → A → A) → IsExtremum f → (n : A) (value : ℕ → A) (a m : ℕ) → f n (over f value a m) ≡ over f (λ i. f n (value i)) a m
-over_out f laws n value a zero = refl
-over_out f laws n value a (suc m) = sym (spread_in f laws n (value a) (over f value (a + 1) m)) ∙ ap (f (f n (value a))) (over_out f laws n value (a + 1) m)
 
 -- the value of a run, where each cell is a sample or n
 run_spread : {A : Type 0} (f : A → A → A) → IsExtremum f → (n : A) (w : View A) (tile : Rect) (e : Extent) (wide high : ℕ) (column row : ℤ) (cells : List A) → IsLaidBy (λ o. unwrap_or o n) n w tile e wide high column row cells

@@ -18,10 +18,10 @@ ghost use Rattle.mw_run.specs.Runs.{run_offsets, start_of, IsInside, HasRoom, tw
 use crate::narrow::{is_cheaper_as_list, pick_columns};
 use crate::places::combine_rows_at;
 use crate::sizes::{longest_of, next_size};
-use crate::spread::{Rows, spread};
 use mw_line::lane::combine_ahead;
 use mw_line::pixel::{Extremum, Grey, Pixel, copies};
 use mw_line::tile::Window;
+use mw_line::{SpreadRows, spread};
 use mw_model::{NoMemory, Rect};
 use mw_run::{
     Extent, Run, Sizes, columns_after, counts_of, first_column, first_row, rows_after, start_of_run,
@@ -237,7 +237,7 @@ pub(crate) fn merge_runs<P: Grey, E: Extremum<P>>(
     let high = height + rows_after(extent);
     let column = first_column(tile, extent, place);
     let row = first_row(tile, extent, place);
-    let rows = Rows {
+    let rows = SpreadRows {
         column,
         row,
         wide,

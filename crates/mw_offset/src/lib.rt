@@ -11,7 +11,6 @@ mod narrow;
 mod offsets;
 mod places;
 mod sizes;
-mod spread;
 mod strips;
 
 pub use mw_model::NoMemory;

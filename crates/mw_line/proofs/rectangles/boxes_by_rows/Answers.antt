@@ -5,7 +5,7 @@ use Rattle.mw_lane.specs.Shifted.{merge_at}
 use Rattle.mw_line.specs.Extrema.{over}
 use Rattle.mw_line.proofs.Over.{over_shift}
 use Rattle.mw_line.proofs.Rows.{rows_fit}
-use Rattle.mw_line.proofs.rectangles.boxes.Goals as goal
+use Rattle.mw_line.proofs.rectangles.boxes_by_rows.Goals as goal
 
 pub returns-clause-cells : goal.returns-clause-cells
 returns-clause-cells g c =

@@ -2,7 +2,7 @@ use Rattle.std.proofs.Common.{◌+◌, ◌*◌, ◌+ℤ◌, pos, List, get_or, a
 use Rattle.std.specs.Option.{unwrap_or}
 use Rattle.mw_model.proofs.mw_facts.Elements.{take-written, get_or-replicate_same}
 use Rattle.mw_model.specs.Rasters.{raster, cell_at}
-use Rattle.mw_offset.proofs.spread.spread.Goals as goal
+use Rattle.mw_line.proofs.spreading.spread.Goals as goal
 
 pub returns-clause-cells : goal.returns-clause-cells
 returns-clause-cells g c = λ x y less row_less.

@@ -3,16 +3,16 @@ ghost use Rattle.std.specs.Prelude.{◌≡◌, ℕ, ◌+◌, ◌-◌, ◌*◌, �
 ghost use Rattle.std.specs.Option.{unwrap_or};
 ghost use Rattle.mw_model.specs.declared.limits.TheConstants.{FAR_LIMIT};
 ghost use Rattle.mw_model.specs.Rasters.{raster, cell_at};
-ghost use Rattle.mw_line.specs.mw_lane.Shifted.{at_place};
+ghost use Rattle.mw_lane.specs.Shifted.{at_place};
 
-use mw_line::pixel::{Grey, Pixel, copies};
-use mw_line::tile::Window;
 use mw_model::NoMemory;
+use mw_tile::Window;
+use mw_tile::pixel::{Grey, Pixel, copies};
 use std::alloc::Global;
 
 /// Rows of a window: the column and the row of their first place there, how long they are, and how many.
 #[derive(Clone, Copy)]
-pub(crate) struct Rows {
+pub struct SpreadRows {
     pub column: i64,
     pub row: i64,
     pub wide: usize,
@@ -52,7 +52,7 @@ fn copy_window_row<P: Grey>(window: &Window<P>, column: i64, row: i64, out: &mut
 }
 
 /// Copies what the window has at each place of the rows, which are all that is there.
-fn copy_all<P: Grey>(window: &Window<P>, rows: Rows, out: &mut [P])
+fn copy_all<P: Grey>(window: &Window<P>, rows: SpreadRows, out: &mut [P])
     requires few { rows.high ≤ 2 ^ 20 }
     requires near { rows.row ≤ℤ pos FAR_LIMIT }
     requires size { length out.old ≡ rows.high * rows.wide }
@@ -67,7 +67,7 @@ fn copy_all<P: Grey>(window: &Window<P>, rows: Rows, out: &mut [P])
 }
 
 /// Copies what the window has at each place of the rows.
-fn copy_rows<P: Grey>(window: &Window<P>, rows: Rows, out: &mut [P])
+fn copy_rows<P: Grey>(window: &Window<P>, rows: SpreadRows, out: &mut [P])
     requires few { rows.high ≤ 2 ^ 20 }
     requires near { rows.row ≤ℤ pos FAR_LIMIT }
     requires room { rows.high * rows.wide ≤ length out.old }
@@ -77,7 +77,7 @@ fn copy_rows<P: Grey>(window: &Window<P>, rows: Rows, out: &mut [P])
 }
 
 /// The row of the window from which on its rows stand as they are wanted: as long, from its first column on, and all there.
-fn held_row<P: Grey>(window: &Window<P>, rows: Rows) -> Option<usize>
+fn held_row<P: Grey>(window: &Window<P>, rows: SpreadRows) -> Option<usize>
     requires few { rows.high ≤ 2 ^ 20 }
     requires near { rows.row ≤ℤ pos FAR_LIMIT }
     ensures held { IfSome result (λ row. (rows.column ≡ pos 0) × (rows.wide ≡ window.now.place.width) × (rows.row ≡ pos row) × (row + rows.high ≤ window.now.place.height)) }
@@ -116,10 +116,10 @@ fn held_rows<P: Grey>(
 
 /// What the window has at each place of the rows, and the neutral sample where it has nothing and at 63 places more. Rows that
 /// stand as they are wanted, as those of a tile amid its frame do, are copied at once.
-pub(crate) fn spread<P: Grey>(
+pub fn spread<P: Grey>(
     alloc: Global,
     window: &Window<P>,
-    rows: Rows,
+    rows: SpreadRows,
     neutral: P,
 ) -> Result<Vec<P>, NoMemory>
     requires few { rows.high ≤ 2 ^ 20 }

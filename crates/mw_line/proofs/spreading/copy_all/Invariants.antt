@@ -2,7 +2,7 @@ use Rattle.std.proofs.Common.{pos, ◌+ℤ◌}
 use Rattle.std.specs.Option.{unwrap_or}
 use Rattle.mw_model.specs.Rasters.{raster, cell_at}
 use Rattle.mw_line.proofs.Rows.{RowsDone}
-use Rattle.mw_offset.proofs.spread.copy_all.Given as goal
+use Rattle.mw_line.proofs.spreading.copy_all.Given as goal
 
 abbrev pub invariant-loop-y : goal.invariant-loop-y
 invariant-loop-y g l =

@@ -3,7 +3,7 @@ use Rattle.std.proofs.lemmas.Int.{ints}
 use Rattle.std.specs.Option.{unwrap_or}
 use Rattle.mw_model.specs.Rasters.{raster, cell_at}
 use Rattle.mw_line.proofs.Rows.{rows_more, rows_fit}
-use Rattle.mw_offset.proofs.spread.copy_all.Goals as goal
+use Rattle.mw_line.proofs.spreading.copy_all.Goals as goal
 
 pub loop-y-preserved : goal.loop-y-preserved
 loop-y-preserved g c =

@@ -2,8 +2,8 @@ use Rattle.std.proofs.Common.{◌+◌, ◌*◌, ◌+ℤ◌, pos, drop, ap, ◌�
 use Rattle.std.specs.Option.{unwrap_or}
 use Rattle.std.proofs.lemmas.List.{get_or_append_left, get_or-take}
 use Rattle.mw_model.specs.Rasters.{raster, cell_at}
-use Rattle.mw_offset.proofs.Rooms.{row_within}
-use Rattle.mw_offset.proofs.spread.copy_rows.Goals as goal
+use Rattle.mw_line.proofs.Rows.{row_within}
+use Rattle.mw_line.proofs.spreading.copy_rows.Goals as goal
 
 pub returns : goal.returns
 returns g c = λ x y d less row_less.

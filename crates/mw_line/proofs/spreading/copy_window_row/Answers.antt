@@ -3,7 +3,7 @@ use lib.IntN.{nat_abs}
 use Rattle.std.proofs.lemmas.Int.{ints}
 use Rattle.std.specs.Option.{unwrap_or}
 use Rattle.mw_line.proofs.Seen.{row_of_window}
-use Rattle.mw_offset.proofs.spread.copy_window_row.Goals as goal
+use Rattle.mw_line.proofs.spreading.copy_window_row.Goals as goal
 
 pub returns-then-row-from : goal.returns-then-row-from
 returns-then-row-from g c = λ x d less.
