@@ -5,8 +5,8 @@ ghost use Rattle.std.specs.Prelude.{◌≡◌, ℕ, ◌*◌, ◌≤◌, ◌==◌
 use mw_joined::pixel::{Bit, Grey, Plane};
 use mw_joined::tile::Window;
 use mw_model::NoMemory;
-use mw_set_ranks::bits::{invert, join};
 use mw_set_ranks::bits;
+use mw_set_ranks::bits::{invert, join};
 use mw_set_ranks::lane::LevelBlocks;
 use std::alloc::Global;
 
