@@ -1,4 +1,4 @@
-//! Many entries, many items of the log, and long lists of events.
+//! Many entries, many cancels, many items of the log, and long lists of events.
 
 ghost use Rattle.std.specs.List.{AllByRecursion};
 ghost use Rattle.mw_core.specs.EventEffects.{IsServable};
@@ -57,6 +57,26 @@ fn all_entries_are_pending_at_once(rt: HostRuntime) {
     memory_comes_last(&rt, &mut core, name(&rt, "f"), Code::NameTaken);
     memory_comes_last(&rt, &mut core, name(&rt, "more"), Code::Full);
     all_end(&rt, rt.alloc(), &mut core);
+}
+
+/// Cancels all commands, one by one. With a pass over all entries in each, that would take minutes.
+fn cancels(rt: &impl Abort, alloc: Global, core: &mut Core) {
+    for n in 2..65536u32 {
+        let reply = core.cancel(with_number(rt, alloc, n)).ok();
+        assert_eq!(rt; reply, Some(Reply::Accepted(n)));
+    }
+    assert_eq!(rt; core.ready_count(), 0);
+    for n in [2u32, 8191, 32768, 65535] {
+        let reply = status(rt, core, with_number(rt, alloc, n));
+        assert_eq!(rt; reply, Reply::Cancelled(n));
+    }
+}
+
+#[test]
+fn all_of_a_full_table_are_cancelled(rt: HostRuntime) {
+    let mut core = Core::new(rt.alloc(), 128).ok().expect(&rt, "memory");
+    fills(&rt, rt.alloc(), &mut core);
+    cancels(&rt, rt.alloc(), &mut core);
 }
 
 fn looks(rt: &impl Abort, core: &mut Core, count: u32) {

@@ -5,7 +5,7 @@ use Rattle.mw_model.specs.declared.calls.Outcome.TheVariants as outcome
 use Rattle.mw_model.specs.Values.{Value}
 use Rattle.mw_model.specs.Refusals.{Table, outcome_at}
 use Rattle.mw_store.specs.Kept.{kept_value}
-use Rattle.mw_store.specs.Stored.{DropsSpent, IsTracked, Stored}
+use Rattle.mw_store.specs.Stored.{DropsSpent, Stored}
 use Rattle.mw_store.proofs.Tracking.{value-tracked}
 use Rattle.mw_store.proofs.columns.Store.settle.Goals as goal
 
