@@ -1,5 +1,5 @@
 -- What is carried from digit to digit.
-use Rattle.std.proofs.Common.{◌≡◌, ◌⊎◌, ℕ, zero, suc, ◌+◌, ◌-◌, ◌*◌, ◌/◌, ◌%◌, ◌^◌, ◌<◌, ◌≤◌, List, refl, ap, subst, sym, arith, ◌∙◌, inl, inr, add-one}
+use Rattle.std.proofs.Common.{◌≡◌, ◌⊎◌, ℕ, zero, suc, ◌+◌, ◌*◌, ◌^◌, ◌<◌, ◌≤◌, List, refl, ap, subst, arith, ◌∙◌, inl, inr}
 use Rattle.std.proofs.Math.Nat.{pow-suc}
 use Rattle.mw_bits.specs.mw_words.Packed.{bit_of}
 use Rattle.mw_bits.proofs.mw_words.Bits.{bit_of-lt}

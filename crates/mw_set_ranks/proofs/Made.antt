@@ -1,7 +1,6 @@
 -- Ranks of pixels, put together from what lacks and what is there.
-use Rattle.std.proofs.Common.{◌≡◌, ℕ, ◌+◌, ◌-◌, ◌*◌, ◌/◌, ◌<◌, ◌≤◌, min, max, All, cond, List, length, map, get_or, fold, Option, Some, slice_get, refl, ap, subst, sym, arith, ◌∙◌}
+use Rattle.std.proofs.Common.{◌≡◌, ℕ, ◌+◌, ◌*◌, ◌<◌, ◌≤◌, min, max, All, cond, List, length, map, get_or, fold, Some, slice_get, refl, ap, subst, sym, arith, ◌∙◌}
 use Rattle.std.specs.Prelude.{nat_lt}
-use Rattle.std.proofs.Math.Nat.{mul-le-mul_right}
 use Rattle.std.proofs.lemmas.Nat.{mul-add-lt}
 use Rattle.std.proofs.lemmas.Option.{slice_get-get_or}
 use Rattle.mw_model.specs.declared.places.Offset.{Offset}

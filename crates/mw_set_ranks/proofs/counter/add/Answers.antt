@@ -1,5 +1,5 @@
 use Rattle.std.proofs.Common.{◌≡◌, ℕ, ◌/◌, length, subst, arith}
-use Rattle.mw_set_ranks.specs.Numbers.{three_digits, HasCarried, HasAdded}
+use Rattle.mw_set_ranks.specs.Numbers.{three_digits, HasAdded}
 use Rattle.mw_set_ranks.proofs.Carries.{carried_on, carried_all}
 use Rattle.mw_set_ranks.proofs.counter.add.Goals as goal
 

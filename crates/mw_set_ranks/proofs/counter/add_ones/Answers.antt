@@ -1,6 +1,6 @@
-use Rattle.std.proofs.Common.{◌≡◌, ℕ, ◌+◌, ◌*◌, ◌/◌, length, take, ap, sym, arith, ◌∙◌}
+use Rattle.std.proofs.Common.{ℕ, ◌+◌, ◌*◌, ◌/◌, length, take, ap, sym, arith, ◌∙◌}
 use Rattle.mw_set_ranks.specs.Numbers.{bits_at, three_digits}
-use Rattle.mw_set_ranks.proofs.Sums.{added_both, added_rest, front_step}
+use Rattle.mw_set_ranks.proofs.Sums.{added_both, front_step}
 use Rattle.mw_set_ranks.proofs.counter.add_ones.Goals as goal
 
 pub loop-i-preserved : goal.loop-i-preserved

@@ -1,8 +1,7 @@
-use Rattle.std.proofs.Common.{◌≡◌, ℕ, ◌+◌, ◌*◌, ◌<◌, ◌≤◌, ◌-ℤ◌, List, map, ap, subst, sym, arith, ◌∙◌}
+use Rattle.std.proofs.Common.{◌≡◌, ℕ, ◌+◌, ◌*◌, ◌<◌, ◌≤◌, ◌-ℤ◌, map, ap, subst, sym, arith, ◌∙◌}
 use Rattle.std.specs.List.{AllByRecursion}
 use Rattle.std.proofs.Math.Nat.{mul-le-mul_right}
 use Rattle.mw_model.specs.Places.{nonnegative}
-use Rattle.mw_bits.specs.mw_run.declared.runs.Run.{Run}
 use Rattle.mw_bits.specs.mw_run.Runs.{start_of, IsInside}
 use Rattle.mw_set_ranks.proofs.Around.{moves_are, all_mapped, start_below, near_few}
 use Rattle.mw_set_ranks.proofs.element.moves_of.Goals as goal

@@ -1,4 +1,4 @@
-use Rattle.std.proofs.Common.{List, ℕ, Bool, cond, [], ◌∷◌, ap, sym, ◌∙◌}
+use Rattle.std.proofs.Common.{ℕ, Bool, cond, [], ◌∷◌, ap, sym, ◌∙◌}
 use Rattle.mw_bits.specs.mw_words.Packed.{bit_of}
 use Rattle.mw_set_ranks.proofs.Vectors.{all_bit, no_bit}
 use Rattle.mw_set_ranks.proofs.lanes.all_or_none.Goals as goal

@@ -1,4 +1,4 @@
-use Rattle.std.proofs.Common.{◌≡◌, ℕ, ◌+◌, ◌*◌, ◌/◌, ◌<◌, length, subst, arith}
+use Rattle.std.proofs.Common.{◌≡◌, ℕ, ◌+◌, ◌*◌, ◌<◌, subst, arith}
 use Rattle.mw_set_ranks.specs.Moves.{place_in, HasChanged}
 use Rattle.mw_set_ranks.proofs.Weights.{changed_none, changed_more, place_small}
 use Rattle.mw_set_ranks.proofs.moves.changes_by_marks.Goals as goal

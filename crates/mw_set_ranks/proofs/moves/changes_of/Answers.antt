@@ -1,6 +1,5 @@
-use Rattle.std.proofs.Common.{◌≡◌, ℕ, ◌+◌, ◌*◌, ◌/◌, List, length, ap, subst, arith, sum_by, ◌∙◌}
-use Rattle.std.specs.List.{AllByRecursion}
-use Rattle.mw_set_ranks.specs.Moves.{weighed, marks_at, HasChanged}
+use Rattle.std.proofs.Common.{◌≡◌, ℕ, ◌*◌, List, length, ap, arith, sum_by, ◌∙◌}
+use Rattle.mw_set_ranks.specs.Moves.{weighed, marks_at}
 use Rattle.mw_set_ranks.proofs.Weights.{changed_balance, changed_part}
 use Rattle.mw_set_ranks.proofs.moves.changes_of.Goals as goal
 

@@ -1,4 +1,4 @@
-use Rattle.std.proofs.Common.{ℕ, ◌<◌, ◌≤◌, get_or, take, length, refl, ap, sym, arith, ◌∙◌, sum_by}
+use Rattle.std.proofs.Common.{ℕ, ◌<◌, get_or, refl, arith, ◌∙◌}
 use Rattle.std.proofs.lemmas.List.{get_or_default}
 use Rattle.mw_model.proofs.mw_facts.Alls.{all-get_or}
 use Rattle.mw_set_ranks.proofs.Weights.{marks_none, marks_next}

@@ -1,4 +1,4 @@
-use Rattle.std.proofs.Common.{ℕ, ◌+◌, ◌*◌, ◌<◌, List, sum_by, ap, subst, sym, arith, ◌∙◌}
+use Rattle.std.proofs.Common.{ℕ, ◌<◌, sum_by, ap, subst, sym, arith, ◌∙◌}
 use Rattle.std.specs.List.{AllByRecursion}
 use Rattle.std.proofs.lemmas.List.Sums.{sum_by_push}
 use Rattle.mw_model.proofs.mw_facts.Alls.{all-push}

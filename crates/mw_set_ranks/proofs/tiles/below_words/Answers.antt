@@ -1,7 +1,6 @@
 use Rattle.std.proofs.Common.{◌≡◌, ℕ, ◌+◌, ◌*◌, ◌/◌, ◌<◌, ◌^◌, List, length, ap, subst, sym, arith, ◌∙◌}
 use Rattle.std.proofs.lemmas.List.{length-replicate}
 use Rattle.mw_model.proofs.mw_facts.Elements.{take-written}
-use Rattle.mw_bits.specs.mw_words.Packed.{bit_of}
 use Rattle.mw_set_ranks.specs.Walks.{is_below}
 use Rattle.mw_set_ranks.proofs.Walks.{moves_same, room_same}
 use Rattle.mw_set_ranks.proofs.tiles.below_words.Goals as goal

@@ -1,4 +1,4 @@
-use Rattle.std.proofs.Common.{◌≡◌, ℕ, ◌+◌, ◌-◌, ◌*◌, ◌<◌, min, ℤ, pos, ◌+ℤ◌, to_z, of_z, w64, List, length, ap, arith, ◌∙◌}
+use Rattle.std.proofs.Common.{◌≡◌, ℕ, ◌+◌, ◌-◌, ◌*◌, min, ℤ, pos, ◌+ℤ◌, to_z, of_z, w64, List, length, ap, arith, ◌∙◌}
 use Rattle.std.proofs.lemmas.Int.{ints}
 use Rattle.mw_model.proofs.mw_facts.Elements.{take-written}
 use Rattle.mw_model.specs.Rasters.{raster, cell_at}

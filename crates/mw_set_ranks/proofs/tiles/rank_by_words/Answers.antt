@@ -1,8 +1,7 @@
-use Rattle.std.proofs.Common.{◌≡◌, ℕ, ◌+◌, ◌*◌, ◌<◌, cond, List, length, Option, IfSome, ap, subst, sym, arith, ◌∙◌}
+use Rattle.std.proofs.Common.{◌≡◌, ℕ, ◌+◌, ◌*◌, ◌<◌, cond, length, Option, IfSome, ap, subst, sym, arith, ◌∙◌}
 use Rattle.std.specs.Prelude.{nat_lt}
 use Rattle.std.specs.List.{AllByRecursion}
 use Rattle.std.proofs.lemmas.List.{length-map}
-use Rattle.mw_bits.specs.mw_run.declared.runs.Run.{Run}
 use Rattle.mw_bits.specs.mw_run.Runs.{IsRun}
 use Rattle.mw_bits.specs.mw_words.Packed.{bit_of, stride_of, IsPacked}
 use Rattle.mw_model.specs.Windows.{seen_at}

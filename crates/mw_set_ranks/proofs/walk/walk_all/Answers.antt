@@ -1,5 +1,5 @@
-use Rattle.std.proofs.Common.{◌≡◌, ℕ, ◌+◌, ◌-◌, ◌*◌, ◌/◌, ◌<◌, ◌≤◌, ◌^◌, length, ap, subst, sym, arith, ◌∙◌}
-use Rattle.mw_set_ranks.specs.Walks.{is_below, HasRoom}
+use Rattle.std.proofs.Common.{◌≡◌, ℕ, ◌+◌, ◌-◌, ◌*◌, ◌/◌, ◌<◌, ◌^◌, length, ap, subst, sym, arith, ◌∙◌}
+use Rattle.mw_set_ranks.specs.Walks.{is_below}
 use Rattle.mw_set_ranks.proofs.Walks.{columns_more, room_less}
 use Rattle.mw_set_ranks.proofs.walk.walk_all.Goals as goal
 
