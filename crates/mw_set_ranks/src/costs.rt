@@ -25,16 +25,16 @@ const DIGIT: u64 = 800;
 
 const SEEN_ROW: u64 = 700;
 
-/// Levels: a place of the window.
-const LEVEL: u64 = 1_800;
+/// Levels: a place of the window, and one of the tile.
+const LEVEL: u64 = 900;
 
 /// Levels: an offset at a place by counting, which takes fewer than 256 offsets, and at a row.
 const COUNTED: u64 = 38;
 
-const COUNTED_ROW: u64 = 6_000;
+const COUNTED_ROW: u64 = 3_500;
 
 /// Levels: a place by a histogram that moves, and a run of the element.
-const MOVED: u64 = 7_000;
+const MOVED: u64 = 4_000;
 
 const MOVED_RUN: u64 = 2_100;
 
@@ -42,6 +42,11 @@ const MOVED_RUN: u64 = 2_100;
 const EIGHTH: u64 = 4_000;
 
 const EIGHTH_ROW: u64 = 520;
+
+/// In fewer rows words save little, and in fewer places for each offset less than a look at the offsets takes.
+const LEAST_HEIGHT: u32 = 10;
+
+const LEAST_PLACES: u64 = 4;
 
 /// What the times depend on beside the tile.
 #[derive(Clone, Copy)]
@@ -120,11 +125,20 @@ fn levels_time(load: Load, tile: Rect, window: Rect) -> u64 {
     } else {
         moved
     };
-    (wide * high).saturating_mul(LEVEL).saturating_add(quickest)
+    (wide * high)
+        .saturating_add(places)
+        .saturating_mul(LEVEL)
+        .saturating_add(quickest)
 }
 
 /// Whether words are quicker, by more than the estimate is mostly wrong.
 pub(crate) fn pays(load: Load, tile: Rect, window: Rect) -> bool {
     let words = words_time(load, tile);
-    words.saturating_add(words / 8) < levels_time(load, tile, window)
+    words.saturating_add(words / 5) < levels_time(load, tile, window)
+}
+
+/// Whether the tile is so low or small that words do not pay under so many offsets.
+pub(crate) fn is_small(offsets: usize, tile: Rect) -> bool {
+    let places = u64::from(tile.width) * u64::from(tile.height);
+    tile.height < LEAST_HEIGHT || places / LEAST_PLACES < offsets as u64
 }

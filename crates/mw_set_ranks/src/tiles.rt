@@ -12,7 +12,7 @@ ghost use Rattle.mw_bits.specs.Layouts.{IsNear};
 ghost use Rattle.mw_set_ranks.specs.Elements.{lacks_under, IsSetRank, IsMet};
 ghost use Rattle.mw_set_ranks.specs.Walks.{is_below, AreMoves, HasRoom};
 
-use crate::costs::{Load, pays};
+use crate::costs::{Load, is_small, pays};
 use crate::element::{Moves, least_load, load_of, moves_of, single_runs};
 use crate::walk::{Places, Rows, walk_all};
 use mw_bits::pixel::{Bit, Max, Min, Plane};
@@ -216,6 +216,9 @@ pub fn rank_by_words(
     requires { length offsets.now < 2 ^ 16 }
     ensures { IfOk result (λ o. IfSome o (IsSetRank k (seen_at set.now) offsets.now tile)) }
 {
+    if is_small(offsets.len(), tile) {
+        return Ok(None);
+    }
     if !has_layout(tile) {
         return Ok(None);
     }
