@@ -4,9 +4,9 @@
     python3 bench/python.py [SIDE..]        sides of the pictures; 1024 and 4096 if left out
 
 Each time is the best of five runs or more in milliseconds, taken by turns in one process; gains of four workers are told beside what
-four threads are worth at that moment. The pictures are of real shape: soft discs
-of many sizes on a slanted ground with noise. A peer whose first run takes longer than 10 s is run once. It needs a built
-library; peers that are missing are left out, and so are those that have no such operation.
+four threads are worth at that moment. The pictures are of real shape: soft discs of many sizes on a slanted ground with noise. A
+peer whose first run takes longer than 10 s is run once. It needs a built library; peers that are missing are left out, and so are
+those that have no such operation.
 """
 import os
 import statistics
@@ -26,7 +26,7 @@ from morphd import _arrays, _calls, _library, _pieces  # noqa: E402
 # Rounds at least, and for how many seconds short runs go on: a machine that others share is slow for some of them.
 ROUNDS, SECONDS, LONGEST = 5, 0.5, 10.0
 # Where four threads gain so much, they have four cores, or nearly.
-CORES, GAIN_ROUNDS = 3.0, 20
+CORES, GAIN_ROUNDS = 3.0, 10
 
 
 def optional(name):
@@ -155,10 +155,10 @@ def tell_added(side):
 
 
 def small_medians():
-    """32 medians of small pictures by the library alone, by so many threads: each is in its core's own cache."""
+    """Eight medians of small pictures by the library alone, by so many threads: each is in its core's own cache."""
     image = (picture(256) >> 8).astype(np.uint8)
     field, call = _arrays.read(image, "median", None).field, _calls.Flat(_library.RANK, morphd.square(15), 113)
-    rooms = [np.empty_like(image) for _ in range(32)]
+    rooms = [np.empty_like(image) for _ in range(8)]
     return lambda threads: _pieces.each(lambda out: call.run(field, out), rooms, threads)
 
 
@@ -169,7 +169,7 @@ def least(run, rounds):
 def gains(job, control):
     """A round: what four workers gain over one, and the least that four threads gained around it."""
     one, alone = least(lambda: job(1), 2), least(lambda: control(1), 2)
-    before, four, behind = least(lambda: control(4), 2), least(lambda: job(4), 5), least(lambda: control(4), 2)
+    before, four, behind = least(lambda: control(4), 3), least(lambda: job(4), 5), least(lambda: control(4), 3)
     return one / four, alone / max(before, behind)
 
 
