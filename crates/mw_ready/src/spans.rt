@@ -18,8 +18,8 @@ use mw_queue::grid::Grid;
 /// at most 128 tiles: 8192 pixels in tiles of 64.
 #[derive(Drop)]
 pub(crate) struct Spans {
-    across: [u32; 128],
-    down: [u32; 128],
+    across: [u8; 128],
+    down: [u8; 128],
 }
 
 /// How many of so many pieces of a line one spans that is grown so far before and behind.
@@ -36,7 +36,7 @@ fn span(count: u32, side: u32, at: u32, before: u32, after: u32) -> u32
 }
 
 /// The same for each piece of the line.
-fn along(count: u32, side: u32, before: u32, after: u32) -> [u32; 128]
+fn along(count: u32, side: u32, before: u32, after: u32) -> [u8; 128]
     requires some { 0 < side }
     requires few { count ≤ 128 }
     requires small { side ≤ 1024 }
@@ -45,7 +45,7 @@ fn along(count: u32, side: u32, before: u32, after: u32) -> [u32; 128]
 {
     let mut found = [0; 128];
     for at in 0..count {
-        found[at as usize] = span(count, side, at, before, after);
+        found[at as usize] = span(count, side, at, before, after) as u8;
     }
     found
 }
@@ -83,14 +83,14 @@ impl Spans {
 }
 
 /// So many times each of these numbers more, in as many places from one on.
-fn raise_row(counts: &mut [u32], first: usize, across: &[u32], columns: usize, times: u32)
+fn raise_row(counts: &mut [u32], first: usize, across: &[u8], columns: usize, times: u32)
     requires columns { columns ≤ length across.now }
     requires within { first + columns ≤ length counts.old }
     requires fits { (i : ℕ) → i < columns → slice_index counts.old (first + i) + times * slice_index across.now i < 2 ^ 32 }
     ensures { Raises (λ u. bit (in_range first (first + columns) u) * (times * slice_index across.now (u - first))) counts.old counts.new }
 {
     for i in 0..columns {
-        counts[first + i] += times * across[i];
+        counts[first + i] += times * u32::from(across[i]);
     }
 }
 
@@ -111,7 +111,7 @@ pub(crate) fn raise_step(counts: &mut [u32], grid: Grid, spans: &Spans, step: u3
             (first + row * columns) as usize,
             &spans.across,
             columns as usize,
-            times * spans.down[row as usize],
+            times * u32::from(spans.down[row as usize]),
         );
     }
 }
