@@ -15,7 +15,7 @@ use mw_model::Reach;
 use mw_queue::grid::Grid;
 
 /// Of windows of one reach: how many columns of tiles those of a column span, and how many rows those of a row. A side has
-/// at most 128 tiles: 8192 pixels in tiles of 64.
+/// at most 128 tiles: 8192 pixels in tiles of 64. A frame of few tiles writes and reads as few places.
 #[derive(Drop)]
 pub(crate) struct Spans {
     across: [u8; 128],
@@ -36,41 +36,46 @@ fn span(count: u32, side: u32, at: u32, before: u32, after: u32) -> u32
 }
 
 /// The same for each piece of the line.
-fn along(count: u32, side: u32, before: u32, after: u32) -> [u8; 128]
+fn along(found: &mut [u8], count: u32, side: u32, before: u32, after: u32)
     requires some { 0 < side }
     requires few { count ≤ 128 }
+    requires within { count ≤ length found.old }
     requires small { side ≤ 1024 }
-    ensures each { (at : ℕ) → at < count → slice_index result at ≡ span_of count side at before after }
-    ensures low { (at : ℕ) → at < count → slice_index result at ≤ 128 }
+    ensures each { (at : ℕ) → at < count → slice_index found.new at ≡ span_of count side at before after }
+    ensures low { (at : ℕ) → at < count → slice_index found.new at ≤ 128 }
 {
-    let mut found = [0; 128];
     for at in 0..count {
         found[at as usize] = span(count, side, at, before, after) as u8;
     }
-    found
 }
 
 impl Spans {
-    /// Of the tiles that the window of a tile meets.
-    pub(crate) fn met_by(grid: Grid, reach: Reach) -> Spans
-        ensures { AreSpans grid result (λ tile. count_below (sees grid reach tile) (tile_count grid)) }
+    /// No numbers yet.
+    pub(crate) fn none() -> Spans {
+        Spans {
+            across: [0; 128],
+            down: [0; 128],
+        }
+    }
+
+    /// From now on those of the tiles that the window of a tile meets.
+    pub(crate) fn set_met_by(&mut self, grid: Grid, reach: Reach)
+        ensures { AreSpans grid self.new (λ tile. count_below (sees grid reach tile) (tile_count grid)) }
     {
         let (columns, rows, side) = (grid.columns(), grid.rows(), grid.side());
         // for their ranges
         let (_width, _height) = (grid.width(), grid.height());
-        Spans {
-            across: along(columns, side, reach.left, reach.right),
-            down: along(rows, side, reach.up, reach.down),
-        }
+        along(&mut self.across, columns, side, reach.left, reach.right);
+        along(&mut self.down, rows, side, reach.up, reach.down);
     }
 
-    /// Of the tiles whose windows meet a tile.
-    pub(crate) fn meeting(grid: Grid, reach: Reach) -> Spans
-        ensures { AreSpans grid result (seen_by grid reach) }
+    /// From now on those of the tiles whose windows meet a tile.
+    pub(crate) fn set_meeting(&mut self, grid: Grid, reach: Reach)
+        ensures { AreSpans grid self.new (seen_by grid reach) }
     {
         // for their ranges
         let (_width, _height, _side) = (grid.width(), grid.height(), grid.side());
-        Spans::met_by(
+        self.set_met_by(
             grid,
             Reach {
                 left: reach.right,
@@ -78,7 +83,7 @@ impl Spans {
                 up: reach.down,
                 down: reach.up,
             },
-        )
+        );
     }
 }
 
