@@ -38,11 +38,13 @@ fn numbered(rt: &impl Abort, alloc: Global, n: u32) -> Name {
     name(rt, text.as_str())
 }
 
-fn count_of(entries: &[Entry]) -> u32 {
+fn count_of(entries: &[Entry]) -> u32
+    ensures { 0 < result }
+{
     u32::try_from(entries.len()).unwrap_or(1).max(1)
 }
 
-fn stands(entries: &[Entry], ticket: u32) -> Stands {
+fn standing(entries: &[Entry], ticket: u32) -> Stands {
     match entries.get(ticket as usize) {
         Some(entry) => entry.stands,
         None => Stands::Failed,
@@ -54,12 +56,12 @@ fn is_pending(entry: &Entry) -> bool {
 }
 
 fn is_there(entries: &[Entry], ticket: u32) -> bool {
-    matches!(stands(entries, ticket), Stands::Done | Stands::Released)
+    matches!(standing(entries, ticket), Stands::Done | Stands::Released)
 }
 
 fn is_dead(entries: &[Entry], ticket: u32) -> bool {
     matches!(
-        stands(entries, ticket),
+        standing(entries, ticket),
         Stands::Cancelled | Stands::Memory | Stands::Failed
     )
 }
@@ -121,7 +123,7 @@ fn counts(rt: &impl Abort, core: &Core, entries: &[Entry]) {
 
 /// What is kept of a ticket: a value that is done, or one that was released and that a pending command reads.
 fn keeps(rt: &impl Abort, core: &Core, entries: &[Entry], ticket: u32) {
-    let kept = match stands(entries, ticket) {
+    let kept = match standing(entries, ticket) {
         Stands::Done => true,
         Stands::Released => is_wanted(entries, ticket),
         _ => false,
@@ -149,7 +151,7 @@ fn command(rt: &impl Abort, alloc: Global, core: &mut Core, entries: &mut Vec<En
     let (f, b) = (numbered(rt, alloc, reads), numbered(rt, alloc, 1));
     let made = numbered(rt, alloc, ticket);
     let reply = submit(rt, core, made, Op::Flat(FlatOp::Erode(f, b)));
-    let wanted = match stands(entries, reads) {
+    let wanted = match standing(entries, reads) {
         Stands::Pending | Stands::Done => Reply::Accepted(ticket),
         Stands::Released => Reply::Refused(Code::Released),
         _ => Reply::Refused(Code::Dead),
@@ -166,7 +168,7 @@ fn command(rt: &impl Abort, alloc: Global, core: &mut Core, entries: &mut Vec<En
 
 fn cancel(rt: &impl Abort, alloc: Global, core: &mut Core, entries: &mut [Entry], ticket: u32) {
     let reply = core.cancel(numbered(rt, alloc, ticket)).ok();
-    match stands(entries, ticket) {
+    match standing(entries, ticket) {
         Stands::Pending => {
             assert_eq!(rt; reply, Some(Reply::Accepted(ticket)));
             kill(entries, ticket, Stands::Cancelled);
@@ -177,7 +179,7 @@ fn cancel(rt: &impl Abort, alloc: Global, core: &mut Core, entries: &mut [Entry]
 
 fn release(rt: &impl Abort, alloc: Global, core: &mut Core, entries: &mut [Entry], ticket: u32) {
     let reply = core.release(numbered(rt, alloc, ticket)).ok();
-    let wanted = match stands(entries, ticket) {
+    let wanted = match standing(entries, ticket) {
         Stands::Done => Reply::Accepted(ticket),
         Stands::Pending => Reply::Refused(Code::Pending),
         Stands::Released => Reply::Refused(Code::Released),

@@ -7,7 +7,7 @@ ghost use Rattle.mw_queue.specs.mw_grid.Blocks.{IsBlock, in_block};
 ghost use Rattle.mw_ready.specs.Boards.{is_source, step_of, step_reads};
 ghost use Rattle.mw_ready.specs.Counters.{Lowers, Raises, Counted};
 ghost use Rattle.mw_ready.specs.Kept.{reader_count, seen_by, takes};
-ghost use Rattle.mw_ready.specs.Spans.{tiles_spanned};
+ghost use Rattle.mw_ready.specs.Spans.{AreSpans, tiles_spanned};
 
 use crate::need::{Need, sources};
 use crate::spans::{Spans, raise_step};
@@ -31,18 +31,18 @@ fn raise_source(counts: &mut [u32], grid: Grid, spans: &Spans, steps: u32, sourc
     }
 }
 
-/// The readers that the tasks of a step with this need are for others.
-fn raise_sources(counts: &mut [u32], grid: Grid, need: Need, steps: u32)
+/// The readers that the tasks of a step with this need are for others, by the spans of the tiles whose windows meet a tile.
+fn raise_sources(counts: &mut [u32], grid: Grid, spans: &Spans, need: Need, steps: u32)
     requires size { length counts.old ≡ steps * tile_count grid }
     requires small { length counts.old < 2 ^ 31 }
+    requires spans { AreSpans grid spans.now (seen_by grid need.reach) }
     requires fits { (u : ℕ) → u < length counts.old → slice_index counts.old u + 3 * tile_count grid < 2 ^ 32 }
     ensures { Raises (λ u. bit (step_reads need (step_of grid u)) * seen_by grid need.reach (u % tile_count grid)) counts.old counts.new }
 {
     let (first, second, third) = sources(need);
-    let spans = Spans::meeting(grid, need.reach);
-    raise_source(counts, grid, &spans, steps, first);
-    raise_source(counts, grid, &spans, steps, second);
-    raise_source(counts, grid, &spans, steps, third);
+    raise_source(counts, grid, spans, steps, first);
+    raise_source(counts, grid, spans, steps, second);
+    raise_source(counts, grid, spans, steps, third);
 }
 
 /// For each task, how many others read it.
@@ -53,8 +53,11 @@ pub(crate) fn first_readers(alloc: Global, needs: &[Need], grid: Grid) -> Result
 {
     let steps = needs.len();
     let mut counts = vec![in alloc; 0; steps * grid.len() as usize]?;
+    let mut spans = Spans::none();
     for k in 0..steps {
-        raise_sources(&mut counts, grid, needs[k], steps as u32);
+        let need = needs[k];
+        spans.set_meeting(grid, need.reach);
+        raise_sources(&mut counts, grid, &spans, need, steps as u32);
     }
     Ok(counts)
 }

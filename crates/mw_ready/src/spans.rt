@@ -15,11 +15,11 @@ use mw_model::Reach;
 use mw_queue::grid::Grid;
 
 /// Of windows of one reach: how many columns of tiles those of a column span, and how many rows those of a row. A side has
-/// at most 128 tiles: 8192 pixels in tiles of 64.
+/// at most 128 tiles: 8192 pixels in tiles of 64. A frame of few tiles writes and reads as few places.
 #[derive(Drop)]
 pub(crate) struct Spans {
-    across: [u32; 128],
-    down: [u32; 128],
+    across: [u8; 128],
+    down: [u8; 128],
 }
 
 /// How many of so many pieces of a line one spans that is grown so far before and behind.
@@ -36,41 +36,46 @@ fn span(count: u32, side: u32, at: u32, before: u32, after: u32) -> u32
 }
 
 /// The same for each piece of the line.
-fn along(count: u32, side: u32, before: u32, after: u32) -> [u32; 128]
+fn along(found: &mut [u8], count: u32, side: u32, before: u32, after: u32)
     requires some { 0 < side }
     requires few { count ≤ 128 }
+    requires within { count ≤ length found.old }
     requires small { side ≤ 1024 }
-    ensures each { (at : ℕ) → at < count → slice_index result at ≡ span_of count side at before after }
-    ensures low { (at : ℕ) → at < count → slice_index result at ≤ 128 }
+    ensures each { (at : ℕ) → at < count → slice_index found.new at ≡ span_of count side at before after }
+    ensures low { (at : ℕ) → at < count → slice_index found.new at ≤ 128 }
 {
-    let mut found = [0; 128];
     for at in 0..count {
-        found[at as usize] = span(count, side, at, before, after);
+        found[at as usize] = span(count, side, at, before, after) as u8;
     }
-    found
 }
 
 impl Spans {
-    /// Of the tiles that the window of a tile meets.
-    pub(crate) fn met_by(grid: Grid, reach: Reach) -> Spans
-        ensures { AreSpans grid result (λ tile. count_below (sees grid reach tile) (tile_count grid)) }
+    /// No numbers yet.
+    pub(crate) fn none() -> Spans {
+        Spans {
+            across: [0; 128],
+            down: [0; 128],
+        }
+    }
+
+    /// From now on those of the tiles that the window of a tile meets.
+    pub(crate) fn set_met_by(&mut self, grid: Grid, reach: Reach)
+        ensures { AreSpans grid self.new (λ tile. count_below (sees grid reach tile) (tile_count grid)) }
     {
         let (columns, rows, side) = (grid.columns(), grid.rows(), grid.side());
         // for their ranges
         let (_width, _height) = (grid.width(), grid.height());
-        Spans {
-            across: along(columns, side, reach.left, reach.right),
-            down: along(rows, side, reach.up, reach.down),
-        }
+        along(&mut self.across, columns, side, reach.left, reach.right);
+        along(&mut self.down, rows, side, reach.up, reach.down);
     }
 
-    /// Of the tiles whose windows meet a tile.
-    pub(crate) fn meeting(grid: Grid, reach: Reach) -> Spans
-        ensures { AreSpans grid result (seen_by grid reach) }
+    /// From now on those of the tiles whose windows meet a tile.
+    pub(crate) fn set_meeting(&mut self, grid: Grid, reach: Reach)
+        ensures { AreSpans grid self.new (seen_by grid reach) }
     {
         // for their ranges
         let (_width, _height, _side) = (grid.width(), grid.height(), grid.side());
-        Spans::met_by(
+        self.set_met_by(
             grid,
             Reach {
                 left: reach.right,
@@ -78,19 +83,19 @@ impl Spans {
                 up: reach.down,
                 down: reach.up,
             },
-        )
+        );
     }
 }
 
 /// So many times each of these numbers more, in as many places from one on.
-fn raise_row(counts: &mut [u32], first: usize, across: &[u32], columns: usize, times: u32)
+fn raise_row(counts: &mut [u32], first: usize, across: &[u8], columns: usize, times: u32)
     requires columns { columns ≤ length across.now }
     requires within { first + columns ≤ length counts.old }
     requires fits { (i : ℕ) → i < columns → slice_index counts.old (first + i) + times * slice_index across.now i < 2 ^ 32 }
     ensures { Raises (λ u. bit (in_range first (first + columns) u) * (times * slice_index across.now (u - first))) counts.old counts.new }
 {
     for i in 0..columns {
-        counts[first + i] += times * across[i];
+        counts[first + i] += times * u32::from(across[i]);
     }
 }
 
@@ -111,7 +116,7 @@ pub(crate) fn raise_step(counts: &mut [u32], grid: Grid, spans: &Spans, step: u3
             (first + row * columns) as usize,
             &spans.across,
             columns as usize,
-            times * spans.down[row as usize],
+            times * u32::from(spans.down[row as usize]),
         );
     }
 }

@@ -40,9 +40,10 @@ pub(crate) fn first_waits(alloc: Global, needs: &[Need], grid: Grid) -> Result<V
 {
     let steps = needs.len() as u32;
     let mut waits = vec![in alloc; 0; needs.len() * grid.len() as usize]?;
+    let mut spans = Spans::none();
     for k in 0..needs.len() {
         let need = needs[k];
-        let spans = Spans::met_by(grid, need.reach);
+        spans.set_met_by(grid, need.reach);
         raise_step(&mut waits, grid, &spans, k as u32, steps_read(need, steps));
     }
     Ok(waits)

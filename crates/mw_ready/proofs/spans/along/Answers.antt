@@ -12,6 +12,6 @@ loop-at-preserved c =
     let lt = c.loop-at-test.true in
     record {
       size = length-set found at c.span.result ∙ before.size;
-      each = read_next (λ k n. n ≡ span_of a.count a.side k a.before a.after) found at c.span.result (omega (arith, before.size)) before.each c.span.ensures.value;
-      low = read_next (λ k n. n ≤ 128) found at c.span.result (omega (arith, before.size)) before.low (omega (arith, c.span.ensures.most));
+      each = read_next (λ k n. n ≡ span_of a.count a.side k a.before a.after) found at c.span.result (omega (arith, before.size, c.requires.within)) before.each c.span.ensures.value;
+      low = read_next (λ k n. n ≤ 128) found at c.span.result (omega (arith, before.size, c.requires.within)) before.low (omega (arith, c.span.ensures.most));
     }

@@ -9,7 +9,7 @@ raise_step-requires-clause-fits c = λ u lt.
     let a = c.args in
     let same : get_or c.deref_mut.result.now u 0 ≡ get_or c.loop-k.waits.items u 0 = ap (λ (xs : List ℕ). get_or xs u 0) c.deref_mut.ensures.value in
     let most = waits-most a.needs.now a.grid (length a.needs.now) c.loop-k.k u c.loop-k.waits.items c.loop-k.invariant in
-    let room = waits-room a.grid (get_or a.needs.now c.loop-k.k no_need).reach c.met_by-spans.result (length a.needs.now) c.steps_read.result u c.requires (omega (arith, c.steps_read.ensures.most)) (omega (arith, c.len.ensures.value, c.len.ensures.small)) c.met_by-spans.ensures in
+    let room = waits-room a.grid (get_or a.needs.now c.loop-k.k no_need).reach c.set_met_by.new.self (length a.needs.now) c.steps_read.result u c.requires (omega (arith, c.steps_read.ensures.most)) (omega (arith, c.len.ensures.value, c.len.ensures.small)) c.set_met_by.ensures in
     omega (arith, same, most, room)
 
 pub loop-k-preserved : goal.loop-k-preserved
@@ -22,5 +22,5 @@ loop-k-preserved c =
     let size : length c.deref_mut.result.now ≡ length old.items = ap (λ (xs : List ℕ). length xs) value in
     let back = take-written old.items new old.len (let ok = old.ok in omega (arith, c.raise_step.ensures.size)) in
     subst (CountsWaits a.needs.now a.grid (length a.needs.now) (k + 1)) (sym back)
-    (waits-next a.needs.now a.grid c.met_by-spans.result (length a.needs.now) k c.steps_read.result c.deref_mut.result.now new c.loop-k-test.true c.steps_read.ensures.value c.met_by-spans.ensures
+    (waits-next a.needs.now a.grid c.set_met_by.new.self (length a.needs.now) k c.steps_read.result c.deref_mut.result.now new c.loop-k-test.true c.steps_read.ensures.value c.set_met_by.ensures
     (subst (CountsWaits a.needs.now a.grid (length a.needs.now) k) (sym value) c.loop-k.invariant) c.raise_step.ensures)
