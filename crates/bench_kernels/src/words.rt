@@ -152,6 +152,18 @@ fn time_median<R: std::rt::Clock + Print>(
     Ok(())
 }
 
+/// Medians of the frame under a square and a disc.
+fn time_medians<R: std::rt::Clock + Print>(
+    rt: &R,
+    alloc: Global,
+    set: &Window<Bit>,
+) -> Result<(), Fault> {
+    let square = full(alloc, 15)?;
+    let round = disc(alloc, 31)?;
+    time_median(rt, alloc, set, "square of 15", square.as_slice())?;
+    time_median(rt, alloc, set, "disc of 31", round.as_slice())
+}
+
 pub(crate) fn time_sets<R: std::rt::Clock + Print>(rt: &R, alloc: Global) -> Result<(), Fault> {
     let levels = Window::whole(Plane::new(SIDE, SIDE, dots(alloc)?));
     let set = Window::whole(at_least(alloc, &levels, 1)?);
@@ -159,8 +171,7 @@ pub(crate) fn time_sets<R: std::rt::Clock + Print>(rt: &R, alloc: Global) -> Res
     for k in [3u8, 15, 63, 127] {
         time_rectangle(rt, alloc, &set, k)?;
     }
-    time_median(rt, alloc, &set, "square of 15", full(alloc, 15)?.as_slice())?;
-    time_median(rt, alloc, &set, "disc of 31", disc(alloc, 31)?.as_slice())?;
+    time_medians(rt, alloc, &set)?;
     for k in [5u8, 15, 31] {
         time_words(rt, alloc, &set, k)?;
         for side in [128u32, 512, 1024] {
