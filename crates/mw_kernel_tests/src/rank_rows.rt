@@ -62,7 +62,7 @@ pub(crate) fn window_of<P: Counted>(
 
 /// Tiles at the corners of a frame of 70 by 50, on its sides, inside of it, and past it; those of fewer than eight rows or
 /// columns go by one histogram.
-fn tiles() -> [Rect; 10] {
+fn tiles() -> [Rect; 13] {
     [
         rect(0, 0, 70, 50),
         rect(0, 0, 32, 8),
@@ -74,6 +74,9 @@ fn tiles() -> [Rect; 10] {
         rect(3, 5, 60, 40),
         rect(66, 40, 40, 20),
         rect(90, 0, 20, 9),
+        rect(0, 0, 64, 24),
+        rect(1, 2, 65, 25),
+        rect(5, 20, 1, 30),
     ]
 }
 
@@ -98,12 +101,12 @@ fn agree_on<P: Counted>(
     Ok(())
 }
 
-/// The same for bytes and for samples of two bytes, up to and past the levels of 12 bits. Where levels without a pattern
-/// have many bits, rows lie so far from one another that they go apart.
+/// The same for bytes and for samples of two bytes, up to and past the levels of 12 bits. Levels of more bits may be numbered
+/// block by block, and go by their numbers.
 fn agree_by(rt: &impl Abort, alloc: Global, columns: i16, rows: i16) -> Result<(), Fail> {
     let offsets = rectangle(alloc, columns, rows)?;
     agree_on::<u8>(rt, alloc, 255, &offsets)?;
-    for maxval in [3, 1000, 4095, 4096] {
+    for maxval in [3, 1000, 4095, 4096, 65535] {
         agree_on::<u16>(rt, alloc, maxval, &offsets)?;
     }
     Ok(())
@@ -140,4 +143,71 @@ fn ranks_by_squares(rt: HostRuntime) -> Result<(), Fail> {
 fn ranks_by_large_rectangles(rt: HostRuntime) -> Result<(), Fail> {
     agree_by(&rt, rt.alloc(), 15, 16)?;
     agree_by(&rt, rt.alloc(), 31, 31)
+}
+
+#[test]
+fn ranks_by_more_than_a_block_sees(rt: HostRuntime) -> Result<(), Fail> {
+    for side in [63, 85, 127] {
+        let offsets = rectangle(rt.alloc(), side, side)?;
+        agree_on::<u16>(&rt, rt.alloc(), 65535, &offsets)?;
+    }
+    Ok(())
+}
+
+/// Levels of 16 bits with a pattern.
+#[derive(Clone, Copy)]
+enum Pattern {
+    /// The least and the greatest by turns.
+    Board,
+    /// Rows that lie far from one another, with some noise.
+    Stripes,
+    /// A few levels, with single ones that stand out.
+    Dark,
+    /// Noise on the left, and rows that rise steeply on the right: searches there go too far.
+    Halves,
+}
+
+impl Pattern {
+    fn level(self, x: u32, y: u32) -> u16 {
+        let mixed = x.wrapping_mul(40_503) ^ y.wrapping_mul(30_011);
+        let noise = mixed.wrapping_mul(2_654_435_761) >> 16;
+        let level = match self {
+            Pattern::Board => (x ^ y) % 2 * 65_535,
+            Pattern::Stripes => y % 60 * 1_000 + noise % 20,
+            Pattern::Dark if noise % 200 == 0 => noise % 65_536,
+            Pattern::Dark => noise % 51,
+            Pattern::Halves if x < 90 => noise % 65_536,
+            Pattern::Halves => y % 60 * 1_000 + noise % 900,
+        };
+        u16::try_from(level).unwrap_or(u16::MAX)
+    }
+
+    fn plane(self, alloc: Global, width: u32, height: u32) -> Result<Plane<u16>, Fail> {
+        let mut samples = Vec::new(alloc);
+        for y in 0..height {
+            for x in 0..width {
+                samples.push(self.level(x, y))?;
+            }
+        }
+        if samples.len() != height as usize * width as usize {
+            return Err("other sides".into());
+        }
+        Ok(Plane::new(width, height, samples))
+    }
+}
+
+#[test]
+fn ranks_of_far_levels(rt: HostRuntime) -> Result<(), Fail> {
+    let patterns = [Pattern::Board, Pattern::Stripes, Pattern::Dark, Pattern::Halves];
+    for (columns, rows) in [(9, 9), (15, 15), (31, 3), (3, 31)] {
+        let offsets = rectangle(rt.alloc(), columns, rows)?;
+        let half = (offsets.len().min(65535) as u32 + 1) / 2;
+        for pattern in patterns {
+            let plane = pattern.plane(rt.alloc(), 150, 60)?;
+            let window = window_of(rt.alloc(), &plane, rect(0, 0, 150, 60))?;
+            agree_in(&rt, rt.alloc(), &window, &offsets, rect(0, 0, 150, 60), half)?;
+            agree_in(&rt, rt.alloc(), &window, &offsets, rect(20, 17, 128, 40), 3)?;
+        }
+    }
+    Ok(())
 }

@@ -1,6 +1,6 @@
-//! The quickest of three ways to a rank: counting, the moving histogram of `mw_rank`, and eight rows at a time as
-//! `mw_rank_rows` does. What each takes is estimated from the element and a look at the samples. A wrong estimate costs
-//! time and no sample, as all ways give the same ranks.
+//! The quickest of four ways to a rank: counting, the moving histogram of `mw_rank`, and eight rows at a time as
+//! `mw_rank_rows` does, over levels or over their numbers. What each takes is estimated from the element and a look at the
+//! samples. A wrong estimate costs time and no sample, as all ways give the same ranks.
 ghost use Rattle.std.specs.Prelude.{ℕ, ◌≤◌, ◌^◌};
 ghost use Rattle.mw_rank_counts.specs.Counting.{AllUnder};
 
@@ -50,6 +50,22 @@ const EIGHTH_LEVEL: u64 = 160;
 /// How many rows eight rows see beside those that one sees.
 const ROWS_BESIDE: u64 = 7;
 
+/// Numbers: to number a sample, and for each block of results to count a set of levels and to make room.
+const NUMBERED: u64 = 3_200;
+
+const NUMBERED_BLOCK: u64 = 1_200_000;
+
+/// Numbers: how much more each of the first levels takes that the level moves over, and how many these are.
+const FIRST_NUMBER: u64 = 500;
+
+const FIRST_NUMBERS: u64 = 16;
+
+/// Numbers: so many samples of a block are the most, for then its counters still lie near the processor.
+const MOST_NUMBERED: u64 = 1 << 14;
+
+/// Numbers: by which part of its own time the way has to be quicker than all others.
+const NUMBERED_MARGIN: u64 = 8;
+
 /// A look at how far levels lie apart goes over so many samples of a row, and of the row below.
 const LOOKED_AT: usize = 32;
 
@@ -58,6 +74,13 @@ const LOOKED_AT_LAST: usize = 64;
 
 /// From so many samples one look is taken.
 const SAMPLES_A_LOOK: usize = 1000;
+
+/// A block of results for which levels are numbered at once.
+#[derive(Clone, Copy)]
+pub struct Block {
+    pub width: u32,
+    pub height: u32,
+}
 
 /// The ways to a rank.
 #[derive(Clone, Copy)]
@@ -233,14 +256,22 @@ fn counting_time<P: Counted>(load: Load) -> u64 {
     load.offsets.saturating_mul(COUNTED_PLACE + one)
 }
 
-/// How many levels a rank moves by where so many of the samples under the element are exchanged: as chance moves it, by
-/// the square root of their number, where the levels are spread over all samples. The root is that of 256 times the number, for
-/// its fraction.
-fn levels_moved(load: Load, exchanged: u64) -> u64 {
-    // between the least and the greatest number of so many bits
-    let levels = 3u64 << load.beside.min(16);
+/// Four times as many levels as lie beside one another: between the least and the greatest number of so many bits.
+fn levels_beside(load: Load) -> u64 {
+    3u64 << load.beside.min(16)
+}
+
+/// How many levels a rank moves by, of a fourth of so many, where so many of the samples under the element are exchanged: as
+/// chance moves it, by the square root of their number, where the levels are spread over all samples. The root is that of
+/// 256 times the number, for its fraction.
+fn moved_among(levels: u64, offsets: u64, exchanged: u64) -> u64 {
     let root = exchanged.saturating_mul(256).isqrt();
-    levels.saturating_mul(root) / load.offsets.saturating_mul(64).max(1)
+    levels.saturating_mul(root) / offsets.saturating_mul(64).max(1)
+}
+
+/// How many levels a rank moves by where so many of the samples under the element are exchanged.
+fn levels_moved(load: Load, exchanged: u64) -> u64 {
+    moved_among(levels_beside(load), load.offsets, exchanged)
 }
 
 /// The time of a sample by the moving histogram.
@@ -279,4 +310,59 @@ pub fn quickest<P: Counted>(load: Load, rows: Option<u32>) -> Way {
     } else {
         Way::Histogram
     }
+}
+
+/// How many samples results of so many columns and rows see, under a rectangle of so many.
+fn samples_seen(block: Block, columns: u64, rows: u64) -> u64 {
+    let across = columns.saturating_add(u64::from(block.width));
+    let down = rows.saturating_add(u64::from(block.height));
+    across.saturating_mul(down)
+}
+
+/// The time of a sample by numbers under a rectangle of so many columns and rows, save that of searches.
+fn numbering_time(block: Block, columns: u64, rows: u64) -> u64 {
+    let width = u64::from(block.width).max(1);
+    let results = width.saturating_mul(u64::from(block.height).max(1));
+    let numbers = samples_seen(block, columns, rows).saturating_mul(NUMBERED);
+    let each = numbers.saturating_add(NUMBERED_BLOCK) / results;
+    // a block begins with half of its element's columns more
+    let down = rows.saturating_add(ROWS_BESIDE);
+    let entered = columns.saturating_add(2 * width).saturating_mul(down);
+    let seen = entered.saturating_mul(EIGHTH_ROW) / (2 * width);
+    each.saturating_add(seen).saturating_add(EIGHTH)
+}
+
+/// How many numbers a search goes over. Where no level of a row is among those of the next, the levels of each row have numbers
+/// of their own.
+fn numbers_moved(load: Load, block: Block, columns: u64, rows: u64) -> u64 {
+    let beside = levels_beside(load);
+    let among = beside.min(samples_seen(block, columns, rows).saturating_mul(4));
+    let chance = moved_among(among, load.offsets, columns.saturating_mul(ROWS_BESIDE));
+    if load.between == 0 {
+        return chance;
+    }
+    let row = columns
+        .saturating_add(u64::from(block.width))
+        .min(beside / 4);
+    chance.saturating_add(row.saturating_mul(ROWS_BESIDE))
+}
+
+/// Whether levels of more than 12 bits are ranked the quickest by numbers, eight rows at a time, under a rectangle of so many
+/// rows: if so, how many numbers a search may go over on average until another way were quicker.
+pub fn steps_by_numbers<P: Counted>(load: Load, rows: u32, block: Block) -> Option<usize> {
+    let rows = u64::from(rows.max(1));
+    let columns = load.offsets / rows;
+    if load.bits <= 12 || samples_seen(block, columns, rows) > MOST_NUMBERED {
+        return None;
+    }
+    let others = counting_time::<P>(load).min(histogram_time(load));
+    let numbering = numbering_time(block, columns, rows);
+    let moved = numbers_moved(load, block, columns, rows);
+    let first = moved.min(FIRST_NUMBERS) * FIRST_NUMBER;
+    let search = moved.saturating_mul(EIGHTH_LEVEL).saturating_add(first);
+    let time = numbering.saturating_add(search);
+    if time.saturating_add(time / NUMBERED_MARGIN) >= others {
+        return None;
+    }
+    Some((others.saturating_sub(numbering) / EIGHTH_LEVEL) as usize)
 }

@@ -15,7 +15,7 @@ mod places;
 mod search;
 mod squeezed;
 
-pub use costs::{Load, Way, load_of, quickest};
+pub use costs::{Block, Load, Way, load_of, quickest, steps_by_numbers};
 pub use counted::Counted;
 pub use counting::rank_of_grey;
 pub use mw_model::NoMemory;

@@ -24,6 +24,11 @@ const FAR: usize = 16;
 
 const FAR_A_ROW: usize = 12;
 
+/// How far a search may go for each column on average, where one histogram for each row is the other way.
+pub(crate) fn far_under(rectangle: Rectangle) -> usize {
+    FAR + FAR_A_ROW * rectangle.rows as usize
+}
+
 /// Rows that a window shows of some: how many come before them, its first of them, and how many they are.
 #[derive(Clone, Copy)]
 pub(crate) struct Shown {
@@ -33,7 +38,7 @@ pub(crate) struct Shown {
 }
 
 /// The rows that a window of that height shows of so many from `top` on, where its own first is row 0.
-fn shown_rows(top: i64, count: usize, height: u32) -> Shown
+pub(crate) fn shown_rows(top: i64, count: usize, height: u32) -> Shown
     requires low { negsuc FAR_LIMIT ≤ℤ top }
     requires high { top ≤ℤ pos (2 ^ 42) }
     requires few { count ≤ 2 ^ 17 }
@@ -56,7 +61,8 @@ fn shown_rows(top: i64, count: usize, height: u32) -> Shown
     }
 }
 
-/// Eight rows of results, the rectangle that they are ranked under, its offsets and marks, and the number that is wanted.
+/// Eight rows of results, the rectangle that they are ranked under, its offsets and marks, the number that is wanted, and how
+/// far a search may go for each column on average.
 #[derive(Clone, Copy)]
 pub(crate) struct Group<'a> {
     pub place: Rect,
@@ -64,10 +70,11 @@ pub(crate) struct Group<'a> {
     pub offsets: &'a [Offset],
     pub marks: &'a [u16],
     pub k: u32,
+    pub far: usize,
 }
 
 /// The ranks of eight rows, by counters that are 0 before and after; says whether it has all of them.
-fn rank_together<P: Grey>(
+pub(crate) fn rank_together<P: Grey>(
     made: &mut [P],
     counts: &mut [u16],
     lanes: &mut Lanes,
@@ -109,7 +116,7 @@ fn rank_together<P: Grey>(
         width: group.place.width,
         columns: rectangle.columns,
         k: group.k.clamp(1, 65535) as u16,
-        far: FAR + FAR_A_ROW * rectangle.rows as usize,
+        far: group.far,
     };
     rank_rows(made, counts, lanes, strip, all, span)
 }

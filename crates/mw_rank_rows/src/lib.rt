@@ -7,14 +7,17 @@
 //! ```
 #![tactic(auto)]
 
+mod blocks;
 mod column;
 mod group;
 mod lanes;
 mod marks;
 mod rectangle;
+mod rest;
 mod rows;
 mod search;
 mod slide;
+mod strips;
 mod vectors;
 
 pub use mw_model::NoMemory;

@@ -3,7 +3,7 @@ use Rattle.mw_model.specs.PlanSteps.{ranked}
 use Rattle.mw_model.specs.Windows.{seen_at}
 use Rattle.mw_rank_counts.specs.mw_rank.Ranks.{levels_under, HasRows}
 use Rattle.mw_rank_rows.proofs.Found.{rows_more}
-use Rattle.mw_rank_rows.proofs.rows.push_rest.Goals as goal
+use Rattle.mw_rank_rows.proofs.rest.push_rest.Goals as goal
 
 pub returns : goal.returns
 returns g c =
