@@ -69,7 +69,7 @@ pub record AreNumbers {A : Type 0} (level : A → ℕ) (number : ℕ → ℕ) (l
 
 -- the level at a rank of numbers is the rank of their levels
 pub rank_back : {A : Type 0} (level : A → ℕ) (number : ℕ → ℕ) (levels : List A) (ns ms : List ℕ) (k r : ℕ) (d : A) → number 0 ≡ 0 → IsNumbered level number levels 0 → AreNumbers level number levels ns ms → r ≡ ranked k ns → level (get_or levels r d) ≡ ranked k ms
-rank_back level number levels ns ms k r d lowest zero are r-is =
+rank_back level number levels ns ms k r d lowest none are r-is =
     let place = min k (length ms) - 1 in
     let here : r ≡ number (ranked k ms) =
     r-is
@@ -78,7 +78,7 @@ rank_back level number levels ns ms k r d lowest zero are r-is =
     ∙ ap (λ (l : List ℕ). get_or l place 0) (order_numbers level number levels ms are.all)
     ∙ ap (get_or (map number (in_rising_order ms)) place) (sym lowest)
     ∙ get_or-map number (in_rising_order ms) place 0 in
-    let numbered = all_or (IsNumbered level number levels) (in_rising_order ms) place zero (order_numbered level number levels ms are.all) in
+    let numbered = all_or (IsNumbered level number levels) (in_rising_order ms) place none (order_numbered level number levels ms are.all) in
     ap (λ (n : ℕ). level (get_or levels n d)) here ∙ numbered.back d
 
 pub no_numbers : {A : Type 0} (level : A → ℕ) (number : ℕ → ℕ) (levels : List A) → AreNumbers level number levels [] []

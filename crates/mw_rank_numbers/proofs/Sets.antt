@@ -1,5 +1,5 @@
 -- Levels of a set of words, and how many are below one.
-use Rattle.std.proofs.Common.{◌≡◌, ℕ, zero, suc, ◌+◌, ◌-◌, ◌*◌, ◌/◌, ◌%◌, ◌^◌, ◌<◌, ◌≤◌, max, min, List, length, get_or, set, bit_or, bit_and, inl, inr, refl, ap, sym, arith, ◌∙◌}
+use Rattle.std.proofs.Common.{◌≡◌, ℕ, zero, suc, ◌+◌, ◌-◌, ◌*◌, ◌/◌, ◌%◌, ◌^◌, ◌<◌, ◌≤◌, max, min, List, length, get_or, set, bit_or, bit_and, inl, inr, refl, ap, sym, arith, ◌∙◌, mod-eq_of_lt}
 use Rattle.std.specs.Int.{bit_at}
 use Rattle.std.proofs.lemmas.Bool.{cases_eq}
 use Rattle.std.proofs.lemmas.List.{get_or-set_same, get_or-set_other}
@@ -43,8 +43,10 @@ pub bit_in-lt : (words : List ℕ) (v : ℕ) → bit_in words v < 2
 bit_in-lt words v = bit_at-lt (get_or words (v / 64) 0) (v % 64)
 
 pub below_rises : (words : List ℕ) (s n : ℕ) → below_in words s ≤ below_in words (s + n)
-below_rises words s zero = omega arith
-below_rises words s (suc n) = omega (arith, below_rises words s n)
+below_rises words s zero = let same : below_in words (s + 0) ≡ below_in words s = ap (below_in words) (let e : s + 0 ≡ s = omega arith in e) in omega (arith, same)
+below_rises words s (suc n) =
+    let next : below_in words (s + suc n) ≡ below_in words (s + n) + bit_in words (s + n) = ap (below_in words) (let e : s + suc n ≡ suc (s + n) = omega arith in e) in
+    omega (arith, next, below_rises words s n)
 
 -- fewer levels are below a level of the set than below a greater level
 pub below_less : (words : List ℕ) (s t : ℕ) → bit_in words s ≡ 1 → s < t → below_in words s < below_in words t
@@ -74,7 +76,7 @@ below_word words i (suc k) le =
     let here : bit_in words (64 * i + k) ≡ bit =
     ap (λ (n : ℕ). bit_at (get_or words n 0) ((64 * i + k) % 64)) (let e : (64 * i + k) / 64 ≡ i = omega arith in e) ∙ ap (bit_at word) (let e : (64 * i + k) % 64 ≡ k = omega arith in e) in
     let split : word % 2 ^ suc k ≡ bit * 2 ^ k + word % 2 ^ k = ap (λ (n : ℕ). word % 2 ^ n) (let e : suc k ≡ 1 + k = omega arith in e) ∙ mod-pow-add word 1 k in
-    let more : ones (word % 2 ^ suc k) ≡ ones bit + ones (word % 2 ^ k) = ap ones split ∙ ones_cat bit k (word % 2 ^ k) (mod_below word (2 ^ k) (pow_pos k)) in
+    let more : ones (word % 2 ^ suc k) ≡ ones bit + ones (word % 2 ^ k) = ap ones split ∙ ones_cat k bit (word % 2 ^ k) (mod_below word (2 ^ k) (pow_pos k)) in
     let next : below_in words (64 * i + suc k) ≡ below_in words (64 * i + k) + bit_in words (64 * i + k) = ap (below_in words) (let e : 64 * i + suc k ≡ suc (64 * i + k) = omega arith in e) in
     omega (arith, next, here, more, ones_of_bit bit (bit_at-lt word k), below_word words i k (omega arith))
 
@@ -98,4 +100,4 @@ number_is words before count s n summed small is =
 
 -- a number is below the count
 pub number_within : (words before : List ℕ) (count s : ℕ) → IsSummed words before count → s < 65536 → bit_in words s ≡ 1 → below_in words s < count
-number_within words before count s summed small has = omega (arith, summed.count, below_less words s 65536 has small)
+number_within words before count s summed small has = omega (arith, summed.all, below_less words s 65536 has small)

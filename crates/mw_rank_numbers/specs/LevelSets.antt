@@ -12,10 +12,10 @@ below_in words zero = 0
 below_in words (suc v) = below_in words v + bit_in words v
 
 -- how many levels are below those of each word, and how many there are
-pub record IsSummed (words before : List ℕ) (count : ℕ) : Type 0 where
-  pub size : length before ≡ 1024
-  pub before : (i : ℕ) → i < 1024 → slice_index before i ≡ below_in words (64 * i)
-  pub count : count ≡ below_in words 65536
+pub record IsSummed (words sums : List ℕ) (count : ℕ) : Type 0 where
+  pub size : length sums ≡ 1024
+  pub before : (i : ℕ) → i < 1024 → slice_index sums i ≡ below_in words (64 * i)
+  pub all : count ≡ below_in words 65536
 
 -- at the number of the level the list has that level
 abbrev pub IsBack : {A : Type 0} → (A → ℕ) → List ℕ → List A → ℕ → Type 0

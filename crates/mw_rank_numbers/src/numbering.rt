@@ -44,6 +44,8 @@ fn part_row<P: Grey>(window: &Window<P>, part: Part, j: u32) -> &[P]
     ensures size { length result.now ≡ part.width }
     ensures levels { (i : ℕ) → i < part.width → P.level (slice_index_or result.now i P.TOP) ≡ level_in P.level P.TOP window.now part i j }
 {
+    // for the range of its rows
+    let _place = window.place();
     let row = window.row(part.row + j);
     let from = part.column as usize;
     &row[from..from + part.width as usize]

@@ -1,10 +1,11 @@
 -- Ranks of a block of results by numbers of what it sees.
 use Rattle.std.proofs.Common.{◌≡◌, ℕ, zero, suc, ℤ, pos, ◌+ℤ◌, ◌-ℤ◌, ◌+◌, ◌-◌, ◌*◌, ◌<◌, ◌≤◌, ◌⊎◌, inl, inr, List, [], ◌∷◌, ◌++◌, map, length, get_or, Option, None, refl, ap, sym, arith, subst, ◌∙◌}
 use Rattle.std.specs.Option.{option_to_list}
-use Rattle.std.proofs.lemmas.Bool.{cases_lt}
+use Rattle.std.proofs.lemmas.Bool.{cases_eq, cases_lt}
 use Rattle.std.proofs.lemmas.Int.{ints}
 use Rattle.std.proofs.lemmas.List.{get_or_default, get_or-map, length-map}
 use Rattle.std.proofs.lemmas.Nat.{mul-add-lt}
+use Rattle.std.proofs.Math.Nat.{mul-le-mul_right}
 use Rattle.mw_model.specs.declared.places.Offset.{Offset}
 use Rattle.mw_model.specs.declared.places.Rect.{Rect}
 use Rattle.mw_model.specs.PlanSteps.{ranked}
@@ -156,3 +157,41 @@ no_columns level value w n cells size = record { size = size; made = λ x j d lt
 
 pub all_columns : {A : Type 0} (level : A → ℕ) (value : ℕ → ℕ → ℕ) (w n done : ℕ) (cells : List A) → done ≡ w → HasColumns level value w n done cells → HasRows level value w n cells
 all_columns level value w n done cells done-is columns = record { size = columns.size; made = λ x j d lt down. columns.made x j d (omega arith) down }
+
+-- a row of a strip lies before the next row, and behind the one before
+pub row_within : (j k width from columns x : ℕ) → from + columns ≤ width → x < width → (k ≡ j → ⊥) → (k * width + x < j * width + from) ⊎ (j * width + from + columns ≤ k * width + x)
+row_within j k width from columns x across lt other =
+    elim (cases_lt k j) [
+      | inl less ↦ let e : (k + 1) * width ≤ j * width = mul-le-mul_right width (let e : k + 1 ≤ j = omega arith in e) in inl (omega (arith, e, next k width))
+      | inr le ↦ let e : (j + 1) * width ≤ k * width = mul-le-mul_right width (let e : j + 1 ≤ k = omega (arith, other) in e) in inr (omega (arith, e, next j width))
+    ]
+  where
+    next : (n w : ℕ) → (n + 1) * w ≡ n * w + w
+    next n w = grind arith
+
+-- one row of a strip more
+pub rows_put : {A : Type 0} (out new strip : List A) (width from columns j : ℕ) → from + columns ≤ width → ((i : ℕ) (d : A) → i < columns → get_or new (j * width + from + i) d ≡ get_or strip (j * columns + i) d) → ((p : ℕ) (d : A) → (p < j * width + from) ⊎ (j * width + from + columns ≤ p) → get_or new p d ≡ get_or out p d)
+    → ((x k : ℕ) (d : A) → x < columns → k < j → get_or out (k * width + (from + x)) d ≡ get_or strip (k * columns + x) d) → (x k : ℕ) (d : A) → x < columns → k < j + 1 → get_or new (k * width + (from + x)) d ≡ get_or strip (k * columns + x) d
+rows_put out new strip width from columns j across put others before x k d lt down =
+    elim (cases_lt k j) [
+      | inl early ↦ others (k * width + (from + x)) d (row_within j k width from columns (from + x) across (omega arith) (λ same. omega (arith, same))) ∙ before x k d lt early
+      | inr late ↦
+          let here : k ≡ j = omega arith in
+          ap (λ (n : ℕ). get_or new (n * width + (from + x)) d) here
+          ∙ ap (λ (p : ℕ). get_or new p d) (let e : j * width + (from + x) ≡ j * width + from + x = omega arith in e)
+          ∙ put x d lt
+          ∙ ap (λ (n : ℕ). get_or strip (n * columns + x) d) (sym here)
+    ]
+
+-- what lies before a strip stays
+pub rows_left : {A : Type 0} (out new : List A) (width from columns j : ℕ) → from + columns ≤ width → ((p : ℕ) (d : A) → (p < j * width + from) ⊎ (j * width + from + columns ≤ p) → get_or new p d ≡ get_or out p d) → (x k : ℕ) (d : A) → x < from → get_or new (k * width + x) d ≡ get_or out (k * width + x) d
+rows_left out new width from columns j across others x k d lt =
+    elim (cases_eq k j) [
+      | inl same ↦ others (k * width + x) d (inl (let e = ap (λ (n : ℕ). n * width) same in omega (arith, e)))
+      | inr other ↦ others (k * width + x) d (row_within j k width from columns x across (omega arith) other)
+    ]
+
+-- what is shown, by the numbers that the code has at hand
+pub shown_here : (top here : ℤ) (count many height high : ℕ) (s : Shown) → here ≡ top → many ≡ count → high ≡ height → IsShown here many high s → IsShown top count height (shown s.skip s.first s.rows)
+shown_here top here count many height high s top-is count-is height-is is =
+    subst (λ (n : ℕ). IsShown top count n s) height-is (subst (λ (n : ℕ). IsShown top n high s) count-is (subst (λ (z : ℤ). IsShown z many high s) top-is is))

@@ -33,8 +33,10 @@ fn part_under<P: Grey>(window: &Window<P>, rectangle: Rectangle, place: Rect) ->
     ensures { ShowsPart window.now.place rectangle place result }
 {
     let all = window.place();
-    let left = place_of(u64::from(place.x), rectangle.dx, all.x);
-    let top = place_of(u64::from(place.y), rectangle.dy, all.y);
+    let x = u64::from(place.x);
+    let y = u64::from(place.y);
+    let left = place_of(x, rectangle.dx, all.x);
+    let top = place_of(y, rectangle.dy, all.y);
     let across = place.width as usize + rectangle.columns as usize - 1;
     let down = place.height as usize + rectangle.rows as usize - 1;
     let columns = shown_rows(left, across, all.width);
@@ -140,7 +142,7 @@ pub(crate) fn rank_block<P: Grey>(
     let part = part_under(window, wanted.rectangle, place);
     let Numbered { numbers, levels } = numbers_of(alloc, window, part)?;
     let count = levels.len();
-    if count >= 65536 {
+    if count > 65535 {
         return Ok(None);
     }
     let seen = window_of(window, part, numbers);

@@ -101,6 +101,31 @@ fn pays<P: Counted>(load: Load, rectangle: Rectangle) -> bool
     }
 }
 
+/// The ranks of a tile under a rectangle, where eight rows at a time pay, over levels or over their numbers.
+fn rank_wanted<P: Counted>(
+    alloc: Global,
+    window: &Window<P>,
+    wanted: Wanted,
+    tile: Rect,
+) -> Result<Option<Vec<P>>, NoMemory>
+    requires wide { 1 ≤ tile.width }
+    requires tall { 8 ≤ tile.height }
+    requires inside { tile.y + tile.height < 2 ^ 32 }
+    requires rectangle { IsRectangle wanted.rectangle wanted.offsets.now }
+    requires few { length wanted.offsets.now < 2 ^ 16 }
+    ensures { IfOk result (λ o. IfSome o (λ v. HasRows P.level (λ x y. ranked wanted.entry.k (levels_under P.level (seen_at window.now) wanted.entry.offsets.now (tile.x + x) (tile.y + y))) tile.width tile.height v.items)) }
+{
+    let load = load_of(window, wanted.offsets);
+    if let Some(samples) = by_numbers(alloc, window, wanted, tile, load)? {
+        return Ok(Some(samples));
+    }
+    if !pays::<P>(load, wanted.rectangle) {
+        return Ok(None);
+    }
+    let samples = rank_groups(alloc, window, wanted, tile, 1usize << load.bits)?;
+    Ok(Some(samples))
+}
+
 /// The ranks of a tile, where eight rows at a time pay.
 fn side_by_side<P: Counted>(
     alloc: Global,
@@ -124,15 +149,7 @@ fn side_by_side<P: Counted>(
         rectangle,
         k,
     };
-    let load = load_of(window, offsets);
-    if let Some(samples) = by_numbers(alloc, window, wanted, tile, load)? {
-        return Ok(Some(samples));
-    }
-    if !pays::<P>(load, rectangle) {
-        return Ok(None);
-    }
-    let samples = rank_groups(alloc, window, wanted, tile, 1usize << load.bits)?;
-    Ok(Some(samples))
+    rank_wanted(alloc, window, wanted, tile)
 }
 
 /// What `mw_rank::rank` gives, eight rows at a time where that is quicker. It may want memory (`NoMemory`).

@@ -1,0 +1,36 @@
+use Rattle.std.proofs.Common.{◌≡◌, ℕ, List, Option, ◌+◌, ◌*◌, ◌∙◌, refl, ap, sym, arith, length, get_or, subst}
+use Rattle.std.specs.Prelude.{IfSome}
+use Rattle.mw_model.specs.PlanSteps.{ranked}
+use Rattle.mw_model.specs.Windows.{seen_at}
+use Rattle.mw_rank_counts.specs.mw_rank.Ranks.{levels_under, HasRows}
+use Rattle.mw_rank_rows.proofs.Found.{rows_more, no_rows}
+use Rattle.mw_rank_rows.proofs.strips.rank_strip.Goals as goal
+
+pub loop-done-init : goal.loop-done-init
+loop-done-init g c = record { within = omega arith; rows = no_rows g.P.Pixel.level _ c.args.strip.width c.in_ok-samples.samples.items c.in_ok-samples.ensures.items }
+
+pub loop-done-preserved : goal.loop-done-preserved
+loop-done-preserved g c =
+    let strip = c.args.strip in
+    let from = c.min-from.result in
+    let done = c.loop-done.done in
+    let high = c.args.cut.height in
+    let value = λ (x y : ℕ). ranked c.args.wanted.k (levels_under g.P.Pixel.level (seen_at c.args.window.now) c.args.wanted.offsets.now x y) in
+    let rows : HasRows g.P.Pixel.level (λ x y. value (strip.x + x) (strip.y + from + y)) strip.width high c.in-Some.made.items =
+    subst (λ (o : Option _). IfSome o (λ v. HasRows g.P.Pixel.level (λ x y. value (strip.x + x) (strip.y + from + y)) strip.width high v.items)) c.in-Some.is c.in_ok-made.ensures in
+    let made = c.deref.ensures.value in
+    record {
+      within = omega arith;
+      rows = rows_more g.P.Pixel.level (λ x y. value (strip.x + x) (strip.y + y)) strip.width done from high c.loop-done.samples.items c.deref.result.now c.push_from.new.out.items (omega arith) (omega arith) (ap length made ∙ rows.size)
+          c.in_ok-push_from.ensures
+          (λ r q e down lt.
+          ap (λ (l : List _). g.P.Pixel.level (get_or l (r * strip.width + q) e)) made
+          ∙ rows.made q r e lt down
+          ∙ ap (value (strip.x + q)) (let y : strip.y + from + r ≡ strip.y + (from + r) = omega arith in y)) c.loop-done.invariant.rows;
+    }
+
+pub returns : goal.returns
+returns g c =
+    let strip = c.args.strip in
+    let all : c.loop-done.done ≡ strip.height = omega arith in
+    subst (λ (n : ℕ). HasRows g.P.Pixel.level (λ x y. ranked c.args.wanted.k (levels_under g.P.Pixel.level (seen_at c.args.window.now) c.args.wanted.offsets.now (strip.x + x) (strip.y + y))) strip.width n c.loop-done.samples.items) all c.loop-done.invariant.rows
