@@ -1,14 +1,22 @@
 -- Lists of levels that have each level at its number.
-use Rattle.std.proofs.Common.{◌≡◌, ℕ, ◌+◌, ◌-◌, ◌*◌, ◌<◌, ◌≤◌, List, [], length, get_or, set, take, drop, replicate, inl, inr, refl, ap, sym, arith, ◌∙◌}
+use Rattle.std.proofs.Common.{◌≡◌, ℕ, ◌+◌, ◌-◌, ◌*◌, ◌/◌, ◌%◌, ◌<◌, ◌≤◌, List, [], length, get_or, set, take, drop, replicate, inl, inr, refl, ap, sym, arith, subst, ◌∙◌}
 use Rattle.std.proofs.lemmas.Bool.{cases_eq, cases_lt, cases_order}
-use Rattle.std.proofs.lemmas.List.{get_or-set_same, get_or-set_other, get_or-take, get_or-drop, get_or_default}
+use Rattle.std.proofs.lemmas.List.{get_or-set_same, get_or-set_other, get_or-take, get_or-drop, get_or_default, get_or-replicate}
+use Rattle.std.proofs.lemmas.Nat.{div-add-mod', div_below, mod_below}
+use Rattle.mw_model.proofs.mw_facts.Numbers.{factor-positive}
 use Rattle.mw_model.specs.Windows.{View}
 use Rattle.mw_rank.specs.Ranks.{GainsRow, HasRows}
 use Rattle.mw_rank.proofs.Rows.{has_rows_more}
 use Rattle.mw_rank_numbers.specs.declared.numbering.Part.{Part}
-use Rattle.mw_rank_numbers.specs.LevelSets.{bit_in, below_in, IsBack}
+use Rattle.mw_rank_numbers.specs.LevelSets.{bit_in, below_in, IsBack, IsSummed}
 use Rattle.mw_rank_numbers.specs.Numbers.{level_in, IsNumbering}
-use Rattle.mw_rank_numbers.proofs.Sets.{below_less}
+use Rattle.mw_rank_numbers.proofs.Sets.{below_less, bit_small, number_inside}
+
+pub before_end : (i n m : ℕ) → i < n → n < m → i < m
+before_end i n m lt less = omega arith
+
+pub last_one : (i n : ℕ) → n ≤ i → i < n + 1 → n ≡ i
+last_one i n le lt = omega arith
 
 -- the level of a sample of a list
 pub sample_level : {A : Type 0} (level : A → ℕ) (d : A) (samples : List A) (i : ℕ) (a : A) (v : ℕ) → i < length samples → a ≡ get_or samples i a → v ≡ level a → v ≡ level (get_or samples i d)
@@ -49,6 +57,15 @@ still_back level words levels a s n v s-is n-is inside has also back = λ d.
       | inr other ↦ ap level (get_or-set_other levels n (below_in words v) a d other) ∙ back d
     ]
 
+-- one sample more is where its number finds it
+pub backs_more : {A : Type 0} (level : A → ℕ) (top : A) (words : List ℕ) (samples levels : List A) (a : A) (s number n : ℕ) → s ≡ level (get_or samples n top) → s ≡ level a → number ≡ below_in words s → number < length levels → bit_in words s ≡ 1 → ((i : ℕ) → i < n → bit_in words (level (get_or samples i top)) ≡ 1)
+    → ((i : ℕ) → i < n → IsBack level words levels (level (get_or samples i top))) → (i : ℕ) → i < n + 1 → IsBack level words (set levels number a) (level (get_or samples i top))
+backs_more level top words samples levels a s number n here s-is number-is room has marked before i lt =
+    elim (cases_lt i n) [
+      | inl early ↦ still_back level words levels a s number (level (get_or samples i top)) s-is number-is room has (marked i early) (before i early)
+      | inr late ↦ subst (λ (v : ℕ). IsBack level words (set levels number a) v) (here ∙ ap (λ (p : ℕ). level (get_or samples p top)) (last_one i n late lt)) (put_back level words levels a s number s-is number-is room)
+    ]
+
 -- a sample of a row of a part
 pub part_level : {A : Type 0} (level : A → ℕ) (d : A) (w : View A) (part : Part) (row cells : List A) (i j y : ℕ) → part.column + part.width ≤ w.place.width → y ≡ part.row + j → row ≡ take (y * w.place.width + w.place.width - y * w.place.width) (drop (y * w.place.width) w.cells)
     → cells ≡ take (part.column + part.width - part.column) (drop part.column row) → i < part.width → level (get_or cells i d) ≡ level_in level d w part i j
@@ -70,3 +87,19 @@ are_numbers level d words levels w part numbers lowest zero has back rows = reco
   each = λ i j across down. rows.made i j 0 across down;
   numbered = λ i j across down. record { above = λ t lt. below_less words (level_in level d w part i j) t (has i j across down) lt; back = back i j across down };
 }
+
+-- in a list of the lowest level alone, that level stands at number 0
+pub lowest_everywhere : {A : Type 0} (level : A → ℕ) (n : ℕ) (a : A) (levels : List A) → levels ≡ replicate n a → level a ≡ 0 → 0 < n → (d : A) → level (get_or levels 0 d) ≡ 0
+lowest_everywhere level n a levels is lowest some d = ap (λ (l : List _). level (get_or l 0 d)) is ∙ ap level (get_or-replicate n 0 a d some) ∙ lowest
+
+-- all numbers of a part are below the count
+pub numbers_within : (words before : List ℕ) (count w h : ℕ) (value : ℕ → ℕ → ℕ) (numbers : List ℕ) → length words ≡ 1024 → IsSummed words before count → ((i j : ℕ) → i < w → j < h → bit_in words (value i j) ≡ 1) → HasRows (λ n. n) (λ i j. below_in words (value i j)) w h numbers → (p : ℕ) → p < length numbers
+    → get_or numbers p 0 < count
+numbers_within words before count w h value numbers size summed has rows p lt =
+    let inside : p < h * w = omega (arith, lt, rows.size) in
+    let some = factor-positive p h w inside in
+    let across = mod_below p w some in
+    let down = div_below p w h some inside in
+    let here : get_or numbers p 0 ≡ below_in words (value (p % w) (p / w)) = ap (λ (q : ℕ). get_or numbers q 0) (sym (div-add-mod' p w)) ∙ rows.made (p % w) (p / w) 0 across down in
+    let set = has (p % w) (p / w) across down in
+    number_inside words before count (value (p % w) (p / w)) (get_or numbers p 0) count summed refl (bit_small words (value (p % w) (p / w)) size set) set here

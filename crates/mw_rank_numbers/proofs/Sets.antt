@@ -1,10 +1,10 @@
 -- Levels of a set of words, and how many are below one.
-use Rattle.std.proofs.Common.{◌≡◌, ℕ, zero, suc, ◌+◌, ◌-◌, ◌*◌, ◌/◌, ◌%◌, ◌^◌, ◌<◌, ◌≤◌, max, min, List, length, get_or, set, bit_or, bit_and, inl, inr, refl, ap, sym, arith, ◌∙◌, mod-eq_of_lt}
+use Rattle.std.proofs.Common.{◌≡◌, ℕ, zero, suc, ◌+◌, ◌-◌, ◌*◌, ◌/◌, ◌%◌, ◌^◌, ◌<◌, ◌≤◌, max, min, List, length, get_or, set, bit_or, bit_and, inl, inr, refl, ap, sym, arith, subst, ◌∙◌, mod-eq_of_lt}
 use Rattle.std.specs.Int.{bit_at}
-use Rattle.std.proofs.lemmas.Bool.{cases_eq}
-use Rattle.std.proofs.lemmas.List.{get_or-set_same, get_or-set_other}
+use Rattle.std.proofs.lemmas.Bool.{cases_eq, cases_lt}
+use Rattle.std.proofs.lemmas.List.{get_or-set_same, get_or-set_other, get_or_past}
 use Rattle.std.proofs.lemmas.Nat.{ones-le, ones_cat, mod-pow-add, mod_below, pow_pos, and_mask, one_shl}
-use Rattle.std.proofs.lemmas.Nat.Bits.{bit_at-lt, bit_at_or, bit_at-pow_same}
+use Rattle.std.proofs.lemmas.Nat.Bits.{bit_at-lt, bit_at-zero, bit_at_or, bit_at-pow_same}
 use Rattle.mw_rank_numbers.specs.LevelSets.{bit_in, below_in, IsSummed}
 use lib.Count.{ones}
 
@@ -100,4 +100,26 @@ number_is words before count s n summed small is =
 
 -- a number is below the count
 pub number_within : (words before : List ℕ) (count s : ℕ) → IsSummed words before count → s < 65536 → bit_in words s ≡ 1 → below_in words s < count
-number_within words before count s summed small has = omega (arith, summed.all, below_less words s 65536 has small)
+number_within words before count s summed small has = subst (λ (n : ℕ). below_in words s < n) (sym summed.all) (below_less words s 65536 has small)
+
+pub number_inside : (words before : List ℕ) (count s n size : ℕ) → IsSummed words before count → size ≡ count → s < 65536 → bit_in words s ≡ 1 → n ≡ below_in words s → n < size
+number_inside words before count s n size summed size-is small has n-is = let lt = number_within words before count s summed small has in omega (arith, lt, size-is, n-is)
+
+-- the code's mask of the levels below one in its word
+pub number_coded : (words before : List ℕ) (count s : ℕ) → IsSummed words before count → s < 65536 → get_or before (s / 64) 0 + ones (bit_and (get_or words (s / 64) 0) (1 * 2 ^ (s % 64) % 18446744073709551616 - 1)) ≡ below_in words s
+number_coded words before count s summed small =
+    number_is words before count s _ summed small (ap (λ (m : ℕ). get_or before (s / 64) 0 + ones (bit_and (get_or words (s / 64) 0) (m - 1))) (one_shl (s % 64) 64 (omega arith)))
+
+pub number_small : (words before : List ℕ) (count s : ℕ) → IsSummed words before count → s < 65536 → get_or before (s / 64) 0 + ones (bit_and (get_or words (s / 64) 0) (1 * 2 ^ (s % 64) % 18446744073709551616 - 1)) < 65536
+number_small words before count s summed small = let is = number_coded words before count s summed small in let le = below_small words s in omega (arith, is, le, small)
+
+-- a set of 1,024 words has no level past 16 bits
+pub bit_small : (words : List ℕ) (s : ℕ) → length words ≡ 1024 → bit_in words s ≡ 1 → s < 65536
+bit_small words s size has =
+    elim (cases_lt s 65536) [
+      | inl small ↦ small
+      | inr past ↦ absurd (let none : bit_in words s ≡ 0 = ap (λ (n : ℕ). bit_at n (s % 64)) (get_or_past words (s / 64) 0 (omega (arith, size, past))) ∙ bit_at-zero (s % 64) in omega (arith, none, has))
+    ]
+
+pub some_levels : (words before : List ℕ) (count : ℕ) → IsSummed words before count → bit_in words 0 ≡ 1 → 0 < count
+some_levels words before count summed lowest = number_within words before count 0 summed (omega arith) lowest

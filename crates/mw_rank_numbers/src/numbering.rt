@@ -1,6 +1,6 @@
 //! The levels of a part of a window by their numbers, from 0 on in rising order. Level 0 is numbered in any case, so that
 //! a rank of nothing, which is 0, has number 0.
-ghost use Rattle.std.specs.Prelude.{◌≡◌, ℕ, ◌+◌, ◌*◌, ◌<◌, ◌≤◌, length, map, slice_index, slice_index_or, [], ◌++◌, IfOk, OnOk};
+ghost use Rattle.std.specs.Prelude.{◌≡◌, ℕ, ◌+◌, ◌*◌, ◌<◌, ◌≤◌, length, map, slice_index, slice_index_or, slice_set, [], ◌++◌, IfOk, OnOk};
 ghost use Rattle.mw_rank.specs.Ranks.{GainsRow, HasRows};
 ghost use Rattle.mw_rank_numbers.specs.LevelSets.{bit_in, below_in, IsBack, IsSummed};
 ghost use Rattle.mw_rank_numbers.specs.Numbers.{level_in, IsNumbering};
@@ -78,6 +78,15 @@ fn mark_part<P: Grey>(words: &mut [u64], window: &Window<P>, part: Part)
     }
 }
 
+/// Puts a sample at a number.
+#[inline(always)]
+fn put_at<P: Pixel>(levels: &mut [P], number: u16, sample: P)
+    requires { number < length levels.old }
+    ensures { levels.new ≡ slice_set levels.old number sample }
+{
+    levels[number as usize] = sample;
+}
+
 /// Adds the numbers of samples, and puts each sample where its number finds it.
 fn push_numbers<P: Pixel>(
     numbers: &mut Vec<u16>,
@@ -95,7 +104,7 @@ fn push_numbers<P: Pixel>(
 {
     for sample in samples {
         let number = number_of(order.words, order.before, sample.value());
-        levels[number as usize] = *sample;
+        put_at(levels, number, *sample);
         numbers.push(number)?;
     }
     Ok(())
@@ -128,6 +137,19 @@ fn number_part<P: Grey>(
     Ok(())
 }
 
+/// The set of all levels of a part, and level 0.
+fn set_of<P: Grey>(alloc: Global, window: &Window<P>, part: Part) -> Result<Vec<u64>, NoMemory>
+    requires across { part.column + part.width ≤ window.now.place.width }
+    requires down { part.row + part.height ≤ window.now.place.height }
+    ensures size { IfOk result (λ v. length v.items ≡ 1024) }
+    ensures marked { IfOk result (λ v. (i j : ℕ) → i < part.width → j < part.height → bit_in v.items (level_in P.level P.TOP window.now part i j) ≡ 1) }
+    ensures lowest { IfOk result (λ v. bit_in v.items 0 ≡ 1) }
+{
+    let mut set = vec![in alloc; 0u64; 1024]?;
+    mark_part(set.as_mut_slice(), window, part);
+    Ok(set)
+}
+
 /// The numbers of the levels of a part of a window. It may want memory (`NoMemory`).
 pub fn numbers_of<P: Grey>(
     alloc: Global,
@@ -140,15 +162,14 @@ pub fn numbers_of<P: Grey>(
     ensures under { IfOk result (λ n. (p : ℕ) → p < length n.numbers.items → slice_index n.numbers.items p < length n.levels.items) }
     ensures some { IfOk result (λ n. 1 ≤ length n.levels.items) }
 {
-    let mut set = vec![in alloc; 0u64; 1024]?;
-    mark_part(set.as_mut_slice(), window, part);
+    let set = set_of(alloc, window, part)?;
     let sums = sums_of(alloc, &set)?;
     let order = Order {
         words: &set,
         before: &sums.before,
     };
     let mut levels = copies(alloc, sums.count as usize, sample_of::<P>(0))?;
-    let count = part.height as usize * part.width as usize;
+    let count = (part.height as usize).saturating_mul(part.width as usize);
     let mut numbers = Vec::with_capacity(alloc, count)?;
     number_part(&mut numbers, levels.as_mut_slice(), order, window, part)?;
     Ok(Numbered { numbers, levels })

@@ -1,4 +1,4 @@
-use Rattle.std.proofs.Common.{◌≡◌, ℕ, ◌+◌, ◌*◌, ◌≤◌, length, get_or, ap, sym, arith, inl, inr, ◌∙◌, length-append}
+use Rattle.std.proofs.Common.{◌≡◌, ℕ, ◌*◌, ◌≤◌, length, get_or, ap, arith, inl, inr, ◌∙◌}
 use Rattle.std.proofs.lemmas.Bool.{cases_lt}
 use Rattle.std.proofs.lemmas.List.{get_or_append_left, get_or_push, length_push}
 use Rattle.std.proofs.lemmas.Nat.{ones-le}
@@ -29,4 +29,15 @@ loop-word-preserved c =
       ];
       count = omega (arith, more, known.count);
       few = omega (arith, few, known.few);
+    }
+
+pub returns : goal.returns
+returns c =
+    let known = c.loop-word.invariant in
+    let n = c.loop-word.word-index in
+    let all : n ≡ 1024 = omega (arith, c.requires) in
+    record {
+      size = known.size ∙ all;
+      before = λ i lt. known.before i (omega (arith, lt, all));
+      all = known.count ∙ ap (below_in c.args.words.now) (let e : 64 * n ≡ 65536 = omega (arith, all) in e);
     }

@@ -1,4 +1,4 @@
-use Rattle.std.proofs.Common.{ℕ, ◌≡◌, arith, inl, inr, ap, sym, ◌∙◌, subst, get_or}
+use Rattle.std.proofs.Common.{ℕ, ◌≡◌, arith, inl, inr, ap, ◌∙◌, subst, get_or}
 use Rattle.std.proofs.lemmas.Bool.{cases_lt}
 use Rattle.mw_rank_numbers.specs.LevelSets.{bit_in}
 use Rattle.mw_rank_numbers.proofs.Backs.{sample_level}
