@@ -112,6 +112,25 @@ fn put_strip<P: Pixel>(
     }
 }
 
+/// The same for samples that can grow.
+fn put_columns<P: Pixel>(
+    out: &mut Vec<P>,
+    width: usize,
+    from: usize,
+    strip: &[P],
+    columns: usize,
+    rows: usize,
+)
+    requires across { from + columns ≤ width }
+    requires whole { length out.old.items ≡ rows * width }
+    requires strip { length strip.now ≡ rows * columns }
+    ensures size { length out.new.items ≡ length out.old.items }
+    ensures put { (x j : ℕ) (d : P) → x < columns → j < rows → slice_index_or out.new.items (j * width + (from + x)) d ≡ slice_index_or strip.now (j * columns + x) d }
+    ensures others { (x j : ℕ) (d : P) → x < from → slice_index_or out.new.items (j * width + x) d ≡ slice_index_or out.old.items (j * width + x) d }
+{
+    put_strip(out.as_mut_slice(), width, from, strip, columns, rows);
+}
+
 /// Makes the ranks of the columns of the tile from that one on, another way.
 fn put_rest<P: Counted>(
     alloc: Global,
@@ -136,8 +155,8 @@ fn put_rest<P: Counted>(
         ..tile
     };
     let ranks = mw_rank_counts::rank_of_grey(alloc, window, wanted.offsets, wanted.k, rest)?;
-    put_strip(
-        out.as_mut_slice(),
+    put_columns(
+        out,
         tile.width as usize,
         done as usize,
         ranks.samples(),
@@ -176,8 +195,8 @@ fn rank_strips<P: Counted>(
             ..tile
         };
         let ranked = rank_strip(alloc, window, wanted, strip, cut)?;
-        put_strip(
-            out.as_mut_slice(),
+        put_columns(
+            &mut out,
             width,
             from as usize,
             &ranked.samples,

@@ -1,7 +1,7 @@
-use Rattle.std.proofs.Common.{◌≡◌, ℕ, ◌+◌, ◌*◌, ◌<◌, ◌≤◌, List, ap, sym, arith, length, get_or, replicate, subst, take, drop, ◌++◌, ◌∙◌}
+use Rattle.std.proofs.Common.{◌≡◌, ℕ, ◌<◌, ◌≤◌, List, ap, sym, arith, length, get_or, subst, ◌∙◌}
 use Rattle.std.proofs.lemmas.List.{length-replicate}
 use Rattle.mw_model.proofs.mw_facts.Elements.{take-written}
-use Rattle.mw_rank_numbers.specs.LevelSets.{bit_in, below_in, IsBack, IsSummed}
+use Rattle.mw_rank_numbers.specs.LevelSets.{bit_in, below_in, IsSummed}
 use Rattle.mw_rank_numbers.specs.Numbers.{level_in, IsNumbering}
 use Rattle.mw_rank_numbers.proofs.Backs.{are_numbers, lowest_everywhere, numbers_within}
 use Rattle.mw_rank_numbers.proofs.Sets.{some_levels}

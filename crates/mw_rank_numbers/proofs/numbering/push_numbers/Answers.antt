@@ -1,5 +1,4 @@
-use Rattle.std.proofs.Common.{◌+◌, ℕ, ◌≡◌, ◌<◌, List, length, arith, inl, inr, ap, sym, ◌∙◌, subst, get_or, set, length-set, refl}
-use Rattle.std.proofs.lemmas.Bool.{cases_lt}
+use Rattle.std.proofs.Common.{◌+◌, ℕ, ◌≡◌, ◌<◌, List, length, arith, ap, sym, ◌∙◌, subst, get_or, set, length-set, refl}
 use Rattle.mw_rank.specs.Ranks.{GainsRow}
 use Rattle.mw_rank.proofs.Rows.{gains_more}
 use Rattle.mw_rank_numbers.specs.LevelSets.{bit_in, below_in, IsBack}

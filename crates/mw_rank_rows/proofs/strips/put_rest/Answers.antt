@@ -17,9 +17,9 @@ returns g c =
     let ranks = c.in_ok-ranks.ensures.over_window in
     let made = c.samples.ensures.value in
     let all : done + more ≡ tile.width = omega arith in
-    all_columns g.P.Pixel.level (λ x y. value (tile.x + x) (tile.y + y)) tile.width tile.height (done + more) _ all
-    (columns_more g.P.Pixel.level (λ x y. value (tile.x + x) (tile.y + y)) tile.width tile.height done done more c.args.out.now.items c.samples.result.now _ (omega arith) (omega arith) c.put_strip.ensures.size
-    c.put_strip.ensures.put c.put_strip.ensures.others
+    all_columns g.P.Pixel.level (λ x y. value (tile.x + x) (tile.y + y)) tile.width tile.height (done + more) c.put_columns.new.out.items all
+    (columns_more g.P.Pixel.level (λ x y. value (tile.x + x) (tile.y + y)) tile.width tile.height done done more c.args.out.now.items c.samples.result.now c.put_columns.new.out.items (omega arith) (omega arith) c.put_columns.ensures.size
+    c.put_columns.ensures.put c.put_columns.ensures.others
     (λ x j d lt down.
     ap (λ (l : List _). g.P.Pixel.level (get_or l (j * more + x) d)) made
     ∙ ranks.cells x j d lt down

@@ -23,8 +23,8 @@ loop-done-preserved g c =
     let made = c.deref.ensures.value in
     record {
       within = omega arith;
-      columns = columns_more g.P.Pixel.level (λ x y. value (tile.x + x) (tile.y + y)) tile.width tile.height done from wide c.loop-done.out.items c.deref.result.now _ (omega arith) (omega arith) c.put_strip.ensures.size
-          c.put_strip.ensures.put c.put_strip.ensures.others
+      columns = columns_more g.P.Pixel.level (λ x y. value (tile.x + x) (tile.y + y)) tile.width tile.height done from wide c.loop-done.out.items c.deref.result.now c.put_columns.new.out.items (omega arith) (omega arith) c.put_columns.ensures.size
+          c.put_columns.ensures.put c.put_columns.ensures.others
           (λ x j d lt down.
           ap (λ (l : List _). g.P.Pixel.level (get_or l (j * wide + x) d)) made
           ∙ rows.made x j d lt down
