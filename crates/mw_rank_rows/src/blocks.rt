@@ -56,7 +56,10 @@ fn window_of<P: Grey>(window: &Window<P>, part: Part, numbers: Vec<u16>) -> Wind
     requires size { length numbers.items ≡ part.height * part.width }
     ensures place { IsPart window.now.place part result.place }
     ensures cells { result.cells ≡ numbers.items }
+    ensures whole { length window.now.cells ≡ window.now.place.height * window.now.place.width }
 {
+    // for their number
+    let _samples = window.samples();
     let all = window.place();
     let place = Rect {
         x: all.x + part.column,
@@ -140,7 +143,8 @@ pub(crate) fn rank_block<P: Grey>(
     ensures { IfOk result (λ o. IfSome o (λ v. HasRows P.level (λ x y. ranked wanted.entry.k (levels_under P.level (seen_at window.now) wanted.entry.offsets.now (place.x + x) (place.y + y))) place.width place.height v.items)) }
 {
     let part = part_under(window, wanted.rectangle, place);
-    let Numbered { numbers, levels } = numbers_of(alloc, window, part)?;
+    let found = numbers_of(alloc, window, part)?;
+    let Numbered { numbers, levels } = found;
     let count = levels.len();
     if count > 65535 {
         return Ok(None);
