@@ -175,17 +175,28 @@ pub fn numbers_of<P: Grey>(
     Ok(Numbered { numbers, levels })
 }
 
-/// Adds the levels of numbers.
+/// The sample of a number, or that of the greatest level where there is none.
+#[inline(always)]
+fn sample_at<P: Pixel>(levels: &[P], number: u16) -> P
+    ensures { result ≡ slice_index_or levels.now number P.TOP }
+{
+    if (number as usize) < levels.len() {
+        levels[number as usize]
+    } else {
+        P::TOP
+    }
+}
+
+/// Adds the levels of numbers; a number without a level stands for the greatest.
 pub fn push_levels<P: Pixel>(
     out: &mut Vec<P>,
     levels: &[P],
     numbers: &[u16],
 ) -> Result<(), NoMemory>
-    requires { (p : ℕ) → p < length numbers.now → slice_index numbers.now p < length levels.now }
     ensures { OnOk result (out.new.items ≡ out.old.items ++ map (λ n. slice_index_or levels.now n P.TOP) numbers.now) }
 {
     for number in numbers {
-        out.push(levels[*number as usize])?;
+        out.push(sample_at(levels, *number))?;
     }
     Ok(())
 }

@@ -61,6 +61,8 @@ fn window_of<P: Grey>(window: &Window<P>, part: Part, numbers: Vec<u16>) -> Wind
     // for their number
     let _samples = window.samples();
     let all = window.place();
+    let wide = window.frame_width();
+    let high = window.frame_height();
     let place = Rect {
         x: all.x + part.column,
         y: all.y + part.row,
@@ -68,7 +70,7 @@ fn window_of<P: Grey>(window: &Window<P>, part: Part, numbers: Vec<u16>) -> Wind
         height: part.height,
     };
     let plane = Plane::new(part.width, part.height, numbers);
-    Window::new(window.frame_width(), window.frame_height(), place, plane)
+    Window::new(wide, high, place, plane)
 }
 
 /// The ranks of rows of results, eight at a time, where all searches are near. The last eight rows begin early enough to end

@@ -1,7 +1,6 @@
-use Rattle.std.proofs.Common.{◌≡◌, ℕ, ℤ, pos, ◌+ℤ◌, ◌-ℤ◌, ◌+◌, ◌-◌, ap, arith, subst, to_z, of_z, w16, w64}
+use Rattle.std.proofs.Common.{◌≡◌, pos, ◌+ℤ◌, ◌-ℤ◌, ap, arith, to_z, of_z, w16, w64}
 use Rattle.std.proofs.lemmas.Int.{ints}
 use Rattle.mw_model.specs.declared.places.Rect.{Rect}
-use Rattle.mw_rank_rows.specs.Rectangles.{IsShown}
 use Rattle.mw_rank_rows.proofs.NumberedBlocks.{shown_here}
 use Rattle.mw_rank_rows.proofs.blocks.part_under.Goals as goal
 

@@ -26,7 +26,7 @@ rank_eights-requires-clause-level g c = omega (arith, c.in_ok-found.ensures.some
 pub rank_eights-requires-clause-under : goal.rank_eights-requires-clause-under
 rank_eights-requires-clause-under g c =
     all_under c.len-count.result c.in_ok-found.found.numbers.items c.window_of-seen.result.cells c.window_of-seen.ensures.cells
-    (λ p lt. subst (λ (n : ℕ). get_or c.in_ok-found.found.numbers.items p 0 < n) (sym c.len-count.ensures) (c.in_ok-found.ensures.under p lt))
+    (λ p lt. subst (λ (n : ℕ). get_or c.in_ok-found.found.numbers.items p 0 < n) (let same : length c.in_ok-found.found.levels.items ≡ c.len-count.result = omega (arith, c.len-count.ensures) in same) (c.in_ok-found.ensures.under p lt))
 
 pub returns : goal.returns
 returns g c =

@@ -1,4 +1,4 @@
-use Rattle.std.proofs.Common.{◌≡◌, ℕ, ◌+◌, ◌*◌, List, ap, arith, length, get_or, ◌∙◌}
+use Rattle.std.proofs.Common.{◌+◌, ◌*◌, List, ap, arith, length, get_or, ◌∙◌}
 use Rattle.mw_model.proofs.mw_facts.Elements.{take-written}
 use Rattle.mw_rank_rows.proofs.strips.put_columns.Goals as goal
 

@@ -5,8 +5,8 @@ use Rattle.mw_rank_counts.specs.mw_rank.Ranks.{levels_under}
 use Rattle.mw_rank_rows.proofs.NumberedBlocks.{all_columns, columns_more}
 use Rattle.mw_rank_rows.proofs.strips.put_rest.Goals as goal
 
-pub returns-then-done-eq : goal.returns-then-done-eq
-returns-then-done-eq g c = all_columns g.P.Pixel.level _ c.args.tile.width c.args.tile.height c.args.done c.args.out.now.items (omega arith) c.requires.columns
+pub returns-then-done-tile : goal.returns-then-done-tile
+returns-then-done-tile g c = all_columns g.P.Pixel.level _ c.args.tile.width c.args.tile.height c.args.done c.args.out.now.items (omega arith) c.requires.columns
 
 pub returns : goal.returns
 returns g c =

@@ -1,5 +1,5 @@
-use Rattle.std.proofs.Common.{ℕ, ◌≡◌, ◌+◌, ◌*◌, ◌<◌, ◌≤◌, inl, inr, arith, ap, sym, ◌∙◌, get_or}
-use Rattle.mw_rank_rows.proofs.NumberedBlocks.{row_within, rows_put, rows_left}
+use Rattle.std.proofs.Common.{arith, ◌∙◌}
+use Rattle.mw_rank_rows.proofs.NumberedBlocks.{rows_put, rows_left}
 use Rattle.mw_rank_rows.proofs.strips.put_strip.Goals as goal
 
 pub loop-j-preserved : goal.loop-j-preserved
