@@ -1,4 +1,4 @@
-use Rattle.std.proofs.Common.{◌+◌, ◌≤◌, ap, arith}
+use Rattle.std.proofs.Common.{ap, arith}
 use Rattle.mw_model.specs.declared.places.Rect.{Rect}
 use Rattle.mw_rank_rows.proofs.blocks.window_of.Goals as goal
 

@@ -1,4 +1,4 @@
-use Rattle.std.proofs.Common.{◌≡◌, ℕ, List, ◌+◌, ◌-◌, ◌*◌, ◌∙◌, ap, sym, arith, length, get_or}
+use Rattle.std.proofs.Common.{◌≡◌, ℕ, List, ◌+◌, ◌-◌, ◌*◌, ◌∙◌, ap, arith, get_or}
 use Rattle.mw_model.specs.PlanSteps.{ranked}
 use Rattle.mw_model.specs.Windows.{seen_at}
 use Rattle.mw_rank_counts.specs.mw_rank.Ranks.{levels_under}
