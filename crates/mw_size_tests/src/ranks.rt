@@ -54,7 +54,13 @@ fn ranks_of_words(rt: HostRuntime) {
 }
 
 /// A plane with each level so many times as great, or so many times as small.
-fn scaled(rt: &impl Abort, alloc: Global, plane: &Plane<u16>, times: u16, parts: u16) -> Plane<u16> {
+fn scaled(
+    rt: &impl Abort,
+    alloc: Global,
+    plane: &Plane<u16>,
+    times: u16,
+    parts: u16,
+) -> Plane<u16> {
     let mut samples = Vec::new(alloc);
     for level in plane.samples() {
         let level = level.saturating_mul(times) / parts.max(1);
@@ -69,7 +75,11 @@ fn scaled(rt: &impl Abort, alloc: Global, plane: &Plane<u16>, times: u16, parts:
 fn by_numbers(rt: &impl Abort, alloc: Global, sides: Sides) {
     let levels = scaled(rt, alloc, &ramp::<u16>(rt, alloc, sides), 16, 1);
     let form = Form::Square(7);
-    let sight = Sight { sides, form, k: 113 };
+    let sight = Sight {
+        sides,
+        form,
+        k: 113,
+    };
     let made = ranked(rt, alloc, &Window::whole(levels), sight);
     let made = scaled(rt, alloc, &made, 1, 16);
     assert!(rt; shows_sight(rt, alloc, &made, sight));
