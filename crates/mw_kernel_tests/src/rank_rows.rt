@@ -165,7 +165,7 @@ fn numbered_ranks_by_large_rectangles(rt: HostRuntime) -> Result<(), Fail> {
 /// Levels of 16 bits with a pattern.
 #[derive(Clone, Copy)]
 enum Pattern {
-    /// The least and the greatest by turns.
+    /// Two levels by turns, of which one is the greatest.
     Board,
     /// Rows that lie far from one another, with some noise.
     Stripes,
@@ -180,7 +180,7 @@ impl Pattern {
         let mixed = x.wrapping_mul(40_503) ^ y.wrapping_mul(30_011);
         let noise = mixed.wrapping_mul(2_654_435_761) >> 16;
         let level = match self {
-            Pattern::Board => (x ^ y) % 2 * 65_535,
+            Pattern::Board => 60_535 + (x ^ y) % 2 * 5_000,
             Pattern::Stripes => y % 60 * 1_000 + noise % 20,
             Pattern::Dark if noise % 200 == 0 => noise % 65_536,
             Pattern::Dark => noise % 51,
