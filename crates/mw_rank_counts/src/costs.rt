@@ -60,6 +60,9 @@ const FIRST_NUMBER: u64 = 500;
 
 const FIRST_NUMBERS: u64 = 16;
 
+/// Numbers: a number that a search goes over where it goes as far as it may.
+const NUMBER_SEARCHED: u64 = 220;
+
 /// Numbers: so many samples of a block are the most, for then its counters still lie near the processor.
 const MOST_NUMBERED: u64 = 1 << 14;
 
@@ -364,5 +367,5 @@ pub fn steps_by_numbers<P: Counted>(load: Load, rows: u32, block: Block) -> Opti
     if time.saturating_add(time / NUMBERED_MARGIN) >= others {
         return None;
     }
-    Some((others.saturating_sub(numbering) / EIGHTH_LEVEL) as usize)
+    Some((others.saturating_sub(numbering) / NUMBER_SEARCHED) as usize)
 }

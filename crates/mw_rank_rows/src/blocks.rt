@@ -15,6 +15,7 @@ use crate::lanes::no_samples;
 use crate::marks::marks_of;
 use crate::rectangle::{Rectangle, Wanted};
 use crate::rest::push_from;
+use crate::slide::Far;
 use mw_model::{NoMemory, Rect};
 use mw_rank_counts::pixel::{Grey, Plane, copies};
 use mw_rank_counts::run::place_of;
@@ -115,7 +116,10 @@ fn rank_eights<P: Grey>(
             offsets: wanted.offsets,
             marks: &marks,
             k: wanted.k,
-            far,
+            far: Far {
+                a_column: far,
+                a_move: 0,
+            },
         };
         if !rank_together(made, counts, &mut lanes, window, group) {
             return Ok(None);

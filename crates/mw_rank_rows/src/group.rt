@@ -10,7 +10,7 @@ use crate::column::Sheet;
 use crate::lanes::Lanes;
 use crate::marks::sum_of_marks;
 use crate::rectangle::Rectangle;
-use crate::slide::{Span, Strip, rank_rows};
+use crate::slide::{Far, Span, Strip, rank_rows};
 use mw_model::{NoMemory, Offset, Rect};
 use mw_rank_counts::pixel::Grey;
 use mw_rank_counts::rank::rank;
@@ -24,9 +24,15 @@ const FAR: usize = 16;
 
 const FAR_A_ROW: usize = 12;
 
-/// How far a search may go for each column on average, where one histogram for each row is the other way.
-pub(crate) fn far_under(rectangle: Rectangle) -> usize {
-    FAR + FAR_A_ROW * rectangle.rows as usize
+/// How many steps of eight lanes take as long as one histogram for each row to move a level.
+const STEPS_A_MOVE: usize = 16;
+
+/// How far searches may go where one histogram for each row is the other way, which would have to move too.
+pub(crate) fn far_under(rectangle: Rectangle) -> Far {
+    Far {
+        a_column: FAR + FAR_A_ROW * rectangle.rows as usize,
+        a_move: STEPS_A_MOVE,
+    }
 }
 
 /// Rows that a window shows of some: how many come before them, its first of them, and how many they are.
@@ -62,7 +68,7 @@ pub(crate) fn shown_rows(top: i64, count: usize, height: u32) -> Shown
 }
 
 /// Eight rows of results, the rectangle that they are ranked under, its offsets and marks, the number that is wanted, and how
-/// far a search may go for each column on average.
+/// far searches may go.
 #[derive(Clone, Copy)]
 pub(crate) struct Group<'a> {
     pub place: Rect,
@@ -70,7 +76,7 @@ pub(crate) struct Group<'a> {
     pub offsets: &'a [Offset],
     pub marks: &'a [u16],
     pub k: u32,
-    pub far: usize,
+    pub far: Far,
 }
 
 /// The ranks of eight rows, by counters that are 0 before and after; says whether it has all of them.
