@@ -109,6 +109,13 @@ def zigzag(width, height, maxval, step):
     return of_rows(width, height, maxval, lambda y: abs((y * step + maxval) % (2 * maxval) - maxval))
 
 
+@functools.lru_cache(maxsize=2)
+def board(width, height, maxval):
+    """The least and the greatest level by turns, along rows and columns."""
+    rows = [[0, maxval] * (width // 2 + 1), [maxval, 0] * (width // 2 + 1)]
+    return grey_file(width, height, maxval, [level for y in range(height) for level in rows[y % 2][:width]])
+
+
 def one_of(chance, bits, power):
     """A number of so many bits, of which one of 2 ** power is set."""
     found = (1 << bits) - 1
@@ -280,6 +287,18 @@ def neighbours():
                     levels, width, height, tile), picture, rectangle(width, height), tile)
 
 
+def far_medians():
+    """Medians of 16 bits whose levels lie far apart, or are many."""
+    pictures = {"noise": noise, "board": board, "stripes": striped,
+                "250 levels on a slope": functools.partial(soft, levels=250),
+                "500 levels a row": functools.partial(zigzag, step=500)}
+    for name, picture in pictures.items():
+        for width, height in ((9, 9), (15, 15), (31, 31), (31, 3)):
+            for tile in (64, 128, 1024):
+                yield median("ranks: %s, 16 bits, median of %d x %d, tiles of %d" % (name, width, height, tile),
+                             functools.partial(picture, 512, 512, 65535), rectangle(width, height), tile)
+
+
 def sets():
     shapes = {"255 x 1": rectangle(255, 1), "1 x 255": rectangle(1, 255)}
     shapes.update(("%d x %d" % (it, it), rectangle(it, it)) for it in (15, 16, 17, 21, 22))
@@ -295,7 +314,7 @@ def sets():
 
 
 def rows():
-    for group in (extrema, thresholds, dark_medians, soft_medians, row_medians, noisy_medians, neighbours, sets):
+    for group in (extrema, thresholds, dark_medians, soft_medians, row_medians, noisy_medians, neighbours, far_medians, sets):
         yield from group()
 
 

@@ -30,7 +30,9 @@ LEVELS = 50
 COMMANDS = {
     "erosion by 15 x 15": ("grey", "square", b"ERODE p b"),
     "opening by a disc of 15": ("grey", "disc", b"OPEN p b"),
+    "closing by a disc of 255": ("grey", "wide", b"CLOSE p b"),
     "rank of 15 x 15, the median": ("grey", "square", b"RANK p b 113"),
+    "the same of 16 bits": ("deep", "square", b"RANK p b 113"),
     "skeleton of %d levels" % LEVELS: ("set", "small", b"SKELETON p b %d" % LEVELS),
 }
 HERE = os.path.dirname(os.path.abspath(__file__))
@@ -48,16 +50,28 @@ def element(across, holds):
 ELEMENTS = {
     "square": element(15, lambda x, y: True),
     "disc": element(15, lambda x, y: x * x + y * y <= 49),
+    "wide": element(255, lambda x, y: x * x + y * y <= 127 * 127),
     "small": element(3, lambda x, y: True),
 }
+
+
+def row_size(kind, side):
+    """The bytes of a row: of a picture of one byte a sample or of two, or of a set."""
+    return {"grey": side, "deep": 2 * side, "set": side // 8}[kind]
+
+
+def head_of(kind, side):
+    if kind == "set":
+        return b"P4\n%d %d\n" % (side, side)
+    return b"P5\n%d %d\n%d\n" % (side, side, 255 if kind == "grey" else 65535)
 
 
 def rows_of(kind, side):
     """The rows of a picture of random levels, or of a set with holes of 8 x 64 pixels in one of 50 places."""
     chance = random.Random(1)
     for y in range(side):
-        if kind == "grey":
-            yield chance.randbytes(side)
+        if kind != "set":
+            yield chance.randbytes(row_size(kind, side))
         else:
             if y % 64 == 0:
                 row = bytes(0 if chance.random() < 0.02 else 255 for _ in range(side // 8))
@@ -66,8 +80,8 @@ def rows_of(kind, side):
 
 def write_session(kind, side, shape, command):
     """The file `asked` has all up to the RUN, and `session` the FETCH besides. `picture` has the image alone."""
-    head = b"P5\n%d %d\n255\n" % (side, side) if kind == "grey" else b"P4\n%d %d\n" % (side, side)
-    size = len(head) + side * (side if kind == "grey" else side // 8)
+    head = head_of(kind, side)
+    size = len(head) + side * row_size(kind, side)
     with open("picture", "wb") as file:
         file.write(head)
         file.writelines(rows_of(kind, side))

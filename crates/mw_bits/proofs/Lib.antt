@@ -1,5 +1,6 @@
 -- the crate's own
 mod NearRuns
+mod SeenRuns
 mod SlidBoxes
 mod LevelRows
 mod NarrowRows

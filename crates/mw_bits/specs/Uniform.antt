@@ -1,6 +1,8 @@
 -- Windows of one pixel throughout.
 use Rattle.std.specs.Prelude.{◌≡◌, ℕ, ◌+◌, ◌<◌, ℤ, pos, ◌+ℤ◌, ◌≤ℤ◌, List, length, slice_index}
+use Rattle.mw_model.specs.declared.places.Offset.{Offset}
 use Rattle.mw_model.specs.declared.places.Rect.{Rect}
+use Rattle.mw_offset.specs.mw_run.Runs.{offset_at}
 
 -- all samples are v
 abbrev pub HasOnly : ℕ → List ℕ → Type 0
@@ -15,3 +17,7 @@ pub record SideStays (tile side : ℕ) (step : ℤ) (first count : ℕ) : Type 0
 pub record Stays (tile : Rect) (dx dy : ℤ) (place : Rect) : Type 0 where
   pub across : SideStays tile.x tile.width dx place.x place.width
   pub down : SideStays tile.y tile.height dy place.y place.height
+
+-- some offset of the list moves the tile so
+abbrev pub SomeStays : Rect → List Offset → Rect → Type 0
+SomeStays tile offsets place = (k : ℕ) × (k < length offsets) × Stays tile (offset_at offsets k).dx (offset_at offsets k).dy place

@@ -2,11 +2,13 @@
 //! the tile, one offset after another, each as the set's words shifted against those of the tile. What lies outside the
 //! window is no pixel.
 ghost use Rattle.std.specs.Prelude.{◌≡◌, ℕ, ◌+◌, ◌*◌, ◌<◌, ◌≤◌, ◌^◌, pos, negsuc, ◌+ℤ◌, ◌-ℤ◌, ◌≤ℤ◌, length, fold, IfOk, IsTrue};
+ghost use Rattle.std.specs.List.{AllByRecursion};
 ghost use Rattle.mw_model.specs.declared.limits.TheConstants.{FAR_LIMIT};
 ghost use Rattle.mw_model.specs.Rasters.{Raster, cell_at, seen_under};
 ghost use Rattle.mw_model.specs.Windows.{seen_at};
 ghost use Rattle.mw_offset.specs.mw_tile.Windows.{IsWindow};
 ghost use Rattle.mw_offset.specs.mw_line.Extrema.{IsSlidingExtremum};
+ghost use Rattle.mw_offset.specs.mw_run.Runs.{AreEitherWay, IsRun};
 ghost use Rattle.mw_offset.specs.mw_words.Packed.{bit_of, stride_of, IsPacked};
 
 use crate::WordExtremum;
@@ -16,7 +18,7 @@ use crate::spread::spread_rows;
 use crate::uniform::settled;
 use mw_model::{NoMemory, Offset, Rect};
 use mw_offset::pixel::{Bit, Plane};
-use mw_offset::run::{extent_of, place_of, runs_either_way};
+use mw_offset::run::{Run, extent_of, place_of, runs_either_way};
 use mw_offset::tile::Window;
 use mw_offset::words::{Words, repeated, stride, trimmed};
 use std::alloc::Global;
@@ -70,16 +72,18 @@ fn extremum_words<E: WordExtremum>(
     alloc: Global,
     set: &Window<Bit>,
     offsets: &[Offset],
+    runs: &[Run],
     tile: Rect,
 ) -> Result<Vec<u64>, NoMemory>
+    requires either { AreEitherWay offsets.now runs.now }
+    requires runs { AllByRecursion IsRun runs.now }
     ensures packed { IfOk result (λ v. IsPacked tile.width tile.height v.items) }
     ensures cells { IfOk result (λ v. (x y : ℕ) → x < tile.width → y < tile.height → bit_of v.items (y * (64 * stride_of tile.width) + x) ≡ fold E.merge (E.neutral_of 1) (seen_under (seen_at set.now) offsets.now (tile.x + x) (tile.y + y))) }
 {
-    let runs = runs_either_way(alloc, offsets)?;
     if has_layout(tile) {
-        if let Some(extent) = extent_of(runs.as_slice()) {
+        if let Some(extent) = extent_of(runs) {
             if is_near(extent) {
-                let made = extremum_by_runs::<E>(alloc, set, runs.as_slice(), extent, tile)?;
+                let made = extremum_by_runs::<E>(alloc, set, runs, extent, tile)?;
                 return Ok(made);
             }
         }
@@ -88,8 +92,30 @@ fn extremum_words<E: WordExtremum>(
     Ok(made)
 }
 
-/// The extremum of a neutral pixel and what the set has under the element, at each place of the tile: the erosion for
-/// `Min`, the dilation for `Max`. Where the window has all that the frame has there, this is the extremum over the frame.
+/// The extremum of a neutral pixel and what the set has under the element, at each place of the tile, by runs that have the
+/// offsets in their order or in the opposite one: the erosion for `Min`, the dilation for `Max`. Where the window has all
+/// that the frame has there, this is the extremum over the frame.
+pub fn extremum_of_runs<E: WordExtremum>(
+    alloc: Global,
+    set: &Window<Bit>,
+    offsets: &[Offset],
+    runs: &[Run],
+    tile: Rect,
+) -> Result<Plane<Bit>, NoMemory>
+    requires either { AreEitherWay offsets.now runs.now }
+    requires runs { AllByRecursion IsRun runs.now }
+    ensures over_window { IfOk result (IsSlidingExtremum E.merge (E.neutral_of 1) (seen_at set.now) offsets.now tile) }
+    ensures over_frame { IfOk result (λ r. (f : Raster ℕ) → IsWindow set.now f offsets.now tile → IsSlidingExtremum E.merge (E.neutral_of 1) (cell_at f) offsets.now tile r) }
+{
+    if let Some(pixel) = settled::<E>(set, offsets, runs, tile) {
+        let plain = Words::filled(alloc, tile.width, tile.height, pixel)?;
+        return Ok(Plane::of_words(plain));
+    }
+    let words = extremum_words::<E>(alloc, set, offsets, runs, tile)?;
+    Ok(plane_of(tile.width, tile.height, words))
+}
+
+/// The same where the offsets have to be cut into runs first.
 pub fn extremum<E: WordExtremum>(
     alloc: Global,
     set: &Window<Bit>,
@@ -99,10 +125,6 @@ pub fn extremum<E: WordExtremum>(
     ensures over_window { IfOk result (IsSlidingExtremum E.merge (E.neutral_of 1) (seen_at set.now) offsets.now tile) }
     ensures over_frame { IfOk result (λ r. (f : Raster ℕ) → IsWindow set.now f offsets.now tile → IsSlidingExtremum E.merge (E.neutral_of 1) (cell_at f) offsets.now tile r) }
 {
-    if let Some(pixel) = settled::<E>(set, offsets, tile) {
-        let plain = Words::filled(alloc, tile.width, tile.height, pixel)?;
-        return Ok(Plane::of_words(plain));
-    }
-    let words = extremum_words::<E>(alloc, set, offsets, tile)?;
-    Ok(plane_of(tile.width, tile.height, words))
+    let runs = runs_either_way(alloc, offsets)?;
+    extremum_of_runs::<E>(alloc, set, offsets, runs.as_slice(), tile)
 }

@@ -28,7 +28,7 @@ pub use by_runs::is_near;
 pub use compared::{level_set, threshold};
 pub use counting::count;
 pub use held::row_of;
-pub use kernel::extremum;
+pub use kernel::{extremum, extremum_of_runs};
 pub use levels::{at_least, equal};
 pub use mw_model::NoMemory;
 pub use mw_word_rows::WordExtremum;
@@ -46,7 +46,7 @@ pub mod line {
 }
 
 pub mod offset {
-    pub use mw_offset::extremum;
+    pub use mw_offset::extremum_of_runs;
 }
 
 pub mod pixel {

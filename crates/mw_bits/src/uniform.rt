@@ -1,19 +1,21 @@
 //! Windows of one pixel throughout, as most are in masks of few or of compact grains. What is seen of such a window is that pixel
 //! or nothing: so its extremum is that pixel wherever anything is seen, and everywhere where the pixel is the neutral one.
-ghost use Rattle.std.specs.Prelude.{◌≡◌, ◌↔◌, ℕ, ◌+◌, ◌*◌, ◌<◌, ◌≤◌, ℤ, pos, ◌+ℤ◌, ◌-ℤ◌, ◌≤ℤ◌, length, fold, cond, IfSome, IsTrue};
+ghost use Rattle.std.specs.Prelude.{◌≡◌, ◌↔◌, ℕ, ◌+◌, ◌*◌, ◌<◌, ◌≤◌, ℤ, pos, ◌+ℤ◌, ◌-ℤ◌, ◌≤ℤ◌, length, flat_map, fold, cond, IfSome, IsTrue};
 ghost use Rattle.std.specs.Int.{bit_at};
+ghost use Rattle.std.specs.List.{AllByRecursion};
 ghost use Rattle.mw_model.specs.declared.limits.TheConstants.{FAR_LIMIT};
 ghost use Rattle.mw_model.specs.Places.{box_offsets};
 ghost use Rattle.mw_model.specs.Rasters.{seen_under};
 ghost use Rattle.mw_model.specs.Windows.{seen_at};
-ghost use Rattle.mw_offset.specs.mw_run.Runs.{offset_at};
+ghost use Rattle.mw_offset.specs.mw_run.Runs.{run_offsets, AreEitherWay, IsRun};
 ghost use Rattle.mw_offset.specs.mw_words.Packed.{bit_of, stride_of};
-ghost use Rattle.mw_bits.specs.Uniform.{HasOnly, SideStays, Stays};
+ghost use Rattle.mw_bits.specs.Uniform.{HasOnly, SideStays, Stays, SomeStays};
 
 use crate::WordExtremum;
 use crate::held::{row_of, words_of};
 use mw_model::{Offset, OffsetBox, Rect};
 use mw_offset::pixel::Bit;
+use mw_offset::run::Run;
 use mw_offset::tile::Window;
 
 /// Whether no bit of the words is set.
@@ -129,13 +131,33 @@ fn stays(tile: Rect, dx: i32, dy: i32, place: Rect) -> bool
         && side_stays(tile.y, tile.height, dy, place.y, place.height)
 }
 
-/// Whether some offset moves the tile to a part of the window, so that each place of the tile sees a pixel.
-fn some_stays(tile: Rect, offsets: &[Offset], place: Rect) -> bool
-    ensures { IsTrue result → (k : ℕ) × (k < length offsets.now) × Stays tile (offset_at offsets.now k).dx (offset_at offsets.now k).dy place }
+/// How many columns a step leads past the window's left side. Any answer is right.
+fn columns_past(tile: u32, step: i16, first: u32) -> u64 {
+    let past = i64::from(first) - i64::from(tile) - i64::from(step);
+    past.max(0) as u64
+}
+
+/// Whether some offset of the run moves the tile to a part of the window. If any does, the first does that leads past no side
+/// on the left.
+fn run_stays(tile: Rect, run: Run, place: Rect) -> bool
+    requires { IsRun run }
+    ensures { IsTrue result → (i : ℕ) × (i < run.count) × Stays tile (run.dx +ℤ pos i) run.dy place }
 {
-    for i in 0..offsets.len() {
-        let offset = offsets[i];
-        if stays(tile, i32::from(offset.dx), i32::from(offset.dy), place) {
+    let passed = columns_past(tile.x, run.dx, place.x);
+    if passed >= u64::from(run.count) {
+        return false;
+    }
+    let dx = i32::from(run.dx) + passed as i32;
+    stays(tile, dx, i32::from(run.dy), place)
+}
+
+/// Whether some offset moves the tile to a part of the window, so that each place of the tile sees a pixel.
+fn some_stays(tile: Rect, runs: &[Run], place: Rect) -> bool
+    requires { AllByRecursion IsRun runs.now }
+    ensures { IsTrue result → SomeStays tile (flat_map run_offsets runs.now) place }
+{
+    for i in 0..runs.len() {
+        if run_stays(tile, runs[i], place) {
             return true;
         }
     }
@@ -146,8 +168,11 @@ fn some_stays(tile: Rect, offsets: &[Offset], place: Rect) -> bool
 pub(crate) fn settled<E: WordExtremum>(
     set: &Window<Bit>,
     offsets: &[Offset],
+    runs: &[Run],
     tile: Rect,
 ) -> Option<bool>
+    requires either { AreEitherWay offsets.now runs.now }
+    requires runs { AllByRecursion IsRun runs.now }
     ensures { IfSome result (λ b. (x y : ℕ) → x < tile.width → y < tile.height → fold E.merge (E.neutral_of 1) (seen_under (seen_at set.now) offsets.now (tile.x + x) (tile.y + y)) ≡ cond b 1 0) }
 {
     let place = set.place();
@@ -156,7 +181,7 @@ pub(crate) fn settled<E: WordExtremum>(
         if is_neutral::<E>(pixel) {
             return Some(pixel);
         }
-        if some_stays(tile, offsets, place) {
+        if some_stays(tile, runs, place) {
             return Some(pixel);
         }
     }

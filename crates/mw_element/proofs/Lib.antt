@@ -10,6 +10,7 @@ mod Found
 mod OfBitmaps
 mod Rows
 mod Room
+mod Turned
 -- what lower crates offer
 pub use Rattle.mw_netpbm.proofs as mw_netpbm
 pub use Rattle.mw_netpbm.proofs.mw_pixel as mw_pixel

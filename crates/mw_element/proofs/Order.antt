@@ -90,7 +90,7 @@ before_turned : (b : Offset) (xs : List Offset) → AllByRecursion (λ (c : Offs
 before_turned b [] all = tt
 before_turned b (x ∷ xs) all = (omega (arith, ints, all.0), before_turned b xs all.1)
 
-all_reverse : (P : Offset → Type 0) (xs : List Offset) → AllByRecursion P xs → AllByRecursion P (reverse xs)
+pub all_reverse : (P : Offset → Type 0) (xs : List Offset) → AllByRecursion P xs → AllByRecursion P (reverse xs)
 all_reverse P [] all = tt
 all_reverse P (x ∷ xs) all = subst (AllByRecursion P) (sym (reverse-append (x ∷ []) xs)) (all-push P (reverse xs) x (all_reverse P xs all.1) all.0)
 
@@ -104,7 +104,7 @@ reflected_append : (xs ys : List Offset) → reflected (xs ++ ys) ≡ reflected 
 reflected_append [] ys = refl
 reflected_append (x ∷ xs) ys = ap (λ (bs : List Offset). turned x ∷ bs) (reflected_append xs ys)
 
-reflected_reverse : (xs : List Offset) → reflected (reverse xs) ≡ reverse (reflected xs)
+pub reflected_reverse : (xs : List Offset) → reflected (reverse xs) ≡ reverse (reflected xs)
 reflected_reverse [] = refl
 reflected_reverse (x ∷ xs) =
     ap reflected (reverse-append (x ∷ []) xs) ∙ reflected_append (reverse xs) (x ∷ []) ∙ ap (λ (bs : List Offset). bs ++ turned x ∷ []) (reflected_reverse xs) ∙ sym (reverse-append (turned x ∷ []) (reflected xs))

@@ -1,4 +1,5 @@
 pub mod Figures
+pub mod Told
 pub mod Faults
 pub mod BitmapElements
 -- what lower crates offer

@@ -137,6 +137,7 @@ impl Element {
             return Err(ElementFault::Empty);
         }
         let found = offsets(alloc, bitmap, ox, oy, count)?;
-        Ok(Element::new(bitmap.width(), bitmap.height(), found, false))
+        let made = Element::new(alloc, bitmap.width(), bitmap.height(), found)?;
+        Ok(made)
     }
 }

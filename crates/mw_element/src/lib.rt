@@ -14,6 +14,7 @@ mod fault;
 pub mod laws;
 mod offsets;
 mod parsing;
+mod runs;
 
 pub use element::Element;
 pub use fault::ElementFault;

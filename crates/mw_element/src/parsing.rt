@@ -32,6 +32,7 @@ impl Element {
             return Err(ElementFault::NoMemory);
         };
         let found = offsets(alloc, &bitmap, ox, oy, facts.ones as usize)?;
-        Ok(Element::new(facts.width, facts.height, found, false))
+        let made = Element::new(alloc, facts.width, facts.height, found)?;
+        Ok(made)
     }
 }

@@ -86,6 +86,10 @@ fn turned_twice(rt: HostRuntime) -> Result<(), Fail> {
     let turned = bar.reflect(rt.alloc())?;
     assert!(rt; !turned.same(&bar));
     assert!(rt; turned.reflect(rt.alloc())?.same(&bar));
+    // a bar with its origin in its middle has the same runs, but its offsets turned round stand in the opposite order
+    let middle = element(rt.alloc(), BAR, 1, 0)?;
+    assert!(rt; !middle.reflect(rt.alloc())?.has_same_offsets(&middle));
+    assert!(rt; middle.has_same_offsets(&element(rt.alloc(), b"P1\n3 2\n111\n000\n", 1, 0)?));
     Ok(())
 }
 
@@ -129,6 +133,28 @@ fn rectangles(rt: HostRuntime) -> Result<(), Fail> {
 #[test]
 fn a_cross_is_no_rectangle(rt: HostRuntime) -> Result<(), Fail> {
     assert!(rt; element(rt.alloc(), CROSS, 1, 1)?.as_rectangle().is_none());
+    Ok(())
+}
+
+/// A bar of two pixels, and below it one that begins a column further on.
+const STEP: &[u8] = b"P1\n3 2\n110\n011\n";
+
+/// Stops where the element has other runs: the first column, the row and the number of offsets of each.
+fn has_runs(rt: &impl Abort, element: &Element, runs: &[(i16, i16, u32)]) {
+    assert_eq!(rt; element.runs().len(), runs.len());
+    for i in 0..runs.len() {
+        let run = element.runs()[i];
+        assert!(rt; (run.dx, run.dy, run.count) == runs[i]);
+    }
+}
+
+#[test]
+fn runs(rt: HostRuntime) -> Result<(), Fail> {
+    has_runs(&rt, &element(rt.alloc(), BAR, 1, 0)?, &[(-1, 0, 3)]);
+    let step = element(rt.alloc(), STEP, 0, 0)?;
+    has_runs(&rt, &step, &[(0, 0, 2), (1, 1, 2)]);
+    let turned = step.reflect(rt.alloc())?;
+    has_runs(&rt, &turned, &[(-2, -1, 2), (-1, 0, 2)]);
     Ok(())
 }
 

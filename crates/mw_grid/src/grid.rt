@@ -14,18 +14,24 @@ pub struct Grid {
     width: u32,
     height: u32,
     side: u32,
+    /// The tiles in a row and in a column, so that no look at a tile divides for them.
+    columns: u32,
+    rows: u32,
 }
 
 impl Model for Grid {
-    ghost use Rattle.mw_grid.specs.Grids.{Tiling, tiling, IsTiling};
+    ghost use Rattle.std.specs.Prelude.{◌≡◌};
+    ghost use Rattle.mw_grid.specs.Grids.{Tiling, tiling, IsTiling, columns_of, rows_of};
 
     ghost Value = { Tiling };
 
     ghost view = { λ a. tiling a.width a.height a.side };
 
-    ghost invariant = { λ a. IsTiling (tiling a.width a.height a.side) };
+    ghost invariant = { λ a. IsTiling (tiling a.width a.height a.side) × (columns_of (tiling a.width a.height a.side) ≡ a.columns) × (rows_of (tiling a.width a.height a.side) ≡ a.rows) };
 
-    ghost inverse = { λ g. record { width = g.width; height = g.height; side = g.side } };
+    ghost inverse = { λ g. record { width = g.width; height = g.height; side = g.side; columns = columns_of g; rows = rows_of g } };
+
+    ghost inverse_ok = { λ a h i. record { width = a.width; height = a.height; side = a.side; columns = h.1 i; rows = h.2 i } };
 }
 
 /// Whether tiles may have this side: a multiple of the least one, and no more than the greatest.
@@ -51,6 +57,8 @@ impl Grid {
             width,
             height,
             side,
+            columns: (width - 1) / side + 1,
+            rows: (height - 1) / side + 1,
         }
     }
 
@@ -87,7 +95,7 @@ impl Grid {
         ensures some { 1 ≤ result }
         ensures small { result ≤ 128 }
     {
-        (self.width - 1) / self.side + 1
+        self.columns
     }
 
     /// The number of tiles in a column.
@@ -96,7 +104,7 @@ impl Grid {
         ensures some { 1 ≤ result }
         ensures small { result ≤ 128 }
     {
-        (self.height - 1) / self.side + 1
+        self.rows
     }
 
     /// The number of tiles.

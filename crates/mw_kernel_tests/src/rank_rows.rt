@@ -98,8 +98,8 @@ fn agree_on<P: Counted>(
     Ok(())
 }
 
-/// The same for bytes and for samples of two bytes, up to and past the levels of 12 bits. Where levels without a pattern
-/// have many bits, rows lie so far from one another that they go apart.
+/// The same for bytes and for samples of two bytes, up to and past the levels of 12 bits. Levels of more bits may be numbered
+/// block by block, and go by their numbers.
 fn agree_by(rt: &impl Abort, alloc: Global, columns: i16, rows: i16) -> Result<(), Fail> {
     let offsets = rectangle(alloc, columns, rows)?;
     agree_on::<u8>(rt, alloc, 255, &offsets)?;
@@ -140,4 +140,93 @@ fn ranks_by_squares(rt: HostRuntime) -> Result<(), Fail> {
 fn ranks_by_large_rectangles(rt: HostRuntime) -> Result<(), Fail> {
     agree_by(&rt, rt.alloc(), 15, 16)?;
     agree_by(&rt, rt.alloc(), 31, 31)
+}
+
+/// The same for levels of 16 bits without a pattern, which are numbered block by block.
+#[test]
+fn numbered_ranks(rt: HostRuntime) -> Result<(), Fail> {
+    for (columns, rows) in [(31, 2), (9, 9), (15, 15), (3, 21)] {
+        let offsets = rectangle(rt.alloc(), columns, rows)?;
+        agree_on::<u16>(&rt, rt.alloc(), 65535, &offsets)?;
+    }
+    Ok(())
+}
+
+/// Blocks of these see about as many samples as may be numbered at once, or more.
+#[test]
+fn numbered_ranks_by_large_rectangles(rt: HostRuntime) -> Result<(), Fail> {
+    for side in [63, 85] {
+        let offsets = rectangle(rt.alloc(), side, side)?;
+        agree_on::<u16>(&rt, rt.alloc(), 65535, &offsets)?;
+    }
+    Ok(())
+}
+
+/// Levels of 16 bits with a pattern.
+#[derive(Clone, Copy)]
+enum Pattern {
+    /// Two levels by turns, of which one is the greatest.
+    Board,
+    /// Rows that lie far from one another, with some noise.
+    Stripes,
+    /// A few levels, with single ones that stand out.
+    Dark,
+    /// Noise on the left, and rows that rise steeply on the right: searches there go too far.
+    Halves,
+}
+
+impl Pattern {
+    fn level(self, x: u32, y: u32) -> u16 {
+        let mixed = x.wrapping_mul(40_503) ^ y.wrapping_mul(30_011);
+        let noise = mixed.wrapping_mul(2_654_435_761) >> 16;
+        let level = match self {
+            Pattern::Board => 60_535 + (x ^ y) % 2 * 5_000,
+            Pattern::Stripes => y % 60 * 1_000 + noise % 20,
+            Pattern::Dark if noise % 200 == 0 => noise % 65_536,
+            Pattern::Dark => noise % 51,
+            Pattern::Halves if x < 90 => noise % 65_536,
+            Pattern::Halves => y % 60 * 1_000 + noise % 900,
+        };
+        u16::try_from(level).unwrap_or(u16::MAX)
+    }
+
+    fn plane(self, alloc: Global, width: u32, height: u32) -> Result<Plane<u16>, Fail> {
+        let mut samples = Vec::new(alloc);
+        for y in 0..height {
+            for x in 0..width {
+                samples.push(self.level(x, y))?;
+            }
+        }
+        if samples.len() != height as usize * width as usize {
+            return Err("other sides".into());
+        }
+        Ok(Plane::new(width, height, samples))
+    }
+}
+
+/// A tile of one strip of blocks, one of two, and a part of the frame.
+fn strips() -> [Rect; 3] {
+    [rect(0, 0, 64, 24), rect(1, 2, 65, 25), rect(20, 9, 128, 40)]
+}
+
+#[test]
+fn numbered_ranks_of_far_levels(rt: HostRuntime) -> Result<(), Fail> {
+    let patterns = [
+        Pattern::Board,
+        Pattern::Stripes,
+        Pattern::Dark,
+        Pattern::Halves,
+    ];
+    for (columns, rows) in [(9, 9), (15, 15), (31, 3)] {
+        let offsets = rectangle(rt.alloc(), columns, rows)?;
+        let half = (offsets.len().min(65535) as u32 + 1) / 2;
+        for pattern in patterns {
+            let plane = pattern.plane(rt.alloc(), 150, 60)?;
+            let window = window_of(rt.alloc(), &plane, rect(0, 0, 150, 60))?;
+            for tile in strips() {
+                agree_in(&rt, rt.alloc(), &window, &offsets, tile, half)?;
+            }
+        }
+    }
+    Ok(())
 }

@@ -227,6 +227,7 @@ fn elements_are_read(rt: HostRuntime) -> Result<(), Fail> {
     assert_eq!(rt; corner.shape(), Shape::Element(2, 2));
     assert_eq!(rt; corner.offsets(), CORNER.as_slice());
     assert!(rt; corner.holds_origin() && corner.as_rectangle().is_none());
+    assert_eq!(rt; corner.runs().len(), 2);
     Ok(())
 }
 
@@ -241,6 +242,7 @@ fn elements_are_reflected(rt: HostRuntime) -> Result<(), Fail> {
     ];
     assert_eq!(rt; turned.shape(), Shape::Element(2, 2));
     assert_eq!(rt; turned.offsets(), offsets.as_slice());
+    assert_eq!(rt; turned.runs().len(), 2);
     assert_eq!(rt; corner.offsets(), CORNER.as_slice());
     Ok(())
 }

@@ -595,6 +595,25 @@ fn ranks_of_words(rt: HostRuntime) -> Result<(), Fail> {
     Ok(())
 }
 
+/// The same with levels of 16 bits, which are numbered under larger squares; those of rows that lie far from one another go
+/// another way.
+#[test]
+fn ranks_of_far_words(rt: HostRuntime) -> Result<(), Fail> {
+    for case in RISING {
+        let step = case.step.saturating_mul(270);
+        are_ranked::<u16>(&rt, rt.alloc(), Rising { step, ..case })?;
+    }
+    let wide = Rising {
+        width: 150,
+        height: 24,
+        by_rows: false,
+        step: 400,
+        reach: 7,
+        k: 113,
+    };
+    are_ranked::<u16>(&rt, rt.alloc(), wide)
+}
+
 /// The set of the places with level 120 or more.
 fn high(rt: &impl Abort, alloc: Global, case: Rising) -> Result<Window<Bit>, Fail> {
     let levels = window_rising::<u8>(rt, alloc, case)?;

@@ -14,7 +14,7 @@ mod sizes;
 mod strips;
 
 pub use mw_model::NoMemory;
-pub use offsets::extremum;
+pub use offsets::{extremum, extremum_of_runs};
 
 // What lower crates offer, for the crates above.
 pub mod lane {

@@ -2,6 +2,7 @@
 //! tile, one row of the tile after another and in it one offset after another, each as a row of the window that is merged
 //! by vector code, shifted. What lies outside the window is no sample.
 ghost use Rattle.std.specs.Prelude.{◌≡◌, ℕ, ◌+◌, ◌*◌, ◌<◌, ◌≤◌, pos, negsuc, ◌+ℤ◌, ◌-ℤ◌, ◌≤ℤ◌, length, slice_index_or, fold, vec_len, All, IfOk, IsTrue};
+ghost use Rattle.std.specs.List.{AllByRecursion};
 ghost use Rattle.mw_model.specs.declared.limits.TheConstants.{FAR_LIMIT};
 ghost use Rattle.mw_model.specs.Places.{nonnegative};
 ghost use Rattle.mw_model.specs.Rasters.{Raster, cell_at, seen_under};
@@ -9,13 +10,14 @@ ghost use Rattle.mw_model.specs.Windows.{seen_at};
 ghost use Rattle.mw_line.specs.mw_tile.Windows.{IsWindow};
 ghost use Rattle.mw_line.specs.mw_lane.Shifted.{merge_at};
 ghost use Rattle.mw_line.specs.Extrema.{IsSlidingExtremum};
+ghost use Rattle.mw_run.specs.Runs.{AreEitherWay, IsRun};
 
 use crate::strips::extremum_by_strips;
 use mw_line::combine_window_row;
 use mw_line::pixel::{Extremum, Grey, Plane, copies};
 use mw_line::tile::Window;
 use mw_model::{NoMemory, Offset, Rect};
-use mw_run::{Extent, columns_after, extent_of, place_of, rows_after, runs_either_way};
+use mw_run::{Extent, Run, columns_after, extent_of, place_of, rows_after, runs_either_way};
 use std::alloc::Global;
 
 /// Merges into each sample of a row of the frame, from `column` on, the sample at an offset from there.
@@ -110,23 +112,20 @@ fn extremum_samples<P: Grey, E: Extremum<P>>(
     alloc: Global,
     window: &Window<P>,
     offsets: &[Offset],
+    runs: &[Run],
     neutral: P,
     tile: Rect,
 ) -> Result<Vec<P>, NoMemory>
+    requires either { AreEitherWay offsets.now runs.now }
+    requires runs { AllByRecursion IsRun runs.now }
     ensures size { IfOk result (λ v. vec_len v ≡ tile.height * tile.width) }
     ensures cells { IfOk result (λ v. (x y : ℕ) → x < tile.width → y < tile.height → slice_index_or v.items (y * tile.width + x) neutral ≡ fold E.merge neutral (seen_under (seen_at window.now) offsets.now (tile.x + x) (tile.y + y))) }
 {
-    let runs = runs_either_way(alloc, offsets)?;
     if tile.width > 0 && tile.height > 0 {
-        if let Some(extent) = extent_of(runs.as_slice()) {
+        if let Some(extent) = extent_of(runs) {
             if is_near(extent) && tile.y <= u32::MAX - tile.height {
                 let samples = extremum_by_strips::<P, E>(
-                    alloc,
-                    window,
-                    runs.as_slice(),
-                    extent,
-                    neutral,
-                    tile,
+                    alloc, window, runs, extent, neutral, tile,
                 )?;
                 return Ok(samples);
             }
@@ -136,9 +135,29 @@ fn extremum_samples<P: Grey, E: Extremum<P>>(
     Ok(samples)
 }
 
-/// The extremum of the neutral sample and what the window has under the element, at each place of the tile. Where the
-/// window has all that the frame has there, this is the extremum over the frame. No sample is over the greatest of the
-/// neutral one and those of the window. It may want memory (`NoMemory`).
+/// The extremum of the neutral sample and what the window has under the element, at each place of the tile, by runs that have
+/// the offsets in their order or in the opposite one. Where the window has all that the frame has there, this is the
+/// extremum over the frame. No sample is over the greatest of the neutral one and those of the window. It may want memory
+/// (`NoMemory`).
+pub fn extremum_of_runs<P: Grey, E: Extremum<P>>(
+    alloc: Global,
+    window: &Window<P>,
+    offsets: &[Offset],
+    runs: &[Run],
+    neutral: P,
+    tile: Rect,
+) -> Result<Plane<P>, NoMemory>
+    requires either { AreEitherWay offsets.now runs.now }
+    requires runs { AllByRecursion IsRun runs.now }
+    ensures over_window { IfOk result (λ r. IsSlidingExtremum E.merge neutral (seen_at window.now) offsets.now tile r) }
+    ensures over_frame { IfOk result (λ r. (f : Raster P) → IsWindow window.now f offsets.now tile → IsSlidingExtremum E.merge neutral (cell_at f) offsets.now tile r) }
+    ensures small { (most : ℕ) → P.level neutral ≤ most → All (λ s. P.level s ≤ most) window.now.cells → IfOk result (λ r. All (λ s. P.level s ≤ most) r.cells) }
+{
+    let samples = extremum_samples::<P, E>(alloc, window, offsets, runs, neutral, tile)?;
+    Ok(Plane::new(tile.width, tile.height, samples))
+}
+
+/// The same where the offsets have to be cut into runs first.
 pub fn extremum<P: Grey, E: Extremum<P>>(
     alloc: Global,
     window: &Window<P>,
@@ -150,6 +169,6 @@ pub fn extremum<P: Grey, E: Extremum<P>>(
     ensures over_frame { IfOk result (λ r. (f : Raster P) → IsWindow window.now f offsets.now tile → IsSlidingExtremum E.merge neutral (cell_at f) offsets.now tile r) }
     ensures small { (most : ℕ) → P.level neutral ≤ most → All (λ s. P.level s ≤ most) window.now.cells → IfOk result (λ r. All (λ s. P.level s ≤ most) r.cells) }
 {
-    let samples = extremum_samples::<P, E>(alloc, window, offsets, neutral, tile)?;
-    Ok(Plane::new(tile.width, tile.height, samples))
+    let runs = runs_either_way(alloc, offsets)?;
+    extremum_of_runs::<P, E>(alloc, window, offsets, runs.as_slice(), neutral, tile)
 }

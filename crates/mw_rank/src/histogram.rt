@@ -1,6 +1,6 @@
 //! A histogram of levels with a level that moves to the wanted rank (Huang, Yang and Tang 1979). Where that is far, as
 //! among many levels, it goes on by leaps over spans of counters at once: their sum is one pass of vector code, where a
-//! walk has a test for each counter. A walk keeps its level beside the histogram, and writes it back only where it moved.
+//! walk has a test for each counter. The level mostly moves a few levels, which are taken without a look at how far it came.
 ghost use Rattle.std.specs.Prelude.{◌≡◌, ℕ, ◌+◌, ◌<◌, ◌≤◌, ◌⊎◌, List, [], ◌∷◌, length, cond, nat_lt, IfOk};
 ghost use Rattle.mw_model.specs.PlanSteps.{ranked};
 ghost use Rattle.mw_rank.specs.Tallies.{count_under, Tallies, HasRoom, Holds};
@@ -14,6 +14,9 @@ const SPAN: u32 = 64;
 
 /// How many levels the level moves step by step before it leaps: it is mostly near.
 const NEAR: u32 = 64;
+
+/// How many levels it moves before it is looked how far it has come.
+const FEW: u32 = 4;
 
 /// How often each level was counted, and how many levels below the present one.
 #[derive(Drop)]
@@ -190,8 +193,53 @@ impl Histogram {
         self.below = below;
     }
 
-    /// Moves down until fewer than n levels are below: step by step, and by leaps where it is not near.
+    /// Moves down a few levels, as long as n levels or more are below.
     #[inline(always)]
+    fn step_down(&mut self, n: u32)
+        requires some { 1 ≤ n }
+        requires held { (top : ℕ) × Holds top self.old [] }
+        ensures tallies { (top : ℕ) (ns : List ℕ) → Tallies top self.old ns → Tallies top self.new ns }
+        ensures held { self.new.held ≡ self.old.held }
+        ensures enough { (top : ℕ) (ns : List ℕ) → Tallies top self.old ns → n ≤ self.old.below → n ≤ count_under (self.new.level + 1) ns }
+    {
+        let mut level = self.level;
+        let mut below = self.below;
+        'levels: for _step in 0..FEW {
+            if below < n {
+                break;
+            }
+            level -= 1;
+            below -= u32::from(self.counts[level as usize]);
+        }
+        self.level = level;
+        self.below = below;
+    }
+
+    /// Moves up a few levels, as long as fewer than n levels are not above.
+    #[inline(always)]
+    fn step_up(&mut self, n: u32)
+        requires within { n ≤ self.old.held }
+        requires few { self.old.below < n }
+        requires held { (top : ℕ) × Holds top self.old [] }
+        ensures tallies { (top : ℕ) (ns : List ℕ) → Tallies top self.old ns → Tallies top self.new ns }
+        ensures held { self.new.held ≡ self.old.held }
+        ensures few { self.new.below < n }
+    {
+        let mut level = self.level;
+        let mut below = self.below;
+        'levels: for _step in 0..FEW {
+            let more = below + u32::from(self.counts[level as usize]);
+            if more >= n {
+                break;
+            }
+            below = more;
+            level += 1;
+        }
+        self.level = level;
+        self.below = below;
+    }
+
+    /// Moves down until fewer than n levels are below, though they are far: step by step, and then by leaps.
     fn go_down(&mut self, n: u32)
         requires some { 1 ≤ n }
         requires many { n ≤ self.old.below }
@@ -208,8 +256,7 @@ impl Histogram {
         }
     }
 
-    /// Moves up until n levels or more are not above: step by step, and by leaps where it is not near.
-    #[inline(always)]
+    /// Moves up until n levels or more are not above, though they are far: step by step, and then by leaps.
     fn go_up(&mut self, n: u32)
         requires within { n ≤ self.old.held }
         requires few { self.old.below < n }
@@ -226,7 +273,7 @@ impl Histogram {
         }
     }
 
-    /// Moves the level to number n of those that were counted. It mostly stands there.
+    /// Moves the level to number n of those that were counted. It mostly stands there, or a few levels away.
     #[inline(always)]
     fn go_to(&mut self, n: u32)
         requires some { 1 ≤ n }
@@ -237,9 +284,15 @@ impl Histogram {
         ensures enough { (top : ℕ) (ns : List ℕ) → Tallies top self.old ns → n ≤ count_under (self.new.level + 1) ns }
     {
         if self.below >= n {
-            self.go_down(n);
-        } else if self.below + u32::from(self.counts[self.level as usize]) < n {
-            self.go_up(n);
+            self.step_down(n);
+            if self.below >= n {
+                self.go_down(n);
+            }
+        } else {
+            self.step_up(n);
+            if self.below + u32::from(self.counts[self.level as usize]) < n {
+                self.go_up(n);
+            }
         }
     }
 

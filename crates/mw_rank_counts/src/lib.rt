@@ -15,7 +15,7 @@ mod places;
 mod search;
 mod squeezed;
 
-pub use costs::{Load, Way, load_of, quickest};
+pub use costs::{Block, Limits, Load, Way, limits_by_numbers, load_of, quickest};
 pub use counted::Counted;
 pub use counting::rank_of_grey;
 pub use mw_model::NoMemory;

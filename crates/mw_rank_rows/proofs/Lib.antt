@@ -7,3 +7,4 @@ mod Steps
 mod Rectangular
 mod Views
 mod Found
+mod NumberedBlocks

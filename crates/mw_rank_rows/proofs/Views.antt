@@ -31,7 +31,7 @@ pub add-mul : (a b w : ℕ) → (a + b) * w ≡ a * w + b * w
 add-mul a b w = grind arith
 
 -- a raster has nothing in a row, or a column, that it lacks
-unseen_row : {A : Type 0} (width height : ℕ) (cells : List A) (column row : ℤ) → ((r : ℕ) → r < height → row ≡ pos r → ⊥) → cell_at (raster width height cells) column row ≡ None
+pub unseen_row : {A : Type 0} (width height : ℕ) (cells : List A) (column row : ℤ) → ((r : ℕ) → r < height → row ≡ pos r → ⊥) → cell_at (raster width height cells) column row ≡ None
 unseen_row width height cells (negsuc n) row none = refl
 unseen_row width height cells (pos x) (negsuc n) none = refl
 unseen_row width height cells (pos x) (pos r) none = elim (cases_lt r height) [
@@ -42,7 +42,7 @@ unseen_row width height cells (pos x) (pos r) none = elim (cases_lt r height) [
   ]
 ]
 
-unseen_column : {A : Type 0} (width height : ℕ) (cells : List A) (column row : ℤ) → ((at : ℕ) → at < width → column ≡ pos at → ⊥) → cell_at (raster width height cells) column row ≡ None
+pub unseen_column : {A : Type 0} (width height : ℕ) (cells : List A) (column row : ℤ) → ((at : ℕ) → at < width → column ≡ pos at → ⊥) → cell_at (raster width height cells) column row ≡ None
 unseen_column width height cells (negsuc n) row none = refl
 unseen_column width height cells (pos x) (negsuc n) none = refl
 unseen_column width height cells (pos x) (pos r) none = elim (cases_lt x width) [

@@ -10,7 +10,7 @@ use crate::column::Sheet;
 use crate::lanes::Lanes;
 use crate::marks::sum_of_marks;
 use crate::rectangle::Rectangle;
-use crate::slide::{Span, Strip, rank_rows};
+use crate::slide::{Far, Span, Strip, rank_rows};
 use mw_model::{NoMemory, Offset, Rect};
 use mw_rank_counts::pixel::Grey;
 use mw_rank_counts::rank::rank;
@@ -24,6 +24,17 @@ const FAR: usize = 16;
 
 const FAR_A_ROW: usize = 12;
 
+/// How many steps of eight lanes take as long as one histogram for each row to move a level.
+const STEPS_A_MOVE: usize = 16;
+
+/// How far searches may go where one histogram for each row is the other way, which would have to move too.
+pub(crate) fn far_under(rectangle: Rectangle) -> Far {
+    Far {
+        a_column: FAR + FAR_A_ROW * rectangle.rows as usize,
+        a_move: STEPS_A_MOVE,
+    }
+}
+
 /// Rows that a window shows of some: how many come before them, its first of them, and how many they are.
 #[derive(Clone, Copy)]
 pub(crate) struct Shown {
@@ -33,7 +44,7 @@ pub(crate) struct Shown {
 }
 
 /// The rows that a window of that height shows of so many from `top` on, where its own first is row 0.
-fn shown_rows(top: i64, count: usize, height: u32) -> Shown
+pub(crate) fn shown_rows(top: i64, count: usize, height: u32) -> Shown
     requires low { negsuc FAR_LIMIT ≤ℤ top }
     requires high { top ≤ℤ pos (2 ^ 42) }
     requires few { count ≤ 2 ^ 17 }
@@ -56,7 +67,8 @@ fn shown_rows(top: i64, count: usize, height: u32) -> Shown
     }
 }
 
-/// Eight rows of results, the rectangle that they are ranked under, its offsets and marks, and the number that is wanted.
+/// Eight rows of results, the rectangle that they are ranked under, its offsets and marks, the number that is wanted, and how
+/// far searches may go.
 #[derive(Clone, Copy)]
 pub(crate) struct Group<'a> {
     pub place: Rect,
@@ -64,10 +76,11 @@ pub(crate) struct Group<'a> {
     pub offsets: &'a [Offset],
     pub marks: &'a [u16],
     pub k: u32,
+    pub far: Far,
 }
 
 /// The ranks of eight rows, by counters that are 0 before and after; says whether it has all of them.
-fn rank_together<P: Grey>(
+pub(crate) fn rank_together<P: Grey>(
     made: &mut [P],
     counts: &mut [u16],
     lanes: &mut Lanes,
@@ -109,7 +122,7 @@ fn rank_together<P: Grey>(
         width: group.place.width,
         columns: rectangle.columns,
         k: group.k.clamp(1, 65535) as u16,
-        far: FAR + FAR_A_ROW * rectangle.rows as usize,
+        far: group.far,
     };
     rank_rows(made, counts, lanes, strip, all, span)
 }

@@ -7,11 +7,14 @@
 //! ```
 #![tactic(auto)]
 
+mod bands;
+mod blocks;
 mod column;
 mod group;
 mod lanes;
 mod marks;
 mod rectangle;
+mod rest;
 mod rows;
 mod search;
 mod slide;

@@ -5,6 +5,7 @@ ghost use Rattle.mw_rank_counts.specs.mw_rank.Runs.{element_of};
 ghost use Rattle.mw_rank_rows.specs.Rectangles.{IsRectangle};
 ghost use Rattle.mw_rank_counts.specs.mw_run.Runs.{IsRun};
 
+use mw_model::Offset;
 use mw_rank_counts::run::Run;
 
 /// The first column and row of a rectangle of offsets, and how many it has.
@@ -14,6 +15,14 @@ pub(crate) struct Rectangle {
     pub dy: i16,
     pub columns: u32,
     pub rows: u32,
+}
+
+/// An element that is a rectangle, and the number of the rank that is wanted under it.
+#[derive(Clone, Copy)]
+pub(crate) struct Wanted<'a> {
+    pub offsets: &'a [Offset],
+    pub rectangle: Rectangle,
+    pub k: u32,
 }
 
 /// Whether the run is row number i of the rectangle that begins with that run.

@@ -8,10 +8,12 @@ ghost use Rattle.mw_rank_counts.specs.mw_rank.Ranks.{levels_under, IsRank, HasRo
 ghost use Rattle.mw_rank_rows.specs.Rectangles.{IsRectangle};
 ghost use Rattle.mw_rank_counts.specs.mw_tile.Windows.{IsWindow};
 
-use crate::group::{Group, rank_group};
+use crate::bands::by_numbers;
+use crate::group::{Group, far_under, rank_group};
 use crate::lanes::no_samples;
 use crate::marks::marks_of;
-use crate::rectangle::{Rectangle, rectangle_of};
+use crate::rectangle::{Rectangle, Wanted, rectangle_of};
+use crate::rest::{push_from, push_rest};
 use mw_model::{NoMemory, Offset, Rect};
 use mw_rank_counts::pixel::{Grey, Plane, copies};
 use mw_rank_counts::run::runs_of;
@@ -23,51 +25,6 @@ use std::alloc::Global;
 const PATIENCE: u32 = 3;
 
 const MOST_PATIENCE: u32 = 5;
-
-/// Adds the samples from that place on.
-fn push_from<P: Grey>(out: &mut Vec<P>, made: &[P], skip: usize) -> Result<(), NoMemory>
-    requires { skip ≤ length made.now }
-    ensures { OnOk result (out.new.items ≡ out.old.items ++ drop skip made.now) }
-{
-    out.extend_from_slice(&made[skip..])?;
-    Ok(())
-}
-
-/// An element that is a rectangle, and the number of the rank that is wanted under it.
-#[derive(Clone, Copy)]
-struct Wanted<'a> {
-    offsets: &'a [Offset],
-    rectangle: Rectangle,
-    k: u32,
-}
-
-/// Adds the ranks of the rows of the tile from that one on, each row apart.
-fn push_rest<P: Counted>(
-    alloc: Global,
-    out: &mut Vec<P>,
-    window: &Window<P>,
-    wanted: Wanted,
-    tile: Rect,
-    done: u32,
-) -> Result<(), NoMemory>
-    requires few { length wanted.offsets.now < 2 ^ 16 }
-    requires within { done ≤ tile.height }
-    requires inside { tile.y + tile.height < 2 ^ 32 }
-    requires rows { HasRows P.level (λ x y. ranked wanted.k (levels_under P.level (seen_at window.now) wanted.offsets.now (tile.x + x) (tile.y + y))) tile.width done out.old.items }
-    ensures { OnOk result (HasRows P.level (λ x y. ranked wanted.entry.k (levels_under P.level (seen_at window.now) wanted.entry.offsets.now (tile.x + x) (tile.y + y))) tile.width tile.height out.new.items) }
-{
-    if done == tile.height {
-        return Ok(());
-    }
-    let rest = Rect {
-        y: tile.y + done,
-        height: tile.height - done,
-        ..tile
-    };
-    let rows = mw_rank_counts::rank_of_grey(alloc, window, wanted.offsets, wanted.k, rest)?;
-    push_from(out, rows.samples(), 0)?;
-    Ok(())
-}
 
 /// The ranks of a tile. The last eight rows begin early enough to end with it.
 fn rank_groups<P: Counted>(
@@ -111,6 +68,7 @@ fn rank_groups<P: Counted>(
             offsets: wanted.offsets,
             marks: &marks,
             k: wanted.k,
+            far: far_under(wanted.rectangle),
         };
         let together = rank_group(alloc, made, counts, &mut lanes, window, group)?;
         push_from(&mut out, made, (done - from) as usize * width)?;
@@ -143,6 +101,31 @@ fn pays<P: Counted>(load: Load, rectangle: Rectangle) -> bool
     }
 }
 
+/// The ranks of a tile under a rectangle, where eight rows at a time pay, over levels or over their numbers.
+fn rank_wanted<P: Counted>(
+    alloc: Global,
+    window: &Window<P>,
+    wanted: Wanted,
+    tile: Rect,
+) -> Result<Option<Vec<P>>, NoMemory>
+    requires wide { 1 ≤ tile.width }
+    requires tall { 8 ≤ tile.height }
+    requires inside { tile.y + tile.height < 2 ^ 32 }
+    requires rectangle { IsRectangle wanted.rectangle wanted.offsets.now }
+    requires few { length wanted.offsets.now < 2 ^ 16 }
+    ensures { IfOk result (λ o. IfSome o (λ v. HasRows P.level (λ x y. ranked wanted.entry.k (levels_under P.level (seen_at window.now) wanted.entry.offsets.now (tile.x + x) (tile.y + y))) tile.width tile.height v.items)) }
+{
+    let load = load_of(window, wanted.offsets);
+    if let Some(samples) = by_numbers(alloc, window, wanted, tile, load)? {
+        return Ok(Some(samples));
+    }
+    if !pays::<P>(load, wanted.rectangle) {
+        return Ok(None);
+    }
+    let samples = rank_groups(alloc, window, wanted, tile, 1usize << load.bits)?;
+    Ok(Some(samples))
+}
+
 /// The ranks of a tile, where eight rows at a time pay.
 fn side_by_side<P: Counted>(
     alloc: Global,
@@ -161,17 +144,12 @@ fn side_by_side<P: Counted>(
     let Some(rectangle) = rectangle_of(&runs) else {
         return Ok(None);
     };
-    let load = load_of(window, offsets);
-    if !pays::<P>(load, rectangle) {
-        return Ok(None);
-    }
     let wanted = Wanted {
         offsets,
         rectangle,
         k,
     };
-    let samples = rank_groups(alloc, window, wanted, tile, 1usize << load.bits)?;
-    Ok(Some(samples))
+    rank_wanted(alloc, window, wanted, tile)
 }
 
 /// What `mw_rank::rank` gives, eight rows at a time where that is quicker. It may want memory (`NoMemory`).

@@ -16,9 +16,6 @@ use std::simd::Simd;
 /// How many columns' steps may be taken ahead, so that one far search stops nothing.
 const COLUMNS_AHEAD: usize = 8;
 
-/// How many steps of eight lanes take as long as one histogram for each row to move a level.
-const STEPS_A_MOVE: usize = 16;
-
 /// A sheet of samples, and where an element sees its columns.
 #[derive(Clone, Copy)]
 pub(crate) struct Strip<'a, P: Pixel> {
@@ -134,24 +131,31 @@ fn put_column<P: Pixel>(made: &mut [P], width: usize, at: usize, levels: Simd<u1
 }
 
 /// A stretch of columns of the frame, the columns of the element, the number of the rank that is wanted, and how far the
-/// searches may go for each column on average.
+/// searches may go.
 #[derive(Clone, Copy)]
 pub(crate) struct Span {
     pub x: u64,
     pub width: u32,
     pub columns: u32,
     pub k: u16,
-    pub far: usize,
+    pub far: Far,
 }
 
-/// How many steps may have been taken for so many columns, where the front has moved so far: a histogram for each row would
-/// have to go there too.
+/// How far searches may go: for each column on average, and for each level that the front moves.
+#[derive(Clone, Copy)]
+pub(crate) struct Far {
+    pub a_column: usize,
+    pub a_move: usize,
+}
+
+/// How many steps may have been taken for so many columns, where the front has moved so far.
 #[inline(always)]
 fn most_steps(span: Span, done: u32, moves: usize) -> usize {
     let columns = done as usize + COLUMNS_AHEAD;
-    span.far
+    let far = span.far;
+    far.a_column
         .saturating_mul(columns)
-        .saturating_add(moves.saturating_mul(STEPS_A_MOVE))
+        .saturating_add(moves.saturating_mul(far.a_move))
 }
 
 /// How far the front moved from one column to the next: to the first it comes from other rows.

@@ -23,8 +23,8 @@ pub use tiles::rank_by_words;
 // What lower crates offer, for the crates above.
 pub mod bits {
     pub use mw_bits::{
-        WordExtremum, as_levels, at_least, count, extremum, invert, is_blank, is_within, join,
-        level_set, meet, minus, rectangle, row_of, threshold,
+        WordExtremum, as_levels, at_least, count, extremum_of_runs, invert, is_blank, is_within,
+        join, level_set, meet, minus, rectangle, row_of, threshold,
     };
 }
 
@@ -37,5 +37,5 @@ pub mod line {
 }
 
 pub mod offset {
-    pub use mw_bits::offset::extremum;
+    pub use mw_bits::offset::extremum_of_runs;
 }

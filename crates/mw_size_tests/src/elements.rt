@@ -27,8 +27,10 @@ fn is_square(rt: &impl Abort, alloc: Global, side: u16) {
         y1: last,
     };
     assert_eq!(rt; element.as_rectangle(), Some(square));
+    assert_eq!(rt; element.runs().len(), side as usize);
     let turned = element.reflect(alloc).expect(rt, "memory");
     assert_eq!(rt; turned.size(), element.size());
+    assert_eq!(rt; turned.runs().len(), side as usize);
     assert!(rt; turned.offsets().first() == Some(&Offset { dx: 0, dy: 0 }));
 }
 

@@ -54,6 +54,44 @@ fn ranks_of_words(rt: HostRuntime) {
     of_levels::<u16>(&rt, rt.alloc(), WIDE);
 }
 
+/// A plane with each level so many times as great, or so many times as small.
+fn scaled(
+    rt: &impl Abort,
+    alloc: Global,
+    plane: &Plane<u16>,
+    times: u16,
+    parts: u16,
+) -> Plane<u16> {
+    let mut samples = Vec::new(alloc);
+    for level in plane.samples() {
+        let level = level.saturating_mul(times) / parts.max(1);
+        samples.push(level).expect(rt, "memory");
+    }
+    let (width, height) = (plane.width(), plane.height());
+    assert_eq!(rt; samples.len(), height as usize * width as usize);
+    Plane::new(width, height, samples)
+}
+
+/// The medians of levels of 16 bits under a square, which go by their numbers.
+fn by_numbers(rt: &impl Abort, alloc: Global, sides: Sides) {
+    let levels = scaled(rt, alloc, &ramp::<u16>(rt, alloc, sides), 16, 1);
+    let form = Form::Square(7);
+    let sight = Sight {
+        sides,
+        form,
+        k: 113,
+    };
+    let made = ranked(rt, alloc, &Window::whole(levels), sight);
+    let made = scaled(rt, alloc, &made, 1, 16);
+    assert!(rt; shows_sight(rt, alloc, &made, sight));
+}
+
+#[test]
+fn ranks_by_numbers(rt: HostRuntime) {
+    by_numbers(&rt, rt.alloc(), SQUARE);
+    by_numbers(&rt, rt.alloc(), WIDE);
+}
+
 /// The medians of levels of grey under small squares, by vectors.
 fn by_vectors<P: Vectored>(rt: &impl Abort, alloc: Global, sides: Sides) {
     let window = Window::whole(ramp::<P>(rt, alloc, sides));

@@ -11,6 +11,7 @@ use mw_model::{NoMemory, OffsetBox, Rect};
 use mw_set_ranks::bits;
 use mw_set_ranks::bits::WordExtremum;
 use mw_set_ranks::line::rectangle;
+use mw_set_ranks::offset::extremum_of_runs;
 use mw_task::element::Element;
 use std::alloc::Global;
 
@@ -28,8 +29,8 @@ pub(crate) fn under_element<P: Grey, E: Extremum<P>>(
     match element.as_rectangle() {
         Some(offsets) => under_box::<P, E>(alloc, window, offsets, maxval, tile),
         None => {
-            let neutral = E::neutral(maxval);
-            mw_set_ranks::offset::extremum::<P, E>(alloc, window, element.offsets(), neutral, tile)
+            let (offsets, runs) = (element.offsets(), element.runs());
+            extremum_of_runs::<P, E>(alloc, window, offsets, runs, E::neutral(maxval), tile)
         }
     }
 }
@@ -58,6 +59,9 @@ pub(crate) fn set_under_element<E: WordExtremum>(
 {
     match element.as_rectangle() {
         Some(offsets) => Ok(bits::rectangle::<E>(alloc, set, offsets, tile)?),
-        None => Ok(bits::extremum::<E>(alloc, set, element.offsets(), tile)?),
+        None => {
+            let (offsets, runs) = (element.offsets(), element.runs());
+            Ok(bits::extremum_of_runs::<E>(alloc, set, offsets, runs, tile)?)
+        }
     }
 }

@@ -1,10 +1,10 @@
-//! Lists of offsets that are the same, and how far the offsets of a box lead.
+//! Boxes of offsets: whether two are the same, and how far their offsets lead.
 
 ghost use Rattle.std.specs.Prelude.{◌≡◌, ◌↔◌, IsTrue, neg_ℤ};
 ghost use Rattle.mw_model.specs.Elements.{reach_of};
 ghost use Rattle.mw_model.specs.Places.{nonnegative, box_offsets};
 
-use mw_model::{Offset, OffsetBox, Reach};
+use mw_model::{OffsetBox, Reach};
 
 /// Whether the boxes have the same bounds.
 pub(crate) fn same_box(a: OffsetBox, b: OffsetBox) -> bool
@@ -64,18 +64,4 @@ pub(crate) fn reach_of_box(b: OffsetBox) -> Reach
         up: up_of(b),
         down: down_of(b),
     }
-}
-
-pub(crate) fn same_offsets(a: &[Offset], b: &[Offset]) -> bool
-    ensures { IsTrue result ↔ (a.now ≡ b.now) }
-{
-    if a.len() != b.len() {
-        return false;
-    }
-    for i in 0..a.len() {
-        if a[i] != b[i] {
-            return false;
-        }
-    }
-    true
 }

@@ -1,6 +1,6 @@
 //! Steps of plans.
 
-use crate::offsets::{reach_of_box, same_box, same_offsets};
+use crate::offsets::{reach_of_box, same_box};
 use mw_element::Element;
 use mw_model::{NoMemory, OffsetBox, Reach};
 use std::sync::Arc;
@@ -86,13 +86,11 @@ impl Step {
         ensures { IsTrue result ↔ (meaning self.now ≡ meaning other.now) }
     {
         match (self, other) {
-            (Step::Erode(a), Step::Erode(b)) => same_offsets(a.offsets(), b.offsets()),
-            (Step::Dilate(a), Step::Dilate(b)) => same_offsets(a.offsets(), b.offsets()),
+            (Step::Erode(a), Step::Erode(b)) => a.has_same_offsets(b),
+            (Step::Dilate(a), Step::Dilate(b)) => a.has_same_offsets(b),
             (Step::ErodeBox(a), Step::ErodeBox(b)) => same_box(*a, *b),
             (Step::DilateBox(a), Step::DilateBox(b)) => same_box(*a, *b),
-            (Step::Rank(a, k), Step::Rank(b, l)) => {
-                *k == *l && same_offsets(a.offsets(), b.offsets())
-            }
+            (Step::Rank(a, k), Step::Rank(b, l)) => *k == *l && a.has_same_offsets(b),
             (Step::Minus, Step::Minus) => true,
             (Step::AtLeast(k), Step::AtLeast(l)) => *k == *l,
             (Step::Invert, Step::Invert) => true,

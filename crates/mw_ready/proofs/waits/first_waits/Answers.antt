@@ -1,5 +1,7 @@
-use Rattle.std.proofs.Common.{◌≡◌, ℕ, ◌+◌, List, length, subst, sym, ap, arith, get_or}
+use Rattle.std.proofs.Common.{◌≡◌, ℕ, ◌+◌, ◌≤◌, List, length, subst, sym, ap, arith, get_or}
+use Rattle.std.proofs.Math.Nat.{mul-le-mul_left}
 use Rattle.mw_model.proofs.mw_facts.Elements.{take-written}
+use Rattle.mw_ready.specs.mw_grid.Grids.{tile_count}
 use Rattle.mw_ready.specs.Boards.{no_need}
 use Rattle.mw_ready.proofs.Firsts.{CountsWaits, waits-most, waits-next, waits-room}
 use Rattle.mw_ready.proofs.waits.first_waits.Goals as goal
@@ -11,6 +13,12 @@ raise_step-requires-clause-fits c = λ u lt.
     let most = waits-most a.needs.now a.grid (length a.needs.now) c.loop-k.k u c.loop-k.waits.items c.loop-k.invariant in
     let room = waits-room a.grid (get_or a.needs.now c.loop-k.k no_need).reach c.set_met_by.new.self (length a.needs.now) c.steps_read.result u c.requires (omega (arith, c.steps_read.ensures.most)) (omega (arith, c.len.ensures.value, c.len.ensures.small)) c.set_met_by.ensures in
     omega (arith, same, most, room)
+
+pub raise_step-requires-clause-within : goal.raise_step-requires-clause-within
+raise_step-requires-clause-within c =
+    let size : length c.deref_mut.result.now ≡ length c.loop-k.waits.items = ap (λ (xs : List ℕ). length xs) c.deref_mut.ensures.value in
+    let next : c.loop-k.k + 1 ≤ length c.args.needs.now = omega (arith, c.loop-k-test.true) in
+    omega (arith, size, c.loop-k.invariant.size, mul-le-mul_left (tile_count c.args.grid) next)
 
 pub loop-k-preserved : goal.loop-k-preserved
 loop-k-preserved c =

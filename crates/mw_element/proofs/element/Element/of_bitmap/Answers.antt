@@ -28,6 +28,13 @@ returns-in_err-found-clause-memory c =
     let place = c.holds_place.ensures.0 c.if-not-holds_place.false in
     (figure_of f c.args.ox c.args.oy, element_of f c.args.ox c.args.oy c.count-count.result (c.sides_fit.ensures.0 c.if-not-sides_fit.false) place (c.count-count.ensures c.args.ox c.args.oy) c.if-count-eq0.false)
 
+pub returns-in_err-made-clause-memory : goal.returns-in_err-made-clause-memory
+returns-in_err-made-clause-memory c =
+    λ e.
+    let f = c.args.bitmap.now in
+    let place = c.holds_place.ensures.0 c.if-not-holds_place.false in
+    (figure_of f c.args.ox c.args.oy, element_of f c.args.ox c.args.oy c.count-count.result (c.sides_fit.ensures.0 c.if-not-sides_fit.false) place (c.count-count.ensures c.args.ox c.args.oy) c.if-count-eq0.false)
+
 pub new-requires-clause-figure : goal.new-requires-clause-figure
 new-requires-clause-figure c =
     let f = c.args.bitmap.now in

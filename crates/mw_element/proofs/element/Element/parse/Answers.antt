@@ -61,7 +61,7 @@ returns-clause-found c =
     let is = c.in-Ok.ensures.found in
     let same = facts_same c.in_ok-facts.facts (facts_of f) (c.in_ok-facts.ensures.only f is) in
     let t = Told-figure c.args.bytes.now c.args.ox c.args.oy c.in_ok-facts.facts f is same c.if-ox-facts.false c.if-oy-facts.false c.if-facts-eq0.false in
-    made_element c.args.bytes.now c.args.ox c.args.oy c.in_ok-facts.facts f c.in_ok-found.found.items c.new.result t same c.in_ok-found.ensures.items c.new.ensures
+    made_element c.args.bytes.now c.args.ox c.args.oy c.in_ok-facts.facts f c.in_ok-found.found.items c.in_ok-made.made t same c.in_ok-found.ensures.items c.in_ok-made.ensures
 
 pub returns-clause-only : goal.returns-clause-only
 returns-clause-only c =
@@ -69,10 +69,16 @@ returns-clause-only c =
     let is = c.in-Ok.ensures.found in
     let same = facts_same c.in_ok-facts.facts (facts_of f) (c.in_ok-facts.ensures.only f is) in
     let t = Told-figure c.args.bytes.now c.args.ox c.args.oy c.in_ok-facts.facts f is same c.if-ox-facts.false c.if-oy-facts.false c.if-facts-eq0.false in
-    λ figure element. made_only c.args.bytes.now c.args.ox c.args.oy c.in_ok-facts.facts f c.in_ok-found.found.items c.new.result figure t same c.in_ok-found.ensures.items c.new.ensures (λ g h. c.in-Ok.ensures.only g h) element
+    λ figure element. made_only c.args.bytes.now c.args.ox c.args.oy c.in_ok-facts.facts f c.in_ok-found.found.items c.in_ok-made.made figure t same c.in_ok-found.ensures.items c.in_ok-made.ensures (λ g h. c.in-Ok.ensures.only g h) element
 
 pub returns-in_err-found-clause-memory : goal.returns-in_err-found-clause-memory
 returns-in_err-found-clause-memory c =
+    λ e.
+    let f = c.in_ok-facts.ensures.found in
+    told_element c.args.bytes.now c.args.ox c.args.oy f.0 (Told-figure c.args.bytes.now c.args.ox c.args.oy c.in_ok-facts.facts f.0 f.1 f.2 c.if-ox-facts.false c.if-oy-facts.false c.if-facts-eq0.false)
+
+pub returns-in_err-made-clause-memory : goal.returns-in_err-made-clause-memory
+returns-in_err-made-clause-memory c =
     λ e.
     let f = c.in_ok-facts.ensures.found in
     told_element c.args.bytes.now c.args.ox c.args.oy f.0 (Told-figure c.args.bytes.now c.args.ox c.args.oy c.in_ok-facts.facts f.0 f.1 f.2 c.if-ox-facts.false c.if-oy-facts.false c.if-facts-eq0.false)

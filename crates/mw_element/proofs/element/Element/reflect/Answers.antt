@@ -1,25 +1,32 @@
 use Rattle.std.proofs.Common.{List, not, length, sym, ◌∙◌, ap, subst, arith}
 use Rattle.std.proofs.lemmas.List.{length-map}
+use Rattle.std.specs.List.{AllByRecursion}
 use Rattle.mw_model.specs.declared.places.Offset.{Offset}
-use Rattle.mw_model.specs.Elements.{IsFigure}
+use Rattle.mw_run.specs.declared.runs.Run.{Run}
+use Rattle.mw_model.specs.Elements.{Figure, IsFigure, reach_of}
 use Rattle.mw_model.specs.Flat.{reflected}
 use Rattle.mw_element.specs.Figures.{Rises, by_rows, figure, turned}
+use Rattle.mw_element.specs.Told.{IsNearRun, TellsBox, TellsRuns, turned_runs}
 use Rattle.mw_element.proofs.Lists.{reflected_figure}
 use Rattle.mw_element.proofs.Order.{reflected_rise}
+use Rattle.mw_element.proofs.Turned.{near_runs, runs_turned}
 use Rattle.mw_element.proofs.element.Element.reflect.Goals as goal
 
-pub new-requires-clause-figure : goal.new-requires-clause-figure
-new-requires-clause-figure c =
+pub invariant_of-result : goal.invariant_of-result
+invariant_of-result c =
+    let e = c.self.inside in
     let same = c.in_ok-turned.ensures ∙ ap reflected c.deref.ensures.value in
-    subst (λ (xs : List Offset). IsFigure (figure c.self.inside.width c.self.inside.height xs)) (sym same) (reflected_figure c.self.inside.width c.self.inside.height c.self.inside.offsets.items c.self.invariant.0)
-
-pub new-requires-clause-few : goal.new-requires-clause-few
-new-requires-clause-few c =
-    let size = ap (λ (xs : List Offset). length xs) (c.in_ok-turned.ensures ∙ ap reflected c.deref.ensures.value) ∙ length-map c.self.inside.offsets.items turned in
     let few = c.self.invariant.1 in
-    omega arith
+    let seen = sym (same ∙ ap (λ (f : Figure). reflected f.offsets) c.self.view_is) in (
+      subst (λ (xs : List Offset). IsFigure (figure e.width e.height xs)) (sym same) (reflected_figure e.width e.height e.offsets.items c.self.invariant.0),
+      omega (arith, few, ap (λ (xs : List Offset). length xs) same ∙ length-map e.offsets.items turned),
+      subst (λ (xs : List Offset). Rises (by_rows (not e.is_turned) xs)) (sym same) (reflected_rise e.is_turned e.offsets.items c.self.invariant.2),
+      c.turned_reach-reach.ensures ∙ ap reach_of seen,
+      subst (TellsBox c.turned_rectangle-rectangle.result) c.deref-3.ensures.value c.turned_rectangle-rectangle.ensures,
+      subst (TellsRuns (not e.is_turned) c.in_ok-runs.runs.items) (sym same)
+          (subst (λ (rs : List Run). TellsRuns (not e.is_turned) rs (reflected e.offsets.items)) (sym (c.in_ok-runs.ensures ∙ ap turned_runs c.deref-2.ensures.value)) (runs_turned e.is_turned e.offsets.items e.runs.items c.self.invariant.5)),
+    )
 
-pub new-requires-clause-ordered : goal.new-requires-clause-ordered
-new-requires-clause-ordered c =
-    let same = c.in_ok-turned.ensures ∙ ap reflected c.deref.ensures.value in
-    subst (λ (xs : List Offset). Rises (by_rows (not c.self.inside.is_turned) xs)) (sym same) (reflected_rise c.self.inside.is_turned c.self.inside.offsets.items c.self.invariant.2)
+pub turn-requires-2 : goal.turn-requires-2
+turn-requires-2 c =
+    subst (AllByRecursion IsNearRun) (sym c.deref-2.ensures.value) (near_runs c.self.inside.is_turned c.self.inside.offsets.items c.self.inside.runs.items c.self.invariant.0.near c.self.invariant.5)

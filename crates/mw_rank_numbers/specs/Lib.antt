@@ -1,0 +1,2 @@
+pub mod LevelSets
+pub mod Numbers
