@@ -1,5 +1,5 @@
 # `make` alone lists the targets. docs/TESTS.md says what each of them tests.
-.PHONY: help demo morphd library check-library install test documents memory soak bench costs toolchain python3 compiler valgrind
+.PHONY: help demo morphd library check-library install test wrong-bodies documents memory soak bench costs toolchain python3 compiler valgrind
 
 MORPHD = crates/morphd/out/morphd
 
@@ -10,6 +10,7 @@ help:
 	@echo "make check-library  holds them against the plain model, and runs the programs of docs/LIBRARY.md"
 	@echo "make install    puts library, header, morphd.pc and program into PREFIX, which is /usr/local if left out"
 	@echo "make test       the gate: proves every crate from nothing, tries the wrong bodies, runs programs and tests"
+	@echo "make wrong-bodies  tries the wrong bodies of each crate that changed, or of CRATES"
 	@echo "make documents  compares the documents with the repository, and replays their examples"
 	@echo "make memory     refuses each allocation and each start of a thread in turn, and measures memory"
 	@echo "make soak       runs random sessions beside a plain model, and two servers with good and bad clients; FOR=seconds"
@@ -39,8 +40,15 @@ test: toolchain python3 documents
 	@python3 -B checks/laid_out.py
 	@python3 -B checks/thin_rows.py --test
 	@python3 -B checks/thin_rows.py
+	@python3 -B checks/wrong_bodies.py --test
 	rt ci
+	@python3 -B checks/wrong_bodies.py
 	@python3 -B checks/python_package.py test
+
+# What `rt ci` does not try in each run.
+CRATES =
+wrong-bodies: toolchain python3
+	@python3 -B checks/wrong_bodies.py $(CRATES)
 
 documents: python3
 	@python3 -B checks/docs.py --test
