@@ -10,8 +10,9 @@ tests' check and of its must-fail edits, and the totals.
 in a folder `rt-edit-..` tries an edit, with `--test` it checks tests, and otherwise it proves or compiles the crate. What
 the table has beside the crates is `rt` itself, the layout's checks and the runs of programs and tests.
 
-`rt ci` takes what earlier runs on the same machine proved of the same files, and such a crate costs nothing. So the gate's figures
-come from a machine that has kept nothing, in one run or in parts; of a crate that was tried in several parts the dearest counts.
+In some kits `rt ci` takes names of crates, and what earlier runs on the same machine proved of the same files, so that such a
+crate costs nothing. So the gate's figures come from a machine that has kept nothing, in one run or in parts; of a crate that was
+tried in several parts the dearest counts.
 """
 import argparse
 import json
