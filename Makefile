@@ -41,11 +41,11 @@ test: toolchain python3 documents
 	@python3 -B checks/thin_rows.py --test
 	@python3 -B checks/thin_rows.py
 	@python3 -B checks/wrong_bodies.py --test
+	@python3 -B checks/wrong_bodies.py --list
 	rt ci
-	@python3 -B checks/wrong_bodies.py
 	@python3 -B checks/python_package.py test
 
-# What `rt ci` does not try in each run.
+# What `rt ci` does not try in each run: of each crate that changed, or of CRATES.
 CRATES =
 wrong-bodies: toolchain python3
 	@python3 -B checks/wrong_bodies.py $(CRATES)

@@ -3,13 +3,13 @@
 
     python3 checks/wrong_bodies.py            tries those of the crates that changed since theirs were refused last
     python3 checks/wrong_bodies.py CRATE..    tries those of these crates
-    python3 checks/wrong_bodies.py --list     names the crates that changed, and tries nothing
+    python3 checks/wrong_bodies.py --list     names the crates that changed, and tries nothing; status 1 where there is one
     python3 checks/wrong_bodies.py --test     spoils copies of a crate, and sees what is told of each
 
 A file crates/CRATE/wrong-bodies/NAME.edit is written as those in must-fail/ are, and the prover has to refuse it as well. It is
-let through only where its crate promises less than before. So it is tried once the crate's code or definitions have changed, and
-checks/wrong_bodies.txt keeps a sum of both, and of the edits, for each crate as it was when all of them were refused. Comments
-are not in the sum. Nor are definitions of the crates below: who makes one of those say less tries the crates that cite it.
+let through only where its crate promises less than before. So whoever changes the crate's code or definitions tries it again, and
+checks/wrong_bodies.txt keeps a sum of both, and of the edits, for each crate as it was when all of them were refused. `make test` ends at
+once where a sum is another: tried there, they would want the crates below to be proved once more. Comments are not in the sum. Nor are definitions of the crates below: who makes one of those say less tries the crates that cite it.
 
 Each run begins with a look at all edits, also those in must-fail/: the text that one turns has to stand in its file once.
 """
@@ -182,8 +182,8 @@ def main():
         return 1 if faults else test(names)
     wanted = given.crates or changed(names)
     if given.list or not wanted:
-        print(f"changed since their wrong bodies were tried: {' '.join(wanted) or 'none'}")
-        return 0
+        print(f"crates that changed since their wrong bodies were tried (make wrong-bodies): {' '.join(wanted) or 'none'}")
+        return 1 if wanted else 0
     failed = try_all(wanted, max(1, given.jobs))
     print(f"{len(wanted) - len(failed)} of {len(wanted)} crates refuse each of their wrong bodies")
     return 1 if failed else 0
