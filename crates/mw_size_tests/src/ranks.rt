@@ -72,18 +72,16 @@ fn scaled(
     Plane::new(width, height, samples)
 }
 
-/// The medians of levels of 16 bits under a square, which go by their numbers.
+/// The medians of levels of 16 bits under squares, which go by their numbers: in blocks of eight rows, and of more.
 fn by_numbers(rt: &impl Abort, alloc: Global, sides: Sides) {
     let levels = scaled(rt, alloc, &ramp::<u16>(rt, alloc, sides), 16, 1);
-    let form = Form::Square(7);
-    let sight = Sight {
-        sides,
-        form,
-        k: 113,
-    };
-    let made = ranked(rt, alloc, &Window::whole(levels), sight);
-    let made = scaled(rt, alloc, &made, 1, 16);
-    assert!(rt; shows_sight(rt, alloc, &made, sight));
+    let window = Window::whole(levels);
+    for (form, k) in [(Form::Square(7), 113), (Form::Square(15), 481)] {
+        let sight = Sight { sides, form, k };
+        let made = ranked(rt, alloc, &window, sight);
+        let made = scaled(rt, alloc, &made, 1, 16);
+        assert!(rt; shows_sight(rt, alloc, &made, sight), "{k}");
+    }
 }
 
 #[test]
