@@ -17,6 +17,7 @@ import argparse
 import array
 import filecmp
 import functools
+import math
 import os
 import random
 import subprocess
@@ -114,6 +115,14 @@ def board(width, height, maxval):
     """The least and the greatest level by turns, along rows and columns."""
     rows = [[0, maxval] * (width // 2 + 1), [maxval, 0] * (width // 2 + 1)]
     return grey_file(width, height, maxval, [level for y in range(height) for level in rows[y % 2][:width]])
+
+
+@functools.lru_cache(maxsize=2)
+def waves(width, height, maxval, across, down, high):
+    """Waves about the middle level, so many radians a column and a row and so high."""
+    def level(x, y):
+        return round(maxval / 2 + high * math.sin(across * x) * math.cos(down * y))
+    return grey_file(width, height, maxval, [level(x, y) for y in range(height) for x in range(width)])
 
 
 def one_of(chance, bits, power):
@@ -291,7 +300,9 @@ def far_medians():
     """Medians of 16 bits whose levels lie far apart, or are many."""
     pictures = {"noise": noise, "board": board, "stripes": striped,
                 "250 levels on a slope": functools.partial(soft, levels=250),
-                "500 levels a row": functools.partial(zigzag, step=500)}
+                "500 levels a row": functools.partial(zigzag, step=500),
+                "low waves": functools.partial(waves, across=0.5, down=0.5, high=1000),
+                "high waves": functools.partial(waves, across=0.14, down=0.2, high=20000)}
     for name, picture in pictures.items():
         for width, height in ((9, 9), (15, 15), (31, 31), (31, 3)):
             for tile in (64, 128, 1024):
