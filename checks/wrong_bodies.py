@@ -96,15 +96,20 @@ def changed(names):
 # ---- trying
 
 
-def tried(name, needs, room):
-    """Whether the prover refuses each wrong body of a crate, and what `rt` says, which tries them as edits of a copy."""
+def laid_out(name, needs, room):
+    """A copy of a crate and of those below it, in which its wrong bodies are the edits that `rt` tries."""
     crate = prove.Crate(name, needs, False, room)
     crate.furnish()
-    try:
-        shutil.copytree(f"{crate.home}/{FOLDER}", f"{crate.place}/{GATE}")
-        ran = subprocess.run(["rt", GATE, name], cwd=crate.top, capture_output=True, text=True, errors="replace", check=False)
-    finally:
-        crate.give_back()
+    if os.path.isdir(f"{crate.place}/out"):
+        # The crate's own out/ goes back at once, since copies of other crates link to what was proved there.
+        os.rename(f"{crate.place}/out", f"{crate.home}/out")
+    shutil.copytree(f"{crate.home}/{FOLDER}", f"{crate.place}/{GATE}")
+    return crate
+
+
+def tried(crate):
+    """Whether the prover refuses each wrong body of a crate, and what `rt` says."""
+    ran = subprocess.run(["rt", GATE, crate.name], cwd=crate.top, capture_output=True, text=True, errors="replace", check=False)
     return ran.returncode == 0, ran.stdout + ran.stderr
 
 
@@ -118,12 +123,13 @@ def try_all(names, jobs):
     failed = []
     try:
         with tempfile.TemporaryDirectory(dir=prove.work_room()) as room, ThreadPoolExecutor(jobs) as lanes:
-            for name, (well, said) in zip(names, lanes.map(lambda it: tried(it, needs, room), names)):
+            crates = [laid_out(it, needs, room) for it in names]
+            for crate, (well, said) in zip(crates, lanes.map(tried, crates)):
                 print(said, end="", flush=True)
                 if well:
-                    keep(name, f"{ROOT}/crates/{name}")
+                    keep(crate.name, crate.home)
                 else:
-                    failed.append(name)
+                    failed.append(crate.name)
     finally:
         for file in held:
             os.close(file)
