@@ -8,8 +8,9 @@
 
 A file crates/CRATE/wrong-bodies/NAME.edit is written as those in must-fail/ are, and the prover has to refuse it as well. It is
 let through only where its crate promises less than before. So whoever changes the crate's code or definitions tries it again, and
-checks/wrong_bodies.txt keeps a sum of both, and of the edits, for each crate as it was when all of them were refused. `make test` ends at
-once where a sum is another: tried there, they would want the crates below to be proved once more. Comments are not in the sum. Nor are definitions of the crates below: who makes one of those say less tries the crates that cite it.
+checks/wrong_bodies.txt keeps a sum of both, and of the edits, for each crate as it was when all of them were refused. `make test`
+ends at once where a sum is another: tried there, they would want the crates below to be proved once more. Comments are not in the
+sum. Nor are definitions of the crates below: who makes one of those say less tries the crates that cite it.
 
 Each run begins with a look at all edits, also those in must-fail/: the text that one turns has to stand in its file once.
 """
