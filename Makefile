@@ -9,7 +9,7 @@ help:
 	@echo "make library    proves and links out/libmorphd.so and out/libmorphd.a, which C calls by include/morphd.h"
 	@echo "make check-library  holds them against the plain model, and runs the programs of docs/LIBRARY.md"
 	@echo "make install    puts library, header, morphd.pc and program into PREFIX, which is /usr/local if left out"
-	@echo "make test       the gate: proves every crate from nothing, tries the wrong bodies, runs programs and tests"
+	@echo "make test       the gate: proves every crate from nothing, tries the must-fail edits, runs programs and tests"
 	@echo "make wrong-bodies  tries the wrong bodies of each crate that changed, or of CRATES"
 	@echo "make documents  compares the documents with the repository, and replays their examples"
 	@echo "make memory     refuses each allocation and each start of a thread in turn, and measures memory"
