@@ -21,7 +21,7 @@ except ImportError as missing:
     sys.exit(f"no times of the Python package: {missing} (Debian: apt install python3-numpy)")
 
 import morphd  # noqa: E402
-from morphd import _arrays, _calls, _library, _pieces  # noqa: E402
+from morphd import _arrays, _calls, _library, _threads  # noqa: E402
 
 # Rounds at least, and for how many seconds short runs go on: a machine that others share is slow for some of them.
 ROUNDS, SECONDS, LONGEST = 5, 0.5, 10.0
@@ -144,7 +144,7 @@ def tell_added(side):
 
     def alone():
         for _ in range(often):
-            call.run(field, out)
+            call.ready(field, out)()
 
     def packed():
         for _ in range(often):
@@ -159,7 +159,7 @@ def small_medians():
     image = (picture(256) >> 8).astype(np.uint8)
     field, call = _arrays.read(image, "median", None).field, _calls.Flat(_library.RANK, morphd.square(15), 113)
     rooms = [np.empty_like(image) for _ in range(8)]
-    return lambda threads: _pieces.each(lambda out: call.run(field, out), rooms, threads)
+    return lambda threads: _threads.each(lambda out: call.ready(field, out)(), rooms, threads)
 
 
 def least(run, rounds):

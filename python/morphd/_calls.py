@@ -4,6 +4,7 @@ A call knows nothing of edges, cores or arrays that are too large; `_pieces`, `_
 """
 from __future__ import annotations
 
+from collections.abc import Callable
 from dataclasses import dataclass
 from typing import Any, NamedTuple, Protocol
 
@@ -46,6 +47,22 @@ class Field(NamedTuple):
         return f"a set of {rows} x {columns}" if self.is_set else f"{rows} x {columns} samples up to {self.maxval}"
 
 
+class Rows(Protocol):
+    """Rows of a result, from `begin` to `end`, and those of the image that they see, from `first` to `last`."""
+
+    @property
+    def begin(self) -> int: ...
+
+    @property
+    def end(self) -> int: ...
+
+    @property
+    def first(self) -> int: ...
+
+    @property
+    def last(self) -> int: ...
+
+
 class Call(Protocol):
     """What all calls have."""
 
@@ -55,8 +72,8 @@ class Call(Protocol):
     def dtype(self, field: Field) -> Any:
         """The type of the result's samples."""
 
-    def run(self, field: Field, out: Samples) -> None:
-        """Writes the result."""
+    def ready(self, field: Field, out: Samples) -> Callable[[], None]:
+        """The call itself, which writes the result. Who holds it holds `out` too."""
 
 
 def _array(samples: Samples) -> tuple[int, int]:
@@ -96,23 +113,33 @@ class Flat:
     def _arguments(self, field: Field, out: Samples) -> tuple[Any, ...]:
         return (*_frame(field), *field.top, *_array(field.samples), *_element(self.footprint), *_array(out))
 
-    def run(self, field: Field, out: Samples) -> None:
-        _library.call(f"morphd_flat_{field.kind}", lambda: f"{self} of {field}", self.op, self.k, *self._arguments(field, out))
+    def ready(self, field: Field, out: Samples) -> Callable[[], None]:
+        arguments = (self.op, self.k, *self._arguments(field, out))
+        return _library.ready(f"morphd_flat_{field.kind}", lambda: f"{self} of {field}", *arguments)
 
-    def run_rows(self, field: Field, first: int, out: Samples) -> None:
-        """Writes rows of the result alone, where the operation has one step.
+    def rows_of(self, field: Field, out: Samples) -> Callable[[Rows], Callable[[], None]]:
+        """What makes, of rows of the result, the call that writes them alone, where the operation has one step.
+
+        What is the same for all rows is worked out once. Who holds such a call holds `out` too.
 
         Parameters
         ----------
         field : Field
-            What is looked at: those rows, and what the footprint reaches above and below them.
-        first : int
-            The first of the rows, counted from the first one of `field`.
+            The samples.
         out : Samples
-            Room for the rows, without gaps: as many are written as it has.
+            Room for the whole result.
         """
-        arguments = (self.op, self.k, first, *self._arguments(field, out))
-        _library.call(f"morphd_flat_rows_{field.kind}", lambda: f"rows of {self} of {field}", *arguments)
+        name, width = f"morphd_flat_rows_{field.kind}", field.samples.shape[1]
+        (start, _), (target, _), step = _array(field.samples), _array(out), width * field.samples.itemsize
+
+        def ready(rows: Rows) -> Callable[[], None]:
+            seen = rows.last - rows.first
+            samples = start + rows.first * step, seen * width
+            room = target + rows.begin * step, (rows.end - rows.begin) * width
+            arguments = (width, seen, *field.top, *samples, *_element(self.footprint), *room)
+            return _library.ready(name, lambda: f"rows of {self} of {field}", self.op, self.k, rows.begin - rows.first, *arguments)
+
+        return ready
 
     def __str__(self) -> str:
         number = f" number {self.k}" if self.op == _library.RANK else ""
@@ -129,9 +156,9 @@ class Threshold:
     def dtype(self, field: Field) -> Any:
         return np.uint8
 
-    def run(self, field: Field, out: Samples) -> None:
+    def ready(self, field: Field, out: Samples) -> Callable[[], None]:
         arguments = (self.k, *_frame(field), field.maxval, *_array(field.samples), *_array(out))
-        _library.call(f"morphd_threshold_{field.levels.kind}", lambda: f"{self} of {field}", *arguments)
+        return _library.ready(f"morphd_threshold_{field.levels.kind}", lambda: f"{self} of {field}", *arguments)
 
     def __str__(self) -> str:
         return f"threshold at {self.k}"
@@ -151,10 +178,10 @@ class HitOrMiss:
     def dtype(self, field: Field) -> Any:
         return field.samples.dtype
 
-    def run(self, field: Field, out: Samples) -> None:
+    def ready(self, field: Field, out: Samples) -> Callable[[], None]:
         elements = (*_element(self.hit), *_element(self.miss))
         arguments = (*_frame(field), *field.top, *_array(field.samples), *elements, *_array(out))
-        _library.call(f"morphd_hit_or_miss_{field.kind}", lambda: f"{self} of {field}", *arguments)
+        return _library.ready(f"morphd_hit_or_miss_{field.kind}", lambda: f"{self} of {field}", *arguments)
 
     def __str__(self) -> str:
         return f"hit-or-miss by {self.hit!r} and {self.miss!r}"
@@ -175,9 +202,9 @@ class Skeleton:
     def dtype(self, field: Field) -> Any:
         return np.uint8
 
-    def run(self, field: Field, out: Samples) -> None:
+    def ready(self, field: Field, out: Samples) -> Callable[[], None]:
         arguments = (self.levels, *_frame(field), *_array(field.samples), *_element(self.footprint), *_array(out))
-        _library.call("morphd_skeleton", lambda: f"{self} of {field}", *arguments)
+        return _library.ready("morphd_skeleton", lambda: f"{self} of {field}", *arguments)
 
     def __str__(self) -> str:
         return f"skeleton of {self.levels} levels by {self.footprint!r}"
@@ -197,9 +224,9 @@ class Restoration:
     def dtype(self, field: Field) -> Any:
         return np.uint8
 
-    def run(self, field: Field, out: Samples) -> None:
+    def ready(self, field: Field, out: Samples) -> Callable[[], None]:
         arguments = (self.levels, *_frame(field), field.maxval, *_array(field.samples), *_element(self.footprint), *_array(out))
-        _library.call(f"morphd_restore_{field.levels.kind}", lambda: f"{self} of {field}", *arguments)
+        return _library.ready(f"morphd_restore_{field.levels.kind}", lambda: f"{self} of {field}", *arguments)
 
     def __str__(self) -> str:
         return f"restoration of {self.levels} levels by {self.footprint!r}"

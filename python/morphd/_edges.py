@@ -5,14 +5,14 @@ with a rim around it. A small one gets a rim as a whole, which is cut off behind
 """
 from __future__ import annotations
 
-from collections.abc import Callable, Iterator
-from functools import partial
+from collections.abc import Iterator
+from functools import lru_cache
 from typing import NamedTuple
 
 import numpy as np
 from numpy.typing import NDArray
 
-from . import _library, _pieces
+from . import _library, _pieces, _threads
 from ._calls import Call, Field, Flat, Samples
 from .footprints import Reach
 
@@ -38,9 +38,7 @@ class Part(NamedTuple):
         return Part(self.begin - before, self.end + behind)
 
 
-def _places(part: Part, length: int, mode: str) -> NDArray[np.intp]:
-    """Which row or column of so many stands at each place of the part."""
-    at = np.arange(part.begin, part.end)
+def _folded(at: NDArray[np.intp], length: int, mode: str) -> NDArray[np.intp]:
     if mode == "nearest":
         return at.clip(0, length - 1)
     if mode == "wrap":
@@ -51,6 +49,22 @@ def _places(part: Part, length: int, mode: str) -> NDArray[np.intp]:
         return np.minimum(at, period - at) if length > 1 else at
     at %= 2 * length
     return np.minimum(at, 2 * length - 1 - at)
+
+
+@lru_cache(maxsize=16)
+def _places(part: Part, length: int, mode: str) -> NDArray[np.intp]:
+    """Which row or column of so many stands at each place of the part. Pictures of one size ask for the same, so they are kept."""
+    places = _folded(np.arange(part.begin, part.end), length, mode)
+    places.flags.writeable = False
+    return places
+
+
+def _along(samples: Samples, part: Part, axis: int, mode: str) -> Samples:
+    """The rows of the part, for axis 0, or its columns."""
+    length = samples.shape[axis]
+    if 0 <= part.begin and part.end <= length:
+        return samples[part.begin : part.end] if axis == 0 else samples[:, part.begin : part.end]
+    return samples.take(_places(part, length, mode), axis)
 
 
 def with_rim(field: Field, reach: Reach, edges: Edges) -> Field:
@@ -75,10 +89,9 @@ def with_rim(field: Field, reach: Reach, edges: Edges) -> Field:
 def _cut(field: Field, rows: Part, columns: Part, edges: Edges) -> Field:
     """Some rows and columns, with what stands outside the array."""
     samples = field.samples
-    height, width = samples.shape
     if edges.mode != "constant":
-        places = np.ix_(_places(rows, height, edges.mode), _places(columns, width, edges.mode))
-        return field._replace(samples=samples[places])
+        cut = _along(_along(samples, rows, 0, edges.mode), columns, 1, edges.mode)
+        return field._replace(samples=np.ascontiguousarray(cut))
     made = np.full((rows.end - rows.begin, columns.end - columns.begin), edges.cval, samples.dtype)
     inside = samples[max(rows.begin, 0) : max(rows.end, 0), max(columns.begin, 0) : max(columns.end, 0)]
     made[max(-rows.begin, 0) :, max(-columns.begin, 0) :][: inside.shape[0], : inside.shape[1]] = inside
@@ -90,35 +103,57 @@ def _is_large(shape: tuple[int, ...], reach: Reach) -> bool:
     return SIDE_PER_RIMS * (up + down) <= height and SIDE_PER_RIMS * (left + right) <= width
 
 
-def _edges_of(shape: tuple[int, ...], reach: Reach) -> Iterator[tuple[Part, Part]]:
-    """The rectangles whose samples see what stands outside: up to four."""
+class Ends(NamedTuple):
+    """The samples at both ends of an axis that see what stands outside, and the rows or columns beside them on the other axis."""
+
+    axis: int
+    parts: tuple[Part, Part]
+    beside: Part
+
+    def places(self) -> Iterator[tuple[slice, slice]]:
+        """The rows and the columns of each end."""
+        for part in self.parts:
+            rows, columns = (part, self.beside) if self.axis == 0 else (self.beside, part)
+            yield slice(*rows), slice(*columns)
+
+
+def _ends_of(shape: tuple[int, ...], reach: Reach) -> Iterator[Ends]:
+    """First the whole rows, then what is left of the columns."""
     (height, width), (up, down, left, right) = shape, reach
-    middle = Part(up, height - down)
-    if up:
-        yield Part(0, up), Part(0, width)
-    if down:
-        yield Part(height - down, height), Part(0, width)
-    if left:
-        yield middle, Part(0, left)
-    if right:
-        yield middle, Part(width - right, width)
+    if up or down:
+        yield Ends(0, (Part(0, up), Part(height - down, height)), Part(0, width))
+    if left or right:
+        yield Ends(1, (Part(0, left), Part(width - right, width)), Part(up, height - down))
+
+
+def _computed(call: Call, field: Field, edges: Edges, ends: Ends) -> list[Samples]:
+    """The result at each end. Both ends are one call: each has its rim beside it, so neither sees the other."""
+    up, down, left, right = call.reach
+    windows = []
+    for part in ends.parts:
+        rows, columns = (part, ends.beside) if ends.axis == 0 else (ends.beside, part)
+        windows.append(_cut(field, rows.wider(up, down), columns.wider(left, right), edges).samples)
+    whole = _pieces.apply(call, field._replace(samples=np.concatenate(windows, ends.axis)), None, 1)
+    skipped = windows[0].shape[ends.axis]
+    behind = whole[skipped:] if ends.axis == 0 else whole[:, skipped:]
+    return [held[up:, left:] for held in (whole, behind)]
 
 
 def _with_edges(call: Call, field: Field, edges: Edges, out: Samples | None, workers: int) -> Samples:
     """The result, whose edges are computed anew beside it, and written over it at the end."""
-    up, down, left, right = reach = call.reach
-    made, places = _pieces.room(call, field, out), list(_edges_of(field.samples.shape, reach))
+    made, ends = _pieces.room(call, field, out), list(_ends_of(field.samples.shape, call.reach))
 
-    def edge(rows: Part, columns: Part) -> Samples:
-        held = _cut(field, rows.wider(up, down), columns.wider(left, right), edges)
-        whole = _pieces.apply(call, held, None, 1)
-        return whole[up:, left:][: rows.end - rows.begin, : columns.end - columns.begin]
+    computed: list[list[Samples]] = []
 
-    rest = _pieces.tasks(call, field, made, workers)
-    tasks: list[Callable[[], Samples | None]] = [*rest, *(partial(edge, *place) for place in places)]
-    results = _pieces.each(lambda task: task(), tasks, workers)
-    for (rows, columns), samples in zip(places, results[len(rest) :]):
-        made[rows.begin : rows.end, columns.begin : columns.end] = samples
+    def compute() -> None:
+        computed.extend(_computed(call, field, edges, one) for one in ends)
+
+    # the caller begins at the end, while the other threads wake
+    _threads.run([*_pieces.tasks(call, field, made, workers), compute], workers)
+    for one, results in zip(ends, computed):
+        for (rows, columns), samples in zip(one.places(), results):
+            target = made[rows, columns]
+            target[...] = samples[: target.shape[0], : target.shape[1]]
     return made
 
 

@@ -93,13 +93,26 @@ def use(library: Any) -> Any:
     return before
 
 
+def ready(name: str, asked: Callable[[], str], *arguments: Any) -> Callable[[], None]:
+    """A call of the library that any thread may make, and that raises what its answer stands for.
+
+    `asked` tells what was asked for, if it is refused. Arrays among the arguments are addresses: who holds the call holds them too.
+    """
+    function = getattr(loaded(), name)
+
+    def run() -> None:
+        number = function(*arguments)
+        if number == MEMORY:
+            raise OutOfMemory(asked())
+        if number:
+            raise Refused(number, asked())
+
+    return run
+
+
 def call(name: str, asked: Callable[[], str], *arguments: Any) -> None:
-    """Calls the library, and raises what its answer stands for. `asked` tells what was asked for, if it is refused."""
-    number = getattr(loaded(), name)(*arguments)
-    if number == MEMORY:
-        raise OutOfMemory(asked())
-    if number:
-        raise Refused(number, asked())
+    """Makes a call of the library at once."""
+    ready(name, asked, *arguments)()
 
 
 def library_version() -> int:

@@ -7,28 +7,19 @@ piece alone, where it belongs; else the rim is computed too, and cut off.
 from __future__ import annotations
 
 import math
-import os
-import threading
-from collections import deque
-from collections.abc import Callable, Iterable
-from concurrent.futures import ThreadPoolExecutor, wait
+from collections.abc import Callable
 from functools import partial
-from typing import NamedTuple, TypeVar
+from typing import NamedTuple
 
 import numpy as np
 
+from . import _threads
 from ._calls import Call, Field, Flat, Samples
 from .errors import Refused
 from .footprints import Reach
 
-Item = TypeVar("Item")
-Made = TypeVar("Made")
-
 # The library's limits of one image, and the least rows that are worth a core of their own.
 LONGEST_SIDE, MOST_SAMPLES, LEAST_ROWS = 8192, 1 << 24, 16
-
-_pools: dict[int, ThreadPoolExecutor] = {}
-_making = threading.Lock()
 
 
 class Span(NamedTuple):
@@ -71,16 +62,6 @@ class Piece(NamedTuple):
         return self.columns.own == slice(0, shape[1])
 
 
-def worker_count(workers: int | None) -> int:
-    """How many threads are asked for: None is 1, -1 is one for each processor, -2 one less."""
-    count = 1 if workers is None else int(workers)
-    if count < 0:
-        count += 1 + (os.cpu_count() or 1)
-    if count < 1:
-        raise ValueError(f"workers is a number of threads from 1 on, or negative to count from the processors: {workers}")
-    return count
-
-
 def _spans(length: int, parts: int, before: int, behind: int) -> list[Span]:
     """The length cut into parts that differ by at most 1."""
     marks = [length * part // parts for part in range(parts + 1)]
@@ -116,54 +97,6 @@ def cut(shape: tuple[int, ...], reach: Reach, workers: int) -> list[Piece]:
     return [Piece(row, column) for row in rows for column in columns]
 
 
-def _pool(count: int) -> ThreadPoolExecutor:
-    """Threads that are kept for the next call."""
-    with _making:
-        if count not in _pools:
-            _pools[count] = ThreadPoolExecutor(count, thread_name_prefix="morphd")
-        return _pools[count]
-
-
-def _forget_threads() -> None:
-    """A child process has none of its parent's threads."""
-    global _making
-    _making = threading.Lock()
-    _pools.clear()
-
-
-os.register_at_fork(after_in_child=_forget_threads)
-
-
-def each(work: Callable[[Item], Made], items: Iterable[Item], workers: int) -> list[Made]:
-    """What the work makes of each item, by so many threads, the caller's among them. The first fault is raised, when all have ended."""
-    held = list(items)
-    if workers == 1 or len(held) < 2:
-        return [work(item) for item in held]
-    waiting = deque(enumerate(held))
-    made: dict[int, Made] = {}
-    faults: dict[int, Exception] = {}
-
-    def take() -> None:
-        while True:
-            try:
-                at, item = waiting.popleft()
-            except IndexError:
-                return
-            try:
-                made[at] = work(item)
-            except Exception as fault:
-                faults[at] = fault
-
-    others = min(workers, len(held)) - 1
-    running = [_pool(workers - 1).submit(take) for _ in range(others)]
-    take()
-    # a thread that has not begun yet would find nothing to do
-    wait([one for one in running if not one.cancel()])
-    if faults:
-        raise faults[min(faults)]
-    return [made[at] for at in range(len(held))]
-
-
 def check_samples(field: Field, asked: object) -> None:
     """Refuses samples over the maxval before any piece is written. One piece needs no such look: the library has its own."""
     is_free = field.is_set or field.maxval == np.iinfo(field.samples.dtype).max
@@ -176,30 +109,39 @@ def room(call: Call, field: Field, out: Samples | None) -> Samples:
     return np.empty(field.samples.shape, call.dtype(field)) if out is None else out
 
 
+def _rimmed(call: Call, window: Field, piece: Piece, target: Samples) -> None:
+    """Computes a piece with its rim, in room of its own, and keeps the piece."""
+    whole = np.empty(window.samples.shape, target.dtype)
+    call.ready(window, whole)()
+    target[...] = whole[piece.rows.inner, piece.columns.inner]
+
+
+def _task(call: Call, field: Field, made: Samples, piece: Piece) -> Callable[[], None]:
+    """What writes a piece: ready to run where nothing has to be copied."""
+    seen, target = field.samples[piece.rows.window, piece.columns.window], made[piece.rows.own, piece.columns.own]
+    if not piece.has_whole_rows(made.shape):
+        return lambda: _rimmed(call, field._replace(samples=np.ascontiguousarray(seen)), piece, target)
+    window = field._replace(samples=seen)
+    if piece.is_its_window:
+        return call.ready(window, target)
+    return partial(_rimmed, call, window, piece, target)
+
+
 def tasks(call: Call, field: Field, made: Samples, workers: int) -> list[Callable[[], None]]:
-    """What writes the result, a piece each: in any order, or at once."""
-    pieces = [] if workers == 1 and fits(field.samples.shape) else cut(field.samples.shape, call.reach, workers)
+    """What writes the result, a piece each: in any order, or at once. Who holds the tasks holds `made` too."""
+    shape = made.shape
+    pieces = [] if workers == 1 and fits(shape) else cut(shape, call.reach, workers)
     if len(pieces) < 2:
-        return [lambda: call.run(field, made)]
+        return [call.ready(field, made)]
     check_samples(field, call)
-
-    def one(piece: Piece) -> None:
-        window = field._replace(samples=np.ascontiguousarray(field.samples[piece.rows.window, piece.columns.window]))
-        target = made[piece.rows.own, piece.columns.own]
-        if piece.is_its_window and target.flags.c_contiguous:
-            call.run(window, target)
-        elif isinstance(call, Flat) and call.has_one_step and piece.has_whole_rows(made.shape):
-            call.run_rows(window, piece.rows.inner.start, target)
-        else:
-            whole = np.empty(window.samples.shape, made.dtype)
-            call.run(window, whole)
-            target[...] = whole[piece.rows.inner, piece.columns.inner]
-
-    return [partial(one, piece) for piece in pieces]
+    if isinstance(call, Flat) and call.has_one_step and pieces[0].has_whole_rows(shape):
+        ready = call.rows_of(field, made)
+        return [ready(piece.rows) for piece in pieces]
+    return [_task(call, field, made, piece) for piece in pieces]
 
 
 def apply(call: Call, field: Field, out: Samples | None, workers: int) -> Samples:
     """What the call makes of the array, in `out` where it is given: by rows without gaps, of the result's type."""
     made = room(call, field, out)
-    each(lambda task: task(), tasks(call, field, made, workers), workers)
+    _threads.run(tasks(call, field, made, workers), workers)
     return made

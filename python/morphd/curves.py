@@ -16,7 +16,7 @@ from typing import IO, Any
 import numpy as np
 from numpy.typing import ArrayLike, NDArray
 
-from . import _arrays, _pieces
+from . import _arrays, _pieces, _threads
 from ._calls import Field, Flat, Samples, volumes
 from ._docs import COMPUTES, documented
 from ._library import DILATE, ERODE
@@ -201,7 +201,7 @@ def spectrum(
     field = _arrays.read(array, "spectrum", maxval).field
     if not 1 <= count <= MOST_SIZES:
         raise Refused(47, f"spectrum of {count} sizes")
-    threads = _pieces.worker_count(workers)
+    threads = _threads.worker_count(workers)
     is_whole = _pieces.fits(field.samples.shape)
     found = volumes(field, b, count) if is_whole else _by_openings(field, b, count, threads)
     return Spectrum(found, b, size, unit, field.is_set)

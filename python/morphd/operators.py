@@ -19,7 +19,7 @@ from typing import Any
 import numpy as np
 from numpy.typing import ArrayLike, NDArray
 
-from . import _arrays, _pieces, _plans
+from . import _arrays, _plans, _threads
 from ._calls import Flat, HitOrMiss, Restoration, Skeleton, Threshold
 from ._docs import COMPUTES, documented
 from ._edges import MODES, Edges
@@ -70,7 +70,7 @@ def _checked(options: _Options) -> _Options:
     if options.mode not in MODES:
         raise ValueError(f"mode is one of {', '.join(MODES)}: {options.mode!r}")
     _plans.checked_compat(options.compat)
-    return replace(options, workers=_pieces.worker_count(options.workers))
+    return replace(options, workers=_threads.worker_count(options.workers))
 
 
 def _planes(array: Array, out: Array, axes: tuple[int, int]) -> Iterator[tuple[Array, Array]]:

@@ -199,24 +199,16 @@ def test_workers_are_threads_of_their_own(monkeypatch, stood_in):
     monkeypatch.setattr(_pieces, "LEAST_ROWS", 1)
     met = threading.Barrier(4, timeout=60)
     seen = set()
-    real = stood_in.morphd_flat_u8
+    real = stood_in.morphd_flat_rows_u8
 
     def together(*arguments):
         met.wait()
         seen.add(threading.get_ident())
         return real(*arguments)
 
-    monkeypatch.setattr(stood_in, "morphd_flat_u8", together)
+    monkeypatch.setattr(stood_in, "morphd_flat_rows_u8", together)
     morphd.erosion(np.ones((8, 3), np.uint8), [[1]], workers=4)
     assert len(seen) == 4
-
-
-def test_how_many_workers(monkeypatch):
-    monkeypatch.setattr("os.cpu_count", lambda: 8)
-    assert [_pieces.worker_count(number) for number in (None, 1, 5, -1, -3)] == [1, 1, 5, 8, 6]
-    for number in (0, -9):
-        with pytest.raises(ValueError, match="workers"):
-            _pieces.worker_count(number)
 
 
 def test_a_sample_over_the_maxval_is_found_before_anything_is_written(monkeypatch):
@@ -233,15 +225,3 @@ def test_want_of_memory_in_a_thread(monkeypatch, stood_in):
     stood_in.refusing = 50
     with pytest.raises(morphd.OutOfMemory):
         morphd.erosion(np.ones((8, 3), np.uint8), [[1]], workers=4)
-
-
-def test_a_child_process_has_threads_of_its_own(monkeypatch):
-    import os
-
-    monkeypatch.setattr(_pieces, "LEAST_ROWS", 1)
-    image = np.ones((8, 3), np.uint8)
-    morphd.erosion(image, [[1]], workers=2)
-    child = os.fork()
-    if child == 0:
-        os._exit(0 if (morphd.erosion(image, [[1]], workers=2) == 1).all() else 1)
-    assert os.waitpid(child, 0)[1] == 0

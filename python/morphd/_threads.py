@@ -1,0 +1,125 @@
+"""Work that threads share. They are kept for the next call.
+
+While a call of the library runs, the interpreter's lock is free, and threads compute side by side; for all else they wait for that lock in
+turn, and one that slept takes long to wake. So whoever asks works too, and waits for what was begun, not for threads: one that comes
+late finds nothing left to do. What is handed out should be ready to run.
+"""
+from __future__ import annotations
+
+import os
+import threading
+from collections import deque
+from collections.abc import Callable, Iterable
+from contextlib import suppress
+from queue import SimpleQueue
+from typing import Generic, TypeVar
+
+Item = TypeVar("Item")
+Made = TypeVar("Made")
+
+_asked: SimpleQueue[Callable[[], None]] = SimpleQueue()
+_starting = threading.Lock()
+_started = 0
+
+
+def worker_count(workers: int | None) -> int:
+    """How many threads are asked for: None is 1, -1 is one for each processor, -2 one less."""
+    count = 1 if workers is None else int(workers)
+    if count < 0:
+        count += 1 + (os.cpu_count() or 1)
+    if count < 1:
+        raise ValueError(f"workers is a number of threads from 1 on, or negative to count from the processors: {workers}")
+    return count
+
+
+def _serve(asked: SimpleQueue[Callable[[], None]]) -> None:
+    while True:
+        asked.get()()
+
+
+def _start(count: int) -> None:
+    """Has so many threads at least, or as many as the system gives."""
+    global _started
+    with _starting:
+        while _started < count:
+            try:
+                threading.Thread(target=_serve, args=(_asked,), name="morphd", daemon=True).start()
+            except RuntimeError:
+                return
+            _started += 1
+
+
+def _forget_threads() -> None:
+    """A child process has none of its parent's threads."""
+    global _asked, _starting, _started
+    _asked, _starting, _started = SimpleQueue(), threading.Lock(), 0
+
+
+os.register_at_fork(after_in_child=_forget_threads)
+
+
+class _Share(Generic[Item, Made]):
+    """Items of which threads take one after another: the caller from the end, where there may be work that is not the library's,
+    since he is awake; the others from the begin."""
+
+    def __init__(self, work: Callable[[Item], Made], items: list[Item]) -> None:
+        self.work, self.items = work, items
+        self.left = deque(range(len(items)))
+        self.made: dict[int, Made] = {}
+        self.faults: dict[int, BaseException] = {}
+        self.ended: SimpleQueue[int] = SimpleQueue()
+
+    def take(self, next_item: Callable[[], int]) -> int:
+        """Does the work at items that nobody has begun, until none is left. Gives how many there were."""
+        count = 0
+        while True:
+            try:
+                at = next_item()
+            except IndexError:
+                return count
+            count += 1
+            try:
+                self.made[at] = self.work(self.items[at])
+            except BaseException as fault:
+                self.faults[at] = fault
+                if not isinstance(fault, Exception):
+                    return count + self.give_up()
+
+    def give_up(self) -> int:
+        """Leaves the rest undone, as at an interrupt. Gives how many those were."""
+        count = 0
+        with suppress(IndexError):
+            while True:
+                self.left.pop()
+                count += 1
+        return count
+
+    def help(self) -> None:
+        """What another thread does."""
+        self.ended.put(self.take(self.left.popleft))
+
+    def results(self) -> list[Made]:
+        """What was made, in order; or the first fault is raised, an interrupt before all others."""
+        if self.faults:
+            raise self.faults[min(self.faults, key=lambda at: (isinstance(self.faults[at], Exception), at))]
+        return [self.made[at] for at in range(len(self.items))]
+
+
+def each(work: Callable[[Item], Made], items: Iterable[Item], workers: int) -> list[Made]:
+    """What the work makes of each item, by so many threads, the caller's among them. The first fault is raised, when all have ended."""
+    held = list(items)
+    if workers == 1 or len(held) < 2:
+        return [work(item) for item in held]
+    share, others = _Share(work, held), min(workers, len(held)) - 1
+    _start(others)
+    for _ in range(others):
+        _asked.put(share.help)
+    ended = share.take(share.left.pop)
+    while ended < len(held):
+        ended += share.ended.get()
+    return share.results()
+
+
+def run(tasks: Iterable[Callable[[], Made]], workers: int) -> list[Made]:
+    """What each task gives, as `each` does it."""
+    return each(lambda task: task(), tasks, workers)
