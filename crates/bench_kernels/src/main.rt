@@ -1,7 +1,7 @@
 //! Times of the kernels on images of 4096 x 4096 samples, in one thread: on one window that owns the image's plane too,
 //! as a command runs that is one task, with the result as a plane of its own; and tile by tile, where each tile is cut
 //! with its halo, computed and pasted. Each figure is the best of five runs, or of as many as begin within two seconds.
-//! The program times only where it is asked to, as in `out/bench_kernels measure all`, or `rectangle`, `disc`, `rank`,
+//! The program times only where it is asked to, as in `out/bench_kernels measure all`, or `rectangle`, `disc`, `median`, `rank`,
 //! `lines` or `sets` in place of `all`, since times differ from run to run.
 #![tactic(auto)]
 
@@ -14,6 +14,7 @@ use crate::lines::time_lines;
 use crate::words::time_sets;
 use mw_grid::{Grid, side_ok};
 use mw_line::rectangle;
+use mw_medians::{Vectored, median_of_grey};
 use mw_model::{NoMemory, Offset, OffsetBox, Reach, Rect};
 use mw_offset::extremum;
 use mw_pixel::{Extremum, Grey, Max, Min, Plane};
@@ -28,6 +29,8 @@ use std::{env, io};
 #[derive(Debug, Drop)]
 enum Fault {
     Memory,
+    /// A kernel had no way for what it was to make.
+    Kernel,
     Clock(io::Error),
 }
 
@@ -140,11 +143,12 @@ fn full(alloc: Global, k: u8) -> Result<Vec<Offset>, Fault> {
     Ok(offsets)
 }
 
-/// A minimum or maximum under a square or a disc, or the middle rank under a square.
+/// A minimum or maximum under a square or a disc, or the middle rank under a square: by a network, or by the moving histogram.
 #[derive(Clone, Copy, PartialEq)]
 enum Filter {
     Rectangle,
     Disc,
+    Median,
     Rank,
 }
 
@@ -155,7 +159,7 @@ struct Case {
     k: u8,
 }
 
-const CASES: [Case; 8] = [
+const CASES: [Case; 10] = [
     Case {
         filter: Filter::Rectangle,
         k: 3,
@@ -185,6 +189,14 @@ const CASES: [Case; 8] = [
         k: 31,
     },
     Case {
+        filter: Filter::Median,
+        k: 3,
+    },
+    Case {
+        filter: Filter::Median,
+        k: 5,
+    },
+    Case {
         filter: Filter::Rank,
         k: 15,
     },
@@ -195,6 +207,7 @@ impl Filter {
         match self {
             Filter::Rectangle => "rectangle",
             Filter::Disc => "disc",
+            Filter::Median => "median",
             Filter::Rank => "rank",
         }
     }
@@ -206,12 +219,12 @@ impl Case {
         match self.filter {
             Filter::Rectangle => Ok(Vec::new(alloc)),
             Filter::Disc => disc(alloc, self.k),
-            Filter::Rank => full(alloc, self.k),
+            Filter::Median | Filter::Rank => full(alloc, self.k),
         }
     }
 
     /// What the filter makes of a window.
-    fn run<P: Grey, E: Extremum<P>>(
+    fn run<P: Vectored, E: Extremum<P>>(
         self,
         alloc: Global,
         window: &Window<P>,
@@ -222,23 +235,25 @@ impl Case {
         ensures height { IfOk result (λ r. r.height ≡ tile.height) }
     {
         let neutral = E::neutral(P::TOP);
+        if offsets.len() > 65535 {
+            return Err(Fault::Memory);
+        }
+        let middle = offsets.len() as u32 / 2 + 1;
         let made = match self.filter {
             Filter::Rectangle => rectangle::<P, E>(alloc, window, square(self.k), neutral, tile)?,
             Filter::Disc => extremum::<P, E>(alloc, window, offsets, neutral, tile)?,
-            Filter::Rank => {
-                if offsets.len() > 65535 {
-                    return Err(Fault::Memory);
-                }
-                let middle = offsets.len() as u32 / 2 + 1;
-                rank(alloc, window, offsets, middle, tile)?
-            }
+            Filter::Median => match median_of_grey(alloc, window, offsets, middle, tile)? {
+                Some(medians) => medians,
+                None => return Err(Fault::Kernel),
+            },
+            Filter::Rank => rank(alloc, window, offsets, middle, tile)?,
         };
         Ok(made)
     }
 }
 
 /// One pass over the whole image.
-fn whole<P: Grey, E: Extremum<P>>(
+fn whole<P: Vectored, E: Extremum<P>>(
     alloc: Global,
     plane: &Arc<Plane<P>>,
     case: Case,
@@ -250,7 +265,7 @@ fn whole<P: Grey, E: Extremum<P>>(
 }
 
 /// One pass over all tiles.
-fn tiled<P: Grey, E: Extremum<P>>(
+fn tiled<P: Vectored, E: Extremum<P>>(
     alloc: Global,
     plane: &Plane<P>,
     case: Case,
@@ -274,7 +289,7 @@ fn tiled<P: Grey, E: Extremum<P>>(
 }
 
 /// The microseconds of a case on the whole image, or on tiles where a side is given.
-fn time<R: std::rt::Clock, P: Grey, E: Extremum<P>>(
+fn time<R: std::rt::Clock, P: Vectored, E: Extremum<P>>(
     rt: &R,
     alloc: Global,
     plane: &Arc<Plane<P>>,
@@ -302,7 +317,7 @@ fn time<R: std::rt::Clock, P: Grey, E: Extremum<P>>(
 }
 
 /// Times the wanted cases on samples of one type.
-fn measure<R: std::rt::Clock + Print, P: Grey, E: Extremum<P>>(
+fn measure<R: std::rt::Clock + Print, P: Vectored, E: Extremum<P>>(
     rt: &R,
     alloc: Global,
     wanted: &str,

@@ -7,11 +7,16 @@ use crate::pass::Pass;
 use crate::payloads::{read_element, read_image};
 use crate::roll::{Front, Naming, NewRoll};
 use crate::signals::Signals;
+use crossbeam_utils::Backoff;
 use mw_core::task::{TaskRefused, TileDone, Work};
 use mw_core::{Core, Fetched, Finish, Refusal, Started};
 use mw_model::{Name, NoMemory, Op, Reply};
 use std::alloc::Global;
 use std::sync::{Condvar, Mutex, MutexGuard, Wait};
+
+/// How often a thread looks for the lock before it sleeps. The first seven pauses take some microseconds in all; behind each other look
+/// other threads may run.
+const LOOKS: u32 = 40;
 
 /// A core that threads share. Its parameter names the roll of the tasks that it hands out.
 #[derive(Drop)]
@@ -72,7 +77,7 @@ impl<J: Naming> Board<J> {
         ensures err { OnErr result (pass.new ≡ pass.old) }
     {
         let image = read_image(self.alloc, bytes);
-        self.kept.lock(rt).load(pass, name, image)
+        self.hold(rt).load(pass, name, image)
     }
 
     /// ELEMENT of the bytes of a plain bitmap, with its origin in this column and row.
@@ -89,7 +94,7 @@ impl<J: Naming> Board<J> {
         ensures err { OnErr result (pass.new ≡ pass.old) }
     {
         let element = read_element(self.alloc, bytes, origin.0, origin.1);
-        self.kept.lock(rt).element(pass, name, element)
+        self.hold(rt).element(pass, name, element)
     }
 
     /// RUN. As many sleeping workers are woken as tasks are ready.
@@ -104,7 +109,7 @@ impl<J: Naming> Board<J> {
         ensures shows_nothing { IfOk result (λ r. ¬ ShowsSome r) }
         ensures err { OnErr result (pass.new ≡ pass.old) }
     {
-        let mut kept = self.kept.lock(rt);
+        let mut kept = self.hold(rt);
         let reply = kept.run(pass, name, op);
         let wanted = kept.wanted_workers(0);
         drop(kept);
@@ -118,7 +123,7 @@ impl<J: Naming> Board<J> {
         ensures shows_nothing { IfOk result (λ r. ¬ ShowsSome r) }
         ensures err { OnErr result (pass.new ≡ pass.old) }
     {
-        let reply = self.kept.lock(rt).cancel(pass, name);
+        let reply = self.hold(rt).cancel(pass, name);
         self.settled.wake_all();
         reply
     }
@@ -129,7 +134,7 @@ impl<J: Naming> Board<J> {
         ensures shows_nothing { IfOk result (λ r. ¬ ShowsSome r) }
         ensures err { OnErr result (pass.new ≡ pass.old) }
     {
-        self.kept.lock(rt).release(pass, name)
+        self.hold(rt).release(pass, name)
     }
 
     /// STATUS.
@@ -138,7 +143,7 @@ impl<J: Naming> Board<J> {
         ensures shows_nothing { IfOk result (λ r. ¬ ShowsSome r) }
         ensures err { OnErr result (pass.new ≡ pass.old) }
     {
-        self.kept.lock(rt).status(pass, name)
+        self.hold(rt).status(pass, name)
     }
 
     /// STATUS, in the first hold of the lock in which the name has no pending entry or the board is closed.
@@ -147,7 +152,7 @@ impl<J: Naming> Board<J> {
         ensures shows_nothing { IfOk result (λ r. ¬ ShowsSome r) }
         ensures err { OnErr result (pass.new ≡ pass.old) }
     {
-        let mut kept = self.kept.lock(rt);
+        let mut kept = self.hold(rt);
         // The ticket is looked up in the hold in which the sleep begins, and whoever settles it wakes its class after that.
         for _ in rt.forever() {
             match kept.awaited(name) {
@@ -164,12 +169,12 @@ impl<J: Naming> Board<J> {
         ensures shown { IfOk result (λ f. IsSome (shown_value f.value) ↔ ShowsSome f.reply) }
         ensures err { OnErr result (pass.new ≡ pass.old) }
     {
-        self.kept.lock(rt).fetch(pass, name)
+        self.hold(rt).fetch(pass, name)
     }
 
     /// Workers take no task any more, and no session waits.
     pub fn close<R: Wait>(&self, rt: &R) {
-        self.kept.lock(rt).closed = true;
+        self.hold(rt).closed = true;
         self.ready.notify_all();
         self.settled.wake_all();
     }
@@ -179,7 +184,20 @@ impl<J: Naming> Board<J> {
     pub fn audit_all<R: Wait>(&self, rt: &R, passes: &[Pass]) -> bool
         ensures { IsTrue result → (core : CoreView) × ∥ ((m : Machine) × StandsFor core m) ∥₁ × Covers core.log passes.now }
     {
-        self.kept.lock(rt).audit(passes)
+        self.hold(rt).audit(passes)
+    }
+
+    /// The lock. A hold mostly ends before a thread could fall asleep and be woken. So one that finds the lock taken looks again and
+    /// again first, with growing pauses, and then lets others run in between.
+    fn hold<R: Wait>(&self, rt: &R) -> MutexGuard<'_, Kept<J>> {
+        let pauses = Backoff::new();
+        for _ in 0..LOOKS {
+            if let Some(kept) = self.kept.try_lock() {
+                return kept;
+            }
+            pauses.snooze();
+        }
+        self.kept.lock(rt)
     }
 
     fn wake_workers(&self, wanted: u64) {
@@ -195,7 +213,7 @@ impl<J: Naming> Board<J> {
         ensures slip { IfSome result (λ r. IfSome r.1 (λ seen. EndsWith seen r.0)) }
     {
         for _ in rt.forever() {
-            let mut kept = self.kept.lock(rt);
+            let mut kept = self.hold(rt);
             if kept.closed {
                 return None;
             }
@@ -216,27 +234,43 @@ impl<J: Naming> Board<J> {
         kept.asleep = kept.asleep.saturating_sub(1);
     }
 
-    /// A worker brings a result, with what it saw of the roll up to its task, and takes one of the ready tasks itself. The
-    /// others wake sleeping workers. Where the result was the last of its ticket, that ticket alone is settled, and sessions
-    /// that wait for it look again.
-    pub(crate) fn finish<R: Wait>(&self, rt: &R, done: TileDone, slip: &Option<Front<J>>)
+    /// A worker brings a result, with what it saw of the roll up to its task, and takes a ready task in the same hold of the lock, as
+    /// `take` does. The other ready tasks wake sleeping workers. Where the result was the last of its ticket, that ticket alone is
+    /// settled, and sessions that wait for it look again.
+    pub(crate) fn exchange<R: Wait>(
+        &self,
+        rt: &R,
+        done: TileDone,
+        slip: &Option<Front<J>>,
+    ) -> Option<(Work, Option<Front<J>>)>
         requires bounded { AllByRecursion IsBounded done.windows }
         requires slip { IfSome slip.now (λ seen. EndsWith seen done) }
+        ensures bounded { IfSome result (λ r. AllByRecursion IsBounded r.0.windows) }
+        ensures slip { IfSome result (λ r. IfSome r.1 (λ seen. EndsWith seen r.0)) }
     {
-        let mut kept = self.kept.lock(rt);
+        let mut kept = self.hold(rt);
         let answer = kept.finish(done, slip);
-        let wanted = kept.wanted_workers(1);
+        let (started, next_slip) = kept.start_if_open();
+        let wanted = kept.wanted_workers(0);
         drop(kept);
         if let Finish::Settled(t) = answer {
             self.settled.of(t).notify_all();
         }
         self.wake_workers(wanted);
+        match started {
+            Started::Work(work) => Some((work, next_slip)),
+            Started::Refused(_) => {
+                self.settled.wake_all();
+                self.take(rt)
+            }
+            Started::Idle => self.take(rt),
+        }
     }
 
     /// A worker found no memory for a task. Where its ticket is killed, all sessions that wait look again: what depends on
     /// it is settled with it.
     pub(crate) fn refuse<R: Wait>(&self, rt: &R, refused: TaskRefused) {
-        let answer = self.kept.lock(rt).refuse(refused);
+        let answer = self.hold(rt).refuse(refused);
         if let Refusal::Killed(_) = answer {
             self.settled.wake_all();
         }

@@ -189,6 +189,20 @@ impl<J: Naming> Kept<J> {
         (started, slip)
     }
 
+    /// The same on an open board. Of a closed one no task is taken.
+    pub fn start_if_open(&mut self) -> (Started, Option<Front<J>>)
+        ensures task { self.old.closed ≡ false → (m : Machine) → StandsFor self.old.core m → Starts self.old.core m result.0 self.new.core }
+        ensures closed { self.old.closed ≡ true → (result.0 ≡ Started.Idle) × (self.new.core ≡ self.old.core) }
+        ensures bounded { StartsBounded result.0 }
+        ensures slip { IsSlipOf result.0 result.1 }
+        ensures rest { (self.new.closed ≡ self.old.closed) × (self.new.asleep ≡ self.old.asleep) }
+    {
+        if !self.closed {
+            return self.start();
+        }
+        (Started::Idle, None)
+    }
+
     /// A result of a task of the roll, which is the core's own: nothing is compared.
     fn finish_own(&mut self, done: TileDone) -> Finish
         requires bounded { AllByRecursion IsBounded done.windows }

@@ -3,8 +3,8 @@
 use std::array::from_fn;
 use std::sync::Condvar;
 
-/// How many classes of tickets there are.
-const CLASSES: usize = 16;
+/// How many classes of tickets there are: as many as sessions may well wait at once.
+const CLASSES: usize = 64;
 
 /// A condition variable for each class of tickets, so that who settles one ticket wakes only those who wait for a ticket of
 /// its class.

@@ -17,13 +17,17 @@ pub trait Gate {
 /// Takes tasks of the board, computes them and brings their results, until the board is closed. It sleeps while no task is
 /// ready.
 pub fn work<J: Naming, R: Wait, G: Gate>(rt: &R, board: &Board<J>, gate: &G) {
+    let mut taken = board.take(rt);
     for _ in rt.forever() {
-        let Some((task, slip)) = board.take(rt) else {
+        let Some((task, slip)) = taken else {
             break;
         };
-        match gate.compute(task) {
-            Ok(done) => board.finish(rt, done, &slip),
-            Err(refused) => board.refuse(rt, refused),
-        }
+        taken = match gate.compute(task) {
+            Ok(done) => board.exchange(rt, done, &slip),
+            Err(refused) => {
+                board.refuse(rt, refused);
+                board.take(rt)
+            }
+        };
     }
 }

@@ -14,7 +14,7 @@ use std::thread;
 use std::thread::{Threads, map_indices};
 
 /// More than twice as many as a board has condition variables for them.
-const SESSIONS: u32 = 40;
+const SESSIONS: u32 = 130;
 
 /// Of each session that asks for work.
 const COMMANDS: u32 = 25;
@@ -38,14 +38,14 @@ impl Gate for Refusing {
     }
 }
 
-fn digits(number: u32) -> [u8; 2] {
-    [number / 10, number].map(|n| b'0' + (n % 10) as u8)
+fn digits(number: u32) -> [u8; 3] {
+    [number / 100, number / 10, number].map(|n| b'0' + (n % 10) as u8)
 }
 
-/// The name of an entry, from `e00` to `e99`.
+/// The name of an entry, from `e000` to `e999`.
 fn entry(rt: &impl Abort, number: u32) -> Name {
-    let [ten, one] = digits(number);
-    name(rt, &[b'e', ten, one])
+    let [hundred, ten, one] = digits(number);
+    name(rt, &[b'e', hundred, ten, one])
 }
 
 /// The first entry is an erosion of the row, and each other one of the entry before it. Their tickets begin with 2.
@@ -169,8 +169,8 @@ fn commands_done<R: Wait + Abort, J: Naming>(rt: &R, board: &Board<J>, session: 
     let mut pass = board.pass();
     let mut count = 0u32;
     for command in 0..COMMANDS {
-        let ([a, b], [c, d]) = (digits(session), digits(command));
-        let text = [b's', a, b, c, d];
+        let ([a, b, c], [_, d, e]) = (digits(session), digits(command));
+        let text = [b's', a, b, c, d, e];
         run(rt, board, &mut pass, &text, erosion(rt));
         if let Reply::Done(_, _) = wait(rt, board, &mut pass, &text) {
             count = count.saturating_add(1);
