@@ -40,6 +40,8 @@ def _serve(asked: SimpleQueue[Callable[[], None]]) -> None:
 def _start(count: int) -> None:
     """Has so many threads at least, or as many as the system gives."""
     global _started
+    if _started >= count:
+        return
     with _starting:
         while _started < count:
             try:
