@@ -5,8 +5,8 @@ with a rim around it. A small one gets a rim as a whole, which is cut off behind
 """
 from __future__ import annotations
 
-from collections.abc import Iterator
-from functools import lru_cache
+from collections.abc import Callable, Iterator
+from functools import lru_cache, partial
 from typing import NamedTuple
 
 import numpy as np
@@ -142,16 +142,16 @@ def _computed(call: Call, field: Field, edges: Edges, ends: Ends) -> list[Sample
 def _with_edges(call: Call, field: Field, edges: Edges, out: Samples | None, workers: int) -> Samples:
     """The result, whose edges are computed anew beside it, and written over it at the end."""
     made, ends = _pieces.room(call, field, out), list(_ends_of(field.samples.shape, call.reach))
+    computed: dict[Ends, list[Samples]] = {}
 
-    computed: list[list[Samples]] = []
-
-    def compute() -> None:
-        computed.extend(_computed(call, field, edges, one) for one in ends)
+    def compute(one: Ends) -> None:
+        computed[one] = _computed(call, field, edges, one)
 
     # the caller begins at the end, while the other threads wake
-    _threads.run([*_pieces.tasks(call, field, made, workers), compute], workers)
-    for one, results in zip(ends, computed):
-        for (rows, columns), samples in zip(one.places(), results):
+    tasks: list[Callable[[], None]] = [*_pieces.tasks(call, field, made, workers), *(partial(compute, one) for one in ends)]
+    _threads.run(tasks, workers)
+    for one in ends:
+        for (rows, columns), samples in zip(one.places(), computed[one]):
             target = made[rows, columns]
             target[...] = samples[: target.shape[0], : target.shape[1]]
     return made
