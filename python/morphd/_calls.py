@@ -5,7 +5,7 @@ A call knows nothing of edges, cores or arrays that are too large; `_pieces`, `_
 from __future__ import annotations
 
 from collections.abc import Callable
-from dataclasses import dataclass
+from dataclasses import dataclass, replace
 from typing import Any, NamedTuple, Protocol
 
 import numpy as np
@@ -69,6 +69,10 @@ class Call(Protocol):
     @property
     def reach(self) -> Reach: ...
 
+    @property
+    def transposed(self) -> Call:
+        """The call that makes the transposed result of the transposed array."""
+
     def dtype(self, field: Field) -> Any:
         """The type of the result's samples."""
 
@@ -89,6 +93,10 @@ def _element(footprint: Footprint) -> tuple[bytes, int, int, int, int, int]:
     return footprint.pixels, len(footprint.pixels), columns, rows, column, row
 
 
+def _transposed(footprint: Footprint) -> Footprint:
+    return Footprint(footprint.bitmap.T, footprint.origin[::-1])
+
+
 @dataclass(frozen=True)
 class Flat:
     """One of the eight flat operations."""
@@ -101,6 +109,10 @@ class Flat:
     def reach(self) -> Reach:
         own = self.footprint.reach
         return own + own.turned() if self.op in _TWO_STEPS else own
+
+    @property
+    def transposed(self) -> Flat:
+        return replace(self, footprint=_transposed(self.footprint))
 
     @property
     def has_one_step(self) -> bool:
@@ -153,6 +165,10 @@ class Threshold:
     k: int
     reach = NOWHERE
 
+    @property
+    def transposed(self) -> Threshold:
+        return self
+
     def dtype(self, field: Field) -> Any:
         return np.uint8
 
@@ -174,6 +190,10 @@ class HitOrMiss:
     @property
     def reach(self) -> Reach:
         return self.hit.reach.joined(self.miss.reach)
+
+    @property
+    def transposed(self) -> HitOrMiss:
+        return HitOrMiss(_transposed(self.hit), _transposed(self.miss))
 
     def dtype(self, field: Field) -> Any:
         return field.samples.dtype
@@ -199,6 +219,10 @@ class Skeleton:
         # the last residue looks through all erosions, and back once
         return self.footprint.reach * self.levels + self.footprint.reach.turned()
 
+    @property
+    def transposed(self) -> Skeleton:
+        return replace(self, footprint=_transposed(self.footprint))
+
     def dtype(self, field: Field) -> Any:
         return np.uint8
 
@@ -220,6 +244,10 @@ class Restoration:
     @property
     def reach(self) -> Reach:
         return self.footprint.reach.turned() * self.levels
+
+    @property
+    def transposed(self) -> Restoration:
+        return replace(self, footprint=_transposed(self.footprint))
 
     def dtype(self, field: Field) -> Any:
         return np.uint8

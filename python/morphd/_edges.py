@@ -64,7 +64,9 @@ def _along(samples: Samples, part: Part, axis: int, mode: str) -> Samples:
     length = samples.shape[axis]
     if 0 <= part.begin and part.end <= length:
         return samples[part.begin : part.end] if axis == 0 else samples[:, part.begin : part.end]
-    return samples.take(_places(part, length, mode), axis)
+    places = _places(part, length, mode)
+    # not by `take`, which would copy all of a transposed array
+    return samples[places] if axis == 0 else samples[:, places]
 
 
 def with_rim(field: Field, reach: Reach, edges: Edges) -> Field:
@@ -104,56 +106,61 @@ def _is_large(shape: tuple[int, ...], reach: Reach) -> bool:
 
 
 class Ends(NamedTuple):
-    """The samples at both ends of an axis that see what stands outside, and the rows or columns beside them on the other axis."""
+    """The rows at both ends of an array that see what stands outside, and the columns of them that are computed."""
 
-    axis: int
-    parts: tuple[Part, Part]
-    beside: Part
+    rows: tuple[Part, Part]
+    columns: Part
 
     def places(self) -> Iterator[tuple[slice, slice]]:
         """The rows and the columns of each end."""
-        for part in self.parts:
-            rows, columns = (part, self.beside) if self.axis == 0 else (self.beside, part)
-            yield slice(*rows), slice(*columns)
-
-
-def _ends_of(shape: tuple[int, ...], reach: Reach) -> Iterator[Ends]:
-    """First the whole rows, then what is left of the columns."""
-    (height, width), (up, down, left, right) = shape, reach
-    if up or down:
-        yield Ends(0, (Part(0, up), Part(height - down, height)), Part(0, width))
-    if left or right:
-        yield Ends(1, (Part(0, left), Part(width - right, width)), Part(up, height - down))
+        for part in self.rows:
+            yield slice(*part), slice(*self.columns)
 
 
 def _computed(call: Call, field: Field, edges: Edges, ends: Ends) -> list[Samples]:
     """The result at each end. Both ends are one call: each has its rim beside it, so neither sees the other."""
     up, down, left, right = call.reach
-    windows = []
-    for part in ends.parts:
-        rows, columns = (part, ends.beside) if ends.axis == 0 else (ends.beside, part)
-        windows.append(_cut(field, rows.wider(up, down), columns.wider(left, right), edges).samples)
-    whole = _pieces.apply(call, field._replace(samples=np.concatenate(windows, ends.axis)), None, 1)
-    skipped = windows[0].shape[ends.axis]
-    behind = whole[skipped:] if ends.axis == 0 else whole[:, skipped:]
-    return [held[up:, left:] for held in (whole, behind)]
+    columns = ends.columns.wider(left, right)
+    windows = [_cut(field, part.wider(up, down), columns, edges).samples for part in ends.rows]
+    whole = _pieces.apply(call, field._replace(samples=np.concatenate(windows)), None, 1)
+    return [held[up:, left:] for held in (whole, whole[len(windows[0]) :])]
+
+
+def _edge_tasks(call: Call, field: Field, made: Samples, edges: Edges) -> Iterator[Callable[[], Callable[[], None]]]:
+    """What computes the edges of a result, first of the rows, then of what is left of the columns, and gives what writes them.
+    Columns are computed as rows of the transposed array, since the library's kernels go along rows."""
+    up, down, left, right = call.reach
+    height, width = field.samples.shape
+    turned = field._replace(samples=field.samples.T)
+    for on, asked, to, ends in (
+        (field, call, made, Ends((Part(0, up), Part(height - down, height)), Part(0, width))),
+        (turned, call.transposed, made.T, Ends((Part(0, left), Part(width - right, width)), Part(up, height - down))),
+    ):
+        if any(part.begin < part.end for part in ends.rows):
+            yield partial(_computed_edges, asked, on, to, edges, ends)
+
+
+def _computed_edges(call: Call, field: Field, made: Samples, edges: Edges, ends: Ends) -> Callable[[], None]:
+    results = _computed(call, field, edges, ends)
+
+    def write() -> None:
+        for (rows, columns), samples in zip(ends.places(), results):
+            target = made[rows, columns]
+            target[...] = samples[: target.shape[0], : target.shape[1]]
+
+    return write
 
 
 def _with_edges(call: Call, field: Field, edges: Edges, out: Samples | None, workers: int) -> Samples:
     """The result, whose edges are computed anew beside it, and written over it at the end."""
-    made, ends = _pieces.room(call, field, out), list(_ends_of(field.samples.shape, call.reach))
-    computed: dict[Ends, list[Samples]] = {}
-
-    def compute(one: Ends) -> None:
-        computed[one] = _computed(call, field, edges, one)
-
+    made = _pieces.room(call, field, out)
+    # smaller pieces, so that who computes edges has less of the rest
+    rest = _pieces.tasks(call, field, made, workers if workers == 1 else 2 * workers)
     # the caller begins at the end, while the other threads wake
-    tasks: list[Callable[[], None]] = [*_pieces.tasks(call, field, made, workers), *(partial(compute, one) for one in ends)]
-    _threads.run(tasks, workers)
-    for one in ends:
-        for (rows, columns), samples in zip(one.places(), computed[one]):
-            target = made[rows, columns]
-            target[...] = samples[: target.shape[0], : target.shape[1]]
+    tasks: list[Callable[[], Callable[[], None] | None]] = [*rest, *_edge_tasks(call, field, made, edges)]
+    for write in _threads.run(tasks, workers)[len(rest) :]:
+        if write is not None:
+            write()
     return made
 
 
