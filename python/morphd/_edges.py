@@ -154,7 +154,7 @@ def _computed_edges(call: Call, field: Field, made: Samples, edges: Edges, ends:
 def _with_edges(call: Call, field: Field, edges: Edges, out: Samples | None, workers: int) -> Samples:
     """The result, whose edges are computed anew beside it, and written over it at the end."""
     made = _pieces.room(call, field, out)
-    # smaller pieces, so that who computes edges has less of the rest
+    # pieces of half the size, so that whoever computes edges can leave more of the rest to the others
     rest = _pieces.tasks(call, field, made, workers if workers == 1 else 2 * workers)
     # the caller begins at the end, while the other threads wake
     tasks: list[Callable[[], Callable[[], None] | None]] = [*rest, *_edge_tasks(call, field, made, edges)]

@@ -61,8 +61,8 @@ os.register_at_fork(after_in_child=_forget_threads)
 
 
 class _Share(Generic[Item, Made]):
-    """Items of which threads take one after another: the caller from the end, where there may be work that is not the library's,
-    since he is awake; the others from the begin."""
+    """Items of which threads take one after another. The caller takes them from the end, where work may stand that needs the
+    interpreter, since he is awake already; the others take them from the front."""
 
     def __init__(self, work: Callable[[Item], Made], items: list[Item]) -> None:
         self.work, self.items = work, items
