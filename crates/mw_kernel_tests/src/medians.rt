@@ -55,7 +55,8 @@ fn plane<P: Counted>(
     Ok(plane_of::<P>(alloc, &noise(alloc, Kind::Grey, width, height, maxval)?)?)
 }
 
-/// Frames of each width up to one: vectors go from their own width and the square's on.
+/// Frames of each width up to one: vectors go from their own width and the square's on, and columns are shared from two or
+/// three vectors on.
 fn widths<P: Counted + Vectored>(
     rt: &impl Abort,
     alloc: Global,
@@ -88,15 +89,15 @@ fn medians_of_frames_of_each_width(rt: HostRuntime) -> Result<(), Fail> {
 }
 
 #[test]
-fn medians_of_narrow_frames_of_words(rt: HostRuntime) -> Result<(), Fail> {
-    widths::<u16>(&rt, rt.alloc(), 65535, 3, 5, 20)?;
-    widths::<u16>(&rt, rt.alloc(), 65535, 5, 13, 20)
+fn medians_of_frames_of_words(rt: HostRuntime) -> Result<(), Fail> {
+    widths::<u16>(&rt, rt.alloc(), 65535, 3, 5, 39)?;
+    widths::<u16>(&rt, rt.alloc(), 65535, 5, 13, 39)
 }
 
 #[test]
 fn medians_of_dark_frames(rt: HostRuntime) -> Result<(), Fail> {
     widths::<u8>(&rt, rt.alloc(), 1, 3, 5, 35)?;
-    widths::<u8>(&rt, rt.alloc(), 1, 5, 13, 35)
+    widths::<u8>(&rt, rt.alloc(), 1, 5, 13, 71)
 }
 
 /// Tiles at corners and sides of a frame of 70 by 50, inside of it and past it, in all of it and in a part, under squares from

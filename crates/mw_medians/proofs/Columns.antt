@@ -43,14 +43,14 @@ five_loaded level d samples from stride j p q r s u a b c e f t p-is q-is r-is s
     )
 
 -- five columns beside one another
-pub all_counted : {A : Type 0} (level : A → ℕ) (d : A) (samples : List A) (from stride j at v : ℕ)
-    → IsNumber (λ t. column_below level d samples from stride 5 (at + j) t + column_below level d samples from stride 5 (at + 1 + j) t + (column_below level d samples from stride 5 (at + 2 + j) t + column_below level d samples from stride 5 (at + 3 + j) t) + column_below level d samples from stride 5 (at + 4 + j) t) 13 v
-    → IsNumber (block_below level d samples from stride 5 (at + j)) 13 v
-all_counted level d samples from stride j at v number t =
-    number t ∙ ap (nat_le 13) (omega (arith, turned 0 (at + j) (omega arith), turned 1 (at + 1 + j) (omega arith), turned 2 (at + 2 + j) (omega arith), turned 3 (at + 3 + j) (omega arith), turned 4 (at + 4 + j) (omega arith)))
+pub all_counted : {A : Type 0} (level : A → ℕ) (d : A) (samples : List A) (from stride j p q r s v : ℕ) → p ≡ j + 1 → q ≡ j + 2 → r ≡ j + 3 → s ≡ j + 4
+    → IsNumber (λ t. column_below level d samples from stride 5 j t + column_below level d samples from stride 5 p t + (column_below level d samples from stride 5 q t + column_below level d samples from stride 5 r t) + column_below level d samples from stride 5 s t) 13 v
+    → IsNumber (block_below level d samples from stride 5 j) 13 v
+all_counted level d samples from stride j p q r s v p-is q-is r-is s-is number t =
+    number t ∙ ap (nat_le 13) (omega (arith, turned 0 j (omega arith), turned 1 p p-is, turned 2 q q-is, turned 3 r r-is, turned 4 s s-is))
   where
-    turned : (c p : ℕ) → p ≡ at + j + c → column_below level d samples from stride 5 p t ≡ column_below level d samples from stride 5 (at + j + c) t
-    turned c p is = ap (λ (q : ℕ). column_below level d samples from stride 5 q t) is
+    turned : (c k : ℕ) → k ≡ j + c → column_below level d samples from stride 5 k t ≡ column_below level d samples from stride 5 (j + c) t
+    turned c k is = ap (λ (x : ℕ). column_below level d samples from stride 5 x t) is
 
 -- a vector more of a line, which may begin within what is there
 pub line_more : {A : Type 0} (level : A → ℕ) (d : A) (count : ℕ → ℕ → ℕ) (k from done width next : ℕ) (old new : List A) (lane : ℕ → ℕ) → from ≤ done → next ≡ from + width

@@ -1,13 +1,14 @@
 -- Lanes of vectors: what is loaded, stored, and the lesser and the greater of each pair.
-use Rattle.std.proofs.Common.{◌≡◌, ℕ, zero, suc, ◌+◌, ◌-◌, ◌^◌, ◌<◌, ◌≤◌, min, max, cond, ltb, List, [], ◌∷◌, length, get_or, take, drop, map, refl, ap, sym, arith, ◌∙◌, length-take, length-drop}
-use Rattle.std.proofs.lemmas.List.{get_or-take, get_or-drop, get_or_default}
-use Rattle.std.proofs.lemmas.Simd.{tops_compared, put_chunk_whole, length-zip2, get_or-chunk, length-chunk}
+use Rattle.std.proofs.Common.{◌≡◌, ℕ, zero, suc, ◌+◌, ◌-◌, ◌^◌, ◌<◌, ◌≤◌, min, max, cond, ltb, List, [], ◌∷◌, length, get_or, take, drop, map, refl, ap, sym, arith, ◌∙◌, length-take, length-drop, length-append, ◌++◌}
+use Rattle.std.proofs.lemmas.List.{get_or-take, get_or-drop, get_or_default, get_or_append_left, get_or-append-add}
+use Rattle.std.proofs.lemmas.Simd.{tops_compared, put_chunk_whole, length-zip2, get_or-chunk, length-chunk, pick_l-range_with_len}
+use Rattle.std.specs.List.{range_with_len}
 use Rattle.std.specs.Int.{Width}
 use mir.Val.{bits, hbits}
 use Rattle.mw_model.proofs.mw_facts.Numbers.{cond-min, cond-max}
 use Rattle.mw_model.proofs.mw_facts.Parts.{get_or-put_mid_within}
 use borrow.Rule.Slice.PartMut.{put_mid}
-use lib.Lanes.{zip2, sel_l, top, chunk, put_chunk}
+use lib.Lanes.{zip2, sel_l, top, chunk, put_chunk, pick_l}
 
 lesser : (xs ys : List ℕ) → sel_l (zip2 ltb xs ys) xs ys ≡ zip2 min xs ys
 lesser [] ys = refl
@@ -65,3 +66,26 @@ stored_lane n out lanes at i d fits long lt =
     ∙ get_or-put_mid_within at (at + n - at) out lanes (at + i) d (omega arith) (omega arith) (omega arith)
     ∙ ap (λ (t : ℕ). get_or lanes t d) (let same : at + i - at ≡ i = omega arith in same)
     ∙ get_or_default lanes i d 0 (omega arith)
+
+-- the lanes of two vectors behind one another from number `by` on
+
+abbrev pub lanes_from : ℕ → ℕ → List ℕ → List ℕ → List ℕ
+lanes_from n by xs ys = pick_l 0 (xs ++ ys) (range_with_len by n)
+
+pub ahead_long : (n by : ℕ) (xs ys : List ℕ) → by ≤ n → length xs ≡ n → length ys ≡ n → length (lanes_from n by xs ys) ≡ n
+ahead_long n by xs ys small xs-long ys-long =
+    let fits : by + n ≤ length (xs ++ ys) = omega (arith, length-append xs ys) in
+    ap length (pick_l-range_with_len 0 (xs ++ ys) by n fits) ∙ length-chunk by n (xs ++ ys) fits
+
+pub ahead_lane : (n by : ℕ) (xs ys : List ℕ) (i : ℕ) → by ≤ n → length xs ≡ n → length ys ≡ n → i < n
+    → (i + by < n → get_or (lanes_from n by xs ys) i 0 ≡ get_or xs (i + by) 0) × (n ≤ i + by → get_or (lanes_from n by xs ys) i 0 ≡ get_or ys (i + by - n) 0)
+ahead_lane n by xs ys i small xs-long ys-long lt =
+    let fits : by + n ≤ length (xs ++ ys) = omega (arith, length-append xs ys) in
+    let place : by + i ≡ i + by = omega arith in
+    let picked : get_or (lanes_from n by xs ys) i 0 ≡ get_or (xs ++ ys) (i + by) 0 =
+    ap (λ (l : List ℕ). get_or l i 0) (pick_l-range_with_len 0 (xs ++ ys) by n fits) ∙ get_or-chunk by n (xs ++ ys) i 0 lt ∙ ap (λ (p : ℕ). get_or (xs ++ ys) p 0) place in (
+      λ near. picked ∙ get_or_append_left xs ys 0 (i + by) (omega arith),
+      λ far.
+          let behind : i + by ≡ length xs + (i + by - n) = omega arith in
+          picked ∙ ap (λ (p : ℕ). get_or (xs ++ ys) p 0) behind ∙ get_or-append-add xs ys (i + by - n) 0,
+    )

@@ -1,6 +1,7 @@
 -- the crate's own
 mod Tests
 mod Lanes
+mod Further
 mod Orders
 mod Merges
 mod Sums

@@ -1,4 +1,5 @@
 pub mod Numbered
+pub mod Ahead
 pub mod Networks
 pub mod Columns
 pub mod Squares

@@ -1,10 +1,14 @@
-//! Medians of a row of results.
+//! Medians of a row of results. As far as whole vectors follow, each column is put in order once, and the squares that begin in
+//! the lanes of a vector take the rest of their columns from the next ones. The last squares put columns of their own in order.
 ghost use Rattle.std.specs.Prelude.{◌≡◌, ℕ, ◌+◌, ◌*◌, ◌<◌, ◌≤◌, length, slice_index_or};
 ghost use Rattle.mw_medians.specs.Numbered.{lanes_of_three, lanes_of_five, AreThree, AreFive, IsNumber};
 ghost use Rattle.mw_medians.specs.Columns.{column_below, block_below};
 ghost use Rattle.mw_medians.specs.Squares.{IsMedian};
 
 use crate::Vectored;
+use crate::ahead::{
+    five_four_ahead, five_one_ahead, ten_two_ahead, three_one_ahead, three_two_ahead,
+};
 use crate::five::{Five, five_in_order, five_merged, median_of_tens};
 use crate::nine::{Three, median_of_nine, three_in_order};
 use mw_rank::pixel::Pixel;
@@ -32,6 +36,31 @@ fn columns_of_three<P: Vectored>(sheet: Sheet<P>, at: usize) -> Three<P::Vector>
     )
 }
 
+/// The first medians of nine samples each, as far as a whole vector follows theirs. Each column is put in order once. Returns
+/// how many there are.
+fn first_of_nine<P: Vectored>(out: &mut [P], sheet: Sheet<P>) -> usize
+    requires wide { P.WIDTH ≤ length out.old }
+    requires inside { sheet.from + 2 * sheet.stride + length out.old + 2 ≤ length sheet.samples.now }
+    ensures size { length out.new ≡ length out.old }
+    ensures part { result ≤ length out.old }
+    ensures rest { length out.old < result + 2 * P.WIDTH }
+    ensures medians { (i : ℕ) → i < result → IsNumber (block_below P.level P.TOP sheet.entry.samples.now sheet.entry.from sheet.entry.stride 3 i) 5 (P.level (slice_index_or out.new i P.TOP)) }
+{
+    let width = P::WIDTH;
+    let mut done = 0usize;
+    let mut here = columns_of_three(sheet, 0);
+    'by_vector: while out.len() - done >= 2 * width {
+        let next = columns_of_three(sheet, done + width);
+        let middle = three_one_ahead::<P>(here, next);
+        let right = three_two_ahead::<P>(here, next);
+        let medians = median_of_nine::<P>(here, middle, right);
+        P::store(medians, out, done);
+        here = next;
+        done += width;
+    }
+    done
+}
+
 /// The medians of nine samples each. The last vector begins early enough to end with them.
 fn medians_of_nine<P: Vectored>(out: &mut [P], sheet: Sheet<P>)
     requires wide { P.WIDTH ≤ length out.old }
@@ -39,7 +68,7 @@ fn medians_of_nine<P: Vectored>(out: &mut [P], sheet: Sheet<P>)
     ensures size { length out.new ≡ length out.old }
     ensures medians { (i : ℕ) → i < length out.old → IsNumber (block_below P.level P.TOP sheet.entry.samples.now sheet.entry.from sheet.entry.stride 3 i) 5 (P.level (slice_index_or out.new i P.TOP)) }
 {
-    let mut done = 0usize;
+    let mut done = first_of_nine(out, sheet);
     'by_vector: while done < out.len() {
         let from = done.min(out.len() - P::WIDTH);
         let left = columns_of_three(sheet, from);
@@ -70,6 +99,40 @@ fn columns_of_five<P: Vectored>(sheet: Sheet<P>, at: usize) -> Five<P::Vector>
     )
 }
 
+/// The first medians of 25 samples each, as far as two whole vectors follow theirs. Each column is put in order once, and each
+/// pair of neighbours is merged once. Returns how many there are.
+fn first_of_25<P: Vectored>(out: &mut [P], sheet: Sheet<P>) -> usize
+    requires inside { sheet.from + 4 * sheet.stride + length out.old + 4 ≤ length sheet.samples.now }
+    ensures size { length out.new ≡ length out.old }
+    ensures part { result ≤ length out.old }
+    ensures rest { length out.old < result + 3 * P.WIDTH }
+    ensures medians { (i : ℕ) → i < result → IsNumber (block_below P.level P.TOP sheet.entry.samples.now sheet.entry.from sheet.entry.stride 5 i) 13 (P.level (slice_index_or out.new i P.TOP)) }
+{
+    let width = P::WIDTH;
+    if out.len() < 3 * width {
+        return 0;
+    }
+    let mut done = 0usize;
+    let mut here = columns_of_five(sheet, 0);
+    let mut next = columns_of_five(sheet, width);
+    let second = five_one_ahead::<P>(here, next);
+    let mut left = five_merged::<P>(here, second);
+    'by_vector: while out.len() - done >= 3 * width {
+        let last = columns_of_five(sheet, done + 2 * width);
+        let beside = five_one_ahead::<P>(next, last);
+        let following = five_merged::<P>(next, beside);
+        let right = ten_two_ahead::<P>(left, following);
+        let fifth = five_four_ahead::<P>(here, next);
+        let medians = median_of_tens::<P>(left, right, fifth);
+        P::store(medians, out, done);
+        here = next;
+        next = last;
+        left = following;
+        done += width;
+    }
+    done
+}
+
 /// The medians of 25 samples each.
 fn medians_of_25<P: Vectored>(out: &mut [P], sheet: Sheet<P>)
     requires wide { P.WIDTH ≤ length out.old }
@@ -77,7 +140,7 @@ fn medians_of_25<P: Vectored>(out: &mut [P], sheet: Sheet<P>)
     ensures size { length out.new ≡ length out.old }
     ensures medians { (i : ℕ) → i < length out.old → IsNumber (block_below P.level P.TOP sheet.entry.samples.now sheet.entry.from sheet.entry.stride 5 i) 13 (P.level (slice_index_or out.new i P.TOP)) }
 {
-    let mut done = 0usize;
+    let mut done = first_of_25(out, sheet);
     'by_vector: while done < out.len() {
         let from = done.min(out.len() - P::WIDTH);
         let first = columns_of_five(sheet, from);

@@ -1,5 +1,7 @@
-//! What a network needs of a type of samples: vectors of them, and the lower and the higher of each pair of lanes.
+//! What a network needs of a type of samples: vectors of them, the lower and the higher of each pair of lanes, and vectors
+//! that begin some lanes further on.
 ghost use Rattle.std.specs.Prelude.{◌≡◌, ℕ, ◌+◌, ◌<◌, ◌≤◌, min, max, length, slice_index_or};
+ghost use Rattle.mw_medians.specs.Ahead.{IsAhead};
 
 use mw_rank::pixel::Grey;
 
@@ -35,7 +37,19 @@ pub trait Vectored: Grey {
     fn higher(a: Self::Vector, b: Self::Vector) -> Self::Vector
         ensures { (i : ℕ) → lane result i ≡ max (lane a i) (lane b i) };
 
-    ghost is_wide: { 1 ≤ WIDTH };
+    /// The vector that begins one lane further on, where the next one goes on behind this one.
+    fn one_ahead(here: Self::Vector, next: Self::Vector) -> Self::Vector
+        ensures { IsAhead lane WIDTH 1 here next result };
+
+    /// The vector that begins two lanes further on.
+    fn two_ahead(here: Self::Vector, next: Self::Vector) -> Self::Vector
+        ensures { IsAhead lane WIDTH 2 here next result };
+
+    /// The vector that begins four lanes further on.
+    fn four_ahead(here: Self::Vector, next: Self::Vector) -> Self::Vector
+        ensures { IsAhead lane WIDTH 4 here next result };
+
+    ghost is_wide: { 4 ≤ WIDTH };
 
     ghost is_narrow: { WIDTH ≤ 16 };
 }

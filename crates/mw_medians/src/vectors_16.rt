@@ -53,4 +53,25 @@ impl Vectored for u16 {
             lanes: a.lanes.simd_max(b.lanes),
         }
     }
+
+    #[inline(always)]
+    fn one_ahead(here: Words, next: Words) -> Words {
+        Words {
+            lanes: here.lanes.shuffle(next.lanes, [1, 2, 3, 4, 5, 6, 7, 8]),
+        }
+    }
+
+    #[inline(always)]
+    fn two_ahead(here: Words, next: Words) -> Words {
+        Words {
+            lanes: here.lanes.shuffle(next.lanes, [2, 3, 4, 5, 6, 7, 8, 9]),
+        }
+    }
+
+    #[inline(always)]
+    fn four_ahead(here: Words, next: Words) -> Words {
+        Words {
+            lanes: here.lanes.shuffle(next.lanes, [4, 5, 6, 7, 8, 9, 10, 11]),
+        }
+    }
 }

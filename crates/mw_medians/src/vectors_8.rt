@@ -53,4 +53,34 @@ impl Vectored for u8 {
             lanes: a.lanes.simd_max(b.lanes),
         }
     }
+
+    #[inline(always)]
+    fn one_ahead(here: Bytes, next: Bytes) -> Bytes {
+        Bytes {
+            lanes: here.lanes.shuffle(
+                next.lanes,
+                [1, 2, 3, 4, 5, 6, 7, 8, 9, 10, 11, 12, 13, 14, 15, 16],
+            ),
+        }
+    }
+
+    #[inline(always)]
+    fn two_ahead(here: Bytes, next: Bytes) -> Bytes {
+        Bytes {
+            lanes: here.lanes.shuffle(
+                next.lanes,
+                [2, 3, 4, 5, 6, 7, 8, 9, 10, 11, 12, 13, 14, 15, 16, 17],
+            ),
+        }
+    }
+
+    #[inline(always)]
+    fn four_ahead(here: Bytes, next: Bytes) -> Bytes {
+        Bytes {
+            lanes: here.lanes.shuffle(
+                next.lanes,
+                [4, 5, 6, 7, 8, 9, 10, 11, 12, 13, 14, 15, 16, 17, 18, 19],
+            ),
+        }
+    }
 }

@@ -18,7 +18,7 @@ by_vector-preserved g c =
           (λ i lt.
           let left = c.five_merged-left.ensures i (column (from + i)) (column (from + 1 + i)) (c.columns_of_five-first.ensures i lt) (c.columns_of_five-second.ensures i lt) in
           let right = c.five_merged-right.ensures i (column (from + 2 + i)) (column (from + 3 + i)) (c.columns_of_five-third.ensures i lt) (c.columns_of_five-fourth.ensures i lt) in
-          all_counted level top sheet.samples.now sheet.from sheet.stride i from _
+          all_counted level top sheet.samples.now sheet.from sheet.stride (from + i) (from + 1 + i) (from + 2 + i) (from + 3 + i) (from + 4 + i) _ (omega arith) (omega arith) (omega arith) (omega arith)
           (c.median_of_tens-medians.ensures i (λ t. column (from + i) t + column (from + 1 + i) t) (λ t. column (from + 2 + i) t + column (from + 3 + i) t) (column (from + 4 + i)) left right (c.columns_of_five-fifth.ensures i lt)))
           c.by_vector.invariant.medians;
     }
