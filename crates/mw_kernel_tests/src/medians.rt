@@ -100,6 +100,54 @@ fn medians_of_dark_frames(rt: HostRuntime) -> Result<(), Fail> {
     widths::<u8>(&rt, rt.alloc(), 1, 5, 13, 71)
 }
 
+/// The plane with the greatest level in place of each but the least.
+fn bright<P: Counted>(rt: &impl Abort, alloc: Global, plane: &Plane<P>) -> Result<Plane<P>, Fail> {
+    let mut samples = Vec::new(alloc);
+    for sample in plane.samples() {
+        samples.push(if sample.value() == 0 { *sample } else { P::TOP })?;
+    }
+    let (width, height) = (plane.width(), plane.height());
+    assert_eq!(rt; samples.len(), height as usize * width as usize);
+    Ok(Plane::new(width, height, samples))
+}
+
+/// Frames of each height up to nine, all of whose rows an edge cuts, or some: without a pattern, and of the least and the
+/// greatest level, which also stands for what is not seen.
+fn heights<P: Counted + Vectored>(
+    rt: &impl Abort,
+    alloc: Global,
+    side: i16,
+    k: u32,
+) -> Result<(), Fail> {
+    let half = 0i16.wrapping_sub(side / 2);
+    let offsets = square(alloc, side, Offset { dx: half, dy: half })?;
+    for height in 1..10u32 {
+        let tile = rect(0, 0, 40, height);
+        let noisy = Window::whole(plane::<P>(alloc, 40, height, 255)?);
+        assert!(rt;
+            by_vectors(rt, alloc, &noisy, &offsets, k, tile)?,
+            "{height} rows"
+        );
+        let dark = plane::<P>(alloc, 40, height, 1)?;
+        let bright = Window::whole(bright(rt, alloc, &dark)?);
+        assert!(rt;
+            by_vectors(rt, alloc, &bright, &offsets, k, tile)?,
+            "{height} rows"
+        );
+    }
+    Ok(())
+}
+
+#[test]
+fn medians_of_frames_of_each_height(rt: HostRuntime) -> Result<(), Fail> {
+    let alloc = rt.alloc();
+    for (side, k) in [(3i16, 5u32), (5, 13)] {
+        heights::<u8>(&rt, alloc, side, k)?;
+        heights::<u16>(&rt, alloc, side, k)?;
+    }
+    Ok(())
+}
+
 /// Tiles at corners and sides of a frame of 70 by 50, inside of it and past it, in all of it and in a part, under squares from
 /// several places on. Says how many of them vectors made.
 fn places<P: Counted + Vectored>(

@@ -10,3 +10,4 @@ mod Squares
 mod Medians
 mod Joined
 mod Gathered
+mod Beyond

@@ -3,3 +3,4 @@ pub mod Ahead
 pub mod Networks
 pub mod Columns
 pub mod Squares
+pub mod Filled

@@ -1,5 +1,5 @@
-//! Ranks where a window shows a square in part, as at an edge of the frame. Such places are few: at each of them the levels
-//! that are seen are gathered anew, and the wanted one is found by halving the levels between which it lies.
+//! Ranks where a window shows few places of a square, as in a corner of the frame: the levels that are seen are gathered, and the
+//! wanted one is found by halving the levels between which it lies.
 ghost use Rattle.std.specs.Prelude.{◌≡◌, ℕ, ◌+◌, ◌<◌, ◌≤◌, ◌^◌, map, length, IfSome, OnOk};
 ghost use Rattle.std.specs.Option.{option_to_list};
 ghost use Rattle.mw_model.specs.declared.limits.TheConstants.{FAR_LIMIT};
@@ -28,7 +28,7 @@ fn level_in<P: Grey>(window: &Window<P>, column: i64, row: i64) -> Option<u16>
 }
 
 /// The level that is seen at an offset from column x of row y of the frame.
-fn level_at<P: Grey>(window: &Window<P>, offset: Offset, x: u64, y: u64) -> Option<u16>
+pub(crate) fn level_at<P: Grey>(window: &Window<P>, offset: Offset, x: u64, y: u64) -> Option<u16>
     requires near { x ≤ FAR_LIMIT }
     requires high { y ≤ FAR_LIMIT }
     ensures levels { option_to_list result ≡ levels_at P.level (seen_at window.now) offset x y }
@@ -83,6 +83,9 @@ fn halved(levels: &[u16], n: u16, top: u16) -> u16
     ensures enough { n ≤ count_under (result + 1) levels.now }
     ensures small { result ≤ top }
 {
+    if count_below(levels, top) < n {
+        return top;
+    }
     let mut low = 0u32;
     let mut end = u32::from(top) + 1;
     'halving: while low + 1 < end {

@@ -9,6 +9,7 @@
 
 mod ahead;
 mod cut;
+mod filled;
 mod five;
 mod nine;
 mod rows;

@@ -61,7 +61,9 @@ fn first_of_nine<P: Vectored>(out: &mut [P], sheet: Sheet<P>) -> usize
     done
 }
 
-/// The medians of nine samples each. The last vector begins early enough to end with them.
+/// The medians of nine samples each. The last vector begins early enough to end with them. Within its callers its addresses
+/// would be computed anew for each vector.
+#[inline(never)]
 fn medians_of_nine<P: Vectored>(out: &mut [P], sheet: Sheet<P>)
     requires wide { P.WIDTH ≤ length out.old }
     requires inside { sheet.from + 2 * sheet.stride + length out.old + 2 ≤ length sheet.samples.now }
@@ -133,7 +135,8 @@ fn first_of_25<P: Vectored>(out: &mut [P], sheet: Sheet<P>) -> usize
     done
 }
 
-/// The medians of 25 samples each.
+/// The medians of 25 samples each; not inlined, as those of nine.
+#[inline(never)]
 fn medians_of_25<P: Vectored>(out: &mut [P], sheet: Sheet<P>)
     requires wide { P.WIDTH ≤ length out.old }
     requires inside { sheet.from + 4 * sheet.stride + length out.old + 4 ≤ length sheet.samples.now }

@@ -1,15 +1,17 @@
-//! The medians of a tile, row after row. Where the window does not show the whole square, as at an edge of the frame, the
-//! ranks are made one by one.
-ghost use Rattle.std.specs.Prelude.{◌≡◌, ℕ, ◌+◌, ◌<◌, ◌≤◌, ◌^◌, length, IfOk, IfSome, OnOk};
+//! The medians of a tile, row after row. Where the window does not show the whole square, as at an edge of the frame, medians are
+//! made with the greatest level for what is not seen. Where such a median is that level, as in a corner, the rank is made alone.
+ghost use Rattle.std.specs.Prelude.{◌≡◌, ℕ, ◌+◌, ◌-◌, ◌*◌, ◌<◌, ◌≤◌, ◌^◌, length, slice_index_or, IfOk, IfSome, IsTrue, OnOk};
 ghost use Rattle.mw_model.specs.PlanSteps.{ranked};
 ghost use Rattle.mw_model.specs.Rasters.{Raster, cell_at};
 ghost use Rattle.mw_model.specs.Windows.{seen_at};
 ghost use Rattle.mw_rank.specs.mw_tile.Windows.{IsWindow};
 ghost use Rattle.mw_rank.specs.Ranks.{levels_under, IsRank, GainsRow, HasRows};
 ghost use Rattle.mw_medians.specs.Squares.{rows_from, IsMedian};
+ghost use Rattle.mw_medians.specs.Filled.{filled_rank};
 
 use crate::Vectored;
 use crate::cut::{gather, number_of};
+use crate::filled::{Lines, filled_medians};
 use crate::rows::{Sheet, medians_of_rows};
 use crate::square::{square_in, square_of};
 use mw_model::{NoMemory, Offset, Rect};
@@ -73,28 +75,70 @@ fn rank_at<P: Grey>(seen: &mut Vec<u16>, wanted: Wanted<P>, x: u32, y: u32) -> R
     Ok(sample_of::<P>(level))
 }
 
-/// Adds the ranks of places of a row, one by one.
+/// Filled medians of which some follow one another in a row of the tile: those so many steps from the first.
+#[derive(Clone, Copy)]
+struct Filled<'a, P: Grey> {
+    medians: &'a [P],
+    from: usize,
+    step: usize,
+}
+
+/// The filled medians of the tile's columns on both sides of the inner ones, column after column.
+#[derive(Clone, Copy)]
+struct Sides<'a, P: Grey> {
+    left: &'a [P],
+    right: &'a [P],
+    /// How many of them a column has.
+    length: u32,
+}
+
+/// The rank at a place, where the filled median is known.
+fn checked<P: Grey>(
+    seen: &mut Vec<u16>,
+    wanted: Wanted<P>,
+    filled: P,
+    x: u32,
+    y: u32,
+) -> Result<P, NoMemory>
+    requires few { length wanted.offsets.now < 2 ^ 16 }
+    requires square { wanted.offsets.now ≡ rows_from wanted.first wanted.side wanted.side }
+    requires filled { P.level filled ≡ filled_rank P.level P.top_level (seen_at wanted.window.now) wanted.first wanted.side wanted.k x y }
+    ensures { IfOk result (λ s. P.level s ≡ ranked wanted.entry.k (levels_under P.level (seen_at wanted.entry.window.now) wanted.entry.offsets.now x y)) }
+{
+    if filled.value() < P::TOP.value() {
+        return Ok(filled);
+    }
+    rank_at(seen, wanted, x, y)
+}
+
+/// Adds the ranks of places of a row, where the filled medians are known.
 fn push_cut<P: Grey>(
     out: &mut Vec<P>,
     seen: &mut Vec<u16>,
     wanted: Wanted<P>,
+    filled: Filled<P>,
     x: u32,
     y: u32,
     count: u32,
 ) -> Result<(), NoMemory>
     requires few { length wanted.offsets.now < 2 ^ 16 }
+    requires square { wanted.offsets.now ≡ rows_from wanted.first wanted.side wanted.side }
     requires near { x + count < 2 ^ 32 }
+    requires inside { (i : ℕ) → i < count → filled.from + i * filled.step < length filled.medians.now }
+    requires filled { (i : ℕ) → i < count → P.level (slice_index_or filled.medians.now (filled.from + i * filled.step) P.TOP) ≡ filled_rank P.level P.top_level (seen_at wanted.window.now) wanted.first wanted.side wanted.k (x + i) y }
     ensures { OnOk result (GainsRow P.level (λ i. ranked wanted.entry.k (levels_under P.level (seen_at wanted.entry.window.now) wanted.entry.offsets.now (x + i) y)) count out.old.items out.new.items) }
 {
     for i in 0..count {
-        let sample = rank_at(seen, wanted, x + i, y)?;
+        let median = filled.medians[filled.from + i as usize * filled.step];
+        let sample = checked(seen, wanted, median, x + i, y)?;
         out.push(sample)?;
     }
     Ok(())
 }
 
-/// Adds the medians of the inner columns of a row.
+/// Adds the ranks of the inner columns of a row.
 fn push_inner<P: Vectored>(
+    alloc: Global,
     out: &mut Vec<P>,
     line: &mut [P],
     seen: &mut Vec<u16>,
@@ -104,9 +148,9 @@ fn push_inner<P: Vectored>(
     requires few { length wanted.offsets.now < 2 ^ 16 }
     requires wide { P.WIDTH ≤ length line.old }
     requires whole { length line.old ≡ wanted.inner.count }
-    requires near { wanted.tile.x + wanted.tile.width < 2 ^ 32 }
+    requires near { wanted.tile.x + wanted.tile.width ≤ 2 ^ 31 }
     requires inner { wanted.inner.first + wanted.inner.count ≤ wanted.tile.width }
-    requires high { wanted.tile.y + row < 2 ^ 32 }
+    requires high { wanted.tile.y + row ≤ 2 ^ 31 }
     requires square { wanted.offsets.now ≡ rows_from wanted.first wanted.side wanted.side }
     requires median { IsMedian wanted.side wanted.k }
     ensures medians { OnOk result (GainsRow P.level (λ i. ranked wanted.entry.k (levels_under P.level (seen_at wanted.entry.window.now) wanted.entry.offsets.now (wanted.entry.tile.x + wanted.entry.inner.first + i) (wanted.entry.tile.y + row))) wanted.entry.inner.count out.old.items out.new.items) }
@@ -132,25 +176,50 @@ fn push_inner<P: Vectored>(
         out.extend_from_slice(line)?;
         return Ok(());
     }
-    push_cut(out, seen, wanted, x, y, count)
+    let places = Lines {
+        x,
+        y,
+        count: 1,
+        length: count,
+        down: false,
+    };
+    let medians = filled_medians(
+        alloc,
+        wanted.window,
+        wanted.first,
+        wanted.side,
+        wanted.k,
+        places,
+    )?;
+    let filled = Filled {
+        medians: medians.as_slice(),
+        from: 0,
+        step: 1,
+    };
+    push_cut(out, seen, wanted, filled, x, y, count)
 }
 
-/// Adds the medians of a row.
+/// Adds the ranks of a row.
 fn push_row<P: Vectored>(
+    alloc: Global,
     out: &mut Vec<P>,
     line: &mut [P],
     seen: &mut Vec<u16>,
     wanted: Wanted<P>,
+    sides: Sides<P>,
     row: u32,
 ) -> Result<(), NoMemory>
     requires few { length wanted.offsets.now < 2 ^ 16 }
     requires wide { P.WIDTH ≤ length line.old }
     requires whole { length line.old ≡ wanted.inner.count }
-    requires near { wanted.tile.x + wanted.tile.width < 2 ^ 32 }
+    requires near { wanted.tile.x + wanted.tile.width ≤ 2 ^ 31 }
     requires inner { wanted.inner.first + wanted.inner.count ≤ wanted.tile.width }
-    requires high { wanted.tile.y + row < 2 ^ 32 }
+    requires high { wanted.tile.y + row ≤ 2 ^ 31 }
     requires square { wanted.offsets.now ≡ rows_from wanted.first wanted.side wanted.side }
     requires median { IsMedian wanted.side wanted.k }
+    requires long { row < sides.length }
+    requires left { HasRows P.level (λ i r. filled_rank P.level P.top_level (seen_at wanted.window.now) wanted.first wanted.side wanted.k (wanted.tile.x + r) (wanted.tile.y + i)) sides.length wanted.inner.first sides.left.now }
+    requires right { HasRows P.level (λ i r. filled_rank P.level P.top_level (seen_at wanted.window.now) wanted.first wanted.side wanted.k (wanted.tile.x + (wanted.inner.first + wanted.inner.count) + r) (wanted.tile.y + i)) sides.length (wanted.tile.width - (wanted.inner.first + wanted.inner.count)) sides.right.now }
     ensures medians { OnOk result (GainsRow P.level (λ i. ranked wanted.entry.k (levels_under P.level (seen_at wanted.entry.window.now) wanted.entry.offsets.now (wanted.entry.tile.x + i) (wanted.entry.tile.y + row))) wanted.entry.tile.width out.old.items out.new.items) }
     ensures whole { OnOk result (length line.new ≡ length line.old) }
 {
@@ -158,17 +227,67 @@ fn push_row<P: Vectored>(
     let y = tile.y + row;
     let first = wanted.inner.first;
     let last = first + wanted.inner.count;
-    push_cut(out, seen, wanted, tile.x, y, first)?;
-    push_inner(out, line, seen, wanted, row)?;
-    push_cut(out, seen, wanted, tile.x + last, y, tile.width - last)?;
+    let step = sides.length as usize;
+    let left = Filled {
+        medians: sides.left,
+        from: row as usize,
+        step,
+    };
+    let right = Filled {
+        medians: sides.right,
+        from: row as usize,
+        step,
+    };
+    push_cut(out, seen, wanted, left, tile.x, y, first)?;
+    push_inner(alloc, out, line, seen, wanted, row)?;
+    push_cut(
+        out,
+        seen,
+        wanted,
+        right,
+        tile.x + last,
+        y,
+        tile.width - last,
+    )?;
     Ok(())
 }
 
-/// The medians of a tile, by rows.
+/// The filled medians of so many of the tile's columns from column x on, column after column; each has so many rows.
+fn side_medians<P: Vectored>(
+    alloc: Global,
+    wanted: Wanted<P>,
+    x: u32,
+    count: u32,
+    length: u32,
+) -> Result<Vec<P>, NoMemory>
+    requires wide { P.WIDTH ≤ length }
+    requires long { length ≤ 2 ^ 31 }
+    requires many { count ≤ 2 ^ 31 }
+    requires median { IsMedian wanted.side wanted.k }
+    ensures { IfOk result (λ v. HasRows P.level (λ i r. filled_rank P.level P.top_level (seen_at wanted.entry.window.now) wanted.entry.first wanted.entry.side wanted.entry.k (x + r) (wanted.entry.tile.y + i)) length count v.items) }
+{
+    let columns = Lines {
+        x,
+        y: wanted.tile.y,
+        count,
+        length,
+        down: true,
+    };
+    filled_medians(
+        alloc,
+        wanted.window,
+        wanted.first,
+        wanted.side,
+        wanted.k,
+        columns,
+    )
+}
+
+/// The ranks of a tile, by rows.
 fn median_samples<P: Vectored>(alloc: Global, wanted: Wanted<P>) -> Result<Vec<P>, NoMemory>
     requires few { length wanted.offsets.now < 2 ^ 16 }
-    requires near { wanted.tile.x + wanted.tile.width < 2 ^ 32 }
-    requires high { wanted.tile.y + wanted.tile.height < 2 ^ 32 }
+    requires near { wanted.tile.x + wanted.tile.width ≤ 2 ^ 31 }
+    requires high { wanted.tile.y + wanted.tile.height ≤ 2 ^ 31 }
     requires wide { P.WIDTH ≤ wanted.inner.count }
     requires inner { wanted.inner.first + wanted.inner.count ≤ wanted.tile.width }
     requires square { wanted.offsets.now ≡ rows_from wanted.first wanted.side wanted.side }
@@ -176,14 +295,35 @@ fn median_samples<P: Vectored>(alloc: Global, wanted: Wanted<P>) -> Result<Vec<P
     ensures { IfOk result (λ v. HasRows P.level (λ x y. ranked wanted.entry.k (levels_under P.level (seen_at wanted.entry.window.now) wanted.entry.offsets.now (wanted.entry.tile.x + x) (wanted.entry.tile.y + y))) wanted.entry.tile.width wanted.entry.tile.height v.items) }
 {
     let tile = wanted.tile;
+    let first = wanted.inner.first;
+    let last = first + wanted.inner.count;
+    let length = tile.height.max(P::WIDTH as u32);
+    let before = side_medians(alloc, wanted, tile.x, first, length)?;
+    let behind = side_medians(alloc, wanted, tile.x + last, tile.width - last, length)?;
+    let sides = Sides {
+        left: before.as_slice(),
+        right: behind.as_slice(),
+        length,
+    };
     let mut seen = Vec::with_capacity(alloc, wanted.offsets.len())?;
     let mut room = copies(alloc, wanted.inner.count as usize, P::TOP)?;
     let mut out = Vec::with_capacity(alloc, tile.height as usize * tile.width as usize)?;
     let line = room.as_mut_slice();
     for row in 0..tile.height {
-        push_row(&mut out, line, &mut seen, wanted, row)?;
+        push_row(alloc, &mut out, line, &mut seen, wanted, sides, row)?;
     }
     Ok(out)
+}
+
+/// Places up to here, and those about them, have numbers of 32 bits.
+const FARTHEST: u64 = 1 << 31;
+
+/// Whether the tile's columns and rows, and those about them, have numbers of 32 bits.
+fn is_near(tile: Rect) -> bool
+    ensures { IsTrue result → (tile.x + tile.width ≤ 2 ^ 31) × (tile.y + tile.height ≤ 2 ^ 31) }
+{
+    u64::from(tile.x) + u64::from(tile.width) <= FARTHEST
+        && u64::from(tile.y) + u64::from(tile.height) <= FARTHEST
 }
 
 /// The side of the square of which number k of so many samples is the median, where a network is known for it.
@@ -208,7 +348,7 @@ fn by_vectors<P: Vectored>(
     requires { length offsets.now < 2 ^ 16 }
     ensures { IfOk result (λ o. IfSome o (λ v. HasRows P.level (λ x y. ranked k (levels_under P.level (seen_at window.now) offsets.now (tile.x + x) (tile.y + y))) tile.width tile.height v.items)) }
 {
-    if tile.x.checked_add(tile.width).is_none() || tile.y.checked_add(tile.height).is_none() {
+    if !is_near(tile) {
         return Ok(None);
     }
     let Some(side) = side_of(k) else {

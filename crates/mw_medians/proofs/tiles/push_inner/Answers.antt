@@ -1,8 +1,9 @@
-use Rattle.std.proofs.Common.{ℕ, ◌+◌, ◌<◌, ◌∙◌, ap, arith, length, subst}
+use Rattle.std.proofs.Common.{◌≡◌, ℕ, ◌+◌, ◌*◌, ◌<◌, ◌∙◌, List, ap, arith, get_or, length, subst}
 use Rattle.mw_model.specs.PlanSteps.{ranked}
 use Rattle.mw_model.specs.declared.places.Rect.{Rect}
 use Rattle.mw_model.specs.Windows.{seen_at}
 use Rattle.mw_rank.specs.Ranks.{levels_under}
+use Rattle.mw_medians.specs.Filled.{filled_rank}
 use Rattle.mw_medians.specs.Squares.{rows_from, ShowsSquare}
 use Rattle.mw_medians.proofs.Joined.{slice_gained}
 use Rattle.mw_medians.proofs.Medians.{median_is, median_some}
@@ -33,3 +34,16 @@ returns-in-Some-clause-medians g c =
 
 pub returns-clause-medians : goal.returns-clause-medians
 returns-clause-medians g c = c.push_cut.ensures
+
+pub push_cut-requires-clause-filled : goal.push_cut-requires-clause-filled
+push_cut-requires-clause-filled g c = λ i lt.
+    let level = g.P.Pixel.level in
+    let top = g.P.Pixel.TOP in
+    let wanted = c.args.wanted in
+    let count = wanted.inner.count in
+    let items = c.in_ok-medians.medians.items in
+    let y = wanted.tile.y + c.args.row in
+    ap (λ (l : List _). level (get_or l (0 + i * 1) top)) c.as_slice.ensures.value
+    ∙ ap (λ (p : ℕ). level (get_or items p top)) (let e : 0 + i * 1 ≡ 0 * count + i = omega arith in e)
+    ∙ c.in_ok-medians.ensures.made i 0 top lt (omega arith)
+    ∙ ap (filled_rank level g.P.Pixel.top_level (seen_at wanted.window.now) wanted.first wanted.side wanted.k (wanted.tile.x + wanted.inner.first + i)) (let e : y + 0 ≡ y = omega arith in e)
