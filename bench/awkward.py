@@ -310,6 +310,21 @@ def far_medians():
                              functools.partial(picture, 512, 512, 65535), rectangle(width, height), tile)
 
 
+def small_medians():
+    """Medians under 3 x 3 and 5 x 5 of narrow and of low frames, and of frames of the least and the greatest level."""
+    def of_square(picture, width, height, maxval, side, times, tile=128):
+        name = "ranks: %s %d x %d, %s, median of %d x %d, tiles of %d" % (
+            picture.__name__, width, height, named(maxval), side, side, tile)
+        return median(name, functools.partial(picture, width, height, maxval), rectangle(side, side), tile, times)
+
+    for side in (3, 5):
+        for maxval in (255, 65535):
+            yield from (of_square(noise, width, 8192, maxval, side, 20) for width in WIDTHS)
+            yield from (of_square(noise, 8192, height, maxval, side, 40) for height in (1, 2, 3, 5, 8))
+            yield from (of_square(board, width, 8192, maxval, side, 20) for width in (20, 36, 66))
+            yield from (of_square(noise, 2048, 2048, maxval, side, 4, tile) for tile in (64, 128, 1024))
+
+
 def sets():
     shapes = {"255 x 1": rectangle(255, 1), "1 x 255": rectangle(1, 255)}
     shapes.update(("%d x %d" % (it, it), rectangle(it, it)) for it in (15, 16, 17, 21, 22))
@@ -325,7 +340,8 @@ def sets():
 
 
 def rows():
-    for group in (extrema, thresholds, dark_medians, soft_medians, row_medians, noisy_medians, neighbours, far_medians, sets):
+    for group in (extrema, thresholds, dark_medians, soft_medians, row_medians, noisy_medians, neighbours, far_medians,
+                  small_medians, sets):
         yield from group()
 
 
