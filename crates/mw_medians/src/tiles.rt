@@ -1,6 +1,6 @@
 //! The medians of a tile, row after row. Where the window does not show the whole square, as at an edge of the frame, medians are
 //! made with the greatest level for what is not seen. Where such a median is that level, as in a corner, the rank is made alone.
-ghost use Rattle.std.specs.Prelude.{◌≡◌, ℕ, ◌+◌, ◌-◌, ◌*◌, ◌<◌, ◌≤◌, ◌^◌, length, slice_index_or, IfOk, IfSome, IsTrue, OnOk};
+ghost use Rattle.std.specs.Prelude.{◌≡◌, ℕ, ◌+◌, ◌-◌, ◌*◌, ◌<◌, ◌≤◌, ◌^◌, length, slice_index_or, vec_len, IfOk, IfSome, IsTrue, OnOk};
 ghost use Rattle.mw_model.specs.PlanSteps.{ranked};
 ghost use Rattle.mw_model.specs.Rasters.{Raster, cell_at};
 ghost use Rattle.mw_model.specs.Windows.{seen_at};
@@ -102,7 +102,7 @@ fn checked<P: Grey>(
 ) -> Result<P, NoMemory>
     requires few { length wanted.offsets.now < 2 ^ 16 }
     requires square { wanted.offsets.now ≡ rows_from wanted.first wanted.side wanted.side }
-    requires filled { P.level filled ≡ filled_rank P.level P.top_level (seen_at wanted.window.now) wanted.first wanted.side wanted.k x y }
+    requires filled { P.level filled < P.top_level → P.level filled ≡ filled_rank P.level P.top_level (seen_at wanted.window.now) wanted.first wanted.side wanted.k x y }
     ensures { IfOk result (λ s. P.level s ≡ ranked wanted.entry.k (levels_under P.level (seen_at wanted.entry.window.now) wanted.entry.offsets.now x y)) }
 {
     if filled.value() < P::TOP.value() {
@@ -125,7 +125,7 @@ fn push_cut<P: Grey>(
     requires square { wanted.offsets.now ≡ rows_from wanted.first wanted.side wanted.side }
     requires near { x + count < 2 ^ 32 }
     requires inside { (i : ℕ) → i < count → filled.from + i * filled.step < length filled.medians.now }
-    requires filled { (i : ℕ) → i < count → P.level (slice_index_or filled.medians.now (filled.from + i * filled.step) P.TOP) ≡ filled_rank P.level P.top_level (seen_at wanted.window.now) wanted.first wanted.side wanted.k (x + i) y }
+    requires filled { (i : ℕ) → i < count → P.level (slice_index_or filled.medians.now (filled.from + i * filled.step) P.TOP) < P.top_level → P.level (slice_index_or filled.medians.now (filled.from + i * filled.step) P.TOP) ≡ filled_rank P.level P.top_level (seen_at wanted.window.now) wanted.first wanted.side wanted.k (x + i) y }
     ensures { OnOk result (GainsRow P.level (λ i. ranked wanted.entry.k (levels_under P.level (seen_at wanted.entry.window.now) wanted.entry.offsets.now (x + i) y)) count out.old.items out.new.items) }
 {
     for i in 0..count {
@@ -134,6 +134,71 @@ fn push_cut<P: Grey>(
         out.push(sample)?;
     }
     Ok(())
+}
+
+/// Adds the ranks of places of a row, one by one.
+fn push_alone<P: Grey>(
+    out: &mut Vec<P>,
+    seen: &mut Vec<u16>,
+    wanted: Wanted<P>,
+    x: u32,
+    y: u32,
+    count: u32,
+) -> Result<(), NoMemory>
+    requires few { length wanted.offsets.now < 2 ^ 16 }
+    requires square { wanted.offsets.now ≡ rows_from wanted.first wanted.side wanted.side }
+    requires near { x + count < 2 ^ 32 }
+    ensures { OnOk result (GainsRow P.level (λ i. ranked wanted.entry.k (levels_under P.level (seen_at wanted.entry.window.now) wanted.entry.offsets.now (x + i) y)) count out.old.items out.new.items) }
+{
+    for i in 0..count {
+        let sample = rank_at(seen, wanted, x + i, y)?;
+        out.push(sample)?;
+    }
+    Ok(())
+}
+
+/// Adds the ranks of places of a row beside the inner ones, from the filled medians of their columns, if these were made.
+fn push_side<P: Grey>(
+    out: &mut Vec<P>,
+    seen: &mut Vec<u16>,
+    wanted: Wanted<P>,
+    medians: &[P],
+    rows: u32,
+    x: u32,
+    row: u32,
+    count: u32,
+) -> Result<(), NoMemory>
+    requires few { length wanted.offsets.now < 2 ^ 16 }
+    requires square { wanted.offsets.now ≡ rows_from wanted.first wanted.side wanted.side }
+    requires near { x + count < 2 ^ 32 }
+    requires high { wanted.tile.y + row < 2 ^ 32 }
+    requires long { row < rows }
+    requires made { 1 ≤ length medians.now → HasRows P.level (λ i r. filled_rank P.level P.top_level (seen_at wanted.window.now) wanted.first wanted.side wanted.k (x + r) (wanted.tile.y + i)) rows count medians.now }
+    ensures { OnOk result (GainsRow P.level (λ i. ranked wanted.entry.k (levels_under P.level (seen_at wanted.entry.window.now) wanted.entry.offsets.now (x + i) (wanted.entry.tile.y + row))) count out.old.items out.new.items) }
+{
+    let y = wanted.tile.y + row;
+    if medians.len() == 0 {
+        return push_alone(out, seen, wanted, x, y, count);
+    }
+    let filled = Filled {
+        medians,
+        from: row as usize,
+        step: rows as usize,
+    };
+    push_cut(out, seen, wanted, filled, x, y, count)
+}
+
+/// How many rows of the square the place has, where it is put on row y.
+fn rows_seen(place: Rect, first: Offset, side: u32, y: u32) -> u64
+    ensures { result ≤ side }
+{
+    let up = u64::from(first.dy.min(0).unsigned_abs());
+    let down = u64::from(first.dy.max(0).unsigned_abs());
+    // rows are counted from as many above the frame as the square reaches up
+    let square = u64::from(y) + down;
+    let shown = u64::from(place.y) + up;
+    let end = (square + u64::from(side)).min(shown + u64::from(place.height));
+    end.saturating_sub(square.max(shown))
 }
 
 /// Adds the ranks of the inner columns of a row.
@@ -175,6 +240,10 @@ fn push_inner<P: Vectored>(
         medians_of_rows(line, sheet, wanted.side, wanted.k);
         out.extend_from_slice(line)?;
         return Ok(());
+    }
+    // of so few rows, each number k is the greatest level
+    if 2 * rows_seen(wanted.window.place(), wanted.first, wanted.side, y) < u64::from(wanted.side) {
+        return push_alone(out, seen, wanted, x, y, count);
     }
     let places = Lines {
         x,
@@ -218,41 +287,32 @@ fn push_row<P: Vectored>(
     requires square { wanted.offsets.now ≡ rows_from wanted.first wanted.side wanted.side }
     requires median { IsMedian wanted.side wanted.k }
     requires long { row < sides.length }
-    requires left { HasRows P.level (λ i r. filled_rank P.level P.top_level (seen_at wanted.window.now) wanted.first wanted.side wanted.k (wanted.tile.x + r) (wanted.tile.y + i)) sides.length wanted.inner.first sides.left.now }
-    requires right { HasRows P.level (λ i r. filled_rank P.level P.top_level (seen_at wanted.window.now) wanted.first wanted.side wanted.k (wanted.tile.x + (wanted.inner.first + wanted.inner.count) + r) (wanted.tile.y + i)) sides.length (wanted.tile.width - (wanted.inner.first + wanted.inner.count)) sides.right.now }
+    requires left { 1 ≤ length sides.left.now → HasRows P.level (λ i r. filled_rank P.level P.top_level (seen_at wanted.window.now) wanted.first wanted.side wanted.k (wanted.tile.x + r) (wanted.tile.y + i)) sides.length wanted.inner.first sides.left.now }
+    requires right { 1 ≤ length sides.right.now → HasRows P.level (λ i r. filled_rank P.level P.top_level (seen_at wanted.window.now) wanted.first wanted.side wanted.k (wanted.tile.x + (wanted.inner.first + wanted.inner.count) + r) (wanted.tile.y + i)) sides.length (wanted.tile.width - (wanted.inner.first + wanted.inner.count)) sides.right.now }
     ensures medians { OnOk result (GainsRow P.level (λ i. ranked wanted.entry.k (levels_under P.level (seen_at wanted.entry.window.now) wanted.entry.offsets.now (wanted.entry.tile.x + i) (wanted.entry.tile.y + row))) wanted.entry.tile.width out.old.items out.new.items) }
     ensures whole { OnOk result (length line.new ≡ length line.old) }
 {
     let tile = wanted.tile;
-    let y = tile.y + row;
     let first = wanted.inner.first;
     let last = first + wanted.inner.count;
-    let step = sides.length as usize;
-    let left = Filled {
-        medians: sides.left,
-        from: row as usize,
-        step,
-    };
-    let right = Filled {
-        medians: sides.right,
-        from: row as usize,
-        step,
-    };
-    push_cut(out, seen, wanted, left, tile.x, y, first)?;
+    let rows = sides.length;
+    push_side(out, seen, wanted, sides.left, rows, tile.x, row, first)?;
     push_inner(alloc, out, line, seen, wanted, row)?;
-    push_cut(
+    push_side(
         out,
         seen,
         wanted,
-        right,
+        sides.right,
+        rows,
         tile.x + last,
-        y,
+        row,
         tile.width - last,
     )?;
     Ok(())
 }
 
-/// The filled medians of so many of the tile's columns from column x on, column after column; each has so many rows.
+/// The filled medians of so many of the tile's columns from column x on, column after column; each has so many rows. None are made
+/// of more columns than a square has that holds its origin.
 fn side_medians<P: Vectored>(
     alloc: Global,
     wanted: Wanted<P>,
@@ -264,8 +324,11 @@ fn side_medians<P: Vectored>(
     requires long { length ≤ 2 ^ 31 }
     requires many { count ≤ 2 ^ 31 }
     requires median { IsMedian wanted.side wanted.k }
-    ensures { IfOk result (λ v. HasRows P.level (λ i r. filled_rank P.level P.top_level (seen_at wanted.entry.window.now) wanted.entry.first wanted.entry.side wanted.entry.k (x + r) (wanted.entry.tile.y + i)) length count v.items) }
+    ensures { IfOk result (λ v. 1 ≤ vec_len v → HasRows P.level (λ i r. filled_rank P.level P.top_level (seen_at wanted.entry.window.now) wanted.entry.first wanted.entry.side wanted.entry.k (x + r) (wanted.entry.tile.y + i)) length count v.items) }
 {
+    if count >= wanted.side {
+        return Ok(Vec::new(alloc));
+    }
     let columns = Lines {
         x,
         y: wanted.tile.y,

@@ -14,8 +14,9 @@ returns-then-value g c =
     let top = g.P.Pixel.top_level in
     let wanted = c.args.wanted in
     let sight = seen_at wanted.window.now in
-    let low : filled_rank level top sight wanted.first wanted.side wanted.k c.args.x c.args.y < top =
-    omega (arith, c.if-value.true, c.requires.filled, c.value.ensures.level, c.value-2.ensures.level, ap level c.TOP.ensures, g.met.P.Pixel.top_is_top) in
-    c.requires.filled
+    let below : level c.args.filled < top = omega (arith, c.if-value.true, c.value.ensures.level, c.value-2.ensures.level, ap level c.TOP.ensures, g.met.P.Pixel.top_is_top) in
+    let is = c.requires.filled below in
+    let low : filled_rank level top sight wanted.first wanted.side wanted.k c.args.x c.args.y < top = omega (arith, below, is) in
+    is
     ∙ rank_filled level top sight (rows_from wanted.first wanted.side wanted.side) c.args.x c.args.y wanted.k low
     ∙ ap (λ (l : List Offset). ranked wanted.k (levels_under level sight l c.args.x c.args.y)) (sym c.requires.square)

@@ -36,7 +36,7 @@ pub returns-clause-medians : goal.returns-clause-medians
 returns-clause-medians g c = c.push_cut.ensures
 
 pub push_cut-requires-clause-filled : goal.push_cut-requires-clause-filled
-push_cut-requires-clause-filled g c = λ i lt.
+push_cut-requires-clause-filled g c = λ i lt low.
     let level = g.P.Pixel.level in
     let top = g.P.Pixel.TOP in
     let wanted = c.args.wanted in
