@@ -1,6 +1,7 @@
 -- Levels that are gathered at one place, and the wanted one of them.
-use Rattle.std.proofs.Common.{◌≡◌, ℕ, ◌+◌, ◌<◌, ◌≤◌, List, [], ◌∷◌, ◌++◌, length, get_or, take, ap, sym, arith, ◌∙◌, append-nil, length-append}
+use Rattle.std.proofs.Common.{◌≡◌, ℕ, zero, suc, ◌+◌, ◌<◌, ◌≤◌, List, [], ◌∷◌, ◌++◌, length, get_or, take, ap, sym, arith, ◌∙◌, append-nil, length-append, inl, inr}
 use Rattle.std.specs.Prelude.{min, max, cond, nat_lt}
+use Rattle.std.proofs.lemmas.Bool.{cases_lt}
 use Rattle.std.proofs.lemmas.List.{take_more}
 use Rattle.mw_model.specs.declared.places.Offset.{Offset}
 use Rattle.mw_model.specs.PlanSteps.{ranked}
@@ -8,7 +9,7 @@ use Rattle.mw_model.specs.Rasters.{Sight}
 use Rattle.mw_model.proofs.PlainRanks.{nth_from}
 use Rattle.mw_rank.specs.Ranks.{levels_under, levels_at}
 use Rattle.mw_rank.specs.Tallies.{count_under}
-use Rattle.mw_rank.proofs.Counts.{count-append, count-cons, one-lt}
+use Rattle.mw_rank.proofs.Counts.{count-append, count-cons, count_within, one-lt, one-le}
 use Rattle.mw_rank.proofs.Sights.{levels-append, levels-cons}
 
 -- what is seen under one offset more
@@ -44,3 +45,23 @@ counted_more limit v i levels lt is =
 -- a level of which fewer than n are below, and n are not above, is number k
 pub number_is : (k n v : ℕ) (levels : List ℕ) → n ≡ max 1 (min k (length levels)) → count_under v levels < n → n ≤ count_under (v + 1) levels → v ≡ ranked k levels
 number_is k n v levels n-is few enough = nth_from levels k n v n-is (few, enough)
+
+-- no fewer levels are below a higher limit
+pub count_grows : (a b : ℕ) (levels : List ℕ) → a ≤ b → count_under a levels ≤ count_under b levels
+count_grows a b [] le = omega arith
+count_grows a b (n ∷ ns) le = elim (cases_lt n a) [
+  | inl low ↦ omega (arith, count-cons a n ns, count-cons b n ns, one-lt n a low, one-lt n b (omega arith), count_grows a b ns le)
+  | inr high ↦ omega (arith, count-cons a n ns, count-cons b n ns, one-le n a high, count_grows a b ns le)
+]
+
+-- a level is not below itself
+pub not_below_all : (i v : ℕ) (levels : List ℕ) → i < length levels → v ≡ get_or levels i v → count_under v levels < length levels
+not_below_all i v [] lt is = absurd (omega arith)
+not_below_all zero v (n ∷ ns) lt is = omega (arith, count-cons v n ns, one-le n v (omega arith), count_within v ns)
+not_below_all (suc i) v (n ∷ ns) lt is = omega (arith, count-cons v n ns, not_below_all i v ns (omega arith) is, one_small n v)
+  where
+    one_small : (n v : ℕ) → cond (nat_lt n v) 1 0 ≤ 1
+    one_small n v = elim (cases_lt n v) [
+      | inl low ↦ omega (arith, one-lt n v low)
+      | inr high ↦ omega (arith, one-le n v high)
+    ]

@@ -99,6 +99,19 @@ fn halved(levels: &[u16], n: u16, top: u16) -> u16
     low as u16
 }
 
+/// The greatest of some levels.
+fn greatest(levels: &[u16]) -> u16
+    requires { 1 ≤ length levels.now }
+    ensures few { count_under result levels.now < length levels.now }
+    ensures enough { count_under (result + 1) levels.now ≡ length levels.now }
+{
+    let mut greatest = 0u16;
+    for level in levels {
+        greatest = greatest.max(*level);
+    }
+    greatest
+}
+
 /// Of levels up to a top in rising order number k, or the last where there are fewer; 0 where there is none.
 pub(crate) fn number_of(levels: &[u16], k: u32, top: u16) -> u16
     requires few { length levels.now < 2 ^ 16 }
@@ -110,5 +123,8 @@ pub(crate) fn number_of(levels: &[u16], k: u32, top: u16) -> u16
         return 0;
     }
     let n = k.min(levels.len() as u32).max(1);
+    if n as usize == levels.len() {
+        return greatest(levels).min(top);
+    }
     halved(levels, n as u16, top)
 }
