@@ -82,12 +82,16 @@ WORDS = loaded(b"f", b"P5\n40 12\n4095\n" + b"".join(level.to_bytes(2, "big") fo
 DOTS = loaded(b"f", b"P1\n40 12\n" + b"".join(b"%d" % (level % 7 < 3) for level in MIXED) + b"\n")
 RANKS = (b"RUN s RANK f b 3\nRUN m RANK f c 25\nRUN l RANK f d 40\nFETCH s\nFETCH m\nFETCH l\nRUN e RANK m b 9\n"
          b"FETCH e\n")
+# Medians by vectors, also where the frame cuts the square.
+MEDIANS = square(b"b", 3) + square(b"c", 5) + b"RUN m RANK f b 5\nRUN n RANK f c 13\nFETCH m\nFETCH n\n"
 # An element without its origin, beside a square of three.
 BESIDE = b"ELEMENT c 0 0 11\nP1\n3 1\n001\n"
 SESSIONS.update({
     "ranks of bytes": BYTES + square(b"b", 3) + square(b"c", 8) + disc(b"d", 13) + RANKS,
     "ranks of two bytes": WORDS + square(b"b", 3) + square(b"c", 8) + disc(b"d", 13) + RANKS,
     "ranks of a set": DOTS + square(b"b", 3) + square(b"c", 23) + disc(b"d", 23) + RANKS,
+    "medians of bytes": BYTES + MEDIANS,
+    "medians of two bytes": WORDS + MEDIANS,
     "sets of bytes": BYTES + square(b"b", 3) + BESIDE + b"RUN t THRESHOLD f 128\nRUN h HITMISS f b c\n"
                      b"RUN s SKELETON t b 2\nRUN r RESTORE s b 2\nRUN q SPECTRUM t b 2\nFETCH t\nFETCH h\nFETCH s\n"
                      b"FETCH r\nFETCH q\n",

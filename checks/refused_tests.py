@@ -16,7 +16,7 @@ import tempfile
 from refused_memory import built_refuser, counted, refusing
 
 MODULES = {
-    "mw_memory_tests_tests": ["files", "makers", "results", "sharing"],
+    "mw_memory_tests_tests": ["files", "makers", "medians", "results", "sharing"],
     "mw_machine_tests_tests": ["machine_calls", "machine_owners", "machine_results"],
     "mw_core_tests_tests": ["refused"],
     "mw_direct_tests_tests": ["memory"],

@@ -22,6 +22,8 @@ mod files;
 #[cfg(test)]
 mod makers;
 #[cfg(test)]
+mod medians;
+#[cfg(test)]
 mod results;
 #[cfg(test)]
 mod rooms;

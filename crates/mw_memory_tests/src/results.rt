@@ -427,16 +427,21 @@ impl Axis {
 /// A frame whose levels rise by one step with each column alone, or with each row alone, and a rank under the square that
 /// reaches so far to each side.
 #[derive(Clone, Copy)]
-struct Rising {
-    width: u32,
-    height: u32,
-    by_rows: bool,
-    step: u16,
-    reach: u32,
-    k: u32,
+pub(crate) struct Rising {
+    pub width: u32,
+    pub height: u32,
+    pub by_rows: bool,
+    pub step: u16,
+    pub reach: u32,
+    pub k: u32,
 }
 
 impl Rising {
+    /// The place of the whole frame.
+    pub fn frame(self) -> Rect {
+        part(0, 0, self.width, self.height)
+    }
+
     fn level(self, place: u32) -> u16 {
         u16::try_from(place)
             .unwrap_or(u16::MAX)
@@ -513,14 +518,18 @@ fn samples_of<P: Grey>(alloc: Global, case: Rising) -> Result<Vec<P>, NoMemory> 
     Ok(samples)
 }
 
-fn window_rising<P: Grey>(rt: &impl Abort, alloc: Global, case: Rising) -> Result<Window<P>, Fail> {
+pub(crate) fn window_rising<P: Grey>(
+    rt: &impl Abort,
+    alloc: Global,
+    case: Rising,
+) -> Result<Window<P>, Fail> {
     let samples = once_more!(NoMemory, samples_of::<P>(alloc, case));
     assert!(rt; samples.len() == case.height as usize * case.width as usize);
     Ok(Window::whole(Plane::new(case.width, case.height, samples)))
 }
 
 /// The offsets of the square.
-fn square(alloc: Global, reach: u32) -> Result<Vec<Offset>, NoMemory> {
+pub(crate) fn square(alloc: Global, reach: u32) -> Result<Vec<Offset>, NoMemory> {
     let reach = reach.min(9) as i16;
     let mut offsets = Vec::new(alloc);
     for dy in -reach..reach + 1 {
@@ -538,7 +547,7 @@ fn ranks_of<P: Counted>(
     window: &Window<P>,
     case: Rising,
 ) -> Result<Plane<P>, Fail> {
-    let tile = part(0, 0, case.width, case.height);
+    let tile = case.frame();
     let offsets = once_more!(NoMemory, square(alloc, case.reach));
     assert!(rt; offsets.len() < 65536);
     Ok(once_more!(
@@ -547,8 +556,18 @@ fn ranks_of<P: Counted>(
     ))
 }
 
+/// Whether the window has the samples of the frame, as it had before.
+pub(crate) fn is_whole<P: Planar>(window: &Window<P>, case: Rising) -> bool {
+    let itself = Rising {
+        reach: 0,
+        k: 1,
+        ..case
+    };
+    are_ranks(window.plane(), itself, None)
+}
+
 /// Whether the plane has the ranks, or, for a set, their places with a level or more.
-fn are_ranks<P: Planar>(made: &Plane<P>, case: Rising, least: Option<u16>) -> bool {
+pub(crate) fn are_ranks<P: Planar>(made: &Plane<P>, case: Rising, least: Option<u16>) -> bool {
     if made.width() != case.width || made.height() != case.height {
         return false;
     }
@@ -568,12 +587,7 @@ fn are_ranked<P: Counted>(rt: &impl Abort, alloc: Global, case: Rising) -> Resul
     let window = window_rising::<P>(rt, alloc, case)?;
     let made = ranks_of(rt, alloc, &window, case)?;
     assert!(rt; are_ranks(&made, case, None));
-    let itself = Rising {
-        reach: 0,
-        k: 1,
-        ..case
-    };
-    assert!(rt; are_ranks(window.plane(), itself, None));
+    assert!(rt; is_whole(&window, case));
     Ok(())
 }
 
@@ -657,7 +671,7 @@ const BY_WORDS: [Rising; 2] = [
 fn ranks_of_sets_by_words(rt: HostRuntime) -> Result<(), Fail> {
     for case in BY_WORDS {
         let set = high(&rt, rt.alloc(), case)?;
-        let tile = part(0, 0, case.width, case.height);
+        let tile = case.frame();
         let offsets = once_more!(NoMemory, square(rt.alloc(), case.reach));
         assert!(rt; offsets.len() < 65536);
         let made = once_more!(

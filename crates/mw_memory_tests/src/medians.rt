@@ -1,0 +1,77 @@
+//! Medians by vectors: in the middle of a frame, where its sides and its first and last rows cut the square, and in its corners,
+//! where the rank is made alone.
+
+use crate::results::{Rising, are_ranks, is_whole, square, window_rising};
+use mw_medians::{Vectored, median_of_grey};
+use mw_model::NoMemory;
+use std::alloc::Global;
+use std::process::Abort;
+use std::test::Fail;
+
+/// Frames of which all rows or columns but a few show the whole square, and of two rows, which never do.
+const FRAMES: [Rising; 4] = [
+    Rising {
+        width: 40,
+        height: 9,
+        by_rows: false,
+        step: 6,
+        reach: 1,
+        k: 5,
+    },
+    Rising {
+        width: 60,
+        height: 20,
+        by_rows: true,
+        step: 12,
+        reach: 2,
+        k: 13,
+    },
+    Rising {
+        width: 30,
+        height: 2,
+        by_rows: false,
+        step: 6,
+        reach: 1,
+        k: 5,
+    },
+    Rising {
+        width: 40,
+        height: 2,
+        by_rows: false,
+        step: 6,
+        reach: 2,
+        k: 13,
+    },
+];
+
+fn are_medians<P: Vectored>(rt: &impl Abort, alloc: Global, case: Rising) -> Result<(), Fail> {
+    let window = window_rising::<P>(rt, alloc, case)?;
+    let offsets = once_more!(NoMemory, square(alloc, case.reach));
+    assert!(rt; offsets.len() < 65536);
+    let made = once_more!(
+        NoMemory,
+        median_of_grey(alloc, &window, &offsets, case.k, case.frame())
+    );
+    let medians = made.ok_or("medians by vectors")?;
+    assert!(rt; are_ranks(&medians, case, None));
+    assert!(rt; is_whole(&window, case));
+    Ok(())
+}
+
+#[test]
+fn medians_of_bytes(rt: HostRuntime) -> Result<(), Fail> {
+    for case in FRAMES {
+        are_medians::<u8>(&rt, rt.alloc(), case)?;
+    }
+    Ok(())
+}
+
+/// The same with levels of 16 bits.
+#[test]
+fn medians_of_words(rt: HostRuntime) -> Result<(), Fail> {
+    for case in FRAMES {
+        let step = case.step.saturating_mul(256);
+        are_medians::<u16>(&rt, rt.alloc(), Rising { step, ..case })?;
+    }
+    Ok(())
+}
