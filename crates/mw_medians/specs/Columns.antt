@@ -1,6 +1,6 @@
 -- Columns of samples that stand in rows of one length.
-use Rattle.std.specs.Prelude.{ℕ, zero, suc, ◌+◌, ◌*◌, List, slice_index_or}
-use Rattle.mw_medians.specs.Numbered.{below}
+use Rattle.std.specs.Prelude.{◌≡◌, ℕ, zero, suc, ◌+◌, ◌*◌, ◌<◌, List, length, slice_index_or}
+use Rattle.mw_medians.specs.Numbered.{below, IsNumber}
 
 -- the sum of the first values
 abbrev pub sum_to : (ℕ → ℕ) → ℕ → ℕ
@@ -18,3 +18,9 @@ column_below level d samples from stride rows j t = sum_to (λ r. below (cell_fr
 -- how many samples of so many rows and columns from column j on are below t
 abbrev pub block_below : {A : Type 0} → (A → ℕ) → A → List A → ℕ → ℕ → ℕ → ℕ → ℕ → ℕ
 block_below level d samples from stride side j t = sum_to (λ c. column_below level d samples from stride side (j + c) t) side
+
+-- the list has got n samples more: each is number k of the block of so many rows and columns that begins in its column
+pub record GainsMedians {A : Type 0} (level : A → ℕ) (d : A) (samples : List A) (from stride side k n : ℕ) (old new : List A) : Type 0 where
+  pub size : length new ≡ length old + n
+  pub kept : (p : ℕ) (e : A) → p < length old → slice_index_or new p e ≡ slice_index_or old p e
+  pub made : (i : ℕ) → i < n → IsNumber (block_below level d samples from stride side i) k (level (slice_index_or new (length old + i) d))

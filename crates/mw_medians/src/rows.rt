@@ -1,8 +1,9 @@
 //! Medians of a row of results. As far as whole vectors follow, each column is put in order once, and the squares that begin in
 //! the lanes of a vector take the rest of their columns from the next ones. The last squares put columns of their own in order.
-ghost use Rattle.std.specs.Prelude.{◌≡◌, ℕ, ◌+◌, ◌*◌, ◌<◌, ◌≤◌, length, slice_index_or};
+//! A long row is made in pieces, of which each is copied into the result while the processor begins with the next.
+ghost use Rattle.std.specs.Prelude.{◌≡◌, ℕ, ◌+◌, ◌*◌, ◌<◌, ◌≤◌, length, slice_index_or, OnOk};
 ghost use Rattle.mw_medians.specs.Numbered.{lanes_of_three, lanes_of_five, AreThree, AreFive, IsNumber};
-ghost use Rattle.mw_medians.specs.Columns.{column_below, block_below};
+ghost use Rattle.mw_medians.specs.Columns.{column_below, block_below, GainsMedians};
 ghost use Rattle.mw_medians.specs.Squares.{IsMedian};
 
 use crate::Vectored;
@@ -11,6 +12,7 @@ use crate::ahead::{
 };
 use crate::five::{Five, five_in_order, five_merged, median_of_tens};
 use crate::nine::{Three, median_of_nine, three_in_order};
+use mw_model::NoMemory;
 use mw_rank::pixel::Pixel;
 
 /// Samples in rows of one length, from a place on.
@@ -172,4 +174,34 @@ pub(crate) fn medians_of_rows<P: Vectored>(out: &mut [P], sheet: Sheet<P>, side:
     } else {
         medians_of_25(out, sheet);
     }
+}
+
+/// Adds the first medians of a row, a piece at a time. The last piece begins early enough to end with them.
+pub(crate) fn push_medians<P: Vectored>(
+    out: &mut Vec<P>,
+    piece: &mut [P],
+    sheet: Sheet<P>,
+    side: u32,
+    k: u32,
+    count: usize,
+) -> Result<(), NoMemory>
+    requires wide { P.WIDTH ≤ length piece.old }
+    requires part { length piece.old ≤ count }
+    requires inside { sheet.from + side * sheet.stride + count + side ≤ length sheet.samples.now + sheet.stride + 1 }
+    requires median { IsMedian side k }
+    ensures medians { OnOk result (GainsMedians P.level P.TOP sheet.entry.samples.now sheet.entry.from sheet.entry.stride side k count out.old.items out.new.items) }
+    ensures size { OnOk result (length piece.new ≡ length piece.old) }
+{
+    let mut done = 0usize;
+    'by_piece: while done < count {
+        let from = done.min(count - piece.len());
+        let part = Sheet {
+            from: sheet.from + from,
+            ..sheet
+        };
+        medians_of_rows(piece, part, side, k);
+        out.extend_from_slice(&piece[done - from..])?;
+        done = from + piece.len();
+    }
+    Ok(())
 }

@@ -12,7 +12,7 @@ ghost use Rattle.mw_medians.specs.Filled.{filled_rank};
 use crate::Vectored;
 use crate::cut::{gather, number_of};
 use crate::filled::{Lines, filled_medians};
-use crate::rows::{Sheet, medians_of_rows};
+use crate::rows::{Sheet, push_medians};
 use crate::square::{square_in, square_of};
 use mw_model::{NoMemory, Offset, Rect};
 use mw_rank::pixel::{Grey, Plane, copies};
@@ -157,6 +157,14 @@ fn push_alone<P: Grey>(
     Ok(())
 }
 
+/// Some places of a row of the tile, from column x of the frame on.
+#[derive(Clone, Copy)]
+struct Part {
+    x: u32,
+    row: u32,
+    count: u32,
+}
+
 /// Adds the ranks of places of a row beside the inner ones, from the filled medians of their columns, if these were made.
 fn push_side<P: Grey>(
     out: &mut Vec<P>,
@@ -164,18 +172,17 @@ fn push_side<P: Grey>(
     wanted: Wanted<P>,
     medians: &[P],
     rows: u32,
-    x: u32,
-    row: u32,
-    count: u32,
+    part: Part,
 ) -> Result<(), NoMemory>
     requires few { length wanted.offsets.now < 2 ^ 16 }
     requires square { wanted.offsets.now ≡ rows_from wanted.first wanted.side wanted.side }
-    requires near { x + count < 2 ^ 32 }
-    requires high { wanted.tile.y + row < 2 ^ 32 }
-    requires long { row < rows }
-    requires made { 1 ≤ length medians.now → HasRows P.level (λ i r. filled_rank P.level P.top_level (seen_at wanted.window.now) wanted.first wanted.side wanted.k (x + r) (wanted.tile.y + i)) rows count medians.now }
-    ensures { OnOk result (GainsRow P.level (λ i. ranked wanted.entry.k (levels_under P.level (seen_at wanted.entry.window.now) wanted.entry.offsets.now (x + i) (wanted.entry.tile.y + row))) count out.old.items out.new.items) }
+    requires near { part.x + part.count < 2 ^ 32 }
+    requires high { wanted.tile.y + part.row < 2 ^ 32 }
+    requires long { part.row < rows }
+    requires made { 1 ≤ length medians.now → HasRows P.level (λ i r. filled_rank P.level P.top_level (seen_at wanted.window.now) wanted.first wanted.side wanted.k (part.x + r) (wanted.tile.y + i)) rows part.count medians.now }
+    ensures { OnOk result (GainsRow P.level (λ i. ranked wanted.entry.k (levels_under P.level (seen_at wanted.entry.window.now) wanted.entry.offsets.now (part.x + i) (wanted.entry.tile.y + part.row))) part.count out.old.items out.new.items) }
 {
+    let Part { x, row, count } = part;
     let y = wanted.tile.y + row;
     if medians.len() == 0 {
         return push_alone(out, seen, wanted, x, y, count);
@@ -205,21 +212,21 @@ fn rows_seen(place: Rect, first: Offset, side: u32, y: u32) -> u64
 fn push_inner<P: Vectored>(
     alloc: Global,
     out: &mut Vec<P>,
-    line: &mut [P],
+    piece: &mut [P],
     seen: &mut Vec<u16>,
     wanted: Wanted<P>,
     row: u32,
 ) -> Result<(), NoMemory>
     requires few { length wanted.offsets.now < 2 ^ 16 }
-    requires wide { P.WIDTH ≤ length line.old }
-    requires whole { length line.old ≡ wanted.inner.count }
+    requires wide { P.WIDTH ≤ length piece.old }
+    requires part { length piece.old ≤ wanted.inner.count }
     requires near { wanted.tile.x + wanted.tile.width ≤ 2 ^ 31 }
     requires inner { wanted.inner.first + wanted.inner.count ≤ wanted.tile.width }
     requires high { wanted.tile.y + row ≤ 2 ^ 31 }
     requires square { wanted.offsets.now ≡ rows_from wanted.first wanted.side wanted.side }
     requires median { IsMedian wanted.side wanted.k }
     ensures medians { OnOk result (GainsRow P.level (λ i. ranked wanted.entry.k (levels_under P.level (seen_at wanted.entry.window.now) wanted.entry.offsets.now (wanted.entry.tile.x + wanted.entry.inner.first + i) (wanted.entry.tile.y + row))) wanted.entry.inner.count out.old.items out.new.items) }
-    ensures whole { length line.new ≡ length line.old }
+    ensures size { OnOk result (length piece.new ≡ length piece.old) }
 {
     let x = wanted.tile.x + wanted.inner.first;
     let y = wanted.tile.y + row;
@@ -237,8 +244,7 @@ fn push_inner<P: Vectored>(
             from,
             stride: wanted.window.place().width as usize,
         };
-        medians_of_rows(line, sheet, wanted.side, wanted.k);
-        out.extend_from_slice(line)?;
+        push_medians(out, piece, sheet, wanted.side, wanted.k, count as usize)?;
         return Ok(());
     }
     // of so few rows, each number k is the greatest level
@@ -272,15 +278,15 @@ fn push_inner<P: Vectored>(
 fn push_row<P: Vectored>(
     alloc: Global,
     out: &mut Vec<P>,
-    line: &mut [P],
+    piece: &mut [P],
     seen: &mut Vec<u16>,
     wanted: Wanted<P>,
     sides: Sides<P>,
     row: u32,
 ) -> Result<(), NoMemory>
     requires few { length wanted.offsets.now < 2 ^ 16 }
-    requires wide { P.WIDTH ≤ length line.old }
-    requires whole { length line.old ≡ wanted.inner.count }
+    requires wide { P.WIDTH ≤ length piece.old }
+    requires part { length piece.old ≤ wanted.inner.count }
     requires near { wanted.tile.x + wanted.tile.width ≤ 2 ^ 31 }
     requires inner { wanted.inner.first + wanted.inner.count ≤ wanted.tile.width }
     requires high { wanted.tile.y + row ≤ 2 ^ 31 }
@@ -290,24 +296,25 @@ fn push_row<P: Vectored>(
     requires left { 1 ≤ length sides.left.now → HasRows P.level (λ i r. filled_rank P.level P.top_level (seen_at wanted.window.now) wanted.first wanted.side wanted.k (wanted.tile.x + r) (wanted.tile.y + i)) sides.length wanted.inner.first sides.left.now }
     requires right { 1 ≤ length sides.right.now → HasRows P.level (λ i r. filled_rank P.level P.top_level (seen_at wanted.window.now) wanted.first wanted.side wanted.k (wanted.tile.x + (wanted.inner.first + wanted.inner.count) + r) (wanted.tile.y + i)) sides.length (wanted.tile.width - (wanted.inner.first + wanted.inner.count)) sides.right.now }
     ensures medians { OnOk result (GainsRow P.level (λ i. ranked wanted.entry.k (levels_under P.level (seen_at wanted.entry.window.now) wanted.entry.offsets.now (wanted.entry.tile.x + i) (wanted.entry.tile.y + row))) wanted.entry.tile.width out.old.items out.new.items) }
-    ensures whole { OnOk result (length line.new ≡ length line.old) }
+    ensures size { OnOk result (length piece.new ≡ length piece.old) }
 {
     let tile = wanted.tile;
     let first = wanted.inner.first;
     let last = first + wanted.inner.count;
     let rows = sides.length;
-    push_side(out, seen, wanted, sides.left, rows, tile.x, row, first)?;
-    push_inner(alloc, out, line, seen, wanted, row)?;
-    push_side(
-        out,
-        seen,
-        wanted,
-        sides.right,
-        rows,
-        tile.x + last,
+    let left = Part {
+        x: tile.x,
         row,
-        tile.width - last,
-    )?;
+        count: first,
+    };
+    let right = Part {
+        x: tile.x + last,
+        row,
+        count: tile.width - last,
+    };
+    push_side(out, seen, wanted, sides.left, rows, left)?;
+    push_inner(alloc, out, piece, seen, wanted, row)?;
+    push_side(out, seen, wanted, sides.right, rows, right)?;
     Ok(())
 }
 
@@ -346,6 +353,10 @@ fn side_medians<P: Vectored>(
     )
 }
 
+/// How many medians of a row are made before they are copied: so few that the processor copies them while it makes the next ones,
+/// and so many that few are made twice.
+const PIECE: u32 = 512;
+
 /// The ranks of a tile, by rows.
 fn median_samples<P: Vectored>(alloc: Global, wanted: Wanted<P>) -> Result<Vec<P>, NoMemory>
     requires few { length wanted.offsets.now < 2 ^ 16 }
@@ -369,11 +380,11 @@ fn median_samples<P: Vectored>(alloc: Global, wanted: Wanted<P>) -> Result<Vec<P
         length,
     };
     let mut seen = Vec::with_capacity(alloc, wanted.offsets.len())?;
-    let mut room = copies(alloc, wanted.inner.count as usize, P::TOP)?;
+    let mut room = copies(alloc, wanted.inner.count.min(PIECE) as usize, P::TOP)?;
     let mut out = Vec::with_capacity(alloc, tile.height as usize * tile.width as usize)?;
-    let line = room.as_mut_slice();
+    let piece = room.as_mut_slice();
     for row in 0..tile.height {
-        push_row(alloc, &mut out, line, &mut seen, wanted, sides, row)?;
+        push_row(alloc, &mut out, piece, &mut seen, wanted, sides, row)?;
     }
     Ok(out)
 }

@@ -11,7 +11,8 @@ loop-row-preserved g c =
     let tile = wanted.tile in
     let value = λ (x y : ℕ). ranked wanted.k (levels_under g.P.Pixel.level (seen_at wanted.window.now) wanted.offsets.now (tile.x + x) (tile.y + y)) in
     record {
-      whole = c.in_ok-push_row.ensures.whole ∙ c.loop-row.invariant.whole;
+      wide = omega (arith, c.in_ok-push_row.ensures.size, c.loop-row.invariant.wide);
+      part = omega (arith, c.in_ok-push_row.ensures.size, c.loop-row.invariant.part);
       rows = has_rows_more g.P.Pixel.level value (λ x. value x c.loop-row.row) tile.width c.loop-row.row c.loop-row.out.items c.push_row.new.out.items (λ x. refl) c.in_ok-push_row.ensures.medians c.loop-row.invariant.rows;
     }
 

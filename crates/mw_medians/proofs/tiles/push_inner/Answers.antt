@@ -5,7 +5,7 @@ use Rattle.mw_model.specs.Windows.{seen_at}
 use Rattle.mw_rank.specs.Ranks.{levels_under}
 use Rattle.mw_medians.specs.Filled.{filled_rank}
 use Rattle.mw_medians.specs.Squares.{rows_from, ShowsSquare}
-use Rattle.mw_medians.proofs.Joined.{slice_gained}
+use Rattle.mw_medians.proofs.Joined.{medians_gained}
 use Rattle.mw_medians.proofs.Medians.{median_is, median_some}
 use Rattle.mw_medians.proofs.tiles.push_inner.Goals as goal
 
@@ -24,13 +24,11 @@ returns-in-Some-clause-medians g c =
     let square = rows_from wanted.first wanted.side wanted.side in
     let shows = λ (a b : ℕ). ShowsSquare level top (seen_at w) w.cells square a b count c.in-Some.from w.place.width wanted.side in
     let shown = subst (λ (a : ℕ). shows a y) c.from.ensures (subst (λ (b : ℕ). shows c.from.result b) c.from-2.ensures c.in-Some.ensures) in
-    slice_gained level top (λ i. ranked wanted.k (levels_under level (seen_at w) wanted.offsets.now (x + i) y)) count c.medians_of_rows.new.out c.args.out.now.items c.extend_from_slice.new.self.items
-    (c.medians_of_rows.ensures.size ∙ c.requires.whole)
-    (λ i lt.
-    let within : i < length c.args.line.now = omega (arith, c.requires.whole) in
-    median_is level top (seen_at w) w.cells c.samples.result.now wanted.offsets.now square x y count c.in-Some.from c.place.result.width w.place.width wanted.side i wanted.k _ c.samples.ensures.value
-    (ap (λ (t : Rect). t.width) c.place.ensures.value) c.requires.square shown lt (median_some wanted.side wanted.k c.requires.median).1 (c.medians_of_rows.ensures.medians i within))
-    c.in_ok-extend_from_slice.ensures.items
+    medians_gained level top c.samples.result.now c.in-Some.from c.place.result.width wanted.side wanted.k count (λ i. ranked wanted.k (levels_under level (seen_at w) wanted.offsets.now (x + i) y)) c.args.out.now.items c.push_medians.new.out.items
+    (λ i v lt number.
+    median_is level top (seen_at w) w.cells c.samples.result.now wanted.offsets.now square x y count c.in-Some.from c.place.result.width w.place.width wanted.side i wanted.k v c.samples.ensures.value
+    (ap (λ (t : Rect). t.width) c.place.ensures.value) c.requires.square shown lt (median_some wanted.side wanted.k c.requires.median).1 number)
+    c.in_ok-push_medians.ensures.medians
 
 pub returns-clause-medians : goal.returns-clause-medians
 returns-clause-medians g c = c.push_cut.ensures
