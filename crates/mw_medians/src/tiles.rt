@@ -27,9 +27,11 @@ struct Inner {
     count: u32,
 }
 
-/// The medians that are wanted in a tile: number k under a square of offsets, by vectors in the inner columns.
+/// The medians that are wanted in a tile: number k under a square of offsets, by vectors in the inner columns; and where memory
+/// for them comes from.
 #[derive(Clone, Copy)]
 struct Wanted<'a, P: Grey> {
+    alloc: Global,
     window: &'a Window<P>,
     offsets: &'a [Offset],
     first: Offset,
@@ -75,6 +77,14 @@ fn rank_at<P: Grey>(seen: &mut Vec<u16>, wanted: Wanted<P>, x: u32, y: u32) -> R
     Ok(sample_of::<P>(level))
 }
 
+/// Some places of a row of the tile, from column x of the frame on; the row is counted from the tile's first.
+#[derive(Clone, Copy)]
+struct Part {
+    x: u32,
+    row: u32,
+    count: u32,
+}
+
 /// Filled medians of which some follow one another in a row of the tile: those so many steps from the first.
 #[derive(Clone, Copy)]
 struct Filled<'a, P: Grey> {
@@ -117,20 +127,20 @@ fn push_cut<P: Grey>(
     seen: &mut Vec<u16>,
     wanted: Wanted<P>,
     filled: Filled<P>,
-    x: u32,
-    y: u32,
-    count: u32,
+    part: Part,
 ) -> Result<(), NoMemory>
     requires few { length wanted.offsets.now < 2 ^ 16 }
     requires square { wanted.offsets.now ≡ rows_from wanted.first wanted.side wanted.side }
-    requires near { x + count < 2 ^ 32 }
-    requires inside { (i : ℕ) → i < count → filled.from + i * filled.step < length filled.medians.now }
-    requires filled { (i : ℕ) → i < count → P.level (slice_index_or filled.medians.now (filled.from + i * filled.step) P.TOP) < P.top_level → P.level (slice_index_or filled.medians.now (filled.from + i * filled.step) P.TOP) ≡ filled_rank P.level P.top_level (seen_at wanted.window.now) wanted.first wanted.side wanted.k (x + i) y }
-    ensures { OnOk result (GainsRow P.level (λ i. ranked wanted.entry.k (levels_under P.level (seen_at wanted.entry.window.now) wanted.entry.offsets.now (x + i) y)) count out.old.items out.new.items) }
+    requires near { part.x + part.count < 2 ^ 32 }
+    requires high { wanted.tile.y + part.row < 2 ^ 32 }
+    requires inside { (i : ℕ) → i < part.count → filled.from + i * filled.step < length filled.medians.now }
+    requires filled { (i : ℕ) → i < part.count → P.level (slice_index_or filled.medians.now (filled.from + i * filled.step) P.TOP) < P.top_level → P.level (slice_index_or filled.medians.now (filled.from + i * filled.step) P.TOP) ≡ filled_rank P.level P.top_level (seen_at wanted.window.now) wanted.first wanted.side wanted.k (part.x + i) (wanted.tile.y + part.row) }
+    ensures { OnOk result (GainsRow P.level (λ i. ranked wanted.entry.k (levels_under P.level (seen_at wanted.entry.window.now) wanted.entry.offsets.now (part.x + i) (wanted.entry.tile.y + part.row))) part.count out.old.items out.new.items) }
 {
-    for i in 0..count {
+    let y = wanted.tile.y + part.row;
+    for i in 0..part.count {
         let median = filled.medians[filled.from + i as usize * filled.step];
-        let sample = checked(seen, wanted, median, x + i, y)?;
+        let sample = checked(seen, wanted, median, part.x + i, y)?;
         out.push(sample)?;
     }
     Ok(())
@@ -141,28 +151,20 @@ fn push_alone<P: Grey>(
     out: &mut Vec<P>,
     seen: &mut Vec<u16>,
     wanted: Wanted<P>,
-    x: u32,
-    y: u32,
-    count: u32,
+    part: Part,
 ) -> Result<(), NoMemory>
     requires few { length wanted.offsets.now < 2 ^ 16 }
     requires square { wanted.offsets.now ≡ rows_from wanted.first wanted.side wanted.side }
-    requires near { x + count < 2 ^ 32 }
-    ensures { OnOk result (GainsRow P.level (λ i. ranked wanted.entry.k (levels_under P.level (seen_at wanted.entry.window.now) wanted.entry.offsets.now (x + i) y)) count out.old.items out.new.items) }
+    requires near { part.x + part.count < 2 ^ 32 }
+    requires high { wanted.tile.y + part.row < 2 ^ 32 }
+    ensures { OnOk result (GainsRow P.level (λ i. ranked wanted.entry.k (levels_under P.level (seen_at wanted.entry.window.now) wanted.entry.offsets.now (part.x + i) (wanted.entry.tile.y + part.row))) part.count out.old.items out.new.items) }
 {
-    for i in 0..count {
-        let sample = rank_at(seen, wanted, x + i, y)?;
+    let y = wanted.tile.y + part.row;
+    for i in 0..part.count {
+        let sample = rank_at(seen, wanted, part.x + i, y)?;
         out.push(sample)?;
     }
     Ok(())
-}
-
-/// Some places of a row of the tile, from column x of the frame on.
-#[derive(Clone, Copy)]
-struct Part {
-    x: u32,
-    row: u32,
-    count: u32,
 }
 
 /// Adds the ranks of places of a row beside the inner ones, from the filled medians of their columns, if these were made.
@@ -182,17 +184,15 @@ fn push_side<P: Grey>(
     requires made { 1 ≤ length medians.now → HasRows P.level (λ i r. filled_rank P.level P.top_level (seen_at wanted.window.now) wanted.first wanted.side wanted.k (part.x + r) (wanted.tile.y + i)) rows part.count medians.now }
     ensures { OnOk result (GainsRow P.level (λ i. ranked wanted.entry.k (levels_under P.level (seen_at wanted.entry.window.now) wanted.entry.offsets.now (part.x + i) (wanted.entry.tile.y + part.row))) part.count out.old.items out.new.items) }
 {
-    let Part { x, row, count } = part;
-    let y = wanted.tile.y + row;
     if medians.len() == 0 {
-        return push_alone(out, seen, wanted, x, y, count);
+        return push_alone(out, seen, wanted, part);
     }
     let filled = Filled {
         medians,
-        from: row as usize,
+        from: part.row as usize,
         step: rows as usize,
     };
-    push_cut(out, seen, wanted, filled, x, y, count)
+    push_cut(out, seen, wanted, filled, part)
 }
 
 /// How many rows of the square the place has, where it is put on row y.
@@ -210,7 +210,6 @@ fn rows_seen(place: Rect, first: Offset, side: u32, y: u32) -> u64
 
 /// Adds the ranks of the inner columns of a row.
 fn push_inner<P: Vectored>(
-    alloc: Global,
     out: &mut Vec<P>,
     piece: &mut [P],
     seen: &mut Vec<u16>,
@@ -249,7 +248,7 @@ fn push_inner<P: Vectored>(
     }
     // of so few rows, each number k is the greatest level
     if 2 * rows_seen(wanted.window.place(), wanted.first, wanted.side, y) < u64::from(wanted.side) {
-        return push_alone(out, seen, wanted, x, y, count);
+        return push_alone(out, seen, wanted, Part { x, row, count });
     }
     let places = Lines {
         x,
@@ -259,7 +258,7 @@ fn push_inner<P: Vectored>(
         down: false,
     };
     let medians = filled_medians(
-        alloc,
+        wanted.alloc,
         wanted.window,
         wanted.first,
         wanted.side,
@@ -271,12 +270,11 @@ fn push_inner<P: Vectored>(
         from: 0,
         step: 1,
     };
-    push_cut(out, seen, wanted, filled, x, y, count)
+    push_cut(out, seen, wanted, filled, Part { x, row, count })
 }
 
 /// Adds the ranks of a row.
 fn push_row<P: Vectored>(
-    alloc: Global,
     out: &mut Vec<P>,
     piece: &mut [P],
     seen: &mut Vec<u16>,
@@ -313,7 +311,7 @@ fn push_row<P: Vectored>(
         count: tile.width - last,
     };
     push_side(out, seen, wanted, sides.left, rows, left)?;
-    push_inner(alloc, out, piece, seen, wanted, row)?;
+    push_inner(out, piece, seen, wanted, row)?;
     push_side(out, seen, wanted, sides.right, rows, right)?;
     Ok(())
 }
@@ -321,7 +319,6 @@ fn push_row<P: Vectored>(
 /// The filled medians of so many of the tile's columns from column x on, column after column; each has so many rows. None are made
 /// of more columns than a square has that holds its origin.
 fn side_medians<P: Vectored>(
-    alloc: Global,
     wanted: Wanted<P>,
     x: u32,
     count: u32,
@@ -334,7 +331,7 @@ fn side_medians<P: Vectored>(
     ensures { IfOk result (λ v. 1 ≤ vec_len v → HasRows P.level (λ i r. filled_rank P.level P.top_level (seen_at wanted.entry.window.now) wanted.entry.first wanted.entry.side wanted.entry.k (x + r) (wanted.entry.tile.y + i)) length count v.items) }
 {
     if count >= wanted.side {
-        return Ok(Vec::new(alloc));
+        return Ok(Vec::new(wanted.alloc));
     }
     let columns = Lines {
         x,
@@ -344,7 +341,7 @@ fn side_medians<P: Vectored>(
         down: true,
     };
     filled_medians(
-        alloc,
+        wanted.alloc,
         wanted.window,
         wanted.first,
         wanted.side,
@@ -358,7 +355,7 @@ fn side_medians<P: Vectored>(
 const PIECE: u32 = 512;
 
 /// The ranks of a tile, by rows.
-fn median_samples<P: Vectored>(alloc: Global, wanted: Wanted<P>) -> Result<Vec<P>, NoMemory>
+fn median_samples<P: Vectored>(wanted: Wanted<P>) -> Result<Vec<P>, NoMemory>
     requires few { length wanted.offsets.now < 2 ^ 16 }
     requires near { wanted.tile.x + wanted.tile.width ≤ 2 ^ 31 }
     requires high { wanted.tile.y + wanted.tile.height ≤ 2 ^ 31 }
@@ -368,12 +365,13 @@ fn median_samples<P: Vectored>(alloc: Global, wanted: Wanted<P>) -> Result<Vec<P
     requires median { IsMedian wanted.side wanted.k }
     ensures { IfOk result (λ v. HasRows P.level (λ x y. ranked wanted.entry.k (levels_under P.level (seen_at wanted.entry.window.now) wanted.entry.offsets.now (wanted.entry.tile.x + x) (wanted.entry.tile.y + y))) wanted.entry.tile.width wanted.entry.tile.height v.items) }
 {
+    let alloc = wanted.alloc;
     let tile = wanted.tile;
     let first = wanted.inner.first;
     let last = first + wanted.inner.count;
     let length = tile.height.max(P::WIDTH as u32);
-    let before = side_medians(alloc, wanted, tile.x, first, length)?;
-    let behind = side_medians(alloc, wanted, tile.x + last, tile.width - last, length)?;
+    let before = side_medians(wanted, tile.x, first, length)?;
+    let behind = side_medians(wanted, tile.x + last, tile.width - last, length)?;
     let sides = Sides {
         left: before.as_slice(),
         right: behind.as_slice(),
@@ -384,7 +382,7 @@ fn median_samples<P: Vectored>(alloc: Global, wanted: Wanted<P>) -> Result<Vec<P
     let mut out = Vec::with_capacity(alloc, tile.height as usize * tile.width as usize)?;
     let piece = room.as_mut_slice();
     for row in 0..tile.height {
-        push_row(alloc, &mut out, piece, &mut seen, wanted, sides, row)?;
+        push_row(&mut out, piece, &mut seen, wanted, sides, row)?;
     }
     Ok(out)
 }
@@ -436,6 +434,7 @@ fn by_vectors<P: Vectored>(
         return Ok(None);
     }
     let wanted = Wanted {
+        alloc,
         window,
         offsets,
         first,
@@ -444,7 +443,7 @@ fn by_vectors<P: Vectored>(
         tile,
         inner,
     };
-    let samples = median_samples(alloc, wanted)?;
+    let samples = median_samples(wanted)?;
     Ok(Some(samples))
 }
 

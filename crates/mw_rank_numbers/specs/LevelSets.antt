@@ -2,6 +2,10 @@
 use Rattle.std.specs.Prelude.{◌≡◌, ℕ, zero, suc, ◌+◌, ◌*◌, ◌/◌, ◌%◌, ◌<◌, List, length, slice_index, slice_index_or}
 use Rattle.std.specs.Int.{bit_at}
 
+-- how many words a set has
+abbrev pub set_words : ℕ
+set_words = 1024
+
 -- 1 where the level is in the set, else 0
 abbrev pub bit_in : List ℕ → ℕ → ℕ
 bit_in words v = bit_at (slice_index words (v / 64)) (v % 64)
@@ -13,8 +17,8 @@ below_in words (suc v) = below_in words v + bit_in words v
 
 -- how many levels are below those of each word, and how many there are
 pub record IsSummed (words sums : List ℕ) (count : ℕ) : Type 0 where
-  pub size : length sums ≡ 1024
-  pub before : (i : ℕ) → i < 1024 → slice_index sums i ≡ below_in words (64 * i)
+  pub size : length sums ≡ set_words
+  pub before : (i : ℕ) → i < set_words → slice_index sums i ≡ below_in words (64 * i)
   pub all : count ≡ below_in words 65536
 
 -- at the number of the level the list has that level

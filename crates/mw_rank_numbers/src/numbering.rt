@@ -2,10 +2,10 @@
 //! a rank of nothing, which is 0, has number 0.
 ghost use Rattle.std.specs.Prelude.{◌≡◌, ℕ, ◌+◌, ◌*◌, ◌<◌, ◌≤◌, length, map, slice_index, slice_index_or, slice_set, [], ◌++◌, IfOk, OnOk};
 ghost use Rattle.mw_rank.specs.Ranks.{GainsRow, HasRows};
-ghost use Rattle.mw_rank_numbers.specs.LevelSets.{bit_in, below_in, IsBack, IsSummed};
+ghost use Rattle.mw_rank_numbers.specs.LevelSets.{set_words, bit_in, below_in, IsBack, IsSummed};
 ghost use Rattle.mw_rank_numbers.specs.Numbers.{level_in, IsNumbering};
 
-use crate::level_set::{mark, number_of, sums_of};
+use crate::level_set::{WORDS, mark, number_of, sums_of};
 use mw_model::NoMemory;
 use mw_rank::pixel::{Grey, Pixel, copies};
 use mw_rank::sample_of;
@@ -53,8 +53,8 @@ fn part_row<P: Grey>(window: &Window<P>, part: Part, j: u32) -> &[P]
 
 /// Puts the levels of samples into the set.
 fn mark_samples<P: Pixel>(words: &mut [u64], samples: &[P])
-    requires { length words.old ≡ 1024 }
-    ensures size { length words.new ≡ 1024 }
+    requires { length words.old ≡ set_words }
+    ensures size { length words.new ≡ set_words }
     ensures marked { (i : ℕ) → i < length samples.now → bit_in words.new (P.level (slice_index_or samples.now i P.TOP)) ≡ 1 }
     ensures kept { (v : ℕ) → bit_in words.old v ≡ 1 → bit_in words.new v ≡ 1 }
 {
@@ -65,10 +65,10 @@ fn mark_samples<P: Pixel>(words: &mut [u64], samples: &[P])
 
 /// Puts the levels of the part into the set, and level 0.
 fn mark_part<P: Grey>(words: &mut [u64], window: &Window<P>, part: Part)
-    requires words { length words.old ≡ 1024 }
+    requires words { length words.old ≡ set_words }
     requires across { part.column + part.width ≤ window.now.place.width }
     requires down { part.row + part.height ≤ window.now.place.height }
-    ensures size { length words.new ≡ 1024 }
+    ensures size { length words.new ≡ set_words }
     ensures marked { (i j : ℕ) → i < part.width → j < part.height → bit_in words.new (level_in P.level P.TOP window.now part i j) ≡ 1 }
     ensures lowest { bit_in words.new 0 ≡ 1 }
 {
@@ -94,7 +94,7 @@ fn push_numbers<P: Pixel>(
     order: Order,
     samples: &[P],
 ) -> Result<(), NoMemory>
-    requires size { length order.words.now ≡ 1024 }
+    requires size { length order.words.now ≡ set_words }
     requires summed { IsSummed order.words.now order.before.now (length levels.old) }
     requires marked { (i : ℕ) → i < length samples.now → bit_in order.words.now (P.level (slice_index_or samples.now i P.TOP)) ≡ 1 }
     ensures size { length levels.new ≡ length levels.old }
@@ -120,7 +120,7 @@ fn number_part<P: Grey>(
 ) -> Result<(), NoMemory>
     requires across { part.column + part.width ≤ window.now.place.width }
     requires down { part.row + part.height ≤ window.now.place.height }
-    requires size { length order.words.now ≡ 1024 }
+    requires size { length order.words.now ≡ set_words }
     requires summed { IsSummed order.words.now order.before.now (length levels.old) }
     requires marked { (i j : ℕ) → i < part.width → j < part.height → bit_in order.words.now (level_in P.level P.TOP window.now part i j) ≡ 1 }
     requires lowest { bit_in order.words.now 0 ≡ 1 }
@@ -141,11 +141,11 @@ fn number_part<P: Grey>(
 fn set_of<P: Grey>(alloc: Global, window: &Window<P>, part: Part) -> Result<Vec<u64>, NoMemory>
     requires across { part.column + part.width ≤ window.now.place.width }
     requires down { part.row + part.height ≤ window.now.place.height }
-    ensures size { IfOk result (λ v. length v.items ≡ 1024) }
+    ensures size { IfOk result (λ v. length v.items ≡ set_words) }
     ensures marked { IfOk result (λ v. (i j : ℕ) → i < part.width → j < part.height → bit_in v.items (level_in P.level P.TOP window.now part i j) ≡ 1) }
     ensures lowest { IfOk result (λ v. bit_in v.items 0 ≡ 1) }
 {
-    let mut set = vec![in alloc; 0u64; 1024]?;
+    let mut set = vec![in alloc; 0u64; WORDS]?;
     mark_part(set.as_mut_slice(), window, part);
     Ok(set)
 }

@@ -9,5 +9,5 @@ pub loop-i-preserved : goal.loop-i-preserved
 loop-i-preserved g c =
     let level = g.P.Pixel.level in
     let wanted = c.args.wanted in
-    gains_more level (λ i. ranked wanted.k (levels_under level (seen_at wanted.window.now) wanted.offsets.now (c.args.x + i) c.args.y)) c.loop-i.i c.args.out.now.items c.loop-i.out.items c.push.new.self.items c.in_ok-sample.sample
+    gains_more level (λ i. ranked wanted.k (levels_under level (seen_at wanted.window.now) wanted.offsets.now (c.args.part.x + i) (wanted.tile.y + c.args.part.row))) c.loop-i.i c.args.out.now.items c.loop-i.out.items c.push.new.self.items c.in_ok-sample.sample
     c.in_ok-push.ensures.items c.in_ok-sample.ensures c.loop-i.invariant
