@@ -187,6 +187,8 @@ def main():
         print(f"{os.path.relpath(edit, ROOT)}: {why}")
     if faults or given.test:
         return 1 if faults else test(names)
+    if lacking := [it for it in given.crates if not edits_in(f"{ROOT}/crates/{it}", FOLDER)]:
+        words.error(f"these crates have no wrong bodies: {' '.join(lacking)}")
     wanted = given.crates or changed(names)
     if given.list or not wanted:
         print(f"crates that changed since their wrong bodies were tried (make wrong-bodies): {' '.join(wanted) or 'none'}")
