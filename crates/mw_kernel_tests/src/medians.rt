@@ -1,5 +1,5 @@
-//! Medians under small squares by vectors, beside the ranks of any element: on both sides of each width from which vectors
-//! go, at the edges of a frame and past them, and under squares far from their origin.
+//! Medians under small squares by vectors, beside the ranks of any element: on both sides of each width and height from which
+//! vectors go, at the edges of a frame and past them, and under squares far from their origin.
 
 use crate::rank_rows::window_of;
 use mw_images_for_tests::{noise, plane_of, rect};
@@ -55,8 +55,8 @@ fn plane<P: Counted>(
     Ok(plane_of::<P>(alloc, &noise(alloc, Kind::Grey, width, height, maxval)?)?)
 }
 
-/// Frames of each width up to one: vectors go from their own width and the square's on, and columns are shared from two or
-/// three vectors on.
+/// Frames of each width up to one: vectors go along columns from half the square's on, along rows from their own width and the
+/// square's on, and columns are shared from two or three vectors on.
 fn widths<P: Counted + Vectored>(
     rt: &impl Abort,
     alloc: Global,
@@ -71,13 +71,13 @@ fn widths<P: Counted + Vectored>(
         dy: 0i16.wrapping_sub(half),
     };
     let offsets = square(alloc, side, first)?;
-    let least = (P::WIDTH as u32)
-        .saturating_add(half.unsigned_abs().into())
-        .saturating_add(half.unsigned_abs().into());
     for width in 1..widest {
         let window = Window::whole(plane::<P>(alloc, width, 7, maxval)?);
         let made = by_vectors(rt, alloc, &window, &offsets, k, rect(0, 0, width, 7))?;
-        assert!(rt; made == (width >= least), "{width} columns");
+        assert!(rt;
+            made == (width > half.unsigned_abs().into()),
+            "{width} columns"
+        );
     }
     Ok(())
 }
@@ -112,38 +112,49 @@ fn bright<P: Counted>(rt: &impl Abort, alloc: Global, plane: &Plane<P>) -> Resul
 }
 
 /// Frames of each height up to nine, all of whose rows an edge cuts, or some: without a pattern, and of the least and the
-/// greatest level, which also stands for what is not seen.
+/// greatest level, which also stands for what is not seen. Narrow ones go by vectors where half of the square's rows are seen.
 fn heights<P: Counted + Vectored>(
     rt: &impl Abort,
     alloc: Global,
+    width: u32,
     side: i16,
     k: u32,
 ) -> Result<(), Fail> {
-    let half = 0i16.wrapping_sub(side / 2);
-    let offsets = square(alloc, side, Offset { dx: half, dy: half })?;
+    let half = side / 2;
+    let first = 0i16.wrapping_sub(half);
+    let offsets = square(
+        alloc,
+        side,
+        Offset {
+            dx: first,
+            dy: first,
+        },
+    )?;
     for height in 1..10u32 {
-        let tile = rect(0, 0, 40, height);
-        let noisy = Window::whole(plane::<P>(alloc, 40, height, 255)?);
-        assert!(rt;
-            by_vectors(rt, alloc, &noisy, &offsets, k, tile)?,
-            "{height} rows"
-        );
-        let dark = plane::<P>(alloc, 40, height, 1)?;
+        let tile = rect(0, 0, width, height);
+        let wanted = width == WIDE || height > half.unsigned_abs().into();
+        let noisy = Window::whole(plane::<P>(alloc, width, height, 255)?);
+        let made = by_vectors(rt, alloc, &noisy, &offsets, k, tile)?;
+        assert!(rt; made == wanted, "{height} rows");
+        let dark = plane::<P>(alloc, width, height, 1)?;
         let bright = Window::whole(bright(rt, alloc, &dark)?);
-        assert!(rt;
-            by_vectors(rt, alloc, &bright, &offsets, k, tile)?,
-            "{height} rows"
-        );
+        let made = by_vectors(rt, alloc, &bright, &offsets, k, tile)?;
+        assert!(rt; made == wanted, "{height} rows");
     }
     Ok(())
 }
+
+/// Enough columns for vectors along rows.
+const WIDE: u32 = 40;
 
 #[test]
 fn medians_of_frames_of_each_height(rt: HostRuntime) -> Result<(), Fail> {
     let alloc = rt.alloc();
     for (side, k) in [(3i16, 5u32), (5, 13)] {
-        heights::<u8>(&rt, alloc, side, k)?;
-        heights::<u16>(&rt, alloc, side, k)?;
+        for width in [5, WIDE] {
+            heights::<u8>(&rt, alloc, width, side, k)?;
+            heights::<u16>(&rt, alloc, width, side, k)?;
+        }
     }
     Ok(())
 }

@@ -1,5 +1,6 @@
-//! The medians of a tile, row after row. Where the window does not show the whole square, as at an edge of the frame, medians are
-//! made with the greatest level for what is not seen. Where such a median is that level, as in a corner, the rank is made alone.
+//! The medians of a tile, row after row, or column after column where it is too narrow for that. Where the window does not show the
+//! whole square, as at an edge of the frame, medians are made with the greatest level for what is not seen. Where such a median is
+//! that level, as in a corner, the rank is made alone.
 ghost use Rattle.std.specs.Prelude.{◌≡◌, ℕ, ◌+◌, ◌-◌, ◌*◌, ◌<◌, ◌≤◌, ◌^◌, length, slice_index_or, vec_len, IfOk, IfSome, IsTrue, OnOk};
 ghost use Rattle.mw_model.specs.PlanSteps.{ranked};
 ghost use Rattle.mw_model.specs.Rasters.{Raster, cell_at};
@@ -195,16 +196,17 @@ fn push_side<P: Grey>(
     push_cut(out, seen, wanted, filled, part)
 }
 
-/// How many rows of the square the place has, where it is put on row y.
-fn rows_seen(place: Rect, first: Offset, side: u32, y: u32) -> u64
+/// How many of a square's rows stand in so many rows from `from` on, where the square is put on row `at` and its first row stands
+/// so far below that. Of columns it is the same.
+fn lines_seen(first: i16, side: u32, at: u32, from: u32, count: u32) -> u64
     ensures { result ≤ side }
 {
-    let up = u64::from(first.dy.min(0).unsigned_abs());
-    let down = u64::from(first.dy.max(0).unsigned_abs());
-    // rows are counted from as many above the frame as the square reaches up
-    let square = u64::from(y) + down;
-    let shown = u64::from(place.y) + up;
-    let end = (square + u64::from(side)).min(shown + u64::from(place.height));
+    let before = u64::from(first.min(0).unsigned_abs());
+    let behind = u64::from(first.max(0).unsigned_abs());
+    // lines are counted from as many before the frame as the square reaches
+    let square = u64::from(at) + behind;
+    let shown = u64::from(from) + before;
+    let end = (square + u64::from(side)).min(shown + u64::from(count));
     end.saturating_sub(square.max(shown))
 }
 
@@ -246,8 +248,10 @@ fn push_inner<P: Vectored>(
         push_medians(out, piece, sheet, wanted.side, wanted.k, count as usize)?;
         return Ok(());
     }
+    let place = wanted.window.place();
+    let rows = lines_seen(wanted.first.dy, wanted.side, y, place.y, place.height);
     // of so few rows, each number k is the greatest level
-    if 2 * rows_seen(wanted.window.place(), wanted.first, wanted.side, y) < u64::from(wanted.side) {
+    if 2 * rows < u64::from(wanted.side) {
         return push_alone(out, seen, wanted, Part { x, row, count });
     }
     let places = Lines {
@@ -316,9 +320,8 @@ fn push_row<P: Vectored>(
     Ok(())
 }
 
-/// The filled medians of so many of the tile's columns from column x on, column after column; each has so many rows. None are made
-/// of more columns than a square has that holds its origin.
-fn side_medians<P: Vectored>(
+/// The filled medians of so many of the tile's columns from column x on, column after column; each has so many rows.
+fn column_medians<P: Vectored>(
     wanted: Wanted<P>,
     x: u32,
     count: u32,
@@ -328,11 +331,8 @@ fn side_medians<P: Vectored>(
     requires long { length ≤ 2 ^ 31 }
     requires many { count ≤ 2 ^ 31 }
     requires median { IsMedian wanted.side wanted.k }
-    ensures { IfOk result (λ v. 1 ≤ vec_len v → HasRows P.level (λ i r. filled_rank P.level P.top_level (seen_at wanted.entry.window.now) wanted.entry.first wanted.entry.side wanted.entry.k (x + r) (wanted.entry.tile.y + i)) length count v.items) }
+    ensures { IfOk result (λ v. HasRows P.level (λ i r. filled_rank P.level P.top_level (seen_at wanted.entry.window.now) wanted.entry.first wanted.entry.side wanted.entry.k (x + r) (wanted.entry.tile.y + i)) length count v.items) }
 {
-    if count >= wanted.side {
-        return Ok(Vec::new(wanted.alloc));
-    }
     let columns = Lines {
         x,
         y: wanted.tile.y,
@@ -348,6 +348,25 @@ fn side_medians<P: Vectored>(
         wanted.k,
         columns,
     )
+}
+
+/// The same beside the inner columns. None are made of more columns than a square has that holds its origin.
+fn side_medians<P: Vectored>(
+    wanted: Wanted<P>,
+    x: u32,
+    count: u32,
+    length: u32,
+) -> Result<Vec<P>, NoMemory>
+    requires wide { P.WIDTH ≤ length }
+    requires long { length ≤ 2 ^ 31 }
+    requires many { count ≤ 2 ^ 31 }
+    requires median { IsMedian wanted.side wanted.k }
+    ensures { IfOk result (λ v. 1 ≤ vec_len v → HasRows P.level (λ i r. filled_rank P.level P.top_level (seen_at wanted.entry.window.now) wanted.entry.first wanted.entry.side wanted.entry.k (x + r) (wanted.entry.tile.y + i)) length count v.items) }
+{
+    if count >= wanted.side {
+        return Ok(Vec::new(wanted.alloc));
+    }
+    column_medians(wanted, x, count, length)
 }
 
 /// How many medians of a row are made before they are copied: so few that the processor copies them while it makes the next ones,
@@ -387,6 +406,62 @@ fn median_samples<P: Vectored>(wanted: Wanted<P>) -> Result<Vec<P>, NoMemory>
     Ok(out)
 }
 
+/// The ranks of a tile that has no row of whole squares for a vector: its columns are made as lines.
+fn narrow_samples<P: Vectored>(wanted: Wanted<P>) -> Result<Vec<P>, NoMemory>
+    requires few { length wanted.offsets.now < 2 ^ 16 }
+    requires near { wanted.tile.x + wanted.tile.width ≤ 2 ^ 31 }
+    requires high { wanted.tile.y + wanted.tile.height ≤ 2 ^ 31 }
+    requires square { wanted.offsets.now ≡ rows_from wanted.first wanted.side wanted.side }
+    requires median { IsMedian wanted.side wanted.k }
+    ensures { IfOk result (λ v. HasRows P.level (λ x y. ranked wanted.entry.k (levels_under P.level (seen_at wanted.entry.window.now) wanted.entry.offsets.now (wanted.entry.tile.x + x) (wanted.entry.tile.y + y))) wanted.entry.tile.width wanted.entry.tile.height v.items) }
+{
+    let alloc = wanted.alloc;
+    let tile = wanted.tile;
+    let length = tile.height.max(P::WIDTH as u32);
+    let medians = column_medians(wanted, tile.x, tile.width, length)?;
+    let mut seen = Vec::with_capacity(alloc, wanted.offsets.len())?;
+    let mut out = Vec::with_capacity(alloc, tile.height as usize * tile.width as usize)?;
+    for row in 0..tile.height {
+        let part = Part {
+            x: tile.x,
+            row,
+            count: tile.width,
+        };
+        push_side(
+            &mut out,
+            &mut seen,
+            wanted,
+            medians.as_slice(),
+            length,
+            part,
+        )?;
+    }
+    Ok(out)
+}
+
+/// How many rows and columns of the square the window shows at each place of the tile, at least.
+fn least_seen<P: Grey>(wanted: Wanted<P>) -> u64
+    requires near { wanted.tile.x + wanted.tile.width ≤ 2 ^ 31 }
+    requires high { wanted.tile.y + wanted.tile.height ≤ 2 ^ 31 }
+    ensures { result ≤ wanted.entry.side }
+{
+    let Rect {
+        x,
+        y,
+        width,
+        height,
+    } = wanted.tile;
+    let Offset { dx, dy } = wanted.first;
+    let place = wanted.window.place();
+    let right = (x + width).saturating_sub(1);
+    let below = (y + height).saturating_sub(1);
+    // in between there are no fewer
+    lines_seen(dx, wanted.side, x, place.x, place.width)
+        .min(lines_seen(dx, wanted.side, right, place.x, place.width))
+        .min(lines_seen(dy, wanted.side, y, place.y, place.height))
+        .min(lines_seen(dy, wanted.side, below, place.y, place.height))
+}
+
 /// Places up to here, and those about them, have numbers of 32 bits.
 const FARTHEST: u64 = 1 << 31;
 
@@ -409,7 +484,8 @@ fn side_of(k: u32) -> Option<u32>
     }
 }
 
-/// The medians of a tile, where it is wide enough for vectors.
+/// The medians of a tile, where vectors make them: along its rows, or along its columns where it is narrow and shows half of the
+/// square everywhere.
 fn by_vectors<P: Vectored>(
     alloc: Global,
     window: &Window<P>,
@@ -430,9 +506,6 @@ fn by_vectors<P: Vectored>(
         return Ok(None);
     };
     let inner = inner_columns(first, side, tile, window.place());
-    if (inner.count as usize) < P::WIDTH {
-        return Ok(None);
-    }
     let wanted = Wanted {
         alloc,
         window,
@@ -443,12 +516,17 @@ fn by_vectors<P: Vectored>(
         tile,
         inner,
     };
-    let samples = median_samples(wanted)?;
-    Ok(Some(samples))
+    if inner.count as usize >= P::WIDTH {
+        return Ok(Some(median_samples(wanted)?));
+    }
+    if 2 * least_seen(wanted) >= u64::from(side) {
+        return Ok(Some(narrow_samples(wanted)?));
+    }
+    Ok(None)
 }
 
-/// The ranks of a tile, where they are medians under a square of 3 x 3 or 5 x 5 offsets and there are columns for a vector;
-/// else None. It may want memory (`NoMemory`).
+/// The ranks of a tile, where they are medians under a square of 3 x 3 or 5 x 5 offsets, and the tile has columns for a vector or
+/// the window shows half of the square's rows and columns at each of its places; else None. It may want memory (`NoMemory`).
 pub fn median_of_grey<P: Vectored>(
     alloc: Global,
     window: &Window<P>,

@@ -1,5 +1,5 @@
 //! Medians by vectors: in the middle of a frame, where its sides and its first and last rows cut the square, and in its corners,
-//! where the rank is made alone.
+//! where the rank is made alone; and of frames so narrow that vectors go along their columns.
 
 use crate::results::{Rising, are_ranks, is_whole, square, window_rising};
 use mw_medians::{Vectored, median_of_grey};
@@ -8,8 +8,8 @@ use std::alloc::Global;
 use std::process::Abort;
 use std::test::Fail;
 
-/// Frames of which all rows or columns but a few show the whole square, and of two rows, which never do.
-const FRAMES: [Rising; 4] = [
+/// Frames of which all rows or columns but a few show the whole square, of two rows, which never do, and narrow ones.
+const FRAMES: [Rising; 6] = [
     Rising {
         width: 40,
         height: 9,
@@ -39,6 +39,22 @@ const FRAMES: [Rising; 4] = [
         height: 2,
         by_rows: false,
         step: 6,
+        reach: 2,
+        k: 13,
+    },
+    Rising {
+        width: 6,
+        height: 30,
+        by_rows: true,
+        step: 6,
+        reach: 1,
+        k: 5,
+    },
+    Rising {
+        width: 5,
+        height: 20,
+        by_rows: false,
+        step: 40,
         reach: 2,
         k: 13,
     },

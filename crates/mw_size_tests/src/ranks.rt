@@ -2,7 +2,7 @@
 //! rows at a time, under other elements by the moving histogram, and those of sets by words.
 
 use crate::ramps::{Form, Sight, half, ramp, shows_sight};
-use crate::slopes::{SQUARE, Sides, WIDE};
+use crate::slopes::{NARROW, SQUARE, Sides, WIDE};
 use mw_bits::{as_levels, threshold};
 use mw_medians::{Vectored, median_of_grey};
 use mw_pixel::Plane;
@@ -99,7 +99,7 @@ fn by_vectors<P: Vectored>(rt: &impl Abort, alloc: Global, sides: Sides) {
         assert!(rt; offsets.len() < 65536);
         let made = median_of_grey(alloc, &window, &offsets, k, sides.frame())
             .expect(rt, "memory")
-            .expect(rt, "a vector's columns");
+            .expect(rt, "medians by vectors");
         assert!(rt; shows_sight(rt, alloc, &made, sight), "{k}");
     }
 }
@@ -108,8 +108,10 @@ fn by_vectors<P: Vectored>(rt: &impl Abort, alloc: Global, sides: Sides) {
 fn medians_by_vectors(rt: HostRuntime) {
     by_vectors::<u8>(&rt, rt.alloc(), SQUARE);
     by_vectors::<u8>(&rt, rt.alloc(), WIDE);
+    by_vectors::<u8>(&rt, rt.alloc(), NARROW);
     by_vectors::<u16>(&rt, rt.alloc(), SQUARE);
     by_vectors::<u16>(&rt, rt.alloc(), WIDE);
+    by_vectors::<u16>(&rt, rt.alloc(), NARROW);
 }
 
 /// The medians of a set, which are those of its pixels as levels.

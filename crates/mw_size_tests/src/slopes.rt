@@ -8,21 +8,29 @@ use mw_pixel::{Grey, Pixel, Planar, Plane};
 use std::alloc::Global;
 use std::process::Abort;
 
-/// Columns and rows of a frame of as many samples as there may be.
+/// Columns and rows of a frame.
 #[derive(Clone, Copy)]
 pub(crate) struct Sides {
     pub(crate) width: u32,
     pub(crate) height: u32,
 }
 
+/// Of as many samples as there may be.
 pub(crate) const SQUARE: Sides = Sides {
     width: 4096,
     height: 4096,
 };
 
+/// Of as many samples and columns as there may be.
 pub(crate) const WIDE: Sides = Sides {
     width: 8192,
     height: 2048,
+};
+
+/// Of as many rows as there may be, and of fewer columns than a vector has lanes.
+pub(crate) const NARROW: Sides = Sides {
+    width: 6,
+    height: 8192,
 };
 
 impl Sides {

@@ -1,4 +1,4 @@
-use Rattle.std.proofs.Common.{◌≡◌, ℕ, ◌-◌, ◌≤◌, length}
+use Rattle.std.proofs.Common.{◌≡◌, ◌-◌, ◌≤◌, length}
 use Rattle.mw_medians.specs.Columns.{GainsMedians}
 use Rattle.mw_medians.proofs.rows.push_medians.Given as goal
 
