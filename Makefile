@@ -11,7 +11,7 @@ help:
 	@echo "make install    puts library, header, morphd.pc and program into PREFIX, which is /usr/local if left out"
 	@echo "make test       the gate: proves every crate from nothing, tries the must-fail edits, runs programs and tests"
 	@echo "make wrong-bodies  tries the wrong bodies of each crate that changed, or of CRATES"
-	@echo "make documents  compares the documents with the repository, and replays their examples"
+	@echo "make documents  compares the documents with the repository, replays their examples, and compares header and proved functions"
 	@echo "make memory     refuses each allocation and each start of a thread in turn, and measures memory"
 	@echo "make soak       runs random sessions beside a plain model, and two servers with good and bad clients; FOR=seconds"
 	@echo "make bench      takes the times of docs/PERFORMANCE.md"
@@ -42,8 +42,18 @@ test: toolchain python3 documents
 	@python3 -B checks/thin_rows.py
 	@python3 -B checks/wrong_bodies.py --test
 	@python3 -B checks/wrong_bodies.py --list
+	@python3 -B checks/prove.py --test
+	@python3 -B checks/passed.py --test
+	@python3 -B checks/python_package.py needs
 	rt ci
 	@python3 -B checks/python_package.py test
+	@python3 -B checks/passed.py
+
+# What runs nowhere by itself writes into checks/passed.txt on which commit it passed: on that which stood here when it began.
+ALONE = check-library check-python memory soak
+ifneq ($(filter $(ALONE),$(MAKECMDGOALS)),)
+BEGUN := $(shell python3 -B checks/passed.py --state)
+endif
 
 # What `rt ci` does not try in each run: of each crate that changed, or of CRATES.
 CRATES =
@@ -53,29 +63,35 @@ wrong-bodies: toolchain python3
 documents: python3
 	@python3 -B checks/docs.py --test
 	@python3 -B checks/docs.py
+	@python3 -B checks/header.py --test
+	@python3 -B checks/header.py
 
 # Proves and builds the program, as wide as the machine allows, and runs it once on its stored session.
 morphd: toolchain python3
 	@python3 -B checks/prove.py morphd
 
-# The library for C: the proved crate, and the functions of the kit by which it asks for memory. The shared one shows the
-# functions of the header alone. `make test` proves the crate, but links nothing: `rt ci` leaves no static library behind, so
-# `make check-library` there would prove it a second time.
+# The library for C: the proved crate, and the functions of the kit by which it asks for memory. Both forms of it show the
+# functions of the header alone, so a program may have any other name for its own. `make test` proves the crate, but links
+# nothing: `rt ci` leaves no static library behind, so `make check-library` there would prove it a second time.
 KIT = $(shell dirname "$$(rt doc)")
 MEMORY = $(KIT)/c/liblibc_c.a
+PROVED = crates/mw_c/out/libmw_c.a
 
 library: toolchain python3 compiler
 	@python3 -B checks/prove.py mw_c
 	@mkdir -p out
 	@printf '{ global: morphd_*; local: *; };\n' > out/morphd.map
-	cc -shared -o out/libmorphd.so -Wl,-soname,libmorphd.so.1 -Wl,--version-script=out/morphd.map -Wl,--gc-sections \
-	  -Wl,--whole-archive crates/mw_c/out/libmw_c.a -Wl,--no-whole-archive $(MEMORY)
+	cc -shared -o out/libmorphd.so -Wl,-soname,libmorphd.so.1 -Wl,--version-script=out/morphd.map -Wl,--gc-sections -Wl,-z,defs \
+	  -Wl,--whole-archive $(PROVED) -Wl,--no-whole-archive $(MEMORY)
 	@ln -sf libmorphd.so out/libmorphd.so.1
+	ld -r -o out/morphd.o --whole-archive $(PROVED) --no-whole-archive $(MEMORY)
+	@objcopy --wildcard --keep-global-symbol='morphd_*' out/morphd.o
 	@rm -f out/libmorphd.a
-	@printf 'create out/libmorphd.a\naddlib crates/mw_c/out/libmw_c.a\naddlib $(MEMORY)\nsave\nend\n' | ar -M
+	@ar rcs out/libmorphd.a out/morphd.o
 
 check-library: library
 	@python3 -B checks/library.py out $(wildcard $(MORPHD))
+	@python3 -B checks/passed.py $@ $(BEGUN)
 
 # The program goes with it where it is built.
 PREFIX = /usr/local
@@ -105,6 +121,7 @@ memory: toolchain python3 compiler
 	@python3 -B checks/refused_tests.py crates/mw_machine_tests/out/mw_machine_tests_tests
 	@python3 -B checks/refused_tests.py crates/mw_direct_tests/out/mw_direct_tests_tests
 	@python3 -B checks/refused_tests.py crates/mw_strips_tests/out/mw_strips_tests_tests
+	@python3 -B checks/passed.py $@ $(BEGUN)
 
 # Each of the three soaks for as long as is asked for, and by a seed if one is given: make soak FOR=600 SEED=one
 FOR = 60
@@ -116,6 +133,7 @@ soak: toolchain python3
 	@python3 -B checks/soak.py $(MORPHD) $(FOR) $(SEED)
 	@python3 -B checks/soak_listen.py $(MORPHD) $(FOR) $(SEED)
 	@python3 -B checks/soak_serve.py $(MORPHD) $(FOR) $(SEED)
+	@python3 -B checks/passed.py $@ $(BEGUN)
 
 # Best on a machine that does nothing else: each line is the best of five runs in one thread (of `bench_core` and
 # `bench_board` the best of three, of the latter also with workers). The C library is told to
@@ -139,7 +157,7 @@ bench: toolchain python3
 # A busy machine counts as a quiet one does.
 costs: toolchain python3 valgrind
 	@python3 -B checks/costs.py --test
-	@python3 -B checks/prove.py bench_sessions
+	@python3 -B checks/prove.py bench_sessions morphd
 	@python3 -B checks/costs.py
 
 # The Python package. The tests of `make test` take what is built, and stand-ins for what is not.
@@ -149,3 +167,4 @@ python: library
 
 check-python: library
 	@python3 -B checks/python_package.py built
+	@python3 -B checks/passed.py $@ $(BEGUN)

@@ -20,7 +20,7 @@ import make_images  # noqa: E402
 OWN = "checks/docs.py"
 ROOT = os.path.dirname(os.path.dirname(os.path.realpath(__file__)))
 MOST_README = 8192
-MOST_BYTES = {"README.md": MOST_README, "docs/DECISIONS.md": 30720}
+MOST_BYTES = {"README.md": MOST_README, "docs/DECISIONS.md": 36864}
 PARTS = ("src", "specs", "proofs")
 # Files beside the crates whose words documents may name.
 TEXTS = (".py", ".pyi", ".c", ".h", ".toml", ".txt", "Makefile", "HANDLES")

@@ -1,7 +1,8 @@
 #!/usr/bin/env python3
 """Holds a built libmorphd against the plain model (checks/plain_model.py) on random images, elements, origins and numbers,
-with and without faults, from one thread and from four; refuses each of its allocations in turn; and runs the programs of
-docs/LIBRARY.md, the one in C also with the sanitizers of addresses and of undefined behaviour.
+with and without faults, from one thread and from four; against checks/bit_model.py by elements of up to 255 x 255 pixels and on
+pictures up to the limit; refuses each of its allocations in turn, and counts them; looks which names it shows; and runs the
+programs of docs/LIBRARY.md, the one in C also with the sanitizers of addresses and of undefined behaviour.
 
     python3 checks/library.py out [MORPHD]
 
@@ -16,7 +17,10 @@ import sys
 import tempfile
 import threading
 
+import large_calls
 import library_calls as calls
+import library_links
+import library_memory
 import plain_model
 
 ROOT = calls.ROOT
@@ -150,13 +154,13 @@ def built(folder, name, sources, *flags):
     return program
 
 
-def refusals(out, folder):
-    """Each allocation of calls of each kind is refused in turn."""
-    program = built(folder, "refused_calls", [ROOT / "checks/refused_calls.c", out / "libmorphd.a"],
-                    "-Wl,--wrap=malloc,--wrap=realloc,--wrap=free")
-    said = subprocess.run([program], capture_output=True, text=True)
+def said_by(out, folder, name):
+    """What one of the programs prints that stand between the library and malloc."""
+    sources = [ROOT / "checks" / (name + ".c"), out / "libmorphd.a"]
+    program = built(folder, name, sources, "-O1", "-Wl,--wrap=malloc,--wrap=realloc,--wrap=free")
+    said = subprocess.run([program], capture_output=True, text=True, check=False)
     if said.returncode:
-        sys.exit("allocations refused in turn: " + said.stdout + said.stderr)
+        sys.exit("%s: %s%s" % (name, said.stdout, said.stderr))
     return said.stdout.strip()
 
 
@@ -186,17 +190,9 @@ def documents(out, folder):
     subprocess.run(["c++", "-Wall", "-Wextra", "-Werror", "-fsyntax-only", "-x", "c++", ROOT / "include/morphd.h"], check=True)
 
 
-def exported(path):
-    """The functions that the shared library offers."""
-    listed = subprocess.run(["nm", "-D", "--defined-only", path], capture_output=True, check=True, text=True).stdout
-    return {line.split()[2] for line in listed.splitlines()}
-
-
 def main():
     out = pathlib.Path(sys.argv[1]).resolve()
     library, chance = calls.opened(out / "libmorphd.so"), random.Random(41)
-    if exported(out / "libmorphd.so") != set(calls.prototypes()):
-        sys.exit("the library offers %s" % sorted(exported(out / "libmorphd.so") ^ set(calls.prototypes())))
     if library.morphd_version() != 1:
         sys.exit("the version is not 1")
     seen = one_by_one(library, chance)
@@ -205,8 +201,12 @@ def main():
     side_by_side(library, chance)
     print("four threads at once make the same")
     print("%d calls for rows beside the whole result" % rows_beside_whole(library, chance))
+    print(large_calls.check(library, chance))
     with tempfile.TemporaryDirectory() as folder:
-        print(refusals(out, folder))
+        print(library_links.check(out, folder))
+        # each allocation of calls of each kind is refused in turn; all of others are counted
+        print(said_by(out, folder, "refused_calls"))
+        print(library_memory.check(said_by(out, folder, "counted_calls")))
         documents(out, folder)
     print("the programs of docs/LIBRARY.md print what stands there")
     if len(sys.argv) > 2:

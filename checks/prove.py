@@ -9,9 +9,16 @@ tests are proved and run. It prints how many crates are done, which run, and abo
 `rt` locks a crate and all crates below it for as long as it works. So each crate is proved in a folder of its own, with
 copies of its sources, with links to what was proved of the crates below it, and with the crate's own `out/`, which goes
 there and comes back. `rt` in the repository waits meanwhile. What earlier checks left in `out/` is used again.
+
+Of a program, or of a library for C, `out/proved` keeps a sum of all that was read for it and of what was built. Where the sum
+is still the same, nothing is run: that takes a second. Tests are run each time.
+
+    python3 checks/prove.py --test     changes a small repository in many ways, and sees when `rt` is called again
 """
 import argparse
 import fcntl
+import functools
+import hashlib
 import os
 import shutil
 import signal
@@ -22,6 +29,9 @@ import time
 
 ROOT = os.path.dirname(os.path.dirname(os.path.realpath(__file__)))
 PARTS = ("src", "specs", "proofs")
+RUN_ON = ("args", "stdin", "status")
+# Of what `rt` leaves in out/: what only a later check reads; and what is kept here beside it.
+CHECKED, SUM = "incremental", "proved"
 # Until something has been proved: processor seconds for a line of code or of proofs.
 SECONDS_A_LINE = 0.08
 MOST_JOBS = 4
@@ -37,6 +47,12 @@ def needs_by_crate():
             if name.strip():
                 rows[name.split()[0]] = needs.split()
     return {name: [it for it in needs if it in rows] for name, needs in rows.items()}
+
+
+def rows_of(names):
+    """The lines of crates.txt that list these crates."""
+    with open(f"{ROOT}/crates.txt", encoding="utf-8") as file:
+        return [it for it in file if it.partition(":")[0].split()[:1] and it.split(":")[0].split()[0] in names]
 
 
 def all_below(name, needs):
@@ -60,6 +76,30 @@ def text(path):
         return file.read()
 
 
+def sum_of(paths, head=()):
+    """A sum of files, with their names, and of some words before them."""
+    total = hashlib.sha256(repr(head).encode())
+    for path in paths:
+        if os.path.isfile(path):
+            with open(path, "rb") as file:
+                data = file.read()
+            total.update(f"{os.path.relpath(path, ROOT)} {len(data)}\n".encode() + data)
+    return total.hexdigest()
+
+
+def built(folder):
+    """The files that `rt` left in a folder, but for those that only a later check reads."""
+    for at, inner, names in os.walk(folder):
+        inner[:] = sorted(it for it in inner if it != CHECKED)
+        yield from (f"{at}/{it}" for it in sorted(names) if it != SUM)
+
+
+@functools.cache
+def kit():
+    """The kit that proves and builds."""
+    return subprocess.run(["rt", "version"], check=True, capture_output=True, text=True).stdout.strip()
+
+
 class Crate:
     """A crate to prove: its work in lines, and the run that proves it."""
 
@@ -74,6 +114,25 @@ class Crate:
         self.is_tested = is_wanted and any("#[test]" in it for file, it in texts.items() if file.endswith(".rt"))
         self.is_program = os.path.isfile(f"{self.home}/src/main.rt")
         self.run = None
+
+    def is_kept(self, needs):
+        """Whether its sum is kept: nothing stands on it, so its `out/` is all that is wanted, and it has no tests to run."""
+        return not self.is_tested and not any(self.name in it for it in needs.values())
+
+    def read_sum(self):
+        """A sum of all that is read to prove and build the crate."""
+        names = sorted({self.name, *self.below})
+        head = [kit(), *self.words(1), *rows_of(names)]
+        return sum_of([path for name in names for path in sorted(sources(name))] + [f"{self.home}/{it}" for it in RUN_ON], head)
+
+    def is_as_proved(self):
+        return text(f"{self.home}/out/{SUM}") == f"{self.read_sum()} {sum_of(built(f'{self.home}/out'))}"
+
+    def keep_sum(self, read):
+        """Keeps its sum, if all that was read is as it was before."""
+        if read == self.read_sum():
+            with open(f"{self.home}/out/{SUM}", "w", encoding="utf-8") as file:
+                file.write(f"{read} {sum_of(built(f'{self.home}/out'))}")
 
     def memory(self):
         """The bytes that a check of the crate is likely to take with one job."""
@@ -95,9 +154,8 @@ class Crate:
                     shutil.copytree(f"{ROOT}/crates/{name}/{part}", f"{self.top}/crates/{name}/{part}")
         for name in self.below:
             linked(f"{ROOT}/crates/{name}/out/rlib", f"{self.top}/crates/{name}/out/rlib")
-        kept = {self.name, *self.below}
-        with open(f"{ROOT}/crates.txt", encoding="utf-8") as rows, open(f"{self.top}/crates.txt", "w", encoding="utf-8") as file:
-            file.writelines(it for it in rows if it.partition(":")[0].split()[:1] and it.split(":")[0].split()[0] in kept)
+        with open(f"{self.top}/crates.txt", "w", encoding="utf-8") as file:
+            file.writelines(rows_of({self.name, *self.below}))
         if os.path.isdir(f"{self.home}/out"):
             os.rename(f"{self.home}/out", f"{self.place}/out")
 
@@ -260,32 +318,116 @@ def end(*_):
     sys.exit(130)
 
 
-def main():
-    wanted = argparse.ArgumentParser(description=__doc__.split("\n")[0])
-    wanted.add_argument("--jobs", type=int, default=len(os.sched_getaffinity(0)), help="how many processors to use")
-    wanted.add_argument("crates", nargs="+", metavar="CRATE")
-    wanted = wanted.parse_args()
-    needs = needs_by_crate()
-    for name in wanted.crates:
-        if name not in needs:
-            sys.exit(f"crates.txt lists no crate {name}")
-    names = set(wanted.crates).union(*(all_below(it, needs) for it in wanted.crates))
-    names = sorted(names, key=lambda it: len(all_below(it, needs)))
-    held, room, began = locked(names), work_room(), time.monotonic()
-    take_back(room)
-    proving = Proving({name: Crate(name, needs, name in wanted.crates, room) for name in names}, max(1, wanted.jobs))
-    for it in (signal.SIGINT, signal.SIGTERM):
-        signal.signal(it, end)
+def with_all_below(names, needs):
+    """These crates and those that they stand on, each behind those below it."""
+    found = set(names).union(*(all_below(it, needs) for it in names))
+    return sorted(found, key=lambda it: len(all_below(it, needs)))
+
+
+def prove(wanted, needs, jobs, room):
+    """Proves these crates, but for those that are as they were proved; the crates that failed."""
+    crates = {it: Crate(it, needs, it in wanted, room) for it in with_all_below(wanted, needs)}
+    kept = [it for it in wanted if crates[it].is_kept(needs)]
+    done = [it for it in kept if crates[it].is_as_proved()]
+    sums = {it: crates[it].read_sum() for it in set(kept) - set(done)}
+    if done:
+        print(f"as they were proved and built: {', '.join(done)}")
+    names = with_all_below(set(wanted) - set(done), needs)
+    began, proving = time.monotonic(), Proving({it: crates[it] for it in names}, jobs)
     try:
         is_well = proving.to_the_end()
     finally:
         proving.stop()
+    if is_well and names:
+        for name, read in sums.items():
+            crates[name].keep_sum(read)
+        print(f"all {len(names)} crates done in {as_time(time.monotonic() - began)}")
+    return proving.failed
+
+
+# ---- the test of what is kept: a repository of three crates, and an `rt` that writes down each call
+
+CALLED = """#!/bin/sh
+if [ "$1" = version ]; then cat "$ROOM/kit"; exit; fi
+mkdir -p out/rlib && cat src/*.rt > "out/lib$(basename "$PWD").a"
+echo "$(basename "$PWD")" >> "$ROOM/calls"
+"""
+
+
+def write(path, what):
+    os.makedirs(os.path.dirname(path), exist_ok=True)
+    with open(path, "w", encoding="utf-8") as file:
+        file.write(what)
+
+
+def changes(room):
+    """What is changed in turn, and the crates that are proved again for that."""
+    top, everything = f"{room}/crates/top", ["low", "top"]
+    yield "nothing, at first", everything, lambda: None
+    yield "nothing", [], lambda: None
+    yield "a file that nothing reads", [], lambda: write(f"{top}/must-fail/one.edit", "file: src/lib.rt\n")
+    yield "a crate on which it does not stand", [], lambda: write(f"{room}/crates/other/src/lib.rt", "fn two() {}\n")
+    yield "its code", everything, lambda: write(f"{top}/src/lib.rt", "fn more() {}\n")
+    yield "a proof below it", everything, lambda: write(f"{room}/crates/low/proofs/Lib.antt", "-- another\n")
+    yield "its row", everything, lambda: write(f"{room}/crates.txt", "low:\nother:\ntop: low # a static library\n")
+    yield "what was built", everything, lambda: write(f"{top}/out/libtop.a", "another\n")
+    yield "nothing of what is built", [], lambda: None
+    yield "what is gone", everything, lambda: os.remove(f"{top}/out/libtop.a")
+    yield "the kit", everything, lambda: write(f"{room}/kit", "kit 2\n")
+    yield "a test in it", everything, lambda: write(f"{top}/src/lib.rt", "#[test]\nfn more() {}\n")
+    yield "nothing, where tests are run", everything, lambda: None
+
+
+def test():
+    with tempfile.TemporaryDirectory() as room:
+        write(f"{room}/bin/rt", CALLED)
+        os.chmod(f"{room}/bin/rt", 0o755)
+        write(f"{room}/kit", "kit 1\n")
+        write(f"{room}/crates.txt", "low:\nother:\ntop: low\n")
+        for name in ("low", "other", "top"):
+            write(f"{room}/crates/{name}/src/lib.rt", "fn one() {}\n")
+        copy = f"{room}/checks/prove.py"
+        os.makedirs(os.path.dirname(copy))
+        shutil.copy(__file__, copy)
+        around = {**os.environ, "ROOM": room, "PATH": f"{room}/bin:{os.environ.get('PATH', '')}", "GIT_DIR": f"{room}/none"}
+        count = 0
+        for what, wanted, change in changes(room):
+            change()
+            write(f"{room}/calls", "")
+            ran = subprocess.run([sys.executable, "-B", copy, "top"], env=around, capture_output=True, text=True, check=False)
+            if ran.returncode or text(f"{room}/calls").split() != wanted:
+                sys.exit(f"{what}: proved {text(f'{room}/calls').split()}, not {wanted}: {ran.stdout}{ran.stderr}")
+            count += 1
+        shutil.rmtree(f"{room}-prove", ignore_errors=True)
+    print(f"after each of {count} changes what has to be proved again is proved again")
+
+
+def main():
+    wanted = argparse.ArgumentParser(description=__doc__.split("\n")[0])
+    wanted.add_argument("--jobs", type=int, default=len(os.sched_getaffinity(0)), help="how many processors to use")
+    wanted.add_argument("--test", action="store_true", help="see when a crate is proved again")
+    wanted.add_argument("crates", nargs="*", metavar="CRATE")
+    given = wanted.parse_args()
+    if given.test:
+        return test()
+    if not given.crates:
+        wanted.error("which crates?")
+    needs = needs_by_crate()
+    for name in given.crates:
+        if name not in needs:
+            sys.exit(f"crates.txt lists no crate {name}")
+    held, room = locked(with_all_below(given.crates, needs)), work_room()
+    take_back(room)
+    for it in (signal.SIGINT, signal.SIGTERM):
+        signal.signal(it, end)
+    try:
+        failed = prove(given.crates, needs, max(1, given.jobs), room)
+    finally:
         shutil.rmtree(room, ignore_errors=True)
         for file in held:
             os.close(file)
-    if not is_well:
-        sys.exit(f"not proved: {', '.join(it.name for it in proving.failed)}")
-    print(f"all {len(names)} crates done in {as_time(time.monotonic() - began)}")
+    if failed:
+        sys.exit(f"not proved: {', '.join(it.name for it in failed)}")
 
 
 if __name__ == "__main__":

@@ -2,11 +2,13 @@
 """Tests the Python package in python/, and makes its wheel.
 
     python3 checks/python_package.py test     its tests, over the library that is built, or over a slow stand-in
-    python3 checks/python_package.py built    the same, where a library and all that the tests need has to be there
+    python3 checks/python_package.py built    the same, where a library and all that the tests take has to be there
+    python3 checks/python_package.py needs    fails where what the tests cannot do without is missing
+    python3 checks/python_package.py lacks    prints Debian's packages of what the tests take and its Python lacks
     python3 checks/python_package.py wheel    out/morphd-VERSION-py3-none-PLATFORM.whl, with the library in it
 
-The stand-in is made of checks/plain_model.py. `test` says what is missing and what is skipped for that, and fails for no
-missing package; it takes the Python that has most of them. Nothing is fetched from a network.
+The stand-in is made of checks/plain_model.py. `test` fails where pytest or NumPy is missing. Of other modules it says what is missing
+and what is skipped for that. It takes the Python that has most of them, or the one that PYTHON names. Nothing is fetched from a network.
 """
 import glob
 import os
@@ -18,6 +20,7 @@ import tempfile
 ROOT = os.path.dirname(os.path.dirname(os.path.realpath(__file__)))
 LIBRARY = os.path.join(ROOT, "out", "libmorphd.so")
 PROGRAM = os.path.join(ROOT, "crates", "morphd", "out", "morphd")
+DEBIANS_PYTHON = "/usr/bin/python3"
 LEAST = (3, 11)
 # Modules that tests take, with Debian's package of each.
 MODULES = {
@@ -25,6 +28,8 @@ MODULES = {
     "PIL": "python3-pil", "tifffile": "python3-tifffile", "matplotlib": "python3-matplotlib", "dask": "python3-dask",
     "distributed": "python3-distributed", "hypothesis": "python3-hypothesis", "tqdm": "python3-tqdm", "mypy": "python3-mypy",
 }
+# Without these nothing is tested.
+NEEDED = ("pytest", "numpy")
 FINDS = """
 import importlib.util, sys
 print(*sys.version_info[:2], *(name for name in %r if importlib.util.find_spec(name)))
@@ -33,8 +38,10 @@ print(*sys.version_info[:2], *(name for name in %r if importlib.util.find_spec(n
 
 def pythons(modules):
     """Each Python of this machine that is new enough, with those of the modules that it has."""
-    places = [sys.executable, shutil.which("python3"), "/usr/bin/python3"]
-    for place in dict.fromkeys(os.path.realpath(it) for it in places if it and os.path.exists(it)):
+    named = os.environ.get("PYTHON")
+    places = [shutil.which(named)] if named else [sys.executable, shutil.which("python3"), DEBIANS_PYTHON]
+    # as it is named: behind the link of a virtual environment there is another Python
+    for place in dict.fromkeys(it for it in places if it and os.path.exists(it)):
         words = subprocess.run([place, "-c", FINDS % (list(modules),)], capture_output=True, text=True, check=True).stdout.split()
         if (int(words[0]), int(words[1])) >= LEAST:
             yield place, words[2:]
@@ -52,9 +59,36 @@ def tell(python, missing):
     print("python package: %s; library: %s; program: %s" % (
         python, "out/libmorphd.so" if os.path.exists(LIBRARY) else "none is built, a slow stand-in takes its place",
         "crates/morphd/out/morphd" if os.path.exists(PROGRAM) else "none is built, a stand-in takes its place"), flush=True)
-    if missing:
-        told = ", ".join("%s (Debian: %s)" % (it, MODULES[it]) for it in missing)
+    told = ", ".join("%s (Debian: %s)" % (it, MODULES[it]) for it in missing if it not in NEEDED)
+    if told:
         print("python package: missing, and what needs it is skipped: " + told, flush=True)
+
+
+def check_needed(missing):
+    """Ends where nothing could be tested, and says what is to be installed."""
+    lacking = [name for name in NEEDED if name in missing]
+    if lacking:
+        sys.exit("python package: not tested, since Python has no %s: apt-get install %s" % (
+            " and no ".join(lacking), " ".join(MODULES[name] for name in lacking)))
+
+
+def missing_modules():
+    """The Python that tests are run by, and what it lacks."""
+    python, has = best_python(MODULES, NEEDED)
+    return python, [name for name in MODULES if name not in has]
+
+
+def needs():
+    check_needed(missing_modules()[1])
+    return 0
+
+
+def lacks():
+    """Prints what Debian's Python lacks, unless another Python has all."""
+    if missing_modules()[1]:
+        has = dict(pythons(MODULES)).get(DEBIANS_PYTHON, ())
+        print(*(package for name, package in MODULES.items() if name not in has))
+    return 0
 
 
 def environment(room):
@@ -67,14 +101,11 @@ def environment(room):
 
 
 def test(is_strict):
-    python, has = best_python(MODULES, ("numpy", "pytest"))
-    missing = [name for name in MODULES if name not in has]
+    python, missing = missing_modules()
     tell(python, missing)
+    check_needed(missing)
     if is_strict and (missing or not os.path.exists(LIBRARY)):
         sys.exit("python package: not tested; `make library` builds the library, and apt-get install gets the packages")
-    if "pytest" in missing:
-        print("python package: none of its tests was run")
-        return 0
     with tempfile.TemporaryDirectory() as room:
         command = [python, "-m", "pytest", "-q", "-p", "no:cacheprovider", *sys.argv[2:]]
         return subprocess.run(command, cwd=os.path.join(ROOT, "python"), env=environment(room), check=False).returncode
@@ -112,7 +143,7 @@ def try_out(python, made, place):
 
 
 def main():
-    work = {"test": lambda: test(False), "built": lambda: test(True), "wheel": wheel}
+    work = {"test": lambda: test(False), "built": lambda: test(True), "needs": needs, "lacks": lacks, "wheel": wheel}
     if len(sys.argv) < 2 or sys.argv[1] not in work:
         sys.exit(__doc__)
     sys.exit(work[sys.argv[1]]())

@@ -11,6 +11,9 @@ It prints sessions, requests, images and the greatest resident size. It begins b
 notice. The service has the settings of the unit for systemd. At the end it is no larger than it was before the first client, but
 for SLACK, ends with status 0 when its standard input does, and has told nothing. It ends by itself: each reply has a time limit, and
 so has the whole.
+
+Before that, 16 clients at once each open a picture of 2048 x 2048 samples eight times and fetch one of the results, which has to be
+the opening. When they have left, the service may be larger by LARGE_SLACK than it was before they came.
 """
 import collections
 import contextlib
@@ -33,13 +36,17 @@ BROKEN, TIMES = 8, 10
 PATIENCE, GRACE = 120, 300
 # How often it is told how far it is.
 TELLS = 10
-# By how many bytes a service may grow.
+# By how many bytes a service may grow, and by how many behind clients with large pictures.
 SLACK = 10 << 20
+LARGE_SLACK = 32 << 20
 # How long the service waits for a client.
 IDLE = 600
 UNIT = f"{os.path.dirname(os.path.dirname(os.path.realpath(__file__)))}/examples/morphd.service"
 SIDE = 1024
 PICTURE = b"P5\n%d %d\n255\n" % (SIDE, SIDE) + bytes(range(256)) * (SIDE * SIDE // 256)
+# Clients that open a large picture at once, the side of its square, and how often each opens it, by a square of 5 x 5.
+LARGE_CLIENTS, LARGE_SIDE, OPENINGS = 16, 2048, 8
+SQUARE = b"P1\n5 5\n" + b"1" * 25 + b"\n"
 
 
 class Differs(Exception):
@@ -244,6 +251,64 @@ class Soak:
             raise Differs("the service grew by %d bytes, and may by %d" % (last - start, SLACK))
 
 
+def picture_of(row):
+    """A square picture of which each row is this one."""
+    return b"P5\n%d %d\n255\n" % (len(row), len(row)) + bytes(row) * len(row)
+
+
+def opened(row):
+    """The opening of a row by five samples."""
+    windows = [slice(max(0, x - 2), x + 3) for x in range(len(row))]
+    eroded = [min(row[it]) for it in windows]
+    return [max(eroded[it]) for it in windows]
+
+
+def large_session(row):
+    """What a client with a large picture sends, and what it is to hear."""
+    picture, opening = picture_of(row), picture_of(opened(row))
+    names = ["o%d" % k for k in range(OPENINGS)]
+    sent = b"LOAD f %d\n" % len(picture) + picture + b"ELEMENT b 2 2 %d\n" % len(SQUARE) + SQUARE
+    sent += "".join("RUN %s OPEN f b\n" % name for name in names).encode()
+    sent += "".join("STATUS %s\n" % name for name in names).encode() + b"FETCH o0\nQUIT\n"
+    replies = "".join("OK %d\n" % k for k in range(2 + OPENINGS))
+    replies += "".join("DONE %d GREY %d %d 255\n" % (2 + k, len(row), len(row)) for k in range(OPENINGS))
+    return sent, replies.encode() + b"IMAGE 2 %d\n" % len(opening) + opening
+
+
+def speaks(service, sent, come):
+    """One client, which sends while it listens."""
+    with service.connect(GRACE) as client:
+        speaker = threading.Thread(target=client.send, args=(sent,), daemon=True)
+        speaker.start()
+        come.append(client.rest())
+        speaker.join(GRACE)
+
+
+def large_pictures(program):
+    """Clients with large pictures, all at once, and what the service keeps when they have left."""
+    row = random.Random("a large picture").choices(range(256), k=LARGE_SIDE)
+    sent, wanted = large_session(row)
+    come = []
+    with Service(program, LARGE_CLIENTS, settings=settings_of_unit()) as service:
+        start = 1024 * service.size()
+        clients = [threading.Thread(target=speaks, args=(service, sent, come), daemon=True) for _ in range(LARGE_CLIENTS)]
+        for client in clients:
+            client.start()
+        for client in clients:
+            client.join(GRACE)
+        service.is_at_rest()
+        last, greatest = 1024 * service.size(), service.size("VmHWM")
+        status, told = service.end(PATIENCE)
+    if come != [wanted] * LARGE_CLIENTS:
+        raise Differs("%d of %d clients with large pictures heard what they are to hear" % (come.count(wanted), LARGE_CLIENTS))
+    if (status, told) != (0, b""):
+        raise Differs("the service of large pictures ended with status %d and told %r" % (status, told))
+    print("  large pictures: before %d kB, at most %d kB, behind them %d kB, of %d kB that it may have"
+          % (start // 1024, greatest, last // 1024, (start + LARGE_SLACK) // 1024), flush=True)
+    if last > start + LARGE_SLACK:
+        raise Differs("the service kept %d bytes behind large pictures, and may keep %d" % (last - start, LARGE_SLACK))
+
+
 class Spoiled(Soak):
     """One byte comes otherwise."""
 
@@ -276,6 +341,7 @@ def main():
     print("soak_serve.py: spoiled replies are noticed; seed %s" % seed, flush=True)
     soak = Soak(program, seconds, seed)
     try:
+        large_pictures(program)
         soak.to_the_end()
     except (Differs, NoAnswer) as fault:
         print("soak_serve.py: seed %s: %s" % (seed, fault), flush=True)

@@ -4,9 +4,9 @@
     python3 checks/thin_rows.py [--test]
 
 `rt` sums up the sources below a crate along every path of rows, so an entry that another entry of its row reaches costs time in
-each crate above. Rows of libraries have no such entry but `mw_model`, whose words all crates use. On programs, static libraries
-and crates of tests nothing stands, and on some libraries only such crates, so these rows name what they use. With --test it looks
-at rows that are spoiled.
+each crate above. Rows of libraries have no such entry but `mw_model`, whose words all crates use. On static libraries and crates
+of tests nothing stands, and on some libraries only such crates or libraries of that kind, so these rows name what they use. With
+--test it looks at rows that are spoiled.
 """
 import os
 import sys
@@ -35,12 +35,21 @@ def all_below(rows, name):
     return found
 
 
+def at_the_top(rows_and_words):
+    """Crates of tests, static libraries, and the libraries on which only these and such libraries stand."""
+    top = {name for name, (_, words) in rows_and_words.items() if name.endswith(("_tests", "_for_tests")) or "staticlib" in words}
+    users = {name: {it for it, (needs, _) in rows_and_words.items() if name in needs} for name in rows_and_words}
+    for _ in rows_and_words:
+        top |= {name for name, found in users.items() if found and found <= top}
+    return top
+
+
 def needless(rows_and_words):
     """The entries of libraries' rows that another entry reaches."""
     rows = {name: needs for name, (needs, _) in rows_and_words.items()}
     below = {name: all_below(rows, name) for name in rows}
-    above = [needs for name, (needs, words) in rows_and_words.items() if not name.endswith("_tests") and "staticlib" not in words]
-    libraries = {it for needs in above for it in needs if not it.endswith("_for_tests")}
+    top = at_the_top(rows_and_words)
+    libraries = {it for name, needs in rows.items() if name not in top for it in needs if it not in top}
     for name in [it for it in rows if it in libraries]:
         for entry in rows[name]:
             through = [it for it in rows[name] if entry in below[it]]
@@ -57,6 +66,8 @@ def test():
         (rows + "above: top\n", ["crates.txt: top need not name low, which high reaches"]),
         (rows + "top_tests: top\n", []),
         (rows + "top_c staticlib: top\n", []),
+        (rows + "calls: high top\ntop_c staticlib: calls\ncalls_tests: calls\n", []),
+        (rows + "calls: top\ntop_c staticlib: calls\nprogram: calls\n", ["crates.txt: top need not name low, which high reaches"]),
     ):
         found = list(needless(rows_of(text)))
         if found != wanted:

@@ -7,6 +7,7 @@ from __future__ import annotations
 
 import math
 from collections.abc import Callable
+from contextlib import suppress
 from dataclasses import dataclass
 from typing import Any
 
@@ -14,6 +15,7 @@ import numpy as np
 from numpy.typing import NDArray
 
 from ._calls import Field, Samples
+from ._numbers import real, whole
 from .errors import Refused
 
 MOST_LEVELS = 65536
@@ -41,15 +43,18 @@ class Reading:
     dtype : numpy.dtype
         The caller's type.
     level_of : callable
-        Gives the least level whose value is not less than a number.
+        Gives the least level whose value is not less than a number, which is not NaN.
     back : callable or None
         Makes values of levels; None where samples stand as they are.
+    outside : int
+        The level of the sample outside the frame, where there is one.
     """
 
     field: Field
     dtype: np.dtype[Any]
     level_of: Callable[[Any], int]
     back: Callable[[Samples], NDArray[Any]] | None = None
+    outside: int = 0
 
     def restored(self, samples: Samples) -> NDArray[Any]:
         """Samples of the result as an array of the caller's type."""
@@ -65,12 +70,47 @@ def _plain(array: NDArray[Any], dtype: Any) -> Samples:
     return np.require(array, dtype, ["C_CONTIGUOUS", "ALIGNED"])
 
 
-def _of_levels(array: NDArray[Any], maxval: int | None) -> Reading:
+def _outside_whole(cval: Any, least: int, most: int) -> int:
+    """A sample outside the frame, among whole numbers."""
+    number = real(cval, "cval")
+    if not (least <= number <= most and number == math.floor(number)):
+        raise ValueError(f"cval is a sample of the image's type, from {least} to {most}: {cval!r}")
+    return int(number)
+
+
+def _outside_float(cval: Any, dtype: np.dtype[Any]) -> Any:
+    """A sample outside the frame, among floats: the nearest one. What is too great for the type is no infinity."""
+    is_endless = real(cval, "cval") in (math.inf, -math.inf)
+    with np.errstate(over="ignore"), suppress(OverflowError):
+        held = np.asarray(cval).astype(dtype).reshape(())[()]
+        if not np.isnan(held) and np.isinf(held) == is_endless:
+            return held
+    raise ValueError(f"cval is a sample of the image's type, and {dtype} holds no {cval!r}")
+
+
+def _least_whole(value: Any) -> int:
+    """The least whole number that is not less. Infinity has none that the library takes."""
+    number = real(value, "k")
+    if isinstance(number, float):
+        raise Refused(47, f"threshold at {number}")
+    return math.ceil(number)
+
+
+def _of_bools(array: NDArray[Any], cval: Any) -> Reading:
+    """An array of bool. Where it is a view of bytes, what is not 0 is 1."""
+    samples = _plain(array, np.bool_).view(np.uint8)
+    if samples.size and samples.max() > 1:
+        samples = np.minimum(samples, 1)
+    return Reading(Field(samples, 1, True), array.dtype, _least_whole, None, 0 if cval is None else _outside_whole(cval, 0, 1))
+
+
+def _of_levels(array: NDArray[Any], maxval: Any, cval: Any) -> Reading:
     """An array of uint8 or uint16."""
     most = int(np.iinfo(array.dtype).max)
-    top = most if maxval is None else int(maxval)
+    top = most if maxval is None else whole(maxval, "maxval")
     if not 1 <= top <= most:
         raise Refused(23, f"maxval {top} for {array.dtype}")
+    outside = 0 if cval is None else _outside_whole(cval, 0, top)
     native = array.dtype.newbyteorder("=")
     samples = _plain(array, native)
     if native == np.uint16 and top < 256:
@@ -78,66 +118,65 @@ def _of_levels(array: NDArray[Any], maxval: int | None) -> Reading:
         if array.size and samples.max() > top:
             raise Refused(25, f"{array.shape} samples up to {top}")
         samples = samples.astype(np.uint8)
-    return Reading(Field(samples, top, False), array.dtype, _whole)
-
-
-def _whole(value: Any) -> int:
-    """The least whole number that is not less. Infinity has none that the library takes."""
-    if math.isinf(value):
-        raise Refused(47, str(value))
-    return math.ceil(value)
+    return Reading(Field(samples, top, False), array.dtype, _least_whole, None, outside)
 
 
 def _narrowed(levels: NDArray[Any], count: int) -> Field:
-    """Places in rising order as samples of the smallest type."""
+    """Places in rising order as samples of the smallest type. The library has two levels at least, so one value has two."""
     return Field(_plain(levels, np.uint8 if count <= 256 else np.uint16), max(count - 1, 1), False)
 
 
-def _of_range(array: NDArray[Any], low: int, high: int) -> Reading:
+def _of_range(array: NDArray[Any], low: int, high: int, outside: int) -> Reading:
     """Integers that lie close enough to one another: each is its distance from the least."""
     wide = np.int64 if array.dtype.kind == "i" else np.uint64
     levels = (array.astype(wide) - wide(low)).astype(np.uint16)
 
     def level_of(value: Any) -> int:
-        return 0 if value <= low else high - low + 1 if value > high else math.ceil(value) - low
+        number = real(value, "k")
+        return 0 if number <= low else high - low + 1 if number > high else math.ceil(number) - low
 
     def back(samples: Samples) -> NDArray[Any]:
+        if low == high:
+            return np.full(samples.shape, low, array.dtype)
         return (samples.astype(wide) + wide(low)).astype(array.dtype)
 
-    return Reading(_narrowed(levels, high - low + 1), array.dtype, level_of, back)
+    return Reading(_narrowed(levels, high - low + 1), array.dtype, level_of, back, outside - low)
 
 
-def _of_values(array: NDArray[Any], more: list[Any], what: str) -> Reading:
-    """An array of other numbers. `more` are values beyond the array's that have a level, too."""
+def _place(values: NDArray[Any], value: Any) -> int:
+    """How many of the values, in rising order, are less than a number: of integers exactly, of floats as NumPy compares them."""
+    if values.dtype.kind == "f":
+        return len(values) - int(np.count_nonzero(values >= value))
+    number = real(value, "k")
+    if number > int(values[-1]):
+        return len(values)
+    return 0 if number <= int(values[0]) else int(np.searchsorted(values, values.dtype.type(math.ceil(number))))
+
+
+def _of_values(array: NDArray[Any], cval: Any, what: str) -> Reading:
+    """An array of other numbers. The sample outside the frame has a level, too."""
     dtype = array.dtype
     if array.size == 0:
         raise Refused(22, f"{what} of {array.shape}")
-    if dtype.kind == "f" and np.isnan(array).any():
-        raise ValueError(f"{what}: NaN has no place in the order of samples; fill it, and choose by np.where behind the call")
+    more: list[Any] = []
     if dtype.kind in "iu":
-        ends = [int(array.min()), int(array.max()), *map(int, more)]
+        limits = np.iinfo(dtype)
+        more = [] if cval is None else [_outside_whole(cval, int(limits.min), int(limits.max))]
+        ends = [int(array.min()), int(array.max()), *more]
         if max(ends) - min(ends) < MOST_LEVELS:
-            return _of_range(array, min(ends), max(ends))
+            return _of_range(array, min(ends), max(ends), ends[-1])
+    elif np.isnan(array).any():
+        raise ValueError(f"{what}: NaN has no place in the order of samples; fill it, and choose by np.where behind the call")
+    elif cval is not None:
+        more = [_outside_float(cval, dtype)]
     values = np.unique(np.concatenate([array.ravel(), np.asarray(more, dtype)]))
     if len(values) > MOST_LEVELS:
         raise TypeError(f"{what} takes arrays of {dtype} with up to {MOST_LEVELS} values, and this has {len(values)}: "
                         "bring them to uint16")
     field = _narrowed(np.searchsorted(values, array), len(values))
-    return Reading(field, dtype, lambda value: int(np.searchsorted(values, value)), lambda samples: values[samples])
-
-
-def _of_type(cval: Any, dtype: np.dtype[Any]) -> Any:
-    """A sample outside the frame in the array's type."""
-    if dtype.kind == "f":
-        held = dtype.type(cval)
-        is_fit = not np.isnan(held)
-    else:
-        limits = np.iinfo(dtype)
-        is_fit = limits.min <= cval <= limits.max and int(cval) == cval
-        held = dtype.type(int(cval)) if is_fit else None
-    if not is_fit:
-        raise ValueError(f"cval is a sample of the image's type: {cval!r}")
-    return held
+    outside = int(np.searchsorted(values, np.asarray(more, dtype))[0]) if more else 0
+    # of a single value both levels are that value
+    return Reading(field, dtype, lambda value: _place(values, value), lambda samples: values.take(samples, mode="clip"), outside)
 
 
 def check_kind(array: NDArray[Any], what: str, only_compares: bool) -> None:
@@ -152,17 +191,19 @@ def check_kind(array: NDArray[Any], what: str, only_compares: bool) -> None:
                         "so their order alone does not tell its result")
 
 
-def read(array: NDArray[Any], what: str, maxval: int | None, cval: Any = None) -> Reading:
-    """The array for the library. `cval` has a level, too, where it is not None."""
-    dtype = array.dtype
-    native = dtype.newbyteorder("=")
+def read(array: NDArray[Any], what: str, maxval: Any, cval: Any = None) -> Reading:
+    """The array for the library. `cval` is the sample outside the frame, where it is not None."""
+    native = array.dtype.newbyteorder("=")
     if maxval is not None and native not in _LEVELS:
-        raise TypeError(f"{what}: maxval goes with uint8 and uint16, and this is an array of {dtype}")
-    if dtype == np.bool_:
-        return Reading(Field(_plain(array, np.bool_).view(np.uint8), 1, True), dtype, _whole)
-    if native in _LEVELS:
-        return _of_levels(array, maxval)
-    return _of_values(array, [] if cval is None else [_of_type(cval, dtype)], what)
+        raise TypeError(f"{what}: maxval goes with uint8 and uint16, and this is an array of {array.dtype}")
+    if array.dtype == np.bool_:
+        return _of_bools(array, cval)
+    return _of_levels(array, maxval, cval) if native in _LEVELS else _of_values(array, cval, what)
+
+
+def may_be_refused(dtype: np.dtype[Any], maxval: Any) -> bool:
+    """Whether samples of this type can be such that an operator refuses them."""
+    return dtype != np.bool_ and (maxval is not None or dtype.newbyteorder("=") not in _LEVELS)
 
 
 def checked_out(out: Any, array: NDArray[Any], dtype: Any) -> NDArray[Any] | None:

@@ -6,6 +6,7 @@ from __future__ import annotations
 
 from collections.abc import Callable
 from dataclasses import dataclass, replace
+from functools import partial
 from typing import Any, NamedTuple, Protocol
 
 import numpy as np
@@ -77,11 +78,20 @@ class Call(Protocol):
         """The type of the result's samples."""
 
     def ready(self, field: Field, out: Samples) -> Callable[[], None]:
-        """The call itself, which writes the result. Who holds it holds `out` too."""
+        """The call itself, which writes the result. It holds both arrays."""
 
 
 def _array(samples: Samples) -> tuple[int, int]:
     return samples.ctypes.data, samples.size
+
+
+def _holding(_arrays: tuple[Samples, ...], call: Callable[[], None]) -> None:
+    call()
+
+
+def _ready(name: str, asked: Callable[[], str], arguments: tuple[Any, ...], *arrays: Samples) -> Callable[[], None]:
+    """A call of the library that holds the arrays whose addresses it has: a thread can be in the middle of it when nobody else does."""
+    return partial(_holding, arrays, _library.ready(name, asked, *arguments))
 
 
 def _frame(field: Field) -> tuple[int, int]:
@@ -127,12 +137,12 @@ class Flat:
 
     def ready(self, field: Field, out: Samples) -> Callable[[], None]:
         arguments = (self.op, self.k, *self._arguments(field, out))
-        return _library.ready(f"morphd_flat_{field.kind}", lambda: f"{self} of {field}", *arguments)
+        return _ready(f"morphd_flat_{field.kind}", lambda: f"{self} of {field}", arguments, field.samples, out)
 
     def rows_of(self, field: Field, out: Samples) -> Callable[[Rows], Callable[[], None]]:
         """What makes, of rows of the result, the call that writes them alone, where the operation has one step.
 
-        What is the same for all rows is worked out once. Who holds such a call holds `out` too.
+        What is the same for all rows is worked out once.
 
         Parameters
         ----------
@@ -148,8 +158,9 @@ class Flat:
             seen = rows.last - rows.first
             samples = start + rows.first * step, seen * width
             room = target + rows.begin * step, (rows.end - rows.begin) * width
-            arguments = (width, seen, *field.top, *samples, *_element(self.footprint), *room)
-            return _library.ready(name, lambda: f"rows of {self} of {field}", self.op, self.k, rows.begin - rows.first, *arguments)
+            begin = rows.begin - rows.first
+            arguments = (self.op, self.k, begin, width, seen, *field.top, *samples, *_element(self.footprint), *room)
+            return _ready(name, lambda: f"rows of {self} of {field}", arguments, field.samples, out)
 
         return ready
 
@@ -174,7 +185,7 @@ class Threshold:
 
     def ready(self, field: Field, out: Samples) -> Callable[[], None]:
         arguments = (self.k, *_frame(field), field.maxval, *_array(field.samples), *_array(out))
-        return _library.ready(f"morphd_threshold_{field.levels.kind}", lambda: f"{self} of {field}", *arguments)
+        return _ready(f"morphd_threshold_{field.levels.kind}", lambda: f"{self} of {field}", arguments, field.samples, out)
 
     def __str__(self) -> str:
         return f"threshold at {self.k}"
@@ -201,7 +212,7 @@ class HitOrMiss:
     def ready(self, field: Field, out: Samples) -> Callable[[], None]:
         elements = (*_element(self.hit), *_element(self.miss))
         arguments = (*_frame(field), *field.top, *_array(field.samples), *elements, *_array(out))
-        return _library.ready(f"morphd_hit_or_miss_{field.kind}", lambda: f"{self} of {field}", *arguments)
+        return _ready(f"morphd_hit_or_miss_{field.kind}", lambda: f"{self} of {field}", arguments, field.samples, out)
 
     def __str__(self) -> str:
         return f"hit-or-miss by {self.hit!r} and {self.miss!r}"
@@ -228,7 +239,7 @@ class Skeleton:
 
     def ready(self, field: Field, out: Samples) -> Callable[[], None]:
         arguments = (self.levels, *_frame(field), *_array(field.samples), *_element(self.footprint), *_array(out))
-        return _library.ready("morphd_skeleton", lambda: f"{self} of {field}", *arguments)
+        return _ready("morphd_skeleton", lambda: f"{self} of {field}", arguments, field.samples, out)
 
     def __str__(self) -> str:
         return f"skeleton of {self.levels} levels by {self.footprint!r}"
@@ -254,7 +265,7 @@ class Restoration:
 
     def ready(self, field: Field, out: Samples) -> Callable[[], None]:
         arguments = (self.levels, *_frame(field), field.maxval, *_array(field.samples), *_element(self.footprint), *_array(out))
-        return _library.ready(f"morphd_restore_{field.levels.kind}", lambda: f"{self} of {field}", *arguments)
+        return _ready(f"morphd_restore_{field.levels.kind}", lambda: f"{self} of {field}", arguments, field.samples, out)
 
     def __str__(self) -> str:
         return f"restoration of {self.levels} levels by {self.footprint!r}"

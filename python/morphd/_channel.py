@@ -3,18 +3,23 @@ replies that go over them.
 
 A thread of its own reads replies while requests are written, so neither side waits for the other. Replies come in the order
 of requests. What ends a session is told to all who wait, and to all who ask behind it.
+
+A child process that is forked has none of the parent's threads, its locks as they were, and copies of its files. There a channel
+takes no lock, sends nothing and waits for nothing; the copies are closed at once, so that the parent's program ends with the parent.
 """
 from __future__ import annotations
 
 import collections
 import io
 import os
+import re
 import shutil
 import signal
 import socket
 import subprocess
 import tempfile
 import threading
+import weakref
 from collections.abc import Callable
 from pathlib import Path
 from typing import Protocol
@@ -25,7 +30,9 @@ from .errors import REFUSALS, OutOfMemory, ProgramMissing, Refused, SessionEnded
 ENDING = (10, 11, 12)
 # How long the end of a program or of a thread is waited for, in seconds, where it has to come at once.
 PATIENCE = 30.0
-_REPLIES = (b"OK", b"ERR", b"DONE", b"FAILED", b"CANCELLED", b"RELEASED", b"PENDING", b"IMAGE", b"CURVE")
+# The lines of replies; those of images and curves tell how many bytes follow.
+_REPLY = re.compile(rb"(?:OK|CANCELLED|RELEASED|PENDING) [0-9]+\n|ERR [0-9]+ [A-Z_]+\n|DONE [0-9]+ [A-Z]+(?: [0-9]+)+\n|"
+                    rb"FAILED [0-9]+ (?:MEMORY|INPUT [0-9]+)\n|(?:IMAGE|CURVE) [0-9]+ ([0-9]{1,9})\n")
 
 
 class Reply:
@@ -43,6 +50,7 @@ class Reply:
 
     def __init__(self, asked: str, then: Callable[[Reply], None] | None = None) -> None:
         self.asked, self._then, self._come = asked, then, threading.Event()
+        self._process = os.getpid()
         self.words: list[str] = []
         self.payload = b""
         self._fault: SessionEnded | None = None
@@ -61,7 +69,10 @@ class Reply:
 
     def wait(self, timeout: float | None = None) -> Reply:
         """Waits for it. Raises why it does not come."""
-        if not self._come.wait(timeout):
+        if self._process != os.getpid():
+            if not self._come.is_set():
+                raise _of_another_process(self.asked, self._process)
+        elif not self._come.wait(timeout):
             raise TimeoutError(f"{self.asked}: no reply in {timeout} s")
         if self._fault is not None:
             # a new one each time: each has the place where it is raised
@@ -86,6 +97,11 @@ def refusal(number: int, asked: str) -> Refused | OutOfMemory:
     return OutOfMemory(asked) if number == 50 else Refused(number, asked)
 
 
+def _of_another_process(asked: str, process: int) -> SessionEnded:
+    """What is raised where a session is used in a child of the process that opened it."""
+    return SessionEnded(f"{asked}: the session is that of process {process}, of which this one is a forked child: open another one here")
+
+
 class Way(Protocol):
     """How bytes go to the machine and come back."""
 
@@ -102,6 +118,9 @@ class Way(Protocol):
 
     def close(self) -> None:
         """Lets go of it."""
+
+    def leave(self) -> None:
+        """Closes a forked child's copies. It touches nothing that could be locked: a file's buffer, a thread, the other end."""
 
 
 def _described(status: int, told: str) -> str:
@@ -154,6 +173,10 @@ class Pipe:
         for file in (self._run.stdin, self.replies, self._told):
             file.close()
 
+    def leave(self) -> None:
+        for file in (self._run.stdin, self._run.stdout):
+            file.close()
+
 
 class Wire:
     """A connection to a server."""
@@ -184,6 +207,10 @@ class Wire:
         self.replies.close()
         self._socket.close()
 
+    def leave(self) -> None:
+        self.replies.raw.close()
+        self._socket.close()
+
 
 def found_program(program: str | os.PathLike[str] | None) -> str:
     """The path of the program: as it is given, or by MORPHD, or on PATH, or in a checkout."""
@@ -200,21 +227,41 @@ def found_program(program: str | os.PathLike[str] | None) -> str:
     return found
 
 
+_channels: weakref.WeakSet[Channel] = weakref.WeakSet()
+
+
+def _leave_all() -> None:
+    """What a forked child does first."""
+    for channel in list(_channels):
+        channel.way.leave()
+
+
+os.register_at_fork(after_in_child=_leave_all)
+
+
 class Channel:
     """Requests over a way, and their replies."""
 
     def __init__(self, way: Way) -> None:
-        self.way = way
+        self.way, self._process = way, os.getpid()
         self._awaited: collections.deque[Reply] = collections.deque()
         self._sending, self._ending = threading.RLock(), threading.Lock()
         self._end: SessionEnded | None = None
         self._last: Reply | None = None
         self._is_closing = False
         self._reader = threading.Thread(target=self._read_all, name="morphd replies", daemon=True)
+        _channels.add(self)
         self._reader.start()
+
+    @property
+    def _is_inherited(self) -> bool:
+        """Whether this is a forked child of the process whose channel it is."""
+        return self._process != os.getpid()
 
     def send(self, asked: str, data: bytes, then: Callable[[Reply], None] | None = None) -> Reply:
         """Writes a request; gives the reply to come."""
+        if self._is_inherited:
+            raise _of_another_process(asked, self._process)
         reply = Reply(asked, then)
         with self._sending:
             if self._is_closing:
@@ -240,6 +287,9 @@ class Channel:
         try:
             while self._read_one():
                 pass
+        except SessionEnded as fault:
+            self._finish(fault.why)
+            return
         except (OSError, ValueError) as fault:
             why = str(fault)
         if self._is_closing and not self._awaited:
@@ -252,17 +302,16 @@ class Channel:
         line = self.way.replies.readline()
         if not line.endswith(b"\n"):
             return False
-        words = line.split()
-        if not words or words[0] not in _REPLIES:
-            raise ValueError(f"this is no reply of morphd: {line[:80]!r}")
-        payload = b""
-        if words[0] in (b"IMAGE", b"CURVE"):
-            payload = self.way.replies.read(int(words[2]))
-            if len(payload) < int(words[2]):
+        known, payload = _REPLY.fullmatch(line), b""
+        if known is None:
+            raise SessionEnded(f"this is no reply of morphd: {line[:80]!r}")
+        if known.group(1) is not None:
+            payload = self.way.replies.read(int(known.group(1)))
+            if len(payload) < int(known.group(1)):
                 return False
         reply = self._awaited.popleft() if self._awaited else Reply("no request")
         self._last = reply
-        reply.settle([word.decode("ascii") for word in words], payload)
+        reply.settle(line.decode("ascii").split(), payload)
         return True
 
     def _finish(self, why: str, status: int | None = None) -> None:
@@ -287,10 +336,12 @@ class Channel:
     @property
     def is_over(self) -> bool:
         """Whether nothing more can be asked."""
-        return self._is_closing or self._end is not None
+        return self._is_closing or self._end is not None or self._is_inherited
 
     def close(self, goodbye: bytes) -> SessionEnded | None:
-        """Says goodbye, waits for the end, and gives what went wrong."""
+        """Says goodbye, waits for the end, and gives what went wrong. In a forked child there is nothing to be done."""
+        if self._is_inherited:
+            return None
         with self._sending:
             if self._is_closing:
                 return None
@@ -303,8 +354,9 @@ class Channel:
                 pass
         if threading.current_thread() is not self._reader:
             self._reader.join(PATIENCE)
-        ended, status = self.way.ended() if not self._reader.is_alive() else ("the session did not end", None)
+        has_ended = not self._reader.is_alive()
+        ended, status = self.way.ended() if has_ended else ("the session did not end", None)
         self.way.close()
         self._finish(ended, status)
-        is_fine = status in (0, None) and not self._reader.is_alive()
+        is_fine = has_ended and status in (0, None)
         return None if is_fine or (self._end is not None and self._end.refusal is not None) else self._end

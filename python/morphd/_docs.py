@@ -17,15 +17,16 @@ footprint : Footprint or array_like
     What the operator looks through, see `morphd.footprints`.""",
     "mode": """\
 mode : {{'ignore', 'reflect', 'mirror', 'nearest', 'wrap', 'constant'}}
-    What stands outside the frame. 'ignore' leaves it out, and is what is proved. The others are those of
-    scipy.ndimage: a rim is put around the array before each step.""",
+    What stands outside the frame. 'ignore' leaves it out, as the library does, whose calls are proved. The others are those of
+    scipy.ndimage: a rim is put around the array before each step, which is tested and not proved.""",
     "cval": """\
 cval : scalar
-    The sample outside with ``mode='constant'``.""",
+    The sample outside with ``mode='constant'``; among floats the nearest one of the image's type. What that type does not
+    hold is refused: NaN, a fraction among integers, a number outside the limits.""",
     "options": """\
 maxval : int, optional
     The greatest sample that an array of uint8 or uint16 can have, 4095 for a camera of 12 bits; the type's if left out.
-    It is what an erosion gives where its footprint sees nothing. A sample over it is refused.
+    It is what an erosion gives where its footprint sees nothing; a dilation gives 0. A sample over it is refused.
 axes : (int, int), optional
     Which axes are the rows and the columns of a plane, for arrays with more than two. Planes are treated by themselves.""",
     "compat": """\
@@ -35,19 +36,23 @@ compat : {{'scipy', 'skimage', 'opencv'}}, optional
     theirs wrap round.""",
     "out": """\
 out : ndarray, optional
-    Where the result is written: an array of the image's shape and of the result's type. It may be `image`.
+    Where the result is written: an array of the image's shape and of the result's type. It may be `image`. A refusal leaves
+    it as it was; want of memory, or an interrupt, can leave a part of the result in it.
 workers : int, optional
-    How many threads share the rows; -1 is one for each processor. The result is the same.""",
+    How many threads share the rows; -1 is one for each processor. The result is the same. An interrupt is raised when the
+    threads have ended what they had begun.""",
     "raises": """\
 Refused
     Where the library refuses it: by number and word, see docs/PROTOCOL.md.
 OutOfMemory
-    Where there is not enough memory.""",
+    Where there is not enough memory.
+TypeError, ValueError
+    Where an argument or the image's type is none that is taken.""",
 }
 COMPARES = """\
 Other integers and
-    floats are taken, too, with up to 65,536 values and no NaN, since the operator only compares samples; where a footprint
-    sees nothing, the image's greatest value stands for the maxval, and its least for 0."""
+    floats are taken, too, with up to 65,536 values in a plane and no NaN, since the operator only compares samples; 0.0 and
+    -0.0 are one value. Where a footprint sees nothing, an erosion gives the plane's greatest value, and a dilation its least."""
 COMPUTES = "Other types are refused, since the operator subtracts samples."
 
 

@@ -81,7 +81,7 @@ def _parts(length: int, most: int, rim: int) -> int:
 
 
 def fits(shape: tuple[int, ...]) -> bool:
-    """Whether the library takes an array of this shape in one piece. One without samples it refuses itself."""
+    """Whether the library takes an array of this shape in one piece."""
     return max(shape) <= LONGEST_SIDE and shape[0] * shape[1] <= MOST_SAMPLES
 
 
@@ -98,8 +98,9 @@ def cut(shape: tuple[int, ...], reach: Reach, workers: int) -> list[Piece]:
 
 
 def check_samples(field: Field, asked: object) -> None:
-    """Refuses samples over the maxval before any piece is written. One piece needs no such look: the library has its own."""
-    is_free = field.is_set or field.maxval == np.iinfo(field.samples.dtype).max
+    """Refuses samples over the maxval before any piece is written. One piece needs no such look: the library has its own, and
+    refuses an array without samples, too."""
+    is_free = field.is_set or field.maxval == np.iinfo(field.samples.dtype).max or field.samples.size == 0
     if not is_free and field.samples.max() > field.maxval:
         raise Refused(25, f"{asked} of {field}")
 
@@ -128,7 +129,7 @@ def _task(call: Call, field: Field, made: Samples, piece: Piece) -> Callable[[],
 
 
 def tasks(call: Call, field: Field, made: Samples, workers: int) -> list[Callable[[], None]]:
-    """What writes the result, a piece each: in any order, or at once. Who holds the tasks holds `made` too."""
+    """What writes the result, a piece each: in any order, or at once."""
     shape = made.shape
     pieces = [] if workers == 1 and fits(shape) else cut(shape, call.reach, workers)
     if len(pieces) < 2:

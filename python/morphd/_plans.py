@@ -2,7 +2,8 @@
 
 With the mode `ignore` and our own convention each operator is one call, whose result is proved. A rim has to be put around
 the array anew before each step, so with another mode an opening is two calls; so it is where another library reflects
-other footprints. The rules of SciPy 1.10, scikit-image 0.19 and OpenCV 4.6 stand in `_STEPS` and were found by comparing.
+other footprints. What is put together of several calls is tested, not proved. The rules of SciPy 1.10, scikit-image 0.19
+and OpenCV 4.6 stand in `_STEPS` and were found by comparing.
 """
 from __future__ import annotations
 

@@ -10,9 +10,10 @@ import os
 import threading
 from collections import deque
 from collections.abc import Callable, Iterable
-from contextlib import suppress
-from queue import SimpleQueue
+from queue import Empty, SimpleQueue
 from typing import Generic, TypeVar
+
+from ._numbers import whole
 
 Item = TypeVar("Item")
 Made = TypeVar("Made")
@@ -20,11 +21,13 @@ Made = TypeVar("Made")
 _asked: SimpleQueue[Callable[[], None]] = SimpleQueue()
 _starting = threading.Lock()
 _started = 0
+# After so many seconds a caller looks who helps, if the word of one that ended was lost with an interrupt.
+_LOOK_AGAIN = 1.0
 
 
 def worker_count(workers: int | None) -> int:
     """How many threads are asked for: None is 1, -1 is one for each processor, -2 one less."""
-    count = 1 if workers is None else int(workers)
+    count = 1 if workers is None else whole(workers, "workers")
     if count < 0:
         count += 1 + (os.cpu_count() or 1)
     if count < 1:
@@ -69,42 +72,59 @@ class _Share(Generic[Item, Made]):
         self.left = deque(range(len(items)))
         self.made: dict[int, Made] = {}
         self.faults: dict[int, BaseException] = {}
-        self.ended: SimpleQueue[int] = SimpleQueue()
+        self.interrupt: BaseException | None = None
+        self.helping: set[int] = set()
+        self.ended: SimpleQueue[None] = SimpleQueue()
 
-    def take(self, next_item: Callable[[], int]) -> int:
-        """Does the work at items that nobody has begun, until none is left. Gives how many there were."""
-        count = 0
-        while True:
+    def take(self, next_item: Callable[[], int]) -> None:
+        """Does the work at items that nobody has begun, until none is left. An interrupt leaves the rest undone."""
+        while self.interrupt is None:
             try:
                 at = next_item()
             except IndexError:
-                return count
-            count += 1
+                return
             try:
                 self.made[at] = self.work(self.items[at])
             except BaseException as fault:
                 self.faults[at] = fault
                 if not isinstance(fault, Exception):
-                    return count + self.give_up()
-
-    def give_up(self) -> int:
-        """Leaves the rest undone, as at an interrupt. Gives how many those were."""
-        count = 0
-        with suppress(IndexError):
-            while True:
-                self.left.pop()
-                count += 1
-        return count
+                    self.interrupt = fault
 
     def help(self) -> None:
-        """What another thread does."""
-        self.ended.put(self.take(self.left.popleft))
+        """What another thread does. It is known to help before it takes an item, so nobody leaves while it has one."""
+        me = threading.get_ident()
+        self.helping.add(me)
+        try:
+            self.take(self.left.popleft)
+        finally:
+            self.helping.discard(me)
+            self.ended.put(None)
+
+    def wait(self) -> None:
+        """Ends when nobody helps any more. An interrupt is kept until then, for others still read and write the caller's arrays."""
+        while self.helping:
+            try:
+                self.ended.get(timeout=_LOOK_AGAIN)
+            except Empty:
+                continue
+            except BaseException as fault:
+                self.interrupt = fault
 
     def results(self) -> list[Made]:
         """What was made, in order; or the first fault is raised, an interrupt before all others."""
-        if self.faults:
-            raise self.faults[min(self.faults, key=lambda at: (isinstance(self.faults[at], Exception), at))]
-        return [self.made[at] for at in range(len(self.items))]
+        count = len(self.items)
+        # a thread that comes late still has this share: it is to find nothing to do, and not to hold the caller's arrays
+        self.left.clear()
+        self.items.clear()
+        fault = self.interrupt or self.faults.get(min(self.faults, default=0))
+        if fault is None:
+            return [self.made.pop(at) for at in range(count)]
+        try:
+            raise fault
+        finally:
+            # a fault holds its frames, and so the caller's arrays: they go with it, where nothing in them holds it
+            self.faults.clear()
+            fault = self.interrupt = None
 
 
 def each(work: Callable[[Item], Made], items: Iterable[Item], workers: int) -> list[Made]:
@@ -113,12 +133,19 @@ def each(work: Callable[[Item], Made], items: Iterable[Item], workers: int) -> l
     if workers == 1 or len(held) < 2:
         return [work(item) for item in held]
     share, others = _Share(work, held), min(workers, len(held)) - 1
-    _start(others)
-    for _ in range(others):
-        _asked.put(share.help)
-    ended = share.take(share.left.pop)
-    while ended < len(held):
-        ended += share.ended.get()
+    try:
+        _start(others)
+        for _ in range(others):
+            _asked.put(share.help)
+        share.take(share.left.pop)
+    except BaseException as fault:
+        share.interrupt = fault
+    finally:
+        try:
+            share.wait()
+        finally:
+            # again, if an interrupt came between two looks
+            share.wait()
     return share.results()
 
 

@@ -20,6 +20,7 @@ from . import _arrays, _pieces, _threads
 from ._calls import Field, Flat, Samples, volumes
 from ._docs import COMPUTES, documented
 from ._library import DILATE, ERODE
+from ._numbers import whole
 from .errors import Refused
 from .footprints import Footprint
 
@@ -195,7 +196,7 @@ def spectrum(
     >>> curve.widths, curve.mean_size
     (array([1., 3.]), 2.2)
     """
-    array, b, count = _arrays.as_array(image, None), Footprint(footprint), int(sizes)
+    array, b, count = _arrays.as_array(image, None), Footprint(footprint), whole(sizes, "sizes")
     size, unit = pixel_size(pixel)
     _arrays.check_kind(array, "spectrum", False)
     field = _arrays.read(array, "spectrum", maxval).field

@@ -22,6 +22,7 @@ from dask.array import Array
 
 from . import _calls, _library, operators
 from ._progress import bar
+from .errors import Refused
 from .footprints import Footprint, Reach
 
 __all__ = [
@@ -56,20 +57,30 @@ def _checked(name: str, array: Array) -> None:
     if array.dtype != np.bool_ and array.dtype.newbyteorder("=") not in (np.uint8, np.uint16):
         # the order of samples is that of a chunk, and what an erosion gives where it sees nothing would be, too
         raise TypeError(f"{name} over chunks takes arrays of bool, uint8 and uint16, and this is one of {array.dtype}")
+    if 0 in array.shape:
+        raise Refused(22, f"{name} of {array.shape}")
 
 
 def _overlapped(work: _Chunk, array: Array, reach: Reach, made: Any = None, rim: str = "none") -> Array:
     """The operator on each chunk and what stands around it."""
     _checked(work.name, array)
     dtype = array.dtype if made is None else np.dtype(made)
-    meta = np.empty((0, 0), dtype)
-    if not any(reach):
-        return array.map_blocks(work, dtype=dtype, meta=meta)
-    depth: dict[int, Any] = {0: (reach.up, reach.down), 1: (reach.left, reach.right)}
+    kept = {"dtype": dtype, "meta": np.empty((0, 0), dtype)}
+    sides = [(reach.up, reach.down), (reach.left, reach.right)]
+    # Dask takes no more from around a chunk than there is, nor an empty chunk: along such an axis all is one chunk, whose edges
+    # are the array's, so that they are the operator's to treat
+    whole = [axis for axis in (0, 1) if max(sides[axis]) >= array.shape[axis] or 0 in array.chunks[axis]]
+    if whole:
+        array = array.rechunk(dict.fromkeys(whole, -1))
+    depth: dict[int, Any] = {axis: (0, 0) if axis in whole else sides[axis] for axis in (0, 1)}
+    if not any(map(max, depth.values())):
+        return array.map_blocks(work, **kept)
+    if np.isnan(array.shape).any():
+        raise ValueError(f"{work.name} looks beyond chunks, and their sizes are unknown: array.compute_chunk_sizes() finds them")
     if rim != "none":
         # Dask puts rims around an array that are equally wide on both sides
-        depth = {axis: max(sides) for axis, sides in depth.items()}
-    return dask.array.map_overlap(work, array, depth=depth, boundary=rim, dtype=dtype, meta=meta, align_arrays=False)
+        depth = {axis: max(each) for axis, each in depth.items()}
+    return dask.array.map_overlap(work, array, depth=depth, boundary=rim, align_arrays=False, **kept)
 
 
 def _flat(name: str, array: Array, footprint: Any, maxval: int | None) -> Array:
@@ -128,9 +139,8 @@ def black_tophat(array: Array, footprint: Any, *, maxval: int | None = None) -> 
 def _ranked(work: _Chunk, array: Array, b: Footprint, mode: str) -> Array:
     if mode not in _RIMS:
         raise ValueError(f"mode is one of {', '.join(_RIMS)} over chunks: {mode!r}")
-    # a chunk's own rim is cut off, so it may be any where the array has one
-    options = {**work.options, "mode": "ignore" if mode == "ignore" else "nearest"}
-    return _overlapped(_Chunk(work.name, work.arguments, options), array, b.reach, rim=_RIMS[mode])
+    # a chunk's own rim is cut off where Dask has put one around it, and is the array's elsewhere
+    return _overlapped(_Chunk(work.name, work.arguments, {**work.options, "mode": mode}), array, b.reach, rim=_RIMS[mode])
 
 
 def rank(array: Array, k: int, footprint: Any, *, mode: str = "reflect", maxval: int | None = None) -> Array:

@@ -61,7 +61,7 @@ class Refused(ValueError):
 
 
 class OutOfMemory(MemoryError):
-    """There was not enough memory for what was asked for. Nothing was changed.
+    """There was not enough memory for what was asked for. A session is as it was before; an operator may have written a part of `out`.
 
     Attributes
     ----------

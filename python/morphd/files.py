@@ -4,7 +4,8 @@
     morphd.write("opened.png", morphd.opening(image, morphd.disk(5)))
 
 A bit a pixel is read as an array of bool, 8 bits as uint8, 16 as uint16; a stack of TIFF pages as an array of three axes,
-which operators take with ``axes=(1, 2)``. Colours are refused: which of them is meant, only the caller knows.
+which operators take with ``axes=(1, 2)``. Colours are refused: which of them is meant, only the caller knows. A greater
+sample is a brighter one; files that have it the other way round are turned over.
 """
 from __future__ import annotations
 
@@ -21,6 +22,8 @@ from .netpbm import Picture
 __all__ = ["Loaded", "load", "read", "write"]
 
 _NETPBM, _TIFF = (".pbm", ".pgm", ".pnm", ".ppm"), (".tif", ".tiff")
+# TIFF's word for what a sample means, and two of its values; the others are colours.
+_PHOTOMETRIC, _WHITE_IS_ZERO, _BLACK_IS_ZERO = 262, 0, 1
 Where = str | os.PathLike[str]
 
 
@@ -53,6 +56,8 @@ def _of_pillow(path: Path) -> NDArray[Any]:
         for page in range(getattr(image, "n_frames", 1)):
             image.seek(page)
             pages.append(_of_page(image, path))
+    if len({(page.shape, page.dtype) for page in pages}) > 1:
+        raise ValueError(f"{path}: its pages differ in their sides or types, so they are no stack")
     return pages[0] if len(pages) == 1 else np.stack(pages)
 
 
@@ -64,8 +69,17 @@ def _of_page(image: Any, path: Path) -> NDArray[Any]:
     if image.mode == "I" or image.mode.startswith("I;16"):
         held = np.asarray(image)
         if held.min() >= 0 and held.max() <= 65535:
-            return held.astype(np.uint16)
+            # Pillow turns dark samples over in pages of 1 and 8 bits alone
+            is_dark = getattr(image, "tag_v2", {}).get(_PHOTOMETRIC) == _WHITE_IS_ZERO
+            return _brighter_is_greater(held.astype(np.uint16), is_dark, 65535)
     raise ValueError(f"{path}: a picture of mode {image.mode} is no set and no levels of 8 or 16 bits: take one channel of it")
+
+
+def _brighter_is_greater(array: NDArray[Any], is_dark: bool, top: int) -> NDArray[Any]:
+    """The samples, turned over where the least is the brightest."""
+    if not is_dark:
+        return array
+    return ~array if array.dtype == np.bool_ else array.dtype.type(top) - array
 
 
 def _of_tiff(path: Path) -> NDArray[Any]:
@@ -74,12 +88,17 @@ def _of_tiff(path: Path) -> NDArray[Any]:
     except ImportError:
         return _of_pillow(path)
     with tifffile.TiffFile(path) as file:
-        array: NDArray[Any] = file.asarray()
-        has_colours = file.pages[0].samplesperpixel > 1
-    if array.dtype not in (np.bool_, np.uint8, np.uint16) or not 2 <= array.ndim <= 3 or has_colours:
-        what = "colours" if has_colours else f"an array of {array.dtype} and {array.shape}"
-        raise ValueError(f"{path}: {what} is no set and no levels of 8 or 16 bits, nor a stack of such")
-    return array
+        page = file.pages[0]
+        has_colours = page.samplesperpixel > 1 or page.photometric not in (_WHITE_IS_ZERO, _BLACK_IS_ZERO)
+        try:
+            array: NDArray[Any] = np.empty(0) if has_colours else file.asarray()
+        except ValueError:
+            # a compression for which tifffile asks for another package; Pillow has most of them
+            return _of_pillow(path)
+        if has_colours or array.dtype not in (np.bool_, np.uint8, np.uint16) or not 2 <= array.ndim <= 3:
+            what = "a picture in colours" if has_colours else f"an array of {array.dtype} and {array.shape}"
+            raise ValueError(f"{path}: {what} is no set and no levels of 8 or 16 bits, nor a stack of such")
+        return _brighter_is_greater(array, page.photometric == _WHITE_IS_ZERO, (1 << page.bitspersample) - 1)
 
 
 def load(path: Where | IO[bytes]) -> Loaded:

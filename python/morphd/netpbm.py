@@ -8,6 +8,8 @@ This module needs nothing but Python; `numpy.asarray(picture)` makes an array of
 """
 from __future__ import annotations
 
+import bisect
+import operator
 import re
 import sys
 from array import array
@@ -18,17 +20,29 @@ from .errors import Refused
 
 __all__ = ["Picture"]
 
-_GAP = rb"[ \t\r\n](?:[ \t\r\n]|#[^\r\n]*(?=[\r\n]))*"
-_FIELD = _GAP + rb"([0-9]+)"
+# White space is TAB, LF, CR and blank. Where one of these stands, nothing else can be meant, so nothing is tried twice.
+_WHITE = b" \t\r\n"
+_FIELD = rb"[ \t\r\n](?:[ \t\r\n]|#[^\r\n]*+)*+([0-9]++)"
 _SET_HEADER = re.compile(rb"P[14]" + 2 * _FIELD + rb"[ \t\r\n]")
 _GREY_HEADER = re.compile(rb"P[25]" + 3 * _FIELD + rb"[ \t\r\n]")
 _COMMENT = re.compile(rb"#[^\r\n]*")
+_COMMENT_APART = re.compile(rb"(?<![^ \t\r\n])#[^\r\n]*")
+_BEHIND_DIGITS = re.compile(rb"[^0-9].*", re.DOTALL)
+# `bytes.split` takes VT and FF for white space, too: they become a sign that is none.
+_NO_OTHER_WHITE = bytes.maketrans(b"\v\f", b"!!")
+# What sessions take; a whole file with longer sides is read here, since operators take arrays of any size.
+_LONGEST_SIDE, _MOST_SAMPLES = 8192, 1 << 24
 _UNPACKED = [bytes(byte >> (7 - bit) & 1 for bit in range(8)) for byte in range(256)]
 
 
 def _unless(holds: bool, number: int, asked: str) -> None:
     if not holds:
         raise Refused(number, asked)
+
+
+def _number(digits: bytes) -> int:
+    """Their value. Of one that no memory could hold so many samples of, the front is taken, which is over all limits too."""
+    return int(digits.lstrip(b"0")[:19] or b"0")
 
 
 @dataclass(frozen=True)
@@ -68,7 +82,8 @@ class Picture:
         Raises
         ------
         Refused
-            20 to 26, where they are no such file.
+            20 to 26, where they are no such file: by the number that a session refuses them by. A whole file over the limits of
+            sessions is read.
         """
         magic, asked = data[:2], "a Netpbm file"
         _unless(magic in (b"P1", b"P2", b"P4", b"P5"), 20, asked)
@@ -76,11 +91,16 @@ class Picture:
         header = (_SET_HEADER if is_set else _GREY_HEADER).match(data)
         if header is None:
             raise Refused(21, asked)
-        width, height, maxval = ([int(field) for field in header.groups()] + [1])[:3]
+        width, height, maxval = ([_number(field) for field in header.groups()] + [1])[:3]
         _unless(width > 0 and height > 0, 22, asked)
-        _unless(1 <= maxval <= 65535, 23, asked)
-        read = _plain if magic in (b"P1", b"P2") else _raw
-        return cls(width, height, maxval, is_set, read(data[header.end() :], width, height, 0 if is_set else maxval))
+        try:
+            _unless(1 <= maxval <= 65535, 23, asked)
+            read = _plain if magic in (b"P1", b"P2") else _raw
+            return cls(width, height, maxval, is_set, read(data[header.end() :], width, height, 0 if is_set else maxval))
+        except Refused as fault:
+            if max(width, height) > _LONGEST_SIDE or width * height > _MOST_SAMPLES:
+                raise Refused(22, f"{fault.asked} of {height} x {width}, refused by {fault.number} {fault.word} as well") from None
+            raise
 
     @classmethod
     def of_array(cls, image: Any, maxval: int | None = None) -> Picture:
@@ -102,7 +122,7 @@ class Picture:
         if held.ndim != 2 or not (held.dtype == bool or held.dtype.newbyteorder("=") in (np.uint8, np.uint16)):
             raise TypeError(f"a picture is made of bool, uint8 or uint16 with two axes, not of {held.dtype} with {held.ndim}")
         is_set = held.dtype == bool
-        top = 1 if is_set else int(np.iinfo(held.dtype).max) if maxval is None else int(maxval)
+        top = 1 if is_set else int(np.iinfo(held.dtype).max) if maxval is None else operator.index(maxval)
         _unless(held.size > 0, 22, "a picture")
         _unless(1 <= top <= 65535, 23, "a picture")
         _unless(is_set or int(held.max()) <= top, 25, "a picture")
@@ -136,6 +156,11 @@ def _wide(raster: bytes) -> array[int]:
     return made
 
 
+def _bytes_of(levels: array[int]) -> bytes:
+    """Two bytes for each sample, the higher one first."""
+    return _wide(levels.tobytes()).tobytes()
+
+
 def _packed(row: bytes) -> bytes:
     """A row of pixels as bits, filled up to whole bytes."""
     length = (len(row) + 7) // 8
@@ -143,27 +168,47 @@ def _packed(row: bytes) -> bytes:
 
 
 def _plain(raster: bytes, width: int, height: int, maxval: int) -> bytes:
-    """The samples of a plain raster; a maxval of 0 stands for a set."""
-    text, count, asked = _COMMENT.sub(b" ", raster), width * height, "a plain Netpbm file"
-    if not maxval:
-        pixels = b"".join(text.split())[:count]
-        _unless(len(pixels) == count, 24, asked)
-        _unless(not pixels.strip(b"01"), 25, asked)
-        return pixels.translate(bytes(48) + b"\0\1" + bytes(206))
-    words = text.split()[:count]
+    """The samples of a plain raster; a maxval of 0 stands for a set. Its places are looked at from the first to the last."""
+    return _plain_levels(raster, width * height, maxval) if maxval else _plain_pixels(raster, width * height)
+
+
+def _plain_pixels(raster: bytes, count: int) -> bytes:
+    """The pixels of a plain raster, between which nothing has to stand."""
+    asked, blank = "a plain PBM file", _WHITE + b"#"
+    text = _COMMENT.sub(b"#", raster)
+    pixels = text.translate(None, blank)[:count]
+    _unless(not pixels.strip(b"01"), 25, asked)
+    _unless(len(pixels) == count, 24, asked)
+    end = bisect.bisect_left(range(len(text)), count, key=lambda place: len(text[:place].translate(None, blank)))
+    _unless(text[end : end + 1] in _WHITE, 26, asked)
+    return pixels.translate(bytes(48) + b"\0\1" + bytes(206))
+
+
+def _plain_levels(raster: bytes, count: int, maxval: int) -> bytes:
+    """The samples of a plain raster, each a word of digits. Behind the digits of the last one there may stand a fault of its own."""
+    asked = "a plain PGM file"
+    text = _COMMENT_APART.sub(b"", raster.translate(_NO_OTHER_WHITE))
+    words = text.split(None, min(count, len(text)))[:count]
+    last = words[-1] if len(words) == count else b""
+    if last:
+        words[-1] = _BEHIND_DIGITS.sub(b"", last)
+    _unless(all(map(bytes.isdigit, words)), 25, asked)
+    levels = list(map(_number, words))
+    _unless(max(levels, default=0) <= maxval, 25, asked)
     _unless(len(words) == count, 24, asked)
-    _unless(all(word.isdigit() and int(word) <= maxval for word in words), 25, asked)
-    return b"".join(int(word).to_bytes(1 if maxval < 256 else 2, "big") for word in words)
+    _unless(last.isdigit(), 26, asked)
+    return bytes(levels) if maxval < 256 else _bytes_of(array("H", levels))
 
 
 def _raw(raster: bytes, width: int, height: int, maxval: int) -> bytes:
     """The samples of a raw raster; a maxval of 0 stands for a set."""
-    across = (width + 7) // 8 if not maxval else width * (1 if maxval < 256 else 2)
-    _unless(len(raster) >= height * across, 24, "a raw Netpbm file")
-    _unless(len(raster) == height * across, 26, "a raw Netpbm file")
-    if not maxval:
-        rows = (raster[at : at + across] for at in range(0, len(raster), across))
-        return b"".join(b"".join(map(_UNPACKED.__getitem__, row))[:width] for row in rows)
-    if maxval not in (255, 65535):
-        _unless(max(raster if maxval < 256 else _wide(raster)) <= maxval, 25, "a raw Netpbm file")
-    return raster
+    asked, across = "a raw Netpbm file", (width + 7) // 8 if not maxval else width * (1 if maxval < 256 else 2)
+    samples = raster[: height * across]
+    _unless(len(samples) == height * across, 24, asked)
+    if maxval and maxval not in (255, 65535):
+        _unless(max(samples if maxval < 256 else _wide(samples)) <= maxval, 25, asked)
+    _unless(len(raster) == len(samples), 26, asked)
+    if maxval:
+        return samples
+    rows = (samples[at : at + across] for at in range(0, len(samples), across))
+    return b"".join(b"".join(map(_UNPACKED.__getitem__, row))[:width] for row in rows)

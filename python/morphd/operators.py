@@ -8,10 +8,13 @@
 Operators that look at edges in several ways take `mode`; what they do on whole arrays they do by pieces on several cores,
 and on arrays that are too large for the library, with the same result. Options are keywords, more of them than a function
 has of arguments elsewhere in this package.
+
+Each call of the library is proved to make the samples of the definition. On a plane of bool, uint8 or uint16 within the
+library's limits, with ``mode="ignore"``, one worker and no `compat`, an operator is one such call. All else is made of
+several calls or of levels that stand for samples, and that is tested, not proved: rims, pieces, differences, other types.
 """
 from __future__ import annotations
 
-import math
 from collections.abc import Callable, Iterator
 from dataclasses import dataclass, replace
 from typing import Any
@@ -19,11 +22,12 @@ from typing import Any
 import numpy as np
 from numpy.typing import ArrayLike, NDArray
 
-from . import _arrays, _plans, _threads
+from . import _arrays, _pieces, _plans, _threads
 from ._calls import Flat, HitOrMiss, Restoration, Skeleton, Threshold
 from ._docs import COMPUTES, documented
 from ._edges import MODES, Edges
 from ._library import RANK
+from ._numbers import real, whole
 from .errors import Refused
 from .footprints import Footprint
 
@@ -70,6 +74,8 @@ def _checked(options: _Options) -> _Options:
     if options.mode not in MODES:
         raise ValueError(f"mode is one of {', '.join(MODES)}: {options.mode!r}")
     _plans.checked_compat(options.compat)
+    if options.mode == "constant":
+        real(options.cval, "cval")
     return replace(options, workers=_threads.worker_count(options.workers))
 
 
@@ -83,18 +89,22 @@ def _planes(array: Array, out: Array, axes: tuple[int, int]) -> Iterator[tuple[A
         yield moved[at], target[at]
 
 
-def _level(reading: _arrays.Reading, cval: Any) -> int:
-    """The level of a sample outside the frame."""
-    if reading.back is None and not (cval == int(cval) and 0 <= cval <= reading.field.maxval):
-        raise ValueError(f"cval is a sample of the image's type, up to its maxval: {cval!r}")
-    return reading.level_of(cval)
+def _read(work: _Work, array: Array, options: _Options) -> _arrays.Reading:
+    """An array of two axes, and what stands outside it."""
+    return _arrays.read(array, work.name, options.maxval, options.cval if options.mode == "constant" else None)
+
+
+def _check_samples(work: _Work, array: Array, axes: tuple[int, int], options: _Options) -> None:
+    """Refuses what one of the planes holds before the result of any is written."""
+    if _arrays.may_be_refused(array.dtype, options.maxval):
+        for plane, _ in _planes(array, array, axes):
+            _pieces.check_samples(_read(work, plane, options).field, work.name)
 
 
 def _on_plane(work: _Work, array: Array, options: _Options, out: Array | None) -> Array:
     """The operator on an array of two axes."""
-    cval = options.cval if options.mode == "constant" else None
-    reading = _arrays.read(array, work.name, options.maxval, cval)
-    edges = options.edges(work.name, reading.field.is_set, 0 if cval is None else _level(reading, cval))
+    reading = _read(work, array, options)
+    edges = options.edges(work.name, reading.field.is_set, reading.outside)
     run = _plans.Run(reading.field, edges, options.workers or 1)
     held = _arrays.direct(out, reading, reading.field.samples.dtype if work.made is None else np.uint8)
     samples = _plans.run(work.plan(reading), run, held)
@@ -118,6 +128,8 @@ def _made(work: _Work, image: Any, options: _Options) -> Array:
         return _on_plane(work, array, options, out)
     made = np.empty(array.shape, dtype) if out is None else out
     held = array.copy() if out is not None and np.may_share_memory(out, array) else array
+    if out is not None:
+        _check_samples(work, held, options.axes, options)
     for plane, target in _planes(held, made, options.axes):
         _on_plane(work, plane, options, target)
     return made
@@ -386,7 +398,8 @@ def rank(
     %(raises)s
     """
     options = _Options(mode, cval, maxval, axes, compat, out, workers, "reflect")
-    return _ranked("rank", image, footprint, lambda _: int(k), options)
+    number = whole(k, "k")
+    return _ranked("rank", image, footprint, lambda _: number, options)
 
 
 @documented()
@@ -467,7 +480,8 @@ def threshold(
     ----------
     %(image)s
     k : scalar
-        For bool, uint8 and uint16 from 0 to 65535; for other types any of their values.
+        For bool, uint8 and uint16 from 0 to 65535, for other types any number but NaN. Integers are compared with it exactly,
+        also with a fraction, and floats as ``image >= k`` compares them.
     %(options)s
     %(out)s
 
@@ -479,7 +493,7 @@ def threshold(
     ------
     %(raises)s
     """
-    if math.isnan(k):
+    if (number := real(k, "k")) != number:
         raise ValueError("threshold at NaN")
 
     def plan(reading: _arrays.Reading) -> _plans.Plan:
@@ -571,7 +585,7 @@ def skeleton(
     array = _arrays.as_array(image, axes)
     if array.dtype != np.bool_:
         raise Refused(44, f"skeleton of an array of {array.dtype}")
-    b, count = Footprint(footprint), _word(int(levels), "skeleton")
+    b, count = Footprint(footprint), _word(whole(levels, "levels"), "skeleton")
     return _made(_Work("skeleton", lambda _: Skeleton(b, count), np.uint8), array, _Options(axes=axes, out=out, workers=workers))
 
 
@@ -602,5 +616,5 @@ def restored(
     ------
     %(raises)s
     """
-    b, count = Footprint(footprint), _word(int(levels), "restoration")
+    b, count = Footprint(footprint), _word(whole(levels, "levels"), "restoration")
     return _made(_Work("restored", lambda _: Restoration(b, count), np.bool_), marks, _Options(axes=axes, out=out, workers=workers))

@@ -10,6 +10,7 @@
 
 A call writes its request and returns a handle; nothing waits but what asks for a result. A refusal is raised where the
 result is asked for, and tells the request that was refused. What a handle stands for is let go of when the handle is.
+A session is that of its process: in a forked child it raises `SessionEnded`, and dropping it there does nothing.
 This module needs nothing but Python; arrays need NumPy.
 """
 from __future__ import annotations
@@ -358,7 +359,7 @@ class Session:
         image : array_like, Picture, bytes or path
             An array of bool, uint8 or uint16; a picture; the bytes of a PBM or PGM file; or the path of a picture's file.
         maxval : int, optional
-            The greatest sample that an array can have; the type's if left out.
+            The greatest sample that an array, or a PNG or TIFF, can have; the type's if left out.
 
         Returns
         -------
@@ -466,5 +467,5 @@ def _file_of(image: Any, maxval: int | None) -> bytes:
             return data
         from .files import load
 
-        image, maxval = load(image)
+        image = load(image).array
     return Picture.of_array(image, maxval).file()

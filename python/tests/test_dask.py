@@ -60,6 +60,81 @@ def test_ranks(mode):
         morphd.dask.median(chunks, b, mode="mirror")
 
 
+def cut(rng, side):
+    """Chunks of one, of all, or of one to three."""
+    kind = rng.integers(3)
+    if kind < 2:
+        return (1,) * side if kind else (side,)
+    ends = np.minimum(np.cumsum(rng.integers(1, 4, side)), side)
+    return tuple(int(step) for step in np.diff(ends, prepend=0) if step)
+
+
+@pytest.mark.parametrize("name", [*OPERATORS, "rank", "median", "percentile", "hit_or_miss", "skeleton", "restored"])
+def test_reaches_that_pass_the_array(name):
+    """Small arrays in small chunks, under footprints that may be larger than they are."""
+    rng = np.random.default_rng(7)
+    for _ in range(30):
+        shape, is_ranked = rng.integers(1, 9, 2), name in ("rank", "median", "percentile")
+        image = cases.image(rng, shape, cases.TYPES[rng.integers(3)])
+        b = cases.footprint(rng, int(rng.choice([3, 7, 15])), with_origin=is_ranked or name == "skeleton")
+        before = {"rank": [1 + int(rng.integers(b.count))], "percentile": [40]}.get(name, [])
+        options = {"mode": str(rng.choice(["ignore", "reflect", "nearest", "wrap"]))} if is_ranked else {}
+        behind = [1 + int(rng.integers(5))] if name in ("skeleton", "restored") else []
+        if name in ("skeleton", "restored"):
+            image = image > 0 if name == "skeleton" else (image % 5).astype(np.uint8)
+        if name == "hit_or_miss":
+            # what it is to miss is the rest of its bitmap
+            b = morphd.Footprint(np.pad(b.bitmap, ((0, 1), (0, 0))), b.origin)
+        words = (*before, b, *behind)
+        chunks = da.from_array(image, chunks=tuple(cut(rng, int(side)) for side in shape))
+        over = made(getattr(morphd.dask, name)(chunks, *words, **options))
+        np.testing.assert_array_equal(over, getattr(morphd, name)(image, *words, **options), (shape, chunks.chunks, b, options))
+
+
+def test_footprints_beside_their_origin():
+    """A reach to one side only, shorter than the array, as long, and longer."""
+    image = np.arange(1, 7, dtype=np.uint8)[None]
+    chunks = da.from_array(image, chunks=(1, 1))
+    for far in (1, 4, 5, 6, 7, 254):
+        b = morphd.Footprint([[1] + far * [0]], (0, far))
+        for each in (b, -b):
+            np.testing.assert_array_equal(made(morphd.dask.erosion(chunks, each)), morphd.erosion(image, each), f"{far}")
+            np.testing.assert_array_equal(made(morphd.dask.rank(chunks, 1, each)), morphd.rank(image, 1, each), f"{far}")
+
+
+def test_only_the_axis_that_is_too_short_becomes_one_chunk():
+    chunks = da.from_array(np.zeros((6, 40), np.uint8), chunks=(2, 10))
+    tall = morphd.rectangle(15, 3)
+    for over in (morphd.dask.erosion(chunks, tall), morphd.dask.median(chunks, tall)):
+        assert over.chunks == ((6,), (10,) * 4)
+    assert morphd.dask.erosion(chunks, morphd.square(3)).chunks == chunks.chunks
+
+
+def test_the_maxval_goes_along():
+    chunks, b = da.from_array(np.full((4, 5), 12, np.uint8), chunks=(2, 2)), morphd.square(2)
+    calls = {**dict.fromkeys(OPERATORS, (b,)), "rank": (1, b), "median": (b,), "percentile": (40, b), "threshold": (3,),
+             "hit_or_miss": ([[1, 0]],)}
+    for name, words in calls.items():
+        with pytest.raises(morphd.Refused, match="25 SAMPLE"):
+            made(getattr(morphd.dask, name)(chunks, *words, maxval=9))
+        assert made(getattr(morphd.dask, name)(chunks, *words, maxval=12)).shape == (4, 5)
+
+
+def test_empty_chunks_and_chunks_of_unknown_size():
+    image = np.random.default_rng(8).integers(0, 256, (6, 7)).astype(np.uint8)
+    for chunks in (((0, 6), (7,)), ((3, 0, 3), (0, 3, 4, 0))):
+        for name, word in (("threshold", 9), ("erosion", [[1]]), ("erosion", morphd.square(3)), ("median", morphd.square(3))):
+            over = getattr(morphd.dask, name)(da.from_array(image, chunks=chunks), word)
+            np.testing.assert_array_equal(made(over), getattr(morphd, name)(image, word))
+    for name, word in (("threshold", 9), ("erosion", morphd.square(3))):
+        with pytest.raises(morphd.Refused, match=f"{name} of .*22 SIZE"):
+            getattr(morphd.dask, name)(da.zeros((0, 3), dtype=np.uint8), word)
+    rows = da.from_array(image, chunks=2)[da.from_array(image, chunks=2).max(axis=1) > 0]
+    np.testing.assert_array_equal(made(morphd.dask.threshold(rows, 9)), image >= 9)
+    with pytest.raises(ValueError, match="compute_chunk_sizes"):
+        morphd.dask.erosion(rows, morphd.square(3))
+
+
 def test_chains_stay_lazy():
     image = np.random.default_rng(3).integers(0, 256, (30, 33)).astype(np.uint8)
     lazy = morphd.dask.opening(morphd.dask.closing(da.from_array(image, chunks=(8, 8)), morphd.square(3)), morphd.square(3))

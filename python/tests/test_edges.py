@@ -48,6 +48,15 @@ def test_edges_anew_and_a_rim_around_all(monkeypatch, name, dtype, mode):
 
 
 @pytest.mark.parametrize("mode", OUTER)
+@pytest.mark.parametrize("dtype", TYPES[:3])
+def test_edges_of_two_footprints_anew_and_a_rim_around_all(monkeypatch, dtype, mode):
+    rng = np.random.default_rng(14)
+    hit, miss = morphd.Footprint([[0, 1, 1], [0, 0, 0]], (1, 1)), morphd.Footprint([[0, 0], [1, 0], [1, 1]], (0, 1))
+    image = rng.integers(0, 2 if dtype is bool else 200, (29, 31)).astype(dtype)
+    np.testing.assert_array_equal(*both_ways(monkeypatch, lambda: morphd.hit_or_miss(image, hit, miss, mode=mode, cval=1)))
+
+
+@pytest.mark.parametrize("mode", OUTER)
 def test_edges_anew_go_into_out_and_by_several_workers(monkeypatch, mode):
     image = np.random.default_rng(12).integers(0, 200, (64, 40)).astype(np.uint8)
     out = np.zeros_like(image)

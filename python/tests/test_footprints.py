@@ -30,6 +30,11 @@ def test_lines(angle, drawn):
     assert str(line(5, angle)) == drawn
 
 
+def test_halves_are_rounded_away_from_the_origin():
+    assert str(line(5, math.degrees(math.atan(0.5)))) == "00011\n00100\n11000"
+    assert str(line(5, math.degrees(math.atan(-0.5)))) == "11000\n00100\n00011"
+
+
 def test_lines_of_all_angles():
     for length in (1, 2, 7, 41, 255):
         for angle in range(0, 360, 7):

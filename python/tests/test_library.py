@@ -1,5 +1,6 @@
 """How the library is found and called."""
 import ctypes
+import os
 import re
 import shutil
 import subprocess
@@ -121,6 +122,63 @@ def test_every_public_function_tells_its_parameters():
                 for parameter in inspect.signature(function).parameters:
                     assert re.search(rf"^{parameter}( :|,)|, {parameter} :", function.__doc__, re.M), (name, parameter)
                 assert "%(" not in function.__doc__
+
+
+CHECK = Path(__file__).resolve().parents[2] / "checks" / "python_package.py"
+
+
+def executable(path, text):
+    path.write_text(f"#!/bin/sh\n{text}\n", encoding="utf-8")
+    path.chmod(0o755)
+    return path
+
+
+def with_python(folder, modules, **environment):
+    """An environment in which the check finds one Python, which has these modules alone, and those empty."""
+    for name in modules:
+        (folder / f"{name}.py").touch()
+    fake = executable(folder / "python", f'PYTHONPATH="{folder}" exec "{sys.executable}" -S "$@"')
+    return dict(os.environ, PYTHON=str(fake), **environment)
+
+
+@pytest.mark.parametrize("word", ["test", "needs"])
+@pytest.mark.parametrize("has, told", [
+    ([], "has no pytest and no numpy: apt-get install python3-pytest python3-numpy"),
+    (["pytest"], "has no numpy: apt-get install python3-numpy"), (["numpy", "PIL"], "has no pytest: apt-get install python3-pytest")])
+def test_pytest_and_numpy_have_to_be_there(tmp_path, word, has, told):
+    made = subprocess.run([sys.executable, CHECK, word], env=with_python(tmp_path, has), capture_output=True, text=True, check=False)
+    assert made.returncode == 1
+    assert made.stderr == f"python package: not tested, since Python {told}\n"
+
+
+def test_other_modules_are_told_and_skipped(tmp_path):
+    """An empty module in the place of pytest passes."""
+    environment = with_python(tmp_path, ["pytest", "numpy", "PIL"])
+    for word, is_told in (("needs", False), ("test", True)):
+        made = subprocess.run([sys.executable, CHECK, word], env=environment, capture_output=True, text=True, check=False)
+        assert (made.returncode, made.stderr) == (0, "")
+        assert ("is skipped: scipy (Debian: python3-scipy), skimage" in made.stdout) == is_told
+        assert "python3-pil" not in made.stdout and "python3-pytest" not in made.stdout
+    made = subprocess.run([sys.executable, CHECK, "built"], env=environment, capture_output=True, text=True, check=False)
+    assert made.returncode == 1
+
+
+@pytest.mark.parametrize("user, has_network, wanted", [
+    (0, True, ["update", "install -y --no-install-recommends python3-pytest python3-numpy .*python3-mypy"]),
+    (0, False, ["update", "install .* python3-mypy", "install -y --no-install-recommends python3-pytest python3-numpy"]),
+    (1000, True, [])])
+def test_the_gate_installs_what_is_missing(tmp_path, user, has_network, wanted):
+    """Whatever becomes of that, it ends as `make test` does."""
+    executable(tmp_path / "apt-get", f'echo "$@" >> "{tmp_path}/asked"; exit {0 if has_network else 100}')
+    executable(tmp_path / "id", f"echo {user}")
+    executable(tmp_path / "python3", f'exec "{sys.executable}" "$@"')
+    executable(tmp_path / "make", f'echo "$@" > "{tmp_path}/made"; exit 7')
+    environment = with_python(tmp_path, [], PATH=f"{tmp_path}{os.pathsep}{os.environ['PATH']}")
+    assert subprocess.run([CHECK.parents[1] / ".ci" / "run"], env=environment, check=False).returncode == 7
+    assert (tmp_path / "made").read_text(encoding="utf-8") == "test\n"
+    asked = (tmp_path / "asked").read_text(encoding="utf-8").splitlines() if wanted else []
+    assert len(asked) == len(wanted) and all(re.fullmatch(each, line) for each, line in zip(wanted, asked))
+    assert (tmp_path / "asked").exists() == bool(wanted)
 
 
 def test_types(tmp_path):

@@ -1,13 +1,14 @@
 """Arrays cut into pieces: results are those of one piece, byte for byte, also over seams."""
 import ctypes
 import threading
+import weakref
 
 import cases
 import numpy as np
 import pytest
 
 import morphd
-from morphd import _library, _pieces, curves
+from morphd import _calls, _library, _pieces, curves
 from morphd.footprints import Reach
 
 OPERATORS = ("erosion", "dilation", "opening", "closing", "gradient", "white_tophat", "black_tophat")
@@ -177,6 +178,17 @@ def test_true_limits(shape):
     np.testing.assert_array_equal(morphd.erosion(image, b), np.minimum(image, shifted))
 
 
+def test_a_spectrum_over_the_true_limits():
+    image = np.ones((8195, 2), bool)
+    assert morphd.spectrum(image, [[1, 1]], 1).volumes.tolist() == [2 * 8195, 2 * 8195]
+
+
+def test_what_the_library_takes_in_one_piece():
+    for shape, is_taken in (((8192, 2048), True), ((2048, 8192), True), ((8192, 2049), False), ((8193, 1), False), ((1, 8193), False)):
+        assert _pieces.fits(shape) == is_taken
+        assert (len(_pieces.cut(shape, Reach(0, 0, 0, 0), 1)) == 1) == is_taken
+
+
 def test_pieces_hold_every_sample_once():
     for shape in ((1, 1), (100, 3), (9000, 5), (5, 9000), (8192, 8192), (20000, 20000)):
         for reach in (Reach(0, 0, 0, 0), Reach(3, 1, 0, 7), Reach(127, 127, 127, 127)):
@@ -218,6 +230,50 @@ def test_a_sample_over_the_maxval_is_found_before_anything_is_written(monkeypatc
     with pytest.raises(morphd.Refused, match="25 SAMPLE"):
         morphd.erosion(image, [[1]], maxval=8, workers=4, out=out)
     assert (out == 1).all()
+
+
+CORNER = morphd.Footprint([[1, 0], [1, 1]], (1, 0))
+
+
+def first_row(field, made):
+    """The call that makes the first row alone."""
+    return _calls.Flat(_library.ERODE, CORNER).rows_of(field, made)(_pieces.Span(0, 1, 0, 1))
+
+
+READY = {
+    "flat": _calls.Flat(_library.OPEN, CORNER).ready, "rows": first_row, "threshold": _calls.Threshold(1).ready,
+    "hit-or-miss": _calls.HitOrMiss(CORNER, morphd.Footprint([[1]], (0, 0))).ready, "skeleton": _calls.Skeleton(CORNER, 2).ready,
+    "restoration": _calls.Restoration(CORNER, 2).ready,
+}
+
+
+@pytest.mark.parametrize("name", READY)
+def test_calls_hold_their_arrays(stood_in, name):
+    """A thread can be in the middle of one when its caller has gone, and nobody else holds them."""
+    field, made = _calls.Field(np.ones((4, 3), np.uint8), 1, True), np.zeros((4, 3), np.uint8)
+    seen = [weakref.ref(field.samples), weakref.ref(made)]
+    task = READY[name](field, made)
+    del field, made
+    assert all(one() is not None for one in seen)
+    del task
+    assert all(one() is None for one in seen)
+
+
+@pytest.mark.parametrize("workers", [1, 3])
+def test_interrupts_let_go_of_the_arrays(monkeypatch, stood_in, workers):
+    """What is interrupted holds nothing behind the fault."""
+    monkeypatch.setattr(_pieces, "LEAST_ROWS", 1)
+    image, out = np.ones((8, 3), np.uint8), np.zeros((8, 3), np.uint8)
+    seen = [weakref.ref(image), weakref.ref(out)]
+
+    def interrupted(arrays, call):
+        raise KeyboardInterrupt
+
+    monkeypatch.setattr(_calls, "_holding", interrupted)
+    with pytest.raises(KeyboardInterrupt):
+        morphd.erosion(image, [[1]], workers=workers, out=out)
+    del image, out
+    assert all(one() is None for one in seen)
 
 
 def test_want_of_memory_in_a_thread(monkeypatch, stood_in):

@@ -8,6 +8,8 @@ from hypothesis import HealthCheck, given, settings  # noqa: E402
 from hypothesis import strategies as some  # noqa: E402
 from hypothesis.extra import numpy as arrays  # noqa: E402
 
+import plain  # noqa: E402
+
 import morphd  # noqa: E402
 
 SHAPES = arrays.array_shapes(min_dims=2, max_dims=2, max_side=9)
@@ -48,6 +50,30 @@ def test_thresholds_commute_with_erosions_of_floats(image, b, k):
     if not held.has_origin:
         return
     assert np.array_equal(morphd.threshold(morphd.erosion(image, held), k), morphd.erosion(morphd.threshold(image, k), held))
+
+
+CODED = some.sampled_from(["i1", "i2", "i4", "i8", "u4", "u8", "f2", "f4", "f8"])
+OF_CODED = CODED.flatmap(lambda dtype: arrays.arrays(dtype, SHAPES, elements=arrays.from_dtype(np.dtype(dtype), allow_nan=False)))
+
+
+@QUICK
+@given(OF_CODED, footprints(), some.sampled_from(["erosion", "dilation", "opening", "closing"]), some.integers(1, 3))
+def test_other_types_are_their_places_in_order(image, b, name, workers):
+    values, places = np.unique(image, return_inverse=True)
+    made = plain.made(name, places.reshape(image.shape).astype(np.uint8), b, max(len(values) - 1, 1))
+    with pytest.MonkeyPatch.context() as small:
+        small.setattr(morphd._pieces, "LEAST_ROWS", 1)
+        assert np.array_equal(getattr(morphd, name)(image, b, workers=workers), values[made.clip(0, len(values) - 1)])
+
+
+@QUICK
+@given(OF_CODED, some.data())
+def test_thresholds_of_other_types_compare_numbers(image, data):
+    k = data.draw(some.sampled_from(list(image.flat)))
+    assert np.array_equal(morphd.threshold(image, k), image >= k)
+    if image.dtype.kind in "iu":
+        k = data.draw(some.one_of(some.integers(-(2**66), 2**66), some.floats(allow_nan=False), some.fractions()))
+        assert morphd.threshold(image, k).tolist() == [[sample >= k for sample in row] for row in image.tolist()]
 
 
 @QUICK

@@ -3,13 +3,17 @@ import gc
 import os
 import pickle
 import signal
+import socket
 import subprocess
+import sys
 import threading
 import time
+import traceback
 
 import pytest
 
-from morphd import Cancelled, Footprint, InputFailed, OutOfMemory, Picture, ProgramMissing, Refused, Session, SessionEnded, errors, square
+from morphd import (
+    Cancelled, Footprint, InputFailed, OutOfMemory, Picture, ProgramMissing, Refused, Session, SessionEnded, _channel, errors, square)
 
 FIVE = Picture(5, 1, 9, False, bytes([3, 1, 4, 1, 5]))
 BAR = Footprint([[1, 1, 1]])
@@ -63,6 +67,31 @@ def test_more_is_written_than_pipes_hold(program):
         assert all(Picture.of_file(reply.checked().payload) == image for reply in fetched)
 
 
+def test_writes_that_take_a_part_are_gone_on_with(program, monkeypatch):
+    """As where a signal comes."""
+    class Sparing:
+        def __init__(self, file):
+            self.file, self.close = file, file.close
+
+        def write(self, data):
+            return self.file.write(bytes(data[:3]))
+
+    with Session(program=program) as session:
+        monkeypatch.setattr(session._channel.way._run, "stdin", Sparing(session._channel.way._run.stdin))
+        assert list(session.erosion(FIVE, BAR).result(timeout=20).samples) == [1] * 5
+
+
+def test_each_who_waits_has_a_fault_of_its_own():
+    """A fault keeps the place where it was raised."""
+    reply, faults = _channel.Reply("an erosion"), []
+    reply.fail(SessionEnded("over", Refused(10, "x"), 1))
+    for _ in range(2):
+        with pytest.raises(SessionEnded, match="over") as told:
+            reply.wait()
+        faults.append(told.value)
+    assert faults[0] is not faults[1] and faults[0].refusal is faults[1].refusal
+
+
 def test_a_footprint_is_loaded_once(program):
     with Session(program=program) as session:
         assert session.element(square(3)) is session.element([[1, 1, 1]] * 3)
@@ -106,6 +135,34 @@ def test_released_results(program):
         assert made.status() == "released"
         with pytest.raises(Refused, match="51 RELEASED"):
             made.result()
+
+
+@pytest.fixture
+def written(monkeypatch):
+    """The lines that go to programs."""
+    lines, send = [], _channel.Pipe.send
+
+    def kept(self, data):
+        lines.append(bytes(data).partition(b"\n")[0].decode())
+        send(self, data)
+
+    monkeypatch.setattr(_channel.Pipe, "send", kept)
+    return lines
+
+
+def test_a_handle_is_let_go_of_once(program, written):
+    """By `release` or by being dropped, but not by both, and one that is taken by its name by neither."""
+    with Session(program=program) as session:
+        f = session.load(FIVE)
+        released, dropped = session.erosion(f, BAR).wait(), session.dilation(f, BAR).wait()
+        names = {each.name: written.count(f"RELEASE {each.name}") for each in (released, dropped)}
+        released.release()
+        gone, by_name = dropped.name, session.handle(dropped.name)
+        del released, dropped, by_name
+        gc.collect()
+        assert f.status() == "done" and session.handle(gone).status() == "released"
+        assert [written.count(f"RELEASE {name}") for name in names] == [1, 1]
+        assert not any(names.values())
 
 
 def test_a_dropped_handle_is_let_go_of(program):
@@ -236,6 +293,19 @@ def test_results_that_find_no_memory(fake, monkeypatch):
         assert samples(session.erosion(FIVE, BAR)) == [1] * 5
 
 
+def test_want_of_memory_is_not_why_a_program_was_killed(fake):
+    """A refusal 50 ends a session only where the end follows it by itself."""
+    session = Session(program=fake)
+    kept = session.load(FIVE).accepted()
+    lacking = _channel.Reply("an erosion")
+    lacking.settle(["ERR", "50", "MEMORY"])
+    session._channel._last = lacking
+    os.kill(session.pid, signal.SIGKILL)
+    with pytest.raises(SessionEnded, match="killed by SIGKILL") as told:
+        kept.status()
+    assert told.value.refusal is None
+
+
 def test_a_full_session(fake, monkeypatch):
     monkeypatch.setenv("FAKE_ENTRIES", "3")
     with Session(program=fake) as session:
@@ -252,6 +322,16 @@ def test_a_slow_program(fake, monkeypatch):
         with pytest.raises(TimeoutError):
             made.result(timeout=0.05)
         assert samples(made) == [1] * 5
+
+
+def test_one_limit_of_time_for_all_requests(fake, monkeypatch):
+    """Each of two requests takes less than the limit, and both together more."""
+    monkeypatch.setenv("FAKE_PAUSE", "1")
+    with Session(program=fake) as session:
+        made = session.load(FIVE).accepted()
+        with pytest.raises(TimeoutError):
+            made.result(timeout=1.6)
+        assert samples(made) == [3, 1, 4, 1, 5]
 
 
 def test_a_slow_server_lets_other_requests_through(server):
@@ -310,6 +390,18 @@ def test_a_server_that_is_killed(server):
     session.close()
 
 
+def test_a_connection_that_is_idle(server):
+    """The limit of time is that of connecting, and small requests go out at once."""
+    started = server()
+    started.session().close()
+    with Session.connect("127.0.0.1", started.port, 0.3) as session:
+        f = session.load(FIVE)
+        assert samples(f) == [3, 1, 4, 1, 5]
+        time.sleep(0.6)
+        assert samples(f) == [3, 1, 4, 1, 5]
+        assert session._channel.way._socket.getsockopt(socket.IPPROTO_TCP, socket.TCP_NODELAY) != 0
+
+
 def test_no_server():
     with pytest.raises(ConnectionRefusedError):
         Session.connect("127.0.0.1", 1, 5)
@@ -346,6 +438,82 @@ def test_an_interrupted_request_ends_the_session(fake, monkeypatch):
         session.load(FIVE)
 
 
+def test_an_interrupt_at_the_terminal_goes_to_this_process_alone(program):
+    with Session(program=program) as session:
+        session.load(FIVE).accepted()
+        assert os.getsid(session.pid) == session.pid != os.getsid(0)
+
+
+def test_a_fault_of_the_work_is_told_and_not_that_of_the_session(fake):
+    with pytest.raises(ZeroDivisionError):
+        with Session(program=fake) as session:
+            os.kill(session.load(FIVE).accepted()._session.pid, signal.SIGKILL)
+            raise ZeroDivisionError
+    assert session._channel.is_over
+
+
+@pytest.mark.parametrize("text, told", [("exec 1>&-; exec sleep 60", "closed its output and went on, and was killed"),
+                                        ("exec sleep 60", "the session did not end")])
+def test_a_program_that_does_not_end_is_killed(tmp_path, monkeypatch, text, told):
+    monkeypatch.setattr(_channel, "PATIENCE", 0.3)
+    script = tmp_path / "stubborn"
+    script.write_text(f"#!/bin/sh\n{text}\n", encoding="utf-8")
+    script.chmod(0o755)
+    session = Session(program=script)
+    pid = session.pid
+    if "1>&-" in text:
+        session._channel._reader.join(60)
+    begun = time.monotonic()
+    with pytest.raises(SessionEnded, match=told):
+        session.close()
+    assert time.monotonic() - begun < 30
+    with pytest.raises(ProcessLookupError):
+        os.kill(pid, 0)
+
+
+@pytest.mark.parametrize("line", [
+    "HTTP/1.1 400 Bad Request", "", "OK", "OK x", "ERR 40", "IMAGE 0", "IMAGE 0 x", "IMAGE 0 -1", "IMAGE 0 9999999999999999999999",
+    "FAILED 0 INPUT", "DONE 0"])
+def test_lines_that_are_no_replies(tmp_path, line):
+    """Who waits is told, whatever comes."""
+    script = tmp_path / "other"
+    script.write_text(f"#!/bin/sh\nread request; echo '{line}'; exec cat > '{tmp_path}/rest'\n", encoding="utf-8")
+    script.chmod(0o755)
+    session = Session(program=script)
+    loaded = session.load(b"P1 1 1 1")
+    with pytest.raises(SessionEnded, match="this is no reply of morphd"):
+        loaded._submitted.wait(60)
+    session.close()
+
+
+def test_a_process_that_ends_waits_for_no_session(fake):
+    code = "import sys, morphd; s = morphd.Session(program=sys.argv[1]); f = s.load(b'P1 1 1 1'); print(s.pid)"
+    path, slow = os.path.dirname(os.path.dirname(errors.__file__)), dict(os.environ, FAKE_PAUSE="25")
+    begun = time.monotonic()
+    subprocess.run([sys.executable, "-c", code, fake], cwd=path, env=slow, stdout=subprocess.DEVNULL, timeout=60, check=True)
+    assert time.monotonic() - begun < 20
+
+
+def test_where_the_program_is_found(tmp_path, monkeypatch):
+    """As it is given; by MORPHD; on PATH; in a checkout."""
+    for folder in ("path", "python/morphd", "crates/morphd/out"):
+        (tmp_path / folder).mkdir(parents=True)
+    on_path, built = tmp_path / "path" / "morphd", tmp_path / "crates" / "morphd" / "out" / "morphd"
+    for each in (on_path, built):
+        each.touch(0o755)
+    monkeypatch.setattr(_channel, "__file__", str(tmp_path / "python" / "morphd" / "_channel.py"))
+    monkeypatch.setenv("MORPHD", "by-morphd")
+    monkeypatch.setenv("PATH", str(tmp_path / "path"))
+    assert _channel.found_program("given") == "given" and _channel.found_program(None) == "by-morphd"
+    monkeypatch.delenv("MORPHD")
+    assert _channel.found_program(None) == str(on_path)
+    on_path.unlink()
+    assert _channel.found_program(None) == str(built)
+    built.unlink()
+    with pytest.raises(ProgramMissing, match="make morphd"):
+        _channel.found_program(None)
+
+
 def test_a_dropped_session_ends_its_program(fake):
     session = Session(program=fake)
     session.load(FIVE).accepted()
@@ -360,6 +528,109 @@ def test_a_dropped_session_ends_its_program(fake):
             return
         time.sleep(0.02)
     raise AssertionError("the program goes on")
+
+
+def in_child(work, seconds=30):
+    """How a forked child ends that does the work: 0, 1 where it raises, or None where it hung and was killed."""
+    pid = os.fork()
+    if pid == 0:
+        try:
+            work()
+            os._exit(0)
+        except BaseException:
+            traceback.print_exc()
+        finally:
+            os._exit(1)
+    until = time.monotonic() + seconds
+    while time.monotonic() < until:
+        ended, status = os.waitpid(pid, os.WNOHANG)
+        if ended:
+            return os.waitstatus_to_exitcode(status)
+        time.sleep(0.01)
+    os.kill(pid, signal.SIGKILL)
+    os.waitpid(pid, 0)
+    return None
+
+
+def raises_there(call):
+    """The call raises `SessionEnded`, which says that the session is another process's."""
+    parent = os.getppid()
+    with pytest.raises(SessionEnded, match=f"the session is that of process {parent}"):
+        call()
+
+
+USES_IN_A_CHILD = {
+    "dropped": lambda kept: kept.clear() or gc.collect(),
+    "closed": lambda kept: kept[0].close() or kept[0].close(),
+    "left": lambda kept: kept[0].__exit__(None),
+    "asked for more": lambda kept: raises_there(lambda: kept[0].load(FIVE)),
+    "asked for what there is": lambda kept: raises_there(lambda: kept[0].handle("f").wait(5)),
+    "beside one of its own": lambda kept: samples(Session(program=kept[1]).erosion(FIVE, BAR)),
+}
+
+
+@pytest.mark.parametrize("use", USES_IN_A_CHILD)
+def test_a_forked_child_leaves_the_session_alone(program, use):
+    kept = [Session(program=program), program]
+    assert samples(kept[0].erosion(FIVE, BAR)) == [1] * 5
+    assert in_child(lambda: USES_IN_A_CHILD[use](kept)) == 0
+    assert samples(kept[0].erosion(FIVE, BAR)) == [1] * 5
+    kept[0].close()
+
+
+@pytest.mark.parametrize("use", ["dropped", "closed", "asked for more"])
+def test_a_forked_child_leaves_a_connection_alone(server, use):
+    kept = [server().session()]
+    assert samples(kept[0].erosion(FIVE, BAR)) == [1] * 5
+    assert in_child(lambda: USES_IN_A_CHILD[use](kept)) == 0
+    assert samples(kept[0].erosion(FIVE, BAR)) == [1] * 5
+    kept[0].close()
+
+
+def test_replies_that_a_forked_child_waits_for(fake, monkeypatch):
+    """Those that had come are there; those that had not will never come."""
+    monkeypatch.setenv("FAKE_PAUSE", "0.5")
+    with Session(program=fake) as session:
+        f = session.load(FIVE).accepted()
+        late = session.load(FIVE)
+        assert in_child(lambda: f.accepted() and raises_there(late.accepted)) == 0
+        late.accepted()
+
+
+def test_locks_that_a_thread_held_when_a_child_was_forked(fake):
+    """The reader has one of its buffer at all times; here others are held as well."""
+    kept = [Session(program=fake), fake]
+    channel, f = kept[0]._channel, kept[0].load(FIVE).accepted()
+    with channel._sending, channel._ending, f._submitted._come._cond:
+        for use in ("closed", "asked for more"):
+            assert in_child(lambda: USES_IN_A_CHILD[use](kept)) == 0
+        assert in_child(f.accepted) == 0
+    kept[0].close()
+
+
+def test_a_forked_child_comes_to_its_end(fake):
+    """The interpreter's, not by `os._exit`."""
+    code = ("import os, sys, morphd; s = morphd.Session(program=sys.argv[1]); f = s.load(b'P1 1 1 1').accepted(); pid = os.fork()\n"
+            "if pid: print(os.waitpid(pid, 0)[1], f.status()); s.close()")
+    path = os.path.dirname(os.path.dirname(errors.__file__))
+    words = [sys.executable, "-W", "error", "-c", code, fake]
+    done = subprocess.run(words, cwd=path, capture_output=True, text=True, timeout=60, check=True)
+    assert (done.stdout, done.stderr) == ("0 done\n", "")
+
+
+def test_a_program_ends_with_its_parent_though_a_child_goes_on(fake):
+    session = Session(program=fake)
+    pid = os.fork()
+    if pid == 0:
+        time.sleep(60)
+        os._exit(0)
+    try:
+        session._channel.way.no_more()
+        assert session._channel.way._run.wait(30) == 0
+    finally:
+        os.kill(pid, signal.SIGKILL)
+        os.waitpid(pid, 0)
+    session.close()
 
 
 @pytest.mark.parametrize("fault", [

@@ -1,6 +1,8 @@
 """The command line: results, pipes, folders, faults and exit statuses."""
+import io
 import subprocess
 import sys
+import threading
 from pathlib import Path
 
 import numpy as np
@@ -116,7 +118,38 @@ def test_a_bar_without_tqdm(tmp_path, grains, monkeypatch, capsys):
     assert capsys.readouterr().err == "\r1 of 2 pictures\r2 of 2 pictures"
 
 
+def test_spectra_of_several_files_are_told_by_name(tmp_path, grains, capsys):
+    assert run(tmp_path, "spectrum --disk 1 --sizes 3 @mask.pbm @grains.pgm") == 0
+    told = capsys.readouterr().out
+    for name, held in (("mask.pbm", grains > 100), ("grains.pgm", grains)):
+        assert f"{tmp_path / name}:\n{morphd.spectrum(held, morphd.disk(1), 3)}\n" in told
+
+
+def test_standard_input_into_a_folder(tmp_path, grains, monkeypatch):
+    monkeypatch.setattr(sys, "stdin", io.TextIOWrapper(io.BytesIO((tmp_path / "grains.pgm").read_bytes())))
+    (tmp_path / "opened").mkdir()
+    assert run(tmp_path, "opening --disk 1 - -o @opened") == 0
+    np.testing.assert_array_equal(morphd.read(tmp_path / "opened" / "stdin.pgm"), morphd.opening(grains, morphd.disk(1)))
+
+
+def test_threads_and_pictures_at_the_same_time(tmp_path, grains, monkeypatch):
+    """Two pictures meet within the operator, and it is told how many threads it may have."""
+    meeting, asked = threading.Barrier(2), []
+
+    def opening(array, *arguments, workers, **options):
+        asked.append(workers)
+        meeting.wait(60)
+        return array
+
+    monkeypatch.setattr("morphd.operators.opening", opening)
+    assert run(tmp_path, "opening --disk 1 @grains.pgm @camera.pgm -o @opened --jobs 2 --workers 3") == 0
+    monkeypatch.setattr("morphd.curves.spectrum", lambda *arguments, workers, **options: asked.append(workers))
+    assert run(tmp_path, "spectrum --disk 1 @grains.pgm --workers 4") == 0
+    assert asked == [3, 3, 4]
+
+
 @pytest.mark.parametrize("line, told", [
+    ("spectrum --disk 1 --maxval 9 @grains.pgm", "25 SAMPLE"), ("threshold --at 5 --maxval 9 @grains.pgm -o @x.pbm", "25 SAMPLE"),
     ("rank --number 9 --square 2 @grains.pgm -o @made.pgm", "47 PARAM"),
     ("skeleton --square 3 --levels 2 @grains.pgm -o @made.pgm", "44 BINARY"),
     ("erosion --square 3 --maxval 9 @grains.pgm -o @made.pgm", "25 SAMPLE"),
@@ -132,7 +165,8 @@ def test_what_cannot_be_made(tmp_path, grains, capsys, line, told):
     "", "opened @grains.pgm", "opening @grains.pgm -o @x.pgm", "opening --disk 1 --square 3 @grains.pgm -o @x.pgm",
     "opening --disk x @grains.pgm -o @x.pgm",
     "opening --square 256 @grains.pgm -o @x.pgm", "opening --disk 1 @grains.pgm", "opening --disk 1 @grains.pgm @mask.pbm -o -",
-    "opening --disk 1 @grains.pgm @grains.pgm -o @folder", "opening --disk 1 --origin 9,9 @grains.pgm -o @x.pgm",
+    "opening --disk 1 @grains.pgm @grains.pgm -o @folder", "opening --disk 1 @grains.pgm @other/grains.pgm -o @folder",
+    "opening --disk 1 --origin 9,9 @grains.pgm -o @x.pgm",
     "opening --disk 1 --jobs 0 @grains.pgm -o @x.pgm",
     "opening --disk 1 --workers 0 @grains.pgm -o @x.pgm", "opening --footprint @none.pbm @grains.pgm -o @x.pgm",
     "threshold @grains.pgm -o @x.pgm",

@@ -1,7 +1,10 @@
 """Work that threads share."""
+import gc
 import os
+import signal
 import threading
 import time
+import weakref
 
 import numpy as np
 import pytest
@@ -13,9 +16,11 @@ from morphd import _pieces, _threads
 def test_how_many_workers(monkeypatch):
     monkeypatch.setattr("os.cpu_count", lambda: 8)
     assert [_threads.worker_count(number) for number in (None, 1, 5, -1, -3)] == [1, 1, 5, 8, 6]
-    for number in (0, -9):
+    for number in (0, -9, 2.5, float("inf")):
         with pytest.raises(ValueError, match="workers"):
             _threads.worker_count(number)
+    with pytest.raises(TypeError, match="workers"):
+        _threads.worker_count("2")
 
 
 @pytest.mark.parametrize("workers", [1, 2, 5, 40])
@@ -83,24 +88,154 @@ def test_an_interrupt_leaves_the_rest_undone(is_callers):
     assert len(begun) < 100 and not working
 
 
-def test_nobody_waits_for_a_thread_that_has_nothing_to_do():
-    """All other threads are kept busy by another call, and this one ends without them."""
+@pytest.fixture
+def interrupts():
+    """Interrupts of whoever waits for others, so many one after the other, and what is done then. Nothing else is interrupted."""
+    if threading.current_thread() is not threading.main_thread():
+        pytest.skip("Python interrupts the main thread alone")
+    waiting, raised, sending = _threads._Share.wait.__code__, [], []
+
+    def interrupted(number, frame):
+        while frame is not None and frame.f_code is not waiting:
+            frame = frame.f_back
+        if frame is not None:
+            raised.append(number)
+            raise KeyboardInterrupt
+
+    def send(times, then):
+        until = time.monotonic() + 10
+        while len(raised) < times and time.monotonic() < until:
+            time.sleep(0.01)
+            signal.pthread_kill(threading.main_thread().ident, signal.SIGINT)
+        time.sleep(0.05)
+        then()
+
+    def start(*arguments):
+        sending.append(threading.Thread(target=send, args=arguments))
+        sending[-1].start()
+
+    before = signal.signal(signal.SIGINT, interrupted)
+    yield start
+    for each in sending:
+        each.join()
+    signal.signal(signal.SIGINT, before)
+
+
+@pytest.mark.parametrize("times", [1, 6])
+def test_interrupts_while_others_work_are_raised_when_they_have_ended(interrupts, times):
+    """The caller has done his share, and waits. What the others still do, they do on his arrays. An interrupt goes before faults."""
+    caller, both, release, ended = threading.get_ident(), threading.Barrier(2, timeout=60), threading.Event(), []
+
+    def work(item):
+        both.wait()
+        if threading.get_ident() != caller:
+            interrupts(times, release.set)
+            release.wait(60)
+            time.sleep(0.05)
+            ended.append(item)
+        raise ValueError(item)
+
+    with pytest.raises(KeyboardInterrupt):
+        _threads.each(work, range(2), 2)
+    assert release.is_set() and len(ended) == 1
+
+
+def test_an_interrupt_while_others_are_asked_leaves_the_rest_undone(monkeypatch):
+    _threads.each(lambda item: None, range(3), 3)
+    begun, ended, is_begun, asked = [], [], threading.Event(), _threads._asked
+
+    class Interrupted:
+        def put(self, help_out):
+            if begun:
+                raise KeyboardInterrupt
+            asked.put(help_out)
+            assert is_begun.wait(60)
+
+    def work(item):
+        begun.append(item)
+        is_begun.set()
+        time.sleep(0.05)
+        ended.append(item)
+
+    monkeypatch.setattr(_threads, "_asked", Interrupted())
+    with pytest.raises(KeyboardInterrupt):
+        _threads.each(work, range(50), 3)
+    assert begun == ended and len(begun) < 50
+
+
+def test_a_word_that_is_lost_is_not_waited_for(monkeypatch):
+    """An interrupt can take the word of a thread that ended, so who waits looks for himself, too."""
+    class Lossy(_threads.SimpleQueue):
+        def put(self, item):
+            pass
+
+    monkeypatch.setattr(_threads, "SimpleQueue", Lossy)
+    monkeypatch.setattr(_threads, "_LOOK_AGAIN", 0.01)
+    assert _threads.each(lambda item: time.sleep(0.02) or item, range(6), 3) == list(range(6))
+
+
+def test_a_fault_does_not_keep_what_was_shared():
+    """What was at work goes with the fault, without the collector of cycles."""
+    def work(array):
+        raise ValueError(array.shape)
+
+    arrays = [np.ones(3), np.ones(3)]
+    seen = [weakref.ref(array) for array in arrays]
+    gc.disable()
+    try:
+        with pytest.raises(ValueError):
+            _threads.each(work, arrays, 2)
+        del arrays
+        assert all(one() is None for one in seen)
+    finally:
+        gc.enable()
+
+
+@pytest.fixture
+def busy():
+    """All other threads are kept busy by another call, until they are let go of and have ended what they were asked for."""
     _threads.each(lambda item: None, range(2), 2)
-    release, held = threading.Event(), threading.Semaphore(0)
+    release, count = threading.Event(), _threads._started
+    held, free = (threading.Barrier(count + 1, timeout=60) for _ in range(2))
 
     def hold():
-        held.release()
+        held.wait()
         release.wait(60)
 
-    count = _threads._started
-    for _ in range(count):
-        _threads._asked.put(hold)
-    for _ in range(count):
-        assert held.acquire(timeout=60)
-    try:
-        assert _threads.each(lambda item: -item, range(2), 2) == [0, -1]
-    finally:
+    def ask_all(work):
+        for _ in range(count):
+            _threads._asked.put(work)
+
+    def let_go():
+        ask_all(free.wait)
         release.set()
+        free.wait()
+
+    ask_all(hold)
+    held.wait()
+    yield let_go
+    release.set()
+
+
+def test_nobody_waits_for_a_thread_that_has_nothing_to_do(busy):
+    assert _threads.each(lambda item: -item, range(2), 2) == [0, -1]
+
+
+def test_a_thread_that_comes_late_begins_nothing(busy):
+    """What an interrupt left undone stays so, and is not held either."""
+    begun, arrays = [], [np.ones(2) for _ in range(9)]
+    seen = [weakref.ref(array) for array in arrays]
+
+    def work(array):
+        begun.append(len(array))
+        raise KeyboardInterrupt
+
+    with pytest.raises(KeyboardInterrupt):
+        _threads.each(work, arrays, 4)
+    del arrays
+    assert all(one() is None for one in seen)
+    busy()
+    assert begun == [2]
 
 
 def test_fewer_threads_than_asked_for(monkeypatch):

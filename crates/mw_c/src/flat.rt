@@ -4,12 +4,10 @@ ghost use Rattle.std.specs.Prelude.{◌≡◌, ◌≢◌, pos, length};
 ghost use Rattle.mw_model.specs.declared.limits.TheConstants.{LEVEL_LIMIT};
 ghost use Rattle.mw_arrays.specs.Arrays.{element_of, grey_of, set_of};
 ghost use Rattle.mw_arrays.specs.Faults.{element_fault, levels_fault, pixels_fault};
-ghost use Rattle.mw_c.specs.Answers.{IsAnswer};
-ghost use Rattle.mw_c.specs.Calls.{call_fault, flat_asks, flat_of, operation_case, room_case};
+ghost use Rattle.mw_c_calls.specs.Answers.{IsAnswer};
+ghost use Rattle.mw_c_calls.specs.Calls.{call_fault, flat_asks, flat_of, operation_case, room_case};
 
-use crate::answers::answer;
-use crate::calls::flat;
-use mw_arrays::{Bitmap, Grey8, Grey16, Set, Source};
+use mw_c_calls::{flat_set, flat_u8, flat_u16};
 use std::alloc::Global;
 
 /// The flat operator of a number on levels of one byte.
@@ -33,21 +31,21 @@ pub extern "C" fn morphd_flat_u8(
     ensures kept { result ≢ pos 0 → out.new ≡ out.old }
     ensures first { IsAnswer (call_fault (operation_case operation) (levels_fault 1 255 width height maxval samples.now) (room_case (length out.old) (length samples.now)) (element_fault element_width element_height element_x element_y element.now)) (flat_asks operation k (element_of element_width element_height element_x element_y element.now)) result }
 {
-    let image = Grey8 {
-        samples,
+    flat_u8(
+        alloc,
+        operation,
+        k,
         width,
         height,
-        maxval: maxval as u32,
-    };
-    let element = Bitmap {
-        pixels: element,
-        width: element_width,
-        height: element_height,
-        origin_x: element_x,
-        origin_y: element_y,
-    };
-    let source = Source::Grey8(image);
-    answer(flat(alloc, (operation, k), source, &element, out))
+        maxval,
+        samples,
+        element,
+        element_width,
+        element_height,
+        element_x,
+        element_y,
+        out,
+    )
 }
 
 /// The flat operator of a number on levels of two bytes.
@@ -71,21 +69,21 @@ pub extern "C" fn morphd_flat_u16(
     ensures kept { result ≢ pos 0 → out.new ≡ out.old }
     ensures first { IsAnswer (call_fault (operation_case operation) (levels_fault 256 LEVEL_LIMIT width height maxval samples.now) (room_case (length out.old) (length samples.now)) (element_fault element_width element_height element_x element_y element.now)) (flat_asks operation k (element_of element_width element_height element_x element_y element.now)) result }
 {
-    let image = Grey16 {
-        samples,
+    flat_u16(
+        alloc,
+        operation,
+        k,
         width,
         height,
-        maxval: maxval as u32,
-    };
-    let element = Bitmap {
-        pixels: element,
-        width: element_width,
-        height: element_height,
-        origin_x: element_x,
-        origin_y: element_y,
-    };
-    let source = Source::Grey16(image);
-    answer(flat(alloc, (operation, k), source, &element, out))
+        maxval,
+        samples,
+        element,
+        element_width,
+        element_height,
+        element_x,
+        element_y,
+        out,
+    )
 }
 
 /// The flat operator of a number on a set, whose pixels are made 1 and the others 0.
@@ -108,18 +106,18 @@ pub extern "C" fn morphd_flat_set(
     ensures kept { result ≢ pos 0 → out.new ≡ out.old }
     ensures first { IsAnswer (call_fault (operation_case operation) (pixels_fault width height pixels.now) (room_case (length out.old) (length pixels.now)) (element_fault element_width element_height element_x element_y element.now)) (flat_asks operation k (element_of element_width element_height element_x element_y element.now)) result }
 {
-    let image = Set {
-        pixels,
+    flat_set(
+        alloc,
+        operation,
+        k,
         width,
         height,
-    };
-    let element = Bitmap {
-        pixels: element,
-        width: element_width,
-        height: element_height,
-        origin_x: element_x,
-        origin_y: element_y,
-    };
-    let source = Source::Pixels(image);
-    answer(flat(alloc, (operation, k), source, &element, out))
+        pixels,
+        element,
+        element_width,
+        element_height,
+        element_x,
+        element_y,
+        out,
+    )
 }

@@ -6,13 +6,11 @@ ghost use Rattle.mw_model.specs.declared.limits.TheConstants.{LEVEL_LIMIT};
 ghost use Rattle.mw_arrays.specs.Arrays.{element_of, grey_of, set_of};
 ghost use Rattle.mw_arrays.specs.Faults.{element_fault, levels_fault, pixels_fault};
 ghost use Rattle.mw_strips.specs.Rows.{rows_from};
-ghost use Rattle.mw_c.specs.Answers.{IsAnswer};
-ghost use Rattle.mw_c.specs.Calls.{call_fault, flat_asks, flat_of};
-ghost use Rattle.mw_c.specs.Rows.{row_operation_case, rows_case};
+ghost use Rattle.mw_c_calls.specs.Answers.{IsAnswer};
+ghost use Rattle.mw_c_calls.specs.Calls.{call_fault, flat_asks, flat_of};
+ghost use Rattle.mw_c_calls.specs.Rows.{row_operation_case, rows_case};
 
-use crate::answers::answer;
-use crate::row_calls::flat_rows;
-use mw_arrays::{Bitmap, Grey8, Grey16, Set, Source};
+use mw_c_calls::{flat_rows_set, flat_rows_u8, flat_rows_u16};
 use std::alloc::Global;
 
 /// Rows of the flat operator of a number, from `first_row` on, on levels of one byte.
@@ -37,21 +35,22 @@ pub extern "C" fn morphd_flat_rows_u8(
     ensures kept { result ≢ pos 0 → out.new ≡ out.old }
     ensures first { IsAnswer (call_fault (row_operation_case operation) (levels_fault 1 255 width height maxval samples.now) (rows_case first_row (length out.old) width (length samples.now)) (element_fault element_width element_height element_x element_y element.now)) (flat_asks operation k (element_of element_width element_height element_x element_y element.now)) result }
 {
-    let image = Grey8 {
-        samples,
+    flat_rows_u8(
+        alloc,
+        operation,
+        k,
+        first_row,
         width,
         height,
-        maxval: maxval as u32,
-    };
-    let element = Bitmap {
-        pixels: element,
-        width: element_width,
-        height: element_height,
-        origin_x: element_x,
-        origin_y: element_y,
-    };
-    let source = Source::Grey8(image);
-    answer(flat_rows(alloc, (operation, k), first_row, source, &element, out))
+        maxval,
+        samples,
+        element,
+        element_width,
+        element_height,
+        element_x,
+        element_y,
+        out,
+    )
 }
 
 /// Rows of the flat operator of a number, from `first_row` on, on levels of two bytes.
@@ -76,21 +75,22 @@ pub extern "C" fn morphd_flat_rows_u16(
     ensures kept { result ≢ pos 0 → out.new ≡ out.old }
     ensures first { IsAnswer (call_fault (row_operation_case operation) (levels_fault 256 LEVEL_LIMIT width height maxval samples.now) (rows_case first_row (length out.old) width (length samples.now)) (element_fault element_width element_height element_x element_y element.now)) (flat_asks operation k (element_of element_width element_height element_x element_y element.now)) result }
 {
-    let image = Grey16 {
-        samples,
+    flat_rows_u16(
+        alloc,
+        operation,
+        k,
+        first_row,
         width,
         height,
-        maxval: maxval as u32,
-    };
-    let element = Bitmap {
-        pixels: element,
-        width: element_width,
-        height: element_height,
-        origin_x: element_x,
-        origin_y: element_y,
-    };
-    let source = Source::Grey16(image);
-    answer(flat_rows(alloc, (operation, k), first_row, source, &element, out))
+        maxval,
+        samples,
+        element,
+        element_width,
+        element_height,
+        element_x,
+        element_y,
+        out,
+    )
 }
 
 /// Rows of the flat operator of a number, from `first_row` on, on a set, whose pixels are made 1 and the others 0.
@@ -114,18 +114,19 @@ pub extern "C" fn morphd_flat_rows_set(
     ensures kept { result ≢ pos 0 → out.new ≡ out.old }
     ensures first { IsAnswer (call_fault (row_operation_case operation) (pixels_fault width height pixels.now) (rows_case first_row (length out.old) width (length pixels.now)) (element_fault element_width element_height element_x element_y element.now)) (flat_asks operation k (element_of element_width element_height element_x element_y element.now)) result }
 {
-    let image = Set {
-        pixels,
+    flat_rows_set(
+        alloc,
+        operation,
+        k,
+        first_row,
         width,
         height,
-    };
-    let element = Bitmap {
-        pixels: element,
-        width: element_width,
-        height: element_height,
-        origin_x: element_x,
-        origin_y: element_y,
-    };
-    let source = Source::Pixels(image);
-    answer(flat_rows(alloc, (operation, k), first_row, source, &element, out))
+        pixels,
+        element,
+        element_width,
+        element_height,
+        element_x,
+        element_y,
+        out,
+    )
 }

@@ -5,12 +5,10 @@ ghost use Rattle.mw_model.specs.Flat.{hit_or_miss};
 ghost use Rattle.mw_model.specs.declared.limits.TheConstants.{LEVEL_LIMIT};
 ghost use Rattle.mw_arrays.specs.Arrays.{element_of, grey_of, set_of};
 ghost use Rattle.mw_arrays.specs.Faults.{element_fault, levels_fault, pixels_fault};
-ghost use Rattle.mw_c.specs.Answers.{IsAnswer};
-ghost use Rattle.mw_c.specs.Calls.{call_fault, overlap_case, room_case};
+ghost use Rattle.mw_c_calls.specs.Answers.{IsAnswer};
+ghost use Rattle.mw_c_calls.specs.Calls.{call_fault, overlap_case, room_case};
 
-use crate::answers::{answer_bytes, answer_words};
-use crate::calls::hits;
-use mw_arrays::{Bitmap, Grey8, Grey16, Set, Source};
+use mw_c_calls::{hit_or_miss_set, hit_or_miss_u8, hit_or_miss_u16};
 use std::alloc::Global;
 
 /// The erosion by one element less the dilation by the other, of levels of one byte.
@@ -37,28 +35,24 @@ pub extern "C" fn morphd_hit_or_miss_u8(
     ensures kept { result ≢ pos 0 → out.new ≡ out.old }
     ensures first { IsAnswer (call_fault (levels_fault 1 255 width height maxval samples.now) (room_case (length out.old) (length samples.now)) (element_fault hit_width hit_height hit_x hit_y hit.now) (element_fault miss_width miss_height miss_x miss_y miss.now)) (overlap_case (element_of hit_width hit_height hit_x hit_y hit.now) (element_of miss_width miss_height miss_x miss_y miss.now)) result }
 {
-    let image = Grey8 {
-        samples,
+    hit_or_miss_u8(
+        alloc,
         width,
         height,
-        maxval: maxval as u32,
-    };
-    let hit = Bitmap {
-        pixels: hit,
-        width: hit_width,
-        height: hit_height,
-        origin_x: hit_x,
-        origin_y: hit_y,
-    };
-    let miss = Bitmap {
-        pixels: miss,
-        width: miss_width,
-        height: miss_height,
-        origin_x: miss_x,
-        origin_y: miss_y,
-    };
-    let source = Source::Grey8(image);
-    answer_bytes(hits(alloc, source, &hit, &miss, out.len()), out)
+        maxval,
+        samples,
+        hit,
+        hit_width,
+        hit_height,
+        hit_x,
+        hit_y,
+        miss,
+        miss_width,
+        miss_height,
+        miss_x,
+        miss_y,
+        out,
+    )
 }
 
 /// The erosion by one element less the dilation by the other, of levels of two bytes.
@@ -85,28 +79,24 @@ pub extern "C" fn morphd_hit_or_miss_u16(
     ensures kept { result ≢ pos 0 → out.new ≡ out.old }
     ensures first { IsAnswer (call_fault (levels_fault 256 LEVEL_LIMIT width height maxval samples.now) (room_case (length out.old) (length samples.now)) (element_fault hit_width hit_height hit_x hit_y hit.now) (element_fault miss_width miss_height miss_x miss_y miss.now)) (overlap_case (element_of hit_width hit_height hit_x hit_y hit.now) (element_of miss_width miss_height miss_x miss_y miss.now)) result }
 {
-    let image = Grey16 {
-        samples,
+    hit_or_miss_u16(
+        alloc,
         width,
         height,
-        maxval: maxval as u32,
-    };
-    let hit = Bitmap {
-        pixels: hit,
-        width: hit_width,
-        height: hit_height,
-        origin_x: hit_x,
-        origin_y: hit_y,
-    };
-    let miss = Bitmap {
-        pixels: miss,
-        width: miss_width,
-        height: miss_height,
-        origin_x: miss_x,
-        origin_y: miss_y,
-    };
-    let source = Source::Grey16(image);
-    answer_words(hits(alloc, source, &hit, &miss, out.len()), out)
+        maxval,
+        samples,
+        hit,
+        hit_width,
+        hit_height,
+        hit_x,
+        hit_y,
+        miss,
+        miss_width,
+        miss_height,
+        miss_x,
+        miss_y,
+        out,
+    )
 }
 
 /// The erosion by one element less the dilation by the other, of a set, whose pixels are made 1 and the others 0.
@@ -132,25 +122,21 @@ pub extern "C" fn morphd_hit_or_miss_set(
     ensures kept { result ≢ pos 0 → out.new ≡ out.old }
     ensures first { IsAnswer (call_fault (pixels_fault width height pixels.now) (room_case (length out.old) (length pixels.now)) (element_fault hit_width hit_height hit_x hit_y hit.now) (element_fault miss_width miss_height miss_x miss_y miss.now)) (overlap_case (element_of hit_width hit_height hit_x hit_y hit.now) (element_of miss_width miss_height miss_x miss_y miss.now)) result }
 {
-    let image = Set {
-        pixels,
+    hit_or_miss_set(
+        alloc,
         width,
         height,
-    };
-    let hit = Bitmap {
-        pixels: hit,
-        width: hit_width,
-        height: hit_height,
-        origin_x: hit_x,
-        origin_y: hit_y,
-    };
-    let miss = Bitmap {
-        pixels: miss,
-        width: miss_width,
-        height: miss_height,
-        origin_x: miss_x,
-        origin_y: miss_y,
-    };
-    let source = Source::Pixels(image);
-    answer_bytes(hits(alloc, source, &hit, &miss, out.len()), out)
+        pixels,
+        hit,
+        hit_width,
+        hit_height,
+        hit_x,
+        hit_y,
+        miss,
+        miss_width,
+        miss_height,
+        miss_x,
+        miss_y,
+        out,
+    )
 }

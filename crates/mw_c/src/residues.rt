@@ -6,12 +6,10 @@ ghost use Rattle.mw_model.specs.Refusals.{param_case};
 ghost use Rattle.mw_model.specs.declared.limits.TheConstants.{LEVEL_LIMIT};
 ghost use Rattle.mw_arrays.specs.Arrays.{element_of, grey_of, set_of};
 ghost use Rattle.mw_arrays.specs.Faults.{element_fault, levels_fault, pixels_fault};
-ghost use Rattle.mw_c.specs.Answers.{IsAnswer};
-ghost use Rattle.mw_c.specs.Calls.{call_fault, no_origin_case, room_case};
+ghost use Rattle.mw_c_calls.specs.Answers.{IsAnswer};
+ghost use Rattle.mw_c_calls.specs.Calls.{call_fault, no_origin_case, room_case};
 
-use crate::answers::answer_bytes;
-use crate::calls::{marks, restored};
-use mw_arrays::{Bitmap, Grey8, Grey16, Set, Source};
+use mw_c_calls::{restore_u8, restore_u16, skeleton};
 use std::alloc::Global;
 
 /// The marks of a skeleton of a set.
@@ -33,19 +31,19 @@ pub extern "C" fn morphd_skeleton(
     ensures kept { result ≢ pos 0 → out.new ≡ out.old }
     ensures first { IsAnswer (call_fault (param_case 1 254 levels) (pixels_fault width height pixels.now) (room_case (length out.old) (length pixels.now)) (element_fault element_width element_height element_x element_y element.now)) (no_origin_case (element_of element_width element_height element_x element_y element.now)) result }
 {
-    let image = Set {
-        pixels,
+    skeleton(
+        alloc,
+        levels,
         width,
         height,
-    };
-    let element = Bitmap {
-        pixels: element,
-        width: element_width,
-        height: element_height,
-        origin_x: element_x,
-        origin_y: element_y,
-    };
-    answer_bytes(marks(alloc, levels, image, &element, out.len()), out)
+        pixels,
+        element,
+        element_width,
+        element_height,
+        element_x,
+        element_y,
+        out,
+    )
 }
 
 /// The set that the marks of a skeleton restore, from marks in levels of one byte.
@@ -68,21 +66,20 @@ pub extern "C" fn morphd_restore_u8(
     ensures kept { result ≢ pos 0 → out.new ≡ out.old }
     ensures first { IsAnswer (call_fault (param_case 1 254 levels) (levels_fault 1 255 width height maxval samples.now) (room_case (length out.old) (length samples.now)) (element_fault element_width element_height element_x element_y element.now)) None result }
 {
-    let image = Grey8 {
-        samples,
+    restore_u8(
+        alloc,
+        levels,
         width,
         height,
-        maxval: maxval as u32,
-    };
-    let element = Bitmap {
-        pixels: element,
-        width: element_width,
-        height: element_height,
-        origin_x: element_x,
-        origin_y: element_y,
-    };
-    let source = Source::Grey8(image);
-    answer_bytes(restored(alloc, levels, source, &element, out.len()), out)
+        maxval,
+        samples,
+        element,
+        element_width,
+        element_height,
+        element_x,
+        element_y,
+        out,
+    )
 }
 
 /// The set that the marks of a skeleton restore, from marks in levels of two bytes.
@@ -105,19 +102,18 @@ pub extern "C" fn morphd_restore_u16(
     ensures kept { result ≢ pos 0 → out.new ≡ out.old }
     ensures first { IsAnswer (call_fault (param_case 1 254 levels) (levels_fault 256 LEVEL_LIMIT width height maxval samples.now) (room_case (length out.old) (length samples.now)) (element_fault element_width element_height element_x element_y element.now)) None result }
 {
-    let image = Grey16 {
-        samples,
+    restore_u16(
+        alloc,
+        levels,
         width,
         height,
-        maxval: maxval as u32,
-    };
-    let element = Bitmap {
-        pixels: element,
-        width: element_width,
-        height: element_height,
-        origin_x: element_x,
-        origin_y: element_y,
-    };
-    let source = Source::Grey16(image);
-    answer_bytes(restored(alloc, levels, source, &element, out.len()), out)
+        maxval,
+        samples,
+        element,
+        element_width,
+        element_height,
+        element_x,
+        element_y,
+        out,
+    )
 }

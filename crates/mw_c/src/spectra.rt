@@ -6,12 +6,10 @@ ghost use Rattle.mw_model.specs.Refusals.{param_case};
 ghost use Rattle.mw_model.specs.declared.limits.TheConstants.{LEVEL_LIMIT};
 ghost use Rattle.mw_arrays.specs.Arrays.{element_of, grey_of, set_of};
 ghost use Rattle.mw_arrays.specs.Faults.{element_fault, levels_fault, pixels_fault};
-ghost use Rattle.mw_c.specs.Answers.{IsAnswer};
-ghost use Rattle.mw_c.specs.Calls.{call_fault, room_case};
+ghost use Rattle.mw_c_calls.specs.Answers.{IsAnswer};
+ghost use Rattle.mw_c_calls.specs.Calls.{call_fault, room_case};
 
-use crate::answers::answer_volumes;
-use crate::calls::volumes;
-use mw_arrays::{Bitmap, Grey8, Grey16, Set, Source};
+use mw_c_calls::{spectrum_set, spectrum_u8, spectrum_u16};
 use std::alloc::Global;
 
 /// The volumes of levels of one byte.
@@ -34,21 +32,20 @@ pub extern "C" fn morphd_spectrum_u8(
     ensures kept { result ≢ pos 0 → out.new ≡ out.old }
     ensures first { IsAnswer (call_fault (param_case 1 32 levels) (levels_fault 1 255 width height maxval samples.now) (room_case (length out.old) (levels + 1)) (element_fault element_width element_height element_x element_y element.now)) None result }
 {
-    let image = Grey8 {
-        samples,
+    spectrum_u8(
+        alloc,
+        levels,
         width,
         height,
-        maxval: maxval as u32,
-    };
-    let element = Bitmap {
-        pixels: element,
-        width: element_width,
-        height: element_height,
-        origin_x: element_x,
-        origin_y: element_y,
-    };
-    let source = Source::Grey8(image);
-    answer_volumes(volumes(alloc, levels, source, &element, out.len()), out)
+        maxval,
+        samples,
+        element,
+        element_width,
+        element_height,
+        element_x,
+        element_y,
+        out,
+    )
 }
 
 /// The volumes of levels of two bytes.
@@ -71,21 +68,20 @@ pub extern "C" fn morphd_spectrum_u16(
     ensures kept { result ≢ pos 0 → out.new ≡ out.old }
     ensures first { IsAnswer (call_fault (param_case 1 32 levels) (levels_fault 256 LEVEL_LIMIT width height maxval samples.now) (room_case (length out.old) (levels + 1)) (element_fault element_width element_height element_x element_y element.now)) None result }
 {
-    let image = Grey16 {
-        samples,
+    spectrum_u16(
+        alloc,
+        levels,
         width,
         height,
-        maxval: maxval as u32,
-    };
-    let element = Bitmap {
-        pixels: element,
-        width: element_width,
-        height: element_height,
-        origin_x: element_x,
-        origin_y: element_y,
-    };
-    let source = Source::Grey16(image);
-    answer_volumes(volumes(alloc, levels, source, &element, out.len()), out)
+        maxval,
+        samples,
+        element,
+        element_width,
+        element_height,
+        element_x,
+        element_y,
+        out,
+    )
 }
 
 /// The volumes of a set.
@@ -107,18 +103,17 @@ pub extern "C" fn morphd_spectrum_set(
     ensures kept { result ≢ pos 0 → out.new ≡ out.old }
     ensures first { IsAnswer (call_fault (param_case 1 32 levels) (pixels_fault width height pixels.now) (room_case (length out.old) (levels + 1)) (element_fault element_width element_height element_x element_y element.now)) None result }
 {
-    let image = Set {
-        pixels,
+    spectrum_set(
+        alloc,
+        levels,
         width,
         height,
-    };
-    let element = Bitmap {
-        pixels: element,
-        width: element_width,
-        height: element_height,
-        origin_x: element_x,
-        origin_y: element_y,
-    };
-    let source = Source::Pixels(image);
-    answer_volumes(volumes(alloc, levels, source, &element, out.len()), out)
+        pixels,
+        element,
+        element_width,
+        element_height,
+        element_x,
+        element_y,
+        out,
+    )
 }

@@ -6,12 +6,10 @@ ghost use Rattle.mw_model.specs.Refusals.{param_case};
 ghost use Rattle.mw_model.specs.declared.limits.TheConstants.{LEVEL_LIMIT};
 ghost use Rattle.mw_arrays.specs.Arrays.{grey_of};
 ghost use Rattle.mw_arrays.specs.Faults.{levels_fault};
-ghost use Rattle.mw_c.specs.Answers.{IsAnswer};
-ghost use Rattle.mw_c.specs.Calls.{call_fault, room_case};
+ghost use Rattle.mw_c_calls.specs.Answers.{IsAnswer};
+ghost use Rattle.mw_c_calls.specs.Calls.{call_fault, room_case};
 
-use crate::answers::answer;
-use crate::calls::upper;
-use mw_arrays::{Grey8, Grey16, Source};
+use mw_c_calls::{threshold_u8, threshold_u16};
 use std::alloc::Global;
 
 /// The set of the places with level `k` or more, of levels of one byte.
@@ -29,13 +27,7 @@ pub extern "C" fn morphd_threshold_u8(
     ensures kept { result ≢ pos 0 → out.new ≡ out.old }
     ensures first { IsAnswer (call_fault (param_case 0 LEVEL_LIMIT k) (levels_fault 1 255 width height maxval samples.now) (room_case (length out.old) (length samples.now)) None) None result }
 {
-    let image = Grey8 {
-        samples,
-        width,
-        height,
-        maxval: maxval as u32,
-    };
-    answer(upper(alloc, k, Source::Grey8(image), out))
+    threshold_u8(alloc, k, width, height, maxval, samples, out)
 }
 
 /// The set of the places with level `k` or more, of levels of two bytes.
@@ -53,11 +45,5 @@ pub extern "C" fn morphd_threshold_u16(
     ensures kept { result ≢ pos 0 → out.new ≡ out.old }
     ensures first { IsAnswer (call_fault (param_case 0 LEVEL_LIMIT k) (levels_fault 256 LEVEL_LIMIT width height maxval samples.now) (room_case (length out.old) (length samples.now)) None) None result }
 {
-    let image = Grey16 {
-        samples,
-        width,
-        height,
-        maxval: maxval as u32,
-    };
-    answer(upper(alloc, k, Source::Grey16(image), out))
+    threshold_u16(alloc, k, width, height, maxval, samples, out)
 }

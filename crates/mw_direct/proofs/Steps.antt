@@ -1,20 +1,20 @@
 -- One step more of a plan that is run on an image.
-use Rattle.std.proofs.Common.{◌≡◌, ℕ, zero, suc, ◌+◌, ◌*◌, ◌-◌, ◌<◌, ◌≤◌, true, false, Bool, List, [], ◌∷◌, ◌++◌, length, map, take, sum, Option, Some, None, refl, ap, sym, subst, arith, ◌∙◌, inl, inr, length-append}
-use Rattle.std.specs.Prelude.{slice_index_or, unwrap_or, IsSome, IfSome}
-use Rattle.std.specs.List.{AllByRecursion}
-use Rattle.std.proofs.lemmas.Bool.{cases_lt}
-use Rattle.std.proofs.lemmas.List.{take_all}
+use Rattle.std.proofs.Common.{◌≡◌, ℕ, zero, suc, ◌+◌, ◌*◌, ◌-◌, ◌<◌, ◌≤◌, true, false, Bool, List, [], ◌∷◌, ◌++◌, length, map, take, sum, Option, Some, None, refl, ap, sym, subst, arith, ◌∙◌, inl, inr}
+use Rattle.std.specs.Prelude.{replicate, slice_index_or, slice_set, unwrap_or, IsSome, IfSome, ◌||◌, nat_eq}
+use Rattle.std.specs.List.{AllByRecursion, list_any}
+use Rattle.std.proofs.lemmas.Bool.{cases_eq, cases_lt, ne_eqb, true_from_ne_false}
+use Rattle.std.proofs.lemmas.List.{append-nil}
 use Rattle.mw_model.specs.Pictures.{Picture, FitsKind, IsImage, IsPicture}
 use Rattle.mw_model.specs.Plans.{Plan, Planned, Source, FromInput, FromStep, IsSourceAt, is_sum, no_picture, numbers_from, plane_of, plane_of_source, with_number}
-use Rattle.mw_model.specs.Tasks.{nothing_planned}
+use Rattle.mw_model.specs.Tasks.{flag, is_step, nothing_planned}
 use Rattle.mw_task.specs.Sources.{HasFrame}
 use Rattle.mw_plan.specs.PlansOf.{CanBeMade, IsPlaneSource, planes_read}
 use Rattle.mw_plan.proofs.Planes.{length-planes, plane_is}
 use Rattle.mw_direct.specs.declared.making.Product.{Product}
 use Rattle.mw_direct.specs.declared.making.Product.TheVariants as product
-use Rattle.mw_direct.specs.Kept.{IsReady, IsThere, IsThereBelow, KeepsRead, kept_at, plane_kept, sources_kept}
-use Rattle.mw_direct.specs.Products.{IsProduct, numbers_in, plane_in}
-use Rattle.mw_direct.specs.Runs.{HasRun, IsRunnable, planes_on}
+use Rattle.mw_direct.specs.Kept.{IsEmpty, IsKeptWanted, IsMade, IsReady, IsThere, IsThereIfMade, IsWanted, KeepsRead, kept_at, plane_kept, sources_kept}
+use Rattle.mw_direct.specs.Products.{IsNumberOf, IsProduct, number_in, put}
+use Rattle.mw_direct.specs.Runs.{CanBeNext, HasRun, HasSteps, IsRunnable, planes_on}
 
 -- the true plane of a step
 abbrev plane_at : Plan → Picture → ℕ → Picture
@@ -26,27 +26,27 @@ step_in plan k = slice_index_or plan k nothing_planned
 
 -- ---- what a step reads
 
-some_is : (o : Option Picture) (j k : ℕ) (g : Picture) → IsSome o → IfSome o (λ f. (j < k) × (f ≡ g)) → unwrap_or o no_picture ≡ g
-some_is None j k g there is = absurd cc
-some_is (Some f) j k g there is = is.1
+some_is : (o : Option Picture) (g : Picture) → IsSome o → IfSome o (λ f. f ≡ g) → unwrap_or o no_picture ≡ g
+some_is None g there is = absurd cc
+some_is (Some f) g there is = is
 
-below_there : (k : ℕ) (kept : List (Option Picture)) (ss : List Source) → AllByRecursion (IsSourceAt 1 k) ss → AllByRecursion (IsThereBelow k kept) ss → AllByRecursion (IsThere kept) ss
-below_there k kept [] sources there = tt
-below_there k kept (FromInput i ∷ ss) sources there = (tt, below_there k kept ss sources.1 there.1)
-below_there k kept (FromStep i ∷ ss) sources there = (there.0 sources.0, below_there k kept ss sources.1 there.1)
+made_there : (made : List Bool) (kept : List (Option Picture)) (ss : List Source) → AllByRecursion (IsMade made) ss → AllByRecursion (IsThereIfMade made kept) ss → AllByRecursion (IsThere kept) ss
+made_there made kept [] sources there = tt
+made_there made kept (FromInput i ∷ ss) sources there = (tt, made_there made kept ss sources.1 there.1)
+made_there made kept (FromStep i ∷ ss) sources there = (there.0 sources.0, made_there made kept ss sources.1 there.1)
 
 first_image : (image : Picture) (i : ℕ) → i < 1 → image ≡ slice_index_or (image ∷ []) i no_picture
 first_image image zero lt = refl
 first_image image (suc i) lt = absurd (omega arith)
 
-same_sources : (plan : Plan) (image : Picture) (k : ℕ) (kept : List (Option Picture)) (ss : List Source) → ((j : ℕ) → IfSome (kept_at kept j) (λ f. (j < k) × (f ≡ plane_at plan image j))) → AllByRecursion (IsSourceAt 1 k) ss → AllByRecursion (IsThereBelow k kept) ss
+same_sources : (plan : Plan) (image : Picture) (k : ℕ) (kept : List (Option Picture)) (ss : List Source) → ((j : ℕ) → IfSome (kept_at kept j) (λ f. f ≡ plane_at plan image j)) → AllByRecursion (IsSourceAt 1 k) ss → AllByRecursion (IsThere kept) ss
     → map (plane_kept image kept) ss ≡ map (plane_of_source (image ∷ []) (planes_on plan image)) ss
 same_sources plan image k kept [] is sources there = refl
 same_sources plan image k kept (FromInput i ∷ ss) is sources there =
     ap (λ (f : Picture). f ∷ map (plane_kept image kept) ss) (first_image image i sources.0)
     ∙ ap (λ (fs : List Picture). slice_index_or (image ∷ []) i no_picture ∷ fs) (same_sources plan image k kept ss is sources.1 there.1)
 same_sources plan image k kept (FromStep i ∷ ss) is sources there =
-    ap (λ (f : Picture). f ∷ map (plane_kept image kept) ss) (some_is (kept_at kept i) i k (plane_at plan image i) (there.0 sources.0) (is i))
+    ap (λ (f : Picture). f ∷ map (plane_kept image kept) ss) (some_is (kept_at kept i) (plane_at plan image i) there.0 (is i))
     ∙ ap (λ (fs : List Picture). plane_at plan image i ∷ fs) (same_sources plan image k kept ss is sources.1 there.1)
 
 -- each plane of a plan has the frame
@@ -64,17 +64,29 @@ all_framed plan image k (FromStep i ∷ ss) runs lt sources =
     let below : i < k = sources.0 in
     (plane_frame plan image i runs (omega arith), all_framed plan image k ss runs lt sources.1)
 
-sources_are : (plan : Plan) (image : Picture) (k : ℕ) (kept : List (Option Picture)) (numbers : List ℕ) → IsRunnable plan image → HasRun plan image k kept numbers → k < length plan
-    → sources_kept image kept (step_in plan k) ≡ planes_read plan (image ∷ []) image.width image.height k
-sources_are plan image k kept numbers runs run lt = same_sources plan image k kept (step_in plan k).sources run.true_planes (runs.sources k) (run.read k (omega arith) lt)
+-- Some steps are made, and of these all that step k reads.
+pub record CanRun (plan : Plan) (image : Picture) (made : List Bool) (kept : List (Option Picture)) (k : ℕ) : Type 0 where
+  pub runs : IsRunnable plan image
+  pub run : HasRun plan image made kept
+  pub within : k < length plan
+  pub unmade : flag made k ≡ false
+  pub sources : AllByRecursion (IsMade made) (step_in plan k).sources
 
-step_ready : (plan : Plan) (image : Picture) (k : ℕ) (kept : List (Option Picture)) (numbers : List ℕ) → IsRunnable plan image → HasRun plan image k kept numbers → k < length plan → IsReady image kept (step_in plan k)
-step_ready plan image k kept numbers runs run lt =
-    let same = sources_are plan image k kept numbers runs run lt in
+all_there : (plan : Plan) (image : Picture) (made : List Bool) (kept : List (Option Picture)) (k : ℕ) → CanRun plan image made kept k → AllByRecursion (IsThere kept) (step_in plan k).sources
+all_there plan image made kept k can = made_there made kept (step_in plan k).sources can.sources (can.run.read k can.within can.unmade)
+
+sources_are : (plan : Plan) (image : Picture) (made : List Bool) (kept : List (Option Picture)) (k : ℕ) → CanRun plan image made kept k
+    → sources_kept image kept (step_in plan k) ≡ planes_read plan (image ∷ []) image.width image.height k
+sources_are plan image made kept k can = same_sources plan image k kept (step_in plan k).sources can.run.true_planes (can.runs.sources k) (all_there plan image made kept k can)
+
+step_ready : (plan : Plan) (image : Picture) (made : List Bool) (kept : List (Option Picture)) (k : ℕ) → CanRun plan image made kept k → IsReady image kept (step_in plan k)
+step_ready plan image made kept k can =
+    let runs = can.runs in
+    let same = sources_are plan image made kept k can in
     record {
-      there = below_there k kept (step_in plan k).sources (runs.sources k) (run.read k (omega arith) lt);
-      frames = subst (AllByRecursion (HasFrame image.width image.height)) (sym same) (all_framed plan image k (step_in plan k).sources runs lt (runs.sources k));
-      can = subst (CanBeMade (step_in plan k).step) (sym same) (runs.made k lt);
+      there = all_there plan image made kept k can;
+      frames = subst (AllByRecursion (HasFrame image.width image.height)) (sym same) (all_framed plan image k (step_in plan k).sources runs can.within (runs.sources k));
+      can = subst (CanBeMade (step_in plan k).step) (sym same) (runs.made k can.within);
       wide = runs.wide;
       narrow = runs.narrow;
       high = runs.high;
@@ -82,95 +94,188 @@ step_ready plan image k kept numbers runs run lt =
     }
 
 -- what the step makes of what is kept is its true plane
-plane_true : (plan : Plan) (image : Picture) (k : ℕ) (kept : List (Option Picture)) (numbers : List ℕ) → IsRunnable plan image → HasRun plan image k kept numbers → k < length plan
+plane_true : (plan : Plan) (image : Picture) (made : List Bool) (kept : List (Option Picture)) (k : ℕ) → CanRun plan image made kept k
     → plane_of (step_in plan k).step (sources_kept image kept (step_in plan k)) image.width image.height ≡ plane_at plan image k
-plane_true plan image k kept numbers runs run lt =
-    ap (λ (fs : List Picture). plane_of (step_in plan k).step fs image.width image.height) (sources_are plan image k kept numbers runs run lt)
-    ∙ sym (plane_is plan (image ∷ []) image.width image.height k 1 lt (runs.sources k))
+plane_true plan image made kept k can =
+    ap (λ (fs : List Picture). plane_of (step_in plan k).step fs image.width image.height) (sources_are plan image made kept k can)
+    ∙ sym (plane_is plan (image ∷ []) image.width image.height k 1 can.within (can.runs.sources k))
 
-pub product_true : (plan : Plan) (image : Picture) (k : ℕ) (kept held : List (Option Picture)) (numbers : List ℕ) (s : Planned) (made : Product) → IsRunnable plan image → HasRun plan image k kept numbers → k < length plan → s ≡ step_in plan k → held ≡ kept
+pub product_true : (plan : Plan) (image : Picture) (flags : List Bool) (kept held : List (Option Picture)) (k : ℕ) (s : Planned) (made : Product) → CanRun plan image flags kept k → s ≡ step_in plan k → held ≡ kept
     → IsProduct s.step (plane_of s.step (sources_kept image held s) image.width image.height) made → IsProduct (step_in plan k).step (plane_at plan image k) made
-product_true plan image k kept held numbers s made runs run lt step all is =
+product_true plan image flags kept held k s made can step all is =
     let Of : Planned → List (Option Picture) → Type 0 = λ t fs. IsProduct t.step (plane_of t.step (sources_kept image fs t) image.width image.height) made in
-    subst (λ (f : Picture). IsProduct (step_in plan k).step f made) (plane_true plan image k kept numbers runs run lt)
+    subst (λ (f : Picture). IsProduct (step_in plan k).step f made) (plane_true plan image flags kept k can)
     (subst (λ (fs : List (Option Picture)). Of (step_in plan k) fs) all (subst (λ (t : Planned). Of t held) step is))
 
 -- a plane that was made is the true one
 pub plane_told : (plan : Plan) (image : Picture) (k : ℕ) (made : Product) (f : Picture) → made ≡ product.Plane f → IsProduct (step_in plan k).step (plane_at plan image k) made → f ≡ plane_at plan image k
 plane_told plan image k made f told is = (subst (λ (m : Product). IsProduct (step_in plan k).step (plane_at plan image k) m) told is).1
 
-pub ready_held : (plan : Plan) (image : Picture) (k : ℕ) (kept held : List (Option Picture)) (numbers : List ℕ) (s : Planned) → IsRunnable plan image → HasRun plan image k kept numbers → k < length plan → s ≡ step_in plan k → held ≡ kept → IsReady image held s
-ready_held plan image k kept held numbers s runs run lt step all =
-    subst (λ (t : Planned). IsReady image held t) (sym step) (subst (λ (fs : List (Option Picture)). IsReady image fs (step_in plan k)) (sym all) (step_ready plan image k kept numbers runs run lt))
+pub ready_held : (plan : Plan) (image : Picture) (made : List Bool) (kept held : List (Option Picture)) (k : ℕ) (s : Planned) → CanRun plan image made kept k → s ≡ step_in plan k → held ≡ kept → IsReady image held s
+ready_held plan image made kept held k s can step all =
+    subst (λ (t : Planned). IsReady image held t) (sym step) (subst (λ (fs : List (Option Picture)). IsReady image fs (step_in plan k)) (sym all) (step_ready plan image made kept k can))
 
 -- ---- one more plane
 
-abbrev more : List (Option Picture) → Option Picture → List (Option Picture)
-more kept x = kept ++ x ∷ []
+set_here : (kept : List (Option Picture)) (k : ℕ) (x : Option Picture) → k < length kept → kept_at (slice_set kept k x) k ≡ x
+set_here [] k x lt = absurd (omega arith)
+set_here (y ∷ kept) zero x lt = refl
+set_here (y ∷ kept) (suc k) x lt = set_here kept k x (omega arith)
 
-kept_before : (kept : List (Option Picture)) (x : Option Picture) (j : ℕ) → j < length kept → kept_at (more kept x) j ≡ kept_at kept j
-kept_before [] x j lt = absurd (omega arith)
-kept_before (y ∷ kept) x zero lt = refl
-kept_before (y ∷ kept) x (suc j) lt = kept_before kept x j (omega arith)
+set_there : (kept : List (Option Picture)) (k j : ℕ) (x : Option Picture) → (j ≡ k → ⊥) → kept_at (slice_set kept k x) j ≡ kept_at kept j
+set_there [] k j x other = refl
+set_there (y ∷ kept) zero zero x other = absurd (other refl)
+set_there (y ∷ kept) zero (suc j) x other = refl
+set_there (y ∷ kept) (suc k) zero x other = refl
+set_there (y ∷ kept) (suc k) (suc j) x other = set_there kept k j x (λ e. other (omega arith))
 
-kept_last : (kept : List (Option Picture)) (x : Option Picture) (j : ℕ) → j ≡ length kept → kept_at (more kept x) j ≡ x
-kept_last [] x zero is = refl
-kept_last [] x (suc j) is = absurd (omega arith)
-kept_last (y ∷ kept) x zero is = absurd (omega arith)
-kept_last (y ∷ kept) x (suc j) is = kept_last kept x j (omega arith)
+set_size : (kept : List (Option Picture)) (k : ℕ) (x : Option Picture) → length (slice_set kept k x) ≡ length kept
+set_size [] k x = refl
+set_size (y ∷ kept) zero x = refl
+set_size (y ∷ kept) (suc k) x = omega (arith, set_size kept k x)
 
-kept_past : (kept : List (Option Picture)) (x : Option Picture) (j : ℕ) → length kept < j → kept_at (more kept x) j ≡ None
-kept_past [] x zero lt = absurd (omega arith)
-kept_past [] x (suc j) lt = refl
-kept_past (y ∷ kept) x zero lt = absurd (omega arith)
-kept_past (y ∷ kept) x (suc j) lt = kept_past kept x j (omega arith)
+put_there : (kept : List (Option Picture)) (k j : ℕ) (made : Product) → (j ≡ k → ⊥) → kept_at (put kept k made) j ≡ kept_at kept j
+put_there kept k j (product.Plane f) other = set_there kept k j (Some f) other
+put_there kept k j (product.Number n) other = refl
 
--- what is kept in a place is the true plane there
-abbrev TrueAt : Plan → Picture → ℕ → ℕ → Option Picture → Type 0
-TrueAt plan image j k o = IfSome o (λ f. (j < k) × (f ≡ plane_at plan image j))
+put_size : (kept : List (Option Picture)) (k : ℕ) (made : Product) → length (put kept k made) ≡ length kept
+put_size kept k (product.Plane f) = set_size kept k (Some f)
+put_size kept k (product.Number n) = refl
 
-weaker : (o : Option Picture) (j k : ℕ) (g : Picture) → IfSome o (λ f. (j < k) × (f ≡ g)) → IfSome o (λ f. (j < k + 1) × (f ≡ g))
-weaker None j k g is = tt
-weaker (Some f) j k g is = let lt = is.0 in (omega arith, is.1)
+flag_here : (made : List Bool) (k : ℕ) → k < length made → flag (slice_set made k true) k ≡ true
+flag_here [] k lt = absurd (omega arith)
+flag_here (b ∷ made) zero lt = refl
+flag_here (b ∷ made) (suc k) lt = flag_here made k (omega arith)
 
-last_true : (s : Planned) (made : Product) (j k : ℕ) (g : Picture) → j ≡ k → IsProduct s.step g made → IfSome (plane_in made) (λ f. (j < k + 1) × (f ≡ g))
-last_true s (product.Number n) j k g at is = tt
-last_true s (product.Plane f) j k g at is = (omega arith, is.1)
+pub flag_there : (made : List Bool) (k j : ℕ) → (j ≡ k → ⊥) → flag (slice_set made k true) j ≡ flag made j
+flag_there [] k j other = refl
+flag_there (b ∷ made) zero zero other = absurd (other refl)
+flag_there (b ∷ made) zero (suc j) other = refl
+flag_there (b ∷ made) (suc k) zero other = refl
+flag_there (b ∷ made) (suc k) (suc j) other = flag_there made k j (λ e. other (omega arith))
 
-more_true : (plan : Plan) (image : Picture) (k : ℕ) (kept : List (Option Picture)) (numbers : List ℕ) (made : Product) → HasRun plan image k kept numbers → IsProduct (step_in plan k).step (plane_at plan image k) made
-    → (j : ℕ) → TrueAt plan image j (k + 1) (kept_at (more kept (plane_in made)) j)
-more_true plan image k kept numbers made run is j =
-    let x = plane_in made in
-    let count = run.count in
-    elim (cases_lt j k) [
-      | inl lt ↦ subst (TrueAt plan image j (k + 1)) (sym (kept_before kept x j (omega arith))) (weaker (kept_at kept j) j k (plane_at plan image j) (run.true_planes j))
-      | inr ge ↦ elim (cases_lt k j) [
-        | inl gt ↦ subst (TrueAt plan image j (k + 1)) (sym (kept_past kept x j (omega arith))) tt
-        | inr le ↦
-            let at : j ≡ k = omega arith in
-            subst (TrueAt plan image j (k + 1)) (sym (kept_last kept x j (omega arith)))
-            (last_true (step_in plan k) made j k (plane_at plan image j) at (subst (λ (t : ℕ). IsProduct (step_in plan k).step (plane_at plan image t) made) (sym at) is))
-      ]
-    ]
+flag_size : (made : List Bool) (k : ℕ) → length (slice_set made k true) ≡ length made
+flag_size [] k = refl
+flag_size (b ∷ made) zero = refl
+flag_size (b ∷ made) (suc k) = omega (arith, flag_size made k)
+
+-- a step that is not made yet is another than the one that was
+another : (made : List Bool) (k i : ℕ) → k < length made → flag (slice_set made k true) i ≡ false → i ≡ k → ⊥
+another made k i lt unmade e =
+    let here = flag_here made k lt in
+    let same : flag (slice_set made k true) i ≡ flag (slice_set made k true) k = ap (λ (t : ℕ). flag (slice_set made k true) t) e in
+    absurd cc
 
 -- a step that makes no number makes a plane
-plane_there : (s : Planned) (g : Picture) (made : Product) → IsProduct s.step g made → is_sum s.step ≡ false → IsSome (plane_in made)
-plane_there s g (product.Plane f) is plain = refl
-plane_there s g (product.Number n) is plain = let sums = is.0 in absurd cc
+plane_there : (s : Planned) (g : Picture) (kept : List (Option Picture)) (k : ℕ) (made : Product) → k < length kept → IsProduct s.step g made → is_sum s.step ≡ false → IsSome (kept_at (put kept k made) k)
+plane_there s g kept k (product.Plane f) lt is plain = subst (λ (o : Option Picture). IsSome o) (sym (set_here kept k (Some f) lt)) refl
+plane_there s g kept k (product.Number n) lt is plain = let sums = is.0 in absurd cc
 
-more_there : (plan : Plan) (k : ℕ) (kept : List (Option Picture)) (x : Option Picture) (ss : List Source) → length kept ≡ k → (is_sum (step_in plan k).step ≡ false → IsSome x)
-    → AllByRecursion (IsPlaneSource plan) ss → AllByRecursion (IsThereBelow k kept) ss → AllByRecursion (IsThereBelow (k + 1) (more kept x)) ss
-more_there plan k kept x [] count some plain there = tt
-more_there plan k kept x (FromInput i ∷ ss) count some plain there = (tt, more_there plan k kept x ss count some plain.1 there.1)
-more_there plan k kept x (FromStep i ∷ ss) count some plain there = (
-  λ below. elim (cases_lt i k) [
-    | inl lt ↦ subst (λ (o : Option Picture). IsSome o) (sym (kept_before kept x i (omega arith))) (there.0 lt)
-    | inr ge ↦
-        let at : i ≡ k = omega arith in
-        subst (λ (o : Option Picture). IsSome o) (sym (kept_last kept x i (omega arith))) (some (subst (λ (t : ℕ). is_sum (step_in plan t).step ≡ false) at plain.0))
+-- Step k was made by a run, with this product.
+pub record HasMade (plan : Plan) (image : Picture) (flags : List Bool) (kept : List (Option Picture)) (k : ℕ) (made : Product) : Type 0 where
+  pub can : CanRun plan image flags kept k
+  pub product : IsProduct (step_in plan k).step (plane_at plan image k) made
+
+put_true : (plan : Plan) (image : Picture) (flags : List Bool) (kept : List (Option Picture)) (k : ℕ) (made : Product) → HasMade plan image flags kept k made
+    → (j : ℕ) → IfSome (kept_at (put kept k made) j) (λ f. f ≡ plane_at plan image j)
+put_true plan image flags kept k (product.Number n) has j = has.can.run.true_planes j
+put_true plan image flags kept k (product.Plane f) has j =
+    let run = has.can.run in
+    let count = run.count in
+    let within = has.can.within in
+    elim (cases_eq j k) [
+      | inl at ↦
+          subst (λ (o : Option Picture). IfSome o (λ g. g ≡ plane_at plan image j)) (sym (ap (λ (t : ℕ). kept_at (slice_set kept k (Some f)) t) at ∙ set_here kept k (Some f) (omega arith)))
+          (has.product.1 ∙ ap (plane_at plan image) (sym at))
+      | inr other ↦ subst (λ (o : Option Picture). IfSome o (λ g. g ≡ plane_at plan image j)) (sym (set_there kept k j (Some f) other)) (run.true_planes j)
+    ]
+
+put_read : (plan : Plan) (image : Picture) (flags : List Bool) (kept : List (Option Picture)) (k : ℕ) (made : Product) (ss : List Source) → HasMade plan image flags kept k made
+    → AllByRecursion (IsPlaneSource plan) ss → AllByRecursion (IsThereIfMade flags kept) ss → AllByRecursion (IsThereIfMade (slice_set flags k true) (put kept k made)) ss
+put_read plan image flags kept k made [] has plain there = tt
+put_read plan image flags kept k made (FromInput i ∷ ss) has plain there = (tt, put_read plan image flags kept k made ss has plain.1 there.1)
+put_read plan image flags kept k made (FromStep i ∷ ss) has plain there = (
+  λ is. elim (cases_eq i k) [
+    | inl at ↦
+        let count = has.can.run.count in
+        let within = has.can.within in
+        subst (λ (t : ℕ). IsSome (kept_at (put kept k made) t)) (sym at)
+        (plane_there (step_in plan k) (plane_at plan image k) kept k made (omega arith) has.product (subst (λ (t : ℕ). is_sum (step_in plan t).step ≡ false) at plain.0))
+    | inr other ↦ subst (λ (o : Option Picture). IsSome o) (sym (put_there kept k i made other)) (there.0 (sym (flag_there flags k i other) ∙ is))
   ],
-  more_there plan k kept x ss count some plain.1 there.1,
+  put_read plan image flags kept k made ss has plain.1 there.1,
 )
+
+second_true : (b t : Bool) → (b || t) ≡ true → b ≡ false → t ≡ true
+second_true true t e false_too = absurd cc
+second_true false t e _ = e
+
+-- what is read by a step is among its sources
+of_source : (P : Source → Type 0) (j : ℕ) (ss : List Source) → list_any (is_step j) ss ≡ true → AllByRecursion P ss → P (FromStep j)
+of_source P j [] reads all = absurd cc
+of_source P j (FromInput i ∷ ss) reads all = of_source P j ss reads all.1
+of_source P j (FromStep i ∷ ss) reads all =
+    elim (cases_eq i j) [
+      | inl at ↦ subst (λ (t : ℕ). P (FromStep t)) at all.0
+      | inr other ↦ of_source P j ss (second_true (nat_eq i j) (list_any (is_step j) ss) reads (ne_eqb i j other)) all.1
+    ]
+
+-- a plane that was wanted before is still wanted, or among those that the step read
+wanted_on : (plan : Plan) (flags : List Bool) (k j : ℕ) (new : Option Picture) → IsWanted plan flags j → (list_any (is_step j) (step_in plan k).sources ≡ true → IfSome new (λ f. IsWanted plan (slice_set flags k true) j)) → IfSome new (λ f. IsWanted plan (slice_set flags k true) j)
+wanted_on plan flags k j None wanted spent = tt
+wanted_on plan flags k j (Some f) wanted spent =
+    elim (cases_eq wanted.reader k) [
+      | inl at ↦ spent (subst (λ (t : ℕ). list_any (is_step j) (step_in plan t).sources ≡ true) at wanted.reads)
+      | inr other ↦ record { reader = wanted.reader; within = wanted.within; unmade = flag_there flags k wanted.reader other ∙ wanted.unmade; reads = wanted.reads }
+    ]
+
+-- what was kept before and is kept still
+kept_before : (W V : Type 0) (new old : Option Picture) → IfSome new (λ f. old ≡ Some f) → IfSome old (λ f. W) → (W → IfSome new (λ f. V)) → IfSome new (λ f. V)
+kept_before W V None old same is on = tt
+kept_before W V (Some f) None same is on = absurd cc
+kept_before W V (Some f) (Some g) same is on = on is
+
+true_still : (g : Picture) (new old : Option Picture) → IfSome new (λ f. old ≡ Some f) → IfSome old (λ f. f ≡ g) → IfSome new (λ f. f ≡ g)
+true_still g None old same is = tt
+true_still g (Some f) None same is = absurd cc
+true_still g (Some f) (Some h) same is = let e : h ≡ f = cc in sym e ∙ is
+
+all_wanted : (plan : Plan) (image : Picture) (flags : List Bool) (kept new : List (Option Picture)) (k : ℕ) (made : Product) → HasMade plan image flags kept k made → KeepsRead plan (slice_set flags k true) (put kept k made) new
+    → AllByRecursion (IsKeptWanted plan (slice_set flags k true) new) (step_in plan k).sources → IfSome (kept_at new k) (λ f. IsWanted plan (slice_set flags k true) k)
+    → (j : ℕ) → IfSome (kept_at new j) (λ f. IsWanted plan (slice_set flags k true) j)
+all_wanted plan image flags kept new k made has keeps sources own j =
+    elim (cases_eq j k) [
+      | inl at ↦ subst (λ (t : ℕ). IfSome (kept_at new t) (λ f. IsWanted plan (slice_set flags k true) t)) (sym at) own
+      | inr other ↦
+          kept_before (IsWanted plan flags j) (IsWanted plan (slice_set flags k true) j) (kept_at new j) (kept_at kept j)
+          (subst (λ (o : Option Picture). IfSome (kept_at new j) (λ f. o ≡ Some f)) (put_there kept k j made other) (keeps.same j))
+          (has.can.run.wanted j)
+          (λ wanted. wanted_on plan flags k j (kept_at new j) wanted (λ reads. of_source (IsKeptWanted plan (slice_set flags k true) new) j (step_in plan k).sources reads sources))
+    ]
+
+pub advanced : (plan : Plan) (image : Picture) (flags told : List Bool) (kept held new : List (Option Picture)) (k : ℕ) (made : Product) → HasMade plan image flags kept k made
+    → told ≡ slice_set flags k true → held ≡ put kept k made → KeepsRead plan told held new → AllByRecursion (IsKeptWanted plan told new) (step_in plan k).sources → IfSome (kept_at new k) (λ f. IsWanted plan told k)
+    → HasRun plan image told new
+advanced plan image flags told kept held new k made has is put_is keeps sources own =
+    subst (λ (fs : List Bool). HasRun plan image fs new) (sym is)
+    (go (subst (λ (fs : List Bool). KeepsRead plan fs (put kept k made) new) is (subst (λ (ps : List (Option Picture)). KeepsRead plan told ps new) put_is keeps))
+    (subst (λ (fs : List Bool). AllByRecursion (IsKeptWanted plan fs new) (step_in plan k).sources) is sources)
+    (subst (λ (fs : List Bool). IfSome (kept_at new k) (λ f. IsWanted plan fs k)) is own))
+  where
+    go : KeepsRead plan (slice_set flags k true) (put kept k made) new → AllByRecursion (IsKeptWanted plan (slice_set flags k true) new) (step_in plan k).sources → IfSome (kept_at new k) (λ f. IsWanted plan (slice_set flags k true) k)
+        → HasRun plan image (slice_set flags k true) new
+    go keeps sources own =
+        let run = has.can.run in
+        let wide : k < length flags = subst (λ (n : ℕ). k < n) (sym run.flags) has.can.within in
+        record {
+          flags = flag_size flags k ∙ run.flags;
+          count = keeps.count ∙ put_size kept k made ∙ run.count;
+          true_planes = λ j. true_still (plane_at plan image j) (kept_at new j) (kept_at (put kept k made) j) (keeps.same j) (put_true plan image flags kept k made has j);
+          read = λ i lt unmade.
+              keeps.read i lt unmade
+              (put_read plan image flags kept k made (step_in plan i).sources has (has.can.runs.planes i) (run.read i lt (sym (flag_there flags k i (another flags k i wide unmade)) ∙ unmade)));
+          wanted = all_wanted plan image flags kept new k made has keeps sources own;
+        }
 
 -- ---- one more number
 
@@ -188,23 +293,29 @@ numbers_more (s ∷ plan) (f ∷ planes) (suc k) lt size =
     go true ms ns os e = ap (λ (ts : List ℕ). sum f.samples ∷ ts) e
     go false ms ns os e = e
 
-number_of : (s : Planned) (g : Picture) (made : Product) → IsProduct s.step g made → with_number (is_sum s.step) (sum g.samples) [] ≡ numbers_in made
-number_of s g (product.Plane f) is = ap (λ (b : Bool). with_number b (sum g.samples) []) is.0
-number_of s g (product.Number n) is = ap (λ (b : Bool). with_number b (sum g.samples) []) is.0 ∙ ap (λ (t : ℕ). t ∷ []) (sym is.1)
+-- the number of a step, if it sums up
+pub number_told : (s : Planned) (g : Picture) (made : Product) (n : Option ℕ) → n ≡ number_in made → IsProduct s.step g made → IsNumberOf s.step g n
+number_told s g made n told is = subst (IsNumberOf s.step g) (sym told) (go made is)
+  where
+    go : (made : Product) → IsProduct s.step g made → IsNumberOf s.step g (number_in made)
+    go (product.Plane f) is = is.0
+    go (product.Number n) is = is
 
--- ---- one more step
+-- the numbers, once a step is made that makes none
+pub numbers_on : (plan : Plan) (image : Picture) (k : ℕ) (numbers : List ℕ) → k < length plan → is_sum (step_in plan k).step ≡ false → numbers ≡ numbers_from (take k plan) (planes_on plan image)
+    → numbers ≡ numbers_from (take (k + 1) plan) (planes_on plan image)
+numbers_on plan image k numbers lt plain is =
+    is ∙ sym (numbers_more plan (planes_on plan image) k lt (length-planes plan (image ∷ []) image.width image.height)
+    ∙ ap (λ (b : Bool). numbers_from (take k plan) (planes_on plan image) ++ with_number b (sum (plane_at plan image k).samples) []) plain
+    ∙ append-nil (numbers_from (take k plan) (planes_on plan image)))
 
-one_more : (plan : Plan) (image : Picture) (k : ℕ) (kept : List (Option Picture)) (numbers : List ℕ) (made : Product) → IsRunnable plan image → k < length plan → HasRun plan image k kept numbers
-    → IsProduct (step_in plan k).step (plane_at plan image k) made → HasRun plan image (k + 1) (kept ++ plane_in made ∷ []) (numbers ++ numbers_in made)
-one_more plan image k kept numbers made runs lt run is = record {
-  count = omega (arith, length-append kept (plane_in made ∷ []), run.count);
-  true_planes = more_true plan image k kept numbers made run is;
-  read = λ i le within. more_there plan k kept (plane_in made) (step_in plan i).sources run.count (plane_there (step_in plan k) (plane_at plan image k) made is) (runs.planes i) (run.read i (omega arith) within);
-  numbers_are =
-      ap (λ (ns : List ℕ). ns ++ numbers_in made) run.numbers_are
-      ∙ ap (λ (ns : List ℕ). numbers_from (take k plan) (planes_on plan image) ++ ns) (sym (number_of (step_in plan k) (plane_at plan image k) made is))
-      ∙ sym (numbers_more plan (planes_on plan image) k lt (length-planes plan (image ∷ []) image.width image.height));
-}
+pub one_number : (plan : Plan) (image : Picture) (k n : ℕ) (numbers : List ℕ) → k < length plan → IsNumberOf (step_in plan k).step (plane_at plan image k) (Some n) → numbers ≡ numbers_from (take k plan) (planes_on plan image)
+    → numbers ++ n ∷ [] ≡ numbers_from (take (k + 1) plan) (planes_on plan image)
+one_number plan image k n numbers lt one is =
+    ap (λ (ns : List ℕ). ns ++ n ∷ []) is
+    ∙ sym (numbers_more plan (planes_on plan image) k lt (length-planes plan (image ∷ []) image.width image.height)
+    ∙ ap (λ (b : Bool). numbers_from (take k plan) (planes_on plan image) ++ with_number b (sum (plane_at plan image k).samples) []) one.0
+    ∙ ap (λ (m : ℕ). numbers_from (take k plan) (planes_on plan image) ++ m ∷ []) (sym one.1))
 
 -- ---- the last plane
 
@@ -222,39 +333,77 @@ last_sound plan image f runs sound last picture maxval =
       area = subst (λ (n : ℕ). n * f.width ≤ 16777216) (sym high) (subst (λ (n : ℕ). image.height * n ≤ 16777216) (sym wide) sound.area);
     }
 
--- ---- planes are dropped, and it stays so
+-- ---- the first step, and how many are left
 
-true_still : (plan : Plan) (image : Picture) (j k : ℕ) (new old : Option Picture) → IfSome new (λ f. old ≡ Some f) → TrueAt plan image j k old → TrueAt plan image j k new
-true_still plan image j k None old same is = tt
-true_still plan image j k (Some f) None same is = absurd cc
-true_still plan image j k (Some f) (Some g) same is = let e : g ≡ f = cc in (is.0, sym e ∙ is.1)
+pub empty_more : (kept : List (Option Picture)) → IsEmpty kept → (j : ℕ) → kept_at (kept ++ None ∷ []) j ≡ None
+empty_more [] empty zero = refl
+empty_more [] empty (suc j) = refl
+empty_more (x ∷ kept) empty zero = empty 0
+empty_more (x ∷ kept) empty (suc j) = empty_more kept (λ i. empty (suc i)) j
 
-run_still : (plan : Plan) (image : Picture) (k : ℕ) (old new : List (Option Picture)) (numbers : List ℕ) → HasRun plan image k old numbers → KeepsRead plan k old new → HasRun plan image k new numbers
-run_still plan image k old new numbers run keeps = record {
-  count = keeps.count ∙ run.count;
-  true_planes = λ j. true_still plan image j k (kept_at new j) (kept_at old j) (keeps.same j) (run.true_planes j);
-  read = λ i le lt. keeps.read i k le lt (run.read i le lt);
-  numbers_are = run.numbers_are;
+pub none_made : (n j : ℕ) → flag (replicate n false) j ≡ false
+none_made zero j = refl
+none_made (suc n) zero = refl
+none_made (suc n) (suc j) = none_made n j
+
+pub none_count : (n : ℕ) → length (replicate n false) ≡ n
+none_count zero = refl
+none_count (suc n) = omega (arith, none_count n)
+
+empty_some : (P : Picture → Type 0) (o : Option Picture) → o ≡ None → IfSome o P
+empty_some P None is = tt
+empty_some P (Some f) is = absurd cc
+
+pub nothing_run : (plan : Plan) (image : Picture) (made : List Bool) (kept : List (Option Picture)) → length made ≡ length plan → length kept ≡ length plan → ((j : ℕ) → flag made j ≡ false) → IsEmpty kept → HasRun plan image made kept
+nothing_run plan image made kept flags count unmade empty = record {
+  flags = flags;
+  count = count;
+  true_planes = λ j. empty_some (λ f. f ≡ plane_at plan image j) (kept_at kept j) (empty j);
+  read = λ i lt un. none (step_in plan i).sources;
+  wanted = λ j. empty_some (λ f. IsWanted plan made j) (kept_at kept j) (empty j);
 }
-
-pub advanced : (plan : Plan) (image : Picture) (k : ℕ) (kept put new : List (Option Picture)) (numbers told : List ℕ) (made : Product) → IsRunnable plan image → k < length plan → HasRun plan image k kept numbers
-    → IsProduct (step_in plan k).step (plane_at plan image k) made → put ≡ kept ++ plane_in made ∷ [] → told ≡ numbers ++ numbers_in made → KeepsRead plan (k + 1) put new → HasRun plan image (k + 1) new told
-advanced plan image k kept put new numbers told made runs lt run is planes nums keeps =
-    run_still plan image (k + 1) put new told
-    (subst (λ (fs : List (Option Picture)). HasRun plan image (k + 1) fs told) (sym planes) (subst (λ (ns : List ℕ). HasRun plan image (k + 1) (kept ++ plane_in made ∷ []) ns) (sym nums) (one_more plan image k kept numbers made runs lt run is)))
-    keeps
-
--- ---- the first step, and the last
-
-pub nothing_run : (plan : Plan) (image : Picture) (kept : List (Option Picture)) (numbers : List ℕ) → kept ≡ [] → numbers ≡ [] → HasRun plan image 0 kept numbers
-nothing_run plan image kept numbers no_planes no_numbers =
-    subst (λ (ns : List ℕ). HasRun plan image 0 kept ns) (sym no_numbers)
-    (subst (λ (fs : List (Option Picture)). HasRun plan image 0 fs []) (sym no_planes) (record { count = refl; true_planes = λ j. tt; read = λ i le lt. none (step_in plan i).sources; numbers_are = refl }))
   where
-    none : (ss : List Source) → AllByRecursion (IsThereBelow 0 []) ss
+    none : (ss : List Source) → AllByRecursion (IsThereIfMade made kept) ss
     none [] = tt
     none (FromInput i ∷ ss) = (tt, none ss)
-    none (FromStep i ∷ ss) = (λ lt. absurd (omega arith), none ss)
+    none (FromStep i ∷ ss) = (λ is. let no = unmade i in absurd cc, none ss)
 
-pub all_numbers : (plan : Plan) (image : Picture) (kept : List (Option Picture)) (numbers : List ℕ) → HasRun plan image (length plan) kept numbers → numbers ≡ numbers_from plan (planes_on plan image)
-all_numbers plan image kept numbers run = run.numbers_are ∙ ap (λ (p : Plan). numbers_from p (planes_on plan image)) (take_all (length plan) plan (omega arith))
+-- step k is made, and before it none from k on was
+pub none_later : (k : ℕ) (old provided new : List Bool) → ((i : ℕ) → k ≤ i → flag old i ≡ false) → ((i : ℕ) → k ≤ i → flag provided i ≡ flag old i) → new ≡ slice_set provided k true → (i : ℕ) → k + 1 ≤ i → flag new i ≡ false
+none_later k old provided new unmade later is i le = ap (λ (flags : List Bool). flag flags i) is ∙ flag_there provided k i (λ e. omega (arith, e, le)) ∙ later i (omega (arith, le)) ∙ unmade i (omega (arith, le))
+
+-- how many steps are not made
+abbrev pub left : List Bool → ℕ
+left [] = 0
+left (true ∷ made) = left made
+left (false ∷ made) = left made + 1
+
+pub one_less : (made : List Bool) (k : ℕ) → k < length made → flag made k ≡ false → left (slice_set made k true) < left made
+one_less [] k lt unmade = absurd (omega arith)
+one_less (true ∷ made) zero lt unmade = absurd cc
+one_less (false ∷ made) zero lt unmade = omega arith
+one_less (true ∷ made) (suc k) lt unmade = one_less made k (omega arith) unmade
+one_less (false ∷ made) (suc k) lt unmade = let less = one_less made k (omega arith) unmade in omega (arith, less)
+
+-- ---- which step is next
+
+below_made : (made : List Bool) (n : ℕ) (ss : List Source) → ((i : ℕ) → i < n → flag made i ≡ true) → AllByRecursion (IsSourceAt 1 n) ss → AllByRecursion (IsMade made) ss
+below_made made n [] all sources = tt
+below_made made n (FromInput i ∷ ss) all sources = (tt, below_made made n ss all sources.1)
+below_made made n (FromStep i ∷ ss) all sources = (all i sources.0, below_made made n ss all sources.1)
+
+-- where no step can be made, all are
+none_left : (plan : Plan) (made : List Bool) (k : ℕ) → HasSteps plan → ((i : ℕ) → CanBeNext plan made k i → ⊥) → (n i : ℕ) → n ≤ k → i < n → flag made i ≡ true
+none_left plan made k steps none zero i le lt = absurd (omega arith)
+none_left plan made k steps none (suc n) i le lt =
+    let before : (j : ℕ) → j < n → flag made j ≡ true = λ j below. none_left plan made k steps none n j (omega arith) below in
+    elim (cases_lt i n) [
+      | inl below ↦ before i below
+      | inr ge ↦
+          let at : n ≡ i = omega arith in
+          subst (λ (t : ℕ). flag made t ≡ true) at
+          (true_from_ne_false (flag made n) (λ unmade. none n (record { before = omega arith; unmade = unmade; sources = below_made made n (step_in plan n).sources before (steps n) })))
+    ]
+
+pub sources_made : (plan : Plan) (made : List Bool) (k : ℕ) → HasSteps plan → ((i : ℕ) → CanBeNext plan made k i → ⊥) → AllByRecursion (IsMade made) (step_in plan k).sources
+sources_made plan made k steps none = below_made made k (step_in plan k).sources (λ i lt. none_left plan made k steps none k i (omega arith) lt) (steps k)

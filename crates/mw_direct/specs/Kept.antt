@@ -1,10 +1,10 @@
--- Planes of earlier steps that are kept, and what a step reads of them (own).
-use Rattle.std.specs.Prelude.{◌≡◌, ℕ, ◌<◌, ◌≤◌, List, length, map, Option, Some, None, IsSome, IfSome, slice_index_or, unwrap_or}
-use Rattle.std.specs.List.{AllByRecursion}
+-- Planes of steps that are made, as long as they are kept, and what a step reads of them (own).
+use Rattle.std.specs.Prelude.{◌≡◌, ℕ, ◌<◌, ◌≤◌, false, true, Bool, List, length, map, Option, Some, None, IsSome, IfSome, slice_index_or, unwrap_or}
+use Rattle.std.specs.List.{AllByRecursion, list_any}
 use Rattle.mw_model.specs.declared.limits.TheConstants.{SIDE_LIMIT}
 use Rattle.mw_model.specs.Pictures.{Picture}
 use Rattle.mw_model.specs.Plans.{Plan, Planned, Source, FromInput, FromStep, no_picture}
-use Rattle.mw_model.specs.Tasks.{nothing_planned}
+use Rattle.mw_model.specs.Tasks.{flag, is_step, nothing_planned}
 use Rattle.mw_grid.specs.Rectangles.{whole_frame}
 use Rattle.mw_tile.specs.Windows.{SourceWindow, window_of}
 use Rattle.mw_task.specs.Sources.{HasFrame}
@@ -18,6 +18,10 @@ whole_window f = window_of (whole_frame f.width f.height) f
 -- what is kept of the plane of a step
 abbrev pub kept_at : List (Option Picture) → ℕ → Option Picture
 kept_at planes k = slice_index_or planes k None
+
+-- nothing is kept
+abbrev pub IsEmpty : List (Option Picture) → Type 0
+IsEmpty planes = (j : ℕ) → kept_at planes j ≡ None
 
 -- the plane of a source, of the image and of the planes that are kept
 abbrev pub plane_kept : Picture → List (Option Picture) → Source → Picture
@@ -50,13 +54,30 @@ pub record IsDone (image : Picture) (planes : List (Option Picture)) (s : Planne
   pub windows : t.windows ≡ map (λ x. whole_window (plane_kept image planes x)) s.sources
   pub bounded : AllByRecursion IsBounded t.windows
 
--- the source, if it is a step before k, is kept
-abbrev pub IsThereBelow : ℕ → List (Option Picture) → Source → Type 0
-IsThereBelow k planes (FromInput i) = Unit {0}
-IsThereBelow k planes (FromStep i) = i < k → IsSome (kept_at planes i)
+-- the source is the image, or a step that is made
+abbrev pub IsMade : List Bool → Source → Type 0
+IsMade made (FromInput i) = Unit {0}
+IsMade made (FromStep i) = flag made i ≡ true
 
--- What was kept is kept or dropped, and what a step from this place on reads is not dropped.
-pub record KeepsRead (plan : Plan) (from : ℕ) (old new : List (Option Picture)) : Type 0 where
+-- the source, if it is a step that is made, is kept
+abbrev pub IsThereIfMade : List Bool → List (Option Picture) → Source → Type 0
+IsThereIfMade made planes (FromInput i) = Unit {0}
+IsThereIfMade made planes (FromStep i) = flag made i ≡ true → IsSome (kept_at planes i)
+
+-- A step of the plan that is not made yet reads step k.
+pub record IsWanted (plan : Plan) (made : List Bool) (k : ℕ) : Type 0 where
+  pub reader : ℕ
+  pub within : reader < length plan
+  pub unmade : flag made reader ≡ false
+  pub reads : list_any (is_step k) (slice_index_or plan reader nothing_planned).sources ≡ true
+
+-- what is kept of the source, if it is a step, is read by one that is not made yet
+abbrev pub IsKeptWanted : Plan → List Bool → List (Option Picture) → Source → Type 0
+IsKeptWanted plan made planes (FromInput i) = Unit {0}
+IsKeptWanted plan made planes (FromStep i) = IfSome (kept_at planes i) (λ f. IsWanted plan made i)
+
+-- What was kept is kept or dropped, and what a step that is not made yet reads is not dropped.
+pub record KeepsRead (plan : Plan) (made : List Bool) (old new : List (Option Picture)) : Type 0 where
   pub count : length new ≡ length old
   pub same : (j : ℕ) → IfSome (kept_at new j) (λ f. kept_at old j ≡ Some f)
-  pub read : (i k : ℕ) → from ≤ i → i < length plan → AllByRecursion (IsThereBelow k old) (slice_index_or plan i nothing_planned).sources → AllByRecursion (IsThereBelow k new) (slice_index_or plan i nothing_planned).sources
+  pub read : (i : ℕ) → i < length plan → flag made i ≡ false → AllByRecursion (IsThereIfMade made old) (slice_index_or plan i nothing_planned).sources → AllByRecursion (IsThereIfMade made new) (slice_index_or plan i nothing_planned).sources

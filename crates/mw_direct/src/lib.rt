@@ -1,5 +1,6 @@
 //! Operations on whole images, in one thread: the steps of a plan one after the other, each on whole planes. There are no
-//! tiles, no machine and no names, and a plane is dropped behind the last step that reads it.
+//! tiles, no machine and no names. A step is made when no later one can be, and its plane is kept exactly as long as a step
+//! that is not made yet reads it. So a skeleton of any number of levels has five planes at most, and three of them are sets.
 //!
 //! ```text
 //! let opening = Op::Flat(FlatOp::Opening(n, n));      // the names in an operation are not looked at
@@ -12,6 +13,7 @@
 
 mod applying;
 mod making;
+mod order;
 mod running;
 mod seeing;
 mod spent;

@@ -52,7 +52,7 @@ fn done(
 }
 
 /// Whether the step makes a number.
-fn sums_up(step: &Step) -> bool
+pub(crate) fn sums_up(step: &Step) -> bool
     ensures { result ≡ is_sum (meaning step.now) }
 {
     match step {

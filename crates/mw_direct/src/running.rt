@@ -1,44 +1,97 @@
 //! Runs plans on whole images, step by step.
 
-ghost use Rattle.std.specs.Prelude.{◌≡◌, ◌+◌, ◌-◌, ◌<◌, ◌≤◌, [], ◌∷◌, ◌++◌, false, length, slice_index_or, IfOk, OnOk};
+ghost use Rattle.std.specs.Prelude.{◌≡◌, ℕ, ◌-◌, ◌<◌, ◌≤◌, false, true, length, slice_index_or, slice_set, IfOk, OnOk};
+ghost use Rattle.std.specs.List.{AllByRecursion};
+ghost use Rattle.mw_model.specs.Pictures.{Picture};
 ghost use Rattle.mw_model.specs.Plans.{is_sum, no_picture, numbers_from};
-ghost use Rattle.mw_model.specs.Tasks.{nothing_planned};
-ghost use Rattle.mw_direct.specs.Products.{plane_in, numbers_in};
+ghost use Rattle.mw_model.specs.Tasks.{flag, nothing_planned};
+ghost use Rattle.mw_direct.specs.Kept.{IsEmpty, IsMade};
+ghost use Rattle.mw_direct.specs.Products.{IsNumberOf, number_in, put};
 ghost use Rattle.mw_direct.specs.Runs.{HasRun, IsRunnable, planes_on};
 
-use crate::making::{Product, made};
-use crate::spent::drop_spent;
+use crate::making::{Product, made, sums_up};
+use crate::order::next_before;
+use crate::spent::{drop_spent, drop_unwanted};
 use mw_model::NoMemory;
 use mw_pixel::Image;
 use mw_plan::Plan;
 use std::alloc::Global;
 
-/// What the steps so far made: for each its plane, unless it sums up or no later step reads it; and the numbers of those
-/// that sum up.
+/// Which steps are made, and their planes, as long as a step that is not made yet reads them.
 #[derive(Drop)]
 struct Run {
+    made: Vec<bool>,
     planes: Vec<Option<Image>>,
-    numbers: Vec<u64>,
+}
+
+/// Places for so many planes, all empty.
+fn empty_places(alloc: Global, count: usize) -> Result<Vec<Option<Image>>, NoMemory>
+    ensures count { IfOk result (λ v. length v.items ≡ count) }
+    ensures empty { IfOk result (λ v. IsEmpty v.items) }
+{
+    let mut planes = Vec::with_capacity(alloc, count)?;
+    'places: while planes.len() < count {
+        planes.push(None)?;
+    }
+    Ok(planes)
 }
 
 impl Run {
-    /// Puts what a step made behind the others.
-    fn put(&mut self, product: Product) -> Result<(), NoMemory>
-        ensures planes { OnOk result (self.new.planes.items ≡ self.old.planes.items ++ plane_in product ∷ []) }
-        ensures numbers { OnOk result (self.new.numbers.items ≡ self.old.numbers.items ++ numbers_in product) }
+    /// Nothing is made yet.
+    #[tactic(auto, using(crate::proofs::Steps::nothing_run, crate::proofs::Steps::none_made))]
+    fn new(alloc: Global, plan: &Plan) -> Result<Run, NoMemory>
+        ensures run { (image : Picture) → IfOk result (λ r. HasRun plan.now image r.made.items r.planes.items) }
+        ensures unmade { IfOk result (λ r. (j : ℕ) → flag r.made.items j ≡ false) }
     {
-        match product {
-            Product::Plane(plane) => self.planes.push(Some(plane))?,
-            Product::Number(n) => {
-                self.planes.push(None)?;
-                self.numbers.push(n)?;
-            }
-        }
-        Ok(())
+        let planes = empty_places(alloc, plan.len())?;
+        let made = vec![in alloc; false; plan.len()]?;
+        Ok(Run { made, planes })
     }
 
-    /// Runs step `k`, and drops the planes that it is the last to read.
+    /// Puts the plane of step `k` into its place, or gives its number.
+    fn put(&mut self, k: usize, product: Product) -> Option<u64>
+        requires { k < length self.old.planes.items }
+        ensures planes { self.new.planes.items ≡ put self.old.planes.items k product }
+        ensures made { self.new.made.items ≡ self.old.made.items }
+        ensures number { result ≡ number_in product }
+    {
+        match product {
+            Product::Plane(plane) => {
+                self.planes[k] = Some(plane);
+                None
+            }
+            Product::Number(n) => Some(n),
+        }
+    }
+
+    /// Makes step `k`, whose sources are made, and drops the planes that it is the last to read. Its number, if it sums up.
     fn advance(
+        &mut self,
+        alloc: Global,
+        plan: &Plan,
+        image: &Image,
+        k: usize,
+    ) -> Result<Option<u64>, NoMemory>
+        requires runnable { IsRunnable plan.now image.now }
+        requires within { k < length plan.now }
+        requires run { HasRun plan.now image.now self.old.made.items self.old.planes.items }
+        requires unmade { flag self.old.made.items k ≡ false }
+        requires sources { AllByRecursion (IsMade self.old.made.items) (slice_index_or plan.now k nothing_planned).sources }
+        ensures run { OnOk result (HasRun plan.now image.now self.new.made.items self.new.planes.items) }
+        ensures made { OnOk result (self.new.made.items ≡ slice_set self.old.made.items k true) }
+        ensures number { IfOk result (IsNumberOf (slice_index_or plan.now k nothing_planned).step (slice_index_or (planes_on plan.now image.now) k no_picture)) }
+    {
+        let step = plan.step(k);
+        let product = made(alloc, step, image, &self.planes)?;
+        let number = self.put(k, product);
+        self.made[k] = true;
+        drop_spent(plan, &self.made, step.sources, &mut self.planes);
+        drop_unwanted(plan, &self.made, k, &mut self.planes);
+        Ok(number)
+    }
+
+    /// Makes all that step `k` reads.
+    fn provide(
         &mut self,
         alloc: Global,
         plan: &Plan,
@@ -47,32 +100,16 @@ impl Run {
     ) -> Result<(), NoMemory>
         requires runnable { IsRunnable plan.now image.now }
         requires within { k < length plan.now }
-        requires run { HasRun plan.now image.now k self.old.planes.items self.old.numbers.items }
-        ensures { OnOk result (HasRun plan.now image.now (k + 1) self.new.planes.items self.new.numbers.items) }
+        requires run { HasRun plan.now image.now self.old.made.items self.old.planes.items }
+        ensures run { OnOk result (HasRun plan.now image.now self.new.made.items self.new.planes.items) }
+        ensures sources { OnOk result (AllByRecursion (IsMade self.new.made.items) (slice_index_or plan.now k nothing_planned).sources) }
+        ensures later { OnOk result ((i : ℕ) → k ≤ i → flag self.new.made.items i ≡ flag self.old.made.items i) }
     {
-        let step = plan.step(k);
-        let product = made(alloc, step, image, &self.planes)?;
-        self.put(product)?;
-        drop_spent(plan, k + 1, step.sources, &mut self.planes);
+        'steps: while let Some(j) = next_before(plan, &self.made, k) {
+            self.advance(alloc, plan, image, j)?;
+        }
         Ok(())
     }
-}
-
-/// Runs so many steps.
-fn run_steps(alloc: Global, plan: &Plan, image: &Image, count: usize) -> Result<Run, NoMemory>
-    requires runnable { IsRunnable plan.now image.now }
-    requires within { count ≤ length plan.now }
-    ensures { IfOk result (λ r. HasRun plan.now image.now count r.planes.items r.numbers.items) }
-{
-    let planes = Vec::with_capacity(alloc, count)?;
-    let mut run = Run {
-        planes,
-        numbers: Vec::new(alloc),
-    };
-    'steps: for k in 0..count {
-        run.advance(alloc, plan, image, k)?;
-    }
-    Ok(run)
 }
 
 /// The plane of the last step.
@@ -82,7 +119,8 @@ pub(crate) fn last_plane(alloc: Global, plan: &Plan, image: &Image) -> Result<Im
     ensures { IfOk result (λ f. f ≡ slice_index_or (planes_on plan.now image.now) (length plan.now - 1) no_picture) }
 {
     let last = plan.len() - 1;
-    let run = run_steps(alloc, plan, image, last)?;
+    let mut run = Run::new(alloc, plan)?;
+    run.provide(alloc, plan, image, last)?;
     match made(alloc, plan.step(last), image, &run.planes)? {
         Product::Plane(plane) => Ok(plane),
         Product::Number(_) => unreachable!(),
@@ -94,6 +132,15 @@ pub(crate) fn numbers(alloc: Global, plan: &Plan, image: &Image) -> Result<Vec<u
     requires { IsRunnable plan.now image.now }
     ensures { IfOk result (λ v. v.items ≡ numbers_from plan.now (planes_on plan.now image.now)) }
 {
-    let Run { planes: _, numbers } = run_steps(alloc, plan, image, plan.len())?;
+    let mut run = Run::new(alloc, plan)?;
+    let mut numbers = Vec::new(alloc);
+    'steps: for k in 0..plan.len() {
+        if sums_up(&plan.step(k).step) {
+            run.provide(alloc, plan, image, k)?;
+            if let Some(n) = run.advance(alloc, plan, image, k)? {
+                numbers.push(n)?;
+            }
+        }
+    }
     Ok(numbers)
 }

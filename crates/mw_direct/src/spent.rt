@@ -1,24 +1,24 @@
-//! Planes that no later step reads.
+//! Planes that no step reads any more.
 
-ghost use Rattle.std.specs.Prelude.{◌≡◌, ℕ, ◌<◌, ◌≤◌, true, length, slice_index_or};
-ghost use Rattle.std.specs.List.{list_any};
-ghost use Rattle.mw_model.specs.Tasks.{is_step, nothing_planned};
+ghost use Rattle.std.specs.Prelude.{◌≡◌, ℕ, false, true, length, slice_index_or, IfSome};
+ghost use Rattle.std.specs.List.{AllByRecursion, list_any};
+ghost use Rattle.mw_model.specs.Tasks.{is_step};
 ghost use Rattle.mw_plan.specs.Seen.{source, sources};
-ghost use Rattle.mw_direct.specs.Kept.{KeepsRead};
+ghost use Rattle.mw_direct.specs.Kept.{IsKeptWanted, IsWanted, KeepsRead, kept_at};
 
 use mw_pixel::Image;
 use mw_plan::{Plan, Source, Sources};
 
-fn is_step(from: Source, k: u16) -> bool
+fn is_step(from: Source, k: usize) -> bool
     ensures { result ≡ is_step k (source from) }
 {
     match from {
-        Source::Step(j) => j == k,
+        Source::Step(j) => usize::from(j) == k,
         Source::Input(_) => false,
     }
 }
 
-fn has_step(from: Sources, k: u16) -> bool
+fn has_step(from: Sources, k: usize) -> bool
     ensures { result ≡ list_any (is_step k) (sources from) }
 {
     match from {
@@ -29,49 +29,59 @@ fn has_step(from: Sources, k: u16) -> bool
     }
 }
 
-/// Whether a step from this place on reads step `k`.
-fn is_read_from(plan: &Plan, from: usize, k: u16) -> bool
-    ensures { (i : ℕ) → from ≤ i → i < length plan.now → list_any (is_step k) (slice_index_or plan.now i nothing_planned).sources ≡ true → result ≡ true }
+/// Whether a step that is not made yet reads step `k`.
+fn is_wanted(plan: &Plan, made: &[bool], k: usize) -> bool
+    requires { length made.now ≡ length plan.now }
+    ensures wanted { result ≡ true → IsWanted plan.now made.now k }
+    ensures spent { result ≡ false → IsWanted plan.now made.now k → ⊥ }
 {
-    for i in from..plan.len() {
-        if has_step(plan.step(i).sources, k) {
+    for i in 0..plan.len() {
+        if !made[i] && has_step(plan.step(i).sources, k) {
             return true;
         }
     }
     false
 }
 
-/// Drops the plane of a source that no step from this place on reads.
-fn drop_one(plan: &Plan, from: usize, source: Source, planes: &mut Vec<Option<Image>>)
-    ensures { KeepsRead plan.now from planes.old.items planes.new.items }
+/// Drops the plane of a step, if no step that is not made yet reads it.
+pub(crate) fn drop_unwanted(plan: &Plan, made: &[bool], k: usize, planes: &mut Vec<Option<Image>>)
+    requires { length made.now ≡ length plan.now }
+    ensures keeps { KeepsRead plan.now made.now planes.old.items planes.new.items }
+    ensures wanted { IfSome (kept_at planes.new.items k) (λ _. IsWanted plan.now made.now k) }
 {
-    if let Source::Step(k) = source {
-        if (k as usize) < planes.len() && !is_read_from(plan, from, k) {
-            planes[k as usize] = None;
-        }
+    if k < planes.len() && !is_wanted(plan, made, k) {
+        planes[k] = None;
     }
 }
 
-/// Drops the planes of the sources that no step from this place on reads.
-pub(crate) fn drop_spent(
-    plan: &Plan,
-    from: usize,
-    sources: Sources,
-    planes: &mut Vec<Option<Image>>,
-)
-    ensures { KeepsRead plan.now from planes.old.items planes.new.items }
+/// The same of the step that a source is.
+fn drop_one(plan: &Plan, made: &[bool], from: Source, planes: &mut Vec<Option<Image>>)
+    requires { length made.now ≡ length plan.now }
+    ensures keeps { KeepsRead plan.now made.now planes.old.items planes.new.items }
+    ensures wanted { IsKeptWanted plan.now made.now planes.new.items (source from) }
 {
-    match sources {
+    if let Source::Step(k) = from {
+        drop_unwanted(plan, made, usize::from(k), planes);
+    }
+}
+
+/// The same of the steps among the sources.
+pub(crate) fn drop_spent(plan: &Plan, made: &[bool], from: Sources, planes: &mut Vec<Option<Image>>)
+    requires { length made.now ≡ length plan.now }
+    ensures keeps { KeepsRead plan.now made.now planes.old.items planes.new.items }
+    ensures wanted { AllByRecursion (IsKeptWanted plan.now made.now planes.new.items) (sources from) }
+{
+    match from {
         Sources::Nothing => {}
-        Sources::One(a) => drop_one(plan, from, a, planes),
+        Sources::One(a) => drop_one(plan, made, a, planes),
         Sources::Two(a, b) => {
-            drop_one(plan, from, a, planes);
-            drop_one(plan, from, b, planes);
+            drop_one(plan, made, a, planes);
+            drop_one(plan, made, b, planes);
         }
         Sources::Three(a, b, c) => {
-            drop_one(plan, from, a, planes);
-            drop_one(plan, from, b, planes);
-            drop_one(plan, from, c, planes);
+            drop_one(plan, made, a, planes);
+            drop_one(plan, made, b, planes);
+            drop_one(plan, made, c, planes);
         }
     }
 }

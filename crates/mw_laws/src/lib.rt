@@ -4,5 +4,6 @@
 
 pub mod examples;
 pub mod laws;
+pub mod limit_laws;
 pub mod machine_examples;
 pub mod machine_laws;

@@ -1,10 +1,11 @@
 -- What a server leaves behind (own).
-use Rattle.std.specs.Prelude.{◌≡◌, ◌⊎◌, ℕ, Bool, true, List, Option, MatchBool, length, codes}
+use Rattle.std.specs.Prelude.{◌≡◌, ◌⊎◌, ℕ, Bool, true, List, [], Option, Result, All, MatchBool, length, codes}
 use Rattle.std.specs.Io.KnownBytes.{Appends}
 use Rattle.mw_model.specs.declared.receipts.Receipt.{Receipt}
 use Rattle.mw_model.specs.Machine.{Machine}
 use Rattle.mw_model.specs.Receipts.{Covers}
 use Rattle.mw_model.specs.Stands.{CoreView, StandsFor}
+use Rattle.mw_serve.specs.Serving.{Receives}
 use Rattle.mw_serve.specs.mw_wire.Writes.{CutsShort}
 use Rattle.mw_socket.specs.Announcements.{announcement}
 use Rattle.mw_listen.specs.declared.fault.ListenFault.{ListenFault}
@@ -32,15 +33,23 @@ abbrev pub TellsLine : Told → Told → List ℕ → Type 0
 TellsLine old new line =
     (Appends old.text new.text line × (new.failed ≡ old.failed)) ⊎ (CutsShort old.text new.text line × (new.failed ≡ true))
 
--- So many sessions were joined. Their passes cover the log of a core that stands for some state of the machine: that state's run has all their calls, each once.
-pub record Audited (sessions : ℕ) : Type 0 where
+-- What a session leaves whose connection does not tell its bytes: such bytes were read and such a text is due for them that the pass has the receipts of their requests, from the first on.
+pub record IsOfSession (pass : List Receipt) : Type 0 where
+  pub bytes : List ℕ
+  pub rest : List ℕ
+  pub text : List ℕ
+  pub receives : Receives bytes rest [] pass text
+
+-- So many sessions were joined, and these are the passes that they left. They cover the log of a core that stands for some state of the machine: that state's run has all their calls, each once.
+pub record Audited (left : List Receipt → Type 0) (sessions : ℕ) : Type 0 where
   pub core : CoreView
   pub stands : ∥ ((m : Machine) × StandsFor core m) ∥₁
   pub passes : List (List Receipt)
   pub joined : length passes ≡ sessions
+  pub each : ∥ All left passes ∥₁
   pub covers : Covers core.log passes
 
--- Status 0: the sessions were audited, and nothing was told. Status 1: the line of one fault was told.
-abbrev pub Listened : ℕ → Told → Told → ℕ → Type 0
-Listened sessions old new status =
-    ((status ≡ 0) × Audited sessions × (new ≡ old)) ⊎ ((status ≡ 1) × ((f : ListenFault) × TellsLine old new (listen_line f)))
+-- Status 0: the passes that the sessions left were audited, and nothing was told. Status 1: the line of one fault was told.
+abbrev pub Listened : (List Receipt → Type 0) → ℕ → Told → Told → ℕ → Type 0
+Listened left sessions old new status =
+    ((status ≡ 0) × Audited left sessions × (new ≡ old)) ⊎ ((status ≡ 1) × ((f : ListenFault) × TellsLine old new (listen_line f)))

@@ -11,7 +11,9 @@ mod fault;
 mod hall;
 mod kernels;
 mod server;
+mod session;
 
 pub use fault::ListenFault;
 pub use kernels::Kernels;
-pub use server::{Service, listen};
+pub use server::{Service, Staff, listen, listen_with};
+pub use session::{Requests, Session};

@@ -2,10 +2,11 @@
 
 ghost use Rattle.std.specs.Prelude.{◌≡◌, ◌≤◌, IfOk, OnOk};
 ghost use Rattle.mw_step.specs.mw_grid.Grids.{IsTileSide};
-ghost use Rattle.mw_listen.specs.Listening.{AnnouncesIf, Audited, Listened, Told};
+ghost use Rattle.mw_listen.specs.Listening.{AnnouncesIf, Audited, IsOfSession, Listened, Told};
 
 use crate::fault::ListenFault;
 use crate::hall::{Hall, serve_sessions};
+use crate::session::{Requests, Session};
 use mw_serve::wire::{Sink, send};
 use mw_serve::{Board, Core, Gate, Naming, NewRoll};
 use mw_socket::announce;
@@ -28,6 +29,13 @@ pub struct Service {
     pub announce: bool,
 }
 
+/// What computes tasks, and what serves connections.
+#[derive(Drop)]
+pub struct Staff<'s, G, S> {
+    pub gate: &'s G,
+    pub session: &'s S,
+}
+
 /// Tells where connections can be made, if that is asked for.
 fn announce_of<O: Write>(service: Service, output: &mut Sink<O>) -> Result<(), ListenFault>
     ensures { OnOk result (AnnouncesIf service.announce service.port (O.contents output.old.inner) (O.contents output.new.inner)) }
@@ -44,17 +52,18 @@ fn serve_all<
     R: Net<Listener = TcpListener, Stream = TcpStream> + Threads + Wait + Sync,
     O: Write,
     G: Gate + Sync,
+    S: Session + Sync,
 >(
     rt: &R,
     alloc: Global,
     service: Service,
     output: &mut Sink<O>,
-    gate: &G,
+    staff: Staff<'_, G, S>,
     roll: NewRoll,
 ) -> Result<(), ListenFault>
     requires named { roll ≡ J.book }
     requires side { IsTileSide service.side }
-    ensures audited { IfOk result (λ _. Audited service.sessions) }
+    ensures audited { IfOk result (λ _. Audited S.left service.sessions) }
     ensures announced { OnOk result (AnnouncesIf service.announce service.port (O.contents output.old.inner) (O.contents output.new.inner)) }
 {
     let Ok(core) = Core::new(alloc, service.side) else {
@@ -69,15 +78,50 @@ fn serve_all<
         rt,
         alloc,
         board: &board,
-        gate,
+        gate: staff.gate,
+        session: staff.session,
         idle: service.idle,
     };
     let passes = serve_sessions(hall, &listener, service.workers, service.sessions)?;
-    // That each session has left its pass is looked at here too: no clause of a scope tells what its threads leave.
+    // Each of these passes is one that a session has left, and that there is one of each session is looked at here.
     if passes.len() != service.sessions || !board.audit_all(rt, passes.as_slice()) {
         return Err(ListenFault::Audit);
     }
     Ok(())
+}
+
+/// `listen`, where others serve the connections. Status 0 says that each session has left its pass, and that these passes
+/// cover the log.
+pub fn listen_with<
+    R: Net<Listener = TcpListener, Stream = TcpStream> + Threads + Wait + Sync,
+    O: Write,
+    F: Write,
+    G: Gate + Sync,
+    S: Session + Sync,
+>(
+    rt: &R,
+    alloc: Global,
+    service: Service,
+    output: &mut Sink<O>,
+    faults: &mut Sink<F>,
+    staff: Staff<'_, G, S>,
+) -> u8
+    requires port { 1 ≤ service.port }
+    requires workers { (1 ≤ service.workers) × (service.workers ≤ 64) }
+    requires sessions { (1 ≤ service.sessions) × (service.sessions ≤ 64) }
+    requires side { IsTileSide service.side }
+    ensures audited { let old : Told = record { text = F.contents faults.old.inner; failed = faults.old.failed } in
+        let new : Told = record { text = F.contents faults.new.inner; failed = faults.new.failed } in
+        Listened S.left service.sessions old new result }
+    ensures announced { result ≡ 0 → AnnouncesIf service.announce service.port (O.contents output.old.inner) (O.contents output.new.inner) }
+{
+    match serve_all::<Brand, R, O, G, S>(rt, alloc, service, output, staff, NewRoll::new()) {
+        Ok(()) => 0,
+        Err(fault) => {
+            let _told = send(faults, fault.line().as_bytes());
+            1
+        }
+    }
 }
 
 /// Listens on 127.0.0.1, serves so many sessions beside so many workers, audits them, and gives the exit status: 0 where
@@ -104,14 +148,12 @@ pub fn listen<
     requires side { IsTileSide service.side }
     ensures audited { let old : Told = record { text = F.contents faults.old.inner; failed = faults.old.failed } in
         let new : Told = record { text = F.contents faults.new.inner; failed = faults.new.failed } in
-        Listened service.sessions old new result }
+        Listened IsOfSession service.sessions old new result }
     ensures announced { result ≡ 0 → AnnouncesIf service.announce service.port (O.contents output.old.inner) (O.contents output.new.inner) }
 {
-    match serve_all::<Brand, R, O, G>(rt, alloc, service, output, gate, NewRoll::new()) {
-        Ok(()) => 0,
-        Err(fault) => {
-            let _told = send(faults, fault.line().as_bytes());
-            1
-        }
-    }
+    let staff = Staff {
+        gate,
+        session: &Requests,
+    };
+    listen_with(rt, alloc, service, output, faults, staff)
 }

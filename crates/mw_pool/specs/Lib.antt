@@ -4,3 +4,4 @@ pub mod Tickets
 pub mod Blocks
 pub mod Rolls
 pub mod Handed
+pub mod Wakings

@@ -2,14 +2,14 @@
 
 ghost use Rattle.std.specs.Prelude.{◌≡◌, ◌↔◌, [], true, IfOk, IfSome, OnErr, IsTrue, IsSome};
 
-use crate::kept::Kept;
+use crate::kept::{Exchange, Kept};
 use crate::pass::Pass;
 use crate::payloads::{read_element, read_image};
 use crate::roll::{Front, Naming, NewRoll};
-use crate::signals::Signals;
+use crate::signals::{Signals, Sleepers};
 use crossbeam_utils::Backoff;
 use mw_core::task::{TaskRefused, TileDone, Work};
-use mw_core::{Core, Fetched, Finish, Refusal, Started};
+use mw_core::{Core, Fetched, Started};
 use mw_model::{Name, NoMemory, Op, Reply};
 use std::alloc::Global;
 use std::sync::{Condvar, Mutex, MutexGuard, Wait};
@@ -17,6 +17,9 @@ use std::sync::{Condvar, Mutex, MutexGuard, Wait};
 /// How often a thread looks for the lock before it sleeps. The first seven pauses take some microseconds in all; behind each other look
 /// other threads may run.
 const LOOKS: u32 = 40;
+
+// Who looks on and on takes a processor from those that compute.
+const _: () = prove!(LOOKS <= 64);
 
 /// A core that threads share. Its parameter names the roll of the tasks that it hands out.
 #[derive(Drop)]
@@ -109,10 +112,7 @@ impl<J: Naming> Board<J> {
         ensures shows_nothing { IfOk result (λ r. ¬ ShowsSome r) }
         ensures err { OnErr result (pass.new ≡ pass.old) }
     {
-        let mut kept = self.hold(rt);
-        let reply = kept.run(pass, name, op);
-        let wanted = kept.wanted_workers(0);
-        drop(kept);
+        let (reply, wanted) = self.hold(rt).run(pass, name, op);
         self.wake_workers(wanted);
         reply
     }
@@ -214,13 +214,11 @@ impl<J: Naming> Board<J> {
     {
         for _ in rt.forever() {
             let mut kept = self.hold(rt);
-            if kept.closed {
-                return None;
-            }
-            let (started, slip) = kept.start();
+            let (started, slip) = kept.next()?;
+            self.settled.wake(Sleepers::of_start(&started));
             match started {
                 Started::Work(work) => return Some((work, slip)),
-                Started::Refused(_) => self.settled.wake_all(),
+                Started::Refused(_) => {}
                 Started::Idle => self.sleep(rt, kept),
             }
         }
@@ -248,22 +246,18 @@ impl<J: Naming> Board<J> {
         ensures bounded { IfSome result (λ r. AllByRecursion IsBounded r.0.windows) }
         ensures slip { IfSome result (λ r. IfSome r.1 (λ seen. EndsWith seen r.0)) }
     {
-        let mut kept = self.hold(rt);
-        let answer = kept.finish(done, slip);
-        let (started, next_slip) = kept.start_if_open();
-        let wanted = kept.wanted_workers(0);
-        drop(kept);
-        if let Finish::Settled(t) = answer {
-            self.settled.of(t).notify_all();
-        }
+        let Exchange {
+            answer,
+            next,
+            wanted,
+        } = self.hold(rt).exchange(done, slip);
+        self.settled.wake(Sleepers::of_finish(&answer));
         self.wake_workers(wanted);
+        let (started, next_slip) = next?;
+        self.settled.wake(Sleepers::of_start(&started));
         match started {
             Started::Work(work) => Some((work, next_slip)),
-            Started::Refused(_) => {
-                self.settled.wake_all();
-                self.take(rt)
-            }
-            Started::Idle => self.take(rt),
+            _ => self.take(rt),
         }
     }
 
@@ -271,8 +265,6 @@ impl<J: Naming> Board<J> {
     /// it is settled with it.
     pub(crate) fn refuse<R: Wait>(&self, rt: &R, refused: TaskRefused) {
         let answer = self.hold(rt).refuse(refused);
-        if let Refusal::Killed(_) = answer {
-            self.settled.wake_all();
-        }
+        self.settled.wake(Sleepers::of_refusal(&answer));
     }
 }

@@ -1,8 +1,8 @@
 //! What the lock of a board keeps.
 
-ghost use Rattle.std.specs.Prelude.{◌≡◌, ◌≢◌, ◌↔◌, ◌-◌, [], min, ℕ, true, false, length, IfOk, IfSome, OnErr, IsTrue, IsSome, None, Some};
+ghost use Rattle.std.specs.Prelude.{◌≡◌, ◌≢◌, ◌↔◌, [], min, ℕ, true, false, length, IfOk, IfSome, OnErr, IsTrue, IsSome, None, Some};
 ghost use Rattle.mw_model.specs.Machine.{Machine};
-ghost use Rattle.mw_model.specs.Stands.{StandsFor, ready_count};
+ghost use Rattle.mw_model.specs.Stands.{CoreView, StandsFor, ready_count};
 ghost use Rattle.mw_pool.specs.Handed.{AreHanded};
 
 use crate::auditing::audit;
@@ -14,6 +14,15 @@ use mw_core::pixel::Image;
 use mw_core::task::{TaskRefused, TileDone};
 use mw_core::{Core, Fetched, Finish, Refusal, Started};
 use mw_model::{Code, Name, NoMemory, Op, Reply};
+
+/// What comes of a result in one hold of the lock: the answer to it, what its worker takes next, with what is then seen of the
+/// roll, or none of a closed board, and how many sleeping workers have something to do.
+#[derive(Drop)]
+pub(crate) struct Exchange<J: Naming> {
+    pub answer: Finish,
+    pub next: Option<(Started, Option<Front<J>>)>,
+    pub wanted: u64,
+}
 
 /// A core that stands for some state of the machine: so its log is a run of the machine of one thread that ends in that
 /// state, and each logged reply is that machine's. And each task of the roll is the core's own, as long as it is running. It
@@ -47,6 +56,7 @@ impl<J: Naming> Kept<J> {
     ghost use Rattle.mw_pool.specs.Passes.{with_receipt};
     ghost use Rattle.mw_pool.specs.Rolls.{EndsWith, IsSlipOf, StandsIn};
     ghost use Rattle.mw_pool.specs.Tickets.{IsAwaited};
+    ghost use Rattle.mw_pool.specs.Handed.{Follows};
 
     /// An open board's, before any worker sleeps.
     pub fn new(core: Core, roll: NewRoll) -> Kept<J>
@@ -96,15 +106,18 @@ impl<J: Naming> Kept<J> {
         pass.element(&mut self.core, name, element)
     }
 
-    pub fn run(&mut self, pass: &mut Pass, name: Name, op: Op) -> Result<Reply, NoMemory>
-        ensures served { IfOk result (FollowsMachine self.old.core (call.Run name op) None self.new.core) }
-        ensures shows_nothing { IfOk result (λ r. ¬ ShowsSome r) }
-        ensures receipt { IfOk result (λ r. pass.new ≡ with_receipt pass.old (length self.old.core.log) (call.Run name op) r) }
-        ensures core_stays { OnErr result (self.new.core ≡ self.old.core) }
-        ensures pass_stays { OnErr result (pass.new ≡ pass.old) }
+    /// RUN, and how many sleeping workers then have something to do.
+    pub fn run(&mut self, pass: &mut Pass, name: Name, op: Op) -> (Result<Reply, NoMemory>, u64)
+        ensures served { IfOk result.0 (FollowsMachine self.old.core (call.Run name op) None self.new.core) }
+        ensures shows_nothing { IfOk result.0 (λ r. ¬ ShowsSome r) }
+        ensures receipt { IfOk result.0 (λ r. pass.new ≡ with_receipt pass.old (length self.old.core.log) (call.Run name op) r) }
+        ensures core_stays { OnErr result.0 (self.new.core ≡ self.old.core) }
+        ensures pass_stays { OnErr result.0 (pass.new ≡ pass.old) }
+        ensures wanted { result.1 ≡ min self.new.asleep (ready_count self.new.core) }
         ensures rest { (self.new.closed ≡ self.old.closed) × (self.new.asleep ≡ self.old.asleep) }
     {
-        pass.run(&mut self.core, name, op)
+        let reply = pass.run(&mut self.core, name, op);
+        (reply, self.wanted_workers())
     }
 
     pub fn cancel(&mut self, pass: &mut Pass, name: Name) -> Result<Reply, NoMemory>
@@ -178,7 +191,7 @@ impl<J: Naming> Kept<J> {
 
     /// The first ready task in ticket order is taken and written into the roll. Beside it is what is then seen of the roll, if
     /// it was written.
-    pub fn start(&mut self) -> (Started, Option<Front<J>>)
+    fn start(&mut self) -> (Started, Option<Front<J>>)
         ensures task { (m : Machine) → StandsFor self.old.core m → Starts self.old.core m result.0 self.new.core }
         ensures bounded { StartsBounded result.0 }
         ensures slip { IsSlipOf result.0 result.1 }
@@ -189,18 +202,18 @@ impl<J: Naming> Kept<J> {
         (started, slip)
     }
 
-    /// The same on an open board. Of a closed one no task is taken.
-    pub fn start_if_open(&mut self) -> (Started, Option<Front<J>>)
-        ensures task { self.old.closed ≡ false → (m : Machine) → StandsFor self.old.core m → Starts self.old.core m result.0 self.new.core }
-        ensures closed { self.old.closed ≡ true → (result.0 ≡ Started.Idle) × (self.new.core ≡ self.old.core) }
-        ensures bounded { StartsBounded result.0 }
-        ensures slip { IsSlipOf result.0 result.1 }
+    /// The same on an open board. Of a closed one none is taken.
+    pub fn next(&mut self) -> Option<(Started, Option<Front<J>>)>
+        ensures open_still { IsSome result ↔ (self.old.closed ≡ false) }
+        ensures task { Follows self.old.core result self.new.core }
+        ensures bounded { IfSome result (λ r. StartsBounded r.0) }
+        ensures slip { IfSome result (λ r. IsSlipOf r.0 r.1) }
         ensures rest { (self.new.closed ≡ self.old.closed) × (self.new.asleep ≡ self.old.asleep) }
     {
         if !self.closed {
-            return self.start();
+            return Some(self.start());
         }
-        (Started::Idle, None)
+        None
     }
 
     /// A result of a task of the roll, which is the core's own: nothing is compared.
@@ -222,7 +235,7 @@ impl<J: Naming> Kept<J> {
     }
 
     /// A worker brings a result, with what it saw of the roll when it took the task.
-    pub fn finish(&mut self, done: TileDone, slip: &Option<Front<J>>) -> Finish
+    fn finish(&mut self, done: TileDone, slip: &Option<Front<J>>) -> Finish
         requires bounded { AllByRecursion IsBounded done.windows }
         requires slip { IfSome slip.now (λ seen. EndsWith seen done) }
         ensures task { (m : Machine) → StandsFor self.old.core m → Finishes self.old.core m done result self.new.core }
@@ -235,6 +248,27 @@ impl<J: Naming> Kept<J> {
         }
     }
 
+    /// The same, and then a ready task is taken for this worker, if the board is open. What is ready still is for those that sleep.
+    pub fn exchange(&mut self, done: TileDone, slip: &Option<Front<J>>) -> Exchange<J>
+        requires bounded { AllByRecursion IsBounded done.windows }
+        requires slip { IfSome slip.now (λ seen. EndsWith seen done) }
+        ensures open_still { IsSome result.next ↔ (self.old.closed ≡ false) }
+        ensures task { (m : Machine) → StandsFor self.old.core m → (between : CoreView) × Finishes self.old.core m done result.answer between × Follows between result.next self.new.core }
+        ensures bounded { IfSome result.next (λ r. StartsBounded r.0) }
+        ensures slip { IfSome result.next (λ r. IsSlipOf r.0 r.1) }
+        ensures wanted { result.wanted ≡ min self.new.asleep (ready_count self.new.core) }
+        ensures rest { (self.new.closed ≡ self.old.closed) × (self.new.asleep ≡ self.old.asleep) }
+    {
+        let answer = self.finish(done, slip);
+        let next = self.next();
+        let wanted = self.wanted_workers();
+        Exchange {
+            answer,
+            next,
+            wanted,
+        }
+    }
+
     pub fn refuse(&mut self, refused: TaskRefused) -> Refusal
         ensures task { (m : Machine) → StandsFor self.old.core m → Refuses self.old.core m refused.task result self.new.core }
         ensures rest { (self.new.closed ≡ self.old.closed) × (self.new.asleep ≡ self.old.asleep) }
@@ -242,16 +276,14 @@ impl<J: Naming> Kept<J> {
         self.core.refuse(refused)
     }
 
-    /// How many sleeping workers have something to do, where so many of the ready tasks are taken by others. Tasks are
-    /// counted only where a worker sleeps.
-    pub fn wanted_workers(&self, taken: u64) -> u64
-        ensures { result ≡ min self.now.asleep (ready_count self.now.core - taken) }
+    /// How many sleeping workers have something to do. Tasks are counted only where a worker sleeps.
+    fn wanted_workers(&self) -> u64
+        ensures { result ≡ min self.now.asleep (ready_count self.now.core) }
     {
         if self.asleep == 0 {
             return 0;
         }
-        self.asleep
-            .min(self.core.ready_count().saturating_sub(taken))
+        self.asleep.min(self.core.ready_count())
     }
 
     /// Whether the passes cover the log.

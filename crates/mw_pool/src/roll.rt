@@ -178,6 +178,9 @@ impl<J: Naming> Front<J> {
 /// No board hands out as many tasks.
 const MOST: u64 = 1 << 62;
 
+// Results of tasks that stand in no roll are compared with what the core has.
+const _: () = prove!(MOST >= 1 << 60);
+
 /// The roll, with the word that all its fronts go by. Contracts see it as its tasks.
 #[derive(Drop)]
 pub(crate) struct Roll<J: Naming> {

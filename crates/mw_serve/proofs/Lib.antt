@@ -1,3 +1,4 @@
+-- what other crates may cite
+pub mod Sessions
 -- the crate's own
 mod Texts
-mod Sessions

@@ -1,5 +1,5 @@
 -- Whole sessions at a board, in the words of receipts.
-use Rattle.std.proofs.Common.{◌≡◌, ℕ, ◌+◌, List, [], ◌∷◌, ◌++◌, length, take, refl, sym, ap, ◌∙◌, subst, Option, inl, inr, append_assoc}
+use Rattle.std.proofs.Common.{◌≡◌, ℕ, ◌+◌, List, [], ◌∷◌, ◌++◌, length, take, refl, sym, ap, ◌∙◌, subst, Option, Ok, Err, inl, inr, append_assoc}
 use Rattle.std.proofs.lemmas.List.{append-nil}
 use Rattle.std.proofs.Math.Seq.{take-append-add, take-length}
 use Rattle.std.specs.Io.KnownBytes.{Appends, IsAtEnd}
@@ -15,7 +15,7 @@ use Rattle.mw_fetched.specs.mw_wire.Rooms.{LacksRoom}
 use Rattle.mw_fetched.specs.mw_wire.Chains.{AreAnswered, HasAnswered}
 use Rattle.mw_fetched.specs.mw_wire.Runs.{AllAnswered, CameToEnd, Halted}
 use Rattle.mw_fetched.proofs.mw_wire.Chains.{has-append, has-one}
-use Rattle.mw_serve.specs.Serving.{Makes, Served, refused, received, Receives, WroteAll, WroteFront}
+use Rattle.mw_serve.specs.Serving.{Makes, Served, refused, received, ServedWhole, Receives, WroteAll, WroteFront}
 
 makes-for : (q : Asked) (c : Call) → Makes q c → IsCallFor q c
 makes-for (AskLoad name bytes) c m = (m.0, m.2)
@@ -73,3 +73,8 @@ halted-wrote-front left bytes old new before after fault.Write (inl (inr s)) =
     (s.rest, s.text, end_text s.end, length s.text + s.count, receives bytes s.rest s.asked old new s.text s.made, inr (s.end, s.ends.0, refl), subst (Appends before after) (sym (take-append-add s.text (end_text s.end) s.count)) s.wrote)
 halted-wrote-front left bytes old new before after fault.Write (inr (inl (rest, d))) = said-wrote-front left bytes rest old new before after d
 halted-wrote-front left bytes old new before after fault.Write (inr (inr (e, f))) = came-wrote-front left bytes old new before after e f
+
+-- the receipts of a session that was served with a pass of its own
+pub whole-receives : (pass : List Receipt) (had left before after : Option (List ℕ)) → ServedWhole pass had left before after → (bytes rest text : List ℕ) × Receives bytes rest [] pass text
+whole-receives pass had left before after (Ok end, ran) = let wrote = came-wrote-all left ran.taken [] pass before after end ran.ran in (ran.taken, wrote.0, wrote.1, wrote.2)
+whole-receives pass had left before after (Err fault, ran) = let wrote = halted-wrote-front left ran.taken [] pass before after fault ran.ran in (ran.taken, wrote.0, wrote.1, wrote.4)

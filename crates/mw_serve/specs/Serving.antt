@@ -1,5 +1,5 @@
 -- What a session at a board writes, and which receipts it adds.
-use Rattle.std.specs.Prelude.{◌≡◌, ℕ, List, ◌++◌, take, Option}
+use Rattle.std.specs.Prelude.{◌≡◌, ℕ, List, [], ◌++◌, take, Option, Result}
 use Rattle.std.specs.Io.KnownBytes.{Appends}
 use Rattle.mw_model.specs.declared.codes.Code.TheVariants.{Memory}
 use Rattle.mw_model.specs.declared.calls.Given.{Given}
@@ -16,6 +16,8 @@ use Rattle.mw_pool.specs.Passes.{AddsReceipt}
 use Rattle.mw_pool.specs.Payloads.{TellsImage, TellsElement}
 use Rattle.mw_fetched.specs.mw_wire.Chains.{NoneQuits}
 use Rattle.mw_fetched.specs.mw_wire.Rooms.{EndsAt, LacksRoom}
+use Rattle.mw_fetched.specs.mw_wire.Runs.{DeskRan}
+use Rattle.mw_fetched.specs.mw_wire.declared.fault.SessionFault.{SessionFault}
 
 -- the call that is made of a request, with what its payload was found to be
 abbrev pub Makes : Asked → Call → Type 0
@@ -27,6 +29,10 @@ Makes (AskAlone a) c = Calls a c
 pub data Served (old : List Receipt) (r : Asked) (text : List ℕ) (new : List Receipt) : Type 0 where
   refused : new ≡ old → text ≡ refusal_text Memory → Served old r text new
   received : (c : Call) (a : Reply) → Makes r c → AddsReceipt old new c a → IsTextOf a text → Served old r text new
+
+-- a session was served with a pass of its own, from its first request to some end
+abbrev pub ServedWhole : List Receipt → Option (List ℕ) → Option (List ℕ) → Option (List ℕ) → Option (List ℕ) → Type 0
+ServedWhole pass had left before after = (end : Result End SessionFault) × DeskRan Served [] pass had left before after end
 
 -- ---- whole sessions, in the words of receipts
 

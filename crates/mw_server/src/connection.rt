@@ -1,27 +1,23 @@
 //! One connection: a session that begins with nothing and leaves nothing.
 
-ghost use Rattle.std.specs.Prelude.{◌≡◌, None, false};
+ghost use Rattle.std.specs.Prelude.{◌≡◌, ◌≤◌, None, IfSome, IfNone, true, false};
+ghost use Rattle.std.specs.Io.Buffered.{writer_contents};
 ghost use Rattle.mw_server.specs.mw_grid.Grids.{IsTileSide};
 ghost use Rattle.mw_batch.specs.Batches.{Ends};
-ghost use Rattle.mw_server.specs.Services.{ServedAlone};
+ghost use Rattle.mw_server.specs.Services.{ServedAlone, IsTaken, Conversed, Connected};
+ghost use Rattle.mw_socket.specs.Closings.{IsDone};
 
 use mw_batch::{Crew, batch};
-use mw_socket::bound;
 use mw_socket::wire::{Sink, Source};
+use mw_socket::{finish, prepare};
+use std::alloc::Global;
 use std::io;
-use std::io::{BufWriter, ErrorKind, Read, Write};
-use std::net::{Shutdown, TcpStream};
+use std::io::{BufWriter, Read, Write};
+use std::net::OpenStream;
 use std::thread::Threads;
-use std::time::Duration;
 
 /// How many bytes of replies may wait for those behind them, so that they go out in one write.
 pub(crate) const HELD: usize = 65536;
-
-/// How many bytes are read at a time of what comes behind the end of a session, and how often at most: together they are
-/// more than the longest payload.
-const LAST_READ: usize = 16384;
-
-const LAST_READS: u32 = 16384;
 
 /// Serves one connection as a batch, on a core of its own, and gives the exit status that the batch has. Nobody is told of
 /// a fault.
@@ -43,46 +39,63 @@ pub fn serve_one<R: Read, W: Write, T: Threads + Sync>(
     batch(crew, source, sink, &mut faults, side)
 }
 
-/// Ends a connection whose session has ended. What the client sent behind the end is read and dropped, since the system
-/// breaks a connection off that is closed with bytes unread, and the last replies could be lost with it.
-fn end(stream: &TcpStream) {
-    let _closed = stream.shutdown(Shutdown::Write);
-    let _bounded = stream.set_read_timeout(Some(Duration::from_secs(1)));
-    let mut dropped = [0u8; LAST_READ];
-    let mut wire = stream;
-    for _ in 0..LAST_READS {
-        match wire.read(&mut dropped) {
-            Ok(0) => return,
-            Err(error) if error.kind() != ErrorKind::Interrupted => return,
-            _ => {}
-        }
-    }
+/// Has the writer take what is held still. Gives it back, and whether it has taken all. What it has not taken is dropped: a
+/// writer that failed is not waited for once more.
+fn hand_over<W: Write + Drop>(sink: Sink<BufWriter<W, Global>>) -> (W, bool)
+    ensures { IsTaken (writer_contents W.contents sink.inner) (W.contents result.0) result.1 }
+{
+    let has_failed = sink.failed();
+    let mut buffered = sink.into_inner();
+    let has_taken = !has_failed && buffered.flush().is_ok();
+    let (writer, _untaken) = buffered.into_parts();
+    (writer, has_taken)
 }
 
-/// Serves the connection of a client. A fault of its wire ends this session alone.
-pub(crate) fn serve_stream<T: Threads + Sync>(
+/// Serves one session between these ends. Gives the writer back, and whether it has taken all replies.
+fn converse<R: Read, W: Write + Drop, T: Threads + Sync>(
     crew: Crew<T>,
-    stream: TcpStream,
+    source: &mut Source<R>,
+    writer: BufWriter<W, Global>,
+    side: u32,
+) -> (W, bool)
+    requires side { IsTileSide side }
+    requires source_clear { source.old.failed ≡ false }
+    requires unread { source.old.reads ≡ 0 }
+    ensures served { Conversed (R.remaining source.old.inner) (R.remaining source.new.inner) (writer_contents W.contents writer) (W.contents result.0) result.1 }
+    ensures few { source.new.reads ≤ 4294967295 }
+{
+    let mut sink = Sink::new(writer);
+    let _status = serve_one(crew, source, &mut sink, side);
+    hand_over(sink)
+}
+
+/// Serves a connection, of which these are the socket, the reader and the writer, as one session. Gives the writer back, and
+/// whether it has taken all replies; where it has, what comes behind the end of the session is read and dropped. None where
+/// waiting cannot be bounded, or where there is no memory to hold replies: then nothing is read or written.
+pub fn serve_connection<S: OpenStream, R: Read, W: Write + Drop, T: Threads + Sync>(
+    crew: Crew<T>,
+    socket: &S,
+    source: &mut Source<R>,
+    writer: W,
     idle: Option<u32>,
     side: u32,
-)
+) -> Option<(W, bool)>
     requires side { IsTileSide side }
+    requires source_clear { source.old.failed ≡ false }
+    requires unread { source.old.reads ≡ 0 }
+    ensures served { IfSome result (λ r. Connected (R.remaining source.old.inner) (R.remaining source.new.inner) (W.contents writer) (W.contents r.0) r.1) }
+    ensures done { IfSome result (λ r. r.1 ≡ true → IsDone (R.remaining source.new.inner) source.new.failed 16384 source.new.reads) }
+    ensures none { IfNone result (source.new ≡ source.old) }
 {
-    // Without this, a short reply would wait until what was sent before it is acknowledged.
-    let _quick = stream.set_nodelay(true);
-    if !bound(&stream, idle) {
-        return;
+    if !prepare(socket, idle) {
+        return None;
     }
-    let Ok(writer) = BufWriter::with_capacity(crew.alloc, HELD, &stream) else {
-        return;
+    let Ok(buffered) = BufWriter::with_capacity(crew.alloc, HELD, writer) else {
+        return None;
     };
-    let mut source = Source::new(&stream);
-    let mut sink = Sink::new(writer);
-    let _status = serve_one(crew, &mut source, &mut sink, side);
-    if sink.failed() {
-        // Else the writer, which holds replies still, would wait for its client once more where it is dropped.
-        let _closed = stream.shutdown(Shutdown::Both);
-    } else {
-        end(&stream);
+    let (writer, has_taken) = converse(crew, source, buffered, side);
+    if has_taken {
+        finish(socket, source);
     }
+    Some((writer, has_taken))
 }

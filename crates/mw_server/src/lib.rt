@@ -10,6 +10,13 @@ mod connection;
 mod fault;
 mod service;
 
-pub use connection::serve_one;
+pub use connection::{serve_connection, serve_one};
 pub use fault::ServeFault;
 pub use service::{Service, serve};
+
+// What lower crates offer, for the crates above.
+pub use mw_batch::{Crew, batch};
+
+pub mod wire {
+    pub use mw_socket::wire::{Sink, Source, send};
+}

@@ -1,16 +1,16 @@
 //! A service: its threads, which are started once, and its end.
 
-ghost use Rattle.std.specs.Prelude.{ℕ, OnOk};
+ghost use Rattle.std.specs.Prelude.{OnOk, IfOk};
 ghost use Rattle.std.specs.Io.KnownBytes.{Appends};
 ghost use Rattle.mw_server.specs.mw_grid.Grids.{IsTileSide};
 ghost use Rattle.mw_socket.specs.Announcements.{announcement};
-ghost use Rattle.mw_server.specs.Services.{Offered, Told};
+ghost use Rattle.mw_server.specs.Services.{Announces, IsPortFor, Offered, Told};
 
-use crate::connection::{HELD, serve_stream};
+use crate::connection::{HELD, serve_connection};
 use crate::fault::ServeFault;
 use mw_batch::Crew;
-use mw_socket::announce;
-use mw_socket::wire::{Sink, send};
+use mw_socket::wire::{Sink, Source, send};
+use mw_socket::{announce, next_client};
 use std::alloc::Global;
 use std::io::{BufWriter, ErrorKind, Read, Write};
 use std::net::{Ipv4Addr, Net, Shutdown, TcpListener, TcpStream};
@@ -18,7 +18,7 @@ use std::os::fd::OwnedFd;
 use std::sync::Wait;
 use std::sync::atomic::{AtomicBool, Ordering};
 use std::thread::{Scope, Threads};
-use std::time::{Clock, Duration};
+use std::time::Clock;
 use std::{io, thread};
 
 /// The port on 127.0.0.1, 0 for one that the system picks; how many workers compute each session, how many sessions are
@@ -39,9 +39,26 @@ struct Door {
     is_over: AtomicBool,
 }
 
-/// How many milliseconds a thread waits that could not accept a connection: where descriptors or memory are short, others give
-/// some back meanwhile.
-const PAUSE: u64 = 20;
+/// A listener, and the port that it listens on.
+#[derive(Drop)]
+struct Place {
+    listener: TcpListener,
+    port: u16,
+}
+
+/// Serves the connection of a client. A fault of its wire ends this session alone.
+fn serve_stream<T: Threads + Sync>(crew: Crew<T>, stream: TcpStream, idle: Option<u32>, side: u32)
+    requires side { IsTileSide side }
+{
+    let _served = serve_connection(
+        crew,
+        &stream,
+        &mut Source::new(&stream),
+        &stream,
+        idle,
+        side,
+    );
+}
 
 /// Serves one connection after the other.
 fn serve_connections<R: Threads + Clock + Sync>(
@@ -57,14 +74,11 @@ fn serve_connections<R: Threads + Clock + Sync>(
         rt,
         workers: service.workers,
     };
-    for accepted in door.listener.incoming() {
-        if door.is_over.load(Ordering::SeqCst) {
+    for _ in 0..u64::MAX {
+        let Some(stream) = next_client(&door.listener, rt, &door.is_over) else {
             return;
-        }
-        match accepted {
-            Ok(stream) => serve_stream(crew, stream, service.idle, service.side),
-            Err(_) => thread::sleep(rt, Duration::from_millis(PAUSE)),
-        }
+        };
+        serve_stream(crew, stream, service.idle, service.side);
     }
 }
 
@@ -147,6 +161,49 @@ fn serve_until<R: Threads + Wait + Clock + Sync, I: Read + Drop>(
     )
 }
 
+/// Listens on this port, or on one that the system picks where it is 0.
+fn listen_on<R: Net<Listener = TcpListener, Stream = TcpStream>>(
+    rt: &R,
+    asked: u16,
+) -> Result<Place, ServeFault>
+    ensures { IfOk result (λ p. IsPortFor asked p.port) }
+{
+    let Ok(listener) = TcpListener::bind(rt, (Ipv4Addr::LOCALHOST, asked)) else {
+        return Err(ServeFault::Socket);
+    };
+    if asked > 0 {
+        return Ok(Place {
+            listener,
+            port: asked,
+        });
+    }
+    let Ok(address) = listener.local_addr() else {
+        return Err(ServeFault::Socket);
+    };
+    Ok(Place {
+        listener,
+        port: address.port(),
+    })
+}
+
+/// Tells the port, and serves.
+fn serve_at<R: Threads + Wait + Clock + Sync, I: Read + Drop, O: Write>(
+    rt: &R,
+    alloc: Global,
+    service: Service,
+    place: Place,
+    until: Option<I>,
+    output: &mut Sink<O>,
+) -> Result<(), ServeFault>
+    requires side { IsTileSide service.side }
+    ensures { OnOk result (Appends (O.contents output.old.inner) (O.contents output.new.inner) (announcement place.port)) }
+{
+    if announce(output, place.port).is_err() {
+        return Err(ServeFault::Output);
+    }
+    serve_until(rt, alloc, service, place.listener, until)
+}
+
 /// Listens, tells the port, and serves.
 fn serve_all<
     R: Net<Listener = TcpListener, Stream = TcpStream> + Threads + Wait + Clock + Sync,
@@ -160,21 +217,13 @@ fn serve_all<
     output: &mut Sink<O>,
 ) -> Result<(), ServeFault>
     requires side { IsTileSide service.side }
-    ensures { OnOk result ((port : ℕ) × Appends (O.contents output.old.inner) (O.contents output.new.inner) (announcement port)) }
+    ensures { OnOk result (Announces service.port (O.contents output.old.inner) (O.contents output.new.inner)) }
 {
     if BufWriter::with_capacity(alloc, HELD, io::sink()).is_err() {
         return Err(ServeFault::Memory);
     }
-    let Ok(listener) = TcpListener::bind(rt, (Ipv4Addr::LOCALHOST, service.port)) else {
-        return Err(ServeFault::Socket);
-    };
-    let Ok(address) = listener.local_addr() else {
-        return Err(ServeFault::Socket);
-    };
-    if announce(output, address.port()).is_err() {
-        return Err(ServeFault::Output);
-    }
-    serve_until(rt, alloc, service, listener, until)
+    let place = listen_on(rt, service.port)?;
+    serve_at(rt, alloc, service, place, until, output)
 }
 
 /// Listens on 127.0.0.1, tells on which port, and serves one connection after the other, so many at once, each as a batch.
@@ -198,7 +247,7 @@ pub fn serve<
     requires side { IsTileSide service.side }
     ensures { let old : Told = record { text = F.contents faults.old.inner; failed = faults.old.failed } in
         let new : Told = record { text = F.contents faults.new.inner; failed = faults.new.failed } in
-        Offered (O.contents output.old.inner) (O.contents output.new.inner) old new result }
+        Offered service.port (O.contents output.old.inner) (O.contents output.new.inner) old new result }
 {
     match serve_all(rt, alloc, service, until, output) {
         Ok(()) => 0,

@@ -1,3 +1,4 @@
 pub mod Announcements
+pub mod Closings
 -- what lower crates offer
 pub mod mw_wire

@@ -1,16 +1,23 @@
-//! What every server does with sockets: it tells where connections can be made, and bounds how long a client is waited for.
+//! What every server does with sockets: it tells where connections can be made, takes one client after the other, bounds how
+//! long a client is waited for, and ends a connection without losing its last replies.
 //!
 //! ```
 //! announce(&mut output, 7001)?; // LISTENING 127.0.0.1 7001
-//! if bound(&stream, Some(60)) { /* no read and no write of this connection waits longer than a minute */ }
+//! while let Some(stream) = next_client(&listener, rt, &is_over) {
+//!     if prepare(&stream, Some(60)) { /* no read and no write of this connection waits longer than a minute */ }
+//! }
 //! ```
 #![tactic(auto)]
 
 mod announcement;
+mod clients;
+mod closing;
 mod idle;
 
 pub use announcement::announce;
-pub use idle::bound;
+pub use clients::next_client;
+pub use closing::finish;
+pub use idle::{bound, prepare};
 
 // What lower crates offer, for the crates above.
 pub mod wire {

@@ -6,9 +6,9 @@ use Rattle.mw_pool.proofs.kept.Kept.run.Goals as goal
 
 pub invariant_of-self : goal.invariant_of-self
 invariant_of-self g c = record {
-  stands = stands-served (λ r. r) c.run.result c.args.self.now.core c.run.new.core (call.Run c.args.name c.args.op) (None) c.args.self.now.stands c.run.ensures.served c.run.ensures.core_stays;
-  handed = handed-served (λ r. r) c.run.result c.args.self.now.core c.run.new.core (call.Run c.args.name c.args.op) (None) c.args.self.now.roll c.args.self.now.handed c.run.ensures.served c.run.ensures.core_stays;
+  stands = stands-served (λ r. r) c.run-reply.result c.args.self.now.core c.run-reply.new.core (call.Run c.args.name c.args.op) (None) c.args.self.now.stands c.run-reply.ensures.served c.run-reply.ensures.core_stays;
+  handed = handed-served (λ r. r) c.run-reply.result c.args.self.now.core c.run-reply.new.core (call.Run c.args.name c.args.op) (None) c.args.self.now.roll c.args.self.now.handed c.run-reply.ensures.served c.run-reply.ensures.core_stays;
 }
 
 pub returns-clause-shows_nothing : goal.returns-clause-shows_nothing
-returns-clause-shows_nothing g c = plain-shows-nothing c.run.result c.args.self.now.core c.run.new.core (call.Run c.args.name c.args.op) (None) tt c.args.self.now.stands c.run.ensures.served
+returns-clause-shows_nothing g c = plain-shows-nothing c.run-reply.result c.args.self.now.core c.run-reply.new.core (call.Run c.args.name c.args.op) (None) tt c.args.self.now.stands c.run-reply.ensures.served

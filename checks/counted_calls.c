@@ -1,0 +1,139 @@
+/* Counts what calls of the library ask of malloc and realloc: for each it prints its name, how many pixels its picture has, the
+ * most bytes that were held at once, how many times it asked, how many of those before the first sample was written, and what it
+ * answers where all are refused. It is linked with --wrap=malloc and the like. */
+#include <malloc.h>
+#include <morphd.h>
+#include <stdio.h>
+#include <stdlib.h>
+#include <string.h>
+
+#define UNTOUCHED 0xA5
+#define LARGEST 255
+
+void *__real_malloc(size_t size);
+void *__real_realloc(void *old, size_t size);
+void __real_free(void *old);
+
+static size_t held, most;
+static long asked, asked_before, is_refusing;
+static uint8_t *out;
+
+static void *given(void *block, size_t before) {
+    held += malloc_usable_size(block) - before;
+    if (held > most) most = held;
+    return block;
+}
+
+static int is_refused(void) {
+    asked++;
+    asked_before += out[0] == UNTOUCHED && out[1] == UNTOUCHED;
+    return is_refusing;
+}
+
+void *__wrap_malloc(size_t size) {
+    return is_refused() ? NULL : given(__real_malloc(size), 0);
+}
+
+void *__wrap_realloc(void *old, size_t size) {
+    size_t before = malloc_usable_size(old);
+    return is_refused() ? NULL : given(__real_realloc(old, size), before);
+}
+
+void __wrap_free(void *old) {
+    held -= malloc_usable_size(old);
+    __real_free(old);
+}
+
+typedef struct {
+    const char *name;
+    enum { U8, U16, SET, SKELETON, RESTORE, SPECTRUM, THRESHOLD, HIT_OR_MISS, ROWS } call;
+    uint32_t number, k, width, height, side;
+    /* All pixels of a square, or those of a disc. */
+    enum { BOX, DISC } shape;
+} Case;
+
+static uint8_t *bytes, element[LARGEST * LARGEST], far_pixel[3] = {1, 0, 0};
+static uint16_t *words;
+
+static void draw(const Case *c) {
+    int middle = c->side / 2;
+    for (int y = 0; y < (int)c->side; y++)
+        for (int x = 0; x < (int)c->side; x++) {
+            int dx = x - middle, dy = y - middle;
+            element[y * c->side + x] = c->shape == BOX || dx * dx + dy * dy <= middle * middle;
+        }
+}
+
+static int32_t run(const Case *c) {
+    uint32_t width = c->width, height = c->height, side = c->side, middle = side / 2;
+    size_t count = (size_t)width * height;
+    memset(out, UNTOUCHED, 2 * count);
+#define ELEMENT element, side * side, side, side, middle, middle
+    switch (c->call) {
+    case U8: return morphd_flat_u8(c->number, c->k, width, height, 255, bytes, count, ELEMENT, out, count);
+    case U16: return morphd_flat_u16(c->number, c->k, width, height, 65535, words, count, ELEMENT, (uint16_t *)out, count);
+    case SET: return morphd_flat_set(c->number, c->k, width, height, bytes, count, ELEMENT, out, count);
+    case SKELETON: return morphd_skeleton(c->number, width, height, bytes, count, ELEMENT, out, count);
+    case RESTORE: return morphd_restore_u8(c->number, width, height, 255, bytes, count, ELEMENT, out, count);
+    case SPECTRUM: return morphd_spectrum_u8(c->number, width, height, 255, bytes, count, ELEMENT, (uint64_t *)out, c->number + 1);
+    case THRESHOLD: return morphd_threshold_u16(c->number, width, height, 65535, words, count, out, count);
+    case HIT_OR_MISS:
+        return morphd_hit_or_miss_u8(width, height, 255, bytes, count, ELEMENT, far_pixel, 3, 3, 1, 2, 0, out, count);
+    default: return morphd_flat_rows_u8(c->number, c->k, height / 2, width, height, 255, bytes, count, ELEMENT, out, count / 2);
+    }
+}
+
+static const Case cases[] = {
+    {"erosion_u8_box_15", U8, MORPHD_ERODE, 0, 4096, 2048, 15, BOX},
+    {"erosion_u8_box_15_again", U8, MORPHD_ERODE, 0, 4096, 512, 15, BOX},
+    {"erosion_u8_disc_31", U8, MORPHD_ERODE, 0, 4096, 2048, 31, DISC},
+    {"dilation_u8_disc_255", U8, MORPHD_DILATE, 0, 8192, 512, 255, DISC},
+    {"dilation_u16_disc_255", U16, MORPHD_DILATE, 0, 8192, 512, 255, DISC},
+    {"erosion_set_box_255", SET, MORPHD_ERODE, 0, 8192, 2048, 255, BOX},
+    {"gradient_u16_box_3", U16, MORPHD_GRADIENT, 0, 4096, 2048, 3, BOX},
+    {"rank_u8_box_5", U8, MORPHD_RANK, 13, 4096, 1024, 5, BOX},
+    {"rank_u16_disc_31", U16, MORPHD_RANK, 300, 2048, 1024, 31, DISC},
+    {"rank_set_box_15", SET, MORPHD_RANK, 100, 4096, 2048, 15, BOX},
+    {"rank_u8_box_101", U8, MORPHD_RANK, 5101, 2048, 1024, 101, BOX},
+    {"rank_u16_box_101", U16, MORPHD_RANK, 5101, 2048, 512, 101, BOX},
+    {"rows_u8_box_15", ROWS, MORPHD_DILATE, 0, 4096, 2048, 15, BOX},
+    {"threshold_u16", THRESHOLD, 300, 0, 4096, 2048, 1, BOX},
+    {"opening_u8_box_15", U8, MORPHD_OPEN, 0, 4096, 2048, 15, BOX},
+    {"opening_u8_box_255", U8, MORPHD_OPEN, 0, 4096, 2048, 255, BOX},
+    {"white_top_hat_u16_disc_31", U16, MORPHD_WHITE_TOP_HAT, 0, 2048, 2048, 31, DISC},
+    {"closing_set_disc_15", SET, MORPHD_CLOSE, 0, 4096, 2048, 15, DISC},
+    {"hit_or_miss_u8_box_1", HIT_OR_MISS, 0, 0, 2048, 2048, 1, BOX},
+    {"skeleton_2_levels", SKELETON, 2, 0, 2048, 2048, 3, BOX},
+    {"skeleton_254_levels", SKELETON, 254, 0, 2048, 2048, 3, BOX},
+    {"restore_254_levels", RESTORE, 254, 0, 2048, 2048, 3, BOX},
+    {"spectrum_u8_32_levels", SPECTRUM, 32, 0, 1024, 1024, 3, DISC},
+};
+
+int main(void) {
+    size_t largest = (size_t)8192 * 2048;
+    bytes = __real_malloc(largest);
+    words = __real_malloc(2 * largest);
+    out = __real_malloc(2 * largest);
+    if (!bytes || !words || !out) return 1;
+    for (size_t i = 0; i < largest; i++) {
+        bytes[i] = i * 2654435761u >> 24 & 127;
+        words[i] = i * 2654435761u >> 17;
+    }
+    for (size_t number = 0; number < sizeof cases / sizeof *cases; number++) {
+        const Case *c = &cases[number];
+        draw(c);
+        most = asked = asked_before = is_refusing = 0;
+        int32_t answer = run(c);
+        if (answer != MORPHD_DONE || held != 0) {
+            printf("%s: answered %d, and holds %zu bytes\n", c->name, answer, held);
+            return 1;
+        }
+        size_t peak = most;
+        long times = asked, before = asked_before;
+        is_refusing = 1;
+        answer = run(c);
+        printf("%s %zu %zu %ld %ld %d\n", c->name, (size_t)c->width * c->height, peak, times, before, answer);
+        fflush(stdout);
+    }
+    return 0;
+}

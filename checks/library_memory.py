@@ -1,0 +1,66 @@
+"""How much memory calls of the library take beyond the caller's arrays, and how often they ask for some: counted by
+checks/counted_calls.c, and held against what may be.
+
+A call by strips takes what one strip needs, and no more on a picture four times as high. A filter takes a plane besides, at one
+go, and all others but a restoration four planes at most. A call that asks more often does something anew for each row or strip
+that it could have kept. All ask before they write the first sample, and answer 50 where they get nothing.
+"""
+import sys
+
+MIB = 1 << 20
+ASKS = 1.15
+# Of each call: the bytes for each pixel and those besides that it may hold at once; how many times it asked when this was written,
+# which it may exceed by the factor ASKS; and how many bytes it held then.
+STRIP = 2 * MIB
+MOST = {
+    "erosion_u8_box_15": (0, STRIP, 303, 1971304),
+    "erosion_u8_box_15_again": (0, STRIP, 87, 1967232),
+    "erosion_u8_disc_31": (0, STRIP, 555, 1969296),
+    # a strip of 16 rows of 8192 pixels wants 254 rows besides
+    "dilation_u8_disc_255": (0, 5 * MIB, 467, 4833840),
+    "dilation_u16_disc_255": (0, 10 * MIB, 467, 9457232),
+    "erosion_set_box_255": (0, 2.25 * MIB, 99, 2228352),
+    "gradient_u16_box_3": (0, STRIP, 1549, 1966272),
+    "rank_u8_box_5": (0, STRIP, 266, 1966336),
+    "rank_u16_disc_31": (0, STRIP, 169, 1969296),
+    "rank_set_box_15": (0, STRIP, 249, 1967232),
+    "rank_u8_box_101": (0, STRIP, 66, 2007808),
+    "rank_u16_box_101": (0, STRIP, 102, 2007808),
+    "rows_u8_box_15": (0, STRIP, 159, 1967232),
+    "threshold_u16": (0, STRIP, 449, 1966088),
+    "opening_u8_box_15": (1, STRIP, 596, 10361048),
+    "opening_u8_box_255": (1, 3 * MIB, 2328, 11134056),
+    "white_top_hat_u16_disc_31": (2, STRIP, 1028, 10361104),
+    # the plane has a bit a pixel
+    "closing_set_disc_15": (1 / 8, STRIP, 165, 3016376),
+    "hit_or_miss_u8_box_1": (4, MIB / 8, 48, 16778288),
+    "skeleton_2_levels": (4, 0, 75, 11011664),
+    "skeleton_254_levels": (4, 0, 4148, 11066848),
+    # the set of each of the levels has a bit a pixel
+    "restore_254_levels": (34, 0, 4214, 138480624),
+    "spectrum_u8_32_levels": (4, MIB / 2, 20846, 4372040),
+}
+
+
+def faults(name, pixels, held, asked, before, refused):
+    """What a call does otherwise than it may."""
+    each, besides, asks, _ = MOST[name]
+    if held > each * pixels + besides:
+        yield "holds %.2f MiB at once, and may hold %.2f" % (held / MIB, (each * pixels + besides) / MIB)
+    if asked > ASKS * asks:
+        yield "asks %d times, and did %d times" % (asked, asks)
+    if before == 0:
+        yield "asks for nothing before the first sample is written"
+    if refused != 50:
+        yield "answers %d where it gets no memory" % refused
+
+
+def check(text):
+    """Compares what the program in C printed with what may be; what was looked at."""
+    rows = [line.split() for line in text.splitlines()]
+    if [row[0] for row in rows] != list(MOST) or any(len(row) != 6 for row in rows):
+        sys.exit("memory of calls: " + text)
+    found = ["%s %s" % (row[0], what) for row in rows for what in faults(row[0], *map(int, row[1:]))]
+    if found:
+        sys.exit("\n".join(found))
+    return "%d calls hold and ask for no more memory than they may" % len(rows)

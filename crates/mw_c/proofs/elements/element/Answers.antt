@@ -1,5 +1,0 @@
-use Rattle.mw_c.proofs.Sets.{bitmap_fills}
-use Rattle.mw_c.proofs.elements.element.Goals as goal
-
-pub set_of_bytes-requires : goal.set_of_bytes-requires
-set_of_bytes-requires c = bitmap_fills c.args.b.now c.requires

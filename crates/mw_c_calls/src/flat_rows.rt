@@ -1,0 +1,128 @@
+//! Rows of flat operators of one step on arrays: erosions, dilations, gradients and ranks. Threads that share a picture each
+//! make some.
+
+ghost use Rattle.std.specs.Prelude.{◌≡◌, ◌≢◌, pos, length};
+ghost use Rattle.mw_model.specs.declared.limits.TheConstants.{LEVEL_LIMIT};
+ghost use Rattle.mw_arrays.specs.Arrays.{element_of, grey_of, set_of};
+ghost use Rattle.mw_arrays.specs.Faults.{element_fault, levels_fault, pixels_fault};
+ghost use Rattle.mw_strips.specs.Rows.{rows_from};
+ghost use Rattle.mw_c_calls.specs.Answers.{IsAnswer};
+ghost use Rattle.mw_c_calls.specs.Calls.{call_fault, flat_asks, flat_of};
+ghost use Rattle.mw_c_calls.specs.Rows.{row_operation_case, rows_case};
+
+use crate::answers::answer;
+use crate::row_calls::flat_rows;
+use mw_arrays::{Bitmap, Grey8, Grey16, Set, Source};
+use std::alloc::Global;
+
+/// Rows of the flat operator of a number, from `first_row` on, on levels of one byte.
+pub fn flat_rows_u8(
+    alloc: Global,
+    operation: u32,
+    k: u32,
+    first_row: u32,
+    width: u32,
+    height: u32,
+    maxval: u8,
+    samples: &[u8],
+    element: &[u8],
+    element_width: u32,
+    element_height: u32,
+    element_x: u32,
+    element_y: u32,
+    out: &mut [u8],
+) -> i32
+    ensures made { result ≡ pos 0 → out.new ≡ rows_from first_row (length out.old) (flat_of operation k (element_of element_width element_height element_x element_y element.now) (grey_of width height maxval samples.now)) }
+    ensures kept { result ≢ pos 0 → out.new ≡ out.old }
+    ensures first { IsAnswer (call_fault (row_operation_case operation) (levels_fault 1 255 width height maxval samples.now) (rows_case first_row (length out.old) width (length samples.now)) (element_fault element_width element_height element_x element_y element.now)) (flat_asks operation k (element_of element_width element_height element_x element_y element.now)) result }
+{
+    let image = Grey8 {
+        samples,
+        width,
+        height,
+        maxval: maxval as u32,
+    };
+    let element = Bitmap {
+        pixels: element,
+        width: element_width,
+        height: element_height,
+        origin_x: element_x,
+        origin_y: element_y,
+    };
+    let source = Source::Grey8(image);
+    answer(flat_rows(alloc, (operation, k), first_row, source, &element, out))
+}
+
+/// Rows of the flat operator of a number, from `first_row` on, on levels of two bytes.
+pub fn flat_rows_u16(
+    alloc: Global,
+    operation: u32,
+    k: u32,
+    first_row: u32,
+    width: u32,
+    height: u32,
+    maxval: u16,
+    samples: &[u16],
+    element: &[u8],
+    element_width: u32,
+    element_height: u32,
+    element_x: u32,
+    element_y: u32,
+    out: &mut [u16],
+) -> i32
+    ensures made { result ≡ pos 0 → out.new ≡ rows_from first_row (length out.old) (flat_of operation k (element_of element_width element_height element_x element_y element.now) (grey_of width height maxval samples.now)) }
+    ensures kept { result ≢ pos 0 → out.new ≡ out.old }
+    ensures first { IsAnswer (call_fault (row_operation_case operation) (levels_fault 256 LEVEL_LIMIT width height maxval samples.now) (rows_case first_row (length out.old) width (length samples.now)) (element_fault element_width element_height element_x element_y element.now)) (flat_asks operation k (element_of element_width element_height element_x element_y element.now)) result }
+{
+    let image = Grey16 {
+        samples,
+        width,
+        height,
+        maxval: maxval as u32,
+    };
+    let element = Bitmap {
+        pixels: element,
+        width: element_width,
+        height: element_height,
+        origin_x: element_x,
+        origin_y: element_y,
+    };
+    let source = Source::Grey16(image);
+    answer(flat_rows(alloc, (operation, k), first_row, source, &element, out))
+}
+
+/// Rows of the flat operator of a number, from `first_row` on, on a set, whose pixels are made 1 and the others 0.
+pub fn flat_rows_set(
+    alloc: Global,
+    operation: u32,
+    k: u32,
+    first_row: u32,
+    width: u32,
+    height: u32,
+    pixels: &[u8],
+    element: &[u8],
+    element_width: u32,
+    element_height: u32,
+    element_x: u32,
+    element_y: u32,
+    out: &mut [u8],
+) -> i32
+    ensures made { result ≡ pos 0 → out.new ≡ rows_from first_row (length out.old) (flat_of operation k (element_of element_width element_height element_x element_y element.now) (set_of width height pixels.now)) }
+    ensures kept { result ≢ pos 0 → out.new ≡ out.old }
+    ensures first { IsAnswer (call_fault (row_operation_case operation) (pixels_fault width height pixels.now) (rows_case first_row (length out.old) width (length pixels.now)) (element_fault element_width element_height element_x element_y element.now)) (flat_asks operation k (element_of element_width element_height element_x element_y element.now)) result }
+{
+    let image = Set {
+        pixels,
+        width,
+        height,
+    };
+    let element = Bitmap {
+        pixels: element,
+        width: element_width,
+        height: element_height,
+        origin_x: element_x,
+        origin_y: element_y,
+    };
+    let source = Source::Pixels(image);
+    answer(flat_rows(alloc, (operation, k), first_row, source, &element, out))
+}

@@ -1,0 +1,153 @@
+//! Hits and misses of two elements on arrays.
+
+ghost use Rattle.std.specs.Prelude.{◌≡◌, ◌≢◌, pos, length};
+ghost use Rattle.mw_model.specs.Flat.{hit_or_miss};
+ghost use Rattle.mw_model.specs.declared.limits.TheConstants.{LEVEL_LIMIT};
+ghost use Rattle.mw_arrays.specs.Arrays.{element_of, grey_of, set_of};
+ghost use Rattle.mw_arrays.specs.Faults.{element_fault, levels_fault, pixels_fault};
+ghost use Rattle.mw_c_calls.specs.Answers.{IsAnswer};
+ghost use Rattle.mw_c_calls.specs.Calls.{call_fault, overlap_case, room_case};
+
+use crate::answers::{answer_bytes, answer_words};
+use crate::calls::hits;
+use mw_arrays::{Bitmap, Grey8, Grey16, Set, Source};
+use std::alloc::Global;
+
+/// The erosion by one element less the dilation by the other, of levels of one byte.
+pub fn hit_or_miss_u8(
+    alloc: Global,
+    width: u32,
+    height: u32,
+    maxval: u8,
+    samples: &[u8],
+    hit: &[u8],
+    hit_width: u32,
+    hit_height: u32,
+    hit_x: u32,
+    hit_y: u32,
+    miss: &[u8],
+    miss_width: u32,
+    miss_height: u32,
+    miss_x: u32,
+    miss_y: u32,
+    out: &mut [u8],
+) -> i32
+    ensures made { result ≡ pos 0 → out.new ≡ (hit_or_miss (element_of hit_width hit_height hit_x hit_y hit.now) (element_of miss_width miss_height miss_x miss_y miss.now) (grey_of width height maxval samples.now)).samples }
+    ensures kept { result ≢ pos 0 → out.new ≡ out.old }
+    ensures first { IsAnswer (call_fault (levels_fault 1 255 width height maxval samples.now) (room_case (length out.old) (length samples.now)) (element_fault hit_width hit_height hit_x hit_y hit.now) (element_fault miss_width miss_height miss_x miss_y miss.now)) (overlap_case (element_of hit_width hit_height hit_x hit_y hit.now) (element_of miss_width miss_height miss_x miss_y miss.now)) result }
+{
+    let image = Grey8 {
+        samples,
+        width,
+        height,
+        maxval: maxval as u32,
+    };
+    let hit = Bitmap {
+        pixels: hit,
+        width: hit_width,
+        height: hit_height,
+        origin_x: hit_x,
+        origin_y: hit_y,
+    };
+    let miss = Bitmap {
+        pixels: miss,
+        width: miss_width,
+        height: miss_height,
+        origin_x: miss_x,
+        origin_y: miss_y,
+    };
+    let source = Source::Grey8(image);
+    answer_bytes(hits(alloc, source, &hit, &miss, out.len()), out)
+}
+
+/// The erosion by one element less the dilation by the other, of levels of two bytes.
+pub fn hit_or_miss_u16(
+    alloc: Global,
+    width: u32,
+    height: u32,
+    maxval: u16,
+    samples: &[u16],
+    hit: &[u8],
+    hit_width: u32,
+    hit_height: u32,
+    hit_x: u32,
+    hit_y: u32,
+    miss: &[u8],
+    miss_width: u32,
+    miss_height: u32,
+    miss_x: u32,
+    miss_y: u32,
+    out: &mut [u16],
+) -> i32
+    ensures made { result ≡ pos 0 → out.new ≡ (hit_or_miss (element_of hit_width hit_height hit_x hit_y hit.now) (element_of miss_width miss_height miss_x miss_y miss.now) (grey_of width height maxval samples.now)).samples }
+    ensures kept { result ≢ pos 0 → out.new ≡ out.old }
+    ensures first { IsAnswer (call_fault (levels_fault 256 LEVEL_LIMIT width height maxval samples.now) (room_case (length out.old) (length samples.now)) (element_fault hit_width hit_height hit_x hit_y hit.now) (element_fault miss_width miss_height miss_x miss_y miss.now)) (overlap_case (element_of hit_width hit_height hit_x hit_y hit.now) (element_of miss_width miss_height miss_x miss_y miss.now)) result }
+{
+    let image = Grey16 {
+        samples,
+        width,
+        height,
+        maxval: maxval as u32,
+    };
+    let hit = Bitmap {
+        pixels: hit,
+        width: hit_width,
+        height: hit_height,
+        origin_x: hit_x,
+        origin_y: hit_y,
+    };
+    let miss = Bitmap {
+        pixels: miss,
+        width: miss_width,
+        height: miss_height,
+        origin_x: miss_x,
+        origin_y: miss_y,
+    };
+    let source = Source::Grey16(image);
+    answer_words(hits(alloc, source, &hit, &miss, out.len()), out)
+}
+
+/// The erosion by one element less the dilation by the other, of a set, whose pixels are made 1 and the others 0.
+pub fn hit_or_miss_set(
+    alloc: Global,
+    width: u32,
+    height: u32,
+    pixels: &[u8],
+    hit: &[u8],
+    hit_width: u32,
+    hit_height: u32,
+    hit_x: u32,
+    hit_y: u32,
+    miss: &[u8],
+    miss_width: u32,
+    miss_height: u32,
+    miss_x: u32,
+    miss_y: u32,
+    out: &mut [u8],
+) -> i32
+    ensures made { result ≡ pos 0 → out.new ≡ (hit_or_miss (element_of hit_width hit_height hit_x hit_y hit.now) (element_of miss_width miss_height miss_x miss_y miss.now) (set_of width height pixels.now)).samples }
+    ensures kept { result ≢ pos 0 → out.new ≡ out.old }
+    ensures first { IsAnswer (call_fault (pixels_fault width height pixels.now) (room_case (length out.old) (length pixels.now)) (element_fault hit_width hit_height hit_x hit_y hit.now) (element_fault miss_width miss_height miss_x miss_y miss.now)) (overlap_case (element_of hit_width hit_height hit_x hit_y hit.now) (element_of miss_width miss_height miss_x miss_y miss.now)) result }
+{
+    let image = Set {
+        pixels,
+        width,
+        height,
+    };
+    let hit = Bitmap {
+        pixels: hit,
+        width: hit_width,
+        height: hit_height,
+        origin_x: hit_x,
+        origin_y: hit_y,
+    };
+    let miss = Bitmap {
+        pixels: miss,
+        width: miss_width,
+        height: miss_height,
+        origin_x: miss_x,
+        origin_y: miss_y,
+    };
+    let source = Source::Pixels(image);
+    answer_bytes(hits(alloc, source, &hit, &miss, out.len()), out)
+}

@@ -1,0 +1,120 @@
+//! Skeletons of sets, and sets restored from their marks.
+
+ghost use Rattle.std.specs.Prelude.{◌≡◌, ◌≢◌, pos, length, None};
+ghost use Rattle.mw_model.specs.Iterates.{restoration, skeleton};
+ghost use Rattle.mw_model.specs.Refusals.{param_case};
+ghost use Rattle.mw_model.specs.declared.limits.TheConstants.{LEVEL_LIMIT};
+ghost use Rattle.mw_arrays.specs.Arrays.{element_of, grey_of, set_of};
+ghost use Rattle.mw_arrays.specs.Faults.{element_fault, levels_fault, pixels_fault};
+ghost use Rattle.mw_c_calls.specs.Answers.{IsAnswer};
+ghost use Rattle.mw_c_calls.specs.Calls.{call_fault, no_origin_case, room_case};
+
+use crate::answers::answer_bytes;
+use crate::calls::{marks, restored};
+use mw_arrays::{Bitmap, Grey8, Grey16, Set, Source};
+use std::alloc::Global;
+
+/// The marks of a skeleton of a set.
+pub fn skeleton(
+    alloc: Global,
+    levels: u32,
+    width: u32,
+    height: u32,
+    pixels: &[u8],
+    element: &[u8],
+    element_width: u32,
+    element_height: u32,
+    element_x: u32,
+    element_y: u32,
+    out: &mut [u8],
+) -> i32
+    ensures made { result ≡ pos 0 → out.new ≡ (skeleton (element_of element_width element_height element_x element_y element.now) levels (set_of width height pixels.now)).samples }
+    ensures kept { result ≢ pos 0 → out.new ≡ out.old }
+    ensures first { IsAnswer (call_fault (param_case 1 254 levels) (pixels_fault width height pixels.now) (room_case (length out.old) (length pixels.now)) (element_fault element_width element_height element_x element_y element.now)) (no_origin_case (element_of element_width element_height element_x element_y element.now)) result }
+{
+    let image = Set {
+        pixels,
+        width,
+        height,
+    };
+    let element = Bitmap {
+        pixels: element,
+        width: element_width,
+        height: element_height,
+        origin_x: element_x,
+        origin_y: element_y,
+    };
+    answer_bytes(marks(alloc, levels, image, &element, out.len()), out)
+}
+
+/// The set that the marks of a skeleton restore, from marks in levels of one byte.
+pub fn restore_u8(
+    alloc: Global,
+    levels: u32,
+    width: u32,
+    height: u32,
+    maxval: u8,
+    samples: &[u8],
+    element: &[u8],
+    element_width: u32,
+    element_height: u32,
+    element_x: u32,
+    element_y: u32,
+    out: &mut [u8],
+) -> i32
+    ensures made { result ≡ pos 0 → out.new ≡ (restoration (element_of element_width element_height element_x element_y element.now) levels (grey_of width height maxval samples.now)).samples }
+    ensures kept { result ≢ pos 0 → out.new ≡ out.old }
+    ensures first { IsAnswer (call_fault (param_case 1 254 levels) (levels_fault 1 255 width height maxval samples.now) (room_case (length out.old) (length samples.now)) (element_fault element_width element_height element_x element_y element.now)) None result }
+{
+    let image = Grey8 {
+        samples,
+        width,
+        height,
+        maxval: maxval as u32,
+    };
+    let element = Bitmap {
+        pixels: element,
+        width: element_width,
+        height: element_height,
+        origin_x: element_x,
+        origin_y: element_y,
+    };
+    let source = Source::Grey8(image);
+    answer_bytes(restored(alloc, levels, source, &element, out.len()), out)
+}
+
+/// The set that the marks of a skeleton restore, from marks in levels of two bytes.
+pub fn restore_u16(
+    alloc: Global,
+    levels: u32,
+    width: u32,
+    height: u32,
+    maxval: u16,
+    samples: &[u16],
+    element: &[u8],
+    element_width: u32,
+    element_height: u32,
+    element_x: u32,
+    element_y: u32,
+    out: &mut [u8],
+) -> i32
+    ensures made { result ≡ pos 0 → out.new ≡ (restoration (element_of element_width element_height element_x element_y element.now) levels (grey_of width height maxval samples.now)).samples }
+    ensures kept { result ≢ pos 0 → out.new ≡ out.old }
+    ensures first { IsAnswer (call_fault (param_case 1 254 levels) (levels_fault 256 LEVEL_LIMIT width height maxval samples.now) (room_case (length out.old) (length samples.now)) (element_fault element_width element_height element_x element_y element.now)) None result }
+{
+    let image = Grey16 {
+        samples,
+        width,
+        height,
+        maxval: maxval as u32,
+    };
+    let element = Bitmap {
+        pixels: element,
+        width: element_width,
+        height: element_height,
+        origin_x: element_x,
+        origin_y: element_y,
+    };
+    let source = Source::Grey16(image);
+    answer_bytes(restored(alloc, levels, source, &element, out.len()), out)
+}

@@ -1,0 +1,121 @@
+//! Volumes of granulometries of arrays.
+
+ghost use Rattle.std.specs.Prelude.{◌≡◌, ◌≢◌, ◌+◌, pos, length, None};
+ghost use Rattle.mw_model.specs.Iterates.{spectrum};
+ghost use Rattle.mw_model.specs.Refusals.{param_case};
+ghost use Rattle.mw_model.specs.declared.limits.TheConstants.{LEVEL_LIMIT};
+ghost use Rattle.mw_arrays.specs.Arrays.{element_of, grey_of, set_of};
+ghost use Rattle.mw_arrays.specs.Faults.{element_fault, levels_fault, pixels_fault};
+ghost use Rattle.mw_c_calls.specs.Answers.{IsAnswer};
+ghost use Rattle.mw_c_calls.specs.Calls.{call_fault, room_case};
+
+use crate::answers::answer_volumes;
+use crate::calls::volumes;
+use mw_arrays::{Bitmap, Grey8, Grey16, Set, Source};
+use std::alloc::Global;
+
+/// The volumes of levels of one byte.
+pub fn spectrum_u8(
+    alloc: Global,
+    levels: u32,
+    width: u32,
+    height: u32,
+    maxval: u8,
+    samples: &[u8],
+    element: &[u8],
+    element_width: u32,
+    element_height: u32,
+    element_x: u32,
+    element_y: u32,
+    out: &mut [u64],
+) -> i32
+    ensures made { result ≡ pos 0 → out.new ≡ spectrum (element_of element_width element_height element_x element_y element.now) levels (grey_of width height maxval samples.now) }
+    ensures kept { result ≢ pos 0 → out.new ≡ out.old }
+    ensures first { IsAnswer (call_fault (param_case 1 32 levels) (levels_fault 1 255 width height maxval samples.now) (room_case (length out.old) (levels + 1)) (element_fault element_width element_height element_x element_y element.now)) None result }
+{
+    let image = Grey8 {
+        samples,
+        width,
+        height,
+        maxval: maxval as u32,
+    };
+    let element = Bitmap {
+        pixels: element,
+        width: element_width,
+        height: element_height,
+        origin_x: element_x,
+        origin_y: element_y,
+    };
+    let source = Source::Grey8(image);
+    answer_volumes(volumes(alloc, levels, source, &element, out.len()), out)
+}
+
+/// The volumes of levels of two bytes.
+pub fn spectrum_u16(
+    alloc: Global,
+    levels: u32,
+    width: u32,
+    height: u32,
+    maxval: u16,
+    samples: &[u16],
+    element: &[u8],
+    element_width: u32,
+    element_height: u32,
+    element_x: u32,
+    element_y: u32,
+    out: &mut [u64],
+) -> i32
+    ensures made { result ≡ pos 0 → out.new ≡ spectrum (element_of element_width element_height element_x element_y element.now) levels (grey_of width height maxval samples.now) }
+    ensures kept { result ≢ pos 0 → out.new ≡ out.old }
+    ensures first { IsAnswer (call_fault (param_case 1 32 levels) (levels_fault 256 LEVEL_LIMIT width height maxval samples.now) (room_case (length out.old) (levels + 1)) (element_fault element_width element_height element_x element_y element.now)) None result }
+{
+    let image = Grey16 {
+        samples,
+        width,
+        height,
+        maxval: maxval as u32,
+    };
+    let element = Bitmap {
+        pixels: element,
+        width: element_width,
+        height: element_height,
+        origin_x: element_x,
+        origin_y: element_y,
+    };
+    let source = Source::Grey16(image);
+    answer_volumes(volumes(alloc, levels, source, &element, out.len()), out)
+}
+
+/// The volumes of a set.
+pub fn spectrum_set(
+    alloc: Global,
+    levels: u32,
+    width: u32,
+    height: u32,
+    pixels: &[u8],
+    element: &[u8],
+    element_width: u32,
+    element_height: u32,
+    element_x: u32,
+    element_y: u32,
+    out: &mut [u64],
+) -> i32
+    ensures made { result ≡ pos 0 → out.new ≡ spectrum (element_of element_width element_height element_x element_y element.now) levels (set_of width height pixels.now) }
+    ensures kept { result ≢ pos 0 → out.new ≡ out.old }
+    ensures first { IsAnswer (call_fault (param_case 1 32 levels) (pixels_fault width height pixels.now) (room_case (length out.old) (levels + 1)) (element_fault element_width element_height element_x element_y element.now)) None result }
+{
+    let image = Set {
+        pixels,
+        width,
+        height,
+    };
+    let element = Bitmap {
+        pixels: element,
+        width: element_width,
+        height: element_height,
+        origin_x: element_x,
+        origin_y: element_y,
+    };
+    let source = Source::Pixels(image);
+    answer_volumes(volumes(alloc, levels, source, &element, out.len()), out)
+}

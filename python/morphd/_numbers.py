@@ -1,0 +1,33 @@
+"""Numbers as they are given: Python's, NumPy's, and arrays of one. None is cut or rounded on the way in.
+
+This module needs nothing but Python.
+"""
+from __future__ import annotations
+
+import math
+import operator
+from fractions import Fraction
+from typing import Any
+
+
+def real(value: Any, what: str) -> int | Fraction | float:
+    """The number itself: a whole one or a fraction, or a float that is infinite or NaN."""
+    held = value.item() if hasattr(value, "item") else value
+    try:
+        return operator.index(held)
+    except TypeError:
+        pass
+    try:
+        return Fraction(*held.as_integer_ratio())
+    except AttributeError:
+        raise TypeError(f"{what} is a number: {value!r}") from None
+    except (OverflowError, ValueError):
+        return float(held)
+
+
+def whole(value: Any, what: str) -> int:
+    """A whole number, which a float may be, too."""
+    held = real(value, what)
+    if isinstance(held, float) or held != math.floor(held):
+        raise ValueError(f"{what} is a whole number: {value!r}")
+    return int(held)
