@@ -1,5 +1,5 @@
-# `make` alone lists the targets. docs/TESTS.md says what each of them tests.
-.PHONY: help demo morphd library check-library install test wrong-bodies documents memory soak bench costs toolchain python3 compiler valgrind
+# `make` alone lists the targets. docs/dev/TESTS.md says what each of them tests.
+.PHONY: help demo morphd library check-library install uninstall dist check-dist test wrong-bodies documents memory soak bench costs toolchain python3 compiler valgrind
 
 MORPHD = crates/morphd/out/morphd
 
@@ -8,13 +8,15 @@ help:
 	@echo "make morphd     proves and builds morphd alone, as crates/morphd/out/morphd"
 	@echo "make library    proves and links out/libmorphd.so and out/libmorphd.a, which C calls by include/morphd.h"
 	@echo "make check-library  holds them against the plain model, and runs the programs of docs/LIBRARY.md"
-	@echo "make install    puts library, header, morphd.pc and program into PREFIX, which is /usr/local if left out"
+	@echo "make install    puts what is built into PREFIX, which is /usr/local if left out; make uninstall takes it away"
+	@echo "make dist       packs what is built into out/dist: a tarball, a wheel, and Debian's packages; it needs no rt"
+	@echo "make check-dist makes them twice, looks at them, and installs, tries and removes them in bare roots of Debian"
 	@echo "make test       the gate: proves every crate from nothing, tries the must-fail edits, runs programs and tests"
 	@echo "make wrong-bodies  tries the wrong bodies of each crate that changed, or of CRATES"
 	@echo "make documents  compares the documents with the repository, replays their examples, and compares header and proved functions"
 	@echo "make memory     refuses each allocation and each start of a thread in turn, and measures memory"
 	@echo "make soak       runs random sessions beside a plain model, and two servers with good and bad clients; FOR=seconds"
-	@echo "make bench      takes the times of docs/PERFORMANCE.md"
+	@echo "make bench      takes the times of docs/dev/PERFORMANCE.md"
 	@echo "make costs      counts instructions, and compares them with those that are kept"
 	@echo "make python     makes the Python package with the library in it, as a wheel in out"
 	@echo "make check-python  runs all tests of the Python package over the built library"
@@ -50,7 +52,7 @@ test: toolchain python3 documents
 	@python3 -B checks/passed.py
 
 # What runs nowhere by itself writes into checks/passed.txt on which commit it passed: on that which stood here when it began.
-ALONE = check-library check-python memory soak
+ALONE = check-dist check-library check-python memory soak
 ifneq ($(filter $(ALONE),$(MAKECMDGOALS)),)
 BEGUN := $(shell python3 -B checks/passed.py --state)
 endif
@@ -65,6 +67,8 @@ documents: python3
 	@python3 -B checks/docs.py
 	@python3 -B checks/header.py --test
 	@python3 -B checks/header.py
+	@python3 -B checks/versions.py --test
+	@python3 -B checks/versions.py
 
 # Proves and builds the program, as wide as the machine allows, and runs it once on its stored session.
 morphd: toolchain python3
@@ -93,18 +97,25 @@ check-library: library
 	@python3 -B checks/library.py out $(wildcard $(MORPHD))
 	@python3 -B checks/passed.py $@ $(BEGUN)
 
-# The program goes with it where it is built.
+# What is built goes where it is wanted: these prove and build nothing, and need no kit. DESTDIR may stand before PREFIX.
 PREFIX = /usr/local
+BUILT = $(MORPHD) out
 
-install: library
-	install -d $(DESTDIR)$(PREFIX)/lib/pkgconfig $(DESTDIR)$(PREFIX)/include $(DESTDIR)$(PREFIX)/bin
-	install -m 755 out/libmorphd.so $(DESTDIR)$(PREFIX)/lib/libmorphd.so.1
-	ln -sf libmorphd.so.1 $(DESTDIR)$(PREFIX)/lib/libmorphd.so
-	install -m 644 out/libmorphd.a $(DESTDIR)$(PREFIX)/lib
-	install -m 644 include/morphd.h $(DESTDIR)$(PREFIX)/include
-	printf 'prefix=%s\nName: morphd\nDescription: flat mathematical morphology on arrays\nVersion: 1\n%s\n%s\n' '$(PREFIX)' \
-	  'Libs: -L$${prefix}/lib -lmorphd' 'Cflags: -I$${prefix}/include' > $(DESTDIR)$(PREFIX)/lib/pkgconfig/morphd.pc
-	if [ -x $(MORPHD) ]; then install -m 755 $(MORPHD) $(DESTDIR)$(PREFIX)/bin; fi
+install uninstall: export PREFIX := $(PREFIX)
+install uninstall: export DESTDIR := $(DESTDIR)
+install: python3
+	@python3 -B packaging/install.py install $(BUILT)
+
+uninstall: python3
+	@python3 -B packaging/install.py uninstall $(BUILT)
+
+dist: python3
+	@python3 -B packaging/dist.py $(BUILT) out/dist
+
+check-dist: dist compiler
+	@python3 -B checks/dist.py --test out/dist $(BUILT)
+	@python3 -B checks/dist.py out/dist $(BUILT)
+	@python3 -B checks/passed.py $@ $(BEGUN)
 
 # First a trial build, in a minute; then the proved one, which has to write the same.
 demo: toolchain python3
@@ -113,7 +124,7 @@ demo: toolchain python3
 	@python3 examples/demo.py proved
 
 memory: toolchain python3 compiler
-	@python3 -B checks/prove.py morphd mw_memory_tests mw_machine_tests mw_direct_tests mw_strips_tests
+	@python3 -B checks/prove.py morphd mw_memory_tests mw_machine_tests mw_direct_tests mw_strips_tests mw_waking_tests
 	@python3 -B checks/refused_memory.py $(MORPHD)
 	@python3 -B checks/fetch_memory.py $(MORPHD)
 	@python3 -B checks/set_memory.py $(MORPHD)
@@ -121,6 +132,7 @@ memory: toolchain python3 compiler
 	@python3 -B checks/refused_tests.py crates/mw_machine_tests/out/mw_machine_tests_tests
 	@python3 -B checks/refused_tests.py crates/mw_direct_tests/out/mw_direct_tests_tests
 	@python3 -B checks/refused_tests.py crates/mw_strips_tests/out/mw_strips_tests_tests
+	@python3 -B checks/refused_tests.py crates/mw_waking_tests/out/mw_waking_tests_tests
 	@python3 -B checks/passed.py $@ $(BEGUN)
 
 # Each of the three soaks for as long as is asked for, and by a seed if one is given: make soak FOR=600 SEED=one
@@ -128,6 +140,7 @@ FOR = 60
 
 soak: toolchain python3
 	@python3 -B checks/prove.py morphd
+	@python3 -B checks/board_wakings.py $(MORPHD)
 	@python3 -B checks/bad_peers.py $(MORPHD)
 	@python3 -B checks/bad_peers_serve.py $(MORPHD)
 	@python3 -B checks/soak.py $(MORPHD) $(FOR) $(SEED)

@@ -1,5 +1,5 @@
 #!/usr/bin/env python3
-"""Times a `morphd serve` over loopback: connections a second, each with the session of README.md; pictures a second, of 96 x 96
+"""Times a `morphd serve` over loopback: connections a second, each with the first session of docs/PROTOCOL.md; pictures a second, of 96 x 96
 samples that are loaded, eroded by a ball and fetched, from one connection and from several at once, beside one `morphd batch`
 with the same; and a LOAD and a FETCH of 16 MiB, beside what `nc` takes for the same bytes.
 
@@ -141,7 +141,7 @@ def tell_pictures(rounds):
 
 def main():
     rounds = int(sys.argv[2]) if sys.argv[2:] else 3
-    print("connections a second, each with the session of README.md:")
+    print("connections a second, each with the first session of docs/PROTOCOL.md:")
     for clients in (1, 4, 16):
         print("  %2d clients %10.0f" % (clients, max(by_clients(clients, connects)[0] for _ in range(rounds)) / SECONDS), flush=True)
     print("pictures a second, %d of %d x %d samples:" % (PICTURES, WIDTH, WIDTH), flush=True)

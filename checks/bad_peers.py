@@ -1,6 +1,6 @@
 #!/usr/bin/env python3
 """Bad clients of a real `morphd listen`, each beside one that does well: its session ends by the rules or waits alone, the
-others go on, and the server ends with status 0. A port that is taken is `error: socket`, with status 1. The memory of the
+others go on, and the server ends with status 0. A port that is taken is told by its number, with status 1. The memory of the
 server grows with what came, and never with what was announced.
 
     python3 checks/bad_peers.py crates/morphd/out/morphd
@@ -234,18 +234,23 @@ def payload_that_comes(program):
         return "takes %d kB, and %d kB once the client went" % (grown, left)
 
 
+def taken(port):
+    """What a server tells of a port that another one has."""
+    return b"error: socket: port %d: taken\n" % port
+
+
 def port_is_taken(program):
     """finds its port taken"""
     with socket.socket() as door:
         door.bind(("127.0.0.1", free_port()))
         door.listen()
         with Server(program, 1, port=door.getsockname()[1]) as server:
-            must_be(server.end(), (1, b"error: socket\n"), "a server whose port is taken")
+            must_be(server.end(), (1, taken(server.port)), "a server whose port is taken")
     # The first server waits for a second connection, so it listens.
     with Server(program, 2) as first:
         client = first.connect()
         with Server(program, 1, port=first.port) as second:
-            must_be(second.end(), (1, b"error: socket\n"), "a second server on one port")
+            must_be(second.end(), (1, taken(first.port)), "a second server on one port")
         must_be(client.ask(b"STATUS x\n"), (b"ERR 41 UNKNOWN\n", b""), "the first server's reply")
         for it in (client, first.connect()):
             it.send(b"QUIT\n")

@@ -225,7 +225,8 @@ def port_is_taken(program):
     with Service(program, 1) as first:
         words = [program, "serve", "--port", str(first.port)]
         second = subprocess.run(words, stdin=subprocess.DEVNULL, capture_output=True, timeout=60)
-        must_be((second.returncode, second.stdout, second.stderr), (1, b"", b"error: socket\n"), "the second service's end")
+        told = b"error: socket: port %d: taken\n" % first.port
+        must_be((second.returncode, second.stdout, second.stderr), (1, b"", told), "the second service's end")
         ends_well(first)
 
 

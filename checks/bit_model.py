@@ -1,4 +1,4 @@
-"""The operators at any size, for pictures of few levels, after the definitions (docs/DEFINITIONS.md) and not after the code.
+"""The operators at any size, for pictures of few levels, after the definitions (docs/dev/DEFINITIONS.md) and not after the code.
 
 A set is one number of Python, whose bits are its pixels, so one sum or one shift goes over all of them at once. A picture of
 levels is a chain of sets: of the places with each level or more. Erosions, dilations and ranks of it are those of its sets.

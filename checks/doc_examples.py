@@ -23,6 +23,8 @@ import sys
 sys.path.insert(0, {folder!r})
 sys.dont_write_bytecode = True
 import plain_model
+import quick_sets
+quick_sets.install()
 if sys.argv[1:] != ["batch"]:
     sys.exit("the model serves `morphd batch` alone")
 output, status, _ = plain_model.served(sys.stdin.buffer.read())
@@ -264,7 +266,8 @@ def of_scripts(text):
     with tempfile.TemporaryDirectory() as room:
         laid_out(room)
         for block in fenced(text):
-            if block.language in ("sh", "python") or block.text.startswith(CONVERT):
+            # What takes the Python package is run by its own tests.
+            if (block.language in ("sh", "python") or block.text.startswith(CONVERT)) and "import morphd" not in block.text:
                 yield block.line, None
                 how = [sys.executable, "-c"] if block.language == "python" else ["bash", "-euo", "pipefail", "-c"]
                 output, fault = printed(how, given_picture(block.text, room), room)
@@ -273,17 +276,17 @@ def of_scripts(text):
                 wanted = behind.text if behind and not behind.language else None
                 if fault:
                     yield block.line, f"the script ends with: {fault}"
-                elif wanted is not None and wanted.rstrip("\n") != output.rstrip("\n"):
+                elif wanted is not None and wanted != output:
                     yield behind.line, f"the script prints:\n{output}"
         yield from made(text, room)
 
 
 def given_picture(text, room):
-    """A script without its first line, where that converts a picture of the user's; that of grains takes its place."""
+    """A script without its first line, where that converts a picture of the user's; that of discs takes its place."""
     if not text.startswith(CONVERT):
         return text
-    with open(f"{ROOT}/examples/grains.pgm", "rb") as grains, open(f"{room}/mine.pgm", "wb") as mine:
-        mine.write(grains.read())
+    with open(f"{ROOT}/examples/discs.pgm", "rb") as discs, open(f"{room}/mine.pgm", "wb") as mine:
+        mine.write(discs.read())
     return text.partition("\n")[2]
 
 

@@ -15,18 +15,19 @@ import doc_examples
 from doc_examples import fenced, line_at
 
 sys.path.append(os.path.join(os.path.dirname(os.path.dirname(os.path.realpath(__file__))), "docs", "images"))
-import make_images  # noqa: E402
+import make_micrograph  # noqa: E402
+import png_files  # noqa: E402
 
 OWN = "checks/docs.py"
 ROOT = os.path.dirname(os.path.dirname(os.path.realpath(__file__)))
 MOST_README = 8192
-MOST_BYTES = {"README.md": MOST_README, "docs/DECISIONS.md": 36864}
+MOST_BYTES = {"README.md": MOST_README, "docs/dev/DECISIONS.md": 36864}
 PARTS = ("src", "specs", "proofs")
 # Files beside the crates whose words documents may name.
 TEXTS = (".py", ".pyi", ".c", ".h", ".toml", ".txt", "Makefile", "HANDLES")
 RECORDS = ("CHANGELOG.md", "docs/PERF.md")
 # Names of other programs stand in these, beside those of the repository.
-FOREIGN = ("docs/CONVENTIONS.md", "docs/PERFORMANCE.md")
+FOREIGN = ("docs/CONVENTIONS.md", "docs/dev/PERFORMANCE.md")
 # What documents name of std, the C library, the kit, the system and other programs.
 FROM_ELSEWHERE = set("""
 BufWriter ManuallyDrop MaybeUninit OnceLock OnceToken MODULE WORD NAME TEXT ImageMagick median_filter ptr_eq set_nodelay
@@ -100,7 +101,7 @@ def words_in(paths):
 
 def documents():
     """The text of each document, by its path."""
-    names = [*os.listdir(ROOT), *(f"docs/{it}" for it in os.listdir(f"{ROOT}/docs"))]
+    names = [*os.listdir(ROOT), *(f"{folder}/{it}" for folder in ("docs", "docs/dev") for it in os.listdir(f"{ROOT}/{folder}"))]
     return {name: read(f"{ROOT}/{name}") for name in sorted(names) if name.endswith(".md")}
 
 
@@ -141,12 +142,12 @@ def told_counts(tree):
     """Where a count is told: the document, the words with it, the count, and how far what is told may lie from it."""
     tests = crates_of_tests(tree)
     return [
-        ("docs/CRATES.md", r"each of the (\d+) crates", len(tree.crates), 0),
-        ("docs/TESTS.md", r"^(\d+) tests stand", tree.tests, 0),
-        ("docs/TESTS.md", r"tests stand in (\d+) crates", len(tests), 0),
-        ("docs/SEARCH.md", r"There are (\d+) edits", tree.edits, 0),
-        ("docs/DESIGN.md", r"Proofs take some ([\d,]+) of", tree.proofs, 2000),
-        ("docs/DESIGN.md", r"of the ([\d,]+) lines", tree.lines, 2000),
+        ("docs/dev/CRATES.md", r"each of the (\d+) crates", len(tree.crates), 0),
+        ("docs/dev/TESTS.md", r"^(\d+) tests stand", tree.tests, 0),
+        ("docs/dev/TESTS.md", r"tests stand in (\d+) crates", len(tests), 0),
+        ("docs/dev/SEARCH.md", r"There are (\d+) edits", tree.edits, 0),
+        ("docs/dev/DESIGN.md", r"Proofs take some ([\d,]+) of", tree.proofs, 2000),
+        ("docs/dev/DESIGN.md", r"of the ([\d,]+) lines", tree.lines, 2000),
     ]
 
 
@@ -196,15 +197,15 @@ def compared(name, rows, wanted):
 
 
 def of_tables(texts, tree):
-    yield from compared("docs/CRATES.md", first_cells(texts["docs/CRATES.md"], "| crate | what it is"), tree.crates)
-    told = first_cells(texts["docs/TESTS.md"], "| crate | what it tests")
-    yield from compared("docs/TESTS.md", told, crates_of_tests(tree))
-    design = texts["docs/DESIGN.md"]
+    yield from compared("docs/dev/CRATES.md", first_cells(texts["docs/dev/CRATES.md"], "| crate | what it is"), tree.crates)
+    told = first_cells(texts["docs/dev/TESTS.md"], "| crate | what it tests")
+    yield from compared("docs/dev/TESTS.md", told, crates_of_tests(tree))
+    design = texts["docs/dev/DESIGN.md"]
     floors = next(fenced(design), None)
     found = CRATE.finditer(floors.text) if floors else ()
     rows = [(it[0], floors.line + line_at(floors.text, it.start())) for it in found]
     wanted = [it for it in tree.crates if it.startswith("mw_") and not it.endswith("_tests")]
-    yield from compared("docs/DESIGN.md", rows, wanted)
+    yield from compared("docs/dev/DESIGN.md", rows, wanted)
 
 
 def of_names(texts, tree):
@@ -230,7 +231,7 @@ def without_blocks(text):
 
 def is_of_gate(name, text, at):
     """Whether a place is in the table of what the gate took on some day, which may name crates that have gone since."""
-    return name == "docs/PERFORMANCE.md" and text.rfind("\n", 0, at) + 1 == text.rfind("\n| `", 0, at) + 1
+    return name == "docs/dev/PERFORMANCE.md" and text.rfind("\n", 0, at) + 1 == text.rfind("\n| `", 0, at) + 1
 
 
 def faults_of_code(code, tree, is_foreign):
@@ -259,22 +260,26 @@ def is_name(word):
 
 def of_images(texts, tree):
     """The pictures are those that their script makes, whichever zlib packed them."""
-    for name, data in make_images.pictures():
+    for name, data in make_micrograph.pictures():
         path = f"docs/images/{name}"
         with open(f"{ROOT}/{path}", "rb") as file:
-            if make_images.raster_of(file.read()) != make_images.raster_of(data):
-                yield path, 1, "docs/images/make_images.py makes another picture"
+            if drawn(name, file.read()) != drawn(name, data):
+                yield path, 1, "docs/images/make_micrograph.py makes another picture"
+
+
+def drawn(name, data):
+    return png_files.raster_of(data) if name.endswith(".png") else data
 
 
 def of_search(texts, tree):
     """Each library stands once in the table of what was searched."""
     wanted = [it for it in tree.crates if it.startswith("mw_") and not it.endswith("_tests")]
-    yield from compared("docs/SEARCH.md", first_cells(texts["docs/SEARCH.md"], "| crates | what was searched"), wanted)
+    yield from compared("docs/dev/SEARCH.md", first_cells(texts["docs/dev/SEARCH.md"], "| crates | what was searched"), wanted)
 
 
 def of_definitions(texts, tree):
-    """Each name in a row of docs/CRATES.md is one of the row's crate, and each definition in docs/DEFINITIONS.md one of its file."""
-    for name in ("docs/CRATES.md", "docs/DEFINITIONS.md"):
+    """Each name in a row of docs/dev/CRATES.md is one of the row's crate, and each definition in docs/dev/DEFINITIONS.md one of its file."""
+    for name in ("docs/dev/CRATES.md", "docs/dev/DEFINITIONS.md"):
         text, title = texts[name], ""
         for number, line in enumerate(text.split("\n"), 1):
             title = line if line.startswith("## ") else title
@@ -283,7 +288,7 @@ def of_definitions(texts, tree):
                 continue
             known = known_in(tree, title, cells[1])
             # The last column of a row of definitions says what they rule out.
-            named = cells[1:-2] if name == "docs/DEFINITIONS.md" else cells[1:-1]
+            named = cells[1:-2] if name == "docs/dev/DEFINITIONS.md" else cells[1:-1]
             for code in CODE.findall("|".join(named)):
                 if code.startswith("make "):
                     continue
@@ -313,30 +318,30 @@ def faults(texts, tree, kinds=CHECKS):
 # ---- the test of these checks: each line spoils one place of a document, and names the check that has to tell it
 
 SPOILED = [
-    ("README.md", "## Limits", "## Limits\n" + "x" * MOST_README, "size"),
+    ("README.md", "## Ways in", "## Ways in\n" + "x" * MOST_README, "size"),
     ("README.md", "docs/PROTOCOL.md", "docs/PROTOCOLL.md", "links"),
     ("docs/CONVENTIONS.md", "(COOKBOOK.md#", "(COOKBOOK.md#no-", "links"),
-    ("docs/CRATES.md", "each of the ", "each of the 1", "counts"),
-    ("docs/TESTS.md", " tests stand in ", " tests stand in 1", "counts"),
-    ("docs/SEARCH.md", "There are ", "There are 1", "counts"),
+    ("docs/dev/CRATES.md", "each of the ", "each of the 1", "counts"),
+    ("docs/dev/TESTS.md", " tests stand in ", " tests stand in 1", "counts"),
+    ("docs/dev/SEARCH.md", "There are ", "There are 1", "counts"),
     ("docs/GLOSSARY.md", " words", "1 words", "counts"),
-    ("docs/DESIGN.md", "Proofs take some ", "Proofs take some 1", "counts"),
-    ("docs/CRATES.md", "| `mw_model` ", "| `mw_modell` ", "tables"),
-    ("docs/TESTS.md", "| `mw_file_tests` ", "| `mw_file_trials` ", "tables"),
-    ("docs/DESIGN.md", "mw_wave ", "mw_wall ", "tables"),
-    ("docs/SEARCH.md", "| `mw_pool` ", "| `mw_pond` ", "search"),
-    ("docs/CRATES.md", "`say_fetched`", "`run_script`", "definitions"),
-    ("docs/DEFINITIONS.md", "`IsPicture`", "`IsFigure`", "definitions"),
-    ("README.md", "`mw_batch::batch`", "`mw_batch::patch`", "names"),
-    ("docs/DECISIONS.md", "`finish_own`", "`finish_owned`", "names"),
+    ("docs/dev/DESIGN.md", "Proofs take some ", "Proofs take some 1", "counts"),
+    ("docs/dev/CRATES.md", "| `mw_model` ", "| `mw_modell` ", "tables"),
+    ("docs/dev/TESTS.md", "| `mw_file_tests` ", "| `mw_file_trials` ", "tables"),
+    ("docs/dev/DESIGN.md", "mw_wave ", "mw_wall ", "tables"),
+    ("docs/dev/SEARCH.md", "| `mw_pool` ", "| `mw_pond` ", "search"),
+    ("docs/dev/CRATES.md", "`say_fetched`", "`run_script`", "definitions"),
+    ("docs/dev/DEFINITIONS.md", "`IsPicture`", "`IsFigure`", "definitions"),
+    ("docs/PROOFS.md", "`mw_batch::batch`", "`mw_batch::patch`", "names"),
+    ("docs/dev/DECISIONS.md", "`finish_own`", "`finish_owned`", "names"),
     ("CONTRIBUTING.md", "`checks/no_leaks.py`", "`checks/no_leeks.py`", "names"),
-    ("docs/DESIGN.md", "`mw_fetched`", "`mw_patched`", "names"),
+    ("docs/dev/DESIGN.md", "`mw_fetched`", "`mw_patched`", "names"),
     ("docs/GLOSSARY.md", "`LOAD`,", "`LOAD,", "names"),
     ("docs/PROTOCOL.md", "`ERR 41 UNKNOWN`", "`ERR 42 KIND`", "examples"),
     ("docs/PROTOCOL.md", "IMAGE 2 14\n", "IMAGE 2 15\n", "examples"),
     ("docs/PROTOCOL.md", "| 47 | `PARAM`", "| 46 | `PARAM`", "examples"),
     ("docs/PROTOCOL.md", "`P5\\n2 1\\n9\\n\\7\\1`", "`P5\\n2 2\\n9\\n\\7\\1`", "examples"),
-    ("docs/COOKBOOK.md", "S 1 83\n", "S 1 84\n", "examples"),
+    ("docs/COOKBOOK.md", "S 6 1209\n", "S 6 1210\n", "examples"),
     ("README.md", "tail -n +5", "tail -n +4", "examples"),
 ]
 

@@ -5,6 +5,7 @@ tests' check and of its must-fail edits, and the totals.
     python3 checks/gate_times.py [--keep FILE]             at the top of the repository; the figures go into FILE too
     python3 checks/gate_times.py --keep FILE --parts CRATE..   the same of `rt ci CRATE..`, joined with what FILE has
     python3 checks/gate_times.py --read FILE               prints the table of figures that were kept
+    python3 checks/gate_times.py --read FILE --proofs      writes them into checks/proof_times.txt, for checks/prove.py
 
 `rt ci` prints no times, so the processes that it starts are looked at ten times a second: what runs `rattle` for a crate
 in a folder `rt-edit-..` tries an edit, with `--test` it checks tests, and otherwise it proves or compiles the crate. What
@@ -156,11 +157,22 @@ def table(figures):
     yield f"{figures['wall'] / 60:.1f} minutes {processors}, {figures['processor'] / 60:.1f} processor minutes in all."
 
 
+PROOFS = "checks/proof_times.txt"
+HEAD = "# Of each crate the processor seconds of its proof and of its tests' check, as checks/gate_times.py --proofs writes them.\n"
+
+
+def write_proofs(figures):
+    rows = [f"{name} {it.get('proof', 0):.0f} {it.get('tests', 0):.0f}\n" for name, it in figures["crates"].items()]
+    with open(PROOFS, "w", encoding="utf-8") as file:
+        file.write(HEAD + "".join(rows))
+
+
 def main():
     wanted = argparse.ArgumentParser(description=__doc__.split("\n\n")[0])
     wanted.add_argument("--keep", metavar="FILE", help="where the figures are to be kept")
     wanted.add_argument("--read", metavar="FILE", help="figures that an earlier run kept")
     wanted.add_argument("--parts", metavar="CRATE", nargs="+", default=[], help="crates whose part of the gate is run alone")
+    wanted.add_argument("--proofs", action="store_true", help=f"write the seconds of proofs and tests into {PROOFS}")
     wanted = wanted.parse_args()
     figures = json.loads(read(wanted.read)) if wanted.read else run_gate(wanted.parts)
     if wanted.parts and wanted.keep and os.path.isfile(wanted.keep):
@@ -168,6 +180,8 @@ def main():
     if wanted.keep:
         with open(wanted.keep, "w", encoding="utf-8") as file:
             json.dump(figures, file, indent=1)
+    if wanted.proofs:
+        write_proofs(figures)
     print("\n".join(table(figures)))
     sys.exit(figures["status"])
 

@@ -1,4 +1,4 @@
-"""What a session is answered, by slow definitions straight from docs/PROTOCOL.md and docs/DEFINITIONS.md. `served` gives
+"""What a session is answered, by slow definitions straight from docs/PROTOCOL.md and docs/dev/DEFINITIONS.md. `served` gives
 the output and the exit status of `morphd batch` for any bytes of a session, memory aside. checks/soak.py holds the
 program against it.
 """

@@ -4,14 +4,16 @@
     python3 checks/prove.py [--jobs N] CRATE..
 
 A library is proved and built; a program is built and runs once, on its files `args` and `stdin`; the tests of a crate of
-tests are proved and run. It prints how many crates are done, which run, and about how long the rest will take.
+tests are proved and run. It prints how many crates are done, which run, and about how long the rest will take: by what each
+crate took when the gate was timed (checks/proof_times.txt), by how fast this machine has been so far, and by the longest chain.
 
 `rt` locks a crate and all crates below it for as long as it works. So each crate is proved in a folder of its own, with
 copies of its sources, with links to what was proved of the crates below it, and with the crate's own `out/`, which goes
 there and comes back. `rt` in the repository waits meanwhile. What earlier checks left in `out/` is used again.
 
 Of a program, or of a library for C, `out/proved` keeps a sum of all that was read for it and of what was built. Where the sum
-is still the same, nothing is run: that takes a second. Tests are run each time.
+is still the same, nothing is run: that takes a second. Tests are run each time. Of each crate `out/read` keeps the sum of what
+was read when it was last done: where that is still the same, `rt` needs seconds, and so the rest is told.
 
     python3 checks/prove.py --test     changes a small repository in many ways, and sees when `rt` is called again
 """
@@ -20,6 +22,7 @@ import fcntl
 import functools
 import hashlib
 import os
+import re
 import shutil
 import signal
 import subprocess
@@ -31,9 +34,15 @@ ROOT = os.path.dirname(os.path.dirname(os.path.realpath(__file__)))
 PARTS = ("src", "specs", "proofs")
 RUN_ON = ("args", "stdin", "status")
 # Of what `rt` leaves in out/: what only a later check reads; and what is kept here beside it.
-CHECKED, SUM = "incremental", "proved"
-# Until something has been proved: processor seconds for a line of code or of proofs.
+CHECKED, SUM, READ = "incremental", "proved", "read"
+# Of each crate the processor seconds of its proof and of its tests' check on some quiet day (checks/gate_times.py writes them).
+TIMES = "checks/proof_times.txt"
+# Of a crate that is not timed yet: processor seconds for a line of code or of proofs.
 SECONDS_A_LINE = 0.08
+# Of a crate that is as it was when it was last done.
+SECONDS_AS_IT_WAS = 4
+# The seconds of timed work after which this machine's own pace counts as much as that of the timed one.
+SECONDS_TO_TRUST = 120
 MOST_JOBS = 4
 
 
@@ -91,7 +100,7 @@ def built(folder):
     """The files that `rt` left in a folder, but for those that only a later check reads."""
     for at, inner, names in os.walk(folder):
         inner[:] = sorted(it for it in inner if it != CHECKED)
-        yield from (f"{at}/{it}" for it in sorted(names) if it != SUM)
+        yield from (f"{at}/{it}" for it in sorted(names) if it not in (SUM, READ))
 
 
 @functools.cache
@@ -100,8 +109,15 @@ def kit():
     return subprocess.run(["rt", "version"], check=True, capture_output=True, text=True).stdout.strip()
 
 
+@functools.cache
+def times():
+    """Of each crate that was timed, the seconds of its proof and of its tests' check."""
+    rows = [it.split() for it in text(f"{ROOT}/{TIMES}").splitlines() if it and it[0] != "#"]
+    return {name: (float(proof), float(tests)) for name, proof, tests in rows}
+
+
 class Crate:
-    """A crate to prove: its work in lines, and the run that proves it."""
+    """A crate to prove: its work in lines and in seconds, and the run that proves it."""
 
     def __init__(self, name, needs, is_wanted, room):
         self.name, self.needs, self.below = name, needs[name], all_below(name, needs)
@@ -114,6 +130,21 @@ class Crate:
         self.is_tested = is_wanted and any("#[test]" in it for file, it in texts.items() if file.endswith(".rt"))
         self.is_program = os.path.isfile(f"{self.home}/src/main.rt")
         self.run = None
+        self.seconds = SECONDS_AS_IT_WAS if self.is_as_it_was() else self.timed()
+
+    def timed(self):
+        """The processor seconds that it took where it was timed, or as many as its lines would."""
+        proof, tests = times().get(self.name, (0, 0))
+        return proof + (tests if self.is_tested else 0) or SECONDS_A_LINE * self.lines
+
+    def is_as_it_was(self):
+        """Whether all that it is proved from is as it was when it was last done here."""
+        return text(f"{self.home}/out/{READ}") == self.read_sum()
+
+    def keep_read(self):
+        os.makedirs(f"{self.home}/out", exist_ok=True)
+        with open(f"{self.home}/out/{READ}", "w", encoding="utf-8") as file:
+            file.write(self.read_sum())
 
     def is_kept(self, needs):
         """Whether its sum is kept: nothing stands on it, so its `out/` is all that is wanted, and it has no tests to run."""
@@ -204,24 +235,25 @@ class Proving:
         self.chains = {}
         for crate in reversed(self.waiting):
             above = [self.chains[it.name] for it in self.waiting if crate.name in it.needs]
-            self.chains[crate.name] = crate.lines + max(above, default=0)
+            self.chains[crate.name] = crate.seconds + max(above, default=0)
         self.waiting.sort(key=lambda it: -self.chains[it.name])
 
-    def seconds_a_line(self):
-        # A crate that was proved before takes a second or two, and says nothing of the others.
-        new = [it for it in self.done if it.took > 0.01 * it.lines + 5]
-        took, lines = sum(it.took for it in new), sum(it.lines for it in new)
-        return (took + SECONDS_A_LINE * 500) / (lines + 500)
+    def pace(self):
+        """How many seconds this machine takes for one of the timed machine's, by the crates that are done."""
+        # What `rt` kept elsewhere on this machine takes seconds, and says nothing of the others.
+        new = [it for it in self.done if it.seconds > SECONDS_AS_IT_WAS and it.took > it.seconds / 10]
+        took, timed = sum(it.took for it in new), sum(it.seconds for it in new)
+        return (took + SECONDS_TO_TRUST) / (timed + SECONDS_TO_TRUST)
 
     def seconds_left(self):
         """The rest of the work over all processors, or that of the longest chain of crates, whichever is more."""
-        rate, now = self.seconds_a_line(), time.monotonic()
-        rest = {it.name: rate * it.lines for it in self.waiting}
+        pace, now = self.pace(), time.monotonic()
+        rest = {it.name: pace * it.seconds for it in self.waiting}
         for it in self.running:
             spent = it.jobs * (now - it.began)
             # A crate that is over its time is taken to need a third of it more.
-            rest[it.name] = max(rate * it.lines - spent, spent / 3)
-        chains = [rate * (self.chains[name] - self.crates[name].lines) + it for name, it in rest.items()]
+            rest[it.name] = max(pace * it.seconds - spent, spent / 3)
+        chains = [pace * (self.chains[name] - self.crates[name].seconds) + it for name, it in rest.items()]
         return max([sum(rest.values()) / self.lanes, *(it / 1.5 for it in chains)], default=0)
 
     def say(self, what):
@@ -248,6 +280,8 @@ class Proving:
         self.running.remove(crate)
         crate.give_back()
         (self.done if crate.is_well() else self.failed).append(crate)
+        if crate.is_well():
+            crate.keep_read()
         if not self.failed:
             self.start_some()
         took = as_time(time.monotonic() - crate.began)
@@ -378,6 +412,34 @@ def changes(room):
     yield "nothing, where tests are run", everything, lambda: None
 
 
+TOLD = re.compile(r"about (\d+) (s|minutes) to go")
+
+
+def told_first(said):
+    """The seconds to go that a run tells first."""
+    number, unit = TOLD.search(said).groups()
+    return int(number) * (1 if unit == "s" else 60)
+
+
+def test_estimates(copy, around, room):
+    """The rest is told by the times that are kept, by the pace of what is done, and in seconds where nothing changed."""
+    write(f"{room}/checks/proof_times.txt", "# seconds\nlow 2 0\ntop 3000 0\n")
+    write(f"{room}/crates/low/src/lib.rt", "fn one() {}\n")
+    slow = CALLED.replace("mkdir", "case $PWD in */low) sleep 1;; *) sleep 2;; esac; mkdir")
+    write(f"{room}/bin/rt", slow)
+    write(f"{room}/kit", "kit 3\n")
+    said = {}
+    for name in ("changed", "as it was"):
+        if name == "as it was":
+            os.remove(f"{room}/crates/top/out/{SUM}")
+        ran = subprocess.run([sys.executable, "-B", copy, "--jobs", "2", "top"], env=around, capture_output=True, text=True, check=True)
+        said[name] = told_first(ran.stdout)
+    # A chain is taken to be proved by one and a half processors.
+    if not 1500 <= said["changed"] <= 2500 or said["as it was"] > 10:
+        sys.exit(f"the seconds to go are told as {said}")
+    print("the rest of the time is told by what crates took, and in seconds where nothing changed")
+
+
 def test():
     with tempfile.TemporaryDirectory() as room:
         write(f"{room}/bin/rt", CALLED)
@@ -398,6 +460,7 @@ def test():
             if ran.returncode or text(f"{room}/calls").split() != wanted:
                 sys.exit(f"{what}: proved {text(f'{room}/calls').split()}, not {wanted}: {ran.stdout}{ran.stderr}")
             count += 1
+        test_estimates(copy, around, room)
         shutil.rmtree(f"{room}-prove", ignore_errors=True)
     print(f"after each of {count} changes what has to be proved again is proved again")
 

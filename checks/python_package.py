@@ -111,23 +111,39 @@ def test(is_strict):
         return subprocess.run(command, cwd=os.path.join(ROOT, "python"), env=environment(room), check=False).returncode
 
 
-def wheel():
-    """Makes the wheel in a copy, puts it into out/, and sees that it can be installed and works."""
-    if not os.path.exists(LIBRARY):
-        sys.exit("python package: no wheel without a library: `make library` builds it")
+def copied(room, library):
+    """A copy of python/, with the library in the package and the model beside the tests that take it."""
+    copy = os.path.join(room, "python")
+    shutil.copytree(os.path.join(ROOT, "python"), copy, ignore=shutil.ignore_patterns("__pycache__", "build", "*.egg-info", ".*", "libmorphd.*"))
+    shutil.copy(library, os.path.join(copy, "morphd", "libmorphd.so.1"))
+    shutil.copy(os.path.join(ROOT, "checks", "plain_model.py"), os.path.join(copy, "tests"))
+    return copy
+
+
+def packed(room, library):
+    """The paths of a wheel with the library in it, which was tried, and of the source archive, which has the tests; both in `room`."""
     needed = ("setuptools", "wheel", "pip", "numpy")
     python, has = best_python(needed, needed)
     if set(needed) - set(has):
         sys.exit("python package: no wheel without " + ", ".join(sorted("python3-" + it for it in set(needed) - set(has))))
+    backend = "import setuptools.build_meta as backend; backend.build_sdist(%r); backend.build_wheel(%r)" % (room, room)
+    ran = subprocess.run([python, "-W", "ignore", "-c", backend], cwd=copied(room, library), capture_output=True, text=True, check=False)
+    if ran.returncode:
+        sys.exit("python package: no wheel was made: " + ran.stderr)
+    made = glob.glob(os.path.join(room, "*.whl"))[0]
+    try_out(python, made, os.path.join(room, "installed"))
+    return made, glob.glob(os.path.join(room, "*.tar.gz"))[0]
+
+
+def wheel():
+    """Makes the wheel in a copy, sees that it can be installed and works, and puts it into out/."""
+    if not os.path.exists(LIBRARY):
+        sys.exit("python package: no wheel without a library: `make library` builds it")
     with tempfile.TemporaryDirectory() as room:
-        copy = os.path.join(room, "python")
-        left_out = shutil.ignore_patterns("tests", "__pycache__", "build", "*.egg-info")
-        shutil.copytree(os.path.join(ROOT, "python"), copy, ignore=left_out)
-        shutil.copy(LIBRARY, os.path.join(copy, "morphd"))
-        backend = "import setuptools.build_meta as backend; backend.build_wheel(%r)" % room
-        subprocess.run([python, "-c", backend], cwd=copy, check=True, stdout=subprocess.DEVNULL)
-        made = glob.glob(os.path.join(room, "*.whl"))[0]
-        try_out(python, made, os.path.join(room, "installed"))
+        made = packed(room, LIBRARY)[0]
+        # An earlier one may have another name, and the documents install out/morphd-*.whl.
+        for earlier in glob.glob(os.path.join(ROOT, "out", "morphd-*.whl")):
+            os.remove(earlier)
         print(shutil.copy(made, os.path.join(ROOT, "out")))
     return 0
 

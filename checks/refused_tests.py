@@ -1,6 +1,6 @@
 #!/usr/bin/env python3
 """Runs tests that make each refused call once more, with each of their allocations refused in turn: each has to pass,
-whichever allocation it is.
+whichever allocation it is. One that does not end is told as such.
 
     python3 checks/refused_tests.py crates/mw_memory_tests/out/mw_memory_tests_tests [MODULE..]
 
@@ -21,7 +21,9 @@ MODULES = {
     "mw_core_tests_tests": ["refused"],
     "mw_direct_tests_tests": ["memory"],
     "mw_strips_tests_tests": ["memory"],
+    "mw_waking_tests_tests": ["refused"],
 }
+SECONDS = 60
 
 
 def names(program, module):
@@ -31,16 +33,27 @@ def names(program, module):
     return [name for name in found if name.split("::")[0] == module]
 
 
+def fault(program, name, number, count):
+    """What is wrong with a run in which this allocation is refused; nothing where the test passes."""
+    try:
+        made = subprocess.run([program, name], capture_output=True, env=refusing(number, count), timeout=SECONDS)
+    except subprocess.TimeoutExpired:
+        return "HANGS: %s, allocation %d: it did not end within %d seconds" % (name, number, SECONDS)
+    if made.returncode:
+        return "FAILS: %s, allocation %d: %r" % (name, number, made.stdout[-200:] + made.stderr[-200:])
+    return ""
+
+
 def refused(program, name, count):
     """Runs a test with each of its allocations refused: how many there were, and in how many of the runs it failed."""
     bad = last = 0
     for number in itertools.count(0):
-        made = subprocess.run([program, name], capture_output=True, env=refusing(number, count), timeout=60)
+        told = fault(program, name, number, count)
         calls, _ = counted(count)
         last = max(last, calls)
-        if made.returncode:
+        if told:
             bad += 1
-            print("FAILS: %s, allocation %d: %r" % (name, number, made.stdout[-200:] + made.stderr[-200:]))
+            print(told, flush=True)
         if number > last:
             return number - 1, bad
 

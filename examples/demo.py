@@ -7,6 +7,7 @@
 
 Where the proved program is there already, the first half builds nothing.
 """
+import argparse
 import os
 import subprocess
 import sys
@@ -19,7 +20,7 @@ PROGRAM = f"{CRATE}/out/morphd"
 SESSION = f"{HERE}/demo.session"
 # What the trial copy wrote. Folders of this name are no part of the repository.
 KEPT = f"{HERE}/out/trial.replies"
-OWN_PICTURE = """the same for a picture of your own, whose grains are brighter than level 120 of 255:
+OWN_PICTURE = """the same for a picture of your own, whose grains have level 120 or more, of 255:
     convert mine.png -colorspace Gray -depth 8 mine.pgm
     python3 examples/sizes.py mine.pgm --above 120 > mine.session
     crates/morphd/out/morphd batch < mine.session | python3 examples/curve.py"""
@@ -43,8 +44,8 @@ def replies_of(words, folder):
 def show(replies):
     print("the same, opened by a ball five pixels wide:")
     script("show.py", replies, "-")
-    print("widths of the grains, which have level 120 or more, and how much of their area is so wide:")
-    script("curve.py", replies)
+    print("the grains are the places of level 120 or more; how wide they are:")
+    script("curve.py", replies, "--side", "4")
 
 
 def trial():
@@ -77,4 +78,7 @@ def proved():
 
 
 if __name__ == "__main__":
-    {"trial": trial, "proved": proved}[sys.argv[1]]()
+    HALVES = {"trial": trial, "proved": proved}
+    parser = argparse.ArgumentParser(description="The two halves of make demo.")
+    parser.add_argument("half", choices=HALVES, help="a trial build, or the program that was proved and built")
+    HALVES[parser.parse_args().half]()

@@ -6,8 +6,8 @@
 N is an odd side or length in pixels, and R a radius: a disc is 2 R + 1 pixels wide. The angle of a line is in degrees, and
 counts upwards from the right.
 """
+import argparse
 import math
-import sys
 
 
 def marked(side, is_in):
@@ -25,16 +25,26 @@ def line(length, angle):
     return marked(length, lambda x, y: (x, y) in places)
 
 
+FORMS = {
+    "square": lambda size, angle: marked(size, lambda x, y: True),
+    "disc": lambda size, angle: marked(2 * size + 1, lambda x, y: x * x + y * y <= size * size),
+    "cross": lambda size, angle: marked(size, lambda x, y: x == 0 or y == 0),
+    "line": line,
+}
+
+
 def main():
-    form, size = sys.argv[1], int(sys.argv[2])
-    if form != "disc" and size % 2 == 0:
-        sys.exit("the side or length has to be odd")
-    angle = float(sys.argv[3]) if sys.argv[3:] else 0
-    forms = {"square": lambda: marked(size, lambda x, y: True),
-             "disc": lambda: marked(2 * size + 1, lambda x, y: x * x + y * y <= size * size),
-             "cross": lambda: marked(size, lambda x, y: x == 0 or y == 0),
-             "line": lambda: line(size, angle)}
-    print(forms[form](), end="")
+    parser = argparse.ArgumentParser(description="Writes a structuring element as a plain bitmap.")
+    parser.add_argument("form", choices=FORMS)
+    parser.add_argument("size", metavar="N", type=int, help="an odd side or length in pixels; of a disc its radius")
+    parser.add_argument("angle", metavar="ANGLE", type=float, nargs="?", default=0, help="of a line, in degrees upwards from the right")
+    given = parser.parse_args()
+    if given.form != "disc" and given.size % 2 == 0:
+        parser.error("the side or length has to be odd")
+    across = 2 * given.size + 1 if given.form == "disc" else given.size
+    if not 1 <= across <= 255:
+        parser.error("an element has 1 to 255 pixels a side")
+    print(FORMS[given.form](given.size, given.angle), end="")
 
 
 if __name__ == "__main__":

@@ -1,15 +1,20 @@
 #!/usr/bin/env python3
-"""Makes the example pictures and sessions of this folder: grains, a defect mask and a line of text.
+"""Makes the example pictures and sessions of this folder: grains, discs of known widths, a defect mask and a line of text.
 
     python3 make_examples.py
 
 The pictures are drawn from fixed seeds, so that every run writes the same bytes.
 """
+import argparse
 import os
 import random
 
+import sizes
+
 HERE = os.path.dirname(os.path.abspath(__file__))
 WIDTH, HEIGHT = 72, 28
+# The discs in discs.pgm: their widths, and the first row and column of each.
+DISCS = {11: (18, 3), 21: (13, 17), 41: (3, 41)}
 
 FONT = {  # five columns by seven rows, a row for each string
     "M": ("#...#", "##.##", "#.#.#", "#.#.#", "#...#", "#...#", "#...#"),
@@ -53,6 +58,18 @@ def grains(rng):
                     rows[y][x] = max(rows[y][x], level - rng.randrange(10))
     for _ in range(60):
         rows[rng.randrange(HEIGHT)][rng.randrange(WIDTH)] = rng.randrange(200, 256)
+    return rows
+
+
+def discs(rng):
+    """Bright discs of known widths on a dark ground. None touches another, nor the frame."""
+    rows = [[28 + rng.randrange(12) for _ in range(85)] for _ in range(47)]
+    for across, (top, left) in DISCS.items():
+        half = (across - 1) / 2
+        for y in range(across):
+            for x in range(across):
+                if (x - half) ** 2 + (y - half) ** 2 <= across * across / 4:
+                    rows[top + y][left + x] = 190 + rng.randrange(12)
     return rows
 
 
@@ -102,8 +119,10 @@ def write(name, data):
 
 
 def main():
+    argparse.ArgumentParser(description="Makes the example pictures and sessions of this folder anew.").parse_args()
     pictures = {
         "grains.pgm": grey(grains(random.Random(7))),
+        "discs.pgm": grey(discs(random.Random(3))),
         "defects.pbm": bits(defects(random.Random(11))),
         "text.pgm": grey(text(random.Random(5))),
     }
@@ -114,9 +133,9 @@ def main():
         ("LOAD grains", pictures["grains.pgm"]), ("ELEMENT ball 2 2", ball),
         "RUN small ERODE grains ball", "RUN opened DILATE small ball", "STATUS opened", "FETCH opened"]))
     write("demo.session", session([
-        ("LOAD grains", pictures["grains.pgm"]), ("ELEMENT ball 2 2", ball), "RUN opened OPEN grains ball", "FETCH opened",
-        ("ELEMENT square 1 1", b"P1\n3 3\n111111111\n"), "RUN bright THRESHOLD grains 120",
-        "RUN curve SPECTRUM bright square 12", "FETCH curve"]))
+        ("LOAD grains", pictures["grains.pgm"]), ("ELEMENT ball 2 2", ball), "RUN bright THRESHOLD grains 120", "FETCH bright",
+        "RUN opened OPEN grains ball", "FETCH opened",
+        ("ELEMENT octagon 2 2", sizes.bitmap("octagon", 4)), "RUN curve SPECTRUM bright octagon 12", "FETCH curve"]))
     write("defects.session", session([
         ("LOAD mask", pictures["defects.pbm"]), ("ELEMENT bar 2 0", bar),
         "RUN wide DILATE mask bar", "RUN joined ERODE wide bar", "FETCH joined"]))

@@ -6,6 +6,7 @@ picture by it, waits, fetches the result and shows it.
 
 It starts `morphd listen` for two sessions, on port 7001 if none is given, and ends with the server's exit status.
 """
+import argparse
 import pathlib
 import socket
 import subprocess
@@ -62,7 +63,11 @@ def runs_and_fetches(port):
 
 
 def main():
-    program, port = sys.argv[1], int(sys.argv[2]) if sys.argv[2:] else 7001
+    parser = argparse.ArgumentParser(description="Two clients on one board: one loads, the other opens and fetches.")
+    parser.add_argument("program", metavar="MORPHD", help="the program morphd")
+    parser.add_argument("port", metavar="PORT", type=int, nargs="?", default=7001, help="of the server (default: 7001)")
+    given = parser.parse_args()
+    program, port = given.program, given.port
     with subprocess.Popen([program, "listen", "--port", str(port), "--sessions", "2"]) as server:
         print("the first client:")
         loads_the_images(port)

@@ -45,7 +45,7 @@
  * and thresholds write strips of rows: all that can be refused is asked for before the first is written. A later strip for
  * which there is no memory is made sample by sample, slowly, and the answer is 0.
  *
- * Of every function it is proved that it makes and answers what this file says. docs/DEFINITIONS.md has the operators,
+ * Of every function it is proved that it makes and answers what this file says. docs/dev/DEFINITIONS.md has the operators,
  * docs/PROTOCOL.md the numbers, docs/LIBRARY.md programs.
  */
 #ifndef MORPHD_H
@@ -84,6 +84,9 @@ enum {
     MORPHD_PARAM = 47,     /* an operation, k or levels outside its limits */
     MORPHD_MEMORY = 50     /* malloc or realloc gave no memory */
 };
+
+/* The version of the release that this file came with. */
+#define MORPHD_VERSION "0.1.0"
 
 /* The version of this file, which is 1: it rises when a function or a number changes its meaning. */
 uint32_t morphd_version(void);

@@ -1,4 +1,7 @@
-"""Makes the wheel: one that holds a library is for this kind of machine, and for any Python 3."""
+"""Makes the wheel: one that holds the library is for Linux on x86-64, and for any Python 3.
+
+Its tag names the least version of the C library that libmorphd takes, so pip refuses it where that is older.
+"""
 from pathlib import Path
 
 from setuptools import setup
@@ -6,6 +9,7 @@ from setuptools.dist import Distribution
 
 HERE = Path(__file__).resolve().parent
 HOLDS_LIBRARY = any((HERE / "morphd").glob("libmorphd.*"))
+PLATFORM = "manylinux_2_17_x86_64"
 
 
 class Held(Distribution):
@@ -21,8 +25,7 @@ def commands():
 
     class Wheel(bdist_wheel):
         def get_tag(self):
-            _, _, platform = super().get_tag()
-            return "py3", "none", platform
+            return "py3", "none", PLATFORM
 
     return {"bdist_wheel": Wheel}
 

@@ -13,8 +13,8 @@ import sys
 HERE = os.path.dirname(os.path.abspath(__file__))
 ROOT = os.path.dirname(os.path.dirname(HERE))
 sys.path[:0] = [f"{ROOT}/python", f"{ROOT}/python/tests", f"{ROOT}/docs/images"]
-import make_images  # noqa: E402
 import numpy  # noqa: E402
+import png_files  # noqa: E402
 import stand_in  # noqa: E402
 
 import morphd  # noqa: E402
@@ -47,7 +47,8 @@ ROWS = [
     ("grains", "morphd.hit_or_miss(morphd.threshold(grains, 120), [[0, 0, 0], [0, 1, 0], [0, 0, 0]])", "pixels that stand alone: specks"),
     ("mask", "morphd.skeleton(mask, morphd.diamond(1), 4)", "a skeleton: brighter marks are deeper in the set"),
     ("mask", "morphd.restored(morphd.skeleton(mask, morphd.diamond(1), 4), morphd.diamond(1), 4)", "the set that it came from"),
-    ("grains", "morphd.spectrum(morphd.threshold(grains, 120), morphd.disk(1), 6)", "how much of the grains is so wide: 1, 3, 5, .. pixels"),
+    ("grains", "morphd.spectrum(morphd.threshold(grains, 120), morphd.octagon(2, 1), 4)",
+     "how wide the largest octagon is that fits into the grains: 1 to 3, 4 to 6, .. pixels"),
 ]
 
 
@@ -92,7 +93,7 @@ def shown(made):
 
 
 def png(array):
-    return make_images.png(array.repeat(ZOOM, 0).repeat(ZOOM, 1).tolist())
+    return png_files.png(array.repeat(ZOOM, 0).repeat(ZOOM, 1).tolist())
 
 
 def made():

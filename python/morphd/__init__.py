@@ -3,15 +3,16 @@
     import morphd
     image = morphd.read("grains.png")
     opened = morphd.opening(image, morphd.disk(5))
-    curve = morphd.spectrum(opened, morphd.disk(1), 16, pixel="0.32um")
+    curve = morphd.spectrum(morphd.threshold(opened, morphd.otsu(opened)), morphd.octagon(3, 2), 16, pixel="0.32um")
 
 Every result comes from libmorphd or from the program `morphd`: this package has no operator of its own. `operators`,
-`curves` and `files` need NumPy, `dask` needs Dask; `footprints`, `session` and `errors` need nothing but Python. What a
+`curves` and `files` need NumPy, `dask` needs Dask; `footprints`, `session`, `pixels`, `doubts` and `errors` need nothing but Python. What a
 name needs is imported when the name is used.
 """
 from __future__ import annotations
 
 import importlib
+import importlib.util
 from typing import TYPE_CHECKING, Any
 
 __version__ = "0.1.0"
@@ -26,46 +27,64 @@ _MODULES = {
         "rank", "restored", "skeleton", "threshold", "white_tophat",
     ),
     "curves": ("Spectrum", "spectrum"),
-    "files": ("read", "write"),
+    "files": ("Loaded", "load", "read", "write"),
+    "levels": ("otsu",),
     "netpbm": ("Picture",),
+    "pixels": ("Pixel",),
     "session": ("Handle", "Session"),
     "_library": ("library_version",),
 }
 _HOMES = {name: module for module, names in _MODULES.items() for name in names}
+# What modules need: its name in words, and the package that has it.
+_NEEDS = {"numpy": ("NumPy", "python3-numpy"), "dask": ("Dask", "python3-dask")}
+_SUBMODULES = ("curves", "dask", "doubts", "errors", "files", "footprints", "levels", "netpbm", "operators", "pixels", "session")
 
 if TYPE_CHECKING:
+    from . import curves, dask, doubts, errors, files, footprints, levels, netpbm, operators, pixels, session
     from ._library import library_version
     from .curves import Spectrum, spectrum
     from .errors import Cancelled, InputFailed, LibraryMissing, OutOfMemory, ProgramMissing, Refused, SessionEnded
-    from .files import read, write
+    from .files import Loaded, load, read, write
     from .footprints import Footprint, Reach, diamond, disk, line, octagon, rectangle, square
+    from .levels import otsu
     from .netpbm import Picture
     from .operators import (
         black_tophat, closing, dilation, erosion, gradient, hit_or_miss, median, opening, percentile, rank, restored,
         skeleton, threshold, white_tophat,
     )
+    from .pixels import Pixel
     from .session import Handle, Session
 
 __all__ = [
-    "Cancelled", "Footprint", "Handle", "InputFailed", "LibraryMissing", "OutOfMemory", "Picture", "ProgramMissing", "Reach",
-    "Refused", "Session", "SessionEnded", "Spectrum", "black_tophat", "closing", "diamond", "dilation", "disk", "erosion",
-    "gradient", "hit_or_miss", "library_version", "line", "median", "octagon", "opening", "percentile", "rank", "read",
-    "rectangle", "restored", "skeleton", "spectrum", "square", "threshold", "white_tophat", "write",
+    "Cancelled", "Footprint", "Handle", "InputFailed", "LibraryMissing", "Loaded", "OutOfMemory", "Picture", "Pixel",
+    "ProgramMissing", "Reach", "Refused", "Session", "SessionEnded", "Spectrum", "black_tophat", "closing", "diamond",
+    "dilation", "disk", "erosion", "gradient", "hit_or_miss", "library_version", "line", "load", "median", "octagon", "opening",
+    "otsu", "percentile", "rank", "read", "rectangle", "restored", "skeleton", "spectrum", "square", "threshold",
+    "white_tophat", "write",
 ]
 
 
-def __getattr__(name: str) -> Any:
-    if name not in _HOMES:
-        raise AttributeError(f"module 'morphd' has no attribute {name!r}")
+def _imported(name: str) -> Any:
+    """A module of this package, or what one of them has by this name."""
     try:
-        module = importlib.import_module(f".{_HOMES[name]}", __name__)
+        module = importlib.import_module(f".{_HOMES.get(name, name)}", __name__)
     except ModuleNotFoundError as missing:
-        if missing.name == "numpy":
-            raise ModuleNotFoundError(f"morphd.{name} needs NumPy: apt-get install python3-numpy", name="numpy") from missing
+        needed = str(missing.name).partition(".")[0]
+        if needed in _NEEDS:
+            what, package = _NEEDS[needed]
+            raise ModuleNotFoundError(f"morphd.{name} needs {what}: apt-get install {package}", name=missing.name) from missing
         raise
-    globals()[name] = value = getattr(module, name)
-    return value
+    return module if name in _SUBMODULES else getattr(module, name)
+
+
+if not TYPE_CHECKING:
+    # not for type checkers, who would take any name for one of this package
+    def __getattr__(name: str) -> Any:
+        if name not in _HOMES and name not in _SUBMODULES:
+            raise AttributeError(f"module 'morphd' has no attribute {name!r}")
+        globals()[name] = value = _imported(name)
+        return value
 
 
 def __dir__() -> list[str]:
-    return sorted({*globals(), *__all__})
+    return sorted({*globals(), *__all__, *(name for name in _SUBMODULES if name != "dask" or importlib.util.find_spec("dask"))})

@@ -2,36 +2,46 @@
 from __future__ import annotations
 
 import argparse
+import io
+import math
 import os
+import re
 import sys
 from collections.abc import Callable, Sequence
-from concurrent.futures import ThreadPoolExecutor, as_completed
+from contextlib import suppress
 from dataclasses import dataclass
 from pathlib import Path
-from typing import TYPE_CHECKING, Any
+from typing import TYPE_CHECKING, Any, NoReturn
 
 from . import __version__, footprints
+from ._crew import Crew, Writing
 from ._progress import bar
+from ._reports import Curves, in_words, tell
 from .errors import LibraryMissing
 from .footprints import Footprint
 
 if TYPE_CHECKING:
+    from ._targets import Target
     from .curves import Spectrum
     from .files import Loaded
+    from .pixels import Pixel
 
 EXAMPLES = """\
 examples:
   morph opening --disk 5 grains.png -o opened.png
   morph median --square 5 --workers -1 noisy.tif -o calm.tif
   morph threshold --at 120 grains.pgm -o mask.pbm
+  morph threshold --at otsu grains.png -o mask.png
   morph hit-or-miss --hit corner.pbm --miss beside.pbm mask.pbm -o corners.pbm
-  morph spectrum --disk 3 --sizes 16 --pixel 0.32um grains.tif --plot curve.svg --csv curve.csv
+  morph spectrum --octagon 3,2 --sizes 16 --pixel 0.32um mask.png --plot curve.svg --csv curve.csv
   morph opening --disk 5 night/*.png --jobs 4 -o opened/
-  pngtopnm grains.png | morph white-tophat --disk 15 - | morph threshold --at 40 - > mask.pbm
+  morph white-tophat --disk 15 - < grains.png | morph threshold --at 40 - --format png > mask.png
+  morph spectrum --disk 3 night/*.png --csv -
 
 Several files go into a folder, under their own names. Exit status: 0 if all was made, 1 if some was not, 2 if the words of
-the command line are wrong.
+the command line are wrong, 130 if it was interrupted.
 """
+INTERRUPTED = 130
 FLAT = ("erosion", "dilation", "opening", "closing", "gradient", "white-tophat", "black-tophat", "rank", "median", "percentile")
 HELP = {
     "erosion": "the least sample under the footprint", "dilation": "the greatest sample under the footprint",
@@ -44,29 +54,69 @@ HELP = {
 }
 
 
+class Parser(argparse.ArgumentParser):
+    """A parser that tells a fault in one line, before all else."""
+
+    def error(self, message: str) -> NoReturn:
+        # not by `exit`, which takes no standard error that is closed
+        if sys.stderr is not None:
+            print(f"{self.prog}: {' '.join(message.split())} ({self.prog} --help says more)", file=sys.stderr, flush=True)
+        sys.exit(2)
+
+
+def _whole(text: str) -> int:
+    if re.fullmatch("-?[0-9]{1,9}", text) is None:
+        raise argparse.ArgumentTypeError(f"{text}: a whole number is wanted")
+    return int(text)
+
+
+def _count(text: str) -> int:
+    if (number := _whole(text)) < 0:
+        raise argparse.ArgumentTypeError(f"{text}: a number from 0 on is wanted")
+    return number
+
+
+def _finite(text: str) -> float:
+    try:
+        number = float(text)
+    except ValueError:
+        number = math.nan
+    if not math.isfinite(number):
+        raise argparse.ArgumentTypeError(f"{text}: a finite number is wanted")
+    return number
+
+
+def _channel(text: str) -> int | str:
+    return int(text) if re.fullmatch("[0-9]{1,9}", text) else text
+
+
 def _pair(text: str) -> tuple[int, int]:
-    first, second = text.replace("x", ",").split(",")
-    return int(first), int(second)
+    found = re.fullmatch("([0-9]{1,9})[x,]([0-9]{1,9})", text)
+    if found is None:
+        raise argparse.ArgumentTypeError(f"{text}: two whole numbers are wanted, as 3x5 or 3,5")
+    return int(found[1]), int(found[2])
 
 
 def _line(text: str) -> Footprint:
     length, _, angle = text.partition(",")
-    return footprints.line(int(length), float(angle or 0))
+    return footprints.line(_whole(length), _finite(angle or "0"))
 
 
 def _bitmap(path: str) -> Footprint:
     from .netpbm import Picture
 
     picture = Picture.of_file(Path(path).read_bytes())
+    if not picture.is_set:
+        raise ValueError("it is no PBM file")
     return Footprint(picture.rows())
 
 
 # The options that name a footprint: how each is read, what it is called in help, and what it says there.
 SHAPES: dict[str, tuple[Callable[[str], Footprint], str, str]] = {
-    "disk": (lambda text: footprints.disk(float(text)), "RADIUS", "a disc, 2 RADIUS + 1 pixels across"),
-    "square": (lambda text: footprints.square(int(text)), "SIDE", "a full square"),
+    "disk": (lambda text: footprints.disk(_finite(text)), "RADIUS", "a disc, 2 RADIUS + 1 pixels across"),
+    "square": (lambda text: footprints.square(_whole(text)), "SIDE", "a full square"),
     "rectangle": (lambda text: footprints.rectangle(*_pair(text)), "ROWSxCOLUMNS", "a full rectangle"),
-    "diamond": (lambda text: footprints.diamond(int(text)), "RADIUS", "a square on its corner"),
+    "diamond": (lambda text: footprints.diamond(_whole(text)), "RADIUS", "a square on its corner"),
     "octagon": (lambda text: footprints.octagon(*_pair(text)), "STRAIGHT,SLANTED", "an octagon, by its sides"),
     "line": (_line, "LENGTH[,ANGLE]", "a line, counterclockwise in degrees"),
     "footprint": (_bitmap, "FILE", "the black pixels of a PBM file"),
@@ -79,8 +129,22 @@ def _shape(name: str) -> Callable[[str], Footprint]:
         try:
             return SHAPES[name][0](text)
         except (ValueError, OSError) as fault:
-            raise argparse.ArgumentTypeError(f"{text}: {fault}") from None
+            raise argparse.ArgumentTypeError(in_words(text, fault)) from None
     return read
+
+
+def _level(text: str) -> float | None:
+    """A level; None is Otsu's."""
+    return None if text == "otsu" else _finite(text)
+
+
+def _pixel(text: str) -> Pixel:
+    from .pixels import pixel_size
+
+    try:
+        return pixel_size(text)
+    except ValueError as fault:
+        raise argparse.ArgumentTypeError(str(fault)) from None
 
 
 def _add_footprint(parser: argparse.ArgumentParser) -> None:
@@ -93,28 +157,33 @@ def _add_footprint(parser: argparse.ArgumentParser) -> None:
 
 def _add_edges(parser: argparse.ArgumentParser, usual: str) -> None:
     modes = ("ignore", "reflect", "mirror", "nearest", "wrap", "constant")
-    parser.add_argument("--mode", choices=modes, default=usual, help=f"what stands outside the frame; {usual} if left out")
-    parser.add_argument("--cval", type=float, default=0, metavar="SAMPLE", help="the sample outside with --mode constant")
+    told = f"what stands outside the frame; as --compat has it, or else {usual}, if left out"
+    parser.add_argument("--mode", choices=modes, help=told)
+    parser.add_argument("--cval", type=_finite, default=0, metavar="SAMPLE", help="the sample outside with --mode constant")
     parser.add_argument("--compat", choices=("scipy", "skimage", "opencv"), help="whose rules are taken")
 
 
 def _add_common(parser: argparse.ArgumentParser, name: str) -> None:
     parser.add_argument("files", nargs="+", metavar="FILE", help="PBM, PGM, PNG or TIFF; - is standard input")
+    parser.add_argument("--channel", type=_channel, metavar="NAME", help="of colours: red, green, blue, alpha, or its number from 0")
+    parser.add_argument("--page", type=_count, metavar="N", help="of several pages, from 0; a stack of all if left out")
     parser.add_argument("--workers", type=int, metavar="N", help="threads for each picture, -1 for all processors")
     parser.add_argument("--jobs", type=int, default=1, metavar="N", help="pictures at the same time")
     parser.add_argument("--quiet", action="store_true", help="no progress bar")
+    parser.add_argument("--force", action="store_true", help="write over files that are read, too")
     if name != "skeleton":
         parser.add_argument("--maxval", type=int, metavar="SAMPLE", help="the greatest sample there can be, as 4095")
     if name == "spectrum":
         parser.add_argument("--plot", metavar="FILE", help="draw the curve, as SVG, PNG or PDF")
-        parser.add_argument("--csv", metavar="FILE", help="write the curve; - is standard output")
+        parser.add_argument("--csv", metavar="FILE", help="write the curve; of several files, one table; - is standard output")
     else:
+        parser.add_argument("--format", choices=("pnm", "png", "tiff"), help="the result's form; if left out, as its name tells, or pnm")
         parser.add_argument("-o", "--output", metavar="FILE", help="the result; a folder for several files; - is standard output")
 
 
 def _parser() -> argparse.ArgumentParser:
     shown: dict[str, Any] = {"epilog": EXAMPLES, "formatter_class": argparse.RawDescriptionHelpFormatter}
-    parser = argparse.ArgumentParser("morph", description="Proved flat morphology on pictures.", **shown)
+    parser = Parser("morph", description="Proved flat morphology on pictures.", **shown)
     parser.add_argument("--version", action="version", version=f"morph {__version__}")
     operations = parser.add_subparsers(dest="operation", required=True, metavar="OPERATION")
     for name, text in HELP.items():
@@ -135,7 +204,7 @@ def _add_numbers(parser: argparse.ArgumentParser, name: str) -> None:
     elif name == "percentile":
         parser.add_argument("--percent", type=float, required=True, metavar="Q", help="0 to 100")
     elif name == "threshold":
-        parser.add_argument("--at", type=float, required=True, metavar="K")
+        parser.add_argument("--at", type=_level, required=True, metavar="K", help="a level, or otsu, which finds one and tells it")
     elif name == "hit-or-miss":
         parser.add_argument("--hit", type=_shape("footprint"), required=True, metavar="FILE", help="a PBM file")
         parser.add_argument("--miss", type=_shape("footprint"), metavar="FILE", help="a PBM file; the rest of --hit if left out")
@@ -143,7 +212,8 @@ def _add_numbers(parser: argparse.ArgumentParser, name: str) -> None:
         parser.add_argument("--levels", type=int, required=True, metavar="L", help="1 to 254")
     elif name == "spectrum":
         parser.add_argument("--sizes", type=int, default=16, metavar="N", help="how many openings, 1 to 32")
-        parser.add_argument("--pixel", default="1", metavar="SIZE", help="the side of a pixel, as 0.32um")
+        told = "the side of a pixel, as 0.32um; what a TIFF tells if left out, else widths are in pixels"
+        parser.add_argument("--pixel", type=_pixel, metavar="SIZE", help=told)
 
 
 @dataclass(frozen=True)
@@ -152,18 +222,32 @@ class Job:
 
     words: argparse.Namespace
     path: str
+    writing: Writing
 
-    def run(self) -> None:
-        """Reads, computes and writes."""
+    def run(self) -> Spectrum | None:
+        """Reads, computes and writes. A curve is given, since it may have to be told behind those of other files."""
         from . import files
 
-        loaded = files.load(self.path)
+        loaded = files.load(self.path, channel=self.words.channel, page=self.words.page)
         if self.words.operation == "spectrum":
-            self._tell(self._spectrum(loaded))
-            return
+            curve = self._spectrum(loaded)
+            self._keep(curve)
+            return curve
         made = self._made(loaded)
-        maxval = self.words.levels + 1 if self.words.operation == "skeleton" else self._maxval(loaded)
-        files.write(self._target(self.words.output), made, None if made.dtype == bool else maxval)
+        if self.words.operation == "threshold" and not made.any():
+            self._say(f"no sample reaches the threshold, so the set is empty: the greatest is {loaded.array.max()}")
+        levels = self.words.levels + 1 if self.words.operation == "skeleton" else self._maxval(loaded)
+        maxval, form, target = None if made.dtype == bool else levels, self.words.format, self.words.results.of(self.path)
+        pixel = loaded.pixel if loaded.pixel is not None and loaded.pixel.micrometres else None
+        if target == "-":
+            files.write("-", made, maxval, pixel, form=form)
+        else:
+            self.writing.write(target, files.encoded_for(target, made, maxval, pixel, form))
+        return None
+
+    def _say(self, line: str) -> None:
+        """Tells something of the picture beside the result."""
+        tell(f"{self.path}: {line}")
 
     def _maxval(self, loaded: Loaded) -> int | None:
         given: int | None = getattr(self.words, "maxval", None)
@@ -186,7 +270,7 @@ class Job:
         if name == "hit_or_miss":
             arguments = [words.hit, words.miss]
         elif name == "threshold":
-            arguments = number
+            arguments = number or [self._otsu(loaded)]
         elif name in ("skeleton", "restored"):
             arguments = [self._footprint(), words.levels]
             options.pop("maxval", None)
@@ -194,80 +278,128 @@ class Job:
             arguments = [*number, self._footprint()]
         return getattr(operators, name)(loaded.array, *arguments, **options)
 
+    def _otsu(self, loaded: Loaded) -> int:
+        from .levels import otsu
+
+        level = otsu(loaded.array)
+        self._say(f"the threshold is {level}, by Otsu")
+        return level
+
     def _spectrum(self, loaded: Loaded) -> Spectrum:
-        from .curves import spectrum
+        from .curves import measured
 
         words = self.words
         maxval = None if loaded.array.dtype == bool else self._maxval(loaded)
-        return spectrum(loaded.array, self._footprint(), words.sizes, words.pixel, maxval=maxval, workers=words.workers)
+        pixel = words.pixel or loaded.pixel or 1.0
+        return measured(loaded.array, self._footprint(), words.sizes, pixel, maxval=maxval, workers=words.workers)
 
-    def _tell(self, curve: Spectrum) -> None:
-        """Writes a curve where it is wanted, and prints it where it is wanted nowhere."""
+    def _keep(self, curve: Spectrum) -> None:
+        """Writes a curve into files of its own."""
         words = self.words
-        if words.csv is not None:
-            curve.to_csv(sys.stdout if words.csv == "-" else self._target(words.csv, ".csv"))
-        if words.plot is not None:
+        if words.curves is not None:
+            text = io.StringIO()
+            curve.to_csv(text)
+            self.writing.write(words.curves.of(self.path), text.getvalue().encode())
+        if words.plots is not None:
             from matplotlib.figure import Figure
 
-            figure = Figure(figsize=(7, 4), layout="constrained")
+            figure, drawn, target = Figure(figsize=(7, 4), layout="constrained"), io.BytesIO(), words.plots.of(self.path)
             curve.plot(figure.add_subplot())
-            figure.savefig(self._target(words.plot, ".svg"))
-        if words.csv is None and words.plot is None:
-            print(f"{self.path}:\n{curve}" if len(words.files) > 1 else curve)
+            figure.savefig(drawn, format=Path(target).suffix[1:] or "svg")
+            self.writing.write(target, drawn.getvalue())
 
-    def _target(self, output: str | None, suffix: str | None = None) -> str:
-        """The path of a result: in a folder, under the picture's name."""
-        if output is None or output == "-":
-            return "-"
-        if len(self.words.files) == 1 and not output.endswith("/") and not os.path.isdir(output):
-            return output
-        name = Path(self.path if self.path != "-" else "stdin.pgm")
-        os.makedirs(output, exist_ok=True)
-        return os.path.join(output, name.name if suffix is None else name.with_suffix(suffix).name)
+
+def _targets_of(words: argparse.Namespace) -> list[Target]:
+    """Where all results go. Beside the words it keeps the outputs of single files: `results`, `curves`, `plots`, and `table`, the
+    file that holds the curves of all."""
+    from . import _targets
+
+    words.results = words.curves = words.plots = words.table = None
+    if words.operation != "spectrum":
+        words.results = _targets.of_pictures(words.operation, words.output or "-", words.format, words.files)
+        found: list[Target] = words.results.targets()
+        _targets.check_forms(found, words.format)
+        return found
+    found = []
+    if words.plot is not None:
+        words.plots = _targets.Output("--plot", words.plot, words.files, {"": ".svg"})
+        found += words.plots.targets()
+    if words.csv is not None:
+        curves = _targets.Output("--csv", words.csv, words.files, {"": ".csv"})
+        if words.csv == "-" or (len(words.files) > 1 and not curves.is_folder):
+            words.table = words.csv
+            found.append(_targets.Target(f"--csv {words.csv}", "all files", words.csv))
+        else:
+            words.curves = curves
+            found += curves.targets()
+    return found
 
 
 def _check(parser: argparse.ArgumentParser, words: argparse.Namespace) -> None:
     """Faults of the command line that lie between its words."""
-    several = len(words.files) > 1
+    from . import _targets
+
     if words.jobs < 1:
         parser.error("--jobs is a number from 1 on")
     if words.workers == 0:
         parser.error("--workers is a number from 1 on, or -1")
     if words.operation != "spectrum" and words.output is None and words.files != ["-"]:
         parser.error("-o says where the result goes")
-    if words.operation != "spectrum" and several and words.output == "-":
-        parser.error("several results go into a folder: -o FOLDER/")
     if words.operation == "spectrum" and words.plot == "-":
         parser.error("--plot takes a file, whose suffix tells its form")
-    names = [Path(path).name for path in words.files]
-    if several and len(set(names)) < len(names):
-        parser.error("two files have the same name, and would go into one")
     if getattr(words, "origin", None) is not None:
         try:
             words.shape.at(words.origin)
         except ValueError as fault:
             parser.error(str(fault))
+    try:
+        _targets.check(_targets_of(words), words.files, words.force)
+    except _targets.WrongTarget as fault:
+        parser.error(str(fault))
 
 
-def _run(words: argparse.Namespace) -> int:
+def _run(words: argparse.Namespace, writing: Writing) -> int:
     """Runs all jobs; gives the exit status."""
-    status, is_shown = 0, len(words.files) > 1 and not words.quiet and sys.stderr.isatty()
-    one_more = bar(len(words.files), "picture") if is_shown else None
-    with ThreadPoolExecutor(words.jobs) as crew:
-        running = {crew.submit(Job(words, path).run): path for path in words.files}
-        for done in as_completed(running):
-            fault = done.exception()
-            if isinstance(fault, BrokenPipeError):
-                # whoever reads has enough; what is left must not be written at exit
-                os.dup2(os.open(os.devnull, os.O_WRONLY), sys.stdout.fileno())
-                return 1
-            if fault is not None:
+    status, is_shown = 0, len(words.files) > 1 and not words.quiet and sys.stderr is not None and sys.stderr.isatty()
+    for output in (words.results, words.curves, words.plots):
+        if output is not None:
+            output.make_folder()
+    told = Curves(words.table, len(words.files) > 1)
+    is_told = words.table is not None or (words.curves is None and words.plots is None)
+    one_more = bar(len(words.files), "picture") if is_shown else lambda: None
+    crew = Crew(words.jobs, [Job(words, path, writing).run for path in words.files], one_more)
+    try:
+        for path, result in zip(words.files, crew.results()):
+            try:
+                curve = result.result()
+                for doubt in () if curve is None else curve.doubts:
+                    tell(f"{path}: {doubt}")
+                if curve is not None and is_told:
+                    told.put(path, curve)
+            except (BrokenPipeError, LibraryMissing):
+                raise
+            except Exception as fault:
                 status = 1
-                place = "" if isinstance(fault, (LibraryMissing, ModuleNotFoundError)) else f"{running[done]}: "
-                print(f"morph: {place}{fault}", file=sys.stderr)
-            if one_more is not None:
-                one_more()
+                tell(str(fault) if isinstance(fault, ModuleNotFoundError) else in_words(path, fault))
+    finally:
+        crew.cancel()
+    told.end()
     return status
+
+
+def _drop_output() -> None:
+    """What is left for the standard output is not written at exit."""
+    os.dup2(os.open(os.devnull, os.O_WRONLY), sys.stdout.fileno())
+
+
+def _flush() -> None:
+    """Writes what is left for the standard output."""
+    try:
+        if sys.stdout is not None:
+            sys.stdout.flush()
+    except OSError:
+        _drop_output()
+        raise
 
 
 def main(arguments: Sequence[str] | None = None) -> int:
@@ -281,12 +413,30 @@ def main(arguments: Sequence[str] | None = None) -> int:
     Returns
     -------
     int
-        0 if all was made, 1 if some was not. Wrong words raise SystemExit(2), as argparse does.
+        0 if all was made, 1 if some was not, 130 at an interrupt. Wrong words raise SystemExit(2), as argparse does.
     """
-    parser = _parser()
-    words = parser.parse_args(arguments)
-    _check(parser, words)
-    return _run(words)
+    parser, writing = _parser(), Writing()
+    try:
+        words = parser.parse_args(arguments)
+        _check(parser, words)
+        status = _run(words, writing)
+        _flush()
+        return status
+    except KeyboardInterrupt:
+        with suppress(KeyboardInterrupt):
+            # a second interrupt waits for nothing
+            writing.end()
+        tell("interrupted")
+        return INTERRUPTED
+    except BrokenPipeError:
+        # whoever reads has enough
+        _drop_output()
+    except ImportError as fault:
+        # the library, or NumPy
+        tell(str(fault))
+    except OSError as fault:
+        tell(in_words("standard output", fault))
+    return 1
 
 
 if __name__ == "__main__":

@@ -89,11 +89,9 @@ def _outside_float(cval: Any, dtype: np.dtype[Any]) -> Any:
 
 
 def _least_whole(value: Any) -> int:
-    """The least whole number that is not less. Infinity has none that the library takes."""
+    """The least whole number that is not less; for infinities one that is over all samples, or under them."""
     number = real(value, "k")
-    if isinstance(number, float):
-        raise Refused(47, f"threshold at {number}")
-    return math.ceil(number)
+    return math.ceil(min(max(number, -1), MOST_LEVELS))
 
 
 def _of_bools(array: NDArray[Any], cval: Any) -> Reading:
@@ -156,8 +154,6 @@ def _place(values: NDArray[Any], value: Any) -> int:
 def _of_values(array: NDArray[Any], cval: Any, what: str) -> Reading:
     """An array of other numbers. The sample outside the frame has a level, too."""
     dtype = array.dtype
-    if array.size == 0:
-        raise Refused(22, f"{what} of {array.shape}")
     more: list[Any] = []
     if dtype.kind in "iu":
         limits = np.iinfo(dtype)
@@ -175,8 +171,13 @@ def _of_values(array: NDArray[Any], cval: Any, what: str) -> Reading:
                         "bring them to uint16")
     field = _narrowed(np.searchsorted(values, array), len(values))
     outside = int(np.searchsorted(values, np.asarray(more, dtype))[0]) if more else 0
-    # of a single value both levels are that value
-    return Reading(field, dtype, lambda value: _place(values, value), lambda samples: values.take(samples, mode="clip"), outside)
+
+    def back(samples: Samples) -> NDArray[Any]:
+        # of a single value both levels are that value
+        made: NDArray[Any] = values.take(samples, mode="clip")
+        return made
+
+    return Reading(field, dtype, lambda value: _place(values, value), back, outside)
 
 
 def check_kind(array: NDArray[Any], what: str, only_compares: bool) -> None:

@@ -16,9 +16,10 @@ image : array_like
 footprint : Footprint or array_like
     What the operator looks through, see `morphd.footprints`.""",
     "mode": """\
-mode : {{'ignore', 'reflect', 'mirror', 'nearest', 'wrap', 'constant'}}
+mode : {{'ignore', 'reflect', 'mirror', 'nearest', 'wrap', 'constant'}}, optional
     What stands outside the frame. 'ignore' leaves it out, as the library does, whose calls are proved. The others are those of
-    scipy.ndimage: a rim is put around the array before each step, which is tested and not proved.""",
+    scipy.ndimage: a rim is put around the array before each step, which is tested and not proved. If left out it is that of
+    `compat`, or else '{usual}'.""",
     "cval": """\
 cval : scalar
     The sample outside with ``mode='constant'``; among floats the nearest one of the image's type. What that type does not
@@ -32,15 +33,15 @@ axes : (int, int), optional
     "compat": """\
 compat : {{'scipy', 'skimage', 'opencv'}}, optional
     Whose rules are taken for reflected footprints, the origin of even sides and edges: those of SciPy 1.10,
-    scikit-image 0.19 or OpenCV 4.6. `mode` counts where it is not the default. Differences stop at 0, where some of
-    theirs wrap round.""",
+    scikit-image 0.19 or OpenCV 4.6. A `mode` that is given stands in the place of their edges. Differences stop at 0, where
+    some of theirs wrap round.""",
     "out": """\
 out : ndarray, optional
     Where the result is written: an array of the image's shape and of the result's type. It may be `image`. A refusal leaves
     it as it was; want of memory, or an interrupt, can leave a part of the result in it.
 workers : int, optional
-    How many threads share the rows; -1 is one for each processor. The result is the same. An interrupt is raised when the
-    threads have ended what they had begun.""",
+    How many threads share the rows; -1 is one for each processor that this process may use. The result is the same. An
+    interrupt is raised when the threads have ended what they had begun.""",
     "raises": """\
 Refused
     Where the library refuses it: by number and word, see docs/PROTOCOL.md.
@@ -49,6 +50,20 @@ OutOfMemory
 TypeError, ValueError
     Where an argument or the image's type is none that is taken.""",
 }
+_BOOKS = {
+    "serra": 'J. Serra, "Image Analysis and Mathematical Morphology", Academic Press, 1982.',
+    "soille": 'P. Soille, "Morphological Image Analysis", 2nd edition, Springer, 2003.',
+    "heijmans": 'H. J. A. M. Heijmans, "Morphological Image Operators", Academic Press, 1994.',
+    "herk": 'M. van Herk, "A fast algorithm for local minimum and maximum filters on rectangular and octagonal kernels", Pattern\n'
+            "   Recognition Letters 13, 1992, pp. 517-521.",
+    "rivest": 'J.-F. Rivest, P. Soille and S. Beucher, "Morphological gradients", Journal of Electronic Imaging 2, 1993, pp. 326-336.',
+    "meyer": 'F. Meyer, "Iterative image transformations for an automatic screening of cervical smears", Journal of Histochemistry\n'
+             "   and Cytochemistry 27, 1979, pp. 128-135.",
+    "huang": 'T. S. Huang, G. J. Yang and G. Y. Tang, "A fast two-dimensional median filtering algorithm", IEEE Transactions on\n'
+             "   Acoustics, Speech and Signal Processing 27, 1979, pp. 13-18.",
+    "lantuejoul": 'C. Lantuejoul, "La squelettisation et son application aux mesures topologiques des mosaiques polycristallines",\n'
+                  "   thesis, Ecole des Mines de Paris, 1978.",
+}
 COMPARES = """\
 Other integers and
     floats are taken, too, with up to 65,536 values in a plane and no NaN, since the operator only compares samples; 0.0 and
@@ -56,11 +71,11 @@ Other integers and
 COMPUTES = "Other types are refused, since the operator subtracts samples."
 
 
-def documented(types: str = COMPARES) -> Callable[[Function], Function]:
+def documented(types: str = COMPARES, usual: str = "ignore") -> Callable[[Function], Function]:
     """Puts the shared parts in the place of their names, as `%(image)s`."""
 
     def filled(function: Function) -> Function:
-        parts = {name: part.format(types=types) for name, part in _PARTS.items()}
+        parts = {**_BOOKS, **{name: part.format(types=types, usual=usual) for name, part in _PARTS.items()}}
         text = textwrap.dedent(f"    {function.__doc__}")
         function.__doc__ = text % parts
         return function

@@ -7,7 +7,7 @@ from __future__ import annotations
 
 from collections.abc import Callable, Iterator
 from functools import lru_cache, partial
-from typing import NamedTuple
+from typing import Literal, NamedTuple, get_args
 
 import numpy as np
 from numpy.typing import NDArray
@@ -16,7 +16,8 @@ from . import _library, _pieces, _threads
 from ._calls import Call, Field, Flat, Samples
 from .footprints import Reach
 
-MODES = ("ignore", "reflect", "mirror", "nearest", "wrap", "constant")
+Mode = Literal["ignore", "reflect", "mirror", "nearest", "wrap", "constant"]
+MODES: tuple[Mode, ...] = get_args(Mode)
 # An array is large whose sides are so many times as long as the rims on both ends: its edges are at most as much work as the rest.
 SIDE_PER_RIMS = 6
 
@@ -24,7 +25,7 @@ SIDE_PER_RIMS = 6
 class Edges(NamedTuple):
     """A mode, and the sample outside for `constant`, in the library's levels."""
 
-    mode: str = "ignore"
+    mode: Mode = "ignore"
     cval: int = 0
 
 
@@ -38,7 +39,7 @@ class Part(NamedTuple):
         return Part(self.begin - before, self.end + behind)
 
 
-def _folded(at: NDArray[np.intp], length: int, mode: str) -> NDArray[np.intp]:
+def _folded(at: NDArray[np.intp], length: int, mode: Mode) -> NDArray[np.intp]:
     if mode == "nearest":
         return at.clip(0, length - 1)
     if mode == "wrap":
@@ -52,14 +53,14 @@ def _folded(at: NDArray[np.intp], length: int, mode: str) -> NDArray[np.intp]:
 
 
 @lru_cache(maxsize=16)
-def _places(part: Part, length: int, mode: str) -> NDArray[np.intp]:
+def _places(part: Part, length: int, mode: Mode) -> NDArray[np.intp]:
     """Which row or column of so many stands at each place of the part. Pictures of one size ask for the same, so they are kept."""
     places = _folded(np.arange(part.begin, part.end), length, mode)
     places.flags.writeable = False
     return places
 
 
-def _along(samples: Samples, part: Part, axis: int, mode: str) -> Samples:
+def _along(samples: Samples, part: Part, axis: int, mode: Mode) -> Samples:
     """The rows of the part, for axis 0, or its columns."""
     length = samples.shape[axis]
     if 0 <= part.begin and part.end <= length:

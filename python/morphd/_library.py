@@ -6,7 +6,6 @@ from __future__ import annotations
 
 import ctypes
 import os
-import sys
 from collections.abc import Callable
 from pathlib import Path
 from typing import Any
@@ -39,21 +38,40 @@ ERODE, DILATE, OPEN, CLOSE, GRADIENT, WHITE_TOPHAT, BLACK_TOPHAT, RANK = range(8
 MEMORY = 50
 # The version of include/morphd.h that this module speaks.
 VERSION = 1
-_SUFFIX = ".dylib" if sys.platform == "darwin" else ".so"
+# The name by which programs ask for the library: its number is that of the version above.
+NAME = "libmorphd.so.1"
 _HOW = (
     "libmorphd was not found: build it with `make library` at the top of the repository, or install a wheel that "
-    "`make python` made, or set MORPHD_LIBRARY to the path of libmorphd.so. Looked for: "
+    "`make python` made, or set MORPHD_LIBRARY to the path of libmorphd.so.1. Looked for: "
 )
+# What x86-64-v2 has beyond the first x86-64, as Linux calls it: libmorphd uses all of it without asking.
+_INSTRUCTIONS = frozenset(("cx16", "lahf_lm", "pni", "popcnt", "sse4_1", "sse4_2", "ssse3"))
+_PROCESSORS = "/proc/cpuinfo"
 _ANEW = "`make library` makes it anew"
 _loaded: Any = None
 
 
 def _places() -> list[str]:
     """Where the library may be, the first first: as the environment says, in the package, in a checkout, in the system."""
-    if "MORPHD_LIBRARY" in os.environ:
-        return [os.environ["MORPHD_LIBRARY"]]
-    here, name = Path(__file__).resolve().parent, f"libmorphd{_SUFFIX}"
-    return [*(str(path) for path in (here / name, here.parents[1] / "out" / name) if path.exists()), name]
+    told = os.environ.get("MORPHD_LIBRARY")
+    if told:
+        return [told]
+    here = Path(__file__).resolve().parent
+    own = [here / NAME]
+    # A folder of installed packages has no such file: there, a folder `out` beside it is anybody's.
+    if (here.parent / "pyproject.toml").exists():
+        own.append(here.parents[1] / "out" / NAME)
+    return [*(str(path) for path in own if path.exists()), NAME]
+
+
+def _lacking() -> list[str]:
+    """The instructions that the library needs and this processor lacks, as far as the system tells."""
+    try:
+        with open(_PROCESSORS, encoding="ascii", errors="replace") as file:
+            flags = next((line.partition(":")[2].split() for line in file if line.startswith("flags")), None)
+    except OSError:
+        return []
+    return [] if flags is None else sorted(_INSTRUCTIONS.difference(flags))
 
 
 def _opened(place: str) -> Any:
@@ -74,6 +92,9 @@ def loaded() -> Any:
     """The library, opened at the first call that needs it."""
     global _loaded
     if _loaded is None:
+        lacking = _lacking()
+        if lacking:
+            raise LibraryMissing(f"libmorphd needs a processor with x86-64-v2 (SSE4.2), and this one lacks {', '.join(lacking)}")
         faults = []
         for place in _places():
             try:

@@ -4,7 +4,6 @@ This module needs nothing but Python.
 """
 from __future__ import annotations
 
-import math
 import operator
 from fractions import Fraction
 from typing import Any
@@ -26,8 +25,8 @@ def real(value: Any, what: str) -> int | Fraction | float:
 
 
 def whole(value: Any, what: str) -> int:
-    """A whole number, which a float may be, too."""
-    held = real(value, what)
-    if isinstance(held, float) or held != math.floor(held):
-        raise ValueError(f"{what} is a whole number: {value!r}")
-    return int(held)
+    """A count: a whole number of any type of them. No float is one, as for `range`."""
+    try:
+        return int(operator.index(value))
+    except TypeError:
+        raise TypeError(f"{what} is a whole number: {value!r}") from None

@@ -9,7 +9,7 @@ from __future__ import annotations
 
 from collections.abc import Callable
 from dataclasses import dataclass
-from typing import NamedTuple, Union
+from typing import Literal, NamedTuple, Union, get_args
 
 import numpy as np
 
@@ -19,7 +19,8 @@ from ._edges import Edges
 from ._library import BLACK_TOPHAT, CLOSE, DILATE, ERODE, GRADIENT, OPEN, WHITE_TOPHAT
 from .footprints import Footprint, Reach
 
-COMPAT = ("scipy", "skimage", "opencv")
+Compat = Literal["scipy", "skimage", "opencv"]
+COMPAT: tuple[Compat, ...] = get_args(Compat)
 
 
 @dataclass(frozen=True)
@@ -112,25 +113,24 @@ def _skimage(name: str, b: Footprint) -> Plan:
     return Rimmed(Reach(rows, rows, columns, columns), plan)
 
 
-_STEPS: dict[str | None, Callable[[str, Footprint], Plan]] = {None: _ours, "scipy": _scipy, "skimage": _skimage, "opencv": _opencv}
+_STEPS: dict[Compat | None, Callable[[str, Footprint], Plan]] = {None: _ours, "scipy": _scipy, "skimage": _skimage, "opencv": _opencv}
 _PAIRS = ("erosion", "dilation", "opening", "closing")
 
 
-def of(name: str, footprint: Footprint, compat: str | None, is_set: bool) -> Plan:
+def of(name: str, footprint: Footprint, compat: Compat | None, is_set: bool) -> Plan:
     """The plan of an operator."""
     if compat == "skimage" and is_set and name in _PAIRS:
         return _scipy(name, footprint)
     return _STEPS[compat](name, footprint)
 
 
-def checked_compat(compat: str | None) -> str | None:
-    """The name of a convention."""
+def check_compat(compat: str | None) -> None:
+    """Refuses what is no name of a convention."""
     if compat is not None and compat not in COMPAT:
         raise ValueError(f"compat is one of {', '.join(COMPAT)}, or None: {compat!r}")
-    return compat
 
 
-def edges_of(name: str, compat: str | None, is_set: bool) -> Edges:
+def edges_of(name: str, compat: Compat, is_set: bool) -> Edges:
     """The edges of an operator of another library."""
     if compat == "scipy":
         return Edges("constant", 0) if is_set and name in (*_PAIRS, "hit_or_miss") else Edges("reflect")

@@ -25,11 +25,16 @@ _started = 0
 _LOOK_AGAIN = 1.0
 
 
+def processors() -> int:
+    """How many processors this process may use, which a batch system or a container limits; of the machine where nobody tells."""
+    return len(os.sched_getaffinity(0)) if hasattr(os, "sched_getaffinity") else os.cpu_count() or 1
+
+
 def worker_count(workers: int | None) -> int:
-    """How many threads are asked for: None is 1, -1 is one for each processor, -2 one less."""
+    """How many threads are asked for: None is 1, -1 is one for each processor that may be used, -2 one less."""
     count = 1 if workers is None else whole(workers, "workers")
     if count < 0:
-        count += 1 + (os.cpu_count() or 1)
+        count += 1 + processors()
     if count < 1:
         raise ValueError(f"workers is a number of threads from 1 on, or negative to count from the processors: {workers}")
     return count

@@ -14,15 +14,15 @@ import sys
 import time
 from collections.abc import Callable, Iterable, Mapping
 from dataclasses import dataclass, field
-from typing import Any
+from typing import Any, Literal
 
 import dask.array
 import numpy as np
 from dask.array import Array
 
-from . import _calls, _library, operators
+from . import _calls, _library, _threads, operators
+from ._numbers import whole
 from ._progress import bar
-from .errors import Refused
 from .footprints import Footprint, Reach
 
 __all__ = [
@@ -34,8 +34,9 @@ _OPS = {
     "erosion": _library.ERODE, "dilation": _library.DILATE, "opening": _library.OPEN, "closing": _library.CLOSE,
     "gradient": _library.GRADIENT, "white_tophat": _library.WHITE_TOPHAT, "black_tophat": _library.BLACK_TOPHAT,
 }
+Rim = Literal["ignore", "reflect", "nearest", "wrap"]
 # What Dask calls the modes that it can put around an array.
-_RIMS = {"ignore": "none", "reflect": "reflect", "nearest": "nearest", "wrap": "periodic"}
+_RIMS: dict[str, str] = {"ignore": "none", "reflect": "reflect", "nearest": "nearest", "wrap": "periodic"}
 
 
 @dataclass(frozen=True)
@@ -57,8 +58,6 @@ def _checked(name: str, array: Array) -> None:
     if array.dtype != np.bool_ and array.dtype.newbyteorder("=") not in (np.uint8, np.uint16):
         # the order of samples is that of a chunk, and what an erosion gives where it sees nothing would be, too
         raise TypeError(f"{name} over chunks takes arrays of bool, uint8 and uint16, and this is one of {array.dtype}")
-    if 0 in array.shape:
-        raise Refused(22, f"{name} of {array.shape}")
 
 
 def _overlapped(work: _Chunk, array: Array, reach: Reach, made: Any = None, rim: str = "none") -> Array:
@@ -136,14 +135,14 @@ def black_tophat(array: Array, footprint: Any, *, maxval: int | None = None) -> 
     return _flat("black_tophat", array, footprint, maxval)
 
 
-def _ranked(work: _Chunk, array: Array, b: Footprint, mode: str) -> Array:
+def _ranked(work: _Chunk, array: Array, b: Footprint, mode: Rim) -> Array:
     if mode not in _RIMS:
         raise ValueError(f"mode is one of {', '.join(_RIMS)} over chunks: {mode!r}")
     # a chunk's own rim is cut off where Dask has put one around it, and is the array's elsewhere
     return _overlapped(_Chunk(work.name, work.arguments, {**work.options, "mode": mode}), array, b.reach, rim=_RIMS[mode])
 
 
-def rank(array: Array, k: int, footprint: Any, *, mode: str = "reflect", maxval: int | None = None) -> Array:
+def rank(array: Array, k: int, footprint: Any, *, mode: Rim = "reflect", maxval: int | None = None) -> Array:
     """`morphd.rank` over chunks. So are `median` and `percentile`, each of the one of its name.
 
     Parameters
@@ -166,19 +165,19 @@ def rank(array: Array, k: int, footprint: Any, *, mode: str = "reflect", maxval:
     return _ranked(_Chunk("rank", (k, b), {"maxval": maxval}), array, b, mode)
 
 
-def median(array: Array, footprint: Any, *, mode: str = "reflect", maxval: int | None = None) -> Array:
+def median(array: Array, footprint: Any, *, mode: Rim = "reflect", maxval: int | None = None) -> Array:
     """`morphd.median` over chunks."""
     b = Footprint(footprint)
     return _ranked(_Chunk("median", (b,), {"maxval": maxval}), array, b, mode)
 
 
-def percentile(array: Array, q: float, footprint: Any, *, mode: str = "reflect", maxval: int | None = None) -> Array:
+def percentile(array: Array, q: float, footprint: Any, *, mode: Rim = "reflect", maxval: int | None = None) -> Array:
     """`morphd.percentile` over chunks."""
     b = Footprint(footprint)
     return _ranked(_Chunk("percentile", (q, b), {"maxval": maxval}), array, b, mode)
 
 
-def threshold(array: Array, k: int, *, maxval: int | None = None) -> Array:
+def threshold(array: Array, k: float, *, maxval: int | None = None) -> Array:
     """`morphd.threshold` over chunks."""
     return _overlapped(_Chunk("threshold", (k,), {"maxval": maxval}), array, _calls.NOWHERE, np.bool_)
 
@@ -192,14 +191,14 @@ def hit_or_miss(array: Array, hit: Any, miss: Any = None, *, maxval: int | None 
 
 def skeleton(array: Array, footprint: Any, levels: int) -> Array:
     """`morphd.skeleton` over chunks, which reach far: by the footprint's reach for each level."""
-    b = Footprint(footprint)
-    return _overlapped(_Chunk("skeleton", (b, levels), {}), array, _calls.Skeleton(b, levels).reach, np.uint8)
+    b, count = Footprint(footprint), whole(levels, "levels")
+    return _overlapped(_Chunk("skeleton", (b, count), {}), array, _calls.Skeleton(b, count).reach, np.uint8)
 
 
 def restored(array: Array, footprint: Any, levels: int) -> Array:
     """`morphd.restored` over chunks, which reach far: by the footprint's reach for each level."""
-    b = Footprint(footprint)
-    return _overlapped(_Chunk("restored", (b, levels), {}), array, _calls.Restoration(b, levels).reach, np.bool_)
+    b, count = Footprint(footprint), whole(levels, "levels")
+    return _overlapped(_Chunk("restored", (b, count), {}), array, _calls.Restoration(b, count).reach, np.bool_)
 
 
 @dataclass
@@ -255,7 +254,7 @@ def map_files(
     work : callable
         Gets a path. What it gives comes back, so let it be small: a number, a curve, the path of what it wrote.
     client : distributed.Client, optional
-        The cluster; if left out, one of as many processes as this machine has processors, for the time of this call.
+        The cluster; if left out, one of as many processes as there are processors to use, for the time of this call.
     retries : int, optional
         How often work that failed is tried again; also where its process died.
     progress : bool, optional
@@ -273,7 +272,7 @@ def map_files(
         raise ImportError("map_files needs python3-distributed: apt-get install python3-distributed") from missing
     if client is not None:
         return _mapped(wanted, _Tried(work, retries), client, progress)
-    with distributed.Client(n_workers=os.cpu_count(), threads_per_worker=1, processes=True, dashboard_address=":0") as own:
+    with distributed.Client(n_workers=_threads.processors(), threads_per_worker=1, processes=True, dashboard_address=":0") as own:
         return _mapped(wanted, _Tried(work, retries), own, progress)
 
 

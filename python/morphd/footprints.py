@@ -7,8 +7,9 @@
     -morphd.Footprint([[1, 1, 0]])                  # the same, reflected at its origin
 
 Wherever a function takes a footprint it also takes a 2-D array or nested lists: what is not 0 belongs to it, and its
-origin is row ``rows // 2`` and column ``columns // 2``, as SciPy and OpenCV have it. An operator sees, at a place p, the
-samples at p + b for each pixel b counted from the origin.
+origin is row ``rows // 2`` and column ``columns // 2``, as SciPy and OpenCV have it. It takes a drawing, too, as `str` of a
+footprint gives it: ``"010\\n111\\n010"``. An operator sees, at a place p, the samples at p + b for each pixel b counted from
+the origin.
 
 This module needs nothing but Python.
 """
@@ -16,9 +17,11 @@ from __future__ import annotations
 
 import math
 from collections.abc import Iterable, Sequence
+from dataclasses import FrozenInstanceError
 from functools import cached_property
 from typing import Any, NamedTuple
 
+from ._numbers import real, whole
 from .errors import Refused
 
 __all__ = ["Footprint", "Reach", "diamond", "disk", "line", "octagon", "rectangle", "square"]
@@ -55,16 +58,36 @@ class Reach(NamedTuple):
         return Reach(*(max(mine, theirs) for mine, theirs in zip(self, other)))
 
 
+def _pixel(value: Any) -> bool:
+    """Whether a value of a nested list belongs to the footprint."""
+    if hasattr(value, "__len__") and not isinstance(value, (str, bytes)):
+        raise ValueError(f"a footprint has two axes, and here is more within a row: {value!r}")
+    return real(value, "a pixel of a footprint") != 0
+
+
+def _row(pixels: Any) -> bytes:
+    """A byte for each pixel of a row, which may be drawn in signs."""
+    if not isinstance(pixels, str):
+        if not hasattr(pixels, "__iter__") or isinstance(pixels, (bytes, bytearray)):
+            raise ValueError(f"a footprint has two axes, and this is no row of numbers: {pixels!r}")
+        return bytes(map(_pixel, pixels))
+    if set(pixels) - {"0", "1"}:
+        raise ValueError(f"a footprint is drawn in 0 and 1: {pixels!r}")
+    return bytes(map(int, pixels))
+
+
 def _bitmap_bytes(bitmap: Any) -> tuple[bytes, int, int]:
-    """A byte for each pixel, and the sides, of an array or of nested sequences."""
+    """A byte for each pixel, and the sides, of an array, of nested sequences, or of a drawing in 0 and 1."""
     if hasattr(bitmap, "__array__"):
         import numpy
 
-        array = numpy.asarray(bitmap) != 0
+        array = numpy.asarray(bitmap)
         if array.ndim != 2:
             raise ValueError(f"a footprint has two axes, and this array has {array.ndim}")
-        return array.tobytes(), array.shape[0], array.shape[1]
-    rows = [bytes(1 if pixel else 0 for pixel in row) for row in bitmap]
+        if array.dtype.kind not in "biuf":
+            raise TypeError(f"a footprint is made of numbers, and this is an array of {array.dtype}")
+        return (array != 0).tobytes(), array.shape[0], array.shape[1]
+    rows = [_row(pixels) for pixels in (bitmap.split() if isinstance(bitmap, str) else bitmap)]
     columns = len(rows[0]) if rows else 0
     if any(len(row) != columns for row in rows):
         raise ValueError("the rows of a footprint are equally long")
@@ -72,12 +95,13 @@ def _bitmap_bytes(bitmap: Any) -> tuple[bytes, int, int]:
 
 
 class Footprint:
-    """A bitmap with an origin.
+    """A bitmap with an origin. It never changes, so it may be a key and go to other threads.
 
     Parameters
     ----------
-    bitmap : array_like
-        Two axes; what is not 0 belongs to the footprint. 1 to 255 rows and columns, at least one pixel.
+    bitmap : array_like or str
+        Two axes; what is not 0 belongs to the footprint. Or a drawing of 0 and 1, a line for each row, as `str` gives it.
+        1 to 255 rows and columns, at least one pixel.
     origin : (int, int), optional
         Row and column of the origin, inside the bitmap; the middle if left out, rounded up for even sides. The origin
         need not be a pixel of the footprint.
@@ -115,7 +139,7 @@ class Footprint:
         self._keep(pixels, (rows, columns), (rows // 2, columns // 2) if origin is None else origin)
 
     def _keep(self, pixels: bytes, shape: tuple[int, int], origin: Sequence[int]) -> None:
-        (rows, columns), (row, column) = shape, map(int, origin)
+        (rows, columns), (row, column) = shape, (whole(place, "a row or column of an origin") for place in origin)
         asked = f"a footprint of {rows} x {columns} with its origin at {(row, column)}"
         if not (1 <= rows <= LONGEST_SIDE and 1 <= columns <= LONGEST_SIDE):
             raise Refused(22, asked)
@@ -123,7 +147,14 @@ class Footprint:
             raise Refused(31, asked)
         if 1 not in pixels:
             raise Refused(32, asked)
-        self.pixels, self.shape, self.origin = pixels, (rows, columns), (row, column)
+        # past `__setattr__`, as a frozen dataclass does it
+        vars(self).update(pixels=pixels, shape=(rows, columns), origin=(row, column))
+
+    def __setattr__(self, name: str, value: object) -> None:
+        raise FrozenInstanceError(f"a footprint stays as it is: {name} cannot be set")
+
+    def __delattr__(self, name: str) -> None:
+        raise FrozenInstanceError(f"a footprint stays as it is: {name} cannot be deleted")
 
     @classmethod
     def _of(cls, pixels: bytes, shape: tuple[int, int], origin: tuple[int, int]) -> Footprint:
@@ -136,10 +167,10 @@ class Footprint:
         return Footprint(self, origin)
 
     @cached_property
-    def offsets(self) -> list[tuple[int, int]]:
+    def offsets(self) -> tuple[tuple[int, int], ...]:
         """Rows and columns of the pixels, counted from the origin, by rows."""
         (_, columns), (row, column) = self.shape, self.origin
-        return [(at // columns - row, at % columns - column) for at, pixel in enumerate(self.pixels) if pixel]
+        return tuple((at // columns - row, at % columns - column) for at, pixel in enumerate(self.pixels) if pixel)
 
     @cached_property
     def box(self) -> tuple[int, int, int, int]:
@@ -215,6 +246,12 @@ def _drawn(rows: int, columns: int, pixels: Iterable[bool]) -> Footprint:
     return Footprint._of(bytes(pixels), (rows, columns), (rows // 2, columns // 2))
 
 
+def _checked(what: str, *sides: float) -> None:
+    """Refuses sides that no footprint has before a pixel of it is made."""
+    if not all(1 <= side <= LONGEST_SIDE for side in sides):
+        raise Refused(22, what)
+
+
 def rectangle(rows: int, columns: int) -> Footprint:
     """A full rectangle.
 
@@ -227,7 +264,9 @@ def rectangle(rows: int, columns: int) -> Footprint:
     -------
     Footprint
     """
-    return _drawn(rows, columns, [True] * (max(rows, 0) * max(columns, 0)))
+    height, width = whole(rows, "rows"), whole(columns, "columns")
+    _checked(f"a rectangle of {height} x {width}", height, width)
+    return _drawn(height, width, [True] * (height * width))
 
 
 def square(side: int) -> Footprint:
@@ -251,14 +290,16 @@ def disk(radius: float) -> Footprint:
     Parameters
     ----------
     radius : float
-        Its radius in pixels, less than 128. A whole radius r makes a disc of 2 r + 1 pixels across, as scikit-image's.
+        Its radius in pixels, from 0 to less than 128. A whole radius r makes a disc of 2 r + 1 pixels across, as scikit-image's.
 
     Returns
     -------
     Footprint
     """
-    far = range(-int(radius), int(radius) + 1)
-    return _drawn(len(far), len(far), [x * x + y * y <= radius * radius for y in far for x in far])
+    if not 0 <= (size := real(radius, "radius")) < (LONGEST_SIDE + 1) // 2:
+        raise Refused(22, f"a disc of radius {radius}")
+    far = range(-int(size), int(size) + 1)
+    return _drawn(len(far), len(far), [x * x + y * y <= size * size for y in far for x in far])
 
 
 def diamond(radius: int) -> Footprint:
@@ -273,8 +314,10 @@ def diamond(radius: int) -> Footprint:
     -------
     Footprint
     """
-    far = range(-radius, radius + 1)
-    return _drawn(len(far), len(far), [abs(x) + abs(y) <= radius for y in far for x in far])
+    size = whole(radius, "radius")
+    _checked(f"a diamond of radius {size}", 2 * size + 1)
+    far = range(-size, size + 1)
+    return _drawn(len(far), len(far), [abs(x) + abs(y) <= size for y in far for x in far])
 
 
 def octagon(straight: int, slanted: int) -> Footprint:
@@ -283,17 +326,20 @@ def octagon(straight: int, slanted: int) -> Footprint:
     Parameters
     ----------
     straight : int
-        The length of its horizontal and vertical sides.
+        The length of its horizontal and vertical sides, from 1 on.
     slanted : int
-        The height, and so the width, of its slanted sides. It is ``straight + 2 * slanted`` pixels across, as scikit-image's.
+        The height, and so the width, of its slanted sides, from 0 on. It is ``straight + 2 * slanted`` pixels across, as
+        scikit-image's; 1 to 255.
 
     Returns
     -------
     Footprint
     """
-    side = straight + 2 * slanted
+    flat, cut = whole(straight, "straight"), whole(slanted, "slanted")
+    side = flat + 2 * cut
+    _checked(f"an octagon of sides {flat} and {cut}", flat, cut + 1, side)
     last = side - 1
-    corners = [min(x, last - x) + min(y, last - y) >= slanted for y in range(side) for x in range(side)]
+    corners = [min(x, last - x) + min(y, last - y) >= cut for y in range(side) for x in range(side)]
     return _drawn(side, side, corners)
 
 
@@ -313,14 +359,18 @@ def line(length: int, angle: float = 0.0) -> Footprint:
         Symmetric, with its origin in the middle, for an odd `length`; for an even one the pixel behind the middle is the
         origin.
     """
+    count = whole(length, "length")
+    _checked(f"a line of {count} pixels", count)
+    if not math.isfinite(angle):
+        raise ValueError(f"an angle is a number of degrees: {angle}")
     x, y = math.cos(math.radians(angle)), -math.sin(math.radians(angle))
     longest = max(abs(x), abs(y))
-    steps = [step - length // 2 for step in range(length)]
+    steps = [step - count // 2 for step in range(count)]
     # halves are rounded away from 0, so that the line is symmetric; cosines are cut, so that 45 degrees are a diagonal
     slope = [round(x / longest, 12), round(y / longest, 12)]
     places = [[int(math.copysign(math.floor(abs(part * step) + 0.5), part * step)) for part in slope] for step in steps]
-    left, top = (min((place[axis] for place in places), default=0) for axis in (0, 1))
-    right, bottom = (max((place[axis] for place in places), default=-1) for axis in (0, 1))
+    left, top = (min(place[axis] for place in places) for axis in (0, 1))
+    right, bottom = (max(place[axis] for place in places) for axis in (0, 1))
     held = {(row - top, column - left) for column, row in places}
     rows, columns = bottom - top + 1, right - left + 1
     pixels = bytes((row, column) in held for row in range(rows) for column in range(columns))

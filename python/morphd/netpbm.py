@@ -13,6 +13,7 @@ import operator
 import re
 import sys
 from array import array
+from collections import Counter
 from dataclasses import dataclass
 from typing import Any
 
@@ -139,6 +140,10 @@ class Picture:
         """Its samples as lists of numbers, one for each row."""
         levels = list(self.samples if self.maxval < 256 else _wide(self.samples))
         return [levels[at : at + self.width] for at in range(0, len(levels), self.width)]
+
+    def counts(self) -> dict[int, int]:
+        """How many of its samples have each level that occurs."""
+        return dict(Counter(self.samples if self.maxval < 256 else _wide(self.samples)))
 
     def __array__(self, dtype: Any = None, copy: bool | None = None) -> Any:
         import numpy as np

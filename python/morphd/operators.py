@@ -15,19 +15,20 @@ several calls or of levels that stand for samples, and that is tested, not prove
 """
 from __future__ import annotations
 
-from collections.abc import Callable, Iterator
-from dataclasses import dataclass, replace
+from collections.abc import Callable
 from typing import Any
 
 import numpy as np
 from numpy.typing import ArrayLike, NDArray
 
-from . import _arrays, _pieces, _plans, _threads
+from . import _arrays, _plans
 from ._calls import Flat, HitOrMiss, Restoration, Skeleton, Threshold
 from ._docs import COMPUTES, documented
-from ._edges import MODES, Edges
+from ._edges import Mode
 from ._library import RANK
 from ._numbers import real, whole
+from ._plans import Compat
+from ._work import Array, Options, Work, made_of
 from .errors import Refused
 from .footprints import Footprint
 
@@ -37,113 +38,17 @@ __all__ = [
 ]
 
 FootprintLike = Footprint | ArrayLike
-Array = NDArray[Any]
-_COMPUTING = ("gradient", "white_tophat", "black_tophat", "hit_or_miss", "skeleton", "restored")
 
 
-@dataclass(frozen=True)
-class _Options:
-    """What an operator is told beside its image and footprints."""
-
-    mode: str = "ignore"
-    cval: Any = 0
-    maxval: int | None = None
-    axes: tuple[int, int] | None = None
-    compat: str | None = None
-    out: Array | None = None
-    workers: int | None = None
-    usual: str = "ignore"
-
-    def edges(self, name: str, is_set: bool, level: int) -> Edges:
-        """The edges of an operator: those of another library only where the mode is the usual one."""
-        if self.compat is not None and self.mode == self.usual:
-            return _plans.edges_of(name, self.compat, is_set)
-        return Edges(self.mode, level)
-
-
-@dataclass(frozen=True)
-class _Work:
-    """An operator: its name, its plan on an array, and the type of its result, None for the image's."""
-
-    name: str
-    plan: Callable[[_arrays.Reading], _plans.Plan]
-    made: Any = None
-
-
-def _checked(options: _Options) -> _Options:
-    if options.mode not in MODES:
-        raise ValueError(f"mode is one of {', '.join(MODES)}: {options.mode!r}")
-    _plans.checked_compat(options.compat)
-    if options.mode == "constant":
-        real(options.cval, "cval")
-    return replace(options, workers=_threads.worker_count(options.workers))
-
-
-def _planes(array: Array, out: Array, axes: tuple[int, int]) -> Iterator[tuple[Array, Array]]:
-    """Each plane of an array with the plane of the result."""
-    rows, columns = (axis % array.ndim if -array.ndim <= axis < array.ndim else None for axis in axes)
-    if rows is None or columns is None or rows == columns:
-        raise ValueError(f"axes are two of the {array.ndim} axes of the array: {axes}")
-    moved, target = (np.moveaxis(held, (rows, columns), (-2, -1)) for held in (array, out))
-    for at in np.ndindex(*moved.shape[:-2]):
-        yield moved[at], target[at]
-
-
-def _read(work: _Work, array: Array, options: _Options) -> _arrays.Reading:
-    """An array of two axes, and what stands outside it."""
-    return _arrays.read(array, work.name, options.maxval, options.cval if options.mode == "constant" else None)
-
-
-def _check_samples(work: _Work, array: Array, axes: tuple[int, int], options: _Options) -> None:
-    """Refuses what one of the planes holds before the result of any is written."""
-    if _arrays.may_be_refused(array.dtype, options.maxval):
-        for plane, _ in _planes(array, array, axes):
-            _pieces.check_samples(_read(work, plane, options).field, work.name)
-
-
-def _on_plane(work: _Work, array: Array, options: _Options, out: Array | None) -> Array:
-    """The operator on an array of two axes."""
-    reading = _read(work, array, options)
-    edges = options.edges(work.name, reading.field.is_set, reading.outside)
-    run = _plans.Run(reading.field, edges, options.workers or 1)
-    held = _arrays.direct(out, reading, reading.field.samples.dtype if work.made is None else np.uint8)
-    samples = _plans.run(work.plan(reading), run, held)
-    if out is not None and held is not None:
-        return out
-    made = reading.restored(samples) if work.made is None else samples.view(work.made)
-    if out is None:
-        return made
-    out[...] = made
-    return out
-
-
-def _made(work: _Work, image: Any, options: _Options) -> Array:
-    """The operator on an array of two axes, or on each plane of it."""
-    options = _checked(options)
-    array = _arrays.as_array(image, options.axes)
-    _arrays.check_kind(array, work.name, work.name not in _COMPUTING)
-    dtype = array.dtype if work.made is None else np.dtype(work.made)
-    out = _arrays.checked_out(options.out, array, dtype)
-    if options.axes is None:
-        return _on_plane(work, array, options, out)
-    made = np.empty(array.shape, dtype) if out is None else out
-    held = array.copy() if out is not None and np.may_share_memory(out, array) else array
-    if out is not None:
-        _check_samples(work, held, options.axes, options)
-    for plane, target in _planes(held, made, options.axes):
-        _on_plane(work, plane, options, target)
-    return made
-
-
-def _flat(name: str, image: Any, footprint: FootprintLike, options: _Options) -> Array:
+def _flat(name: str, image: Any, footprint: FootprintLike, options: Options) -> Array:
     b = Footprint(footprint)
-    return _made(_Work(name, lambda reading: _plans.of(name, b, options.compat, reading.field.is_set)), image, options)
+    return made_of(Work(name, lambda reading: _plans.of(name, b, options.compat, reading.field.is_set)), image, options)
 
 
 @documented()
 def erosion(
-    image: ArrayLike, footprint: FootprintLike, *, mode: str = "ignore", cval: Any = 0, maxval: int | None = None,
-    axes: tuple[int, int] | None = None, compat: str | None = None, out: Array | None = None, workers: int | None = None,
+    image: ArrayLike, footprint: FootprintLike, *, mode: Mode | None = None, cval: Any = 0, maxval: int | None = None,
+    axes: tuple[int, int] | None = None, compat: Compat | None = None, out: Array | None = None, workers: int | None = None,
 ) -> Array:
     """The least sample under the footprint.
 
@@ -166,19 +71,30 @@ def erosion(
     ------
     %(raises)s
 
+    See Also
+    --------
+    dilation : The greatest sample in its place.
+    opening, gradient, hit_or_miss : What is made of it.
+    scipy.ndimage.grey_erosion, skimage.morphology.erosion
+
+    References
+    ----------
+    .. [1] %(serra)s
+    .. [2] %(herk)s
+
     Examples
     --------
     >>> import numpy as np, morphd
     >>> morphd.erosion(np.array([[3, 1, 4, 1, 5]], np.uint8), [[1, 1, 1]])
     array([[1, 1, 1, 1, 1]], dtype=uint8)
     """
-    return _flat("erosion", image, footprint, _Options(mode, cval, maxval, axes, compat, out, workers))
+    return _flat("erosion", image, footprint, Options(mode, cval, maxval, axes, compat, out, workers))
 
 
 @documented()
 def dilation(
-    image: ArrayLike, footprint: FootprintLike, *, mode: str = "ignore", cval: Any = 0, maxval: int | None = None,
-    axes: tuple[int, int] | None = None, compat: str | None = None, out: Array | None = None, workers: int | None = None,
+    image: ArrayLike, footprint: FootprintLike, *, mode: Mode | None = None, cval: Any = 0, maxval: int | None = None,
+    axes: tuple[int, int] | None = None, compat: Compat | None = None, out: Array | None = None, workers: int | None = None,
 ) -> Array:
     """The greatest sample under the footprint.
 
@@ -201,14 +117,25 @@ def dilation(
     Raises
     ------
     %(raises)s
+
+    See Also
+    --------
+    erosion : The least sample in its place.
+    closing, gradient : What is made of it.
+    scipy.ndimage.grey_dilation, skimage.morphology.dilation
+
+    References
+    ----------
+    .. [1] %(serra)s
+    .. [2] %(herk)s
     """
-    return _flat("dilation", image, footprint, _Options(mode, cval, maxval, axes, compat, out, workers))
+    return _flat("dilation", image, footprint, Options(mode, cval, maxval, axes, compat, out, workers))
 
 
 @documented()
 def opening(
-    image: ArrayLike, footprint: FootprintLike, *, mode: str = "ignore", cval: Any = 0, maxval: int | None = None,
-    axes: tuple[int, int] | None = None, compat: str | None = None, out: Array | None = None, workers: int | None = None,
+    image: ArrayLike, footprint: FootprintLike, *, mode: Mode | None = None, cval: Any = 0, maxval: int | None = None,
+    axes: tuple[int, int] | None = None, compat: Compat | None = None, out: Array | None = None, workers: int | None = None,
 ) -> Array:
     """An erosion, then a dilation by the reflected footprint: takes away what is bright and smaller than the footprint.
 
@@ -225,20 +152,39 @@ def opening(
     Returns
     -------
     ndarray
-        Of the image's type. No sample is greater than the image's, and a second opening changes nothing, for every
-        footprint, also one that is not symmetric.
+        Of the image's type.
 
     Raises
     ------
     %(raises)s
+
+    See Also
+    --------
+    closing : The same for dark details.
+    white_tophat : What an opening takes away.
+    spectrum : Openings of growing size.
+    scipy.ndimage.grey_opening, skimage.morphology.opening
+
+    Notes
+    -----
+    Two laws hold, where `compat` is left out. No sample is greater than the image's: it is anti-extensive. A second opening
+    changes nothing: it is idempotent. Both hold for every footprint with the modes 'ignore' and 'wrap', and with 'constant' if
+    no sample is less than `cval`; with another `cval` the second one holds still. With 'reflect' and 'mirror' both hold for
+    footprints that are the same when their rows are turned round at the origin, and when their columns are; with 'nearest'
+    neither holds for all of these.
+
+    References
+    ----------
+    .. [1] %(serra)s
+    .. [2] %(heijmans)s
     """
-    return _flat("opening", image, footprint, _Options(mode, cval, maxval, axes, compat, out, workers))
+    return _flat("opening", image, footprint, Options(mode, cval, maxval, axes, compat, out, workers))
 
 
 @documented()
 def closing(
-    image: ArrayLike, footprint: FootprintLike, *, mode: str = "ignore", cval: Any = 0, maxval: int | None = None,
-    axes: tuple[int, int] | None = None, compat: str | None = None, out: Array | None = None, workers: int | None = None,
+    image: ArrayLike, footprint: FootprintLike, *, mode: Mode | None = None, cval: Any = 0, maxval: int | None = None,
+    axes: tuple[int, int] | None = None, compat: Compat | None = None, out: Array | None = None, workers: int | None = None,
 ) -> Array:
     """A dilation, then an erosion by the reflected footprint: fills what is dark and smaller than the footprint.
 
@@ -255,19 +201,38 @@ def closing(
     Returns
     -------
     ndarray
-        Of the image's type. No sample is less than the image's, and a second closing changes nothing.
+        Of the image's type.
 
     Raises
     ------
     %(raises)s
+
+    See Also
+    --------
+    opening : The same for bright details.
+    black_tophat : What a closing adds.
+    scipy.ndimage.grey_closing, skimage.morphology.closing
+
+    Notes
+    -----
+    Two laws hold, where `compat` is left out. No sample is less than the image's: it is extensive. A second closing
+    changes nothing: it is idempotent. Both hold for every footprint with the modes 'ignore' and 'wrap', and with 'constant' if
+    no sample is greater than `cval`; with another `cval` the second one holds still. With 'reflect' and 'mirror' both hold for
+    footprints that are the same when their rows are turned round at the origin, and when their columns are; with 'nearest'
+    neither holds for all of these.
+
+    References
+    ----------
+    .. [1] %(serra)s
+    .. [2] %(heijmans)s
     """
-    return _flat("closing", image, footprint, _Options(mode, cval, maxval, axes, compat, out, workers))
+    return _flat("closing", image, footprint, Options(mode, cval, maxval, axes, compat, out, workers))
 
 
 @documented(COMPUTES)
 def gradient(
-    image: ArrayLike, footprint: FootprintLike, *, mode: str = "ignore", cval: Any = 0, maxval: int | None = None,
-    axes: tuple[int, int] | None = None, compat: str | None = None, out: Array | None = None, workers: int | None = None,
+    image: ArrayLike, footprint: FootprintLike, *, mode: Mode | None = None, cval: Any = 0, maxval: int | None = None,
+    axes: tuple[int, int] | None = None, compat: Compat | None = None, out: Array | None = None, workers: int | None = None,
 ) -> Array:
     """The dilation less the erosion: how much samples differ under the footprint.
 
@@ -289,14 +254,23 @@ def gradient(
     Raises
     ------
     %(raises)s
+
+    See Also
+    --------
+    erosion, dilation
+    scipy.ndimage.morphological_gradient, skimage.filters.rank.gradient
+
+    References
+    ----------
+    .. [1] %(rivest)s
     """
-    return _flat("gradient", image, footprint, _Options(mode, cval, maxval, axes, compat, out, workers))
+    return _flat("gradient", image, footprint, Options(mode, cval, maxval, axes, compat, out, workers))
 
 
 @documented(COMPUTES)
 def white_tophat(
-    image: ArrayLike, footprint: FootprintLike, *, mode: str = "ignore", cval: Any = 0, maxval: int | None = None,
-    axes: tuple[int, int] | None = None, compat: str | None = None, out: Array | None = None, workers: int | None = None,
+    image: ArrayLike, footprint: FootprintLike, *, mode: Mode | None = None, cval: Any = 0, maxval: int | None = None,
+    axes: tuple[int, int] | None = None, compat: Compat | None = None, out: Array | None = None, workers: int | None = None,
 ) -> Array:
     """What an opening takes away: bright details that are smaller than the footprint, without the ground.
 
@@ -318,14 +292,25 @@ def white_tophat(
     Raises
     ------
     %(raises)s
+
+    See Also
+    --------
+    opening
+    black_tophat : The same for dark details.
+    scipy.ndimage.white_tophat, skimage.morphology.white_tophat
+
+    References
+    ----------
+    .. [1] %(meyer)s
+    .. [2] %(soille)s
     """
-    return _flat("white_tophat", image, footprint, _Options(mode, cval, maxval, axes, compat, out, workers))
+    return _flat("white_tophat", image, footprint, Options(mode, cval, maxval, axes, compat, out, workers))
 
 
 @documented(COMPUTES)
 def black_tophat(
-    image: ArrayLike, footprint: FootprintLike, *, mode: str = "ignore", cval: Any = 0, maxval: int | None = None,
-    axes: tuple[int, int] | None = None, compat: str | None = None, out: Array | None = None, workers: int | None = None,
+    image: ArrayLike, footprint: FootprintLike, *, mode: Mode | None = None, cval: Any = 0, maxval: int | None = None,
+    axes: tuple[int, int] | None = None, compat: Compat | None = None, out: Array | None = None, workers: int | None = None,
 ) -> Array:
     """What a closing adds: dark details that are smaller than the footprint, without the ground.
 
@@ -347,16 +332,27 @@ def black_tophat(
     Raises
     ------
     %(raises)s
+
+    See Also
+    --------
+    closing
+    white_tophat : The same for bright details.
+    scipy.ndimage.black_tophat, skimage.morphology.black_tophat
+
+    References
+    ----------
+    .. [1] %(meyer)s
+    .. [2] %(soille)s
     """
-    return _flat("black_tophat", image, footprint, _Options(mode, cval, maxval, axes, compat, out, workers))
+    return _flat("black_tophat", image, footprint, Options(mode, cval, maxval, axes, compat, out, workers))
 
 
-def _ranked(name: str, image: Any, footprint: FootprintLike, number: Callable[[int], int], options: _Options) -> Array:
+def _ranked(name: str, image: Any, footprint: FootprintLike, number: Callable[[int], int], options: Options) -> Array:
     """Sample number `number(n)` of the n under the footprint."""
     if options.compat is not None and name not in {"scipy": ("rank", "median", "percentile")}.get(options.compat, ("median",)):
         raise ValueError(f"{options.compat} has no {name}")
     b = Footprint(footprint)
-    return _made(_Work(name, lambda _: Flat(RANK, b, _word(number(b.count), name))), image, options)
+    return made_of(Work(name, lambda _: Flat(RANK, b, _word(number(b.count), name))), image, options)
 
 
 def _word(number: int, name: str) -> int:
@@ -366,10 +362,10 @@ def _word(number: int, name: str) -> int:
     return number
 
 
-@documented()
+@documented(usual="reflect")
 def rank(
-    image: ArrayLike, k: int, footprint: FootprintLike, *, mode: str = "reflect", cval: Any = 0, maxval: int | None = None,
-    axes: tuple[int, int] | None = None, compat: str | None = None, out: Array | None = None, workers: int | None = None,
+    image: ArrayLike, k: int, footprint: FootprintLike, *, mode: Mode | None = None, cval: Any = 0, maxval: int | None = None,
+    axes: tuple[int, int] | None = None, compat: Compat | None = None, out: Array | None = None, workers: int | None = None,
 ) -> Array:
     """Sample number `k` in rising order under the footprint.
 
@@ -380,9 +376,8 @@ def rank(
         From 1, the least, to the number of the footprint's pixels, the greatest. SciPy counts from 0.
     %(footprint)s
     %(mode)s
-        Here 'reflect' is the default, as SciPy has it. With 'ignore' the frame's edge has fewer samples, and number
-        min(k, m) of these m is taken, which is the greatest one where k is over m: then the footprint's origin has to be
-        one of its pixels.
+        With 'ignore' the frame's edge has fewer samples, and number min(k, m) of these m is taken, which is the greatest one
+        where k is over m: then the footprint's origin has to be one of its pixels.
     %(cval)s
     %(options)s
     %(compat)s
@@ -396,16 +391,27 @@ def rank(
     Raises
     ------
     %(raises)s
+
+    See Also
+    --------
+    median, percentile : Ranks by their place among the footprint's pixels.
+    erosion, dilation : The first and the last one.
+    scipy.ndimage.rank_filter
+
+    References
+    ----------
+    .. [1] %(soille)s
+    .. [2] %(huang)s
     """
-    options = _Options(mode, cval, maxval, axes, compat, out, workers, "reflect")
+    options = Options(mode, cval, maxval, axes, compat, out, workers, "reflect")
     number = whole(k, "k")
     return _ranked("rank", image, footprint, lambda _: number, options)
 
 
-@documented()
+@documented(usual="reflect")
 def median(
-    image: ArrayLike, footprint: FootprintLike, *, mode: str = "reflect", cval: Any = 0, maxval: int | None = None,
-    axes: tuple[int, int] | None = None, compat: str | None = None, out: Array | None = None, workers: int | None = None,
+    image: ArrayLike, footprint: FootprintLike, *, mode: Mode | None = None, cval: Any = 0, maxval: int | None = None,
+    axes: tuple[int, int] | None = None, compat: Compat | None = None, out: Array | None = None, workers: int | None = None,
 ) -> Array:
     """The middle sample under the footprint: number ``n // 2 + 1`` in rising order of its n pixels.
 
@@ -414,8 +420,7 @@ def median(
     %(image)s
     %(footprint)s
     %(mode)s
-        Here 'reflect' is the default. With 'ignore' the result is no median at the frame's edge: the same number is taken
-        of fewer samples.
+        With 'ignore' the result is no median at the frame's edge: the same number is taken of fewer samples.
     %(cval)s
     %(options)s
     %(compat)s
@@ -429,15 +434,24 @@ def median(
     Raises
     ------
     %(raises)s
+
+    See Also
+    --------
+    rank, percentile
+    scipy.ndimage.median_filter, skimage.filters.median, cv2.medianBlur
+
+    References
+    ----------
+    .. [1] %(huang)s
     """
-    options = _Options(mode, cval, maxval, axes, compat, out, workers, "reflect")
+    options = Options(mode, cval, maxval, axes, compat, out, workers, "reflect")
     return _ranked("median", image, footprint, lambda count: count // 2 + 1, options)
 
 
-@documented()
+@documented(usual="reflect")
 def percentile(
-    image: ArrayLike, q: float, footprint: FootprintLike, *, mode: str = "reflect", cval: Any = 0, maxval: int | None = None,
-    axes: tuple[int, int] | None = None, compat: str | None = None, out: Array | None = None, workers: int | None = None,
+    image: ArrayLike, q: float, footprint: FootprintLike, *, mode: Mode | None = None, cval: Any = 0, maxval: int | None = None,
+    axes: tuple[int, int] | None = None, compat: Compat | None = None, out: Array | None = None, workers: int | None = None,
 ) -> Array:
     """The sample under the footprint that `q` of 100 lie below, without means of two.
 
@@ -448,7 +462,6 @@ def percentile(
         From 0, the least, to 100, the greatest: number ``int(n * q / 100) + 1`` of n, and at most n, as SciPy has it.
     %(footprint)s
     %(mode)s
-        Here 'reflect' is the default, as for `median`.
     %(cval)s
     %(options)s
     %(compat)s
@@ -462,10 +475,20 @@ def percentile(
     Raises
     ------
     %(raises)s
+
+    See Also
+    --------
+    rank, median
+    scipy.ndimage.percentile_filter, skimage.filters.rank.percentile
+
+    References
+    ----------
+    .. [1] %(soille)s
+    .. [2] %(huang)s
     """
     if not 0 <= q <= 100:
         raise ValueError(f"q is a percentage from 0 to 100: {q}")
-    options = _Options(mode, cval, maxval, axes, compat, out, workers, "reflect")
+    options = Options(mode, cval, maxval, axes, compat, out, workers, "reflect")
     return _ranked("percentile", image, footprint, lambda count: min(int(count * q / 100) + 1, count), options)
 
 
@@ -480,8 +503,8 @@ def threshold(
     ----------
     %(image)s
     k : scalar
-        For bool, uint8 and uint16 from 0 to 65535, for other types any number but NaN. Integers are compared with it exactly,
-        also with a fraction, and floats as ``image >= k`` compares them.
+        Any number but NaN. Integers are compared with it exactly, also with a fraction, and floats as ``image >= k`` compares
+        them. At 0 or less all samples of bool, uint8 and uint16 are in the set.
     %(options)s
     %(out)s
 
@@ -492,25 +515,32 @@ def threshold(
     Raises
     ------
     %(raises)s
+
+    See Also
+    --------
+    white_tophat : Takes an uneven ground away before.
+    numpy.greater_equal
+
+    References
+    ----------
+    .. [1] %(serra)s
     """
     if (number := real(k, "k")) != number:
         raise ValueError("threshold at NaN")
 
     def plan(reading: _arrays.Reading) -> _plans.Plan:
-        level = _word(reading.level_of(k), "threshold")
-        if reading.back is not None and level >= _arrays.MOST_LEVELS:
-            # over each of 65,536 values: a number that the library does not take, so a set less itself
-            return _plans.Less(Threshold(0), Threshold(0))
-        return Threshold(level)
+        level = max(reading.level_of(k), 0)
+        # over all samples that there can be: a number that the library does not take, so a set less itself
+        return Threshold(level) if level < _arrays.MOST_LEVELS else _plans.Less(Threshold(0), Threshold(0))
 
-    options = _Options(maxval=maxval, axes=axes, out=out, workers=workers)
-    return _made(_Work("threshold", plan, np.bool_), image, options)
+    options = Options(maxval=maxval, axes=axes, out=out, workers=workers)
+    return made_of(Work("threshold", plan, np.bool_), image, options)
 
 
 @documented(COMPUTES)
 def hit_or_miss(
-    image: ArrayLike, hit: FootprintLike, miss: FootprintLike | None = None, *, mode: str = "ignore", cval: Any = 0,
-    maxval: int | None = None, axes: tuple[int, int] | None = None, compat: str | None = None, out: Array | None = None,
+    image: ArrayLike, hit: FootprintLike, miss: FootprintLike | None = None, *, mode: Mode | None = None, cval: Any = 0,
+    maxval: int | None = None, axes: tuple[int, int] | None = None, compat: Compat | None = None, out: Array | None = None,
     workers: int | None = None,
 ) -> Array:
     """Places where one footprint lies in the set and another one beside it; of levels, by how much.
@@ -536,6 +566,16 @@ def hit_or_miss(
     Raises
     ------
     %(raises)s
+
+    See Also
+    --------
+    erosion, dilation
+    scipy.ndimage.binary_hit_or_miss
+
+    References
+    ----------
+    .. [1] %(serra)s
+    .. [2] %(soille)s
     """
     if compat == "skimage":
         raise ValueError("skimage has no hit_or_miss")
@@ -550,7 +590,7 @@ def hit_or_miss(
         # nothing hits where it misses: a set less itself
         return HitOrMiss(first, second) if set(first.offsets).isdisjoint(second.offsets) else _plans.Less(None, None)
 
-    return _made(_Work("hit_or_miss", plan), image, _Options(mode, cval, maxval, axes, compat, out, workers))
+    return made_of(Work("hit_or_miss", plan), image, Options(mode, cval, maxval, axes, compat, out, workers))
 
 
 @documented(COMPUTES)
@@ -581,12 +621,22 @@ def skeleton(
     Raises
     ------
     %(raises)s
+
+    See Also
+    --------
+    restored : The set of a skeleton.
+    skimage.morphology.skeletonize : A thin line without a footprint, which restores nothing.
+
+    References
+    ----------
+    .. [1] %(lantuejoul)s
+    .. [2] %(serra)s
     """
     array = _arrays.as_array(image, axes)
     if array.dtype != np.bool_:
         raise Refused(44, f"skeleton of an array of {array.dtype}")
     b, count = Footprint(footprint), _word(whole(levels, "levels"), "skeleton")
-    return _made(_Work("skeleton", lambda _: Skeleton(b, count), np.uint8), array, _Options(axes=axes, out=out, workers=workers))
+    return made_of(Work("skeleton", lambda _: Skeleton(b, count), np.uint8), array, Options(axes=axes, out=out, workers=workers))
 
 
 @documented(COMPUTES)
@@ -615,6 +665,15 @@ def restored(
     Raises
     ------
     %(raises)s
+
+    See Also
+    --------
+    skeleton
+
+    References
+    ----------
+    .. [1] %(lantuejoul)s
+    .. [2] %(serra)s
     """
     b, count = Footprint(footprint), _word(whole(levels, "levels"), "restoration")
-    return _made(_Work("restored", lambda _: Restoration(b, count), np.bool_), marks, _Options(axes=axes, out=out, workers=workers))
+    return made_of(Work("restored", lambda _: Restoration(b, count), np.bool_), marks, Options(axes=axes, out=out, workers=workers))

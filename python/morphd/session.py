@@ -19,11 +19,15 @@ import collections
 import os
 import secrets
 import time
+import warnings
 import weakref
 from itertools import count
 from typing import TYPE_CHECKING, Any
 
 from ._channel import Channel, Pipe, Reply, Way, Wire, found_program, refusal
+from ._families import family
+from ._numbers import whole
+from .doubts import cut_area, rows_of
 from .errors import Cancelled, InputFailed, OutOfMemory, Refused
 from .footprints import Footprint
 from .netpbm import Picture
@@ -48,7 +52,9 @@ class Handle:
 
     def __init__(self, session: Session, name: str, submitted: Reply | None, inputs: tuple[Handle, ...] = ()) -> None:
         self.name, self._session, self._submitted, self._inputs = name, session, submitted, inputs
-        self._measured: tuple[Footprint, Handle] | None = None
+        self._measured: tuple[Footprint | tuple[Footprint, ...], Handle] | None = None
+        # of a spectrum by several footprints the curves before this one, whose first volumes are its own
+        self._before: tuple[Handle, ...] = ()
         self._letting_go = weakref.finalize(self, session._dropped.append, name) if submitted is not None else None
         if self._letting_go is not None:
             self._letting_go.atexit = False
@@ -178,7 +184,8 @@ class Handle:
         if reply.words[0] == "IMAGE":
             return Picture.of_file(reply.payload)
         lines = (line.split() for line in reply.payload.decode("ascii").splitlines())
-        return [int(words[2]) for words in lines if words[0] == "V"]
+        volumes = [int(words[2]) for words in lines if words[0] == "V"]
+        return [*(each.result(timeout)[0] for each in self._before), volumes[0]] if self._before else volumes
 
     def array(self, timeout: float | None = None) -> Any:
         """The image as a NumPy array of bool, uint8 or uint16; waits as `result` does."""
@@ -190,12 +197,13 @@ class Handle:
         made = self.array()
         return made if dtype is None else made.astype(dtype)
 
-    def spectrum(self, pixel: float | str = 1.0, timeout: float | None = None) -> Spectrum:
-        """The curve of a spectrum with its widths; waits as `result` does.
+    def spectrum(self, pixel: float | str | tuple[float, str] = 1.0, timeout: float | None = None) -> Spectrum:
+        """The curve of a spectrum with its widths; waits as `result` does. Of a set the set is fetched, too, to see which grains the
+        frame cuts.
 
         Parameters
         ----------
-        pixel : float or str, optional
+        pixel : float, str or (float, str), optional
             The side of a pixel, as 0.32 or '0.32um'.
         timeout : float, optional
             For how many seconds at most.
@@ -203,17 +211,30 @@ class Handle:
         Returns
         -------
         Spectrum
+            Its `gains` are None.
+
+        Warns
+        -----
+        UserWarning
+            For each of its `doubts`.
         """
         import numpy
 
-        from .curves import Spectrum, pixel_size
+        from .curves import Spectrum
+        from .pixels import pixel_size
 
         if self._measured is None:
             raise TypeError(f"{self.name} is no spectrum of a footprint that this session knows")
         footprint, image = self._measured
         volumes = numpy.array(self.result(timeout), numpy.uint64)
-        is_set = self._session._ask("STATUS", image.name).wait().words[2:3] == ["BIT"]
-        return Spectrum(volumes, footprint, *pixel_size(pixel), is_set)
+        words, frame, cut = self._session._ask("STATUS", image.name).wait().words, None, 0
+        if is_set := words[2:3] == ["BIT"]:
+            held = image.result(timeout)
+            frame, cut = held.width * held.height, cut_area(rows_of(held.samples, held.width), held.width)
+        found = Spectrum(volumes, footprint, *pixel_size(pixel), is_set, frame, cut)
+        for line in found.doubts:
+            warnings.warn(line, UserWarning, stacklevel=2)
+        return found
 
     def cancel(self) -> bool:
         """Cancels it, and with it all that is made of it and still pending.
@@ -393,7 +414,7 @@ class Session:
         loaded = image if isinstance(image, Handle) else self.load(image)
         inputs = (loaded, *(b if isinstance(b, Handle) else self.element(b) for b in footprints))
         name = self._name()
-        words = " ".join([operation, *(each.name for each in inputs), *map(str, numbers)])
+        words = " ".join([operation, *(each.name for each in inputs), *map(_digits, numbers)])
         return Handle(self, name, self._send(words, f"RUN {name} {words}\n".encode()), inputs)
 
     def erosion(self, image: Any, footprint: Any) -> Handle:
@@ -445,13 +466,33 @@ class Session:
         """Asks for the set that a skeleton came from."""
         return self._run("RESTORE", marks, (footprint,), levels)
 
-    def spectrum(self, image: Any, footprint: Any, sizes: int) -> Handle:
-        """Asks for a granulometric spectrum: `Handle.result` gives its volumes, `Handle.spectrum` the curve."""
+    def spectrum(self, image: Any, footprint: Any, sizes: int | None = None) -> Handle:
+        """Asks for a granulometric spectrum: `Handle.result` gives its volumes, `Handle.spectrum` the curve. By a list of footprints,
+        as `morphd.spectrum` takes it, these are openings by each, and `sizes` is left out."""
         loaded = image if isinstance(image, Handle) else self.load(image)
-        made = self._run("SPECTRUM", loaded, (footprint,), sizes)
-        if not isinstance(footprint, Handle):
-            made._measured = Footprint(footprint), loaded
+        several = None if isinstance(footprint, Handle) else family(footprint)
+        if several is None:
+            if sizes is None:
+                raise TypeError("sizes says how many openings there are by one footprint")
+            made = self._run("SPECTRUM", loaded, (footprint,), sizes)
+            if not isinstance(footprint, Handle):
+                made._measured = Footprint(footprint), loaded
+            return made
+        if sizes is not None and sizes != len(several):
+            raise ValueError(f"sizes goes with one footprint, and these are {len(several)}: leave it out")
+        pixel = self.element([[1]])
+        opened = [loaded, *(self.opening(loaded, each) for each in several)]
+        *before, made = (self._run("SPECTRUM", each, (pixel,), 1) for each in opened)
+        made._measured, made._before = (several, loaded), tuple(before)
         return made
+
+
+def _digits(number: Any) -> str:
+    """A number as a request writes it. A line with another one is none of the protocol, and would end the session."""
+    count = whole(number, "a number of a request")
+    if not 0 <= count < 10**9:
+        raise Refused(47, f"a request with {count}")
+    return str(count)
 
 
 def _file_of(image: Any, maxval: int | None) -> bytes:

@@ -1,5 +1,6 @@
 """What the tests stand on: the library that is built, or a slow stand-in where none is; the program, or a stand-in, too."""
 import os
+import signal
 import subprocess
 import sys
 import time
@@ -17,6 +18,14 @@ except ImportError:
     collect_ignore = sorted(path.name for path in HERE.glob("test_*.py") if "import numpy" in path.read_text(encoding="utf-8"))
 else:
     collect_ignore = []
+
+if not (HERE.parents[1] / "docs").exists():
+    # a source archive has neither documents nor examples
+    collect_ignore += ["test_documents.py", "test_examples.py"]
+
+# A shell that starts the tests beside others has them ignore interrupts, and each process that they start, too.
+if signal.getsignal(signal.SIGINT) is signal.SIG_IGN:
+    signal.signal(signal.SIGINT, signal.default_int_handler)
 
 import stand_in  # noqa: E402
 from morphd import errors  # noqa: E402

@@ -154,3 +154,20 @@ def test_opencvs_median():
         image = rng.integers(0, 256, rng.integers(1, 9, 2)).astype(np.uint8)
         side = (3, 5)[number % 2]
         same(morphd.median(image, morphd.square(side), compat="opencv"), cv2.medianBlur(image, side), side, image)
+
+
+def test_a_mode_that_is_given_stands_beside_compat():
+    """Also the one that stands where neither is given: the other library's footprints then go with it, and not its edges."""
+    rng = np.random.default_rng(31)
+    image, b = rng.integers(0, 256, (7, 8)).astype(np.uint8), morphd.Footprint([[1, 1, 0], [0, 1, 0]], (0, 2))
+    for name in ("dilation", "erosion", "opening", "closing"):
+        function = getattr(morphd, name)
+        ours = {"dilation": -b, "closing": -b}.get(name, b)
+        same(function(image, b, mode="ignore", compat="scipy"), function(image, ours, mode="ignore"), name)
+        same(function(image, b, compat="scipy"), function(image, ours, mode="reflect"), name)
+        assert not np.array_equal(function(image, b, mode="ignore", compat="scipy"), function(image, b, compat="scipy")), name
+    for compat in ("skimage", "opencv"):
+        same(morphd.median(image, morphd.square(3), mode="reflect", compat=compat), morphd.median(image, morphd.square(3)), compat)
+        same(morphd.median(image, morphd.square(3), compat=compat), morphd.median(image, morphd.square(3), mode="nearest"), compat)
+    same(morphd.erosion(image > 99, b, mode="ignore", compat="scipy"), morphd.erosion(image > 99, b), "set")
+    assert not morphd.erosion(np.ones((3, 3), bool), morphd.square(3), compat="scipy")[0, 0]

@@ -126,9 +126,9 @@ def test_empty_chunks_and_chunks_of_unknown_size():
         for name, word in (("threshold", 9), ("erosion", [[1]]), ("erosion", morphd.square(3)), ("median", morphd.square(3))):
             over = getattr(morphd.dask, name)(da.from_array(image, chunks=chunks), word)
             np.testing.assert_array_equal(made(over), getattr(morphd, name)(image, word))
-    for name, word in (("threshold", 9), ("erosion", morphd.square(3))):
-        with pytest.raises(morphd.Refused, match=f"{name} of .*22 SIZE"):
-            getattr(morphd.dask, name)(da.zeros((0, 3), dtype=np.uint8), word)
+    for name, word in (("threshold", 9), ("erosion", morphd.square(3)), ("median", morphd.square(3))):
+        empty = made(getattr(morphd.dask, name)(da.zeros((0, 3), dtype=np.uint8), word))
+        assert empty.shape == (0, 3) and empty.dtype == (bool if name == "threshold" else np.uint8)
     rows = da.from_array(image, chunks=2)[da.from_array(image, chunks=2).max(axis=1) > 0]
     np.testing.assert_array_equal(made(morphd.dask.threshold(rows, 9)), image >= 9)
     with pytest.raises(ValueError, match="compute_chunk_sizes"):
@@ -223,6 +223,15 @@ def test_a_process_that_dies_is_replaced(cluster, tmp_path):
 def test_a_cluster_of_its_own(monkeypatch, tmp_path):
     pytest.importorskip("distributed")
     monkeypatch.setenv("PYTHONPATH", stand_in.in_process()[0]["PYTHONPATH"])
-    monkeypatch.setattr(os, "cpu_count", lambda: 2)
+    monkeypatch.setattr("morphd._threads.processors", lambda: 2)
     morphd.write(tmp_path / "a.pgm", np.full((5, 5), 3, np.uint8))
     assert morphd.dask.map_files([tmp_path / "a.pgm"], volume, progress=False).results == {str(tmp_path / "a.pgm"): 75}
+
+
+def test_levels_are_whole_numbers():
+    chunks = da.from_array(np.ones((9, 9), bool), chunks=4)
+    np.testing.assert_array_equal(made(morphd.dask.skeleton(chunks, morphd.square(3), np.int64(2))),
+                                  morphd.skeleton(np.ones((9, 9), bool), morphd.square(3), 2))
+    for call in (morphd.dask.skeleton, morphd.dask.restored):
+        with pytest.raises(TypeError, match="levels is a whole number"):
+            call(chunks, morphd.square(3), 2.0)

@@ -1,4 +1,5 @@
 """The documents: the tutorial's blocks print what stands behind them, the gallery is what its script makes."""
+import codeop
 import sys
 from pathlib import Path
 
@@ -18,18 +19,38 @@ def test_the_tutorial():
     assert tutorial.differences(text, stand_in.in_process()[0]) == []
 
 
+def unfinished(code):
+    """The lines that Python still waits for an end of, where a block is pasted into it."""
+    held = []
+    for line in code.splitlines():
+        held.append(line)
+        if codeop.compile_command("\n".join(held)):
+            held.clear()
+    return held
+
+
+def test_the_tutorial_can_be_pasted():
+    for code, _ in tutorial.blocks((DOCS / "TUTORIAL.md").read_text(encoding="utf-8")):
+        assert unfinished(code) == []
+    assert unfinished("for x in range(3):\n    print(x)\n") != []
+    with pytest.raises(SyntaxError):
+        unfinished("for x in range(3):\n    print(x)\nprint(x)\n")
+
+
 def test_a_spoiled_tutorial_is_noticed():
     text = "```python\nprint(1)\nprint(2)\n```\n\n```text\n1\n3\n```\n\n```python\nx = 1\n```\n"
     assert tutorial.differences(text, stand_in.in_process()[0]) == [("1\n3\n", "1\n2\n")]
     assert "\n1\n2\n```" in tutorial.written(text, stand_in.in_process()[0])
 
 
-def test_the_readme():
+@pytest.mark.parametrize("folder, picture, name", [("python", "grains.pgm", "grains.png"), ("", "discs.pgm", "mine.png")])
+def test_the_readme(folder, picture, name):
     for module in ("PIL", "matplotlib"):
         pytest.importorskip(module)
-    text = (DOCS.parent / "python" / "README.md").read_text(encoding="utf-8")
-    grains = "```python\nimport morphd\nmorphd.write('grains.png', morphd.read('examples/grains.pgm'))\n```\n"
-    assert tutorial.differences(grains + text, stand_in.in_process()[0]) == []
+    text = (DOCS.parent / folder / "README.md").read_text(encoding="utf-8")
+    given = f"```python\nimport morphd\nmorphd.write('{name}', morphd.read('examples/{picture}'))\n```\n"
+    assert "```python\nimport morphd\n" in text
+    assert tutorial.differences(given + text, stand_in.in_process()[0]) == []
 
 
 def test_the_gallery(monkeypatch):
@@ -38,7 +59,7 @@ def test_the_gallery(monkeypatch):
 
     made = make_gallery.made()
     assert (DOCS / "GALLERY.md").read_bytes() == made.pop("GALLERY.md")
-    raster = sys.modules["make_images"].raster_of
+    raster = sys.modules["png_files"].raster_of
     assert sorted(made) == sorted(f"gallery/{path.name}" for path in (DOCS / "gallery").glob("*.png"))
     for name, data in made.items():
         assert raster((DOCS / name).read_bytes()) == raster(data), name

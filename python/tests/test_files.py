@@ -9,6 +9,7 @@ import pytest
 
 import morphd
 from morphd import Picture, Refused, files
+from morphd.pixels import pixel_size
 
 ARRAYS = {
     "bool": np.random.default_rng(1).random((5, 11)) < 0.5,
@@ -151,6 +152,53 @@ def test_compressed_tiffs(tmp_path, tifffile, kind, compression):
     np.testing.assert_array_equal(morphd.read(tmp_path / "a.tif"), ARRAYS[kind])
 
 
+@pytest.mark.parametrize("told, wanted", [
+    ({"resolution": ((200000, 13), (200000, 13)), "resolutionunit": "CENTIMETER"}, (0.65, "µm")),
+    ({"resolution": ((25400, 1), (25400, 1)), "resolutionunit": "INCH"}, (1.0, "µm")),
+    ({"resolution": ((1, 1), (1, 1)), "resolutionunit": "NONE"}, None), ({}, None),
+    ({"resolution": ((200, 1), (100, 1)), "resolutionunit": "CENTIMETER"}, None)])
+def test_the_pixel_of_a_tiff(tmp_path, tifffile, told, wanted):
+    tifffile.imwrite(tmp_path / "a.tif", ARRAYS["uint8"], photometric="minisblack", **told)
+    assert files.load(tmp_path / "a.tif").pixel == wanted
+
+
+@pytest.mark.parametrize("unit, wanted", [
+    ("micron", (0.4, "µm")), ("um", (0.4, "µm")), ("\\u00B5m", (0.4, "µm")), ("nm", (0.4, "nm")), ("pixel", None), ("furlong", (0.4, "furlong"))])
+def test_the_pixel_of_imagej(tmp_path, tifffile, unit, wanted):
+    tifffile.imwrite(tmp_path / "a.tif", ARRAYS["uint8"], imagej=True, resolution=((5, 2), (5, 2)), metadata={"unit": unit})
+    assert morphd.load(tmp_path / "a.tif").pixel == wanted
+
+
+def test_a_unit_that_no_program_names_is_none(tmp_path, tifffile):
+    tifffile.imwrite(tmp_path / "a.tif", ARRAYS["uint8"], resolution=((5, 2), (5, 2)), resolutionunit="NONE", description="unit=nm",
+                     metadata=None, photometric="minisblack")
+    assert files.load(tmp_path / "a.tif").pixel is None
+
+
+@pytest.mark.parametrize("kind", ARRAYS)
+@pytest.mark.parametrize("pixel", ["0.65um", "0.0123456789 µm", "12.34 nm", "0.5mm", (1 / 3, "µm"), "2in", "3m"])
+def test_pixels_are_written_back(tmp_path, tifffile, kind, pixel):
+    """Into pictures and stacks, of bits too, and by either package."""
+    for array in (ARRAYS[kind], np.stack([ARRAYS[kind], ~ARRAYS[kind]])):
+        morphd.write(tmp_path / "a.tif", array, pixel=pixel)
+        loaded = files.load(tmp_path / "a.tif")
+        np.testing.assert_array_equal(loaded.array, array)
+        assert loaded.pixel.unit == "µm"
+        assert loaded.pixel.size == pytest.approx(pixel_size(pixel).micrometres, rel=1e-8)
+        morphd.write(tmp_path / "b.tif", array, pixel=loaded.pixel)
+        assert files.load(tmp_path / "b.tif").pixel == loaded.pixel
+
+
+def test_pixels_that_no_tiff_tells(tmp_path, tifffile):
+    for wrong in (0.5, "3 furlongs", "1e-9nm", "1e9m", "1,5um"):
+        with pytest.raises(ValueError, match="pixel"):
+            morphd.write(tmp_path / "a.tif", ARRAYS["uint8"], pixel=wrong)
+    morphd.write(tmp_path / "a.tif", ARRAYS["uint8"], pixel=1)
+    morphd.write(tmp_path / "a.png", ARRAYS["uint8"], pixel="0.65um")
+    morphd.write(tmp_path / "a.pgm", ARRAYS["uint8"], pixel="0.65um")
+    assert [files.load(tmp_path / name).pixel for name in ("a.tif", "a.png", "a.pgm")] == [None, None, None]
+
+
 def test_pages_of_32_bits(tmp_path):
     """Pillow reads levels of 16 bits as such at times: they are taken as far as 16 bits go."""
     images = pytest.importorskip("PIL.Image")
@@ -158,11 +206,11 @@ def test_pages_of_32_bits(tmp_path):
         held = np.array([[least, most, least]], np.int32)
         images.fromarray(held).save(tmp_path / "a.tif")
         if 0 <= least and most <= 65535:
-            made = files._of_pillow(tmp_path / "a.tif")
+            made = files._of_pillow(tmp_path / "a.tif", "a.tif")
             assert made.dtype == np.uint16 and made.tolist() == held.tolist()
         else:
             with pytest.raises(ValueError, match="mode I is no set"):
-                files._of_pillow(tmp_path / "a.tif")
+                files._of_pillow(tmp_path / "a.tif", "a.tif")
 
 
 def test_pages_that_differ(tmp_path):
@@ -171,7 +219,7 @@ def test_pages_that_differ(tmp_path):
         first, second = images.fromarray(ARRAYS["uint8"]), images.fromarray(other)
         first.save(tmp_path / "a.tif", save_all=True, append_images=[second])
         with pytest.raises(ValueError, match="a.tif: its pages differ"):
-            files._of_pillow(tmp_path / "a.tif")
+            files._of_pillow(tmp_path / "a.tif", "a.tif")
 
 
 def test_what_is_not_written(tmp_path):

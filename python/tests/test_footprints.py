@@ -1,8 +1,10 @@
 """Footprints: their shapes, origins, reflections and reaches. They need nothing but Python."""
+import copy
 import math
 import pickle
 import subprocess
 import sys
+import tracemalloc
 from pathlib import Path
 
 import pytest
@@ -77,7 +79,7 @@ def test_width_is_that_of_the_pixels():
 
 
 def test_offsets():
-    assert CORNER.offsets == [(-1, -2), (0, -2), (0, -1)]
+    assert CORNER.offsets == ((-1, -2), (0, -2), (0, -1))
 
 
 @pytest.mark.parametrize("number, make", [
@@ -85,11 +87,71 @@ def test_offsets():
     (22, lambda: Footprint([])),
     (31, lambda: Footprint([[1]], (0, 1))), (31, lambda: Footprint([[1]], (-1, 0))), (32, lambda: Footprint([[0, 0]])),
     (22, lambda: Footprint([[0]] * 256, (300, 0))), (31, lambda: Footprint([[0]], (1, 0))),
-    (22, lambda: line(0)), (22, lambda: line(256))])
+    (22, lambda: line(0)), (22, lambda: line(256)), (22, lambda: disk(-0.5)), (22, lambda: disk(math.inf)), (22, lambda: disk(math.nan)),
+    (22, lambda: diamond(-1)), (22, lambda: diamond(128)), (22, lambda: octagon(0, 2)), (22, lambda: octagon(3, -1)),
+    (22, lambda: octagon(1, 128))])
 def test_refusals_in_the_librarys_order(number, make):
     with pytest.raises(Refused) as told:
         make()
     assert told.value.number == number
+
+
+@pytest.mark.parametrize("make", [
+    lambda: disk(1e9), lambda: disk(10**400), lambda: square(10**9), lambda: rectangle(10**9, 1), lambda: diamond(10**9),
+    lambda: octagon(10**9, 10**9), lambda: line(10**9)])
+def test_what_is_too_large_is_refused_before_it_is_built(make):
+    tracemalloc.start()
+    try:
+        with pytest.raises(Refused, match="22 SIZE"):
+            make()
+        assert tracemalloc.get_traced_memory()[1] < 1 << 16
+    finally:
+        tracemalloc.stop()
+
+
+@pytest.mark.parametrize("make", [
+    lambda count: square(count), lambda count: rectangle(count, 3), lambda count: rectangle(3, count), lambda count: diamond(count),
+    lambda count: octagon(count, 1), lambda count: octagon(1, count), lambda count: line(count), lambda count: square(3).at((count, 0)),
+    lambda count: Footprint([[1, 1]], (0, count))])
+def test_sides_and_places_are_whole_numbers(make):
+    for wrong in (1.0, 0.9, "1", None):
+        with pytest.raises(TypeError, match="is a whole number"):
+            make(wrong)
+    assert make(True) == make(1)
+
+
+@pytest.mark.parametrize("angle", [math.inf, math.nan])
+def test_an_angle_is_a_number_of_degrees(angle):
+    with pytest.raises(ValueError, match="an angle is"):
+        line(5, angle)
+
+
+@pytest.mark.parametrize("b", [disk(3), CORNER.at((1, 1)), line(7, 20), rectangle(1, 4), rectangle(4, 1)])
+def test_a_drawing_is_read_as_it_is_printed(b):
+    assert Footprint(str(b), b.origin) == b
+    assert Footprint(str(b).splitlines(), b.origin) == b
+
+
+@pytest.mark.parametrize("bitmap", [
+    "", "012", "a", ["01", "0b"], [["a"]], [["0", "1"]], [["x", 1]], [[None, 1]], [1, 0], [[[1, 0], [0, 1]]], [[(1, 0)]], [b"01"], b"01"])
+def test_what_is_no_bitmap(bitmap):
+    """Letters and a third axis are no pixels, though Python takes both for true."""
+    with pytest.raises((ValueError, TypeError)) as told:
+        Footprint(bitmap)
+    assert "footprint" in str(told.value)
+
+
+@pytest.mark.parametrize("name", ["pixels", "shape", "origin", "offsets", "other"])
+def test_a_footprint_stays_as_it_is(name):
+    b = disk(2)
+    kept = hash(b)
+    assert b.reach == Reach(2, 2, 2, 2)
+    with pytest.raises(AttributeError):
+        setattr(b, name, (0, 0))
+    with pytest.raises(AttributeError):
+        delattr(b, name)
+    assert hash(b) == kept and b == disk(2)
+    assert copy.copy(b) == copy.deepcopy(b) == b
 
 
 def test_rows_of_different_lengths():
@@ -109,8 +171,14 @@ def test_arrays():
     assert Footprint(array) == Footprint([[0, 1], [0, 1]])
     assert Footprint(array.T).bitmap.tolist() == [[False, False], [True, True]]
     assert numpy.asarray(disk(1), int).sum() == 5
-    with pytest.raises(ValueError, match="two axes"):
-        Footprint(numpy.ones(3))
+    assert Footprint([numpy.array([0, 1]), numpy.array([True, False])]) == Footprint([[0, 1], [1, 0]])
+    assert Footprint([[numpy.float32(0), numpy.uint8(3)]]) == Footprint([[0, 1]])
+    for wrong in (numpy.ones(3), numpy.ones((2, 2, 2)), [numpy.ones((2, 2))]):
+        with pytest.raises(ValueError, match="two axes"):
+            Footprint(wrong)
+    for wrong in (numpy.array([["0", "1"]]), numpy.array([[None, 1]]), numpy.array([[1j]])):
+        with pytest.raises(TypeError, match="numbers"):
+            Footprint(wrong)
 
 
 def test_they_are_those_of_scikit_image():

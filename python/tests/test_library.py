@@ -75,14 +75,56 @@ def test_another_library_is_told(monkeypatch, tmp_path, calls, told):
         _library.use(before)
 
 
-def test_places(monkeypatch, tmp_path):
+def with_libraries(monkeypatch, folder, package):
+    """A package in a folder, with the library in it, in a folder `out` above it, and under other names."""
+    monkeypatch.setattr(_library, "__file__", str(folder / package / "_library.py"))
+    for place in (package, "out"):
+        (folder / place).mkdir(parents=True, exist_ok=True)
+        for name in ("libmorphd.so.1", "libmorphd.so", "libmorphd.dylib"):
+            (folder / place / name).touch()
+
+
+@pytest.mark.parametrize("told", [None, ""])
+def test_places(monkeypatch, tmp_path, told):
     monkeypatch.delenv("MORPHD_LIBRARY", raising=False)
-    assert _library._places()[-1].startswith("libmorphd.")
-    monkeypatch.setattr(_library, "__file__", str(tmp_path / "python" / "morphd" / "_library.py"))
-    for folder in ("out", "python/morphd"):
-        (tmp_path / folder).mkdir(parents=True, exist_ok=True)
-        (tmp_path / folder / f"libmorphd{_library._SUFFIX}").touch()
+    if told is not None:
+        monkeypatch.setenv("MORPHD_LIBRARY", told)
+    with_libraries(monkeypatch, tmp_path, "site-packages/morphd")
+    assert _library._places() == [str(tmp_path / "site-packages" / "morphd" / "libmorphd.so.1"), "libmorphd.so.1"]
+    (tmp_path / "site-packages" / "morphd" / "libmorphd.so.1").unlink()
+    assert _library._places() == ["libmorphd.so.1"]
+
+
+def test_places_in_a_checkout(monkeypatch, tmp_path):
+    monkeypatch.delenv("MORPHD_LIBRARY", raising=False)
+    with_libraries(monkeypatch, tmp_path, "python/morphd")
+    (tmp_path / "python" / "pyproject.toml").touch()
     assert [Path(place).parent.name for place in _library._places()] == ["morphd", "out", ""]
+
+
+def test_the_name_is_that_of_the_version():
+    assert _library.NAME == f"libmorphd.so.{_library.VERSION}"
+
+
+@pytest.mark.parametrize("flags, lacking", [
+    ("flags\t\t: fpu cx16 lahf_lm pni popcnt sse4_1 sse4_2 ssse3 avx", ""), ("Features\t: fp asimd", ""), ("", ""),
+    ("flags\t\t: fpu cx16 lahf_lm pni sse4_1 ssse3", "popcnt, sse4_2"), ("flags\t\t: fpu sse4_2x", "cx16, lahf_lm, pni")])
+def test_a_processor_without_sse4_is_told(monkeypatch, tmp_path, flags, lacking):
+    """Before anything of the library runs: there the process would be killed."""
+    (tmp_path / "cpuinfo").write_text(f"processor\t: 0\n{flags}\n", encoding="ascii")
+    monkeypatch.setattr(_library, "_PROCESSORS", str(tmp_path / "cpuinfo"))
+    monkeypatch.setenv("MORPHD_LIBRARY", str(tmp_path / "none.so"))
+    before = _library.use(None)
+    try:
+        with pytest.raises(morphd.LibraryMissing, match=f"SSE4.2.*lacks {lacking}" if lacking else "not found"):
+            _library.loaded()
+    finally:
+        _library.use(before)
+
+
+def test_a_system_that_tells_no_instructions(monkeypatch, tmp_path):
+    monkeypatch.setattr(_library, "_PROCESSORS", str(tmp_path / "none"))
+    assert _library._lacking() == []
 
 
 def test_a_number_without_a_name():
@@ -125,6 +167,7 @@ def test_every_public_function_tells_its_parameters():
 
 
 CHECK = Path(__file__).resolve().parents[2] / "checks" / "python_package.py"
+in_repository = pytest.mark.skipif(not CHECK.exists(), reason="a source archive has no checks")
 
 
 def executable(path, text):
@@ -141,6 +184,7 @@ def with_python(folder, modules, **environment):
     return dict(os.environ, PYTHON=str(fake), **environment)
 
 
+@in_repository
 @pytest.mark.parametrize("word", ["test", "needs"])
 @pytest.mark.parametrize("has, told", [
     ([], "has no pytest and no numpy: apt-get install python3-pytest python3-numpy"),
@@ -151,6 +195,7 @@ def test_pytest_and_numpy_have_to_be_there(tmp_path, word, has, told):
     assert made.stderr == f"python package: not tested, since Python {told}\n"
 
 
+@in_repository
 def test_other_modules_are_told_and_skipped(tmp_path):
     """An empty module in the place of pytest passes."""
     environment = with_python(tmp_path, ["pytest", "numpy", "PIL"])
@@ -163,6 +208,7 @@ def test_other_modules_are_told_and_skipped(tmp_path):
     assert made.returncode == 1
 
 
+@in_repository
 @pytest.mark.parametrize("user, has_network, wanted", [
     (0, True, ["update", "install -y --no-install-recommends python3-pytest python3-numpy .*python3-mypy"]),
     (0, False, ["update", "install .* python3-mypy", "install -y --no-install-recommends python3-pytest python3-numpy"]),
@@ -179,11 +225,3 @@ def test_the_gate_installs_what_is_missing(tmp_path, user, has_network, wanted):
     asked = (tmp_path / "asked").read_text(encoding="utf-8").splitlines() if wanted else []
     assert len(asked) == len(wanted) and all(re.fullmatch(each, line) for each, line in zip(wanted, asked))
     assert (tmp_path / "asked").exists() == bool(wanted)
-
-
-def test_types(tmp_path):
-    pytest.importorskip("mypy")
-    folder = Path(__file__).resolve().parents[1]
-    command = [sys.executable, "-m", "mypy", "--cache-dir", str(tmp_path), "--config-file", "pyproject.toml"]
-    made = subprocess.run(command, cwd=folder, capture_output=True, text=True, check=False)
-    assert made.returncode == 0, made.stdout[-3000:]

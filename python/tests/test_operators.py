@@ -119,13 +119,9 @@ def test_a_skeleton_restores_its_set():
 
 
 REFUSED = [
-    (22, lambda image: morphd.erosion(image[:0], [[1]])),
     (47, lambda image: morphd.rank(image, 0, [[1, 1]])),
     (47, lambda image: morphd.rank(image, 3, [[1, 1]])),
     (47, lambda image: morphd.rank(image, -1, [[1, 1]])),
-    (47, lambda image: morphd.threshold(image, 65536)),
-    (47, lambda image: morphd.threshold(image, -1)),
-    (47, lambda image: morphd.threshold(image, float("inf"))),
     (45, lambda image: morphd.rank(image, 1, [[1, 0]], mode="ignore")),
     (46, lambda image: morphd.hit_or_miss(image, [[1, 1]], [[0, 1]])),
     (32, lambda image: morphd.hit_or_miss(image, [[1, 1]])),

@@ -33,6 +33,53 @@ def test_openings_and_closings(image, b):
     assert np.array_equal(morphd.opening(opened, b), opened) and np.array_equal(morphd.closing(closed, b), closed)
 
 
+def axial(b):
+    """The footprint with all that it has when its rows, or its columns, are turned round at the origin."""
+    places = {(up * row, left * column) for row, column in b.offsets for up in (1, -1) for left in (1, -1)}
+    far = [max(place[axis] for place in places) for axis in (0, 1)]
+    bitmap = np.zeros([2 * most + 1 for most in far], bool)
+    for row, column in places:
+        bitmap[row + far[0], column + far[1]] = True
+    return morphd.Footprint(bitmap)
+
+
+def laws(image, b, **options):
+    """Whether an opening is anti-extensive and idempotent, and whether a closing is extensive and idempotent."""
+    opened, closed = morphd.opening(image, b, **options), morphd.closing(image, b, **options)
+    return ((opened <= image).all(), np.array_equal(morphd.opening(opened, b, **options), opened),
+            (image <= closed).all(), np.array_equal(morphd.closing(closed, b, **options), closed))
+
+
+@QUICK
+@given(IMAGES, footprints(), some.data())
+def test_the_laws_of_openings_and_closings_in_each_mode(image, b, data):
+    """As the docstrings of both claim them."""
+    assert all(laws(image, b, mode="wrap"))
+    for mode in ("reflect", "mirror"):
+        assert all(laws(image, axial(b), mode=mode)), mode
+    cval = data.draw(some.integers(0, 1 if image.dtype == bool else int(np.iinfo(image.dtype).max)))
+    anti_extensive, opening, extensive, closing = laws(image, b, mode="constant", cval=cval)
+    assert opening and closing
+    assert anti_extensive or image.min() < cval
+    assert extensive or image.max() > cval
+
+
+# A mode, a law by its place in what `laws` gives, a footprint of one row with the column of its origin, and an image of one row.
+BROKEN = [
+    ("reflect", 0, "01", 0, [0, 9, 0]), ("reflect", 1, "0001", 0, [0, 0, 0, 9]), ("reflect", 2, "01", 0, [9, 0, 0]),
+    ("reflect", 3, "0001", 0, [0, 0, 0, 9]),
+    ("mirror", 0, "01", 0, [0, 0, 9]), ("mirror", 1, "011", 0, [9, 9, 0]), ("mirror", 2, "01", 0, [9, 0, 0]), ("mirror", 3, "011", 0, [0, 0, 9]),
+    ("nearest", 0, "10001", 2, [9, 0, 9]), ("nearest", 1, "10001", 2, [0, 9, 0, 0, 9]), ("nearest", 2, "10001", 2, [0, 9, 0]),
+    ("nearest", 3, "10001", 2, [0, 0, 9, 0, 9]), ("constant", 0, "11", 0, [0, 9, 0]), ("constant", 2, "11", 0, [9, 9, 9]),
+]
+
+
+@pytest.mark.parametrize("mode, law, row, column, image", BROKEN)
+def test_where_the_laws_end(mode, law, row, column, image):
+    """The docstrings claim no more than holds."""
+    assert not laws(np.array([image], np.uint8), morphd.Footprint(row, (0, column)), mode=mode, cval=5)[law]
+
+
 @QUICK
 @given(IMAGES, footprints(), some.integers(1, 5))
 def test_workers_change_nothing(image, b, workers):

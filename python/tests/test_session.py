@@ -645,3 +645,17 @@ def test_faults_are_of_pythons_kinds():
     assert issubclass(Refused, ValueError) and issubclass(OutOfMemory, MemoryError)
     assert issubclass(SessionEnded, ConnectionError) and issubclass(errors.LibraryMissing, ImportError)
     assert str(Refused(47, "rank")).startswith("rank: ") and "47 PARAM" in str(Refused(47))
+
+
+def test_numbers_that_no_request_has_leave_the_session_open(program):
+    """Their line would be none of the protocol, behind which a session ends."""
+    with Session(program=program) as session:
+        image = session.load(b"P2 2 1 9 3 4")
+        for wrong in (-1, 10**9):
+            with pytest.raises(Refused, match="47 PARAM"):
+                session.threshold(image, wrong)
+        for wrong in (2.0, "2", None):
+            with pytest.raises(TypeError, match="is a whole number"):
+                session.rank(image, wrong, [[1]])
+        assert session.rank(image, True, [[1]]).result().rows() == [[3, 4]]
+        assert session.threshold(image, 4).result().rows() == [[0, 1]]

@@ -1,5 +1,6 @@
 """The command line: results, pipes, folders, faults and exit statuses."""
 import io
+import os
 import subprocess
 import sys
 import threading
@@ -11,22 +12,8 @@ import stand_in
 
 import morphd
 from morphd.__main__ import main
-
-
-@pytest.fixture
-def grains(tmp_path):
-    rng = np.random.default_rng(1)
-    image = rng.integers(0, 256, (9, 12)).astype(np.uint8)
-    morphd.write(tmp_path / "grains.pgm", image)
-    morphd.write(tmp_path / "mask.pbm", image > 100)
-    morphd.write(tmp_path / "camera.pgm", image.astype(np.uint16) * 16, 4095)
-    return image
-
-
-def run(folder, line, **options):
-    """Runs a command line in this process, with paths in a folder."""
-    words = [str(folder / word[1:]) if word.startswith("@") else word for word in line.split()]
-    return main(words)
+from morphd.curves import measured
+from shell import grains, run  # noqa: F401
 
 
 CALLS = [
@@ -85,67 +72,14 @@ def test_spectra(tmp_path, grains, capsys):
     pytest.importorskip("matplotlib")
     assert run(tmp_path, "spectrum --disk 1 --sizes 3 --pixel 0.32um @mask.pbm --plot @curve.svg --csv @curve.csv") == 0
     assert (tmp_path / "curve.svg").read_text(encoding="utf-8").lstrip().startswith("<?xml")
-    assert (tmp_path / "curve.csv").read_text(encoding="utf-8").startswith("size,width in µm,volume,fall\n")
+    assert (tmp_path / "curve.csv").read_text(encoding="utf-8").startswith("size,least diamond in µm,greatest diamond in µm,volume,fall\n")
     assert capsys.readouterr().out == ""
     assert run(tmp_path, "spectrum --disk 1 --sizes 3 --pixel 0.32um @mask.pbm --csv -") == 0
     assert capsys.readouterr().out == (tmp_path / "curve.csv").read_text(encoding="utf-8")
     assert run(tmp_path, "spectrum --disk 1 --sizes 3 @mask.pbm") == 0
-    assert capsys.readouterr().out == f"{morphd.spectrum(grains > 100, morphd.disk(1), 3)}\n"
+    assert capsys.readouterr().out == f"{measured(grains > 100, morphd.disk(1), 3)}\n"
     assert run(tmp_path, "spectrum --disk 1 --sizes 3 @mask.pbm @grains.pgm --csv @curves/") == 0
     assert sorted(path.name for path in (tmp_path / "curves").iterdir()) == ["grains.csv", "mask.csv"]
-
-
-def test_several_files_and_one_that_fails(tmp_path, grains, capsys):
-    assert run(tmp_path, "opening --disk 1 @grains.pgm @nowhere.pgm @camera.pgm -o @opened --jobs 3") == 1
-    assert sorted(path.name for path in (tmp_path / "opened").iterdir()) == ["camera.pgm", "grains.pgm"]
-    np.testing.assert_array_equal(morphd.read(tmp_path / "opened" / "grains.pgm"), morphd.opening(grains, morphd.disk(1)))
-    told = capsys.readouterr().err.splitlines()
-    assert len(told) == 1 and told[0].startswith("morph: ") and "nowhere.pgm" in told[0]
-
-
-def test_a_bar(tmp_path, grains, monkeypatch, capsys):
-    monkeypatch.setattr("sys.stderr.isatty", lambda: True)
-    assert run(tmp_path, "opening --disk 1 @grains.pgm @camera.pgm -o @opened") == 0
-    assert "2" in capsys.readouterr().err
-    assert run(tmp_path, "opening --disk 1 @grains.pgm @camera.pgm -o @opened --quiet") == 0
-    assert capsys.readouterr().err == ""
-
-
-def test_a_bar_without_tqdm(tmp_path, grains, monkeypatch, capsys):
-    monkeypatch.setitem(sys.modules, "tqdm.auto", None)
-    monkeypatch.setattr("sys.stderr.isatty", lambda: True)
-    assert run(tmp_path, "opening --disk 1 @grains.pgm @camera.pgm -o @opened") == 0
-    assert capsys.readouterr().err == "\r1 of 2 pictures\r2 of 2 pictures"
-
-
-def test_spectra_of_several_files_are_told_by_name(tmp_path, grains, capsys):
-    assert run(tmp_path, "spectrum --disk 1 --sizes 3 @mask.pbm @grains.pgm") == 0
-    told = capsys.readouterr().out
-    for name, held in (("mask.pbm", grains > 100), ("grains.pgm", grains)):
-        assert f"{tmp_path / name}:\n{morphd.spectrum(held, morphd.disk(1), 3)}\n" in told
-
-
-def test_standard_input_into_a_folder(tmp_path, grains, monkeypatch):
-    monkeypatch.setattr(sys, "stdin", io.TextIOWrapper(io.BytesIO((tmp_path / "grains.pgm").read_bytes())))
-    (tmp_path / "opened").mkdir()
-    assert run(tmp_path, "opening --disk 1 - -o @opened") == 0
-    np.testing.assert_array_equal(morphd.read(tmp_path / "opened" / "stdin.pgm"), morphd.opening(grains, morphd.disk(1)))
-
-
-def test_threads_and_pictures_at_the_same_time(tmp_path, grains, monkeypatch):
-    """Two pictures meet within the operator, and it is told how many threads it may have."""
-    meeting, asked = threading.Barrier(2), []
-
-    def opening(array, *arguments, workers, **options):
-        asked.append(workers)
-        meeting.wait(60)
-        return array
-
-    monkeypatch.setattr("morphd.operators.opening", opening)
-    assert run(tmp_path, "opening --disk 1 @grains.pgm @camera.pgm -o @opened --jobs 2 --workers 3") == 0
-    monkeypatch.setattr("morphd.curves.spectrum", lambda *arguments, workers, **options: asked.append(workers))
-    assert run(tmp_path, "spectrum --disk 1 @grains.pgm --workers 4") == 0
-    assert asked == [3, 3, 4]
 
 
 @pytest.mark.parametrize("line, told", [
@@ -153,31 +87,59 @@ def test_threads_and_pictures_at_the_same_time(tmp_path, grains, monkeypatch):
     ("rank --number 9 --square 2 @grains.pgm -o @made.pgm", "47 PARAM"),
     ("skeleton --square 3 --levels 2 @grains.pgm -o @made.pgm", "44 BINARY"),
     ("erosion --square 3 --maxval 9 @grains.pgm -o @made.pgm", "25 SAMPLE"),
-    ("erosion --square 3 @grains.pgm -o @made.jpg", "suffix"),
+    ("erosion --square 3 @grains.pgm -o @made.pbm", "a PBM holds a set"), ("opening --disk 1 --page 1 @grains.pgm -o @x.pgm", "no page 1"),
+    ("opening --disk 1 --channel red @grains.pgm -o @x.pgm", "no channel red, but grey"),
+    ("opening --disk 1 / -o @x.pgm", "morph: /: Is a directory"), ("opening --disk 1 / -o @folder/ --format pnm", "morph: /: Is a directory"),
     ("erosion --square 3 @grains.pgm -o @no/folder.pgm", "folder.pgm"),
 ])
 def test_what_cannot_be_made(tmp_path, grains, capsys, line, told):
     assert run(tmp_path, line) == 1
-    assert told in capsys.readouterr().err
+    lines = capsys.readouterr().err.splitlines()
+    assert len(lines) == 1 and lines[0].startswith("morph: ") and told in lines[0]
+    assert not list(tmp_path.glob("made.*")) and not list(tmp_path.glob("x.*"))
 
 
-@pytest.mark.parametrize("line", [
-    "", "opened @grains.pgm", "opening @grains.pgm -o @x.pgm", "opening --disk 1 --square 3 @grains.pgm -o @x.pgm",
-    "opening --disk x @grains.pgm -o @x.pgm",
-    "opening --square 256 @grains.pgm -o @x.pgm", "opening --disk 1 @grains.pgm", "opening --disk 1 @grains.pgm @mask.pbm -o -",
-    "opening --disk 1 @grains.pgm @grains.pgm -o @folder", "opening --disk 1 @grains.pgm @other/grains.pgm -o @folder",
-    "opening --disk 1 --origin 9,9 @grains.pgm -o @x.pgm",
-    "opening --disk 1 --jobs 0 @grains.pgm -o @x.pgm",
-    "opening --disk 1 --workers 0 @grains.pgm -o @x.pgm", "opening --footprint @none.pbm @grains.pgm -o @x.pgm",
-    "threshold @grains.pgm -o @x.pgm",
-    "rectangle --rectangle 3 @grains.pgm -o @x.pgm", "opening --rectangle 3 @grains.pgm -o @x.pgm",
-    "spectrum --disk 1 @grains.pgm --plot -",
+@pytest.mark.parametrize("line, told", [
+    ("", "morph: the following arguments are required: OPERATION"), ("opened @grains.pgm", "morph: argument OPERATION: invalid choice: 'opened'"),
+    ("opening @grains.pgm -o @x.pgm", "morph opening: one of the arguments --disk"),
+    ("opening --disk 1 --square 3 @grains.pgm -o @x.pgm", "morph opening: argument --square: not allowed with argument --disk"),
+    ("opening --disk x @grains.pgm -o @x.pgm", "morph opening: argument --disk: x: a finite number is wanted"),
+    ("opening --disk inf @grains.pgm -o @x.pgm", "morph opening: argument --disk: inf: a finite number is wanted"),
+    ("opening --disk nan @grains.pgm -o @x.pgm", "morph opening: argument --disk: nan: a finite number is wanted"),
+    ("opening --disk 1e9 @grains.pgm -o @x.pgm", "morph opening: argument --disk: 1e9: a disc of radius 1000000000.0: a side is 0 or too long"),
+    ("opening --square 256 @grains.pgm -o @x.pgm", "morph opening: argument --square: 256: a rectangle of 256 x 256: a side is 0 or too long"),
+    ("opening --square 3.5 @grains.pgm -o @x.pgm", "morph opening: argument --square: 3.5: a whole number is wanted"),
+    ("opening --rectangle 3 @grains.pgm -o @x.pgm", "morph opening: argument --rectangle: 3: two whole numbers are wanted, as 3x5"),
+    ("opening --rectangle 3xx4 @grains.pgm -o @x.pgm", "morph opening: argument --rectangle: 3xx4: two whole numbers are wanted"),
+    ("opening --octagon 3,4,5 @grains.pgm -o @x.pgm", "morph opening: argument --octagon: 3,4,5: two whole numbers are wanted"),
+    ("opening --line 5,x @grains.pgm -o @x.pgm", "morph opening: argument --line: x: a finite number is wanted"),
+    ("opening --footprint @none.pbm @grains.pgm -o @x.pgm", "none.pbm: No such file or directory"),
+    ("opening --footprint @grains.pgm @grains.pgm -o @x.pgm", "grains.pgm: it is no PBM file"),
+    ("opening --disk 1 --origin 5 @grains.pgm -o @x.pgm", "morph opening: argument --origin: 5: two whole numbers are wanted"),
+    ("opening --disk 1 --origin 9,9 @grains.pgm -o @x.pgm", "the footprint's origin lies outside its bitmap"),
+    ("opening --disk 1 --mode constant --cval nan @grains.pgm -o @x.pgm", "morph opening: argument --cval: nan: a finite number is wanted"),
+    ("opening --disk 1 --mode mirrored @grains.pgm -o @x.pgm", "morph opening: argument --mode: invalid choice: 'mirrored'"),
+    ("opening --disk 1 --page -1 @grains.pgm -o @x.pgm", "morph opening: argument --page: -1: a number from 0 on is wanted"),
+    ("opening --disk 1 @grains.pgm", "morph: -o says where the result goes"),
+    ("opening --disk 1 @grains.pgm -o @x.jpg", "x.jpg: the suffix tells how it is written: .pbm,"),
+    ("opening --disk 1 --jobs 0 @grains.pgm -o @x.pgm", "morph: --jobs is a number from 1 on"),
+    ("opening --disk 1 --workers 0 @grains.pgm -o @x.pgm", "morph: --workers is a number from 1 on, or -1"),
+    ("threshold @grains.pgm -o @x.pgm", "morph threshold: the following arguments are required: --at"),
+    ("threshold --at bright @grains.pgm -o @x.pbm", "morph threshold: argument --at: bright: a finite number is wanted"),
+    ("threshold --at nan @grains.pgm -o @x.pbm", "morph threshold: argument --at: nan: a finite number is wanted"),
+    ("spectrum --disk 1 --pixel 1,5um @mask.pbm", "morph spectrum: argument --pixel: "),
+    ("spectrum --disk 1 --pixel 1/3um @mask.pbm", "morph spectrum: argument --pixel: "),
+    ("spectrum --disk 1 --pixel 0 @mask.pbm", "morph spectrum: argument --pixel: "),
+    ("spectrum --disk 1 @grains.pgm --plot -", "morph: --plot takes a file"),
 ])
-def test_wrong_words(tmp_path, grains, line, capsys):
+def test_wrong_words(tmp_path, grains, line, told, capsys):
+    """The fault stands in the first line, and there is no other."""
     with pytest.raises(SystemExit) as ended:
         run(tmp_path, line)
     assert ended.value.code == 2
-    assert "usage: morph" in capsys.readouterr().err
+    lines = capsys.readouterr().err.splitlines()
+    assert len(lines) == 1 and told in lines[0] and lines[0].startswith("morph"), lines
+    assert lines[0].endswith("--help says more)")
 
 
 def test_help(capsys):
@@ -199,6 +161,78 @@ def test_pipes(tmp_path, grains):
     second = subprocess.run([*words, "threshold", "--at", "40", "-", "-o", "-"], input=first.stdout, **piped)
     wanted = morphd.threshold(morphd.white_tophat(grains, morphd.disk(2)), 40)
     np.testing.assert_array_equal(np.asarray(morphd.Picture.of_file(second.stdout)), wanted)
+
+
+@pytest.mark.parametrize("form, suffix", [("png", ".png"), ("tiff", ".tif"), ("pnm", ".pgm")])
+def test_pictures_of_each_form_over_pipes(tmp_path, grains, form, suffix):
+    pytest.importorskip("PIL")
+    environment, words = stand_in.in_process()
+    morphd.write(tmp_path / f"a{suffix}", grains)
+    words += ["opening", "--disk", "1", "-", "--format", form]
+    made = subprocess.run(words, input=(tmp_path / f"a{suffix}").read_bytes(), capture_output=True, env=environment, check=True).stdout
+    assert made.startswith({"png": b"\x89PNG\r\n", "tiff": b"II*\0", "pnm": b"P5\n"}[form])
+    np.testing.assert_array_equal(morphd.read(io.BytesIO(made)), morphd.opening(grains, morphd.disk(1)))
+
+
+@pytest.mark.parametrize("data, told", [
+    (b"", "20 MAGIC"), (b"GIF89a", "20 MAGIC"), (b"\x89PNG\r\n\x1a\nxx", "no picture"), (b"II*\0", ""), (b"P6\n1 1\n255\n\1\2\3", "no set")])
+def test_what_is_no_picture_over_a_pipe(tmp_path, monkeypatch, capsys, data, told):
+    pytest.importorskip("PIL")
+    monkeypatch.setattr(sys, "stdin", io.TextIOWrapper(io.BytesIO(data)))
+    assert run(tmp_path, "opening --disk 1 - -o @made.pgm") == 1
+    lines = capsys.readouterr().err.splitlines()
+    assert len(lines) == 1 and lines[0].startswith("morph: ") and told in lines[0]
+
+
+def test_a_pipe_that_has_a_name(tmp_path, grains):
+    """As a shell gives it for `<(command)`: nobody can go back in it."""
+    os.mkfifo(tmp_path / "pipe")
+    for name in ("grains.pgm", "a.png"):
+        if name == "a.png":
+            pytest.importorskip("PIL")
+            morphd.write(tmp_path / name, grains)
+        writer = threading.Thread(target=lambda: (tmp_path / "pipe").write_bytes((tmp_path / name).read_bytes()))
+        writer.start()
+        assert run(tmp_path, "opening --disk 1 @pipe -o @made.pgm") == 0
+        writer.join(60)
+        np.testing.assert_array_equal(morphd.read(tmp_path / "made.pgm"), morphd.opening(grains, morphd.disk(1)))
+
+
+def test_one_channel_and_one_page(tmp_path, grains):
+    images = pytest.importorskip("PIL.Image")
+    colours = np.dstack([grains, 255 - grains, grains // 2])
+    images.fromarray(colours).save(tmp_path / "colours.png")
+    for channel, at in (("red", 0), ("green", 1), ("2", 2)):
+        assert run(tmp_path, f"opening --disk 1 --channel {channel} @colours.png -o @made.pgm") == 0
+        np.testing.assert_array_equal(morphd.read(tmp_path / "made.pgm"), morphd.opening(colours[..., at], morphd.disk(1)))
+    morphd.write(tmp_path / "stack.tif", np.stack([grains, 255 - grains]))
+    assert run(tmp_path, "opening --disk 1 --page 1 @stack.tif -o @made.pgm") == 0
+    np.testing.assert_array_equal(morphd.read(tmp_path / "made.pgm"), morphd.opening(255 - grains, morphd.disk(1)))
+    assert run(tmp_path, "spectrum --disk 1 --sizes 2 --page 1 @stack.tif --csv @curve.csv") == 0
+    wanted = measured(255 - grains, morphd.disk(1), 2)
+    assert f",{int(wanted.volumes[0])}," in (tmp_path / "curve.csv").read_text(encoding="utf-8")
+
+
+CLOSED = [
+    ("<&-", "opening --disk 1 - -o made.pgm", 1, "morph: -: the standard input is closed"),
+    (">&-", "opening --disk 1 - < grains.pgm", 1, "morph: -: the standard output is closed"),
+    (">&-", "spectrum --disk 1 grains.pgm", 1, "morph: grains.pgm: the standard output is closed"),
+    (">&-", "spectrum --disk 1 grains.pgm --csv -", 1, "morph: grains.pgm: the standard output is closed"),
+    (">&-", "spectrum --disk 1 grains.pgm camera.pgm --csv curves.csv", 0, ""),
+    ("<&- >&-", "opening --disk 1 grains.pgm -o made.pgm", 0, ""),
+    ("2>&-", "opening --disk 1 nowhere.pgm -o made.pgm", 1, ""), ("2>&-", "opening --disk x", 2, ""),
+    (">/dev/full", "spectrum --disk 1 grains.pgm", 1, "No space left on device"),
+]
+
+
+@pytest.mark.parametrize("closed, line, status, told", CLOSED)
+def test_standard_streams_that_are_closed(tmp_path, grains, closed, line, status, told):
+    environment, words = stand_in.in_process()
+    command = f"{' '.join(words)} {line} {closed}"
+    made = subprocess.run(["sh", "-c", command], cwd=tmp_path, env=environment, capture_output=True, text=True, check=False)
+    assert made.returncode == status and made.stdout == ""
+    lines = made.stderr.splitlines()
+    assert lines == [] if not told else len(lines) == 1 and told in lines[0], lines
 
 
 def test_a_reader_that_has_enough(tmp_path, grains):

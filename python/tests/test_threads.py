@@ -2,9 +2,12 @@
 import gc
 import os
 import signal
+import subprocess
+import sys
 import threading
 import time
 import weakref
+from pathlib import Path
 
 import numpy as np
 import pytest
@@ -14,13 +17,24 @@ from morphd import _pieces, _threads
 
 
 def test_how_many_workers(monkeypatch):
-    monkeypatch.setattr("os.cpu_count", lambda: 8)
+    monkeypatch.setattr("os.cpu_count", lambda: 64)
+    monkeypatch.setattr("os.sched_getaffinity", lambda process: set(range(0, 16, 2)), raising=False)
     assert [_threads.worker_count(number) for number in (None, 1, 5, -1, -3)] == [1, 1, 5, 8, 6]
-    for number in (0, -9, 2.5, float("inf")):
+    for number in (0, -9):
         with pytest.raises(ValueError, match="workers"):
             _threads.worker_count(number)
-    with pytest.raises(TypeError, match="workers"):
-        _threads.worker_count("2")
+    for wrong in (2.5, 2.0, float("inf"), "2"):
+        with pytest.raises(TypeError, match="workers is a whole number"):
+            _threads.worker_count(wrong)
+    monkeypatch.delattr("os.sched_getaffinity")
+    assert _threads.worker_count(-1) == 64
+
+
+@pytest.mark.skipif(not hasattr(os, "sched_getaffinity"), reason="this system does not tell which processors a process may use")
+def test_as_many_workers_as_the_process_may_use_processors():
+    code = "import os; os.sched_setaffinity(0, {min(os.sched_getaffinity(0))}); from morphd import _threads; print(_threads.worker_count(-1))"
+    made = subprocess.run([sys.executable, "-c", code], cwd=Path(morphd.__file__).parents[1], capture_output=True, text=True, check=True)
+    assert made.stdout == "1\n"
 
 
 @pytest.mark.parametrize("workers", [1, 2, 5, 40])

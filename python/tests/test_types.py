@@ -71,11 +71,7 @@ def test_thresholds_of_integers_are_exact(dtype, is_far_apart):
     image, ends = np.array([held], dtype), [float("inf"), -float("inf")]
     for k in [*NUMBERS, *held, *map(float, held), *(image.flat[at] for at in range(len(held))), *ends]:
         exact = k if k in ends else Fraction(*np.asarray(k).item().as_integer_ratio())
-        if np.dtype(dtype).itemsize <= 2 and dtype.startswith("u") and not -1 < exact <= 65535:
-            with pytest.raises(Refused, match="47 PARAM"):
-                morphd.threshold(image, k)
-        else:
-            assert morphd.threshold(image, k).tolist() == [[each >= exact for each in held]], k
+        assert morphd.threshold(image, k).tolist() == [[each >= exact for each in held]], k
 
 
 @pytest.mark.parametrize("dtype", ["f2", "f4", "f8", "g", ">f4"])
@@ -211,15 +207,23 @@ WHOLE = [
 
 
 @pytest.mark.parametrize("name, call", WHOLE)
-def test_whole_numbers_are_not_cut(name, call):
-    for number in (9.9, 4.000001, np.float32(9.5), float("inf"), float("nan")):
-        with pytest.raises(ValueError, match=f"{name} is a whole number"):
+def test_counts_are_whole_numbers(name, call):
+    for number in (9.9, 9.0, np.float64(9), np.float32(9.5), float("inf"), float("nan"), "9", 9j, [9], Fraction(9), np.array(9.0)):
+        with pytest.raises(TypeError, match=f"{name} is a whole number"):
             call(number)
-    for number in ("9", 9j, [9]):
-        with pytest.raises(TypeError, match=f"{name} is a number"):
-            call(number)
-    for number in (9.0, np.uint8(9), np.int64(9), np.float64(9), np.array(9)):
+    for number in (np.uint8(9), np.int64(9), np.array(9)):
         np.testing.assert_array_equal(call(number), call(9))
+
+
+@pytest.mark.parametrize("dtype", ["?", "u1", "u2", "i4", "f4"])
+def test_thresholds_beyond_all_samples(dtype):
+    image = np.array([[0, 1, 1]], dtype)
+    for k in (-5, -0.5, -1e300, -float("inf"), -(10**400)):
+        assert morphd.threshold(image, k).tolist() == [[True, True, True]], k
+    for k in (2, 256, 65536, 70000.5, 1e300, float("inf"), 10**400):
+        assert morphd.threshold(image, k).tolist() == [[False, False, False]], k
+    planes, out = np.stack([image, image]), np.zeros((2, 1, 3), bool)
+    assert morphd.threshold(planes, -5, axes=(1, 2), out=out) is out and out.all()
 
 
 def test_thresholds_between_values():
@@ -387,20 +391,36 @@ def test_a_later_plane_that_is_refused_leaves_out_as_it_was(monkeypatch, call, p
 
 @pytest.mark.parametrize("workers", [1, 2, -1])
 @pytest.mark.parametrize("shape", [(0, 3), (40, 0), (0, 0), (0, 20000), (20000, 0)])
-@pytest.mark.parametrize("dtype", ["?", "u1", "u2", "i4", "f4"])
-def test_arrays_without_samples_are_refused(dtype, shape, workers):
+@pytest.mark.parametrize("dtype", ["?", "u1", ">u2", "i4", "f4"])
+def test_arrays_without_samples_give_empty_ones(dtype, shape, workers):
     image = np.zeros(shape, dtype)
-    for mode in ("ignore", "reflect", "constant"):
-        for maxval in (None, 9, 500)[: {"u1": 2, "u2": 3}.get(dtype, 1)]:
+    for mode in (None, "ignore", "reflect", "constant"):
+        for maxval in (None, 9, 500)[: {"u1": 2, ">u2": 3}.get(dtype, 1)]:
             for out in (None, np.zeros_like(image)):
-                with pytest.raises(Refused, match="22 SIZE"):
-                    morphd.erosion(image, [[1], [1], [1]], mode=mode, maxval=maxval, workers=workers, out=out)
-    with pytest.raises(Refused, match="22 SIZE"):
-        morphd.threshold(image, 1, workers=workers)
+                made = morphd.erosion(image, [[1], [1], [1]], mode=mode, maxval=maxval, workers=workers, out=out)
+                assert made.shape == shape and made.dtype == image.dtype and (out is None or made is out)
+    assert morphd.threshold(image, 1, workers=workers).dtype == bool
     assert morphd.erosion(np.zeros((0, 4, 5), dtype), [[1]], axes=(1, 2), workers=workers).shape == (0, 4, 5)
     planes = np.zeros((2, *shape), dtype)
-    with pytest.raises(Refused, match="22 SIZE"):
-        morphd.erosion(planes, [[1]], axes=(1, 2), maxval=9 if dtype in ("u1", "u2") else None, workers=workers, out=planes.copy())
+    assert morphd.median(planes, [[1]], axes=(1, 2), workers=workers, out=planes) is planes
+
+
+def test_what_is_made_of_nothing_has_the_type_of_the_result():
+    sets, levels = np.zeros((0, 3), bool), np.zeros((3, 0), np.uint16)
+    assert morphd.skeleton(sets, [[1]], 3).dtype == np.uint8 and morphd.restored(levels, [[1]], 3).dtype == bool
+    for image in (sets, levels):
+        assert morphd.hit_or_miss(image, [[1, 0]]).dtype == image.dtype and morphd.rank(image, 1, [[1]]).shape == image.shape
+
+
+@pytest.mark.parametrize("call", [
+    lambda image: morphd.rank(image, 3, [[1, 1]]), lambda image: morphd.rank(image, 1, [[1, 0]], mode="ignore"),
+    lambda image: morphd.skeleton(image, [[1]], 3), lambda image: morphd.erosion(image, [[1]], maxval=256),
+    lambda image: morphd.erosion(image, [[1]], mode="constant", cval=256), lambda image: morphd.erosion(image, [[1]], mode="mirrored"),
+    lambda image: morphd.erosion(image, [[1]], axes=(0, 2)), lambda image: morphd.erosion(image, [[1]], out=np.zeros((3, 0), np.uint8)),
+    lambda image: morphd.erosion(image, [[1]], compat="matlab"), lambda image: morphd.hit_or_miss(image, [[1]], [[1]])])
+def test_arguments_are_checked_where_there_is_no_sample(call):
+    with pytest.raises(ValueError):
+        call(np.zeros((0, 3), np.uint8))
 
 
 def test_planes_of_two_axes_and_of_none():

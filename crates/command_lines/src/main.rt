@@ -11,8 +11,12 @@ use std::io::{Eprint, Print};
 const PROCESSORS: usize = 3;
 
 /// The command lines that are shown after the words of the process.
-const LINES: [&str; 25] = [
+const LINES: [&str; 30] = [
     "morphd --version",
+    "morphd --help",
+    "morphd batch --help",
+    "morphd listen --help",
+    "morphd serve --help",
     "morphd batch",
     "morphd batch --tile 1024",
     "morphd batch --tile 65",
@@ -21,6 +25,7 @@ const LINES: [&str; 25] = [
     "morphd batch --workers 65",
     "morphd batch --workers 0 --tile 65",
     "morphd batch --workers x",
+    "morphd batch --strict",
     "morphd listen --port 7001",
     "morphd listen --port 65535 --workers 64 --sessions 64 --tile 64",
     "morphd listen",
@@ -96,7 +101,8 @@ fn show<R: Print>(rt: &R, job: Result<Job, LineFault>) -> io::Result<()> {
             println!(rt;
                 "a batch with tiles of {} and {} workers",
                 given.side, given.workers
-            )
+            )?;
+            show_bounds(rt, None, "strict", given.strict)
         }
         Ok(Job::Listen(given)) => {
             println!(rt;

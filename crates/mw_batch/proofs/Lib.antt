@@ -1,2 +1,3 @@
 -- the crate's own
 mod Served
+mod LogRefusals

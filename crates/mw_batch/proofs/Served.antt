@@ -36,44 +36,48 @@ pub record Held (new : Ends) (outcome : Result End SessionFault) : Type 0 where
   pub writer_failed : new.write_failed ≡ true → outcome ≡ Err fault.Write
 
 pub served-session : (old new : Ends) (o p : CoreView) (outcome : Result End SessionFault) (status : ℕ) → o.log ≡ [] → SessionRan start_state o p old.left new.left old.written new.written outcome
-    → TellsOutcome old new outcome → Held new outcome → status ≡ end_status outcome → Served old new status
+    → TellsOutcome old new outcome → Held new outcome → status ≡ end_status outcome → (served : Served old new status) × (served.log ≡ p.log)
 served-session old new o p (Ok e) status none s told h is =
     let f = finished_script (LacksRoom s.taken) new.left s.taken start_state s.state o.log p.log old.written new.written e s.ran in
-    let P : List LogItem → Type 0 = λ l. Ran (LacksRoom s.taken) new.left s.taken start_state s.state l p.log old.written new.written (Ok e) in
-    record {
-      bytes = s.taken;
-      text = f.1;
-      turns = f.0;
-      state = s.state;
-      log = p.log;
-      outcome = Ok e;
-      read = s.read;
-      wrote = f.3;
-      comes = f.2;
-      ran = subst P none s.ran;
-      told = told;
-      tells = is;
-      few_reads = h.few_reads;
-      reader_failed = h.reader_failed;
-      writer_failed = h.writer_failed;
-    }
+    let P : List LogItem → Type 0 = λ l. Ran (LacksRoom s.taken) new.left s.taken start_state s.state l p.log old.written new.written (Ok e) in (
+      record {
+        bytes = s.taken;
+        text = f.1;
+        turns = f.0;
+        state = s.state;
+        log = p.log;
+        outcome = Ok e;
+        read = s.read;
+        wrote = f.3;
+        comes = f.2;
+        ran = subst P none s.ran;
+        told = told;
+        tells = is;
+        few_reads = h.few_reads;
+        reader_failed = h.reader_failed;
+        writer_failed = h.writer_failed;
+      },
+      refl,
+    )
 served-session old new o p (Err e) status none s told h is =
     let f = stopped_broken (LacksRoom s.taken) new.left s.taken start_state s.state o.log p.log old.written new.written e s.ran in
-    let P : List LogItem → Type 0 = λ l. Ran (LacksRoom s.taken) new.left s.taken start_state s.state l p.log old.written new.written (Err e) in
-    record {
-      bytes = s.taken;
-      text = f.1;
-      turns = f.0;
-      state = s.state;
-      log = p.log;
-      outcome = Err e;
-      read = s.read;
-      wrote = f.3;
-      comes = (f.2, has_failed new e (λ k. h.read_fault (ap Err k)) (λ k. h.write_fault (ap Err k)));
-      ran = subst P none s.ran;
-      told = told;
-      tells = is;
-      few_reads = h.few_reads;
-      reader_failed = h.reader_failed;
-      writer_failed = h.writer_failed;
-    }
+    let P : List LogItem → Type 0 = λ l. Ran (LacksRoom s.taken) new.left s.taken start_state s.state l p.log old.written new.written (Err e) in (
+      record {
+        bytes = s.taken;
+        text = f.1;
+        turns = f.0;
+        state = s.state;
+        log = p.log;
+        outcome = Err e;
+        read = s.read;
+        wrote = f.3;
+        comes = (f.2, has_failed new e (λ k. h.read_fault (ap Err k)) (λ k. h.write_fault (ap Err k)));
+        ran = subst P none s.ran;
+        told = told;
+        tells = is;
+        few_reads = h.few_reads;
+        reader_failed = h.reader_failed;
+        writer_failed = h.writer_failed;
+      },
+      refl,
+    )

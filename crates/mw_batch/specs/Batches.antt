@@ -12,6 +12,7 @@ use Rattle.mw_session.specs.mw_wire.declared.fault.SessionFault.{SessionFault}
 use Rattle.mw_session.specs.mw_wire.declared.fault.SessionFault.TheVariants as fault
 use Rattle.mw_session.specs.mw_wire.Rooms.{LacksRoom}
 use Rattle.mw_session.specs.Runs.{Ran}
+use Rattle.mw_batch.specs.Refused.{IsStrict}
 
 -- What is seen of the ends of a session: what is known of what the reader has left, how often it was read and whether it failed; what is known of what the writer holds, and whether it failed; what is known of what the writer of faults holds, and whether it failed.
 pub record Ends : Type 0 where
@@ -74,6 +75,10 @@ pub record Served (old new : Ends) (status : ℕ) : Type 0 where
   pub few_reads : new.reads ≤ 4294967295
   pub reader_failed : new.read_failed ≡ true → outcome ≡ Err fault.Read
   pub writer_failed : new.write_failed ≡ true → outcome ≡ Err fault.Write
+
+-- A session was served as a batch serves it; the status is that of a batch, and 3 in the place of 0 where the log of the session has a call that was refused.
+abbrev pub ServedStrictly : Ends → Ends → ℕ → Type 0
+ServedStrictly old new status = (plain : ℕ) × (served : Served old new plain) × IsStrict served.log plain status
 
 -- There was no memory to begin: nothing was read or written.
 pub record Unserved (old new : Ends) (status : ℕ) : Type 0 where

@@ -1,9 +1,12 @@
 //! A script from a reader to a writer, and what is told of its faults.
 
-ghost use Rattle.std.specs.Prelude.{◌≡◌, ◌⊎◌, false};
+ghost use Rattle.std.specs.Prelude.{◌≡◌, ◌⊎◌, [], false};
+ghost use Rattle.mw_model.specs.Machine.{start_state};
+ghost use Rattle.mw_model.specs.Stands.{StandsFor, running_count};
 ghost use Rattle.mw_batch.specs.mw_grid.Grids.{IsTileSide};
-ghost use Rattle.mw_batch.specs.Batches.{Ends, Served, Unserved};
+ghost use Rattle.mw_batch.specs.Batches.{Ends, Served, ServedStrictly, Unserved};
 
+use crate::refusals::strict_status;
 use mw_session::wire::{Sink, Source, send, tell};
 use mw_session::{Core, Crew, End, Pick, run_script};
 use std::io::{Read, Write};
@@ -18,6 +21,34 @@ impl Pick for First {
 
     fn pick(&mut self, _count: u64) -> u64 {
         0
+    }
+}
+
+/// Runs a script on a core that has just been made, and gives the exit status that a batch has.
+fn run_on<R: Read, W: Write, F: Write, T: Threads + Sync>(
+    crew: Crew<T>,
+    source: &mut Source<R>,
+    sink: &mut Sink<W>,
+    faults: &mut Sink<F>,
+    core: &mut Core,
+) -> u8
+    requires source_clear { source.old.failed ≡ false }
+    requires sink_clear { sink.old.failed ≡ false }
+    requires unread { source.old.reads ≡ 0 }
+    requires stands { StandsFor core.old start_state }
+    requires idle { running_count core.old ≡ 0 }
+    requires log { core.old.log ≡ [] }
+    ensures { let old : Ends = record { left = R.remaining source.old.inner; reads = source.old.reads; read_failed = source.old.failed; written = W.contents sink.old.inner; write_failed = sink.old.failed; told = F.contents faults.old.inner; tell_failed = faults.old.failed } in
+        let new : Ends = record { left = R.remaining source.new.inner; reads = source.new.reads; read_failed = source.new.failed; written = W.contents sink.new.inner; write_failed = sink.new.failed; told = F.contents faults.new.inner; tell_failed = faults.new.failed } in
+        (served : Served old new result) × (served.log ≡ core.new.log) }
+{
+    match run_script(crew, source, sink, core, &mut First) {
+        Ok(End::Quit) => 0,
+        Ok(End::Ended(_)) => 1,
+        Err(fault) => {
+            let _told = tell(faults, fault);
+            1
+        }
     }
 }
 
@@ -43,12 +74,29 @@ pub fn batch<R: Read, W: Write, F: Write, T: Threads + Sync>(
         let _told = send(faults, b"error: memory\n");
         return 1;
     };
-    match run_script(crew, source, sink, &mut core, &mut First) {
-        Ok(End::Quit) => 0,
-        Ok(End::Ended(_)) => 1,
-        Err(fault) => {
-            let _told = tell(faults, fault);
-            1
-        }
-    }
+    run_on(crew, source, sink, faults, &mut core)
+}
+
+/// Runs a script as `batch` does. The exit status is 3 in the place of 0 where the log has a call that was refused.
+pub fn strict_batch<R: Read, W: Write, F: Write, T: Threads + Sync>(
+    crew: Crew<T>,
+    source: &mut Source<R>,
+    sink: &mut Sink<W>,
+    faults: &mut Sink<F>,
+    side: u32,
+) -> u8
+    requires side { IsTileSide side }
+    requires source_clear { source.old.failed ≡ false }
+    requires sink_clear { sink.old.failed ≡ false }
+    requires unread { source.old.reads ≡ 0 }
+    ensures { let old : Ends = record { left = R.remaining source.old.inner; reads = source.old.reads; read_failed = source.old.failed; written = W.contents sink.old.inner; write_failed = sink.old.failed; told = F.contents faults.old.inner; tell_failed = faults.old.failed } in
+        let new : Ends = record { left = R.remaining source.new.inner; reads = source.new.reads; read_failed = source.new.failed; written = W.contents sink.new.inner; write_failed = sink.new.failed; told = F.contents faults.new.inner; tell_failed = faults.new.failed } in
+        ServedStrictly old new result ⊎ Unserved old new result }
+{
+    let Ok(mut core) = Core::new(crew.alloc, side) else {
+        let _told = send(faults, b"error: memory\n");
+        return 1;
+    };
+    let plain = run_on(crew, source, sink, faults, &mut core);
+    strict_status(&core, plain)
 }

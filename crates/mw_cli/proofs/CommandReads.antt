@@ -1,25 +1,17 @@
--- What clap reads of a command stays when a text of its help is set, and what is read of the texts of a job's options.
+-- What is read of the texts of a job's options.
 use Rattle.std.proofs.Common.{◌≡◌, ◌≤◌, ℕ, Bool, true, false, ap, refl, codes, Option, Some, None, List, option_map, sym, ◌∙◌, subst, inl, inr}
 use Rattle.std.specs.Prelude.{◌↔◌, Box, option_and_then, Result, Ok, Err}
 use Rattle.std.specs.Str.Parse.{ParsesUnsigned}
 use Rattle.clap.specs.Matches.{TriesOne}
-use Rattle.clap.specs.Words.{Row, Text, app_of, one_of, subcommand_name_of, subcommand_of, subcommand_rows_of}
-use Rattle.clap.specs.Simple.{app_of_fields, subcommand_rows}
+use Rattle.clap.specs.Words.{Row, Text, one_of, subcommand_name_of, subcommand_of, subcommand_rows_of}
+use Rattle.clap.specs.Simple.{subcommand_rows}
 use Rattle.clap.specs.declared.parser.matches.ArgMatches.{ArgMatches}
 use Rattle.clap.specs.declared.parser.matches.ArgMatches.TheViews.{out-ArgMatches, out-SubCommand}
 use Rattle.clap.specs.declared.parser.matches.SubCommand.{SubCommand}
 use Rattle.std.specs.Box.{box_value}
-use Rattle.clap.specs.declared.builder.command.Command.{Command}
-use Rattle.clap.specs.declared.builder.command.Command.TheViews.{out-Command as fields_of}
-use Rattle.mw_cli.specs.CommandLine.{AreListens, AreServes, AreTaken, AsksIdle, AsksNoCrew, AsksNoIdle, AsksWorkers, Faults, HasNoGlobals, IsCrew, IsRefused, IsUpTo, Reads, Writes, WritesNoPort, WritesNone, program_words, text_in, usual_workers}
+use Rattle.mw_cli.specs.CommandLine.{AreListens, AreServes, AreTaken, AsksIdle, AsksNoCrew, AsksNoIdle, AsksWorkers, Faults, IsCrew, IsRefused, IsUpTo, Reads, Writes, WritesNoPort, WritesNone, program_words, text_in, usual_workers}
 use Rattle.mw_cli.specs.declared.fault.LineFault.{LineFault}
 use Rattle.mw_cli.specs.declared.fault.LineFault.TheVariants as fault
-
-pub about_keeps_words : (old new : Command) (text : _) → fields_of new ≡ record (fields_of old) { about = text } → app_of new ≡ app_of old
-about_keeps_words old new text e = ap app_of_fields e
-
-pub about_has_no_globals : (old new : Command) (text : _) → fields_of new ≡ record (fields_of old) { about = text } → HasNoGlobals old → HasNoGlobals new
-about_has_no_globals old new text e own = ap (λ f. f.has_globals) e ∙ own
 
 -- the rows of the job alone count
 pub text_in-rows : (id : Text) (job : Option (Text × List Row)) (rows : Option (List Row)) → rows ≡ option_map (λ p. p.1) job

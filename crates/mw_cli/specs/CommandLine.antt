@@ -37,7 +37,7 @@ flag_option name = record (new_rule name) {
   action = Some SetTrue;
 }
 
--- `--tile S`, 128 where it is left out
+-- `--tile T`, 128 where it is left out
 abbrev pub tile_option : Rule
 tile_option = usual_option (codes "tile") (codes "128")
 
@@ -49,9 +49,9 @@ idle_option = number_option (codes "idle")
 abbrev pub workers_option : Rule
 workers_option = number_option (codes "workers")
 
--- `batch [--tile S] [--workers W]`
+-- `batch [--tile T] [--workers W] [--strict]`
 abbrev pub batch_words : App
-batch_words = with_rule (with_rule (new_app (codes "batch")) tile_option) workers_option
+batch_words = with_rule (with_rule (with_rule (new_app (codes "batch")) tile_option) workers_option) (flag_option (codes "strict"))
 
 -- `--port P`; clap refuses words without it
 abbrev pub port_option : Rule
@@ -72,11 +72,11 @@ server_words name port crew sessions flag =
     (with_rule (with_rule (with_rule (with_rule (with_rule (new_app name) port) crew) sessions) tile_option) idle_option)
     flag
 
--- `listen --port P [--workers W] [--sessions C] [--tile S] [--idle S] [--announce]`
+-- `listen --port P [--workers W] [--sessions C] [--tile T] [--idle S] [--announce]`
 abbrev pub listen_words : App
 listen_words = server_words (codes "listen") port_option crew_option sessions_option (flag_option (codes "announce"))
 
--- `serve [--port P] [--workers W] [--sessions C] [--tile S] [--idle S] [--until-end]`; left out, the port is 0, the workers are 1 and the sessions 16
+-- `serve [--port P] [--workers W] [--sessions C] [--tile T] [--idle S] [--until-end]`; left out, the port is 0, the workers are 1 and the sessions 16
 abbrev pub serve_words : App
 serve_words =
     server_words
@@ -196,7 +196,8 @@ WritesNoPort text = (n : ℕ) → Writes text n → n ≤ 65535 → ⊥
 abbrev pub AsksBatch : ℕ → Option (Text × List Row) → BatchOptions → Type 0
 AsksBatch processors rows given =
     (AsksWorkers processors (text_in (codes "workers") rows) given.workers × IsCrew given.workers)
-    × Writes (text_in (codes "tile") rows) given.side × IsTileSide given.side
+    × (Writes (text_in (codes "tile") rows) given.side × IsTileSide given.side)
+    × Sets (text_in (codes "strict") rows) given.strict
 
 -- the rows ask for this server
 abbrev pub AsksListen : Option (Text × List Row) → ListenOptions → Type 0

@@ -11,6 +11,7 @@
 #![tactic(auto)]
 
 mod fault;
+mod help;
 mod line;
 
 pub use fault::LineFault;

@@ -1,12 +1,13 @@
 //! What the command line asks for.
 
 ghost use Rattle.std.specs.Prelude.{◌≡◌, ◌≤◌, ◌∷◌, [], false, ◌↔◌, codes, IfOk, IfErr, IfSome, IsTrue, None, map};
-ghost use Rattle.clap.specs.Words.{app_of, kind_of, rule_of, subcommand_rows_of};
+ghost use Rattle.clap.specs.Words.{app_of, kind_of, new_app, rule_of, subcommand_rows_of};
 ghost use Rattle.mw_cli.specs.CommandLine.{AreListens, AreServes, Asks, AsksBatch, AsksIdle, AsksListen, AsksNoCrew, AsksNoIdle, AsksServe, AsksWorkers, Faults, FaultsBatch, FaultsListen, FaultsServe, HasNoGlobals, IsAsked, IsCrew, IsNoText, IsRefused, IsUpTo, Reads, Sets, Writes, WritesNone, WritesNoPort, WritesNoSide, bare_words, batch_words, flag_option, listen_words, number_option, program_words, serve_words, text_in, tile_option, usual_option, usual_workers};
 ghost use Rattle.mw_grid.specs.Grids.{IsTileSide};
 ghost use Rattle.std.specs.String.{string_bytes};
 
 use crate::fault::LineFault;
+use crate::help::{LINES, SERVING, SESSION, SHARING};
 use clap::error::ErrorKind;
 use clap::{Arg, ArgAction, ArgMatches, Command, value_parser};
 use mw_grid::side_ok;
@@ -19,32 +20,8 @@ use std::{io, thread};
 /// What `--version` shows.
 pub const VERSION: &str = "0.1.0";
 
-/// One whole session, shown by help.
-const EXAMPLE: &str = "\
-A whole session on standard input:
-
-  LOAD f 19
-  P2
-  5 1
-  9
-  3 1 4 1 5
-  ELEMENT b 1 0 11
-  P1
-  3 1
-  111
-  RUN e ERODE f b
-  FETCH e
-
-and what is written to standard output, where \\1 is a byte of value 1:
-
-  OK 0
-  OK 1
-  OK 2
-  IMAGE 2 14
-  P5
-  5 1
-  9
-  \\1\\1\\1\\1\\1";
+/// What `--strict` does.
+const STRICT: &str = "Ends with status 3 in the place of 0 where a request was refused";
 
 /// What `--announce` does.
 const ANNOUNCES: &str = "Prints `LISTENING 127.0.0.1 P` when connections can be made";
@@ -58,11 +35,12 @@ pub enum Job {
     Serve(ServeOptions),
 }
 
-/// The side of the tiles, and how many workers compute them.
+/// The side of the tiles, how many workers compute them, and whether the exit status tells that a request was refused.
 #[derive(Clone, Copy, Debug, PartialEq, Eq)]
 pub struct BatchOptions {
     pub side: u32,
     pub workers: usize,
+    pub strict: bool,
 }
 
 /// The port to listen on, how many workers compute, how many sessions are served, the side of the tiles, how many
@@ -142,7 +120,15 @@ fn tile_option<'a>(alloc: Global) -> Arg<'a>
     ensures local { result.global ≡ false }
 {
     let help = "The side of a tile: a multiple of 64 from 64 to 1024";
-    usual_option(alloc, "tile", "S", help, "128")
+    usual_option(alloc, "tile", "T", help, "128")
+}
+
+// A job, before its options.
+fn job_command<'a>(alloc: Global, name: &'a str, about: &'a str, examples: &'a str) -> Command<'a>
+    ensures words { app_of result ≡ new_app name.now }
+    ensures local { HasNoGlobals result }
+{
+    Command::new(alloc, name).about(about).after_help(examples)
 }
 
 // `batch`, and what may stand behind it.
@@ -150,11 +136,11 @@ fn batch_command<'a>(alloc: Global) -> Result<Command<'a>, AllocError>
     ensures { IfOk result (λ c. (app_of c ≡ batch_words) × HasNoGlobals c) }
 {
     let crew = "How many workers compute: 1 to 64 [default: as many as processors, at most 16]";
-    Command::new(alloc, "batch")
-        .about("Runs a script from standard input to standard output")
-        .after_help(EXAMPLE)
+    let about = "Runs a script from standard input to standard output";
+    job_command(alloc, "batch", about, LINES)
         .arg(tile_option(alloc))?
-        .arg(number_option(alloc, "workers", "W", crew))
+        .arg(number_option(alloc, "workers", "W", crew))?
+        .arg(flag_option(alloc, "strict", STRICT))
 }
 
 // `listen`, and what may stand behind it.
@@ -164,8 +150,8 @@ fn listen_command<'a>(alloc: Global) -> Result<Command<'a>, AllocError>
     let port = number_option(alloc, "port", "P", "The port: 1 to 65535").required(true);
     let crew = "How many workers compute: 1 to 64";
     let served = "How many sessions are served, each by a connection: 1 to 64";
-    Command::new(alloc, "listen")
-        .about("Serves sessions over TCP on 127.0.0.1, all of them on one table of names")
+    let about = "Serves sessions over TCP on 127.0.0.1, all of them on one table of names";
+    job_command(alloc, "listen", about, SHARING)
         .arg(port)?
         .arg(usual_option(alloc, "workers", "W", crew, "2"))?
         .arg(usual_option(alloc, "sessions", "C", served, "1"))?
@@ -182,10 +168,9 @@ fn serve_command<'a>(alloc: Global) -> Result<Command<'a>, AllocError>
     let crew = "How many workers compute each session: 1 to 64";
     let served = "How many sessions are served at once, each by a connection: 1 to 1024";
     let until = "Ends the service at the end of standard input, once its sessions have ended";
-    Command::new(alloc, "serve")
-        .about(
-            "Serves sessions over TCP on 127.0.0.1, each on a table of its own, and says on which port",
-        )
+    let about =
+        "Serves sessions over TCP on 127.0.0.1, each on a table of its own, and says on which port";
+    job_command(alloc, "serve", about, SERVING)
         .arg(usual_option(alloc, "port", "P", port, "0"))?
         .arg(usual_option(alloc, "workers", "W", crew, "1"))?
         .arg(usual_option(alloc, "sessions", "C", served, "16"))?
@@ -201,7 +186,7 @@ fn program<'a>(alloc: Global) -> Command<'a>
     Command::new(alloc, "morphd")
         .version(VERSION)
         .about("Flat mathematical morphology of images, by scripts")
-        .after_help(EXAMPLE)
+        .after_help(SESSION)
         .subcommand_required(true)
 }
 
@@ -282,7 +267,11 @@ fn batch_of(matches: &ArgMatches<'_>, processors: usize) -> Result<BatchOptions,
 {
     let workers = workers_of(matches, processors)?;
     let side = side_of(matches)?;
-    Ok(BatchOptions { side, workers })
+    Ok(BatchOptions {
+        side,
+        workers,
+        strict: flag_of(matches, "strict"),
+    })
 }
 
 // Whether a flag of the job is set.

@@ -286,6 +286,35 @@ fn help_shows_a_session(rt: HostRuntime) {
     assert!(rt; text.as_str().contains("FETCH e"));
 }
 
+/// The operations, by their names in a `RUN`.
+const OPERATIONS: [&str; 13] = [
+    "ERODE",
+    "DILATE",
+    "OPEN",
+    "CLOSE",
+    "GRADIENT",
+    "WTOPHAT",
+    "BTOPHAT",
+    "RANK",
+    "THRESHOLD",
+    "HITMISS",
+    "SKELETON",
+    "RESTORE",
+    "SPECTRUM",
+];
+
+#[test]
+fn help_of_a_batch_names_the_operations(rt: HostRuntime) {
+    let Err(LineFault::Line(error)) = asked(&rt, rt.alloc(), "morphd batch --help", 1) else {
+        panic!(rt; "help is asked for");
+    };
+    let text = format!(in rt.alloc(); "{error}").expect(&rt, "memory");
+    for name in OPERATIONS {
+        let line = format!(in rt.alloc(); "\n  {name} ").expect(&rt, "memory");
+        assert!(rt; text.as_str().contains(line.as_str()));
+    }
+}
+
 #[test]
 fn version_is_shown(rt: HostRuntime) {
     let Err(LineFault::Line(error)) = asked(&rt, rt.alloc(), "morphd --version", 1) else {

@@ -8,16 +8,18 @@ use Rattle.mw_model.specs.Stands.{CoreView, StandsFor}
 use Rattle.mw_serve.specs.Serving.{Receives}
 use Rattle.mw_serve.specs.mw_wire.Writes.{CutsShort}
 use Rattle.mw_socket.specs.Announcements.{announcement}
+use Rattle.mw_socket.specs.Ports.{port_line}
 use Rattle.mw_listen.specs.declared.fault.ListenFault.{ListenFault}
 use Rattle.mw_listen.specs.declared.fault.ListenFault.TheVariants as fault
 
--- the line that tells a fault
-abbrev pub listen_line : ListenFault → List ℕ
-listen_line fault.Memory = codes "error: memory\n"
-listen_line fault.Socket = codes "error: socket\n"
-listen_line fault.Thread = codes "error: thread\n"
-listen_line fault.Audit = codes "error: audit\n"
-listen_line fault.Output = codes "error: output\n"
+-- the line that tells a fault, where this port was asked for
+abbrev pub listen_line : ℕ → ListenFault → List ℕ
+listen_line port fault.Memory = codes "error: memory\n"
+listen_line port (fault.Port f) = port_line port f
+listen_line port fault.Socket = codes "error: socket\n"
+listen_line port fault.Thread = codes "error: thread\n"
+listen_line port fault.Audit = codes "error: audit\n"
+listen_line port fault.Output = codes "error: output\n"
 
 -- where it is asked for, the line of this port was written, and else nothing
 abbrev pub AnnouncesIf : Bool → ℕ → Option (List ℕ) → Option (List ℕ) → Type 0
@@ -50,6 +52,6 @@ pub record Audited (left : List Receipt → Type 0) (sessions : ℕ) : Type 0 wh
   pub covers : Covers core.log passes
 
 -- Status 0: the passes that the sessions left were audited, and nothing was told. Status 1: the line of one fault was told.
-abbrev pub Listened : (List Receipt → Type 0) → ℕ → Told → Told → ℕ → Type 0
-Listened left sessions old new status =
-    ((status ≡ 0) × Audited left sessions × (new ≡ old)) ⊎ ((status ≡ 1) × ((f : ListenFault) × TellsLine old new (listen_line f)))
+abbrev pub Listened : (List Receipt → Type 0) → ℕ → ℕ → Told → Told → ℕ → Type 0
+Listened left port sessions old new status =
+    ((status ≡ 0) × Audited left sessions × (new ≡ old)) ⊎ ((status ≡ 1) × ((f : ListenFault) × TellsLine old new (listen_line port f)))

@@ -9,7 +9,7 @@ use crate::hall::{Hall, serve_sessions};
 use crate::session::{Requests, Session};
 use mw_serve::wire::{Sink, send};
 use mw_serve::{Board, Core, Gate, Naming, NewRoll};
-use mw_socket::announce;
+use mw_socket::{PortFault, announce};
 use std::alloc::Global;
 use std::io::Write;
 use std::marker::Brand;
@@ -34,6 +34,17 @@ pub struct Service {
 pub struct Staff<'s, G, S> {
     pub gate: &'s G,
     pub session: &'s S,
+}
+
+/// A listener on this port.
+fn listener_at<R: Net<Listener = TcpListener, Stream = TcpStream>>(
+    rt: &R,
+    port: u16,
+) -> Result<TcpListener, ListenFault> {
+    match TcpListener::bind(rt, (Ipv4Addr::LOCALHOST, port)) {
+        Ok(listener) => Ok(listener),
+        Err(error) => Err(ListenFault::Port(PortFault::of(&error))),
+    }
 }
 
 /// Tells where connections can be made, if that is asked for.
@@ -70,9 +81,7 @@ fn serve_all<
         return Err(ListenFault::Memory);
     };
     let board = Board::<J>::new(alloc, core, roll);
-    let Ok(listener) = TcpListener::bind(rt, (Ipv4Addr::LOCALHOST, service.port)) else {
-        return Err(ListenFault::Socket);
-    };
+    let listener = listener_at(rt, service.port)?;
     announce_of(service, output)?;
     let hall = Hall {
         rt,
@@ -112,13 +121,13 @@ pub fn listen_with<
     requires side { IsTileSide service.side }
     ensures audited { let old : Told = record { text = F.contents faults.old.inner; failed = faults.old.failed } in
         let new : Told = record { text = F.contents faults.new.inner; failed = faults.new.failed } in
-        Listened S.left service.sessions old new result }
+        Listened S.left service.port service.sessions old new result }
     ensures announced { result ≡ 0 → AnnouncesIf service.announce service.port (O.contents output.old.inner) (O.contents output.new.inner) }
 {
     match serve_all::<Brand, R, O, G, S>(rt, alloc, service, output, staff, NewRoll::new()) {
         Ok(()) => 0,
         Err(fault) => {
-            let _told = send(faults, fault.line().as_bytes());
+            let _told = send(faults, fault.line(service.port).as_bytes());
             1
         }
     }
@@ -126,9 +135,9 @@ pub fn listen_with<
 
 /// Listens on 127.0.0.1, serves so many sessions beside so many workers, audits them, and gives the exit status: 0 where
 /// all sessions were joined and their passes cover the log, and else 1. The first fault ends the accepting; what runs is
-/// joined as before, and the line of that fault alone goes to `faults`: `error: socket`, `error: thread`, `error: audit`,
-/// `error: memory`, or `error: output` where the line that was asked for could not be written. A session whose connection
-/// fails, or waits too long for its client, ends alone, and is no fault.
+/// joined as before, and the line of that fault alone goes to `faults`: the port and why it cannot be listened on,
+/// `error: socket`, `error: thread`, `error: audit`, `error: memory`, or `error: output` where the line that was asked for
+/// could not be written. A session whose connection fails, or waits too long for its client, ends alone, and is no fault.
 pub fn listen<
     R: Net<Listener = TcpListener, Stream = TcpStream> + Threads + Wait + Sync,
     O: Write,
@@ -148,7 +157,7 @@ pub fn listen<
     requires side { IsTileSide service.side }
     ensures audited { let old : Told = record { text = F.contents faults.old.inner; failed = faults.old.failed } in
         let new : Told = record { text = F.contents faults.new.inner; failed = faults.new.failed } in
-        Listened IsOfSession service.sessions old new result }
+        Listened IsOfSession service.port service.sessions old new result }
     ensures announced { result ≡ 0 → AnnouncesIf service.announce service.port (O.contents output.old.inner) (O.contents output.new.inner) }
 {
     let staff = Staff {

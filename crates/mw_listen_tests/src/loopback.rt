@@ -175,7 +175,7 @@ fn port_in_use(rt: HostRuntime) -> Result<(), Fail> {
     assert_eq!(rt; status, 1);
     assert_eq!(rt;
         faults.into_inner().as_slice(),
-        b"error: socket\n".as_slice()
+        b"error: socket: port 7004: taken\n".as_slice()
     );
     Ok(())
 }

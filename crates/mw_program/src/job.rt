@@ -2,12 +2,13 @@
 
 ghost use Rattle.std.specs.Prelude.{◌≡◌, false};
 ghost use Rattle.mw_server.specs.mw_batch.Batches.{Ends};
-ghost use Rattle.mw_program.specs.Jobs.{IsPossible, Performed};
+ghost use Rattle.mw_server.specs.mw_grid.Grids.{IsTileSide};
+ghost use Rattle.mw_program.specs.Jobs.{IsPossible, Performed, Scripted};
 
 use mw_cli::{BatchOptions, Job, ListenOptions, ServeOptions};
 use mw_listen::{Kernels, listen};
 use mw_server::wire::{Sink, Source};
-use mw_server::{Crew, batch, serve};
+use mw_server::{Crew, batch, serve, strict_batch};
 use std::alloc::Global;
 use std::io::{Read, Write};
 use std::net::{Net, TcpListener, TcpStream};
@@ -23,6 +24,29 @@ fn crew_of<'r, R>(rt: &'r R, alloc: Global, given: &BatchOptions) -> Crew<'r, R>
         alloc,
         rt,
         workers: given.workers,
+    }
+}
+
+/// Runs a script, strictly where that is asked for.
+fn run_batch<R: Threads + Sync, I: Read, O: Write, F: Write>(
+    crew: Crew<R>,
+    given: &BatchOptions,
+    source: &mut Source<I>,
+    sink: &mut Sink<O>,
+    faults: &mut Sink<F>,
+) -> u8
+    requires side { IsTileSide given.now.side }
+    requires source_clear { source.old.failed ≡ false }
+    requires sink_clear { sink.old.failed ≡ false }
+    requires unread { source.old.reads ≡ 0 }
+    ensures { let old : Ends = record { left = I.remaining source.old.inner; reads = source.old.reads; read_failed = source.old.failed; written = O.contents sink.old.inner; write_failed = sink.old.failed; told = F.contents faults.old.inner; tell_failed = faults.old.failed } in
+        let new : Ends = record { left = I.remaining source.new.inner; reads = source.new.reads; read_failed = source.new.failed; written = O.contents sink.new.inner; write_failed = sink.new.failed; told = F.contents faults.new.inner; tell_failed = faults.new.failed } in
+        Scripted given.now.strict old new result }
+{
+    if given.strict {
+        strict_batch(crew, source, sink, faults, given.side)
+    } else {
+        batch(crew, source, sink, faults, given.side)
     }
 }
 
@@ -87,7 +111,7 @@ pub fn perform<
         Performed job.now old new result }
 {
     match job {
-        Job::Batch(given) => batch(crew_of(rt, alloc, given), source, sink, faults, given.side),
+        Job::Batch(given) => run_batch(crew_of(rt, alloc, given), given, source, sink, faults),
         Job::Listen(given) => listen(
             rt,
             alloc,

@@ -4,6 +4,7 @@ use Rattle.std.specs.Io.KnownBytes.{Appends, Keeps, append_known}
 use Rattle.mw_batch.specs.Batches.{Ends, Served, Unserved}
 use Rattle.mw_socket.specs.Announcements.{announcement}
 use Rattle.mw_socket.specs.Closings.{Drops}
+use Rattle.mw_socket.specs.Ports.{port_line}
 use Rattle.mw_socket.specs.mw_wire.Writes.{CutsShort}
 use Rattle.mw_server.specs.declared.fault.ServeFault.{ServeFault}
 use Rattle.mw_server.specs.declared.fault.ServeFault.TheVariants as fault
@@ -37,12 +38,13 @@ abbrev pub Connected : Option (List ℕ) → Option (List ℕ) → Option (List 
 Connected left rest before after has_taken =
     (mid : Option (List ℕ)) × Conversed left mid before after has_taken × Drops mid rest × (has_taken ≡ false → rest ≡ mid)
 
--- the line that tells a fault
-abbrev pub serve_line : ServeFault → List ℕ
-serve_line fault.Memory = codes "error: memory\n"
-serve_line fault.Socket = codes "error: socket\n"
-serve_line fault.Output = codes "error: output\n"
-serve_line fault.Thread = codes "error: thread\n"
+-- the line that tells a fault, where this port was asked for
+abbrev pub serve_line : ℕ → ServeFault → List ℕ
+serve_line port fault.Memory = codes "error: memory\n"
+serve_line port (fault.Port f) = port_line port f
+serve_line port fault.Socket = codes "error: socket\n"
+serve_line port fault.Output = codes "error: output\n"
+serve_line port fault.Thread = codes "error: thread\n"
 
 -- what is known of what the writer of faults holds, and whether it failed
 pub record Told : Type 0 where
@@ -65,4 +67,4 @@ Announces asked old new = (port : ℕ) × IsPortFor asked port × Appends old ne
 -- Status 0: the service was announced with its port, and no fault was told. Status 1: the line of one fault was told.
 abbrev pub Offered : ℕ → Option (List ℕ) → Option (List ℕ) → Told → Told → ℕ → Type 0
 Offered asked before after old new status =
-    ((status ≡ 0) × Announces asked before after × (new ≡ old)) ⊎ ((status ≡ 1) × ((f : ServeFault) × TellsLine old new (serve_line f)))
+    ((status ≡ 0) × Announces asked before after × (new ≡ old)) ⊎ ((status ≡ 1) × ((f : ServeFault) × TellsLine old new (serve_line asked f)))

@@ -3,26 +3,31 @@
 ghost use Rattle.std.specs.Prelude.{◌≡◌};
 ghost use Rattle.mw_server.specs.Services.{serve_line};
 
-/// There was no memory for what a session begins with; the port could not be listened on; the line that names it could not
-/// be written; or a thread could not be started.
+use mw_socket::wire::ReplyLine;
+use mw_socket::{PortFault, port_line, text_line};
+
+/// There was no memory for what a session begins with; the port could not be listened on; the listening socket could not be
+/// copied or asked for its port; the line that names it could not be written; or a thread could not be started.
 #[derive(Clone, Copy, Debug, PartialEq, Eq)]
 pub enum ServeFault {
     Memory,
+    Port(PortFault),
     Socket,
     Output,
     Thread,
 }
 
 impl ServeFault {
-    /// The line that tells it.
-    pub fn line(&self) -> &'static str
-        ensures { result.now ≡ serve_line self.now }
+    /// The line that tells it, where this port was asked for.
+    pub fn line(&self, port: u16) -> ReplyLine
+        ensures { result ≡ serve_line port self.now }
     {
         match self {
-            ServeFault::Memory => "error: memory\n",
-            ServeFault::Socket => "error: socket\n",
-            ServeFault::Output => "error: output\n",
-            ServeFault::Thread => "error: thread\n",
+            ServeFault::Memory => text_line("error: memory\n"),
+            ServeFault::Port(fault) => port_line(port, *fault),
+            ServeFault::Socket => text_line("error: socket\n"),
+            ServeFault::Output => text_line("error: output\n"),
+            ServeFault::Thread => text_line("error: thread\n"),
         }
     }
 }

@@ -15,7 +15,7 @@ pub use fault::ServeFault;
 pub use service::{Service, serve};
 
 // What lower crates offer, for the crates above.
-pub use mw_batch::{Crew, batch};
+pub use mw_batch::{Crew, batch, strict_batch};
 
 pub mod wire {
     pub use mw_socket::wire::{Sink, Source, send};

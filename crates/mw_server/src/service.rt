@@ -10,7 +10,7 @@ use crate::connection::{HELD, serve_connection};
 use crate::fault::ServeFault;
 use mw_batch::Crew;
 use mw_socket::wire::{Sink, Source, send};
-use mw_socket::{announce, next_client};
+use mw_socket::{PortFault, announce, next_client};
 use std::alloc::Global;
 use std::io::{BufWriter, ErrorKind, Read, Write};
 use std::net::{Ipv4Addr, Net, Shutdown, TcpListener, TcpStream};
@@ -161,6 +161,17 @@ fn serve_until<R: Threads + Wait + Clock + Sync, I: Read + Drop>(
     )
 }
 
+/// A listener on this port.
+fn listener_at<R: Net<Listener = TcpListener, Stream = TcpStream>>(
+    rt: &R,
+    port: u16,
+) -> Result<TcpListener, ServeFault> {
+    match TcpListener::bind(rt, (Ipv4Addr::LOCALHOST, port)) {
+        Ok(listener) => Ok(listener),
+        Err(error) => Err(ServeFault::Port(PortFault::of(&error))),
+    }
+}
+
 /// Listens on this port, or on one that the system picks where it is 0.
 fn listen_on<R: Net<Listener = TcpListener, Stream = TcpStream>>(
     rt: &R,
@@ -168,9 +179,7 @@ fn listen_on<R: Net<Listener = TcpListener, Stream = TcpStream>>(
 ) -> Result<Place, ServeFault>
     ensures { IfOk result (λ p. IsPortFor asked p.port) }
 {
-    let Ok(listener) = TcpListener::bind(rt, (Ipv4Addr::LOCALHOST, asked)) else {
-        return Err(ServeFault::Socket);
-    };
+    let listener = listener_at(rt, asked)?;
     if asked > 0 {
         return Ok(Place {
             listener,
@@ -229,8 +238,8 @@ fn serve_all<
 /// Listens on 127.0.0.1, tells on which port, and serves one connection after the other, so many at once, each as a batch.
 /// It ends when what it is to read has ended, once the sessions that run have ended too, or never where it is to read
 /// nothing, and gives the exit status: 0, or 1 where the service could not be begun; then the line of that fault goes to
-/// `faults`: `error: memory`, `error: socket`, `error: output` or `error: thread`. A connection that fails ends alone, and
-/// is no fault.
+/// `faults`: `error: memory`, `error: output`, `error: thread`, `error: socket`, or the port and why it cannot be listened on.
+/// A connection that fails ends alone, and is no fault.
 pub fn serve<
     R: Net<Listener = TcpListener, Stream = TcpStream> + Threads + Wait + Clock + Sync,
     I: Read + Drop,
@@ -252,7 +261,7 @@ pub fn serve<
     match serve_all(rt, alloc, service, until, output) {
         Ok(()) => 0,
         Err(fault) => {
-            let _told = send(faults, fault.line().as_bytes());
+            let _told = send(faults, fault.line(service.port).as_bytes());
             1
         }
     }

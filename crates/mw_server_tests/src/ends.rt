@@ -82,10 +82,8 @@ fn port_in_use(rt: HostRuntime) -> Result<(), Fail> {
     );
     assert_eq!(rt; status, 1);
     assert!(rt; output.into_inner().is_empty());
-    assert_eq!(rt;
-        faults.into_inner().as_slice(),
-        b"error: socket\n".as_slice()
-    );
+    let line = format!(in alloc; "error: socket: port {port}: taken\n")?;
+    assert_eq!(rt; faults.into_inner().as_slice(), line.as_bytes());
     Ok(())
 }
 

@@ -6,9 +6,17 @@
 #![tactic(auto)]
 
 #[cfg(test)]
+mod bounds;
+#[cfg(test)]
 mod client;
 #[cfg(test)]
 mod ends;
+#[cfg(test)]
+mod jobs;
+#[cfg(test)]
+mod one_way;
+#[cfg(test)]
+mod performed;
 #[cfg(test)]
 mod sessions;
 #[cfg(test)]

@@ -49,6 +49,10 @@ impl Stage {
         self.is_over.store(true, Ordering::SeqCst);
         heard
     }
+
+    pub fn has_ended(&self) -> bool {
+        self.is_over.load(Ordering::SeqCst)
+    }
 }
 
 /// What the service writes its line to.

@@ -10,7 +10,7 @@ use std::test::Fail;
 use std::time::{Clock, Duration};
 
 /// The bytes of a picture of 1024 x 1024 samples, behind a line that loads it.
-fn picture(alloc: Global) -> io::Result<Vec<u8>> {
+pub(crate) fn picture(alloc: Global) -> io::Result<Vec<u8>> {
     let mut bytes = Vec::new(alloc);
     bytes.extend_from_slice(b"LOAD large 1048593\nP5\n1024 1024\n255\n")?;
     for n in 0..1_048_576u32 {

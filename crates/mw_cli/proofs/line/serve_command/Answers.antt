@@ -4,21 +4,20 @@ use Rattle.std.proofs.lemmas.Result.{IfOk-weaker}
 use Rattle.clap.specs.Words.{app_of, new_app, rule_of, with_rule}
 use Rattle.clap.specs.declared.builder.arg.Arg.{Arg}
 use Rattle.mw_cli.specs.CommandLine.{HasNoGlobals}
-use Rattle.mw_cli.proofs.CommandReads.{about_has_no_globals, about_keeps_words}
 use Rattle.mw_cli.proofs.line.serve_command.Goals as goal
 
 pub returns : goal.returns
 returns c =
     let port_is = c.usual_option.ensures.rule in
     let port_own = c.usual_option.ensures.local in
-    let head : app_of c.about.result ≡ new_app (codes "serve") = about_keeps_words _ _ _ c.about.ensures ∙ c.new.ensures.app in
+    let head : app_of c.job_command.result ≡ new_app (codes "serve") = c.job_command.ensures.words in
     let first = c.in_ok-arg.ensures.shape port_own ∙ ap₂ with_rule head port_is in
     let second = c.in_ok-arg-2.ensures.shape c.usual_option-2.ensures.local ∙ ap₂ with_rule first c.usual_option-2.ensures.rule in
     let third = c.in_ok-arg-3.ensures.shape c.usual_option-3.ensures.local ∙ ap₂ with_rule second c.usual_option-3.ensures.rule in
     let fourth = c.in_ok-arg-4.ensures.shape c.tile_option.ensures.local ∙ ap₂ with_rule third c.tile_option.ensures.rule in
     let fifth = c.in_ok-arg-5.ensures.shape c.idle_option.ensures.local ∙ ap₂ with_rule fourth c.idle_option.ensures.rule in
     let both : Bool → Bool → Bool = λ x y. x || y in
-    let free : HasNoGlobals c.about.result = about_has_no_globals _ _ _ c.about.ensures c.new.ensures.local in
+    let free : HasNoGlobals c.job_command.result = c.job_command.ensures.local in
     let free_1 = c.in_ok-arg.ensures.globals ∙ ap₂ both free port_own in
     let free_2 = c.in_ok-arg-2.ensures.globals ∙ ap₂ both free_1 c.usual_option-2.ensures.local in
     let free_3 = c.in_ok-arg-3.ensures.globals ∙ ap₂ both free_2 c.usual_option-3.ensures.local in

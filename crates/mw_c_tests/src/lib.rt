@@ -1,0 +1,33 @@
+//! Tests of what C calls: each function by a worked example and beside the plain program, at full size, and with each refusal,
+//! first fault first, that leaves the caller's array as it was. No contract can rule out that a call tells want of memory from
+//! some size on; here it would fail a test.
+//!
+//! ```text
+//! rt test     // in this folder
+//! ```
+#![tactic(auto)]
+
+#[cfg(test)]
+mod beside_plain;
+#[cfg(test)]
+mod bytes;
+#[cfg(test)]
+mod faulty;
+#[cfg(test)]
+mod given;
+#[cfg(test)]
+mod made;
+#[cfg(test)]
+mod plain_ways;
+#[cfg(test)]
+mod refusals;
+#[cfg(test)]
+mod scenes;
+#[cfg(test)]
+mod sizes;
+#[cfg(test)]
+mod wide_sizes;
+#[cfg(test)]
+mod words;
+#[cfg(test)]
+mod worked;
