@@ -475,25 +475,25 @@ def of_installing(dist, uninstall="uninstall"):
     """`make install` brings the files of the list, each of which `make uninstall` takes away."""
     place, around = dist.new("installed"), without_kit(dist.room)
     built = f"BUILT={dist.built.program.resolve()} {dist.built.library.resolve()}"
-    words = ["make", "--silent", "-C", ROOT, built, "PREFIX=/opt/m", f"DESTDIR={place}"]
+    words = ["make", "--silent", "-C", ROOT, built, "PREFIX=/prefix", f"DESTDIR={place}"]
     bad = fault_of([*words, "install"], env=around, umask=0o077)
     if bad:
         yield bad
-    wanted = {it.path: it for it in layout.items(dist.built, layout.Place("/opt/m"))}
-    found = set(archives.all_below(place / "opt/m"))
+    wanted = {it.path: it for it in layout.items(dist.built, layout.Place("/prefix"))}
+    found = set(archives.all_below(place / "prefix"))
     for name in sorted(set(wanted) ^ found):
         yield f"{name} is {'not ' * (name in wanted)}installed"
     for name in sorted(set(wanted) & found):
-        path, item = place / "opt/m" / name, wanted[name]
+        path, item = place / "prefix" / name, wanted[name]
         if not item.link and (path.stat().st_mode & 0o777, path.read_bytes()) != (item.mode, item.content()):
             yield f"{name} is installed with another mode or other bytes"
-    if any(it.is_dir() and it.stat().st_mode & 0o777 != 0o755 for it in (place / "opt/m").rglob("*")):
+    if any(it.is_dir() and it.stat().st_mode & 0o777 != 0o755 for it in (place / "prefix").rglob("*")):
         yield "folders are installed that not all may read"
-    (place / "opt/m/bin/other").touch()
+    (place / "prefix/bin/other").touch()
     bad = fault_of([*words, uninstall], env=around)
     if bad:
         yield bad
-    if archives.all_below(place) != ["opt/m/bin/other"]:
+    if archives.all_below(place) != ["prefix/bin/other"]:
         yield f"make uninstall leaves {', '.join(archives.all_below(place))}"
     yield from called(dist)
 
