@@ -1,5 +1,5 @@
 # `make` alone lists the targets. docs/dev/TESTS.md says what each of them tests.
-.PHONY: help demo morphd library check-library install uninstall dist check-dist test wrong-bodies documents memory soak bench costs toolchain python3 compiler valgrind
+.PHONY: help demo morphd library check-library install uninstall dist check-dist quick test wrong-bodies documents memory soak bench costs toolchain python3 compiler valgrind
 
 MORPHD = crates/morphd/out/morphd
 
@@ -11,7 +11,8 @@ help:
 	@echo "make install    puts what is built into PREFIX, which is /usr/local if left out; make uninstall takes it away"
 	@echo "make dist       packs what is built into out/dist: a tarball, a wheel, and Debian's packages; it needs no rt"
 	@echo "make check-dist makes them twice, looks at them, and installs, tries and removes them in bare roots of Debian"
-	@echo "make test       the gate: proves every crate from nothing, tries the must-fail edits, runs programs and tests"
+	@echo "make quick      what needs no proof, in minutes: documents, sessions on a trial build, the Python tests over stand-ins"
+	@echo "make test       the gate: make quick; then proves every crate from nothing, tries the must-fail edits, runs programs and tests"
 	@echo "make wrong-bodies  tries the wrong bodies of each crate that changed, or of CRATES"
 	@echo "make documents  compares the documents with the repository, replays their examples, and compares header and proved functions"
 	@echo "make memory     refuses each allocation and each start of a thread in turn, and measures memory"
@@ -37,18 +38,31 @@ valgrind:
 	@command -v valgrind >/dev/null || { \
 	  echo "valgrind is missing: install Debian's package valgrind" >&2; exit 1; }
 
-test: toolchain python3 documents
+# What can be known before anything is proved. `make test` begins with it, so that hours of proofs are not for nothing.
+quick: toolchain python3 documents
 	@python3 -B checks/no_leaks.py
 	@python3 -B checks/laid_out.py
 	@python3 -B checks/thin_rows.py --test
 	@python3 -B checks/thin_rows.py
+	@python3 -B checks/edits.py --test
+	@python3 -B checks/edits.py
 	@python3 -B checks/wrong_bodies.py --test
 	@python3 -B checks/wrong_bodies.py --list
 	@python3 -B checks/prove.py --test
 	@python3 -B checks/passed.py --test
+	@python3 -B checks/gate.py --test
+	@python3 -B checks/replay_stored_run.py --test
 	@python3 -B checks/python_package.py needs
-	rt ci
-	@python3 -B checks/python_package.py test
+	@python3 -B checks/replay.py --test
+	@python3 -B checks/gate.py unproved
+
+test: quick
+	@python3 -B checks/gate.py proofs
+	@python3 -B checks/gate.py built
+	@python3 -B checks/replay_served.py --test $(MORPHD)
+	@python3 -B checks/reached.py --test
+	@python3 -B checks/reached.py $(MORPHD)
+	@python3 -B checks/wrong_bodies.py --few
 	@python3 -B checks/passed.py
 
 # What runs nowhere by itself writes into checks/passed.txt on which commit it passed: on that which stood here when it began.
@@ -124,15 +138,15 @@ demo: toolchain python3
 	@python3 examples/demo.py proved
 
 memory: toolchain python3 compiler
-	@python3 -B checks/prove.py morphd mw_memory_tests mw_machine_tests mw_direct_tests mw_strips_tests mw_waking_tests
+	@python3 -B checks/prove.py morphd mw_memory_tests mw_core_tests mw_direct_tests mw_strips_tests mw_pool_tests
 	@python3 -B checks/refused_memory.py $(MORPHD)
 	@python3 -B checks/fetch_memory.py $(MORPHD)
 	@python3 -B checks/set_memory.py $(MORPHD)
 	@python3 -B checks/refused_tests.py crates/mw_memory_tests/out/mw_memory_tests_tests
-	@python3 -B checks/refused_tests.py crates/mw_machine_tests/out/mw_machine_tests_tests
+	@python3 -B checks/refused_tests.py crates/mw_core_tests/out/mw_core_tests_tests
 	@python3 -B checks/refused_tests.py crates/mw_direct_tests/out/mw_direct_tests_tests
 	@python3 -B checks/refused_tests.py crates/mw_strips_tests/out/mw_strips_tests_tests
-	@python3 -B checks/refused_tests.py crates/mw_waking_tests/out/mw_waking_tests_tests
+	@python3 -B checks/refused_tests.py crates/mw_pool_tests/out/mw_pool_tests_tests
 	@python3 -B checks/passed.py $@ $(BEGUN)
 
 # Each of the three soaks for as long as is asked for, and by a seed if one is given: make soak FOR=600 SEED=one
@@ -148,18 +162,17 @@ soak: toolchain python3
 	@python3 -B checks/soak_serve.py $(MORPHD) $(FOR) $(SEED)
 	@python3 -B checks/passed.py $@ $(BEGUN)
 
-# Best on a machine that does nothing else: each line is the best of five runs in one thread (of `bench_core` and
-# `bench_board` the best of three, of the latter also with workers). The C library is told to
-# keep what is freed, so that copies, reads and writes alike find memory that the system has given already. Without the
-# word `measure`, as where they are built, the programs end at once.
+# Best on a machine that does nothing else: each line is the best of five runs in one thread (of `bench_core` the best of
+# three, of the board also with workers). The C library is told to keep what is freed, so that copies, reads and writes
+# alike find memory that the system has given already. Without words, as where they are built, the programs end at once.
 KEEP = MALLOC_MMAP_MAX_=0 MALLOC_TRIM_THRESHOLD_=17179869184
 
 bench: toolchain python3
-	@python3 -B checks/prove.py morphd bench_files bench_kernels bench_core bench_board
-	$(KEEP) crates/bench_files/out/bench_files measure
+	@python3 -B checks/prove.py morphd bench_kernels bench_core
+	$(KEEP) crates/bench_kernels/out/bench_kernels measure files
 	$(KEEP) crates/bench_kernels/out/bench_kernels measure all
-	crates/bench_core/out/bench_core measure
-	crates/bench_board/out/bench_board measure
+	crates/bench_core/out/bench_core measure core
+	crates/bench_core/out/bench_core measure board
 	python3 bench/command.py $(MORPHD)
 	python3 -B bench/operations.py $(MORPHD)
 	python3 bench/workers.py $(MORPHD)

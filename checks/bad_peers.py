@@ -9,31 +9,14 @@ It prints a line for each kind of client, and ends with status 1 at the first on
 """
 import os
 import socket
-import struct
 import sys
 import time
 
+from peers import ERODED, FETCHES, GIVEN, GIVEN_REPLIES, LONGEST, PICTURE, Wrong, hang_up, must_be
 from server import NoAnswer, Server, free_port
 
-GIVEN = b"LOAD f 19\nP2\n5 1\n9\n3 1 4 1 5\nELEMENT b 1 0 11\nP1\n3 1\n111\n"
-GIVEN_REPLIES = [b"OK 0\n", b"OK 1\n"]
-ERODED = b"P5\n5 1\n9\n" + bytes([1, 1, 1, 1, 1])
-# The longest payload that a line may announce, and a picture that fills what sockets hold when it is asked for often enough.
-LONGEST = 134217728
-SIDE = 2048
-PICTURE = b"P5\n%d %d\n255\n" % (SIDE, SIDE) + bytes(range(256)) * (SIDE * SIDE // 256)
-FETCHES = 16
 # What a server may take for each connection and each megabyte that came, in kB, besides what came.
 SLACK = 8192
-
-
-class Wrong(Exception):
-    """The server did something else than it must."""
-
-
-def must_be(found, wanted, what):
-    if found != wanted:
-        raise Wrong("%s: %r in the place of %r" % (what, found, wanted))
 
 
 class GoodClient:
@@ -64,12 +47,6 @@ def ends_well(server, good):
     good.goes_on()
     good.ends()
     must_be(server.end(), (0, b""), "the server's end")
-
-
-def hang_up(client):
-    """Closes the connection at once: what comes from then on is answered by a reset."""
-    client.wire.setsockopt(socket.SOL_SOCKET, socket.SO_LINGER, struct.pack("ii", 1, 0))
-    client.wire.close()
 
 
 def breaks_off(program, sent, replies, said):

@@ -14,14 +14,9 @@ import subprocess
 import sys
 import time
 
-from bad_peers import ERODED, LONGEST, SLACK, Wrong, hang_up, must_be
+from bad_peers import SLACK
+from peers import ERODE, FETCHES, LONGEST, PICTURE, REPLIES, Wrong, hang_up, must_be
 from server import NoAnswer, Server, Service
-
-ERODE = b"LOAD f 19\nP2\n5 1\n9\n3 1 4 1 5\nELEMENT b 1 0 11\nP1\n3 1\n111\nRUN e ERODE f b\nFETCH e\n"
-REPLIES = [(b"OK 0\n", b""), (b"OK 1\n", b""), (b"OK 2\n", b""), (b"IMAGE 2 14\n", ERODED)]
-SIDE = 2048
-PICTURE = b"P5\n%d %d\n255\n" % (SIDE, SIDE) + bytes(range(256)) * (SIDE * SIDE // 256)
-FETCHES = 16
 
 
 def goes_on(service):

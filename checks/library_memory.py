@@ -2,7 +2,7 @@
 checks/counted_calls.c, and held against what may be.
 
 A call by strips takes what one strip needs, and no more on a picture four times as high. A filter takes a plane besides, at one
-go, and all others but a restoration four planes at most. A call that asks more often does something anew for each row or strip
+go, and all others a few, however many levels there are. A call that asks more often does something anew for each row or strip
 that it could have kept. All ask before they write the first sample, and answer 50 where they get nothing.
 """
 import sys
@@ -34,10 +34,10 @@ MOST = {
     # the plane has a bit a pixel
     "closing_set_disc_15": (1 / 8, STRIP, 165, 3016376),
     "hit_or_miss_u8_box_1": (4, MIB / 8, 48, 16778288),
-    "skeleton_2_levels": (4, 0, 75, 11011664),
-    "skeleton_254_levels": (4, 0, 4148, 11066848),
-    # the set of each of the levels has a bit a pixel
-    "restore_254_levels": (34, 0, 4214, 138480624),
+    # these keep sets of a bit a pixel beside planes of a byte: one set more that is kept, and they are over what they may
+    "skeleton_2_levels": (2.75, 0, 75, 11011664),
+    "skeleton_254_levels": (2.75, 0, 4148, 11066848),
+    "restore_254_levels": (1.5, 0, 4214, 5840280),
     "spectrum_u8_32_levels": (4, MIB / 2, 20846, 4372040),
 }
 

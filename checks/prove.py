@@ -225,6 +225,21 @@ def linked(source, target):
         shutil.copytree(source, target, copy_function=os.link)
 
 
+def pace_of(took, timed):
+    """How many seconds this machine takes for one of the timed machine's, by the seconds that timed work took here."""
+    return (took + SECONDS_TO_TRUST) / (timed + SECONDS_TO_TRUST)
+
+
+def seconds_of(rest, chains, lanes):
+    """The seconds of the rest of the work over all processors, or of its longest chain of crates, whichever is more."""
+    return max([sum(rest) / lanes, *(it / 1.5 for it in chains)], default=0)
+
+
+def rest_of(expected, spent):
+    """The seconds that work still takes: what is over its time is taken to need a third of it more."""
+    return max(expected - spent, spent / 3)
+
+
 class Proving:
     """All crates that are to be proved: those that wait, those that run, and those that are done."""
 
@@ -242,19 +257,16 @@ class Proving:
         """How many seconds this machine takes for one of the timed machine's, by the crates that are done."""
         # What `rt` kept elsewhere on this machine takes seconds, and says nothing of the others.
         new = [it for it in self.done if it.seconds > SECONDS_AS_IT_WAS and it.took > it.seconds / 10]
-        took, timed = sum(it.took for it in new), sum(it.seconds for it in new)
-        return (took + SECONDS_TO_TRUST) / (timed + SECONDS_TO_TRUST)
+        return pace_of(sum(it.took for it in new), sum(it.seconds for it in new))
 
     def seconds_left(self):
         """The rest of the work over all processors, or that of the longest chain of crates, whichever is more."""
         pace, now = self.pace(), time.monotonic()
         rest = {it.name: pace * it.seconds for it in self.waiting}
         for it in self.running:
-            spent = it.jobs * (now - it.began)
-            # A crate that is over its time is taken to need a third of it more.
-            rest[it.name] = max(pace * it.seconds - spent, spent / 3)
+            rest[it.name] = rest_of(pace * it.seconds, it.jobs * (now - it.began))
         chains = [pace * (self.chains[name] - self.crates[name].seconds) + it for name, it in rest.items()]
-        return max([sum(rest.values()) / self.lanes, *(it / 1.5 for it in chains)], default=0)
+        return seconds_of(rest.values(), chains, self.lanes)
 
     def say(self, what):
         running = ", ".join(it.name for it in self.running)

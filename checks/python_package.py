@@ -3,6 +3,7 @@
 
     python3 checks/python_package.py test     its tests, over the library that is built, or over a slow stand-in
     python3 checks/python_package.py built    the same, where a library and all that the tests take has to be there
+    python3 checks/python_package.py program  those of its tests that start the program, which has to be built
     python3 checks/python_package.py needs    fails where what the tests cannot do without is missing
     python3 checks/python_package.py lacks    prints Debian's packages of what the tests take and its Python lacks
     python3 checks/python_package.py wheel    out/morphd-VERSION-py3-none-PLATFORM.whl, with the library in it
@@ -12,6 +13,7 @@ and what is skipped for that. It takes the Python that has most of them, or the 
 """
 import glob
 import os
+import re
 import shutil
 import subprocess
 import sys
@@ -100,14 +102,31 @@ def environment(room):
     return kept
 
 
-def test(is_strict):
+def of_the_program():
+    """The files of tests that start the program, or its server."""
+    files = sorted(glob.glob(os.path.join(ROOT, "python", "tests", "test_*.py")))
+    found = []
+    for path in files:
+        with open(path, encoding="utf-8") as file:
+            if re.search(r"def test_\w+\([^)]*\b(?:program|server)\b", file.read()):
+                found.append(os.path.relpath(path, os.path.join(ROOT, "python")))
+    return found
+
+
+def program():
+    if not os.path.exists(PROGRAM) or not of_the_program():
+        sys.exit("python package: the program is not built, or no test starts it")
+    return test(False, of_the_program())
+
+
+def test(is_strict, files=()):
     python, missing = missing_modules()
     tell(python, missing)
     check_needed(missing)
     if is_strict and (missing or not os.path.exists(LIBRARY)):
         sys.exit("python package: not tested; `make library` builds the library, and apt-get install gets the packages")
     with tempfile.TemporaryDirectory() as room:
-        command = [python, "-m", "pytest", "-q", "-p", "no:cacheprovider", *sys.argv[2:]]
+        command = [python, "-m", "pytest", "-q", "-p", "no:cacheprovider", *files, *sys.argv[2:]]
         return subprocess.run(command, cwd=os.path.join(ROOT, "python"), env=environment(room), check=False).returncode
 
 
@@ -159,7 +178,7 @@ def try_out(python, made, place):
 
 
 def main():
-    work = {"test": lambda: test(False), "built": lambda: test(True), "needs": needs, "lacks": lacks, "wheel": wheel}
+    work = {"test": lambda: test(False), "built": lambda: test(True), "program": program, "needs": needs, "lacks": lacks, "wheel": wheel}
     if len(sys.argv) < 2 or sys.argv[1] not in work:
         sys.exit(__doc__)
     sys.exit(work[sys.argv[1]]())

@@ -162,9 +162,9 @@ class Writer:
         return data[:self.chance.randrange(len(data) + 1)] if kind == 9 else data
 
 
-def written(chance):
-    """A random session."""
-    writer = Writer(chance)
+def written(chance, kind=Writer):
+    """A random session, by a writer of this kind."""
+    writer = kind(chance)
     for _ in range(chance.randint(1, 3)):
         writer.load()
     for _ in range(chance.randint(1, 4)):

@@ -3,6 +3,9 @@
 machine of checks/plain_model.py: every reply has to be the machine's, but for one mark of the refused allocation. A mark is
 a request that is answered 50, a pending entry that is killed before work is done, or the end of the session by 50.
 
+With `--strict` the status is 3 exactly where it would be 0 and a request was answered 50, in a session that is answered no
+other refusal.
+
 By four workers each start of a thread is refused in turn, too, alone and with all behind it: output and status have to
 stay the same. Then each allocation is refused where threads can be started and where none can. `morphd listen` with a
 start refused has to end with `error: thread`.
@@ -29,6 +32,7 @@ FIVE = b"LOAD f 19\nP2\n5 1\n9\n3 1 4 1 5\n"
 BAR = b"ELEMENT b 1 0 11\nP1\n3 1\n111\n"
 SESSIONS = {
     "erosion": FIVE + BAR + b"RUN e ERODE f b\nFETCH e\nRUN e ERODE f b\nRUN g DILATE e b\nSTATUS g\nFETCH e\n",
+    "accepted": FIVE + BAR + b"RUN e ERODE f b\nRUN d DILATE e b\nSTATUS d\nFETCH e\nFETCH d\n",
     "dependents": FIVE + BAR + b"RUN a ERODE f b\nRUN c DILATE a b\nCANCEL a\nSTATUS c\nRUN d DILATE f b\n"
                   b"RUN e ERODE d b\nRUN g ERODE e b\nWAIT g\nFETCH d\nFETCH e\nFETCH g\nSTATUS b\nFETCH b\n",
     "release": FIVE + BAR + b"RUN e ERODE f b\nRELEASE e\nRELEASE f\nRUN g DILATE f b\nSTATUS f\nFETCH e\nRELEASE f\n"
@@ -116,6 +120,8 @@ Run = collections.namedtuple("Run", "status written told calls starts")
 
 MEMORY = "MEMORY"
 LACK = b"ERR 50 MEMORY\n"
+LACKED = "a request was answered 50"
+ENDED = "the session was ended"
 
 
 class Entry(plain_model.Entry):
@@ -219,7 +225,7 @@ def following(state, asked, written):
         if written.startswith(text, at):
             found.append((after, at + len(text), kill or mark))
         if free and not kill and not is_taken(session, asked) and written.startswith(LACK, at):
-            found.append((met, at + len(LACK), "a request was answered 50"))
+            found.append((met, at + len(LACK), LACKED))
     return found
 
 
@@ -227,18 +233,19 @@ def is_end(state, word, written, status):
     """The mark with which the session may have ended here, where it did."""
     _, at, mark = state
     if mark == "nothing" and status == 1 and written[at:] == LACK:
-        return "the session was ended"
+        return ENDED
     return mark if word == "QUIT" and status == 0 and at == len(written) else None
 
 
 def explained(asked, written, status):
-    """The one mark with which the machine writes this and ends so, 'nothing' without one, or None."""
+    """The one mark with which the machine writes this and ends so, 'nothing' without one, or None; and in which line of
+    requests it ended."""
     states, ended = [(Session(), 0, "nothing")], []
-    for request in asked:
-        ended += [end for state in states for end in [is_end(state, request[0], written, status)] if end]
+    for line, request in enumerate(asked, 1):
+        ended += [(end, line) for state in states for end in [is_end(state, request[0], written, status)] if end]
         if request[0] != "QUIT":
             states = [after for state in states for after in following(state, request, written)]
-    return next(iter(ended), None)
+    return next(iter(ended), (None, None))
 
 
 def built_refuser():
@@ -282,7 +289,9 @@ def mark_of(asked, made):
     """The mark with which this run is the machine's, or None."""
     if made.status == 1 and not made.written and made.told == b"error: memory\n":
         return "the program did not begin"
-    return None if made.told else explained(asked, made.written, made.status)
+    mark, line = explained(asked, made.written, made.status)
+    told = b"error: line %d: no memory for it\n" % line if mark == ENDED else b""
+    return mark if made.told == told else None
 
 
 def differs(name, refused, made):
@@ -305,6 +314,22 @@ def refuse_allocations(program, words, name, session, count, starts=(0, 0)):
     print("%s: %d allocations refused in turn; %s" % (
         name, sum(found.values()), ", ".join("%d times %s" % (n, mark) for mark, n in sorted(found.items()))))
     return bad
+
+
+def refuse_strictly(program, count):
+    """Runs a session that is answered no refusal strictly, with each allocation refused in turn, and says how many runs
+    ended otherwise than told: with 3 exactly where a request was answered 50."""
+    asked, alone, bad, last, number = requests(SESSIONS["accepted"]), 0, 0, 0, 0
+    while number <= last:
+        made = run(program, ["--workers", "1", "--strict"], SESSIONS["accepted"], count, number)
+        last = max(last, made.calls) if number else made.calls
+        mark = mark_of(asked, made._replace(status=0) if made.status == 3 else made)
+        if mark is None or (made.status == 3) != (mark == LACKED):
+            bad += differs("strict", "allocation %d" % number, made)
+        alone += made.status == 3 and made.written.count(b"ERR") == 1
+        number += 1
+    print("strict: %d allocations refused in turn, %d times status 3 for one ERR 50 alone" % (last, alone))
+    return bad or not alone
 
 
 def refuse_starts(program, words, name, session, count):
@@ -366,7 +391,7 @@ def listen(program, count, starts=(0, 0)):
 def refuse_starts_of_listen(program, count):
     """Runs a server with each start of a thread refused in turn, and says how many runs ended in another way than told."""
     whole, bad = listen(program, count), 0
-    if whole.status != 0 or whole.told or explained(requests(LISTENED), whole.written, 0) != "nothing" or not whole.starts:
+    if whole.status != 0 or whole.told or explained(requests(LISTENED), whole.written, 0)[0] != "nothing" or not whole.starts:
         bad += differs("listen", "%d starts" % whole.starts, whole)
     for first in range(1, whole.starts + 1):
         made = listen(program, count, (first, first))
@@ -389,6 +414,7 @@ def main():
             bad += refuse_allocations(program, ["--workers", "1"], name, session, count)
         for name, session in (given or FOUR_WORKERS).items():
             bad += refuse_by_four(program, name, session, count)
+        bad += refuse_strictly(program, count)
         bad += refuse_starts_of_listen(program, count)
     sys.exit(bad != 0)
 

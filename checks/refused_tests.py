@@ -17,11 +17,10 @@ from refused_memory import built_refuser, counted, refusing
 
 MODULES = {
     "mw_memory_tests_tests": ["files", "makers", "medians", "results", "sharing"],
-    "mw_machine_tests_tests": ["machine_calls", "machine_owners", "machine_results"],
-    "mw_core_tests_tests": ["refused"],
+    "mw_core_tests_tests": ["calls", "events", "owners", "results"],
     "mw_direct_tests_tests": ["memory"],
     "mw_strips_tests_tests": ["memory"],
-    "mw_waking_tests_tests": ["refused"],
+    "mw_pool_tests_tests": ["refused"],
 }
 SECONDS = 60
 

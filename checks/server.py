@@ -1,5 +1,5 @@
-"""Starts and stops a `morphd listen` or a `morphd serve`, and speaks to it as a client. Whatever waits here has a time limit,
-and says what it waited for when that is over.
+"""Starts and stops a `morphd listen` or a `morphd serve`, and speaks to it as a client, or to a `morphd batch` through pipes.
+Whatever waits here has a time limit, and says what it waited for when that is over.
 """
 import os
 import random
@@ -11,7 +11,7 @@ import subprocess
 import time
 
 # How long a client waits for a reply, and a server for its start or its end, in seconds.
-PATIENCE = 60.0
+PATIENCE = float(os.environ.get("PATIENCE", "60"))
 
 
 class NoAnswer(Exception):
@@ -35,12 +35,12 @@ def free_port():
 
 
 class Server:
-    """A server that serves so many connections and then ends."""
+    """A server that serves so many connections and then ends. More words may stand on its command line."""
 
-    def __init__(self, program, sessions, workers=2, tile=128, port=None):
+    def __init__(self, program, sessions, workers=2, tile=128, port=None, more=()):
         self.port = port or free_port()
         words = {"--port": self.port, "--workers": workers, "--sessions": sessions, "--tile": tile}
-        words = [str(word) for pair in words.items() for word in pair]
+        words = [str(word) for pair in words.items() for word in pair] + list(more)
         pipes = {"stdin": subprocess.DEVNULL, "stdout": subprocess.DEVNULL, "stderr": subprocess.PIPE}
         self.run = subprocess.Popen([program, "listen", *words], **pipes)
 
@@ -80,6 +80,10 @@ class Server:
         with open("/proc/%d/status" % self.run.pid, encoding="ascii") as rows:
             return int(re.search(word + r":\s*(\d+) kB", rows.read()).group(1))
 
+    def threads(self):
+        """How many threads it has."""
+        return len(os.listdir("/proc/%d/task" % self.run.pid))
+
     def processor_seconds(self):
         """The processor time that it has used."""
         with open("/proc/%d/stat" % self.run.pid, encoding="ascii") as row:
@@ -100,8 +104,8 @@ class Server:
 class Service(Server):
     """A `morphd serve`, which ends when its standard input does. It says on which port it listens."""
 
-    def __init__(self, program, sessions, workers=1, tile=128, idle=None, descriptors=None, settings=()):
-        words = ["--sessions", sessions, "--workers", workers, "--tile", tile] + (["--idle", idle] if idle else [])
+    def __init__(self, program, sessions, workers=1, tile=128, idle=None, descriptors=None, settings=(), more=()):
+        words = ["--sessions", sessions, "--workers", workers, "--tile", tile] + (["--idle", idle] if idle else []) + list(more)
         pipes = {"stdin": subprocess.PIPE, "stdout": subprocess.PIPE, "stderr": subprocess.PIPE}
         few = (lambda: resource.setrlimit(resource.RLIMIT_NOFILE, (descriptors, descriptors))) if descriptors else None
         words = [program, "serve", "--until-end", *map(str, words)]
@@ -194,3 +198,54 @@ class Client:
         while self.more("end"):
             pass
         return self.taken(len(self.held))
+
+
+class Pipes:
+    """The pipes to a process and from it, as a wire."""
+
+    def __init__(self, run):
+        self.run, self.patience = run, PATIENCE
+
+    def settimeout(self, patience):
+        self.patience = patience
+
+    def setsockopt(self, *_):
+        """Pipes have no such options."""
+
+    def recv(self, most):
+        if not select.select([self.run.stdout], [], [], self.patience)[0]:
+            raise socket.timeout
+        return os.read(self.run.stdout.fileno(), most)
+
+    def sendall(self, data):
+        self.run.stdin.write(data)
+        self.run.stdin.flush()
+
+    def shutdown(self, _):
+        self.run.stdin.close()
+
+    def close(self):
+        for pipe in (self.run.stdin, self.run.stdout, self.run.stderr):
+            pipe.close()
+
+
+class Talk(Client):
+    """A `morphd batch`, spoken to through pipes."""
+
+    def __init__(self, program, words=(), patience=PATIENCE):
+        pipes = {name: subprocess.PIPE for name in ("stdin", "stdout", "stderr")}
+        self.run = subprocess.Popen([program, "batch", *words], **pipes)
+        super().__init__(Pipes(self.run), patience)
+
+    def __exit__(self, *_):
+        self.run.kill()
+        self.run.wait()
+        super().__exit__()
+
+    def end(self):
+        """Its exit status and what it told of faults, once it has ended."""
+        try:
+            status = self.run.wait(self.patience)
+        except subprocess.TimeoutExpired:
+            raise NoAnswer("the batch did not end in %.0f s" % self.patience) from None
+        return status, self.run.stderr.read()

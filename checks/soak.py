@@ -47,9 +47,21 @@ def ran(program, session, side):
     return made.stdout, made.returncode, made.stderr
 
 
-def differs(made, output, status):
-    """Whether the program wrote something else than the model, ended otherwise, or told of a fault."""
-    return made != (output, status, b"")
+REASONS = {b"LINE": b"no request", b"LENGTH": b"a payload of more than 134217728 bytes", b"CUT": b"the input ends inside it"}
+
+
+def told_of(output, status, requests):
+    """What is told of a session with this output and status that had so many requests: which request ended it, and why."""
+    if status == 0:
+        return b""
+    word = output.split()[-1]
+    hint = b" (a picture, as PGM or PBM, comes behind LOAD)" if word == b"LINE" and requests == 0 else b""
+    return b"error: line %d: %s%s\n" % (requests + 1, REASONS[word], hint)
+
+
+def differs(made, output, status, requests):
+    """Whether the program wrote something else than the model, ended otherwise, or told something else of its end."""
+    return made != (output, status, told_of(output, status, requests))
 
 
 def spoiled_outputs(made):
@@ -67,9 +79,10 @@ WORKED = (b"LOAD f 19\nP2\n5 1\n9\n3 1 4 1 5\nELEMENT b 1 0 11\nP1\n3 1\n111\nRU
 
 def notices(program):
     """Whether each spoiled output of a session is seen to differ, and the output itself is not."""
-    output, status, _ = plain_model.served(WORKED)
+    output, status, found = plain_model.served(WORKED)
     made = ran(program, WORKED, SIDES[0])
-    return not differs(made, output, status) and all(differs(spoiled, output, status) for spoiled in spoiled_outputs(made))
+    wanted = (output, status, found["requests"])
+    return not differs(made, *wanted) and all(differs(spoiled, *wanted) for spoiled in spoiled_outputs(made))
 
 
 def keep(session, side, seed, number, made, wanted):
@@ -99,7 +112,7 @@ class Soak:
         output, status, found = plain_model.served(session)
         self.at_work = "the program"
         made = ran(self.program, session, side)
-        if differs(made, output, status):
+        if differs(made, output, status, found["requests"]):
             keep(session, side, self.seed, self.number, made, (output, status))
             sys.exit(1)
         self.counts.update(found)

@@ -4,9 +4,9 @@
     python3 checks/thin_rows.py [--test]
 
 `rt` sums up the sources below a crate along every path of rows, so an entry that another entry of its row reaches costs time in
-each crate above. Rows of libraries have no such entry but `mw_model`, whose words all crates use. On static libraries and crates
-of tests nothing stands, and on some libraries only such crates or libraries of that kind, so these rows name what they use. With
---test it looks at rows that are spoiled.
+each crate above. Rows of libraries have no such entry but `mw_model`, whose words all crates use. On static libraries, crates
+of tests and leaves for wrong bodies (edits_*) nothing stands, and on some libraries only such crates or libraries of that kind, so
+these rows name what they use. With --test it looks at rows that are spoiled.
 """
 import os
 import sys
@@ -36,8 +36,9 @@ def all_below(rows, name):
 
 
 def at_the_top(rows_and_words):
-    """Crates of tests, static libraries, and the libraries on which only these and such libraries stand."""
-    top = {name for name, (_, words) in rows_and_words.items() if name.endswith(("_tests", "_for_tests")) or "staticlib" in words}
+    """Crates of tests, leaves, static libraries, and the libraries on which only these and such libraries stand."""
+    top = {name for name, (_, words) in rows_and_words.items()
+           if name.endswith(("_tests", "_for_tests")) or name.startswith("edits_") or "staticlib" in words}
     users = {name: {it for it, (needs, _) in rows_and_words.items() if name in needs} for name in rows_and_words}
     for _ in rows_and_words:
         top |= {name for name, found in users.items() if found and found <= top}
@@ -66,6 +67,7 @@ def test():
         (rows + "above: top\n", ["crates.txt: top need not name low, which high reaches"]),
         (rows + "top_tests: top\n", []),
         (rows + "top_c staticlib: top\n", []),
+        (rows + "edits_top: top\n", []),
         (rows + "calls: high top\ntop_c staticlib: calls\ncalls_tests: calls\n", []),
         (rows + "calls: top\ntop_c staticlib: calls\nprogram: calls\n", ["crates.txt: top need not name low, which high reaches"]),
     ):

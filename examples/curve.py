@@ -15,7 +15,7 @@ import os
 import sys
 
 sys.path.insert(0, os.path.join(os.path.dirname(os.path.dirname(os.path.realpath(__file__))), "python"))
-from morphd.doubts import cut_area, doubts, rows_of  # noqa: E402
+from morphd.doubts import cut_area, doubts  # noqa: E402
 
 LONGEST = 40
 
@@ -93,7 +93,7 @@ def doubtful(found, grains):
     if grains is not None:
         width, height, marks = pixels(grains)
         if marks.count(1) == found[0]:
-            return doubts(found, width * height, cut_area(rows_of(marks, width), width))
+            return doubts(found, width * height, cut_area(marks, width))
     return doubts(found, is_set=False)
 
 

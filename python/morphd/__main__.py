@@ -123,9 +123,11 @@ SHAPES: dict[str, tuple[Callable[[str], Footprint], str, str]] = {
 }
 
 
-def _shape(name: str) -> Callable[[str], Footprint]:
-    """The reader of an option, with its faults as those of the command line."""
+def _shape(name: str, bitmaps: list[str]) -> Callable[[str], Footprint]:
+    """The reader of an option, with its faults as those of the command line. The names of files that are read go into `bitmaps`."""
     def read(text: str) -> Footprint:
+        if name == "footprint":
+            bitmaps.append(text)
         try:
             return SHAPES[name][0](text)
         except (ValueError, OSError) as fault:
@@ -147,10 +149,10 @@ def _pixel(text: str) -> Pixel:
         raise argparse.ArgumentTypeError(str(fault)) from None
 
 
-def _add_footprint(parser: argparse.ArgumentParser) -> None:
+def _add_footprint(parser: argparse.ArgumentParser, bitmaps: list[str]) -> None:
     group = parser.add_argument_group("footprint, one of").add_mutually_exclusive_group(required=True)
     for name, (_, value, text) in SHAPES.items():
-        group.add_argument(f"--{name}", dest="shape", type=_shape(name), metavar=value, help=text)
+        group.add_argument(f"--{name}", dest="shape", type=_shape(name, bitmaps), metavar=value, help=text)
     parser.add_argument("--origin", type=_pair, metavar="ROW,COLUMN", help="of the footprint; its middle if left out")
     parser.add_argument("--reflected", action="store_true", help="take the reflected footprint")
 
@@ -187,17 +189,18 @@ def _parser() -> argparse.ArgumentParser:
     parser.add_argument("--version", action="version", version=f"morph {__version__}")
     operations = parser.add_subparsers(dest="operation", required=True, metavar="OPERATION")
     for name, text in HELP.items():
-        one = operations.add_parser(name, help=text, description=f"{text[0].upper()}{text[1:]}.", **shown)
+        one, bitmaps = operations.add_parser(name, help=text, description=f"{text[0].upper()}{text[1:]}.", **shown), list[str]()
+        one.set_defaults(bitmaps=bitmaps)
         if name in FLAT or name in ("skeleton", "restored", "spectrum"):
-            _add_footprint(one)
+            _add_footprint(one, bitmaps)
         if name in FLAT or name == "hit-or-miss":
             _add_edges(one, "reflect" if name in ("rank", "median", "percentile") else "ignore")
-        _add_numbers(one, name)
+        _add_numbers(one, name, bitmaps)
         _add_common(one, name)
     return parser
 
 
-def _add_numbers(parser: argparse.ArgumentParser, name: str) -> None:
+def _add_numbers(parser: argparse.ArgumentParser, name: str, bitmaps: list[str]) -> None:
     """The options that one operation has for itself."""
     if name == "rank":
         parser.add_argument("--number", type=int, required=True, metavar="K", help="1 is the least")
@@ -206,8 +209,8 @@ def _add_numbers(parser: argparse.ArgumentParser, name: str) -> None:
     elif name == "threshold":
         parser.add_argument("--at", type=_level, required=True, metavar="K", help="a level, or otsu, which finds one and tells it")
     elif name == "hit-or-miss":
-        parser.add_argument("--hit", type=_shape("footprint"), required=True, metavar="FILE", help="a PBM file")
-        parser.add_argument("--miss", type=_shape("footprint"), metavar="FILE", help="a PBM file; the rest of --hit if left out")
+        parser.add_argument("--hit", type=_shape("footprint", bitmaps), required=True, metavar="FILE", help="a PBM file")
+        parser.add_argument("--miss", type=_shape("footprint", bitmaps), metavar="FILE", help="a PBM file; the rest of --hit if left out")
     elif name in ("skeleton", "restored"):
         parser.add_argument("--levels", type=int, required=True, metavar="L", help="1 to 254")
     elif name == "spectrum":
@@ -290,6 +293,8 @@ class Job:
 
         words = self.words
         maxval = None if loaded.array.dtype == bool else self._maxval(loaded)
+        for doubt in () if words.pixel else loaded.doubts:
+            self._say(f"{doubt}: widths are in pixels, unless --pixel tells a side")
         pixel = words.pixel or loaded.pixel or 1.0
         return measured(loaded.array, self._footprint(), words.sizes, pixel, maxval=maxval, workers=words.workers)
 
@@ -353,7 +358,7 @@ def _check(parser: argparse.ArgumentParser, words: argparse.Namespace) -> None:
         except ValueError as fault:
             parser.error(str(fault))
     try:
-        _targets.check(_targets_of(words), words.files, words.force)
+        _targets.check(_targets_of(words), words.files, words.bitmaps, words.force)
     except _targets.WrongTarget as fault:
         parser.error(str(fault))
 

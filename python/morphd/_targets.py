@@ -98,11 +98,11 @@ def _place(path: str) -> object:
     return (held.st_dev, held.st_ino) if stat.S_ISREG(held.st_mode) else os.path.realpath(path)
 
 
-def check(targets: Sequence[Target], paths: Sequence[str], may_overwrite: bool) -> None:
-    """Refuses results that would go into one file, or over a file that is read."""
+def check(targets: Sequence[Target], paths: Sequence[str], bitmaps: Sequence[str], may_overwrite: bool) -> None:
+    """Refuses results that would go into one file, or over a file that is read: a picture, or a footprint's bitmap."""
     if paths.count("-") > 1:
         raise WrongTarget("-: the standard input is read once")
-    read, taken = {_place(path) for path in paths if path != "-"}, dict[object, str]()
+    read, taken = {_place(path) for path in [*(it for it in paths if it != "-"), *bitmaps]}, dict[object, str]()
     for said, path, file in targets:
         place = _place(file)
         if file == "-":

@@ -1,4 +1,8 @@
-"""The side of a pixel as TIFFs tell it: by TIFF's own resolution, or in a unit that ImageJ names."""
+"""The side of a pixel as TIFFs tell it: by TIFF's own resolution, or in a unit that ImageJ names.
+
+Many programs write the pixels of a screen to the inch where nothing was measured. ImageJ takes 72 of them for no measure, and so do we;
+96 is what programs of Windows write.
+"""
 from __future__ import annotations
 
 import re
@@ -11,6 +15,7 @@ from .pixels import Pixel, pixel_size
 # TIFF's tags of a pixel's side: how many there are to a unit, along rows and along columns, and which unit that is.
 _DESCRIPTION, _ACROSS, _DOWN, _UNIT = 270, 282, 283, 296
 _INCH, CENTIMETRE = 2, 3
+_OF_SCREENS = (72, 96)
 _MOST_OF_A_FRACTION = (1 << 32) - 1
 
 
@@ -20,17 +25,25 @@ def _fraction(value: Any) -> Fraction:
     return Fraction(int(above), int(below)) if below else Fraction(0)
 
 
-def pixel_in(tags: Mapping[int, Any]) -> Pixel | None:
-    """The side of a pixel that the tags of a TIFF tell; None where they tell none, or pixels are no squares.
+def pixel_in(tags: Mapping[int, Any]) -> tuple[Pixel | None, tuple[str, ...]]:
+    """The side of a pixel that the tags of a TIFF tell, and what is doubtful about it. It is None where they tell none, or what is no
+    measure, or pixels are no squares.
 
     The unit is an inch or a centimetre by TIFF's own tag. ImageJ counts in a unit of its own, which it names in the description.
     """
     across, down = _fraction(tags.get(_ACROSS)), _fraction(tags.get(_DOWN))
     if across <= 0 or abs(across - down) > across / 1000:
-        return None
-    micrometres = {_INCH: 25400, CENTIMETRE: 10000}.get(int(tags.get(_UNIT, _INCH)))
-    if micrometres is not None:
-        return Pixel(float(micrometres / across), "µm")
+        return None, ()
+    unit = int(tags.get(_UNIT, _INCH))
+    if unit == _INCH and across in _OF_SCREENS:
+        return None, (f"{across} pixels to the inch are what programs write where nothing was measured, so they are not taken",)
+    if unit in (_INCH, CENTIMETRE):
+        return Pixel(float((25400 if unit == _INCH else 10000) / across), "µm"), ()
+    return _named(tags, across), ()
+
+
+def _named(tags: Mapping[int, Any], across: Fraction) -> Pixel | None:
+    """The side of a pixel in the unit that ImageJ names."""
     told = str(tags.get(_DESCRIPTION, ""))
     named = re.search(r"^unit=(\S+)$", told, re.MULTILINE) if told.startswith("ImageJ=") else None
     if named is None:

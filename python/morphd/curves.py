@@ -24,7 +24,8 @@ from ._calls import Field, Flat, Samples, volumes
 from ._docs import COMPUTES, documented
 from ._library import DILATE, ERODE, OPEN
 from ._numbers import whole
-from .doubts import MOST_LEFT, cut_area, doubts, rows_of
+from ._runs import cut_area
+from .doubts import MOST_LEFT, doubts
 from .errors import Refused
 from .footprints import Footprint
 from .pixels import pixel_size
@@ -261,7 +262,7 @@ def measured(
     else:
         found, gains = _of_family(field, b, threads)
     rows, columns = field.samples.shape
-    cut = cut_area(rows_of(field.samples.tobytes(), columns), columns) if field.is_set else 0
+    cut = cut_area(field.samples) if field.is_set else 0
     return Spectrum(found, b, size, unit, field.is_set, rows * columns, cut, gains)
 
 

@@ -6,51 +6,26 @@ from __future__ import annotations
 
 from collections.abc import Sequence
 
-__all__ = ["MOST_LEFT", "cut_area", "doubts", "rows_of"]
+__all__ = ["MOST_LEFT", "cut_area", "doubts"]
 
 # Over this part of the volume what is left over is too much for a mean.
 MOST_LEFT = 0.1
-_DIGITS = b"01" + bytes(254)
 
 
-def rows_of(pixels: bytes, width: int) -> list[int]:
-    """A number for each row of a set, in which the leftmost pixel is the lowest bit.
-
-    Parameters
-    ----------
-    pixels : bytes
-        A byte for each pixel by rows, 1 in the set and 0 beside it.
-    width : int
-        How long a row is.
-
-    Returns
-    -------
-    list of int
-    """
-    digits = pixels.translate(_DIGITS)[::-1]
-    return [int(digits[at : at + width], 2) for at in reversed(range(0, len(digits), width))]
+def _paint(left: bytearray, at: int) -> tuple[int, int]:
+    """Takes away the run that has a pixel, and gives its ends."""
+    begin, end = left.rfind(0, 0, at) + 1, left.find(0, at)
+    left[begin:end] = bytes(end - begin)
+    return begin, end
 
 
-def _filled(row: int, marks: int) -> int:
-    """The runs of a row that have a mark; each mark is in the row."""
-    # a sum carries from the first mark of a run over all of its pixels behind it
-    marks |= row & ~(row + marks)
-    # and those before it are met in steps of 1, 2, 4, .. pixels, as long as a run has so many
-    step = 1
-    while row:
-        marks |= row & marks >> step
-        row &= row >> step
-        step *= 2
-    return marks
-
-
-def cut_area(rows: Sequence[int], width: int) -> int:
+def cut_area(pixels: bytes, width: int) -> int:
     """The area of the grains that the frame cuts: of those that have a pixel in the outermost rows and columns.
 
     Parameters
     ----------
-    rows : sequence of int
-        The rows of a set, as of `rows_of`. Pixels hang together by sides and corners.
+    pixels : bytes
+        A byte for each pixel by rows, 1 in the set and 0 beside it. Pixels hang together by sides and corners.
     width : int
         How long a row is.
 
@@ -59,18 +34,23 @@ def cut_area(rows: Sequence[int], width: int) -> int:
     int
         In pixels.
     """
-    ends, last = 1 | 1 << (width - 1), len(rows) - 1
-    marks = [row if y in (0, last) else _filled(row, row & ends) for y, row in enumerate(rows)]
-    downwards, upwards = [(y, y - 1) for y in range(1, len(rows))], [(y, y + 1) for y in reversed(range(last))]
-    is_new = True
-    while is_new:
-        is_new = False
-        for y, beside in downwards + upwards:
-            met = marks[beside]
-            if met and (met | met << 1 | met >> 1) & rows[y] & ~marks[y]:
-                marks[y] = _filled(rows[y], marks[y] | (met | met << 1 | met >> 1) & rows[y])
-                is_new = True
-    return sum(bin(row).count("1") for row in marks)
+    # a row of zeros on either side, and a zero behind each row, so no run goes on beyond the frame
+    wide = width + 1
+    rows = [pixels[at : at + width] for at in range(0, len(pixels), width)]
+    left = bytearray(b"\0".join([bytes(wide), *rows, bytes(wide + 1)]))
+    first, last = wide + 1, len(rows) * wide + 1
+    ends = [(at, at + 1) for begin in range(first, last + 1, wide) for at in (begin, begin + width - 1)]
+    # where runs that hang on the frame may lie: each run is met once, however its grain winds
+    places = [(first, first + width), (last, last + width), *ends]
+    area = 0
+    while places:
+        low, high = places.pop()
+        while (at := left.find(1, low, high)) >= 0:
+            begin, end = _paint(left, at)
+            area += end - begin
+            places += ((begin - 1 - wide, end + 1 - wide), (begin - 1 + wide, end + 1 + wide))
+            low = end
+    return area
 
 
 def doubts(volumes: Sequence[int], frame: int | None = None, cut: int = 0, is_set: bool = True) -> list[str]:

@@ -45,12 +45,13 @@ Side = float | str | tuple[float, str]
 
 
 class Loaded(NamedTuple):
-    """What a file holds: an array, the greatest sample that it may have, None for the type's, and the side of a pixel, None
-    where the file tells none."""
+    """What a file holds: an array, the greatest sample that it may have, None for the type's, the side of a pixel, None where
+    the file tells none, and why one that it tells is not taken."""
 
     array: NDArray[Any]
     maxval: int | None
     pixel: Pixel | None = None
+    doubts: tuple[str, ...] = ()
 
 
 class Choice(NamedTuple):
@@ -179,7 +180,7 @@ def _tiff_of_pillow(file: IO[bytes], what: str, choice: Choice) -> Loaded:
     file.seek(0)
     with _needed("PIL.Image", "python3-pil", what).open(file) as image:
         image.seek(choice.page or 0)
-        return Loaded(array, None, pixel_in(getattr(image, "tag_v2", {})))
+        return Loaded(array, None, *pixel_in(getattr(image, "tag_v2", {})))
 
 
 def _of_tiff(file: IO[bytes], what: str, choice: Choice) -> Loaded:
@@ -205,7 +206,7 @@ def _of_tiff(file: IO[bytes], what: str, choice: Choice) -> Loaded:
             raise ValueError(f"{what}: an array of {array.dtype} and {array.shape} is no set and no levels of 8 or 16 bits, "
                              "nor a stack of such")
         array = _brighter_is_greater(array, page.photometric == _WHITE_IS_ZERO, (1 << page.bitspersample) - 1)
-        return Loaded(array, None, pixel_in({tag.code: tag.value for tag in page.tags}))
+        return Loaded(array, None, *pixel_in({tag.code: tag.value for tag in page.tags}))
 
 
 def _standard(name: Literal["stdin", "stdout"]) -> IO[bytes]:
@@ -245,9 +246,10 @@ def load(path: Where | IO[bytes], *, channel: int | str | None = None, page: int
     Returns
     -------
     Loaded
-        ``array``, ``maxval`` and ``pixel``. The maxval is None where it is that of the array's type. The pixel is that of a TIFF
-        that tells its resolution: its side in micrometres, or in the unit that ImageJ names; None of other files, and where
-        pixels are no squares. Files that were no measurement often tell 72 or 96 pixels to the inch.
+        ``array``, ``maxval``, ``pixel`` and ``doubts``. The maxval is None where it is that of the array's type. The pixel is that
+        of a TIFF that tells its resolution: its side in micrometres, or in the unit that ImageJ names; None of other files, and where
+        pixels are no squares. It is None, too, where a TIFF tells exactly 72 or 96 pixels to the inch, which are those of screens
+        and not measured; then `doubts` has a line that says so. Give `pixel=` where they were measured.
 
     Raises
     ------

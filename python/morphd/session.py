@@ -27,7 +27,6 @@ from typing import TYPE_CHECKING, Any
 from ._channel import Channel, Pipe, Reply, Way, Wire, found_program, refusal
 from ._families import family
 from ._numbers import whole
-from .doubts import cut_area, rows_of
 from .errors import Cancelled, InputFailed, OutOfMemory, Refused
 from .footprints import Footprint
 from .netpbm import Picture
@@ -220,6 +219,7 @@ class Handle:
         """
         import numpy
 
+        from ._runs import cut_area
         from .curves import Spectrum
         from .pixels import pixel_size
 
@@ -230,7 +230,7 @@ class Handle:
         words, frame, cut = self._session._ask("STATUS", image.name).wait().words, None, 0
         if is_set := words[2:3] == ["BIT"]:
             held = image.result(timeout)
-            frame, cut = held.width * held.height, cut_area(rows_of(held.samples, held.width), held.width)
+            frame, cut = held.width * held.height, cut_area(numpy.asarray(held))
         found = Spectrum(volumes, footprint, *pixel_size(pixel), is_set, frame, cut)
         for line in found.doubts:
             warnings.warn(line, UserWarning, stacklevel=2)

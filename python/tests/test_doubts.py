@@ -2,22 +2,14 @@
 import random
 
 import pytest
+import windings
 
-from morphd.doubts import cut_area, doubts, rows_of
+from morphd import doubts as module
+from morphd.doubts import cut_area, doubts
 
 
-def cut_by_flooding(rows):
-    """The area of what hangs together with the rim, pixel by pixel."""
-    height, width = len(rows), len(rows[0])
-    rim = [(y, x) for y in range(height) for x in range(width) if (y in (0, height - 1) or x in (0, width - 1)) and rows[y][x]]
-    met = set(rim)
-    while rim:
-        y, x = rim.pop()
-        for place in [(y + dy, x + dx) for dy in (-1, 0, 1) for dx in (-1, 0, 1)]:
-            if 0 <= place[0] < height and 0 <= place[1] < width and rows[place[0]][place[1]] and place not in met:
-                met.add(place)
-                rim.append(place)
-    return len(met)
+def area(rows):
+    return cut_area(bytes(sum(rows, [])), len(rows[0]))
 
 
 def test_the_area_that_the_frame_cuts():
@@ -25,22 +17,33 @@ def test_the_area_that_the_frame_cuts():
     for _ in range(600):
         width, height, many = rng.randrange(1, 12), rng.randrange(1, 12), rng.choice((0.1, 0.3, 0.5, 0.8, 1))
         rows = [[int(rng.random() < many) for _ in range(width)] for _ in range(height)]
-        assert cut_area(rows_of(bytes(sum(rows, [])), width), width) == cut_by_flooding(rows), rows
+        assert area(rows) == windings.cut_by_flooding(rows), rows
 
 
-def test_a_spiral():
-    """It is followed to its end, turn by turn."""
-    side, y, x, dy, dx = 21, 0, 0, 0, 1
-    rows = [[0] * side for _ in range(side)]
-    steps = sum(([length, length] for length in range(side - 1, 1, -2)), [])
-    rows[0][0] = 1
-    for length in steps:
-        for _ in range(length):
-            y, x = y + dy, x + dx
-            rows[y][x] = 1
-        dy, dx = dx, -dy
-    area = sum(map(sum, rows))
-    assert cut_by_flooding(rows) == cut_area(rows_of(bytes(sum(rows, [])), side), side) == area > 150
+@pytest.mark.parametrize("side", [9, 20, 33])
+def test_grains_that_wind_are_followed_to_their_ends(side):
+    for rows in windings.all_of(side, random.Random(side)):
+        assert area(rows) == windings.cut_by_flooding(rows) > side, rows
+
+
+def runs_of(rows):
+    return sum(sample and not before for row in rows for before, sample in zip([0, *row], row))
+
+
+@pytest.mark.parametrize("side", [40, 81])
+def test_each_run_is_met_once(side, monkeypatch):
+    painted, paint = [], module._paint
+    monkeypatch.setattr(module, "_paint", lambda *place: painted.append(place) or paint(*place))
+    for rows in windings.all_of(side, random.Random(side)):
+        painted.clear()
+        is_whole = area(rows) == sum(map(sum, rows))
+        assert len(painted) == runs_of(rows) if is_whole else len(painted) < runs_of(rows)
+
+
+def test_nothing_is_met_of_grains_within(monkeypatch):
+    rows = [[int(0 < x < 30 and 0 < y < 20 and x % 2) for x in range(32)] for y in range(22)]
+    monkeypatch.setattr(module, "_paint", None)
+    assert area(rows) == 0
 
 
 @pytest.mark.parametrize("arguments, lines", [

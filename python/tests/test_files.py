@@ -156,10 +156,32 @@ def test_compressed_tiffs(tmp_path, tifffile, kind, compression):
     ({"resolution": ((200000, 13), (200000, 13)), "resolutionunit": "CENTIMETER"}, (0.65, "µm")),
     ({"resolution": ((25400, 1), (25400, 1)), "resolutionunit": "INCH"}, (1.0, "µm")),
     ({"resolution": ((1, 1), (1, 1)), "resolutionunit": "NONE"}, None), ({}, None),
-    ({"resolution": ((200, 1), (100, 1)), "resolutionunit": "CENTIMETER"}, None)])
+    ({"resolution": ((200, 1), (100, 1)), "resolutionunit": "CENTIMETER"}, None),
+    ({"resolution": ((72, 1), (72, 1)), "resolutionunit": "CENTIMETER"}, (10000 / 72, "µm")),
+    ({"resolution": ((72001, 1000), (72001, 1000)), "resolutionunit": "INCH"}, (25400 / 72.001, "µm")),
+    ({"resolution": ((300, 1), (300, 1)), "resolutionunit": "INCH"}, (25400 / 300, "µm"))])
 def test_the_pixel_of_a_tiff(tmp_path, tifffile, told, wanted):
     tifffile.imwrite(tmp_path / "a.tif", ARRAYS["uint8"], photometric="minisblack", **told)
-    assert files.load(tmp_path / "a.tif").pixel == wanted
+    assert files.load(tmp_path / "a.tif")[2:] == (wanted, ())
+
+
+@pytest.mark.parametrize("dots, named", [((72, 1), 72), ((96, 1), 96), ((720000, 10000), 72)])
+def test_the_pixels_of_a_screen_are_no_measure(tmp_path, tifffile, dots, named):
+    """Programs write them where nothing was measured. ImageJ does not take 72 of them either."""
+    tifffile.imwrite(tmp_path / "a.tif", ARRAYS["uint8"], photometric="minisblack", resolution=(dots, dots), resolutionunit="INCH")
+    loaded = morphd.load(tmp_path / "a.tif")
+    assert loaded.pixel is None and len(loaded.doubts) == 1 and loaded.doubts[0].startswith(f"{named} pixels to the inch ")
+    # what ImageJ names itself was measured
+    tifffile.imwrite(tmp_path / "b.tif", ARRAYS["uint8"], imagej=True, resolution=(dots, dots), metadata={"unit": "inch"})
+    assert morphd.load(tmp_path / "b.tif")[2:] == ((1 / named, "in"), ())
+
+
+@pytest.mark.parametrize("named", [72, 96, 300])
+def test_the_pixels_of_a_screen_by_pillow(tmp_path, tifffile, named):
+    images = pytest.importorskip("PIL.Image")
+    images.fromarray(ARRAYS["uint8"]).save(tmp_path / "a.tif", dpi=(named, named))
+    loaded = morphd.load(tmp_path / "a.tif")
+    assert loaded.pixel == (None if named < 100 else (25400 / 300, "µm")) and len(loaded.doubts) == int(named < 100)
 
 
 @pytest.mark.parametrize("unit, wanted", [

@@ -76,6 +76,22 @@ def test_the_pixel_of_a_tiff_counts(tmp_path, grains, capsys):
     assert "square in pixels" in capsys.readouterr().out
 
 
+def test_the_pixels_of_a_screen_are_said_and_not_taken(tmp_path, grains, capsys):
+    module = pytest.importorskip("tifffile")
+    module.imwrite(tmp_path / "a.tif", grains, photometric="minisblack", resolution=((72, 1), (72, 1)), resolutionunit="INCH")
+    assert run(tmp_path, "spectrum --square 3 --sizes 4 @a.tif") == 0
+    told = capsys.readouterr()
+    assert told.out == f"{measured(grains, morphd.square(3), 4)}\n"
+    assert told.err.splitlines()[0] == (
+        f"morph: {tmp_path / 'a.tif'}: 72 pixels to the inch are what programs write where nothing was measured, so they are not taken: "
+        "widths are in pixels, unless --pixel tells a side")
+    assert run(tmp_path, "spectrum --square 3 --sizes 4 --pixel 2um @a.tif") == 0
+    told = capsys.readouterr()
+    assert told.out == f"{measured(grains, morphd.square(3), 4, '2um')}\n" and "inch" not in told.err
+    assert run(tmp_path, "opening --square 3 @a.tif -o @b.tif") == 0
+    assert "inch" not in capsys.readouterr().err and morphd.load(tmp_path / "b.tif").pixel is None
+
+
 def test_a_unit_that_no_tiff_holds_is_not_written_back(tmp_path, grains):
     module = pytest.importorskip("tifffile")
     module.imwrite(tmp_path / "a.tif", grains, imagej=True, resolution=((5, 2), (5, 2)), metadata={"unit": "furlong"})

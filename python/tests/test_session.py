@@ -659,3 +659,18 @@ def test_numbers_that_no_request_has_leave_the_session_open(program):
                 session.rank(image, wrong, [[1]])
         assert session.rank(image, True, [[1]]).result().rows() == [[3, 4]]
         assert session.threshold(image, 4).result().rows() == [[0, 1]]
+
+
+def test_a_batch_at_a_terminal_tells_that_it_waits(program, fake):
+    if program == fake:
+        pytest.skip("the stand-in tells nothing")
+    ours, its = os.openpty()
+    try:
+        with subprocess.Popen([program, "batch"], stdin=its, stdout=subprocess.PIPE, stderr=subprocess.PIPE) as run:
+            os.write(ours, b"STATUS x\nQUIT\n")
+            replies, told = run.communicate(timeout=30)
+    finally:
+        os.close(ours)
+        os.close(its)
+    assert (run.returncode, replies) == (0, b"ERR 41 UNKNOWN\n")
+    assert told == b"morphd batch: reads a session from this terminal, up to QUIT or Ctrl-D\n"

@@ -89,6 +89,10 @@ REFUSED = [
     ("opening --disk 1 @grains.pgm @camera.pgm -o @.", "--force writes over it"),
     ("spectrum --disk 1 @grains.pgm --csv @grains.pgm", "--force writes over it"),
     ("spectrum --disk 1 @grains.pgm @camera.pgm --csv @camera.pgm", "--force writes over it"),
+    ("opening --footprint @dot.pbm @grains.pgm -o @dot.pbm", "dot.pbm is one of the files that are read; --force writes over it"),
+    ("hit-or-miss --hit @dot.pbm --miss @beside.pbm @mask.pbm -o @beside.pbm", "beside.pbm is one of the files that are read"),
+    ("hit-or-miss --hit @dot.pbm @mask.pbm -o @dot.pbm", "dot.pbm is one of the files that are read"),
+    ("spectrum --footprint @dot.pbm @grains.pgm --csv @dot.pbm", "dot.pbm is one of the files that are read"),
     ("opening --disk 1 - - -o @folder", "the standard input is read once"),
     ("opening --disk 1 @grains.jpg @camera.pgm -o @folder", "the suffix tells how it is written"),
 ]
@@ -96,7 +100,9 @@ REFUSED = [
 
 @pytest.mark.parametrize("line, told", REFUSED)
 def test_what_would_lose_a_picture_is_refused(tmp_path, grains, capsys, line, told):
-    """Before anything is read or written."""
+    """Before any picture is read or anything written."""
+    for name in ("dot", "beside"):
+        (tmp_path / f"{name}.pbm").write_bytes(b"P1\n1 1\n1\n")
     (tmp_path / "link.pgm").symlink_to(tmp_path / "grains.pgm")
     (tmp_path / "hard.pgm").hardlink_to(tmp_path / "grains.pgm")
     before = {path: path.read_bytes() for path in tmp_path.iterdir()}
@@ -111,6 +117,9 @@ def test_what_would_lose_a_picture_is_refused(tmp_path, grains, capsys, line, to
 def test_a_picture_is_written_over_if_that_is_said(tmp_path, grains):
     assert run(tmp_path, "opening --disk 1 @grains.pgm -o @grains.pgm --force") == 0
     np.testing.assert_array_equal(morphd.read(tmp_path / "grains.pgm"), morphd.opening(grains, morphd.disk(1)))
+    (tmp_path / "dot.pbm").write_bytes(b"P1\n1 1\n1\n")
+    assert run(tmp_path, "erosion --footprint @dot.pbm @mask.pbm -o @dot.pbm --force") == 0
+    np.testing.assert_array_equal(morphd.read(tmp_path / "dot.pbm"), grains > 100)
     # a file that is not read is no input, and is written over as by any other program
     assert run(tmp_path, "erosion --disk 1 @camera.pgm -o @grains.pgm") == 0
 

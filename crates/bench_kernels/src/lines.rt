@@ -1,7 +1,8 @@
 //! Times of lines: the rows of a frame under bars of one row, by the counted call and as rectangles.
 ghost use Rattle.std.specs.Prelude.{◌≡◌, ◌*◌, length, vec_len, IfOk};
 
-use crate::{FRAME, Fault, SIDE, noise};
+use crate::fault::Fault;
+use crate::{FRAME, SIDE, noise};
 use mw_line::{Steps, line, rectangle};
 use mw_model::OffsetBox;
 use mw_pixel::{Min, Plane};

@@ -2,61 +2,33 @@
 //! as a command runs that is one task, with the result as a plane of its own; and tile by tile, where each tile is cut
 //! with its halo, computed and pasted. Each figure is the best of five runs, or of as many as begin within two seconds.
 //! The program times only where it is asked to, as in `out/bench_kernels measure all`, or `rectangle`, `disc`, `median`, `rank`,
-//! `lines` or `sets` in place of `all`, since times differ from run to run.
+//! `lines` or `sets` in place of `all`, since times differ from run to run. By `out/bench_kernels measure files` it times
+//! files and no kernel.
 #![tactic(auto)]
 
 ghost use Rattle.std.specs.Prelude.{◌≡◌, ◌*◌, ◌≤◌, ◌%◌, vec_len, IfOk};
 
+mod fault;
+mod files;
 mod lines;
 mod words;
 
+use crate::fault::Fault;
+use crate::files::time_files;
 use crate::lines::time_lines;
 use crate::words::time_sets;
 use mw_grid::{Grid, side_ok};
 use mw_line::rectangle;
 use mw_medians::{Vectored, median_of_grey};
-use mw_model::{NoMemory, Offset, OffsetBox, Reach, Rect};
+use mw_model::{Offset, OffsetBox, Reach, Rect};
 use mw_offset::extremum;
 use mw_pixel::{Extremum, Grey, Max, Min, Plane};
 use mw_rank::rank;
 use mw_tile::{Window, paste};
-use std::alloc::{AllocError, AllocFailed, Global};
+use std::alloc::Global;
+use std::env;
 use std::sync::Arc;
 use std::time::Instant;
-use std::{env, io};
-
-/// Why no time was taken.
-#[derive(Debug, Drop)]
-enum Fault {
-    Memory,
-    /// A kernel had no way for what it was to make.
-    Kernel,
-    Clock(io::Error),
-}
-
-impl From<NoMemory> for Fault {
-    fn from(_error: NoMemory) -> Fault {
-        Fault::Memory
-    }
-}
-
-impl From<AllocError> for Fault {
-    fn from(_error: AllocError) -> Fault {
-        Fault::Memory
-    }
-}
-
-impl<T: Drop> From<AllocFailed<T>> for Fault {
-    fn from(_error: AllocFailed<T>) -> Fault {
-        Fault::Memory
-    }
-}
-
-impl From<io::Error> for Fault {
-    fn from(error: io::Error) -> Fault {
-        Fault::Clock(error)
-    }
-}
 
 const SIDE: u32 = 4096;
 
@@ -346,6 +318,9 @@ fn main(rt: HostRuntime) -> Result<(), Fault> {
         None => return Ok(()),
         Some(word) => word,
     };
+    if wanted.as_str() == "files" {
+        return time_files::<HostRuntime>(&rt, alloc);
+    }
     if matches!(wanted.as_str(), "all" | "sets") {
         time_sets::<HostRuntime>(&rt, alloc)?;
     }

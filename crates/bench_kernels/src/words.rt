@@ -3,7 +3,8 @@
 ghost use Rattle.std.specs.Prelude.{◌≡◌, ◌*◌, vec_len, IfOk};
 ghost use Rattle.mw_grid.specs.Grids.{IsTileSide};
 
-use crate::{FRAME, Fault, SIDE, disc, full, reach, square};
+use crate::fault::Fault;
+use crate::{FRAME, SIDE, disc, full, reach, square};
 use mw_bits::{as_levels, at_least, extremum, rectangle};
 use mw_grid::Grid;
 use mw_model::Offset;

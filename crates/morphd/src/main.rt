@@ -2,14 +2,17 @@
 // or each on its own.
 #![tactic(auto)]
 
-use mw_cli::{LineFault, options, processors, words};
+use mw_cli::{Job, LineFault, options, processors, words};
 use mw_program::perform;
 use mw_wire::{Sink, Source, send};
-use std::io::BufWriter;
+use std::io::{BufWriter, IsTerminal, Write};
 use std::process::ExitCode;
 
 /// How many bytes of replies may wait for those behind them, so that they go out in one write.
 const HELD: usize = 65536;
+
+/// What is told of a batch at a terminal.
+const GREETING: &[u8] = b"morphd batch: reads a session from this terminal, up to QUIT or Ctrl-D\n";
 
 /// Prints why the words ask for no job, and gives the exit status.
 fn print_fault(rt: &HostRuntime, fault: &LineFault) -> u8 {
@@ -19,6 +22,13 @@ fn print_fault(rt: &HostRuntime, fault: &LineFault) -> u8 {
             let _ = eprintln!(rt; "error: output");
             1
         }
+    }
+}
+
+/// Tells who started a batch at a terminal that it waits for a session.
+fn greet<W: Write>(rt: &HostRuntime, job: &Job, faults: &mut Sink<W>) {
+    if matches!(job, Job::Batch(_)) && rt.stdin().is_terminal() {
+        let _told = send(faults, GREETING);
     }
 }
 
@@ -36,14 +46,17 @@ fn main(rt: HostRuntime) -> ExitCode {
         Err(fault) => Err(fault),
     };
     let status = match job {
-        Ok(job) => perform(
-            &rt,
-            alloc,
-            &job,
-            &mut source,
-            &mut Sink::new(writer),
-            &mut faults,
-        ),
+        Ok(job) => {
+            greet(&rt, &job, &mut faults);
+            perform(
+                &rt,
+                alloc,
+                &job,
+                &mut source,
+                &mut Sink::new(writer),
+                &mut faults,
+            )
+        }
         Err(fault) => print_fault(&rt, &fault),
     };
     ExitCode::from(status)

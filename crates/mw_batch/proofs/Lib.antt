@@ -1,3 +1,2 @@
 -- the crate's own
 mod Served
-mod LogRefusals

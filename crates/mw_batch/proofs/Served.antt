@@ -1,17 +1,24 @@
 -- What a batch leaves behind, from what its session ran.
-use Rattle.std.proofs.Common.{◌≡◌, ◌≤◌, ℕ, Bool, true, List, [], Option, Result, Ok, Err, refl, ap, subst, inl, inr}
+use Rattle.std.proofs.Common.{◌≡◌, ◌≤◌, ℕ, Bool, true, List, [], ◌++◌, Option, Result, Ok, Err, refl, ap, subst, ◌∙◌, inl, inr, arith}
+use Rattle.std.proofs.lemmas.List.{append-nil}
 use Rattle.std.specs.Prelude.{OnOk, OnErr}
 use Rattle.mw_model.specs.declared.calls.LogItem.{LogItem}
 use Rattle.mw_model.specs.declared.requests.End.{End}
-use Rattle.mw_model.specs.Machine.{start_state}
+use Rattle.mw_model.specs.declared.requests.End.TheVariants as end
+use Rattle.mw_model.specs.Scripts.{Turn, end_text}
+use Rattle.mw_model.specs.Machine.{Machine, start_state}
 use Rattle.mw_model.specs.Stands.{CoreView}
+use Rattle.mw_session.specs.mw_wire.Faults.{fault_line}
 use Rattle.mw_session.specs.mw_wire.Writes.{Wrote}
 use Rattle.mw_session.specs.mw_wire.declared.fault.SessionFault.{SessionFault}
 use Rattle.mw_session.specs.mw_wire.declared.fault.SessionFault.TheVariants as fault
 use Rattle.mw_session.specs.mw_wire.Rooms.{LacksRoom}
 use Rattle.mw_session.specs.Runs.{Ran, SessionRan}
-use Rattle.mw_session.proofs.Stops.{finished_script, stopped_broken}
-use Rattle.mw_batch.specs.Batches.{Ends, Served, HasFailed, TellsLine, TellsOutcome, end_status}
+use Rattle.mw_session.specs.declared.tally.Tally.{Tally}
+use Rattle.mw_session.specs.Tallies.{Counted, IsCounted, line_behind}
+use Rattle.mw_session.proofs.Stops.{served_serves, stopped_broken}
+use Rattle.mw_batch.specs.Batches.{Ends, HasFailed, HasReplied, Served, TellsLine, TellsNothing, TellsOutcome, end_status}
+use Rattle.mw_batch.specs.EndLines.{end_line}
 
 -- the ends of a session
 abbrev pub ends-of : Option (List ℕ) → ℕ → Bool → Option (List ℕ) → Bool → Option (List ℕ) → Bool → Ends
@@ -35,31 +42,48 @@ pub record Held (new : Ends) (outcome : Result End SessionFault) : Type 0 where
   pub reader_failed : new.read_failed ≡ true → outcome ≡ Err fault.Read
   pub writer_failed : new.write_failed ≡ true → outcome ≡ Err fault.Write
 
-pub served-session : (old new : Ends) (o p : CoreView) (outcome : Result End SessionFault) (status : ℕ) → o.log ≡ [] → SessionRan start_state o p old.left new.left old.written new.written outcome
-    → TellsOutcome old new outcome → Held new outcome → status ≡ end_status outcome → (served : Served old new status) × (served.log ≡ p.log)
-served-session old new o p (Ok e) status none s told h is =
-    let f = finished_script (LacksRoom s.taken) new.left s.taken start_state s.state o.log p.log old.written new.written e s.ran in
+-- what was told of how the session came out, where the tally counts it
+abbrev pub TellsBy : Ends → Ends → Tally → Result End SessionFault → Type 0
+TellsBy old new tally (Ok end.Quit) = TellsNothing old new
+TellsBy old new tally (Ok (end.Ended c)) = TellsLine old new (end_line tally.line c)
+TellsBy old new tally (Err f) = TellsLine old new (fault_line f)
+
+tells-of : (old new : Ends) (tally : Tally) (turns : List Turn) (e : End) → tally.line ≡ line_behind turns → TellsBy old new tally (Ok e) → TellsOutcome old new turns (Ok e)
+tells-of old new tally turns end.Quit is told = told
+tells-of old new tally turns (end.Ended c) is told = subst (λ n. TellsLine old new (end_line n c)) is told
+
+not-one : {A : Type 0} (n : ℕ) → n ≡ 1 → n ≡ 0 → A
+not-one n one zero = absurd (omega (arith, one, zero))
+
+replied-of : (tally : Tally) (n : Machine) (turns : List Turn) (text : List ℕ) (e : End) (status : ℕ) → Counted tally start_state n turns text → status ≡ end_status (Ok e) → status ≡ 0 → HasReplied turns n (text ++ end_text e) tally.refused
+replied-of tally n turns text end.Quit status c is zero = record { replies = c.replies; answered = c.answered; whole = append-nil text ∙ c.whole; told = c.refused }
+replied-of tally n turns text (end.Ended k) status c is zero = not-one status is zero
+
+pub served-session : (old new : Ends) (o p : CoreView) (tally : Tally) (outcome : Result End SessionFault) (status : ℕ) → o.log ≡ [] → (s : SessionRan start_state o p old.left new.left old.written new.written outcome) → IsCounted outcome s tally
+    → TellsBy old new tally outcome → Held new outcome → status ≡ end_status outcome → (served : Served old new status) × (status ≡ 0 → HasReplied served.turns served.state served.text tally.refused)
+served-session old new o p tally (Ok e) status none s c told h is =
+    let f = s.ran in
     let P : List LogItem → Type 0 = λ l. Ran (LacksRoom s.taken) new.left s.taken start_state s.state l p.log old.written new.written (Ok e) in (
       record {
         bytes = s.taken;
-        text = f.1;
-        turns = f.0;
+        text = f.text ++ end_text e;
+        turns = f.turns;
         state = s.state;
         log = p.log;
         outcome = Ok e;
         read = s.read;
-        wrote = f.3;
-        comes = f.2;
+        wrote = f.wrote;
+        comes = (f.rest, f.text, served_serves s.taken f.turns f.rest start_state s.state f.text f.items f.served, f.ends.0, refl);
         ran = subst P none s.ran;
-        told = told;
+        told = tells-of old new tally f.turns e c.line told;
         tells = is;
         few_reads = h.few_reads;
         reader_failed = h.reader_failed;
         writer_failed = h.writer_failed;
       },
-      refl,
+      λ zero. replied-of tally s.state f.turns f.text e status c is zero,
     )
-served-session old new o p (Err e) status none s told h is =
+served-session old new o p tally (Err e) status none s c told h is =
     let f = stopped_broken (LacksRoom s.taken) new.left s.taken start_state s.state o.log p.log old.written new.written e s.ran in
     let P : List LogItem → Type 0 = λ l. Ran (LacksRoom s.taken) new.left s.taken start_state s.state l p.log old.written new.written (Err e) in (
       record {
@@ -79,5 +103,5 @@ served-session old new o p (Err e) status none s told h is =
         reader_failed = h.reader_failed;
         writer_failed = h.writer_failed;
       },
-      refl,
+      λ zero. not-one status is zero,
     )

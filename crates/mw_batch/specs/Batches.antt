@@ -1,5 +1,6 @@
 -- What a batch leaves behind (own).
 use Rattle.std.specs.Prelude.{◌≡◌, ◌≤◌, ◌⊎◌, ℕ, Bool, true, List, [], Option, Result, Ok, Err, codes}
+use Rattle.std.specs.List.{concat}
 use Rattle.std.specs.Io.KnownBytes.{Appends, Consumes, IsAtEnd}
 use Rattle.mw_model.specs.declared.calls.LogItem.{LogItem}
 use Rattle.mw_model.specs.declared.requests.End.{End}
@@ -12,7 +13,9 @@ use Rattle.mw_session.specs.mw_wire.declared.fault.SessionFault.{SessionFault}
 use Rattle.mw_session.specs.mw_wire.declared.fault.SessionFault.TheVariants as fault
 use Rattle.mw_session.specs.mw_wire.Rooms.{LacksRoom}
 use Rattle.mw_session.specs.Runs.{Ran}
-use Rattle.mw_batch.specs.Refused.{IsStrict}
+use Rattle.mw_session.specs.Tallies.{AreReplies, has_refusal, line_behind}
+use Rattle.mw_batch.specs.EndLines.{end_line}
+use Rattle.mw_batch.specs.Strict.{strict_status}
 
 -- What is seen of the ends of a session: what is known of what the reader has left, how often it was read and whether it failed; what is known of what the writer holds, and whether it failed; what is known of what the writer of faults holds, and whether it failed.
 pub record Ends : Type 0 where
@@ -49,10 +52,11 @@ abbrev pub TellsLine : Ends → Ends → List ℕ → Type 0
 TellsLine old new line =
     (Appends old.told new.told line × (new.tell_failed ≡ old.tell_failed)) ⊎ (CutsShort old.told new.told line × (new.tell_failed ≡ true))
 
--- the line of the fault was told, and nothing where there was none
-abbrev pub TellsOutcome : Ends → Ends → Result End SessionFault → Type 0
-TellsOutcome old new (Ok e) = TellsNothing old new
-TellsOutcome old new (Err f) = TellsLine old new (fault_line f)
+-- The line of the fault was told. Where a refusal ended the session, it was told in which line behind these turns, and why; and nothing where it ended otherwise.
+abbrev pub TellsOutcome : Ends → Ends → List Turn → Result End SessionFault → Type 0
+TellsOutcome old new turns (Ok end.Quit) = TellsNothing old new
+TellsOutcome old new turns (Ok (end.Ended c)) = TellsLine old new (end_line (line_behind turns) c)
+TellsOutcome old new turns (Err f) = TellsLine old new (fault_line f)
 
 -- the line that tells that there was no memory to begin with
 abbrev pub memory_line : List ℕ
@@ -70,15 +74,23 @@ pub record Served (old new : Ends) (status : ℕ) : Type 0 where
   pub wrote : Appends old.written new.written text
   pub comes : ComesTo new bytes turns state text outcome
   pub ran : Ran (LacksRoom bytes) new.left bytes start_state state [] log old.written new.written outcome
-  pub told : TellsOutcome old new outcome
+  pub told : TellsOutcome old new turns outcome
   pub tells : status ≡ end_status outcome
   pub few_reads : new.reads ≤ 4294967295
   pub reader_failed : new.read_failed ≡ true → outcome ≡ Err fault.Read
   pub writer_failed : new.write_failed ≡ true → outcome ≡ Err fault.Write
 
--- A session was served as a batch serves it; the status is that of a batch, and 3 in the place of 0 where the log of the session has a call that was refused.
+-- The text is the replies to these turns, from the start of the machine, and one of them is a refusal exactly where this says so.
+pub record HasReplied (turns : List Turn) (state : Machine) (text : List ℕ) (refused : Bool) : Type 0 where
+  pub replies : List (List ℕ)
+  pub answered : AreReplies start_state turns replies state
+  pub whole : text ≡ concat replies
+  pub told : refused ≡ has_refusal replies
+
+-- A session was served as a batch serves it; the status is that of a batch, and 3 in the place of 0 where one of the replies is a refusal.
 abbrev pub ServedStrictly : Ends → Ends → ℕ → Type 0
-ServedStrictly old new status = (plain : ℕ) × (served : Served old new plain) × IsStrict served.log plain status
+ServedStrictly old new status =
+    (plain : ℕ) × (served : Served old new plain) × (refused : Bool) × (plain ≡ 0 → HasReplied served.turns served.state served.text refused) × (status ≡ strict_status plain refused)
 
 -- There was no memory to begin: nothing was read or written.
 pub record Unserved (old new : Ends) (status : ℕ) : Type 0 where

@@ -1,4 +1,5 @@
-pub mod Refused
+pub mod Strict
+pub mod EndLines
 pub mod Batches
 -- what lower crates offer
 pub mod mw_grid

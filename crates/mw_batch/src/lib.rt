@@ -4,12 +4,12 @@
 //! let crew = Crew { alloc, rt: &rt, workers: 1 };
 //! let mut source = Source::new(rt.stdin());
 //! let mut sink = Sink::new(rt.stdout());
-//! let status = batch(crew, &mut source, &mut sink, &mut faults, 128); // `strict_batch`: 3 where a request was refused
+//! let status = batch(crew, &mut source, &mut sink, &mut faults, 128); // `strict_batch`: 3 where a reply was a refusal
 //! ```
 #![tactic(auto)]
 
-mod refusals;
 mod script;
+mod told;
 
 pub use mw_session::Crew;
 pub use script::{batch, strict_batch};

@@ -4,11 +4,11 @@ ghost use Rattle.std.specs.Prelude.{◌≡◌, ◌⊎◌, [], false};
 ghost use Rattle.mw_model.specs.Machine.{start_state};
 ghost use Rattle.mw_model.specs.Stands.{StandsFor, running_count};
 ghost use Rattle.mw_batch.specs.mw_grid.Grids.{IsTileSide};
-ghost use Rattle.mw_batch.specs.Batches.{Ends, Served, ServedStrictly, Unserved};
+ghost use Rattle.mw_batch.specs.Batches.{Ends, HasReplied, Served, ServedStrictly, Unserved};
 
-use crate::refusals::strict_status;
+use crate::told::{end_line, strict_status};
 use mw_session::wire::{Sink, Source, send, tell};
-use mw_session::{Core, Crew, End, Pick, run_script};
+use mw_session::{Core, Crew, End, Pick, Tally, run_counted};
 use std::io::{Read, Write};
 use std::thread::Threads;
 
@@ -24,27 +24,33 @@ impl Pick for First {
     }
 }
 
-/// Runs a script on a core that has just been made, and gives the exit status that a batch has.
+/// Runs a script on a core that has just been made, and gives the exit status that a batch has. Where that is 0, the tally
+/// tells whether a reply was a refusal.
 fn run_on<R: Read, W: Write, F: Write, T: Threads + Sync>(
     crew: Crew<T>,
     source: &mut Source<R>,
     sink: &mut Sink<W>,
     faults: &mut Sink<F>,
-    core: &mut Core,
+    tally: &mut Tally,
 ) -> u8
     requires source_clear { source.old.failed ≡ false }
     requires sink_clear { sink.old.failed ≡ false }
     requires unread { source.old.reads ≡ 0 }
-    requires stands { StandsFor core.old start_state }
-    requires idle { running_count core.old ≡ 0 }
-    requires log { core.old.log ≡ [] }
+    requires stands { StandsFor tally.old.core start_state }
+    requires idle { running_count tally.old.core ≡ 0 }
+    requires log { tally.old.core.log ≡ [] }
+    requires first { tally.old.line ≡ 1 }
+    requires clear { tally.old.refused ≡ false }
     ensures { let old : Ends = record { left = R.remaining source.old.inner; reads = source.old.reads; read_failed = source.old.failed; written = W.contents sink.old.inner; write_failed = sink.old.failed; told = F.contents faults.old.inner; tell_failed = faults.old.failed } in
         let new : Ends = record { left = R.remaining source.new.inner; reads = source.new.reads; read_failed = source.new.failed; written = W.contents sink.new.inner; write_failed = sink.new.failed; told = F.contents faults.new.inner; tell_failed = faults.new.failed } in
-        (served : Served old new result) × (served.log ≡ core.new.log) }
+        (served : Served old new result) × (result ≡ 0 → HasReplied served.turns served.state served.text tally.new.refused) }
 {
-    match run_script(crew, source, sink, core, &mut First) {
+    match run_counted(crew, source, sink, tally, &mut First) {
         Ok(End::Quit) => 0,
-        Ok(End::Ended(_)) => 1,
+        Ok(End::Ended(code)) => {
+            let _told = send(faults, end_line(tally.line, code).as_bytes());
+            1
+        }
         Err(fault) => {
             let _told = tell(faults, fault);
             1
@@ -54,7 +60,8 @@ fn run_on<R: Read, W: Write, F: Write, T: Threads + Sync>(
 
 /// Runs a script on a core of its own by this crew, with tiles of this side in pixels, and gives the exit status: 0 after
 /// QUIT and at the end of the input between requests, and else 1. The line of a fault goes to `faults`: `error: input`,
-/// `error: output`, or `error: memory` where there is none to begin with.
+/// `error: output`, or `error: memory` where there is none to begin with; and where a refusal ended the session, the number of
+/// the line that did, of the lines of requests, and why.
 pub fn batch<R: Read, W: Write, F: Write, T: Threads + Sync>(
     crew: Crew<T>,
     source: &mut Source<R>,
@@ -70,14 +77,14 @@ pub fn batch<R: Read, W: Write, F: Write, T: Threads + Sync>(
         let new : Ends = record { left = R.remaining source.new.inner; reads = source.new.reads; read_failed = source.new.failed; written = W.contents sink.new.inner; write_failed = sink.new.failed; told = F.contents faults.new.inner; tell_failed = faults.new.failed } in
         Served old new result ⊎ Unserved old new result }
 {
-    let Ok(mut core) = Core::new(crew.alloc, side) else {
+    let Ok(core) = Core::new(crew.alloc, side) else {
         let _told = send(faults, b"error: memory\n");
         return 1;
     };
-    run_on(crew, source, sink, faults, &mut core)
+    run_on(crew, source, sink, faults, &mut Tally::new(core))
 }
 
-/// Runs a script as `batch` does. The exit status is 3 in the place of 0 where the log has a call that was refused.
+/// Runs a script as `batch` does. The exit status is 3 in the place of 0 where a reply was a refusal.
 pub fn strict_batch<R: Read, W: Write, F: Write, T: Threads + Sync>(
     crew: Crew<T>,
     source: &mut Source<R>,
@@ -93,10 +100,11 @@ pub fn strict_batch<R: Read, W: Write, F: Write, T: Threads + Sync>(
         let new : Ends = record { left = R.remaining source.new.inner; reads = source.new.reads; read_failed = source.new.failed; written = W.contents sink.new.inner; write_failed = sink.new.failed; told = F.contents faults.new.inner; tell_failed = faults.new.failed } in
         ServedStrictly old new result ⊎ Unserved old new result }
 {
-    let Ok(mut core) = Core::new(crew.alloc, side) else {
+    let Ok(core) = Core::new(crew.alloc, side) else {
         let _told = send(faults, b"error: memory\n");
         return 1;
     };
-    let plain = run_on(crew, source, sink, faults, &mut core);
-    strict_status(&core, plain)
+    let mut tally = Tally::new(core);
+    let plain = run_on(crew, source, sink, faults, &mut tally);
+    strict_status(plain, tally.refused)
 }

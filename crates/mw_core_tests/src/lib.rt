@@ -1,29 +1,30 @@
-//! Tests of the core by tasks and lists of events: tiles that end in another order, results that are late, strange or
-//! made by hand, a death, cancels in a table of many entries, a hundred running tasks, and random sessions whose every
-//! image is that of the plain program.
+//! Tests of the core by lists of calls and tasks that no session makes: results that are late, strange or made by hand, tasks
+//! that find no memory, tiles that end in another order, a hundred running tasks, values that are kept no longer than
+//! they are wanted, and lists of events.
+//!
+//! In the modules `calls`, `events`, `owners` and `results` a call whose memory is refused is made once more, so their tests
+//! pass whichever allocation is refused. That nothing is refused where memory is ample, `ample` tests.
 //!
 //! ```text
-//! rt test     // in this folder
+//! rt test     // in this folder; then `make memory` refuses each allocation in turn
 //! ```
 #![tactic(auto)]
 
 #[cfg(test)]
-mod cancels;
+mod ample;
+#[cfg(test)]
+mod by_hand;
+#[cfg(test)]
+mod calls;
 #[cfg(test)]
 mod desk;
 #[cfg(test)]
-mod faults;
+mod events;
 #[cfg(test)]
-mod kills;
+mod many;
 #[cfg(test)]
-mod numbers;
+mod owners;
 #[cfg(test)]
-mod pictures;
+mod play;
 #[cfg(test)]
-mod plain;
-#[cfg(test)]
-mod scripts;
-#[cfg(test)]
-mod sessions;
-#[cfg(test)]
-mod tiles;
+mod results;

@@ -1,4 +1,5 @@
 -- the crate's own
 mod Written
+mod Marked
 -- what lower crates offer
 pub use Rattle.mw_wire.proofs as mw_wire

@@ -1,4 +1,5 @@
 pub mod Texts
+pub mod Errors
 -- what lower crates offer
 pub mod mw_intake
 pub mod mw_store

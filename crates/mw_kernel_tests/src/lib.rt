@@ -1,5 +1,6 @@
-//! Tests of the calls over tiles: cutting and pasting, worked extrema by offsets and by rectangles, and rank filters, these
-//! beside the plain program too.
+//! Tests of kernels and plans where neither a contract nor a session shows anything: who owns samples, in which order the steps
+//! of plans stand, what room results keep, how few bits levels are said to have, and that calls succeed at shapes that no
+//! session asks for.
 //!
 //! ```text
 //! rt test     // in this folder
@@ -7,18 +8,14 @@
 #![tactic(auto)]
 
 #[cfg(test)]
-mod extrema;
+mod marks;
 #[cfg(test)]
-mod medians;
+mod orders;
 #[cfg(test)]
-mod moving_ranks;
+mod owners;
 #[cfg(test)]
-mod rank_counts;
+mod rooms;
 #[cfg(test)]
-mod rank_rows;
+mod shapes;
 #[cfg(test)]
-mod ranks;
-#[cfg(test)]
-mod tiles;
-#[cfg(test)]
-mod worked_ranks;
+mod sizes;

@@ -3,12 +3,12 @@
 
 ghost use Rattle.std.specs.Prelude.{◌≤◌};
 
-use crate::client::answers;
 use mw_listen::{Kernels, Requests, Service, Session, Staff, listen_with};
 use mw_pool::{Board, Naming, Pass};
 use mw_wire::Sink;
 use std::alloc::Global;
-use std::net::{Net, TcpListener, TcpStream};
+use std::io::{Read, Write};
+use std::net::{Ipv4Addr, Net, TcpListener, TcpStream};
 use std::sync::atomic::{AtomicU64, Ordering};
 use std::sync::{Mutex, Wait};
 use std::test::Fail;
@@ -74,12 +74,32 @@ impl Session for Swapping {
     }
 }
 
-/// Clients, one after the other, each with one call.
-fn all_call<R: Net<Stream = TcpStream>>(rt: &R, alloc: Global, port: u16) -> io::Result<u32> {
+/// A connection to the server, which may not listen yet.
+fn connect<R: Net<Stream = TcpStream>>(rt: &R, port: u16) -> io::Result<TcpStream> {
+    for _ in 0..1_000_000u32 {
+        if let Ok(stream) = TcpStream::connect(rt, (Ipv4Addr::LOCALHOST, port)) {
+            return Ok(stream);
+        }
+        thread::yield_now();
+    }
+    Err(io::Error::from(io::ErrorKind::TimedOut))
+}
+
+/// Whether a client with one call is answered.
+fn is_answered<R: Net<Stream = TcpStream>>(rt: &R, port: u16) -> io::Result<bool> {
+    let stream = connect(rt, port)?;
+    let mut wire = &stream;
+    wire.write_all(b"STATUS x\nQUIT\n")?;
+    let mut heard = [0u8; 15];
+    wire.read_exact(&mut heard)?;
+    Ok(heard.as_slice() == b"ERR 41 UNKNOWN\n".as_slice())
+}
+
+/// How many clients are answered, one after the other.
+fn all_call<R: Net<Stream = TcpStream>>(rt: &R, port: u16) -> io::Result<u32> {
     let mut count = 0u32;
     for _ in 0..SESSIONS {
-        let heard = answers(rt, alloc, port, b"STATUS x\nQUIT\n")?;
-        if heard.as_slice() == b"ERR 41 UNKNOWN\n".as_slice() {
+        if is_answered(rt, port)? {
             count = count.saturating_add(1);
         }
     }
@@ -112,9 +132,21 @@ fn audited<
     (status, faults.into_inner())
 }
 
-/// Whether the audit failed.
-fn is_refused(seen: &(u8, Vec<u8>)) -> bool {
-    seen.0 == 1 && seen.1.as_slice() == b"error: audit\n".as_slice()
+/// How many clients of such a server are answered, its exit status, and the faults that it told.
+fn seen<
+    R: Net<Listener = TcpListener, Stream = TcpStream> + Threads + Wait + Sync,
+    S: Session + Sync,
+>(rt: &R, alloc: Global, port: u16, session: &S) -> io::Result<(u32, u8, Vec<u8>)>
+    requires { 1 ≤ port }
+{
+    let (heard, (status, told)) = thread::join(
+        rt,
+        || all_call(rt, port),
+        || -> (u8, Vec<u8>)
+            requires { 1 ≤ port }
+        { audited(rt, alloc, port, session) },
+    );
+    Ok((heard?, status, told))
 }
 
 fn who_forgets(number: u64) -> Forgetting {
@@ -126,45 +158,27 @@ fn who_forgets(number: u64) -> Forgetting {
 
 #[test]
 fn a_pass_without_receipts_fails_the_audit(rt: HostRuntime) -> Result<(), Fail> {
-    let alloc = rt.alloc();
-    let forgetting = who_forgets(2);
-    let (heard, seen) = thread::join(
-        &rt,
-        || all_call(&rt, alloc, 7009),
-        || audited(&rt, alloc, 7009, &forgetting),
-    );
-    assert_eq!(rt; heard?, SESSIONS);
-    assert!(rt; is_refused(&seen));
+    let (count, status, told) = seen(&rt, rt.alloc(), 7009, &who_forgets(2))?;
+    assert_eq!(rt; (count, status), (SESSIONS, 1));
+    assert_eq!(rt; told.as_slice(), b"error: audit\n".as_slice());
     Ok(())
 }
 
 #[test]
 fn the_pass_of_another_session_fails_the_audit(rt: HostRuntime) -> Result<(), Fail> {
-    let alloc = rt.alloc();
     let swapping = Swapping {
         before: Mutex::new(None),
     };
-    let (heard, seen) = thread::join(
-        &rt,
-        || all_call(&rt, alloc, 7011),
-        || audited(&rt, alloc, 7011, &swapping),
-    );
-    assert_eq!(rt; heard?, SESSIONS);
-    assert!(rt; is_refused(&seen));
+    let (count, status, told) = seen(&rt, rt.alloc(), 7011, &swapping)?;
+    assert_eq!(rt; (count, status), (SESSIONS, 1));
+    assert_eq!(rt; told.as_slice(), b"error: audit\n".as_slice());
     Ok(())
 }
 
 #[test]
 fn all_passes_stand_the_audit(rt: HostRuntime) -> Result<(), Fail> {
-    let alloc = rt.alloc();
-    let own = who_forgets(u64::from(SESSIONS));
-    let (heard, seen) = thread::join(
-        &rt,
-        || all_call(&rt, alloc, 7012),
-        || audited(&rt, alloc, 7012, &own),
-    );
-    assert_eq!(rt; heard?, SESSIONS);
-    assert_eq!(rt; seen.0, 0);
-    assert!(rt; seen.1.is_empty());
+    let (count, status, told) = seen(&rt, rt.alloc(), 7012, &who_forgets(u64::from(SESSIONS)))?;
+    assert_eq!(rt; (count, status), (SESSIONS, 0));
+    assert!(rt; told.is_empty());
     Ok(())
 }

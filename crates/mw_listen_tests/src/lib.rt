@@ -1,4 +1,5 @@
-//! Tests of a server with its clients in one process, over the loopback.
+//! Tests of what no client of a server can see: that an audit fails where sessions leave other passes than their own, that a
+//! socket whose waits cannot be bounded is told, and that a payload takes no place to spare.
 //!
 //! ```text
 //! rt test     // in this folder
@@ -8,10 +9,8 @@
 #[cfg(test)]
 mod audits;
 #[cfg(test)]
-mod bad_peers;
+mod options;
 #[cfg(test)]
-mod client;
+mod payloads;
 #[cfg(test)]
-mod loopback;
-#[cfg(test)]
-mod waiting;
+mod socket;

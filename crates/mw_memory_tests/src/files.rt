@@ -7,7 +7,6 @@ use mw_netpbm::{BitmapFault, ReadFault, Text, parts, read, read_owned, read_plai
 use mw_pixel::{Bit, Image, Plane};
 use std::alloc::Global;
 use std::process::Abort;
-use std::test::Fail;
 
 /// Whether bytes are read where they lie, or handed over.
 #[derive(Clone, Copy)]
@@ -43,10 +42,20 @@ pub(crate) fn shows(image: &Image, shape: Shape, levels: &[u16]) -> bool {
     left.is_empty()
 }
 
-/// The text of the image that the bytes hold.
-fn text_of(alloc: Global, bytes: &[u8], way: Way) -> Result<Vec<u8>, Fail> {
-    let image = once_more!(ReadFault::NoMemory, image_in(alloc, bytes, way));
-    Ok(once_more!(NoMemory, write(alloc, &image)))
+/// The image that the bytes hold.
+fn image_of(rt: &impl Abort, alloc: Global, bytes: &[u8], way: Way) -> Image {
+    once_more!(rt, ReadFault::NoMemory, image_in(alloc, bytes, way))
+}
+
+fn text_once(alloc: Global, image: &Image) -> Result<Vec<u8>, NoMemory> {
+    write(alloc, image)
+}
+
+/// Stops where the image that the bytes hold has another text.
+fn is_text(rt: &impl Abort, alloc: Global, bytes: &[u8], way: Way, wanted: &[u8]) {
+    let image = image_of(rt, alloc, bytes, way);
+    let text = once_more!(rt, text_once(alloc, &image));
+    assert_eq!(rt; text.as_slice(), wanted);
 }
 
 /// 130 pixels in 17 bytes: two blocks of 64 pixels, and two more.
@@ -97,14 +106,11 @@ const TEXTS: &[(&[u8], &[u8])] = &[
 ];
 
 #[test]
-fn images_are_read_and_written(rt: HostRuntime) -> Result<(), Fail> {
+fn images_are_read_and_written(rt: HostRuntime) {
     for (file, text) in TEXTS {
-        let lent = text_of(rt.alloc(), file, Way::Lent)?;
-        assert_eq!(rt; lent.as_slice(), *text);
-        let owned = text_of(rt.alloc(), file, Way::Owned)?;
-        assert_eq!(rt; owned.as_slice(), *text);
+        is_text(&rt, rt.alloc(), file, Way::Lent, text);
+        is_text(&rt, rt.alloc(), file, Way::Owned, text);
     }
-    Ok(())
 }
 
 /// A file, what it shows, and the two parts of its text.
@@ -170,47 +176,58 @@ const SAMPLES: &[Sample] = &[
     },
 ];
 
-fn parts_of(alloc: Global, image: &Image) -> Result<Text<'_>, Fail> {
-    Ok(once_more!(NoMemory, parts(alloc, image)))
+fn parts_once(alloc: Global, image: &Image) -> Result<Text<'_>, NoMemory> {
+    parts(alloc, image)
+}
+
+/// Stops where the image's text has other parts.
+fn has_parts(rt: &impl Abort, alloc: Global, image: &Image, sample: &Sample) {
+    let text = once_more!(rt, parts_once(alloc, image));
+    assert_eq!(rt; text.front.as_slice(), sample.front);
+    assert_eq!(rt; text.rest, sample.rest);
 }
 
 /// The image is read, and its text made, which leaves the image as it is.
-fn is_shown(rt: &impl Abort, alloc: Global, sample: &Sample, way: Way) -> Result<(), Fail> {
-    let image = once_more!(ReadFault::NoMemory, image_in(alloc, sample.file, way));
+fn is_shown(rt: &impl Abort, alloc: Global, sample: &Sample, way: Way) {
+    let image = image_of(rt, alloc, sample.file, way);
     assert!(rt; shows(&image, sample.shape, sample.levels));
-    let text = parts_of(alloc, &image)?;
-    assert_eq!(rt; text.front.as_slice(), sample.front);
-    assert_eq!(rt; text.rest, sample.rest);
+    has_parts(rt, alloc, &image, sample);
     assert!(rt; shows(&image, sample.shape, sample.levels));
-    Ok(())
 }
 
 #[test]
-fn texts_are_made_in_two_parts(rt: HostRuntime) -> Result<(), Fail> {
+fn texts_are_made_in_two_parts(rt: HostRuntime) {
     for sample in SAMPLES {
-        is_shown(&rt, rt.alloc(), sample, Way::Lent)?;
-        is_shown(&rt, rt.alloc(), sample, Way::Owned)?;
+        is_shown(&rt, rt.alloc(), sample, Way::Lent);
+        is_shown(&rt, rt.alloc(), sample, Way::Owned);
     }
-    Ok(())
 }
 
-fn bitmap_in(alloc: Global, bytes: &[u8]) -> Result<Plane<Bit>, Fail> {
-    Ok(once_more!(BitmapFault::NoMemory, read_plain_bitmap(alloc, bytes, 255)))
+fn bitmap_once(alloc: Global, bytes: &[u8]) -> Result<Plane<Bit>, BitmapFault> {
+    read_plain_bitmap(alloc, bytes, 255)
 }
 
 #[test]
-fn bitmaps_are_read(rt: HostRuntime) -> Result<(), Fail> {
-    let step = bitmap_in(rt.alloc(), b"P1 # a step\n3 2\n010\n011\n")?;
+fn bitmaps_are_read(rt: HostRuntime) {
+    let bytes = b"P1 # a step\n3 2\n010\n011\n";
+    let step = once_more!(&rt, BitmapFault::NoMemory, bitmap_once(rt.alloc(), bytes));
     assert!(rt; has(&step, 3, 2, &[0, 1, 0, 0, 1, 1]));
-    Ok(())
 }
 
-fn parsed(alloc: Global, bytes: &[u8], ox: u32, oy: u32) -> Result<Element, Fail> {
-    Ok(once_more!(ElementFault::NoMemory, Element::parse(alloc, bytes, ox, oy)))
+fn element_once(alloc: Global) -> Result<Element, ElementFault> {
+    Element::parse(alloc, CORNER_BYTES, 0, 1)
 }
 
-fn reflected(alloc: Global, element: &Element) -> Result<Element, Fail> {
-    Ok(once_more!(NoMemory, element.reflect(alloc)))
+fn corner(rt: &impl Abort, alloc: Global) -> Element {
+    once_more!(rt, ElementFault::NoMemory, element_once(alloc))
+}
+
+fn reflected_once(alloc: Global, element: &Element) -> Result<Element, NoMemory> {
+    element.reflect(alloc)
+}
+
+fn reflected(rt: &impl Abort, alloc: Global, element: &Element) -> Element {
+    once_more!(rt, reflected_once(alloc, element))
 }
 
 const CORNER_BYTES: &[u8] = b"P1 # a corner\n2 2\n10\n11\n";
@@ -222,27 +239,26 @@ const CORNER: [Offset; 3] = [
 ];
 
 #[test]
-fn elements_are_read(rt: HostRuntime) -> Result<(), Fail> {
-    let corner = parsed(rt.alloc(), CORNER_BYTES, 0, 1)?;
+fn elements_are_read(rt: HostRuntime) {
+    let corner = corner(&rt, rt.alloc());
     assert_eq!(rt; corner.shape(), Shape::Element(2, 2));
     assert_eq!(rt; corner.offsets(), CORNER.as_slice());
     assert!(rt; corner.holds_origin() && corner.as_rectangle().is_none());
     assert_eq!(rt; corner.runs().len(), 2);
-    Ok(())
 }
 
+const TURNED: [Offset; 3] = [
+    Offset { dx: 0, dy: 1 },
+    Offset { dx: 0, dy: 0 },
+    Offset { dx: -1, dy: 0 },
+];
+
 #[test]
-fn elements_are_reflected(rt: HostRuntime) -> Result<(), Fail> {
-    let corner = parsed(rt.alloc(), CORNER_BYTES, 0, 1)?;
-    let turned = reflected(rt.alloc(), &corner)?;
-    let offsets = [
-        Offset { dx: 0, dy: 1 },
-        Offset { dx: 0, dy: 0 },
-        Offset { dx: -1, dy: 0 },
-    ];
+fn elements_are_reflected(rt: HostRuntime) {
+    let corner = corner(&rt, rt.alloc());
+    let turned = reflected(&rt, rt.alloc(), &corner);
     assert_eq!(rt; turned.shape(), Shape::Element(2, 2));
-    assert_eq!(rt; turned.offsets(), offsets.as_slice());
+    assert_eq!(rt; turned.offsets(), TURNED.as_slice());
     assert_eq!(rt; turned.runs().len(), 2);
     assert_eq!(rt; corner.offsets(), CORNER.as_slice());
-    Ok(())
 }

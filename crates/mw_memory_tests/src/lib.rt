@@ -9,10 +9,23 @@
 /// What a call gives, made once more where it was refused for want of memory.
 #[cfg(test)]
 macro_rules! once_more {
-    ($refused:pat, $call:expr) => {
+    ($rt:expr, $call:expr) => {
         match $call {
-            Err($refused) => $call?,
-            first => first?,
+            Ok(made) => made,
+            Err(_) => match $call {
+                Ok(made) => made,
+                Err(_) => panic!($rt; "there is memory"),
+            },
+        }
+    };
+    ($rt:expr, $refused:pat, $call:expr) => {
+        match $call {
+            Ok(made) => made,
+            Err($refused) => match $call {
+                Ok(made) => made,
+                Err(_) => panic!($rt; "there is memory"),
+            },
+            Err(_) => panic!($rt; "nothing is wrong but the memory"),
         }
     };
 }

@@ -64,8 +64,8 @@ fn far_in_a_row(width: u32) -> Rect {
     }
 }
 
-fn copied<P: Grey>(alloc: Global, samples: &[P]) -> Result<Vec<P>, Fail> {
-    Ok(once_more!(_, samples.to_vec(alloc)))
+fn copied<P: Grey>(rt: &impl Abort, alloc: Global, samples: &[P]) -> Vec<P> {
+    once_more!(rt, samples.to_vec(alloc))
 }
 
 /// The window that has a whole row of so many samples.
@@ -75,8 +75,8 @@ fn row_of<P: Grey>(rt: &impl Abort, width: u32, samples: Vec<P>) -> Window<P> {
 }
 
 /// The row of five samples.
-fn five(rt: &impl Abort, alloc: Global) -> Result<Window<u8>, Fail> {
-    Ok(row_of(rt, 5, copied(alloc, &FIVE)?))
+fn five(rt: &impl Abort, alloc: Global) -> Window<u8> {
+    row_of(rt, 5, copied(rt, alloc, &FIVE))
 }
 
 /// Stops where the samples are others.
@@ -99,42 +99,54 @@ fn lines(rt: HostRuntime) -> Result<(), Fail> {
     Ok(())
 }
 
-/// The sliding extremum of five samples over the bar.
-fn by_bar<E: Extremum<u8>>(
+fn in_bar<E: Extremum<u8>>(
     alloc: Global,
     window: &Window<u8>,
     neutral: u8,
-) -> Result<Vec<u8>, Fail> {
-    let tile = all_of_a_row(5);
-    let made = once_more!(
-        NoMemory,
-        rectangle::<u8, E>(alloc, window, BAR, neutral, tile)
-    );
-    Ok(made.into_samples())
+) -> Result<Plane<u8>, NoMemory> {
+    rectangle::<u8, E>(alloc, window, BAR, neutral, all_of_a_row(5))
 }
 
-/// The same over any offsets.
-fn by_offsets<E: Extremum<u8>>(
+/// The sliding extremum of five samples over the bar.
+fn by_bar<E: Extremum<u8>>(
+    rt: &impl Abort,
+    alloc: Global,
+    window: &Window<u8>,
+    neutral: u8,
+) -> Vec<u8> {
+    once_more!(rt, in_bar::<E>(alloc, window, neutral)).into_samples()
+}
+
+#[test]
+fn extrema_by_a_bar(rt: HostRuntime) {
+    let five = five(&rt, rt.alloc());
+    let least = by_bar::<Min>(&rt, rt.alloc(), &five, 9);
+    are(&rt, &least, &[1, 1, 1, 1, 1]);
+    let greatest = by_bar::<Max>(&rt, rt.alloc(), &five, 0);
+    are(&rt, &greatest, &[3, 4, 4, 5, 5]);
+    are(&rt, five.samples(), &FIVE);
+}
+
+fn over_offsets<E: Extremum<u8>>(
     alloc: Global,
     window: &Window<u8>,
     offsets: &[Offset],
     neutral: u8,
     tile: Rect,
-) -> Result<Vec<u8>, Fail> {
-    let made = once_more!(
-        NoMemory,
-        extremum::<u8, E>(alloc, window, offsets, neutral, tile)
-    );
-    Ok(made.into_samples())
+) -> Result<Plane<u8>, NoMemory> {
+    extremum::<u8, E>(alloc, window, offsets, neutral, tile)
 }
 
-#[test]
-fn extrema_by_a_bar(rt: HostRuntime) -> Result<(), Fail> {
-    let five = five(&rt, rt.alloc())?;
-    are(&rt, &by_bar::<Min>(rt.alloc(), &five, 9)?, &[1, 1, 1, 1, 1]);
-    are(&rt, &by_bar::<Max>(rt.alloc(), &five, 0)?, &[3, 4, 4, 5, 5]);
-    are(&rt, five.samples(), &FIVE);
-    Ok(())
+/// The same over any offsets.
+fn by_offsets<E: Extremum<u8>>(
+    rt: &impl Abort,
+    alloc: Global,
+    window: &Window<u8>,
+    offsets: &[Offset],
+    neutral: u8,
+    tile: Rect,
+) -> Vec<u8> {
+    once_more!(rt, over_offsets::<E>(alloc, window, offsets, neutral, tile)).into_samples()
 }
 
 /// Both extrema of five samples over any offsets.
@@ -145,18 +157,17 @@ fn are_extrema(
     tile: Rect,
     least: &[u8],
     greatest: &[u8],
-) -> Result<(), Fail> {
-    let five = five(rt, alloc)?;
-    let made = by_offsets::<Min>(alloc, &five, offsets, 9, tile)?;
+) {
+    let five = five(rt, alloc);
+    let made = by_offsets::<Min>(rt, alloc, &five, offsets, 9, tile);
     are(rt, &made, least);
-    let made = by_offsets::<Max>(alloc, &five, offsets, 0, tile)?;
+    let made = by_offsets::<Max>(rt, alloc, &five, offsets, 0, tile);
     are(rt, &made, greatest);
     are(rt, five.samples(), &FIVE);
-    Ok(())
 }
 
 #[test]
-fn extrema_by_offsets(rt: HostRuntime) -> Result<(), Fail> {
+fn extrema_by_offsets(rt: HostRuntime) {
     let tile = all_of_a_row(5);
     are_extrema(
         &rt,
@@ -165,11 +176,11 @@ fn extrema_by_offsets(rt: HostRuntime) -> Result<(), Fail> {
         tile,
         &[1, 4, 1, 5, 9],
         &[1, 4, 1, 5, 0],
-    )
+    );
 }
 
 #[test]
-fn extrema_by_offsets_far_apart(rt: HostRuntime) -> Result<(), Fail> {
+fn extrema_by_offsets_far_apart(rt: HostRuntime) {
     let tile = far_in_a_row(5);
     are_extrema(
         &rt,
@@ -178,7 +189,18 @@ fn extrema_by_offsets_far_apart(rt: HostRuntime) -> Result<(), Fail> {
         tile,
         &[1, 1, 1, 1, 5],
         &[3, 4, 4, 5, 5],
-    )
+    );
+}
+
+fn ranked(
+    rt: &impl Abort,
+    alloc: Global,
+    window: &Window<u8>,
+    offsets: &[Offset],
+    k: u32,
+) -> Result<Plane<u8>, NoMemory> {
+    assert!(rt; offsets.len() < 65536);
+    rank(alloc, window, offsets, k, all_of_a_row(5))
 }
 
 /// The rank filter of five samples.
@@ -189,21 +211,17 @@ fn is_ranked(
     offsets: &[Offset],
     k: u32,
     wanted: &[u8],
-) -> Result<(), Fail> {
-    assert!(rt; offsets.len() < 65536);
-    let tile = all_of_a_row(5);
-    let made = once_more!(NoMemory, rank(alloc, window, offsets, k, tile));
+) {
+    let made = once_more!(rt, ranked(rt, alloc, window, offsets, k));
     are(rt, made.samples(), wanted);
-    Ok(())
 }
 
 #[test]
-fn ranks(rt: HostRuntime) -> Result<(), Fail> {
-    let five = five(&rt, rt.alloc())?;
-    is_ranked(&rt, rt.alloc(), &five, &BAR_OFFSETS, 2, &[3, 3, 1, 4, 5])?;
-    is_ranked(&rt, rt.alloc(), &five, &RIGHT, 1, &[1, 4, 1, 5, 0])?;
+fn ranks(rt: HostRuntime) {
+    let five = five(&rt, rt.alloc());
+    is_ranked(&rt, rt.alloc(), &five, &BAR_OFFSETS, 2, &[3, 3, 1, 4, 5]);
+    is_ranked(&rt, rt.alloc(), &five, &RIGHT, 1, &[1, 4, 1, 5, 0]);
     are(&rt, five.samples(), &FIVE);
-    Ok(())
 }
 
 const SEVEN: [u8; 7] = [0, 4, 9, 5, 3, 4, 1];
@@ -211,18 +229,55 @@ const SEVEN: [u8; 7] = [0, 4, 9, 5, 3, 4, 1];
 /// The places of the seven samples with level 4 or more.
 const SET: [u16; 7] = [0, 1, 1, 1, 0, 1, 0];
 
+/// The ways to find the places of samples with so high a level, or with just this level.
+#[derive(Clone, Copy)]
+enum Way {
+    AtLeast,
+    Threshold,
+    Equal,
+    LevelSet,
+}
+
+fn set_by<P: LevelBlocks + Grey>(
+    alloc: Global,
+    way: Way,
+    levels: &Window<P>,
+    k: u32,
+) -> Result<Plane<Bit>, NoMemory> {
+    match way {
+        Way::AtLeast => at_least(alloc, levels, k),
+        Way::Threshold => threshold(alloc, levels, k),
+        Way::Equal => equal(alloc, levels, k),
+        Way::LevelSet => level_set(alloc, levels, k),
+    }
+}
+
 /// The set in words, from levels that stay as they were.
-fn set_of_levels(rt: &impl Abort, alloc: Global) -> Result<Window<Bit>, Fail> {
-    let levels = row_of(rt, 7, copied(alloc, &SEVEN)?);
-    let set = once_more!(NoMemory, at_least(alloc, &levels, 4));
+fn set_of_levels(rt: &impl Abort, alloc: Global) -> Window<Bit> {
+    let levels = row_of(rt, 7, copied(rt, alloc, &SEVEN));
+    let set = once_more!(rt, set_by(alloc, Way::AtLeast, &levels, 4));
     are(rt, levels.samples(), &SEVEN);
-    Ok(Window::whole(set))
+    Window::whole(set)
+}
+
+fn levels_once(alloc: Global, set: &Window<Bit>) -> Result<Window<u8>, NoMemory> {
+    as_levels(alloc, set)
+}
+
+fn levels_of(rt: &impl Abort, alloc: Global, set: &Window<Bit>) -> Window<u8> {
+    once_more!(rt, levels_once(alloc, set))
 }
 
 /// Whether the set is these seven pixels, and has them as its levels.
-fn are_pixels(alloc: Global, set: &Window<Bit>, pixels: &[u16]) -> Result<bool, Fail> {
-    let levels = once_more!(NoMemory, as_levels(alloc, set));
-    Ok(has(levels.plane(), 7, 1, pixels) && has(set.plane(), 7, 1, pixels))
+fn are_pixels(rt: &impl Abort, alloc: Global, set: &Window<Bit>, pixels: &[u16]) -> bool {
+    let levels = levels_of(rt, alloc, set);
+    has(levels.plane(), 7, 1, pixels) && has(set.plane(), 7, 1, pixels)
+}
+
+/// Stops where other pixels were made of the set, or the set is no longer as it was.
+fn are_made(rt: &impl Abort, alloc: Global, set: &Window<Bit>, made: Plane<Bit>, wanted: &[u16]) {
+    assert!(rt; are_pixels(rt, alloc, &Window::whole(made), wanted));
+    assert!(rt; are_pixels(rt, alloc, set, &SET));
 }
 
 fn extremum_of<E: WordExtremum>(
@@ -234,18 +289,6 @@ fn extremum_of<E: WordExtremum>(
     mw_bits::extremum::<E>(alloc, set, offsets, tile)
 }
 
-fn words_by<E: WordExtremum>(
-    alloc: Global,
-    set: &Window<Bit>,
-    offsets: &[Offset],
-    tile: Rect,
-) -> Result<Plane<Bit>, NoMemory> {
-    match extremum_of::<E>(alloc, set, offsets, tile) {
-        Err(NoMemory) => extremum_of::<E>(alloc, set, offsets, tile),
-        first => first,
-    }
-}
-
 /// One extremum of the set over any offsets.
 fn is_extremum<E: WordExtremum>(
     rt: &impl Abort,
@@ -253,26 +296,24 @@ fn is_extremum<E: WordExtremum>(
     offsets: &[Offset],
     tile: Rect,
     wanted: &[u16],
-) -> Result<(), Fail> {
-    let set = set_of_levels(rt, alloc)?;
-    let made = Window::whole(words_by::<E>(alloc, &set, offsets, tile)?);
-    assert!(rt; are_pixels(alloc, &made, wanted)?);
-    assert!(rt; are_pixels(alloc, &set, &SET)?);
-    Ok(())
+) {
+    let set = set_of_levels(rt, alloc);
+    let made = once_more!(rt, extremum_of::<E>(alloc, &set, offsets, tile));
+    are_made(rt, alloc, &set, made, wanted);
 }
 
 #[test]
-fn sets_as_words(rt: HostRuntime) -> Result<(), Fail> {
+fn sets_as_words(rt: HostRuntime) {
     let tile = all_of_a_row(7);
-    is_extremum::<Min>(&rt, rt.alloc(), &BAR_OFFSETS, tile, &[0, 0, 1, 0, 0, 0, 0])?;
-    is_extremum::<Max>(&rt, rt.alloc(), &RIGHT, tile, &[1, 1, 1, 0, 1, 0, 0])
+    is_extremum::<Min>(&rt, rt.alloc(), &BAR_OFFSETS, tile, &[0, 0, 1, 0, 0, 0, 0]);
+    is_extremum::<Max>(&rt, rt.alloc(), &RIGHT, tile, &[1, 1, 1, 0, 1, 0, 0]);
 }
 
 #[test]
-fn sets_as_words_by_offsets_far_apart(rt: HostRuntime) -> Result<(), Fail> {
+fn sets_as_words_by_offsets_far_apart(rt: HostRuntime) {
     let tile = far_in_a_row(7);
-    is_extremum::<Min>(&rt, rt.alloc(), &FAR_APART, tile, &[0, 1, 1, 0, 0, 0, 0])?;
-    is_extremum::<Max>(&rt, rt.alloc(), &FAR_APART, tile, &[1, 1, 1, 1, 1, 1, 0])
+    is_extremum::<Min>(&rt, rt.alloc(), &FAR_APART, tile, &[0, 1, 1, 0, 0, 0, 0]);
+    is_extremum::<Max>(&rt, rt.alloc(), &FAR_APART, tile, &[1, 1, 1, 1, 1, 1, 0]);
 }
 
 fn words_in_box<E: WordExtremum>(
@@ -284,45 +325,46 @@ fn words_in_box<E: WordExtremum>(
 }
 
 /// One extremum of the set over the bar.
-fn is_in_box<E: WordExtremum>(rt: &impl Abort, alloc: Global, wanted: &[u16]) -> Result<(), Fail> {
-    let set = set_of_levels(rt, alloc)?;
-    let made = once_more!(NoMemory, words_in_box::<E>(alloc, &set, all_of_a_row(7)));
-    assert!(rt; are_pixels(alloc, &Window::whole(made), wanted)?);
-    assert!(rt; are_pixels(alloc, &set, &SET)?);
-    Ok(())
+fn is_in_box<E: WordExtremum>(rt: &impl Abort, alloc: Global, wanted: &[u16]) {
+    let set = set_of_levels(rt, alloc);
+    let made = once_more!(rt, words_in_box::<E>(alloc, &set, all_of_a_row(7)));
+    are_made(rt, alloc, &set, made, wanted);
 }
 
 #[test]
-fn sets_as_words_by_a_bar(rt: HostRuntime) -> Result<(), Fail> {
-    is_in_box::<Min>(&rt, rt.alloc(), &[0, 0, 1, 0, 0, 0, 0])?;
-    is_in_box::<Max>(&rt, rt.alloc(), &[1, 1, 1, 1, 1, 1, 1])
+fn sets_as_words_by_a_bar(rt: HostRuntime) {
+    is_in_box::<Min>(&rt, rt.alloc(), &[0, 0, 1, 0, 0, 0, 0]);
+    is_in_box::<Max>(&rt, rt.alloc(), &[1, 1, 1, 1, 1, 1, 1]);
+}
+
+/// Stops where another set is found of seven samples, by level 4.
+fn is_set<P: LevelBlocks + Grey>(
+    rt: &impl Abort,
+    alloc: Global,
+    way: Way,
+    levels: &Window<P>,
+    wanted: &[u16],
+) {
+    let made = once_more!(rt, set_by(alloc, way, levels, 4));
+    assert!(rt; has(&made, 7, 1, wanted));
 }
 
 /// Both ways to find the places of seven samples with level 4 or more, and with just this level.
-fn are_sets<P: LevelBlocks + Grey>(
-    rt: &impl Abort,
-    levels: &Window<P>,
-    alloc: Global,
-) -> Result<(), Fail> {
-    let high = once_more!(NoMemory, at_least(alloc, levels, 4));
-    assert!(rt; has(&high, 7, 1, &SET));
-    let high = once_more!(NoMemory, threshold(alloc, levels, 4));
-    assert!(rt; has(&high, 7, 1, &SET));
-    let fours = once_more!(NoMemory, equal(alloc, levels, 4));
-    assert!(rt; has(&fours, 7, 1, &[0, 1, 0, 0, 0, 1, 0]));
-    let fours = once_more!(NoMemory, level_set(alloc, levels, 4));
-    assert!(rt; has(&fours, 7, 1, &[0, 1, 0, 0, 0, 1, 0]));
-    Ok(())
+fn are_sets<P: LevelBlocks + Grey>(rt: &impl Abort, levels: &Window<P>, alloc: Global) {
+    is_set(rt, alloc, Way::AtLeast, levels, &SET);
+    is_set(rt, alloc, Way::Threshold, levels, &SET);
+    is_set(rt, alloc, Way::Equal, levels, &[0, 1, 0, 0, 0, 1, 0]);
+    is_set(rt, alloc, Way::LevelSet, levels, &[0, 1, 0, 0, 0, 1, 0]);
 }
 
 #[test]
-fn sets_of_levels(rt: HostRuntime) -> Result<(), Fail> {
-    let bytes = row_of(&rt, 7, copied(rt.alloc(), &SEVEN)?);
-    are_sets(&rt, &bytes, rt.alloc())?;
+fn sets_of_levels(rt: HostRuntime) {
+    let bytes = row_of(&rt, 7, copied(&rt, rt.alloc(), &SEVEN));
+    are_sets(&rt, &bytes, rt.alloc());
     are(&rt, bytes.samples(), &SEVEN);
     let words = [0u16, 4, 9, 5, 3, 4, 1];
-    let words = row_of(&rt, 7, copied(rt.alloc(), &words)?);
-    are_sets(&rt, &words, rt.alloc())
+    let words = row_of(&rt, 7, copied(&rt, rt.alloc(), &words));
+    are_sets(&rt, &words, rt.alloc());
 }
 
 /// An image, a part of it, and the levels that this has.
@@ -365,11 +407,33 @@ fn parts() -> [Part; 6] {
     ]
 }
 
-fn window_of(alloc: Global, image: &Image, place: Rect) -> Result<SharedWindow, Fail> {
-    if !is_within(place, image.width(), image.height()) {
-        return Err("a part of the image".into());
-    }
-    Ok(once_more!(NoMemory, SharedWindow::of_image(alloc, image, place)))
+fn image_once(alloc: Global, bytes: &[u8]) -> Result<Image, ReadFault> {
+    read(alloc, bytes)
+}
+
+/// The image of a file.
+pub(crate) fn image_of(rt: &impl Abort, alloc: Global, bytes: &[u8]) -> Image {
+    once_more!(rt, ReadFault::NoMemory, image_once(alloc, bytes))
+}
+
+fn window_once(
+    rt: &impl Abort,
+    alloc: Global,
+    image: &Image,
+    place: Rect,
+) -> Result<SharedWindow, NoMemory> {
+    assert!(rt; is_within(place, image.width(), image.height()));
+    SharedWindow::of_image(alloc, image, place)
+}
+
+fn joined_once(alloc: Global, window: &SharedWindow) -> Result<AnyWindow, NoMemory> {
+    joined(alloc, window)
+}
+
+/// The window in one piece.
+fn whole_of(rt: &impl Abort, alloc: Global, image: &Image, place: Rect) -> AnyWindow {
+    let window = once_more!(rt, window_once(rt, alloc, image, place));
+    once_more!(rt, joined_once(alloc, &window))
 }
 
 /// Whether the window has these levels.
@@ -384,14 +448,12 @@ fn is_window(window: &AnyWindow, place: Rect, levels: &[u16]) -> bool {
 }
 
 #[test]
-fn windows_are_put_together(rt: HostRuntime) -> Result<(), Fail> {
+fn windows_are_put_together(rt: HostRuntime) {
     for (bytes, place, levels) in parts() {
-        let image = once_more!(ReadFault::NoMemory, read(rt.alloc(), bytes));
-        let window = window_of(rt.alloc(), &image, place)?;
-        let whole = once_more!(NoMemory, joined(rt.alloc(), &window));
+        let image = image_of(&rt, rt.alloc(), bytes);
+        let whole = whole_of(&rt, rt.alloc(), &image, place);
         assert!(rt; is_window(&whole, place, levels));
     }
-    Ok(())
 }
 
 /// Places in a row, and how far an element sees of them to both sides.
@@ -518,18 +580,13 @@ fn samples_of<P: Grey>(alloc: Global, case: Rising) -> Result<Vec<P>, NoMemory> 
     Ok(samples)
 }
 
-pub(crate) fn window_rising<P: Grey>(
-    rt: &impl Abort,
-    alloc: Global,
-    case: Rising,
-) -> Result<Window<P>, Fail> {
-    let samples = once_more!(NoMemory, samples_of::<P>(alloc, case));
+pub(crate) fn window_rising<P: Grey>(rt: &impl Abort, alloc: Global, case: Rising) -> Window<P> {
+    let samples = once_more!(rt, samples_of::<P>(alloc, case));
     assert!(rt; samples.len() == case.height as usize * case.width as usize);
-    Ok(Window::whole(Plane::new(case.width, case.height, samples)))
+    Window::whole(Plane::new(case.width, case.height, samples))
 }
 
-/// The offsets of the square.
-pub(crate) fn square(alloc: Global, reach: u32) -> Result<Vec<Offset>, NoMemory> {
+fn square_once(alloc: Global, reach: u32) -> Result<Vec<Offset>, NoMemory> {
     let reach = reach.min(9) as i16;
     let mut offsets = Vec::new(alloc);
     for dy in -reach..reach + 1 {
@@ -540,20 +597,31 @@ pub(crate) fn square(alloc: Global, reach: u32) -> Result<Vec<Offset>, NoMemory>
     Ok(offsets)
 }
 
+/// The offsets of the square.
+pub(crate) fn square(rt: &impl Abort, alloc: Global, reach: u32) -> Vec<Offset> {
+    once_more!(rt, square_once(alloc, reach))
+}
+
+fn counted<P: Counted>(
+    rt: &impl Abort,
+    alloc: Global,
+    window: &Window<P>,
+    offsets: &[Offset],
+    case: Rising,
+) -> Result<Plane<P>, NoMemory> {
+    assert!(rt; offsets.len() < 65536);
+    rank_of_grey(alloc, window, offsets, case.k, case.frame())
+}
+
 /// The ranks of the whole frame.
 fn ranks_of<P: Counted>(
     rt: &impl Abort,
     alloc: Global,
     window: &Window<P>,
     case: Rising,
-) -> Result<Plane<P>, Fail> {
-    let tile = case.frame();
-    let offsets = once_more!(NoMemory, square(alloc, case.reach));
-    assert!(rt; offsets.len() < 65536);
-    Ok(once_more!(
-        NoMemory,
-        rank_of_grey(alloc, window, &offsets, case.k, tile)
-    ))
+) -> Plane<P> {
+    let offsets = square(rt, alloc, case.reach);
+    once_more!(rt, counted(rt, alloc, window, &offsets, case))
 }
 
 /// Whether the window has the samples of the frame, as it had before.
@@ -583,39 +651,36 @@ pub(crate) fn are_ranks<P: Planar>(made: &Plane<P>, case: Rising, least: Option<
     true
 }
 
-fn are_ranked<P: Counted>(rt: &impl Abort, alloc: Global, case: Rising) -> Result<(), Fail> {
-    let window = window_rising::<P>(rt, alloc, case)?;
-    let made = ranks_of(rt, alloc, &window, case)?;
+fn are_ranked<P: Counted>(rt: &impl Abort, alloc: Global, case: Rising) {
+    let window = window_rising::<P>(rt, alloc, case);
+    let made = ranks_of(rt, alloc, &window, case);
     assert!(rt; are_ranks(&made, case, None));
     assert!(rt; is_whole(&window, case));
-    Ok(())
 }
 
 #[test]
-fn ranks_of_bytes(rt: HostRuntime) -> Result<(), Fail> {
+fn ranks_of_bytes(rt: HostRuntime) {
     for case in RISING {
-        are_ranked::<u8>(&rt, rt.alloc(), case)?;
+        are_ranked::<u8>(&rt, rt.alloc(), case);
     }
-    Ok(())
 }
 
 /// The same with levels of 12 bits.
 #[test]
-fn ranks_of_words(rt: HostRuntime) -> Result<(), Fail> {
+fn ranks_of_words(rt: HostRuntime) {
     for case in RISING {
         let step = case.step.saturating_mul(16);
-        are_ranked::<u16>(&rt, rt.alloc(), Rising { step, ..case })?;
+        are_ranked::<u16>(&rt, rt.alloc(), Rising { step, ..case });
     }
-    Ok(())
 }
 
 /// The same with levels of 16 bits, which are numbered under larger squares; those of rows that lie far from one another go
 /// another way.
 #[test]
-fn ranks_of_far_words(rt: HostRuntime) -> Result<(), Fail> {
+fn ranks_of_far_words(rt: HostRuntime) {
     for case in RISING {
         let step = case.step.saturating_mul(270);
-        are_ranked::<u16>(&rt, rt.alloc(), Rising { step, ..case })?;
+        are_ranked::<u16>(&rt, rt.alloc(), Rising { step, ..case });
     }
     let wide = Rising {
         width: 150,
@@ -625,26 +690,33 @@ fn ranks_of_far_words(rt: HostRuntime) -> Result<(), Fail> {
         reach: 7,
         k: 113,
     };
-    are_ranked::<u16>(&rt, rt.alloc(), wide)
+    are_ranked::<u16>(&rt, rt.alloc(), wide);
+}
+
+fn from_level(rt: &impl Abort, alloc: Global, levels: &Window<u8>, k: u32) -> Plane<Bit> {
+    once_more!(rt, set_by(alloc, Way::Threshold, levels, k))
 }
 
 /// The set of the places with level 120 or more.
-fn high(rt: &impl Abort, alloc: Global, case: Rising) -> Result<Window<Bit>, Fail> {
-    let levels = window_rising::<u8>(rt, alloc, case)?;
-    let set = once_more!(NoMemory, threshold(alloc, &levels, 120));
-    Ok(Window::whole(set))
+fn high(rt: &impl Abort, alloc: Global, case: Rising) -> Window<Bit> {
+    let levels = window_rising::<u8>(rt, alloc, case);
+    Window::whole(from_level(rt, alloc, &levels, 120))
+}
+
+/// The ranks of the set, as levels.
+fn ranks_of_set(rt: &impl Abort, alloc: Global, set: &Window<Bit>, case: Rising) -> Window<u8> {
+    let levels = levels_of(rt, alloc, set);
+    Window::whole(ranks_of(rt, alloc, &levels, case))
 }
 
 #[test]
-fn ranks_of_sets(rt: HostRuntime) -> Result<(), Fail> {
+fn ranks_of_sets(rt: HostRuntime) {
     for case in RISING {
-        let set = high(&rt, rt.alloc(), case)?;
-        let levels = once_more!(NoMemory, as_levels(rt.alloc(), &set));
-        let ranks = Window::whole(ranks_of(&rt, rt.alloc(), &levels, case)?);
-        let made = once_more!(NoMemory, threshold(rt.alloc(), &ranks, 1));
+        let set = high(&rt, rt.alloc(), case);
+        let ranks = ranks_of_set(&rt, rt.alloc(), &set, case);
+        let made = from_level(&rt, rt.alloc(), &ranks, 1);
         assert!(rt; are_ranks(&made, case, Some(120)));
     }
-    Ok(())
 }
 
 /// A frame of three words a row that rises by columns, and one that rises by rows.
@@ -667,19 +739,29 @@ const BY_WORDS: [Rising; 2] = [
     },
 ];
 
+fn by_words(
+    rt: &impl Abort,
+    alloc: Global,
+    set: &Window<Bit>,
+    offsets: &[Offset],
+    case: Rising,
+) -> Result<Option<Plane<Bit>>, NoMemory> {
+    assert!(rt; offsets.len() < 65536);
+    rank_by_words(alloc, set, offsets, case.k, case.frame())
+}
+
+/// The ranks of the set, by words.
+fn word_ranks(rt: &impl Abort, alloc: Global, set: &Window<Bit>, case: Rising) -> Plane<Bit> {
+    let offsets = square(rt, alloc, case.reach);
+    let made = once_more!(rt, by_words(rt, alloc, set, &offsets, case));
+    made.expect(rt, "ranks by words")
+}
+
 #[test]
-fn ranks_of_sets_by_words(rt: HostRuntime) -> Result<(), Fail> {
+fn ranks_of_sets_by_words(rt: HostRuntime) {
     for case in BY_WORDS {
-        let set = high(&rt, rt.alloc(), case)?;
-        let tile = case.frame();
-        let offsets = once_more!(NoMemory, square(rt.alloc(), case.reach));
-        assert!(rt; offsets.len() < 65536);
-        let made = once_more!(
-            NoMemory,
-            rank_by_words(rt.alloc(), &set, &offsets, case.k, tile)
-        );
-        let ranks = made.ok_or("ranks by words")?;
+        let set = high(&rt, rt.alloc(), case);
+        let ranks = word_ranks(&rt, rt.alloc(), &set, case);
         assert!(rt; are_ranks(&ranks, case, Some(120)));
     }
-    Ok(())
 }

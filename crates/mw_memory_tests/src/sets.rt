@@ -9,7 +9,6 @@ use mw_tile::Window;
 use std::alloc::Global;
 use std::process::Abort;
 use std::sync::Arc;
-use std::test::Fail;
 
 /// The rectangle of three columns and two rows.
 const FRAME: Rect = Rect {
@@ -50,49 +49,63 @@ fn image_of(alloc: Global, plane: Plane<Bit>) -> Result<Image, NoMemory> {
     }
 }
 
+fn window(alloc: Global) -> Result<Window<Bit>, NoMemory> {
+    Ok(Window::whole(pixels(alloc)?))
+}
+
+fn levels_of(alloc: Global, set: &Window<Bit>) -> Result<Window<u8>, NoMemory> {
+    as_levels(alloc, set)
+}
+
+fn levels(alloc: Global) -> Result<Window<u8>, NoMemory> {
+    levels_of(alloc, &window(alloc)?)
+}
+
+fn set_of(alloc: Global, levels: &Window<u8>) -> Result<Plane<Bit>, NoMemory> {
+    at_least(alloc, levels, 1)
+}
+
 /// All pixels, taken as levels and made of them again, as an image.
 fn of_levels(alloc: Global) -> Result<Image, NoMemory> {
-    let window = Window::whole(pixels(alloc)?);
-    let levels = as_levels(alloc, &window)?;
-    let made = at_least(alloc, &levels, 1)?;
-    image_of(alloc, made)
+    image_of(alloc, set_of(alloc, &levels(alloc)?)?)
+}
+
+fn over_offsets<E: WordExtremum>(alloc: Global, set: &Window<Bit>) -> Result<Plane<Bit>, NoMemory> {
+    extremum::<E>(alloc, set, &RIGHT, FRAME)
 }
 
 /// The extremum by the pixel to the right, as an image.
 fn by_offsets<E: WordExtremum>(alloc: Global) -> Result<Image, NoMemory> {
-    let window = Window::whole(pixels(alloc)?);
-    let made = extremum::<E>(alloc, &window, &RIGHT, FRAME)?;
-    image_of(alloc, made)
+    image_of(alloc, over_offsets::<E>(alloc, &window(alloc)?)?)
+}
+
+fn in_box<E: WordExtremum>(alloc: Global, set: &Window<Bit>) -> Result<Plane<Bit>, NoMemory> {
+    rectangle::<E>(alloc, set, BAR, FRAME)
 }
 
 /// The extremum by a pixel and the one to the right, as an image.
 fn by_box<E: WordExtremum>(alloc: Global) -> Result<Image, NoMemory> {
-    let window = Window::whole(pixels(alloc)?);
-    let made = rectangle::<E>(alloc, &window, BAR, FRAME)?;
-    image_of(alloc, made)
+    image_of(alloc, in_box::<E>(alloc, &window(alloc)?)?)
 }
 
 #[test]
-fn words_are_images(rt: HostRuntime) -> Result<(), Fail> {
-    let image = once_more!(NoMemory, of_levels(rt.alloc()));
+fn words_are_images(rt: HostRuntime) {
+    let image = once_more!(&rt, of_levels(rt.alloc()));
     assert!(rt; shows(&image, SET, &[1, 1, 0, 1, 1, 1]));
-    Ok(())
 }
 
 #[test]
-fn extrema_by_offsets_are_images(rt: HostRuntime) -> Result<(), Fail> {
-    let eroded = once_more!(NoMemory, by_offsets::<Min>(rt.alloc()));
+fn extrema_by_offsets_are_images(rt: HostRuntime) {
+    let eroded = once_more!(&rt, by_offsets::<Min>(rt.alloc()));
     assert!(rt; shows(&eroded, SET, &[1, 0, 1, 1, 1, 1]));
-    let dilated = once_more!(NoMemory, by_offsets::<Max>(rt.alloc()));
+    let dilated = once_more!(&rt, by_offsets::<Max>(rt.alloc()));
     assert!(rt; shows(&dilated, SET, &[1, 0, 0, 1, 1, 0]));
-    Ok(())
 }
 
 #[test]
-fn extrema_by_a_box_are_images(rt: HostRuntime) -> Result<(), Fail> {
-    let eroded = once_more!(NoMemory, by_box::<Min>(rt.alloc()));
+fn extrema_by_a_box_are_images(rt: HostRuntime) {
+    let eroded = once_more!(&rt, by_box::<Min>(rt.alloc()));
     assert!(rt; shows(&eroded, SET, &[1, 0, 0, 1, 1, 1]));
-    let dilated = once_more!(NoMemory, by_box::<Max>(rt.alloc()));
+    let dilated = once_more!(&rt, by_box::<Max>(rt.alloc()));
     assert!(rt; shows(&dilated, SET, &[1, 1, 0, 1, 1, 1]));
-    Ok(())
 }

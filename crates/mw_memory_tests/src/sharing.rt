@@ -11,7 +11,6 @@ use mw_tile::{AnyWindow, Window};
 use std::alloc::Global;
 use std::process::Abort;
 use std::sync::Arc;
-use std::test::Fail;
 
 /// Three columns and two rows of one sample.
 fn filled<P: Planar>(alloc: Global, sample: P) -> Result<Plane<P>, NoMemory>
@@ -21,30 +20,30 @@ fn filled<P: Planar>(alloc: Global, sample: P) -> Result<Plane<P>, NoMemory>
 }
 
 /// The same, asked for once more where memory was refused.
-fn plane_of<P: Planar>(alloc: Global, sample: P) -> Result<Plane<P>, NoMemory>
-    ensures { IfOk result (λ p. p ≡ raster 3 2 (replicate 6 sample)) }
+fn plane_of<P: Planar>(rt: &impl Abort, alloc: Global, sample: P) -> Plane<P>
+    ensures { result ≡ raster 3 2 (replicate 6 sample) }
 {
-    match filled(alloc, sample) {
-        Err(NoMemory) => filled(alloc, sample),
-        first => first,
-    }
+    once_more!(rt, filled(alloc, sample))
 }
 
 /// The plane, which others can own. Where memory was refused the plane came back, and is handed over once more.
-fn owned<P: Planar>(alloc: Global, plane: Plane<P>) -> Result<Arc<Plane<P>>, NoMemory>
-    ensures { IfOk result (λ p. arc_value p ≡ plane) }
+fn owned<P: Planar>(rt: &impl Abort, alloc: Global, plane: Plane<P>) -> Arc<Plane<P>>
+    ensures { arc_value result ≡ plane }
 {
     match Arc::new(alloc, plane) {
-        Ok(plane) => Ok(plane),
-        Err(refused) => Ok(Arc::new(alloc, refused.value)?),
+        Ok(plane) => plane,
+        Err(refused) => match Arc::new(alloc, refused.value) {
+            Ok(plane) => plane,
+            Err(_refused) => panic!(rt; "there is memory"),
+        },
     }
 }
 
 /// A plane of one sample, which others can own.
-fn owned_of<P: Planar>(alloc: Global, sample: P) -> Result<Arc<Plane<P>>, NoMemory>
-    ensures { IfOk result (λ p. arc_value p ≡ raster 3 2 (replicate 6 sample)) }
+fn owned_of<P: Planar>(rt: &impl Abort, alloc: Global, sample: P) -> Arc<Plane<P>>
+    ensures { arc_value result ≡ raster 3 2 (replicate 6 sample) }
 {
-    owned(alloc, plane_of(alloc, sample)?)
+    owned(rt, alloc, plane_of(rt, alloc, sample))
 }
 
 /// How many own the plane beside this share.
@@ -81,54 +80,69 @@ fn owned_by_two(rt: &impl Abort, share: SharedView, window: AnyWindow, wanted: &
     assert!(rt; window_of(rt, share).same(wanted));
 }
 
-/// Two images, a share and a window own one plane, and it stays where the images go.
-fn owned_in_turn(rt: &impl Abort, image: Image, wanted: &AnyWindow) -> Result<(), Fail> {
-    let first = once_more!(NoMemory, image.shared());
+fn share_of(rt: &impl Abort, image: &Image) -> Image {
+    once_more!(rt, image.share())
+}
+
+fn view_of(rt: &impl Abort, image: &Image) -> SharedView {
+    once_more!(rt, image.shared())
+}
+
+/// A share, an image and a window own one plane, and it stays where the image goes.
+fn owned_by_three(rt: &impl Abort, first: SharedView, other: Image, wanted: &AnyWindow) {
     assert!(rt; others(&first) == 1);
-    let other = once_more!(NoMemory, image.share());
-    assert!(rt; other.same(&image));
-    assert!(rt; others(&first) == 2);
-    drop(image);
-    assert!(rt; others(&first) == 1);
-    let second = once_more!(NoMemory, other.shared());
+    let second = view_of(rt, &other);
     assert!(rt; others(&first) == 2);
     let window = window_of(rt, second);
     assert!(rt; others(&first) == 2);
     drop(other);
     owned_by_two(rt, first, window, wanted);
-    Ok(())
+}
+
+/// Two images, a share and a window own one plane, and it stays where the images go.
+fn owned_in_turn(rt: &impl Abort, image: Image, wanted: &AnyWindow) {
+    let first = view_of(rt, &image);
+    assert!(rt; others(&first) == 1);
+    let other = share_of(rt, &image);
+    assert!(rt; other.same(&image));
+    assert!(rt; others(&first) == 2);
+    drop(image);
+    owned_by_three(rt, first, other, wanted);
 }
 
 #[test]
-fn sets_share_their_planes(rt: HostRuntime) -> Result<(), Fail> {
-    let set = AnyWindow::bits(Window::whole(plane_of(rt.alloc(), Bit::SET)?));
-    let image = Image::bits(owned_of(rt.alloc(), Bit::SET)?);
-    owned_in_turn(&rt, image, &set)
+fn sets_share_their_planes(rt: HostRuntime) {
+    let set = AnyWindow::bits(Window::whole(plane_of(&rt, rt.alloc(), Bit::SET)));
+    let image = Image::bits(owned_of(&rt, rt.alloc(), Bit::SET));
+    owned_in_turn(&rt, image, &set);
 }
 
 #[test]
-fn images_of_bytes_share_their_planes(rt: HostRuntime) -> Result<(), Fail> {
-    let grey = AnyWindow::grey8(Window::whole(plane_of(rt.alloc(), 7u8)?), 9);
-    let image = Image::grey8(owned_of(rt.alloc(), 7u8)?, 9);
-    owned_in_turn(&rt, image, &grey)
+fn images_of_bytes_share_their_planes(rt: HostRuntime) {
+    let grey = AnyWindow::grey8(Window::whole(plane_of(&rt, rt.alloc(), 7u8)), 9);
+    let image = Image::grey8(owned_of(&rt, rt.alloc(), 7u8), 9);
+    owned_in_turn(&rt, image, &grey);
 }
 
 #[test]
-fn images_of_two_bytes_share_their_planes(rt: HostRuntime) -> Result<(), Fail> {
-    let deep = AnyWindow::grey16(Window::whole(plane_of(rt.alloc(), 700u16)?), 999);
-    let image = Image::grey16(owned_of(rt.alloc(), 700u16)?, 999);
-    owned_in_turn(&rt, image, &deep)
+fn images_of_two_bytes_share_their_planes(rt: HostRuntime) {
+    let deep = AnyWindow::grey16(Window::whole(plane_of(&rt, rt.alloc(), 700u16)), 999);
+    let image = Image::grey16(owned_of(&rt, rt.alloc(), 700u16), 999);
+    owned_in_turn(&rt, image, &deep);
+}
+
+fn clone_of(rt: &impl Abort, plane: &Arc<Plane<u8>>) -> Arc<Plane<u8>> {
+    once_more!(rt, Arc::try_clone(plane))
 }
 
 #[test]
-fn held_planes_have_one_owner_or_several(rt: HostRuntime) -> Result<(), Fail> {
-    let alone = HeldPlane::alone(plane_of(rt.alloc(), 7u8)?);
+fn held_planes_have_one_owner_or_several(rt: HostRuntime) {
+    let alone = HeldPlane::alone(plane_of(&rt, rt.alloc(), 7u8));
     assert_eq!(rt; alone.plane().samples(), [7; 6].as_slice());
-    let plane = owned_of(rt.alloc(), 7u8)?;
-    let held = HeldPlane::sharing(once_more!(_, Arc::try_clone(&plane)));
+    let plane = owned_of(&rt, rt.alloc(), 7u8);
+    let held = HeldPlane::sharing(clone_of(&rt, &plane));
     assert_eq!(rt; Arc::strong_count(&plane), 2);
     assert_eq!(rt; held.plane().samples(), [7; 6].as_slice());
     drop(held);
     assert_eq!(rt; Arc::strong_count(&plane), 1);
-    Ok(())
 }

@@ -8,15 +8,14 @@ ghost use Rattle.mw_model.specs.Stands.{StandsFor};
 
 use mw_model::{FlatOp, Kind, Name, Op, Reply, Shape};
 use mw_netpbm::write;
-use mw_pool::{Board, Core, Gate, Naming, NewRoll, Pass, Shown};
-use mw_task::{TaskRefused, TileDone, Work};
+use mw_pool::{Board, Core, Naming, NewRoll, Pass, Shown};
 use std::alloc::Global;
 use std::process::Abort;
 use std::sync::Wait;
 
-pub(crate) const ROW: &[u8] = b"P2\n5 1\n9\n3 1 4 1 5\n";
+const ROW: &[u8] = b"P2\n5 1\n9\n3 1 4 1 5\n";
 
-pub(crate) const BAR: &[u8] = b"P1\n3 1\n111\n";
+const BAR: &[u8] = b"P1\n3 1\n111\n";
 
 /// The row as it is written.
 pub(crate) const LOADED: &[u8] = b"P5\n5 1\n9\n\x03\x01\x04\x01\x05";
@@ -27,27 +26,24 @@ pub(crate) const ERODED: &[u8] = b"P5\n5 1\n9\n\x01\x01\x01\x01\x01";
 /// The row, dilated by the bar.
 pub(crate) const DILATED: &[u8] = b"P5\n5 1\n9\n\x03\x04\x04\x05\x05";
 
-/// Tasks are run by the kernels.
-#[derive(Drop)]
-pub(crate) struct Kernels {
-    pub(crate) alloc: Global,
-}
-
-impl Gate for Kernels {
-    fn compute(&self, work: Work) -> Result<TileDone, TaskRefused> {
-        mw_step::run(self.alloc, work)
-    }
-}
-
 pub(crate) fn name(rt: &impl Abort, text: &[u8]) -> Name {
     Name::parse(text).expect(rt, "a name")
 }
 
+/// The name of the entry of a number: of two numbers under 676, a letter and two letters of base 26 of each.
+pub(crate) fn numbered(rt: &impl Abort, first: u32, second: u32) -> Name {
+    let digits = [first / 26, first, second / 26, second].map(|n| b'a' + (n % 26) as u8);
+    name(rt, &digits)
+}
+
 /// A core that has accepted nothing yet.
-pub(crate) fn new_core(rt: &impl Abort, alloc: Global) -> Core
+fn new_core(rt: &impl Abort, alloc: Global) -> Core
     ensures { StandsFor result start_state }
 {
-    Core::new(alloc, 128).expect(rt, "memory")
+    match Core::new(alloc, 128) {
+        Ok(core) => core,
+        Err(_) => Core::new(alloc, 128).expect(rt, "memory"),
+    }
 }
 
 /// A board over a new core.
@@ -57,12 +53,13 @@ pub(crate) fn new_board<J: Naming>(rt: &impl Abort, alloc: Global, roll: NewRoll
     Board::new(alloc, new_core(rt, alloc), roll)
 }
 
-pub(crate) fn erosion(rt: &impl Abort) -> Op {
-    Op::Flat(FlatOp::Erode(name(rt, b"f"), name(rt, b"b")))
+/// The erosion of this image by the bar.
+pub(crate) fn erosion(rt: &impl Abort, image: Name) -> Op {
+    Op::Flat(FlatOp::Erode(image, name(rt, b"b")))
 }
 
-pub(crate) fn dilation(rt: &impl Abort) -> Op {
-    Op::Flat(FlatOp::Dilate(name(rt, b"f"), name(rt, b"b")))
+pub(crate) fn dilation(rt: &impl Abort, image: Name) -> Op {
+    Op::Flat(FlatOp::Dilate(image, name(rt, b"b")))
 }
 
 /// What is told of the row, and of what is made of it, once it is there.
@@ -70,23 +67,104 @@ pub(crate) fn done(t: u32) -> Reply {
     Reply::Done(t, Shape::Image(Kind::Grey, 5, 1, 9))
 }
 
+/// Loads the row under `f`, ticket 0, and the bar under `b`, ticket 1. Each call is made twice where the first one found no memory.
+pub(crate) fn load_both<R: Wait + Abort, J: Naming>(
+    rt: &R,
+    alloc: Global,
+    board: &Board<J>,
+    pass: &mut Pass,
+) {
+    if !loads(rt, alloc, board, pass) {
+        assert!(rt; loads(rt, alloc, board, pass));
+    }
+    if !defines(rt, board, pass) {
+        assert!(rt; defines(rt, board, pass));
+    }
+}
+
+fn loads<R: Wait + Abort, J: Naming>(
+    rt: &R,
+    alloc: Global,
+    board: &Board<J>,
+    pass: &mut Pass,
+) -> bool {
+    match ROW.to_vec(alloc) {
+        Ok(row) => board.load(rt, pass, name(rt, b"f"), row).is_ok(),
+        Err(_) => false,
+    }
+}
+
+fn defines<R: Wait + Abort, J: Naming>(rt: &R, board: &Board<J>, pass: &mut Pass) -> bool {
+    board.element(rt, pass, name(rt, b"b"), (1, 0), BAR).is_ok()
+}
+
+/// RUN, once more where it found no memory.
 pub(crate) fn run<R: Wait + Abort, J: Naming>(
     rt: &R,
     board: &Board<J>,
     pass: &mut Pass,
-    text: &[u8],
+    made: Name,
     op: Op,
 ) -> Reply {
-    board.run(rt, pass, name(rt, text), op).expect(rt, "memory")
+    match board.run(rt, pass, made, op) {
+        Ok(reply) => reply,
+        Err(_) => board.run(rt, pass, made, op).expect(rt, "memory"),
+    }
 }
 
+/// What is told behind a wait, which is made once more where it found no memory.
 pub(crate) fn wait<R: Wait + Abort, J: Naming>(
     rt: &R,
     board: &Board<J>,
     pass: &mut Pass,
-    text: &[u8],
+    made: Name,
 ) -> Reply {
-    board.wait(rt, pass, name(rt, text)).expect(rt, "memory")
+    match board.wait(rt, pass, made) {
+        Ok(reply) => reply,
+        Err(_) => board.wait(rt, pass, made).expect(rt, "memory"),
+    }
+}
+
+pub(crate) fn status<R: Wait + Abort, J: Naming>(
+    rt: &R,
+    board: &Board<J>,
+    pass: &mut Pass,
+    made: Name,
+) -> Reply {
+    board.status(rt, pass, made).expect(rt, "memory")
+}
+
+pub(crate) fn cancel<R: Wait + Abort, J: Naming>(
+    rt: &R,
+    board: &Board<J>,
+    pass: &mut Pass,
+    made: Name,
+) -> Reply {
+    board.cancel(rt, pass, made).expect(rt, "memory")
+}
+
+/// The text of an image that is handed out; nothing where none is.
+fn text_of(rt: &impl Abort, alloc: Global, value: Shown) -> Vec<u8> {
+    match value {
+        Shown::Image(plate) => {
+            let image = plate.into_image(alloc).expect(rt, "memory");
+            write(alloc, &image).expect(rt, "memory")
+        }
+        _ => Vec::new(alloc),
+    }
+}
+
+/// A FETCH hands out this text.
+pub(crate) fn shows<R: Wait + Abort, J: Naming>(
+    rt: &R,
+    alloc: Global,
+    board: &Board<J>,
+    pass: &mut Pass,
+    made: Name,
+    wanted: &[u8],
+) {
+    let fetched = board.fetch(rt, pass, made).expect(rt, "memory");
+    assert_eq!(rt; text_of(rt, alloc, fetched.value).as_slice(), wanted);
 }
 
 /// Both passes, for an audit.
@@ -95,43 +173,4 @@ pub(crate) fn both(rt: &impl Abort, alloc: Global, one: Pass, other: Pass) -> Ve
     passes.push(one).expect(rt, "memory");
     passes.push(other).expect(rt, "memory");
     passes
-}
-
-/// Loads the row under `f`, ticket 0, and the bar under `b`, ticket 1.
-pub(crate) fn load_both<R: Wait + Abort, J: Naming>(
-    rt: &R,
-    alloc: Global,
-    board: &Board<J>,
-    pass: &mut Pass,
-) {
-    let row = ROW.to_vec(alloc).ok().expect(rt, "memory");
-    board
-        .load(rt, pass, name(rt, b"f"), row)
-        .expect(rt, "memory");
-    board
-        .element(rt, pass, name(rt, b"b"), (1, 0), BAR)
-        .expect(rt, "memory");
-}
-
-/// The text of a value that is handed out; nothing where none is.
-pub(crate) fn text_of(rt: &impl Abort, alloc: Global, value: Shown) -> Vec<u8> {
-    match value {
-        Shown::Image(plate) => {
-            let image = plate.into_image(alloc).expect(rt, "memory");
-            write(alloc, &image).expect(rt, "memory")
-        }
-        Shown::Curve(curve) => curve.text(alloc).expect(rt, "memory"),
-        Shown::Nothing => Vec::new(alloc),
-    }
-}
-
-pub(crate) fn fetch<R: Wait + Abort, J: Naming>(
-    rt: &R,
-    alloc: Global,
-    board: &Board<J>,
-    pass: &mut Pass,
-    text: &[u8],
-) -> Vec<u8> {
-    let fetched = board.fetch(rt, pass, name(rt, text)).expect(rt, "memory");
-    text_of(rt, alloc, fetched.value)
 }

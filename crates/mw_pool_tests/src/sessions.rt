@@ -1,20 +1,21 @@
 //! One session or two, and a board that is closed under one.
 
-ghost use Rattle.std.specs.Prelude.{◌≡◌};
-
 use crate::desk::{
-    ERODED, Kernels, LOADED, both, done, erosion, fetch, load_both, name, new_board, run, wait,
+    ERODED, LOADED, both, cancel, done, erosion, load_both, name, run, shows, status, wait,
 };
+use crate::door::{Door, Way, beside};
+use crate::scenes::{Scene, on_a_board};
+use crate::watch::let_sleep;
 use mw_model::Reply;
-use mw_pool::{Board, Naming, NewRoll, Pass, work};
+use mw_pool::{Board, Naming, Pass};
 use std::alloc::Global;
-use std::marker::Brand;
 use std::process::Abort;
+use std::slice;
 use std::sync::Wait;
 use std::thread::{Threads, join};
-use std::{slice, thread};
+use std::time::Clock;
 
-/// One session: an erosion that no worker takes is waited for.
+/// A session whose erosion no worker takes, and what it is told behind its wait.
 fn wait_for_erosion<R: Wait + Abort, J: Naming>(
     rt: &R,
     alloc: Global,
@@ -22,95 +23,67 @@ fn wait_for_erosion<R: Wait + Abort, J: Naming>(
 ) -> (Pass, Reply) {
     let mut pass = board.pass();
     load_both(rt, alloc, board, &mut pass);
-    run(rt, board, &mut pass, b"e", erosion(rt));
-    let reply = wait(rt, board, &mut pass, b"e");
+    run(
+        rt,
+        board,
+        &mut pass,
+        name(rt, b"e"),
+        erosion(rt, name(rt, b"f")),
+    );
+    let reply = wait(rt, board, &mut pass, name(rt, b"e"));
     (pass, reply)
 }
 
 /// Closes the board once the other thread has had time to wait.
-fn close_later<R: Wait, J: Naming>(rt: &R, board: &Board<J>) {
-    for _ in 0..10_000u32 {
-        thread::yield_now();
-    }
+fn close_later<R: Wait + Clock, J: Naming>(rt: &R, board: &Board<J>) {
+    let_sleep(rt);
     board.close(rt);
 }
 
-/// A wait that ends as the board is closed: what it is told, and its receipts, which cover the log.
-fn closed<J: Naming + Send + Sync, R: Threads + Wait + Abort + Sync>(
+/// The wait ends as the board is closed, and the receipts cover the log.
+pub(crate) fn wait_over_close<R: Threads + Wait + Clock + Abort + Sync, J: Naming + Send + Sync>(
     rt: &R,
     alloc: Global,
-    roll: NewRoll,
-) -> (Reply, usize, bool)
-    requires { roll ≡ J.book }
-{
-    let board = new_board::<J>(rt, alloc, roll);
-    let shared = &board;
+    board: &Board<J>,
+) {
     let ((pass, reply), ()) = join(
         rt,
-        move || wait_for_erosion(rt, alloc, shared),
-        move || close_later(rt, shared),
+        move || wait_for_erosion(rt, alloc, board),
+        move || close_later(rt, board),
     );
-    let covered = board.audit_all(rt, slice::from_ref(&pass));
-    (reply, pass.receipts().len(), covered)
+    assert_eq!(rt; (reply, pass.receipts().len()), (Reply::Pending(2), 4));
+    assert!(rt; board.audit_all(rt, slice::from_ref(&pass)));
 }
 
 #[test]
 fn close_ends_a_wait(rt: HostRuntime) {
-    let left = closed::<Brand, _>(&rt, rt.alloc(), NewRoll::new());
-    assert_eq!(rt; left, (Reply::Pending(2), 4, true));
-}
-
-fn cancel<R: Wait + Abort, J: Naming>(rt: &R, board: &Board<J>, pass: &mut Pass) -> Reply {
-    let e = name(rt, b"e");
-    board.cancel(rt, pass, e).expect(rt, "memory")
-}
-
-/// One session on a board without workers, which is closed at its end.
-fn without_workers<R: Wait + Abort, J: Naming>(
-    rt: &R,
-    alloc: Global,
-    board: &Board<J>,
-    pass: &mut Pass,
-) -> [Reply; 5] {
-    load_both(rt, alloc, board, pass);
-    let first = run(rt, board, pass, b"e", erosion(rt));
-    let cancelled = cancel(rt, board, pass);
-    let waited = wait(rt, board, pass, b"e");
-    let second = run(rt, board, pass, b"g", erosion(rt));
-    board.close(rt);
-    let pending = wait(rt, board, pass, b"g");
-    [first, cancelled, waited, second, pending]
-}
-
-/// The same on a board of its own: the replies, the receipts, and whether no pass and this one cover the log.
-fn alone<J: Naming, R: Wait + Abort>(
-    rt: &R,
-    alloc: Global,
-    roll: NewRoll,
-) -> ([Reply; 5], usize, bool, bool)
-    requires { roll ≡ J.book }
-{
-    let board = new_board::<J>(rt, alloc, roll);
-    let mut pass = board.pass();
-    let replies = without_workers(rt, alloc, &board, &mut pass);
-    let none = board.audit_all(rt, &[]);
-    let one = board.audit_all(rt, slice::from_ref(&pass));
-    (replies, pass.receipts().len(), none, one)
+    on_a_board(&rt, rt.alloc(), Scene::WaitOverClose);
 }
 
 /// A wait ends for an entry that is cancelled, and at once on a closed board.
+pub(crate) fn wait_alone<R: Wait + Abort, J: Naming>(rt: &R, alloc: Global, board: &Board<J>) {
+    let mut pass = board.pass();
+    load_both(rt, alloc, board, &mut pass);
+    let [e, f, g] = [b"e", b"f", b"g"].map(|text| name(rt, text));
+    let first = run(rt, board, &mut pass, e, erosion(rt, f));
+    let cancelled = cancel(rt, board, &mut pass, e);
+    let waited = wait(rt, board, &mut pass, e);
+    let second = run(rt, board, &mut pass, g, erosion(rt, f));
+    board.close(rt);
+    let pending = wait(rt, board, &mut pass, g);
+    assert_eq!(rt;
+        [first, cancelled],
+        [Reply::Accepted(2), Reply::Accepted(2)]
+    );
+    assert_eq!(rt; [waited, second], [Reply::Cancelled(2), Reply::Accepted(3)]);
+    assert_eq!(rt; (pending, pass.receipts().len()), (Reply::Pending(3), 7));
+    assert!(rt; !board.audit_all(rt, &[]));
+    assert!(rt; board.audit_all(rt, slice::from_ref(&pass)));
+}
+
 #[test]
 fn waits_end_without_workers(rt: HostRuntime) {
-    let (replies, receipts, none, one) = alone::<Brand, _>(&rt, rt.alloc(), NewRoll::new());
-    let wanted = [
-        Reply::Accepted(2),
-        Reply::Accepted(2),
-        Reply::Cancelled(2),
-        Reply::Accepted(3),
-        Reply::Pending(3),
-    ];
-    assert_eq!(rt; replies, wanted);
-    assert_eq!(rt; (receipts, none, one), (7, false, true));
+    on_a_board(&rt, rt.alloc(), Scene::WaitAlone);
 }
 
 /// A session that loads the row.
@@ -123,98 +96,78 @@ fn load_session<R: Wait + Abort, J: Naming>(rt: &R, alloc: Global, board: &Board
 /// A session that asks how the row stands.
 fn status_session<R: Wait + Abort, J: Naming>(rt: &R, board: &Board<J>) -> (Pass, Reply) {
     let mut pass = board.pass();
-    let reply = board.status(rt, &mut pass, name(rt, b"f"));
-    (pass, reply.expect(rt, "memory"))
+    let reply = status(rt, board, &mut pass, name(rt, b"f"));
+    (pass, reply)
 }
 
-/// Two sessions in threads of their own, one after the other, and what the second is told.
-fn two_sessions<R: Threads + Wait + Abort + Sync, J: Naming + Send + Sync>(
+/// Whether the first pass, the second and both cover the log.
+fn audits<R: Wait + Abort, J: Naming>(
     rt: &R,
     alloc: Global,
     board: &Board<J>,
-) -> (Pass, Pass, Reply) {
-    let (one, ()) = join(rt, move || load_session(rt, alloc, board), || ());
-    let ((two, reply), ()) = join(rt, move || status_session(rt, board), || ());
-    (one, two, reply)
+    one: Pass,
+    other: Pass,
+) -> [bool; 3] {
+    let first = board.audit_all(rt, slice::from_ref(&one));
+    let second = board.audit_all(rt, slice::from_ref(&other));
+    [
+        first,
+        second,
+        board.audit_all(rt, &both(rt, alloc, one, other)),
+    ]
 }
 
-/// What the second of two sessions is told, and whether the first pass, the second and both cover the log.
-fn two_audits<J: Naming + Send + Sync, R: Threads + Wait + Abort + Sync>(
+/// Two sessions in threads of their own, one after the other.
+pub(crate) fn two_passes<R: Threads + Wait + Abort + Sync, J: Naming + Send + Sync>(
     rt: &R,
     alloc: Global,
-    roll: NewRoll,
-) -> (Reply, [bool; 3])
-    requires { roll ≡ J.book }
-{
-    let board = new_board::<J>(rt, alloc, roll);
-    let (one, two, reply) = two_sessions(rt, alloc, &board);
-    let first = board.audit_all(rt, slice::from_ref(&one));
-    let second = board.audit_all(rt, slice::from_ref(&two));
-    let all = board.audit_all(rt, &both(rt, alloc, one, two));
-    (reply, [first, second, all])
+    board: &Board<J>,
+    looks_at_reply: bool,
+) {
+    let (one, ()) = join(rt, move || load_session(rt, alloc, board), || ());
+    let ((other, reply), ()) = join(rt, move || status_session(rt, board), || ());
+    if looks_at_reply {
+        assert_eq!(rt; reply, done(0));
+    } else {
+        assert_eq!(rt; audits(rt, alloc, board, one, other), [false, false, true]);
+    }
 }
 
 /// The log has the calls of both passes, and not those of one alone: a board that answers without asking its core fails.
 #[test]
 fn reply_without_asking_core(rt: HostRuntime) {
-    let (_, covered) = two_audits::<Brand, _>(&rt, rt.alloc(), NewRoll::new());
-    assert_eq!(rt; covered, [false, false, true]);
+    on_a_board(&rt, rt.alloc(), Scene::TwoPasses(false));
 }
 
 /// What one session did is what another is told: a board with a core for each pass fails.
 #[test]
 fn core_for_each_pass(rt: HostRuntime) {
-    let (reply, _) = two_audits::<Brand, _>(&rt, rt.alloc(), NewRoll::new());
-    assert_eq!(rt; reply, done(0));
+    on_a_board(&rt, rt.alloc(), Scene::TwoPasses(true));
 }
 
 /// A row is loaded and eroded, and both images are fetched.
-fn fetch_both<R: Wait + Abort, J: Naming>(
-    rt: &R,
-    alloc: Global,
-    board: &Board<J>,
-) -> (Vec<u8>, Vec<u8>) {
+fn fetch_session<R: Wait + Abort, J: Naming>(rt: &R, alloc: Global, board: &Board<J>) {
     let mut pass = board.pass();
     load_both(rt, alloc, board, &mut pass);
-    run(rt, board, &mut pass, b"e", erosion(rt));
-    wait(rt, board, &mut pass, b"e");
-    let loaded = fetch(rt, alloc, board, &mut pass, b"f");
-    let eroded = fetch(rt, alloc, board, &mut pass, b"e");
-    (loaded, eroded)
+    let (e, f) = (name(rt, b"e"), name(rt, b"f"));
+    run(rt, board, &mut pass, e, erosion(rt, f));
+    wait(rt, board, &mut pass, e);
+    shows(rt, alloc, board, &mut pass, f, LOADED);
+    shows(rt, alloc, board, &mut pass, e, ERODED);
 }
 
-/// A session beside one worker, which ends with it.
-fn served<R: Threads + Wait + Abort + Sync, J: Naming + Send + Sync>(
+/// The same beside one worker.
+pub(crate) fn fetch_both<R: Threads + Wait + Clock + Abort + Sync, J: Naming + Send + Sync>(
     rt: &R,
     alloc: Global,
     board: &Board<J>,
-) -> (Vec<u8>, Vec<u8>) {
-    let gate = Kernels { alloc };
-    let door = &gate;
-    thread::scope(thread::scope_env(), rt, |scope| {
-        let _ = scope.spawn(move || work(rt, board, door));
-        let texts = fetch_both(rt, alloc, board);
-        board.close(rt);
-        texts
-    })
-}
-
-/// The same on a board of its own.
-fn served_alone<J: Naming + Send + Sync, R: Threads + Wait + Abort + Sync>(
-    rt: &R,
-    alloc: Global,
-    roll: NewRoll,
-) -> (Vec<u8>, Vec<u8>)
-    requires { roll ≡ J.book }
-{
-    let board = new_board::<J>(rt, alloc, roll);
-    served(rt, alloc, &board)
+) {
+    let door = Door::new(rt, alloc, Way::Freely);
+    beside(rt, board, &door, 1, || fetch_session(rt, alloc, board));
 }
 
 /// What is fetched is what was loaded, or was made of it: a board that hands on other pixels fails.
 #[test]
 fn board_swaps_pixels(rt: HostRuntime) {
-    let (loaded, eroded) = served_alone::<Brand, _>(&rt, rt.alloc(), NewRoll::new());
-    assert_eq!(rt; loaded.as_slice(), LOADED);
-    assert_eq!(rt; eroded.as_slice(), ERODED);
+    on_a_board(&rt, rt.alloc(), Scene::FetchBoth);
 }

@@ -1,6 +1,7 @@
 pub mod Turns
 pub mod Runs
 pub mod Answering
+pub mod Tallies
 -- what lower crates offer
 pub mod mw_grid
 pub mod mw_wire

@@ -1,15 +1,18 @@
 //! One request, and what is written for it.
 
-ghost use Rattle.std.specs.Prelude.{◌≡◌, ℕ, List, OnOk, OnErr, Err, true};
+ghost use Rattle.std.specs.Prelude.{◌≡◌, ◌≢◌, ℕ, List, OnOk, OnErr, Err, true};
 ghost use Rattle.mw_model.specs.declared.names.Name.{Name};
 ghost use Rattle.mw_model.specs.declared.requests.Ask.TheVariants as Ask;
 ghost use Rattle.mw_model.specs.Lines.{AskLoad, AskElement, AskAlone};
+ghost use Rattle.mw_fetched.specs.Errors.{Marks};
+ghost use Rattle.mw_fetched.specs.mw_intake.Intake.{asked};
 ghost use Rattle.mw_session.specs.Answering.{ScriptAnswer};
 ghost use Rattle.mw_fetched.specs.mw_wire.Writes.{Wrote};
 
 use crate::payloads::{read_element, read_image};
-use mw_fetched::say_fetched;
-use mw_fetched::wire::{Desk, SessionFault, Sink, say_told};
+use crate::tally::Tally;
+use mw_fetched::wire::{Desk, SessionFault, Sink};
+use mw_fetched::{note_fetched, note_told};
 use mw_model::{Name, NoMemory, Op, Request};
 use mw_wave::{Core, Crew, Pick, run_all_work};
 use std::alloc::Global;
@@ -20,66 +23,79 @@ fn load<W: Write>(
     alloc: Global,
     sink: &mut Sink<W>,
     core: &mut Core,
+    refused: &mut bool,
     name: Name,
     payload: Vec<u8>,
 ) -> Result<(), SessionFault>
-    ensures answered { (text : List ℕ) × ScriptAnswer core.old (AskLoad name payload.items) text core.new × Wrote (W.contents sink.old.inner) (W.contents sink.new.inner) text result }
+    ensures answered { (text : List ℕ) × ScriptAnswer core.old (AskLoad name payload.items) text core.new × Marks refused.old text refused.new × Wrote (W.contents sink.old.inner) (W.contents sink.new.inner) text result }
     ensures kept { OnOk result (sink.new.failed ≡ sink.old.failed) }
     ensures flag { OnErr result ((result ≡ Err SessionFault.Write) × (sink.new.failed ≡ true)) }
 {
     let image = read_image(alloc, payload);
     let reply = core.load(name, image);
-    say_told(sink, reply)
+    note_told(sink, refused, reply)
 }
 
-/// The origin is in this column and row of the bitmap.
+/// Of a name, with the origin in this column and row of the bitmap.
 fn element<W: Write>(
     alloc: Global,
     sink: &mut Sink<W>,
     core: &mut Core,
-    name: Name,
-    origin: (u32, u32),
+    refused: &mut bool,
+    at: (Name, u32, u32),
     payload: &[u8],
 ) -> Result<(), SessionFault>
-    ensures answered { (text : List ℕ) × ScriptAnswer core.old (AskElement name origin.0 origin.1 payload.now) text core.new × Wrote (W.contents sink.old.inner) (W.contents sink.new.inner) text result }
+    ensures answered { (text : List ℕ) × ScriptAnswer core.old (AskElement at.0 at.1 at.2 payload.now) text core.new × Marks refused.old text refused.new × Wrote (W.contents sink.old.inner) (W.contents sink.new.inner) text result }
     ensures kept { OnOk result (sink.new.failed ≡ sink.old.failed) }
     ensures flag { OnErr result ((result ≡ Err SessionFault.Write) × (sink.new.failed ≡ true)) }
 {
-    let element = read_element(alloc, payload, origin.0, origin.1);
+    let (name, ox, oy) = at;
+    let element = read_element(alloc, payload, ox, oy);
     let reply = core.element(name, element);
-    say_told(sink, reply)
+    note_told(sink, refused, reply)
 }
 
 fn run<W: Write>(
     sink: &mut Sink<W>,
     core: &mut Core,
+    refused: &mut bool,
     name: Name,
     op: Op,
 ) -> Result<(), SessionFault>
-    ensures answered { (text : List ℕ) × ScriptAnswer core.old (AskAlone (Ask.Run name op)) text core.new × Wrote (W.contents sink.old.inner) (W.contents sink.new.inner) text result }
+    ensures answered { (text : List ℕ) × ScriptAnswer core.old (AskAlone (Ask.Run name op)) text core.new × Marks refused.old text refused.new × Wrote (W.contents sink.old.inner) (W.contents sink.new.inner) text result }
     ensures kept { OnOk result (sink.new.failed ≡ sink.old.failed) }
     ensures flag { OnErr result ((result ≡ Err SessionFault.Write) × (sink.new.failed ≡ true)) }
 {
     let reply = core.run(name, op);
-    say_told(sink, reply)
+    note_told(sink, refused, reply)
 }
 
-fn cancel<W: Write>(sink: &mut Sink<W>, core: &mut Core, name: Name) -> Result<(), SessionFault>
-    ensures answered { (text : List ℕ) × ScriptAnswer core.old (AskAlone (Ask.Cancel name)) text core.new × Wrote (W.contents sink.old.inner) (W.contents sink.new.inner) text result }
+fn cancel<W: Write>(
+    sink: &mut Sink<W>,
+    core: &mut Core,
+    refused: &mut bool,
+    name: Name,
+) -> Result<(), SessionFault>
+    ensures answered { (text : List ℕ) × ScriptAnswer core.old (AskAlone (Ask.Cancel name)) text core.new × Marks refused.old text refused.new × Wrote (W.contents sink.old.inner) (W.contents sink.new.inner) text result }
     ensures kept { OnOk result (sink.new.failed ≡ sink.old.failed) }
     ensures flag { OnErr result ((result ≡ Err SessionFault.Write) × (sink.new.failed ≡ true)) }
 {
     let reply = core.cancel(name);
-    say_told(sink, reply)
+    note_told(sink, refused, reply)
 }
 
-fn release<W: Write>(sink: &mut Sink<W>, core: &mut Core, name: Name) -> Result<(), SessionFault>
-    ensures answered { (text : List ℕ) × ScriptAnswer core.old (AskAlone (Ask.Release name)) text core.new × Wrote (W.contents sink.old.inner) (W.contents sink.new.inner) text result }
+fn release<W: Write>(
+    sink: &mut Sink<W>,
+    core: &mut Core,
+    refused: &mut bool,
+    name: Name,
+) -> Result<(), SessionFault>
+    ensures answered { (text : List ℕ) × ScriptAnswer core.old (AskAlone (Ask.Release name)) text core.new × Marks refused.old text refused.new × Wrote (W.contents sink.old.inner) (W.contents sink.new.inner) text result }
     ensures kept { OnOk result (sink.new.failed ≡ sink.old.failed) }
     ensures flag { OnErr result ((result ≡ Err SessionFault.Write) × (sink.new.failed ≡ true)) }
 {
     let reply = core.release(name);
-    say_told(sink, reply)
+    note_told(sink, refused, reply)
 }
 
 /// STATUS, and WAIT, which has nothing left to wait for.
@@ -87,34 +103,65 @@ fn status<W: Write, P: Pick, T: Threads + Sync>(
     crew: Crew<T>,
     sink: &mut Sink<W>,
     core: &mut Core,
+    refused: &mut bool,
     pick: &mut P,
     name: Name,
 ) -> Result<(), SessionFault>
-    ensures status { (text : List ℕ) × ScriptAnswer core.old (AskAlone (Ask.Status name)) text core.new × Wrote (W.contents sink.old.inner) (W.contents sink.new.inner) text result }
-    ensures wait { (text : List ℕ) × ScriptAnswer core.old (AskAlone (Ask.Wait name)) text core.new × Wrote (W.contents sink.old.inner) (W.contents sink.new.inner) text result }
+    ensures status { (text : List ℕ) × ScriptAnswer core.old (AskAlone (Ask.Status name)) text core.new × Marks refused.old text refused.new × Wrote (W.contents sink.old.inner) (W.contents sink.new.inner) text result }
+    ensures wait { (text : List ℕ) × ScriptAnswer core.old (AskAlone (Ask.Wait name)) text core.new × Marks refused.old text refused.new × Wrote (W.contents sink.old.inner) (W.contents sink.new.inner) text result }
     ensures kept { OnOk result (sink.new.failed ≡ sink.old.failed) }
     ensures flag { OnErr result ((result ≡ Err SessionFault.Write) × (sink.new.failed ≡ true)) }
 {
     run_all_work(crew, core, pick);
     let reply = core.status(name);
-    say_told(sink, reply)
+    note_told(sink, refused, reply)
 }
 
 fn fetch<W: Write, P: Pick, T: Threads + Sync>(
     crew: Crew<T>,
     sink: &mut Sink<W>,
     core: &mut Core,
+    refused: &mut bool,
     pick: &mut P,
     name: Name,
 ) -> Result<(), SessionFault>
-    ensures answered { (text : List ℕ) × ScriptAnswer core.old (AskAlone (Ask.Fetch name)) text core.new × Wrote (W.contents sink.old.inner) (W.contents sink.new.inner) text result }
+    ensures answered { (text : List ℕ) × ScriptAnswer core.old (AskAlone (Ask.Fetch name)) text core.new × Marks refused.old text refused.new × Wrote (W.contents sink.old.inner) (W.contents sink.new.inner) text result }
     ensures kept { OnOk result (sink.new.failed ≡ sink.old.failed) }
     ensures flag { OnErr result ((result ≡ Err SessionFault.Write) × (sink.new.failed ≡ true)) }
 {
     run_all_work(crew, core, pick);
     match core.fetch(name) {
-        Ok(fetched) => say_fetched(crew.alloc, sink, fetched),
-        Err(NoMemory) => say_told(sink, Err(NoMemory)),
+        Ok(fetched) => note_fetched(crew.alloc, sink, refused, fetched),
+        Err(NoMemory) => note_told(sink, refused, Err(NoMemory)),
+    }
+}
+
+/// Answers one request, which is not QUIT, and sets `refused` where that is by a refusal.
+fn answer_one<W: Write, P: Pick, T: Threads + Sync>(
+    crew: Crew<T>,
+    sink: &mut Sink<W>,
+    core: &mut Core,
+    refused: &mut bool,
+    pick: &mut P,
+    request: Request,
+) -> Result<(), SessionFault>
+    requires open_still { asked request ≢ AskAlone Ask.Quit }
+    ensures answered { (text : List ℕ) × ScriptAnswer core.old (asked request) text core.new × Marks refused.old text refused.new × Wrote (W.contents sink.old.inner) (W.contents sink.new.inner) text result }
+    ensures kept { OnOk result (sink.new.failed ≡ sink.old.failed) }
+    ensures flag { OnErr result ((result ≡ Err SessionFault.Write) × (sink.new.failed ≡ true)) }
+{
+    match request {
+        Request::Load(name, payload) => load(crew.alloc, sink, core, refused, name, payload),
+        Request::Element(name, ox, oy, payload) => {
+            element(crew.alloc, sink, core, refused, (name, ox, oy), &payload)
+        }
+        Request::Run(name, op) => run(sink, core, refused, name, op),
+        Request::Cancel(name) => cancel(sink, core, refused, name),
+        Request::Release(name) => release(sink, core, refused, name),
+        Request::Status(name) => status(crew, sink, core, refused, pick, name),
+        Request::Wait(name) => status(crew, sink, core, refused, pick, name),
+        Request::Fetch(name) => fetch(crew, sink, core, refused, pick, name),
+        Request::Quit => Ok(()),
     }
 }
 
@@ -141,19 +188,42 @@ impl<P: Pick, T: Threads + Sync> Desk for Clerk<'_, '_, P, T> {
         core: &mut Core,
         request: Request,
     ) -> Result<(), SessionFault> {
-        let crew = self.crew;
-        match request {
-            Request::Load(name, payload) => load(crew.alloc, sink, core, name, payload),
-            Request::Element(name, ox, oy, payload) => {
-                element(crew.alloc, sink, core, name, (ox, oy), &payload)
-            }
-            Request::Run(name, op) => run(sink, core, name, op),
-            Request::Cancel(name) => cancel(sink, core, name),
-            Request::Release(name) => release(sink, core, name),
-            Request::Status(name) => status(crew, sink, core, self.pick, name),
-            Request::Wait(name) => status(crew, sink, core, self.pick, name),
-            Request::Fetch(name) => fetch(crew, sink, core, self.pick, name),
-            Request::Quit => Ok(()),
-        }
+        let mut refused = false;
+        answer_one(self.crew, sink, core, &mut refused, self.pick, request)
+    }
+}
+
+/// Answers as a clerk does, and keeps the tally.
+#[derive(Drop)]
+pub(crate) struct Teller<'r, 'p, P, T> {
+    pub crew: Crew<'r, T>,
+    pub pick: &'p mut P,
+}
+
+impl<P: Pick, T: Threads + Sync> Desk for Teller<'_, '_, P, T> {
+    ghost use Rattle.std.specs.Thread.{IsSync};
+    ghost use Rattle.mw_session.specs.Tallies.{Tallied};
+
+    type Kept = Tally;
+
+    ghost Answer = { Tallied };
+
+    ghost ready = { IsSync T.row };
+
+    fn answer<W: Write>(
+        &mut self,
+        sink: &mut Sink<W>,
+        tally: &mut Tally,
+        request: Request,
+    ) -> Result<(), SessionFault> {
+        tally.line = tally.line.saturating_add(1);
+        answer_one(
+            self.crew,
+            sink,
+            &mut tally.core,
+            &mut tally.refused,
+            self.pick,
+            request,
+        )
     }
 }

@@ -3,7 +3,7 @@
 //! ```
 //! let mut source = Source::new(reader);
 //! let mut sink = Sink::new(writer);
-//! let end = run_script(crew, &mut source, &mut sink, &mut core, &mut pick)?;
+//! let end = run_script(crew, &mut source, &mut sink, &mut core, &mut pick)?; // `run_counted`: with a tally
 //! ```
 #![tactic(auto)]
 
@@ -11,13 +11,15 @@ mod answer;
 mod laws;
 mod payloads;
 mod script;
+mod tally;
 
 pub use laws::{finished_is_script, stopped_is_broken};
 pub use mw_model::End;
 pub use mw_wave::{Core, Crew, Pick};
-pub use script::run_script;
+pub use script::{run_counted, run_script};
+pub use tally::Tally;
 
 // What lower crates offer, for the crates above.
 pub mod wire {
-    pub use mw_fetched::wire::{Sink, Source, send, tell};
+    pub use mw_fetched::wire::{ReplyLine, Sink, Source, send, tell};
 }

@@ -4,8 +4,10 @@ ghost use Rattle.std.specs.Prelude.{◌≡◌, ◌≤◌, ◌⊎◌, Err, false,
 ghost use Rattle.mw_model.specs.Machine.{Machine};
 ghost use Rattle.mw_model.specs.Stands.{StandsFor, running_count};
 ghost use Rattle.mw_session.specs.Runs.{SessionRan};
+ghost use Rattle.mw_session.specs.Tallies.{IsCounted};
 
-use crate::answer::Clerk;
+use crate::answer::{Clerk, Teller};
+use crate::tally::Tally;
 use mw_fetched::wire::{SessionFault, Sink, Source, run_session};
 use mw_model::End;
 use mw_wave::{Core, Crew, Pick};
@@ -39,4 +41,32 @@ pub fn run_script<R: Read, W: Write, P: Pick, T: Threads + Sync>(
 {
     let mut clerk = Clerk { crew, pick };
     run_session(crew.alloc, source, sink, &mut clerk, core)
+}
+
+/// Serves a script as `run_script` does. Behind an end the tally has the number of the line behind what was answered, of the
+/// lines of requests, and whether a reply was a refusal.
+pub fn run_counted<R: Read, W: Write, P: Pick, T: Threads + Sync>(
+    crew: Crew<T>,
+    source: &mut Source<R>,
+    sink: &mut Sink<W>,
+    tally: &mut Tally,
+    pick: &mut P,
+) -> Result<End, SessionFault>
+    requires source_clear { source.old.failed ≡ false }
+    requires sink_clear { sink.old.failed ≡ false }
+    requires unread { source.old.reads ≡ 0 }
+    requires idle { running_count tally.old.core ≡ 0 }
+    requires first { tally.old.line ≡ 1 }
+    requires clear { tally.old.refused ≡ false }
+    // What was written is the script of the bytes that were read, or what a fault left of it, and the core stands for the state after it. Behind an end the tally counts what was answered.
+    ensures ran { (m : Machine) → StandsFor tally.old.core m
+        → (s : SessionRan m tally.old.core tally.new.core (R.remaining source.old.inner) (R.remaining source.new.inner) (W.contents sink.old.inner) (W.contents sink.new.inner) result) × IsCounted result s tally.new }
+    ensures few_reads { source.new.reads ≤ 4294967295 }
+    ensures read_fault { result ≡ Err SessionFault.Read → (source.new.failed ≡ true) ⊎ (source.new.reads ≡ 4294967295) }
+    ensures write_fault { result ≡ Err SessionFault.Write → sink.new.failed ≡ true }
+    ensures reader_failed { source.new.failed ≡ true → result ≡ Err SessionFault.Read }
+    ensures writer_failed { sink.new.failed ≡ true → result ≡ Err SessionFault.Write }
+{
+    let mut teller = Teller { crew, pick };
+    run_session(crew.alloc, source, sink, &mut teller, tally)
 }

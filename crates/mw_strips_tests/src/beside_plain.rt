@@ -2,20 +2,30 @@
 
 ghost use Rattle.mw_arrays.specs.Sources.{IsSource, picture_in};
 
-use crate::given::{ELEMENTS, grey8, grey16, set, shared, various};
-use crate::jobs::{JOBS, Job, plainly, write};
-use mw_images_for_tests::{are_levels, noise, row_of};
+use crate::given::{ELEMENTS, bytes_of, even, grey8, grey16, scene, set, shared, various};
+use crate::jobs::{JOBS, Job, plainly, written};
+use mw_images_for_tests::are_levels;
 use mw_model::plain::PlainImage;
 use mw_model::{Kind, plain};
-use mw_pixel::copies;
 use mw_strips::{Element, Sample, Source, threshold_into};
 use std::alloc::Global;
 use std::process::Abort;
 use std::sync::Arc;
-use std::test::Fail;
 
 /// The sides of frames.
 const FRAMES: [(u32, u32); 4] = [(1, 40), (40, 1), (17, 9), (1, 1)];
+
+fn wanted(
+    rt: &impl Abort,
+    alloc: Global,
+    job: Job,
+    image: &PlainImage,
+    b: &Arc<Element>,
+) -> PlainImage {
+    plainly(alloc, job, image, b.offsets())
+        .ok()
+        .expect(rt, "memory")
+}
 
 /// Stops where the job writes something else than the plain program makes.
 fn job_is_plain<P: Sample>(
@@ -25,15 +35,13 @@ fn job_is_plain<P: Sample>(
     f: Source<'_>,
     image: &PlainImage,
     b: &Arc<Element>,
-) -> Result<(), Fail>
+)
     requires sound { IsSource f }
     requires stands { P.stands (picture_in f).maxval }
 {
-    let mut out = copies(alloc, f.count(), P::TOP)?;
-    write(alloc, job, f, b, out.as_mut_slice())?;
-    let wanted = plainly(alloc, job, image, b.offsets())?;
+    let out = written::<P>(rt, alloc, job, f, b);
+    let wanted = wanted(rt, alloc, job, image, b);
     assert!(rt; are_levels(&out, wanted.samples()));
-    Ok(())
 }
 
 /// Stops where a job writes something else by the element than the plain program makes.
@@ -43,95 +51,91 @@ fn jobs_are_plain<P: Sample>(
     f: Source<'_>,
     image: &PlainImage,
     b: &Arc<Element>,
-) -> Result<(), Fail>
+)
     requires sound { IsSource f }
     requires stands { P.stands (picture_in f).maxval }
 {
     for job in JOBS {
-        job_is_plain::<P>(rt, alloc, job, f, image, b)?;
+        job_is_plain::<P>(rt, alloc, job, f, image, b);
     }
-    Ok(())
 }
 
 /// Stops where a job writes something else than the plain program makes.
-fn is_plain<P: Sample>(
-    rt: &impl Abort,
-    alloc: Global,
-    f: Source<'_>,
-    image: &PlainImage,
-) -> Result<(), Fail>
+fn is_plain<P: Sample>(rt: &impl Abort, alloc: Global, f: Source<'_>, image: &PlainImage)
     requires sound { IsSource f }
     requires stands { P.stands (picture_in f).maxval }
 {
     for bitmap in ELEMENTS {
-        let b = shared(alloc, bitmap)?;
-        jobs_are_plain::<P>(rt, alloc, f, image, &b)?;
+        let b = shared(rt, alloc, bitmap);
+        jobs_are_plain::<P>(rt, alloc, f, image, &b);
     }
-    Ok(())
+}
+
+fn threshold_of(rt: &impl Abort, alloc: Global, k: u32, f: Source<'_>) -> Vec<u8>
+    requires sound { IsSource f }
+{
+    let mut out = even(rt, alloc, f.count(), 7u8);
+    let answer = threshold_into(alloc, k, f, out.as_mut_slice());
+    assert!(rt; answer.is_ok());
+    out
 }
 
 /// Stops where another set is written than the plain program makes.
-fn thresholds_are_plain(
-    rt: &impl Abort,
-    alloc: Global,
-    f: Source<'_>,
-    image: &PlainImage,
-) -> Result<(), Fail>
+fn thresholds_are_plain(rt: &impl Abort, alloc: Global, f: Source<'_>, image: &PlainImage)
     requires sound { IsSource f }
 {
     for k in [0u32, 1, 100, 200, 4095, 70000] {
-        let mut out = copies(alloc, f.count(), 7u8)?;
-        threshold_into(alloc, k, f, out.as_mut_slice())?;
-        let wanted = plain::threshold(alloc, image, k)?;
+        let out = threshold_of(rt, alloc, k, f);
+        let wanted = plain::threshold(alloc, image, k);
+        let wanted = wanted.ok().expect(rt, "memory");
         assert!(rt; are_levels(&out, wanted.samples()));
     }
-    Ok(())
 }
 
-fn bytes_are_plain(rt: &impl Abort, alloc: Global, width: u32, height: u32) -> Result<(), Fail> {
-    let image = noise(alloc, Kind::Grey, width, height, 200)?;
-    let samples = row_of::<u8>(alloc, image.samples())?;
-    let f = grey8(&samples, width, height, 200)?;
-    thresholds_are_plain(rt, alloc, f, &image)?;
-    is_plain::<u8>(rt, alloc, f, &image)
+fn bytes_are_plain(rt: &impl Abort, alloc: Global, sides: (u32, u32)) {
+    let (width, height) = sides;
+    let image = scene(rt, alloc, Kind::Grey, sides, 200);
+    let samples = bytes_of(rt, alloc, &image);
+    let f = grey8(rt, &samples, width, height, 200);
+    thresholds_are_plain(rt, alloc, f, &image);
+    is_plain::<u8>(rt, alloc, f, &image);
 }
 
-fn words_are_plain(rt: &impl Abort, alloc: Global, width: u32, height: u32) -> Result<(), Fail> {
-    let image = noise(alloc, Kind::Grey, width, height, 4095)?;
-    let f = grey16(image.samples(), width, height, 4095)?;
-    thresholds_are_plain(rt, alloc, f, &image)?;
-    is_plain::<u16>(rt, alloc, f, &image)
+fn words_are_plain(rt: &impl Abort, alloc: Global, sides: (u32, u32)) {
+    let (width, height) = sides;
+    let image = scene(rt, alloc, Kind::Grey, sides, 4095);
+    let f = grey16(rt, image.samples(), width, height, 4095);
+    thresholds_are_plain(rt, alloc, f, &image);
+    is_plain::<u16>(rt, alloc, f, &image);
 }
 
-fn sets_are_plain(rt: &impl Abort, alloc: Global, width: u32, height: u32) -> Result<(), Fail> {
-    let image = noise(alloc, Kind::Bit, width, height, 1)?;
-    let mut pixels = row_of::<u8>(alloc, image.samples())?;
+fn sets_are_plain(rt: &impl Abort, alloc: Global, sides: (u32, u32)) {
+    let (width, height) = sides;
+    let image = scene(rt, alloc, Kind::Bit, sides, 1);
+    let mut pixels = bytes_of(rt, alloc, &image);
     various(pixels.as_mut_slice());
-    let f = set(&pixels, width, height)?;
-    thresholds_are_plain(rt, alloc, f, &image)?;
-    is_plain::<u8>(rt, alloc, f, &image)
+    let f = set(rt, &pixels, width, height);
+    thresholds_are_plain(rt, alloc, f, &image);
+    is_plain::<u8>(rt, alloc, f, &image);
 }
 
 #[test]
-fn levels_of_one_byte(rt: HostRuntime) -> Result<(), Fail> {
-    for (width, height) in FRAMES {
-        bytes_are_plain(&rt, rt.alloc(), width, height)?;
+fn levels_of_one_byte(rt: HostRuntime) {
+    for sides in FRAMES {
+        bytes_are_plain(&rt, rt.alloc(), sides);
     }
-    Ok(())
 }
 
 #[test]
-fn levels_of_two_bytes(rt: HostRuntime) -> Result<(), Fail> {
-    for (width, height) in FRAMES {
-        words_are_plain(&rt, rt.alloc(), width, height)?;
+fn levels_of_two_bytes(rt: HostRuntime) {
+    for sides in FRAMES {
+        words_are_plain(&rt, rt.alloc(), sides);
     }
-    Ok(())
 }
 
 #[test]
-fn sets(rt: HostRuntime) -> Result<(), Fail> {
-    for (width, height) in FRAMES {
-        sets_are_plain(&rt, rt.alloc(), width, height)?;
+fn sets(rt: HostRuntime) {
+    for sides in FRAMES {
+        sets_are_plain(&rt, rt.alloc(), sides);
     }
-    Ok(())
 }

@@ -1,6 +1,5 @@
 //! The same operators on images as one piece.
 
-ghost use Rattle.std.specs.Prelude.{IfOk};
 ghost use Rattle.mw_model.specs.Pictures.{IsImage};
 
 use crate::jobs::{Job, operation};
@@ -9,28 +8,33 @@ use mw_direct::{Image, Made, Op, PlanFault, apply};
 use mw_model::Name;
 use mw_strips::{Element, Sample};
 use std::alloc::Global;
+use std::process::Abort;
 use std::sync::Arc;
-use std::test::Fail;
 
 /// What a call gives, made once more where it was refused for want of memory.
 macro_rules! once_more {
-    ($refused:pat, $call:expr) => {
+    ($rt:expr, $refused:pat, $call:expr) => {
         match $call {
-            Err($refused) => $call?,
-            first => first?,
+            Ok(made) => made,
+            Err($refused) => match $call {
+                Ok(made) => made,
+                Err(_) => panic!($rt; "there is memory"),
+            },
+            Err(_) => panic!($rt; "nothing is wrong but the memory"),
         }
     };
 }
 
-/// The image in levels of one byte.
+/// The image in levels of one byte, once more where memory was refused.
 pub(crate) fn image_of_bytes(
+    rt: &impl Abort,
     alloc: Global,
     samples: &[u8],
     width: u32,
     height: u32,
     maxval: u32,
-) -> Result<Image, Fail>
-    ensures { IfOk result IsImage }
+) -> Image
+    ensures { IsImage result }
 {
     let f = Grey8 {
         samples,
@@ -39,20 +43,27 @@ pub(crate) fn image_of_bytes(
         maxval,
     };
     match f.fault() {
-        None => Ok(once_more!(NoMemory, f.image(alloc))),
-        Some(_) => Err("an image".into()),
+        None => match f.image(alloc) {
+            Ok(image) => image,
+            Err(NoMemory) => match f.image(alloc) {
+                Ok(image) => image,
+                Err(NoMemory) => panic!(rt; "there is memory"),
+            },
+        },
+        Some(_) => panic!(rt; "an image"),
     }
 }
 
 /// The image in levels of two bytes.
 pub(crate) fn image_of_words(
+    rt: &impl Abort,
     alloc: Global,
     samples: &[u16],
     width: u32,
     height: u32,
     maxval: u32,
-) -> Result<Image, Fail>
-    ensures { IfOk result IsImage }
+) -> Image
+    ensures { IsImage result }
 {
     let f = Grey16 {
         samples,
@@ -61,33 +72,42 @@ pub(crate) fn image_of_words(
         maxval,
     };
     match f.fault() {
-        None => Ok(f.image(alloc)?),
-        Some(_) => Err("an image".into()),
+        None => match f.image(alloc) {
+            Ok(image) => image,
+            Err(NoMemory) => panic!(rt; "memory"),
+        },
+        Some(_) => panic!(rt; "an image"),
     }
 }
 
-/// What the operation makes of the image in one piece.
-fn in_one_piece(alloc: Global, op: Op, image: &Image, b: &Arc<Element>) -> Result<Image, Fail>
+fn made_once(alloc: Global, op: &Op, image: &Image, b: &Arc<Element>) -> Result<Made, PlanFault>
     requires { IsImage image.now }
 {
-    let made = once_more!(PlanFault::NoMemory, apply(alloc, &op, image, Some(b), None));
-    match made {
-        Made::Image(found) => Ok(found),
-        Made::Curve(_) => Err("an image".into()),
+    apply(alloc, op, image, Some(b), None)
+}
+
+/// What the operation makes of the image in one piece, once more where memory was refused.
+fn in_one_piece(rt: &impl Abort, alloc: Global, op: Op, image: &Image, b: &Arc<Element>) -> Image
+    requires { IsImage image.now }
+{
+    match once_more!(rt, PlanFault::NoMemory, made_once(alloc, &op, image, b)) {
+        Made::Image(found) => found,
+        Made::Curve(_) => panic!(rt; "an image"),
     }
 }
 
 /// What the job makes of the image in one piece.
 pub(crate) fn wanted(
+    rt: &impl Abort,
     alloc: Global,
     job: Job,
     image: &Image,
     b: &Arc<Element>,
-) -> Result<Image, Fail>
+) -> Image
     requires { IsImage image.now }
 {
-    let n = Name::parse(b"n").ok_or("a name")?;
-    in_one_piece(alloc, Op::Flat(operation(job, n)), image, b)
+    let n = Name::parse(b"n").expect(rt, "a name");
+    in_one_piece(rt, alloc, Op::Flat(operation(job, n)), image, b)
 }
 
 /// Whether the array has rows of the image, from row `first` on: as many samples as it has.

@@ -1,21 +1,26 @@
 //! Elements, and arrays with which nothing is wrong.
 
-ghost use Rattle.std.specs.Prelude.{◌≤◌, IfOk};
+ghost use Rattle.std.specs.Prelude.{◌≡◌, ◌≤◌, replicate};
 ghost use Rattle.mw_arrays.specs.Sources.{IsSource, picture_in};
 
-use mw_images_for_tests::element;
+use mw_images_for_tests::{element, noise, row_of};
+use mw_model::Kind;
+use mw_model::plain::PlainImage;
 use mw_pixel::{Pixel, copies};
 use mw_strips::{Element, Grey8, Grey16, NoMemory, Set, Source};
 use std::alloc::Global;
+use std::process::Abort;
 use std::sync::Arc;
-use std::test::Fail;
 
 /// What a call gives, made once more where it was refused for want of memory.
 macro_rules! once_more {
-    ($refused:pat, $call:expr) => {
+    ($rt:expr, $call:expr) => {
         match $call {
-            Err($refused) => $call?,
-            first => first?,
+            Ok(made) => made,
+            Err(_) => match $call {
+                Ok(made) => made,
+                Err(_) => panic!($rt; "there is memory"),
+            },
         }
     };
 }
@@ -31,21 +36,75 @@ pub(crate) const ELEMENTS: [Bitmap; 4] = [
     (b"P1\n5 2\n10010\n10000\n", 4, 0),
 ];
 
+/// The element of these bytes, with its origin in this column and row.
+fn parsed(rt: &impl Abort, alloc: Global, bytes: &[u8], x: u32, y: u32) -> Element {
+    match element(alloc, bytes, x, y) {
+        Ok(element) => element,
+        Err(_fault) => panic!(rt; "an element"),
+    }
+}
+
+pub(crate) fn shared_of(
+    rt: &impl Abort,
+    alloc: Global,
+    bytes: &[u8],
+    x: u32,
+    y: u32,
+) -> Arc<Element> {
+    Arc::new(alloc, parsed(rt, alloc, bytes, x, y))
+        .ok()
+        .expect(rt, "memory")
+}
+
 /// The element of a bitmap.
-pub(crate) fn shared(alloc: Global, bitmap: Bitmap) -> Result<Arc<Element>, Fail> {
+pub(crate) fn shared(rt: &impl Abort, alloc: Global, bitmap: Bitmap) -> Arc<Element> {
     let (bytes, x, y) = bitmap;
-    Ok(Arc::new(alloc, element(alloc, bytes, x, y)?)?)
+    shared_of(rt, alloc, bytes, x, y)
+}
+
+/// An image without a pattern.
+pub(crate) fn scene(
+    rt: &impl Abort,
+    alloc: Global,
+    kind: Kind,
+    sides: (u32, u32),
+    maxval: u16,
+) -> PlainImage {
+    let (width, height) = sides;
+    match noise(alloc, kind, width, height, maxval) {
+        Ok(image) => image,
+        Err(_fault) => panic!(rt; "an image"),
+    }
+}
+
+/// The levels in bytes.
+pub(crate) fn bytes_of(rt: &impl Abort, alloc: Global, image: &PlainImage) -> Vec<u8> {
+    match row_of::<u8>(alloc, image.samples()) {
+        Ok(samples) => samples,
+        Err(_fault) => panic!(rt; "levels of one byte"),
+    }
+}
+
+/// So many samples, all the same.
+pub(crate) fn even<P: Pixel>(rt: &impl Abort, alloc: Global, count: usize, sample: P) -> Vec<P>
+    ensures { result.items ≡ replicate count sample }
+{
+    match copies(alloc, count, sample) {
+        Ok(samples) => samples,
+        Err(NoMemory) => panic!(rt; "memory"),
+    }
 }
 
 /// The image in levels of one byte.
-pub(crate) fn grey8(
-    samples: &[u8],
+pub(crate) fn grey8<'a>(
+    rt: &impl Abort,
+    samples: &'a [u8],
     width: u32,
     height: u32,
     maxval: u32,
-) -> Result<Source<'_>, Fail>
-    ensures sound { IfOk result IsSource }
-    ensures small { IfOk result (λ f. (picture_in f).maxval ≤ 255) }
+) -> Source<'a>
+    ensures sound { IsSource result }
+    ensures small { (picture_in result).maxval ≤ 255 }
 {
     let f = Grey8 {
         samples,
@@ -54,20 +113,21 @@ pub(crate) fn grey8(
         maxval,
     };
     match f.fault() {
-        None => Ok(Source::Grey8(f)),
-        Some(_) => Err("an image".into()),
+        None => Source::Grey8(f),
+        Some(_) => panic!(rt; "an image"),
     }
 }
 
 /// The image in levels of two bytes.
-pub(crate) fn grey16(
-    samples: &[u16],
+pub(crate) fn grey16<'a>(
+    rt: &impl Abort,
+    samples: &'a [u16],
     width: u32,
     height: u32,
     maxval: u32,
-) -> Result<Source<'_>, Fail>
-    ensures sound { IfOk result IsSource }
-    ensures high { IfOk result (λ f. (256 ≤ (picture_in f).maxval) × ((picture_in f).maxval ≤ 65535)) }
+) -> Source<'a>
+    ensures sound { IsSource result }
+    ensures high { (256 ≤ (picture_in result).maxval) × ((picture_in result).maxval ≤ 65535) }
 {
     let f = Grey16 {
         samples,
@@ -76,15 +136,15 @@ pub(crate) fn grey16(
         maxval,
     };
     match f.fault() {
-        None => Ok(Source::Grey16(f)),
-        Some(_) => Err("an image".into()),
+        None => Source::Grey16(f),
+        Some(_) => panic!(rt; "an image"),
     }
 }
 
 /// The set of the bytes that are not 0.
-pub(crate) fn set(pixels: &[u8], width: u32, height: u32) -> Result<Source<'_>, Fail>
-    ensures sound { IfOk result IsSource }
-    ensures small { IfOk result (λ f. (picture_in f).maxval ≤ 255) }
+pub(crate) fn set<'a>(rt: &impl Abort, pixels: &'a [u8], width: u32, height: u32) -> Source<'a>
+    ensures sound { IsSource result }
+    ensures small { (picture_in result).maxval ≤ 255 }
 {
     let f = Set {
         pixels,
@@ -92,8 +152,8 @@ pub(crate) fn set(pixels: &[u8], width: u32, height: u32) -> Result<Source<'_>, 
         height,
     };
     match f.fault() {
-        None => Ok(Source::Pixels(f)),
-        Some(_) => Err("a set".into()),
+        None => Source::Pixels(f),
+        Some(_) => panic!(rt; "a set"),
     }
 }
 
@@ -109,8 +169,8 @@ pub(crate) fn various(bytes: &mut [u8]) {
 }
 
 /// Samples without a pattern up to a level, the same at each run; made once more where memory was refused.
-pub(crate) fn mixed<P: Pixel>(alloc: Global, count: usize, maxval: u16) -> Result<Vec<P>, Fail> {
-    let mut samples = once_more!(NoMemory, copies(alloc, count, P::TOP));
+pub(crate) fn mixed<P: Pixel>(rt: &impl Abort, alloc: Global, count: usize, maxval: u16) -> Vec<P> {
+    let mut samples = once_more!(rt, copies(alloc, count, P::TOP));
     let levels = u32::from(maxval) + 1;
     let mut state = 1u32;
     for s in samples.iter_mut() {
@@ -119,5 +179,5 @@ pub(crate) fn mixed<P: Pixel>(alloc: Global, count: usize, maxval: u16) -> Resul
             *s = sample;
         }
     }
-    Ok(samples)
+    samples
 }

@@ -3,6 +3,7 @@
 ghost use Rattle.std.specs.Prelude.{◌≡◌, length, IfErr};
 ghost use Rattle.mw_arrays.specs.Sources.{IsSource, picture_in, source_count};
 
+use crate::given::even;
 use mw_model::plain::PlainImage;
 use mw_model::{FlatOp, Name, NoMemory, Offset, plain};
 use mw_strips::{
@@ -10,6 +11,7 @@ use mw_strips::{
     rank_into, rank_rows_into, residue_into, slide_into, slide_rows_into,
 };
 use std::alloc::Global;
+use std::process::Abort;
 use std::sync::Arc;
 
 /// What is written.
@@ -56,6 +58,23 @@ pub(crate) fn write<P: Sample>(
         Job::Residue(extremum) => residue_into(alloc, extremum, f, b, out),
         Job::Gradient => gradient_into(alloc, f, b, out),
     }
+}
+
+/// What the job writes; stops where memory is refused.
+pub(crate) fn written<P: Sample>(
+    rt: &impl Abort,
+    alloc: Global,
+    job: Job,
+    f: Source<'_>,
+    b: &Arc<Element>,
+) -> Vec<P>
+    requires sound { IsSource f }
+    requires stands { P.stands (picture_in f).maxval }
+{
+    let mut out = even(rt, alloc, f.count(), P::TOP);
+    let answer = write(alloc, job, f, b, out.as_mut_slice());
+    assert!(rt; answer.is_ok());
+    out
 }
 
 /// What is written by rows: operators of one step.

@@ -15,5 +15,6 @@ returns-clause-said g c = λ f cut.
     let long = raster_length g.P.RowBytes.bytes c.args.tiles.now f c.width-width.result c.height-height.result c.byte_count-count.result c.width-width.ensures.value c.height-height.ensures.value cut c.byte_count-count.ensures.value in (
       handed_text c.args.t (ImageBytes (head ++ rows)),
       inl refl,
+      refl,
       subst (λ (l : List ℕ). Wrote old new l c.send_image.result) (image_said c.args.t (length head + n) c.image_line-line.result head rows c.image_line-line.ensures (ap (λ (m : ℕ). length head + m) (sym long))) (c.send_image.ensures.wrote f cut),
     )

@@ -6,12 +6,13 @@ use Rattle.mw_session.proofs.answer.fetch.Goals as goal
 
 pub returns-in-Ok-clause-answered : goal.returns-in-Ok-clause-answered
 returns-in-Ok-clause-answered g c =
-    let said = c.say_fetched.ensures.said in (
+    let said = c.note_fetched.ensures.said in (
       said.0,
       λ m s none.
           let h = ready-by-work m (AskAlone (ask.Fetch c.args.name)) c.args.core.now c.run_all_work.new.core (c.run_all_work.ensures m s none) refl in
           answered-fetch m c.args.name c.args.core.now c.run_all_work.new.core c.fetch.new.self h c.in-Ok.fetched.reply c.in-Ok.fetched.value said.0 c.in-Ok.ensures.served (c.in-Ok.ensures.value h.state h.stands) said.1,
       said.2,
+      said.3,
     )
 
 pub returns-in-Err-clause-answered : goal.returns-in-Err-clause-answered
@@ -20,5 +21,6 @@ returns-in-Err-clause-answered g c = (
   λ m s none.
       let h = ready-by-work m (AskAlone (ask.Fetch c.args.name)) c.args.core.now c.run_all_work.new.core (c.run_all_work.ensures m s none) refl in
       answered-memory m (AskAlone (ask.Fetch c.args.name)) c.args.core.now c.run_all_work.new.core c.fetch.new.self h tt tt c.in-Err.ensures.err,
-  c.say_told.ensures.wrote,
+  c.note_told.ensures.marks,
+  c.note_told.ensures.wrote,
 )

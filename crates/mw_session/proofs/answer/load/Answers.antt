@@ -5,5 +5,6 @@ pub returns-clause-answered : goal.returns-clause-answered
 returns-clause-answered g c = (
   _,
   λ m s none. answered-load m c.args.name c.args.payload.items c.read_image-image.result c.args.core.now c.load-reply.new.self c.load-reply.result s none c.read_image-image.ensures.read c.load-reply.ensures.served c.load-reply.ensures.memory c.load-reply.ensures.err c.load-reply.ensures.first,
-  c.say_told.ensures.wrote,
+  c.note_told.ensures.marks,
+  c.note_told.ensures.wrote,
 )

@@ -5,5 +5,6 @@ pub returns-clause-answered : goal.returns-clause-answered
 returns-clause-answered g c = (
   _,
   λ m s none. answered-release m c.args.name c.args.core.now c.release-reply.new.self c.release-reply.result s none c.release-reply.ensures.served c.release-reply.ensures.err c.release-reply.ensures.full,
-  c.say_told.ensures.wrote,
+  c.note_told.ensures.marks,
+  c.note_told.ensures.wrote,
 )

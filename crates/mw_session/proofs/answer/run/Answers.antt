@@ -5,5 +5,6 @@ pub returns-clause-answered : goal.returns-clause-answered
 returns-clause-answered g c = (
   _,
   λ m s none. answered-run m c.args.name c.args.op c.args.core.now c.run-reply.new.self c.run-reply.result s none c.run-reply.ensures.served c.run-reply.ensures.fresh c.run-reply.ensures.err,
-  c.say_told.ensures.wrote,
+  c.note_told.ensures.marks,
+  c.note_told.ensures.wrote,
 )

@@ -1,4 +1,6 @@
 use Rattle.mw_session.proofs.answer.ClerkDesk.answer.Goals as goal
 
-pub returns-in-Wait-clause-answered : goal.returns-in-Wait-clause-answered
-returns-in-Wait-clause-answered g c = rw c.in-Wait.is c.status-in-Wait.ensures.wait
+pub returns-clause-answered : goal.returns-clause-answered
+returns-clause-answered g c =
+    let a = c.answer_one.ensures.answered in
+    (a.0, a.1, a.3)
