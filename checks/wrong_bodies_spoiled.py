@@ -215,7 +215,7 @@ def of_few(small):
     for answer in ("NOT REFUSED", "BAD EDIT", "NOT TRIED"):
         small.put("answer", f"{answer}\n")
         yield f"what is drawn and {answer}", small.run("--few")[0] == 1
-    small.put("out/ci.log", "rt: note: /opt/kept cannot be used, so nothing is kept: the next run proves all again\n")
+    small.put("out/ci.log", "rt: note: the store cannot be used, so nothing is kept: the next run proves all again\n")
     status, said = small.run("--few")
     yield "that nothing is kept", status == 0 and "no wrong body is tried" in said
     shutil.rmtree(f"{small.room}/out")
