@@ -7,8 +7,8 @@ import subprocess
 import time
 
 import bad_peers
-from cases_batch import hears_each_answer, ranks, worked
-from cases_serve import MUCH, UNKNOWN, answers, answers_together, connected, must_last, seconds_of, sends_at_once
+from cases_batch import ranks, worked
+from cases_serve import MUCH, UNKNOWN, answers, answers_one_by_one, answers_together, connected, must_last, seconds_of, sends_at_once
 from ends import PATIENCE, wait_for
 from peers import ERODED, GIVEN, LONGEST, Wrong, hang_up, must_be
 from server import Server, free_port
@@ -55,10 +55,7 @@ def two_sessions_share_names(program):
 def each_answer_comes_before_the_next_read(program):
     """A client that waits for each answer has it."""
     with Server(program, 1) as server:
-        with connected(server) as client:
-            hears_each_answer(client)
-            client.send(b"QUIT\n")
-            must_be(client.rest(), b"", "behind QUIT")
+        answers_one_by_one(server)
         ends(server)
 
 

@@ -100,10 +100,7 @@ def many_connections(program):
 def each_answer_comes_before_the_next_read(program):
     """A client that waits for each answer has it."""
     with Service(program, 1) as service:
-        with connected(service) as client:
-            hears_each_answer(client)
-            client.send(b"QUIT\n")
-            must_be(client.rest(), b"", "behind QUIT")
+        answers_one_by_one(service)
         ends(service)
 
 
@@ -316,6 +313,14 @@ SEGMENTS_AT, MOST_SEGMENTS = 152, 8
 def segments_of(client):
     told = client.wire.getsockopt(socket.IPPROTO_TCP, socket.TCP_INFO, 256)
     return int.from_bytes(told[SEGMENTS_AT:SEGMENTS_AT + 4], sys.byteorder)
+
+
+def answers_one_by_one(server):
+    """Stops where a client that waits for each answer does not have it."""
+    with connected(server) as client:
+        hears_each_answer(client)
+        client.send(b"QUIT\n")
+        must_be(client.rest(), b"", "behind QUIT")
 
 
 def answers_together(server):
