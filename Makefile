@@ -1,5 +1,5 @@
 # `make` alone lists the targets. docs/dev/TESTS.md says what each of them tests.
-.PHONY: help demo morphd library check-library install uninstall dist check-dist quick test wrong-bodies documents memory soak bench costs toolchain python3 compiler valgrind
+.PHONY: help where demo morphd library check-library install uninstall dist check-dist quick test wrong-bodies documents memory soak bench costs toolchain python3 compiler valgrind
 
 MORPHD = crates/morphd/out/morphd
 
@@ -14,6 +14,7 @@ help:
 	@echo "make quick      what needs no proof, in minutes: documents, sessions on a trial build, the Python tests over stand-ins"
 	@echo "make test       the gate: make quick; then proves every crate from nothing, tries the must-fail edits, runs programs and tests"
 	@echo "make wrong-bodies  tries the wrong bodies of each crate that changed, or of CRATES"
+	@echo "make where NAME=..  prints where a type, a function or a word of definitions stands"
 	@echo "make documents  compares the documents with the repository, replays their examples, and compares header and proved functions"
 	@echo "make memory     refuses each allocation and each start of a thread in turn, and measures memory"
 	@echo "make soak       runs random sessions beside a plain model, and two servers with good and bad clients; FOR=seconds"
@@ -37,6 +38,10 @@ compiler:
 valgrind:
 	@command -v valgrind >/dev/null || { \
 	  echo "valgrind is missing: install Debian's package valgrind" >&2; exit 1; }
+
+# Where a type, a function or a word of definitions stands: make where NAME=Window
+where: python3
+	@python3 -B checks/where.py $(NAME)
 
 # What can be known before anything is proved. `make test` begins with it, so that hours of proofs are not for nothing.
 quick: toolchain python3 documents
@@ -77,6 +82,7 @@ wrong-bodies: toolchain python3
 	@python3 -B checks/wrong_bodies.py $(CRATES)
 
 documents: python3
+	@python3 -B checks/floors.py
 	@python3 -B checks/docs.py --test
 	@python3 -B checks/docs.py
 	@python3 -B checks/header.py --test
@@ -138,15 +144,15 @@ demo: toolchain python3
 	@python3 examples/demo.py proved
 
 memory: toolchain python3 compiler
-	@python3 -B checks/prove.py morphd mw_memory_tests mw_core_tests mw_direct_tests mw_strips_tests mw_pool_tests
+	@python3 -B checks/prove.py morphd test_memory test_core test_direct test_strips test_pool
 	@python3 -B checks/refused_memory.py $(MORPHD)
 	@python3 -B checks/fetch_memory.py $(MORPHD)
 	@python3 -B checks/set_memory.py $(MORPHD)
-	@python3 -B checks/refused_tests.py crates/mw_memory_tests/out/mw_memory_tests_tests
-	@python3 -B checks/refused_tests.py crates/mw_core_tests/out/mw_core_tests_tests
-	@python3 -B checks/refused_tests.py crates/mw_direct_tests/out/mw_direct_tests_tests
-	@python3 -B checks/refused_tests.py crates/mw_strips_tests/out/mw_strips_tests_tests
-	@python3 -B checks/refused_tests.py crates/mw_pool_tests/out/mw_pool_tests_tests
+	@python3 -B checks/refused_tests.py crates/test_memory/out/test_memory_tests
+	@python3 -B checks/refused_tests.py crates/test_core/out/test_core_tests
+	@python3 -B checks/refused_tests.py crates/test_direct/out/test_direct_tests
+	@python3 -B checks/refused_tests.py crates/test_strips/out/test_strips_tests
+	@python3 -B checks/refused_tests.py crates/test_pool/out/test_pool_tests
 	@python3 -B checks/passed.py $@ $(BEGUN)
 
 # Each of the three soaks for as long as is asked for, and by a seed if one is given: make soak FOR=600 SEED=one

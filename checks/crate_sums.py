@@ -143,11 +143,11 @@ class Code:
             self.seen += self.take() if self.tokens[self.at].isspace() else ""
 
 
-def promised(code):
-    """What a caller sees of a file's code; all of it where it cannot be read."""
+def promised(code, of_all=False):
+    """What a caller sees of a file's code, or what is said of all its functions; all of it where it cannot be read."""
     read = Code(code)
     try:
-        read.items(False)
+        read.items(of_all)
     except ValueError:
         return code
     return read.seen if read.is_at("") else code
@@ -188,8 +188,20 @@ class Sums:
     """The sums of the crates of a repository as it stands, or as it was before names were changed; `names` has the old ones of these."""
 
     def __init__(self, root, rows, kit, names=None):
-        self.root, self.rows, self.kit, self.names = root, rows, kit, names or {}
+        self.root, self.rows, self.kit = root, rows, kit
+        # Names that are new in some files alone have behind them the crates or files, as CRATE or CRATE/src/FILE.rt.
+        self.names = {new: old for new, old in (names or {}).items() if isinstance(old, str)}
+        self.within = {new: old for new, old in (names or {}).items() if not isinstance(old, str)}
         self.back = renaming(self.names)
+
+    def names_within(self, name, path):
+        """The names that are new in a file of a crate, with the old ones."""
+        here = {new: old for new, (old, places) in self.within.items() if name in places or f"{name}/{path}" in places}
+        return {**self.names, **here}
+
+    def back_in(self, name, path):
+        """Maps the names of a file back."""
+        return renaming(self.names_within(name, path)) if self.within else self.back
 
     def home(self, name):
         return f"{self.root}/crates/{name}"
@@ -206,7 +218,7 @@ class Sums:
 
     def part(self, name, parts, view):
         """A sum of parts of a crate, whose code is viewed in some way."""
-        found = sorted((self.back(path), self.back(text)) for path, text in self.texts(name, parts))
+        found = sorted((self.back_in(name, path)(path), self.back_in(name, path)(text)) for path, text in self.texts(name, parts))
         return digest(it for path, text in found for it in (path, one_line(view(text)) if path.endswith(".rt") else text))
 
     @functools.cache
@@ -231,7 +243,13 @@ class Sums:
 
     def has_old_names(self, name):
         """Whether an old name still stands in what the sum covers: then one name became two, and mapping back joins them."""
-        olds = {*self.names.values()} - {*self.names}
+        texts = [(name, it) for it in self.texts(name, OWN)]
+        texts += [(low, it) for low in prove.all_below(name, self.rows) for it in self.texts(low, SEEN)]
+        return any(self.is_old(crate, path, text) for crate, (path, text) in texts)
+
+    def is_old(self, crate, path, text):
+        """Whether an old name still stands in a file in which it has a new one."""
+        names = self.names_within(crate, path)
+        olds = {*names.values()} - {*names}
         words = re.compile(rf"(?<!\w)(?:{'|'.join(map(re.escape, olds))})(?!\w)") if olds else None
-        texts = [*self.texts(name, OWN), *(it for low in prove.all_below(name, self.rows) for it in self.texts(low, SEEN))]
-        return bool(words) and any(words.search(it) for pair in texts for it in pair)
+        return bool(words) and bool(words.search(path) or words.search(text))

@@ -12,16 +12,17 @@ import re
 import sys
 
 import doc_examples
+import double_words
 from doc_examples import fenced, line_at
 
 sys.path.append(os.path.join(os.path.dirname(os.path.dirname(os.path.realpath(__file__))), "docs", "images"))
 import make_micrograph  # noqa: E402
 import png_files  # noqa: E402
 
-OWN = "checks/docs.py"
+OWN, RENAMED = "checks/docs.py", "checks/renamed.txt"
 ROOT = os.path.dirname(os.path.dirname(os.path.realpath(__file__)))
 MOST_README = 8192
-MOST_BYTES = {"README.md": MOST_README, "docs/dev/DECISIONS.md": 36864}
+MOST_BYTES = {"README.md": MOST_README, "docs/dev/DECISIONS.md": 37376}
 PARTS = ("src", "specs", "proofs")
 # Files beside the crates whose words documents may name.
 TEXTS = (".py", ".pyi", ".c", ".h", ".toml", ".txt", "Makefile", "HANDLES")
@@ -51,13 +52,13 @@ class Tree:
     def __init__(self):
         rows = [line.partition("#")[0].partition(":")[0].split() for line in read(f"{ROOT}/crates.txt").splitlines()]
         self.crates = [row[0] for row in rows if row]
-        self.files, self.words, self.words_of, self.lines, self.proofs, self.tests = [], set(), {}, 0, 0, 0
+        self.files, self.words, self.words_of, self.tests_of, self.lines, self.proofs = [], set(), {}, {}, 0, 0
         for name in sorted(os.listdir(ROOT)):
             if os.path.isfile(f"{ROOT}/{name}"):
                 self.files.append(name)
             elif name != "crates" and not name.startswith("."):
                 self.files += files_below(name)
-        self.words |= words_in(it for it in self.files if it.endswith(TEXTS) and it != OWN)
+        self.words |= words_in(it for it in self.files if it.endswith(TEXTS) and it not in (OWN, RENAMED))
         for crate in self.crates:
             self.look_at(crate)
         self.edits = sum(it.endswith(".edit") for it in self.files)
@@ -74,7 +75,8 @@ class Tree:
                 text = read(f"{ROOT}/{path}")
                 self.lines += text.count("\n")
                 self.proofs += text.count("\n") if part == "proofs" else 0
-                self.tests += text.count("#[test]") if part == "src" else 0
+                if part == "src":
+                    self.tests_of[crate] = self.tests_of.get(crate, 0) + text.count("#[test]")
 
     def has_file(self, path):
         """Whether a file or folder ends with the path, in which capitals and single letters stand for any name."""
@@ -136,7 +138,7 @@ def of_links(texts, tree):
 
 
 def crates_of_tests(tree):
-    return [it for it in tree.crates if it.endswith("_tests") and not it.endswith("_for_tests")]
+    return [it for it in tree.crates if tree.tests_of.get(it)]
 
 
 def told_counts(tree):
@@ -144,7 +146,7 @@ def told_counts(tree):
     tests = crates_of_tests(tree)
     return [
         ("docs/dev/CRATES.md", r"each of the (\d+) crates", len(tree.crates), 0),
-        ("docs/dev/TESTS.md", r"^(\d+) tests stand", tree.tests, 0),
+        ("docs/dev/TESTS.md", r"^(\d+) tests stand", sum(tree.tests_of.values()), 0),
         ("docs/dev/TESTS.md", r"tests stand in (\d+) crates", len(tests), 0),
         ("docs/dev/SEARCH.md", r"There are (\d+) edits", tree.edits, 0),
         ("docs/dev/SEARCH.md", r"The gate tries (\d+) edits", tree.tried, 0),
@@ -170,15 +172,14 @@ def of_counts(texts, tree):
 
 
 def first_cells(text, head):
-    """The crates in the first cells of the table with this head, each with its line."""
-    start = text.find(head)
-    if start < 0:
-        return []
-    rows = []
-    for number, line in enumerate(text[start:].split("\n"), line_at(text, start)):
-        if not line.startswith("|"):
-            break
-        rows += [(it, number) for it in re.findall(r"`(\w+)`", line.split("|")[1])]
+    """The crates in the first cells of the tables with this head, each with its line."""
+    rows, start = [], text.find(head)
+    while start >= 0:
+        for number, line in enumerate(text[start:].split("\n"), line_at(text, start)):
+            if not line.startswith("|"):
+                break
+            rows += [(it, number) for it in re.findall(r"`(\w+)`", line.split("|")[1])]
+        start = text.find(head, start + 1)
     return rows
 
 
@@ -207,7 +208,7 @@ def of_tables(texts, tree):
     floors = next(fenced(design), None)
     found = CRATE.finditer(floors.text) if floors else ()
     rows = [(it[0], floors.line + line_at(floors.text, it.start())) for it in found]
-    wanted = [it for it in tree.crates if it.startswith("mw_") and not it.endswith("_tests")]
+    wanted = [it for it in tree.crates if it.startswith("mw_")]
     yield from compared("docs/dev/DESIGN.md", rows, wanted)
 
 
@@ -276,7 +277,7 @@ def drawn(name, data):
 
 def of_search(texts, tree):
     """Each library stands once in the table of what was searched."""
-    wanted = [it for it in tree.crates if it.startswith("mw_") and not it.endswith("_tests")]
+    wanted = [it for it in tree.crates if it.startswith("mw_")]
     yield from compared("docs/dev/SEARCH.md", first_cells(texts["docs/dev/SEARCH.md"], "| crates | what was searched"), wanted)
 
 
@@ -309,7 +310,12 @@ def known_in(tree, title, cell):
     return words_in(it for it in files if it in tree.files)
 
 
-CHECKS = {"size": of_size, "links": of_links, "counts": of_counts, "tables": of_tables, "search": of_search,
+def of_words(texts, tree):
+    """No new word of definitions stands twice."""
+    yield from double_words.faults()
+
+
+CHECKS = {"size": of_size, "links": of_links, "counts": of_counts, "tables": of_tables, "search": of_search, "words": of_words,
           "definitions": of_definitions, "names": of_names,
           "images": of_images, "examples": doc_examples.faults}
 
@@ -331,15 +337,15 @@ SPOILED = [
     ("docs/GLOSSARY.md", " words", "1 words", "counts"),
     ("docs/dev/DESIGN.md", "Proofs take some ", "Proofs take some 1", "counts"),
     ("docs/dev/CRATES.md", "| `mw_model` ", "| `mw_modell` ", "tables"),
-    ("docs/dev/TESTS.md", "| `mw_c_tests` ", "| `mw_c_trials` ", "tables"),
-    ("docs/dev/DESIGN.md", "mw_wave ", "mw_wall ", "tables"),
+    ("docs/dev/TESTS.md", "| `test_c` ", "| `trial_c` ", "tables"),
+    ("docs/dev/DESIGN.md", "mw_core_waves ", "mw_wall ", "tables"),
     ("docs/dev/SEARCH.md", "| `mw_pool` ", "| `mw_pond` ", "search"),
     ("docs/dev/CRATES.md", "`say_fetched`", "`run_script`", "definitions"),
     ("docs/dev/DEFINITIONS.md", "`IsPicture`", "`IsFigure`", "definitions"),
     ("docs/PROOFS.md", "`mw_batch::batch`", "`mw_batch::patch`", "names"),
     ("docs/dev/DECISIONS.md", "`finish_own`", "`finish_owned`", "names"),
     ("CONTRIBUTING.md", "`checks/no_leaks.py`", "`checks/no_leeks.py`", "names"),
-    ("docs/dev/DESIGN.md", "`mw_fetched`", "`mw_patched`", "names"),
+    ("docs/dev/DESIGN.md", "`mw_session_fetch`", "`mw_patched`", "names"),
     ("docs/GLOSSARY.md", "`LOAD`,", "`LOAD,", "names"),
     ("docs/PROTOCOL.md", "`ERR 41 UNKNOWN`", "`ERR 42 KIND`", "examples"),
     ("docs/PROTOCOL.md", "IMAGE 2 14\n", "IMAGE 2 15\n", "examples"),

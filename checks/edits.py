@@ -31,11 +31,11 @@ refuses_innocent_ticket pass_swaps_image pass_swaps_pixels
 """.split()
 # The wrong bodies that no contract sees, each with the tests that tell it.
 TESTS = {
-    "reply_without_asking_core": ("mw_pool_tests::reply_without_asking_core",),
-    "core_for_each_pass": ("mw_pool_tests::core_for_each_pass",),
-    "computes_under_lock": ("mw_pool_tests::computes_under_lock",),
-    "always_no_memory": ("mw_core_tests::always_no_memory",),
-    "board_swaps_pixels": ("mw_pool_tests::board_swaps_pixels",),
+    "reply_without_asking_core": ("test_pool::reply_without_asking_core",),
+    "core_for_each_pass": ("test_pool::core_for_each_pass",),
+    "computes_under_lock": ("test_pool::computes_under_lock",),
+    "always_no_memory": ("test_core::always_no_memory",),
+    "board_swaps_pixels": ("test_pool::board_swaps_pixels",),
 }
 # A public function of a leaf: the function that it names, and its own name.
 NAMED = re.compile(r"^/// `(\w+(?:::\w+)+)`\.\n(?:#\[.*\]\n)*pub fn (\w+)", re.MULTILINE)
@@ -124,8 +124,8 @@ def faults(root, crates):
 
 SPOILED = [
     ("mw_grid/must-fail/tile_without_halo.edit", None, "no crate tries tile_without_halo in its own code"),
-    ("mw_pool_tests/src/sessions.rt", ("fn board_swaps_pixels(", "fn board_keeps_pixels("),
-     "there is no test mw_pool_tests::board_swaps_pixels"),
+    ("test_pool/src/sessions.rt", ("fn board_swaps_pixels(", "fn board_keeps_pixels("),
+     "there is no test test_pool::board_swaps_pixels"),
     ("mw_grid/src/rectangles.rt", ("let y = rect.y.saturating_sub(", "let y = 0 + rect.y.saturating_sub("), None),
     ("mw_grid/src/rectangles.rt", ("rect.x.saturating_sub(reach.left)", "rect.x.saturating_sub(reach.up)"),
      "mw_grid/must-fail/tile_without_halo.edit: "),

@@ -2,7 +2,8 @@
 """The long parts of `make quick` and `make test`.
 
     python3 checks/gate.py unproved    what takes minutes: replays sessions on a trial build, and tests the Python package over stand-ins
-    python3 checks/gate.py proofs      runs `rt ci`, tells how far it is, and ends with its status; all that it says is in out/ci.log
+    python3 checks/gate.py proofs      runs `rt ci`, tells how far it is, and ends with its status, or with 1 where a must-fail edit
+                                       could not be tried; all that it says is in out/ci.log
     python3 checks/gate.py built       replays the sessions on both proved builds, and runs the Python tests that start the program
     python3 checks/gate.py --test      reads what an `rt` says that proves nothing, and sees what is told of it
 
@@ -28,6 +29,8 @@ import prove
 
 ROOT = prove.ROOT
 LOG = f"{ROOT}/out/ci.log"
+# What `rt ci` says of a must-fail edit that no longer compiles, or cannot be applied. It counts that for nothing, and not as failed.
+BAD_EDIT = re.compile(r"^.*: BAD EDIT: .*$", re.M)
 # Both builds that `rt ci` leaves: LLVM's, and that of Rattle's own compiler.
 BUILDS = tuple(f"{ROOT}/crates/morphd/out/morphd{it}" for it in ("", ".by-rattle"))
 # What replays sessions on each program that it is given, and says in its last line how many; and the words by which it takes no more
@@ -293,8 +296,11 @@ def proofs():
             stop(run)
             return 130
     said = prove.text(LOG)
+    bad = BAD_EDIT.findall(said)
+    status = status or (1 if bad else 0)
     print(said if status else "\n".join(said.splitlines()[-2:]), flush=True)
     print("" if status else "All of it is in out/ci.log.\n", end="")
+    print("".join(f"mend this edit, which shows nothing as it is: {it}\n" for it in bad), end="")
     return status
 
 
@@ -334,9 +340,9 @@ TOLD = [
 ]
 
 
-def test_reader(room, status):
-    """What is told of an `rt` that ends with some status."""
-    around = {**os.environ, "PATH": f"{room}/bin:{os.environ.get('PATH', '')}", "STATUS": str(status), "LAST": f"{3 - status} passed, {status} failed"}
+def test_reader(room, of_rt, status, last):
+    """What is told of an `rt` that ends with some status and says this last."""
+    around = {**os.environ, "PATH": f"{room}/bin:{os.environ.get('PATH', '')}", "STATUS": str(of_rt), "LAST": last}
     ran = subprocess.run([sys.executable, "-B", f"{room}/checks/gate.py", "proofs"], env=around, capture_output=True, text=True, check=False)
     told = [it.rpartition("; about")[0] for it in ran.stdout.splitlines() if it.startswith("[")]
     if ran.returncode != status or told != TOLD:
@@ -377,8 +383,9 @@ def test():
         os.chmod(f"{room}/bin/rt", 0o755)
         for name in ("gate.py", "gate_times.py", "prove.py"):
             shutil.copy(f"{os.path.dirname(os.path.realpath(__file__))}/{name}", f"{room}/checks")
-        for status in (0, 1):
-            test_reader(room, status)
+        test_reader(room, 0, 0, "3 passed, 0 failed")
+        test_reader(room, 1, 1, "2 passed, 1 failed")
+        test_reader(room, 0, 1, "rt: must-fail high/two.edit: BAD EDIT: it did not reach the prover")
     test_reckoning()
     print("what rt ci does is told, and its status and its log are handed on")
     return 0

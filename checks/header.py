@@ -14,7 +14,7 @@ import sys
 
 ROOT = pathlib.Path(__file__).resolve().parent.parent
 HEADER = "include/morphd.h"
-CRATES = re.compile(r"mw_c(_(?!.*tests)\w+)?|mw_arrays")
+CRATES = re.compile(r"mw_c(_calls|_arrays)?")
 C_FUNCTION = re.compile(r"^(\w+) (morphd_\w+)\(([^;]*)\);", re.MULTILINE)
 OWN_FUNCTION = re.compile(r'^#\[unsafe\(no_mangle\)\]\npub extern "C" fn (\w+)\(([^)]*)\) -> (\w+)$', re.MULTILINE)
 CONSTANT = re.compile(r"^ +MORPHD_(\w+) = (\d+),?", re.MULTILINE)

@@ -46,10 +46,10 @@ SECONDS_TO_TRUST = 120
 MOST_JOBS = 4
 
 
-def needs_by_crate():
+def needs_by_crate(root=ROOT):
     """Of each crate that crates.txt lists, the crates of the repository that it stands on."""
     rows = {}
-    with open(f"{ROOT}/crates.txt", encoding="utf-8") as file:
+    with open(f"{root}/crates.txt", encoding="utf-8") as file:
         for line in file:
             # Behind a crate's name may stand what its verdict may have, as may_wait=15.
             name, _, needs = line.partition("#")[0].partition(":")

@@ -28,8 +28,8 @@ HEAD = "# The functions of morphd that stored sessions reach (+), and those that
 OURS = re.compile(r"(?:mw_|morphd::)")
 # The crates in which a new function has to be reached: samples, kernels, tasks and plans. Others have servers, or want of memory.
 KERNELS = set("""
-mw_words mw_pixel mw_run mw_element mw_grid mw_tile mw_lane mw_line mw_offset mw_word_rows mw_bits mw_set_ranks mw_rank mw_medians
-mw_rank_counts mw_rank_numbers mw_rank_rows mw_pieces mw_joined mw_task mw_step mw_plan mw_gran mw_frame_tiles mw_tiles
+mw_pixel_words mw_pixel mw_element_runs mw_element mw_grid mw_tile mw_lane mw_line mw_offset mw_bits_rows mw_bits mw_rank_bits mw_rank mw_rank_medians
+mw_rank_counts mw_rank_numbers mw_rank_rows mw_tile_pieces mw_step_task mw_step mw_plan mw_gran mw_tile_slots mw_tile_planes
 """.split())
 VALGRIND = ("valgrind", "--tool=callgrind", "--compress-strings=no", "--compress-pos=no", "--dump-instr=yes")
 WAYS = (("--workers", "3", "--tile", "64"), ("--workers", "1", "--tile", "1024"))
@@ -92,9 +92,9 @@ def write(functions: set[str], found: set[str]) -> None:
 
 
 def test() -> None:
-    functions, found = {"mw_bits::f", "mw_bits::g", "mw_bits::h", "mw_listen::new"}, {"mw_bits::f"}
+    functions, found = {"mw_bits::f", "mw_bits::g", "mw_bits::h", "mw_server_listen::new"}, {"mw_bits::f"}
     cases = (({"mw_bits::f": "+", "mw_bits::g": "+", "mw_bits::h": "-"}, 1), ({"mw_bits::f": "-", "mw_bits::g": "-"}, 1),
-             ({"mw_bits::g": "+"}, 2), ({"mw_listen::new": "+", "mw_bits::g": "-"}, 2),
+             ({"mw_bits::g": "+"}, 2), ({"mw_server_listen::new": "+", "mw_bits::g": "-"}, 2),
              ({"mw_bits::g": "-", "mw_bits::h": "-", "mw_b::gone": "+"}, 0))
     for kept, wanted in cases:
         if len(faults_of(functions, found, kept)) != wanted:

@@ -2,7 +2,7 @@
 """Runs tests that make each refused call once more, with each of their allocations refused in turn: each has to pass,
 whichever allocation it is. One that does not end is told as such.
 
-    python3 checks/refused_tests.py crates/mw_memory_tests/out/mw_memory_tests_tests [MODULE..]
+    python3 checks/refused_tests.py crates/test_memory/out/test_memory_tests [MODULE..]
 
 The program is what `rt test` leaves. Without modules it takes those that are made for it. The library refuse.so is built
 from refuse.c.
@@ -16,11 +16,11 @@ import tempfile
 from refused_memory import built_refuser, counted, refusing
 
 MODULES = {
-    "mw_memory_tests_tests": ["files", "makers", "medians", "results", "sharing"],
-    "mw_core_tests_tests": ["calls", "events", "owners", "results"],
-    "mw_direct_tests_tests": ["memory"],
-    "mw_strips_tests_tests": ["memory"],
-    "mw_pool_tests_tests": ["refused"],
+    "test_memory_tests": ["files", "makers", "medians", "results", "sharing"],
+    "test_core_tests": ["calls", "events", "owners", "results"],
+    "test_direct_tests": ["memory"],
+    "test_strips_tests": ["memory"],
+    "test_pool_tests": ["refused"],
 }
 SECONDS = 60
 

@@ -4,16 +4,16 @@
     python3 checks/thin_rows.py [--test]
 
 `rt` sums up the sources below a crate along every path of rows, so an entry that another entry of its row reaches costs time in
-each crate above. Rows of libraries have no such entry but `mw_model`, whose words all crates use. On static libraries, crates
-of tests and leaves for wrong bodies (edits_*) nothing stands, and on some libraries only such crates or libraries of that kind, so
-these rows name what they use. With --test it looks at rows that are spoiled.
+each crate above. Rows of libraries have no such entry but `mw_model`, whose words all crates use, and `mw_grid`, whose words many
+use. On static libraries, crates of tests and leaves for wrong bodies (edits_*) nothing stands, and on some libraries only such crates
+or libraries of that kind, so these rows name what they use. With --test it looks at rows that are spoiled.
 """
 import os
 import sys
 
 ROOT = os.path.dirname(os.path.dirname(os.path.realpath(__file__)))
 # What a row may name beside the crates that reach it.
-ALWAYS = "mw_model"
+ALWAYS = ("mw_model", "mw_grid")
 
 
 def rows_of(text):
@@ -38,7 +38,7 @@ def all_below(rows, name):
 def at_the_top(rows_and_words):
     """Crates of tests, leaves, static libraries, and the libraries on which only these and such libraries stand."""
     top = {name for name, (_, words) in rows_and_words.items()
-           if name.endswith(("_tests", "_for_tests")) or name.startswith("edits_") or "staticlib" in words}
+           if name.startswith(("test_", "edits_")) or "staticlib" in words}
     users = {name: {it for it, (needs, _) in rows_and_words.items() if name in needs} for name in rows_and_words}
     for _ in rows_and_words:
         top |= {name for name, found in users.items() if found and found <= top}
@@ -54,7 +54,7 @@ def needless(rows_and_words):
     for name in [it for it in rows if it in libraries]:
         for entry in rows[name]:
             through = [it for it in rows[name] if entry in below[it]]
-            if entry != ALWAYS and through:
+            if entry not in ALWAYS and through:
                 yield f"crates.txt: {name} need not name {entry}, which {through[0]} reaches"
 
 
@@ -65,10 +65,11 @@ def test():
         (rows, []),
         (rows.replace("low: mw_model", "low: mw_facts mw_model"), ["crates.txt: low need not name mw_facts, which mw_model reaches"]),
         (rows + "above: top\n", ["crates.txt: top need not name low, which high reaches"]),
-        (rows + "top_tests: top\n", []),
+        (rows.replace("low: mw_model", "mw_grid: mw_model\nlow: mw_model mw_grid").replace("high: ", "high: mw_grid "), []),
+        (rows + "test_top: top\n", []),
         (rows + "top_c staticlib: top\n", []),
         (rows + "edits_top: top\n", []),
-        (rows + "calls: high top\ntop_c staticlib: calls\ncalls_tests: calls\n", []),
+        (rows + "calls: high top\ntop_c staticlib: calls\ntest_calls: calls\n", []),
         (rows + "calls: top\ntop_c staticlib: calls\nprogram: calls\n", ["crates.txt: top need not name low, which high reaches"]),
     ):
         found = list(needless(rows_of(text)))

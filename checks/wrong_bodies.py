@@ -7,7 +7,11 @@
     python3 checks/wrong_bodies.py --few           tries a few, drawn by the commit, over what `rt ci` kept on this machine
     python3 checks/wrong_bodies.py --gone CRATE..  takes away the rows of crates whose wrong bodies are gone on purpose
     python3 checks/wrong_bodies.py --renamed MAP   keeps the rows of crates of which only names changed; MAP has an old and a new
-                                                   name a line. The text with the new names mapped back has to be the old one
+                                                   name a line, and behind them the crates or the files (CRATE/src/FILE.rt) where
+                                                   it is new, if not in all. The text with the new names mapped back has to be the old one
+    python3 checks/wrong_bodies.py --moved COMMIT [--names MAP]
+                                                   keeps the rows of crates whose text, and what they see of others, only moved
+                                                   since then (checks/moved_bodies.py); MAP has an old and a new name a line
     python3 checks/wrong_bodies.py --widen         once: takes over rows of the sums that covered less, of the same text
     python3 checks/wrong_bodies.py --test          spoils a small repository in many ways, and sees what is told of each
 
@@ -30,6 +34,7 @@ import tempfile
 from concurrent.futures import ThreadPoolExecutor
 
 import crate_sums
+import moved_bodies
 import prove
 
 ROOT = prove.ROOT
@@ -38,7 +43,8 @@ KEPT = f"{ROOT}/checks/wrong_bodies.txt"
 HEAD = """# Of each crate how many wrong bodies it has, and the sum of what all of them were refused over (checks/crate_sums.py).
 # `widened` stands behind a row that was taken over from a sum of the crate's own code, definitions and wrong bodies: these are known
 # to be as they were when all were refused. The rest that the sum covers (its proofs, its row of crates.txt, the kit, and what the crates
-# below promise) is as it was when the row was taken over. To try the crate takes the word away.
+# below promise) is as it was when the row was taken over. `moved` stands where text moved between crates since all were refused
+# (checks/moved_bodies.py). To try the crate takes these words away.
 """
 # What `rt ci` said last, and what it says where it can keep nothing.
 LOG, KEEPS_NOTHING = f"{ROOT}/out/ci.log", "so nothing is kept"
@@ -81,13 +87,13 @@ def fault_of(edit, home):
     return None if pairs else "it turns nothing"
 
 
-def lines_kept():
-    return [it.split() for it in prove.text(KEPT).splitlines() if it and it[0] != "#"]
+def lines_kept(path=KEPT):
+    return [it.split() for it in prove.text(path).splitlines() if it and it[0] != "#"]
 
 
-def rows():
+def rows(path=KEPT):
     """The row of each crate."""
-    return {name: Row(int(count), total, mark) for name, count, total, *mark in filter(lambda it: len(it) > 2, lines_kept())}
+    return {name: Row(int(count), total, mark) for name, count, total, *mark in filter(lambda it: len(it) > 2, lines_kept(path))}
 
 
 def write(kept):
@@ -261,14 +267,23 @@ def renamed(names):
 
 
 def names_in(path):
-    """The old name of each new one in a file; ends where a name stands there twice."""
-    pairs = [it.split() for it in prove.text(path).splitlines() if it.strip()]
-    if not pairs or any(len(it) != 2 for it in pairs):
-        sys.exit(f"{path}: each line has an old and a new name")
-    words = [word for pair in pairs for word in pair]
-    if twice := sorted({it for it in words if words.count(it) > 1}):
-        sys.exit(f"{path}: these names stand there twice, so they cannot be mapped back: {' '.join(twice)}")
-    return {new: old for old, new in pairs}
+    """The old name of each new one in a file, or the old name and the places where it is new; ends where it cannot be mapped back."""
+    lines = [it.split() for it in prove.text(path).splitlines() if it.strip()]
+    if not lines or any(len(it) < 2 for it in lines):
+        sys.exit(f"{path}: each line has an old and a new name, and behind them the crates or files where it is new, if not in all")
+    news, all_olds = [it[1] for it in lines], [it[0] for it in lines if len(it) == 2]
+    words = [*news, *all_olds]
+    twice = {it for it in words if words.count(it) > 1} | {it[0] for it in lines if len(it) > 2 and it[0] in words}
+    for at, line in enumerate(lines):
+        twice |= {line[0] for it in lines[:at] if it[0] == line[0] and meets(it[2:], line[2:])}
+    if twice:
+        sys.exit(f"{path}: these names stand there twice, so they cannot be mapped back: {' '.join(sorted(twice))}")
+    return {it[1]: it[0] if len(it) == 2 else (it[0], frozenset(it[2:])) for it in lines}
+
+
+def meets(places, others):
+    """Whether two lists of crates or files have one in common, or a file and its crate."""
+    return any(it == other or it.startswith(f"{other}/") or other.startswith(f"{it}/") for it in places for other in others)
 
 
 def take_over(is_widened, names):
@@ -277,6 +292,16 @@ def take_over(is_widened, names):
     write(taken_over(old_rows, names) if is_widened else renamed(names))
     left = changed(prove.needs_by_crate())
     print(f"{len(rows())} rows; to be tried, since their text is not the one that was tried: {' '.join(left) or 'none'}")
+    return 0
+
+
+def moved(commit, path):
+    """Keeps the rows of crates whose text only moved since a commit, and says what is new in the others."""
+    pairs = [it.split()[:2] for it in prove.text(path).splitlines() if it.strip()] if path else []
+    found, new = moved_bodies.kept_rows(commit, pairs, rows(), rows)
+    write({name: Row(*row) for name, row in found.items()})
+    for name, parts in new.items():
+        print(f"{name}: {len(parts)} parts are new, the first of them: {min(parts)[:160]}")
     return 0
 
 
@@ -317,6 +342,8 @@ def words():
     found.add_argument("--few", action="store_true", help="try a few, drawn by the commit, over what rt ci kept")
     found.add_argument("--gone", action="store_true", help="take away the rows of these crates, which have no wrong bodies")
     found.add_argument("--renamed", metavar="MAP", help="keep rows where only these names changed")
+    found.add_argument("--moved", metavar="COMMIT", help="keep rows where text only moved since a commit")
+    found.add_argument("--names", metavar="MAP", help="with --moved: names that count as one word")
     found.add_argument("--widen", action="store_true", help="take over rows of the sums that covered less")
     found.add_argument("--test", action="store_true", help="see that changes are told")
     return found
@@ -333,6 +360,8 @@ def main():
         return wrong_bodies_spoiled.test()
     if given.widen or given.renamed:
         return take_over(given.widen, names_in(given.renamed) if given.renamed else {})
+    if given.moved:
+        return moved(given.moved, given.names)
     if given.few:
         return try_few()
     if given.gone:

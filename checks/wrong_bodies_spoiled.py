@@ -11,7 +11,7 @@ import crate_sums
 import prove
 import wrong_bodies
 
-SCRIPTS = ("wrong_bodies.py", "crate_sums.py", "prove.py")
+SCRIPTS = ("wrong_bodies.py", "crate_sums.py", "moved_bodies.py", "prove.py")
 # It refuses each edit, but where the file `answer` has another word.
 CALLED = """#!/bin/sh
 case "$1" in
@@ -275,11 +275,61 @@ def of_names(small):
     yield "a name that stands twice among the names", small.run("--renamed", f"{small.room}/map")[0] == 1
 
 
+# What moves the text of `top` to another file, and what makes it another text: a file, and what it holds then.
+MOVED = {
+    "crates/top/src/lib.rt": "#![tactic(auto)]\nmod quarters;\n\npub use quarters::quarter;\n\nconst TEXT: &str = \"a  b\";\n",
+    "crates/top/src/quarters.rt": TOP.replace("#![tactic(auto)]\n", "").partition("const")[0].replace("half(half", "halved(halved"),
+    "crates/top/wrong-bodies/once.edit": "file: src/quarters.rt\nold:     halved(halved(n))\nnew:     halved(n)\n",
+    EDIT: "file: src/quarters.rt\nold:     halved(halved(n))\nnew:     n\n",
+    "crates/low/src/lib.rt": LOW.replace("half", "halved"),
+    "crates/top/specs/Lib.antt": "",
+    "crates/low/specs/More.antt": "use Rattle.std.specs.Prelude.{ℕ}\n\ntwo :\n  2 ≡ 2\n",
+}
+NOT_MOVED = (
+    ("a definition that is another where it went", "crates/low/specs/More.antt", "2 ≡ 2", "2 ≡ 3"),
+    ("code that is other code where it went", "crates/top/src/quarters.rt", "halved(halved(n))\n", "halved(halved(n)) + 0\n"),
+    ("a clause below that is new", "crates/low/src/lib.rt", "ensures { Held result }", "ensures { Held n }"),
+    ("a wrong body that is new", EDIT, "new:     n", "new:     n + n"),
+    ("a proof that is new", "crates/top/proofs/Lib.antt", "3 ≡ 3", "3 ≡ 4"),
+)
+
+
+def of_moves(small):
+    """Rows stay where text moved and nothing else changed."""
+    for path, text in FILES.items():
+        small.put(path, text)
+    shutil.rmtree(f"{small.room}/crates/base", ignore_errors=True)
+    small.put("map", "half halved\n")
+    small.run()
+    git = ["git", "--work-tree", small.room, "-c", "user.name=a", "-c", "user.email=a@b"]
+    for words in (["init", "-q"], ["add", "crates", "crates.txt", "checks"], ["commit", "-qm", "as it was"]):
+        subprocess.run([*git, *words], env=small.around, cwd=small.room, check=True)
+    kept = prove.text(small.kept)
+    for path, text in MOVED.items():
+        small.put(path, text)
+    yield "text that moved", small.is_told()
+    for what, path, old, new in NOT_MOVED:
+        put_back = small.turn(path, old, new)
+        if path == "crates/top/src/quarters.rt":
+            small.turn(EDIT, "halved(halved(n))", "halved(halved(n)) + 0")
+            small.turn(EDIT.replace("never", "once"), "halved(halved(n))", "halved(halved(n)) + 0")
+        small.run("--moved", "HEAD", "--names", f"{small.room}/map")
+        yield what, small.is_told()
+        put_back()
+        small.put(EDIT, MOVED[EDIT])
+        small.put(EDIT.replace("never", "once"), MOVED[EDIT.replace("never", "once")])
+        small.put("checks/wrong_bodies.txt", kept)
+    small.run("--moved", "HEAD")
+    yield "a name that is new, where text moved", small.is_told()
+    small.run("--moved", "HEAD", "--names", f"{small.room}/map")
+    yield "a row that stays where text moved", not small.is_told() and prove.text(small.kept).endswith(" moved\n")
+
+
 def test():
     told = wrong = 0
     with tempfile.TemporaryDirectory() as room:
         small = Small(room)
-        for cases in (of_trying, of_changes, of_losses, of_few, of_widening, of_names):
+        for cases in (of_trying, of_changes, of_losses, of_few, of_widening, of_names, of_moves):
             for what, is_well in cases(small):
                 told, wrong = told + 1, wrong + (not is_well)
                 print("" if is_well else f"{what}: not told as it is to be\n", end="", flush=True)

@@ -8,7 +8,7 @@ use crate::jobs::{Job, element_name, image_name, made_name};
 use crate::side::Side;
 use mw_model::{NoMemory, Reply};
 use mw_pool::{Board, Gate, Naming, NewRoll, Pass, work};
-use mw_task::{TaskRefused, TileDone, Work};
+use mw_step_task::{TaskRefused, TileDone, Work};
 use std::alloc::Global;
 use std::marker::Brand;
 use std::rt::Clock;

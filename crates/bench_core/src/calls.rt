@@ -14,7 +14,7 @@ use mw_element::Element;
 use mw_model::{FlatOp, GranOp, Name, Op};
 use mw_netpbm::read;
 use mw_step::run;
-use mw_task::{TileDone, Work};
+use mw_step_task::{TileDone, Work};
 use std::alloc::Global;
 use std::rt::Clock;
 use std::time::{Duration, Instant};

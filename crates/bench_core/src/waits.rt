@@ -10,7 +10,7 @@ use crate::jobs::{element_name, image_name};
 use crate::side::Side;
 use mw_model::{FlatOp, Name, NoMemory, Op, Reply};
 use mw_pool::{Board, Gate, Naming, NewRoll, Pass, work};
-use mw_task::{TaskRefused, TileDone, Work};
+use mw_step_task::{TaskRefused, TileDone, Work};
 use std::alloc::Global;
 use std::marker::Brand;
 use std::rt::Clock;

@@ -9,7 +9,7 @@ use mw_bits::{as_levels, at_least, extremum, rectangle};
 use mw_grid::Grid;
 use mw_model::Offset;
 use mw_pixel::{Bit, Min, Plane};
-use mw_set_ranks::rank_by_words;
+use mw_rank_bits::rank_by_words;
 use mw_tile::{Window, paste};
 use std::alloc::Global;
 use std::time::Instant;

@@ -1,8 +1,8 @@
 //! Of `mw_c_calls`.
 
 ghost use Rattle.std.specs.Prelude.{◌≡◌, ◌≢◌, pos, length};
-ghost use Rattle.mw_arrays.specs.Arrays.{element_of, grey_of};
-ghost use Rattle.mw_arrays.specs.Faults.{element_fault, levels_fault};
+ghost use Rattle.mw_c_arrays.specs.Arrays.{element_of, grey_of};
+ghost use Rattle.mw_c_arrays.specs.Faults.{element_fault, levels_fault};
 ghost use Rattle.mw_c_calls.specs.Answers.{IsAnswer};
 ghost use Rattle.mw_c_calls.specs.Calls.{call_fault, flat_asks, flat_of, operation_case, room_case};
 

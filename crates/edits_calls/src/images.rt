@@ -1,4 +1,4 @@
-//! Of `mw_direct`.
+//! Of `mw_c_direct`.
 
 ghost use Rattle.std.specs.Prelude.{◌≡◌, Some, IfOk};
 ghost use Rattle.mw_model.specs.declared.operations.FlatOp.{FlatOp};
@@ -6,14 +6,14 @@ ghost use Rattle.mw_model.specs.Pictures.{IsImage};
 ghost use Rattle.mw_model.specs.Values.{result_of, shape_of_picture};
 ghost use Rattle.mw_plan.specs.Asked.{IsRefusedBy, fault_in};
 ghost use Rattle.mw_plan.specs.Steps.{operator_of};
-ghost use Rattle.mw_direct.specs.Values.{IsImageMade, IsSoundMade, figure_given, input_given, offsets_given, value_made, values_given};
+ghost use Rattle.mw_c_direct.specs.Values.{IsImageMade, IsSoundMade, figure_given, input_given, offsets_given, value_made, values_given};
 
-use mw_direct::{Element, Image, Made, Op, PlanFault};
+use mw_c_direct::{Element, Image, Made, Op, PlanFault};
 use mw_plan::Input;
 use std::alloc::Global;
 use std::sync::Arc;
 
-/// `mw_direct::apply`.
+/// `mw_c_direct::apply`.
 pub fn apply(
     alloc: Global,
     op: &Op,
@@ -27,5 +27,5 @@ pub fn apply(
     ensures sound { IfOk result IsSoundMade }
     ensures operator { (flat : FlatOp) → op.now ≡ Op.Flat flat → IfOk result (IsImageMade (operator_of flat (offsets_given (figure_given b.entry)) (offsets_given (figure_given c.entry)) image.now)) }
 {
-    mw_direct::apply(alloc, op, image, b, c)
+    mw_c_direct::apply(alloc, op, image, b, c)
 }

@@ -4,8 +4,8 @@ ghost use Rattle.std.specs.Prelude.{◌≡◌, ◌⊎◌, ◌↔◌, ℕ, IsSome
 ghost use Rattle.mw_model.specs.declared.calls.Call.TheVariants as Call;
 ghost use Rattle.mw_model.specs.Machine.{Machine, reply_from};
 ghost use Rattle.mw_model.specs.Stands.{StandsFor};
-ghost use Rattle.mw_core.specs.mw_stands.Events.{FollowsMachine, handed_out};
-ghost use Rattle.mw_core.specs.mw_stands.Rows.{IsLogFull};
+ghost use Rattle.mw_core.specs.mw_core_laws.Events.{FollowsMachine, handed_out};
+ghost use Rattle.mw_core.specs.mw_core_laws.Rows.{IsLogFull};
 ghost use Rattle.mw_core.specs.mw_store.Fetches.{ShowsSome, shown_value};
 
 use mw_core::{Core, Fetched};

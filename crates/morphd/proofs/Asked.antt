@@ -4,7 +4,7 @@ use Rattle.clap.specs.Words.{Text}
 use Rattle.mw_cli.specs.CommandLine.{IsAsked}
 use Rattle.mw_cli.specs.declared.line.Job.{Job}
 use Rattle.mw_cli.specs.declared.line.Job.TheVariants as job
-use Rattle.mw_program.specs.Jobs.{IsPossible}
+use Rattle.mw_cli_program.specs.Jobs.{IsPossible}
 
 pub asked_is_possible : (processors : ℕ) (words : List Text) (j : Job) → IsAsked processors words j → IsPossible j
 asked_is_possible processors words (job.Batch given) asked = asked.1.2.1.1

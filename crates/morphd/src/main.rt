@@ -3,7 +3,7 @@
 #![tactic(auto)]
 
 use mw_cli::{Job, LineFault, options, processors, words};
-use mw_program::perform;
+use mw_cli_program::perform;
 use mw_wire::{Sink, Source, send};
 use std::io::{BufWriter, IsTerminal, Write};
 use std::process::ExitCode;

@@ -3,7 +3,7 @@
 ghost use Rattle.std.specs.Prelude.{◌≡◌, ◌⊎◌, [], false};
 ghost use Rattle.mw_model.specs.Machine.{start_state};
 ghost use Rattle.mw_model.specs.Stands.{StandsFor, running_count};
-ghost use Rattle.mw_batch.specs.mw_grid.Grids.{IsTileSide};
+ghost use Rattle.mw_grid.specs.Grids.{IsTileSide};
 ghost use Rattle.mw_batch.specs.Batches.{Ends, HasReplied, Served, ServedStrictly, Unserved};
 
 use crate::told::{end_line, strict_status};

@@ -7,9 +7,9 @@ use Rattle.std.proofs.lemmas.List.{get_or_append_left}
 use Rattle.std.proofs.Math.Nat.{mul-le-mul_left}
 use Rattle.mw_model.specs.Rasters.{raster, cell_at}
 use Rattle.mw_offset.specs.mw_lane.Shifted.{merge_at}
-use Rattle.mw_offset.specs.mw_words.Packed.{bit_of, stride_of, samples_of, IsPacked}
-use Rattle.mw_offset.proofs.mw_words.Bits.{bit_of_its_word, bit_of_part, row_sample, length-samples_of, rows_fit}
-use Rattle.mw_word_rows.proofs.Paddings.{IsNeutral, padded_inside, padded_outside, row_shows}
+use Rattle.mw_offset.specs.mw_pixel_words.Packed.{bit_of, stride_of, samples_of, IsPacked}
+use Rattle.mw_offset.proofs.mw_pixel_words.Bits.{bit_of_its_word, bit_of_part, row_sample, length-samples_of, rows_fit}
+use Rattle.mw_bits_rows.proofs.Paddings.{IsNeutral, padded_inside, padded_outside, row_shows}
 
 -- a place of a row of the set, or beside it
 pub held_cell : (f : ℕ → ℕ → ℕ) (n : ℕ) → IsNeutral f n → (w h : ℕ) (words cells : List ℕ) → cells ≡ samples_of w h words → (x y : ℕ) → y < h

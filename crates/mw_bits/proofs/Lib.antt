@@ -10,4 +10,4 @@ mod UniformSeen
 mod UniformWords
 -- what lower crates offer
 pub use Rattle.mw_offset.proofs.mw_line as mw_line
-pub use Rattle.mw_offset.proofs.mw_words as mw_words
+pub use Rattle.mw_offset.proofs.mw_pixel_words as mw_pixel_words

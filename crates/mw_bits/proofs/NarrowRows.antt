@@ -4,9 +4,9 @@ use Rattle.std.specs.Int.{bit_at}
 use Rattle.std.proofs.lemmas.Bool.{cases_lt}
 use Rattle.std.proofs.lemmas.List.{get_or-take, get_or-drop, get_or_past}
 use Rattle.std.proofs.lemmas.Nat.Bits.{bit_at_and, bit_at_ones, bit_at_ones_above, bit_at-lt}
-use Rattle.mw_offset.specs.mw_words.Packed.{bit_of, stride_of}
-use Rattle.mw_offset.proofs.mw_words.Done.{BitRowsDone}
-use Rattle.mw_word_rows.proofs.Packs.{packed_row}
+use Rattle.mw_offset.specs.mw_pixel_words.Packed.{bit_of, stride_of}
+use Rattle.mw_offset.proofs.mw_pixel_words.Done.{BitRowsDone}
+use Rattle.mw_bits_rows.proofs.Packs.{packed_row}
 
 row_at : (cells : List ℕ) (from width i : ℕ) → i < width → get_or (slice_range cells from (from + width)) i 0 ≡ get_or cells (from + i) 0
 row_at cells from width i inside = get_or-take (from + width - from) (drop from cells) i 0 (omega arith) ∙ get_or-drop from cells i 0

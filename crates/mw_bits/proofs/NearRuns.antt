@@ -6,10 +6,10 @@ use Rattle.std.proofs.lemmas.List.{take_more}
 use Rattle.mw_model.proofs.mw_facts.Alls.{all-weaker, all-push}
 use Rattle.mw_model.specs.Places.{nonnegative}
 use Rattle.mw_model.proofs.Nonnegative.{nonnegative_is}
-use Rattle.mw_offset.specs.mw_run.declared.runs.Run.{Run}
-use Rattle.mw_offset.specs.mw_run.declared.runs.Extent.{Extent}
-use Rattle.mw_offset.specs.mw_run.Runs.{IsInside, IsWider}
-use Rattle.mw_offset.proofs.mw_run.RunLists.{inside_wider}
+use Rattle.mw_offset.specs.mw_element_runs.declared.runs.Run.{Run}
+use Rattle.mw_offset.specs.mw_element_runs.declared.runs.Extent.{Extent}
+use Rattle.mw_offset.specs.mw_element_runs.Runs.{IsInside, IsWider}
+use Rattle.mw_offset.proofs.mw_element_runs.RunLists.{inside_wider}
 use Rattle.mw_bits.specs.Layouts.{IsNear}
 
 -- no run in an extent is longer than its columns

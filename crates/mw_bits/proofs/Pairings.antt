@@ -7,9 +7,9 @@ use Rattle.std.proofs.lemmas.Nat.{mul-add-lt}
 use Rattle.std.proofs.lemmas.Nat.Bits.{bit_at-trailing_zeros}
 use Rattle.std.proofs.lemmas.Simd.{get_or-zip2, length-zip2}
 use Rattle.mw_offset.proofs.mw_line.Rows.{rows_fit}
-use Rattle.mw_offset.specs.mw_words.Packed.{bit_of, stride_of, samples_of, IsPacked}
-use Rattle.mw_offset.proofs.mw_words.Bits.{bit_of_its_word, bit_of_past, bit_of_word, length-samples_of, sample_is_bit, samples_are_bits}
-use Rattle.mw_word_rows.proofs.Packs.{stride_wide}
+use Rattle.mw_offset.specs.mw_pixel_words.Packed.{bit_of, stride_of, samples_of, IsPacked}
+use Rattle.mw_offset.proofs.mw_pixel_words.Bits.{bit_of_its_word, bit_of_past, bit_of_word, length-samples_of, sample_is_bit, samples_are_bits}
+use Rattle.mw_bits_rows.proofs.Packs.{stride_wide}
 use Rattle.mw_bits.specs.Uniform.{HasOnly}
 use Rattle.mw_bits.proofs.UniformSeen.{only_of_bits}
 use Rattle.mw_bits.proofs.UniformWords.{at_all_bits}

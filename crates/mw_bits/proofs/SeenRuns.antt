@@ -4,8 +4,8 @@ use Rattle.std.proofs.lemmas.List.{get_or_append_left, get_or-append-add}
 use Rattle.std.proofs.lemmas.List.FromFn.{get_or-map-range_with_len, length-map-range_with_len}
 use Rattle.mw_model.specs.declared.places.Offset.{Offset}
 use Rattle.mw_model.specs.declared.places.Rect.{Rect}
-use Rattle.mw_offset.specs.mw_run.declared.runs.Run.{Run}
-use Rattle.mw_offset.specs.mw_run.Runs.{offset_at, run_offsets}
+use Rattle.mw_offset.specs.mw_element_runs.declared.runs.Run.{Run}
+use Rattle.mw_offset.specs.mw_element_runs.Runs.{offset_at, run_offsets}
 use Rattle.mw_bits.specs.Uniform.{Stays, SomeStays}
 
 abbrev none : Offset

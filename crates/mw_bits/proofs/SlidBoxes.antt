@@ -10,9 +10,9 @@ use Rattle.mw_offset.specs.mw_line.Extrema.{strided, over}
 use Rattle.mw_offset.proofs.mw_line.Over.{over_same, over_strided}
 use Rattle.mw_offset.proofs.mw_line.Rows.{rows_fit}
 use Rattle.mw_offset.proofs.mw_line.Tiles.{IsLooked, tile_sees_nothing}
-use Rattle.mw_offset.specs.mw_words.Packed.{bit_of}
-use Rattle.mw_word_rows.specs.Rows.{laid_bits}
-use Rattle.mw_word_rows.proofs.Laid.{laid_bit}
+use Rattle.mw_offset.specs.mw_pixel_words.Packed.{bit_of}
+use Rattle.mw_bits_rows.specs.Rows.{laid_bits}
+use Rattle.mw_bits_rows.proofs.Laid.{laid_bit}
 
 -- how far the columns of a box reach from a place of a row
 pub columns_room : (wide high across y x : ℕ) → x + across ≤ 64 * wide → y < high → y * (64 * wide) + x + across ≤ 64 * (high * wide)

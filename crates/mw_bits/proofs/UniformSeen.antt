@@ -18,9 +18,9 @@ use Rattle.mw_model.specs.Rasters.{Raster, raster, cell_at, Sight, seen_under}
 use Rattle.mw_model.specs.Windows.{View, seen_at}
 use Rattle.mw_offset.specs.mw_line.Extrema.{IsSlidingExtremum}
 use Rattle.mw_offset.proofs.mw_line.Tiles.{tile_made}
-use Rattle.mw_offset.specs.mw_run.Runs.{offset_at}
-use Rattle.mw_offset.specs.mw_words.Packed.{bit_of, stride_of, samples_of}
-use Rattle.mw_offset.proofs.mw_words.Bits.{sample_is_bit, length-samples_of}
+use Rattle.mw_offset.specs.mw_element_runs.Runs.{offset_at}
+use Rattle.mw_offset.specs.mw_pixel_words.Packed.{bit_of, stride_of, samples_of}
+use Rattle.mw_offset.proofs.mw_pixel_words.Bits.{sample_is_bit, length-samples_of}
 use Rattle.mw_bits.specs.Uniform.{HasOnly, Stays}
 
 -- samples that are one, place by place

@@ -6,8 +6,8 @@ use Rattle.std.proofs.lemmas.List.{get_or_past, get_or-take}
 use Rattle.std.proofs.lemmas.Nat.Bits.{bit_at_and, bit_at_ones, bit_at-lt, bit_at-zero, bit_at-trailing_zeros}
 use Rattle.std.proofs.lemmas.Nat.{mul-add-lt, div_below, mod_below, div-add-mod'}
 use Rattle.mw_model.proofs.mw_facts.Numbers.{factor-positive}
-use Rattle.mw_offset.specs.mw_words.Packed.{bit_of, stride_of, samples_of, IsPacked}
-use Rattle.mw_offset.proofs.mw_words.Bits.{bit_of_its_word, bit_of_past, bit_of_word, length-samples_of, sample_is_bit}
+use Rattle.mw_offset.specs.mw_pixel_words.Packed.{bit_of, stride_of, samples_of, IsPacked}
+use Rattle.mw_offset.proofs.mw_pixel_words.Bits.{bit_of_its_word, bit_of_past, bit_of_word, length-samples_of, sample_is_bit}
 use Rattle.mw_bits.specs.Uniform.{HasOnly}
 use mir.Val.{Fits}
 

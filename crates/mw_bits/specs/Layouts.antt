@@ -1,6 +1,6 @@
 -- Which elements are small enough that their rows are laid out around a tile as words.
 use Rattle.std.specs.Prelude.{ℤ, pos, negsuc, ◌+ℤ◌, ◌≤ℤ◌}
-use Rattle.mw_offset.specs.mw_run.declared.runs.Extent.{Extent}
+use Rattle.mw_offset.specs.mw_element_runs.declared.runs.Extent.{Extent}
 
 -- at most 1024 places within 32768 of the origin
 pub record AreNear (first last : ℤ) : Type 0 where

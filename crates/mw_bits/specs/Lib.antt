@@ -4,5 +4,5 @@ pub mod Waiting
 -- what lower crates offer
 pub mod mw_lane
 pub mod mw_line
-pub mod mw_run
-pub mod mw_words
+pub mod mw_element_runs
+pub mod mw_pixel_words

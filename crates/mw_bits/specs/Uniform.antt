@@ -2,7 +2,7 @@
 use Rattle.std.specs.Prelude.{◌≡◌, ℕ, ◌+◌, ◌<◌, ℤ, pos, ◌+ℤ◌, ◌≤ℤ◌, List, length, slice_index}
 use Rattle.mw_model.specs.declared.places.Offset.{Offset}
 use Rattle.mw_model.specs.declared.places.Rect.{Rect}
-use Rattle.mw_offset.specs.mw_run.Runs.{offset_at}
+use Rattle.mw_offset.specs.mw_element_runs.Runs.{offset_at}
 
 -- all samples are v
 abbrev pub HasOnly : ℕ → List ℕ → Type 0

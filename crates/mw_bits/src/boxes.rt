@@ -9,18 +9,18 @@ ghost use Rattle.mw_model.specs.Windows.{seen_at};
 ghost use Rattle.mw_offset.specs.mw_tile.Windows.{IsWindow};
 ghost use Rattle.mw_offset.specs.mw_lane.Shifted.{merge_at};
 ghost use Rattle.mw_offset.specs.mw_line.Extrema.{over, IsSlidingExtremum};
-ghost use Rattle.mw_offset.specs.mw_words.Packed.{bit_of, stride_of, IsPacked};
+ghost use Rattle.mw_offset.specs.mw_pixel_words.Packed.{bit_of, stride_of, IsPacked};
 
 use crate::WordExtremum;
 use crate::held::plane_of;
 use crate::spread::spread;
 use crate::uniform::settled_box;
+use mw_bits_rows::slide_words;
 use mw_model::{NoMemory, OffsetBox, Rect};
 use mw_offset::line::{first_seen, seen_across, seen_down};
 use mw_offset::pixel::{Bit, Plane};
 use mw_offset::tile::Window;
 use mw_offset::words::{Words, repeated, stride, trimmed};
-use mw_word_rows::slide_words;
 use std::alloc::Global;
 
 /// How many pixels of a set are looked at, and from which column and row of it on by the tile's first pixel.

@@ -8,17 +8,18 @@ ghost use Rattle.mw_model.specs.Places.{nonnegative};
 ghost use Rattle.mw_model.specs.Rasters.{seen_under};
 ghost use Rattle.mw_model.specs.Windows.{seen_at};
 ghost use Rattle.mw_offset.specs.mw_line.Extrema.{strided};
-ghost use Rattle.mw_offset.specs.mw_run.declared.runs.Run.{Run};
-ghost use Rattle.mw_offset.specs.mw_run.Runs.{run_offsets, start_of, IsInside, IsWider, HasRoom, two_parts, gather};
+ghost use Rattle.mw_offset.specs.mw_element_runs.declared.runs.Run.{Run};
+ghost use Rattle.mw_offset.specs.mw_element_runs.Runs.{run_offsets, start_of, IsInside, IsWider, HasRoom, two_parts, gather};
 ghost use Rattle.mw_offset.specs.Places.{sized_below};
-ghost use Rattle.mw_offset.specs.mw_words.Packed.{bit_of, stride_of, IsPacked};
-ghost use Rattle.mw_word_rows.specs.Rows.{laid_bits};
+ghost use Rattle.mw_offset.specs.mw_pixel_words.Packed.{bit_of, stride_of, IsPacked};
+ghost use Rattle.mw_bits_rows.specs.Rows.{laid_bits};
 ghost use Rattle.mw_bits.specs.Waiting.{with_waiting};
 ghost use Rattle.mw_bits.specs.Layouts.{AreNear, IsNear};
 
 use crate::WordExtremum;
 use crate::sizes::{longest_of, next_size};
 use crate::spread::spread;
+use mw_bits_rows::{combine_ahead, combine_both, combine_from};
 use mw_model::{NoMemory, Rect};
 use mw_offset::pixel::Bit;
 use mw_offset::run::{
@@ -26,7 +27,6 @@ use mw_offset::run::{
 };
 use mw_offset::tile::Window;
 use mw_offset::words::{repeated, stride, trimmed};
-use mw_word_rows::{combine_ahead, combine_both, combine_from};
 use std::alloc::Global;
 
 /// How runs lie in rows of one length: the columns and rows that they take, and that length in bits.

@@ -3,7 +3,7 @@
 //! behind are cut off.
 ghost use Rattle.std.specs.Prelude.{◌≡◌, ℕ, ◌+◌, ◌-◌, ◌*◌, ◌/◌, ◌%◌, ◌<◌, ◌≤◌, ◌^◌, ◌==◌, length, map, nat_le, slice_index, slice_range, if◌then◌else◌, IfOk};
 ghost use Rattle.std.specs.Int.{bit_at};
-ghost use Rattle.mw_offset.specs.mw_words.Packed.{bit_of, stride_of, IsPacked, samples_of};
+ghost use Rattle.mw_offset.specs.mw_pixel_words.Packed.{bit_of, stride_of, IsPacked, samples_of};
 
 use crate::held::plane_of;
 use crate::levels::{FromLevel, LevelTest, OfLevel};

@@ -2,9 +2,9 @@
 ghost use Rattle.std.specs.Prelude.{◌≡◌, ◌*◌, length, sum};
 
 use crate::held::words_of;
+use mw_bits_rows::count_bits;
 use mw_offset::pixel::Bit;
 use mw_offset::tile::Window;
-use mw_word_rows::count_bits;
 
 /// The sum of all samples, which is the number of pixels in the set.
 pub fn count(set: &Window<Bit>) -> u64

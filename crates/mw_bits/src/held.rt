@@ -1,7 +1,7 @@
 //! The words of a window of a set, and the plane of a set in words.
 ghost use Rattle.std.specs.Prelude.{◌≡◌, ℕ, ◌+◌, ◌*◌, ◌<◌, ◌≤◌, ◌^◌, length, slice_index};
 ghost use Rattle.mw_model.specs.Rasters.{raster};
-ghost use Rattle.mw_offset.specs.mw_words.Packed.{bit_of, stride_of, samples_of, IsPacked};
+ghost use Rattle.mw_offset.specs.mw_pixel_words.Packed.{bit_of, stride_of, samples_of, IsPacked};
 
 use mw_offset::pixel::{Bit, Plane};
 use mw_offset::tile::Window;

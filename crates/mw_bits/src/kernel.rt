@@ -8,8 +8,8 @@ ghost use Rattle.mw_model.specs.Rasters.{Raster, cell_at, seen_under};
 ghost use Rattle.mw_model.specs.Windows.{seen_at};
 ghost use Rattle.mw_offset.specs.mw_tile.Windows.{IsWindow};
 ghost use Rattle.mw_offset.specs.mw_line.Extrema.{IsSlidingExtremum};
-ghost use Rattle.mw_offset.specs.mw_run.Runs.{AreEitherWay, IsRun};
-ghost use Rattle.mw_offset.specs.mw_words.Packed.{bit_of, stride_of, IsPacked};
+ghost use Rattle.mw_offset.specs.mw_element_runs.Runs.{AreEitherWay, IsRun};
+ghost use Rattle.mw_offset.specs.mw_pixel_words.Packed.{bit_of, stride_of, IsPacked};
 
 use crate::WordExtremum;
 use crate::by_runs::{extremum_by_runs, is_near};

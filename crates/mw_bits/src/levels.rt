@@ -2,15 +2,15 @@
 //! line of pixels, which is packed, so that no plane of one byte a pixel is made.
 ghost use Rattle.std.specs.Prelude.{◌≡◌, ℕ, ◌*◌, ◌<◌, ◌==◌, length, map, cond, nat_le, slice_index, if◌then◌else◌, IfOk};
 ghost use Rattle.std.specs.Int.{bit_at};
-ghost use Rattle.mw_offset.specs.mw_words.Packed.{stride_of, IsPacked, samples_of};
+ghost use Rattle.mw_offset.specs.mw_pixel_words.Packed.{stride_of, IsPacked, samples_of};
 
 use crate::held::plane_of;
+use mw_bits_rows::pack_row;
 use mw_model::NoMemory;
 use mw_offset::lane::LevelBlocks;
 use mw_offset::pixel::{Bit, Grey, Pixel, Plane, copies};
 use mw_offset::tile::Window;
 use mw_offset::words::{repeated, stride};
-use mw_word_rows::pack_row;
 use std::alloc::Global;
 
 /// Whether a level belongs to a set that a number picks.

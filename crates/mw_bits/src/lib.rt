@@ -30,8 +30,8 @@ pub use counting::count;
 pub use held::row_of;
 pub use kernel::{extremum, extremum_of_runs};
 pub use levels::{at_least, equal};
+pub use mw_bits_rows::WordExtremum;
 pub use mw_model::NoMemory;
-pub use mw_word_rows::WordExtremum;
 pub use pairs::{invert, is_within, join, meet, minus};
 pub use uniform::is_blank;
 pub use unpacked::as_levels;
@@ -50,8 +50,8 @@ pub mod offset {
 }
 
 pub mod pixel {
+    pub use mw_bits_rows::pixel::{Max, Min};
     pub use mw_offset::pixel::{Bit, Plane};
-    pub use mw_word_rows::pixel::{Max, Min};
 }
 
 pub mod run {
@@ -69,7 +69,7 @@ pub mod tile {
 }
 
 pub mod word_rows {
-    pub use mw_word_rows::{Both, flip_words, merge_words};
+    pub use mw_bits_rows::{Both, flip_words, merge_words};
 }
 
 pub mod words {

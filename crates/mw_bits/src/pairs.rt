@@ -1,15 +1,15 @@
 //! Sets that are put together place by place, 64 pixels at a time, and the complement of a set.
 ghost use Rattle.std.specs.Prelude.{◌≡◌, ◌↔◌, ℕ, ◌-◌, ◌*◌, min, max, length, map, IfOk, IsTrue};
 ghost use lib.Lanes.{zip2};
-ghost use Rattle.mw_offset.specs.mw_words.Packed.{bit_of};
+ghost use Rattle.mw_offset.specs.mw_pixel_words.Packed.{bit_of};
 ghost use Rattle.mw_bits.specs.Uniform.{HasOnly};
 
 use crate::held::{plane_of, words_of};
+use mw_bits_rows::{Both, Either, Less, PairOfWords, flip_words, merge_words};
 use mw_model::NoMemory;
 use mw_offset::pixel::{Bit, Plane};
 use mw_offset::tile::Window;
 use mw_offset::words::{stride, trimmed};
-use mw_word_rows::{Both, Either, Less, PairOfWords, flip_words, merge_words};
 use std::alloc::Global;
 
 /// What becomes of the pixels of two windows of one place.

@@ -1,7 +1,7 @@
 //! How many pixels the cells stand for while they grow, and which runs are merged then.
 ghost use Rattle.std.specs.Prelude.{◌≡◌, ℕ, ◌*◌, ◌<◌, ◌≤◌, ◌^◌};
 ghost use Rattle.std.specs.List.{AllByRecursion};
-ghost use Rattle.mw_offset.specs.mw_run.declared.runs.Run.{Run};
+ghost use Rattle.mw_offset.specs.mw_element_runs.declared.runs.Run.{Run};
 
 use mw_offset::run::{Run, Sizes};
 

@@ -3,16 +3,16 @@ ghost use Rattle.std.specs.Prelude.{◌≡◌, ℕ, ◌+◌, ◌*◌, ◌<◌, �
 ghost use Rattle.mw_model.specs.declared.limits.TheConstants.{FAR_LIMIT};
 ghost use Rattle.mw_model.specs.Rasters.{raster, cell_at};
 ghost use Rattle.mw_offset.specs.mw_lane.Shifted.{merge_at};
-ghost use Rattle.mw_offset.specs.mw_words.Packed.{bit_of, stride_of};
+ghost use Rattle.mw_offset.specs.mw_pixel_words.Packed.{bit_of, stride_of};
 
 use crate::WordExtremum;
 use crate::held::words_of;
 use crate::window_rows::combine_window_row;
+use mw_bits_rows::copy_rows;
 use mw_model::NoMemory;
 use mw_offset::pixel::Bit;
 use mw_offset::tile::Window;
 use mw_offset::words::{repeated, stride};
-use mw_word_rows::copy_rows;
 use std::alloc::Global;
 
 /// Merges into each of `high` rows of `wide` words what the set has there, from that column and row of it on.

@@ -7,8 +7,8 @@ ghost use Rattle.mw_model.specs.declared.limits.TheConstants.{FAR_LIMIT};
 ghost use Rattle.mw_model.specs.Places.{box_offsets};
 ghost use Rattle.mw_model.specs.Rasters.{seen_under};
 ghost use Rattle.mw_model.specs.Windows.{seen_at};
-ghost use Rattle.mw_offset.specs.mw_run.Runs.{run_offsets, AreEitherWay, IsRun};
-ghost use Rattle.mw_offset.specs.mw_words.Packed.{bit_of, stride_of};
+ghost use Rattle.mw_offset.specs.mw_element_runs.Runs.{run_offsets, AreEitherWay, IsRun};
+ghost use Rattle.mw_offset.specs.mw_pixel_words.Packed.{bit_of, stride_of};
 ghost use Rattle.mw_bits.specs.Uniform.{HasOnly, SideStays, Stays, SomeStays};
 
 use crate::WordExtremum;

@@ -1,13 +1,13 @@
 //! A window of a set written out in levels of one byte, for kernels that count levels.
 ghost use Rattle.std.specs.Prelude.{◌≡◌, ◌*◌, length, IfOk};
-ghost use Rattle.mw_offset.specs.mw_words.Packed.{stride_of};
+ghost use Rattle.mw_offset.specs.mw_pixel_words.Packed.{stride_of};
 
 use crate::held::{row_of, words_of};
+use mw_bits_rows::unpack_row;
 use mw_model::NoMemory;
 use mw_offset::pixel::{Bit, Plane, copies};
 use mw_offset::tile::Window;
 use mw_offset::words::stride;
-use mw_word_rows::unpack_row;
 use std::alloc::Global;
 
 /// The pixels of all rows.

@@ -3,13 +3,13 @@ ghost use Rattle.std.specs.Prelude.{◌≡◌, ℕ, ◌+◌, ◌*◌, ◌<◌, �
 ghost use Rattle.mw_model.specs.declared.limits.TheConstants.{FAR_LIMIT};
 ghost use Rattle.mw_model.specs.Rasters.{raster, cell_at};
 ghost use Rattle.mw_offset.specs.mw_lane.Shifted.{merge_at};
-ghost use Rattle.mw_offset.specs.mw_words.Packed.{bit_of};
+ghost use Rattle.mw_offset.specs.mw_pixel_words.Packed.{bit_of};
 
 use crate::WordExtremum;
 use crate::held::row_of;
+use mw_bits_rows::combine_row;
 use mw_offset::pixel::Bit;
 use mw_offset::tile::Window;
-use mw_word_rows::combine_row;
 
 /// Merges into each bit what the set has in that row, so many columns further on, both counted from its first place.
 pub(crate) fn combine_window_row<E: WordExtremum>(

@@ -3,9 +3,9 @@
 
 ghost use Rattle.std.specs.Prelude.{◌≡◌, ◌≢◌, pos, length};
 ghost use Rattle.mw_model.specs.declared.limits.TheConstants.{LEVEL_LIMIT};
-ghost use Rattle.mw_arrays.specs.Arrays.{element_of, grey_of, set_of};
-ghost use Rattle.mw_arrays.specs.Faults.{element_fault, levels_fault, pixels_fault};
-ghost use Rattle.mw_strips.specs.Rows.{rows_from};
+ghost use Rattle.mw_c_arrays.specs.Arrays.{element_of, grey_of, set_of};
+ghost use Rattle.mw_c_arrays.specs.Faults.{element_fault, levels_fault, pixels_fault};
+ghost use Rattle.mw_c_strips.specs.Rows.{rows_from};
 ghost use Rattle.mw_c_calls.specs.Answers.{IsAnswer};
 ghost use Rattle.mw_c_calls.specs.Calls.{call_fault, flat_asks, flat_of};
 ghost use Rattle.mw_c_calls.specs.Rows.{row_operation_case, rows_case};

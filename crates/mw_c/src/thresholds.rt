@@ -4,8 +4,8 @@ ghost use Rattle.std.specs.Prelude.{◌≡◌, ◌≢◌, pos, length, None};
 ghost use Rattle.mw_model.specs.Flat.{threshold};
 ghost use Rattle.mw_model.specs.Refusals.{param_case};
 ghost use Rattle.mw_model.specs.declared.limits.TheConstants.{LEVEL_LIMIT};
-ghost use Rattle.mw_arrays.specs.Arrays.{grey_of};
-ghost use Rattle.mw_arrays.specs.Faults.{levels_fault};
+ghost use Rattle.mw_c_arrays.specs.Arrays.{grey_of};
+ghost use Rattle.mw_c_arrays.specs.Faults.{levels_fault};
 ghost use Rattle.mw_c_calls.specs.Answers.{IsAnswer};
 ghost use Rattle.mw_c_calls.specs.Calls.{call_fault, room_case};
 

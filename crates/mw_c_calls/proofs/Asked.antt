@@ -20,9 +20,9 @@ use Rattle.mw_plan.specs.Faults.{code_of}
 use Rattle.mw_plan.specs.declared.faults.PlanFault.{PlanFault}
 use Rattle.mw_plan.specs.declared.faults.PlanFault.TheVariants as fault
 use Rattle.mw_plan.specs.declared.inputs.Input.TheVariants as input
-use Rattle.mw_direct.specs.declared.applying.Made.{Made}
-use Rattle.mw_arrays.specs.declared.arrays.Bitmap.{Bitmap}
-use Rattle.mw_arrays.specs.Arrays.{element_in}
+use Rattle.mw_c_direct.specs.declared.applying.Made.{Made}
+use Rattle.mw_c_arrays.specs.declared.arrays.Bitmap.{Bitmap}
+use Rattle.mw_c_arrays.specs.Arrays.{element_in}
 use Rattle.mw_c_calls.specs.Answers.{IsTold}
 use Rattle.mw_c_calls.specs.Calls.{asks, overlap_case, takes_one}
 use Rattle.mw_c_calls.specs.Sources.{figure_in}

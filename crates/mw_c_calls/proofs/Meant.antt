@@ -10,8 +10,8 @@ use Rattle.mw_model.specs.Elements.{Figure}
 use Rattle.mw_model.specs.Pictures.{Picture}
 use Rattle.mw_model.specs.Values.{CurveValue, ElementValue, ImageValue, Value, result_of}
 use Rattle.mw_model.specs.Flat.{hit_or_miss}
-use Rattle.mw_arrays.specs.declared.arrays.Bitmap.{Bitmap}
-use Rattle.mw_arrays.specs.Arrays.{element_in}
+use Rattle.mw_c_arrays.specs.declared.arrays.Bitmap.{Bitmap}
+use Rattle.mw_c_arrays.specs.Arrays.{element_in}
 use Rattle.mw_c_calls.specs.Calls.{is_drawing, takes_one}
 use Rattle.mw_c_calls.specs.Sources.{figure_in}
 

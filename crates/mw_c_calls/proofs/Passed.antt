@@ -4,7 +4,7 @@ use Rattle.std.specs.Prelude.{IfNone, ◌==◌}
 use Rattle.std.proofs.lemmas.Bool.{eqb-true}
 use Rattle.mw_model.specs.declared.codes.Code.{Code}
 use Rattle.mw_model.specs.declared.codes.Code.TheVariants as code
-use Rattle.mw_arrays.proofs.FirstCases.{first_of-none, when_not-none}
+use Rattle.mw_c_arrays.proofs.FirstCases.{first_of-none, when_not-none}
 use Rattle.mw_c_calls.specs.Calls.{call_fault, room_case}
 
 -- none of the four cases holds

@@ -11,10 +11,10 @@ use Rattle.mw_model.specs.Pictures.{IsImage, IsPicture, Picture, sample}
 use Rattle.mw_model.specs.Rasters.{Raster, raster}
 use Rattle.mw_model.specs.Values.{CurveValue, ImageValue}
 use Rattle.mw_model.proofs.ImagePlaces.{drawn_same, redrawn_itself}
-use Rattle.mw_arrays.specs.declared.arrays.Bitmap.{Bitmap}
-use Rattle.mw_arrays.specs.declared.arrays.Set.{Set}
-use Rattle.mw_arrays.specs.Arrays.{bitmap_raster, grey_of, pixels_of, set_of, set_picture}
-use Rattle.mw_arrays.specs.Sound.{IsElementBitmap}
+use Rattle.mw_c_arrays.specs.declared.arrays.Bitmap.{Bitmap}
+use Rattle.mw_c_arrays.specs.declared.arrays.Set.{Set}
+use Rattle.mw_c_arrays.specs.Arrays.{bitmap_raster, grey_of, pixels_of, set_of, set_picture}
+use Rattle.mw_c_arrays.specs.Sound.{IsElementBitmap}
 use Rattle.mw_pixel.specs.Images as pixel_images
 use Rattle.mw_c_calls.specs.Sources.{FillsSides, figure_in}
 

@@ -3,7 +3,7 @@ use Rattle.std.specs.Prelude.{ℕ, ◌==◌, ◌||◌, Bool, true, false, not, O
 use Rattle.mw_model.specs.declared.codes.Code.{Code}
 use Rattle.mw_model.specs.declared.codes.Code.TheVariants as code
 use Rattle.mw_model.specs.Refusals.{when}
-use Rattle.mw_strips.specs.Rows.{are_rows}
+use Rattle.mw_c_strips.specs.Rows.{are_rows}
 use Rattle.mw_c_calls.specs.declared.ways.Way.{Way}
 use Rattle.mw_c_calls.specs.declared.ways.Way.TheVariants as way
 

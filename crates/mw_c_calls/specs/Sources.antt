@@ -2,13 +2,13 @@
 use Rattle.std.specs.Prelude.{◌≡◌, ℕ, ◌*◌, ◌≤◌, List, length}
 use Rattle.mw_model.specs.declared.limits.TheConstants.{PIXEL_LIMIT, SIDE_LIMIT}
 use Rattle.mw_model.specs.Elements.{Figure, figure_of}
-use Rattle.mw_arrays.specs.declared.arrays.Bitmap.{Bitmap}
-use Rattle.mw_arrays.specs.Arrays.{bitmap_raster}
-use Rattle.mw_arrays.specs.declared.sources.Source.{Source}
-use Rattle.mw_arrays.specs.declared.sources.Source.TheVariants as source
+use Rattle.mw_c_arrays.specs.declared.arrays.Bitmap.{Bitmap}
+use Rattle.mw_c_arrays.specs.Arrays.{bitmap_raster}
+use Rattle.mw_c_arrays.specs.declared.sources.ArrayImage.{ArrayImage}
+use Rattle.mw_c_arrays.specs.declared.sources.ArrayImage.TheVariants as source
 
 -- levels up to this maxval stand in samples as those of the image do
-abbrev pub StandsIn : Source → ℕ → Type 0
+abbrev pub StandsIn : ArrayImage → ℕ → Type 0
 StandsIn (source.Grey8 f) maxval = maxval ≤ 255
 StandsIn (source.Grey16 f) maxval = 256 ≤ maxval
 StandsIn (source.Pixels f) maxval = maxval ≤ 255

@@ -3,8 +3,8 @@
 ghost use Rattle.std.specs.Prelude.{◌≡◌, ◌≤◌, length, IfErr, IfOk};
 ghost use Rattle.mw_c_calls.specs.Answers.{answer_of, number_of};
 
-use mw_arrays::{Code, put_bytes, put_words};
-use mw_direct::{Curve, Image};
+use mw_c_arrays::{Code, put_bytes, put_words};
+use mw_c_direct::{Curve, Image};
 
 /// The number of a refusal.
 fn number(code: Code) -> i32

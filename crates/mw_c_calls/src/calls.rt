@@ -5,9 +5,9 @@ ghost use Rattle.mw_model.specs.Flat.{hit_or_miss, threshold};
 ghost use Rattle.mw_model.specs.Iterates.{restoration, skeleton, spectrum};
 ghost use Rattle.mw_model.specs.Refusals.{param_case};
 ghost use Rattle.mw_model.specs.declared.limits.TheConstants.{LEVEL_LIMIT};
-ghost use Rattle.mw_arrays.specs.Arrays.{element_in, set_picture};
-ghost use Rattle.mw_arrays.specs.Faults.{bitmap_fault, set_fault};
-ghost use Rattle.mw_arrays.specs.Sources.{IsSource, picture_in, source_count, source_fault};
+ghost use Rattle.mw_c_arrays.specs.Arrays.{element_in, set_picture};
+ghost use Rattle.mw_c_arrays.specs.Faults.{bitmap_fault, set_fault};
+ghost use Rattle.mw_c_arrays.specs.Sources.{IsSource, picture_in, source_count, source_fault};
 ghost use Rattle.mw_c_calls.specs.Answers.{IsTold};
 ghost use Rattle.mw_c_calls.specs.Calls.{call_fault, flat_asks, flat_of, no_origin_case, operation_case, overlap_case, room_case};
 ghost use Rattle.mw_c_calls.specs.Sources.{StandsIn};
@@ -15,10 +15,10 @@ ghost use Rattle.mw_c_calls.specs.Sources.{StandsIn};
 use crate::making::{drawn_by, hits_of, measured_by};
 use crate::operations::name;
 use crate::ways::{way_of, write_by};
-use mw_arrays::{Bitmap, Code, NoMemory, Set, Source, first_of, when};
-use mw_direct::{Curve, GranOp, Image, Op};
+use mw_c_arrays::{ArrayImage, Bitmap, Code, NoMemory, Set, first_of, when};
+use mw_c_direct::{Curve, GranOp, Image, Op};
+use mw_c_strips::{Sample, threshold_into};
 use mw_model::LEVEL_LIMIT;
-use mw_strips::{Sample, threshold_into};
 use std::alloc::Global;
 
 /// What is wrong with the number of a call.
@@ -51,7 +51,7 @@ pub(crate) fn refused(
 pub(crate) fn flat<P: Sample>(
     alloc: Global,
     numbers: (u32, u32),
-    f: Source<'_>,
+    f: ArrayImage<'_>,
     b: &Bitmap<'_>,
     out: &mut [P],
 ) -> Result<(), Code>
@@ -71,7 +71,7 @@ pub(crate) fn flat<P: Sample>(
 }
 
 /// Writes a threshold.
-pub(crate) fn upper(alloc: Global, k: u32, f: Source<'_>, out: &mut [u8]) -> Result<(), Code>
+pub(crate) fn upper(alloc: Global, k: u32, f: ArrayImage<'_>, out: &mut [u8]) -> Result<(), Code>
     ensures made { IfOk result (λ _. out.new ≡ (threshold k (picture_in f.entry)).samples) }
     ensures kept { IfErr result (λ _. out.new ≡ out.old) }
     ensures told { IsTold (call_fault (param_case 0 LEVEL_LIMIT k) (source_fault f.entry) (room_case (length out.old) (source_count f.entry)) None) None result }
@@ -91,7 +91,7 @@ pub(crate) fn upper(alloc: Global, k: u32, f: Source<'_>, out: &mut [u8]) -> Res
 /// Hits and misses, for an array of so many places.
 pub(crate) fn hits(
     alloc: Global,
-    f: Source<'_>,
+    f: ArrayImage<'_>,
     hit: &Bitmap<'_>,
     miss: &Bitmap<'_>,
     room: usize,
@@ -129,14 +129,14 @@ pub(crate) fn marks(
         return Err(code);
     }
     let op = Op::Gran(GranOp::Skeleton(name(), name(), levels));
-    drawn_by(alloc, &op, Source::Pixels(f), b)
+    drawn_by(alloc, &op, ArrayImage::Pixels(f), b)
 }
 
 /// A restoration, for an array of so many places.
 pub(crate) fn restored(
     alloc: Global,
     levels: u32,
-    f: Source<'_>,
+    f: ArrayImage<'_>,
     b: &Bitmap<'_>,
     room: usize,
 ) -> Result<Image, Code>
@@ -159,7 +159,7 @@ pub(crate) fn restored(
 pub(crate) fn volumes(
     alloc: Global,
     levels: u32,
-    f: Source<'_>,
+    f: ArrayImage<'_>,
     b: &Bitmap<'_>,
     room: usize,
 ) -> Result<Curve, Code>

@@ -2,13 +2,13 @@
 
 ghost use Rattle.std.specs.Prelude.{◌≡◌, IfOk};
 ghost use Rattle.std.specs.Arc.{arc_value};
-ghost use Rattle.mw_arrays.specs.Arrays.{set_of};
-ghost use Rattle.mw_arrays.specs.Sound.{IsElementBitmap};
+ghost use Rattle.mw_c_arrays.specs.Arrays.{set_of};
+ghost use Rattle.mw_c_arrays.specs.Sound.{IsElementBitmap};
 ghost use Rattle.mw_c_calls.specs.Sources.{FillsSides, figure_in};
 
 use crate::operations::name;
-use mw_arrays::{Bitmap, levels_of};
-use mw_direct::{Element, FlatOp, Image, Made, Op, apply};
+use mw_c_arrays::{Bitmap, levels_of};
+use mw_c_direct::{Element, FlatOp, Image, Made, Op, apply};
 use mw_model::NoMemory;
 use mw_pixel::View;
 use std::alloc::Global;

@@ -2,14 +2,14 @@
 
 ghost use Rattle.std.specs.Prelude.{◌≡◌, ◌≢◌, pos, length};
 ghost use Rattle.mw_model.specs.declared.limits.TheConstants.{LEVEL_LIMIT};
-ghost use Rattle.mw_arrays.specs.Arrays.{element_of, grey_of, set_of};
-ghost use Rattle.mw_arrays.specs.Faults.{element_fault, levels_fault, pixels_fault};
+ghost use Rattle.mw_c_arrays.specs.Arrays.{element_of, grey_of, set_of};
+ghost use Rattle.mw_c_arrays.specs.Faults.{element_fault, levels_fault, pixels_fault};
 ghost use Rattle.mw_c_calls.specs.Answers.{IsAnswer};
 ghost use Rattle.mw_c_calls.specs.Calls.{call_fault, flat_asks, flat_of, operation_case, room_case};
 
 use crate::answers::answer;
 use crate::calls::flat;
-use mw_arrays::{Bitmap, Grey8, Grey16, Set, Source};
+use mw_c_arrays::{ArrayImage, Bitmap, Grey8, Grey16, Set};
 use std::alloc::Global;
 
 /// The flat operator of a number on levels of one byte.
@@ -45,7 +45,7 @@ pub fn flat_u8(
         origin_x: element_x,
         origin_y: element_y,
     };
-    let source = Source::Grey8(image);
+    let source = ArrayImage::Grey8(image);
     answer(flat(alloc, (operation, k), source, &element, out))
 }
 
@@ -82,7 +82,7 @@ pub fn flat_u16(
         origin_x: element_x,
         origin_y: element_y,
     };
-    let source = Source::Grey16(image);
+    let source = ArrayImage::Grey16(image);
     answer(flat(alloc, (operation, k), source, &element, out))
 }
 
@@ -117,6 +117,6 @@ pub fn flat_set(
         origin_x: element_x,
         origin_y: element_y,
     };
-    let source = Source::Pixels(image);
+    let source = ArrayImage::Pixels(image);
     answer(flat(alloc, (operation, k), source, &element, out))
 }

@@ -3,16 +3,16 @@
 
 ghost use Rattle.std.specs.Prelude.{◌≡◌, ◌≢◌, pos, length};
 ghost use Rattle.mw_model.specs.declared.limits.TheConstants.{LEVEL_LIMIT};
-ghost use Rattle.mw_arrays.specs.Arrays.{element_of, grey_of, set_of};
-ghost use Rattle.mw_arrays.specs.Faults.{element_fault, levels_fault, pixels_fault};
-ghost use Rattle.mw_strips.specs.Rows.{rows_from};
+ghost use Rattle.mw_c_arrays.specs.Arrays.{element_of, grey_of, set_of};
+ghost use Rattle.mw_c_arrays.specs.Faults.{element_fault, levels_fault, pixels_fault};
+ghost use Rattle.mw_c_strips.specs.Rows.{rows_from};
 ghost use Rattle.mw_c_calls.specs.Answers.{IsAnswer};
 ghost use Rattle.mw_c_calls.specs.Calls.{call_fault, flat_asks, flat_of};
 ghost use Rattle.mw_c_calls.specs.Rows.{row_operation_case, rows_case};
 
 use crate::answers::answer;
 use crate::row_calls::flat_rows;
-use mw_arrays::{Bitmap, Grey8, Grey16, Set, Source};
+use mw_c_arrays::{ArrayImage, Bitmap, Grey8, Grey16, Set};
 use std::alloc::Global;
 
 /// Rows of the flat operator of a number, from `first_row` on, on levels of one byte.
@@ -49,7 +49,7 @@ pub fn flat_rows_u8(
         origin_x: element_x,
         origin_y: element_y,
     };
-    let source = Source::Grey8(image);
+    let source = ArrayImage::Grey8(image);
     answer(flat_rows(alloc, (operation, k), first_row, source, &element, out))
 }
 
@@ -87,7 +87,7 @@ pub fn flat_rows_u16(
         origin_x: element_x,
         origin_y: element_y,
     };
-    let source = Source::Grey16(image);
+    let source = ArrayImage::Grey16(image);
     answer(flat_rows(alloc, (operation, k), first_row, source, &element, out))
 }
 
@@ -123,6 +123,6 @@ pub fn flat_rows_set(
         origin_x: element_x,
         origin_y: element_y,
     };
-    let source = Source::Pixels(image);
+    let source = ArrayImage::Pixels(image);
     answer(flat_rows(alloc, (operation, k), first_row, source, &element, out))
 }

@@ -3,14 +3,14 @@
 ghost use Rattle.std.specs.Prelude.{◌≡◌, ◌≢◌, pos, length};
 ghost use Rattle.mw_model.specs.Flat.{hit_or_miss};
 ghost use Rattle.mw_model.specs.declared.limits.TheConstants.{LEVEL_LIMIT};
-ghost use Rattle.mw_arrays.specs.Arrays.{element_of, grey_of, set_of};
-ghost use Rattle.mw_arrays.specs.Faults.{element_fault, levels_fault, pixels_fault};
+ghost use Rattle.mw_c_arrays.specs.Arrays.{element_of, grey_of, set_of};
+ghost use Rattle.mw_c_arrays.specs.Faults.{element_fault, levels_fault, pixels_fault};
 ghost use Rattle.mw_c_calls.specs.Answers.{IsAnswer};
 ghost use Rattle.mw_c_calls.specs.Calls.{call_fault, overlap_case, room_case};
 
 use crate::answers::{answer_bytes, answer_words};
 use crate::calls::hits;
-use mw_arrays::{Bitmap, Grey8, Grey16, Set, Source};
+use mw_c_arrays::{ArrayImage, Bitmap, Grey8, Grey16, Set};
 use std::alloc::Global;
 
 /// The erosion by one element less the dilation by the other, of levels of one byte.
@@ -56,7 +56,7 @@ pub fn hit_or_miss_u8(
         origin_x: miss_x,
         origin_y: miss_y,
     };
-    let source = Source::Grey8(image);
+    let source = ArrayImage::Grey8(image);
     answer_bytes(hits(alloc, source, &hit, &miss, out.len()), out)
 }
 
@@ -103,7 +103,7 @@ pub fn hit_or_miss_u16(
         origin_x: miss_x,
         origin_y: miss_y,
     };
-    let source = Source::Grey16(image);
+    let source = ArrayImage::Grey16(image);
     answer_words(hits(alloc, source, &hit, &miss, out.len()), out)
 }
 
@@ -148,6 +148,6 @@ pub fn hit_or_miss_set(
         origin_x: miss_x,
         origin_y: miss_y,
     };
-    let source = Source::Pixels(image);
+    let source = ArrayImage::Pixels(image);
     answer_bytes(hits(alloc, source, &hit, &miss, out.len()), out)
 }

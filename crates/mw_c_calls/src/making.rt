@@ -4,10 +4,10 @@ ghost use Rattle.std.specs.Prelude.{◌≡◌, Some, None, [], ◌∷◌, true, 
 ghost use Rattle.mw_model.specs.Flat.{hit_or_miss};
 ghost use Rattle.mw_model.specs.Pictures.{IsImage};
 ghost use Rattle.mw_model.specs.Values.{CurveValue, ElementValue, ImageValue, result_of};
-ghost use Rattle.mw_arrays.specs.Arrays.{element_in};
-ghost use Rattle.mw_arrays.specs.Sound.{IsElementBitmap};
-ghost use Rattle.mw_arrays.specs.Sources.{IsSource, picture_in};
-ghost use Rattle.mw_direct.specs.Values.{IsSoundMade, value_made};
+ghost use Rattle.mw_c_arrays.specs.Arrays.{element_in};
+ghost use Rattle.mw_c_arrays.specs.Sound.{IsElementBitmap};
+ghost use Rattle.mw_c_arrays.specs.Sources.{IsSource, picture_in};
+ghost use Rattle.mw_c_direct.specs.Values.{IsSoundMade, value_made};
 ghost use Rattle.mw_c_calls.specs.Answers.{IsTold};
 ghost use Rattle.mw_c_calls.specs.Calls.{asks, is_drawing, overlap_case, takes_one};
 ghost use Rattle.mw_c_calls.specs.Sources.{figure_in};
@@ -15,12 +15,12 @@ ghost use Rattle.mw_c_calls.specs.Sources.{figure_in};
 use crate::elements::element;
 use crate::operations::name;
 use crate::sources::image;
-use mw_arrays::{Bitmap, Code, Source};
-use mw_direct::{Curve, FlatOp, Image, Made, Op, apply};
+use mw_c_arrays::{ArrayImage, Bitmap, Code};
+use mw_c_direct::{Curve, FlatOp, Image, Made, Op, apply};
 use std::alloc::Global;
 
 /// An operation that takes an image and an element, made of them.
-fn made_by(alloc: Global, op: &Op, f: Source<'_>, b: &Bitmap<'_>) -> Result<Made, Code>
+fn made_by(alloc: Global, op: &Op, f: ArrayImage<'_>, b: &Bitmap<'_>) -> Result<Made, Code>
     requires image { IsSource f }
     requires element { IsElementBitmap b.now }
     requires one { takes_one op.now ≡ true }
@@ -41,7 +41,12 @@ fn made_by(alloc: Global, op: &Op, f: Source<'_>, b: &Bitmap<'_>) -> Result<Made
 }
 
 /// The image that such an operation makes.
-pub(crate) fn drawn_by(alloc: Global, op: &Op, f: Source<'_>, b: &Bitmap<'_>) -> Result<Image, Code>
+pub(crate) fn drawn_by(
+    alloc: Global,
+    op: &Op,
+    f: ArrayImage<'_>,
+    b: &Bitmap<'_>,
+) -> Result<Image, Code>
     requires image { IsSource f }
     requires element { IsElementBitmap b.now }
     requires one { takes_one op.now ≡ true }
@@ -61,7 +66,7 @@ pub(crate) fn drawn_by(alloc: Global, op: &Op, f: Source<'_>, b: &Bitmap<'_>) ->
 pub(crate) fn measured_by(
     alloc: Global,
     op: &Op,
-    f: Source<'_>,
+    f: ArrayImage<'_>,
     b: &Bitmap<'_>,
 ) -> Result<Curve, Code>
     requires image { IsSource f }
@@ -81,7 +86,7 @@ pub(crate) fn measured_by(
 /// The hits and misses of two elements.
 pub(crate) fn hits_of(
     alloc: Global,
-    f: Source<'_>,
+    f: ArrayImage<'_>,
     hit: &Bitmap<'_>,
     miss: &Bitmap<'_>,
 ) -> Result<Image, Code>

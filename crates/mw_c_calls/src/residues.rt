@@ -4,14 +4,14 @@ ghost use Rattle.std.specs.Prelude.{◌≡◌, ◌≢◌, pos, length, None};
 ghost use Rattle.mw_model.specs.Iterates.{restoration, skeleton};
 ghost use Rattle.mw_model.specs.Refusals.{param_case};
 ghost use Rattle.mw_model.specs.declared.limits.TheConstants.{LEVEL_LIMIT};
-ghost use Rattle.mw_arrays.specs.Arrays.{element_of, grey_of, set_of};
-ghost use Rattle.mw_arrays.specs.Faults.{element_fault, levels_fault, pixels_fault};
+ghost use Rattle.mw_c_arrays.specs.Arrays.{element_of, grey_of, set_of};
+ghost use Rattle.mw_c_arrays.specs.Faults.{element_fault, levels_fault, pixels_fault};
 ghost use Rattle.mw_c_calls.specs.Answers.{IsAnswer};
 ghost use Rattle.mw_c_calls.specs.Calls.{call_fault, no_origin_case, room_case};
 
 use crate::answers::answer_bytes;
 use crate::calls::{marks, restored};
-use mw_arrays::{Bitmap, Grey8, Grey16, Set, Source};
+use mw_c_arrays::{ArrayImage, Bitmap, Grey8, Grey16, Set};
 use std::alloc::Global;
 
 /// The marks of a skeleton of a set.
@@ -79,7 +79,7 @@ pub fn restore_u8(
         origin_x: element_x,
         origin_y: element_y,
     };
-    let source = Source::Grey8(image);
+    let source = ArrayImage::Grey8(image);
     answer_bytes(restored(alloc, levels, source, &element, out.len()), out)
 }
 
@@ -115,6 +115,6 @@ pub fn restore_u16(
         origin_x: element_x,
         origin_y: element_y,
     };
-    let source = Source::Grey16(image);
+    let source = ArrayImage::Grey16(image);
     answer_bytes(restored(alloc, levels, source, &element, out.len()), out)
 }

@@ -1,10 +1,10 @@
 //! Calls for some rows of what a flat operator of one step makes: what is wrong with them is told before anything is made.
 
 ghost use Rattle.std.specs.Prelude.{◌≡◌, length, map, IfErr, IfOk};
-ghost use Rattle.mw_arrays.specs.Arrays.{element_in};
-ghost use Rattle.mw_arrays.specs.Faults.{bitmap_fault};
-ghost use Rattle.mw_arrays.specs.Sources.{IsSource, picture_in, source_count, source_fault};
-ghost use Rattle.mw_strips.specs.Rows.{rows_from};
+ghost use Rattle.mw_c_arrays.specs.Arrays.{element_in};
+ghost use Rattle.mw_c_arrays.specs.Faults.{bitmap_fault};
+ghost use Rattle.mw_c_arrays.specs.Sources.{IsSource, picture_in, source_count, source_fault};
+ghost use Rattle.mw_c_strips.specs.Rows.{rows_from};
 ghost use Rattle.mw_c_calls.specs.Answers.{IsTold};
 ghost use Rattle.mw_c_calls.specs.Calls.{call_fault, flat_asks, flat_of};
 ghost use Rattle.mw_c_calls.specs.Rows.{has_one_step, row_operation_case, rows_case};
@@ -12,8 +12,8 @@ ghost use Rattle.mw_c_calls.specs.Rows.{has_one_step, row_operation_case, rows_c
 use crate::calls::refused;
 use crate::row_ways::write_rows_by;
 use crate::ways::way_of;
-use mw_arrays::{Bitmap, Code, Source, when};
-use mw_strips::{Sample, are_rows};
+use mw_c_arrays::{ArrayImage, Bitmap, Code, when};
+use mw_c_strips::{Sample, are_rows};
 use std::alloc::Global;
 
 /// Whether the flat operator of the number has one step.
@@ -28,7 +28,7 @@ pub(crate) fn flat_rows<P: Sample>(
     alloc: Global,
     numbers: (u32, u32),
     first: u32,
-    f: Source<'_>,
+    f: ArrayImage<'_>,
     b: &Bitmap<'_>,
     out: &mut [P],
 ) -> Result<(), Code>

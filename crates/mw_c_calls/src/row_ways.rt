@@ -2,18 +2,18 @@
 
 ghost use Rattle.std.specs.Prelude.{◌≡◌, length, map, None, true, IfErr, IfOk};
 ghost use Rattle.std.specs.Arc.{arc_value};
-ghost use Rattle.mw_arrays.specs.Arrays.{element_in};
-ghost use Rattle.mw_arrays.specs.Sound.{IsElementBitmap};
-ghost use Rattle.mw_arrays.specs.Sources.{IsSource, picture_in};
-ghost use Rattle.mw_strips.specs.Rows.{AreRows, rows_from};
+ghost use Rattle.mw_c_arrays.specs.Arrays.{element_in};
+ghost use Rattle.mw_c_arrays.specs.Sound.{IsElementBitmap};
+ghost use Rattle.mw_c_arrays.specs.Sources.{IsSource, picture_in};
+ghost use Rattle.mw_c_strips.specs.Rows.{AreRows, rows_from};
 ghost use Rattle.mw_c_calls.specs.Answers.{IsTold};
 ghost use Rattle.mw_c_calls.specs.Rows.{is_one_step};
 ghost use Rattle.mw_c_calls.specs.Ways.{way_asks, way_picture};
 
 use crate::elements::element;
 use crate::ways::{Way, missed};
-use mw_arrays::{Bitmap, Code, NoMemory, Source};
-use mw_strips::{Element, Sample, gradient_rows_into, rank_rows_into, slide_rows_into};
+use mw_c_arrays::{ArrayImage, Bitmap, Code, NoMemory};
+use mw_c_strips::{Element, Sample, gradient_rows_into, rank_rows_into, slide_rows_into};
 use std::alloc::Global;
 use std::sync::Arc;
 
@@ -21,7 +21,7 @@ use std::sync::Arc;
 fn write_rows<P: Sample>(
     alloc: Global,
     way: Way,
-    f: Source<'_>,
+    f: ArrayImage<'_>,
     b: &Arc<Element>,
     first: u32,
     out: &mut [P],
@@ -46,7 +46,7 @@ fn write_rows<P: Sample>(
 pub(crate) fn write_rows_by<P: Sample>(
     alloc: Global,
     way: Way,
-    f: Source<'_>,
+    f: ArrayImage<'_>,
     b: &Bitmap<'_>,
     first: u32,
     out: &mut [P],

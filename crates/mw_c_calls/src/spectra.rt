@@ -4,14 +4,14 @@ ghost use Rattle.std.specs.Prelude.{◌≡◌, ◌≢◌, ◌+◌, pos, length, 
 ghost use Rattle.mw_model.specs.Iterates.{spectrum};
 ghost use Rattle.mw_model.specs.Refusals.{param_case};
 ghost use Rattle.mw_model.specs.declared.limits.TheConstants.{LEVEL_LIMIT};
-ghost use Rattle.mw_arrays.specs.Arrays.{element_of, grey_of, set_of};
-ghost use Rattle.mw_arrays.specs.Faults.{element_fault, levels_fault, pixels_fault};
+ghost use Rattle.mw_c_arrays.specs.Arrays.{element_of, grey_of, set_of};
+ghost use Rattle.mw_c_arrays.specs.Faults.{element_fault, levels_fault, pixels_fault};
 ghost use Rattle.mw_c_calls.specs.Answers.{IsAnswer};
 ghost use Rattle.mw_c_calls.specs.Calls.{call_fault, room_case};
 
 use crate::answers::answer_volumes;
 use crate::calls::volumes;
-use mw_arrays::{Bitmap, Grey8, Grey16, Set, Source};
+use mw_c_arrays::{ArrayImage, Bitmap, Grey8, Grey16, Set};
 use std::alloc::Global;
 
 /// The volumes of levels of one byte.
@@ -46,7 +46,7 @@ pub fn spectrum_u8(
         origin_x: element_x,
         origin_y: element_y,
     };
-    let source = Source::Grey8(image);
+    let source = ArrayImage::Grey8(image);
     answer_volumes(volumes(alloc, levels, source, &element, out.len()), out)
 }
 
@@ -82,7 +82,7 @@ pub fn spectrum_u16(
         origin_x: element_x,
         origin_y: element_y,
     };
-    let source = Source::Grey16(image);
+    let source = ArrayImage::Grey16(image);
     answer_volumes(volumes(alloc, levels, source, &element, out.len()), out)
 }
 
@@ -116,6 +116,6 @@ pub fn spectrum_set(
         origin_x: element_x,
         origin_y: element_y,
     };
-    let source = Source::Pixels(image);
+    let source = ArrayImage::Pixels(image);
     answer_volumes(volumes(alloc, levels, source, &element, out.len()), out)
 }

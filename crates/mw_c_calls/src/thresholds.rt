@@ -4,14 +4,14 @@ ghost use Rattle.std.specs.Prelude.{◌≡◌, ◌≢◌, pos, length, None};
 ghost use Rattle.mw_model.specs.Flat.{threshold};
 ghost use Rattle.mw_model.specs.Refusals.{param_case};
 ghost use Rattle.mw_model.specs.declared.limits.TheConstants.{LEVEL_LIMIT};
-ghost use Rattle.mw_arrays.specs.Arrays.{grey_of};
-ghost use Rattle.mw_arrays.specs.Faults.{levels_fault};
+ghost use Rattle.mw_c_arrays.specs.Arrays.{grey_of};
+ghost use Rattle.mw_c_arrays.specs.Faults.{levels_fault};
 ghost use Rattle.mw_c_calls.specs.Answers.{IsAnswer};
 ghost use Rattle.mw_c_calls.specs.Calls.{call_fault, room_case};
 
 use crate::answers::answer;
 use crate::calls::upper;
-use mw_arrays::{Grey8, Grey16, Source};
+use mw_c_arrays::{ArrayImage, Grey8, Grey16};
 use std::alloc::Global;
 
 /// The set of the places with level `k` or more, of levels of one byte.
@@ -34,7 +34,7 @@ pub fn threshold_u8(
         height,
         maxval: maxval as u32,
     };
-    answer(upper(alloc, k, Source::Grey8(image), out))
+    answer(upper(alloc, k, ArrayImage::Grey8(image), out))
 }
 
 /// The set of the places with level `k` or more, of levels of two bytes.
@@ -57,5 +57,5 @@ pub fn threshold_u16(
         height,
         maxval: maxval as u32,
     };
-    answer(upper(alloc, k, Source::Grey16(image), out))
+    answer(upper(alloc, k, ArrayImage::Grey16(image), out))
 }

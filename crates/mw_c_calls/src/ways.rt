@@ -4,18 +4,18 @@ ghost use Rattle.std.specs.Prelude.{◌≡◌, ◌<◌, List, length, map, None,
 ghost use Rattle.std.specs.Arc.{arc_value};
 ghost use Rattle.mw_model.specs.declared.places.Offset.{Offset};
 ghost use Rattle.mw_model.specs.Pictures.{Picture};
-ghost use Rattle.mw_arrays.specs.Arrays.{element_in};
-ghost use Rattle.mw_arrays.specs.Sound.{IsElementBitmap};
-ghost use Rattle.mw_arrays.specs.Sources.{IsSource, picture_in, source_count};
+ghost use Rattle.mw_c_arrays.specs.Arrays.{element_in};
+ghost use Rattle.mw_c_arrays.specs.Sound.{IsElementBitmap};
+ghost use Rattle.mw_c_arrays.specs.Sources.{IsSource, picture_in, source_count};
 ghost use Rattle.mw_c_calls.specs.Answers.{IsTold};
 ghost use Rattle.mw_c_calls.specs.Calls.{flat_asks, flat_of, rank_fault};
 ghost use Rattle.mw_c_calls.specs.Rows.{has_one_step, is_one_step};
 ghost use Rattle.mw_c_calls.specs.Ways.{way_asks, way_picture};
 
 use crate::elements::element;
-use mw_arrays::{Bitmap, Code, NoMemory, Source, first_of, when};
-use mw_strips::{
-    Element, Extremum, Sample, filter_into, gradient_into, rank_into, residue_into, slide_into,
+use mw_c_arrays::{ArrayImage, Bitmap, Code, NoMemory, first_of, when};
+use mw_c_strips::{
+    Element, ExtremumKind, Sample, filter_into, gradient_into, rank_into, residue_into, slide_into,
 };
 use std::alloc::Global;
 use std::sync::Arc;
@@ -24,13 +24,13 @@ use std::sync::Arc;
 #[derive(Clone, Copy)]
 pub(crate) enum Way {
     /// The extremum under the element at each place.
-    Slide(Extremum),
+    Slide(ExtremumKind),
     /// That, and then the other extremum under the element turned round.
-    Filter(Extremum),
+    Filter(ExtremumKind),
     /// The greatest sample under the element less the least.
     Gradient,
     /// What a filter takes away or adds.
-    Residue(Extremum),
+    Residue(ExtremumKind),
     /// The samples under the element in rising order, and of them this one.
     Nth(u32),
 }
@@ -43,13 +43,13 @@ pub(crate) fn way_of(operation: u32, k: u32) -> Way
     ensures steps { is_one_step result ≡ has_one_step operation }
 {
     match operation {
-        0 => Way::Slide(Extremum::Least),
-        1 => Way::Slide(Extremum::Greatest),
-        2 => Way::Filter(Extremum::Least),
-        3 => Way::Filter(Extremum::Greatest),
+        0 => Way::Slide(ExtremumKind::Least),
+        1 => Way::Slide(ExtremumKind::Greatest),
+        2 => Way::Filter(ExtremumKind::Least),
+        3 => Way::Filter(ExtremumKind::Greatest),
         4 => Way::Gradient,
-        5 => Way::Residue(Extremum::Least),
-        6 => Way::Residue(Extremum::Greatest),
+        5 => Way::Residue(ExtremumKind::Least),
+        6 => Way::Residue(ExtremumKind::Greatest),
         7 => Way::Nth(k),
         _ => unreachable!(),
     }
@@ -82,7 +82,7 @@ pub(crate) fn missed(way: Way, b: &Arc<Element>) -> Option<Code>
 fn write<P: Sample>(
     alloc: Global,
     way: Way,
-    f: Source<'_>,
+    f: ArrayImage<'_>,
     b: &Arc<Element>,
     out: &mut [P],
 ) -> Result<(), NoMemory>
@@ -105,7 +105,7 @@ fn write<P: Sample>(
 pub(crate) fn write_by<P: Sample>(
     alloc: Global,
     way: Way,
-    f: Source<'_>,
+    f: ArrayImage<'_>,
     b: &Bitmap<'_>,
     out: &mut [P],
 ) -> Result<(), Code>

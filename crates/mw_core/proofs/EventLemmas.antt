@@ -5,11 +5,11 @@ use Rattle.mw_model.specs.declared.calls.Reply.{Reply}
 use Rattle.mw_model.specs.declared.calls.Reply.TheVariants as reply
 use Rattle.mw_model.specs.Machine.{Machine, after}
 use Rattle.mw_model.specs.Stands.{CoreView, StandsFor}
-use Rattle.mw_checks.specs.mw_store.declared.fetched.Fetched.{Fetched}
+use Rattle.mw_core_refusals.specs.mw_store.declared.fetched.Fetched.{Fetched}
 use Rattle.mw_core.specs.declared.events.Event.{Event}
 use Rattle.mw_core.specs.declared.events.Answer.{Answer}
-use Rattle.mw_ledger.specs.mw_stands.Events.{FollowsMachine, IsFresh, handed_out}
-use Rattle.mw_checks.specs.mw_store.Fetches.{ShowsSome, shown_value}
+use Rattle.mw_core_ledger.specs.mw_core_laws.Events.{FollowsMachine, IsFresh, handed_out}
+use Rattle.mw_core_refusals.specs.mw_store.Fetches.{ShowsSome, shown_value}
 use Rattle.mw_core.specs.EventEffects.{ReplyEffect, Submits, Fetches, HasEffect, HaveEffects, answer_of, fetch_answer_of}
 
 replies : (m : Machine) (c : Call) (r : Reply) (old new : CoreView) → StandsFor old m → FollowsMachine old c None new r → ReplyEffect old m c None r new (after m c None)

@@ -10,9 +10,9 @@ use Rattle.mw_model.specs.declared.calls.Reply.{Reply}
 use Rattle.mw_model.specs.declared.calls.LogItem.TheVariants as item
 use Rattle.mw_model.specs.Refusals.{first_of, when}
 use Rattle.mw_model.specs.Stands.{CoreView}
-use Rattle.mw_checks.specs.Faults.{IsFault}
-use Rattle.mw_ledger.specs.mw_stands.Events.{FollowsMachine}
-use Rattle.mw_ledger.proofs.mw_stands.CallLemmas.{serves-refused}
+use Rattle.mw_core_refusals.specs.Faults.{IsFault}
+use Rattle.mw_core_ledger.specs.mw_core_laws.Events.{FollowsMachine}
+use Rattle.mw_core_ledger.proofs.mw_core_laws.CallLemmas.{serves-refused}
 
 pub serves-fault-load : (c new : CoreView) (n : Name) (x : Code) (r : Reply) → IsFault c.table n x r → new ≡ record c { log = c.log ++ item.Call (call.Load n (given.Bad x)) r ∷ [] }
     → FollowsMachine c (call.Load n (given.Bad x)) None new r

@@ -14,13 +14,13 @@ use Rattle.mw_model.specs.Values.{Value, ImageValue, ElementValue, CurveValue, v
 use Rattle.mw_model.specs.Refusals.{Table, ticket, ticket_of, outcome_at, shape_at, is_element, when, refusal}
 use Rattle.mw_model.specs.Machine.{Machine, values, answer, fetch_reply, refused_or, reply_to, reply_from}
 use Rattle.mw_model.specs.Stands.{CoreView, StandsFor}
-use Rattle.mw_checks.specs.mw_laws.MachineLaws.{shape_of_value}
-use Rattle.mw_checks.proofs.mw_laws.RunTables.{is_known, ticket_is, ticket_within, when_so}
-use Rattle.mw_ledger.specs.mw_stands.Events.{handed_out}
-use Rattle.mw_checks.specs.mw_store.Fetches.{IsShown, ShowsSome, fetchable, shown_value}
-use Rattle.mw_checks.specs.mw_store.declared.fetched.Shown.{Shown}
-use Rattle.mw_ledger.proofs.mw_stands.RefusalLemmas.{some-same}
-use Rattle.mw_ledger.proofs.mw_stands.StandsLemmas.{stands-sound, stands-reply}
+use Rattle.mw_core_refusals.specs.mw_model_laws.MachineLaws.{shape_of_value}
+use Rattle.mw_core_refusals.proofs.mw_model_laws.RunTables.{is_known, ticket_is, ticket_within, when_so}
+use Rattle.mw_core_ledger.specs.mw_core_laws.Events.{handed_out}
+use Rattle.mw_core_refusals.specs.mw_store.Fetches.{IsShown, ShowsSome, fetchable, shown_value}
+use Rattle.mw_core_refusals.specs.mw_store.declared.fetched.FetchedValue.{FetchedValue}
+use Rattle.mw_core_ledger.proofs.mw_core_laws.RefusalLemmas.{some-same}
+use Rattle.mw_core_ledger.proofs.mw_core_laws.StandsLemmas.{stands-sound, stands-reply}
 
 -- a value is shown only where the entry is done
 shows-done : (t u : ℕ) (s : Shape) (o : Outcome) → fetch_reply t s o ≡ reply.Shown u → (o ≡ outcome.Done) × (t ≡ u)
@@ -65,7 +65,7 @@ must-be-handed (Some (ImageValue f)) s h e = refl
 must-be-handed (Some (ElementValue b)) s h e = let is : shape_of_figure b ≡ s = cc in let f = ap is_element is in absurd cc
 must-be-handed (Some (CurveValue v)) s h e = refl
 
-shown-value : (c : CoreView) (m : Machine) (n : Name) (t : ℕ) (v : Shown) → StandsFor c m → reply_to m (call.Fetch n) ≡ reply.Shown t → shown_value v ≡ fetchable (value_at c.kept t) → shown_value v ≡ value_at (values m) t
+shown-value : (c : CoreView) (m : Machine) (n : Name) (t : ℕ) (v : FetchedValue) → StandsFor c m → reply_to m (call.Fetch n) ≡ reply.Shown t → shown_value v ≡ fetchable (value_at c.kept t) → shown_value v ≡ value_at (values m) t
 shown-value c m n t v s told is =
     let done = shown-ticket m n t told in
     let sound = stands-sound c m s in
@@ -74,7 +74,7 @@ shown-value c m n t v s told is =
     let shaped = ap (option_map shape_of_value) (sym same) ∙ sound.shapes t done.within in
     is ∙ must-be-handed (value_at c.kept t) (shape_at m.table.submissions t) shaped done.shape ∙ sym same
 
-by-reply : (c : CoreView) (m : Machine) (n : Name) (r : Reply) (v : Shown) → StandsFor c m → r ≡ reply_to m (call.Fetch n) → IsShown c r v → shown_value v ≡ handed_out m r
+by-reply : (c : CoreView) (m : Machine) (n : Name) (r : Reply) (v : FetchedValue) → StandsFor c m → r ≡ reply_to m (call.Fetch n) → IsShown c r v → shown_value v ≡ handed_out m r
 by-reply c m n (reply.Accepted t) v s told is = is
 by-reply c m n (reply.Refused x) v s told is = is
 by-reply c m n (reply.Pending t) v s told is = is
@@ -85,24 +85,24 @@ by-reply c m n (reply.BadInput t i) v s told is = is
 by-reply c m n (reply.Released t) v s told is = is
 by-reply c m n (reply.Shown t) v s told is = shown-value c m n t v s (sym told) is
 
-pub fetched-value : (c : CoreView) (m : Machine) (n : Name) (r : Reply) (v : Shown) → StandsFor c m → r ≡ reply_from c.table c.kept (call.Fetch n) → IsShown c r v → shown_value v ≡ handed_out m r
+pub fetched-value : (c : CoreView) (m : Machine) (n : Name) (r : Reply) (v : FetchedValue) → StandsFor c m → r ≡ reply_from c.table c.kept (call.Fetch n) → IsShown c r v → shown_value v ≡ handed_out m r
 fetched-value c m n r v s told is = by-reply c m n r v s (told ∙ stands-reply c m (call.Fetch n) s) is
 
 -- ---- whether something is handed out
 
-nothing-shown : (r : Reply) (v : Shown) → shown_value v ≡ None → (ShowsSome r → ⊥) → IsSome (shown_value v) ↔ ShowsSome r
+nothing-shown : (r : Reply) (v : FetchedValue) → shown_value v ≡ None → (ShowsSome r → ⊥) → IsSome (shown_value v) ↔ ShowsSome r
 nothing-shown r v none other = (λ some. let P : Option Value → Type 0 = IsSome in let f = subst P none some in absurd cc, λ s. absurd (other s))
 
 with-shape : (x : Option Value) (s : Shape) → option_map shape_of_value x ≡ Some s → IsSome x
 with-shape None s h = absurd cc
 with-shape (Some v) s h = refl
 
-something-shown : (c : CoreView) (m : Machine) (n : Name) (t : ℕ) (v : Shown) → StandsFor c m → reply_to m (call.Fetch n) ≡ reply.Shown t → shown_value v ≡ fetchable (value_at c.kept t) → IsSome (shown_value v)
+something-shown : (c : CoreView) (m : Machine) (n : Name) (t : ℕ) (v : FetchedValue) → StandsFor c m → reply_to m (call.Fetch n) ≡ reply.Shown t → shown_value v ≡ fetchable (value_at c.kept t) → IsSome (shown_value v)
 something-shown c m n t v s told is =
     let P : Option Value → Type 0 = IsSome in
     subst P (sym (shown-value c m n t v s told is)) (with-shape (value_at (values m) t) (shape_at m.table.submissions t) ((stands-sound c m s).shapes t (shown-ticket m n t told).within))
 
-shown-by-reply : (c : CoreView) (m : Machine) (n : Name) (r : Reply) (v : Shown) → StandsFor c m → r ≡ reply_to m (call.Fetch n) → IsShown c r v → IsSome (shown_value v) ↔ ShowsSome r
+shown-by-reply : (c : CoreView) (m : Machine) (n : Name) (r : Reply) (v : FetchedValue) → StandsFor c m → r ≡ reply_to m (call.Fetch n) → IsShown c r v → IsSome (shown_value v) ↔ ShowsSome r
 shown-by-reply c m n (reply.Accepted t) v s told is = nothing-shown (reply.Accepted t) v is (λ h. let e = h.1 in cc)
 shown-by-reply c m n (reply.Refused x) v s told is = nothing-shown (reply.Refused x) v is (λ h. let e = h.1 in cc)
 shown-by-reply c m n (reply.Pending t) v s told is = nothing-shown (reply.Pending t) v is (λ h. let e = h.1 in cc)
@@ -114,7 +114,7 @@ shown-by-reply c m n (reply.Released t) v s told is = nothing-shown (reply.Relea
 shown-by-reply c m n (reply.Shown t) v s told is = (λ some. (t, refl), λ h. something-shown c m n t v s (sym told) is)
 
 -- a value is handed out exactly where the reply shows a ticket
-pub fetched-shown : (c : CoreView) (m : Machine) (n : Name) (r : Reply) (v : Shown) → StandsFor c m → r ≡ reply_from c.table c.kept (call.Fetch n) → IsShown c r v → IsSome (shown_value v) ↔ ShowsSome r
+pub fetched-shown : (c : CoreView) (m : Machine) (n : Name) (r : Reply) (v : FetchedValue) → StandsFor c m → r ≡ reply_from c.table c.kept (call.Fetch n) → IsShown c r v → IsSome (shown_value v) ↔ ShowsSome r
 fetched-shown c m n r v s told is = shown-by-reply c m n r v s (told ∙ stands-reply c m (call.Fetch n) s) is
 
 -- ---- what is kept

@@ -6,13 +6,13 @@ use Rattle.std.proofs.lemmas.Option.{get_or_from_slice_get}
 use Rattle.mw_model.specs.Places.{Holds}
 use Rattle.mw_model.specs.Pictures.{Picture, sample}
 use Rattle.mw_model.proofs.ImagePlaces.{length-rows, sample-drawn, same_picture}
-use Rattle.mw_checks.specs.mw_grid.Grids.{Tiling, columns_of, rows_of, tile_at, tile_count}
-use Rattle.mw_checks.proofs.mw_grid.Lines.{piece_counts, piece_has, number_of}
-use Rattle.mw_checks.proofs.mw_grid.Tiles.{HasTiles, column_of_number}
-use Rattle.mw_checks.specs.mw_pixel.Images.{raster_of}
-use Rattle.mw_checks.proofs.mw_pixel.Cells.{slice_get-samples}
-use Rattle.mw_checks.specs.mw_tiles.Tiles.{Tiled, AllPlaced, IsPlaneOf, ShowsTiles, tile_cells}
-use Rattle.mw_checks.specs.mw_tiles.Filled.{cell_in, cell_or, filled, filled_value, number_at}
+use Rattle.mw_grid.specs.Grids.{Tiling, columns_of, rows_of, tile_at, tile_count}
+use Rattle.mw_grid.proofs.Lines.{piece_counts, piece_has, number_of}
+use Rattle.mw_grid.proofs.Tiles.{HasTiles, column_of_number}
+use Rattle.mw_core_refusals.specs.mw_pixel.Images.{raster_of}
+use Rattle.mw_core_refusals.proofs.mw_pixel.Cells.{slice_get-samples}
+use Rattle.mw_core_refusals.specs.mw_tile_planes.Tiles.{Tiled, AllPlaced, IsPlaneOf, ShowsTiles, tile_cells}
+use Rattle.mw_core_refusals.specs.mw_tile_planes.Filled.{cell_in, cell_or, filled, filled_value, number_at}
 
 -- each place of the frame is in the tile of its number
 tile-holds : (g : Tiling) (x y : ℕ) → HasTiles g → x < g.width → y < g.height → (number_at g x y < tile_count g) × Holds (tile_at g (number_at g x y)) x y

@@ -13,27 +13,27 @@ use Rattle.mw_model.specs.Refusals.{Table, is_element, is_pending, outcome_at, s
 use Rattle.mw_model.specs.Machine.{Machine, values}
 use Rattle.mw_model.specs.Tasks.{Progress, flag, remaining_tasks}
 use Rattle.mw_model.specs.Stands.{CoreView, StandsFor, inputs_there}
-use Rattle.mw_checks.proofs.mw_grid.Tiles.{HasTiles}
-use Rattle.mw_checks.specs.mw_task.Products.{IsMade}
-use Rattle.mw_checks.specs.mw_task.WindowTasks.{WindowTask}
-use Rattle.mw_ledger.specs.mw_places.MadeTiles.{cells_of_made}
-use Rattle.mw_ledger.specs.mw_progress.ProgressView.{ProgressView, plane_at}
-use Rattle.mw_ledger.specs.mw_work.Works as works
-use Rattle.mw_ledger.specs.mw_work.Works.{IsTrueWork, IsUnder, true_task}
-use Rattle.mw_ledger.proofs.mw_work.Curves.{result-curve}
-use Rattle.mw_ledger.proofs.mw_work.Going.{true-finished, true-under, under-finished}
-use Rattle.mw_ledger.proofs.mw_work.Making.{finishes-made}
-use Rattle.mw_ledger.proofs.mw_work.Numbers.{has-tiles, length-tiles, number_of-within, step_number-number_of, tile_number-number_of}
-use Rattle.mw_ledger.proofs.mw_work.Settling.{result-image}
-use Rattle.mw_ledger.specs.mw_stands.TaskEvents.{IsResult, IsUnderway, Places, Settles}
-use Rattle.mw_ledger.proofs.mw_stands.GivenLemmas.{elements-given}
-use Rattle.mw_ledger.proofs.mw_stands.TaskLemmas.{work-within}
-use Rattle.mw_ledger.specs.mw_underway.Results.{result_number}
-use Rattle.mw_ledger.proofs.mw_underway.PlanTaskLemmas.{IsResultOn, places, settles}
-use Rattle.mw_ledger.proofs.mw_underway.ResultLemmas.{number-true, result-found, result-true}
-use Rattle.mw_ledger.specs.Books.{Book, IsOrderly, progress_of, seen_of}
-use Rattle.mw_ledger.specs.Tasks.{FinishesAt, IsFitAt, IsFoundAt, IsResultAt, PlacesAt, SettlesAt, value_made}
-use Rattle.mw_ledger.proofs.SeenLemmas.{progress-seen, work-shown}
+use Rattle.mw_grid.proofs.Tiles.{HasTiles}
+use Rattle.mw_core_refusals.specs.mw_step_task.Products.{IsMade}
+use Rattle.mw_core_refusals.specs.mw_step_task.WindowTasks.{WindowTask}
+use Rattle.mw_core_ledger.specs.mw_core_planes.MadeTiles.{cells_of_made}
+use Rattle.mw_core_ledger.specs.mw_core_progress.ProgressView.{ProgressView, plane_at}
+use Rattle.mw_core_ledger.specs.mw_core_laws.Works as works
+use Rattle.mw_core_ledger.specs.mw_core_laws.Works.{IsTrueWork, IsUnder, true_task}
+use Rattle.mw_core_ledger.proofs.mw_core_laws.Curves.{result-curve}
+use Rattle.mw_core_ledger.proofs.mw_core_laws.Going.{true-finished, true-under, under-finished}
+use Rattle.mw_core_ledger.proofs.mw_core_laws.Making.{finishes-made}
+use Rattle.mw_core_ledger.proofs.mw_core_laws.Numbers.{has-tiles, length-tiles, number_of-within, step_number-number_of, tile_number-number_of}
+use Rattle.mw_core_ledger.proofs.mw_core_laws.Settling.{result-image}
+use Rattle.mw_core_ledger.specs.mw_core_laws.TaskEvents.{IsResult, IsUnderway, Places, Settles}
+use Rattle.mw_core_ledger.proofs.mw_core_laws.GivenLemmas.{elements-given}
+use Rattle.mw_core_ledger.proofs.mw_core_laws.TaskLemmas.{work-within}
+use Rattle.mw_core_ledger.specs.mw_core_tasks.Results.{result_number}
+use Rattle.mw_core_ledger.proofs.mw_core_tasks.PlanTaskLemmas.{IsResultOn, places, settles}
+use Rattle.mw_core_ledger.proofs.mw_core_tasks.ResultLemmas.{number-true, result-found, result-true}
+use Rattle.mw_core_ledger.specs.Books.{Book, IsOrderly, progress_of, seen_of}
+use Rattle.mw_core_ledger.specs.Tasks.{FinishesAt, IsFitAt, IsFoundAt, IsResultAt, PlacesAt, SettlesAt, value_made}
+use Rattle.mw_core_ledger.proofs.SeenLemmas.{progress-seen, work-shown}
 use Rattle.mw_core.specs.declared.answers.Finish.{Finish}
 use Rattle.mw_core.specs.declared.answers.Finish.TheVariants as finish
 use Rattle.mw_core.specs.TaskAnswers.{Finishes, IsOwn, TakenAt}

@@ -8,5 +8,5 @@ mod FilledLemmas
 mod TaskLemmas
 mod FinishLemmas
 -- what lower crates offer
-pub use Rattle.mw_checks.proofs.mw_laws as mw_laws
-pub use Rattle.mw_ledger.proofs.mw_stands as mw_stands
+pub use Rattle.mw_core_refusals.proofs.mw_model_laws as mw_model_laws
+pub use Rattle.mw_core_ledger.proofs.mw_core_laws as mw_core_laws

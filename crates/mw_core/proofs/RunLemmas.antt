@@ -16,18 +16,18 @@ use Rattle.mw_model.specs.Refusals.{Table, first_of, inputs_wanted, is_dead, nam
 use Rattle.mw_model.specs.Machine.{Machine, values, with_entry, run_submission}
 use Rattle.mw_model.specs.Tasks.{Progress, remaining_tasks, running_tasks, task_count}
 use Rattle.mw_model.specs.Stands.{CoreView, StandsFor, progress_at}
-use Rattle.mw_checks.specs.mw_plan.Tables.{AreValuesAt}
-use Rattle.mw_checks.proofs.mw_laws.RunTables.{first_none, inputs_all, wanted_alive}
-use Rattle.mw_checks.proofs.mw_plan.Accepted.{machine_values}
-use Rattle.mw_ledger.specs.mw_progress.ProgressView.{ProgressView}
-use Rattle.mw_checks.specs.mw_store.Stored.{Stored}
-use Rattle.mw_ledger.specs.mw_stands.Facts.{IsComplete, stored_of}
-use Rattle.mw_ledger.specs.mw_stands.Limits.{ShapesFit}
-use Rattle.mw_ledger.specs.mw_stands.Events.{FollowsMachine, IsFresh}
-use Rattle.mw_ledger.proofs.mw_stands.StandsLemmas.{stands-sound}
-use Rattle.mw_ledger.proofs.mw_stands.CallLemmas.{serves-run}
-use Rattle.mw_ledger.specs.mw_underway.Planning.{IsPlannedBy}
-use Rattle.mw_ledger.proofs.mw_underway.FreshLemmas.{planned-fresh, planned-work}
+use Rattle.mw_core_refusals.specs.mw_plan.Tables.{AreValuesAt}
+use Rattle.mw_core_refusals.proofs.mw_model_laws.RunTables.{first_none, inputs_all, wanted_alive}
+use Rattle.mw_core_refusals.proofs.mw_plan.Accepted.{machine_values}
+use Rattle.mw_core_ledger.specs.mw_core_progress.ProgressView.{ProgressView}
+use Rattle.mw_core_refusals.specs.mw_store.Stored.{Stored}
+use Rattle.mw_core_ledger.specs.mw_core_laws.Facts.{IsComplete, stored_of}
+use Rattle.mw_core_ledger.specs.mw_core_laws.Limits.{ShapesFit}
+use Rattle.mw_core_ledger.specs.mw_core_laws.Events.{FollowsMachine, IsFresh}
+use Rattle.mw_core_ledger.proofs.mw_core_laws.StandsLemmas.{stands-sound}
+use Rattle.mw_core_ledger.proofs.mw_core_laws.CallLemmas.{serves-run}
+use Rattle.mw_core_ledger.specs.mw_core_tasks.Planning.{IsPlannedBy}
+use Rattle.mw_core_ledger.proofs.mw_core_tasks.FreshLemmas.{planned-fresh, planned-work}
 
 -- ---- no fault
 

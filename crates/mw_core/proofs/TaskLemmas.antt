@@ -9,25 +9,25 @@ use Rattle.mw_model.specs.Machine.{Machine}
 use Rattle.mw_model.specs.Plans.{images_of}
 use Rattle.mw_model.specs.Tasks.{Progress, planned_of, sources_of, task_count}
 use Rattle.mw_model.specs.Stands.{CoreView, StandsFor, inputs_there, input_values, ready_under, true_planes}
-use Rattle.mw_checks.specs.mw_task.WindowTasks.{WindowTask}
-use Rattle.mw_ledger.specs.mw_progress.ProgressView.{ProgressView}
-use Rattle.mw_ledger.specs.mw_work.Works.{IsTrueWork, IsUnder}
-use Rattle.mw_ledger.proofs.mw_work.Going.{true-under, under-started}
-use Rattle.mw_ledger.proofs.mw_work.Numbers.{some-whole, step_number-within}
-use Rattle.mw_ledger.proofs.mw_work.Truth.{plane-true}
-use Rattle.mw_ledger.proofs.mw_work.Windows.{true_task-fits}
-use Rattle.mw_ledger.specs.mw_stands.Facts.{IsComplete}
-use Rattle.mw_ledger.specs.mw_stands.TaskEvents.{BeginsTask}
-use Rattle.mw_ledger.proofs.mw_stands.StandsLemmas.{stands-sound}
-use Rattle.mw_ledger.proofs.mw_stands.TaskLemmas.{ready-there, work-of}
-use Rattle.mw_ledger.specs.mw_underway.Planning.{IsPlannedAt}
-use Rattle.mw_ledger.specs.mw_underway.SourceWindows.{AreSources}
-use Rattle.mw_ledger.proofs.mw_underway.PlanTaskLemmas.{begins}
-use Rattle.mw_ledger.proofs.mw_underway.PlannedAtLemmas.{planned-at}
-use Rattle.mw_ledger.proofs.mw_underway.SourceTrueLemmas.{ReadsKept, reads-kept, sources-true}
-use Rattle.mw_ledger.specs.Books.{Book, IsOrderly, progress_of, seen_of}
-use Rattle.mw_ledger.specs.Tasks.{IsAtWork, TakesAt}
-use Rattle.mw_ledger.proofs.SeenLemmas.{progress-seen}
+use Rattle.mw_core_refusals.specs.mw_step_task.WindowTasks.{WindowTask}
+use Rattle.mw_core_ledger.specs.mw_core_progress.ProgressView.{ProgressView}
+use Rattle.mw_core_ledger.specs.mw_core_laws.Works.{IsTrueWork, IsUnder}
+use Rattle.mw_core_ledger.proofs.mw_core_laws.Going.{true-under, under-started}
+use Rattle.mw_core_ledger.proofs.mw_core_laws.Numbers.{some-whole, step_number-within}
+use Rattle.mw_core_ledger.proofs.mw_core_laws.Truth.{plane-true}
+use Rattle.mw_core_ledger.proofs.mw_core_laws.Windows.{true_task-fits}
+use Rattle.mw_core_ledger.specs.mw_core_laws.Facts.{IsComplete}
+use Rattle.mw_core_ledger.specs.mw_core_laws.TaskEvents.{BeginsTask}
+use Rattle.mw_core_ledger.proofs.mw_core_laws.StandsLemmas.{stands-sound}
+use Rattle.mw_core_ledger.proofs.mw_core_laws.TaskLemmas.{ready-there, work-of}
+use Rattle.mw_core_ledger.specs.mw_core_tasks.Planning.{IsPlannedAt}
+use Rattle.mw_core_ledger.specs.mw_core_tasks.SourceWindows.{AreSources}
+use Rattle.mw_core_ledger.proofs.mw_core_tasks.PlanTaskLemmas.{begins}
+use Rattle.mw_core_ledger.proofs.mw_core_tasks.PlannedAtLemmas.{planned-at}
+use Rattle.mw_core_ledger.proofs.mw_core_tasks.SourceTrueLemmas.{ReadsKept, reads-kept, sources-true}
+use Rattle.mw_core_ledger.specs.Books.{Book, IsOrderly, progress_of, seen_of}
+use Rattle.mw_core_ledger.specs.Tasks.{IsAtWork, TakesAt}
+use Rattle.mw_core_ledger.proofs.SeenLemmas.{progress-seen}
 
 -- ---- what a core shows of a ledger
 

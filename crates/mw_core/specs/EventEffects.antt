@@ -14,22 +14,22 @@ use Rattle.mw_model.specs.Values.{Value}
 use Rattle.mw_model.specs.Refusals.{refusal}
 use Rattle.mw_model.specs.Machine.{Machine, with_table, settled, killed, after, reply_to}
 use Rattle.mw_model.specs.Stands.{CoreView, StandsFor}
-use Rattle.mw_checks.specs.mw_task.WindowTasks.{WindowTask}
+use Rattle.mw_core_refusals.specs.mw_step_task.WindowTasks.{WindowTask}
 use Rattle.mw_core.specs.declared.answers.Started.{Started}
 use Rattle.mw_core.specs.declared.answers.Started.TheVariants as started
 use Rattle.mw_core.specs.declared.answers.Finish.{Finish}
 use Rattle.mw_core.specs.declared.answers.Finish.TheVariants as finish
 use Rattle.mw_core.specs.declared.answers.Refusal.{Refusal}
 use Rattle.mw_core.specs.declared.answers.Refusal.TheVariants as refusal
-use Rattle.mw_checks.specs.mw_store.declared.fetched.Fetched.{Fetched}
+use Rattle.mw_core_refusals.specs.mw_store.declared.fetched.Fetched.{Fetched}
 use Rattle.mw_core.specs.declared.events.Event.{Event}
 use Rattle.mw_core.specs.declared.events.Event.TheVariants as event
 use Rattle.mw_core.specs.declared.events.Answer.{Answer}
 use Rattle.mw_core.specs.declared.events.Answer.TheVariants as answer
-use Rattle.mw_ledger.specs.mw_stands.Payloads.{given_image, image_payload, given_element, element_payload}
-use Rattle.mw_ledger.specs.mw_stands.Events.{WorkStays, IsFresh, handed_out}
+use Rattle.mw_core_ledger.specs.mw_core_laws.Payloads.{given_image, image_payload, given_element, element_payload}
+use Rattle.mw_core_ledger.specs.mw_core_laws.Events.{WorkStays, IsFresh, handed_out}
 use Rattle.mw_core.specs.TaskAnswers.{Starts, Finishes, Refuses, Picks}
-use Rattle.mw_checks.specs.mw_store.Fetches.{ShowsSome, shown_value}
+use Rattle.mw_core_refusals.specs.mw_store.Fetches.{ShowsSome, shown_value}
 
 -- an image that is loaded is within the limits
 abbrev pub IsServable : Event → Type 0

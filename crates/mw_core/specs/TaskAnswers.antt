@@ -4,11 +4,11 @@ use Rattle.std.specs.List.{AllByRecursion}
 use Rattle.mw_model.specs.declared.tasks.TaskId.{TaskId}
 use Rattle.mw_model.specs.Machine.{Machine}
 use Rattle.mw_model.specs.Stands.{CoreView, ready_under, ready_count}
-use Rattle.mw_checks.specs.mw_task.WindowTasks.{IsBounded, WindowTask}
-use Rattle.mw_ledger.specs.mw_stands.TaskEvents.{BeginsTask, Kills, Places, Settles, IsResult, IsOpen, IsSettled, IsUnderway}
-use Rattle.mw_ledger.specs.mw_stands.Turns.{IsAt}
-use Rattle.mw_ledger.specs.Books.{Book}
-use Rattle.mw_ledger.specs.Tasks.{PlacesAt, SettlesAt}
+use Rattle.mw_core_refusals.specs.mw_step_task.WindowTasks.{IsBounded, WindowTask}
+use Rattle.mw_core_ledger.specs.mw_core_laws.TaskEvents.{BeginsTask, Kills, Places, Settles, IsResult, IsOpen, IsSettled, IsUnderway}
+use Rattle.mw_core_ledger.specs.mw_core_laws.Turns.{IsAt}
+use Rattle.mw_core_ledger.specs.Books.{Book}
+use Rattle.mw_core_ledger.specs.Tasks.{PlacesAt, SettlesAt}
 use Rattle.mw_core.specs.declared.answers.Started.{Started}
 use Rattle.mw_core.specs.declared.answers.Started.TheVariants as started
 use Rattle.mw_core.specs.declared.answers.Finish.{Finish}

@@ -1,2 +1,2 @@
 -- What `mw_store` offers, for the crates above.
-pub use Rattle.mw_checks.specs.mw_store.Fetches
+pub use Rattle.mw_core_refusals.specs.mw_store.Fetches

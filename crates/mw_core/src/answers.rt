@@ -1,6 +1,6 @@
 //! What the events on tasks answer.
 
-use mw_checks::task::Work;
+use mw_core_refusals::task::Work;
 
 /// The answer to a worker that asks for a task.
 #[derive(Drop)]

@@ -3,9 +3,9 @@
 ghost use Rattle.std.specs.Prelude.{◌≡◌, ◌≢◌, ◌⊎◌, ◌++◌, ◌∷◌, [], ℕ, true, false, OnErr, IfOk, IsOk, Ok, None};
 
 use crate::machine::Core;
-use mw_checks::element::Element;
-use mw_checks::pixel::Image;
-use mw_ledger::{Counts, Entry, Ledger, Unplanned, planned};
+use mw_core_ledger::{Counts, Entry, Ledger, Unplanned, planned};
+use mw_core_refusals::element::Element;
+use mw_core_refusals::pixel::Image;
 use mw_model::{Call, Code, Given, LogItem, Name, NoMemory, Op, Outcome, Reply};
 use std::alloc::Global;
 
@@ -17,12 +17,12 @@ impl Core {
     ghost use Rattle.mw_model.specs.Refusals.{refusal};
     ghost use Rattle.mw_model.specs.Scripts.{refused_unread};
     ghost use Rattle.mw_model.specs.Stands.{StandsFor};
-    ghost use Rattle.mw_ledger.specs.mw_grid.Grids.{IsTileSide};
-    ghost use Rattle.mw_ledger.specs.mw_stands.Payloads.{given_image, image_payload, given_element, element_payload};
-    ghost use Rattle.mw_checks.specs.Faults.{IsFault};
-    ghost use Rattle.mw_ledger.specs.Short.{is_long};
-    ghost use Rattle.mw_ledger.specs.mw_stands.Events.{FollowsMachine, IsFresh};
-    ghost use Rattle.mw_ledger.specs.mw_stands.Rows.{IsLogFull};
+    ghost use Rattle.mw_grid.specs.Grids.{IsTileSide};
+    ghost use Rattle.mw_core_ledger.specs.mw_core_laws.Payloads.{given_image, image_payload, given_element, element_payload};
+    ghost use Rattle.mw_core_refusals.specs.Faults.{IsFault};
+    ghost use Rattle.mw_core_ledger.specs.Short.{is_long};
+    ghost use Rattle.mw_core_ledger.specs.mw_core_laws.Events.{FollowsMachine, IsFresh};
+    ghost use Rattle.mw_core_ledger.specs.mw_core_laws.Rows.{IsLogFull};
 
     /// A core that has accepted nothing yet. The side is that of the tiles, in pixels.
     pub fn new(alloc: Global, side: u32) -> Result<Self, NoMemory>
@@ -47,7 +47,7 @@ impl Core {
         ensures first { OnErr result (IsLogFull self.old ⊎ (refused_unread self.old.table (AskLoad name []) ≡ None)) }
         ensures side { self.new.side ≡ self.old.side }
     {
-        match mw_checks::of_given(self.ledger.store(), name, Given::Bad(code)) {
+        match mw_core_refusals::of_given(self.ledger.store(), name, Given::Bad(code)) {
             Err(Code::Memory) => Err(NoMemory),
             Err(code) => self.note(call, Reply::Refused(code)),
             Ok(()) => unreachable!(),
@@ -65,7 +65,7 @@ impl Core {
         self.whole();
         let given = Given::Good(image.shape());
         let call = Call::Load(name, given);
-        match mw_checks::of_given(self.ledger.store(), name, given) {
+        match mw_core_refusals::of_given(self.ledger.store(), name, given) {
             Err(code) => self.note(call, Reply::Refused(code)),
             Ok(()) => self.accept(call, name, Entry::Image(image), None),
         }
@@ -98,7 +98,7 @@ impl Core {
         let _offsets = element.offsets();
         let given = Given::Good(element.shape());
         let call = Call::Element(name, given);
-        match mw_checks::of_given(self.ledger.store(), name, given) {
+        match mw_core_refusals::of_given(self.ledger.store(), name, given) {
             Err(code) => self.note(call, Reply::Refused(code)),
             Ok(()) => self.accept(call, name, Entry::Element(element), None),
         }
@@ -128,7 +128,7 @@ impl Core {
     {
         self.whole();
         let call = Call::Run(name, op);
-        match mw_checks::of_run(self.ledger.store(), name, op) {
+        match mw_core_refusals::of_run(self.ledger.store(), name, op) {
             Err(code) => self.note(call, Reply::Refused(code)),
             Ok(submission) => {
                 let (store, side) = (self.ledger.store(), self.ledger.side());
@@ -149,7 +149,7 @@ impl Core {
         ensures full { OnErr result (IsLogFull self.old) }
         ensures side { self.new.side ≡ self.old.side }
     {
-        let reply = mw_checks::status_reply(self.ledger.store(), name);
+        let reply = mw_core_refusals::status_reply(self.ledger.store(), name);
         self.note(Call::Status(name), reply)
     }
 
@@ -163,7 +163,7 @@ impl Core {
     {
         self.whole();
         let call = Call::Cancel(name);
-        match mw_checks::of_cancel(self.ledger.store(), name) {
+        match mw_core_refusals::of_cancel(self.ledger.store(), name) {
             Err(code) => self.note(call, Reply::Refused(code)),
             Ok(t) => {
                 let reply = Reply::Accepted(t);
@@ -182,7 +182,7 @@ impl Core {
     {
         self.whole();
         let call = Call::Release(name);
-        match mw_checks::of_release(self.ledger.store(), name) {
+        match mw_core_refusals::of_release(self.ledger.store(), name) {
             Err(code) => self.note(call, Reply::Refused(code)),
             Ok(t) => {
                 let reply = Reply::Accepted(t);

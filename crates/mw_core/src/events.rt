@@ -7,9 +7,9 @@ ghost use Rattle.mw_model.specs.Stands.{StandsFor};
 ghost use Rattle.mw_core.specs.EventEffects.{IsServable, HasEffect, HaveEffects, answer_of, fetch_answer_of};
 
 use crate::{Core, Fetched, Finish, Refusal, Started};
-use mw_checks::element::Element;
-use mw_checks::pixel::Image;
-use mw_checks::task::{TaskRefused, TileDone};
+use mw_core_refusals::element::Element;
+use mw_core_refusals::pixel::Image;
+use mw_core_refusals::task::{TaskRefused, TileDone};
 use mw_model::{Code, Name, NoMemory, Op, Reply};
 use std::alloc::Global;
 

@@ -30,22 +30,18 @@ mod tasks;
 
 pub use answers::{Finish, Refusal, Started};
 pub use machine::Core;
-pub use mw_ledger::{Fetched, Shown};
+pub use mw_core_ledger::{Fetched, FetchedValue};
 pub use mw_model::NoMemory;
 
 // What lower crates offer, for the crates above.
 pub mod element {
-    pub use mw_checks::element::Element;
-}
-
-pub mod netpbm {
-    pub use mw_checks::netpbm::read;
+    pub use mw_core_refusals::element::Element;
 }
 
 pub mod pixel {
-    pub use mw_checks::pixel::Image;
+    pub use mw_core_refusals::pixel::Image;
 }
 
 pub mod task {
-    pub use mw_checks::task::{TaskRefused, TileDone, Work};
+    pub use mw_core_refusals::task::{TaskRefused, TileDone, Work};
 }

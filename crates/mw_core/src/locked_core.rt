@@ -3,7 +3,7 @@
 ghost use Rattle.std.specs.Prelude.{◌≡◌, [], IfOk};
 ghost use Rattle.mw_model.specs.Machine.{Machine, start_state};
 ghost use Rattle.mw_model.specs.Stands.{StandsFor};
-ghost use Rattle.mw_ledger.specs.mw_grid.Grids.{IsTileSide};
+ghost use Rattle.mw_grid.specs.Grids.{IsTileSide};
 
 use crate::Core;
 use crate::events::{Answer, Event, serve};

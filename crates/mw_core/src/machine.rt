@@ -3,7 +3,7 @@
 ghost use Rattle.std.specs.Prelude.{◌≡◌, ◌⊎◌, ◌<◌, ◌≤◌, [], ◌∷◌, ◌++◌, length, OnOk, OnErr, IfOk, IfSome, option_map, true, false};
 ghost use Rattle.mw_model.specs.declared.limits.TheConstants.{ENTRY_LIMIT};
 
-use mw_ledger::{Compact, Counts, Entry, Ledger, PlanProgress};
+use mw_core_ledger::{Compact, Counts, Entry, Ledger, PlanProgress};
 use mw_model::{Call, LogItem, Name, NoMemory, Outcome, Reply};
 use std::alloc::Global;
 use std::marker::Model;
@@ -29,8 +29,8 @@ impl Drop for Core {
 
 impl Model for Core {
     ghost use Rattle.mw_model.specs.Stands.{CoreView};
-    ghost use Rattle.mw_ledger.specs.Books.{seen_of};
-    ghost use Rattle.mw_ledger.specs.Counts.{AreCounts};
+    ghost use Rattle.mw_core_ledger.specs.Books.{seen_of};
+    ghost use Rattle.mw_core_ledger.specs.Counts.{AreCounts};
 
     ghost Value = { CoreView };
 
@@ -45,16 +45,16 @@ impl Core {
     ghost use Rattle.mw_model.specs.Refusals.{ticket_of, outcome_at, is_dead, is_pending};
     ghost use Rattle.mw_model.specs.Machine.{with_entry, killed, settled};
     ghost use Rattle.mw_model.specs.Tasks.{remaining_tasks, task_count};
-    ghost use Rattle.mw_checks.specs.mw_store.Entries.{submission_of, outcome_of, payload_in};
-    ghost use Rattle.mw_checks.specs.mw_store.Stored.{DropsSpent};
-    ghost use Rattle.mw_ledger.specs.mw_stands.Changes.{KeepsWork};
-    ghost use Rattle.mw_ledger.specs.mw_stands.Facts.{IsComplete};
-    ghost use Rattle.mw_ledger.specs.mw_stands.Limits.{FitsLimits, ShapesFit};
-    ghost use Rattle.mw_ledger.specs.mw_stands.Rows.{IsLogFull};
-    ghost use Rattle.mw_ledger.specs.mw_grid.Grids.{IsTileSide};
-    ghost use Rattle.mw_ledger.specs.mw_underway.Planning.{IsPlannedOn};
-    ghost use Rattle.mw_ledger.specs.Short.{is_long};
-    ghost use Rattle.mw_ledger.specs.Books.{progress_of};
+    ghost use Rattle.mw_core_refusals.specs.mw_store.Entries.{submission_of, outcome_of, payload_in};
+    ghost use Rattle.mw_core_refusals.specs.mw_store.Stored.{DropsSpent};
+    ghost use Rattle.mw_core_ledger.specs.mw_core_laws.Changes.{KeepsWork};
+    ghost use Rattle.mw_core_ledger.specs.mw_core_laws.Facts.{IsComplete};
+    ghost use Rattle.mw_core_ledger.specs.mw_core_laws.Limits.{FitsLimits, ShapesFit};
+    ghost use Rattle.mw_core_ledger.specs.mw_core_laws.Rows.{IsLogFull};
+    ghost use Rattle.mw_grid.specs.Grids.{IsTileSide};
+    ghost use Rattle.mw_core_ledger.specs.mw_core_tasks.Planning.{IsPlannedOn};
+    ghost use Rattle.mw_core_ledger.specs.Short.{is_long};
+    ghost use Rattle.mw_core_ledger.specs.Books.{progress_of};
 
     /// What holds of every core.
     pub(crate) fn whole(&self)

@@ -10,7 +10,7 @@ impl Core {
     ghost use Rattle.mw_model.specs.Machine.{Machine};
     ghost use Rattle.mw_model.specs.Refusals.{is_pending};
     ghost use Rattle.mw_model.specs.Stands.{StandsFor, ready_count, running_count, remaining_of};
-    ghost use Rattle.mw_ledger.specs.mw_stands.Counts.{NonePending};
+    ghost use Rattle.mw_core_ledger.specs.mw_core_laws.Counts.{NonePending};
 
     /// How many tasks are ready.
     pub fn ready_count(&self) -> u64

@@ -1,15 +1,15 @@
 //! Events on tasks: a worker takes one, brings its result, or tells that it found no memory.
 
 ghost use Rattle.std.specs.Prelude.{◌≡◌, ◌↔◌};
-ghost use Rattle.mw_ledger.specs.Books.{seen_of};
-ghost use Rattle.mw_ledger.specs.Counts.{AreCounts};
-ghost use Rattle.mw_ledger.specs.Tasks.{IsFitAt};
+ghost use Rattle.mw_core_ledger.specs.Books.{seen_of};
+ghost use Rattle.mw_core_ledger.specs.Counts.{AreCounts};
+ghost use Rattle.mw_core_ledger.specs.Tasks.{IsFitAt};
 ghost use Rattle.mw_core.specs.TaskAnswers.{TakenAt};
 
 use crate::answers::{Finish, Refusal, Started};
 use crate::machine::Core;
-use mw_checks::task::{TaskRefused, TileDone};
-use mw_ledger::{Counts, Ledger, Unfit};
+use mw_core_ledger::{Counts, Ledger, Unfit};
+use mw_core_refusals::task::{TaskRefused, TileDone};
 use mw_model::{LogItem, NoMemory, Outcome};
 
 /// Takes a result that fits a running task, whose ticket it settles where it is the last.
@@ -39,7 +39,7 @@ impl Core {
     ghost use Rattle.std.specs.List.{AllByRecursion};
     ghost use Rattle.mw_model.specs.Machine.{Machine};
     ghost use Rattle.mw_model.specs.Stands.{StandsFor, ready_count};
-    ghost use Rattle.mw_checks.specs.mw_task.WindowTasks.{IsBounded};
+    ghost use Rattle.mw_core_refusals.specs.mw_step_task.WindowTasks.{IsBounded};
     ghost use Rattle.mw_core.specs.TaskAnswers.{Starts, StartsBounded, Finishes, IsOwn, Refuses, Picks};
 
     /// A worker takes the ready task of this place. Places are counted from 0 in ticket order, and round again where

@@ -4,7 +4,7 @@ use Rattle.mw_model.specs.declared.codes.Code.{Code}
 use Rattle.mw_model.specs.Rasters.{Raster}
 use Rattle.mw_model.specs.Bitmaps.{IsBitmap, BitmapRefuses}
 use Rattle.mw_model.specs.Elements.{Figure, IsFigure, IsElement, ElementRefuses, HoldsPlace, element_side, figure_of, offsets_of, no_bitmap, no_origin, no_pixel}
-use Rattle.mw_netpbm.proofs.Bitmaps.{one_bitmap, one_bitmap_refusal, refusal_or_bitmap}
+use Rattle.mw_netpbm_plain.proofs.Bitmaps.{one_bitmap, one_bitmap_refusal, refusal_or_bitmap}
 use Rattle.mw_element.proofs.Found.{element_figure}
 
 element_side-small : element_side < 4294967296

@@ -6,9 +6,9 @@ use Rattle.mw_model.specs.declared.places.Offset.{Offset}
 use Rattle.mw_model.specs.Rasters.{Raster}
 use Rattle.mw_model.specs.Bitmaps.{IsBitmap, SidesFit}
 use Rattle.mw_model.specs.Elements.{Figure, IsFigure, IsElement, ElementRefuses, HoldsPlace, element_side, figure_of, offsets_of, no_origin, no_pixel}
-use Rattle.mw_netpbm.specs.declared.bitmap.BitmapFacts.{BitmapFacts}
-use Rattle.mw_netpbm.specs.declared.fault.BitmapFault.{BitmapFault}
-use Rattle.mw_netpbm.specs.Faults.{facts_of}
+use Rattle.mw_netpbm_plain.specs.declared.bitmap.BitmapFacts.{BitmapFacts}
+use Rattle.mw_netpbm_plain.specs.declared.fault.BitmapFault.{BitmapFault}
+use Rattle.mw_netpbm_plain.specs.Faults.{facts_of}
 use Rattle.mw_element.specs.Figures.{figure}
 use Rattle.mw_element.proofs.Rows.{offsets_distinct, offsets_near, no_offsets, no_pixels}
 

@@ -12,5 +12,5 @@ mod Rows
 mod Room
 mod Turned
 -- what lower crates offer
-pub use Rattle.mw_netpbm.proofs as mw_netpbm
-pub use Rattle.mw_netpbm.proofs.mw_pixel as mw_pixel
+pub use Rattle.mw_netpbm_plain.proofs as mw_netpbm_plain
+pub use Rattle.mw_netpbm_plain.proofs.mw_pixel as mw_pixel

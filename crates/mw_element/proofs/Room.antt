@@ -9,8 +9,8 @@ use Rattle.std.proofs.Math.Seq.{drop-cons, take-add}
 use Rattle.mw_model.specs.Rasters.{Raster}
 use Rattle.mw_model.specs.Bitmaps.{IsBitmap}
 use Rattle.mw_model.specs.Elements.{element_side, offset_from, offsets_in_row, offsets_of}
-use Rattle.mw_netpbm.specs.declared.bitmap.BitmapFacts.{BitmapFacts}
-use Rattle.mw_netpbm.specs.Faults.{facts_of}
+use Rattle.mw_netpbm_plain.specs.declared.bitmap.BitmapFacts.{BitmapFacts}
+use Rattle.mw_netpbm_plain.specs.Faults.{facts_of}
 use Rattle.mw_element.proofs.Found.{bitmap_size}
 use Rattle.mw_element.proofs.Rows.{pixel_offset, row_more, row_next, row_part, rows_more, rows_part}
 

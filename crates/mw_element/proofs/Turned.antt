@@ -12,10 +12,10 @@ use Rattle.mw_model.specs.declared.places.OffsetBox.{OffsetBox}
 use Rattle.mw_model.specs.Elements.{IsNear, reach_of}
 use Rattle.mw_model.specs.Places.{nonnegative}
 use Rattle.mw_model.specs.Flat.{greatest, reflected}
-use Rattle.mw_run.specs.declared.runs.Run.{Run}
-use Rattle.mw_run.specs.Runs.{run_offsets, start_offset, follows_back, pairs, pairs_from, AreEitherWay, AreFewest, AreLongest, Continues, IsRun}
-use Rattle.mw_run.proofs.Fewest.{fewest_onward, follows_on, none_more}
-use Rattle.mw_run.proofs.RunLists.{offset_is}
+use Rattle.mw_element_runs.specs.declared.runs.Run.{Run}
+use Rattle.mw_element_runs.specs.Runs.{run_offsets, start_offset, follows_back, pairs, pairs_from, AreEitherWay, AreFewest, AreLongest, Continues, IsRun}
+use Rattle.mw_element_runs.proofs.Fewest.{fewest_onward, follows_on, none_more}
+use Rattle.mw_element_runs.proofs.RunLists.{offset_is}
 use Rattle.mw_element.specs.Figures.{FillsBox, InBox, Rises, by_rows, turned}
 use Rattle.mw_element.proofs.Order.{all_reverse, reflected_reverse}
 use Rattle.mw_element.specs.Told.{IsNearRun, TellsRuns, turned_reach, turned_run, turned_runs}

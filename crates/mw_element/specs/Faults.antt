@@ -1,7 +1,7 @@
 -- What the faults of elements are called.
 use Rattle.mw_model.specs.declared.codes.Code.{Code}
 use Rattle.mw_model.specs.declared.codes.Code.TheVariants as code
-use Rattle.mw_netpbm.specs.Faults.{bitmap_code_of}
+use Rattle.mw_netpbm_plain.specs.Faults.{bitmap_code_of}
 use Rattle.mw_element.specs.declared.fault.ElementFault.{ElementFault}
 use Rattle.mw_element.specs.declared.fault.ElementFault.TheVariants as fault
 

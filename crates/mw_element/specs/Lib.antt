@@ -3,5 +3,4 @@ pub mod Told
 pub mod Faults
 pub mod BitmapElements
 -- what lower crates offer
-pub mod mw_netpbm
 pub mod mw_pixel

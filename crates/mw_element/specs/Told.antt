@@ -4,8 +4,8 @@ use Rattle.std.specs.List.{AllByRecursion}
 use Rattle.mw_model.specs.declared.places.Offset.{Offset}
 use Rattle.mw_model.specs.declared.places.OffsetBox.{OffsetBox}
 use Rattle.mw_model.specs.declared.places.Reach.{Reach}
-use Rattle.mw_run.specs.declared.runs.Run.{Run}
-use Rattle.mw_run.specs.Runs.{run_offsets, AreLongest, AreFewest, IsRun}
+use Rattle.mw_element_runs.specs.declared.runs.Run.{Run}
+use Rattle.mw_element_runs.specs.Runs.{run_offsets, AreLongest, AreFewest, IsRun}
 use Rattle.mw_element.specs.Figures.{FillsBox, by_rows}
 
 -- the box that the offsets exactly are, if there is one

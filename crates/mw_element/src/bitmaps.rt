@@ -6,8 +6,8 @@ ghost use Rattle.mw_model.specs.Elements.{HoldsPlace, element_side, offset_from,
 
 use crate::{Element, ElementFault};
 use mw_model::{ELEMENT_SIDE_LIMIT, NoMemory, Offset};
-use mw_netpbm::BitmapFault;
-use mw_netpbm::pixel::{Bit, Plane};
+use mw_netpbm_plain::BitmapFault;
+use mw_netpbm_plain::pixel::{Bit, Plane};
 use std::alloc::Global;
 
 /// The offset of column x of row y, seen from the origin.

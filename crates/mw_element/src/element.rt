@@ -3,8 +3,8 @@
 ghost use Rattle.std.specs.Prelude.{◌≡◌};
 
 use crate::{offsets, runs};
+use mw_element_runs::Run;
 use mw_model::{NoMemory, Offset, OffsetBox, Reach, Shape};
-use mw_run::Run;
 use std::alloc::Global;
 use std::marker::Model;
 
@@ -44,7 +44,7 @@ impl Element {
     ghost use Rattle.std.specs.List.{AllByRecursion};
     ghost use Rattle.mw_model.specs.Flat.{reflected};
     ghost use Rattle.mw_model.specs.Places.{WithinReach};
-    ghost use Rattle.mw_run.specs.Runs.{AreEitherWay, AreLongest, AreFewest, IsRun};
+    ghost use Rattle.mw_element_runs.specs.Runs.{AreEitherWay, AreLongest, AreFewest, IsRun};
     ghost use Rattle.mw_element.specs.Told.{TellsBox};
 
     /// The element of offsets that stand by rows, or `NoMemory`.

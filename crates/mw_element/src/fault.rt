@@ -4,7 +4,7 @@ ghost use Rattle.std.specs.Prelude.{◌≡◌};
 ghost use Rattle.mw_element.specs.Faults.{element_code_of};
 
 use mw_model::{Code, NoMemory};
-use mw_netpbm::BitmapFault;
+use mw_netpbm_plain::BitmapFault;
 
 /// Why bytes with an origin are no element: the first case that holds, from top to bottom. Memory stands apart.
 #[derive(Clone, Copy, Debug, PartialEq, Eq)]

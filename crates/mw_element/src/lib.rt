@@ -21,10 +21,6 @@ pub use fault::ElementFault;
 pub use mw_model::{NoMemory, Offset, OffsetBox, Reach};
 
 // What lower crates offer, for the crates above.
-pub mod netpbm {
-    pub use mw_netpbm::{RowBytes, header, parts, read, read_owned};
-}
-
 pub mod pixel {
-    pub use mw_netpbm::pixel::{Bit, Image, Plane};
+    pub use mw_netpbm_plain::pixel::{Bit, Image, Plane};
 }

@@ -3,7 +3,7 @@
 use crate::bitmaps::offsets;
 use crate::{Element, ElementFault};
 use mw_model::ELEMENT_SIDE_LIMIT;
-use mw_netpbm::{read_plain_bitmap, scan_plain_bitmap};
+use mw_netpbm_plain::{read_plain_bitmap, scan_plain_bitmap};
 use std::alloc::Global;
 
 impl Element {

@@ -5,8 +5,8 @@ ghost use Rattle.std.specs.List.{AllByRecursion};
 ghost use Rattle.mw_element.specs.Figures.{Rises};
 ghost use Rattle.mw_element.specs.Told.{IsNearRun, TellsRuns, turned_run, turned_runs};
 
+use mw_element_runs::{Run, runs_of};
 use mw_model::{NoMemory, Offset};
-use mw_run::{Run, runs_of};
 use std::alloc::Global;
 
 /// The runs of offsets that stand by rows, in as much memory as they take.

@@ -1,6 +1,7 @@
 -- the crate's own
 mod Actions
 mod BoxBounds
+mod CurveTexts
 mod Iterates
 mod Meaning
 mod MultipliedBoxes
@@ -10,5 +11,5 @@ mod Planes
 mod StepPlanes
 mod Turns
 -- what lower crates offer
-pub use Rattle.mw_plan.proofs.mw_laws as mw_laws
+pub use Rattle.mw_plan.proofs.mw_model_laws as mw_model_laws
 pub use Rattle.mw_plan.proofs as mw_plan

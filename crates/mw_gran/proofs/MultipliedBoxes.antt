@@ -17,8 +17,8 @@ use Rattle.mw_gran.specs.Boxes.{multiplied}
 use Rattle.mw_plan.specs.Steps.{turned_box}
 use Rattle.mw_plan.proofs.Boxes.{element_covers, element-way}
 use Rattle.mw_plan.specs.mw_element.Figures.{FillsBox}
-use Rattle.mw_plan.proofs.mw_laws.BoxLaws.{within, covers_within, times-erosion_box, times-dilation_box, reflected_rectangle}
-use Rattle.mw_plan.proofs.mw_laws.Composed.{CoverSame, erosion_same, dilation_same}
+use Rattle.mw_plan.proofs.mw_model_laws.BoxLaws.{within, covers_within, times-erosion_box, times-dilation_box, reflected_rectangle}
+use Rattle.mw_plan.proofs.mw_model_laws.Composed.{CoverSame, erosion_same, dilation_same}
 
 -- ---- boxes that hold their origin
 

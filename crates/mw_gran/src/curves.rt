@@ -1,7 +1,7 @@
 //! Curves of granulometries.
 
+use crate::texts::curve_text;
 use mw_model::NoMemory;
-use mw_model::plain::curve_text;
 use std::alloc::Global;
 use std::marker::Model;
 

@@ -1,7 +1,7 @@
 //! Plans that grow step by step.
 
 ghost use Rattle.std.specs.Prelude.{◌<◌, length, IfOk};
-ghost use Rattle.mw_plan.specs.mw_task.Meanings.{meaning};
+ghost use Rattle.mw_plan.specs.mw_step_task.Meanings.{meaning};
 ghost use Rattle.mw_plan.specs.Seen.{source, sources};
 ghost use Rattle.mw_gran.specs.Growing.{IsPushed};
 

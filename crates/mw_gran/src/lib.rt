@@ -17,6 +17,7 @@ mod restorations;
 mod skeletons;
 mod sliding;
 mod spectra;
+mod texts;
 
 pub use curves::Curve;
 pub use mw_plan::{GranOp, Input, NoMemory, OffsetBox, Plan, PlanFault};

@@ -11,7 +11,7 @@ ghost use Rattle.std.specs.Prelude.{◌≡◌, ◌+◌, ◌*◌, ◌<◌, ◌≤
 ghost use Rattle.mw_model.specs.declared.places.Offset.{Offset};
 ghost use Rattle.mw_model.specs.Iterates.{restoration};
 ghost use Rattle.mw_model.specs.Pictures.{IsPicture};
-ghost use Rattle.mw_plan.specs.mw_task.Meanings.{meaning};
+ghost use Rattle.mw_plan.specs.mw_step_task.Meanings.{meaning};
 ghost use Rattle.mw_plan.specs.Seen.{source};
 ghost use Rattle.mw_gran.specs.Turns.{Draws, HasLevels, Restores, Slides};
 

@@ -10,7 +10,7 @@ ghost use Rattle.std.specs.Prelude.{◌≡◌, ◌+◌, ◌*◌, ◌<◌, ◌≤
 ghost use Rattle.mw_model.specs.declared.places.Offset.{Offset};
 ghost use Rattle.mw_model.specs.Iterates.{skeleton};
 ghost use Rattle.mw_model.specs.Pictures.{IsSet};
-ghost use Rattle.mw_plan.specs.mw_task.Meanings.{meaning};
+ghost use Rattle.mw_plan.specs.mw_step_task.Meanings.{meaning};
 ghost use Rattle.mw_plan.specs.Seen.{source};
 ghost use Rattle.mw_gran.specs.Growing.{GoesOn, Shows};
 ghost use Rattle.mw_gran.specs.Turns.{AreMarks, Draws, MarksResidues, Slides, marked, steps_to_marks};

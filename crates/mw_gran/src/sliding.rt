@@ -5,13 +5,13 @@ ghost use Rattle.std.specs.Arc.{arc_value};
 ghost use Rattle.mw_plan.specs.mw_element.Figures.{FillsBox};
 ghost use Rattle.mw_model.specs.declared.places.OffsetBox.{OffsetBox};
 ghost use Rattle.mw_model.specs.Laws.{HoldsOrigin};
-ghost use Rattle.mw_plan.specs.mw_task.Meanings.{meaning};
+ghost use Rattle.mw_plan.specs.mw_step_task.Meanings.{meaning};
 ghost use Rattle.mw_plan.specs.Steps.{IsNearBox};
 ghost use Rattle.mw_gran.specs.Turns.{Slides};
 
 use mw_model::{NoMemory, OffsetBox};
 use mw_plan::element::Element;
-use mw_plan::{Extremum, Input, Step, slide, slide_turned};
+use mw_plan::{ExtremumKind, Input, Step, slide, slide_turned};
 use std::alloc::Global;
 use std::sync::Arc;
 
@@ -28,8 +28,8 @@ pub(crate) fn sliding_steps(alloc: Global, element: &Arc<Element>) -> Result<Sli
 {
     let input = Input::Element(element);
     Ok(SlidingSteps {
-        erode: slide(Extremum::Least, input)?,
-        dilate: slide_turned(alloc, Extremum::Greatest, input)?,
+        erode: slide(ExtremumKind::Least, input)?,
+        dilate: slide_turned(alloc, ExtremumKind::Greatest, input)?,
     })
 }
 

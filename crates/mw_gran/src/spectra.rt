@@ -12,7 +12,7 @@ ghost use Rattle.mw_model.specs.Flat.{dilation, reflected};
 ghost use Rattle.mw_model.specs.Iterates.{times, spectrum};
 ghost use Rattle.mw_model.specs.Laws.{HoldsOrigin};
 ghost use Rattle.mw_model.specs.Pictures.{Picture, IsPicture};
-ghost use Rattle.mw_plan.specs.mw_task.Meanings.{meaning};
+ghost use Rattle.mw_plan.specs.mw_step_task.Meanings.{meaning};
 ghost use Rattle.mw_plan.specs.Seen.{source};
 ghost use Rattle.mw_plan.specs.Steps.{IsNearBox};
 ghost use Rattle.mw_gran.specs.Growing.{Shows};

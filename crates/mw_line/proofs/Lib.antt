@@ -18,4 +18,4 @@ mod Growing
 mod Segments
 mod Padded
 -- what lower crates offer
-pub use Rattle.mw_tile.proofs.mw_words as mw_words
+pub use Rattle.mw_tile.proofs.mw_pixel_words as mw_pixel_words

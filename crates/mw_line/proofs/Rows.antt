@@ -4,7 +4,7 @@ use Rattle.std.proofs.lemmas.Bool.{cases_lt}
 use Rattle.std.proofs.lemmas.Nat.{mul-add-lt}
 use Rattle.std.proofs.Math.Nat.{add-sub_cancel_left}
 use Rattle.std.proofs.lemmas.List.{get_or-take, get_or-drop, get_or_append_left, get_or-append_right}
-pub use Rattle.mw_tile.proofs.mw_words.Bits.{rows_fit}
+pub use Rattle.mw_tile.proofs.mw_pixel_words.Bits.{rows_fit}
 use Rattle.mw_model.proofs.mw_facts.Parts.{length-put_mid, get_or-put_mid_below, get_or-put_mid_within, get_or-put_mid_above}
 use borrow.Rule.Slice.PartMut.{put_mid}
 

@@ -5,4 +5,4 @@ pub mod Columns
 -- what lower crates offer
 pub mod mw_lane
 pub mod mw_tile
-pub mod mw_words
+pub mod mw_pixel_words

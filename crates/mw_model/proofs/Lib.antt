@@ -7,13 +7,9 @@ pub mod ImageOrder
 pub mod ImagePlaces
 pub mod Iterated
 pub mod Nonnegative
-pub mod PlainRanks
+pub mod Ranks
 pub mod RisingOrder
 pub mod SkeletonLaws
 pub mod Spellings
--- the crate's own
-mod PlainCurves
-mod PlainIterates
-mod PlainLoops
 -- what lower crates offer
 pub use Rattle.mw_facts.proofs as mw_facts

@@ -10,7 +10,6 @@ mod memory;
 mod names;
 mod operations;
 mod places;
-pub mod plain;
 mod receipts;
 mod requests;
 mod shapes;

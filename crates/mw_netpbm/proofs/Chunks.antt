@@ -6,8 +6,9 @@ use Rattle.std.proofs.lemmas.List.{append-nil, take-append-drop, drop-drop, drop
 use Rattle.mw_model.specs.NetpbmGrammar.{bits_of}
 use Rattle.mw_model.specs.NetpbmWriting.{byte_of, packed, two_bytes}
 use Rattle.mw_netpbm.specs.Rasters.{row_bits, words_of}
-use Rattle.mw_netpbm.specs.SetWords.{in_words, pixels_of}
-use Rattle.mw_netpbm.proofs.InWords.{words_append, words_zeros, words_taken}
+use Rattle.mw_netpbm_plain.specs.SetWords.{in_words}
+use Rattle.mw_netpbm.specs.SetWords.{pixels_of}
+use Rattle.mw_netpbm_plain.proofs.InWords.{words_append, words_zeros, words_taken}
 use Rattle.mw_netpbm.proofs.Lanes.{words_split}
 use Rattle.mw_netpbm.proofs.Sides.{row_within, bits_length}
 use Rattle.mw_netpbm.proofs.Turning.{length-pixels}

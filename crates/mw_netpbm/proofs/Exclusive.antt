@@ -4,10 +4,10 @@ use Rattle.mw_model.specs.Pictures.{Picture}
 use Rattle.mw_model.specs.NetpbmGrammar.{IsFile}
 use Rattle.mw_model.specs.NetpbmRefusals.{Refuses}
 use Rattle.mw_model.specs.declared.codes.Code.{Code}
-use Rattle.mw_netpbm.specs.Faults.{code_of}
+use Rattle.mw_netpbm_plain.specs.Faults.{code_of}
 use Rattle.mw_netpbm.specs.Whole.{reading}
 use Rattle.mw_netpbm.proofs.Files.{file_read}
-use Rattle.mw_netpbm.proofs.Outcomes.{one_code, code_or_value}
+use Rattle.mw_netpbm_plain.proofs.Outcomes.{one_code, code_or_value}
 use Rattle.mw_netpbm.proofs.Refused.{file_refuses}
 
 pub one_refusal : (bytes : List ℕ) (c d : Code) → Refuses bytes c → Refuses bytes d → c ≡ d

@@ -6,22 +6,25 @@ use Rattle.std.proofs.lemmas.Bool.{ltb-false, ltb-true, le-ltb, lt-ltb, cases_lt
 use Rattle.std.proofs.lemmas.Bool.Decides.{nat_tests}
 use Rattle.std.proofs.lemmas.List.{take_all}
 use Rattle.mw_model.specs.Pictures.{Picture}
-use Rattle.mw_netpbm.specs.declared.fault.ReadFault.{ReadFault}
-use Rattle.mw_netpbm.specs.declared.fault.ReadFault.TheVariants.{Magic, Header, Size, Maxval, Short, Sample, Trailing, NoMemory}
+use Rattle.mw_netpbm_plain.specs.declared.fault.ReadFault.{ReadFault}
+use Rattle.mw_netpbm_plain.specs.declared.fault.ReadFault.TheVariants.{Magic, Header, Size, Maxval, Short, Sample, Trailing, NoMemory}
 use Rattle.mw_model.specs.declared.formats.Format.{Format}
 use Rattle.mw_model.specs.declared.formats.Format.TheVariants.{PlainBits, PlainGrey, RawBits, RawGrey}
 use Rattle.mw_model.specs.declared.formats.Header.{Header as Head}
-use Rattle.mw_netpbm.specs.Reading.{◌>>=◌, Gives, Fails}
-use Rattle.mw_netpbm.specs.Heading.{head_at, limits}
+use Rattle.mw_netpbm_plain.specs.Reading.{◌>>=◌, Gives, Fails}
+use Rattle.mw_netpbm_plain.specs.Heading.{head_at, limits}
 use Rattle.mw_netpbm.specs.Rasters.{grey8_at, grey16_at, words_of, rows_bits, bits_at}
-use Rattle.mw_netpbm.specs.Plain.{plain_at, pixel_at, sample_at}
+use Rattle.mw_netpbm_plain.specs.Plain.{plain_at, pixel_at, sample_at}
 use Rattle.mw_netpbm.specs.Whole.{raster_as, image_at, reading}
-use Rattle.mw_model.specs.NetpbmGrammar.{IsLevels, IsRows, IsPixel, IsSample, RasterAs, IsRaster, IsMaxval, BeginsImage, SizeFits, MaxvalFits, IsFile, picture}
-use Rattle.mw_netpbm.proofs.Whole.{cond-chosen, sample_small}
-use Rattle.mw_netpbm.proofs.Sides.{Within, bind_ok, guard_ok, ok_is, grey8_ok, grey16_ok, bits_ok, plain_length, plain_within}
-use Rattle.mw_netpbm.proofs.Headers.{head_parts, head_whole, capped}
-use Rattle.mw_netpbm.proofs.Blanks.{cap}
-use Rattle.mw_netpbm.proofs.Rasters.{pairs_from, pairs_words, rows_from, rows_read, plain_from, plain_read, pixel_parts, pixel_whole, sample_parts, sample_whole}
+use Rattle.mw_model.specs.NetpbmGrammar.{IsLevels, IsRows, IsPixel, IsSample, RasterAs, IsRaster, BeginsImage, SizeFits, MaxvalFits, IsFile, picture}
+use Rattle.mw_netpbm_plain.proofs.Whole.{cond-chosen, sample_small}
+use Rattle.mw_netpbm_plain.proofs.Sides.{Within, bind_ok, guard_ok, ok_is, plain_length, plain_within}
+use Rattle.mw_netpbm.proofs.Sides.{grey8_ok, grey16_ok, bits_ok}
+use Rattle.mw_netpbm_plain.proofs.Headers.{head_parts, capped}
+use Rattle.mw_netpbm_plain.proofs.Blanks.{cap}
+use Rattle.mw_netpbm.proofs.Rasters.{pairs_from, pairs_words, rows_from, rows_read}
+use Rattle.mw_netpbm_plain.proofs.Rasters.{plain_from, plain_read, pixel_parts, pixel_whole, sample_parts, sample_whole}
+use Rattle.mw_netpbm_plain.proofs.Begun.{head_cap, SetMaxval, begun_maxval, begun_read}
 
 -- ---- limits
 
@@ -42,9 +45,6 @@ maxval_within m e = record { some = grind (arith, nat_tests); small = grind (ari
 
 pub maxval_fine : (m : ℕ) → 0 < m → m ≤ 65535 → (eqb m 0 || ltb 65535 m) ≡ false
 maxval_fine m a b = grind (arith, nat_tests)
-
-pub head_cap : (h : Head) → h.width ≤ 4294967295 → h.height ≤ 4294967295 → h.maxval ≤ 4294967295 → capped h ≡ h
-head_cap h a b c = let e1 : cap h.width ≡ h.width = omega arith in let e2 : cap h.height ≡ h.height = omega arith in let e3 : cap h.maxval ≡ h.maxval = omega arith in rw (e1, e2, e3) refl
 
 -- limits are met by the capped sides only where they are met by the sides
 pub size_uncapped : (w h : ℕ) → SizeFits (cap w) (cap h) → SizeFits w h
@@ -71,22 +71,6 @@ pub fits_cap : (h : Head) → SizeFits h.width h.height → MaxvalFits h.maxval 
 fits_cap h s m = head_cap h (omega (arith, s.narrow)) (omega (arith, s.low)) (omega (arith, m.small))
 
 -- ---- rasters under a header
-
--- the maxval of a set
-abbrev pub SetMaxval : Format → ℕ → Type 0
-SetMaxval PlainBits m = m ≡ 1
-SetMaxval RawBits m = m ≡ 1
-SetMaxval PlainGrey m = Unit {0}
-SetMaxval RawGrey m = Unit {0}
-
-pub set_maxval : (format : Format) (text : List ℕ) (m : ℕ) → IsMaxval format text m → SetMaxval format m
-set_maxval PlainBits text m is = is.1
-set_maxval RawBits text m is = is.1
-set_maxval PlainGrey text m is = tt
-set_maxval RawGrey text m is = tt
-
-pub begun_maxval : (bytes raster : List ℕ) (h : Head) → BeginsImage bytes h raster → SetMaxval h.format h.maxval
-begun_maxval bytes raster h b = set_maxval h.format b.is_header.maxval h.maxval b.is_header.is_maxval
 
 pub record Rastered (h : Head) (bytes : List ℕ) (i : Picture) : Type 0 where
   pub samples : List ℕ
@@ -209,10 +193,6 @@ file_of bytes i raster h begins size maxval r =
       within = subst (λ (ys : List ℕ). Within h.maxval ys) (sym same) r.within;
       shows = r.shows ∙ ap (picture h) (sym same);
     }
-
--- a header at the front is read
-pub begun_read : (bytes raster : List ℕ) (h : Head) → BeginsImage bytes h raster → head_at bytes ≡ Ok (capped h, raster)
-begun_read bytes raster h b = ap head_at b.parts ∙ head_whole b.text raster h b.is_header
 
 pub fitting_read : (bytes raster : List ℕ) (h : Head) → BeginsImage bytes h raster → SizeFits h.width h.height → MaxvalFits h.maxval → head_at bytes ≡ Ok (h, raster)
 fitting_read bytes raster h b s m = begun_read bytes raster h b ∙ ap (λ (k : Head). Ok (k, raster)) (fits_cap h s m)

@@ -1,20 +1,18 @@
 -- Images made of what is read.
-use Rattle.std.proofs.Common.{◌≡◌, ℕ, List, [], ◌∷◌, map, Result, Ok, Err, refl, sym, ap, subst, ◌∙◌}
+use Rattle.std.proofs.Common.{◌≡◌, ℕ, List, map, Result, Ok, Err, sym, ap, subst, ◌∙◌}
 use Rattle.std.specs.Prelude.{IfOk}
-use Rattle.mw_netpbm.specs.declared.fault.ReadFault.{ReadFault}
-use Rattle.mw_netpbm.specs.Reading.{Fails, seen, Gives}
-use Rattle.mw_netpbm.specs.Whole.{IsFit, raster_from, set_from}
+use Rattle.mw_netpbm_plain.specs.declared.fault.ReadFault.{ReadFault}
+use Rattle.mw_netpbm_plain.specs.Reading.{Fails, seen, Gives}
+use Rattle.mw_netpbm_plain.specs.Whole.{IsFit, raster_from}
+use Rattle.mw_netpbm.specs.Whole.{set_from}
 use Rattle.mw_model.specs.declared.formats.Format.TheVariants.{RawBits}
 use Rattle.mw_model.specs.NetpbmGrammar.{picture}
 use Rattle.mw_model.specs.Pictures.{Picture}
 use Rattle.mw_model.specs.Rasters.{Raster, raster}
-use Rattle.mw_pixel.specs.Images.{set_of}
-use Rattle.mw_netpbm.proofs.Faults.{Fails_then, Fails_back, Fails_same}
-use Rattle.mw_netpbm.proofs.Sides.{ok_is}
-
-pub map_same : (xs : List ℕ) → map (λ x. x) xs ≡ xs
-map_same [] = refl
-map_same (x ∷ xs) = ap (λ (ys : List ℕ). x ∷ ys) (map_same xs)
+use Rattle.mw_netpbm_plain.specs.mw_pixel.Images.{set_of}
+pub use Rattle.mw_netpbm_plain.proofs.Faults.{Fails_from}
+use Rattle.mw_netpbm_plain.proofs.Faults.{Fails_then, Fails_back, Fails_same, map_same}
+use Rattle.mw_netpbm_plain.proofs.Sides.{ok_is}
 
 abbrev pub read_ok : List ℕ → Result (List ℕ) ReadFault
 read_ok xs = Ok xs

@@ -2,11 +2,10 @@
 use Rattle.std.proofs.Common.{◌≡◌, ℕ, zero, suc, ◌+◌, ◌-◌, ◌*◌, ◌/◌, ◌%◌, ◌<◌, ◌≤◌, List, [], ◌∷◌, ◌++◌, length, take, drop, min, refl, sym, ap, ◌∙◌, arith, append_assoc, length-drop}
 use Rattle.std.proofs.lemmas.List.{take-append-drop, nil_from_length, length-take-le, append-nil}
 use Rattle.mw_model.proofs.mw_facts.Alls.{all-take, all-drop}
-use Rattle.mw_model.specs.NetpbmGrammar.{bits_of}
+use Rattle.mw_model.specs.NetpbmGrammar.{bits_of, IsRows}
 use Rattle.mw_netpbm.specs.Rasters.{row_bits}
 use Rattle.mw_model.specs.NetpbmWriting.{byte_of, packed, packed_rows}
-use Rattle.mw_model.specs.NetpbmGrammar.{IsRows}
-use Rattle.mw_netpbm.proofs.Sides.{Within}
+use Rattle.mw_netpbm_plain.proofs.Sides.{Within}
 use Rattle.mw_netpbm.proofs.Rasters.{row_is}
 
 pub more_rows : (width height y : ℕ) (out new rest total : List ℕ) → y < height

@@ -7,7 +7,7 @@ use Rattle.std.proofs.lemmas.List.{length-take-le, nil_from_length, take-append-
 use Rattle.std.proofs.lemmas.List.Concat.{flat_map-cons}
 use Rattle.mw_model.specs.NetpbmWriting.{packed, packed_rows, text_of, two_bytes}
 use Rattle.mw_model.specs.Pictures.{Picture}
-use Rattle.mw_pixel.specs.Images.{grey_of, raster_of, set_of}
+use Rattle.mw_netpbm_plain.specs.mw_pixel.Images.{grey_of, raster_of, set_of}
 use Rattle.mw_netpbm.specs.Rows.{byte_row, header_as, rows_bytes, set_row, word_row}
 
 -- the bytes of levels of two bytes

@@ -4,9 +4,9 @@ use Rattle.std.specs.List.{flat_map}
 use Rattle.std.proofs.lemmas.Bool.{cases_lt}
 use Rattle.std.proofs.lemmas.List.{get_or-take, get_or-drop, get_or_past, drop-drop, take_all}
 use Rattle.mw_model.specs.NetpbmWriting.{byte_of, packed, packed_rows}
-use Rattle.mw_pixel.specs.mw_words.Packed.{bit_of}
+use Rattle.mw_netpbm_plain.specs.mw_pixel_words.Packed.{bit_of}
 use Rattle.mw_netpbm.specs.SetWords.{pixels_of}
-use Rattle.mw_netpbm.proofs.InWords.{bit_zeros}
+use Rattle.mw_netpbm_plain.proofs.InWords.{bit_zeros}
 use Rattle.mw_netpbm.proofs.Packing.{more_rows}
 use Rattle.mw_netpbm.proofs.Turning.{word_pixels}
 

@@ -1,33 +1,12 @@
 -- What is read has as many samples as was asked for, none over the maxval.
-use Rattle.std.proofs.Common.{◌≡◌, ℕ, zero, suc, ◌+◌, ◌-◌, ◌*◌, ◌/◌, ◌%◌, ◌≤◌, Bool, true, false, cond, ltb, List, [], ◌∷◌, length, take, drop, Result, Ok, Err, min, max, fold, refl, sym, ap, subst, ◌∙◌, arith, length-append, length-drop}
-use Rattle.std.specs.List.{AllByRecursion}
+use Rattle.std.proofs.Common.{◌≡◌, ℕ, zero, suc, ◌+◌, ◌-◌, ◌*◌, ◌/◌, ◌%◌, ◌≤◌, Bool, cond, ltb, List, [], ◌∷◌, length, take, drop, Ok, Err, min, max, fold, refl, sym, ap, subst, ◌∙◌, arith, length-append, length-drop}
 use Rattle.std.proofs.lemmas.Bool.{ltb-false, le-ltb}
 use Rattle.std.proofs.lemmas.List.{length-take, take_all}
 use Rattle.mw_model.proofs.mw_facts.Alls.{all-append, all-take}
-use Rattle.mw_netpbm.specs.declared.fault.ReadFault.{ReadFault}
-use Rattle.mw_netpbm.specs.declared.fault.ReadFault.TheVariants.{Short, Sample, Trailing}
-use Rattle.mw_netpbm.specs.Reading.{◌>>=◌}
-use Rattle.mw_model.specs.NetpbmGrammar.{is_white}
+use Rattle.mw_netpbm_plain.specs.declared.fault.ReadFault.TheVariants.{Short, Sample, Trailing}
 use Rattle.mw_model.specs.NetpbmGrammar.{bits_of}
 use Rattle.mw_netpbm.specs.Rasters.{grey8_at, grey16_at, words_of, row_bits, rows_bits, bits_at}
-use Rattle.mw_netpbm.specs.Plain.{plain_at, tail_at}
-use Rattle.mw_netpbm.proofs.Outcomes.{good}
-
--- the value of a step that did not fail
-pub bind_ok : {A B : Type 0} (r : Result A ReadFault) (f : A → Result B ReadFault) (y : B) → (r >>= f) ≡ Ok y → (x : A) × (r ≡ Ok x) × (f x ≡ Ok y)
-bind_ok (Ok x) f y e = (x, refl, e)
-bind_ok (Err d) f y e = absurd cc
-
--- a test that did not fail
-pub guard_ok : {A : Type 0} (b : Bool) (d : ReadFault) (r : Result A ReadFault) (y : A) → cond b (Err d) r ≡ Ok y → (b ≡ false) × (r ≡ Ok y)
-guard_ok true d r y e = absurd cc
-guard_ok false d r y e = (refl, e)
-
-pub ok_is : {A : Type 0} (x y : A) → good x ≡ good y → x ≡ y
-ok_is x y e = cc
-
-abbrev pub Within : ℕ → List ℕ → Type 0
-Within m xs = AllByRecursion (λ s. s ≤ m) xs
+use Rattle.mw_netpbm_plain.proofs.Sides.{guard_ok, ok_is, Within}
 
 pub fold_bound : (xs : List ℕ) (a m : ℕ) → fold max a xs ≤ m → (a ≤ m) × Within m xs
 fold_bound [] a m h = (h, tt)
@@ -125,31 +104,3 @@ bits_ok width height bytes xs e =
     let l1 : n ≤ length bytes = ltb-false _ _ a.0 in
     let l2 : length bytes ≤ n = ltb-false _ _ c.0 in
     (omega arith, same, ap length (sym same) ∙ rows_length width height bytes l1, subst (λ ys. Within 1 ys) same (rows_within width height bytes))
-
--- ---- plain
-
-tail_ends : (w : Bool) (xs : List ℕ) → cond w (Ok []) (Err Trailing) ≡ Ok xs → [] ≡ xs
-tail_ends true xs e = ok_is [] xs e
-tail_ends false xs e = absurd cc
-
-pub tail_nil : (bytes xs : List ℕ) → tail_at bytes ≡ Ok xs → [] ≡ xs
-unfolding tail_at
-tail_nil [] xs e = ok_is [] xs e
-tail_nil (b ∷ bs) xs e = tail_ends (is_white b) xs e
-
-pub plain_length : (place : ℕ → List ℕ → Result (ℕ × List ℕ) ReadFault) (n : ℕ) (bytes xs : List ℕ) → plain_at place n bytes ≡ Ok xs → length xs ≡ n
-unfolding plain_at
-plain_length place zero bytes xs e = ap length (sym (tail_nil bytes xs e))
-plain_length place (suc n) bytes xs e =
-    let a = bind_ok (place n bytes) (λ first. plain_at place n first.1 >>= λ others. Ok (first.0 ∷ others)) xs e in
-    let b = bind_ok (plain_at place n a.0.1) (λ others. Ok (a.0.0 ∷ others)) xs a.2 in
-    ap length (sym (ok_is (a.0.0 ∷ b.0) xs b.2)) ∙ ap suc (plain_length place n a.0.1 b.0 b.1)
-
-pub plain_within : (place : ℕ → List ℕ → Result (ℕ × List ℕ) ReadFault) (m : ℕ) → ((left : ℕ) (bytes : List ℕ) (x : ℕ × List ℕ) → place left bytes ≡ Ok x → x.0 ≤ m)
-    → (n : ℕ) (bytes xs : List ℕ) → plain_at place n bytes ≡ Ok xs → Within m xs
-unfolding plain_at
-plain_within place m each zero bytes xs e = subst (λ ys. Within m ys) (tail_nil bytes xs e) tt
-plain_within place m each (suc n) bytes xs e =
-    let a = bind_ok (place n bytes) (λ first. plain_at place n first.1 >>= λ others. Ok (first.0 ∷ others)) xs e in
-    let b = bind_ok (plain_at place n a.0.1) (λ others. Ok (a.0.0 ∷ others)) xs a.2 in
-    subst (λ ys. Within m ys) (ok_is (a.0.0 ∷ b.0) xs b.2) (each n bytes a.0 a.1, plain_within place m each n a.0.1 b.0 b.1)

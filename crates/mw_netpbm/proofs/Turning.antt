@@ -11,12 +11,14 @@ use Rattle.mw_model.proofs.mw_facts.Alls.{all-append}
 use Rattle.mw_model.proofs.mw_facts.Numbers.{below_or_last}
 use Rattle.mw_model.specs.NetpbmGrammar.{bits_of}
 use Rattle.mw_model.specs.NetpbmWriting.{packed}
-use Rattle.mw_pixel.specs.mw_words.Packed.{bit_of}
-use Rattle.mw_pixel.proofs.mw_words.Bits.{bit_of_word, bit_of_past}
-use Rattle.mw_netpbm.specs.SetWords.{turn, in_words, pixels_of}
-use Rattle.mw_netpbm.proofs.Sides.{Within, bits_within}
-use Rattle.mw_netpbm.proofs.Numbered.{digit_bit, length-digits, digits_parts}
-use Rattle.mw_netpbm.proofs.InWords.{words_of_number, bit_right}
+use Rattle.mw_netpbm_plain.specs.mw_pixel_words.Packed.{bit_of}
+use Rattle.mw_netpbm_plain.proofs.mw_pixel_words.Bits.{bit_of_word, bit_of_past}
+use Rattle.mw_netpbm.specs.SetWords.{turn, pixels_of}
+use Rattle.mw_netpbm_plain.specs.SetWords.{in_words}
+use Rattle.mw_netpbm_plain.proofs.Sides.{Within}
+use Rattle.mw_netpbm.proofs.Sides.{bits_within}
+use Rattle.mw_netpbm_plain.proofs.Numbered.{digit_bit, length-digits, digits_parts}
+use Rattle.mw_netpbm_plain.proofs.InWords.{words_of_number, bit_right}
 
 -- ---- a byte
 

@@ -1,5 +1,5 @@
 -- What is written is a file of the image.
-use Rattle.std.proofs.Common.{◌≡◌, ℕ, zero, suc, ◌^◌, ◌<◌, Bool, true, ◌&&◌, List, [], ◌∷◌, IsTrue, refl, sym, subst, arith, rules}
+use Rattle.std.proofs.Common.{◌≡◌, ℕ, zero, suc, ◌^◌, ◌<◌, Bool, true, ◌&&◌, List, [], ◌∷◌, IsTrue, refl, sym, subst, arith, rules, ◌≤◌}
 use Rattle.std.specs.List.{AllByRecursion, flat_map}
 use Rattle.std.specs.Fmt.{decimal}
 use Rattle.std.proofs.lemmas.Bool.{le-ltb, lt-ltb, and_parts}
@@ -10,16 +10,13 @@ use Rattle.mw_model.specs.declared.shapes.Kind.{Kind}
 use Rattle.mw_model.specs.declared.shapes.Kind.TheVariants as kinds
 use Rattle.mw_model.specs.Pictures.{Picture, FitsKind, IsImage}
 use Rattle.mw_model.specs.declared.formats.Format.TheVariants.{PlainBits, PlainGrey, RawGrey, RawBits}
-use Rattle.mw_model.specs.NetpbmGrammar.{is_white, is_digit}
+use Rattle.mw_model.specs.NetpbmGrammar.{is_white, is_digit, SizeFits, MaxvalFits, nothing, IsNumber, value_after, IsField, IsPairs, IsLevels, IsFile, picture, kind_of}
 use Rattle.mw_model.specs.NetpbmWriting.{two_bytes, grey_raster, grey_header, set_header, packed_rows, text_of}
-use Rattle.mw_model.specs.NetpbmGrammar.{SizeFits, MaxvalFits, nothing, IsNumber, value_after, IsField, IsPairs, IsLevels, IsFile, picture}
 use Rattle.mw_netpbm.proofs.Packing.{rows_packed}
-use Rattle.mw_netpbm.proofs.Files.{SetMaxval, begun_maxval}
+use Rattle.mw_netpbm_plain.proofs.Begun.{SetMaxval, begun_maxval}
 use Rattle.std.proofs.lemmas.List.Elements.{All-from_recursion, recursion_from_All}
-use Rattle.mw_model.specs.NetpbmGrammar.{kind_of}
-use Rattle.mw_netpbm.specs.declared.fault.ReadFault.{ReadFault}
+use Rattle.mw_netpbm_plain.specs.declared.fault.ReadFault.{ReadFault}
 use Rattle.std.specs.Prelude.{IfOk, Result, Ok, Err}
-use Rattle.std.proofs.Common.{◌≤◌}
 use Rattle.mw_model.specs.declared.formats.Format.{Format}
 
 abbrev all_digits : List ℕ → Bool

@@ -1,14 +1,5 @@
-pub mod Reading
-pub mod Heading
 pub mod Rasters
 pub mod Rows
 pub mod Swapping
-pub mod Plain
-pub mod Places
-pub mod Short
-pub mod Tallies
 pub mod Whole
-pub mod Faults
 pub mod SetWords
--- what lower crates offer
-pub mod mw_pixel

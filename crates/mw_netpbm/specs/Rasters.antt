@@ -1,8 +1,8 @@
 -- Reading the rasters.
 use Rattle.std.specs.Prelude.{ℕ, zero, suc, ◌+◌, ◌-◌, ◌*◌, ◌/◌, List, [], ◌∷◌, ◌++◌, length, take, drop, Result, Ok, Err, nat_lt, if◌then◌else◌, min, max, fold}
 use Rattle.mw_model.specs.NetpbmGrammar.{bits_of}
-use Rattle.mw_netpbm.specs.declared.fault.ReadFault.{ReadFault}
-use Rattle.mw_netpbm.specs.declared.fault.ReadFault.TheVariants.{Short, Sample, Trailing}
+use Rattle.mw_netpbm_plain.specs.declared.fault.ReadFault.{ReadFault}
+use Rattle.mw_netpbm_plain.specs.declared.fault.ReadFault.TheVariants.{Short, Sample, Trailing}
 
 -- one byte for each sample
 unfoldable pub grey8_at : ℕ → ℕ → List ℕ → Result (List ℕ) ReadFault

@@ -6,8 +6,10 @@ ghost use Rattle.mw_model.specs.NetpbmGrammar.{bits_of};
 ghost use Rattle.mw_model.specs.NetpbmWriting.{packed, two_bytes};
 ghost use Rattle.mw_netpbm.specs.Rasters.{words_of, row_bits};
 ghost use Rattle.mw_netpbm.specs.Swapping.{swap};
-ghost use Rattle.mw_netpbm.specs.SetWords.{turn, in_words, pixels_of};
+ghost use Rattle.mw_netpbm.specs.SetWords.{turn, pixels_of};
+ghost use Rattle.mw_netpbm_plain.specs.SetWords.{in_words};
 
+use mw_netpbm_plain::padded;
 use std::simd::prelude::*;
 
 /// Each word with its two bytes swapped.
@@ -70,16 +72,6 @@ pub(crate) fn pixels_as_bytes(words: &[u64]) -> [u8; 64]
     ensures { result ≡ packed 64 (flat_map pixels_of words.now) }
 {
     turned(u64x8::from_slice(words).to_le_bytes()).to_array()
-}
-
-/// The bytes with others behind them, all alike.
-pub(crate) fn padded(bytes: &[u8], filler: u8) -> [u8; 64]
-    requires { length bytes.now ≤ 64 }
-    ensures { result ≡ bytes.now ++ replicate (64 - length bytes.now) filler }
-{
-    let mut block = [filler; 64];
-    block[..bytes.len()].copy_from_slice(bytes);
-    block
 }
 
 /// The bytes of so many pixels with blank pixels behind them; the spare bits of the last byte mean nothing.

@@ -1,13 +1,13 @@
 //! What holds of files and bitmaps: each law is the contract of an empty function.
 
-ghost use Rattle.std.specs.Prelude.{◌≡◌, ◌<◌, ◌^◌, ℕ, List};
+ghost use Rattle.std.specs.Prelude.{◌≡◌, ℕ, List};
 ghost use Rattle.mw_model.specs.declared.codes.Code.{Code};
 ghost use Rattle.mw_model.specs.NetpbmGrammar.{IsFile};
 ghost use Rattle.mw_model.specs.NetpbmRefusals.{Refuses};
 ghost use Rattle.mw_model.specs.NetpbmWriting.{text_of};
-ghost use Rattle.mw_model.specs.Bitmaps.{BitmapRefuses, IsBitmap};
 ghost use Rattle.mw_model.specs.Pictures.{Picture, IsImage};
-ghost use Rattle.mw_model.specs.Rasters.{Raster};
+
+pub use mw_netpbm_plain::laws::one_bitmap;
 
 /// No bytes are files of two images.
 pub fn one_image()
@@ -28,11 +28,4 @@ pub fn is_read_again()
 pub fn one_refusal()
     ensures one { (bytes : List ℕ) (c d : Code) → Refuses bytes c → Refuses bytes d → c ≡ d }
     ensures none { (bytes : List ℕ) (c : Code) (i : Picture) → Refuses bytes c → IsFile bytes i → ⊥ }
-{}
-
-/// No bytes are two plain bitmaps, and those that are none have one refusal at most.
-pub fn one_bitmap()
-    ensures bitmap { (bytes : List ℕ) (side : ℕ) (f g : Raster ℕ) → side < 2 ^ 32 → IsBitmap bytes side f → IsBitmap bytes side g → f ≡ g }
-    ensures refusal { (bytes : List ℕ) (side : ℕ) (c d : Code) → side < 2 ^ 32 → BitmapRefuses bytes side c → BitmapRefuses bytes side d → c ≡ d }
-    ensures either { (bytes : List ℕ) (side : ℕ) (c : Code) (f : Raster ℕ) → side < 2 ^ 32 → BitmapRefuses bytes side c → IsBitmap bytes side f → ⊥ }
 {}

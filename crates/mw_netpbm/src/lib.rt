@@ -6,29 +6,17 @@
 //! ```
 #![tactic(auto)]
 
-mod bitmap;
 mod blocks;
-mod fault;
-mod head;
 pub mod laws;
-mod plain;
 mod raw;
 mod reader;
-mod room;
 mod row_bytes;
-mod sets;
-mod short;
-mod words;
 mod writer;
 
-pub use bitmap::{BitmapFacts, read_plain_bitmap, scan_plain_bitmap};
-pub use fault::{BitmapFault, ReadFault};
 pub use mw_model::NoMemory;
+pub use mw_netpbm_plain::{
+    BitmapFacts, BitmapFault, ReadFault, read_plain_bitmap, scan_plain_bitmap,
+};
 pub use reader::{read, read_owned};
 pub use row_bytes::{RowBytes, header};
 pub use writer::{Text, parts, write};
-
-// What lower crates offer, for the crates above.
-pub mod pixel {
-    pub use mw_pixel::{Bit, Image, Plane};
-}

@@ -2,14 +2,14 @@
 
 ghost use Rattle.std.specs.Prelude.{◌≡◌, ℕ, ◌≤◌, ◌<◌, ◌*◌, ◌+◌, ◌/◌, ◌++◌, List, length, IfOk, OnOk, fold, max, take, drop, vec_len};
 ghost use Rattle.mw_model.specs.declared.limits.TheConstants.{PIXEL_LIMIT, SIDE_LIMIT};
-ghost use Rattle.mw_netpbm.specs.Reading.{seen, Gives};
+ghost use Rattle.mw_netpbm_plain.specs.Reading.{seen, Gives};
 ghost use Rattle.mw_netpbm.specs.Rasters.{words_of, row_bits, rows_bits, grey8_at, grey16_at, bits_at};
-ghost use Rattle.mw_netpbm.specs.SetWords.{in_words, in_rows};
-ghost use Rattle.mw_netpbm.specs.Whole.{raster_from};
+ghost use Rattle.mw_netpbm_plain.specs.SetWords.{in_words, in_rows};
+ghost use Rattle.mw_netpbm_plain.specs.Whole.{raster_from};
 
 use crate::blocks::{block_of, pixels_in, words_in};
-use crate::fault::ReadFault;
-use mw_pixel::words::Words;
+use mw_netpbm_plain::ReadFault;
+use mw_netpbm_plain::pixel::Words;
 use std::alloc::{AllocError, Global};
 use std::simd::prelude::*;
 

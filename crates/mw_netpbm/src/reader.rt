@@ -1,29 +1,27 @@
 //! Reading a whole file: its header says which raster is to follow, and the raster decides.
 
 ghost use Rattle.std.specs.Prelude.{◌≡◌, ℕ, ◌≤◌, ◌<◌, ◌*◌, ◌-◌, List, length, drop, ◌≢◌, IfOk, IfErr, Ok, Err, true, nat_lt, MatchResult};
-ghost use Rattle.mw_netpbm.specs.Reading.{seen, Gives};
-ghost use Rattle.mw_netpbm.specs.Heading.{head_at, limits};
-ghost use Rattle.mw_netpbm.specs.Whole.{IsFit, grey_from, image_at, reading};
-ghost use Rattle.mw_netpbm.specs.Faults.{code_of};
+ghost use Rattle.mw_netpbm_plain.specs.Reading.{seen, Gives};
+ghost use Rattle.mw_netpbm_plain.specs.Heading.{head_at, limits};
+ghost use Rattle.mw_netpbm_plain.specs.Whole.{IsFit};
+ghost use Rattle.mw_netpbm.specs.Whole.{grey_from, image_at, reading};
+ghost use Rattle.mw_netpbm_plain.specs.Faults.{code_of};
 ghost use Rattle.mw_model.specs.NetpbmGrammar.{IsFile};
 ghost use Rattle.mw_model.specs.NetpbmRefusals.{Refuses};
 ghost use Rattle.mw_model.specs.Pictures.{Picture, IsImage};
 ghost use Rattle.mw_model.specs.declared.limits.TheConstants.{LEVEL_LIMIT, PIXEL_LIMIT, SIDE_LIMIT};
-ghost use Rattle.mw_pixel.specs.Images.{set_of};
+ghost use Rattle.mw_netpbm_plain.specs.mw_pixel.Images.{set_of};
 ghost use Rattle.mw_model.specs.declared.formats.Format.TheVariants as Format;
 
-use crate::fault::ReadFault;
-use crate::head::{check_limits, read_head};
-use crate::plain::{self, Places};
-use crate::{raw, sets};
+use crate::raw;
 use mw_model::{Format, Header};
-use mw_pixel::words::Words;
-use mw_pixel::{Image, Plane};
+use mw_netpbm_plain::pixel::{Image, Plane, Words};
+use mw_netpbm_plain::{Places, ReadFault, check_limits, read_head, samples, set};
 use std::alloc::Global;
 use std::sync::Arc;
 
 /// The image of the set that was found.
-#[tactic(auto, using(crate::proofs::Faults::Fails_from))]
+#[tactic(auto, using(crate::proofs::Made::Fails_from))]
 fn set_image(alloc: Global, found: Result<Words, ReadFault>) -> Result<Image, ReadFault>
     ensures { Gives (λ i. i) result (seen set_of found) }
 {
@@ -34,7 +32,7 @@ fn set_image(alloc: Global, found: Result<Words, ReadFault>) -> Result<Image, Re
 }
 
 /// The picture of these samples, of one byte each.
-#[tactic(auto, using(crate::proofs::Faults::Fails_from))]
+#[tactic(auto, using(crate::proofs::Made::Fails_from))]
 fn grey8_image(
     alloc: Global,
     width: u32,
@@ -51,7 +49,7 @@ fn grey8_image(
 }
 
 /// The picture of these samples, of two bytes each.
-#[tactic(auto, using(crate::proofs::Faults::Fails_from))]
+#[tactic(auto, using(crate::proofs::Made::Fails_from))]
 fn grey16_image(
     alloc: Global,
     width: u32,
@@ -83,7 +81,7 @@ fn raster(alloc: Global, head: &Header, raster: &[u8]) -> Result<Image, ReadFaul
     let count = height as usize * width as usize;
     match head.format {
         Format::PlainBits => {
-            let found = sets::set(alloc, width, height, raster);
+            let found = set(alloc, width, height, raster);
             set_image(alloc, found)
         }
         Format::RawBits => {
@@ -91,11 +89,11 @@ fn raster(alloc: Global, head: &Header, raster: &[u8]) -> Result<Image, ReadFaul
             set_image(alloc, found)
         }
         Format::PlainGrey if maxval < 256 => {
-            let found = plain::samples(alloc, Places::Samples(maxval), count, raster);
+            let found = samples(alloc, Places::Samples(maxval), count, raster);
             grey8_image(alloc, width, height, maxval as u8, found)
         }
         Format::PlainGrey => {
-            let found = plain::samples(alloc, Places::Samples(maxval), count, raster);
+            let found = samples(alloc, Places::Samples(maxval), count, raster);
             grey16_image(alloc, width, height, maxval, found)
         }
         Format::RawGrey if maxval < 256 => {
@@ -128,7 +126,7 @@ fn opened(bytes: &[u8]) -> Result<(Header, &[u8]), ReadFault>
 }
 
 /// The image that the bytes hold.
-#[tactic(auto, using(crate::proofs::Faults::Fails_from))]
+#[tactic(auto, using(crate::proofs::Made::Fails_from))]
 fn whole(alloc: Global, bytes: &[u8]) -> Result<Image, ReadFault>
     ensures { Gives (λ i. i) result (reading bytes.now) }
 {
@@ -162,7 +160,7 @@ fn owned_raster(
 
 /// The image that the bytes hold. Samples of one byte stay in their vector, unless a header longer than they are would
 /// lie idle behind them.
-#[tactic(auto, using(crate::proofs::Faults::Fails_from))]
+#[tactic(auto, using(crate::proofs::Made::Fails_from))]
 fn whole_owned(alloc: Global, bytes: Vec<u8>) -> Result<Image, ReadFault>
     ensures { Gives (λ i. i) result (reading bytes.items) }
 {

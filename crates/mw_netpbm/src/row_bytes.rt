@@ -7,8 +7,7 @@ ghost use Rattle.mw_netpbm.specs.Rows.{header_as};
 
 use crate::writer::{append, grey_head, push_packed, push_words, set_head};
 use mw_model::{Kind, NoMemory};
-use mw_pixel::words::Words;
-use mw_pixel::{Bit, Listed, Planar};
+use mw_netpbm_plain::pixel::{Bit, Listed, Planar, Words};
 use std::alloc::{AllocError, Global};
 
 /// Samples of which rows are written.

@@ -3,15 +3,14 @@
 ghost use Rattle.std.specs.Prelude.{◌≡◌, ℕ, ◌≤◌, ◌<◌, ◌*◌, ◌^◌, ◌++◌, List, length, vec_len, vec_capacity, IfOk, OnOk, Ok, true, nat_lt, string_bytes, ◌+◌, ◌-◌, ◌/◌};
 ghost use Rattle.mw_model.specs.declared.shapes.Kind.TheVariants as kind;
 ghost use Rattle.mw_model.specs.NetpbmWriting.{two_bytes, grey_raster, grey_header, packed, packed_rows, set_header, text_of};
-ghost use Rattle.mw_pixel.specs.Images.{grey_of, set_of};
+ghost use Rattle.mw_netpbm_plain.specs.mw_pixel.Images.{grey_of, set_of};
 ghost use Rattle.std.specs.List.{flat_map};
 ghost use Rattle.mw_model.specs.Rasters.{Raster};
 ghost use Rattle.mw_netpbm.specs.SetWords.{pixels_of};
 
 use crate::blocks::{eight_words, pixels_as_bytes, words_as_bytes};
 use mw_model::NoMemory;
-use mw_pixel::words::Words;
-use mw_pixel::{Bit, Image, Plane, View};
+use mw_netpbm_plain::pixel::{Bit, Image, Plane, View, Words};
 use std::alloc::{AllocError, Global};
 
 pub(crate) fn grey_head(

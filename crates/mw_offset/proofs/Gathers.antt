@@ -6,9 +6,9 @@ use Rattle.mw_model.proofs.mw_facts.Alls.{all-weaker}
 use Rattle.mw_line.specs.Extrema.{strided}
 use Rattle.mw_line.proofs.Folds.{IsExtremum}
 use Rattle.mw_line.proofs.Joined.{strided-joined}
-use Rattle.mw_run.specs.declared.runs.Run.{Run}
-use Rattle.mw_run.specs.declared.runs.Extent.{Extent}
-use Rattle.mw_run.specs.Runs.{start_of, HasRoom, sized, two_parts, gather}
+use Rattle.mw_element_runs.specs.declared.runs.Run.{Run}
+use Rattle.mw_element_runs.specs.declared.runs.Extent.{Extent}
+use Rattle.mw_element_runs.specs.Runs.{start_of, HasRoom, sized, two_parts, gather}
 use Rattle.mw_offset.specs.Places.{sized_below}
 
 -- what the runs of less than b offsets give

@@ -9,5 +9,5 @@ mod StripRows
 mod Lists
 -- what lower crates offer
 pub use Rattle.mw_line.proofs as mw_line
-pub use Rattle.mw_run.proofs as mw_run
-pub use Rattle.mw_line.proofs.mw_words as mw_words
+pub use Rattle.mw_element_runs.proofs as mw_element_runs
+pub use Rattle.mw_line.proofs.mw_pixel_words as mw_pixel_words

@@ -2,9 +2,9 @@
 use Rattle.std.proofs.Common.{◌≡◌, ℕ, ◌+◌, ◌-◌, ◌*◌, ◌<◌, List, get_or, ap, subst, arith, ◌∙◌}
 use Rattle.std.specs.List.{AllByRecursion}
 use Rattle.mw_line.specs.Extrema.{strided}
-use Rattle.mw_run.specs.declared.runs.Run.{Run}
-use Rattle.mw_run.specs.declared.runs.Extent.{Extent}
-use Rattle.mw_run.specs.Runs.{start_of, HasRoom, gather}
+use Rattle.mw_element_runs.specs.declared.runs.Run.{Run}
+use Rattle.mw_element_runs.specs.declared.runs.Extent.{Extent}
+use Rattle.mw_element_runs.specs.Runs.{start_of, HasRoom, gather}
 
 -- there is room for one row of so many samples
 pub list_room : (e : Extent) (wide count cells : ℕ) (runs : List Run) → AllByRecursion (HasRoom e wide (count + 63) cells) runs → AllByRecursion (HasRoom e wide ((1 - 1) * wide + count + 63) cells) runs

@@ -9,11 +9,11 @@ use Rattle.std.proofs.lemmas.List.Sums.{fold-append}
 use Rattle.mw_model.proofs.mw_facts.Alls.{all-append}
 use Rattle.mw_model.proofs.mw_facts.Parts.{get_or-put_mid_below, get_or-put_mid_within}
 use Rattle.mw_line.proofs.Folds.{IsExtremum}
-use Rattle.mw_run.specs.declared.runs.Run.{Run}
-use Rattle.mw_run.specs.declared.runs.Extent.{Extent}
+use Rattle.mw_element_runs.specs.declared.runs.Run.{Run}
+use Rattle.mw_element_runs.specs.declared.runs.Extent.{Extent}
 use Rattle.mw_offset.proofs.Rooms.{merged_again}
 use Rattle.mw_offset.specs.Places.{merge_from, places_of, sized_below}
-use Rattle.mw_run.specs.Runs.{start_of, HasRoom, two_parts}
+use Rattle.mw_element_runs.specs.Runs.{start_of, HasRoom, two_parts}
 use borrow.Rule.Slice.PartMut.{put_mid}
 
 -- the samples below `at` have their values, and the others are as they were

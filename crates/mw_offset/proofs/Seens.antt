@@ -17,9 +17,9 @@ use Rattle.mw_line.specs.mw_lane.Shifted.{merge_at}
 use Rattle.mw_line.specs.Extrema.{strided, over}
 use Rattle.mw_line.proofs.Folds.{IsExtremum, fold_both}
 use Rattle.mw_line.proofs.Over.{over_same, over_strided, over_out, merged_or, fold_flat, those, fold_those, filter_map-flat}
-use Rattle.mw_run.specs.declared.runs.Run.{Run}
-use Rattle.mw_run.specs.declared.runs.Extent.{Extent}
-use Rattle.mw_run.specs.Runs.{run_offsets, start_of, IsInside, HasRoom, gather}
+use Rattle.mw_element_runs.specs.declared.runs.Run.{Run}
+use Rattle.mw_element_runs.specs.declared.runs.Extent.{Extent}
+use Rattle.mw_element_runs.specs.Runs.{run_offsets, start_of, IsInside, HasRoom, gather}
 use Rattle.mw_offset.proofs.Rooms.{one_less}
 
 -- The rows that the code lays out for a tile and an extent: each cell stands for what the window has there.

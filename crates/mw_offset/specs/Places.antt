@@ -1,9 +1,9 @@
 -- Places of a row of samples, laid out around a tile, at which runs are looked up.
 use Rattle.std.specs.Prelude.{◌⊎◌, ℕ, ◌+◌, ◌-◌, ◌*◌, ◌≤◌, ◌-ℤ◌, ◌&&◌, nat_le, nat_lt, if◌then◌else◌, slice_index_or, List, [], ◌∷◌}
-use Rattle.mw_run.specs.declared.runs.Run.{Run}
-use Rattle.mw_run.specs.declared.runs.Extent.{Extent}
+use Rattle.mw_element_runs.specs.declared.runs.Run.{Run}
+use Rattle.mw_element_runs.specs.declared.runs.Extent.{Extent}
 use Rattle.mw_model.specs.Places.{nonnegative}
-use Rattle.mw_run.specs.Runs.{start_of}
+use Rattle.mw_element_runs.specs.Runs.{start_of}
 
 -- a sample merged with the one that stands q places after p
 abbrev pub merge_from : {A : Type 0} → (A → A → A) → List A → A → ℕ → A → ℕ → A

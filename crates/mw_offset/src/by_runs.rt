@@ -5,27 +5,27 @@
 //! merge (Urbach and Wilkinson 2008 grow them to each length).
 ghost use Rattle.std.specs.Prelude.{◌≡◌, ℕ, ◌+◌, ◌-◌, ◌*◌, ◌/◌, ◌<◌, ◌≤◌, ◌^◌, ℤ, pos, negsuc, ◌+ℤ◌, ◌-ℤ◌, ◌≤ℤ◌, length, fold, flat_map, slice_index_or, vec_len, [], ◌++◌, IfOk, OnOk};
 ghost use Rattle.std.specs.Vec.{vec_capacity};
-ghost use Rattle.mw_run.specs.declared.runs.Extent.{Extent};
+ghost use Rattle.mw_element_runs.specs.declared.runs.Extent.{Extent};
 ghost use Rattle.std.specs.List.{AllByRecursion};
 ghost use Rattle.mw_model.specs.Places.{nonnegative};
 ghost use Rattle.mw_model.specs.Rasters.{seen_under};
 ghost use Rattle.mw_model.specs.Windows.{seen_at};
 ghost use Rattle.mw_line.specs.Extrema.{strided};
-ghost use Rattle.mw_run.specs.declared.runs.Run.{Run};
+ghost use Rattle.mw_element_runs.specs.declared.runs.Run.{Run};
 ghost use Rattle.mw_offset.specs.Places.{places_of, sized_below, IsStrip};
-ghost use Rattle.mw_run.specs.Runs.{run_offsets, start_of, IsInside, HasRoom, two_parts, gather};
+ghost use Rattle.mw_element_runs.specs.Runs.{run_offsets, start_of, IsInside, HasRoom, two_parts, gather};
 
 use crate::narrow::{is_cheaper_as_list, pick_columns};
 use crate::places::combine_rows_at;
 use crate::sizes::{longest_of, next_size};
+use mw_element_runs::{
+    Extent, Run, Sizes, columns_after, counts_of, first_column, first_row, rows_after, start_of_run,
+};
 use mw_line::lane::combine_ahead;
 use mw_line::pixel::{Extremum, Grey, Pixel, copies};
 use mw_line::tile::Window;
 use mw_line::{SpreadRows, spread};
 use mw_model::{NoMemory, Rect};
-use mw_run::{
-    Extent, Run, Sizes, columns_after, counts_of, first_column, first_row, rows_after, start_of_run,
-};
 use std::alloc::Global;
 
 /// A tile, and the columns and rows of offsets that are looked at from each of its places.

@@ -30,7 +30,7 @@ pub mod pixel {
 }
 
 pub mod run {
-    pub use mw_run::{
+    pub use mw_element_runs::{
         Extent, Run, Sizes, columns_after, counts_of, extent_of, first_column, first_row, place_of,
         rows_after, runs_either_way, start_of_run,
     };

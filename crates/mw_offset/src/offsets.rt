@@ -10,14 +10,16 @@ ghost use Rattle.mw_model.specs.Windows.{seen_at};
 ghost use Rattle.mw_line.specs.mw_tile.Windows.{IsWindow};
 ghost use Rattle.mw_line.specs.mw_lane.Shifted.{merge_at};
 ghost use Rattle.mw_line.specs.Extrema.{IsSlidingExtremum};
-ghost use Rattle.mw_run.specs.Runs.{AreEitherWay, IsRun};
+ghost use Rattle.mw_element_runs.specs.Runs.{AreEitherWay, IsRun};
 
 use crate::strips::extremum_by_strips;
+use mw_element_runs::{
+    Extent, Run, columns_after, extent_of, place_of, rows_after, runs_either_way,
+};
 use mw_line::combine_window_row;
 use mw_line::pixel::{Extremum, Grey, Plane, copies};
 use mw_line::tile::Window;
 use mw_model::{NoMemory, Offset, Rect};
-use mw_run::{Extent, Run, columns_after, extent_of, place_of, rows_after, runs_either_way};
 use std::alloc::Global;
 
 /// Merges into each sample of a row of the frame, from `column` on, the sample at an offset from there.

@@ -2,9 +2,9 @@
 ghost use Rattle.std.specs.Prelude.{◌≡◌, ◌*◌, ◌<◌, ◌≤◌, ◌^◌};
 ghost use Rattle.std.specs.List.{AllByRecursion};
 ghost use Rattle.mw_model.specs.declared.limits.TheConstants.{FAR_LIMIT};
-ghost use Rattle.mw_run.specs.declared.runs.Run.{Run};
+ghost use Rattle.mw_element_runs.specs.declared.runs.Run.{Run};
 
-use mw_run::{Run, Sizes};
+use mw_element_runs::{Run, Sizes};
 
 /// The longest run's length.
 pub(crate) fn longest_of(runs: &[Run]) -> usize

@@ -5,14 +5,14 @@ ghost use Rattle.std.specs.List.{AllByRecursion};
 ghost use Rattle.mw_model.specs.Places.{nonnegative};
 ghost use Rattle.mw_model.specs.Rasters.{seen_under};
 ghost use Rattle.mw_model.specs.Windows.{seen_at};
-ghost use Rattle.mw_run.specs.Runs.{run_offsets, IsInside};
+ghost use Rattle.mw_element_runs.specs.Runs.{run_offsets, IsInside};
 ghost use Rattle.mw_offset.specs.Places.{IsStrip};
 
 use crate::by_runs::{Looked, merge_runs};
+use mw_element_runs::{Extent, Run, rows_after};
 use mw_line::pixel::{Extremum, Grey, copies};
 use mw_line::tile::Window;
 use mw_model::{NoMemory, Rect};
-use mw_run::{Extent, Run, rows_after};
 use std::alloc::Global;
 
 /// How many samples of a strip, with what is made of them, stay in the cache.

@@ -5,4 +5,4 @@ mod Lanes
 mod Held
 mod Same
 -- what lower crates offer
-pub use Rattle.mw_words.proofs as mw_words
+pub use Rattle.mw_pixel_words.proofs as mw_pixel_words

@@ -3,7 +3,7 @@
 ghost use Rattle.std.specs.Prelude.{◌≡◌};
 
 use crate::{Bit, NoMemory, Samples};
-use mw_words::Words;
+use mw_pixel_words::Words;
 use std::alloc::Global;
 
 impl Samples<Bit> for Words {

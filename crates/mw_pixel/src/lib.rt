@@ -33,7 +33,7 @@ pub use listed::{Listed, copies};
 pub use max::Max;
 pub use min::Min;
 pub use mw_model::{Kind, NoMemory, Shape};
-pub use mw_words::Words;
+pub use mw_pixel_words::Words;
 pub use pixel::Pixel;
 pub use planar::{Grey, Planar};
 pub use plane::Plane;
@@ -41,5 +41,5 @@ pub use samples::Samples;
 
 // What lower crates offer, for the crates above.
 pub mod words {
-    pub use mw_words::{Words, blended, funnel, repeated, stride, trimmed};
+    pub use mw_pixel_words::{Words, blended, funnel, repeated, stride, trimmed};
 }

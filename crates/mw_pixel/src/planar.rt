@@ -4,7 +4,7 @@ ghost use Rattle.std.specs.Prelude.{◌≡◌, ◌*◌, vec_len};
 ghost use Rattle.mw_model.specs.Rasters.{raster};
 
 use crate::{Bit, Listed, Pixel, Samples};
-use mw_words::Words;
+use mw_pixel_words::Words;
 
 /// A sample of which planes are made.
 pub trait Planar: Pixel {

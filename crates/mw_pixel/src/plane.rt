@@ -5,7 +5,7 @@ ghost use Rattle.mw_model.specs.Rasters.{raster};
 ghost use Rattle.mw_pixel.specs.Planes.{put_at};
 
 use crate::{Bit, Grey, NoMemory, Planar, Samples};
-use mw_words::Words;
+use mw_pixel_words::Words;
 use std::alloc::Global;
 use std::marker::Model;
 

@@ -2,7 +2,7 @@
 
 ghost use Rattle.std.specs.Prelude.{◌≡◌, ◌↔◌, ◌+◌, ◌*◌, ◌<◌, ◌≤◌, length, replicate, slice_get, slice_range, Some, IsTrue, MatchResult};
 ghost use Rattle.mw_model.specs.Rasters.{Raster, raster};
-ghost use Rattle.mw_words.specs.Runs.{put_at};
+ghost use Rattle.mw_pixel_words.specs.Runs.{put_at};
 
 use crate::NoMemory;
 use std::alloc::Global;

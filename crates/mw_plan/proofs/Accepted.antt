@@ -18,9 +18,9 @@ use Rattle.mw_model.specs.Machine.{Machine, inputs_from, ticket_wanted, values}
 use Rattle.mw_model.specs.Refusals.{Table, Wanted, AnImage, AnElement, first_of, inputs_wanted, is_dead, is_element, is_image, is_released, is_there, name_taken, no_room, outcome_at, refusal, shape_at, ticket_of, wanted_case, input_case, when}
 use Rattle.mw_model.specs.Stands.{Agrees}
 use Rattle.mw_model.specs.Values.{Value, ImageValue, ElementValue, CurveValue, offsets_in, option_list, tickets, value_at}
-use Rattle.mw_laws.specs.MachineLaws.{IsSound, WithinLimits, shape_of_value}
-use Rattle.mw_laws.proofs.RunShapes.{image_value, no_element}
-use Rattle.mw_laws.proofs.RunTables.{first_none, is_known, ticket_is, ticket_within, when_so}
+use Rattle.mw_model_laws.specs.MachineLaws.{IsSound, WithinLimits, shape_of_value}
+use Rattle.mw_model_laws.proofs.RunShapes.{image_value, no_element}
+use Rattle.mw_model_laws.proofs.RunTables.{first_none, is_known, ticket_is, ticket_within, when_so}
 use Rattle.mw_plan.specs.declared.faults.PlanFault.{PlanFault}
 use Rattle.mw_plan.specs.declared.inputs.Input.{Input}
 use Rattle.mw_plan.specs.declared.inputs.Input.TheVariants as input

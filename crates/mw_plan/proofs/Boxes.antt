@@ -10,9 +10,9 @@ use Rattle.mw_model.specs.Flat.{reflected}
 use Rattle.mw_model.specs.Elements.{IsNear, IsFigure, Figure}
 use Rattle.mw_model.proofs.Covers as cover
 use Rattle.mw_model.proofs.Covers.{Covers, offset}
-use Rattle.mw_task.specs.mw_element.Figures.{FillsBox, InBox, turned}
-use Rattle.mw_laws.proofs.Composed.{CoverSame}
-use Rattle.mw_task.proofs.Boxes.{box_all, box_at}
+use Rattle.mw_step_task.specs.mw_element.Figures.{FillsBox, InBox, turned}
+use Rattle.mw_model_laws.proofs.Composed.{CoverSame}
+use Rattle.mw_step_task.proofs.Boxes.{box_all, box_at}
 use Rattle.mw_plan.specs.Steps.{IsNearBox, turned_box}
 
 -- the offset leads from (x, y) to (u, v)

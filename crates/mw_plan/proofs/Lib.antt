@@ -9,6 +9,6 @@ pub mod WindowsFit
 mod Acting
 mod OneImage
 -- what lower crates offer
-pub use Rattle.mw_laws.proofs as mw_laws
-pub use Rattle.mw_task.proofs.mw_pieces as mw_pieces
-pub use Rattle.mw_task.proofs as mw_task
+pub use Rattle.mw_model_laws.proofs as mw_model_laws
+pub use Rattle.mw_step_task.proofs.mw_tile_pieces as mw_tile_pieces
+pub use Rattle.mw_step_task.proofs as mw_step_task

@@ -9,9 +9,9 @@ use Rattle.mw_model.specs.Flat.{reflected, minus, erosion, dilation, opening, cl
 use Rattle.mw_model.specs.PlanSteps.{PlanStep, Minus}
 use Rattle.mw_model.specs.Plans.{Plan, Planned, Source, FromInput, FromStep, IsSourceAt, is_sum, plane_of}
 use Rattle.mw_model.specs.Tasks.{nothing_planned}
-use Rattle.mw_task.proofs.Cut.{plane_of_two}
-use Rattle.mw_plan.specs.declared.extremum.Extremum.{Extremum}
-use Rattle.mw_plan.specs.declared.extremum.Extremum.TheVariants.{Least, Greatest}
+use Rattle.mw_step_task.proofs.Cut.{plane_of_two}
+use Rattle.mw_plan.specs.declared.extremum.ExtremumKind.{ExtremumKind}
+use Rattle.mw_plan.specs.declared.extremum.ExtremumKind.TheVariants.{Least, Greatest}
 use Rattle.mw_plan.specs.PlansOf.{AreAlike, CanBeMade, planes_read}
 use Rattle.mw_plan.specs.Steps.{ActsAs, IsChain, Makes, filtering, greater, less, lesser, of_image, of_step, residue, sliding}
 
@@ -71,7 +71,7 @@ in_turn_makes s t first second acts_first acts_second = record {
     made f (suc zero) lt = acts_second.made (plane_on s f)
     made f (suc (suc k)) lt = absurd (omega arith)
 
-pub chain_makes : (x : Extremum) (e : List Offset) (plan : Plan) → IsChain x e plan → Makes 2 (filtering x e) plan
+pub chain_makes : (x : ExtremumKind) (e : List Offset) (plan : Plan) → IsChain x e plan → Makes 2 (filtering x e) plan
 chain_makes Least e plan c = subst (Makes 2 (opening e)) (sym c.is) (in_turn_makes c.first c.second (erosion e) (dilation (reflected e)) c.acts_first c.acts_second)
 chain_makes Greatest e plan c = subst (Makes 2 (closing e)) (sym c.is) (in_turn_makes c.first c.second (dilation e) (erosion (reflected e)) c.acts_first c.acts_second)
 
@@ -170,13 +170,13 @@ difference_makes s t first second plan is acts_first acts_second alike = subst (
     made f (suc (suc (suc k))) lt = absurd (omega arith)
 
 -- extrema of one image are alike
-pub alike_extrema : (x y : Extremum) (e d : List Offset) (f : Picture) → AreAlike (sliding x e f) (sliding y d f)
+pub alike_extrema : (x y : ExtremumKind) (e d : List Offset) (f : Picture) → AreAlike (sliding x e f) (sliding y d f)
 alike_extrema Least Least e d f = (refl, refl)
 alike_extrema Least Greatest e d f = (refl, refl)
 alike_extrema Greatest Least e d f = (refl, refl)
 alike_extrema Greatest Greatest e d f = (refl, refl)
 
-pub residue_makes : (x : Extremum) (e : List Offset) (chain plan : Plan) → IsChain x e chain → plan ≡ chain ++ less (greater x) (lesser x) ∷ [] → Makes 3 (residue x e) plan
+pub residue_makes : (x : ExtremumKind) (e : List Offset) (chain plan : Plan) → IsChain x e chain → plan ≡ chain ++ less (greater x) (lesser x) ∷ [] → Makes 3 (residue x e) plan
 residue_makes Least e chain plan c is =
     subst (Makes 3 (white_top_hat e)) (sym (is ∙ ap (λ (p : Plan). p ++ less (FromInput 0) (FromStep 1) ∷ []) c.is))
     (below_makes c.first c.second (erosion e) (dilation (reflected e)) c.acts_first c.acts_second (λ f. (refl, refl)))

@@ -23,7 +23,7 @@ use Rattle.mw_plan.specs.declared.inputs.Input.TheVariants as input
 use Rattle.mw_plan.specs.Faults.{code_of}
 use Rattle.mw_plan.specs.Asked.{is_image_input, is_element_input, image_shape, offsets_of_input, unless, first_fault, kind_fault, kind_faults, op_faults, fault_in, shape_made}
 use Rattle.mw_plan.specs.Tables.{HasShape, IsEntry, AreEntries, name_wanted}
-use Rattle.mw_laws.proofs.RunTables.{ticket_is}
+use Rattle.mw_model_laws.proofs.RunTables.{ticket_is}
 use Rattle.mw_plan.proofs.Fitting.{none_first}
 
 -- a fault as a refusal, if there is one

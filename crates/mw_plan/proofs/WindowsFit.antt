@@ -4,10 +4,10 @@ use Rattle.mw_model.specs.declared.places.Rect.{Rect}
 use Rattle.mw_model.specs.Pictures.{Picture}
 use Rattle.mw_model.specs.PlanSteps.{PlanStep, Erode, Dilate, ErodeBox, DilateBox, Rank, Minus, AtLeast, Invert, Meet, Join, Blank, Mark, MarkLast, Equal, Sum}
 use Rattle.mw_model.specs.Tasks.{place_read}
-use Rattle.mw_task.specs.mw_tile.Windows.{SourceWindow, window_of}
-use Rattle.mw_task.specs.WindowTasks.{FitsStep, KindsFit, SameKind, window_at}
-use Rattle.mw_task.specs.Sources.{AreCut}
-use Rattle.mw_task.proofs.Cut.{fits_cut, top_agrees}
+use Rattle.mw_step_task.specs.mw_tile.Windows.{SourceWindow, window_of}
+use Rattle.mw_step_task.specs.WindowTasks.{FitsStep, KindsFit, SameKind, window_at}
+use Rattle.mw_step_task.specs.Sources.{AreCut}
+use Rattle.mw_step_task.proofs.Cut.{fits_cut, top_agrees}
 use Rattle.mw_plan.specs.PlansOf.{AreAlike, CanBeMade, KindsAllow, picture_at}
 
 -- a window has the kind and the maxval of its image

@@ -12,7 +12,7 @@ use Rattle.mw_model.specs.PlanSteps.{PlanStep, Minus, Meet, Join, Blank, Mark, M
 use Rattle.mw_model.specs.Plans as model
 use Rattle.mw_model.specs.Plans.{Plan, Source, FromInput, FromStep, IsSourceAt, images_of, is_sum, no_picture, plane_of_source, planes, value_of_planes}
 use Rattle.mw_model.specs.Tasks.{nothing_planned}
-use Rattle.mw_task.specs.WindowTasks.{source_count}
+use Rattle.mw_step_task.specs.WindowTasks.{source_count}
 use Rattle.mw_plan.specs.declared.inputs.Input.{Input}
 use Rattle.mw_plan.specs.declared.inputs.Input.TheVariants as input
 use Rattle.mw_plan.specs.Asked.{is_image_input, shape_made}

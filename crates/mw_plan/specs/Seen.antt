@@ -1,7 +1,7 @@
 -- How contracts see the parts of a plan.
 use Rattle.std.specs.Prelude.{List, [], ◌∷◌}
 use Rattle.mw_model.specs.Plans as model
-use Rattle.mw_task.specs.Meanings.{meaning}
+use Rattle.mw_step_task.specs.Meanings.{meaning}
 use Rattle.mw_plan.specs.declared.plans.Source.{Source}
 use Rattle.mw_plan.specs.declared.plans.Source.TheVariants.{Input, Step}
 use Rattle.mw_plan.specs.declared.plans.Sources.{Sources}

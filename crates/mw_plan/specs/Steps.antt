@@ -14,38 +14,38 @@ use Rattle.mw_model.specs.Tasks.{nothing_planned}
 use Rattle.mw_plan.specs.declared.inputs.Input.{Input}
 use Rattle.mw_plan.specs.Asked.{is_element_input}
 use Rattle.mw_plan.specs.PlansOf.{CanBeMade, IsReadBy, planes_read}
-use Rattle.mw_plan.specs.declared.extremum.Extremum.{Extremum}
-use Rattle.mw_plan.specs.declared.extremum.Extremum.TheVariants.{Least, Greatest}
+use Rattle.mw_plan.specs.declared.extremum.ExtremumKind.{ExtremumKind}
+use Rattle.mw_plan.specs.declared.extremum.ExtremumKind.TheVariants.{Least, Greatest}
 
 -- ---- the two extrema
 
 -- the other extremum
-abbrev pub other : Extremum → Extremum
+abbrev pub other : ExtremumKind → ExtremumKind
 other Least = Greatest
 other Greatest = Least
 
 -- the extremum under the element at each place
-abbrev pub sliding : Extremum → List Offset → Picture → Picture
+abbrev pub sliding : ExtremumKind → List Offset → Picture → Picture
 sliding Least = erosion
 sliding Greatest = dilation
 
 -- an extremum, and then the other by the reflected element
-abbrev pub filtering : Extremum → List Offset → Picture → Picture
+abbrev pub filtering : ExtremumKind → List Offset → Picture → Picture
 filtering Least = opening
 filtering Greatest = closing
 
 -- what that takes away, or adds
-abbrev pub residue : Extremum → List Offset → Picture → Picture
+abbrev pub residue : ExtremumKind → List Offset → Picture → Picture
 residue Least = white_top_hat
 residue Greatest = black_top_hat
 
 -- the step of an extremum by these offsets
-abbrev pub by_offsets : Extremum → List Offset → PlanStep
+abbrev pub by_offsets : ExtremumKind → List Offset → PlanStep
 by_offsets Least e = step.Erode e
 by_offsets Greatest e = step.Dilate e
 
 -- the step of an extremum by all offsets of a box
-abbrev pub by_box : Extremum → OffsetBox → PlanStep
+abbrev pub by_box : ExtremumKind → OffsetBox → PlanStep
 by_box Least box = step.ErodeBox box
 by_box Greatest box = step.DilateBox box
 
@@ -85,12 +85,12 @@ abbrev pub less : Source → Source → Planned
 less x y = record { step = Minus; sources = x ∷ y ∷ [] }
 
 -- of what a filter takes away or adds, the greater image
-abbrev pub greater : Extremum → Source
+abbrev pub greater : ExtremumKind → Source
 greater Least = FromInput 0
 greater Greatest = FromStep 1
 
 -- and the lesser one
-abbrev pub lesser : Extremum → Source
+abbrev pub lesser : ExtremumKind → Source
 lesser Least = FromStep 1
 lesser Greatest = FromInput 0
 
@@ -112,7 +112,7 @@ pub record Makes (count : ℕ) (operator : Picture → Picture) (plan : Plan) : 
   pub last : (f : Picture) → last_plane plan f ≡ operator f
 
 -- the plan is an extremum by the element, and then the other by the reflected element
-pub record IsChain (extremum : Extremum) (e : List Offset) (plan : Plan) : Type 0 where
+pub record IsChain (extremum : ExtremumKind) (e : List Offset) (plan : Plan) : Type 0 where
   pub first : PlanStep
   pub second : PlanStep
   pub is : plan ≡ of_image first ∷ of_step 0 second ∷ []

@@ -8,7 +8,7 @@ use Rattle.mw_model.specs.declared.submissions.Inputs.{Inputs}
 use Rattle.mw_model.specs.Elements.{Figure}
 use Rattle.mw_model.specs.Values.{Value, ElementValue, shape_of_figure, value_at}
 use Rattle.mw_model.specs.Refusals.{Table, Wanted, AnImage, AnElement, is_dead, is_element, is_image, is_released, offsets_at, outcome_at, shape_at, ticket_of}
-use Rattle.mw_laws.specs.MachineLaws.{WithinLimits, shape_of_value}
+use Rattle.mw_model_laws.specs.MachineLaws.{WithinLimits, shape_of_value}
 use Rattle.mw_plan.specs.declared.inputs.Input.{Input}
 use Rattle.mw_plan.specs.declared.inputs.Input.TheVariants as input
 use Rattle.mw_plan.specs.Asked.{offsets_of_input}

@@ -1,2 +1,2 @@
 -- What `mw_element` offers, for the crates above.
-pub use Rattle.mw_task.specs.mw_element.Figures
+pub use Rattle.mw_step_task.specs.mw_element.Figures

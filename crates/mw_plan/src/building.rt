@@ -1,12 +1,12 @@
 //! Steps with their sources.
 
 ghost use Rattle.std.specs.Prelude.{◌≡◌};
-ghost use Rattle.mw_task.specs.Meanings.{meaning};
+ghost use Rattle.mw_step_task.specs.Meanings.{meaning};
 ghost use Rattle.mw_plan.specs.Seen.{planned, source};
 ghost use Rattle.mw_plan.specs.Steps.{less, of_image, of_step};
 
 use crate::{PlannedStep, Source, Sources};
-use mw_task::Step;
+use mw_step_task::Step;
 
 /// A step that reads the image.
 pub(crate) fn of_image(step: Step) -> PlannedStep

@@ -2,30 +2,30 @@
 
 ghost use Rattle.std.specs.Prelude.{◌≡◌};
 ghost use Rattle.std.specs.Arc.{arc_value};
-ghost use Rattle.mw_task.specs.Meanings.{meaning};
+ghost use Rattle.mw_step_task.specs.Meanings.{meaning};
 ghost use Rattle.mw_plan.specs.Steps.{by_box, by_offsets, other};
 
 use mw_model::OffsetBox;
-use mw_task::Step;
-use mw_task::element::Element;
+use mw_step_task::Step;
+use mw_step_task::element::Element;
 use std::sync::Arc;
 
 /// What is taken of the samples under an element.
 #[derive(Clone, Copy)]
-pub enum Extremum {
+pub enum ExtremumKind {
     /// As an erosion takes it.
     Least,
     /// As a dilation takes it.
     Greatest,
 }
 
-impl Extremum {
-    pub(crate) fn other(self) -> Extremum
+impl ExtremumKind {
+    pub(crate) fn other(self) -> ExtremumKind
         ensures { result ≡ other self }
     {
         match self {
-            Extremum::Least => Extremum::Greatest,
-            Extremum::Greatest => Extremum::Least,
+            ExtremumKind::Least => ExtremumKind::Greatest,
+            ExtremumKind::Greatest => ExtremumKind::Least,
         }
     }
 
@@ -34,8 +34,8 @@ impl Extremum {
         ensures { meaning result ≡ by_offsets self (arc_value element).offsets }
     {
         match self {
-            Extremum::Least => Step::Erode(element),
-            Extremum::Greatest => Step::Dilate(element),
+            ExtremumKind::Least => Step::Erode(element),
+            ExtremumKind::Greatest => Step::Dilate(element),
         }
     }
 
@@ -44,8 +44,8 @@ impl Extremum {
         ensures { meaning result ≡ by_box self offsets }
     {
         match self {
-            Extremum::Least => Step::ErodeBox(offsets),
-            Extremum::Greatest => Step::DilateBox(offsets),
+            ExtremumKind::Least => Step::ErodeBox(offsets),
+            ExtremumKind::Greatest => Step::DilateBox(offsets),
         }
     }
 }

@@ -5,18 +5,18 @@
 
 ghost use Rattle.std.specs.Prelude.{◌≡◌, true, [], ◌∷◌, length, IfOk};
 ghost use Rattle.mw_model.specs.Flat.{minus, rank, threshold};
-ghost use Rattle.mw_task.specs.Meanings.{meaning};
+ghost use Rattle.mw_step_task.specs.Meanings.{meaning};
 ghost use Rattle.mw_plan.specs.Asked.{IsRefusedBy, fault_in, is_element_input, offsets_of_input};
 ghost use Rattle.mw_plan.specs.PlansOf.{IsPlanOf};
 ghost use Rattle.mw_plan.specs.Seen.{planned};
 ghost use Rattle.mw_plan.specs.Steps.{HasElements, IsChain, Makes, filtering, greater, less, lesser, of_image, operator_of, residue, sliding, step_count};
 
 use crate::building::{less, of_image, of_step};
-use crate::extremum::Extremum;
+use crate::extremum::ExtremumKind;
 use crate::sliding::{rank, slide, slide_turned};
 use crate::{Input, Plan, PlanFault, PlannedStep, Source, shape_of};
 use mw_model::{FlatOp, NoMemory, Op};
-use mw_task::Step;
+use mw_step_task::Step;
 use std::alloc::Global;
 
 /// One step on the image.
@@ -29,7 +29,7 @@ fn alone(alloc: Global, step: Step) -> Result<Plan, NoMemory>
 }
 
 /// An erosion or a dilation.
-fn slid(alloc: Global, extremum: Extremum, b: Input<'_>) -> Result<Plan, NoMemory>
+fn extremum_plan(alloc: Global, extremum: ExtremumKind, b: Input<'_>) -> Result<Plan, NoMemory>
     requires { is_element_input b ≡ true }
     ensures { IfOk result (Makes 1 (sliding extremum (offsets_of_input b.entry))) }
 {
@@ -37,7 +37,7 @@ fn slid(alloc: Global, extremum: Extremum, b: Input<'_>) -> Result<Plan, NoMemor
 }
 
 /// An extremum and then the other by the element turned round, in a plan with room for so many steps.
-fn chain(alloc: Global, room: usize, extremum: Extremum, b: Input<'_>) -> Result<Plan, NoMemory>
+fn chain(alloc: Global, room: usize, extremum: ExtremumKind, b: Input<'_>) -> Result<Plan, NoMemory>
     requires { is_element_input b ≡ true }
     ensures { IfOk result (IsChain extremum (offsets_of_input b.entry)) }
 {
@@ -50,7 +50,7 @@ fn chain(alloc: Global, room: usize, extremum: Extremum, b: Input<'_>) -> Result
 }
 
 /// An opening or a closing.
-fn filtered(alloc: Global, extremum: Extremum, b: Input<'_>) -> Result<Plan, NoMemory>
+fn opening_plan(alloc: Global, extremum: ExtremumKind, b: Input<'_>) -> Result<Plan, NoMemory>
     requires { is_element_input b ≡ true }
     ensures { IfOk result (Makes 2 (filtering extremum (offsets_of_input b.entry))) }
 {
@@ -58,31 +58,31 @@ fn filtered(alloc: Global, extremum: Extremum, b: Input<'_>) -> Result<Plan, NoM
 }
 
 /// The image less its opening, or its closing less the image.
-fn left_over(extremum: Extremum) -> PlannedStep
+fn top_hat_step(extremum: ExtremumKind) -> PlannedStep
     ensures { planned result ≡ less (greater extremum) (lesser extremum) }
 {
     match extremum {
-        Extremum::Least => less(Source::Input(0), Source::Step(1)),
-        Extremum::Greatest => less(Source::Step(1), Source::Input(0)),
+        ExtremumKind::Least => less(Source::Input(0), Source::Step(1)),
+        ExtremumKind::Greatest => less(Source::Step(1), Source::Input(0)),
     }
 }
 
 /// A top-hat.
-fn residue(alloc: Global, extremum: Extremum, b: Input<'_>) -> Result<Plan, NoMemory>
+fn residue(alloc: Global, extremum: ExtremumKind, b: Input<'_>) -> Result<Plan, NoMemory>
     requires { is_element_input b ≡ true }
     ensures { IfOk result (Makes 3 (residue extremum (offsets_of_input b.entry))) }
 {
     let mut plan = chain(alloc, 3, extremum, b)?;
-    plan.push(left_over(extremum))?;
+    plan.push(top_hat_step(extremum))?;
     Ok(plan)
 }
 
 /// An extremum by the first element less an extremum by the second.
 fn difference(
     alloc: Global,
-    upper: Extremum,
+    upper: ExtremumKind,
     first: Input<'_>,
-    lower: Extremum,
+    lower: ExtremumKind,
     second: Input<'_>,
 ) -> Result<Plan, NoMemory>
     requires first { is_element_input first ≡ true }
@@ -98,7 +98,7 @@ fn difference(
     Ok(plan)
 }
 
-fn ranked(alloc: Global, b: Input<'_>, k: u32) -> Result<Plan, NoMemory>
+fn rank_plan(alloc: Global, b: Input<'_>, k: u32) -> Result<Plan, NoMemory>
     requires { is_element_input b ≡ true }
     ensures { IfOk result (Makes 1 (rank (offsets_of_input b.entry) k)) }
 {
@@ -117,16 +117,28 @@ fn steps(alloc: Global, op: &FlatOp, b: Input<'_>, c: Input<'_>) -> Result<Plan,
     ensures { IfOk result (Makes (step_count op.now) (operator_of op.now (offsets_of_input b.entry) (offsets_of_input c.entry))) }
 {
     match op {
-        FlatOp::Erode(_, _) => slid(alloc, Extremum::Least, b),
-        FlatOp::Dilate(_, _) => slid(alloc, Extremum::Greatest, b),
-        FlatOp::Opening(_, _) => filtered(alloc, Extremum::Least, b),
-        FlatOp::Closing(_, _) => filtered(alloc, Extremum::Greatest, b),
-        FlatOp::Gradient(_, _) => difference(alloc, Extremum::Greatest, b, Extremum::Least, b),
-        FlatOp::WhiteTopHat(_, _) => residue(alloc, Extremum::Least, b),
-        FlatOp::BlackTopHat(_, _) => residue(alloc, Extremum::Greatest, b),
-        FlatOp::Rank(_, _, k) => ranked(alloc, b, *k),
+        FlatOp::Erode(_, _) => extremum_plan(alloc, ExtremumKind::Least, b),
+        FlatOp::Dilate(_, _) => extremum_plan(alloc, ExtremumKind::Greatest, b),
+        FlatOp::Opening(_, _) => opening_plan(alloc, ExtremumKind::Least, b),
+        FlatOp::Closing(_, _) => opening_plan(alloc, ExtremumKind::Greatest, b),
+        FlatOp::Gradient(_, _) => difference(
+            alloc,
+            ExtremumKind::Greatest,
+            b,
+            ExtremumKind::Least,
+            b,
+        ),
+        FlatOp::WhiteTopHat(_, _) => residue(alloc, ExtremumKind::Least, b),
+        FlatOp::BlackTopHat(_, _) => residue(alloc, ExtremumKind::Greatest, b),
+        FlatOp::Rank(_, _, k) => rank_plan(alloc, b, *k),
         FlatOp::Threshold(_, k) => thresholded(alloc, *k),
-        FlatOp::HitMiss(_, _, _) => difference(alloc, Extremum::Least, b, Extremum::Greatest, c),
+        FlatOp::HitMiss(_, _, _) => difference(
+            alloc,
+            ExtremumKind::Least,
+            b,
+            ExtremumKind::Greatest,
+            c,
+        ),
     }
 }
 

@@ -8,7 +8,7 @@ ghost use Rattle.mw_plan.specs.Asked.{is_element_input, offsets_of_input};
 ghost use Rattle.mw_plan.specs.Tables.{IsInputAt, figure_of};
 
 use mw_model::Shape;
-use mw_task::element::Element;
+use mw_step_task::element::Element;
 use std::sync::Arc;
 
 /// An input of an operation, as far as plans know it. It is copied without memory.

@@ -16,10 +16,10 @@ ghost use Rattle.mw_model.specs.Refusals.{Table, inputs_wanted, name_taken, no_r
 ghost use Rattle.mw_model.specs.Tasks.{nothing_planned};
 ghost use Rattle.mw_model.specs.Stands.{Agrees};
 ghost use Rattle.mw_model.specs.Values.{Value, tickets, value_at};
-ghost use Rattle.mw_laws.specs.MachineLaws.{IsSound};
-ghost use Rattle.mw_task.specs.Sources.{AreCut};
-ghost use Rattle.mw_task.specs.WindowTasks.{FitsStep};
-ghost use Rattle.mw_task.specs.mw_tile.Windows.{SourceWindow};
+ghost use Rattle.mw_model_laws.specs.MachineLaws.{IsSound};
+ghost use Rattle.mw_step_task.specs.Sources.{AreCut};
+ghost use Rattle.mw_step_task.specs.WindowTasks.{FitsStep};
+ghost use Rattle.mw_step_task.specs.mw_tile.Windows.{SourceWindow};
 ghost use Rattle.mw_plan.specs.declared.inputs.Input.{Input};
 ghost use Rattle.mw_plan.specs.Asked.{fault_in, shape_made};
 ghost use Rattle.mw_plan.specs.Faults.{code_of};

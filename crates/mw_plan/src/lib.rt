@@ -17,25 +17,27 @@ mod plans;
 mod shapes;
 mod sliding;
 
-pub use extremum::Extremum;
+pub use extremum::ExtremumKind;
 pub use faults::PlanFault;
 pub use flat::plan_of;
 pub use inputs::Input;
 pub use laws::{
     accepted_runs_have_no_fault, faults_are_refusals, planes_are_of_steps, tasks_of_plans_fit,
 };
-pub use mw_laws::laws::{hits_of_sets, opening_laws, restorations, skeletons, thresholds, volumes};
 pub use mw_model::{FlatOp, GranOp, NoMemory, OffsetBox, Op, Shape};
-pub use mw_task::{Element, Step};
+pub use mw_model_laws::laws::{
+    hits_of_sets, opening_laws, restorations, skeletons, thresholds, volumes,
+};
+pub use mw_step_task::{Element, Step};
 pub use plans::{Plan, PlannedStep, Source, Sources};
 pub use shapes::shape_of;
 pub use sliding::{slide, slide_turned, turned};
 
 // What lower crates offer, for the crates above.
 pub mod element {
-    pub use mw_task::element::Element;
+    pub use mw_step_task::element::Element;
 }
 
 pub mod task {
-    pub use mw_task::{SharedWindow, Step, TileResult};
+    pub use mw_step_task::{SharedWindow, Step, TileResult};
 }

@@ -1,7 +1,7 @@
 //! Plans and their steps.
 
 use mw_model::NoMemory;
-use mw_task::Step;
+use mw_step_task::Step;
 use std::alloc::Global;
 use std::marker::Model;
 

@@ -11,7 +11,7 @@ ghost use Rattle.mw_plan.specs.Asked.{binary_fault, fault_in, first_fault, image
 
 use crate::{Input, PlanFault};
 use mw_model::{FlatOp, GranOp, Kind, LEVEL_LIMIT, Op, Shape};
-use mw_task::element::Element;
+use mw_step_task::element::Element;
 use std::sync::Arc;
 
 fn image(place: u8, input: Input<'_>) -> Result<Shape, PlanFault>

@@ -2,18 +2,18 @@
 
 ghost use Rattle.std.specs.Prelude.{◌≡◌, ◌≤ℤ◌, pos, negsuc, neg_ℤ, true, IfOk, IfSome};
 ghost use Rattle.std.specs.Arc.{arc_value};
-ghost use Rattle.mw_task.specs.mw_element.Figures.{FillsBox};
+ghost use Rattle.mw_step_task.specs.mw_element.Figures.{FillsBox};
 ghost use Rattle.mw_model.specs.declared.places.OffsetBox.{OffsetBox};
 ghost use Rattle.mw_model.specs.Flat.{reflected, rank};
-ghost use Rattle.mw_task.specs.Meanings.{meaning};
+ghost use Rattle.mw_step_task.specs.Meanings.{meaning};
 ghost use Rattle.mw_plan.specs.Asked.{is_element_input, offsets_of_input};
 ghost use Rattle.mw_plan.specs.Steps.{ActsAs, IsNearBox, sliding, turned_box};
 
 use crate::Input;
-use crate::extremum::Extremum;
+use crate::extremum::ExtremumKind;
 use mw_model::{NoMemory, OffsetBox};
-use mw_task::Step;
-use mw_task::element::Element;
+use mw_step_task::Step;
+use mw_step_task::element::Element;
 use std::alloc::Global;
 use std::sync::Arc;
 
@@ -51,7 +51,7 @@ fn turned_rectangle(element: &Element) -> Option<OffsetBox>
 }
 
 /// The extremum under the element, or `NoMemory`. A full rectangle goes as its box.
-pub fn slide(extremum: Extremum, input: Input<'_>) -> Result<Step, NoMemory>
+pub fn slide(extremum: ExtremumKind, input: Input<'_>) -> Result<Step, NoMemory>
     requires { is_element_input input ≡ true }
     ensures { IfOk result (λ s. ActsAs (meaning s) (sliding extremum (offsets_of_input input.entry))) }
 {
@@ -63,7 +63,11 @@ pub fn slide(extremum: Extremum, input: Input<'_>) -> Result<Step, NoMemory>
 }
 
 /// The extremum under the element turned round, or `NoMemory`.
-pub fn slide_turned(alloc: Global, extremum: Extremum, input: Input<'_>) -> Result<Step, NoMemory>
+pub fn slide_turned(
+    alloc: Global,
+    extremum: ExtremumKind,
+    input: Input<'_>,
+) -> Result<Step, NoMemory>
     requires { is_element_input input ≡ true }
     ensures { IfOk result (λ s. ActsAs (meaning s) (sliding extremum (reflected (offsets_of_input input.entry)))) }
 {

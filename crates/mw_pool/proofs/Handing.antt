@@ -19,10 +19,10 @@ use Rattle.mw_model.specs.Refusals.{Table, is_pending, outcome_at, refusal, subm
 use Rattle.mw_model.specs.Machine.{Machine, after, changed, given_submission, killed, payload_of, run_submission, settled, unless_refused, with_table}
 use Rattle.mw_model.specs.Tasks.{Progress, flag, is_running}
 use Rattle.mw_model.specs.Stands.{CoreView, StandsFor, input_values, inputs_there, progress_at}
-use Rattle.mw_core.specs.mw_laws.MachineLaws.{IsSound}
-use Rattle.mw_core.proofs.mw_laws.RunGrowth.{grows_added}
-use Rattle.mw_core.proofs.mw_laws.RunSteps.{pushed}
-use Rattle.mw_core.specs.mw_task.WindowTasks.{WindowTask}
+use Rattle.mw_core.specs.mw_model_laws.MachineLaws.{IsSound}
+use Rattle.mw_core.proofs.mw_model_laws.RunGrowth.{grows_added}
+use Rattle.mw_core.proofs.mw_model_laws.RunSteps.{pushed}
+use Rattle.mw_core.specs.mw_step_task.WindowTasks.{WindowTask}
 use Rattle.mw_core.specs.declared.answers.Started.{Started}
 use Rattle.mw_core.specs.declared.answers.Started.TheVariants as started
 use Rattle.mw_core.specs.declared.answers.Finish.{Finish}
@@ -30,12 +30,12 @@ use Rattle.mw_core.specs.declared.answers.Finish.TheVariants as finish
 use Rattle.mw_core.specs.declared.answers.Refusal.{Refusal}
 use Rattle.mw_core.specs.declared.answers.Refusal.TheVariants as refusal
 use Rattle.mw_core.specs.TaskAnswers.{Starts, Finishes, IsOwn, Refuses}
-use Rattle.mw_core.specs.mw_stands.Events.{FollowsMachine, WorkStays}
-use Rattle.mw_core.specs.mw_stands.TaskEvents.{BeginsTask, Kills, Places}
-use Rattle.mw_core.specs.mw_work.Works.{true_task}
-use Rattle.mw_core.proofs.mw_stands.StandsLemmas.{stands-sound}
-use Rattle.mw_core.proofs.mw_stands.TaskLemmas.{has-place, kept-images, same-number, same-plan, work-of}
-use Rattle.mw_core.proofs.mw_stands.mw_work.Later.{goes-on}
+use Rattle.mw_core.specs.mw_core_laws.Events.{FollowsMachine, WorkStays}
+use Rattle.mw_core.specs.mw_core_laws.TaskEvents.{BeginsTask, Kills, Places}
+use Rattle.mw_core.specs.mw_core_laws.Works.{true_task}
+use Rattle.mw_core.proofs.mw_core_laws.StandsLemmas.{stands-sound}
+use Rattle.mw_core.proofs.mw_core_laws.TaskLemmas.{has-place, kept-images, same-number, same-plan, work-of}
+use Rattle.mw_core.proofs.mw_core_laws.Later.{goes-on}
 use Rattle.mw_pool.specs.Handed.{AreHanded, IsHanded}
 use Rattle.mw_pool.specs.Rolls.{StandsIn, Writes}
 

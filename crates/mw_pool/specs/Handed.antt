@@ -4,8 +4,8 @@ use Rattle.std.specs.List.{AllByRecursion}
 use Rattle.mw_model.specs.Machine.{Machine}
 use Rattle.mw_model.specs.Tasks.{Progress}
 use Rattle.mw_model.specs.Stands.{CoreView, StandsFor, progress_at}
-use Rattle.mw_core.specs.mw_task.WindowTasks.{WindowTask}
-use Rattle.mw_core.specs.mw_work.Works.{true_task}
+use Rattle.mw_core.specs.mw_step_task.WindowTasks.{WindowTask}
+use Rattle.mw_core.specs.mw_core_laws.Works.{true_task}
 use Rattle.mw_core.specs.declared.answers.Started.{Started}
 use Rattle.mw_core.specs.TaskAnswers.{Starts}
 

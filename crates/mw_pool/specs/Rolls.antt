@@ -1,7 +1,7 @@
 -- The roll of the tasks that were handed out.
 use Rattle.std.specs.Prelude.{ℕ, ◌≡◌, ◌==◌, true, List, [], ◌∷◌, ◌++◌, length, MatchBool, Option, Some, None, IfSome}
 use Rattle.logbook.specs.Pages.{Cell, Step, View, Book, Named}
-use Rattle.mw_core.specs.mw_task.WindowTasks.{WindowTask}
+use Rattle.mw_core.specs.mw_step_task.WindowTasks.{WindowTask}
 use Rattle.mw_core.specs.declared.answers.Started.{Started}
 use Rattle.mw_core.specs.declared.answers.Started.TheVariants as started
 

@@ -2,7 +2,7 @@
 
 ghost use Rattle.std.specs.Prelude.{◌≡◌, ◌↔◌, [], true, IfOk, IfSome, OnErr, IsTrue, IsSome};
 
-use crate::kept::{Exchange, Kept};
+use crate::kept::{Exchange, LockedState};
 use crate::pass::Pass;
 use crate::payloads::{read_element, read_image};
 use crate::roll::{Front, Naming, NewRoll};
@@ -24,7 +24,7 @@ const _: () = prove!(LOOKS <= 64);
 /// A core that threads share. Its parameter names the roll of the tasks that it hands out.
 #[derive(Drop)]
 pub struct Board<J: Naming> {
-    kept: Mutex<Kept<J>>,
+    kept: Mutex<LockedState<J>>,
     /// Workers sleep here until a task is ready.
     ready: Condvar,
     /// Sessions sleep here, each by the ticket that it waits for, until an entry is settled.
@@ -43,7 +43,7 @@ impl<J: Naming> Board<J> {
     ghost use Rattle.mw_model.specs.Receipts.{Covers};
     ghost use Rattle.mw_core.specs.mw_store.Fetches.{ShowsSome, shown_value};
     ghost use Rattle.mw_pool.specs.Passes.{AddsReceipt};
-    ghost use Rattle.mw_core.specs.mw_task.WindowTasks.{IsBounded};
+    ghost use Rattle.mw_core.specs.mw_step_task.WindowTasks.{IsBounded};
     ghost use Rattle.mw_pool.specs.Payloads.{TellsImage, TellsElement};
     ghost use Rattle.mw_pool.specs.Rolls.{EndsWith};
 
@@ -53,7 +53,7 @@ impl<J: Naming> Board<J> {
         requires named { roll ≡ J.book }
     {
         Board {
-            kept: Mutex::new(Kept::new(core, roll)),
+            kept: Mutex::new(LockedState::new(core, roll)),
             ready: Condvar::new(),
             settled: Signals::new(),
             alloc,
@@ -189,7 +189,7 @@ impl<J: Naming> Board<J> {
 
     /// The lock. A hold mostly ends before a thread could fall asleep and be woken. So one that finds the lock taken looks again and
     /// again first, with growing pauses, and then lets others run in between.
-    fn hold<R: Wait>(&self, rt: &R) -> MutexGuard<'_, Kept<J>> {
+    fn hold<R: Wait>(&self, rt: &R) -> MutexGuard<'_, LockedState<J>> {
         let pauses = Backoff::new();
         for _ in 0..LOOKS {
             if let Some(kept) = self.kept.try_lock() {
@@ -226,7 +226,7 @@ impl<J: Naming> Board<J> {
     }
 
     /// Sleeps until a task may be ready.
-    fn sleep<'b, R: Wait>(&'b self, rt: &R, mut kept: MutexGuard<'b, Kept<J>>) {
+    fn sleep<'b, R: Wait>(&'b self, rt: &R, mut kept: MutexGuard<'b, LockedState<J>>) {
         kept.asleep = kept.asleep.saturating_add(1);
         let mut kept = self.ready.wait(rt, kept);
         kept.asleep = kept.asleep.saturating_sub(1);

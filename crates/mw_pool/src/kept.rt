@@ -28,7 +28,7 @@ pub(crate) struct Exchange<J: Naming> {
 /// state, and each logged reply is that machine's. And each task of the roll is the core's own, as long as it is running. It
 /// is so whenever the lock is free.
 #[derive(Drop)]
-pub(crate) struct Kept<J: Naming> {
+pub(crate) struct LockedState<J: Naming> {
     pub core: Core,
     /// No worker takes a task any more, and no session waits.
     pub closed: bool,
@@ -41,16 +41,16 @@ pub(crate) struct Kept<J: Naming> {
 }
 
 /// Each of these is one event of the core, or none.
-impl<J: Naming> Kept<J> {
+impl<J: Naming> LockedState<J> {
     ghost use Rattle.std.specs.Result.{ForOk};
     ghost use Rattle.std.specs.List.{AllByRecursion};
     ghost use Rattle.mw_model.specs.Pictures.{IsImage};
     ghost use Rattle.mw_model.specs.declared.calls.Call.TheVariants as call;
     ghost use Rattle.mw_model.specs.Receipts.{Covers};
     ghost use Rattle.mw_model.specs.Refusals.{ticket_of};
-    ghost use Rattle.mw_core.specs.mw_stands.Payloads.{given_image, image_payload, given_element, element_payload};
-    ghost use Rattle.mw_core.specs.mw_stands.Events.{FollowsMachine};
-    ghost use Rattle.mw_core.specs.mw_task.WindowTasks.{IsBounded};
+    ghost use Rattle.mw_core.specs.mw_core_laws.Payloads.{given_image, image_payload, given_element, element_payload};
+    ghost use Rattle.mw_core.specs.mw_core_laws.Events.{FollowsMachine};
+    ghost use Rattle.mw_core.specs.mw_step_task.WindowTasks.{IsBounded};
     ghost use Rattle.mw_core.specs.TaskAnswers.{Starts, StartsBounded, Finishes, Refuses};
     ghost use Rattle.mw_core.specs.mw_store.Fetches.{ShowsSome, shown_value};
     ghost use Rattle.mw_pool.specs.Passes.{with_receipt};
@@ -59,13 +59,13 @@ impl<J: Naming> Kept<J> {
     ghost use Rattle.mw_pool.specs.Handed.{Follows};
 
     /// An open board's, before any worker sleeps.
-    pub fn new(core: Core, roll: NewRoll) -> Kept<J>
+    pub fn new(core: Core, roll: NewRoll) -> LockedState<J>
         requires stands { (m : Machine) × StandsFor core m }
         requires named { roll ≡ J.book }
         ensures core { result.core ≡ core }
         ensures open_still { result.closed ≡ false }
     {
-        Kept {
+        LockedState {
             core,
             closed: false,
             asleep: 0,

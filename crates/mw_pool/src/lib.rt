@@ -37,7 +37,7 @@ mod workers;
 
 pub use auditing::audit;
 pub use board::Board;
-pub use mw_core::{Core, Fetched, Finish, NoMemory, Shown, Started};
+pub use mw_core::{Core, Fetched, FetchedValue, Finish, NoMemory, Started};
 pub use pass::Pass;
 pub use roll::{Naming, NewRoll};
 pub use workers::{Gate, work};

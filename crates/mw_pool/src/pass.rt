@@ -32,8 +32,8 @@ impl Pass {
     ghost use Rattle.mw_model.specs.Pictures.{IsImage};
     ghost use Rattle.mw_model.specs.Machine.{Machine};
     ghost use Rattle.mw_model.specs.Stands.{StandsFor};
-    ghost use Rattle.mw_core.specs.mw_stands.Payloads.{given_image, image_payload, given_element, element_payload};
-    ghost use Rattle.mw_core.specs.mw_stands.Events.{FollowsMachine, IsFresh, handed_out};
+    ghost use Rattle.mw_core.specs.mw_core_laws.Payloads.{given_image, image_payload, given_element, element_payload};
+    ghost use Rattle.mw_core.specs.mw_core_laws.Events.{FollowsMachine, IsFresh, handed_out};
     ghost use Rattle.mw_core.specs.mw_store.Fetches.{ShowsSome, shown_value};
     ghost use Rattle.mw_pool.specs.Passes.{with_receipt};
 
@@ -182,7 +182,7 @@ impl Pass {
     }
 }
 
-ghost use Rattle.mw_core.specs.mw_stands.Payloads.{given_image, given_element};
+ghost use Rattle.mw_core.specs.mw_core_laws.Payloads.{given_image, given_element};
 
 /// What the log tells of the payload of a LOAD.
 fn told_image(image: &Result<Image, Code>) -> Given

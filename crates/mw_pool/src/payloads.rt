@@ -2,7 +2,7 @@
 
 ghost use Rattle.std.specs.Result.{ForOk};
 ghost use Rattle.mw_model.specs.Pictures.{IsImage};
-ghost use Rattle.mw_core.specs.mw_stands.Payloads.{given_image, given_element};
+ghost use Rattle.mw_core.specs.mw_core_laws.Payloads.{given_image, given_element};
 ghost use Rattle.mw_pool.specs.Payloads.{TellsImage, TellsElement};
 
 use mw_core::element::Element;
@@ -15,7 +15,7 @@ pub(crate) fn read_image(alloc: Global, bytes: Vec<u8>) -> Result<Image, Code>
     ensures told { TellsImage bytes.items (given_image result) }
     ensures image { ForOk result IsImage }
 {
-    match mw_script_laws::netpbm::read_owned(alloc, bytes) {
+    match mw_session_laws::netpbm::read_owned(alloc, bytes) {
         Ok(image) => Ok(image),
         Err(fault) => Err(fault.code()),
     }

@@ -115,7 +115,7 @@ pub struct Front<J: Naming> {
 
 impl<J: Naming> Model for Front<J> {
     ghost use Rattle.std.specs.Prelude.{◌≡◌, List, length};
-    ghost use Rattle.mw_core.specs.mw_task.WindowTasks.{WindowTask};
+    ghost use Rattle.mw_core.specs.mw_step_task.WindowTasks.{WindowTask};
 
     ghost Value = { List WindowTask };
 
@@ -190,7 +190,7 @@ pub(crate) struct Roll<J: Naming> {
 
 impl<J: Naming> Model for Roll<J> {
     ghost use Rattle.std.specs.Prelude.{◌≡◌, List};
-    ghost use Rattle.mw_core.specs.mw_task.WindowTasks.{WindowTask};
+    ghost use Rattle.mw_core.specs.mw_step_task.WindowTasks.{WindowTask};
     ghost use Rattle.mw_pool.specs.Rolls.{head_of};
 
     ghost Value = { List WindowTask };

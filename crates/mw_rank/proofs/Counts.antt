@@ -5,7 +5,7 @@ use Rattle.std.proofs.lemmas.Bool.{cases_lt, cases_order, lt-ltb, le-ltb}
 use Rattle.std.proofs.lemmas.List.Sums.{sum_by-cons, sum_by-append, count_by-le-length}
 use Rattle.mw_model.proofs.mw_facts.Numbers.{one_if}
 use Rattle.mw_model.specs.PlanSteps.{ranked}
-use Rattle.mw_model.proofs.PlainRanks.{nth_from}
+use Rattle.mw_model.proofs.Ranks.{nth_from}
 use Rattle.mw_rank.specs.declared.histogram.Histogram.{Histogram}
 use Rattle.mw_rank.specs.Tallies.{count_under, Tallies}
 

@@ -12,8 +12,8 @@ use Rattle.mw_model.specs.Rasters.{Sight, raster, cell_at}
 use Rattle.mw_model.specs.Windows.{View, seen_at}
 use Rattle.mw_rank.specs.declared.ends.Ends.{Ends}
 use Rattle.mw_rank.specs.declared.histogram.Histogram.{Histogram}
-use Rattle.mw_run.specs.declared.runs.Run.{Run}
-use Rattle.mw_run.specs.Runs.{start_offset}
+use Rattle.mw_element_runs.specs.declared.runs.Run.{Run}
+use Rattle.mw_element_runs.specs.Runs.{start_offset}
 use Rattle.mw_rank.specs.Ends.{levels_left, levels_entered, first_seen, next_seen, HasEnds, AreEnds, AddsEnds}
 use Rattle.mw_rank.specs.Ranks.{levels_under, levels_at, GainsRow}
 use Rattle.mw_rank.specs.Runs.{offsets_from, offsets_of, element_of}

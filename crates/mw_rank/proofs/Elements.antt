@@ -4,8 +4,8 @@ use Rattle.std.specs.List.{range_with_len, AllByRecursion}
 use Rattle.std.proofs.lemmas.Int.{ints}
 use Rattle.std.proofs.lemmas.List.Concat.{flat_map-cons}
 use Rattle.mw_model.specs.declared.places.Offset.{Offset}
-use Rattle.mw_run.specs.declared.runs.Run.{Run}
-use Rattle.mw_run.specs.Runs.{run_offsets, start_offset, IsRun}
+use Rattle.mw_element_runs.specs.declared.runs.Run.{Run}
+use Rattle.mw_element_runs.specs.Runs.{run_offsets, start_offset, IsRun}
 use Rattle.mw_rank.specs.Runs.{offsets_from, offsets_of, element_of}
 use Rattle.mw_rank.proofs.Sights.{at_dx}
 

@@ -6,8 +6,8 @@ use Rattle.std.proofs.lemmas.List.Concat.{flat_map-append, flat_map-cons}
 use Rattle.mw_model.specs.declared.places.Offset.{Offset}
 use Rattle.mw_model.specs.Rasters.{Sight}
 use Rattle.mw_rank.specs.declared.histogram.Histogram.{Histogram}
-use Rattle.mw_run.specs.declared.runs.Run.{Run}
-use Rattle.mw_run.specs.Runs.{start_offset}
+use Rattle.mw_element_runs.specs.declared.runs.Run.{Run}
+use Rattle.mw_element_runs.specs.Runs.{start_offset}
 use Rattle.mw_rank.specs.Ranks.{levels_under, levels_at}
 use Rattle.mw_rank.specs.Runs.{next_offset, offsets_from, offsets_of, element_of}
 use Rattle.mw_rank.specs.Tallies.{Tallies}

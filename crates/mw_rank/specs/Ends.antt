@@ -4,8 +4,8 @@ use Rattle.std.specs.List.{flat_map}
 use Rattle.mw_model.specs.Rasters.{Sight}
 use Rattle.mw_rank.specs.Ranks.{levels_at}
 use Rattle.mw_rank.specs.declared.ends.Ends.{Ends}
-use Rattle.mw_run.specs.declared.runs.Run.{Run}
-use Rattle.mw_run.specs.Runs.{start_offset}
+use Rattle.mw_element_runs.specs.declared.runs.Run.{Run}
+use Rattle.mw_element_runs.specs.Runs.{start_offset}
 
 -- the levels at the first places of runs, so many columns further on
 abbrev pub levels_left : {A : Type 0} → (A → ℕ) → A → List A → List Ends → ℕ → List ℕ

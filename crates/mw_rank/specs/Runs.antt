@@ -2,8 +2,8 @@
 use Rattle.std.specs.Prelude.{ℕ, ℤ, zero, suc, ◌-◌, List, [], ◌∷◌, pos, ◌+ℤ◌}
 use Rattle.std.specs.List.{flat_map}
 use Rattle.mw_model.specs.declared.places.Offset.{Offset}
-use Rattle.mw_run.specs.declared.runs.Run.{Run}
-use Rattle.mw_run.specs.Runs.{start_offset}
+use Rattle.mw_element_runs.specs.declared.runs.Run.{Run}
+use Rattle.mw_element_runs.specs.Runs.{start_offset}
 
 -- the run of these parts
 abbrev pub run_at : ℤ → ℤ → ℕ → Run

@@ -9,8 +9,8 @@ ghost use Rattle.mw_rank.specs.Tallies.{Tallies, Holds};
 use crate::histogram::Histogram;
 use crate::runs::more_of;
 use crate::seen::row_in;
+use mw_element_runs::{Run, place_of};
 use mw_model::{NoMemory, Rect};
-use mw_run::{Run, place_of};
 use mw_tile::Window;
 use mw_tile::pixel::{Grey, Pixel};
 

@@ -23,7 +23,7 @@ pub mod pixel {
 }
 
 pub mod run {
-    pub use mw_run::{Run, place_of, runs_of};
+    pub use mw_element_runs::{Run, place_of, runs_of};
 }
 
 pub mod tile {

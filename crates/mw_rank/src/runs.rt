@@ -1,9 +1,9 @@
 //! What a run of offsets is to a moving histogram: a first offset, and those after it.
 ghost use Rattle.std.specs.Prelude.{◌≡◌, ◌-◌};
-ghost use Rattle.mw_run.specs.Runs.{start_offset};
+ghost use Rattle.mw_element_runs.specs.Runs.{start_offset};
 
+use mw_element_runs::Run;
 use mw_model::Offset;
-use mw_run::Run;
 
 /// The first offset of a run.
 #[inline(always)]

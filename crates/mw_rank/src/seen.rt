@@ -8,7 +8,7 @@ ghost use Rattle.mw_rank.specs.Ranks.{levels_under};
 ghost use Rattle.mw_rank.specs.Runs.{offsets_of};
 
 use crate::runs::more_of;
-use mw_run::{Run, place_of};
+use mw_element_runs::{Run, place_of};
 use mw_tile::Window;
 use mw_tile::pixel::Grey;
 

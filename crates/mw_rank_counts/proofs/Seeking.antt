@@ -7,7 +7,7 @@ use Rattle.std.proofs.lemmas.Nat.{pow_below}
 use Rattle.std.proofs.lemmas.List.{get_or-drop, get_or_append_left, get_or-append-add, get_or_default, take_rest}
 use Rattle.std.proofs.Math.ListN.{length-map}
 use Rattle.mw_model.specs.PlanSteps.{ranked}
-use Rattle.mw_model.proofs.PlainRanks.{nth_from}
+use Rattle.mw_model.proofs.Ranks.{nth_from}
 use Rattle.mw_rank_counts.specs.Counting.{levels_on, HasPlaces, AllUnder, AreFrom, IsBetween, AreBetween, raised}
 use Rattle.mw_rank.specs.Ranks.{GainsRow}
 use Rattle.mw_rank.specs.Tallies.{count_under}

@@ -246,7 +246,7 @@ fn counted_samples<P: Counted>(
 }
 
 /// What `rank` gives, by counting where that is quicker. It may want memory (`NoMemory`).
-pub fn rank_of_grey<P: Counted>(
+pub fn rank_by_counts<P: Counted>(
     alloc: Global,
     window: &Window<P>,
     offsets: &[Offset],

@@ -2,7 +2,7 @@
 //! where that is quicker. `costs` has what each way takes.
 //!
 //! ```text
-//! let median = rank_of_grey(alloc, &window, offsets, (offsets.len() as u32 + 1) / 2, tile)?;
+//! let median = rank_by_counts(alloc, &window, offsets, (offsets.len() as u32 + 1) / 2, tile)?;
 //! ```
 #![tactic(auto)]
 
@@ -17,7 +17,7 @@ mod squeezed;
 
 pub use costs::{Block, Limits, Load, Way, limits_by_numbers, load_of, quickest};
 pub use counted::Counted;
-pub use counting::rank_of_grey;
+pub use counting::rank_by_counts;
 pub use mw_model::NoMemory;
 pub use search::bits_in;
 pub use squeezed::Bytes;

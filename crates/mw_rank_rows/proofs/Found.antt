@@ -11,7 +11,7 @@ use Rattle.mw_model.specs.declared.places.Offset.{Offset}
 use Rattle.mw_model.specs.PlanSteps.{ranked}
 use Rattle.mw_model.specs.Rasters.{raster, cell_at}
 use Rattle.mw_model.specs.Windows.{View, seen_at}
-use Rattle.mw_model.proofs.PlainRanks.{nth_from}
+use Rattle.mw_model.proofs.Ranks.{nth_from}
 use Rattle.mw_rank_counts.specs.Counting.{AllUnder}
 use Rattle.mw_rank_counts.specs.mw_rank.Ranks.{levels_under, levels_at, HasRows}
 use Rattle.mw_rank_counts.specs.mw_rank.Tallies.{count_under}

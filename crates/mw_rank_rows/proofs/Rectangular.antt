@@ -12,8 +12,8 @@ use Rattle.mw_rank_counts.specs.mw_rank.Tallies.{count_under}
 use Rattle.mw_rank_counts.proofs.mw_rank.Counts.{count-append, count_rises}
 use Rattle.mw_rank_counts.proofs.mw_rank.Moves.{element_snoc}
 use Rattle.mw_rank_counts.proofs.mw_rank.Sights.{levels-cons, levels-append, levels-next, levels_at-on, offset_on, offsets-snoc, length-levels, length-offsets}
-use Rattle.mw_rank_counts.specs.mw_run.declared.runs.Run.{Run}
-use Rattle.mw_rank_counts.specs.mw_run.Runs.{start_offset}
+use Rattle.mw_rank_counts.specs.mw_element_runs.declared.runs.Run.{Run}
+use Rattle.mw_rank_counts.specs.mw_element_runs.Runs.{start_offset}
 use Rattle.mw_rank_rows.specs.declared.rectangle.Rectangle.{Rectangle}
 use Rattle.mw_rank_rows.specs.Columns.{total}
 use Rattle.mw_rank_rows.specs.Rectangles.{row_start, offsets_in}

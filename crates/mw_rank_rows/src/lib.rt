@@ -3,7 +3,7 @@
 //! does so of the rows beside it in the same step. Where that does not pay, the rank filter of `mw_rank_counts`.
 //!
 //! ```text
-//! let median = rank_of_grey(alloc, &window, offsets, (offsets.len() as u32 + 1) / 2, tile)?;
+//! let median = rank_by_rows(alloc, &window, offsets, (offsets.len() as u32 + 1) / 2, tile)?;
 //! ```
 #![tactic(auto)]
 
@@ -22,4 +22,4 @@ mod vectors;
 
 pub use mw_model::NoMemory;
 pub use mw_rank_counts::Counted;
-pub use rows::rank_of_grey;
+pub use rows::rank_by_rows;

@@ -3,7 +3,7 @@ ghost use Rattle.std.specs.Prelude.{◌≡◌, ◌<◌, ◌^◌, pos, ◌+ℤ◌
 ghost use Rattle.std.specs.List.{AllByRecursion};
 ghost use Rattle.mw_rank_counts.specs.mw_rank.Runs.{element_of};
 ghost use Rattle.mw_rank_rows.specs.Rectangles.{IsRectangle};
-ghost use Rattle.mw_rank_counts.specs.mw_run.Runs.{IsRun};
+ghost use Rattle.mw_rank_counts.specs.mw_element_runs.Runs.{IsRun};
 
 use mw_model::Offset;
 use mw_rank_counts::run::Run;

@@ -43,7 +43,7 @@ pub(crate) fn push_rest<P: Counted>(
         height: tile.height - done,
         ..tile
     };
-    let rows = mw_rank_counts::rank_of_grey(alloc, window, wanted.offsets, wanted.k, rest)?;
+    let rows = mw_rank_counts::rank_by_counts(alloc, window, wanted.offsets, wanted.k, rest)?;
     push_from(out, rows.samples(), 0)?;
     Ok(())
 }

@@ -153,7 +153,7 @@ fn side_by_side<P: Counted>(
 }
 
 /// What `mw_rank::rank` gives, eight rows at a time where that is quicker. It may want memory (`NoMemory`).
-pub fn rank_of_grey<P: Counted>(
+pub fn rank_by_rows<P: Counted>(
     alloc: Global,
     window: &Window<P>,
     offsets: &[Offset],
@@ -166,6 +166,6 @@ pub fn rank_of_grey<P: Counted>(
 {
     match side_by_side(alloc, window, offsets, k, tile)? {
         Some(samples) => Ok(Plane::new(tile.width, tile.height, samples)),
-        None => mw_rank_counts::rank_of_grey(alloc, window, offsets, k, tile),
+        None => mw_rank_counts::rank_by_counts(alloc, window, offsets, k, tile),
     }
 }

@@ -6,16 +6,16 @@ use Rattle.std.proofs.lemmas.Bool.{cases_eq, cases_lt, ne_eqb, and_parts, eqb-tr
 use Rattle.std.proofs.lemmas.Nat.{mod_below}
 use Rattle.mw_model.specs.Places.{grown}
 use Rattle.mw_model.specs.Tasks.{flag, meets}
-use Rattle.mw_queue.specs.mw_grid.Counts.{bit, in_range}
-use Rattle.mw_queue.specs.mw_grid.Grids.{Tiling, tile_count, tile_at}
-use Rattle.mw_queue.specs.mw_grid.declared.blocks.Block.{Block}
-use Rattle.mw_queue.specs.mw_grid.Blocks.{in_block}
-use Rattle.mw_queue.proofs.mw_grid.Counts.{in-high, in-yes}
-use Rattle.mw_queue.proofs.mw_grid.Lines.{row_less}
+use Rattle.mw_grid.specs.Counts.{bit, in_range}
+use Rattle.mw_grid.specs.Grids.{Tiling, tile_count, tile_at}
+use Rattle.mw_grid.specs.declared.blocks.Block.{Block}
+use Rattle.mw_grid.specs.Blocks.{in_block}
+use Rattle.mw_grid.proofs.Counts.{in-high, in-yes}
+use Rattle.mw_grid.proofs.Lines.{row_less}
 use Rattle.mw_ready.specs.declared.need.Need.{Need}
 use Rattle.mw_ready.specs.Boards.{step_of, tile_of_task, step_reads, reads_tile, need_of, no_need}
 use Rattle.mw_ready.specs.Kept.{is_near}
-use Rattle.mw_queue.specs.Queues.{Queued}
+use Rattle.mw_ready_queue.specs.Queues.{Queued}
 use Rattle.mw_ready.specs.Counters.{Lowers, Waiting}
 use Rattle.mw_ready.specs.Links.{Skips}
 use Rattle.mw_ready.proofs.Lowering.{and_bits, range_more, lowers_more, lowers_same}

@@ -2,8 +2,8 @@
 use Rattle.std.proofs.Common.{◌≡◌, ℕ, zero, suc, ◌+◌, ◌<◌, ◌≤◌, Bool, true, false, not, ◌&&◌, ◌||◌, nat_eq, nat_lt, List, [], ◌∷◌, count_by, refl, ap, sym, ◌∙◌, arith}
 use Rattle.std.specs.List.{range_with_len, list_all, list_any}
 use Rattle.std.proofs.lemmas.Bool.{ne_eqb, lt-ltb}
-use Rattle.mw_queue.specs.mw_grid.Counts.{bit}
-use Rattle.mw_queue.proofs.mw_grid.Counts.{count-bit}
+use Rattle.mw_grid.specs.Counts.{bit}
+use Rattle.mw_grid.proofs.Counts.{count-bit}
 
 -- nothing of what is read is left
 pub list_all-count : (p f : ℕ → Bool) (xs : List ℕ) → list_all (λ u. not (p u) || f u) xs ≡ nat_eq (count_by (λ u. p u && not (f u)) xs) 0

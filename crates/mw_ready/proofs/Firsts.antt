@@ -6,12 +6,12 @@ use Rattle.std.proofs.lemmas.List.{get_or_past}
 use Rattle.std.proofs.lemmas.Nat.{div-mul-add, mod-mul-add, mod_below, le-div}
 use Rattle.mw_model.proofs.mw_facts.Counts.{count_by-most}
 use Rattle.mw_model.specs.declared.places.Reach.{Reach}
-use Rattle.mw_queue.specs.mw_grid.Counts.{bit, count_below}
-use Rattle.mw_queue.specs.mw_grid.Grids.{Tiling, tile_count}
-use Rattle.mw_queue.specs.mw_grid.Blocks.{sees}
-use Rattle.mw_queue.proofs.mw_grid.Counts.{count-product, count-next, count-none, bit-at, bit-other}
+use Rattle.mw_grid.specs.Counts.{bit, count_below}
+use Rattle.mw_grid.specs.Grids.{Tiling, tile_count}
+use Rattle.mw_grid.specs.Blocks.{sees}
+use Rattle.mw_grid.proofs.Counts.{count-product, count-next, count-none, bit-at, bit-other}
 use Rattle.mw_ready.specs.declared.need.Need.{Need}
-use Rattle.mw_queue.proofs.mw_grid.Tiles.{some_tiles}
+use Rattle.mw_grid.proofs.Tiles.{some_tiles}
 use Rattle.mw_ready.specs.declared.spans.Spans.{Spans}
 use Rattle.mw_ready.specs.Boards.{is_source, step_of, step_reads, reads, need_of, no_need}
 use Rattle.mw_ready.specs.Counters.{Raises}

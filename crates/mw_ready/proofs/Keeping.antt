@@ -6,20 +6,20 @@ use Rattle.std.proofs.lemmas.List.{get_or-set_same, get_or-set_other, get_or-rep
 use Rattle.std.proofs.Math.Nat.{mul-le-mul_left}
 use Rattle.std.proofs.lemmas.Nat.{div-mul-add, mod-mul-add}
 use Rattle.mw_model.specs.Tasks.{flag}
-use Rattle.mw_queue.specs.mw_grid.Grids.{Tiling, tile_count}
+use Rattle.mw_grid.specs.Grids.{Tiling, tile_count}
 use Rattle.mw_ready.specs.declared.need.Need.{Need}
-use Rattle.mw_ready.specs.Boards.{Board, task_count, task_number, tasks_below, is_running, is_ready, ready_tasks, step_of, reads, reads_tile, Runs}
-use Rattle.mw_queue.specs.mw_grid.Counts.{bit, count_below}
-use Rattle.mw_queue.specs.Queues.{Queued, is_open}
+use Rattle.mw_ready.specs.Boards.{Schedule, task_count, task_number, tasks_below, is_running, is_ready, ready_tasks, step_of, reads, reads_tile, Runs}
+use Rattle.mw_grid.specs.Counts.{bit, count_below}
+use Rattle.mw_ready_queue.specs.Queues.{Queued, is_open}
 use Rattle.mw_ready.specs.Counters.{Lowers, Waiting}
 use Rattle.mw_ready.specs.Kept.{Keeps, read_count, board_of}
-use Rattle.mw_queue.proofs.mw_grid.Counts.{count-none, count-all, count-more, bit-at, bit-other}
+use Rattle.mw_grid.proofs.Counts.{count-none, count-all, count-more, bit-at, bit-other}
 use Rattle.mw_ready.proofs.Counts.{list_all-count}
 use Rattle.std.proofs.Math.Bool.{and-true}
 use Rattle.mw_ready.proofs.Lowering.{lowers_same}
 use Rattle.std.proofs.lemmas.Bool.{and_parts}
 use Rattle.mw_model.proofs.mw_facts.Counts.{count_by-same, count_by-some}
-use Rattle.mw_queue.proofs.mw_grid.Lines.{number_of}
+use Rattle.mw_grid.proofs.Lines.{number_of}
 
 -- one task more is finished, of those that a test tells
 pub finished_one : (p : ℕ → Bool) (fin : List Bool) (n task : ℕ) → task < n → length fin ≡ n → flag fin task ≡ false
@@ -60,17 +60,17 @@ finished_one p fin n task lt size open_yet = go (p task) refl
     go true e = sym (count-more (λ u. p u && not (flag fin u)) (λ u. p u && not (flag (set fin task true) u)) task n lt (λ u u-lt. one u e))
     go false e = add-zero (count_below (λ u. p u && not (flag (set fin task true) u)) n) ∙ count_by-same (λ u. p u && not (flag (set fin task true) u)) (λ u. p u && not (flag fin u)) n (λ u u-lt. none u e)
 
-pub ready_is_open : (b : Board) (counters : List ℕ) (active left t : ℕ) → Keeps b counters active left → t < task_count b → is_open b.started counters t ≡ is_ready b t
+pub ready_is_open : (b : Schedule) (counters : List ℕ) (active left t : ℕ) → Keeps b counters active left → t < task_count b → is_open b.started counters t ≡ is_ready b t
 ready_is_open b counters active left t keeps lt =
     ap (λ (n : ℕ). not (flag b.started t) && nat_eq n 0) (keeps.waits t lt)
     ∙ ap (λ (r : Bool). not (flag b.started t) && r) (sym (list_all-count (reads b.needs b.grid t) (flag b.finished) (tasks_below b)))
 
-pub count_is : (b : Board) (counters : List ℕ) (active left n : ℕ) → Keeps b counters active left → n ≡ length counters → count_below (is_open b.started counters) n ≡ ready_tasks b
+pub count_is : (b : Schedule) (counters : List ℕ) (active left n : ℕ) → Keeps b counters active left → n ≡ length counters → count_below (is_open b.started counters) n ≡ ready_tasks b
 count_is b counters active left n keeps e =
     ap (count_below (is_open b.started counters)) (e ∙ keeps.waiting)
     ∙ count_by-same (is_open b.started counters) (is_ready b) (task_count b) (λ t lt. ready_is_open b counters active left t keeps lt)
 
-not_begun : (b : Board) (counters : List ℕ) (active left t : ℕ) → Keeps b counters active left → t < task_count b → flag b.started t ≡ false → flag b.finished t ≡ false
+not_begun : (b : Schedule) (counters : List ℕ) (active left t : ℕ) → Keeps b counters active left → t < task_count b → flag b.started t ≡ false → flag b.finished t ≡ false
 not_begun b counters active left t keeps lt idle = go (flag b.finished t) refl
   where
     go : (r : Bool) → flag b.finished t ≡ r → flag b.finished t ≡ false
@@ -78,7 +78,7 @@ not_begun b counters active left t keeps lt idle = go (flag b.finished t) refl
     go true e = absurd (both_ways (flag b.started t) idle (keeps.begun t lt e))
 
 -- a task is started
-start_keeps : (b : Board) (counters : List ℕ) (active left task : ℕ) → Keeps b counters active left → task < task_count b → is_open b.started counters task ≡ true
+start_keeps : (b : Schedule) (counters : List ℕ) (active left task : ℕ) → Keeps b counters active left → task < task_count b → is_open b.started counters task ≡ true
     → Keeps (record b { started = set b.started task true }) counters (active + 1) left
 start_keeps b counters active left task keeps lt opened =
     let parts = and_parts (not (flag b.started task)) (nat_eq (get_or counters task 0) 0) opened in
@@ -116,7 +116,7 @@ start_keeps b counters active left task keeps lt opened =
     }
 
 -- a running task is finished
-finish_keeps : (b : Board) (counters now : List ℕ) (active left task : ℕ) → Keeps b counters active left → task < task_count b → is_running b task ≡ true → Lowers (λ t. reads b.needs b.grid t task) counters now
+finish_keeps : (b : Schedule) (counters now : List ℕ) (active left task : ℕ) → Keeps b counters active left → task < task_count b → is_running b task ≡ true → Lowers (λ t. reads b.needs b.grid t task) counters now
     → Keeps (record b { finished = set b.finished task true }) now (active - 1) (left - 1)
 finish_keeps b counters now active left task keeps lt running lowers =
     let parts = and_parts (flag b.started task) (not (flag b.finished task)) running in
@@ -159,7 +159,7 @@ finish_keeps b counters now active left task keeps lt running lowers =
     }
 
 -- what reads an unfinished task waits for it, and is idle
-readers_wait : (b : Board) (counters : List ℕ) (active left task : ℕ) → Keeps b counters active left → task < task_count b → is_running b task ≡ true
+readers_wait : (b : Schedule) (counters : List ℕ) (active left task : ℕ) → Keeps b counters active left → task < task_count b → is_running b task ≡ true
     → (t : ℕ) → t < length counters → reads b.needs b.grid t task ≡ true → (0 < get_or counters t 0) × (flag b.started t ≡ false)
 readers_wait b counters active left task keeps lt running = λ t t-lt here.
     let parts = and_parts (flag b.started task) (not (flag b.finished task)) running in
@@ -173,7 +173,7 @@ readers_wait b counters active left task keeps lt running = λ t t-lt here.
     go t n-lt true e more = absurd (let z = keeps.calm t n-lt e in omega arith)
 
 -- some task is running, so there is one, and it remains
-pub some_run : (b : Board) (counters now : List ℕ) (active left task : ℕ) → Keeps b counters active left → task < task_count b → is_running b task ≡ true → (0 < active) × (0 < left)
+pub some_run : (b : Schedule) (counters now : List ℕ) (active left task : ℕ) → Keeps b counters active left → task < task_count b → is_running b task ≡ true → (0 < active) × (0 < left)
 some_run b counters now active left task keeps lt running =
     let parts = and_parts (flag b.started task) (not (flag b.finished task)) running in
     (omega (arith, keeps.running, count_by-some (is_running b) (task_count b) task lt running), omega (arith, keeps.remaining, count_by-some (λ t. not (flag b.finished t)) (task_count b) task lt parts.1))
@@ -184,7 +184,7 @@ reads-number needs g step tile t lt =
     ap (λ (k : ℕ). reads_tile needs g t k (task_number g step tile % tile_count g)) (div-mul-add step (tile_count g) tile lt)
     ∙ ap (reads_tile needs g t step) (mod-mul-add step (tile_count g) tile lt)
 
-pub number_within : (b : Board) (step tile : ℕ) → Runs b step tile → task_number b.grid step tile < task_count b
+pub number_within : (b : Schedule) (step tile : ℕ) → Runs b step tile → task_number b.grid step tile < task_count b
 number_within b step tile runs = number_of (length b.needs) (tile_count b.grid) tile step runs.inside runs.within
 
 pub readers_wait_given : (needs shown : List Need) (g : Tiling) (q : Queued) (finished : List Bool) (active left step tile : ℕ) → Keeps (board_of needs g q finished) q.waiting active left → Runs (board_of needs g q finished) step tile → shown ≡ needs
@@ -194,12 +194,12 @@ readers_wait_given needs shown g q finished active left step tile keeps runs sho
     let same = ap (λ (n : List Need). reads_tile n g t step tile) shown-is in
     readers_wait b q.waiting active left (task_number g step tile) keeps (number_within b step tile runs) runs.running t lt (reads-number needs g step tile t runs.inside ∙ sym same ∙ here)
 
-pub start_keeps_given : (b : Board) (counters now : List ℕ) (started : List Bool) (active left task : ℕ) → Keeps b counters active left → task < length counters → is_open b.started counters task ≡ true
+pub start_keeps_given : (b : Schedule) (counters now : List ℕ) (started : List Bool) (active left task : ℕ) → Keeps b counters active left → task < length counters → is_open b.started counters task ≡ true
     → started ≡ set b.started task true → now ≡ counters → Keeps (record b { started = started }) now (active + 1) left
 start_keeps_given b counters now started active left task keeps lt opened e f =
     rw (e, f) (start_keeps b counters active left task keeps (let s = keeps.waiting in omega arith) opened)
 
-pub finish_keeps_given : (b : Board) (counters now : List ℕ) (started : List Bool) (shown : List Need) (active left step tile : ℕ) → Keeps b counters active left → Runs b step tile → shown ≡ b.needs
+pub finish_keeps_given : (b : Schedule) (counters now : List ℕ) (started : List Bool) (shown : List Need) (active left step tile : ℕ) → Keeps b counters active left → Runs b step tile → shown ≡ b.needs
     → Lowers (λ t. reads_tile shown b.grid t step tile) counters now → started ≡ b.started
     → Keeps (record b { started = started; finished = set b.finished (task_number b.grid step tile) true }) now (active - 1) (left - 1)
 finish_keeps_given b counters now started shown active left step tile keeps runs shown-is lowers e =
@@ -208,10 +208,10 @@ finish_keeps_given b counters now started shown active left step tile keeps runs
     (λ t. ap (λ (n : List Need). reads_tile n b.grid t step tile) shown-is ∙ sym (reads-number b.needs b.grid step tile t runs.inside)) lowers in
     subst (λ (s : List Bool). Keeps (record b { started = s; finished = set b.finished task true }) now (active - 1) (left - 1)) (sym e) (finish_keeps b counters now active left task keeps (number_within b step tile runs) runs.running lowered)
 
-pub ready_given : (b : Board) (counters : List ℕ) (active left t : ℕ) → Keeps b counters active left → t < length counters → is_open b.started counters t ≡ true → is_ready b t ≡ true
+pub ready_given : (b : Schedule) (counters : List ℕ) (active left t : ℕ) → Keeps b counters active left → t < length counters → is_open b.started counters t ≡ true → is_ready b t ≡ true
 ready_given b counters active left t keeps lt opened = sym (ready_is_open b counters active left t keeps (let s = keeps.waiting in omega arith)) ∙ opened
 
-pub step_of_number : (b : Board) (counters : List ℕ) (active left tiles step tile : ℕ) → Keeps b counters active left → tiles ≡ tile_count b.grid → step * tiles + tile < length counters → step < length b.needs
+pub step_of_number : (b : Schedule) (counters : List ℕ) (active left tiles step tile : ℕ) → Keeps b counters active left → tiles ≡ tile_count b.grid → step * tiles + tile < length counters → step < length b.needs
 step_of_number b counters active left tiles step tile keeps tiles-is lt =
     let whole : length counters ≡ length b.needs * tiles = keeps.waiting ∙ ap (λ (k : ℕ). length b.needs * k) (sym tiles-is) in
     less step (length b.needs) tiles (omega arith)
@@ -219,12 +219,12 @@ step_of_number b counters active left tiles step tile keeps tiles-is lt =
     less : (a n m : ℕ) → a * m < n * m → a < n
     less a n m lt = grind (arith, mul-le-mul_left)
 
-pub open_number : (b : Board) (counters : List ℕ) (active left tiles step tile : ℕ) → Keeps b counters active left → tiles ≡ tile_count b.grid → step * tiles + tile < length counters → is_open b.started counters (step * tiles + tile) ≡ true
+pub open_number : (b : Schedule) (counters : List ℕ) (active left tiles step tile : ℕ) → Keeps b counters active left → tiles ≡ tile_count b.grid → step * tiles + tile < length counters → is_open b.started counters (step * tiles + tile) ≡ true
     → is_ready b (task_number b.grid step tile) ≡ true
 open_number b counters active left tiles step tile keeps tiles-is lt opened =
     ap (λ (k : ℕ). is_ready b (step * k + tile)) (sym tiles-is) ∙ ready_given b counters active left (step * tiles + tile) keeps lt opened
 
-pub latest_step : (b : Board) (counters : List ℕ) (active left tiles step n : ℕ) → Keeps b counters active left → tiles ≡ tile_count b.grid
+pub latest_step : (b : Schedule) (counters : List ℕ) (active left tiles step n : ℕ) → Keeps b counters active left → tiles ≡ tile_count b.grid
     → ((t : ℕ) → t < length counters → is_open b.started counters t ≡ true → t / tiles ≤ step) → n < task_count b → is_ready b n ≡ true → step_of b.grid n ≤ step
 latest_step b counters active left tiles step n keeps tiles-is latest lt ready =
     let h = latest n (let s = keeps.waiting in omega arith) (ready_is_open b counters active left n keeps lt ∙ ready) in
@@ -236,7 +236,7 @@ none_finished p finished n is = count_by-same p (λ u. p u && not (flag finished
     (λ u lt. sym (ap (λ (xs : List Bool). p u && not (flag xs u)) is ∙ ap (λ (b : Bool). p u && not b) (get_or-replicate n u false false lt) ∙ and-true (p u)))
 
 -- a task that was started has all that it reads
-pub has_all : (b : Board) (counters : List ℕ) (active left t : ℕ) → Keeps b counters active left → t < task_count b → flag b.started t ≡ true
+pub has_all : (b : Schedule) (counters : List ℕ) (active left t : ℕ) → Keeps b counters active left → t < task_count b → flag b.started t ≡ true
     → list_all (λ u. not (reads b.needs b.grid t u) || flag b.finished u) (tasks_below b) ≡ true
 has_all b counters active left t keeps lt begun =
     list_all-count (reads b.needs b.grid t) (flag b.finished) (tasks_below b)

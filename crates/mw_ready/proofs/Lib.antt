@@ -10,5 +10,3 @@ mod ReaderCounts
 mod Joining
 mod Spanning
 mod Tied
--- what lower crates offer
-pub use Rattle.mw_queue.proofs.mw_grid as mw_grid

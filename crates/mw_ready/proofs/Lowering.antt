@@ -3,10 +3,10 @@ use Rattle.std.proofs.Common.{◌≡◌, ◌≢◌, ℕ, ◌+◌, ◌*◌, ◌/�
 use Rattle.std.proofs.Math.Bool.{and-false, and-true}
 use Rattle.std.proofs.lemmas.Bool.{cases_lt, cases_eq, eqb-true, and_parts}
 use Rattle.mw_model.specs.Tasks.{flag}
-use Rattle.mw_queue.specs.mw_grid.Counts.{bit, in_range}
-use Rattle.mw_queue.proofs.mw_grid.Meeting.{row_is}
-use Rattle.mw_queue.proofs.mw_grid.Counts.{bit-at, bit-other, in-yes, in-low, in-high}
-use Rattle.mw_queue.specs.Queues.{Queued}
+use Rattle.mw_grid.specs.Counts.{bit, in_range}
+use Rattle.mw_grid.proofs.Meeting.{row_is}
+use Rattle.mw_grid.proofs.Counts.{bit-at, bit-other, in-yes, in-low, in-high}
+use Rattle.mw_ready_queue.specs.Queues.{Queued}
 use Rattle.mw_ready.specs.Counters.{Lowers, Waiting, Counted}
 
 -- one place more

@@ -6,18 +6,18 @@ use Rattle.std.proofs.lemmas.Bool.{cases_lt, ne_eqb}
 use Rattle.std.proofs.lemmas.Nat.{div-mul-add, mod-mul-add, mod_below}
 use Rattle.mw_model.proofs.mw_facts.Counts.{count_by-same}
 use Rattle.mw_model.proofs.mw_facts.Numbers.{one_if-le}
-use Rattle.mw_queue.specs.mw_grid.declared.blocks.Block.{Block}
-use Rattle.mw_queue.specs.mw_grid.Blocks.{sees, in_block}
-use Rattle.mw_queue.specs.mw_grid.Counts.{bit, in_range}
-use Rattle.mw_queue.specs.mw_grid.Grids.{Tiling, tile_count}
-use Rattle.mw_queue.proofs.mw_grid.Meeting.{row_is}
-use Rattle.mw_queue.proofs.mw_grid.Counts.{in-yes, in-low, in-high, count-add, count-if}
-use Rattle.mw_queue.proofs.mw_grid.Lines.{row_less}
+use Rattle.mw_grid.specs.declared.blocks.Block.{Block}
+use Rattle.mw_grid.specs.Blocks.{sees, in_block}
+use Rattle.mw_grid.specs.Counts.{bit, in_range}
+use Rattle.mw_grid.specs.Grids.{Tiling, tile_count}
+use Rattle.mw_grid.proofs.Meeting.{row_is}
+use Rattle.mw_grid.proofs.Counts.{in-yes, in-low, in-high, count-add, count-if}
+use Rattle.mw_grid.proofs.Lines.{row_less}
 use Rattle.mw_ready.specs.declared.need.Need.{Need}
 use Rattle.mw_ready.specs.Boards.{is_source, step_of, step_reads, reads, no_need}
 use Rattle.mw_ready.specs.Kept.{reader_count, seen_by, takes}
 use Rattle.mw_ready.specs.Counters.{Lowers, Raises, Counted}
-use Rattle.mw_queue.proofs.mw_grid.Counts.{bit_true}
+use Rattle.mw_grid.proofs.Counts.{bit_true}
 use Rattle.mw_ready.proofs.Boxes.{boxes_fit}
 use Rattle.mw_ready.proofs.Lowering.{lowers_same, counted_same}
 use Rattle.mw_ready.proofs.Numbers.{eq_swap}

@@ -5,14 +5,14 @@ use Rattle.std.proofs.lemmas.List.{get_or-set_same, get_or-set_other}
 use Rattle.std.proofs.lemmas.Nat.{le-div, div_below, div-mul-add, mod-mul-add, mod_below}
 use Rattle.mw_model.proofs.mw_facts.Counts.{count_by-same, count_by-most}
 use Rattle.mw_model.specs.declared.places.Reach.{Reach}
-use Rattle.mw_queue.specs.mw_grid.declared.blocks.Block.{Block}
-use Rattle.mw_queue.specs.mw_grid.Blocks.{IsBlock, in_block, sees}
-use Rattle.mw_queue.specs.mw_grid.Counts.{bit, count_below, in_range}
-use Rattle.mw_queue.specs.mw_grid.Grids.{Tiling, columns_of, rows_of, tile_count}
-use Rattle.mw_queue.proofs.mw_grid.Counts.{in-high}
-use Rattle.mw_queue.proofs.mw_grid.Lines.{number_of, row_less}
-use Rattle.mw_queue.proofs.mw_grid.Meeting.{block_given, count-block, turned_sees}
-use Rattle.mw_queue.proofs.mw_grid.Tiles.{HasTiles, some_tiles}
+use Rattle.mw_grid.specs.declared.blocks.Block.{Block}
+use Rattle.mw_grid.specs.Blocks.{IsBlock, in_block, sees}
+use Rattle.mw_grid.specs.Counts.{bit, count_below, in_range}
+use Rattle.mw_grid.specs.Grids.{Tiling, columns_of, rows_of, tile_count}
+use Rattle.mw_grid.proofs.Counts.{in-high}
+use Rattle.mw_grid.proofs.Lines.{number_of, row_less}
+use Rattle.mw_grid.proofs.Meeting.{block_given, count-block, turned_sees}
+use Rattle.mw_grid.proofs.Tiles.{HasTiles, some_tiles}
 use Rattle.mw_ready.specs.declared.spans.Spans.{Spans}
 use Rattle.mw_ready.specs.Boards.{step_of}
 use Rattle.mw_ready.specs.Counters.{Raises}

@@ -4,7 +4,7 @@ use Rattle.std.specs.List.{range_with_len, list_all, list_any}
 use Rattle.mw_model.specs.declared.places.Rect.{Rect}
 use Rattle.mw_model.specs.Places.{grown}
 use Rattle.mw_model.specs.Tasks.{flag, meets}
-use Rattle.mw_queue.specs.mw_grid.Grids.{Tiling, tile_count, tile_at}
+use Rattle.mw_grid.specs.Grids.{Tiling, tile_count, tile_at}
 use Rattle.mw_ready.specs.declared.need.Need.{Need}
 
 -- the step that is read, if any, is s
@@ -49,42 +49,42 @@ abbrev pub reads : List Need → Tiling → ℕ → ℕ → Bool
 reads needs g n u = reads_tile needs g n (step_of g u) (u % tile_count g)
 
 -- What the steps of a plan need on a grid, and which of its tasks were started and are finished.
-pub record Board : Type 0 where
+pub record Schedule : Type 0 where
   pub needs : List Need
   pub grid : Tiling
   pub started : List Bool
   pub finished : List Bool
 
 -- how many tasks there are
-abbrev pub task_count : Board → ℕ
+abbrev pub task_count : Schedule → ℕ
 task_count b = length b.needs * tile_count b.grid
 
 -- the numbers of all tasks
-abbrev pub tasks_below : Board → List ℕ
+abbrev pub tasks_below : Schedule → List ℕ
 tasks_below b = range_with_len 0 (task_count b)
 
 -- the task was not started, and all that it reads is finished
-abbrev pub is_ready : Board → ℕ → Bool
+abbrev pub is_ready : Schedule → ℕ → Bool
 is_ready b n = not (flag b.started n) && list_all (λ u. not (reads b.needs b.grid n u) || flag b.finished u) (tasks_below b)
 
 -- the task was started, and is not finished
-abbrev pub is_running : Board → ℕ → Bool
+abbrev pub is_running : Schedule → ℕ → Bool
 is_running b n = flag b.started n && not (flag b.finished n)
 
 -- how many tasks are ready
-abbrev pub ready_tasks : Board → ℕ
+abbrev pub ready_tasks : Schedule → ℕ
 ready_tasks b = count_by (is_ready b) (tasks_below b)
 
 -- how many tasks are running
-abbrev pub running_tasks : Board → ℕ
+abbrev pub running_tasks : Schedule → ℕ
 running_tasks b = count_by (is_running b) (tasks_below b)
 
 -- how many tasks are not finished
-abbrev pub remaining_tasks : Board → ℕ
+abbrev pub remaining_tasks : Schedule → ℕ
 remaining_tasks b = count_by (λ n. not (flag b.finished n)) (tasks_below b)
 
 -- the board on which nothing was started
-abbrev pub fresh : List Need → Tiling → Board
+abbrev pub fresh : List Need → Tiling → Schedule
 fresh needs g = record {
   needs = needs;
   grid = g;
@@ -94,11 +94,11 @@ fresh needs g = record {
 
 -- A board, and its ready tasks in the order in which they are handed out.
 pub record Turns : Type 0 where
-  pub board : Board
+  pub board : Schedule
   pub order : List ℕ
 
 -- the task of this step and tile is running
-pub record Runs (b : Board) (step tile : ℕ) : Type 0 where
+pub record Runs (b : Schedule) (step tile : ℕ) : Type 0 where
   pub within : step < length b.needs
   pub inside : tile < tile_count b.grid
   pub running : is_running b (task_number b.grid step tile) ≡ true

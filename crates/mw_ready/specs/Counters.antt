@@ -1,8 +1,8 @@
 -- Counters that are lowered and raised; no public contract speaks of it.
 use Rattle.std.specs.Prelude.{◌≡◌, ℕ, ◌+◌, ◌<◌, Bool, true, false, List, length, slice_index}
 use Rattle.mw_model.specs.Tasks.{flag}
-use Rattle.mw_queue.specs.mw_grid.Counts.{bit}
-use Rattle.mw_queue.specs.Queues.{Queued}
+use Rattle.mw_grid.specs.Counts.{bit}
+use Rattle.mw_ready_queue.specs.Queues.{Queued}
 
 -- each place where this is true is one lower
 pub record Lowers (here : ℕ → Bool) (old now : List ℕ) : Type 0 where

@@ -2,12 +2,12 @@
 use Rattle.std.specs.Prelude.{◌≡◌, ℕ, ◌<◌, ◌%◌, ◌^◌, Bool, true, not, ◌&&◌, nat_eq, List, length, slice_index}
 use Rattle.mw_model.specs.declared.places.Reach.{Reach}
 use Rattle.mw_model.specs.Tasks.{flag}
-use Rattle.mw_queue.specs.mw_grid.Counts.{count_below}
-use Rattle.mw_queue.specs.mw_grid.Grids.{Tiling, tile_count}
-use Rattle.mw_queue.specs.mw_grid.Blocks.{sees}
+use Rattle.mw_grid.specs.Counts.{count_below}
+use Rattle.mw_grid.specs.Grids.{Tiling, tile_count}
+use Rattle.mw_grid.specs.Blocks.{sees}
 use Rattle.mw_ready.specs.declared.need.Need.{Need}
-use Rattle.mw_queue.specs.Queues.{Queued}
-use Rattle.mw_ready.specs.Boards.{Board, task_count, step_of, step_reads, reads, running_tasks, remaining_tasks}
+use Rattle.mw_ready_queue.specs.Queues.{Queued}
+use Rattle.mw_ready.specs.Boards.{Schedule, task_count, step_of, step_reads, reads, running_tasks, remaining_tasks}
 
 -- how many of the first n tasks t reads
 abbrev pub read_count : List Need → Tiling → ℕ → ℕ → ℕ
@@ -37,7 +37,7 @@ takes need g tile u = step_reads need (step_of g u) && sees g need.reach tile (u
 abbrev pub seen_by : Tiling → Reach → ℕ → ℕ
 seen_by g reach tile = count_below (λ w. sees g reach w tile) (tile_count g)
 
-pub record Keeps (b : Board) (counters : List ℕ) (active left : ℕ) : Type 0 where
+pub record Keeps (b : Schedule) (counters : List ℕ) (active left : ℕ) : Type 0 where
   pub started : length b.started ≡ task_count b
   pub finished : length b.finished ≡ task_count b
   pub waiting : length counters ≡ task_count b
@@ -49,10 +49,10 @@ pub record Keeps (b : Board) (counters : List ℕ) (active left : ℕ) : Type 0 
   pub begun : (t : ℕ) → t < task_count b → flag b.finished t ≡ true → flag b.started t ≡ true
 
 -- of each task it is counted how many unfinished ones read it
-pub record CountsReaders (b : Board) (readers : List ℕ) : Type 0 where
+pub record CountsReaders (b : Schedule) (readers : List ℕ) : Type 0 where
   pub size : length readers ≡ task_count b
   pub each : (u : ℕ) → u < task_count b → slice_index readers u ≡ unfinished_readers b.needs b.grid b.finished (task_count b) u
 
 -- the board of a queue of its tasks
-abbrev pub board_of : List Need → Tiling → Queued → List Bool → Board
+abbrev pub board_of : List Need → Tiling → Queued → List Bool → Schedule
 board_of needs g q finished = record { needs = needs; grid = g; started = q.started; finished = finished }

@@ -4,5 +4,3 @@ pub mod Counters
 pub mod Kept
 pub mod Links
 pub mod Spans
--- what lower crates offer
-pub mod mw_grid

@@ -1,6 +1,6 @@
 -- How many tiles windows span, by columns and by rows; no public contract speaks of it.
 use Rattle.std.specs.Prelude.{ℕ, ◌≡◌, ◌+◌, ◌-◌, ◌*◌, ◌/◌, ◌%◌, ◌<◌, ◌≤◌, min, slice_index}
-use Rattle.mw_queue.specs.mw_grid.Grids.{Tiling, columns_of, rows_of, tile_count}
+use Rattle.mw_grid.specs.Grids.{Tiling, columns_of, rows_of, tile_count}
 use Rattle.mw_ready.specs.declared.spans.Spans.{Spans}
 
 -- how many of so many pieces of a line one spans that is grown so far before and behind

@@ -6,9 +6,9 @@ use Rattle.mw_model.specs.PlanSteps.{looks_at}
 use Rattle.mw_model.specs.Plans.{Planned}
 use Rattle.mw_model.specs.Tasks as tasks
 use Rattle.mw_model.specs.Tasks.{Progress, nothing_planned, is_step}
-use Rattle.mw_queue.specs.mw_grid.Grids.{tiles_of}
+use Rattle.mw_grid.specs.Grids.{tiles_of}
 use Rattle.mw_ready.specs.declared.need.Need.{Need}
-use Rattle.mw_ready.specs.Boards.{Board, step_reads, no_need, task_count, reads, is_ready, is_running, ready_tasks, running_tasks, remaining_tasks}
+use Rattle.mw_ready.specs.Boards.{Schedule, step_reads, no_need, task_count, reads, is_ready, is_running, ready_tasks, running_tasks, remaining_tasks}
 
 -- the need is that of a planned step: its reach, and the steps among its sources
 pub record IsNeedOf (n : Need) (q : Planned) : Type 0 where
@@ -16,7 +16,7 @@ pub record IsNeedOf (n : Need) (q : Planned) : Type 0 where
   pub steps : (k : ℕ) → step_reads n k ≡ list_any (is_step k) q.sources
 
 -- the board shows the work: the needs of its plan, its frame and tiles, and the same tasks started and finished
-pub record IsBoardOf (b : Board) (p : Progress) : Type 0 where
+pub record IsBoardOf (b : Schedule) (p : Progress) : Type 0 where
   pub width : p.width ≡ b.grid.width
   pub height : p.height ≡ b.grid.height
   pub tiles : p.tiles ≡ tiles_of b.grid
@@ -26,7 +26,7 @@ pub record IsBoardOf (b : Board) (p : Progress) : Type 0 where
   pub finished : p.finished ≡ b.finished
 
 -- the tasks of a board are those of the work: as many, with the same reading what, and the same ready, running and left
-pub record SameTasks (b : Board) (p : Progress) : Type 0 where
+pub record SameTasks (b : Schedule) (p : Progress) : Type 0 where
   pub count : tasks.task_count p ≡ task_count b
   pub reads : (n u : ℕ) → n < task_count b → tasks.reads p n u ≡ reads b.needs b.grid n u
   pub ready : (n : ℕ) → n < task_count b → tasks.is_ready p n ≡ is_ready b n

@@ -1,7 +1,7 @@
 //! What the tasks of a board are for a machine.
 
 ghost use Rattle.mw_model.specs.Tasks.{Progress};
-ghost use Rattle.mw_ready.specs.Boards.{Board};
+ghost use Rattle.mw_ready.specs.Boards.{Schedule};
 ghost use Rattle.mw_ready.specs.Work.{IsBoardOf, SameTasks};
 
 use crate::Ready;

@@ -27,12 +27,7 @@ mod spans;
 mod waits;
 
 pub use laws::tasks_are_those_of_work;
+pub use mw_grid::Grid;
 pub use mw_model::{NoMemory, Reach};
-pub use mw_queue::grid::Grid;
 pub use need::Need;
 pub use ready::Ready;
-
-// What lower crates offer, for the crates above.
-pub mod grid {
-    pub use mw_queue::grid::{Block, Grid};
-}

@@ -1,7 +1,7 @@
 //! What a step of a plan needs.
 
 ghost use Rattle.std.specs.Prelude.{◌≡◌, ℕ, ◌+◌};
-ghost use Rattle.mw_queue.specs.mw_grid.Counts.{bit};
+ghost use Rattle.mw_grid.specs.Counts.{bit};
 ghost use Rattle.mw_ready.specs.Boards.{is_source, step_reads};
 
 use mw_model::Reach;

@@ -1,7 +1,7 @@
 //! The readers of a tile, step by step.
 
 ghost use Rattle.std.specs.Prelude.{◌≡◌, ℕ, ◌*◌, ◌<◌, ◌≤◌, ◌^◌, length};
-ghost use Rattle.mw_queue.specs.mw_grid.Grids.{tile_count};
+ghost use Rattle.mw_grid.specs.Grids.{tile_count};
 ghost use Rattle.mw_ready.specs.Boards.{reads_tile};
 ghost use Rattle.mw_ready.specs.Counters.{Lowers, Waiting, SameTiles};
 ghost use Rattle.mw_ready.specs.Links.{Linked};
@@ -9,8 +9,8 @@ ghost use Rattle.mw_ready.specs.Links.{Linked};
 use crate::links::{Link, first_reader, next_reader};
 use crate::need::{Need, does_read};
 use crate::release::release_tiles;
-use mw_queue::Queue;
-use mw_queue::grid::Grid;
+use mw_grid::Grid;
+use mw_ready_queue::Queue;
 
 /// One thing less for each task that reads this tile of this step.
 pub(crate) fn release_readers(

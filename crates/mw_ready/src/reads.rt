@@ -1,9 +1,9 @@
 //! How many unfinished tasks read what each task makes.
 
 ghost use Rattle.std.specs.Prelude.{◌≡◌, ℕ, ◌+◌, ◌*◌, ◌%◌, ◌<◌, ◌≤◌, ◌^◌, ◌&&◌, nat_eq, length, slice_index, vec_len, IfOk};
-ghost use Rattle.mw_queue.specs.mw_grid.Counts.{bit, in_range};
-ghost use Rattle.mw_queue.specs.mw_grid.Grids.{columns_of, rows_of, tile_count};
-ghost use Rattle.mw_queue.specs.mw_grid.Blocks.{IsBlock, in_block};
+ghost use Rattle.mw_grid.specs.Counts.{bit, in_range};
+ghost use Rattle.mw_grid.specs.Grids.{columns_of, rows_of, tile_count};
+ghost use Rattle.mw_grid.specs.Blocks.{IsBlock, in_block};
 ghost use Rattle.mw_ready.specs.Boards.{is_source, step_of, step_reads};
 ghost use Rattle.mw_ready.specs.Counters.{Lowers, Raises, Counted};
 ghost use Rattle.mw_ready.specs.Kept.{reader_count, seen_by, takes};
@@ -11,8 +11,8 @@ ghost use Rattle.mw_ready.specs.Spans.{AreSpans, tiles_spanned};
 
 use crate::need::{Need, sources};
 use crate::spans::{Spans, raise_step};
+use mw_grid::{Block, Grid};
 use mw_model::NoMemory;
-use mw_queue::grid::{Block, Grid};
 use std::alloc::Global;
 
 /// For each task of a source of a step, as many readers more as its tile has by the spans, where the source is one of so

@@ -7,9 +7,9 @@ use crate::need::Need;
 use crate::readers::release_readers;
 use crate::reads::{first_readers, lower_sources};
 use crate::waits::first_waits;
+use mw_grid::Grid;
 use mw_model::NoMemory;
-use mw_queue::Queue;
-use mw_queue::grid::Grid;
+use mw_ready_queue::Queue;
 use std::alloc::Global;
 use std::marker::Model;
 
@@ -29,9 +29,9 @@ pub struct Ready {
 
 impl Model for Ready {
     ghost use Rattle.std.specs.Prelude.{◌≡◌, ◌≤◌, length};
-    ghost use Rattle.mw_queue.specs.mw_grid.Grids.{tile_count};
+    ghost use Rattle.mw_grid.specs.Grids.{tile_count};
     ghost use Rattle.mw_ready.specs.Boards.{Turns};
-    ghost use Rattle.mw_queue.specs.Queues.{order_of};
+    ghost use Rattle.mw_ready_queue.specs.Queues.{order_of};
     ghost use Rattle.mw_ready.specs.Kept.{Keeps, CountsReaders, board_of};
     ghost use Rattle.mw_ready.specs.Links.{Linked};
 
@@ -50,7 +50,7 @@ impl Ready {
     ghost use Rattle.std.specs.Prelude.{◌/◌, not, ◌&&◌, ◌||◌, slice_index_or};
     ghost use Rattle.std.specs.List.{list_all, list_any};
     ghost use Rattle.mw_model.specs.Tasks.{flag};
-    ghost use Rattle.mw_queue.specs.mw_grid.Grids.{tile_count};
+    ghost use Rattle.mw_grid.specs.Grids.{tile_count};
     ghost use Rattle.mw_ready.specs.Boards.{task_count, tasks_below, task_number, step_of, no_need, reads, is_ready, ready_tasks, running_tasks, remaining_tasks, fresh, Runs};
 
     /// All tasks of a plan with these needs, none of them started.

@@ -1,15 +1,15 @@
 //! The tasks that wait for a tile are told that it is finished.
 
 ghost use Rattle.std.specs.Prelude.{◌≡◌, ◌+◌, ◌*◌, ◌<◌, ◌≤◌, ◌^◌, length};
-ghost use Rattle.mw_queue.specs.mw_grid.Counts.{in_range};
-ghost use Rattle.mw_queue.specs.mw_grid.Grids.{columns_of, rows_of, tile_count};
-ghost use Rattle.mw_queue.specs.mw_grid.Blocks.{in_block};
+ghost use Rattle.mw_grid.specs.Counts.{in_range};
+ghost use Rattle.mw_grid.specs.Grids.{columns_of, rows_of, tile_count};
+ghost use Rattle.mw_grid.specs.Blocks.{in_block};
 ghost use Rattle.mw_ready.specs.Counters.{Lowers, Waiting, SameTiles};
 ghost use Rattle.mw_ready.specs.Kept.{is_near};
 
+use mw_grid::{Block, Grid};
 use mw_model::Reach;
-use mw_queue::Queue;
-use mw_queue::grid::{Block, Grid};
+use mw_ready_queue::Queue;
 
 /// One thing less for each task of a row.
 fn release_row(queue: &mut Queue, from: u32, to: u32)

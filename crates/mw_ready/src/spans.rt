@@ -3,16 +3,16 @@
 //! takes one product.
 
 ghost use Rattle.std.specs.Prelude.{◌≡◌, ℕ, ◌+◌, ◌-◌, ◌*◌, ◌/◌, ◌%◌, ◌<◌, ◌≤◌, ◌^◌, min, nat_eq, length, slice_index};
-ghost use Rattle.mw_queue.specs.mw_grid.Blocks.{sees};
-ghost use Rattle.mw_queue.specs.mw_grid.Counts.{bit, count_below, in_range};
-ghost use Rattle.mw_queue.specs.mw_grid.Grids.{rows_of, tile_count};
+ghost use Rattle.mw_grid.specs.Blocks.{sees};
+ghost use Rattle.mw_grid.specs.Counts.{bit, count_below, in_range};
+ghost use Rattle.mw_grid.specs.Grids.{rows_of, tile_count};
 ghost use Rattle.mw_ready.specs.Boards.{step_of};
 ghost use Rattle.mw_ready.specs.Counters.{Raises};
 ghost use Rattle.mw_ready.specs.Kept.{seen_by};
 ghost use Rattle.mw_ready.specs.Spans.{AreSpans, span_of, tiles_spanned};
 
+use mw_grid::Grid;
 use mw_model::Reach;
-use mw_queue::grid::Grid;
 
 /// Of windows of one reach: how many columns of tiles those of a column span, and how many rows those of a row. A side has
 /// at most 128 tiles: 8192 pixels in tiles of 64. A frame of few tiles writes and reads as few places.

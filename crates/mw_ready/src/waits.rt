@@ -1,15 +1,15 @@
 //! For how many others each task waits before anything is finished.
 
 ghost use Rattle.std.specs.Prelude.{◌≡◌, ℕ, ◌+◌, ◌*◌, ◌<◌, ◌≤◌, ◌^◌, length, slice_index, vec_len, IfOk};
-ghost use Rattle.mw_queue.specs.mw_grid.Grids.{tile_count};
+ghost use Rattle.mw_grid.specs.Grids.{tile_count};
 ghost use Rattle.mw_ready.specs.Boards.{is_source, step_reads};
-ghost use Rattle.mw_queue.specs.mw_grid.Counts.{count_below};
+ghost use Rattle.mw_grid.specs.Counts.{count_below};
 ghost use Rattle.mw_ready.specs.Kept.{read_count};
 
 use crate::need::{Need, sources};
 use crate::spans::{Spans, raise_step};
+use mw_grid::Grid;
 use mw_model::NoMemory;
-use mw_queue::grid::Grid;
 use std::alloc::Global;
 
 /// How many of so many steps this source is: one or none.

@@ -29,21 +29,21 @@ use Rattle.mw_model.specs.Lines.{Asked, AskLoad, AskElement, AskAlone}
 use Rattle.mw_model.specs.Replies.{Handed, reply_text, refusal_text, NoValue}
 use Rattle.mw_model.specs.Scripts.{Answers, unread, called, Works, Replies, IsCallOf, runs_work, refused_unread, handed, handed_value, answer_text}
 use Rattle.mw_model.specs.Receipts.{IsCallFor}
-use Rattle.mw_wave.specs.mw_script_laws.Marks.{killed_in}
+use Rattle.mw_core_waves.specs.mw_session_laws.Marks.{killed_in}
 use Rattle.mw_session.specs.Turns.{TellsWork, TellsCall, logged, unlogged, MayLack}
-use Rattle.mw_wave.proofs.mw_laws.RunStates.{reached}
-use Rattle.mw_wave.proofs.mw_laws.RunReplay.{refused_leaves, fetch_leaves}
-use Rattle.mw_wave.specs.mw_stands.Payloads.{given_image, image_payload, given_element, element_payload}
-use Rattle.mw_wave.specs.mw_stands.Events.{FollowsMachine, IsFresh, handed_out}
-use Rattle.mw_wave.proofs.mw_stands.ShownLemmas.{IsPlain, answer-not_shown, refused_or-not_shown}
-use Rattle.mw_fetched.specs.mw_store.Fetches.{shown_value}
-use Rattle.mw_fetched.specs.mw_store.declared.fetched.Shown.{Shown}
-use Rattle.mw_fetched.specs.mw_wire.Writes.{told_text}
-use Rattle.mw_wave.specs.Work.{AllWorked}
-use Rattle.mw_fetched.specs.Texts.{fetch_text, SaysFetched}
-use Rattle.mw_wave.specs.mw_stands.Rows.{IsLogFull}
+use Rattle.mw_core_waves.proofs.mw_model_laws.RunStates.{reached}
+use Rattle.mw_core_waves.proofs.mw_model_laws.RunReplay.{refused_leaves, fetch_leaves}
+use Rattle.mw_core_waves.specs.mw_core_laws.Payloads.{given_image, image_payload, given_element, element_payload}
+use Rattle.mw_core_waves.specs.mw_core_laws.Events.{FollowsMachine, IsFresh, handed_out}
+use Rattle.mw_core_waves.proofs.mw_core_laws.ShownLemmas.{IsPlain, answer-not_shown, refused_or-not_shown}
+use Rattle.mw_session_fetch.specs.mw_store.Fetches.{shown_value}
+use Rattle.mw_session_fetch.specs.mw_store.declared.fetched.FetchedValue.{FetchedValue}
+use Rattle.mw_session_fetch.specs.mw_wire.Writes.{told_text}
+use Rattle.mw_core_waves.specs.Work.{AllWorked}
+use Rattle.mw_session_fetch.specs.Texts.{fetch_text, SaysFetched}
+use Rattle.mw_core_waves.specs.mw_core_laws.Rows.{IsLogFull}
 use Rattle.mw_session.specs.Answering.{ReadsImage, ReadsElement, MayWant, Answered}
-use Rattle.mw_wave.proofs.TicketCounts.{under, none-under, count-under, running_count-stays_none}
+use Rattle.mw_core_waves.proofs.TicketCounts.{under, none-under, count-under, running_count-stays_none}
 
 -- ---- texts
 
@@ -76,7 +76,7 @@ handed-bytes m (reply.Released t) = refl
 handed-bytes m (reply.Shown t) = refl
 
 -- what a FETCH hands out is the machine's
-fetched-text : (m : Machine) (r : Reply) (v : Shown) → shown_value v ≡ handed_out m r → fetch_text r v ≡ reply_text r (handed m r)
+fetched-text : (m : Machine) (r : Reply) (v : FetchedValue) → shown_value v ≡ handed_out m r → fetch_text r v ≡ reply_text r (handed m r)
 fetched-text m r v e = ap (λ o. reply_text r (handed_value o)) e ∙ ap (reply_text r) (handed-bytes m r)
 
 -- ---- payloads
@@ -259,7 +259,7 @@ pub called-plain : (m : Machine) (q : Asked) (c : Call) (p : Option Value) (r : 
 called-plain m q c p r is plain told = called c p is (plain-text m c r plain told) refl
 
 -- a FETCH was answered
-pub answered-fetch : (m : Machine) (name : Name) (old mid new : CoreView) (h : Ready m (AskAlone (ask.Fetch name)) old mid) (r : Reply) (v : Shown) (text : List ℕ)
+pub answered-fetch : (m : Machine) (name : Name) (old mid new : CoreView) (h : Ready m (AskAlone (ask.Fetch name)) old mid) (r : Reply) (v : FetchedValue) (text : List ℕ)
     → FollowsMachine mid (call.Fetch name) None new r → shown_value v ≡ handed_out h.state r → SaysFetched r v text → Answered m old (AskAlone (ask.Fetch name)) text new
 answered-fetch m name old mid new h r v text served value (inl says) =
     let c = call.Fetch name in

@@ -8,12 +8,12 @@ use Rattle.mw_model.specs.Machine.{Machine}
 use Rattle.mw_model.specs.Stands.{CoreView, StandsFor, running_count}
 use Rattle.mw_model.specs.Lines.{Asked, Begins}
 use Rattle.mw_model.specs.Scripts.{Turn, NoQuit, requests}
-use Rattle.mw_fetched.specs.Errors.{is_error_line}
-use Rattle.mw_fetched.specs.mw_wire.declared.fault.SessionFault.{SessionFault}
-use Rattle.mw_fetched.specs.mw_wire.declared.fault.SessionFault.TheVariants as fault
-use Rattle.mw_fetched.specs.mw_wire.Rooms.{LacksRoom}
-use Rattle.mw_fetched.specs.mw_wire.Chains.{NoneQuits, AreAnswered, HasAnswered}
-use Rattle.mw_fetched.specs.mw_wire.Runs.{AllAnswered, CameToEnd, DeskRan}
+use Rattle.mw_session_fetch.specs.Errors.{is_error_line}
+use Rattle.mw_session_fetch.specs.mw_wire.declared.fault.SessionFault.{SessionFault}
+use Rattle.mw_session_fetch.specs.mw_wire.declared.fault.SessionFault.TheVariants as fault
+use Rattle.mw_session_fetch.specs.mw_wire.Rooms.{LacksRoom}
+use Rattle.mw_session_fetch.specs.mw_wire.Chains.{NoneQuits, AreAnswered, HasAnswered}
+use Rattle.mw_session_fetch.specs.mw_wire.Runs.{AllAnswered, CameToEnd, DeskRan}
 use Rattle.mw_session.specs.Turns.{TurnsMade, HasServed}
 use Rattle.mw_session.specs.declared.tally.Tally.{Tally}
 use Rattle.mw_session.specs.Answering.{ScriptAnswer}

@@ -6,13 +6,13 @@ use Rattle.std.specs.Io.KnownBytes.{Appends, IsAtEnd}
 use Rattle.mw_model.specs.declared.calls.LogItem.{LogItem}
 use Rattle.mw_model.specs.declared.requests.End.{End}
 use Rattle.mw_model.specs.Machine.{Machine}
-use Rattle.mw_fetched.specs.mw_wire.declared.fault.SessionFault.{SessionFault}
-use Rattle.mw_fetched.specs.mw_wire.declared.fault.SessionFault.TheVariants as fault
+use Rattle.mw_session_fetch.specs.mw_wire.declared.fault.SessionFault.{SessionFault}
+use Rattle.mw_session_fetch.specs.mw_wire.declared.fault.SessionFault.TheVariants as fault
 use Rattle.mw_model.specs.Scripts.{Turn, AreTurns, Serves, Works, IsScript, IsBroken, runs_work, end_text}
-use Rattle.mw_wave.specs.mw_script_laws.Marks.{kills_of, killed_in}
+use Rattle.mw_core_waves.specs.mw_session_laws.Marks.{kills_of, killed_in}
 use Rattle.mw_session.specs.Turns.{TellsWork, TellsCall, logged, unlogged, TurnMade, TurnsMade, HasServed}
 use Rattle.mw_session.specs.Runs.{ShowsKills, Drained, Finished, CutReply, CutEnd, Stopped}
-use Rattle.mw_wave.proofs.mw_script_laws.Finishing.{kills_append}
+use Rattle.mw_core_waves.proofs.mw_session_laws.Finishing.{kills_append}
 use Rattle.mw_session.proofs.Turns.{served_append, served_one}
 
 are_turns : (ts : List Turn) (m n : Machine) (x : List ℕ) (is : List LogItem) → TurnsMade m ts x is n → AreTurns m ts x n

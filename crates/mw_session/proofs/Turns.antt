@@ -5,9 +5,9 @@ use Rattle.mw_model.specs.declared.calls.LogItem.{LogItem}
 use Rattle.mw_model.specs.declared.requests.Ask.TheVariants as ask
 use Rattle.mw_model.specs.Machine.{Machine}
 use Rattle.mw_model.specs.Lines.{AskAlone, Found, Begins}
-use Rattle.mw_wave.specs.mw_intake.Reading.{front}
+use Rattle.mw_core_waves.specs.mw_session_intake.Reading.{front}
 use Rattle.mw_model.specs.Scripts.{Turn, requests, NoQuit}
-use Rattle.mw_wave.proofs.mw_intake.Front.{is_front}
+use Rattle.mw_core_waves.proofs.mw_session_intake.Front.{is_front}
 use Rattle.mw_session.specs.Turns.{TurnMade, TurnsMade, HasServed}
 
 pub begins_append : (ts us : List Turn) (xs mid rest : List ℕ) → Begins xs (requests ts) mid → Begins mid (requests us) rest → Begins xs (requests (ts ++ us)) rest

@@ -12,7 +12,7 @@ use Rattle.mw_model.specs.declared.requests.Ask.TheVariants as ask
 use Rattle.mw_model.specs.Lines.{Asked, AskLoad, AskElement, AskAlone}
 use Rattle.mw_model.specs.Scripts.{Turn, refused_unread}
 use Rattle.mw_model.specs.Stands.{CoreView, StandsFor, running_count}
-use Rattle.mw_wave.specs.mw_stands.Rows.{IsLogFull}
+use Rattle.mw_core_waves.specs.mw_core_laws.Rows.{IsLogFull}
 use Rattle.mw_session.specs.Turns.{TurnMade}
 
 -- the payload of a LOAD as an image, or why it is none, or want of memory

@@ -3,5 +3,4 @@ pub mod Runs
 pub mod Answering
 pub mod Tallies
 -- what lower crates offer
-pub mod mw_grid
 pub mod mw_wire

@@ -7,13 +7,13 @@ use Rattle.mw_model.specs.declared.requests.End.{End}
 use Rattle.mw_model.specs.Machine.{Machine}
 use Rattle.mw_model.specs.Stands.{CoreView, StandsFor, running_count}
 use Rattle.mw_model.specs.Lines.{AskAlone, Found, Partial}
-use Rattle.mw_wave.specs.mw_intake.Reading.{front}
+use Rattle.mw_core_waves.specs.mw_session_intake.Reading.{front}
 use Rattle.mw_model.specs.Scripts.{Turn, end_text}
-use Rattle.mw_wave.specs.mw_script_laws.Marks.{kills_of, killed_in}
-use Rattle.mw_fetched.specs.mw_wire.Rooms.{EndsAt, LacksRoom}
+use Rattle.mw_core_waves.specs.mw_session_laws.Marks.{kills_of, killed_in}
+use Rattle.mw_session_fetch.specs.mw_wire.Rooms.{EndsAt, LacksRoom}
 use Rattle.mw_session.specs.Turns.{TurnMade, HasServed}
-use Rattle.mw_fetched.specs.mw_wire.declared.fault.SessionFault.{SessionFault}
-use Rattle.mw_fetched.specs.mw_wire.declared.fault.SessionFault.TheVariants as fault
+use Rattle.mw_session_fetch.specs.mw_wire.declared.fault.SessionFault.{SessionFault}
+use Rattle.mw_session_fetch.specs.mw_wire.declared.fault.SessionFault.TheVariants as fault
 
 -- ---- where a run stands
 

@@ -6,8 +6,8 @@ use Rattle.mw_model.specs.Lines.{Asked}
 use Rattle.mw_model.specs.Machine.{Machine}
 use Rattle.mw_model.specs.Scripts.{Turn, IsTurn}
 use Rattle.mw_model.specs.Stands.{CoreView}
-use Rattle.mw_fetched.specs.Errors.{Marks, is_error_line}
-use Rattle.mw_fetched.specs.mw_wire.declared.fault.SessionFault.{SessionFault}
+use Rattle.mw_session_fetch.specs.Errors.{Marks, is_error_line}
+use Rattle.mw_session_fetch.specs.mw_wire.declared.fault.SessionFault.{SessionFault}
 use Rattle.mw_session.specs.declared.tally.Tally.{Tally}
 use Rattle.mw_session.specs.Answering.{ScriptAnswer}
 use Rattle.mw_session.specs.Runs.{SessionRan}

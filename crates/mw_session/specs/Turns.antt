@@ -11,7 +11,7 @@ use Rattle.mw_model.specs.Machine.{Machine}
 use Rattle.mw_model.specs.Receipts.{IsCallFor, MayFail}
 use Rattle.mw_model.specs.Refusals.{refusal}
 use Rattle.mw_model.specs.Scripts.{Turn, IsTurn, NoQuit, requests, runs_work}
-use Rattle.mw_wave.specs.mw_script_laws.Marks.{OnlyWork, killed_in}
+use Rattle.mw_core_waves.specs.mw_session_laws.Marks.{OnlyWork, killed_in}
 
 -- the log tells of the work before a request, these kills among it; nothing, where no work is run
 abbrev pub TellsWork : Bool → List ℕ → List LogItem → Type 0

@@ -1,5 +1,5 @@
 -- What `mw_wire` offers, for the crates above.
-pub use Rattle.mw_fetched.specs.mw_wire.Faults
-pub use Rattle.mw_fetched.specs.mw_wire.Rooms
-pub use Rattle.mw_fetched.specs.mw_wire.Writes
-pub use Rattle.mw_fetched.specs.mw_wire.declared
+pub use Rattle.mw_session_fetch.specs.mw_wire.Faults
+pub use Rattle.mw_session_fetch.specs.mw_wire.Rooms
+pub use Rattle.mw_session_fetch.specs.mw_wire.Writes
+pub use Rattle.mw_session_fetch.specs.mw_wire.declared

@@ -4,17 +4,17 @@ ghost use Rattle.std.specs.Prelude.{◌≡◌, ◌≢◌, ℕ, List, OnOk, OnErr
 ghost use Rattle.mw_model.specs.declared.names.Name.{Name};
 ghost use Rattle.mw_model.specs.declared.requests.Ask.TheVariants as Ask;
 ghost use Rattle.mw_model.specs.Lines.{AskLoad, AskElement, AskAlone};
-ghost use Rattle.mw_fetched.specs.Errors.{Marks};
-ghost use Rattle.mw_fetched.specs.mw_intake.Intake.{asked};
+ghost use Rattle.mw_session_fetch.specs.Errors.{Marks};
+ghost use Rattle.mw_session_fetch.specs.mw_session_intake.Intake.{asked};
 ghost use Rattle.mw_session.specs.Answering.{ScriptAnswer};
-ghost use Rattle.mw_fetched.specs.mw_wire.Writes.{Wrote};
+ghost use Rattle.mw_session_fetch.specs.mw_wire.Writes.{Wrote};
 
 use crate::payloads::{read_element, read_image};
 use crate::tally::Tally;
-use mw_fetched::wire::{Desk, SessionFault, Sink};
-use mw_fetched::{note_fetched, note_told};
+use mw_core_waves::{Core, Crew, Pick, run_all_work};
 use mw_model::{Name, NoMemory, Op, Request};
-use mw_wave::{Core, Crew, Pick, run_all_work};
+use mw_session_fetch::wire::{Handler, SessionFault, Sink};
+use mw_session_fetch::{note_fetched, note_told};
 use std::alloc::Global;
 use std::io::Write;
 use std::thread::Threads;
@@ -167,12 +167,12 @@ fn answer_one<W: Write, P: Pick, T: Threads + Sync>(
 
 /// Answers from a core, whose work is run by a crew in the order of the picks.
 #[derive(Drop)]
-pub(crate) struct Clerk<'r, 'p, P, T> {
+pub(crate) struct ScriptHandler<'r, 'p, P, T> {
     pub crew: Crew<'r, T>,
     pub pick: &'p mut P,
 }
 
-impl<P: Pick, T: Threads + Sync> Desk for Clerk<'_, '_, P, T> {
+impl<P: Pick, T: Threads + Sync> Handler for ScriptHandler<'_, '_, P, T> {
     ghost use Rattle.std.specs.Thread.{IsSync};
     ghost use Rattle.mw_session.specs.Answering.{ScriptAnswer};
 
@@ -200,7 +200,7 @@ pub(crate) struct Teller<'r, 'p, P, T> {
     pub pick: &'p mut P,
 }
 
-impl<P: Pick, T: Threads + Sync> Desk for Teller<'_, '_, P, T> {
+impl<P: Pick, T: Threads + Sync> Handler for Teller<'_, '_, P, T> {
     ghost use Rattle.std.specs.Thread.{IsSync};
     ghost use Rattle.mw_session.specs.Tallies.{Tallied};
 

@@ -6,9 +6,9 @@ ghost use Rattle.mw_model.specs.declared.calls.LogItem.{LogItem};
 ghost use Rattle.mw_model.specs.declared.requests.End.{End};
 ghost use Rattle.mw_model.specs.Machine.{Machine};
 ghost use Rattle.mw_model.specs.Scripts.{Turn, IsScript, IsBroken};
-ghost use Rattle.mw_fetched.specs.mw_wire.Rooms.{LacksRoom};
+ghost use Rattle.mw_session_fetch.specs.mw_wire.Rooms.{LacksRoom};
 ghost use Rattle.mw_session.specs.Runs.{Finished, ShowsKills, Stopped};
-ghost use Rattle.mw_fetched.specs.mw_wire.declared.fault.SessionFault.{SessionFault};
+ghost use Rattle.mw_session_fetch.specs.mw_wire.declared.fault.SessionFault.{SessionFault};
 
 /// A session that has ended wrote the script of its bytes, and the kills of its turns are those of the log.
 pub fn finished_is_script()

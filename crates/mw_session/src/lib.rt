@@ -14,12 +14,12 @@ mod script;
 mod tally;
 
 pub use laws::{finished_is_script, stopped_is_broken};
+pub use mw_core_waves::{Core, Crew, Pick};
 pub use mw_model::End;
-pub use mw_wave::{Core, Crew, Pick};
 pub use script::{run_counted, run_script};
 pub use tally::Tally;
 
 // What lower crates offer, for the crates above.
 pub mod wire {
-    pub use mw_fetched::wire::{ReplyLine, Sink, Source, send, tell};
+    pub use mw_session_fetch::wire::{ReplyLine, Sink, Source, send, tell};
 }

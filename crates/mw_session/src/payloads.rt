@@ -4,9 +4,9 @@ ghost use Rattle.std.specs.Result.{ForOk};
 ghost use Rattle.mw_model.specs.Pictures.{IsImage};
 ghost use Rattle.mw_session.specs.Answering.{ReadsImage, ReadsElement};
 
+use mw_core_waves::element::Element;
+use mw_core_waves::pixel::Image;
 use mw_model::Code;
-use mw_wave::element::Element;
-use mw_wave::pixel::Image;
 use std::alloc::Global;
 
 /// The image that a payload is, or why it is none.
@@ -14,7 +14,7 @@ pub(crate) fn read_image(alloc: Global, bytes: Vec<u8>) -> Result<Image, Code>
     ensures read { ReadsImage bytes.items result }
     ensures image { ForOk result IsImage }
 {
-    match mw_wave::netpbm::read_owned(alloc, bytes) {
+    match mw_core_waves::netpbm::read_owned(alloc, bytes) {
         Ok(image) => Ok(image),
         Err(fault) => Err(fault.code()),
     }

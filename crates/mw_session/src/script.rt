@@ -6,11 +6,11 @@ ghost use Rattle.mw_model.specs.Stands.{StandsFor, running_count};
 ghost use Rattle.mw_session.specs.Runs.{SessionRan};
 ghost use Rattle.mw_session.specs.Tallies.{IsCounted};
 
-use crate::answer::{Clerk, Teller};
+use crate::answer::{ScriptHandler, Teller};
 use crate::tally::Tally;
-use mw_fetched::wire::{SessionFault, Sink, Source, run_session};
+use mw_core_waves::{Core, Crew, Pick};
 use mw_model::End;
-use mw_wave::{Core, Crew, Pick};
+use mw_session_fetch::wire::{SessionFault, Sink, Source, run_session};
 use std::io::{Read, Write};
 use std::thread::Threads;
 
@@ -39,7 +39,7 @@ pub fn run_script<R: Read, W: Write, P: Pick, T: Threads + Sync>(
     ensures reader_failed { source.new.failed ≡ true → result ≡ Err SessionFault.Read }
     ensures writer_failed { sink.new.failed ≡ true → result ≡ Err SessionFault.Write }
 {
-    let mut clerk = Clerk { crew, pick };
+    let mut clerk = ScriptHandler { crew, pick };
     run_session(crew.alloc, source, sink, &mut clerk, core)
 }
 

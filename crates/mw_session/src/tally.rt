@@ -2,7 +2,7 @@
 
 ghost use Rattle.std.specs.Prelude.{◌≡◌, false};
 
-use mw_wave::Core;
+use mw_core_waves::Core;
 
 /// A core, the number of the line in which the next request stands, of the lines of requests, and whether a reply was a
 /// refusal.

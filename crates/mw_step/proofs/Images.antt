@@ -8,13 +8,13 @@ use Rattle.mw_model.specs.Pictures.{Picture, picture}
 use Rattle.mw_model.specs.Plans.{is_sum}
 use Rattle.mw_model.specs.PlanSteps.{PlanStep, step_at, kind_of_step, maxval_of_step}
 use Rattle.mw_model.specs.Tasks.{made_in}
-use Rattle.mw_joined.specs.mw_tile.Windows.{SourceWindow}
-use Rattle.mw_task.specs.WindowTasks.{WindowTask, window_at, tile_made}
-use Rattle.mw_task.specs.Products.{HoldsImage, IsMade, tile_drawn}
-use Rattle.mw_task.specs.declared.tile_result.TileResult.{TileResult}
-use Rattle.mw_task.specs.declared.tile_result.TileResult.TheVariants.{Bits, Grey8, Grey16, Number}
-use Rattle.mw_joined.proofs.mw_pieces.TileCells.{cells_in_are}
-use Rattle.mw_joined.proofs.mw_pieces.Windows.{source_window}
+use Rattle.mw_step_task.specs.mw_tile.Windows.{SourceWindow}
+use Rattle.mw_step_task.specs.WindowTasks.{WindowTask, window_at, tile_made}
+use Rattle.mw_step_task.specs.Products.{HoldsImage, IsMade, tile_drawn}
+use Rattle.mw_step_task.specs.declared.tile_result.TileResult.{TileResult}
+use Rattle.mw_step_task.specs.declared.tile_result.TileResult.TheVariants.{Bits, Grey8, Grey16, Number}
+use Rattle.mw_step_task.proofs.mw_tile_pieces.TileCells.{cells_in_are}
+use Rattle.mw_step_task.proofs.mw_tile_pieces.Windows.{source_window}
 
 -- a plane with the values of a tile is the image of the tile
 pub plane_is : (kind : Kind) (maxval : ℕ) (tile : Rect) (value : ℕ → ℕ → ℕ) (p : Raster ℕ) → p.width ≡ tile.width → p.height ≡ tile.height → length p.cells ≡ tile.height * tile.width

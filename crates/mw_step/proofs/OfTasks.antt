@@ -10,11 +10,11 @@ use Rattle.mw_model.specs.Windows.{seen_at}
 use Rattle.mw_model.specs.Plans.{is_sum}
 use Rattle.mw_model.specs.PlanSteps.{PlanStep, Sum, origin, looks_at, here}
 use Rattle.mw_model.specs.Tasks.{cells_in, place_read}
-use Rattle.mw_task.specs.WindowTasks.{made_of_windows, WindowTask, window_at, IsRead}
-use Rattle.mw_joined.specs.mw_tile.Windows.{SourceWindow}
-use Rattle.mw_task.specs.Products.{HoldsImage, IsMade}
-use Rattle.mw_task.specs.declared.tile_result.TileResult.{TileResult}
-use Rattle.mw_task.specs.declared.tile_result.TileResult.TheVariants.{Number}
+use Rattle.mw_step_task.specs.WindowTasks.{made_of_windows, WindowTask, window_at, IsRead}
+use Rattle.mw_step_task.specs.mw_tile.Windows.{SourceWindow}
+use Rattle.mw_step_task.specs.Products.{HoldsImage, IsMade}
+use Rattle.mw_step_task.specs.declared.tile_result.TileResult.{TileResult}
+use Rattle.mw_step_task.specs.declared.tile_result.TileResult.TheVariants.{Number}
 use Rattle.mw_step.proofs.Images.{tile_by, tile_is, made_image}
 use Rattle.mw_step.proofs.PlaceByPlace.{Fills, three_cells}
 

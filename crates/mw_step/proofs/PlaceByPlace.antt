@@ -14,11 +14,11 @@ use Rattle.mw_model.specs.Windows.{View, seen_at}
 use Rattle.mw_model.specs.PlanSteps.{here}
 use Rattle.mw_model.specs.Tasks.{cells_in}
 use Rattle.mw_model.specs.Pictures.{picture}
-use Rattle.mw_joined.proofs.mw_tile.Shown.{seen_in}
-use Rattle.mw_task.specs.Products.{tile_drawn, three_drawn, both_drawn, each_drawn, plane_drawn}
-use Rattle.mw_joined.proofs.mw_pieces.TileCells.{cells_in_is}
-use Rattle.mw_joined.specs.mw_tile.Windows.{SourceWindow}
-use Rattle.mw_joined.proofs.mw_pieces.Windows.{source_window}
+use Rattle.mw_step_task.proofs.mw_tile.Shown.{seen_in}
+use Rattle.mw_step_task.specs.Products.{tile_drawn, three_drawn, both_drawn, each_drawn, plane_drawn}
+use Rattle.mw_step_task.proofs.mw_tile_pieces.TileCells.{cells_in_is}
+use Rattle.mw_step_task.specs.mw_tile.Windows.{SourceWindow}
+use Rattle.mw_step_task.proofs.mw_tile_pieces.Windows.{source_window}
 
 -- the cells of a window fill its place
 abbrev pub Fills : Rect → View ℕ → Type 0

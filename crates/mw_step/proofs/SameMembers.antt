@@ -6,11 +6,11 @@ use Rattle.mw_model.specs.declared.places.Offset.{Offset}
 use Rattle.mw_model.specs.declared.places.OffsetBox.{OffsetBox}
 use Rattle.mw_model.specs.declared.places.Rect.{Rect}
 use Rattle.mw_model.specs.Places.{box_offsets}
-use Rattle.mw_task.specs.mw_element.Figures.{FillsBox}
+use Rattle.mw_step_task.specs.mw_element.Figures.{FillsBox}
 use Rattle.mw_model.specs.Rasters.{Raster, Sight, seen_under}
-use Rattle.mw_set_ranks.specs.mw_line.Extrema.{IsSlidingExtremum}
-use Rattle.mw_set_ranks.proofs.mw_line.Folds.{IsExtremum}
-use Rattle.mw_task.proofs.Boxes.{box_all, box_at}
+use Rattle.mw_rank_bits.specs.mw_line.Extrema.{IsSlidingExtremum}
+use Rattle.mw_rank_bits.proofs.mw_line.Folds.{IsExtremum}
+use Rattle.mw_step_task.proofs.Boxes.{box_all, box_at}
 
 -- a value that is merged before the list may be merged after it
 merged_late : {A : Type 0} (f : A → A → A) → IsExtremum f → (a b : A) (xs : List A) → fold f (f a b) xs ≡ f (fold f a xs) b

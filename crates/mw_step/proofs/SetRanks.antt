@@ -16,8 +16,8 @@ use Rattle.mw_model.specs.Rasters.{Raster, raster, cell_at, seen_under}
 use Rattle.mw_model.specs.Windows.{View, seen_at}
 use Rattle.mw_model.proofs.ImageLaws.{sorted_below, index_below}
 use Rattle.mw_rank_rows.specs.mw_rank.Ranks.{IsRank}
-use Rattle.mw_set_ranks.specs.Elements.{IsSetRank}
-use Rattle.mw_set_ranks.specs.mw_bits.Uniform.{HasOnly}
+use Rattle.mw_rank_bits.specs.Elements.{IsSetRank}
+use Rattle.mw_rank_bits.specs.mw_bits.Uniform.{HasOnly}
 use Rattle.mw_step.proofs.Levels.{two_levels}
 use Rattle.mw_step.proofs.SameMembers.{of_seen}
 

@@ -9,14 +9,14 @@ use Rattle.mw_model.specs.declared.shapes.Kind.{Kind}
 use Rattle.mw_model.specs.Rasters.{Raster, raster}
 use Rattle.mw_model.specs.Windows.{View}
 use Rattle.mw_model.specs.Pictures.{picture}
-use Rattle.mw_joined.specs.mw_tile.Windows.{SourceWindow}
-use Rattle.mw_joined.specs.mw_tile.Cuts.{view_of}
-use Rattle.mw_set_ranks.specs.mw_bits.Uniform.{HasOnly}
-use Rattle.mw_joined.specs.mw_pieces.Patches.{Joint, IsJoint, IsJoined, IsWholeOf}
-use Rattle.mw_joined.specs.mw_pieces.Shared.{level_in, source_joint}
-use Rattle.mw_joined.proofs.mw_pieces.TileCells.{length-cells_in}
-use Rattle.mw_joined.proofs.mw_pieces.Windows.{joined_is}
-use Rattle.mw_task.specs.Products.{both_drawn, three_drawn, plane_drawn}
+use Rattle.mw_step_task.specs.mw_tile.Windows.{SourceWindow}
+use Rattle.mw_step_task.specs.mw_tile.Cuts.{view_of}
+use Rattle.mw_rank_bits.specs.mw_bits.Uniform.{HasOnly}
+use Rattle.mw_step_task.specs.mw_tile_pieces.Patches.{Joint, IsJoint, IsJoined, IsWholeOf}
+use Rattle.mw_step_task.specs.mw_tile_pieces.Shared.{level_in, source_joint}
+use Rattle.mw_step_task.proofs.mw_tile_pieces.TileCells.{length-cells_in}
+use Rattle.mw_step_task.proofs.mw_tile_pieces.Windows.{joined_is}
+use Rattle.mw_step_task.specs.Products.{both_drawn, three_drawn, plane_drawn}
 use Rattle.mw_step.proofs.PlaceByPlace.{Fills, three_held}
 
 -- the cells of a window in pieces fill its place

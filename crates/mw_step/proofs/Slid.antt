@@ -10,11 +10,11 @@ use Rattle.mw_model.specs.PlanSteps.{ranked}
 use Rattle.mw_model.specs.Rasters.{Raster, seen_under}
 use Rattle.mw_model.specs.Windows.{View, seen_at}
 use Rattle.mw_model.specs.Pictures.{picture}
-use Rattle.mw_joined.specs.mw_tile.Windows.{SourceWindow}
-use Rattle.mw_task.specs.Products.{tile_drawn}
-use Rattle.mw_set_ranks.specs.mw_line.Extrema.{IsSlidingExtremum}
+use Rattle.mw_step_task.specs.mw_tile.Windows.{SourceWindow}
+use Rattle.mw_step_task.specs.Products.{tile_drawn}
+use Rattle.mw_rank_bits.specs.mw_line.Extrema.{IsSlidingExtremum}
 use Rattle.mw_rank_rows.specs.mw_rank.Ranks.{IsRank}
-use Rattle.mw_joined.proofs.mw_pieces.Windows.{source_window}
+use Rattle.mw_step_task.proofs.mw_tile_pieces.Windows.{source_window}
 use Rattle.mw_step.proofs.Images.{slid_plane}
 
 -- of an extremum, which of levels up to the maxval is what it is said to be

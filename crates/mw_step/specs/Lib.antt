@@ -1,2 +1,1 @@
-pub mod mw_grid
-pub mod mw_task
+pub mod mw_step_task

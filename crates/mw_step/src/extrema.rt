@@ -1,9 +1,9 @@
 //! The lesser and the greater of levels, whatever samples hold them.
 
-use mw_joined::pixel::{Bit, Extremum, Max, Min, Plane};
-use mw_joined::tile::Window;
 use mw_model::NoMemory;
-use mw_set_ranks::bits::{WordExtremum, join, meet};
+use mw_rank_bits::bits::{WordExtremum, join, meet};
+use mw_step_task::pixel::{Bit, Extremum, Max, Min, Plane};
+use mw_step_task::tile::Window;
 use std::alloc::Global;
 
 /// An extremum of samples of every type, and what it is of their levels: of two, and of all that are seen in an image with

@@ -5,18 +5,18 @@ ghost use Rattle.mw_model.specs.Places.{box_offsets};
 ghost use Rattle.mw_model.specs.PlanSteps.{ranked};
 ghost use Rattle.mw_model.specs.Rasters.{seen_under};
 ghost use Rattle.mw_model.specs.Windows.{seen_at};
-ghost use Rattle.mw_task.specs.Products.{HoldsImage, tile_drawn};
+ghost use Rattle.mw_step_task.specs.Products.{HoldsImage, tile_drawn};
 
 use crate::extrema::LevelExtremum;
 use crate::kinds::of_samples;
 use crate::ranked::rank_of_levels;
 use crate::ranks::rank_of_set;
 use crate::sliding::{set_under_element, under_box, under_element};
-use mw_joined::tile::AnyWindow;
 use mw_model::{NoMemory, OffsetBox, Rect};
-use mw_set_ranks::bits;
-use mw_task::TileResult;
-use mw_task::element::Element;
+use mw_rank_bits::bits;
+use mw_step_task::TileResult;
+use mw_step_task::element::Element;
+use mw_step_task::tile::AnyWindow;
 use std::alloc::Global;
 
 /// At each place of the tile the extremum of the samples under the element.

@@ -7,13 +7,13 @@
 ghost use Rattle.std.specs.Prelude.{◌≡◌, ◌≤◌, IfOk};
 ghost use Rattle.mw_model.specs.declared.shapes.Kind.TheVariants as kind;
 ghost use Rattle.mw_model.specs.Pictures.{Picture};
-ghost use Rattle.mw_joined.specs.mw_pixel.Images.{set_of, grey_of};
-ghost use Rattle.mw_task.specs.Products.{HoldsImage};
+ghost use Rattle.mw_step_task.specs.mw_pixel.Images.{set_of, grey_of};
+ghost use Rattle.mw_step_task.specs.Products.{HoldsImage};
 
-use mw_joined::pixel::{Bit, Pixel, Plane};
-use mw_joined::tile::{AnyWindow, Window, WindowView};
 use mw_model::NoMemory;
-use mw_task::TileResult;
+use mw_step_task::TileResult;
+use mw_step_task::pixel::{Bit, Pixel, Plane};
+use mw_step_task::tile::{AnyWindow, Window, WindowView};
 use std::alloc::Global;
 use std::sync::Arc;
 
@@ -21,15 +21,15 @@ use std::sync::Arc;
 macro_rules! of_samples {
     ($alloc:expr, $window:expr, |$set:ident| $made:expr, |$samples:ident, $maxval:ident| $plane:expr) => {
         match $window.view() {
-            mw_joined::tile::WindowView::Bits($set) => {
+            mw_step_task::tile::WindowView::Bits($set) => {
                 let plane = $made?;
                 $crate::kinds::made_bits($alloc, plane)
             }
-            mw_joined::tile::WindowView::Grey8($samples, $maxval) => {
+            mw_step_task::tile::WindowView::Grey8($samples, $maxval) => {
                 let plane = $plane?;
                 $crate::kinds::made_bytes($alloc, plane, $maxval)
             }
-            mw_joined::tile::WindowView::Grey16($samples, $maxval) => {
+            mw_step_task::tile::WindowView::Grey16($samples, $maxval) => {
                 let plane = $plane?;
                 $crate::kinds::made_words($alloc, plane, $maxval)
             }
@@ -41,17 +41,17 @@ macro_rules! of_samples {
 macro_rules! of_both {
     ($alloc:expr, $a:expr, $b:expr, |$set:ident, $other:ident| $made:expr, |$first:ident, $second:ident| $plane:expr) => {
         match $a.view() {
-            mw_joined::tile::WindowView::Bits($set) => {
+            mw_step_task::tile::WindowView::Bits($set) => {
                 let $other = $crate::kinds::bits_of($b);
                 let plane = $made?;
                 $crate::kinds::made_bits($alloc, plane)
             }
-            mw_joined::tile::WindowView::Grey8($first, maxval) => {
+            mw_step_task::tile::WindowView::Grey8($first, maxval) => {
                 let $second = $crate::kinds::bytes_of($b, maxval);
                 let plane = $plane?;
                 $crate::kinds::made_bytes($alloc, plane, maxval)
             }
-            mw_joined::tile::WindowView::Grey16($first, maxval) => {
+            mw_step_task::tile::WindowView::Grey16($first, maxval) => {
                 let $second = $crate::kinds::words_of($b);
                 let plane = $plane?;
                 $crate::kinds::made_words($alloc, plane, maxval)

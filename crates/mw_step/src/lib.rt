@@ -26,5 +26,5 @@ pub use make::{compute, run};
 
 // What lower crates offer, for the crates above.
 pub mod task {
-    pub use mw_task::{TaskRefused, TileDone, TileResult, Work};
+    pub use mw_step_task::{TaskRefused, TileDone, TileResult, Work};
 }

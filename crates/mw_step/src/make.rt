@@ -1,18 +1,18 @@
 //! Running a task: what each step makes of its windows.
 
 ghost use Rattle.std.specs.Prelude.{◌≡◌, ◌<◌, IfOk, IfErr};
-ghost use Rattle.mw_task.specs.WindowTasks.{source_count, window_at, IsRead, KindsFit};
-ghost use Rattle.mw_task.specs.Products.{IsMade};
+ghost use Rattle.mw_step_task.specs.WindowTasks.{source_count, window_at, IsRead, KindsFit};
+ghost use Rattle.mw_step_task.specs.Products.{IsMade};
 
 use crate::flat::{rank_filter, slide, slide_box};
 use crate::marks::{mark, mark_last};
 use crate::pairs::{merge, minus};
 use crate::singles::{at_least, blank, equal, invert, sum_up};
-use mw_joined::pieces::SharedWindow;
-use mw_joined::pixel::{Max, Min};
-use mw_joined::tile::AnyWindow;
 use mw_model::NoMemory;
-use mw_task::{Step, TaskRefused, TileDone, TileResult, Work};
+use mw_step_task::pieces::SharedWindow;
+use mw_step_task::pixel::{Max, Min};
+use mw_step_task::tile::AnyWindow;
+use mw_step_task::{Step, TaskRefused, TileDone, TileResult, Work};
 use std::alloc::Global;
 
 /// The window of a source of the task, among its windows.
@@ -54,7 +54,7 @@ fn put_together(alloc: Global, work: &Work) -> Result<Vec<AnyWindow>, NoMemory>
     let windows = work.windows();
     let mut joined = Vec::with_capacity(alloc, windows.len())?;
     for window in windows {
-        joined.push(mw_joined::joined(alloc, window)?)?;
+        joined.push(mw_step_task::pieces::assemble(alloc, window)?)?;
     }
     Ok(joined)
 }

@@ -3,17 +3,17 @@
 ghost use Rattle.std.specs.Prelude.{◌≡◌, ◌*◌, ◌≤◌, ◌==◌, ◌&&◌, if◌then◌else◌, length, IfOk};
 ghost use lib.Lanes.{zip2};
 ghost use Rattle.mw_model.specs.declared.shapes.Kind.TheVariants as kind;
-ghost use Rattle.mw_task.specs.Products.{HoldsImage, both_drawn, three_drawn, plane_drawn};
+ghost use Rattle.mw_step_task.specs.Products.{HoldsImage, both_drawn, three_drawn, plane_drawn};
 
 use crate::kinds::{bits_of, of_samples, sample_of};
 use crate::painting::{marked, marked_set, without};
 use crate::sharing::shared;
-use mw_joined::pieces::SharedWindow;
-use mw_joined::pixel::Bit;
-use mw_joined::tile::{AnyWindow, Window};
 use mw_model::NoMemory;
-use mw_set_ranks::bits::{is_blank, is_within};
-use mw_task::TileResult;
+use mw_rank_bits::bits::{is_blank, is_within};
+use mw_step_task::TileResult;
+use mw_step_task::pieces::SharedWindow;
+use mw_step_task::pixel::Bit;
+use mw_step_task::tile::{AnyWindow, Window};
 use std::alloc::Global;
 
 /// The samples, with level `v` in each place of the set.

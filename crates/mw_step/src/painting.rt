@@ -4,13 +4,13 @@
 ghost use Rattle.std.specs.Prelude.{◌≡◌, ℕ, ◌*◌, ◌<◌, ◌≤◌, ◌==◌, ◌&&◌, length, slice_index_or, IfOk, if◌then◌else◌};
 ghost use Rattle.std.specs.Int.{bit_at};
 ghost use lib.Lanes.{zip2};
-ghost use Rattle.mw_joined.specs.mw_words.Packed.{bit_of, stride_of};
+ghost use Rattle.mw_step_task.specs.mw_pixel_words.Packed.{bit_of, stride_of};
 
 use crate::thresholds::is_sound;
-use mw_joined::pixel::{Bit, Grey, Pixel, Plane};
-use mw_joined::tile::Window;
 use mw_model::NoMemory;
-use mw_set_ranks::bits::{join, minus, row_of};
+use mw_rank_bits::bits::{join, minus, row_of};
+use mw_step_task::pixel::{Bit, Grey, Pixel, Plane};
+use mw_step_task::tile::Window;
 use std::alloc::Global;
 
 /// The places of the first set that are not in the second.

@@ -1,16 +1,16 @@
 //! Steps that put two images together.
 
 ghost use Rattle.std.specs.Prelude.{◌≡◌, ◌-◌, IfOk};
-ghost use Rattle.mw_task.specs.WindowTasks.{SameKind};
-ghost use Rattle.mw_task.specs.Products.{HoldsImage, both_drawn};
+ghost use Rattle.mw_step_task.specs.WindowTasks.{SameKind};
+ghost use Rattle.mw_step_task.specs.Products.{HoldsImage, both_drawn};
 
 use crate::extrema::LevelExtremum;
 use crate::kinds::of_both;
 use crate::pointwise::{differences, merged};
-use mw_joined::tile::AnyWindow;
 use mw_model::NoMemory;
-use mw_set_ranks::bits;
-use mw_task::TileResult;
+use mw_rank_bits::bits;
+use mw_step_task::TileResult;
+use mw_step_task::tile::AnyWindow;
 use std::alloc::Global;
 
 /// Each sample of the first source less that of the second, stopping at 0.

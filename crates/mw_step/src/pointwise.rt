@@ -3,10 +3,10 @@
 ghost use Rattle.std.specs.Prelude.{◌≡◌, ◌*◌, length, replicate, IfOk};
 ghost use lib.Lanes.{zip2};
 
-use mw_joined::pixel::{Extremum, Grey, Plane};
-use mw_joined::tile::Window;
 use mw_model::NoMemory;
-use mw_set_ranks::lane::{Lanes, combine_rows, subtract_rows};
+use mw_rank_bits::lane::{Lanes, combine_rows, subtract_rows};
+use mw_step_task::pixel::{Extremum, Grey, Plane};
+use mw_step_task::tile::Window;
 use std::alloc::Global;
 
 /// Each sample of the first window less that of the second, stopping at 0.

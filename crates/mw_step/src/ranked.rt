@@ -4,11 +4,11 @@ ghost use Rattle.std.specs.Prelude.{◌<◌, ◌^◌, length, IfOk};
 ghost use Rattle.mw_model.specs.Windows.{seen_at};
 ghost use Rattle.mw_rank_rows.specs.mw_rank.Ranks.{IsRank};
 
-use mw_joined::pixel::Plane;
-use mw_joined::tile::Window;
-use mw_medians::{Vectored, median_of_grey};
 use mw_model::{NoMemory, Offset, Rect};
-use mw_rank_rows::{Counted, rank_of_grey};
+use mw_rank_medians::{Vectored, median_of_grey};
+use mw_rank_rows::{Counted, rank_by_rows};
+use mw_step_task::pixel::Plane;
+use mw_step_task::tile::Window;
 use std::alloc::Global;
 
 /// At each place of the tile, of the samples that the window has under the element in rising order, number k, counted from
@@ -25,6 +25,6 @@ pub(crate) fn rank_of_levels<P: Counted + Vectored>(
 {
     match median_of_grey(alloc, window, offsets, k, tile)? {
         Some(medians) => Ok(medians),
-        None => rank_of_grey(alloc, window, offsets, k, tile),
+        None => rank_by_rows(alloc, window, offsets, k, tile),
     }
 }

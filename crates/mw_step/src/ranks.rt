@@ -7,12 +7,12 @@ ghost use Rattle.mw_model.specs.Windows.{seen_at};
 ghost use Rattle.mw_rank_rows.specs.mw_rank.Ranks.{IsRank};
 
 use crate::thresholds::is_sound;
-use mw_joined::pixel::{Bit, Plane};
-use mw_joined::tile::Window;
 use mw_model::{NoMemory, Offset, Rect};
-use mw_rank_rows::rank_of_grey;
-use mw_set_ranks::bits::{as_levels, at_least, is_blank};
-use mw_set_ranks::rank_by_words;
+use mw_rank_bits::bits::{as_levels, at_least, is_blank};
+use mw_rank_bits::rank_by_words;
+use mw_rank_rows::rank_by_rows;
+use mw_step_task::pixel::{Bit, Plane};
+use mw_step_task::tile::Window;
 use std::alloc::Global;
 
 /// The ranks of a set, as levels of one byte.
@@ -28,7 +28,7 @@ fn rank_by_levels(
 {
     is_sound(set);
     let window = as_levels(alloc, set)?;
-    let ranks = rank_of_grey(alloc, &window, offsets, k, tile)?;
+    let ranks = rank_by_rows(alloc, &window, offsets, k, tile)?;
     let (width, height) = (tile.width, tile.height);
     let place = Rect {
         x: 0,

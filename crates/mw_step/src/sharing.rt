@@ -3,13 +3,13 @@
 
 ghost use Rattle.std.specs.Prelude.{◌≡◌, ◌*◌, length, IfOk, IfSome};
 ghost use Rattle.std.specs.Arc.{arc_value};
-ghost use Rattle.mw_joined.specs.mw_pieces.Patches.{IsJoint, IsWholeOf};
-ghost use Rattle.mw_task.specs.Products.{HoldsImage, plane_drawn};
+ghost use Rattle.mw_step_task.specs.mw_tile_pieces.Patches.{IsJoint, IsWholeOf};
+ghost use Rattle.mw_step_task.specs.Products.{HoldsImage, plane_drawn};
 
-use mw_joined::pieces::{Pieces, PiecesView, SharedWindow};
-use mw_joined::pixel::{Planar, Plane};
 use mw_model::NoMemory;
-use mw_task::TileResult;
+use mw_step_task::TileResult;
+use mw_step_task::pieces::{Pieces, PiecesView, SharedWindow};
+use mw_step_task::pixel::{Planar, Plane};
 use std::sync::Arc;
 
 /// One more owner of the samples of the window, where one piece is the window.

@@ -3,17 +3,17 @@
 ghost use Rattle.std.specs.Prelude.{◌≡◌, ◌-◌, ◌*◌, ◌≤◌, ◌==◌, nat_le, if◌then◌else◌, length, sum, sum_by, IfOk};
 ghost use Rattle.mw_model.specs.declared.limits.TheConstants.{SIDE_LIMIT};
 ghost use Rattle.mw_model.specs.declared.shapes.Kind.TheVariants as kind;
-ghost use Rattle.mw_task.specs.Products.{HoldsImage, each_drawn, tile_drawn};
+ghost use Rattle.mw_step_task.specs.Products.{HoldsImage, each_drawn, tile_drawn};
 
 use crate::kinds::{made_bits, made_bytes, made_words, of_samples};
 use crate::pointwise::inverted;
 use crate::thresholds::{level_of_set, level_set, upper_of_set, upper_set};
-use mw_joined::pixel::Plane;
-use mw_joined::tile::{AnyWindow, WindowView};
 use mw_model::{NoMemory, Rect};
-use mw_set_ranks::bits;
-use mw_set_ranks::lane::LevelBlocks;
-use mw_task::TileResult;
+use mw_rank_bits::bits;
+use mw_rank_bits::lane::LevelBlocks;
+use mw_step_task::TileResult;
+use mw_step_task::pixel::Plane;
+use mw_step_task::tile::{AnyWindow, WindowView};
 use std::alloc::Global;
 
 /// The maxval less each sample.

@@ -3,16 +3,16 @@
 ghost use Rattle.std.specs.Prelude.{IfOk};
 ghost use Rattle.mw_model.specs.Places.{box_offsets};
 ghost use Rattle.mw_model.specs.Windows.{seen_at};
-ghost use Rattle.mw_set_ranks.specs.mw_line.Extrema.{IsSlidingExtremum};
+ghost use Rattle.mw_rank_bits.specs.mw_line.Extrema.{IsSlidingExtremum};
 
-use mw_joined::pixel::{Bit, Extremum, Grey, Plane};
-use mw_joined::tile::Window;
 use mw_model::{NoMemory, OffsetBox, Rect};
-use mw_set_ranks::bits;
-use mw_set_ranks::bits::WordExtremum;
-use mw_set_ranks::line::rectangle;
-use mw_set_ranks::offset::extremum_of_runs;
-use mw_task::element::Element;
+use mw_rank_bits::bits;
+use mw_rank_bits::bits::WordExtremum;
+use mw_rank_bits::line::rectangle;
+use mw_rank_bits::offset::extremum_of_runs;
+use mw_step_task::element::Element;
+use mw_step_task::pixel::{Bit, Extremum, Grey, Plane};
+use mw_step_task::tile::Window;
 use std::alloc::Global;
 
 /// The extremum of the samples under the element, at each place of the tile, of an image with this maxval. A full

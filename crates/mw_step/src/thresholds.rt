@@ -2,12 +2,12 @@
 
 ghost use Rattle.std.specs.Prelude.{◌≡◌, ℕ, ◌*◌, ◌≤◌, ◌==◌, All, length, map, IfOk, nat_le, if◌then◌else◌};
 
-use mw_joined::pixel::{Bit, Grey, Plane};
-use mw_joined::tile::Window;
 use mw_model::NoMemory;
-use mw_set_ranks::bits;
-use mw_set_ranks::bits::{invert, join};
-use mw_set_ranks::lane::LevelBlocks;
+use mw_rank_bits::bits;
+use mw_rank_bits::bits::{invert, join};
+use mw_rank_bits::lane::LevelBlocks;
+use mw_step_task::pixel::{Bit, Grey, Plane};
+use mw_step_task::tile::Window;
 use std::alloc::Global;
 
 /// What is so of each set: a call that is made only for these facts.

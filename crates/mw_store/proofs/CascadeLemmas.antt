@@ -14,7 +14,7 @@ use Rattle.mw_model.specs.declared.calls.Outcome.TheVariants as outcome
 use Rattle.mw_model.specs.Values.{tickets}
 use Rattle.mw_model.specs.Refusals.{is_dead, is_pending, outcome_at, submission_at, no_submission}
 use Rattle.mw_model.specs.Machine.{cascaded, beside}
-use Rattle.mw_gran.proofs.mw_laws.RunCascade.{cascaded_front}
+use Rattle.mw_gran.proofs.mw_model_laws.RunCascade.{cascaded_front}
 
 -- what stands beside an entry of ticket t is told by the outcomes below t
 pub beside-take : (os : List Outcome) (t : ℕ) (inputs : Inputs) (o : Outcome) → AllByRecursion (λ i. i < t) (tickets inputs) → beside (take t os) inputs o ≡ beside os inputs o

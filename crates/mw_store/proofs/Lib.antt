@@ -7,10 +7,8 @@ mod Counting
 mod Living
 mod Tracking
 -- what lower crates offer
-pub use Rattle.mw_tiles.proofs.mw_element as mw_element
-pub use Rattle.mw_tiles.proofs.mw_grid as mw_grid
-pub use Rattle.mw_gran.proofs.mw_laws as mw_laws
-pub use Rattle.mw_tiles.proofs.mw_netpbm as mw_netpbm
-pub use Rattle.mw_tiles.proofs.mw_pixel as mw_pixel
+pub use Rattle.mw_tile_planes.proofs.mw_element as mw_element
+pub use Rattle.mw_gran.proofs.mw_model_laws as mw_model_laws
+pub use Rattle.mw_tile_planes.proofs.mw_pixel as mw_pixel
 pub use Rattle.mw_gran.proofs.mw_plan as mw_plan
-pub use Rattle.mw_tiles.proofs.mw_task as mw_task
+pub use Rattle.mw_tile_planes.proofs.mw_step_task as mw_step_task

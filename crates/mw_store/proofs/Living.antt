@@ -14,8 +14,8 @@ use Rattle.mw_model.specs.declared.calls.Outcome.TheVariants as outcome
 use Rattle.mw_model.specs.Values.{tickets}
 use Rattle.mw_model.specs.Refusals.{Table, is_dead, is_pending, is_released, outcome_at, submission_at, no_submission}
 use Rattle.mw_model.specs.Machine.{killed, settled, cascaded}
-use Rattle.mw_gran.specs.mw_laws.MachineLaws.{IsKilled, first_dead}
-use Rattle.mw_gran.proofs.mw_laws.RunCascade.{is_killed, killed_alone, pending_is}
+use Rattle.mw_gran.specs.mw_model_laws.MachineLaws.{IsKilled, first_dead}
+use Rattle.mw_gran.proofs.mw_model_laws.RunCascade.{is_killed, killed_alone, pending_is}
 use Rattle.mw_store.specs.Stored.{InputsBelow}
 use Rattle.mw_store.specs.Wanted.{one_if, is_among, waits_for, wanted_by}
 use Rattle.mw_store.proofs.Counting.{count-suc}

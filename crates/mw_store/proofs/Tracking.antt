@@ -18,7 +18,7 @@ use Rattle.mw_model.specs.Values.{Value, value_at, option_list, tickets}
 use Rattle.mw_model.specs.Refusals.{Table, is_dead, is_pending, is_released, outcome_at, submission_at, no_submission}
 use Rattle.mw_model.specs.Machine.{settled, cascaded, with_entry}
 use Rattle.mw_model.specs.Stands.{is_wanted}
-use Rattle.mw_store.specs.declared.kept.Kept.{Kept}
+use Rattle.mw_store.specs.declared.kept.StoredValue.{StoredValue}
 use Rattle.mw_store.specs.Kept.{kept_value}
 use Rattle.mw_store.specs.Stored.{Stored, IsWhole, IsTracked, InputsBelow, DropsSpent, is_spent}
 use Rattle.mw_store.specs.Wanted.{one_if, is_among, is_at, waits_for, wanted_by, spent_by}
@@ -116,11 +116,11 @@ wanted-push es os e o k same =
 
 -- ---- what is dropped
 
-through : (b : Bool) (x : Option Kept) → option_map kept_value (if b then None else x) ≡ (if b then None else option_map kept_value x)
+through : (b : Bool) (x : Option StoredValue) → option_map kept_value (if b then None else x) ≡ (if b then None else option_map kept_value x)
 through true x = refl
 through false x = refl
 
-pub kept-dropped : (ks new : List (Option Kept)) (t : ℕ) (b : Bool) → slice_index_or new t None ≡ (if b then None else slice_index_or ks t None)
+pub kept-dropped : (ks new : List (Option StoredValue)) (t : ℕ) (b : Bool) → slice_index_or new t None ≡ (if b then None else slice_index_or ks t None)
     → value_at (map (option_map kept_value) new) t ≡ (if b then None else value_at (map (option_map kept_value) ks) t)
 kept-dropped ks new t b e =
     get_or-map (option_map kept_value) new t None ∙ ap (option_map kept_value) e ∙ through b (slice_index_or ks t None)

@@ -3,18 +3,18 @@ use Rattle.std.specs.Prelude.{ℕ, List, Option, Some, None}
 use Rattle.std.specs.Arc.{arc_value}
 use Rattle.mw_model.specs.Elements.{Figure}
 use Rattle.mw_model.specs.Values.{Value, ImageValue, ElementValue, CurveValue}
-use Rattle.mw_store.specs.declared.kept.Kept.{Kept}
-use Rattle.mw_store.specs.declared.kept.Kept.TheVariants as kept
+use Rattle.mw_store.specs.declared.kept.StoredValue.{StoredValue}
+use Rattle.mw_store.specs.declared.kept.StoredValue.TheVariants as kept
 
 -- the value that is kept so
-abbrev pub kept_value : Kept → Value
+abbrev pub kept_value : StoredValue → Value
 kept_value (kept.Image f) = ImageValue f
 kept_value (kept.Tiles f) = ImageValue f
 kept_value (kept.Element b) = ElementValue (arc_value b)
 kept_value (kept.Curve volumes) = CurveValue volumes
 
 -- the value that stands in the place of what is kept
-abbrev pub one_kept : Kept → Option Value
+abbrev pub one_kept : StoredValue → Option Value
 one_kept k = Some (kept_value k)
 
 -- the element in the place of a value, if one stands there

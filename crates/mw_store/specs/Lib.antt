@@ -9,11 +9,9 @@ pub mod Places
 pub mod Stored
 pub mod Fetches
 -- what lower crates offer
-pub mod mw_grid
-pub mod mw_laws
-pub mod mw_netpbm
+pub mod mw_model_laws
 pub mod mw_pixel
 pub mod mw_plan
-pub mod mw_task
+pub mod mw_step_task
 pub mod mw_tile
-pub mod mw_tiles
+pub mod mw_tile_planes

@@ -6,7 +6,7 @@ use Rattle.mw_model.specs.declared.submissions.Submission.{Submission}
 use Rattle.mw_model.specs.Values.{Value, value_at, tickets}
 use Rattle.mw_model.specs.Refusals.{Table, outcome_at, submission_at, is_pending, is_released}
 use Rattle.mw_model.specs.Stands.{is_wanted}
-use Rattle.mw_store.specs.mw_laws.MachineLaws.{NoneAwaitsDead}
+use Rattle.mw_store.specs.mw_model_laws.MachineLaws.{NoneAwaitsDead}
 use Rattle.mw_store.specs.Wanted.{wanted_by}
 use Rattle.mw_store.specs.Waiting.{Waiting, KnowsWaiting}
 

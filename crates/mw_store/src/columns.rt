@@ -5,7 +5,7 @@ ghost use Rattle.mw_model.specs.declared.limits.TheConstants.{ENTRY_LIMIT};
 
 use crate::cascade::fail_dependents;
 use crate::image_shapes::ImageShape;
-use crate::kept::{Entry, Kept};
+use crate::kept::{Entry, StoredValue};
 use crate::outcomes::{count_pending, is_dead, is_pending, is_there, one_if_pending};
 use crate::places::{reserve_name, reserve_row};
 use crate::plates::Plate;
@@ -17,8 +17,8 @@ use crate::wanted::{count_wanted, lower_inputs, raise_inputs};
 use indexmap::IndexSet;
 use mw_gran::Curve;
 use mw_model::{Command, Given, Inputs, Name, NoMemory, Op, Outcome, Rect, Shape, Submission};
-use mw_tiles::element::Element;
-use mw_tiles::pieces::SharedWindow;
+use mw_tile_planes::element::Element;
+use mw_tile_planes::pieces::SharedWindow;
 use std::alloc::Global;
 use std::marker::Model;
 use std::mem::replace;
@@ -30,7 +30,7 @@ pub struct Store {
     names: IndexSet<Name>,
     submissions: Vec<Submission>,
     outcomes: Vec<Outcome>,
-    kept: Vec<Option<Kept>>,
+    kept: Vec<Option<StoredValue>>,
     // How many pending entries have the ticket as an input, and the lists of those that wait for a pending ticket: so
     // no call but `kill` looks at all entries.
     wanted: Vec<u32>,
@@ -89,7 +89,7 @@ impl Store {
     ghost use Rattle.mw_model.specs.Machine.{killed, settled, with_entry};
     ghost use Rattle.mw_model.specs.Stands as stands;
     ghost use Rattle.mw_model.specs.Places.{IsWithin};
-    ghost use Rattle.mw_tiles.specs.mw_tile.Windows.{window_of};
+    ghost use Rattle.mw_tile_planes.specs.mw_tile.Windows.{window_of};
     ghost use Rattle.mw_store.specs.Entries.{op_of, submission_of, outcome_of, payload_in};
     ghost use Rattle.mw_store.specs.ImageShapes.{image_shape_of};
     ghost use Rattle.mw_store.specs.Kept.{kept_value, curve_of, figure_in};
@@ -181,7 +181,7 @@ impl Store {
     }
 
     /// The value that is kept of an entry.
-    pub fn kept(&self, t: u32) -> &Option<Kept>
+    pub fn kept(&self, t: u32) -> &Option<StoredValue>
         requires { t < length self.now.table.names }
         ensures { option_map kept_value result.now ≡ value_at self.now.kept t }
     {
@@ -195,8 +195,8 @@ impl Store {
         ensures picture { IfSome (image_of (value_at self.now.kept t)) IsPicture }
     {
         match self.kept(t) {
-            Some(Kept::Image(image)) => Some(ImageShape::of_image(image)),
-            Some(Kept::Tiles(plane)) => Some(ImageShape::of_tiles(plane)),
+            Some(StoredValue::Image(image)) => Some(ImageShape::of_image(image)),
+            Some(StoredValue::Tiles(plane)) => Some(ImageShape::of_tiles(plane)),
             _ => None,
         }
     }
@@ -210,8 +210,8 @@ impl Store {
     {
         let kept = self.kept(t);
         match kept {
-            Some(Kept::Image(image)) => Ok(Some(Plate::of_image(image)?)),
-            Some(Kept::Tiles(plane)) => Ok(Some(Plate::of_tiles(self.alloc, plane)?)),
+            Some(StoredValue::Image(image)) => Ok(Some(Plate::of_image(image)?)),
+            Some(StoredValue::Tiles(plane)) => Ok(Some(Plate::of_tiles(self.alloc, plane)?)),
             _ => Ok(None),
         }
     }
@@ -223,7 +223,7 @@ impl Store {
         ensures memory { OnErr result (IsSome (curve_of (value_at self.now.kept t))) }
     {
         match self.kept(t) {
-            Some(Kept::Curve(curve)) => Ok(Some(Curve::new(alloc, curve.volumes())?)),
+            Some(StoredValue::Curve(curve)) => Ok(Some(Curve::new(alloc, curve.volumes())?)),
             _ => Ok(None),
         }
     }
@@ -243,8 +243,10 @@ impl Store {
         ensures memory { OnErr result (IsSome (image_of (value_at self.now.kept t))) }
     {
         match self.kept(t) {
-            Some(Kept::Image(image)) => { Ok(Some(SharedWindow::of_image(alloc, image, rect)?)) }
-            Some(Kept::Tiles(plane)) => Ok(Some(plane.shared(alloc, rect)?)),
+            Some(StoredValue::Image(image)) => {
+                Ok(Some(SharedWindow::of_image(alloc, image, rect)?))
+            }
+            Some(StoredValue::Tiles(plane)) => Ok(Some(plane.shared(alloc, rect)?)),
             _ => Ok(None),
         }
     }
@@ -256,8 +258,8 @@ impl Store {
         ensures { IsTrue result ↔ (option_map (window_of rect) (image_of (value_at self.now.kept t)) ≡ Some window.now) }
     {
         match self.kept(t) {
-            Some(Kept::Image(image)) => window.is_of_image(image, rect),
-            Some(Kept::Tiles(plane)) => plane.matches(rect, window),
+            Some(StoredValue::Image(image)) => window.is_of_image(image, rect),
+            Some(StoredValue::Tiles(plane)) => plane.matches(rect, window),
             _ => false,
         }
     }
@@ -268,7 +270,7 @@ impl Store {
         ensures { option_map (λ b. arc_value b.now) result ≡ figure_in (value_at self.now.kept t) }
     {
         match self.kept(t) {
-            Some(Kept::Element(element)) => Some(element),
+            Some(StoredValue::Element(element)) => Some(element),
             _ => None,
         }
     }
@@ -375,7 +377,7 @@ impl Store {
     /// Ends a pending entry by its value, which is kept. Its inputs are dropped where nothing needs them any more. The
     /// entries that waited for it are handed out: each pending entry that has it as an input is among them. No memory is
     /// asked for.
-    pub fn settle(&mut self, t: u32, value: Kept) -> Waiters
+    pub fn settle(&mut self, t: u32, value: StoredValue) -> Waiters
         requires within { t < length self.old.table.names }
         requires pending { outcome_at self.old.table.outcomes t ≡ Outcome.Pending }
         ensures table { self.new.table ≡ settled self.old.table t Outcome.Done }
@@ -406,7 +408,7 @@ impl Store {
         name: Name,
         submission: Submission,
         outcome: Outcome,
-        value: Option<Kept>,
+        value: Option<StoredValue>,
     ) -> Result<u32, NoMemory>
         requires free { ticket_of self.old.table.names name ≡ None }
         requires room { length self.old.table.names < ENTRY_LIMIT }
@@ -458,11 +460,16 @@ impl Store {
         match entry {
             Entry::Image(image) => {
                 let submission = given(image.shape());
-                self.push(name, submission, Outcome::Done, Some(Kept::Image(image)))
+                self.push(
+                    name,
+                    submission,
+                    Outcome::Done,
+                    Some(StoredValue::Image(image)),
+                )
             }
             Entry::Element(element) => {
                 let submission = given(element.shape());
-                let value = Kept::Element(Arc::new(self.alloc, element)?);
+                let value = StoredValue::Element(Arc::new(self.alloc, element)?);
                 self.push(name, submission, Outcome::Done, Some(value))
             }
             Entry::Run(submission) => self.push(name, submission, Outcome::Pending, None),

@@ -6,7 +6,7 @@ use mw_model::Reply;
 
 /// What a FETCH hands out: a share of an image, or a copy of a curve.
 #[derive(Drop)]
-pub enum Shown {
+pub enum FetchedValue {
     Nothing,
     Image(Plate),
     Curve(Curve),
@@ -16,5 +16,5 @@ pub enum Shown {
 #[derive(Drop)]
 pub struct Fetched {
     pub reply: Reply,
-    pub value: Shown,
+    pub value: FetchedValue,
 }

@@ -5,8 +5,8 @@ ghost use Rattle.mw_model.specs.Pictures.{IsPicture};
 ghost use Rattle.mw_store.specs.ImageShapes.{image_shape_of};
 
 use mw_model::Kind;
-use mw_tiles::WholePlane;
-use mw_tiles::pixel::Image;
+use mw_tile_planes::WholePlane;
+use mw_tile_planes::pixel::Image;
 
 /// The shape of an image, part by part.
 #[derive(Clone, Copy)]

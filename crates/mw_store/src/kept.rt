@@ -2,14 +2,14 @@
 
 use mw_gran::Curve;
 use mw_model::Submission;
-use mw_tiles::WholePlane;
-use mw_tiles::element::Element;
-use mw_tiles::pixel::Image;
+use mw_tile_planes::WholePlane;
+use mw_tile_planes::element::Element;
+use mw_tile_planes::pixel::Image;
 use std::sync::Arc;
 
 /// A value that is kept under a ticket. Others can own the plane of an image, each of the tiles, and the element.
 #[derive(Drop)]
-pub enum Kept {
+pub enum StoredValue {
     Image(Image),
     /// An image as the tiles that it was made of.
     Tiles(WholePlane),

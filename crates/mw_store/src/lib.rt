@@ -30,9 +30,9 @@ mod waiting;
 mod wanted;
 
 pub use columns::Store;
-pub use fetched::{Fetched, Shown};
+pub use fetched::{Fetched, FetchedValue};
 pub use image_shapes::ImageShape;
-pub use kept::{Entry, Kept};
+pub use kept::{Entry, StoredValue};
 pub use mw_model::NoMemory;
 pub use outcomes::{is_dead, is_done, is_pending, is_released, is_there};
 pub use places::reserve_row;
@@ -41,19 +41,15 @@ pub use waiting::Waiters;
 
 // What lower crates offer, for the crates above.
 pub mod element {
-    pub use mw_tiles::element::Element;
+    pub use mw_tile_planes::element::Element;
 }
 
 pub mod gran {
     pub use mw_gran::{Curve, plan_of};
 }
 
-pub mod netpbm {
-    pub use mw_tiles::netpbm::{RowBytes, header, parts, read};
-}
-
 pub mod pixel {
-    pub use mw_tiles::pixel::{Image, Plane};
+    pub use mw_tile_planes::pixel::{Image, Plane};
 }
 
 pub mod plan {
@@ -61,9 +57,9 @@ pub mod plan {
 }
 
 pub mod task {
-    pub use mw_tiles::task::{SharedWindow, TaskRefused, TileDone, Work};
+    pub use mw_tile_planes::task::{SharedWindow, TaskRefused, TileDone, Work};
 }
 
 pub mod tiles {
-    pub use mw_tiles::{TiledRows, TilesView, WholePlane};
+    pub use mw_tile_planes::{TiledRows, TilesView, WholePlane};
 }

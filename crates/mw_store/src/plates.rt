@@ -4,8 +4,8 @@ ghost use Rattle.std.specs.Prelude.{◌≡◌, IfOk};
 ghost use Rattle.mw_store.specs.PlateViews.{picture_seen};
 
 use mw_model::NoMemory;
-use mw_tiles::WholePlane;
-use mw_tiles::pixel::Image;
+use mw_tile_planes::WholePlane;
+use mw_tile_planes::pixel::Image;
 use std::alloc::Global;
 use std::marker::Model;
 

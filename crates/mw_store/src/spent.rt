@@ -5,19 +5,24 @@ ghost use Rattle.std.specs.List.{AllByRecursion};
 ghost use Rattle.mw_model.specs.Values.{option_list};
 ghost use Rattle.mw_store.specs.Wanted.{is_among, is_at, spent_by};
 
-use crate::kept::Kept;
+use crate::kept::StoredValue;
 use crate::outcomes::is_released;
 use mw_model::{Inputs, Outcome};
 
 /// Drops what stands in a place.
-fn clear(place: &mut Option<Kept>)
+fn clear(place: &mut Option<StoredValue>)
     ensures { place.new ≡ None }
 {
     *place = None;
 }
 
 /// Drops the value of an input, if there is one and it is spent.
-pub fn drop_one(outcomes: &[Outcome], wanted: &[u32], kept: &mut [Option<Kept>], input: Option<u32>)
+pub fn drop_one(
+    outcomes: &[Outcome],
+    wanted: &[u32],
+    kept: &mut [Option<StoredValue>],
+    input: Option<u32>,
+)
     requires counts { length wanted.now ≡ length outcomes.now }
     requires columns { length kept.old ≡ length outcomes.now }
     requires within { AllByRecursion (λ i. i < length outcomes.now) (option_list input) }
@@ -31,7 +36,12 @@ pub fn drop_one(outcomes: &[Outcome], wanted: &[u32], kept: &mut [Option<Kept>],
 }
 
 /// Drops the values of the inputs that are spent.
-pub fn drop_inputs(outcomes: &[Outcome], wanted: &[u32], kept: &mut [Option<Kept>], inputs: Inputs)
+pub fn drop_inputs(
+    outcomes: &[Outcome],
+    wanted: &[u32],
+    kept: &mut [Option<StoredValue>],
+    inputs: Inputs,
+)
     requires counts { length wanted.now ≡ length outcomes.now }
     requires columns { length kept.old ≡ length outcomes.now }
     requires a { AllByRecursion (λ i. i < length outcomes.now) (option_list inputs.a) }
@@ -45,7 +55,7 @@ pub fn drop_inputs(outcomes: &[Outcome], wanted: &[u32], kept: &mut [Option<Kept
 }
 
 /// Drops each value that is spent.
-pub fn drop_spent(outcomes: &[Outcome], wanted: &[u32], kept: &mut [Option<Kept>])
+pub fn drop_spent(outcomes: &[Outcome], wanted: &[u32], kept: &mut [Option<StoredValue>])
     requires counts { length wanted.now ≡ length outcomes.now }
     requires columns { length kept.old ≡ length outcomes.now }
     ensures { (t : ℕ) → slice_index_or kept.new t None ≡ (if spent_by outcomes.now wanted.now t then None else slice_index_or kept.old t None) }

@@ -2,6 +2,5 @@
 pub mod Rows
 pub mod Shown
 -- what lower crates offer
-pub use Rattle.mw_grid.proofs as mw_grid
 pub use Rattle.mw_pixel.proofs as mw_pixel
-pub use Rattle.mw_pixel.proofs.mw_words as mw_words
+pub use Rattle.mw_pixel.proofs.mw_pixel_words as mw_pixel_words

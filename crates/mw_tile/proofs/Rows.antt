@@ -7,8 +7,8 @@ use Rattle.mw_model.proofs.mw_facts.Elements.{slice_get-drop, slice_get-take, sl
 use Rattle.mw_model.specs.declared.places.Rect.{Rect}
 use Rattle.mw_model.specs.Places.{Holds, IsWithin}
 use Rattle.mw_model.specs.Rasters.{Raster, raster}
-use Rattle.mw_pixel.specs.mw_words.Runs.{put_at, HasFront}
-use Rattle.mw_pixel.proofs.mw_words.Fronts.{front_more}
+use Rattle.mw_pixel.specs.mw_pixel_words.Runs.{put_at, HasFront}
+use Rattle.mw_pixel.proofs.mw_pixel_words.Fronts.{front_more}
 use Rattle.mw_tile.specs.Windows.{IsCut}
 use Rattle.mw_tile.specs.Cuts.{stood_at, Pastes}
 

@@ -2,6 +2,5 @@ pub mod Windows
 pub mod Cuts
 pub mod AnyWindows
 -- what lower crates offer
-pub mod mw_grid
 pub mod mw_pixel
-pub mod mw_words
+pub mod mw_pixel_words

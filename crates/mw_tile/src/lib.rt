@@ -1,5 +1,5 @@
 //! The windows of samples that the tiles of a frame are computed from. What the server's tasks read is handed to them in
-//! pieces, which `mw_pieces` makes such a window of.
+//! pieces, which `mw_tile_pieces` makes such a window of.
 //!
 //! ```text
 //! let grid = mw_grid::Grid::new(frame_width, frame_height, 128);
@@ -23,10 +23,6 @@ pub use mw_model::{NoMemory, Offset, Reach, Rect};
 pub use window::Window;
 
 // What lower crates offer, for the crates above.
-pub mod grid {
-    pub use mw_grid::{Grid, whole_frame};
-}
-
 pub mod pixel {
     pub use mw_pixel::{
         Bit, Extremum, Grey, Image, Max, Min, Pixel, Planar, Plane, SharedView, View, Words, copies,

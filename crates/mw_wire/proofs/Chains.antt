@@ -3,8 +3,8 @@ use Rattle.std.proofs.Common.{◌≡◌, ◌≢◌, ℕ, List, [], ◌∷◌, �
 use Rattle.std.proofs.lemmas.List.{append-nil}
 use Rattle.mw_model.specs.declared.requests.Ask.TheVariants.{Quit}
 use Rattle.mw_model.specs.Lines.{Asked, AskAlone, Found, Begins}
-use Rattle.mw_intake.specs.Reading.{front}
-use Rattle.mw_intake.proofs.Front.{Begins_more, is_front}
+use Rattle.mw_session_intake.specs.Reading.{front}
+use Rattle.mw_session_intake.proofs.Front.{Begins_more, is_front}
 use Rattle.mw_wire.specs.Chains.{NoneQuits, AreAnswered, HasAnswered}
 
 pub begins-append : (rs qs : List Asked) (xs mid rest : List ℕ) → Begins xs rs mid → Begins mid qs rest → Begins xs (rs ++ qs) rest

@@ -7,8 +7,8 @@ use Rattle.mw_model.specs.declared.requests.End.{End}
 use Rattle.mw_model.specs.declared.requests.End.TheVariants as end
 use Rattle.mw_model.specs.Lines.{Asked, AskAlone, Found, Fault}
 use Rattle.mw_model.specs.Scripts.{Ends, end_text}
-use Rattle.mw_intake.specs.Reading.{front}
-use Rattle.mw_intake.proofs.Front.{is_front, front_is, front_found, front_fault}
+use Rattle.mw_session_intake.specs.Reading.{front}
+use Rattle.mw_session_intake.proofs.Front.{is_front, front_is, front_found, front_fault}
 use Rattle.mw_wire.specs.Writes.{CutsShort}
 use Rattle.mw_wire.specs.declared.fault.SessionFault.{SessionFault}
 use Rattle.mw_wire.specs.declared.fault.SessionFault.TheVariants as fault

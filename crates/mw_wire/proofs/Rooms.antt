@@ -10,9 +10,9 @@ use Rattle.mw_model.specs.declared.codes.Code.{Code}
 use Rattle.mw_model.specs.declared.codes.Code.TheVariants.{Memory}
 use Rattle.mw_model.specs.declared.requests.End.TheVariants as end
 use Rattle.mw_model.specs.Lines.{Partial, Fault, with_payload, after_head}
-use Rattle.mw_intake.specs.Intake.{AsksForPayload, Held, IsPortion, Misses}
-use Rattle.mw_intake.specs.Reading.{front, head_of, is_line_end}
-use Rattle.mw_intake.proofs.Front.{front_long, front_line, front_open, payload_line, payload_long, payload_partial, payload_whole}
+use Rattle.mw_session_intake.specs.Intake.{AsksForPayload, Held, IsPortion, Misses}
+use Rattle.mw_session_intake.specs.Reading.{front, head_of, is_line_end}
+use Rattle.mw_session_intake.proofs.Front.{front_long, front_line, front_open, payload_line, payload_long, payload_partial, payload_whole}
 use Rattle.mw_wire.specs.Rooms.{payload, line, WantsRoom, LacksRoom}
 
 payload_fault : (what : Awaited) (len : ℕ) (rest : List ℕ) → with_payload what len rest ≡ Fault Memory → ⊥

@@ -10,9 +10,9 @@ use Rattle.mw_model.specs.declared.requests.Ask.TheVariants as ask
 use Rattle.mw_model.specs.declared.requests.End.{End}
 use Rattle.mw_model.specs.declared.requests.End.TheVariants as end
 use Rattle.mw_model.specs.Lines.{Asked, AskAlone, Found, Partial}
-use Rattle.mw_intake.specs.Intake.{Held, IsPortion}
-use Rattle.mw_intake.specs.Reading.{front}
-use Rattle.mw_intake.proofs.Front.{is_front}
+use Rattle.mw_session_intake.specs.Intake.{Held, IsPortion}
+use Rattle.mw_session_intake.specs.Reading.{front}
+use Rattle.mw_session_intake.proofs.Front.{is_front}
 use Rattle.mw_wire.specs.declared.fault.SessionFault.{SessionFault}
 use Rattle.mw_wire.specs.declared.fault.SessionFault.TheVariants as fault
 use Rattle.mw_wire.specs.Writes.{EndsBy, EndedBy, Wrote}

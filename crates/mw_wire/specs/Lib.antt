@@ -4,4 +4,4 @@ pub mod Rooms
 pub mod Chains
 pub mod Runs
 -- what lower crates offer
-pub mod mw_intake
+pub mod mw_session_intake

@@ -6,8 +6,8 @@ use Rattle.mw_model.specs.declared.requests.End.{End}
 use Rattle.mw_model.specs.declared.requests.End.TheVariants.{Ended}
 use Rattle.mw_model.specs.Lines.{Partial}
 use Rattle.mw_model.specs.Scripts.{Ends}
-use Rattle.mw_intake.specs.Intake.{AsksForPayload, Held, IsPortion}
-use Rattle.mw_intake.specs.Reading.{front, is_line_end}
+use Rattle.mw_session_intake.specs.Intake.{AsksForPayload, Held, IsPortion}
+use Rattle.mw_session_intake.specs.Reading.{front, is_line_end}
 
 -- What is gathered where less than a request is held and other bytes wait to be taken: the payload that the line at the front awaits; or a line, whose LF has not been taken.
 pub data Gathers (held waiting : List ℕ) : Type 0 where

@@ -5,8 +5,8 @@ use Rattle.mw_model.specs.declared.requests.Ask.TheVariants.{Quit}
 use Rattle.mw_model.specs.declared.requests.End.{End}
 use Rattle.mw_model.specs.Lines.{Asked, AskAlone, Found, Partial}
 use Rattle.mw_model.specs.Scripts.{end_text}
-use Rattle.mw_intake.specs.Intake.{Held}
-use Rattle.mw_intake.specs.Reading.{front}
+use Rattle.mw_session_intake.specs.Intake.{Held}
+use Rattle.mw_session_intake.specs.Reading.{front}
 use Rattle.mw_wire.specs.declared.fault.SessionFault.{SessionFault}
 use Rattle.mw_wire.specs.declared.fault.SessionFault.TheVariants as fault
 use Rattle.mw_wire.specs.Rooms.{EndsAt, WantsRoom, LacksRoom}

@@ -3,7 +3,7 @@
 ghost use Rattle.std.specs.Prelude.{◌≡◌, ◌≢◌, ℕ, List, OnOk, OnErr, Err, true};
 ghost use Rattle.mw_model.specs.declared.requests.Ask.TheVariants as Ask;
 ghost use Rattle.mw_model.specs.Lines.{AskAlone};
-ghost use Rattle.mw_intake.specs.Intake.{asked};
+ghost use Rattle.mw_session_intake.specs.Intake.{asked};
 ghost use Rattle.mw_wire.specs.Writes.{Wrote};
 
 use crate::fault::SessionFault;
@@ -12,7 +12,7 @@ use mw_model::Request;
 use std::io::Write;
 
 /// Answers requests one by one. What a request may read and change is kept beside it: a core, or the receipts of a pass.
-pub trait Desk {
+pub trait Handler {
     ghost use Rattle.std.specs.Prelude.{ℕ, List, ⊤};
     ghost use Rattle.mw_model.specs.Lines.{Asked};
 

@@ -18,7 +18,7 @@ mod session;
 mod sink;
 mod source;
 
-pub use desk::Desk;
+pub use desk::Handler;
 pub use fault::SessionFault;
 pub use line::ReplyLine;
 pub use reply::{curve_line, image_line, refusal_line, reply_line};

@@ -4,18 +4,18 @@ ghost use Rattle.std.specs.Prelude.{◌≡◌, ◌≢◌, ◌≤◌, ◌<◌, �
 ghost use Rattle.std.specs.Io.KnownBytes.{Appends};
 ghost use Rattle.mw_model.specs.declared.requests.Ask.TheVariants as Ask;
 ghost use Rattle.mw_model.specs.Lines.{AskAlone, Partial};
-ghost use Rattle.mw_intake.specs.Intake.{IsOpen, IsTidy, asked};
-ghost use Rattle.mw_intake.specs.Reading.{front};
+ghost use Rattle.mw_session_intake.specs.Intake.{IsOpen, IsTidy, asked};
+ghost use Rattle.mw_session_intake.specs.Reading.{front};
 ghost use Rattle.mw_wire.specs.Writes.{EndsBy};
 ghost use Rattle.mw_wire.specs.Runs.{Drains, DeskRan};
 
-use crate::desk::Desk;
+use crate::desk::Handler;
 use crate::fault::SessionFault;
 use crate::saying::{end_by, end_within};
 use crate::sink::{Sink, pass_on};
 use crate::source::{READ_LIMIT, Source, receive};
-use mw_intake::Intake;
 use mw_model::{Code, End, Next, NoMemory, Request};
+use mw_session_intake::Intake;
 use std::alloc::Global;
 use std::io::{Read, Write};
 
@@ -30,7 +30,7 @@ fn is_quit(request: &Request) -> bool
 
 /// Answers the requests that wait, and says how the session ends where it does. No byte of a payload came with its line, so
 /// no memory is asked for to cut them.
-fn drain<W: Write, D: Desk>(
+fn drain<W: Write, D: Handler>(
     intake: &mut Intake,
     sink: &mut Sink<W>,
     desk: &mut D,
@@ -62,7 +62,7 @@ fn drain<W: Write, D: Desk>(
 /// Serves a piece of the input: feeds it by portions, so that no byte of a payload is copied twice, and answers the
 /// requests that wait after each. Where the session ends, what stands behind is not fed. It ends by want of memory only where
 /// the next portion has more bytes than there are places for.
-fn serve_piece<W: Write, D: Desk>(
+fn serve_piece<W: Write, D: Handler>(
     intake: &mut Intake,
     sink: &mut Sink<W>,
     desk: &mut D,
@@ -110,7 +110,7 @@ fn end_of_input<W: Write>(sink: &mut Sink<W>, intake: &Intake) -> Result<End, Se
 }
 
 /// Serves what is read. Before each read the writer passes on what it holds, so that a client that waits for an answer has it.
-fn serve_reads<R: Read, W: Write, D: Desk>(
+fn serve_reads<R: Read, W: Write, D: Handler>(
     alloc: Global,
     source: &mut Source<R>,
     sink: &mut Sink<W>,
@@ -153,7 +153,7 @@ fn serve_reads<R: Read, W: Write, D: Desk>(
 /// makes few writes of them. Where a line or a payload is gathered, want of memory is `ERR 50 MEMORY` and ends the session.
 ///
 /// A session makes at most 4,294,967,295 reads, and makes one again that was interrupted.
-pub fn run_session<R: Read, W: Write, D: Desk>(
+pub fn run_session<R: Read, W: Write, D: Handler>(
     alloc: Global,
     source: &mut Source<R>,
     sink: &mut Sink<W>,

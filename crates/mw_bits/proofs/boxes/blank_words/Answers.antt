@@ -1,9 +1,9 @@
 use Rattle.std.proofs.Common.{◌≡◌, ◌<◌, ◌*◌, ◌+◌, ℕ, List, length, ap, ◌∙◌, arith}
 use Rattle.std.proofs.lemmas.List.{length-replicate}
 use Rattle.mw_offset.proofs.mw_line.Rows.{rows_fit}
-use Rattle.mw_offset.specs.mw_words.Packed.{bit_of}
-use Rattle.mw_offset.proofs.mw_words.Done.{blank_bit}
-use Rattle.mw_word_rows.proofs.Packs.{stride_wide}
+use Rattle.mw_offset.specs.mw_pixel_words.Packed.{bit_of}
+use Rattle.mw_offset.proofs.mw_pixel_words.Done.{blank_bit}
+use Rattle.mw_bits_rows.proofs.Packs.{stride_wide}
 use Rattle.mw_bits.proofs.boxes.blank_words.Goals as goal
 
 pub trimmed-requires-clause-words : goal.trimmed-requires-clause-words

@@ -6,8 +6,8 @@ use Rattle.mw_offset.specs.mw_lane.Shifted.{merge_at}
 use Rattle.mw_offset.specs.mw_line.Extrema.{over}
 use Rattle.mw_offset.proofs.mw_line.Over.{over_same}
 use Rattle.mw_offset.proofs.mw_line.Rows.{rows_fit}
-use Rattle.mw_offset.specs.mw_words.Packed.{bit_of}
-use Rattle.mw_word_rows.proofs.Packs.{stride_wide}
+use Rattle.mw_offset.specs.mw_pixel_words.Packed.{bit_of}
+use Rattle.mw_bits_rows.proofs.Packs.{stride_wide}
 use Rattle.mw_bits.proofs.boxes.box_words.Goals as goal
 
 pub trimmed-requires-clause-words : goal.trimmed-requires-clause-words

@@ -1,9 +1,9 @@
 use Rattle.std.proofs.Common.{◌≡◌, ℕ, ◌+◌, ◌∙◌, ap, sym, get_or, arith}
 use Rattle.mw_offset.proofs.mw_line.Folds.{IsExtremum}
 use Rattle.mw_offset.proofs.Rooms.{merged_again}
-use Rattle.mw_offset.specs.mw_words.Packed.{bit_of}
-use Rattle.mw_word_rows.specs.Rows.{laid_bits}
-use Rattle.mw_word_rows.proofs.Laid.{laid_bit}
+use Rattle.mw_offset.specs.mw_pixel_words.Packed.{bit_of}
+use Rattle.mw_bits_rows.specs.Rows.{laid_bits}
+use Rattle.mw_bits_rows.proofs.Laid.{laid_bit}
 use Rattle.mw_bits.specs.Waiting.{with_waiting}
 use Rattle.mw_bits.proofs.by_runs.combine_run.Goals as goal
 

@@ -2,12 +2,12 @@ use Rattle.std.proofs.Common.{◌≡◌, ℕ, ◌+◌, ◌-◌, ◌*◌, ◌<◌
 use Rattle.std.specs.List.{AllByRecursion}
 use Rattle.mw_model.proofs.mw_facts.Alls.{all-weaker}
 use Rattle.mw_offset.proofs.mw_line.Folds.{IsExtremum}
-use Rattle.mw_offset.specs.mw_run.declared.runs.Run.{Run}
-use Rattle.mw_offset.specs.mw_run.Runs.{HasRoom}
+use Rattle.mw_offset.specs.mw_element_runs.declared.runs.Run.{Run}
+use Rattle.mw_offset.specs.mw_element_runs.Runs.{HasRoom}
 use Rattle.mw_offset.proofs.Gathers.{gather_below, all_below, IsDoubled, grown_more, run_value, none_gathered, gathered_between}
-use Rattle.mw_offset.specs.mw_words.Packed.{bit_of}
-use Rattle.mw_word_rows.specs.Rows.{laid_bits}
-use Rattle.mw_word_rows.proofs.Laid.{length-laid_bits, laid_shifted}
+use Rattle.mw_offset.specs.mw_pixel_words.Packed.{bit_of}
+use Rattle.mw_bits_rows.specs.Rows.{laid_bits}
+use Rattle.mw_bits_rows.proofs.Laid.{length-laid_bits, laid_shifted}
 use Rattle.mw_bits.proofs.by_runs.combine_runs.Goals as goal
 
 pub sizes-init : goal.sizes-init

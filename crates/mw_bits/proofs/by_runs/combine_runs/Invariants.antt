@@ -1,7 +1,7 @@
 use Rattle.std.proofs.Common.{◌≡◌, ℕ, ◌-◌, ◌*◌, ◌<◌, ◌≤◌, length}
 use Rattle.mw_offset.proofs.Gathers.{gather_below, run_value, IsDoubled}
-use Rattle.mw_offset.specs.mw_words.Packed.{bit_of}
-use Rattle.mw_word_rows.specs.Rows.{laid_bits}
+use Rattle.mw_offset.specs.mw_pixel_words.Packed.{bit_of}
+use Rattle.mw_bits_rows.specs.Rows.{laid_bits}
 use Rattle.mw_bits.proofs.by_runs.combine_runs.Given as goal
 
 abbrev pub invariant-sizes : goal.invariant-sizes

@@ -1,11 +1,11 @@
 use Rattle.std.proofs.Common.{◌-◌, ◌*◌, ◌∙◌, length, fold, pos, ap, arith}
 use Rattle.std.proofs.lemmas.List.{take_all}
 use Rattle.mw_model.proofs.mw_facts.Alls.{all-get_or}
-use Rattle.mw_offset.specs.mw_run.declared.runs.Run.{Run}
-use Rattle.mw_offset.specs.mw_run.Runs.{HasRoom, two_parts}
+use Rattle.mw_offset.specs.mw_element_runs.declared.runs.Run.{Run}
+use Rattle.mw_offset.specs.mw_element_runs.Runs.{HasRoom, two_parts}
 use Rattle.mw_offset.specs.Places.{sized_below}
-use Rattle.mw_offset.specs.mw_words.Packed.{bit_of}
-use Rattle.mw_word_rows.specs.Rows.{laid_bits}
+use Rattle.mw_offset.specs.mw_pixel_words.Packed.{bit_of}
+use Rattle.mw_bits_rows.specs.Rows.{laid_bits}
 use Rattle.mw_bits.proofs.by_runs.combine_sized.Goals as goal
 
 pub combine_run-waiting-requires-clause-room : goal.combine_run-waiting-requires-clause-room

@@ -1,8 +1,8 @@
 use Rattle.std.proofs.Common.{◌≡◌, ℕ, ◌+◌, ◌*◌, ◌/◌, ◌<◌, length, take, fold, IfSome}
-use Rattle.mw_offset.specs.mw_run.Runs.{two_parts}
+use Rattle.mw_offset.specs.mw_element_runs.Runs.{two_parts}
 use Rattle.mw_offset.specs.Places.{sized_below}
-use Rattle.mw_offset.specs.mw_words.Packed.{bit_of}
-use Rattle.mw_word_rows.specs.Rows.{laid_bits}
+use Rattle.mw_offset.specs.mw_pixel_words.Packed.{bit_of}
+use Rattle.mw_bits_rows.specs.Rows.{laid_bits}
 use Rattle.mw_bits.specs.Waiting.{with_waiting}
 use Rattle.mw_bits.proofs.by_runs.combine_sized.Given as goal
 

@@ -6,18 +6,18 @@ use Rattle.std.proofs.lemmas.Nat.{mul-le}
 use Rattle.std.proofs.Math.Nat.{mul-le-mul_left}
 use Rattle.mw_model.proofs.mw_facts.Alls.{all-weaker}
 use Rattle.mw_model.proofs.mw_facts.Elements.{take-written}
-use Rattle.mw_offset.specs.mw_run.declared.runs.Run.{Run}
+use Rattle.mw_offset.specs.mw_element_runs.declared.runs.Run.{Run}
 use Rattle.mw_model.proofs.Nonnegative.{nonnegative_is}
 use Rattle.mw_offset.proofs.mw_line.Folds.{IsExtremum}
 use Rattle.mw_offset.proofs.mw_line.Rows.{rows_fit}
 use Rattle.mw_offset.proofs.Rooms.{row_fits}
 use Rattle.mw_offset.proofs.Seens.{IsLaid, all_room, gather_seen}
-use Rattle.mw_offset.specs.mw_words.Packed.{bit_of}
-use Rattle.mw_word_rows.specs.Rows.{laid_bits}
-use Rattle.mw_offset.proofs.mw_words.Done.{blank_bit}
-use Rattle.mw_word_rows.proofs.Laid.{laid_bit, length-laid_bits}
+use Rattle.mw_offset.specs.mw_pixel_words.Packed.{bit_of}
+use Rattle.mw_bits_rows.specs.Rows.{laid_bits}
+use Rattle.mw_offset.proofs.mw_pixel_words.Done.{blank_bit}
+use Rattle.mw_bits_rows.proofs.Laid.{laid_bit, length-laid_bits}
 use Rattle.mw_bits.proofs.NearRuns.{counts_of_inside, columns_few, all_inside_wider}
-use Rattle.mw_word_rows.proofs.Packs.{stride_wide}
+use Rattle.mw_bits_rows.proofs.Packs.{stride_wide}
 use Rattle.mw_bits.proofs.by_runs.extremum_by_runs.Goals as goal
 
 pub combine_runs-requires-clause-room : goal.combine_runs-requires-clause-room

@@ -1,5 +1,5 @@
 use Rattle.std.proofs.Common.{ℕ, map, arith, ◌∙◌}
-use Rattle.mw_offset.proofs.mw_words.Done.{words_more}
+use Rattle.mw_offset.proofs.mw_pixel_words.Done.{words_more}
 use Rattle.mw_bits.proofs.NarrowRows.{narrow_cell, cell_of_word}
 use Rattle.mw_bits.proofs.compared.compare_narrow.Goals as goal
 

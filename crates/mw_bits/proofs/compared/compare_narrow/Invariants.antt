@@ -1,5 +1,5 @@
 use Rattle.std.proofs.Common.{map}
-use Rattle.mw_offset.proofs.mw_words.Done.{WordsDone}
+use Rattle.mw_offset.proofs.mw_pixel_words.Done.{WordsDone}
 use Rattle.mw_bits.proofs.NarrowRows.{narrow_cell}
 use Rattle.mw_bits.proofs.compared.compare_narrow.Given as goal
 

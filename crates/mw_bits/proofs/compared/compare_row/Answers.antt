@@ -1,5 +1,5 @@
 use Rattle.std.proofs.Common.{◌≡◌, ◌+◌, ◌-◌, ◌*◌, ◌/◌, ◌%◌, ℕ, length, map, get_or, ap, subst, arith, ◌∙◌}
-use Rattle.mw_offset.proofs.mw_words.Done.{WordsDone, words_more}
+use Rattle.mw_offset.proofs.mw_pixel_words.Done.{WordsDone, words_more}
 use Rattle.mw_bits.proofs.LevelRows.{block_tested}
 use Rattle.mw_bits.proofs.compared.compare_row.Goals as goal
 

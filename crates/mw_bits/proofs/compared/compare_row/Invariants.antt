@@ -1,5 +1,5 @@
 use Rattle.std.proofs.Common.{map, get_or}
-use Rattle.mw_offset.proofs.mw_words.Done.{WordsDone}
+use Rattle.mw_offset.proofs.mw_pixel_words.Done.{WordsDone}
 use Rattle.mw_bits.proofs.compared.compare_row.Given as goal
 
 abbrev pub invariant-loop-i : goal.invariant-loop-i

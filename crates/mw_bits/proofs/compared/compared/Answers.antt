@@ -2,7 +2,7 @@ use Rattle.std.proofs.Common.{◌≡◌, ℕ, List, length, ap, ◌∙◌, arith
 use Rattle.mw_model.proofs.mw_facts.Elements.{take-written}
 use Rattle.mw_model.specs.declared.places.Rect.{Rect}
 use Rattle.mw_model.specs.Rasters.{Raster}
-use Rattle.mw_offset.specs.mw_words.Packed.{samples_of}
+use Rattle.mw_offset.specs.mw_pixel_words.Packed.{samples_of}
 use Rattle.mw_bits.proofs.compared.compared.Goals as goal
 
 pub plane_of-requires : goal.plane_of-requires

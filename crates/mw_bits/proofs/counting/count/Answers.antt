@@ -1,5 +1,5 @@
 use Rattle.std.proofs.Common.{sum, ap, sym, ◌∙◌}
-use Rattle.mw_word_rows.proofs.Counts.{bits_are_sum}
+use Rattle.mw_bits_rows.proofs.Counts.{bits_are_sum}
 use Rattle.mw_bits.proofs.counting.count.Goals as goal
 
 pub returns-clause-value : goal.returns-clause-value

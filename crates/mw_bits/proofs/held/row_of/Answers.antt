@@ -1,6 +1,6 @@
 use Rattle.std.proofs.Common.{◌≡◌, ℕ, ◌+◌, ◌*◌, List, length, get_or, ap, sym, ◌∙◌, arith}
 use Rattle.mw_model.specs.Rasters.{Raster}
-use Rattle.mw_offset.specs.mw_words.Packed.{stride_of}
+use Rattle.mw_offset.specs.mw_pixel_words.Packed.{stride_of}
 use Rattle.mw_bits.proofs.held.row_of.Goals as goal
 
 pub row-requires : goal.row-requires

@@ -1,6 +1,6 @@
 use Rattle.std.proofs.Common.{◌≡◌, ℕ, ◌*◌, length, ap, sym, subst, ◌∙◌}
 use Rattle.mw_model.specs.Rasters.{Raster}
-use Rattle.mw_offset.specs.mw_words.Packed.{samples_of, IsPacked}
+use Rattle.mw_offset.specs.mw_pixel_words.Packed.{samples_of, IsPacked}
 use Rattle.mw_bits.proofs.held.words_of.Goals as goal
 
 pub returns-clause-packed : goal.returns-clause-packed

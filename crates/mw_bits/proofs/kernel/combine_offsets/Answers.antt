@@ -7,7 +7,7 @@ use Rattle.mw_model.specs.Rasters.{raster, cell_at}
 use Rattle.mw_model.specs.Windows.{seen_at}
 use Rattle.mw_offset.specs.mw_lane.Shifted.{merge_at}
 use Rattle.mw_offset.proofs.Merges.{fold_more_given}
-use Rattle.mw_offset.specs.mw_words.Packed.{bit_of}
+use Rattle.mw_offset.specs.mw_pixel_words.Packed.{bit_of}
 use Rattle.mw_bits.proofs.kernel.combine_offsets.Goals as goal
 
 pub loop-offset-preserved : goal.loop-offset-preserved

@@ -1,7 +1,7 @@
 use Rattle.std.proofs.Common.{◌≡◌, ℕ, ◌+◌, ◌*◌, ◌<◌, take, fold}
 use Rattle.mw_model.specs.Rasters.{seen_under}
 use Rattle.mw_model.specs.Windows.{seen_at}
-use Rattle.mw_offset.specs.mw_words.Packed.{bit_of}
+use Rattle.mw_offset.specs.mw_pixel_words.Packed.{bit_of}
 use Rattle.mw_bits.proofs.kernel.combine_offsets.Given as goal
 
 abbrev pub invariant-loop-offset : goal.invariant-loop-offset

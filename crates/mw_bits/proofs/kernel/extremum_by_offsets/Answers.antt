@@ -3,9 +3,9 @@ use Rattle.mw_model.proofs.mw_facts.Elements.{take-written}
 use Rattle.mw_model.specs.Rasters.{seen_under}
 use Rattle.mw_model.specs.Windows.{seen_at}
 use Rattle.mw_offset.proofs.mw_line.Rows.{rows_fit}
-use Rattle.mw_offset.specs.mw_words.Packed.{bit_of}
-use Rattle.mw_offset.proofs.mw_words.Done.{blank_bit}
-use Rattle.mw_word_rows.proofs.Packs.{stride_wide}
+use Rattle.mw_offset.specs.mw_pixel_words.Packed.{bit_of}
+use Rattle.mw_offset.proofs.mw_pixel_words.Done.{blank_bit}
+use Rattle.mw_bits_rows.proofs.Packs.{stride_wide}
 use Rattle.mw_bits.proofs.kernel.extremum_by_offsets.Goals as goal
 
 pub returns-clause-cells : goal.returns-clause-cells

@@ -1,8 +1,8 @@
 use Rattle.std.proofs.Common.{cond, ◌∙◌}
 use Rattle.mw_model.specs.Windows.{seen_at}
 use Rattle.mw_offset.proofs.mw_line.Tiles.{tile_made, on_frame}
-use Rattle.mw_offset.specs.mw_words.Packed.{samples_of}
-use Rattle.mw_offset.proofs.mw_words.Bits.{sample_is_bit, length-samples_of}
+use Rattle.mw_offset.specs.mw_pixel_words.Packed.{samples_of}
+use Rattle.mw_offset.proofs.mw_pixel_words.Bits.{sample_is_bit, length-samples_of}
 use Rattle.mw_bits.proofs.UniformSeen.{uniform_made}
 use Rattle.mw_bits.proofs.kernel.extremum_of_runs.Goals as goal
 

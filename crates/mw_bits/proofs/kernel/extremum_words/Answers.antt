@@ -1,6 +1,6 @@
 use Rattle.std.proofs.Common.{◌+◌, ◌∙◌}
 use Rattle.mw_model.specs.Windows.{seen_at}
-use Rattle.mw_offset.proofs.mw_run.Orders.{fold_either_way}
+use Rattle.mw_offset.proofs.mw_element_runs.Orders.{fold_either_way}
 use Rattle.mw_bits.proofs.kernel.extremum_words.Goals as goal
 
 pub returns-then-is_near-clause-cells : goal.returns-then-is_near-clause-cells

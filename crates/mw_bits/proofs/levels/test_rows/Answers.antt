@@ -2,9 +2,9 @@ use Rattle.std.proofs.Common.{◌≡◌, ◌+◌, ◌-◌, ◌*◌, ℕ, List, l
 use Rattle.std.proofs.lemmas.List.{length-map}
 use Rattle.mw_model.specs.declared.places.Rect.{Rect}
 use Rattle.mw_offset.proofs.mw_line.Rows.{rows_fit}
-use Rattle.mw_offset.specs.mw_words.Packed.{stride_of}
-use Rattle.mw_offset.proofs.mw_words.Done.{bit_rows_more_by}
-use Rattle.mw_word_rows.proofs.Packs.{packed_row, all_packed, samples_packed}
+use Rattle.mw_offset.specs.mw_pixel_words.Packed.{stride_of}
+use Rattle.mw_offset.proofs.mw_pixel_words.Done.{bit_rows_more_by}
+use Rattle.mw_bits_rows.proofs.Packs.{packed_row, all_packed, samples_packed}
 use Rattle.mw_bits.proofs.LevelRows.{part_mapped}
 use Rattle.mw_bits.proofs.levels.test_rows.Goals as goal
 

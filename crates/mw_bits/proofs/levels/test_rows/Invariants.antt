@@ -1,7 +1,7 @@
 use Rattle.std.proofs.Common.{◌≡◌, length, map}
-use Rattle.mw_offset.specs.mw_words.Packed.{stride_of}
-use Rattle.mw_offset.proofs.mw_words.Done.{BitRowsDone}
-use Rattle.mw_word_rows.proofs.Packs.{packed_row}
+use Rattle.mw_offset.specs.mw_pixel_words.Packed.{stride_of}
+use Rattle.mw_offset.proofs.mw_pixel_words.Done.{BitRowsDone}
+use Rattle.mw_bits_rows.proofs.Packs.{packed_row}
 use Rattle.mw_bits.proofs.levels.test_rows.Given as goal
 
 abbrev pub invariant-loop-y : goal.invariant-loop-y

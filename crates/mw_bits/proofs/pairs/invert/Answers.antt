@@ -3,7 +3,7 @@ use Rattle.mw_model.proofs.mw_facts.Elements.{take-written}
 use Rattle.mw_model.specs.declared.places.Rect.{Rect}
 use Rattle.mw_model.specs.Rasters.{Raster}
 use Rattle.mw_offset.proofs.mw_line.Rows.{rows_fit}
-use Rattle.mw_offset.specs.mw_words.Packed.{bit_of, stride_of, samples_of}
+use Rattle.mw_offset.specs.mw_pixel_words.Packed.{bit_of, stride_of, samples_of}
 use Rattle.mw_bits.proofs.Pairings.{mapped_samples, flipped_place}
 use Rattle.mw_bits.proofs.pairs.invert.Goals as goal
 

@@ -2,7 +2,7 @@ use Rattle.std.proofs.Common.{◌≡◌, ℕ, ◌*◌, List, length, ap, sym, �
 use Rattle.mw_model.proofs.mw_facts.Elements.{take-written}
 use Rattle.mw_model.specs.declared.places.Rect.{Rect}
 use Rattle.mw_model.specs.Rasters.{Raster}
-use Rattle.mw_offset.specs.mw_words.Packed.{bit_of, stride_of, samples_of, IsPacked}
+use Rattle.mw_offset.specs.mw_pixel_words.Packed.{bit_of, stride_of, samples_of, IsPacked}
 use Rattle.mw_bits.proofs.Pairings.{paired_samples, paired_packed}
 use Rattle.mw_bits.proofs.pairs.paired.Goals as goal
 use lib.Lanes.{zip2}

@@ -1,6 +1,6 @@
 use Rattle.std.proofs.Common.{◌≤◌, pos, arith}
 use Rattle.mw_model.proofs.mw_facts.Alls.{all-get_or}
-use Rattle.mw_offset.specs.mw_run.declared.runs.Run.{Run}
+use Rattle.mw_offset.specs.mw_element_runs.declared.runs.Run.{Run}
 use Rattle.mw_bits.proofs.NearRuns.{counts_more}
 use Rattle.mw_bits.proofs.sizes.longest_of.Goals as goal
 

@@ -4,8 +4,8 @@ use Rattle.mw_model.proofs.mw_facts.Elements.{take-written}
 use Rattle.mw_model.specs.Rasters.{raster, cell_at}
 use Rattle.mw_offset.specs.mw_lane.Shifted.{merge_at}
 use Rattle.mw_offset.proofs.mw_line.Rows.{rows_fit}
-use Rattle.mw_offset.specs.mw_words.Packed.{bit_of}
-use Rattle.mw_offset.proofs.mw_words.Done.{blank_bit}
+use Rattle.mw_offset.specs.mw_pixel_words.Packed.{bit_of}
+use Rattle.mw_offset.proofs.mw_pixel_words.Done.{blank_bit}
 use Rattle.mw_bits.proofs.spread.spread.Goals as goal
 
 pub returns-clause-cells : goal.returns-clause-cells

@@ -3,8 +3,8 @@ use Rattle.std.proofs.lemmas.Int.{ints}
 use Rattle.mw_model.specs.Rasters.{raster, cell_at}
 use Rattle.mw_offset.specs.mw_lane.Shifted.{merge_at}
 use Rattle.mw_offset.proofs.mw_line.Rows.{rows_fit}
-use Rattle.mw_offset.specs.mw_words.Packed.{bit_of}
-use Rattle.mw_offset.proofs.mw_words.Done.{bit_rows_more}
+use Rattle.mw_offset.specs.mw_pixel_words.Packed.{bit_of}
+use Rattle.mw_offset.proofs.mw_pixel_words.Done.{bit_rows_more}
 use Rattle.mw_bits.proofs.spread.spread_rows.Goals as goal
 
 pub loop-y-preserved : goal.loop-y-preserved

@@ -1,7 +1,7 @@
 use Rattle.std.proofs.Common.{pos, ◌+ℤ◌}
 use Rattle.mw_model.specs.Rasters.{raster, cell_at}
 use Rattle.mw_offset.specs.mw_lane.Shifted.{merge_at}
-use Rattle.mw_offset.proofs.mw_words.Done.{BitRowsDone}
+use Rattle.mw_offset.proofs.mw_pixel_words.Done.{BitRowsDone}
 use Rattle.mw_bits.proofs.spread.spread_rows.Given as goal
 
 abbrev pub invariant-loop-y : goal.invariant-loop-y

@@ -1,7 +1,7 @@
 use Rattle.std.proofs.Common.{◌+◌, ◌∙◌, cond, flat_map, sym}
 use Rattle.mw_model.specs.Windows.{seen_at}
-use Rattle.mw_offset.specs.mw_run.Runs.{run_offsets}
-use Rattle.mw_offset.proofs.mw_run.Orders.{fold_either_way}
+use Rattle.mw_offset.specs.mw_element_runs.Runs.{run_offsets}
+use Rattle.mw_offset.proofs.mw_element_runs.Orders.{fold_either_way}
 use Rattle.mw_bits.proofs.UniformSeen.{uniform_neutral, uniform_seen, pixel_small}
 use Rattle.mw_bits.proofs.uniform.settled.Goals as goal
 

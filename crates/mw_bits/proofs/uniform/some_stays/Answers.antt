@@ -1,5 +1,5 @@
 use Rattle.std.proofs.Common.{pos}
-use Rattle.mw_offset.specs.mw_run.declared.runs.Run.{Run}
+use Rattle.mw_offset.specs.mw_element_runs.declared.runs.Run.{Run}
 use Rattle.mw_bits.proofs.SeenRuns.{run_stays, some_stays}
 use Rattle.mw_bits.proofs.uniform.some_stays.Goals as goal
 

@@ -1,7 +1,7 @@
 use Rattle.std.proofs.Common.{◌≡◌, ◌+◌, ◌*◌, get_or, ap, arith, ◌∙◌}
 use Rattle.mw_model.specs.declared.places.Rect.{Rect}
 use Rattle.mw_offset.proofs.mw_line.Rows.{rows_made_more}
-use Rattle.mw_word_rows.proofs.Packs.{rows_are, stride_wide}
+use Rattle.mw_bits_rows.proofs.Packs.{rows_are, stride_wide}
 use Rattle.mw_bits.proofs.unpacked.unpack_rows.Goals as goal
 
 pub loop-y-preserved : goal.loop-y-preserved

@@ -4,9 +4,9 @@ use Rattle.std.proofs.lemmas.Int.{ints}
 use Rattle.mw_model.specs.declared.places.Rect.{Rect}
 use Rattle.mw_model.specs.Rasters.{raster, cell_at}
 use Rattle.mw_offset.specs.mw_lane.Shifted.{merge_at}
-use Rattle.mw_offset.specs.mw_words.Packed.{bit_of}
-use Rattle.mw_word_rows.specs.Rows.{pixel_at}
-use Rattle.mw_word_rows.proofs.Paddings.{row_shows}
+use Rattle.mw_offset.specs.mw_pixel_words.Packed.{bit_of}
+use Rattle.mw_bits_rows.specs.Rows.{pixel_at}
+use Rattle.mw_bits_rows.proofs.Paddings.{row_shows}
 use Rattle.mw_bits.proofs.window_rows.combine_window_row.Goals as goal
 
 pub returns-then-row-from : goal.returns-then-row-from

@@ -1,9 +1,9 @@
 use Rattle.std.proofs.Common.{◌≡◌, ◌∙◌, None, ap, length, map, rules, sym}
 use Rattle.std.proofs.lemmas.Result.{IfOk-weaker}
 use Rattle.mw_model.specs.Pictures.{Picture}
-use Rattle.mw_arrays.specs.Arrays.{element_in}
-use Rattle.mw_arrays.specs.Sound.{IsElementBitmap}
-use Rattle.mw_arrays.specs.Sources.{IsSource, picture_in}
+use Rattle.mw_c_arrays.specs.Arrays.{element_in}
+use Rattle.mw_c_arrays.specs.Sound.{IsElementBitmap}
+use Rattle.mw_c_arrays.specs.Sources.{IsSource, picture_in}
 use Rattle.mw_c_calls.specs.Calls.{flat_of}
 use Rattle.mw_c_calls.specs.Ways.{way_picture}
 use Rattle.mw_c_calls.proofs.Passed.{passed, room_is, where_none}

@@ -1,9 +1,9 @@
 use Rattle.std.proofs.Common.{◌≡◌, ◌∙◌, None, refl, rules, sym}
-use Rattle.mw_arrays.specs.Arrays.{element_in}
+use Rattle.mw_c_arrays.specs.Arrays.{element_in}
 use Rattle.mw_model.specs.Iterates.{restoration}
 use Rattle.mw_model.specs.declared.operations.GranOp.TheVariants as gran
 use Rattle.mw_model.specs.declared.operations.Op.TheVariants as op
-use Rattle.mw_arrays.specs.Sources.{IsSource, picture_in}
+use Rattle.mw_c_arrays.specs.Sources.{IsSource, picture_in}
 use Rattle.mw_c_calls.specs.Sources.{figure_in}
 use Rattle.mw_c_calls.proofs.Meant.{value_by, value_is}
 use Rattle.mw_c_calls.proofs.Passed.{passed, room_is, where_none}

@@ -1,7 +1,7 @@
 use Rattle.std.proofs.Common.{◌≡◌, ◌∙◌, length, map, of_z, rules, sym, to_z, w32, arith}
-use Rattle.mw_arrays.specs.Arrays.{element_of, set_of}
+use Rattle.mw_c_arrays.specs.Arrays.{element_of, set_of}
 use Rattle.std.proofs.lemmas.List.{map-id}
-use Rattle.mw_strips.specs.Rows.{rows_from}
+use Rattle.mw_c_strips.specs.Rows.{rows_from}
 use Rattle.mw_c_calls.specs.Calls.{flat_of}
 use Rattle.mw_c_calls.proofs.Answered.{answered, kept_else, written_zero}
 use Rattle.mw_c_calls.proofs.flat_rows.flat_rows_set.Goals as goal

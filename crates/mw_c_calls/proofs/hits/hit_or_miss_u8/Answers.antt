@@ -1,6 +1,6 @@
 use Rattle.std.proofs.Common.{◌≡◌, ◌∙◌, of_z, rules, to_z, w32}
 use Rattle.mw_model.specs.Flat.{hit_or_miss}
-use Rattle.mw_arrays.specs.Arrays.{element_of, grey_of}
+use Rattle.mw_c_arrays.specs.Arrays.{element_of, grey_of}
 use Rattle.mw_c_calls.proofs.Answered.{answered, made_zero}
 use Rattle.mw_c_calls.proofs.hits.hit_or_miss_u8.Goals as goal
 

@@ -1,5 +1,5 @@
 use Rattle.std.specs.Arc.{arc_value}
-use Rattle.mw_arrays.specs.Sources.{picture_in}
+use Rattle.mw_c_arrays.specs.Sources.{picture_in}
 use Rattle.mw_c_calls.proofs.Meant.{hits_made}
 use Rattle.mw_c_calls.proofs.making.hits_of.Goals as goal
 

@@ -1,4 +1,4 @@
-use Rattle.mw_arrays.specs.Sources.{picture_in}
+use Rattle.mw_c_arrays.specs.Sources.{picture_in}
 use Rattle.mw_c_calls.proofs.Asked.{asked_told}
 use Rattle.mw_c_calls.proofs.making.made_by.Goals as goal
 

@@ -2,11 +2,11 @@ use Rattle.std.proofs.Common.{◌≡◌, ◌∙◌, None, ap, length, map, rules
 use Rattle.std.proofs.lemmas.Result.{IfOk-weaker}
 use Rattle.mw_model.specs.declared.codes.Code.TheVariants as code
 use Rattle.mw_model.specs.Pictures.{Picture}
-use Rattle.mw_arrays.specs.Arrays.{element_in}
-use Rattle.mw_arrays.specs.Sound.{IsElementBitmap}
-use Rattle.mw_arrays.specs.Sources.{IsSource, picture_in}
-use Rattle.mw_arrays.proofs.FirstCases.{when_not-none}
-use Rattle.mw_strips.specs.Rows.{rows_from}
+use Rattle.mw_c_arrays.specs.Arrays.{element_in}
+use Rattle.mw_c_arrays.specs.Sound.{IsElementBitmap}
+use Rattle.mw_c_arrays.specs.Sources.{IsSource, picture_in}
+use Rattle.mw_c_arrays.proofs.FirstCases.{when_not-none}
+use Rattle.mw_c_strips.specs.Rows.{rows_from}
 use Rattle.mw_c_calls.specs.Calls.{flat_of}
 use Rattle.mw_c_calls.specs.Ways.{way_picture}
 use Rattle.mw_c_calls.proofs.OneStep.{of_eight}

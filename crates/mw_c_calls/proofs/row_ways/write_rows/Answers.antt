@@ -2,8 +2,8 @@ use Rattle.std.proofs.Common.{◌≡◌, length, map, subst, sym, true}
 use Rattle.std.specs.Prelude.{IfOk}
 use Rattle.std.specs.Arc.{arc_value}
 use Rattle.std.proofs.lemmas.Bool.{false≢true}
-use Rattle.mw_arrays.specs.Sources.{picture_in}
-use Rattle.mw_strips.specs.Rows.{rows_from}
+use Rattle.mw_c_arrays.specs.Sources.{picture_in}
+use Rattle.mw_c_strips.specs.Rows.{rows_from}
 use Rattle.mw_c_calls.specs.declared.ways.Way.{Way}
 use Rattle.mw_c_calls.specs.Rows.{is_one_step}
 use Rattle.mw_c_calls.specs.Ways.{way_picture}

@@ -1,6 +1,6 @@
 use Rattle.std.proofs.Common.{◌≡◌, ◌∙◌, of_z, rules, to_z, w32}
 use Rattle.mw_model.specs.Flat.{threshold}
-use Rattle.mw_arrays.specs.Arrays.{grey_of}
+use Rattle.mw_c_arrays.specs.Arrays.{grey_of}
 use Rattle.mw_c_calls.proofs.Answered.{answered, kept_else, written_zero}
 use Rattle.mw_c_calls.proofs.thresholds.threshold_u16.Goals as goal
 

@@ -1,7 +1,7 @@
 use Rattle.std.proofs.Common.{◌≡◌, map, subst, sym}
 use Rattle.std.specs.Prelude.{IfOk}
 use Rattle.std.specs.Arc.{arc_value}
-use Rattle.mw_arrays.specs.Sources.{picture_in}
+use Rattle.mw_c_arrays.specs.Sources.{picture_in}
 use Rattle.mw_c_calls.specs.declared.ways.Way.{Way}
 use Rattle.mw_c_calls.specs.Ways.{way_picture}
 use Rattle.mw_c_calls.proofs.ways.write.Goals as goal

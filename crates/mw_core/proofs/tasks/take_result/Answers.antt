@@ -2,8 +2,8 @@ use Rattle.std.proofs.Common.{◌<◌, ℕ, List, length, Some, ap, sym, subst, 
 use Rattle.std.specs.List.{AllByRecursion}
 use Rattle.mw_model.specs.declared.tasks.TaskId.{TaskId}
 use Rattle.mw_model.specs.Refusals.{Table}
-use Rattle.mw_ledger.specs.Books.{Book, seen_of}
-use Rattle.mw_ledger.specs.Counts.{WaitFor}
+use Rattle.mw_core_ledger.specs.Books.{Book, seen_of}
+use Rattle.mw_core_ledger.specs.Counts.{WaitFor}
 use Rattle.mw_core.proofs.BookLemmas.{counted}
 use Rattle.mw_core.proofs.FinishLemmas.{placed-under}
 use Rattle.mw_core.proofs.tasks.take_result.Goals as goal

@@ -1,5 +1,5 @@
 use Rattle.std.proofs.Common.{List, false, subst, sym}
-use Rattle.mw_run.specs.declared.runs.Run.{Run}
+use Rattle.mw_element_runs.specs.declared.runs.Run.{Run}
 use Rattle.mw_element.specs.Told.{TellsRuns}
 use Rattle.mw_element.proofs.Turned.{runs_of_rows}
 use Rattle.mw_element.proofs.runs.by_rows.Goals as goal

@@ -1,5 +1,5 @@
 use Rattle.std.proofs.Common.{List, [], ◌∷◌, ◌++◌, pos, take, ap, ◌∙◌}
-use Rattle.mw_run.specs.declared.runs.Run.{Run}
+use Rattle.mw_element_runs.specs.declared.runs.Run.{Run}
 use Rattle.mw_element.specs.Told.{turned_runs}
 use Rattle.mw_element.proofs.Turned.{turned_more}
 use Rattle.mw_element.proofs.runs.turn.Goals as goal

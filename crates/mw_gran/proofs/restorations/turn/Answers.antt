@@ -1,5 +1,5 @@
 use Rattle.std.proofs.Common.{◌≡◌, ◌-◌, suc, length, arith}
-use Rattle.mw_plan.specs.mw_task.Meanings.{meaning}
+use Rattle.mw_plan.specs.mw_step_task.Meanings.{meaning}
 use Rattle.mw_plan.specs.Seen.{source}
 use Rattle.mw_gran.proofs.OneMore.{with_step, pushed_count}
 use Rattle.mw_gran.proofs.Turns.{restoration_turn}

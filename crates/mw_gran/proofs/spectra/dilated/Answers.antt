@@ -2,7 +2,7 @@ use Rattle.std.proofs.Common.{◌≡◌, ℕ, suc, ◌+◌, length, arith, subst
 use Rattle.mw_model.specs.Flat.{dilation, reflected}
 use Rattle.mw_model.specs.Iterates.{times}
 use Rattle.mw_model.specs.Pictures.{IsPicture}
-use Rattle.mw_plan.specs.mw_task.Meanings.{meaning}
+use Rattle.mw_plan.specs.mw_step_task.Meanings.{meaning}
 use Rattle.mw_plan.specs.Seen.{source}
 use Rattle.mw_gran.specs.Growing.{Shows}
 use Rattle.mw_gran.specs.Turns.{Tells}

@@ -3,7 +3,7 @@ use Rattle.mw_model.specs.declared.places.Offset.{Offset}
 use Rattle.mw_model.specs.Flat.{dilation, reflected}
 use Rattle.mw_model.specs.Iterates.{times}
 use Rattle.mw_model.specs.Pictures.{Picture, IsPicture}
-use Rattle.mw_plan.specs.mw_task.Meanings.{meaning}
+use Rattle.mw_plan.specs.mw_step_task.Meanings.{meaning}
 use Rattle.mw_plan.specs.Seen.{source}
 use Rattle.mw_gran.specs.Growing.{Shows}
 use Rattle.mw_gran.specs.Turns.{Slides, StillShown, Tells}

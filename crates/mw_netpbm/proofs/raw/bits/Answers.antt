@@ -1,8 +1,8 @@
 use Rattle.std.proofs.Common.{◌≤◌, ℕ, ◌*◌, ◌+◌, ◌/◌, List, length, Ok, ap, sym, ◌∙◌, arith}
 use Rattle.mw_model.specs.Rasters.{Raster, raster}
 use Rattle.mw_netpbm.specs.Rasters.{rows_bits}
-use Rattle.mw_netpbm.specs.Whole.{raster_from}
-use Rattle.mw_netpbm.proofs.InWords.{rows_are_packed, rows_samples}
+use Rattle.mw_netpbm_plain.specs.Whole.{raster_from}
+use Rattle.mw_netpbm_plain.proofs.InWords.{rows_are_packed, rows_samples}
 use Rattle.mw_netpbm.proofs.Sides.{rows_within, rows_length, bits_whole}
 use Rattle.mw_netpbm.proofs.raw.bits.Goals as goal
 

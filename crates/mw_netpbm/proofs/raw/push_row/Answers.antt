@@ -1,6 +1,6 @@
 use Rattle.std.proofs.Common.{◌≤◌, ◌++◌, ◌+◌, ◌/◌, length, arith}
 use Rattle.mw_netpbm.specs.Rasters.{row_bits}
-use Rattle.mw_netpbm.specs.SetWords.{in_words}
+use Rattle.mw_netpbm_plain.specs.SetWords.{in_words}
 use Rattle.mw_netpbm.proofs.Chunks.{set_block, no_more}
 use Rattle.mw_netpbm.proofs.raw.push_row.Goals as goal
 

@@ -1,5 +1,5 @@
 use Rattle.std.proofs.Common.{sym}
-use Rattle.mw_netpbm.proofs.Headers.{head_last}
+use Rattle.mw_netpbm_plain.proofs.Headers.{head_last}
 use Rattle.mw_netpbm.proofs.reader.opened.Goals as goal
 
 pub returns-clause-shorter : goal.returns-clause-shorter

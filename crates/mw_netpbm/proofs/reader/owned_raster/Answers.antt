@@ -2,8 +2,8 @@ use Rattle.std.proofs.Common.{◌≡◌, ◌*◌, true, ltb, drop, Result, refl,
 use Rattle.std.proofs.lemmas.Bool.{lt-ltb}
 use Rattle.mw_model.specs.declared.formats.Format.TheVariants.{RawGrey}
 use Rattle.mw_model.specs.Pictures.{Picture}
-use Rattle.mw_netpbm.specs.declared.fault.ReadFault.{ReadFault}
-use Rattle.mw_netpbm.specs.Reading.{Gives}
+use Rattle.mw_netpbm_plain.specs.declared.fault.ReadFault.{ReadFault}
+use Rattle.mw_netpbm_plain.specs.Reading.{Gives}
 use Rattle.mw_netpbm.specs.Rasters.{grey8_at}
 use Rattle.mw_netpbm.specs.Whole.{grey_from, raster_as}
 use Rattle.mw_netpbm.proofs.Made.{seen_fit}

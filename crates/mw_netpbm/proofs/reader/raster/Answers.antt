@@ -1,13 +1,14 @@
 use Rattle.std.proofs.Common.{◌*◌, Result, sym, ap, subst}
 use Rattle.mw_model.specs.declared.formats.Format.{Format}
 use Rattle.mw_model.specs.Pictures.{Picture}
-use Rattle.mw_netpbm.specs.declared.fault.ReadFault.{ReadFault}
-use Rattle.mw_netpbm.specs.Reading.{Gives}
+use Rattle.mw_netpbm_plain.specs.declared.fault.ReadFault.{ReadFault}
+use Rattle.mw_netpbm_plain.specs.Reading.{Gives}
 use Rattle.mw_netpbm.specs.Rasters.{bits_at, grey8_at, grey16_at}
-use Rattle.mw_netpbm.specs.Plain.{plain_at, pixel_at, sample_at}
+use Rattle.mw_netpbm_plain.specs.Plain.{plain_at, pixel_at, sample_at}
 use Rattle.mw_netpbm.specs.Whole.{raster_as}
 use Rattle.mw_netpbm.proofs.Made.{Gives_levels, fit_found, set_made}
-use Rattle.mw_netpbm.proofs.Whole.{grey8_fit, grey16_fit, plain_fit}
+use Rattle.mw_netpbm.proofs.Whole.{grey8_fit, grey16_fit}
+use Rattle.mw_netpbm_plain.proofs.Whole.{plain_fit}
 use Rattle.mw_netpbm.proofs.reader.raster.Goals as goal
 
 pub grey8_image-requires-clause-fit : goal.grey8_image-requires-clause-fit

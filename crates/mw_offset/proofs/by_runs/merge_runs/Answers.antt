@@ -5,7 +5,7 @@ use Rattle.std.proofs.lemmas.Int.{ints}
 use Rattle.std.proofs.lemmas.Result.{on_ok_weaker}
 use Rattle.mw_model.specs.declared.places.Rect.{Rect}
 use Rattle.mw_line.proofs.Folds.{IsExtremum}
-use Rattle.mw_run.specs.Runs.{HasRoom}
+use Rattle.mw_element_runs.specs.Runs.{HasRoom}
 use Rattle.mw_offset.proofs.Seens.{IsLaidBy, all_room, more_room, gather_spread}
 use Rattle.mw_offset.proofs.by_runs.merge_runs.Goals as goal
 

@@ -1,8 +1,8 @@
 use Rattle.std.proofs.Common.{arith, get_or, pos}
 use Rattle.std.proofs.lemmas.List.{get_or_default}
 use Rattle.mw_model.proofs.mw_facts.Alls.{all-get_or}
-use Rattle.mw_run.specs.declared.runs.Run.{Run}
-use Rattle.mw_run.specs.Runs.{HasRoom}
+use Rattle.mw_element_runs.specs.declared.runs.Run.{Run}
+use Rattle.mw_element_runs.specs.Runs.{HasRoom}
 use Rattle.mw_offset.proofs.Parts.{more_places}
 use Rattle.mw_offset.proofs.by_runs.places_of_sizes.Goals as goal
 

@@ -1,6 +1,6 @@
 use Rattle.std.proofs.Common.{◌+◌, ◌∙◌}
 use Rattle.mw_model.specs.Windows.{seen_at}
-use Rattle.mw_run.proofs.Orders.{fold_either_way}
+use Rattle.mw_element_runs.proofs.Orders.{fold_either_way}
 use Rattle.mw_offset.proofs.offsets.extremum_samples.Goals as goal
 
 pub returns-then-tile-clause-cells : goal.returns-then-tile-clause-cells

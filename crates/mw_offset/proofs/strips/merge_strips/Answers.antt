@@ -2,7 +2,7 @@ use Rattle.std.proofs.Common.{◌≡◌, ◌+◌, ◌-◌, ◌*◌, ◌≤◌, �
 use Rattle.std.proofs.Math.Nat.{mul-le-mul_left}
 use Rattle.mw_model.specs.Rasters.{seen_under}
 use Rattle.mw_model.specs.Windows.{seen_at}
-use Rattle.mw_run.specs.Runs.{run_offsets}
+use Rattle.mw_element_runs.specs.Runs.{run_offsets}
 use Rattle.mw_offset.proofs.StripRows.{strips_more, part_blank}
 use Rattle.mw_offset.proofs.strips.merge_strips.Goals as goal
 

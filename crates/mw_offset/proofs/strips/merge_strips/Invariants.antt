@@ -1,7 +1,7 @@
 use Rattle.std.proofs.Common.{◌+◌, ◌-◌, fold, flat_map}
 use Rattle.mw_model.specs.Rasters.{seen_under}
 use Rattle.mw_model.specs.Windows.{seen_at}
-use Rattle.mw_run.specs.Runs.{run_offsets}
+use Rattle.mw_element_runs.specs.Runs.{run_offsets}
 use Rattle.mw_offset.proofs.StripRows.{StripsDone}
 use Rattle.mw_offset.proofs.strips.merge_strips.Given as goal
 

@@ -1,4 +1,4 @@
-use Rattle.mw_task.specs.Meanings.{meaning}
+use Rattle.mw_step_task.specs.Meanings.{meaning}
 use Rattle.mw_model.specs.Plans.{FromStep}
 use Rattle.mw_plan.specs.Asked.{offsets_of_input}
 use Rattle.mw_plan.specs.Seen.{planned}

@@ -6,4 +6,4 @@ use Rattle.mw_plan.proofs.flat.residue.Goals as goal
 
 pub returns : goal.returns
 returns c =
-    residue_makes c.args.extremum (offsets_of_input c.args.b) c.in_ok-plan.plan c.push.new.self c.in_ok-plan.ensures (c.in_ok-push.ensures ∙ ap (λ (t : Planned). c.in_ok-plan.plan ++ t ∷ []) c.left_over.ensures)
+    residue_makes c.args.extremum (offsets_of_input c.args.b) c.in_ok-plan.plan c.push.new.self c.in_ok-plan.ensures (c.in_ok-push.ensures ∙ ap (λ (t : Planned). c.in_ok-plan.plan ++ t ∷ []) c.top_hat_step.ensures)

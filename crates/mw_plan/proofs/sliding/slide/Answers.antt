@@ -1,7 +1,7 @@
 use Rattle.std.proofs.Common.{ap, ◌∙◌}
 use Rattle.std.specs.Arc.{arc_value}
 use Rattle.mw_model.specs.Elements.{Figure}
-use Rattle.mw_task.specs.Meanings.{meaning}
+use Rattle.mw_step_task.specs.Meanings.{meaning}
 use Rattle.mw_plan.specs.Asked.{offsets_of_input}
 use Rattle.mw_plan.proofs.Acting.{slides_by_offsets, slides_by_box}
 use Rattle.mw_plan.proofs.sliding.slide.Goals as goal

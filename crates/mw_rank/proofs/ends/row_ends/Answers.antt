@@ -3,7 +3,7 @@ use Rattle.std.proofs.lemmas.List.{get_or_default, take_all}
 use Rattle.mw_model.specs.Windows.{seen_at}
 use Rattle.mw_rank.specs.Ends.{AreEnds}
 use Rattle.mw_rank.specs.declared.ends.Ends.{Ends}
-use Rattle.mw_run.specs.declared.runs.Run.{Run}
+use Rattle.mw_element_runs.specs.declared.runs.Run.{Run}
 use Rattle.mw_rank.proofs.Edges.{are_ends_none, are_ends_more}
 use Rattle.mw_rank.proofs.ends.row_ends.Goals as goal
 

@@ -2,8 +2,8 @@ use Rattle.std.proofs.Common.{ℕ, ◌≡◌, ◌+◌, ◌++◌, ◌∙◌, arit
 use Rattle.std.proofs.lemmas.List.{get_or_default}
 use Rattle.mw_model.specs.declared.places.Offset.{Offset}
 use Rattle.mw_model.specs.Windows.{seen_at}
-use Rattle.mw_run.specs.declared.runs.Run.{Run}
-use Rattle.mw_run.specs.Runs.{start_offset}
+use Rattle.mw_element_runs.specs.declared.runs.Run.{Run}
+use Rattle.mw_element_runs.specs.Runs.{start_offset}
 use Rattle.mw_rank.specs.Ranks.{levels_at}
 use Rattle.mw_rank.specs.Tallies.{Tallies, Holds}
 use Rattle.mw_rank.proofs.Counts.{tallies_same}

@@ -1,7 +1,7 @@
 use Rattle.std.proofs.Common.{arith, get_or, pos, sym, subst, List}
 use Rattle.std.proofs.lemmas.List.{get_or_default, take_all}
 use Rattle.mw_model.specs.Windows.{seen_at}
-use Rattle.mw_run.specs.declared.runs.Run.{Run}
+use Rattle.mw_element_runs.specs.declared.runs.Run.{Run}
 use Rattle.mw_rank.specs.Ranks.{levels_under}
 use Rattle.mw_rank.specs.Runs.{element_of}
 use Rattle.mw_rank.specs.Tallies.{Tallies}

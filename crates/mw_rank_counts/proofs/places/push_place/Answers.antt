@@ -1,7 +1,7 @@
 use Rattle.std.proofs.Common.{◌≡◌, ℤ, pos, ◌+ℤ◌, ◌-ℤ◌, ◌+◌, ◌*◌, None, ap, arith, subst}
 use Rattle.mw_model.specs.Rasters.{raster, cell_at}
 use Rattle.mw_model.specs.declared.places.Rect.{Rect}
-use Rattle.mw_rank.specs.mw_run.declared.runs.Run.{Run}
+use Rattle.mw_rank.specs.mw_element_runs.declared.runs.Run.{Run}
 use Rattle.mw_rank_counts.proofs.Standing.{no_place, one_place}
 use Rattle.mw_rank_counts.proofs.places.push_place.Goals as goal
 

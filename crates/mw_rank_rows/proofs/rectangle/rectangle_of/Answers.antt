@@ -1,8 +1,8 @@
 use Rattle.std.proofs.Common.{◌<◌, ◌≤◌, pos, arith, sym, length, get_or}
 use Rattle.std.proofs.lemmas.List.{get_or_default}
 use Rattle.mw_model.proofs.mw_facts.Alls.{all-get_or}
-use Rattle.mw_rank_counts.specs.mw_run.Runs.{IsRun}
-use Rattle.mw_rank_counts.specs.mw_run.declared.runs.Run.{Run}
+use Rattle.mw_rank_counts.specs.mw_element_runs.Runs.{IsRun}
+use Rattle.mw_rank_counts.specs.mw_element_runs.declared.runs.Run.{Run}
 use Rattle.mw_rank_rows.proofs.Rectangular.{row_more}
 use Rattle.mw_rank_rows.proofs.rectangle.rectangle_of.Goals as goal
 

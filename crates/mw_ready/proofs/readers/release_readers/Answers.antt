@@ -1,7 +1,7 @@
 use Rattle.std.proofs.Common.{arith, ◌≡◌, ◌+◌, ◌∙◌, ℕ, get_or, sym, ap, subst, refl, length}
 use Rattle.std.proofs.lemmas.Bool.{eq-eqb}
-use Rattle.mw_queue.specs.mw_grid.Grids.{columns_of, rows_of}
-use Rattle.mw_queue.specs.Queues.{Queued}
+use Rattle.mw_grid.specs.Grids.{columns_of, rows_of}
+use Rattle.mw_ready_queue.specs.Queues.{Queued}
 use Rattle.mw_ready.specs.Counters.{Lowers}
 use Rattle.mw_ready.specs.Boards.{no_need}
 use Rattle.mw_ready.specs.Links.{Skips, link_at}

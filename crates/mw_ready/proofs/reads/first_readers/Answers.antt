@@ -1,7 +1,7 @@
 use Rattle.std.proofs.Common.{◌≡◌, ℕ, ◌*◌, ◌∙◌, ◌≤◌, List, length, ap, arith, get_or, refl}
 use Rattle.mw_model.proofs.mw_facts.Counts.{count_by-most}
 use Rattle.mw_model.proofs.mw_facts.Elements.{take-written}
-use Rattle.mw_queue.specs.mw_grid.Grids.{tile_count}
+use Rattle.mw_grid.specs.Grids.{tile_count}
 use Rattle.mw_ready.specs.Boards.{no_need, reads}
 use Rattle.mw_ready.proofs.Numbers.{product_small}
 use Rattle.mw_ready.proofs.Raising.{readers_next}

@@ -1,5 +1,5 @@
 use Rattle.std.proofs.Common.{◌≡◌, ℕ, ◌*◌, ◌<◌, length, get_or}
-use Rattle.mw_queue.specs.mw_grid.Grids.{tile_count}
+use Rattle.mw_grid.specs.Grids.{tile_count}
 use Rattle.mw_ready.specs.Kept.{reader_count}
 use Rattle.mw_ready.proofs.reads.first_readers.Given as goal
 

@@ -1,4 +1,4 @@
-use Rattle.mw_queue.specs.mw_grid.Grids.{columns_of, rows_of}
+use Rattle.mw_grid.specs.Grids.{columns_of, rows_of}
 use Rattle.mw_ready.proofs.Raising.{source_given, source_counted, no_source, block_fits}
 use Rattle.mw_ready.proofs.reads.lower_source.Goals as goal
 

@@ -1,5 +1,5 @@
 use Rattle.std.proofs.Common.{◌%◌}
-use Rattle.mw_queue.specs.mw_grid.Grids.{tile_count}
+use Rattle.mw_grid.specs.Grids.{tile_count}
 use Rattle.mw_ready.specs.Spans.{tiles_spanned}
 use Rattle.mw_ready.proofs.Raising.{no_raise, raises_once, step_fits}
 use Rattle.mw_ready.proofs.reads.raise_source.Goals as goal

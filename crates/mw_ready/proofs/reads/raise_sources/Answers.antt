@@ -1,6 +1,6 @@
 use Rattle.std.proofs.Common.{ℕ, ◌%◌, ◌*◌, ap, arith}
-use Rattle.mw_queue.specs.mw_grid.Counts.{bit}
-use Rattle.mw_queue.specs.mw_grid.Grids.{tile_count}
+use Rattle.mw_grid.specs.Counts.{bit}
+use Rattle.mw_grid.specs.Grids.{tile_count}
 use Rattle.mw_ready.specs.Boards.{is_source, step_of, step_reads}
 use Rattle.mw_ready.specs.Kept.{seen_by}
 use Rattle.mw_ready.specs.Spans.{tiles_spanned}

@@ -1,6 +1,6 @@
 use Rattle.std.proofs.Common.{ℕ, ◌∙◌, ◌/◌, ◌%◌, ◌*◌, ◌+◌, ◌&&◌, sym, subst, arith}
-use Rattle.mw_queue.specs.mw_grid.Counts.{in_range}
-use Rattle.mw_queue.specs.mw_grid.Grids.{columns_of}
+use Rattle.mw_grid.specs.Counts.{in_range}
+use Rattle.mw_grid.specs.Grids.{columns_of}
 use Rattle.mw_ready.specs.Counters.{Lowers, Waiting}
 use Rattle.mw_ready.proofs.Lowering.{row_waits, lowers_more, box_more}
 use Rattle.mw_ready.proofs.release.release_block.Goals as goal

@@ -1,6 +1,6 @@
 use Rattle.std.proofs.Common.{◌/◌, ◌%◌, ◌&&◌}
-use Rattle.mw_queue.specs.mw_grid.Counts.{in_range}
-use Rattle.mw_queue.specs.mw_grid.Grids.{columns_of}
+use Rattle.mw_grid.specs.Counts.{in_range}
+use Rattle.mw_grid.specs.Grids.{columns_of}
 use Rattle.mw_ready.specs.Counters.{Lowers, SameTiles}
 use Rattle.mw_ready.proofs.release.release_block.Given as goal
 

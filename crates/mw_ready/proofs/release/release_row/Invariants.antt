@@ -1,4 +1,4 @@
-use Rattle.mw_queue.specs.mw_grid.Counts.{in_range}
+use Rattle.mw_grid.specs.Counts.{in_range}
 use Rattle.mw_ready.specs.Counters.{Lowers, SameTiles}
 use Rattle.mw_ready.proofs.release.release_row.Given as goal
 

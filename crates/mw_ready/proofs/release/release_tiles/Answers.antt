@@ -1,5 +1,5 @@
 use Rattle.std.proofs.Common.{arith}
-use Rattle.mw_queue.specs.mw_grid.Blocks.{in_block, sees}
+use Rattle.mw_grid.specs.Blocks.{in_block, sees}
 use Rattle.mw_ready.specs.Kept.{is_near}
 use Rattle.mw_ready.proofs.Boxes.{at_step_is}
 use Rattle.mw_ready.proofs.Lowering.{lowers_same, waiting_same}

@@ -1,5 +1,5 @@
 use Rattle.std.proofs.Common.{◌+◌, ◌-◌, ◌*◌, get_or}
-use Rattle.mw_queue.specs.mw_grid.Counts.{bit, in_range}
+use Rattle.mw_grid.specs.Counts.{bit, in_range}
 use Rattle.mw_ready.specs.Counters.{Raises}
 use Rattle.mw_ready.proofs.spans.raise_row.Given as goal
 

@@ -1,5 +1,5 @@
 use Rattle.std.proofs.Common.{◌%◌, ◌*◌, arith}
-use Rattle.mw_queue.specs.mw_grid.Grids.{tile_count}
+use Rattle.mw_grid.specs.Grids.{tile_count}
 use Rattle.mw_ready.specs.Spans.{tiles_spanned}
 use Rattle.mw_ready.proofs.Spanning.{row_fits, row_next, rows_done}
 use Rattle.mw_ready.proofs.spans.raise_step.Goals as goal

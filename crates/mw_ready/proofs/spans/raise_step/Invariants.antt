@@ -1,6 +1,6 @@
 use Rattle.std.proofs.Common.{◌+◌, ◌*◌, ◌%◌}
-use Rattle.mw_queue.specs.mw_grid.Counts.{bit, in_range}
-use Rattle.mw_queue.specs.mw_grid.Grids.{columns_of, tile_count}
+use Rattle.mw_grid.specs.Counts.{bit, in_range}
+use Rattle.mw_grid.specs.Grids.{columns_of, tile_count}
 use Rattle.mw_ready.specs.Counters.{Raises}
 use Rattle.mw_ready.specs.Spans.{tiles_spanned}
 use Rattle.mw_ready.proofs.spans.raise_step.Given as goal

@@ -1,7 +1,7 @@
 use Rattle.std.proofs.Common.{◌≡◌, ℕ, ◌+◌, ◌≤◌, List, length, subst, sym, ap, arith, get_or}
 use Rattle.std.proofs.Math.Nat.{mul-le-mul_left}
 use Rattle.mw_model.proofs.mw_facts.Elements.{take-written}
-use Rattle.mw_ready.specs.mw_grid.Grids.{tile_count}
+use Rattle.mw_grid.specs.Grids.{tile_count}
 use Rattle.mw_ready.specs.Boards.{no_need}
 use Rattle.mw_ready.proofs.Firsts.{CountsWaits, waits-most, waits-next, waits-room}
 use Rattle.mw_ready.proofs.waits.first_waits.Goals as goal

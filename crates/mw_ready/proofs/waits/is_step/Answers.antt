@@ -1,6 +1,6 @@
 use Rattle.std.proofs.Common.{◌≡◌, nat_lt, ap, sym, arith, inl, inr}
 use Rattle.std.proofs.lemmas.Bool.{cases_lt, lt-ltb, le-ltb}
-use Rattle.mw_queue.specs.mw_grid.Counts.{bit}
+use Rattle.mw_grid.specs.Counts.{bit}
 use Rattle.mw_ready.proofs.Firsts.{count-source, count-no_source}
 use Rattle.mw_ready.proofs.waits.is_step.Goals as goal
 

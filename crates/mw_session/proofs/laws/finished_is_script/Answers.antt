@@ -1,4 +1,4 @@
-use Rattle.mw_fetched.specs.mw_wire.Rooms.{LacksRoom}
+use Rattle.mw_session_fetch.specs.mw_wire.Rooms.{LacksRoom}
 use Rattle.mw_session.proofs.Stops.{finished_script}
 use Rattle.mw_session.proofs.laws.finished_is_script.Goals as goal
 

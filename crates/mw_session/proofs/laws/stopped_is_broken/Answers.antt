@@ -1,4 +1,4 @@
-use Rattle.mw_fetched.specs.mw_wire.Rooms.{LacksRoom}
+use Rattle.mw_session_fetch.specs.mw_wire.Rooms.{LacksRoom}
 use Rattle.mw_session.proofs.Stops.{stopped_broken}
 use Rattle.mw_session.proofs.laws.stopped_is_broken.Goals as goal
 

@@ -4,9 +4,9 @@ use Rattle.mw_model.specs.Elements.{Figure}
 use Rattle.mw_model.specs.declared.places.Offset.{Offset}
 use Rattle.mw_model.specs.PlanSteps as plan
 use Rattle.mw_model.specs.PlanSteps.{PlanStep}
-use Rattle.mw_task.specs.Meanings.{meaning}
-use Rattle.mw_task.specs.WindowTasks.{window_at, KindsFit}
-use Rattle.mw_task.specs.Products.{HoldsImage, IsMade}
+use Rattle.mw_step_task.specs.Meanings.{meaning}
+use Rattle.mw_step_task.specs.WindowTasks.{window_at, KindsFit}
+use Rattle.mw_step_task.specs.Products.{HoldsImage, IsMade}
 use Rattle.mw_step.proofs.Images.{made_of_one, tile_by}
 use Rattle.mw_step.proofs.OfTasks.{made_of_here, sum_of_here}
 use Rattle.mw_step.proofs.make.made_of.Goals as goal

@@ -1,7 +1,7 @@
 use Rattle.std.proofs.Common.{◌≡◌, arith, ap, get_or, List, sym, subst, ◌∙◌}
 use Rattle.mw_model.proofs.mw_facts.Alls.{all-get_or}
-use Rattle.mw_joined.specs.mw_tile.Windows.{SourceWindow}
-use Rattle.mw_task.specs.WindowTasks.{IsRead, window_at}
+use Rattle.mw_step_task.specs.mw_tile.Windows.{SourceWindow}
+use Rattle.mw_step_task.specs.WindowTasks.{IsRead, window_at}
 use Rattle.mw_step.proofs.make.source.Goals as goal
 
 pub returns-clause-read : goal.returns-clause-read

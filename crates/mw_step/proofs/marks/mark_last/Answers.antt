@@ -2,7 +2,7 @@ use Rattle.std.proofs.Common.{◌≡◌, ◌*◌, ℕ, length, refl, subst}
 use Rattle.std.specs.Prelude.{◌==◌, if◌then◌else◌}
 use lib.Lanes.{zip2}
 use Rattle.mw_model.specs.Pictures.{Picture}
-use Rattle.mw_task.specs.Products.{HoldsImage, both_drawn, plane_drawn}
+use Rattle.mw_step_task.specs.Products.{HoldsImage, both_drawn, plane_drawn}
 use Rattle.mw_step.proofs.Images.{if_ok_too}
 use Rattle.mw_step.proofs.PlaceByPlace.{both_given}
 use Rattle.mw_step.proofs.Shared.{kept_last}

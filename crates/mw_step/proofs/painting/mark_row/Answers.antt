@@ -1,7 +1,7 @@
 use Rattle.std.proofs.Common.{◌≡◌, ℕ, ◌+◌, ◌-◌, ◌*◌, ◌<◌, length, take, drop, get_or, length-take, length-drop, ap, arith, refl, ◌∙◌, sym}
 use Rattle.std.specs.Prelude.{◌==◌, if◌then◌else◌}
-use Rattle.mw_joined.specs.mw_words.Packed.{bit_of}
-use Rattle.mw_joined.proofs.mw_words.Bits.{bit_of_word}
+use Rattle.mw_step_task.specs.mw_pixel_words.Packed.{bit_of}
+use Rattle.mw_step_task.proofs.mw_pixel_words.Bits.{bit_of_word}
 use Rattle.mw_step.proofs.Painted.{cells_part}
 use Rattle.mw_step.proofs.painting.mark_row.Goals as goal
 

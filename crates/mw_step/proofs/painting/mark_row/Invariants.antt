@@ -1,6 +1,6 @@
 use Rattle.std.proofs.Common.{ℕ, ◌*◌}
 use Rattle.std.specs.Prelude.{◌==◌, if◌then◌else◌}
-use Rattle.mw_joined.specs.mw_words.Packed.{bit_of}
+use Rattle.mw_step_task.specs.mw_pixel_words.Packed.{bit_of}
 use Rattle.mw_step.proofs.Painted.{CellsDone}
 use Rattle.mw_step.proofs.painting.mark_row.Given as goal
 

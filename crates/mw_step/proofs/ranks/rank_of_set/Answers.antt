@@ -1,7 +1,7 @@
 use Rattle.std.proofs.Common.{Option, IfSome, ℕ, ◌*◌, replicate, ap, subst, ◌∙◌}
 use Rattle.mw_model.specs.Rasters.{raster}
 use Rattle.mw_model.specs.Windows.{seen_at}
-use Rattle.mw_set_ranks.specs.Elements.{IsSetRank}
+use Rattle.mw_rank_bits.specs.Elements.{IsSetRank}
 use Rattle.mw_step.proofs.SetRanks.{blank_ranks, ranks_of_pixels}
 use Rattle.mw_step.proofs.ranks.rank_of_set.Goals as goal
 

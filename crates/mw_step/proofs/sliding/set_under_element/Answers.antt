@@ -1,5 +1,5 @@
 use Rattle.mw_model.specs.Windows.{seen_at}
-use Rattle.mw_set_ranks.proofs.mw_line.Folds.{IsExtremum}
+use Rattle.mw_rank_bits.proofs.mw_line.Folds.{IsExtremum}
 use Rattle.mw_step.proofs.SameMembers.{box_slides}
 use Rattle.mw_step.proofs.sliding.set_under_element.Goals as goal
 

@@ -1,8 +1,8 @@
 use Rattle.std.proofs.lemmas.Result.{IfOk-weaker}
 use Rattle.mw_model.specs.Windows.{seen_at}
 use Rattle.mw_model.specs.Places.{box_offsets}
-use Rattle.mw_set_ranks.specs.mw_line.Extrema.{IsSlidingExtremum}
-use Rattle.mw_set_ranks.proofs.mw_line.Folds.{IsExtremum}
+use Rattle.mw_rank_bits.specs.mw_line.Extrema.{IsSlidingExtremum}
+use Rattle.mw_rank_bits.proofs.mw_line.Folds.{IsExtremum}
 use Rattle.mw_step.proofs.SameMembers.{box_slides}
 use Rattle.mw_step.proofs.sliding.under_element.Goals as goal
 

@@ -4,10 +4,10 @@ use Rattle.mw_model.specs.declared.calls.LogItem.TheVariants as item
 use Rattle.mw_model.specs.declared.calls.Reply.TheVariants as reply
 use Rattle.mw_model.specs.Machine.{with_entry}
 use Rattle.mw_model.specs.Stands.{CoreView}
-use Rattle.mw_checks.specs.mw_store.Entries.{submission_of, outcome_of, payload_in}
-use Rattle.mw_ledger.specs.Books.{Book, progress_of, seen_of}
-use Rattle.mw_ledger.specs.Counts.{AreCounts, Tally}
-use Rattle.mw_ledger.proofs.CountLemmas.{counts-kept}
+use Rattle.mw_core_refusals.specs.mw_store.Entries.{submission_of, outcome_of, payload_in}
+use Rattle.mw_core_ledger.specs.Books.{Book, progress_of, seen_of}
+use Rattle.mw_core_ledger.specs.Counts.{AreCounts, Tally}
+use Rattle.mw_core_ledger.proofs.CountLemmas.{counts-kept}
 use Rattle.mw_core.proofs.BookLemmas.{counted}
 use Rattle.mw_core.proofs.machine.Core.accept.Goals as goal
 

@@ -4,10 +4,10 @@ use Rattle.mw_model.specs.declared.calls.Call.TheVariants as call
 use Rattle.mw_model.specs.declared.calls.Reply.TheVariants as reply
 use Rattle.mw_model.specs.declared.calls.LogItem.TheVariants as item
 use Rattle.mw_model.specs.Refusals.{refusal, ticket, outcome_at}
-use Rattle.mw_checks.specs.mw_store.Stored.{Stored}
-use Rattle.mw_ledger.specs.mw_stands.Facts.{stored_of}
-use Rattle.mw_ledger.specs.mw_stands.Events.{FollowsMachine}
-use Rattle.mw_ledger.proofs.mw_stands.CallLemmas.{IfOk-from-one, serves-refused, serves-cancel}
+use Rattle.mw_core_refusals.specs.mw_store.Stored.{Stored}
+use Rattle.mw_core_ledger.specs.mw_core_laws.Facts.{stored_of}
+use Rattle.mw_core_ledger.specs.mw_core_laws.Events.{FollowsMachine}
+use Rattle.mw_core_ledger.proofs.mw_core_laws.CallLemmas.{IfOk-from-one, serves-refused, serves-cancel}
 use Rattle.mw_core.proofs.FaultLemmas.{short-full}
 use Rattle.mw_core.proofs.machine.Core.cancel.Goals as goal
 

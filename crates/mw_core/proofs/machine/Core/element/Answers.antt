@@ -2,9 +2,9 @@ use Rattle.std.proofs.Common.{◌≡◌, ◌++◌, ◌∷◌, [], None}
 use Rattle.mw_model.specs.declared.calls.Given.TheVariants as given
 use Rattle.mw_model.specs.declared.calls.Call.TheVariants as call
 use Rattle.mw_model.specs.declared.calls.LogItem.TheVariants as item
-use Rattle.mw_ledger.specs.mw_stands.Events.{FollowsMachine}
-use Rattle.mw_checks.specs.Faults.{IsFault}
-use Rattle.mw_ledger.proofs.mw_stands.CallLemmas.{by-each}
+use Rattle.mw_core_ledger.specs.mw_core_laws.Events.{FollowsMachine}
+use Rattle.mw_core_refusals.specs.Faults.{IsFault}
+use Rattle.mw_core_ledger.proofs.mw_core_laws.CallLemmas.{by-each}
 use Rattle.mw_core.proofs.FaultLemmas.{serves-fault-element}
 use Rattle.mw_core.proofs.machine.Core.element.Goals as goal
 

@@ -2,8 +2,8 @@ use Rattle.std.proofs.Common.{◌∷◌, ◌++◌, ◌∙◌, [], length, ap, sy
 use Rattle.mw_model.specs.declared.calls.LogItem.{LogItem}
 use Rattle.mw_model.specs.Machine.{killed}
 use Rattle.mw_model.specs.Stands.{CoreView, is_wanted}
-use Rattle.mw_checks.specs.mw_store.Stored.{Stored}
-use Rattle.mw_ledger.specs.Books.{seen_of}
+use Rattle.mw_core_refusals.specs.mw_store.Stored.{Stored}
+use Rattle.mw_core_ledger.specs.Books.{seen_of}
 use Rattle.mw_core.proofs.BookLemmas.{counted}
 use Rattle.mw_core.proofs.machine.Core.end.Goals as goal
 

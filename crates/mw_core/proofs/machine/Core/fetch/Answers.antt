@@ -1,10 +1,10 @@
 use Rattle.std.proofs.Common.{◌≡◌, ◌∙◌, false, true, inl, inr, sym, ap}
 use Rattle.mw_model.specs.declared.calls.Call.TheVariants as call
 use Rattle.mw_model.specs.Machine.{reply_from}
-use Rattle.mw_ledger.specs.mw_stands.Facts.{stored_of}
-use Rattle.mw_ledger.proofs.mw_stands.CallLemmas.{serves-fetch}
+use Rattle.mw_core_ledger.specs.mw_core_laws.Facts.{stored_of}
+use Rattle.mw_core_ledger.proofs.mw_core_laws.CallLemmas.{serves-fetch}
 use Rattle.mw_core.proofs.FetchLemmas.{fetched-value, fetched-shown}
-use Rattle.mw_ledger.proofs.mw_stands.mw_store.PlaceLemmas.{on_err}
+use Rattle.mw_core_ledger.proofs.mw_core_laws.mw_store.PlaceLemmas.{on_err}
 use Rattle.mw_core.proofs.machine.Core.fetch.Goals as goal
 
 pub returns-clause-served : goal.returns-clause-served

@@ -1,8 +1,8 @@
 use Rattle.std.proofs.Common.{◌≡◌, Err, ap, refl, subst}
 use Rattle.mw_model.specs.Machine.{Machine}
 use Rattle.mw_model.specs.Stands.{CoreView, StandsFor}
-use Rattle.mw_ledger.specs.mw_stands.TaskEvents.{IsOpen, IsResult}
-use Rattle.mw_ledger.specs.Books.{seen_of}
+use Rattle.mw_core_ledger.specs.mw_core_laws.TaskEvents.{IsOpen, IsResult}
+use Rattle.mw_core_ledger.specs.Books.{seen_of}
 use Rattle.mw_core.specs.TaskAnswers.{Finishes, IsOwn}
 use Rattle.mw_core.proofs.FinishLemmas.{found-at, own-true, taken-finishes}
 use Rattle.mw_core.proofs.machine.Core.finish_own.Goals as goal

@@ -5,10 +5,10 @@ use Rattle.mw_model.specs.declared.calls.Outcome.TheVariants as outcome
 use Rattle.mw_model.specs.Refusals.{outcome_at}
 use Rattle.mw_model.specs.Machine.{settled}
 use Rattle.mw_model.specs.Stands.{CoreView}
-use Rattle.mw_ledger.specs.Books.{Book, IsOrderly, seen_of}
-use Rattle.mw_ledger.specs.mw_stands.Rows.{IsLogFull}
-use Rattle.mw_ledger.specs.Counts.{AreCounts, Tally}
-use Rattle.mw_ledger.proofs.CountLemmas.{counts-released}
+use Rattle.mw_core_ledger.specs.Books.{Book, IsOrderly, seen_of}
+use Rattle.mw_core_ledger.specs.mw_core_laws.Rows.{IsLogFull}
+use Rattle.mw_core_ledger.specs.Counts.{AreCounts, Tally}
+use Rattle.mw_core_ledger.proofs.CountLemmas.{counts-released}
 use Rattle.mw_core.proofs.machine.Core.let_go.Goals as goal
 
 -- the counts of what is let go, or of what stays where there was no memory

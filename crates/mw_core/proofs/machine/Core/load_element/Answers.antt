@@ -10,11 +10,11 @@ use Rattle.mw_model.specs.Refusals.{refusal}
 use Rattle.mw_model.specs.Machine.{with_entry, given_submission}
 use Rattle.mw_model.specs.Lines.{AskElement}
 use Rattle.mw_model.specs.Scripts.{refused_unread}
-use Rattle.mw_checks.specs.mw_store.Stored.{Stored}
-use Rattle.mw_ledger.specs.mw_stands.Facts.{stored_of}
-use Rattle.mw_ledger.specs.mw_stands.Events.{FollowsMachine}
-use Rattle.mw_ledger.proofs.mw_stands.CallLemmas.{IfOk-from-one, IfOk-from-four, serves-refused, serves-element}
-use Rattle.mw_ledger.proofs.mw_stands.mw_store.PlaceLemmas.{on_err}
+use Rattle.mw_core_refusals.specs.mw_store.Stored.{Stored}
+use Rattle.mw_core_ledger.specs.mw_core_laws.Facts.{stored_of}
+use Rattle.mw_core_ledger.specs.mw_core_laws.Events.{FollowsMachine}
+use Rattle.mw_core_ledger.proofs.mw_core_laws.CallLemmas.{IfOk-from-one, IfOk-from-four, serves-refused, serves-element}
+use Rattle.mw_core_ledger.proofs.mw_core_laws.mw_store.PlaceLemmas.{on_err}
 use Rattle.mw_core.proofs.FaultLemmas.{none-before-none, short-full}
 use Rattle.mw_core.proofs.machine.Core.load_element.Goals as goal
 

@@ -1,11 +1,11 @@
 use Rattle.std.proofs.Common.{◌≡◌, ◌⊎◌, true, ◌∷◌, ◌++◌, ◌∙◌, [], ap, subst}
-use Rattle.mw_ledger.specs.Short.{is_long}
-use Rattle.mw_ledger.specs.mw_stands.Rows.{IsLogFull}
+use Rattle.mw_core_ledger.specs.Short.{is_long}
+use Rattle.mw_core_ledger.specs.mw_core_laws.Rows.{IsLogFull}
 use Rattle.mw_model.specs.declared.calls.LogItem.TheVariants as item
 use Rattle.mw_model.specs.Stands.{CoreView}
-use Rattle.mw_ledger.specs.Books.{Book, seen_of}
-use Rattle.mw_ledger.proofs.CountLemmas.{counts-kept}
-use Rattle.mw_ledger.proofs.mw_stands.mw_store.PlaceLemmas.{on_err}
+use Rattle.mw_core_ledger.specs.Books.{Book, seen_of}
+use Rattle.mw_core_ledger.proofs.CountLemmas.{counts-kept}
+use Rattle.mw_core_ledger.proofs.mw_core_laws.mw_store.PlaceLemmas.{on_err}
 use Rattle.mw_core.proofs.machine.Core.note.Goals as goal
 
 pub invariant_of-self-2 : goal.invariant_of-self-2

@@ -3,9 +3,9 @@ use Rattle.mw_model.specs.declared.tasks.TaskId.{TaskId}
 use Rattle.mw_model.specs.declared.calls.Outcome.TheVariants as outcome
 use Rattle.mw_model.specs.Refusals.{outcome_at}
 use Rattle.mw_model.specs.Stands.{CoreView}
-use Rattle.mw_ledger.specs.mw_stands.TaskEvents.{IsUnderway}
-use Rattle.mw_ledger.proofs.mw_stands.TaskLemmas.{kills}
-use Rattle.mw_ledger.specs.Books.{seen_of}
+use Rattle.mw_core_ledger.specs.mw_core_laws.TaskEvents.{IsUnderway}
+use Rattle.mw_core_ledger.proofs.mw_core_laws.TaskLemmas.{kills}
+use Rattle.mw_core_ledger.specs.Books.{seen_of}
 use Rattle.mw_core.proofs.machine.Core.refuse.Goals as goal
 
 pub returns-in-Ok-clause-task : goal.returns-in-Ok-clause-task

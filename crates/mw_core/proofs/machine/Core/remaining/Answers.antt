@@ -2,8 +2,8 @@ use Rattle.std.proofs.Common.{◌≡◌, ◌<◌, ◌↔◌, ℕ, true, length, 
 use Rattle.mw_model.specs.Machine.{Machine}
 use Rattle.mw_model.specs.Refusals.{is_pending, outcome_at}
 use Rattle.mw_model.specs.Stands.{CoreView, StandsFor}
-use Rattle.mw_ledger.proofs.mw_stands.TaskLemmas.{remaining-pending}
-use Rattle.mw_ledger.specs.Books.{seen_of}
+use Rattle.mw_core_ledger.proofs.mw_core_laws.TaskLemmas.{remaining-pending}
+use Rattle.mw_core_ledger.specs.Books.{seen_of}
 use Rattle.mw_core.proofs.TaskLemmas.{complete-seen}
 use Rattle.mw_core.proofs.machine.Core.remaining.Goals as goal
 

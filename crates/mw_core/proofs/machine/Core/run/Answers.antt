@@ -8,13 +8,13 @@ use Rattle.mw_model.specs.declared.calls.LogItem.TheVariants as item
 use Rattle.mw_model.specs.Values.{Value, tickets}
 use Rattle.mw_model.specs.Refusals.{is_dead, outcome_at, refusal}
 use Rattle.mw_model.specs.Machine.{with_entry, run_submission}
-use Rattle.mw_checks.specs.mw_plan.Tables.{AreValuesAt}
-use Rattle.mw_checks.specs.mw_store.Stored.{Stored}
-use Rattle.mw_ledger.specs.mw_stands.Facts.{stored_of}
-use Rattle.mw_ledger.specs.mw_stands.Limits.{FitsLimits}
-use Rattle.mw_ledger.specs.mw_stands.Events.{FollowsMachine}
-use Rattle.mw_ledger.proofs.mw_stands.CallLemmas.{IfOk-from-one, IfOk-from-four, serves-refused}
-use Rattle.mw_ledger.proofs.mw_stands.LimitLemmas.{accepted-fits}
+use Rattle.mw_core_refusals.specs.mw_plan.Tables.{AreValuesAt}
+use Rattle.mw_core_refusals.specs.mw_store.Stored.{Stored}
+use Rattle.mw_core_ledger.specs.mw_core_laws.Facts.{stored_of}
+use Rattle.mw_core_ledger.specs.mw_core_laws.Limits.{FitsLimits}
+use Rattle.mw_core_ledger.specs.mw_core_laws.Events.{FollowsMachine}
+use Rattle.mw_core_ledger.proofs.mw_core_laws.CallLemmas.{IfOk-from-one, IfOk-from-four, serves-refused}
+use Rattle.mw_core_ledger.proofs.mw_core_laws.LimitLemmas.{accepted-fits}
 use Rattle.mw_core.proofs.RunLemmas.{accepted-alive, serves-no-fault, serves-planned, accepted-fresh, planned-seen, fresh-seen}
 use Rattle.mw_core.proofs.machine.Core.run.Goals as goal
 

@@ -1,8 +1,8 @@
-use Rattle.mw_ledger.specs.Books.{seen_of}
+use Rattle.mw_core_ledger.specs.Books.{seen_of}
 use Rattle.mw_model.specs.Machine.{Machine}
 use Rattle.mw_model.specs.Stands.{CoreView, StandsFor, ready_count}
-use Rattle.mw_ledger.specs.mw_stands.Counts.{NonePending}
-use Rattle.mw_ledger.proofs.mw_stands.IdleLemmas.{nothing-pending}
+use Rattle.mw_core_ledger.specs.mw_core_laws.Counts.{NonePending}
+use Rattle.mw_core_ledger.proofs.mw_core_laws.IdleLemmas.{nothing-pending}
 use Rattle.std.proofs.Common.{◌≡◌, subst, sym, ◌∙◌}
 use Rattle.mw_core.proofs.machine.Core.running.Goals as goal
 

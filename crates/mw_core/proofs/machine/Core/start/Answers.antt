@@ -1,13 +1,13 @@
 use Rattle.std.proofs.Common.{◌≡◌, ◌%◌, ◌<◌, ◌≤◌, ℕ, length, sum, Option, ap, sym, subst, ◌∙◌, arith}
 use Rattle.mw_model.specs.Machine.{Machine}
 use Rattle.mw_model.specs.Stands.{CoreView, StandsFor, ready_count, ready_under}
-use Rattle.mw_checks.specs.mw_task.WindowTasks.{WindowTask}
-use Rattle.mw_ledger.specs.mw_stands.Facts.{IsComplete}
-use Rattle.mw_ledger.specs.mw_stands.TaskEvents.{BeginsTask, Kills}
-use Rattle.mw_ledger.specs.mw_stands.Turns.{IsAt}
-use Rattle.mw_ledger.proofs.mw_stands.TaskLemmas.{kills, ready-there}
-use Rattle.mw_ledger.specs.Books.{Book, seen_of}
-use Rattle.mw_ledger.specs.Tasks.{TakesAt}
+use Rattle.mw_core_refusals.specs.mw_step_task.WindowTasks.{WindowTask}
+use Rattle.mw_core_ledger.specs.mw_core_laws.Facts.{IsComplete}
+use Rattle.mw_core_ledger.specs.mw_core_laws.TaskEvents.{BeginsTask, Kills}
+use Rattle.mw_core_ledger.specs.mw_core_laws.Turns.{IsAt}
+use Rattle.mw_core_ledger.proofs.mw_core_laws.TaskLemmas.{kills, ready-there}
+use Rattle.mw_core_ledger.specs.Books.{Book, seen_of}
+use Rattle.mw_core_ledger.specs.Tasks.{TakesAt}
 use Rattle.mw_core.proofs.BookLemmas.{counted}
 use Rattle.mw_core.proofs.TaskLemmas.{complete-seen, takes-begins, takes-some}
 use Rattle.mw_core.proofs.machine.Core.start.Goals as goal

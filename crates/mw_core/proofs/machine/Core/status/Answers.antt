@@ -2,9 +2,9 @@ use Rattle.std.proofs.Common.{◌≡◌, ◌∙◌, ◌++◌, ◌∷◌, [], ap,
 use Rattle.mw_model.specs.declared.calls.Call.TheVariants as call
 use Rattle.mw_model.specs.declared.calls.LogItem.TheVariants as item
 use Rattle.mw_model.specs.Machine.{reply_from}
-use Rattle.mw_ledger.specs.mw_stands.Facts.{stored_of}
-use Rattle.mw_ledger.specs.mw_stands.Events.{FollowsMachine}
-use Rattle.mw_ledger.proofs.mw_stands.CallLemmas.{IfOk-from-one, serves-status}
+use Rattle.mw_core_ledger.specs.mw_core_laws.Facts.{stored_of}
+use Rattle.mw_core_ledger.specs.mw_core_laws.Events.{FollowsMachine}
+use Rattle.mw_core_ledger.proofs.mw_core_laws.CallLemmas.{IfOk-from-one, serves-status}
 use Rattle.mw_core.proofs.FaultLemmas.{short-full}
 use Rattle.mw_core.proofs.machine.Core.status.Goals as goal
 

@@ -1,7 +1,7 @@
 use Rattle.std.proofs.Common.{Bool, List, ◌≡◌, ap, refl, sym, subst, ◌∙◌}
 use Rattle.std.specs.Cmp.{booleans_Decides}
 use Rattle.mw_model.specs.Elements.{Figure}
-use Rattle.mw_run.specs.declared.runs.Run.{Run}
+use Rattle.mw_element_runs.specs.declared.runs.Run.{Run}
 use Rattle.mw_element.specs.Told.{TellsRuns}
 use Rattle.mw_element.proofs.Turned.{same_offsets}
 use Rattle.mw_element.proofs.element.Element.has_same_offsets.Goals as goal

@@ -1,7 +1,7 @@
 use Rattle.std.proofs.Common.{subst, sym}
 use Rattle.std.proofs.lemmas.Result.{err_from_is_err_and}
 use Rattle.mw_model.specs.Elements.{element_side, no_bitmap}
-use Rattle.mw_netpbm.specs.Faults.{bitmap_code_of, facts_of}
+use Rattle.mw_netpbm_plain.specs.Faults.{bitmap_code_of, facts_of}
 use Rattle.mw_element.specs.Figures.{Rises}
 use Rattle.mw_element.proofs.Order.{offsets_rise}
 use Rattle.mw_element.proofs.Found.{bitmap_sides, no_element, no_place, IsElement-no_ones, origin_refused, empty_told, facts_same, Told-figure, told_element, made_is_figure, made_element, made_only}

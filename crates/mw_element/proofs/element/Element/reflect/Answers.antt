@@ -2,7 +2,7 @@ use Rattle.std.proofs.Common.{List, not, length, sym, ◌∙◌, ap, subst, arit
 use Rattle.std.proofs.lemmas.List.{length-map}
 use Rattle.std.specs.List.{AllByRecursion}
 use Rattle.mw_model.specs.declared.places.Offset.{Offset}
-use Rattle.mw_run.specs.declared.runs.Run.{Run}
+use Rattle.mw_element_runs.specs.declared.runs.Run.{Run}
 use Rattle.mw_model.specs.Elements.{Figure, IsFigure, reach_of}
 use Rattle.mw_model.specs.Flat.{reflected}
 use Rattle.mw_element.specs.Figures.{Rises, by_rows, figure, turned}

@@ -1,6 +1,6 @@
 use Rattle.std.proofs.Common.{subst, sym}
 use Rattle.mw_model.specs.Elements.{Figure}
-use Rattle.mw_run.specs.Runs.{AreEitherWay}
+use Rattle.mw_element_runs.specs.Runs.{AreEitherWay}
 use Rattle.mw_element.proofs.Turned.{either_way}
 use Rattle.mw_element.proofs.element.Element.runs.Goals as goal
 

@@ -2,10 +2,10 @@ use Rattle.std.proofs.Common.{◌≡◌, ◌<◌, ℕ, ◌+◌, ◌*◌, ◌∙�
 use Rattle.std.specs.List.{list_any}
 use Rattle.std.proofs.lemmas.List.{get_or_default}
 use Rattle.mw_model.specs.Tasks.{flag}
-use Rattle.mw_queue.specs.mw_grid.Grids.{tile_count}
+use Rattle.mw_grid.specs.Grids.{tile_count}
 use Rattle.mw_ready.specs.Boards.{Turns, reads, task_number, tasks_below}
 use Rattle.mw_ready.specs.Kept.{board_of}
-use Rattle.mw_queue.proofs.mw_grid.Lines.{number_of}
+use Rattle.mw_grid.proofs.Lines.{number_of}
 use Rattle.mw_ready.proofs.ReaderCounts.{is_read_is}
 use Rattle.mw_ready.proofs.ready.Ready.is_read.Goals as goal
 

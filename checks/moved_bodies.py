@@ -1,0 +1,115 @@
+"""Which rows of checks/wrong_bodies.txt stay true where text only moved between files and crates, for checks/wrong_bodies.py.
+
+A wrong body is let through only where what its crate stands on promises other things than before. A crate keeps its row where each of
+its wrong bodies, each part of its own text, and each part of what it sees of the crates below stood to the letter in the repository
+as it was at a commit, whose rows were true. So nothing is new on which a wrong body could be proved; less there may be. A part is what
+stands between two empty lines. Lines that name modules and words of others do not count, nor do layout and who may call a function,
+since a wrong body calls what it called before; and names of one line of a map count as one word.
+"""
+import functools
+import os
+import re
+import subprocess
+import tempfile
+
+import crate_sums
+import prove
+
+ANTT_USE = re.compile(r"^(?:pub )?(?:use|mod) .*$", re.M)
+RT_USE = re.compile(crate_sums.USE)
+# What is said to the tactics, whose paths name modules.
+TACTIC = re.compile(r"#\[tactic\((?:[^()]|\([^()]*\))*\)\]")
+MODULES = re.compile(r"(?<![\w:])(?:\$?[a-z_][a-z0-9_]*::)+")
+PARTS = ("src", "specs", "proofs")
+
+
+def words_as_one(pairs):
+    """A function that writes the last of the names that a chain of pairs joins for each of them."""
+    first = {}
+
+    def root(word):
+        while first.get(word, word) != word:
+            word = first[word]
+        return word
+
+    for old, new in pairs:
+        first[root(old)] = root(new)
+    return crate_sums.renaming({it: root(it) for it in first})
+
+
+def parts_of(path, text, as_one):
+    """The parts of a file's text, each in one line."""
+    mark = crate_sums.COMMENTS.get(os.path.splitext(path)[1], "#")
+    text = "\n".join("" if it.isspace() else it for it in text.splitlines() if not it.lstrip().startswith(mark))
+    text = (RT_USE if path.endswith(".rt") else ANTT_USE).sub("", text)
+    text = re.sub(r"\bpub(?:\(\w+\))? ", "", text)
+    text = TACTIC.sub(lambda it: re.sub(r"\w+::", "", it[0]), text)
+    text = MODULES.sub("", text)
+    line = crate_sums.one_line if path.endswith(".rt") else lambda it: re.sub(r"\s+", " ", it)
+    found = {line(it).strip() for it in re.split(r"\n\s*\n", as_one(text))}
+    return found - {"", "}", "{"}
+
+
+class Tree:
+    """The parts of the crates of a repository, in which names that a map joins are one word."""
+
+    def __init__(self, root, as_one):
+        self.root, self.as_one, self.rows = root, as_one, prove.needs_by_crate(root)
+        self.sums = crate_sums.Sums(root, self.rows, prove.kit())
+
+    def edits(self, name):
+        """The turned and the new texts of each of a crate's wrong bodies."""
+        texts = [re.sub(r"^file: .*\n", "", prove.text(it), flags=re.M) for it in self.sums.edits(name)]
+        return [MODULES.sub("", self.as_one(it)) for it in texts]
+
+    @functools.cache
+    def own(self, name):
+        files = list(crate_sums.files_in(f"{self.root}/crates/{name}", PARTS))
+        return set().union(*(parts_of(it, prove.text(it), self.as_one) for it in files))
+
+    @functools.cache
+    def seen(self, name, every=False):
+        """The parts of what other crates see of a crate; or of what is said of all its functions."""
+        found = set()
+        for path in crate_sums.files_in(f"{self.root}/crates/{name}", crate_sums.SEEN):
+            text = prove.text(path)
+            found |= parts_of(path, crate_sums.promised(text, every) if path.endswith(".rt") else text, self.as_one)
+        return found
+
+    def every(self, parts):
+        return set().union(*(parts(it) for it in self.rows))
+
+
+def was_true(tree, kept):
+    """The crates of a repository whose row is that of their text there."""
+    return [it for it in tree.rows if it in kept and kept[it].sum == tree.sums.wide(it)]
+
+
+def kept_rows(commit, pairs, kept, rows_in):
+    """The rows with those of crates whose text only moved since the commit, and what is new in each of the others."""
+    as_one = words_as_one(pairs)
+    with tempfile.TemporaryDirectory() as room:
+        shown = subprocess.run(["git", "-C", prove.ROOT, "archive", commit, "crates", "crates.txt", "checks"], capture_output=True, check=True)
+        subprocess.run(["tar", "-x", "-C", room], input=shown.stdout, check=True)
+        old, now = Tree(room, as_one), Tree(prove.ROOT, as_one)
+        sure = was_true(old, rows_in(f"{room}/checks/wrong_bodies.txt"))
+        bodies = {body for it in sure for body in old.edits(it)}
+        old_rows = rows_in(f"{room}/checks/wrong_bodies.txt")
+        marks = {body: old_rows[it].mark for it in sure for body in old.edits(it)}
+        own, seen = old.every(old.own), old.every(lambda it: old.seen(it) | old.seen(it, True))
+        found, new = dict(kept), {}
+        for name in now.rows:
+            edits = now.edits(name)
+            if not edits or name in kept and kept[name].sum == now.sums.wide(name):
+                continue
+            below = set().union(*(now.seen(it) for it in prove.all_below(name, now.rows)))
+            new[name] = [*(set(edits) - bodies), *(now.own(name) - own), *(below - seen)]
+            if not new[name]:
+                mark = sorted({word for it in edits for word in marks[it]} | {"moved"})
+                found[name] = (len(edits), now.sums.wide(name), mark)
+        gone = [it for it in kept if it not in now.rows or not now.edits(it)]
+        everywhere = {body for it in now.rows for body in now.edits(it)}
+        for name in gone:
+            if name in sure and set(old.edits(name)) <= everywhere:
+                del found[name]
+    return found, {name: parts for name, parts in new.items() if parts}

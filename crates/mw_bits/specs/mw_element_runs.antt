@@ -1,0 +1,3 @@
+-- What `mw_element_runs` offers, for the crates above.
+pub use Rattle.mw_offset.specs.mw_element_runs.Runs
+pub use Rattle.mw_offset.specs.mw_element_runs.declared

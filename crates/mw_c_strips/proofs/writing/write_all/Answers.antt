@@ -1,0 +1,21 @@
+use Rattle.std.proofs.Common.{◌≡◌, length, map, ◌∙◌}
+use Rattle.std.proofs.lemmas.Result.{IfOk-weaker}
+use Rattle.mw_c_strips.specs.Layers.{formula_picture}
+use Rattle.mw_c_strips.specs.Rows.{rows_from}
+use Rattle.mw_c_strips.proofs.Formulas.{formula_is_picture, formula_sides}
+use Rattle.mw_c_strips.proofs.SomeRows.{all_from_first, all_rows}
+use Rattle.mw_c_strips.proofs.writing.write_all.Goals as goal
+
+pub write_rows-requires : goal.write_rows-requires
+write_rows-requires g c = record {
+  sound = c.requires.sound;
+  rows = all_rows (length c.args.out.now) (formula_picture c.args.formula) (formula_sides c.args.formula c.requires.sound) c.requires.size;
+  stands = c.requires.stands;
+}
+
+pub returns-clause-made : goal.returns-clause-made
+returns-clause-made g c =
+    let f = formula_picture c.args.formula in
+    let out = c.write_rows.new.out in
+    let count = length c.args.out.now in
+    IfOk-weaker c.write_rows.result (λ _. map g.P.Pixel.level out ≡ rows_from 0 count f) (λ _. map g.P.Pixel.level out ≡ f.samples) (λ _ is. is ∙ all_from_first count f (formula_is_picture c.args.formula c.requires.sound).size c.requires.size) c.write_rows.ensures.made

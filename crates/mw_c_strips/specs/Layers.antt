@@ -1,0 +1,62 @@
+-- What is made at each place of images (own).
+use Rattle.std.specs.Prelude.{[], ◌∷◌}
+use Rattle.std.specs.Arc.{arc_value}
+use Rattle.mw_model.specs.Flat.{minus}
+use Rattle.mw_model.specs.Laws.{SameShape}
+use Rattle.mw_model.specs.Pictures.{Picture}
+use Rattle.mw_model.specs.Plans.{plane_of}
+use Rattle.mw_model.specs.PlanSteps.{PlanStep}
+use Rattle.mw_model.specs.PlanSteps as plan
+use Rattle.mw_c_arrays.specs.Sources.{picture_in}
+use Rattle.mw_c_strips.specs.declared.origins.Origin.{Origin}
+use Rattle.mw_c_strips.specs.declared.origins.Origin.TheVariants.{Array}
+use Rattle.mw_c_strips.specs.Origins.{IsOrigin, picture_of}
+use Rattle.mw_plan.specs.declared.extremum.ExtremumKind.{ExtremumKind}
+use Rattle.mw_plan.specs.declared.extremum.ExtremumKind.TheVariants as extremum
+use Rattle.mw_c_strips.specs.declared.layers.Rule.{Rule}
+use Rattle.mw_c_strips.specs.declared.layers.Rule.TheVariants as rule
+use Rattle.mw_c_strips.specs.declared.layers.Layer.{Layer}
+use Rattle.mw_c_strips.specs.declared.layers.Layer.TheVariants.{Itself, By}
+use Rattle.mw_c_strips.specs.declared.layers.Formula.{Formula}
+use Rattle.mw_c_strips.specs.declared.layers.Formula.TheVariants.{One, Less}
+
+-- the step of a plan that a rule is
+abbrev pub step_of : Rule → PlanStep
+step_of (rule.Least e) = plan.Erode (arc_value e.now).offsets
+step_of (rule.Greatest e) = plan.Dilate (arc_value e.now).offsets
+step_of (rule.Nth e k) = plan.Rank (arc_value e.now).offsets k
+step_of (rule.AtLeast k) = plan.AtLeast k
+
+-- what a rule makes of an image
+abbrev pub rule_picture : Rule → Picture → Picture
+rule_picture r f = plane_of (step_of r) (f ∷ []) f.width f.height
+
+-- the image that a layer looks at
+abbrev pub origin_of : Layer → Origin
+origin_of (Itself f) = Array f
+origin_of (By r f) = f
+
+-- the image that a formula looks at first
+abbrev pub first_origin : Formula → Origin
+first_origin (One l) = origin_of l
+first_origin (Less a b) = origin_of a
+
+-- the image of a layer
+abbrev pub layer_picture : Layer → Picture
+layer_picture (Itself f) = picture_in f
+layer_picture (By r f) = rule_picture r (picture_of f)
+
+-- the image that a formula makes
+abbrev pub formula_picture : Formula → Picture
+formula_picture (One l) = layer_picture l
+formula_picture (Less a b) = minus (layer_picture a) (layer_picture b)
+
+-- the images that it looks at are sound, and those of a difference alike
+abbrev pub IsFormula : Formula → Type 0
+IsFormula (One l) = IsOrigin (origin_of l)
+IsFormula (Less a b) = IsOrigin (origin_of a) × IsOrigin (origin_of b) × SameShape (layer_picture b) (layer_picture a)
+
+-- the image less what is filtered of it where that is an opening, and turned where it is a closing
+abbrev pub rest : ExtremumKind → Picture → Picture → Picture
+rest extremum.Least f g = minus f g
+rest extremum.Greatest f g = minus g f

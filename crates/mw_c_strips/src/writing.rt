@@ -1,0 +1,184 @@
+//! Strips that are written one after another into a caller's array, which takes all rows of an image or some of them.
+
+ghost use Rattle.std.specs.Prelude.{◌≡◌, ℕ, ◌+◌, ◌*◌, ◌<◌, ◌≤◌, length, map, IfErr, IfOk};
+ghost use Rattle.mw_model.specs.Pictures.{Picture};
+ghost use Rattle.mw_c_strips.specs.Layers.{IsFormula, first_origin, formula_picture};
+ghost use Rattle.mw_c_strips.specs.Parts.{HasRows, IsStrip, part_of};
+ghost use Rattle.mw_c_strips.specs.Rows.{AreRows, EndAt, rows_from};
+
+use crate::Sample;
+use crate::cuts::{ask_once, rows_of, strip_from};
+use crate::layers::{Formula, Layer, origin_of};
+use crate::origins::Origin;
+use crate::plain::level_at;
+use crate::strips::strip_of;
+use mw_model::{NoMemory, Rect};
+use mw_pixel::Image;
+use std::alloc::Global;
+
+/// The sample of a level.
+fn sample_of<P: Sample>(level: u16) -> P
+    requires { level ≤ P.top_level }
+    ensures { P.level result ≡ level }
+{
+    match P::of(level) {
+        Some(sample) => sample,
+        None => unreachable!(),
+    }
+}
+
+/// Writes row y place by place, without memory. The array begins with row `first`.
+fn put_row<P: Sample>(formula: Formula<'_>, width: u32, first: u32, y: u32, out: &mut [P])
+    requires sound { IsFormula formula }
+    requires wide { width ≡ (formula_picture formula).width }
+    requires down { y < (formula_picture formula).height }
+    requires behind { first ≤ y }
+    requires room { (y + 1) * width ≤ first * width + length out.old }
+    requires stands { P.stands (formula_picture formula).maxval }
+    requires before { HasRows P.level (formula_picture formula) first y out.old }
+    ensures { HasRows P.level (formula_picture formula.entry) first (y + 1) out.new }
+{
+    let start = (y - first) as usize * width as usize;
+    for x in 0..width {
+        let level = level_at(formula, x, y);
+        out[start + x as usize] = sample_of(level);
+    }
+}
+
+/// Writes the rows of a strip place by place, without memory. The array begins with row `first`.
+fn put_plainly<P: Sample>(formula: Formula<'_>, strip: Rect, first: u32, out: &mut [P])
+    requires sound { IsFormula formula }
+    requires strip { IsStrip strip (formula_picture formula) }
+    requires behind { first ≤ strip.y }
+    requires room { (strip.y + strip.height) * strip.width ≤ first * strip.width + length out.old }
+    requires stands { P.stands (formula_picture formula).maxval }
+    requires before { HasRows P.level (formula_picture formula) first strip.y out.old }
+    ensures { HasRows P.level (formula_picture formula.entry) first (strip.y + strip.height) out.new }
+{
+    for y in strip.y..strip.y + strip.height {
+        put_row(formula, strip.width, first, y, out);
+    }
+}
+
+/// Writes the rows of a strip behind so many rows that are done.
+fn put_rows<P: Sample>(image: &Image, strip: Rect, done: u32, out: &mut [P])
+    requires size { length image.now.samples ≡ strip.height * strip.width }
+    requires stands { P.stands image.now.maxval }
+    requires room { done * strip.width + strip.height * strip.width ≤ length out.old }
+    ensures { (f : Picture) (first : ℕ) → image.now ≡ part_of f strip → IsStrip strip f → length f.samples ≡ f.height * f.width → strip.y ≡ first + done → HasRows P.level f first strip.y out.old → HasRows P.level f first (strip.y + strip.height) out.new }
+{
+    let start = done as usize * strip.width as usize;
+    let count = strip.height as usize * strip.width as usize;
+    P::put(image, &mut out[start..start + count]);
+}
+
+/// Writes the rows of a strip, place by place where memory is refused. The array begins with row `first`.
+fn put_strip<P: Sample>(alloc: Global, formula: Formula<'_>, strip: Rect, first: u32, out: &mut [P])
+    requires sound { IsFormula formula }
+    requires strip { IsStrip strip (formula_picture formula) }
+    requires behind { first ≤ strip.y }
+    requires room { (strip.y + strip.height) * strip.width ≤ first * strip.width + length out.old }
+    requires stands { P.stands (formula_picture formula).maxval }
+    requires before { HasRows P.level (formula_picture formula) first strip.y out.old }
+    ensures { HasRows P.level (formula_picture formula.entry) first (strip.y + strip.height) out.new }
+{
+    match strip_of(alloc, formula, strip) {
+        Ok(image) => put_rows(&image, strip, strip.y - first, out),
+        Err(NoMemory) => put_plainly(formula, strip, first, out),
+    }
+}
+
+/// Writes the rows from y on up to `end`, strip by strip. The array begins with row `first`.
+fn put_rest<P: Sample>(
+    alloc: Global,
+    formula: Formula<'_>,
+    first: u32,
+    y: u32,
+    end: u32,
+    out: &mut [P],
+)
+    requires sound { IsFormula formula }
+    requires behind { first ≤ y }
+    requires within { y ≤ end }
+    requires ends { EndAt first end (length out.old) (formula_picture formula) }
+    requires stands { P.stands (formula_picture formula).maxval }
+    requires before { HasRows P.level (formula_picture formula) first y out.old }
+    ensures { map P.level out.new ≡ rows_from first (length out.old) (formula_picture formula.entry) }
+{
+    let f = first_origin(formula);
+    let width = f.width();
+    let rows = rows_of(formula);
+    let mut done = y;
+    'strips: while done < end {
+        let strip = strip_from(rows, width, end, done);
+        put_strip(alloc, formula, strip, first, out);
+        done += strip.height;
+    }
+}
+
+/// The image that a formula looks at first.
+fn first_origin(formula: Formula<'_>) -> Origin<'_>
+    ensures { result ≡ first_origin formula.entry }
+{
+    match formula {
+        Formula::One(layer) => origin_of(layer),
+        Formula::Less(first, _) => origin_of(first),
+    }
+}
+
+/// The row behind so many samples that are rows from row `first` on.
+fn end_of(formula: Formula<'_>, first: u32, count: usize) -> u32
+    requires sound { IsFormula formula }
+    requires rows { AreRows first count (formula_picture formula) }
+    ensures { EndAt first result count (formula_picture formula.entry) }
+{
+    let f = first_origin(formula);
+    let width = f.width();
+    let rows = count / width as usize;
+    first + rows as u32
+}
+
+/// Writes what the formula makes from row `first` on, strip by strip, as many rows as the array has. It wants memory only
+/// before the first row is written: where memory is refused to a strip behind the first, its rows are made place by place.
+pub(crate) fn write_rows<P: Sample>(
+    alloc: Global,
+    formula: Formula<'_>,
+    first: u32,
+    out: &mut [P],
+) -> Result<(), NoMemory>
+    requires sound { IsFormula formula }
+    requires rows { AreRows first (length out.old) (formula_picture formula) }
+    requires stands { P.stands (formula_picture formula).maxval }
+    ensures made { IfOk result (λ _. map P.level out.new ≡ rows_from first (length out.old) (formula_picture formula.entry)) }
+    ensures kept { IfErr result (λ _. out.new ≡ out.old) }
+{
+    let f = first_origin(formula);
+    let width = f.width();
+    let end = end_of(formula, first, out.len());
+    let rows = rows_of(formula);
+    ask_once(alloc, rows, end - first);
+    let strip = strip_from(rows, width, end, first);
+    {
+        // given back before the next strip
+        let image = strip_of(alloc, formula, strip)?;
+        put_rows(&image, strip, 0, out);
+    }
+    let done = first + strip.height;
+    put_rest(alloc, formula, first, done, end, out);
+    Ok(())
+}
+
+/// Writes all that the formula makes.
+pub(crate) fn write_all<P: Sample>(
+    alloc: Global,
+    formula: Formula<'_>,
+    out: &mut [P],
+) -> Result<(), NoMemory>
+    requires sound { IsFormula formula }
+    requires size { length out.old ≡ (formula_picture formula).height * (formula_picture formula).width }
+    requires stands { P.stands (formula_picture formula).maxval }
+    ensures made { IfOk result (λ _. map P.level out.new ≡ (formula_picture formula.entry).samples) }
+    ensures kept { IfErr result (λ _. out.new ≡ out.old) }
+{
+    write_rows(alloc, formula, 0, out)
+}

@@ -1,7 +1,0 @@
--- the crate's own
-mod ElementLemmas
--- what lower crates offer
-pub use Rattle.mw_store.proofs.mw_grid as mw_grid
-pub use Rattle.mw_store.proofs.mw_laws as mw_laws
-pub use Rattle.mw_store.proofs.mw_pixel as mw_pixel
-pub use Rattle.mw_store.proofs.mw_plan as mw_plan

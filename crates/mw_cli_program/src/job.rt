@@ -1,0 +1,128 @@
+//! A job: from what the command line asks for to the exit status.
+
+ghost use Rattle.std.specs.Prelude.{◌≡◌, false};
+ghost use Rattle.mw_server_serve.specs.mw_batch.Batches.{Ends};
+ghost use Rattle.mw_grid.specs.Grids.{IsTileSide};
+ghost use Rattle.mw_cli_program.specs.Jobs.{IsPossible, Performed, Scripted};
+
+use mw_cli::{BatchOptions, Job, ListenOptions, ServeOptions};
+use mw_server_listen::{Kernels, listen};
+use mw_server_serve::wire::{Sink, Source};
+use mw_server_serve::{Crew, batch, serve, strict_batch};
+use std::alloc::Global;
+use std::io::{Read, Write};
+use std::net::{Net, TcpListener, TcpStream};
+use std::sync::Wait;
+use std::thread::Threads;
+use std::time::Clock;
+
+/// The crew of a batch.
+fn crew_of<'r, R>(rt: &'r R, alloc: Global, given: &BatchOptions) -> Crew<'r, R>
+    ensures { result.workers ≡ given.now.workers }
+{
+    Crew {
+        alloc,
+        rt,
+        workers: given.workers,
+    }
+}
+
+/// Runs a script, strictly where that is asked for.
+fn run_batch<R: Threads + Sync, I: Read, O: Write, F: Write>(
+    crew: Crew<R>,
+    given: &BatchOptions,
+    source: &mut Source<I>,
+    sink: &mut Sink<O>,
+    faults: &mut Sink<F>,
+) -> u8
+    requires side { IsTileSide given.now.side }
+    requires source_clear { source.old.failed ≡ false }
+    requires sink_clear { sink.old.failed ≡ false }
+    requires unread { source.old.reads ≡ 0 }
+    ensures { let old : Ends = record { left = I.remaining source.old.inner; reads = source.old.reads; read_failed = source.old.failed; written = O.contents sink.old.inner; write_failed = sink.old.failed; told = F.contents faults.old.inner; tell_failed = faults.old.failed } in
+        let new : Ends = record { left = I.remaining source.new.inner; reads = source.new.reads; read_failed = source.new.failed; written = O.contents sink.new.inner; write_failed = sink.new.failed; told = F.contents faults.new.inner; tell_failed = faults.new.failed } in
+        Scripted given.now.strict old new result }
+{
+    if given.strict {
+        strict_batch(crew, source, sink, faults, given.side)
+    } else {
+        batch(crew, source, sink, faults, given.side)
+    }
+}
+
+/// What `listen` serves.
+fn board_service(given: &ListenOptions) -> mw_server_listen::Service
+    ensures port { result.port ≡ given.now.port }
+    ensures workers { result.workers ≡ given.now.workers }
+    ensures sessions { result.sessions ≡ given.now.sessions }
+    ensures side { result.side ≡ given.now.side }
+    ensures idle { result.idle ≡ given.now.idle }
+    ensures announce { result.announce ≡ given.now.announce }
+{
+    mw_server_listen::Service {
+        port: given.port,
+        workers: given.workers,
+        sessions: given.sessions,
+        side: given.side,
+        idle: given.idle,
+        announce: given.announce,
+    }
+}
+
+/// What `serve` serves.
+fn separate_service(given: &ServeOptions) -> mw_server_serve::Service
+    ensures port { result.port ≡ given.now.port }
+    ensures workers { result.workers ≡ given.now.workers }
+    ensures sessions { result.sessions ≡ given.now.sessions }
+    ensures side { result.side ≡ given.now.side }
+    ensures idle { result.idle ≡ given.now.idle }
+{
+    mw_server_serve::Service {
+        port: given.port,
+        workers: given.workers,
+        sessions: given.sessions,
+        side: given.side,
+        idle: given.idle,
+    }
+}
+
+/// Does a job, and gives the exit status: runs a script from the source to the sink, or serves sessions over TCP and writes to
+/// the sink on which port. A service that is to end with its input reads the source for that alone. The line of a fault goes
+/// to `faults`.
+pub fn perform<
+    R: Net<Listener = TcpListener, Stream = TcpStream> + Threads + Wait + Clock + Sync,
+    I: Read,
+    O: Write,
+    F: Write,
+>(
+    rt: &R,
+    alloc: Global,
+    job: &Job,
+    source: &mut Source<I>,
+    sink: &mut Sink<O>,
+    faults: &mut Sink<F>,
+) -> u8
+    requires possible { IsPossible job.now }
+    requires source_clear { source.old.failed ≡ false }
+    requires sink_clear { sink.old.failed ≡ false }
+    requires unread { source.old.reads ≡ 0 }
+    ensures { let old : Ends = record { left = I.remaining source.old.inner; reads = source.old.reads; read_failed = source.old.failed; written = O.contents sink.old.inner; write_failed = sink.old.failed; told = F.contents faults.old.inner; tell_failed = faults.old.failed } in
+        let new : Ends = record { left = I.remaining source.new.inner; reads = source.new.reads; read_failed = source.new.failed; written = O.contents sink.new.inner; write_failed = sink.new.failed; told = F.contents faults.new.inner; tell_failed = faults.new.failed } in
+        Performed job.now old new result }
+{
+    match job {
+        Job::Batch(given) => run_batch(crew_of(rt, alloc, given), given, source, sink, faults),
+        Job::Listen(given) => listen(
+            rt,
+            alloc,
+            board_service(given),
+            sink,
+            faults,
+            &Kernels { alloc },
+        ),
+        Job::Serve(given) => {
+            let until = given.until_end.then(|| source);
+            serve(rt, alloc, separate_service(given), until, sink, faults)
+        }
+    }
+}

@@ -1,0 +1,7 @@
+-- What `mw_core_laws` offers, for the crates above.
+pub use Rattle.mw_core_ledger.specs.mw_core_laws.Counts
+pub use Rattle.mw_core_ledger.specs.mw_core_laws.Events
+pub use Rattle.mw_core_ledger.specs.mw_core_laws.Payloads
+pub use Rattle.mw_core_ledger.specs.mw_core_laws.Rows
+pub use Rattle.mw_core_ledger.specs.mw_core_laws.TaskEvents
+pub use Rattle.mw_core_ledger.specs.mw_core_laws.Works

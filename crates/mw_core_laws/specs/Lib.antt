@@ -1,0 +1,19 @@
+pub mod Works
+pub mod Limits
+pub mod Payloads
+pub mod Facts
+pub mod Rows
+pub mod Changes
+pub mod Counts
+pub mod Events
+pub mod TaskEvents
+pub mod Turns
+-- what lower crates offer
+pub mod mw_model_laws
+pub mod mw_core_planes
+pub mod mw_plan
+pub mod mw_core_progress
+pub mod mw_store
+pub mod mw_step_task
+pub mod mw_tile
+pub mod mw_tile_planes

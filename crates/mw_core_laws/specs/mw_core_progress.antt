@@ -1,0 +1,2 @@
+-- What `mw_core_progress` offers, for the crates above.
+pub use Rattle.mw_core_progress.specs.ProgressView

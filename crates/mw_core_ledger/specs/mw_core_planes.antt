@@ -1,0 +1,2 @@
+-- What `mw_core_planes` offers, for the crates above.
+pub use Rattle.mw_core_tasks.specs.mw_core_planes.MadeTiles

@@ -1,0 +1,53 @@
+//! How many tasks of a ticket are ready, running and left.
+
+ghost use Rattle.std.specs.Prelude.{◌≡◌, ◌<◌, ◌≤◌, length, IfSome};
+ghost use Rattle.mw_core_ledger.specs.Books.{seen_of};
+
+use crate::ledger::Ledger;
+use mw_core_tasks::is_pending;
+
+impl Ledger {
+    ghost use Rattle.mw_model.specs.Stands.{ready_under, remaining_of};
+    ghost use Rattle.mw_core_tasks.specs.mw_core_laws.Counts.{running_under};
+
+    /// How many tasks of the ticket are ready.
+    pub fn ready_of(&self, t: u32) -> u32
+        requires { t < length self.now.table.names }
+        ensures value { result ≡ ready_under (seen_of self.now) t }
+        ensures small { result ≤ 4194304 }
+    {
+        if !is_pending(self.store.outcome(t)) || !self.store.inputs_there(t) {
+            return 0;
+        }
+        match &self.works[t as usize] {
+            Some(work) => work.ready(),
+            None => 0,
+        }
+    }
+
+    /// How many tasks of the ticket are running.
+    pub fn running_of(&self, t: u32) -> u32
+        requires { t < length self.now.table.names }
+        ensures value { result ≡ running_under (seen_of self.now) t }
+        ensures small { result ≤ 4194304 }
+    {
+        match &self.works[t as usize] {
+            Some(work) => work.running(),
+            None => 0,
+        }
+    }
+
+    /// How many tasks of the ticket are not finished, if it has work.
+    pub fn remaining(&self, t: u32) -> Option<u64>
+        ensures value { result ≡ remaining_of (seen_of self.now) t }
+        ensures bounded { IfSome result (λ n. (1 ≤ n) × (n ≤ 4194304)) }
+    {
+        if t >= self.store.len() {
+            return None;
+        }
+        match &self.works[t as usize] {
+            Some(work) => Some(u64::from(work.remaining())),
+            None => None,
+        }
+    }
+}

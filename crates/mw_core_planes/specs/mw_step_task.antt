@@ -1,0 +1,6 @@
+-- What `mw_step_task` offers, for the crates above.
+pub use Rattle.mw_plan.specs.mw_step_task.Meanings
+pub use Rattle.mw_plan.specs.mw_step_task.Products
+pub use Rattle.mw_plan.specs.mw_step_task.Sources
+pub use Rattle.mw_plan.specs.mw_step_task.WindowTasks
+pub use Rattle.mw_plan.specs.mw_step_task.declared

@@ -1,0 +1,9 @@
+pub mod ProgressView
+pub mod Parts
+-- what lower crates offer
+pub mod mw_model_laws
+pub mod mw_core_planes
+pub mod mw_plan
+pub mod mw_step_task
+pub mod mw_tile
+pub mod mw_tile_planes

@@ -1,0 +1,3 @@
+-- What `mw_tile_planes` offers, for the crates above.
+pub use Rattle.mw_store.specs.mw_tile_planes.Filled
+pub use Rattle.mw_store.specs.mw_tile_planes.Tiles

@@ -1,6 +1,0 @@
-use Rattle.std.specs.List.{AllByRecursion}
-use Rattle.mw_core.specs.EventEffects.{IsServable}
-use Rattle.mw_core_tests.proofs.many.questions.Given as goal
-
-abbrev pub invariant-questions : goal.invariant-questions
-invariant-questions g l = AllByRecursion IsServable l.events.items

@@ -1,0 +1,105 @@
+//! Places of a wave.
+
+ghost use Rattle.std.specs.Prelude.{IfOk};
+ghost use Rattle.std.specs.List.{AllByRecursion, AllZip};
+ghost use Rattle.mw_step.specs.mw_step_task.Products.{IsMade};
+ghost use Rattle.mw_core_waves.specs.Jobs.{AreMade, IsAnswered, IsAnswerTo};
+
+use crate::Crew;
+use crate::shared::{MadeTile, put_all, put_hand};
+use mw_model::NoMemory;
+use mw_step::task::{TaskRefused, TileDone, TileResult, Work};
+use std::alloc::{AllocError, Global};
+use std::thread::Threads;
+use std::{mem, thread};
+
+/// A place of a wave: a task that was taken from the core, or its answer. `Nothing` stands there while a task is run.
+#[derive(Drop)]
+pub enum WaveTask {
+    Waits(Work),
+    Ran(Result<TileDone, TaskRefused>),
+    Nothing,
+}
+
+/// The answer to a task of which this was made.
+fn answer(work: Work, tile: Result<TileResult, NoMemory>) -> Result<TileDone, TaskRefused>
+    requires { IfOk tile (IsMade work) }
+    ensures { IsAnswerTo work result }
+{
+    match tile {
+        Ok(made) => Ok(TileDone::new(work, made)),
+        Err(NoMemory) => Err(TaskRefused::new(work)),
+    }
+}
+
+impl WaveTask {
+    ghost use Rattle.mw_core_waves.specs.Jobs.{IsAnswered, IsMadeFor};
+
+    /// Runs the task that waits here, and keeps its answer in its place.
+    fn run(&mut self, alloc: Global)
+        ensures { IsAnswered self.old self.new }
+    {
+        *self = match mem::replace(self, WaveTask::Nothing) {
+            WaveTask::Waits(work) => WaveTask::Ran(mw_step::run(alloc, work)),
+            other => other,
+        };
+    }
+
+    /// Keeps the answer to the task that waits here, of which this was made.
+    pub(crate) fn keep(&mut self, tile: Result<TileResult, NoMemory>)
+        requires { IsMadeFor self.old tile }
+        ensures { IsAnswered self.old self.new }
+    {
+        *self = match mem::replace(self, WaveTask::Nothing) {
+            WaveTask::Waits(work) => WaveTask::Ran(answer(work, tile)),
+            other => other,
+        };
+    }
+}
+
+/// Runs the tasks that wait yet in their places, one after another.
+fn run_rest<T: Threads + Sync>(crew: Crew<T>, jobs: &mut [WaveTask])
+    ensures { AllZip IsAnswered jobs.old jobs.new }
+{
+    let alloc = crew.alloc;
+    thread::for_each_mut(
+        crew.rt,
+        jobs,
+        1,
+        &move |_place: usize, job: &mut WaveTask|
+            ensures { IsAnswered job.old job.new }
+        { job.run(alloc) },
+    );
+}
+
+/// Answers all tasks in their places by what was made of them: by the others, and by the one who has the core. What was lost
+/// for want of memory is run here.
+fn answer_all<T: Threads + Sync>(
+    crew: Crew<T>,
+    theirs: Result<Vec<Vec<MadeTile>>, AllocError>,
+    mine: Vec<MadeTile>,
+    jobs: &mut [WaveTask],
+)
+    requires theirs { IfOk theirs (λ hands. AllByRecursion (AreMade jobs.old) hands.items) }
+    requires mine { AreMade jobs.old mine }
+    ensures { AllZip IsAnswered jobs.old jobs.new }
+{
+    put_all(theirs, jobs);
+    put_hand(mine, jobs);
+    run_rest(crew, jobs);
+}
+
+/// The wave with all tasks answered in their places.
+pub(crate) fn answered<T: Threads + Sync>(
+    crew: Crew<T>,
+    theirs: Result<Vec<Vec<MadeTile>>, AllocError>,
+    mine: Vec<MadeTile>,
+    mut jobs: Vec<WaveTask>,
+) -> Vec<WaveTask>
+    requires theirs { IfOk theirs (λ hands. AllByRecursion (AreMade jobs.items) hands.items) }
+    requires mine { AreMade jobs.items mine }
+    ensures { AllZip IsAnswered jobs.items result.items }
+{
+    answer_all(crew, theirs, mine, jobs.as_mut_slice());
+    jobs
+}

@@ -1,6 +1,0 @@
-pub mod Texts
-pub mod Errors
--- what lower crates offer
-pub mod mw_intake
-pub mod mw_store
-pub mod mw_wire

@@ -1,6 +1,0 @@
-use Rattle.mw_frame_tiles.specs.Tiles.{cells_of}
-use Rattle.mw_frame_tiles.proofs.Joined.{HasFirstTiles}
-use Rattle.mw_frame_tiles.proofs.rows.paste_tiles.Given as goal
-
-abbrev pub invariant-loop-i : goal.invariant-loop-i
-invariant-loop-i g l = HasFirstTiles l.grid (cells_of l.tiles) l.i l.out

@@ -1,0 +1,11 @@
+pub mod Places
+pub mod Geodesics
+pub mod Paths
+pub mod Reconstructions
+pub mod Extrema
+pub mod Components
+pub mod Labels
+pub mod Distances
+pub mod Floods
+pub mod Markings
+pub mod Examples

@@ -1,7 +1,0 @@
-use Rattle.std.proofs.Common.{slice_get}
-use Rattle.mw_joined.specs.Blocks.{IsPasted}
-use Rattle.mw_joined.proofs.Pasted.{leftmost}
-use Rattle.mw_joined.proofs.levels.copy_columns.Given as goal
-
-abbrev pub invariant-loop-x : goal.invariant-loop-x
-invariant-loop-x g l = IsPasted (leftmost l.block l.x) (slice_get l.initial.out) (slice_get l.out) (slice_get l.from)

@@ -1,7 +1,0 @@
-use Rattle.std.proofs.Common.{refl}
-use Rattle.std.specs.Fmt.{digits}
-use Rattle.mw_laws.proofs.examples.spectrum_with_a_rest.Goals as goal
-
-pub returns-clause-text : goal.returns-clause-text
-unfolding digits
-returns-clause-text c = refl

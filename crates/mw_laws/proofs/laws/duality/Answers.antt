@@ -1,5 +1,0 @@
-use Rattle.mw_laws.proofs.SetLaws.{erosion_of_complement, dilation_of_complement, complement_twice}
-use Rattle.mw_laws.proofs.laws.duality.Goals as goal
-
-pub returns : goal.returns
-returns c = record { eroded = erosion_of_complement; dilated = dilation_of_complement; twice = complement_twice }

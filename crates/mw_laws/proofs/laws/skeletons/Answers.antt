@@ -1,5 +1,0 @@
-use Rattle.mw_model.proofs.SkeletonLaws.{restoration-skeleton}
-use Rattle.mw_laws.proofs.laws.skeletons.Goals as goal
-
-pub returns : goal.returns
-returns c = restoration-skeleton

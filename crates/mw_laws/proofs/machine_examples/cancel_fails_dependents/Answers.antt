@@ -1,8 +1,0 @@
-use Rattle.std.proofs.Common.{refl}
-use Rattle.mw_model.specs.Refusals.{ticket_of}
-use Rattle.mw_model.specs.Machine.{killed}
-use Rattle.mw_laws.proofs.machine_examples.cancel_fails_dependents.Goals as goal
-
-pub returns : goal.returns
-unfolding ticket_of killed
-returns c = record { replies = refl; outcomes = refl }

@@ -1,7 +1,0 @@
-use Rattle.std.proofs.Common.{refl}
-use Rattle.mw_model.specs.Refusals.{ticket_of}
-use Rattle.mw_laws.proofs.machine_examples.first_fault_is_told.Goals as goal
-
-pub returns : goal.returns
-unfolding ticket_of
-returns c = refl

@@ -1,5 +1,0 @@
-use Rattle.mw_medians.proofs.Further.{five_ahead}
-use Rattle.mw_medians.proofs.ahead.five_one_ahead.Goals as goal
-
-pub returns : goal.returns
-returns g c = five_ahead g.P.Vectored.lane g.P.Vectored.WIDTH 1 c.args.here c.args.next _ c.one_ahead.ensures c.one_ahead-2.ensures c.one_ahead-3.ensures c.one_ahead-4.ensures c.one_ahead-5.ensures

@@ -1,5 +1,0 @@
-use Rattle.mw_model.proofs.PlainRanks.{nth_bounded}
-use Rattle.mw_model.proofs.plain.order.nth_samples.Goals as goal
-
-pub redraw-requires : goal.redraw-requires
-redraw-requires c = record { bounded = nth_bounded c.args.image.now c.args.element.now c.args.k }

@@ -1,5 +1,0 @@
-use Rattle.mw_model.proofs.PlainRanks.{NotYet}
-use Rattle.mw_model.proofs.plain.order.nth_under.Given as goal
-
-abbrev pub invariant-loop-i : goal.invariant-loop-i
-invariant-loop-i l = NotYet l.image l.element l.k l.i l.x l.y

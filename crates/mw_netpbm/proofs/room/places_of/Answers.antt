@@ -1,5 +1,0 @@
-use Rattle.mw_netpbm.proofs.Masks.{mask_of}
-use Rattle.mw_netpbm.proofs.room.places_of.Goals as goal
-
-pub returns : goal.returns
-returns c = mask_of c.args.b c.args.bytes.now c.requires

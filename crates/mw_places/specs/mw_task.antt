@@ -1,6 +1,0 @@
--- What `mw_task` offers, for the crates above.
-pub use Rattle.mw_plan.specs.mw_task.Meanings
-pub use Rattle.mw_plan.specs.mw_task.Products
-pub use Rattle.mw_plan.specs.mw_task.Sources
-pub use Rattle.mw_plan.specs.mw_task.WindowTasks
-pub use Rattle.mw_plan.specs.mw_task.declared

@@ -1,9 +1,0 @@
-use Rattle.mw_model.specs.declared.memory.NoMemory.{NoMemory}
-use Rattle.mw_task.specs.Meanings.{meaning}
-use Rattle.mw_plan.specs.Asked.{offsets_of_input}
-use Rattle.mw_model.specs.Flat.{rank}
-use Rattle.mw_plan.proofs.OneImage.{alone_if_ok}
-use Rattle.mw_plan.proofs.flat.ranked.Goals as goal
-
-pub returns : goal.returns
-returns c = alone_if_ok NoMemory c.alone.result (meaning c.in_ok-rank.field-0) (rank (offsets_of_input c.args.b) c.args.k) c.in_ok-rank.ensures c.alone.ensures

@@ -1,9 +1,0 @@
-use Rattle.mw_model.specs.declared.memory.NoMemory.{NoMemory}
-use Rattle.mw_task.specs.Meanings.{meaning}
-use Rattle.mw_plan.specs.Asked.{offsets_of_input}
-use Rattle.mw_plan.specs.Steps.{sliding}
-use Rattle.mw_plan.proofs.OneImage.{alone_if_ok}
-use Rattle.mw_plan.proofs.flat.slid.Goals as goal
-
-pub returns : goal.returns
-returns c = alone_if_ok NoMemory c.alone.result (meaning c.in_ok-slide.field-0) (sliding c.args.extremum (offsets_of_input c.args.b)) c.in_ok-slide.ensures c.alone.ensures

@@ -1,0 +1,14 @@
+use Rattle.std.proofs.Common.{None}
+use Rattle.mw_model.specs.declared.calls.Call.TheVariants as call
+use Rattle.mw_pool.proofs.Handing.{handed-served}
+use Rattle.mw_pool.proofs.KeptLemmas.{stands-served, plain-shows-nothing}
+use Rattle.mw_pool.proofs.kept.LockedState.release.Goals as goal
+
+pub invariant_of-self : goal.invariant_of-self
+invariant_of-self g c = record {
+  stands = stands-served (λ r. r) c.release.result c.args.self.now.core c.release.new.core (call.Release c.args.name) (None) c.args.self.now.stands c.release.ensures.served c.release.ensures.core_stays;
+  handed = handed-served (λ r. r) c.release.result c.args.self.now.core c.release.new.core (call.Release c.args.name) (None) c.args.self.now.roll c.args.self.now.handed c.release.ensures.served c.release.ensures.core_stays;
+}
+
+pub returns-clause-shows_nothing : goal.returns-clause-shows_nothing
+returns-clause-shows_nothing g c = plain-shows-nothing c.release.result c.args.self.now.core c.release.new.core (call.Release c.args.name) (None) tt c.args.self.now.stands c.release.ensures.served

@@ -1,5 +1,0 @@
-use Rattle.mw_pool_tests.proofs.scenes.on_a_board.Given as goal
-
--- the book of the new roll
-abbrev pub ghosts-played : goal.ghosts-played
-ghosts-played g a = record { book = a.roll }

@@ -1,4 +1,0 @@
--- What `mw_plan` offers, for the crates above.
-pub use Rattle.mw_places.specs.mw_plan.Asked
-pub use Rattle.mw_places.specs.mw_plan.PlansOf
-pub use Rattle.mw_places.specs.mw_plan.declared

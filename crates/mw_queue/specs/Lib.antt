@@ -1,4 +1,0 @@
-pub mod Queues
-pub mod Shown
--- what lower crates offer
-pub mod mw_grid

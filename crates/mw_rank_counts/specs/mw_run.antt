@@ -1,3 +1,0 @@
--- What `mw_run` offers, for the crates above.
-pub use Rattle.mw_rank.specs.mw_run.Runs
-pub use Rattle.mw_rank.specs.mw_run.declared

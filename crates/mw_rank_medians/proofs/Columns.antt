@@ -1,0 +1,66 @@
+-- Columns of samples that were loaded, and lines of medians.
+use Rattle.std.proofs.Common.{◌≡◌, ℕ, ◌+◌, ◌-◌, ◌*◌, ◌<◌, ◌≤◌, List, get_or, ap, sym, arith, ◌∙◌, inl, inr, subst}
+use Rattle.std.proofs.lemmas.Bool.{cases_lt}
+use Rattle.std.specs.Prelude.{nat_le}
+use Rattle.mw_rank_medians.specs.Numbered.{below, IsNumber}
+use Rattle.mw_rank_medians.specs.Columns.{cell_from, column_below, block_below}
+
+-- a level that was loaded is that of a row
+cell_is : {A : Type 0} (level : A → ℕ) (d : A) (samples : List A) (from stride r j p a t : ℕ) → p ≡ from + r * stride + j → a ≡ level (get_or samples p d) → below (cell_from level d samples from stride r j) t ≡ below a t
+cell_is level d samples from stride r j p a t p-is a-is = ap (λ (v : ℕ). below v t) (ap (λ (q : ℕ). level (get_or samples q d)) (sym p-is) ∙ sym a-is)
+
+pub three_loaded : {A : Type 0} (level : A → ℕ) (d : A) (samples : List A) (from stride j p q r a b c t : ℕ) → p ≡ from + j → q ≡ p + stride → r ≡ q + stride
+    → a ≡ level (get_or samples p d) → b ≡ level (get_or samples q d) → c ≡ level (get_or samples r d) → column_below level d samples from stride 3 j t ≡ below a t + below b t + below c t
+three_loaded level d samples from stride j p q r a b c t p-is q-is r-is a-is b-is c-is =
+    omega (
+      arith,
+      cell_is level d samples from stride 0 j p a t (omega arith) a-is,
+      cell_is level d samples from stride 1 j q b t (omega arith) b-is,
+      cell_is level d samples from stride 2 j r c t (omega arith) c-is,
+    )
+
+-- three columns beside one another
+pub nine_counted : {A : Type 0} (level : A → ℕ) (d : A) (samples : List A) (from stride j at v : ℕ)
+    → IsNumber (λ t. column_below level d samples from stride 3 (at + j) t + column_below level d samples from stride 3 (at + 1 + j) t + column_below level d samples from stride 3 (at + 2 + j) t) 5 v
+    → IsNumber (block_below level d samples from stride 3 (at + j)) 5 v
+nine_counted level d samples from stride j at v number t =
+    number t ∙ ap (nat_le 5) (omega (arith, turned 0 (at + j) (omega arith), turned 1 (at + 1 + j) (omega arith), turned 2 (at + 2 + j) (omega arith)))
+  where
+    turned : (c p : ℕ) → p ≡ at + j + c → column_below level d samples from stride 3 p t ≡ column_below level d samples from stride 3 (at + j + c) t
+    turned c p is = ap (λ (q : ℕ). column_below level d samples from stride 3 q t) is
+
+pub five_loaded : {A : Type 0} (level : A → ℕ) (d : A) (samples : List A) (from stride j p q r s u a b c e f t : ℕ) → p ≡ from + j → q ≡ p + stride → r ≡ q + stride → s ≡ r + stride → u ≡ s + stride
+    → a ≡ level (get_or samples p d) → b ≡ level (get_or samples q d) → c ≡ level (get_or samples r d) → e ≡ level (get_or samples s d) → f ≡ level (get_or samples u d)
+    → column_below level d samples from stride 5 j t ≡ below a t + below b t + below c t + below e t + below f t
+five_loaded level d samples from stride j p q r s u a b c e f t p-is q-is r-is s-is u-is a-is b-is c-is e-is f-is =
+    omega (
+      arith,
+      cell_is level d samples from stride 0 j p a t (omega arith) a-is,
+      cell_is level d samples from stride 1 j q b t (omega arith) b-is,
+      cell_is level d samples from stride 2 j r c t (omega arith) c-is,
+      cell_is level d samples from stride 3 j s e t (omega arith) e-is,
+      cell_is level d samples from stride 4 j u f t (omega arith) f-is,
+    )
+
+-- five columns beside one another
+pub all_counted : {A : Type 0} (level : A → ℕ) (d : A) (samples : List A) (from stride j p q r s v : ℕ) → p ≡ j + 1 → q ≡ j + 2 → r ≡ j + 3 → s ≡ j + 4
+    → IsNumber (λ t. column_below level d samples from stride 5 j t + column_below level d samples from stride 5 p t + (column_below level d samples from stride 5 q t + column_below level d samples from stride 5 r t) + column_below level d samples from stride 5 s t) 13 v
+    → IsNumber (block_below level d samples from stride 5 j) 13 v
+all_counted level d samples from stride j p q r s v p-is q-is r-is s-is number t =
+    number t ∙ ap (nat_le 13) (omega (arith, turned 0 j (omega arith), turned 1 p p-is, turned 2 q q-is, turned 3 r r-is, turned 4 s s-is))
+  where
+    turned : (c k : ℕ) → k ≡ j + c → column_below level d samples from stride 5 k t ≡ column_below level d samples from stride 5 (j + c) t
+    turned c k is = ap (λ (x : ℕ). column_below level d samples from stride 5 x t) is
+
+-- a vector more of a line, which may begin within what is there
+pub line_more : {A : Type 0} (level : A → ℕ) (d : A) (count : ℕ → ℕ → ℕ) (k from done width next : ℕ) (old new : List A) (lane : ℕ → ℕ) → from ≤ done → next ≡ from + width
+    → ((i : ℕ) → i < width → level (get_or new (from + i) d) ≡ lane i) → ((p : ℕ) → p < from → get_or new p d ≡ get_or old p d)
+    → ((i : ℕ) → i < width → IsNumber (count (from + i)) k (lane i)) → ((i : ℕ) → i < done → IsNumber (count i) k (level (get_or old i d)))
+    → (i : ℕ) → i < next → IsNumber (count i) k (level (get_or new i d))
+line_more level d count k from done width next old new lane early next-is put kept made before i lt =
+    elim (cases_lt i from) [
+      | inl low ↦ subst (λ (v : ℕ). IsNumber (count i) k v) (ap level (sym (kept i low))) (before i (omega arith))
+      | inr high ↦
+          let at : from + (i - from) ≡ i = omega arith in
+          subst (λ (p : ℕ). IsNumber (count p) k (level (get_or new p d))) at (subst (λ (v : ℕ). IsNumber (count (from + (i - from))) k v) (sym (put (i - from) (omega arith))) (made (i - from) (omega arith)))
+    ]

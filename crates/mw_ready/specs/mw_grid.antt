@@ -1,4 +1,0 @@
--- What `mw_grid` offers, for the crates above.
-pub use Rattle.mw_queue.specs.mw_grid.Blocks
-pub use Rattle.mw_queue.specs.mw_grid.Counts
-pub use Rattle.mw_queue.specs.mw_grid.Grids

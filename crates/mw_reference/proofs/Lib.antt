@@ -1,0 +1,4 @@
+-- the crate's own
+mod Iterates
+mod Loops
+mod Ranks

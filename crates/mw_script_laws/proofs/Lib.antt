@@ -1,9 +1,0 @@
--- what other crates may cite
-pub mod Working
-pub mod Finishing
--- the crate's own
-mod Readings
-mod Fronts
--- what lower crates offer
-pub use Rattle.mw_intake.proofs as mw_intake
-pub use Rattle.mw_laws.proofs as mw_laws

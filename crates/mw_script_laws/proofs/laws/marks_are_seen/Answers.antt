@@ -1,5 +1,0 @@
-use Rattle.mw_script_laws.proofs.Readings.{marks_seen}
-use Rattle.mw_script_laws.proofs.laws.marks_are_seen.Goals as goal
-
-pub returns : goal.returns
-returns c = λ ts m n x turns none other. marks_seen ts m n x turns none other

@@ -1,3 +1,0 @@
-pub mod Marks
--- what lower crates offer
-pub mod mw_intake

@@ -1,5 +1,0 @@
-use Rattle.mw_serve.proofs.Sessions.{halted-wrote-front}
-use Rattle.mw_serve.proofs.laws.stopped_is_served.Goals as goal
-
-pub returns : goal.returns
-returns c = λ left bytes old new before after f s. halted-wrote-front left bytes old new before after f s

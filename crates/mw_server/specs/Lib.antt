@@ -1,4 +1,0 @@
-pub mod Services
--- what lower crates offer
-pub mod mw_grid
-pub mod mw_batch

@@ -1,0 +1,3 @@
+pub mod Services
+-- what lower crates offer
+pub mod mw_batch

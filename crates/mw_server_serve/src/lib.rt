@@ -1,0 +1,22 @@
+//! A service over TCP: each connection is a session of its own, on a core of its own, and is served as a batch is.
+//!
+//! ```text
+//! let service = Service { port: 0, workers: 1, sessions: 16, side: 128, idle: Some(600) };
+//! let status = serve(&rt, alloc, service, until, &mut output, &mut faults);
+//! ```
+#![tactic(auto)]
+
+mod connection;
+mod fault;
+mod service;
+
+pub use connection::{serve_connection, serve_one};
+pub use fault::ServeFault;
+pub use service::{Service, serve};
+
+// What lower crates offer, for the crates above.
+pub use mw_batch::{Crew, batch, strict_batch};
+
+pub mod wire {
+    pub use mw_server_socket::wire::{Sink, Source, send};
+}

@@ -1,0 +1,49 @@
+//! The end of a connection.
+
+ghost use Rattle.std.specs.Prelude.{◌≤◌, ◌+◌};
+ghost use Rattle.mw_server_socket.specs.Closings.{Drops, IsDone};
+
+use mw_wire::Source;
+use std::io::Read;
+use std::net::{OpenStream, Shutdown};
+use std::time::Duration;
+
+/// How many bytes are read at a time of what comes behind the end of a session, and how often at most: together they are
+/// more than the longest payload.
+const LAST_READ: usize = 16384;
+
+const LAST_READS: u64 = 16384;
+
+/// For how many seconds a client may be silent behind the end of its session.
+const LAST_WAIT: u64 = 1;
+
+/// Reads what is left and drops it, up to its end, to a fault, or so many times. A read that was interrupted is made again.
+fn drop_rest<R: Read>(source: &mut Source<R>)
+    requires few { source.old.reads ≤ 4294967295 }
+    ensures dropped { Drops (R.remaining source.old.inner) (R.remaining source.new.inner) }
+    ensures done { IsDone (R.remaining source.new.inner) source.new.failed (source.old.reads + 16384) source.new.reads }
+{
+    let mut dropped = [0u8; LAST_READ];
+    let mut count = 0u64;
+    'pieces: while count < LAST_READS {
+        count += 1;
+        match source.read(&mut dropped) {
+            Ok(0) => return,
+            Err(_) if source.failed() => return,
+            _ => {}
+        }
+    }
+}
+
+/// Ends a connection whose session has ended: nothing more is sent, and what the client sent behind the end is read and
+/// dropped, until it ends, until it is silent for a second, or 16,384 times. The system breaks a connection off that is
+/// closed with bytes unread, and the last replies could be lost with it.
+pub fn finish<S: OpenStream, R: Read>(socket: &S, source: &mut Source<R>)
+    requires few { source.old.reads ≤ 4294967295 }
+    ensures dropped { Drops (R.remaining source.old.inner) (R.remaining source.new.inner) }
+    ensures done { IsDone (R.remaining source.new.inner) source.new.failed (source.old.reads + 16384) source.new.reads }
+{
+    let _closed = socket.shutdown(Shutdown::Write);
+    let _bounded = socket.set_read_timeout(Some(Duration::from_secs(LAST_WAIT)));
+    drop_rest(source)
+}

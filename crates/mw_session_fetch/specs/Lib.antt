@@ -1,0 +1,6 @@
+pub mod Texts
+pub mod Errors
+-- what lower crates offer
+pub mod mw_session_intake
+pub mod mw_store
+pub mod mw_wire

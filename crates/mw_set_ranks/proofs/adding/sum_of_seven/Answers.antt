@@ -1,5 +1,0 @@
-use Rattle.std.proofs.Common.{arith}
-use Rattle.mw_set_ranks.proofs.adding.sum_of_seven.Goals as goal
-
-pub returns : goal.returns
-returns c = λ q lt. omega (arith, c.sum_of_three-low.ensures q lt, c.sum_of_three-high.ensures q lt)

@@ -1,5 +1,0 @@
-use Rattle.mw_set_ranks.proofs.Walks.{HasDigits}
-use Rattle.mw_set_ranks.proofs.walk.fill.Given as goal
-
-abbrev pub invariant-loop-i : goal.invariant-loop-i
-invariant-loop-i l = HasDigits l.number l.i l.planes

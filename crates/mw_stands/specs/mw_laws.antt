@@ -1,2 +1,0 @@
--- What `mw_laws` offers, for the crates above.
-pub use Rattle.mw_store.specs.mw_laws.MachineLaws

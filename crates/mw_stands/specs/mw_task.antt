@@ -1,5 +1,0 @@
--- What `mw_task` offers, for the crates above.
-pub use Rattle.mw_store.specs.mw_task.Products
-pub use Rattle.mw_store.specs.mw_task.Sources
-pub use Rattle.mw_store.specs.mw_task.WindowTasks
-pub use Rattle.mw_store.specs.mw_task.declared

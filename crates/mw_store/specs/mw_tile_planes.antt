@@ -1,0 +1,4 @@
+-- What `mw_tile_planes` offers, for the crates above.
+pub use Rattle.mw_tile_planes.specs.Filled
+pub use Rattle.mw_tile_planes.specs.Rows
+pub use Rattle.mw_tile_planes.specs.Tiles

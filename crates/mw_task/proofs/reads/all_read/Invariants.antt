@@ -1,7 +1,0 @@
-use Rattle.mw_task.specs.Meanings.{meaning}
-use Rattle.mw_task.specs.WindowTasks.{IsRead}
-use Rattle.mw_task.proofs.AllOf.{AllIsRest}
-use Rattle.mw_task.proofs.reads.all_read.Given as goal
-
-abbrev pub invariant-loop-window : goal.invariant-loop-window
-invariant-loop-window l = AllIsRest (IsRead (meaning l.step) l.tile l.width l.height) l.windows l.window-index

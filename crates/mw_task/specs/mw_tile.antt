@@ -1,3 +1,0 @@
--- What `mw_tile` offers, for the crates above.
-pub use Rattle.mw_pieces.specs.mw_tile.Cuts
-pub use Rattle.mw_pieces.specs.mw_tile.Windows

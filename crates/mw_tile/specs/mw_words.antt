@@ -1,3 +1,0 @@
--- What `mw_words` offers, for the crates above.
-pub use Rattle.mw_pixel.specs.mw_words.Packed
-pub use Rattle.mw_pixel.specs.mw_words.Runs

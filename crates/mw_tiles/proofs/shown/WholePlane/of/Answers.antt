@@ -1,8 +1,0 @@
-use Rattle.mw_tiles.proofs.Filled.{filled_is_picture, filled_is_plane}
-use Rattle.mw_tiles.proofs.shown.WholePlane.of.Goals as goal
-
-pub returns-clause-shows : goal.returns-clause-shows
-returns-clause-shows c = filled_is_plane c.args.plane c.sound.ensures
-
-pub returns-clause-picture : goal.returns-clause-picture
-returns-clause-picture c = filled_is_picture c.args.plane c.sound.ensures

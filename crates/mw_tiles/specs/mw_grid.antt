@@ -1,2 +1,0 @@
--- What `mw_grid` offers, for the crates above.
-pub use Rattle.mw_task.specs.mw_grid.Grids

@@ -1,6 +1,0 @@
--- What `mw_store` offers, for the crates above.
-pub use Rattle.mw_stands.specs.mw_store.Entries
-pub use Rattle.mw_stands.specs.mw_store.Kept
-pub use Rattle.mw_stands.specs.mw_store.Places
-pub use Rattle.mw_stands.specs.mw_store.Stored
-pub use Rattle.mw_stands.specs.mw_store.declared

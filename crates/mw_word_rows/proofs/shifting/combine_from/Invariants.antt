@@ -1,7 +1,0 @@
-use Rattle.std.proofs.Common.{◌+◌}
-use Rattle.mw_line.specs.mw_words.Packed.{bit_of}
-use Rattle.mw_line.proofs.mw_words.Done.{WordsDone}
-use Rattle.mw_word_rows.proofs.shifting.combine_from.Given as goal
-
-abbrev pub invariant-loop-i : goal.invariant-loop-i
-invariant-loop-i g l = WordsDone (λ best q. g.E.Extremum.merge best (bit_of l.cells (l.start + q))) l.i l.fn.out l.out

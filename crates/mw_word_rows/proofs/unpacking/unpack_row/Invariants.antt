@@ -1,6 +1,0 @@
-use Rattle.std.proofs.Common.{◌≡◌, ℕ, ◌*◌, ◌<◌, get_or}
-use Rattle.mw_line.specs.mw_words.Packed.{bit_of}
-use Rattle.mw_word_rows.proofs.unpacking.unpack_row.Given as goal
-
-abbrev pub invariant-loop-k : goal.invariant-loop-k
-invariant-loop-k l = (x : ℕ) → x < 64 * l.k → get_or l.out x 0 ≡ bit_of l.row x

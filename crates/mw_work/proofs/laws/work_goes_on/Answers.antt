@@ -1,6 +1,0 @@
-use Rattle.mw_work.proofs.Going.{under-finished, under-started}
-use Rattle.mw_work.proofs.Later.{under-later}
-use Rattle.mw_work.proofs.laws.work_goes_on.Goals as goal
-
-pub returns : goal.returns
-returns c = record { machine = under-later; started = under-started; finished = under-finished }

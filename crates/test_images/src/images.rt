@@ -1,0 +1,82 @@
+//! Images of the reference.
+
+ghost use Rattle.std.specs.Prelude.{◌≤◌, ◌↔◌, IsTrue, All};
+
+use mw_model::{Kind, NoMemory, Offset};
+use mw_reference::PlainImage;
+use std::alloc::Global;
+use std::test::Fail;
+
+fn are_at_most(samples: &[u16], maxval: u16) -> bool
+    ensures { IsTrue result ↔ All (λ s. s ≤ maxval) samples.now }
+{
+    samples.iter().all(|s| *s <= maxval)
+}
+
+/// The image with these samples, by rows; an `Err` where there is none, or no memory.
+pub fn image(
+    alloc: Global,
+    kind: Kind,
+    width: u32,
+    height: u32,
+    maxval: u16,
+    samples: &[u16],
+) -> Result<PlainImage, Fail> {
+    if width > 8192 || height > 8192 || samples.len() != height as usize * width as usize {
+        return Err("other sides".into());
+    }
+    if !are_at_most(samples, maxval) {
+        return Err("a sample over the maxval".into());
+    }
+    let samples = samples.to_vec(alloc)?;
+    Ok(PlainImage::new(kind, width, height, maxval, samples))
+}
+
+fn width_of(samples: &[u16]) -> Result<u32, Fail> {
+    Ok(u32::try_from(samples.len()).ok().ok_or("a shorter row")?)
+}
+
+/// A row of levels.
+pub fn grey_row(alloc: Global, maxval: u16, samples: &[u16]) -> Result<PlainImage, Fail> {
+    image(alloc, Kind::Grey, width_of(samples)?, 1, maxval, samples)
+}
+
+/// A row of pixels, each 0 or 1.
+pub fn bit_row(alloc: Global, samples: &[u16]) -> Result<PlainImage, Fail> {
+    image(alloc, Kind::Bit, width_of(samples)?, 1, 1, samples)
+}
+
+/// So many samples without a pattern, the same at each run.
+fn mixed(alloc: Global, count: u64, maxval: u16) -> Result<Vec<u16>, Fail> {
+    let levels = u32::from(maxval) + 1;
+    let mut samples = Vec::new(alloc);
+    let mut state = u32::from(maxval);
+    for _ in 0..count {
+        state = state.wrapping_mul(1664525).wrapping_add(1013904223);
+        samples.push(((state >> 16) % levels) as u16)?;
+    }
+    Ok(samples)
+}
+
+/// An image without a pattern, the same at each run.
+pub fn noise(
+    alloc: Global,
+    kind: Kind,
+    width: u32,
+    height: u32,
+    maxval: u16,
+) -> Result<PlainImage, Fail> {
+    let samples = mixed(alloc, u64::from(width) * u64::from(height), maxval)?;
+    image(alloc, kind, width, height, maxval, &samples)
+}
+
+/// The erosion and the dilation by the reference.
+pub fn extrema(
+    alloc: Global,
+    image: &PlainImage,
+    offsets: &[Offset],
+) -> Result<(PlainImage, PlainImage), NoMemory> {
+    let eroded = mw_reference::erosion(alloc, image, offsets)?;
+    let dilated = mw_reference::dilation(alloc, image, offsets)?;
+    Ok((eroded, dilated))
+}
