@@ -5,8 +5,10 @@
 use crate::given::{Even, Sides, filled, push, window, work};
 use mw_bits::WordExtremum;
 use mw_grid::whole_frame;
-use mw_model::OffsetBox;
+use mw_model::{Offset, OffsetBox};
 use mw_pixel::{Bit, Extremum, Grey, Max, Min, Plane};
+use mw_rank_bits::rank_by_words;
+use mw_rank_medians::{Vectored, median_of_grey};
 use mw_step::compute;
 use mw_step_task::{Element, Step, TileResult};
 use mw_tile::{Window, cut};
@@ -124,6 +126,72 @@ fn ranks_by_squares(rt: HostRuntime) {
         for sides in SIDES {
             let step = Step::Rank(square(&rt, rt.alloc(), side), k);
             makes(&rt, rt.alloc(), sides, step, pictures, level);
+        }
+    }
+}
+
+/// The offsets of a full square of this side, from its middle.
+fn square_offsets(rt: &impl Abort, alloc: Global, side: i16) -> Vec<Offset> {
+    let mut offsets = Vec::new(alloc);
+    for y in 0..side {
+        for x in 0..side {
+            let offset = Offset {
+                dx: x.wrapping_sub(side / 2),
+                dy: y.wrapping_sub(side / 2),
+            };
+            offsets.push(offset).ok().expect(rt, "memory");
+        }
+    }
+    offsets
+}
+
+/// A median by vectors. Where they give up, a step makes the same in many times as long.
+fn median<P: Vectored>(
+    rt: &impl Abort,
+    alloc: Global,
+    sides: Sides,
+    sample: P,
+    (offsets, k): (&[Offset], u32),
+) {
+    let window = Window::whole(filled(rt, alloc, sides, sample));
+    if offsets.len() >= 65536 {
+        panic!(rt; "fewer offsets");
+    }
+    let made = median_of_grey(alloc, &window, offsets, k, window.place());
+    let made = made.expect(rt, "memory").expect(rt, "vectors");
+    assert!(rt; is_filled(&made, sample));
+}
+
+#[test]
+fn medians_by_vectors(rt: HostRuntime) {
+    let alloc = rt.alloc();
+    for (side, k) in [(3i16, 5u32), (5, 13)] {
+        let offsets = square_offsets(&rt, alloc, side);
+        for sides in SIDES {
+            median::<u8>(&rt, alloc, sides, 7, (&offsets, k));
+            median::<u16>(&rt, alloc, sides, 700, (&offsets, k));
+        }
+    }
+}
+
+/// A rank of a set by words. Where they give up, a step makes the same in many times as long.
+fn ranked_set(rt: &impl Abort, alloc: Global, sides: Sides, offsets: &[Offset]) {
+    let window = Window::whole(filled(rt, alloc, sides, Bit::SET));
+    if offsets.len() >= 65536 {
+        panic!(rt; "fewer offsets");
+    }
+    let made = rank_by_words(alloc, &window, offsets, 113, window.place());
+    let made = made.expect(rt, "memory").expect(rt, "words");
+    assert!(rt; is_set(&made, true));
+}
+
+#[test]
+fn ranks_of_sets_by_words(rt: HostRuntime) {
+    let alloc = rt.alloc();
+    for side in [15i16, 63, 255] {
+        let offsets = square_offsets(&rt, alloc, side);
+        for sides in SIDES {
+            ranked_set(&rt, alloc, sides, &offsets);
         }
     }
 }
